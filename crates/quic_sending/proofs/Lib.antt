@@ -1,0 +1,4 @@
+pub mod Pieces
+pub mod Sets
+pub mod Cuts
+pub mod Sound

@@ -1,0 +1,159 @@
+ghost use Rattle.std.specs.Prelude.{◌≡◌, ◌+◌, ◌-◌, ◌<◌, ◌≤◌, ◌^◌, ◌++◌, ◌∷◌, [], OnOk, OnErr, IsOk, length};
+ghost use Rattle.std.specs.VecDeque.{deque_len, deque_capacity};
+ghost use Rattle.quic_sending.specs.Buffer.{Queued, total, AreFilled, IsInFirst, piece_part, uncovered};
+
+use quic_values::{Bytes, OutOfMemory};
+use std::alloc::Global;
+use std::collections::VecDeque;
+use std::marker::Model;
+
+/// The pieces of a stream that are still held, none of them empty.
+#[derive(Drop)]
+pub(crate) struct PieceQueue {
+    pieces: VecDeque<Bytes>,
+    // The offset at which the first piece starts.
+    gone: u64,
+    // The offset behind the last piece.
+    end: u64,
+}
+
+impl Model for PieceQueue {
+    ghost use Rattle.std.specs.Prelude.{◌≡◌, ◌+◌, ◌-◌, ◌<◌, ◌^◌};
+    ghost use Rattle.std.specs.VecDeque.{deque_len, deque_capacity};
+    ghost use Rattle.quic_sending.specs.Buffer.{Queued, total, AreFilled};
+
+    ghost Value = { Queued };
+
+    ghost view = { λ s. record {
+      held = s.pieces.items;
+      gone = s.gone;
+      end = s.end;
+      room = deque_capacity s.pieces - deque_len s.pieces;
+    } };
+
+    ghost invariant = { λ s. (s.gone + total s.pieces.items ≡ s.end) × (s.end < 2 ^ 62) × AreFilled s.pieces.items };
+}
+
+impl PieceQueue {
+    #[inline]
+    pub(crate) fn new(alloc: Global) -> Self
+        ensures { result ≡ record { held = []; gone = 0; end = 0; room = result.room } }
+    {
+        PieceQueue {
+            pieces: VecDeque::new(alloc),
+            gone: 0,
+            end: 0,
+        }
+    }
+
+    #[inline]
+    pub(crate) fn gone(&self) -> u64
+        ensures { result ≡ self.now.gone }
+    {
+        self.gone
+    }
+
+    #[inline]
+    pub(crate) fn end(&self) -> u64
+        ensures { result ≡ self.now.end }
+    {
+        self.end
+    }
+
+    #[inline]
+    pub(crate) fn reserve(&mut self, pieces: usize) -> Result<(), OutOfMemory>
+        ensures ok { OnOk result (pieces ≤ self.new.room) }
+        ensures same { self.new ≡ record self.old { room = self.new.room } }
+        ensures room { self.old.room ≤ self.new.room }
+    {
+        self.pieces.reserve(pieces)?;
+        Ok(())
+    }
+
+    /// Appends a piece that is not empty.
+    #[inline]
+    pub(crate) fn push(&mut self, piece: Bytes) -> Result<(), OutOfMemory>
+        requires filled { 0 < length piece }
+        requires small { self.old.end + length piece < 2 ^ 62 }
+        ensures ok { OnOk result (self.new ≡ record self.old {
+          held = self.old.held ++ piece ∷ [];
+          end = self.old.end + length piece;
+          room = self.new.room;
+        }) }
+        ensures err { OnErr result (self.new ≡ record self.old { room = self.new.room }) }
+        ensures roomy { 0 < self.old.room → IsOk result × (self.old.room ≤ self.new.room + 1) }
+    {
+        let len = piece.len() as u64;
+        self.pieces.push_back(piece)?;
+        self.end += len;
+        Ok(())
+    }
+
+    /// Drops the pieces that end at `prefix` or below.
+    #[inline]
+    pub(crate) fn drop_covered(&mut self, prefix: u64)
+        requires { (self.old.gone ≤ prefix) × (prefix ≤ self.old.end) }
+        ensures held { self.new.held ≡ uncovered (prefix - self.old.gone) self.old.held }
+        ensures end { self.new.end ≡ self.old.end }
+        ensures lengths { self.new.gone + total self.new.held ≡ self.new.end }
+        ensures filled { AreFilled self.new.held }
+        ensures first { IsInFirst (prefix - self.new.gone) self.new.held }
+        ensures gone { self.new.gone ≤ prefix }
+        ensures room { self.old.room ≤ self.new.room }
+    {
+        drop_covered(&mut self.pieces, &mut self.gone, prefix);
+    }
+
+    /// At most `most` bytes from offset `start` on, of the piece that holds that offset.
+    #[inline]
+    pub(crate) fn part(&self, start: u64, most: u64) -> &[u8]
+        requires { self.now.gone ≤ start }
+        ensures { result.now ≡ piece_part self.now.held (start - self.now.gone) most }
+    {
+        let mut at = (start - self.gone) as usize;
+        let most = most as usize;
+        for piece in self.pieces.iter() {
+            let len = piece.len();
+            if at < len {
+                let end = at + most.min(len - at);
+                return &piece.as_slice()[at..end];
+            }
+            at -= len;
+        }
+        &[]
+    }
+
+    /// Drops all pieces. The end stays.
+    pub(crate) fn clear(&mut self)
+        ensures same { self.new ≡ record self.old { held = []; gone = self.old.end; room = self.new.room } }
+        ensures room { self.old.room ≤ self.new.room }
+    {
+        self.pieces.clear();
+        self.gone = self.end;
+    }
+}
+
+
+
+// Drops the pieces at the front that end at `prefix` or below.
+fn drop_covered(pieces: &mut VecDeque<Bytes>, gone: &mut u64, prefix: u64)
+    requires gone_acked { gone.old ≤ prefix }
+    requires filled { AreFilled pieces.old.items }
+    requires small { gone.old + total pieces.old.items < 2 ^ 62 }
+    requires acked_written { prefix ≤ gone.old + total pieces.old.items }
+    ensures held { pieces.new.items ≡ uncovered (prefix - gone.old) pieces.old.items }
+    ensures filled { AreFilled pieces.new.items }
+    ensures lengths { gone.new + total pieces.new.items ≡ gone.old + total pieces.old.items }
+    ensures first { IsInFirst (prefix - gone.new) pieces.new.items }
+    ensures gone_acked { gone.new ≤ prefix }
+    ensures room { (deque_len pieces.new ≤ deque_len pieces.old) × (deque_capacity pieces.new ≡ deque_capacity pieces.old) }
+{
+    while let Some(front) = pieces.front() {
+        let len = front.len() as u64;
+        if prefix - *gone < len {
+            break;
+        }
+        *gone += len;
+        pieces.pop_front();
+    }
+}
