@@ -1,4 +1,5 @@
 pub mod Pieces
+pub mod Laid
 pub mod Sets
 pub mod Cuts
 pub mod Sound

@@ -1,2 +1,3 @@
 pub mod Ranges
 pub mod Buffer
+pub mod Pieces

@@ -1,16 +1,25 @@
-ghost use Rattle.std.specs.Prelude.{◌≡◌, ◌+◌, ◌-◌, ◌<◌, ◌≤◌, ◌^◌, ◌++◌, ◌∷◌, [], OnOk, OnErr, IsOk, length};
+ghost use Rattle.std.specs.Prelude.{◌≡◌, ◌+◌, ◌-◌, ◌<◌, ◌≤◌, ◌^◌, ℕ, ◌++◌, ◌∷◌, [], OnOk, OnErr, IsOk, length};
 ghost use Rattle.std.specs.VecDeque.{deque_len, deque_capacity};
 ghost use Rattle.quic_sending.specs.Buffer.{Queued, total, AreFilled, IsInFirst, piece_part, uncovered};
+ghost use Rattle.quic_sending.specs.Pieces.{contents, IsLaidOut, IsCountUpTo};
 
 use quic_values::{Bytes, OutOfMemory};
 use std::alloc::Global;
 use std::collections::VecDeque;
 use std::marker::Model;
 
-/// The pieces of a stream that are still held, none of them empty.
+// A written piece, and the offset of its first byte.
+#[derive(Drop)]
+struct Piece {
+    start: u64,
+    bytes: Bytes,
+}
+
+/// The pieces of a stream that are still held, none of them empty. A piece is found by a binary
+/// search, and its bytes never move.
 #[derive(Drop)]
 pub(crate) struct PieceQueue {
-    pieces: VecDeque<Bytes>,
+    pieces: VecDeque<Piece>,
     // The offset at which the first piece starts.
     gone: u64,
     // The offset behind the last piece.
@@ -20,18 +29,19 @@ pub(crate) struct PieceQueue {
 impl Model for PieceQueue {
     ghost use Rattle.std.specs.Prelude.{◌≡◌, ◌+◌, ◌-◌, ◌<◌, ◌^◌};
     ghost use Rattle.std.specs.VecDeque.{deque_len, deque_capacity};
-    ghost use Rattle.quic_sending.specs.Buffer.{Queued, total, AreFilled};
+    ghost use Rattle.quic_sending.specs.Buffer.{Queued, total};
+    ghost use Rattle.quic_sending.specs.Pieces.{contents, IsLaidOut};
 
     ghost Value = { Queued };
 
     ghost view = { λ s. record {
-      held = s.pieces.items;
+      held = contents s.pieces.items;
       gone = s.gone;
       end = s.end;
       room = deque_capacity s.pieces - deque_len s.pieces;
     } };
 
-    ghost invariant = { λ s. (s.gone + total s.pieces.items ≡ s.end) × (s.end < 2 ^ 62) × AreFilled s.pieces.items };
+    ghost invariant = { λ s. IsLaidOut s.gone s.pieces.items × (s.gone + total (contents s.pieces.items) ≡ s.end) × (s.end < 2 ^ 62) };
 }
 
 impl PieceQueue {
@@ -84,7 +94,10 @@ impl PieceQueue {
         ensures roomy { 0 < self.old.room → IsOk result × (self.old.room ≤ self.new.room + 1) }
     {
         let len = piece.len() as u64;
-        self.pieces.push_back(piece)?;
+        self.pieces.push_back(Piece {
+            start: self.end,
+            bytes: piece,
+        })?;
         self.end += len;
         Ok(())
     }
@@ -110,17 +123,18 @@ impl PieceQueue {
         requires { self.now.gone ≤ start }
         ensures { result.now ≡ piece_part self.now.held (start - self.now.gone) most }
     {
-        let mut at = (start - self.gone) as usize;
-        let most = most as usize;
-        for piece in self.pieces.iter() {
-            let len = piece.len();
-            if at < len {
-                let end = at + most.min(len - at);
-                return &piece.as_slice()[at..end];
-            }
-            at -= len;
+        let count = count_up_to(&self.pieces, start);
+        if count == 0 {
+            return &[];
         }
-        &[]
+        let piece = &self.pieces[count - 1];
+        let at = start - piece.start;
+        let len = piece.bytes.len() as u64;
+        if at >= len {
+            return &[];
+        }
+        let end = at + most.min(len - at);
+        &piece.bytes.as_slice()[at as usize..end as usize]
     }
 
     /// Drops all pieces. The end stays.
@@ -135,21 +149,40 @@ impl PieceQueue {
 
 
 
+// How many of the pieces start at an offset or before it.
+#[inline]
+fn count_up_to(pieces: &VecDeque<Piece>, offset: u64) -> usize
+    requires { (from : ℕ) × IsLaidOut from pieces.now.items }
+    ensures { IsCountUpTo pieces.now.items offset result }
+{
+    let mut low = 0;
+    let mut high = pieces.len();
+    while low < high {
+        let middle = low + (high - low) / 2;
+        if pieces[middle].start <= offset {
+            low = middle + 1;
+        } else {
+            high = middle;
+        }
+    }
+    low
+}
+
 // Drops the pieces at the front that end at `prefix` or below.
-fn drop_covered(pieces: &mut VecDeque<Bytes>, gone: &mut u64, prefix: u64)
+fn drop_covered(pieces: &mut VecDeque<Piece>, gone: &mut u64, prefix: u64)
     requires gone_acked { gone.old ≤ prefix }
-    requires filled { AreFilled pieces.old.items }
-    requires small { gone.old + total pieces.old.items < 2 ^ 62 }
-    requires acked_written { prefix ≤ gone.old + total pieces.old.items }
-    ensures held { pieces.new.items ≡ uncovered (prefix - gone.old) pieces.old.items }
-    ensures filled { AreFilled pieces.new.items }
-    ensures lengths { gone.new + total pieces.new.items ≡ gone.old + total pieces.old.items }
-    ensures first { IsInFirst (prefix - gone.new) pieces.new.items }
+    requires laid_out { IsLaidOut gone.old pieces.old.items }
+    requires small { gone.old + total (contents pieces.old.items) < 2 ^ 62 }
+    requires acked_written { prefix ≤ gone.old + total (contents pieces.old.items) }
+    ensures held { contents pieces.new.items ≡ uncovered (prefix - gone.old) (contents pieces.old.items) }
+    ensures laid_out { IsLaidOut gone.new pieces.new.items }
+    ensures lengths { gone.new + total (contents pieces.new.items) ≡ gone.old + total (contents pieces.old.items) }
+    ensures first { IsInFirst (prefix - gone.new) (contents pieces.new.items) }
     ensures gone_acked { gone.new ≤ prefix }
     ensures room { (deque_len pieces.new ≤ deque_len pieces.old) × (deque_capacity pieces.new ≡ deque_capacity pieces.old) }
 {
     while let Some(front) = pieces.front() {
-        let len = front.len() as u64;
+        let len = front.bytes.len() as u64;
         if prefix - *gone < len {
             break;
         }
