@@ -4,7 +4,7 @@ use Rattle.std.proofs.lemmas.Bool.{cases_lt}
 use Rattle.std.proofs.lemmas.List.{take_min}
 use Rattle.quic_sending.specs.declared.piece_queue.Piece.{Piece}
 use Rattle.quic_sending.specs.Buffer.{total, piece_part, AreFilled}
-use Rattle.quic_sending.specs.Pieces.{contents, IsLaidOut, IsCountUpTo}
+use Rattle.quic_sending.specs.Pieces.{contents, IsLaidOut, IsBetween, IsCountUpTo}
 use Rattle.quic_sending.proofs.Pieces.{piece_part-skip, piece_part-here}
 
 pub contents-append : (ps qs : List Piece) → contents (ps ++ qs) ≡ contents ps ++ contents qs
@@ -82,3 +82,35 @@ piece_part-counted n ps count p at most h c some e =
     let start : p.start ≡ (get_or ps (count - 1) p).start = ap (λ (x : Piece). x.start) e in
     let up_to = c.before (count - 1) p (omega arith) in
     piece_part-found n ps (count - 1) p at most h (omega arith) e (omega arith) (λ d l. c.behind (suc (count - 1)) d (omega arith) l)
+
+pub IsBetween-all : (ps : List Piece) (offset : ℕ) → IsBetween ps offset 0 (length ps)
+IsBetween-all ps offset =
+    record {
+      ordered = omega arith;
+      within = omega arith;
+      before = λ k d l. absurd (omega arith);
+      behind = λ k d l m. absurd (omega arith);
+    }
+
+-- the piece at i starts up to the offset
+pub IsBetween-raise : (n : ℕ) (ps : List Piece) (offset low high i : ℕ) (p : Piece) → IsLaidOut n ps → IsBetween ps offset low high → i < high → p ≡ get_or ps i p → p.start ≤ offset → IsBetween ps offset (i + 1) high
+IsBetween-raise n ps offset low high i p h b l e s =
+    let within = b.within in
+    let here : p.start ≡ (get_or ps i p).start = ap (λ (x : Piece). x.start) e in
+    record {
+      ordered = omega arith;
+      within = within;
+      before = λ k d m. let rises = start-le n ps k i d p h (omega arith) (omega arith) in omega arith;
+      behind = b.behind;
+    }
+
+-- the piece at i starts behind the offset
+pub IsBetween-lower : (n : ℕ) (ps : List Piece) (offset low high i : ℕ) (p : Piece) → IsLaidOut n ps → IsBetween ps offset low high → low ≤ i → i < length ps → p ≡ get_or ps i p → offset < p.start → IsBetween ps offset low i
+IsBetween-lower n ps offset low high i p h b l m e s =
+    let here : p.start ≡ (get_or ps i p).start = ap (λ (x : Piece). x.start) e in
+    record {
+      ordered = l;
+      within = omega arith;
+      before = b.before;
+      behind = λ k d o t. let rises = start-le n ps i k p d h (omega arith) t in omega arith;
+    }

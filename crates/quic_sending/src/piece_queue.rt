@@ -1,7 +1,7 @@
 ghost use Rattle.std.specs.Prelude.{◌≡◌, ◌+◌, ◌-◌, ◌<◌, ◌≤◌, ◌^◌, ℕ, ◌++◌, ◌∷◌, [], OnOk, OnErr, IsOk, length};
 ghost use Rattle.std.specs.VecDeque.{deque_len, deque_capacity};
 ghost use Rattle.quic_sending.specs.Buffer.{Queued, total, AreFilled, IsInFirst, piece_part, uncovered};
-ghost use Rattle.quic_sending.specs.Pieces.{contents, IsLaidOut, IsCountUpTo};
+ghost use Rattle.quic_sending.specs.Pieces.{contents, IsLaidOut, IsCountUpTo, IsBetween};
 
 use quic_values::{Bytes, OutOfMemory};
 use std::alloc::Global;
@@ -24,6 +24,8 @@ pub(crate) struct PieceQueue {
     gone: u64,
     // The offset behind the last piece.
     end: u64,
+    // The index of a piece where the next search begins. It need not be right.
+    hint: usize,
 }
 
 impl Model for PieceQueue {
@@ -53,6 +55,7 @@ impl PieceQueue {
             pieces: VecDeque::new(alloc),
             gone: 0,
             end: 0,
+            hint: 0,
         }
     }
 
@@ -114,7 +117,17 @@ impl PieceQueue {
         ensures gone { self.new.gone ≤ prefix }
         ensures room { self.old.room ≤ self.new.room }
     {
+        let before = self.pieces.len();
         drop_covered(&mut self.pieces, &mut self.gone, prefix);
+        self.hint = self.hint.saturating_sub(before - self.pieces.len());
+    }
+
+    /// Lets the next search begin at the piece that holds `offset`, if it lies ahead.
+    #[inline]
+    pub(crate) fn seek(&mut self, offset: u64)
+        ensures { self.new ≡ self.old }
+    {
+        self.hint = advance_hint(&self.pieces, self.hint, offset);
     }
 
     /// At most `most` bytes from offset `start` on, of the piece that holds that offset.
@@ -123,7 +136,7 @@ impl PieceQueue {
         requires { self.now.gone ≤ start }
         ensures { result.now ≡ piece_part self.now.held (start - self.now.gone) most }
     {
-        let count = count_up_to(&self.pieces, start);
+        let count = count_up_to(&self.pieces, self.hint, start);
         if count == 0 {
             return &[];
         }
@@ -149,14 +162,23 @@ impl PieceQueue {
 
 
 
+// The index of the last piece from `hint` on that starts at an offset or before it.
+#[inline]
+fn advance_hint(pieces: &VecDeque<Piece>, hint: usize, offset: u64) -> usize {
+    let mut hint = hint;
+    while hint < pieces.len() && pieces.len() - hint > 1 && pieces[hint + 1].start <= offset {
+        hint += 1;
+    }
+    hint
+}
+
 // How many of the pieces start at an offset or before it.
 #[inline]
-fn count_up_to(pieces: &VecDeque<Piece>, offset: u64) -> usize
+fn count_up_to(pieces: &VecDeque<Piece>, hint: usize, offset: u64) -> usize
     requires { (from : ℕ) × IsLaidOut from pieces.now.items }
     ensures { IsCountUpTo pieces.now.items offset result }
 {
-    let mut low = 0;
-    let mut high = pieces.len();
+    let (mut low, mut high) = bounds_at(pieces, hint, offset);
     while low < high {
         let middle = low + (high - low) / 2;
         if pieces[middle].start <= offset {
@@ -166,6 +188,26 @@ fn count_up_to(pieces: &VecDeque<Piece>, offset: u64) -> usize
         }
     }
     low
+}
+
+// Bounds on how many of the pieces start at an offset or before it, by those at `hint`.
+#[inline]
+fn bounds_at(pieces: &VecDeque<Piece>, hint: usize, offset: u64) -> (usize, usize)
+    requires { (from : ℕ) × IsLaidOut from pieces.now.items }
+    ensures { IsBetween pieces.now.items offset result.0 result.1 }
+{
+    let len = pieces.len();
+    if hint >= len {
+        return (0, len);
+    }
+    if offset < pieces[hint].start {
+        return (0, hint);
+    }
+    let next = hint + 1;
+    if next < len && offset < pieces[next].start {
+        return (next, next);
+    }
+    (next, len)
 }
 
 // Drops the pieces at the front that end at `prefix` or below.

@@ -87,6 +87,14 @@ impl SendBuffer {
         self.pieces.end()
     }
 
+    /// The first offset that was never sent.
+    #[inline]
+    pub fn unsent(&self) -> u64
+        ensures { result ≡ self.now.unsent }
+    {
+        self.unsent
+    }
+
     /// Whether all that was written is acknowledged.
     #[inline]
     pub fn is_fully_acked(&self) -> bool
@@ -198,6 +206,10 @@ impl SendBuffer {
         ensures err { OnErr result (self.new ≡ self.old) }
         ensures sound { IsSound self.new }
     {
+        if self.lost.is_empty() {
+            self.later.insert(range)?;
+            return Ok(());
+        }
         match self.lost.run_from(range.start) {
             Some(run) if run.start < range.end => {
                 let mut lost = self.lost.try_clone()?;
@@ -277,9 +289,13 @@ impl SendBuffer {
         ensures ordered { result.start ≤ result.end }
         ensures small { result.end < 2 ^ 62 }
     {
+        let unsent = self.unsent..self.pieces.end();
+        if self.lost.is_empty() {
+            return unsent;
+        }
         match self.lost.run_from(0) {
             Some(run) => run,
-            None => self.unsent..self.pieces.end(),
+            None => unsent,
         }
     }
 
@@ -301,6 +317,7 @@ impl SendBuffer {
         if next.start < self.unsent {
             self.lost.remove(next.start..end)?;
         } else {
+            self.pieces.seek(next.start);
             self.unsent = end;
         }
         Ok((next.start..end, has_length))
