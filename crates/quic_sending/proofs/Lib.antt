@@ -3,3 +3,5 @@ pub mod Laid
 pub mod Sets
 pub mod Cuts
 pub mod Sound
+pub mod Sources
+pub mod Chunks

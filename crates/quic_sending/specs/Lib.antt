@@ -1,3 +1,4 @@
 pub mod Ranges
 pub mod Buffer
 pub mod Pieces
+pub mod Source

@@ -3,5 +3,7 @@
 
 mod piece_queue;
 pub mod send_buffer;
+pub mod source;
 
 pub use send_buffer::SendBuffer;
+pub use source::{ByteSlice, BytesArray, BytesSource};
