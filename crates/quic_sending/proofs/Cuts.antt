@@ -147,3 +147,7 @@ front-step bytes xs s at n l h =
     (ap (λ (k : ℕ). take k (drop s bytes)) sum
     ∙ (take-add (at - s) (length xs) (drop s bytes)
     ∙ ap (λ (r : List ℕ). take (at - s) (drop s bytes) ++ r) (ap (take (length xs)) rest ∙ sym h.same)))
+
+-- more room
+pub HasCuts-reserve : (v : Buffered) (cuts : List (List ℕ)) (room : ℕ) → HasCuts cuts v → HasCuts cuts (record v { room = room })
+HasCuts-reserve v cuts room h = record { written = h.written; retained = h.retained }

@@ -2,3 +2,4 @@ pub mod Ranges
 pub mod Buffer
 pub mod Pieces
 pub mod Source
+pub mod Sending

@@ -2,8 +2,10 @@
 #![tactic(auto)]
 
 mod piece_queue;
+pub mod send;
 pub mod send_buffer;
 pub mod source;
 
+pub use send::{ClosedStream, FinishError, Send, SendState, WriteError, Written};
 pub use send_buffer::SendBuffer;
 pub use source::{ByteSlice, BytesArray, BytesSource};

@@ -160,8 +160,6 @@ impl PieceQueue {
     }
 }
 
-
-
 // The index of the last piece from `hint` on that starts at an offset or before it.
 #[inline]
 fn advance_hint(pieces: &VecDeque<Piece>, hint: usize, offset: u64) -> usize {

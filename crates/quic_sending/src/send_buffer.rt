@@ -146,6 +146,26 @@ impl SendBuffer {
         Ok(())
     }
 
+    // Appends bytes for which `reserve` made room.
+    #[inline]
+    pub(crate) fn write_reserved(&mut self, piece: Bytes)
+        requires room { 0 < self.old.room }
+        requires small { self.old.offset + length piece < 2 ^ 62 }
+        ensures same { self.new ≡ record self.old {
+          offset = self.old.offset + length piece;
+          held = self.old.held ++ cut piece;
+          room = self.new.room;
+        } }
+        ensures room { self.old.room ≤ self.new.room + 1 }
+        ensures cuts { (cuts : List (List ℕ)) → HasCuts cuts self.old → HasCuts (cuts ++ cut piece) self.new }
+        ensures sound { IsSound self.new }
+    {
+        match self.write(piece) {
+            Ok(()) => {}
+            Err(_) => unreachable!(),
+        }
+    }
+
     /// Sent offsets of this range are lost: those that are not acknowledged are to be sent again.
     pub fn retransmit(&mut self, range: Range<u64>) -> Result<(), OutOfMemory>
         requires { range.end ≤ self.old.unsent }
@@ -393,11 +413,7 @@ fn append(out: &mut Vec<u8>, bytes: &[u8])
 }
 
 // A copy of the lost offsets, with those of a range that are not acknowledged.
-fn with_gaps(
-    lost: &RangeSet,
-    acked: &RangeSet,
-    range: Range<u64>,
-) -> Result<RangeSet, OutOfMemory>
+fn with_gaps(lost: &RangeSet, acked: &RangeSet, range: Range<u64>) -> Result<RangeSet, OutOfMemory>
     ensures { IfOk result (λ s. (n : ℕ) → contains s n ≡ (contains lost.now n || (lies_in range n && not (contains acked.now n)))) }
 {
     let mut copy = lost.try_clone()?;

@@ -139,10 +139,7 @@ impl BytesSource for BytesArray<'_> {
         if limit < chunk.len() {
             chunk.advance(limit);
             self.ready = 0;
-            return (
-                mem::replace(&mut self.part, Bytes::new(self.alloc)),
-                ended,
-            );
+            return (mem::replace(&mut self.part, Bytes::new(self.alloc)), ended);
         }
         let whole = mem::replace(chunk, Bytes::new(self.alloc));
         self.consumed += 1;
