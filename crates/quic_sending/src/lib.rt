@@ -9,3 +9,6 @@ pub mod source;
 pub use send::{ClosedStream, FinishError, Send, SendState, WriteError, Written};
 pub use send_buffer::SendBuffer;
 pub use source::{ByteSlice, BytesArray, BytesSource};
+
+#[cfg(test)]
+mod tests;

@@ -93,6 +93,12 @@ impl From<OutOfMemory> for FinishError {
 pub struct ClosedStream;
 
 impl From<ClosedStream> for io::Error {
+    ghost use Rattle.std.specs.Prelude.{◌≡◌};
+    ghost use Rattle.std.specs.IoError.{error_kind};
+    ghost use Rattle.std.specs.declared.io.ErrorKind.TheVariants.{NotConnected};
+
+    ghost from_gives = { λ _ error. error_kind error ≡ NotConnected };
+
     fn from(_error: ClosedStream) -> io::Error {
         io::Error::from(io::ErrorKind::NotConnected)
     }

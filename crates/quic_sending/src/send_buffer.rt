@@ -95,6 +95,14 @@ impl SendBuffer {
         self.unsent
     }
 
+    /// The end of the acknowledged prefix: the first offset that is not acknowledged.
+    #[inline]
+    pub fn acked_prefix(&self) -> u64
+        ensures { result ≡ self.now.prefix }
+    {
+        self.prefix
+    }
+
     /// Whether all that was written is acknowledged.
     #[inline]
     pub fn is_fully_acked(&self) -> bool
@@ -379,7 +387,7 @@ impl SendBuffer {
 
 // Where the front of a range ends that fits a frame, and whether the frame has a length.
 #[inline]
-fn cut_to_frame(start: u64, end: u64, max_len: usize) -> (u64, bool)
+pub(crate) fn cut_to_frame(start: u64, end: u64, max_len: usize) -> (u64, bool)
     requires ordered { start ≤ end }
     requires small { end < 2 ^ 62 }
     requires room { 16 ≤ max_len }
