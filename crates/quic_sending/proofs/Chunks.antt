@@ -1,5 +1,5 @@
 -- Lemmas on the pieces of chunks.
-use Rattle.std.proofs.Common.{◌≡◌, ℕ, ◌+◌, ◌-◌, ◌<◌, ◌≤◌, List, [], ◌∷◌, ◌++◌, length, take, drop, get_or, set, refl, sym, ap, ◌∙◌, arith, length-append, length-take, length-set, min, ⊎_elim}
+use Rattle.std.proofs.Common.{◌≡◌, ℕ, ◌+◌, ◌-◌, ◌<◌, ◌≤◌, List, [], ◌∷◌, ◌++◌, length, take, drop, get_or, set, refl, sym, ap, ◌∙◌, arith, length-take, length-set, min, ⊎_elim}
 use Rattle.std.proofs.lemmas.Bool.{cases_lt}
 use Rattle.std.proofs.lemmas.Bool.Decides.{nat_tests}
 use Rattle.std.proofs.lemmas.List.{drop_more, drop_all, drop-set-lt, get_or-set_same, take_all, append-nil}
@@ -48,11 +48,6 @@ pieces_of-zero : (n : ℕ) (ps : List (List ℕ)) → n ≡ 0 → pieces_of n ps
 pieces_of-zero n [] e = refl
 pieces_of-zero n ([] ∷ ps) e = pieces_of-zero n ps e
 pieces_of-zero n ((b ∷ bs) ∷ ps) e = rw e (pieces_of-zero (0 - length (b ∷ bs)) ps (omega arith))
-
--- a chunk that is taken whole
-pub pieces_of-whole : (n : ℕ) (p : List ℕ) (ps : List (List ℕ)) → length p ≤ n → pieces_of n (p ∷ ps) ≡ cut p ++ pieces_of (n - length p) ps
-pieces_of-whole n [] ps h = ap (λ (k : ℕ). pieces_of k ps) (omega arith)
-pieces_of-whole n (b ∷ bs) ps h = rw (take_all n (b ∷ bs) h) refl
 
 -- a chunk of which a part is taken
 pub pieces_of-part : (n : ℕ) (p : List ℕ) (ps : List (List ℕ)) → n < length p → pieces_of n (p ∷ ps) ≡ cut (take n p)

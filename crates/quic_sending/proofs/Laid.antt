@@ -1,6 +1,5 @@
 -- Lemmas on pieces that are laid out one behind the other.
-use Rattle.std.proofs.Common.{◌≡◌, ℕ, ◌+◌, ◌-◌, ◌<◌, ◌≤◌, zero, suc, List, [], ◌∷◌, ◌++◌, length, get_or, refl, sym, ap, ◌∙◌, ⊎_elim, min, take, drop, length-drop, arith}
-use Rattle.std.proofs.lemmas.Bool.{cases_lt}
+use Rattle.std.proofs.Common.{◌≡◌, ℕ, ◌+◌, ◌-◌, ◌<◌, ◌≤◌, zero, suc, List, [], ◌∷◌, ◌++◌, length, get_or, refl, sym, ap, ◌∙◌, min, take, drop, length-drop, arith}
 use Rattle.std.proofs.lemmas.List.{take_min}
 use Rattle.quic_sending.specs.declared.piece_queue.Piece.{Piece}
 use Rattle.quic_sending.specs.Buffer.{total, piece_part, AreFilled}

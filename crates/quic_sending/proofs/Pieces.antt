@@ -1,5 +1,5 @@
 -- Lemmas on lists of pieces.
-use Rattle.std.proofs.Common.{◌≡◌, ℕ, ◌+◌, ◌-◌, ◌<◌, ◌≤◌, Bool, true, false, nat_lt, if◌then◌else◌, List, [], ◌∷◌, ◌++◌, length, take, drop, refl, arith}
+use Rattle.std.proofs.Common.{◌≡◌, ℕ, ◌+◌, ◌-◌, ◌<◌, ◌≤◌, List, [], ◌∷◌, ◌++◌, length, take, drop, refl, arith}
 use Rattle.std.proofs.lemmas.Bool.Decides.{nat_tests}
 use Rattle.quic_sending.specs.Buffer.{total, uncovered, piece_part, AreFilled, IsInFirst}
 
@@ -24,16 +24,15 @@ pub uncovered-keep : (d : ℕ) (ps : List (List ℕ)) → IsInFirst d ps → unc
 uncovered-keep d [] h = refl
 uncovered-keep d (p ∷ ps) h = grind (arith, nat_tests)
 
-either : (b : Bool) (xs ys : List (List ℕ)) → AreFilled xs → AreFilled ys → AreFilled (if b then xs else ys)
-either true xs ys g h = g
-either false xs ys g h = h
-
-pub AreFilled-uncovered : (d : ℕ) (ps : List (List ℕ)) → AreFilled ps → AreFilled (uncovered d ps)
-AreFilled-uncovered d [] h = tt
-AreFilled-uncovered d (p ∷ ps) h = either (nat_lt d (length p)) (p ∷ ps) _ h (AreFilled-uncovered (d - length p) ps h.1)
-
 pub piece_part-skip : (p : List ℕ) (ps : List (List ℕ)) (s n : ℕ) → length p ≤ s → piece_part (p ∷ ps) s n ≡ piece_part ps (s - length p) n
 piece_part-skip p ps s n h = grind (arith, nat_tests)
 
 pub piece_part-here : (p : List ℕ) (ps : List (List ℕ)) (s n : ℕ) → s < length p → piece_part (p ∷ ps) s n ≡ take n (drop s p)
 piece_part-here p ps s n h = grind (arith, nat_tests)
+
+-- there is nothing behind the last piece
+pub piece_part-past : (ps : List (List ℕ)) (s n : ℕ) → total ps ≤ s → piece_part ps s n ≡ []
+piece_part-past [] s n h = refl
+piece_part-past (p ∷ ps) s n h =
+    let skipped : length p ≤ s = omega arith in
+    rw (piece_part-skip p ps s n skipped) (piece_part-past ps (s - length p) n (omega arith))

@@ -1,9 +1,9 @@
 -- Lemmas on sets of offsets.
-use Rattle.std.proofs.Common.{◌≡◌, ℕ, ◌<◌, ◌≤◌, ◌⊎◌, inl, inr, Bool, true, false, ◌||◌, List, [], ◌∷◌, ◌-◌, ◌&&◌, not, max, refl, nat_lt, arith}
+use Rattle.std.proofs.Common.{◌≡◌, ℕ, ◌<◌, ◌≤◌, ◌⊎◌, inl, inr, true, false, ◌||◌, List, [], ◌∷◌, ◌-◌, ◌&&◌, not, max, refl, nat_lt, arith}
 use Rattle.std.proofs.lemmas.Bool.{cases_lt}
 use Rattle.std.proofs.lemmas.Bool.Decides.{nat_tests}
 use Rattle.std.specs.declared.ops.Range.{Range}
-use Rattle.quic_values.specs.Runs.{Run, contains, is_in, lies_in, IsRunOf}
+use Rattle.quic_values.specs.Runs.{Run, contains, lies_in, IsRunOf}
 use Rattle.quic_sending.specs.Ranges.{IsNothing}
 
 -- a set is empty, or has a number

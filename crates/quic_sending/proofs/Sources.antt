@@ -10,11 +10,6 @@ cut-filled : (xs : List ℕ) → 0 < length xs → cut xs ≡ xs ∷ []
 cut-filled [] h = absurd (omega arith)
 cut-filled (x ∷ xs) h = refl
 
-pub length-popped-le : (n : ℕ) (ps : List (List ℕ)) → length (popped n ps) ≤ n
-length-popped-le n [] = omega arith
-length-popped-le n ([] ∷ ps) = length-popped-le n ps
-length-popped-le n ((b ∷ bs) ∷ ps) = omega (arith, length-take n (b ∷ bs))
-
 after_pop-whole : (n b : ℕ) (bs : List ℕ) (ps : List (List ℕ)) → length (b ∷ bs) ≤ n → after_pop n ((b ∷ bs) ∷ ps) ≡ ps
 after_pop-whole n b bs ps h = grind (arith, nat_tests)
 

@@ -1,5 +1,5 @@
 -- Sets of offsets, as `quic_values` has them, and their lowest runs.
-use Rattle.std.specs.Prelude.{◌≡◌, ℕ, ◌<◌, Bool, false, List}
+use Rattle.std.specs.Prelude.{◌≡◌, ℕ, ◌<◌, false, List}
 use Rattle.quic_values.specs.Runs.{Run, contains, range_of, IsRunOf}
 
 -- nothing is in the set

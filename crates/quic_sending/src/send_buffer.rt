@@ -146,11 +146,9 @@ impl SendBuffer {
         ensures cuts { OnOk result ((cuts : List (List ℕ)) → HasCuts cuts self.old → HasCuts (cuts ++ cut piece) self.new) }
         ensures sound { IsSound self.new }
     {
-        let _ = &self.unsent;
-        if piece.is_empty() {
-            return Ok(());
+        if !piece.is_empty() {
+            self.pieces.push(piece)?;
         }
-        self.pieces.push(piece)?;
         Ok(())
     }
 
@@ -257,20 +255,11 @@ impl SendBuffer {
     #[inline]
     pub fn get(&self, range: Range<u64>) -> &[u8]
         ensures acked { range.start < self.now.prefix → result.now ≡ [] }
+        ensures unwritten { self.now.offset ≤ range.start → result.now ≡ [] }
         ensures most { length result.now ≤ range.end - range.start }
         ensures some { self.now.prefix ≤ range.start → range.start < self.now.offset → range.start < range.end → 0 < length result.now }
         ensures piece { (cuts : List (List ℕ)) → HasCuts cuts self.now → self.now.prefix ≤ range.start → result.now ≡ piece_part cuts range.start (range.end - range.start) }
         ensures bytes { (cuts : List (List ℕ)) → HasCuts cuts self.now → self.now.prefix ≤ range.start → IsFrontAt (concat cuts) range.start (range.end - range.start) result.now }
-    {
-        let _ = &self.unsent;
-        self.held_part(range)
-    }
-
-    // That, by the pieces that are held.
-    #[inline]
-    fn held_part(&self, range: Range<u64>) -> &[u8]
-        ensures acked { range.start < self.now.prefix → result.now ≡ [] }
-        ensures part { self.now.prefix ≤ range.start → result.now ≡ piece_part self.now.held (range.start - self.now.gone) (range.end - range.start) }
     {
         if range.start < self.prefix {
             return &[];

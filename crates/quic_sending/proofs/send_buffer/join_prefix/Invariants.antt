@@ -1,4 +1,4 @@
-use Rattle.std.proofs.Common.{◌≡◌, ℕ, ◌-◌, ◌^◌, ◌<◌, ◌≤◌, ◌||◌, max, nat_lt, true, false}
+use Rattle.std.proofs.Common.{◌≡◌, ℕ, ◌-◌, ◌^◌, ◌<◌, ◌||◌, max, nat_lt, true, false}
 use Rattle.quic_values.specs.Runs.{contains}
 use Rattle.quic_sending.proofs.send_buffer.join_prefix.Given as goal
 

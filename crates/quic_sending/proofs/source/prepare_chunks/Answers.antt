@@ -1,4 +1,4 @@
-use Rattle.std.proofs.Common.{◌≡◌, ◌<◌, length, arith}
+use Rattle.std.proofs.Common.{◌<◌, length, arith}
 use Rattle.std.proofs.lemmas.Bool.Decides.{nat_tests}
 use Rattle.quic_sending.proofs.Chunks.{length-pieces_of-part}
 use Rattle.quic_sending.proofs.source.prepare_chunks.Goals as goal

@@ -1,4 +1,4 @@
-use Rattle.std.proofs.Common.{◌≡◌, ◌≤◌, ◌<◌, ◌-◌, ℕ, length, min, sym, ap, ◌∙◌, arith}
+use Rattle.std.proofs.Common.{◌≡◌, ◌≤◌, ◌<◌, ◌-◌, length, min, sym, ap, ◌∙◌, arith}
 use Rattle.quic_sending.specs.Buffer.{Queued}
 use Rattle.quic_sending.proofs.Laid.{piece_part-none, piece_part-counted, piece_part-slice, piece_part-end}
 use Rattle.quic_sending.proofs.piece_queue.PieceQueue.part.Goals as goal

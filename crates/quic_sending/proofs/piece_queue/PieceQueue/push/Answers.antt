@@ -1,4 +1,4 @@
-use Rattle.std.proofs.Common.{◌≡◌, ◌<◌, ◌+◌, ◌++◌, ◌∷◌, [], List, ℕ, ap, ◌∙◌, length, refl, arith, rules}
+use Rattle.std.proofs.Common.{◌≡◌, ◌<◌, ◌∷◌, [], ap, length, refl, arith}
 use Rattle.quic_sending.specs.Buffer.{Queued, total}
 use Rattle.quic_sending.specs.Pieces.{contents}
 use Rattle.quic_sending.proofs.Pieces.{total-append}

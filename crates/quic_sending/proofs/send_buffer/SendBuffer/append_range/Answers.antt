@@ -1,4 +1,4 @@
-use Rattle.std.proofs.Common.{◌≤◌, ℕ, List, ◌++◌, ap, ◌∙◌, arith, rules}
+use Rattle.std.proofs.Common.{◌≤◌, ℕ, List, ◌++◌, ap, ◌∙◌, arith}
 use Rattle.std.specs.List.{concat}
 use Rattle.std.proofs.lemmas.List.{append_assoc}
 use Rattle.quic_sending.proofs.Cuts.{front-step}

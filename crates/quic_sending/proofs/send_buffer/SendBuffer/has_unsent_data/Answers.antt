@@ -1,7 +1,6 @@
-use Rattle.std.proofs.Common.{◌≡◌, true, ap, arith, ℕ}
+use Rattle.std.proofs.Common.{◌≡◌, true, arith, ℕ}
 use Rattle.std.proofs.lemmas.Bool.Decides.{nat_tests}
 use Rattle.quic_values.specs.Runs.{contains}
-use Rattle.quic_sending.specs.Buffer.{Buffered}
 use Rattle.quic_sending.proofs.Sets.{some_of}
 use Rattle.quic_sending.proofs.send_buffer.SendBuffer.has_unsent_data.Goals as goal
 

@@ -5,17 +5,17 @@ use Rattle.quic_sending.proofs.Cuts.{HasCuts-write}
 use Rattle.quic_sending.proofs.Sound.{IsSound-write}
 use Rattle.quic_sending.proofs.send_buffer.SendBuffer.write.Goals as goal
 
-pub invariant_of-self-2 : goal.invariant_of-self-2
-invariant_of-self-2 c =
+pub invariant_of-self : goal.invariant_of-self
+invariant_of-self c =
     let some : 0 < length c.args.piece = grind (arith, nat_tests) in
     let same : c.self.inside.pieces.end ≡ c.args.self.now.offset = ap (λ (v : Buffered). v.offset) c.self.view_is in
     let small : c.self.inside.pieces.end + length c.args.piece < 2 ^ 62 = omega arith in
     rw c.in_ok-push.ensures.ok (IsSound-write _ c.args.piece _ c.self.invariant some small)
 
-pub returns-clause-sound : goal.returns-clause-sound
-returns-clause-sound c = invariant_of-self-2 c
+pub returns-in_ok-push-clause-sound : goal.returns-in_ok-push-clause-sound
+returns-in_ok-push-clause-sound c = invariant_of-self c
 
-pub returns-clause-cuts : goal.returns-clause-cuts
-returns-clause-cuts c = λ cuts h.
+pub returns-in_ok-push-clause-cuts : goal.returns-in_ok-push-clause-cuts
+returns-in_ok-push-clause-cuts c = λ cuts h.
     let sound : IsSound c.args.self.now = rw (← c.self.view_is) c.self.invariant in
     HasCuts-write c.args.self.now _ cuts c.args.piece h (omega arith) (search rules) (search rules) (search rules)
