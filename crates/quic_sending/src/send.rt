@@ -217,7 +217,7 @@ impl Send {
             return Err(WriteError::Stopped(code));
         }
         let max_data = self.max_data.into_inner();
-        let offset = self.pending.offset();
+        let offset = self.offset();
         if max_data <= offset {
             return Err(WriteError::Blocked);
         }
@@ -325,7 +325,7 @@ impl Send {
         if limit.into_inner() <= self.max_data.into_inner() || !self.is_writable() {
             return false;
         }
-        let was_blocked = self.pending.offset() == self.max_data.into_inner();
+        let was_blocked = self.offset() == self.max_data.into_inner();
         self.max_data = limit;
         was_blocked
     }

@@ -108,7 +108,7 @@ impl SendBuffer {
     pub fn is_fully_acked(&self) -> bool
         ensures { IsTrue result ↔ (self.now.prefix ≡ self.now.offset) }
     {
-        self.prefix == self.pieces.end()
+        self.prefix == self.offset()
     }
 
     /// How many bytes are retained: those of the written pieces that the acknowledged prefix does
@@ -118,7 +118,7 @@ impl SendBuffer {
         ensures held { result ≡ total self.now.held }
         ensures cuts { (cuts : List (List ℕ)) → HasCuts cuts self.now → result ≡ total (uncovered self.now.prefix cuts) }
     {
-        self.pieces.end() - self.pieces.gone()
+        self.offset() - self.pieces.gone()
     }
 
     /// Makes room, so that as many writes then take no memory.
@@ -296,7 +296,7 @@ impl SendBuffer {
         ensures some { result ≡ true → ((n : ℕ) × (is_due self.now n ≡ true)) }
         ensures none { result ≡ false → (n : ℕ) → is_due self.now n ≡ false }
     {
-        self.unsent != self.pieces.end() || !self.lost.is_empty()
+        self.unsent != self.offset() || !self.lost.is_empty()
     }
 
     // The lowest lost range, or else the range that was never sent.
@@ -306,7 +306,7 @@ impl SendBuffer {
         ensures ordered { result.start ≤ result.end }
         ensures small { result.end < 2 ^ 62 }
     {
-        let unsent = self.unsent..self.pieces.end();
+        let unsent = self.unsent..self.offset();
         if self.lost.is_empty() {
             return unsent;
         }
@@ -366,11 +366,12 @@ impl SendBuffer {
         ensures cuts { (cuts : List (List ℕ)) → HasCuts cuts self.old → HasCuts cuts self.new }
         ensures sound { IsSound self.new }
     {
+        let offset = self.offset();
         self.pieces.clear();
         self.later = RangeSet::new(self.alloc);
         self.lost = RangeSet::new(self.alloc);
-        self.prefix = self.pieces.end();
-        self.unsent = self.pieces.end();
+        self.prefix = offset;
+        self.unsent = offset;
     }
 }
 
