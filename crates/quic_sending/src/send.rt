@@ -1,4 +1,4 @@
-ghost use Rattle.std.specs.Prelude.{◌≡◌, ◌+◌, ◌-◌, ◌<◌, ◌≤◌, ◌^◌, ◌↔◌, ◌==◌, ℕ, List, [], ◌++◌, ◌&&◌, ◌||◌, not, IsTrue, IfOk, OnOk, OnErr, IfErr, length, min, true, false, if◌then◌else◌, Some, None, Option, is_none, unwrap_or, ◌⊎◌};
+ghost use Rattle.std.specs.Prelude.{◌≡◌, ◌+◌, ◌-◌, ◌<◌, ◌≤◌, ◌^◌, ◌↔◌, ◌==◌, ℕ, List, [], ◌++◌, ◌&&◌, ◌||◌, not, IsTrue, IfOk, OnOk, OnErr, IfErr, length, min, true, false, if◌then◌else◌, Some, None, Option, is_none, unwrap_or, ◌⊎◌, pos};
 ghost use Rattle.quic_values.specs.Runs.{lies_in};
 ghost use Rattle.quic_sending.specs.Buffer.{HasCuts, IsSound, is_due, is_acked, is_lost, total, uncovered};
 ghost use Rattle.quic_sending.specs.Source.{pieces_of, rest_of};
@@ -133,11 +133,21 @@ impl Send {
           max_data = max_data;
           state = SendState.Ready;
           pending = result.pending;
-          priority = result.priority;
+          priority = pos 0;
           fin_pending = false;
           connection_blocked = false;
           data_blocked_limit = None;
           stop_reason = None;
+        } }
+        ensures empty { result.pending ≡ record {
+          offset = 0;
+          unsent = 0;
+          prefix = 0;
+          later = [];
+          lost = [];
+          held = [];
+          gone = 0;
+          room = result.pending.room;
         } }
         ensures sound { IsSound result.pending }
         ensures cuts { HasCuts [] result.pending }
@@ -208,7 +218,7 @@ impl Send {
         ensures left { OnOk result (S.lists source.new ≡ rest_of (min limit (stream_room self.old)) (S.lists source.old)) }
         ensures same { OnErr result ((S.lists source.new ≡ S.lists source.old) × (self.new ≡ record self.old { pending = record self.old.pending { room = self.new.pending.room } })) }
         ensures cuts { OnOk result ((cuts : List (List ℕ)) → HasCuts cuts self.old.pending → HasCuts (cuts ++ pieces_of (min limit (stream_room self.old)) (S.lists source.old)) self.new.pending) }
-        ensures sound { IsSound self.old.pending → IsSound self.new.pending }
+        ensures sound { OnOk result (IsSound self.new.pending) }
     {
         if !self.is_writable() {
             return Err(WriteError::ClosedStream);
@@ -349,7 +359,7 @@ fn write_source<S: BytesSource>(
     ensures left { OnOk result (S.lists source.new ≡ rest_of limit (S.lists source.old)) }
     ensures err { OnErr result ((S.lists source.new ≡ S.lists source.old) × (buffer.new ≡ record buffer.old { room = buffer.new.room })) }
     ensures cuts { OnOk result ((cuts : List (List ℕ)) → HasCuts cuts buffer.old → HasCuts (cuts ++ pieces_of limit (S.lists source.old)) buffer.new) }
-    ensures sound { IsSound buffer.old → IsSound buffer.new }
+    ensures sound { OnOk result (IsSound buffer.new) }
 {
     let count = source.prepare(limit)?;
     buffer.reserve(count)?;

@@ -323,6 +323,7 @@ impl SendBuffer {
     pub fn poll_transmit(&mut self, max_len: usize) -> Result<(Range<u64>, bool), OutOfMemory>
         requires { 16 ≤ max_len }
         ensures ok { IfOk result (λ r. (e : ℕ) × IsNextRange self.old r.0.start e × (r.0.end ≡ frame_end r.0.start e max_len) × (r.1 ≡ has_length r.0.start e max_len)) }
+        ensures within { IfOk result (λ r. (self.old.prefix ≤ r.0.start) × (r.0.start ≤ r.0.end) × (r.0.end ≤ self.old.offset)) }
         ensures lost { IfOk result (λ r. (n : ℕ) → is_lost self.new n ≡ (is_lost self.old n && not (lies_in r.0 n))) }
         ensures sent { IfOk result (λ r. self.new.unsent ≡ max self.old.unsent r.0.end) }
         ensures same { self.new ≡ record self.old { lost = self.new.lost; unsent = self.new.unsent } }

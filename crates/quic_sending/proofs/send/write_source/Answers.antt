@@ -91,5 +91,5 @@ loop-chunk-preserved g c =
           let done = c.loop-chunk.invariant.cuts cuts h in
           let more : HasCuts (cuts ++ (done.0 ++ cut c.pop_chunk-chunk.result.0)) c.write_reserved.new.self = rw (← append_assoc cuts done.0 (cut c.pop_chunk-chunk.result.0)) (c.write_reserved.ensures.cuts (cuts ++ done.0) done.1) in
           (done.0 ++ cut c.pop_chunk-chunk.result.0, more, rw (taken, after) (held-step done.0 _ _ _ _ long refl (rw (piece, ← pieces) done.2)));
-      sound = λ s. c.write_reserved.ensures.sound;
+      sound = c.write_reserved.ensures.sound;
     }

@@ -17,7 +17,7 @@ invariant-loop-chunk g l =
       room : length (pieces_of l.left (lists l.source)) ≤ l.buffer.room;
       other : l.buffer ≡ record l.initial.buffer { offset = l.buffer.offset; held = l.buffer.held; room = l.buffer.room };
       cuts : (cuts : List (List ℕ)) → HasCuts cuts l.initial.buffer → (done : List (List ℕ)) × HasCuts (cuts ++ done) l.buffer × (done ++ pieces_of l.left (lists l.source) ≡ pieces_of l.limit (lists l.initial.source));
-      sound : IsSound l.initial.buffer → IsSound l.buffer;
+      sound : IsSound l.buffer;
     }
 
 abbrev pub decreases-loop-chunk : goal.decreases-loop-chunk
