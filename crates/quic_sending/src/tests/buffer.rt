@@ -72,6 +72,17 @@ fn unacked(alloc: Global, buffer: &SendBuffer) -> Result<Vec<u8>, OutOfMemory> {
     Ok(all)
 }
 
+// Each step that finds no memory is taken again, and then has to answer as if nothing had happened.
+fn run_again(rt: &impl Abort, alloc: Global, steps: &[Step]) -> Result<SendBuffer, OutOfMemory> {
+    let mut buffer = SendBuffer::new(alloc);
+    for step in steps {
+        if take(rt, alloc, &mut buffer, *step).is_err() {
+            take(rt, alloc, &mut buffer, *step)?;
+        }
+    }
+    Ok(buffer)
+}
+
 fn run(rt: &impl Abort, alloc: Global, steps: &[Step]) -> Result<SendBuffer, OutOfMemory> {
     let mut buffer = SendBuffer::new(alloc);
     for step in steps {
@@ -289,5 +300,18 @@ fn discarded_bytes_are_gone(rt: HostRuntime) -> Result<(), Fail> {
         (buffer.offset(), buffer.buffered(), buffer.has_unsent_data()),
         (13, 0, false)
     );
+    Ok(())
+}
+
+#[test]
+fn refused_memory_changes_no_buffer(rt: HostRuntime) -> Result<(), Fail> {
+    for steps in [
+        SEGMENTS.as_slice(),
+        LOSSES.as_slice(),
+        REORDERED.as_slice(),
+        MIDDLE.as_slice(),
+    ] {
+        let _ = run_again(&rt, rt.alloc(), steps)?;
+    }
     Ok(())
 }

@@ -56,6 +56,44 @@ fn write_takes_what_the_limit_leaves(rt: HostRuntime) -> Result<(), Fail> {
     Ok(())
 }
 
+fn write_chunks(
+    alloc: Global,
+    send: &mut Send,
+    chunks: &mut [Bytes],
+) -> Result<Written, WriteError> {
+    send.write(&mut BytesArray::from_chunks(alloc, chunks), 7)
+}
+
+// A write that finds no memory leaves the chunks and the half as they were: the next one takes all.
+#[test]
+fn refused_memory_changes_no_source(rt: HostRuntime) -> Result<(), Fail> {
+    let mut chunks = Vec::new(rt.alloc());
+    for text in [b"".as_slice(), b"Hello ".as_slice(), b"Wo".as_slice()] {
+        let Ok(chunk) = Bytes::copy_from_slice(rt.alloc(), text) else {
+            return Ok(());
+        };
+        if chunks.push(chunk).is_err() {
+            return Ok(());
+        }
+    }
+    let mut send = Send::new(rt.alloc(), VarInt::from(100));
+    if let Err(error) = write_chunks(rt.alloc(), &mut send, chunks.as_mut_slice()) {
+        assert_eq!(rt; error, WriteError::OutOfMemory);
+        assert_eq!(rt; send.offset(), 0);
+        let written = write_chunks(rt.alloc(), &mut send, chunks.as_mut_slice())?;
+        assert_eq!(rt;
+            written,
+            Written {
+                bytes: 7,
+                chunks: 2
+            }
+        );
+    }
+    assert_eq!(rt; send.pending.get(0..7), b"Hello ".as_slice());
+    assert_eq!(rt; send.pending.get(6..7), b"W".as_slice());
+    Ok(())
+}
+
 #[test]
 fn write_takes_at_most_the_limit_handed_in(rt: HostRuntime) -> Result<(), Fail> {
     let mut send = Send::new(rt.alloc(), VarInt::from(100));
