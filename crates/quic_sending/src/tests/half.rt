@@ -28,40 +28,71 @@ fn ack(
     send.ack(offsets, fin)
 }
 
-#[test]
-fn write_takes_what_the_limit_leaves(rt: HostRuntime) -> Result<(), Fail> {
-    for (limit, bytes, taken) in [(7, 7, 2), (8, 8, 4)] {
-        let mut chunks = Vec::new(rt.alloc());
-        for text in [
-            b"".as_slice(),
-            b"Hello ".as_slice(),
-            b"Wo".as_slice(),
-            b"".as_slice(),
-            b"r".as_slice(),
-        ] {
-            chunks.push(Bytes::copy_from_slice(rt.alloc(), text)?)?;
-        }
-        let mut send = Send::new(rt.alloc(), VarInt::from(limit));
-        let mut source = BytesArray::from_chunks(rt.alloc(), &mut chunks);
-        assert_eq!(rt;
-            send.write(&mut source, 1000)?,
-            Written {
-                bytes,
-                chunks: taken
-            }
-        );
-        assert_eq!(rt; send.write(&mut source, 1000), Err(WriteError::Blocked));
-        assert_eq!(rt; send.offset(), u64::from(limit));
-    }
-    Ok(())
-}
-
 fn write_chunks(
     alloc: Global,
     send: &mut Send,
     chunks: &mut [Bytes],
+    limit: u64,
 ) -> Result<Written, WriteError> {
-    send.write(&mut BytesArray::from_chunks(alloc, chunks), 7)
+    send.write(&mut BytesArray::from_chunks(alloc, chunks), limit)
+}
+
+// What a write of these chunks takes under a stream limit, and what is left of them.
+fn shows_write(
+    rt: &impl Abort,
+    alloc: Global,
+    limit: u32,
+    texts: &[&[u8]],
+    written: Written,
+    left: &[&[u8]],
+) -> Result<(), WriteError> {
+    let mut chunks = Vec::new(alloc);
+    for text in texts {
+        chunks
+            .push(Bytes::copy_from_slice(alloc, text)?)
+            .map_err(OutOfMemory::from)?;
+    }
+    let mut send = Send::new(alloc, VarInt::from(limit));
+    assert_eq!(rt;
+        write_chunks(alloc, &mut send, chunks.as_mut_slice(), 1000)?,
+        written
+    );
+    assert_eq!(rt; send.offset(), u64::from(limit));
+    for (chunk, text) in chunks.iter().zip(left) {
+        assert_eq!(rt; chunk.as_slice(), *text);
+    }
+    assert_eq!(rt;
+        write_chunks(alloc, &mut send, chunks.as_mut_slice(), 1000),
+        Err(WriteError::Blocked)
+    );
+    Ok(())
+}
+
+#[test]
+fn write_takes_what_the_limit_leaves(rt: HostRuntime) -> Result<(), Fail> {
+    shows_write(
+        &rt,
+        rt.alloc(),
+        7,
+        &[b"", b"Hello ", b"Wo"],
+        Written {
+            bytes: 7,
+            chunks: 2,
+        },
+        &[b"", b"", b"o"],
+    )?;
+    shows_write(
+        &rt,
+        rt.alloc(),
+        8,
+        &[b"", b"Hello ", b"Wo", b"", b"r"],
+        Written {
+            bytes: 8,
+            chunks: 4,
+        },
+        &[b"", b"", b"", b"", b"r"],
+    )?;
+    Ok(())
 }
 
 // A write that finds no memory leaves the chunks and the half as they were: the next one takes all.
@@ -77,10 +108,10 @@ fn refused_memory_changes_no_source(rt: HostRuntime) -> Result<(), Fail> {
         }
     }
     let mut send = Send::new(rt.alloc(), VarInt::from(100));
-    if let Err(error) = write_chunks(rt.alloc(), &mut send, chunks.as_mut_slice()) {
+    if let Err(error) = write_chunks(rt.alloc(), &mut send, chunks.as_mut_slice(), 7) {
         assert_eq!(rt; error, WriteError::OutOfMemory);
         assert_eq!(rt; send.offset(), 0);
-        let written = write_chunks(rt.alloc(), &mut send, chunks.as_mut_slice())?;
+        let written = write_chunks(rt.alloc(), &mut send, chunks.as_mut_slice(), 7)?;
         assert_eq!(rt;
             written,
             Written {
