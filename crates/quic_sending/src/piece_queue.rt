@@ -219,7 +219,8 @@ fn drop_covered(pieces: &mut VecDeque<Piece>, gone: &mut u64, prefix: u64)
     ensures lengths { gone.new + total (contents pieces.new.items) ≡ gone.old + total (contents pieces.old.items) }
     ensures first { IsInFirst (prefix - gone.new) (contents pieces.new.items) }
     ensures gone_acked { gone.new ≤ prefix }
-    ensures room { (deque_len pieces.new ≤ deque_len pieces.old) × (deque_capacity pieces.new ≡ deque_capacity pieces.old) }
+    ensures room { (deque_len pieces.new ≤ deque_len pieces.old) × (deque_capacity pieces.new
+        ≡ deque_capacity pieces.old) }
 {
     while let Some(front) = pieces.front() {
         let len = front.bytes.len() as u64;

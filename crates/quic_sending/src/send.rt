@@ -191,8 +191,10 @@ impl Send {
     /// Whether something is to be sent: a lost or an unsent offset, or the end.
     #[inline]
     pub fn is_pending(&self) -> bool
-        ensures some { result ≡ true → (self.now.fin_pending ≡ false) → ((n : ℕ) × (is_due self.now.pending n ≡ true)) }
-        ensures none { result ≡ false → (self.now.fin_pending ≡ false) × ((n : ℕ) → is_due self.now.pending n ≡ false) }
+        ensures some { result ≡ true → (self.now.fin_pending ≡ false) → ((n : ℕ)
+            × (is_due self.now.pending n ≡ true)) }
+        ensures none { result ≡ false → (self.now.fin_pending ≡ false) × ((n : ℕ) →
+            is_due self.now.pending n ≡ false) }
     {
         self.pending.has_unsent_data() || self.fin_pending
     }
@@ -205,7 +207,8 @@ impl Send {
         limit: u64,
     ) -> Result<Written, WriteError>
         ensures ok { OnOk result (write_refusal self.old ≡ None) }
-        ensures err { IfErr result (λ e. (write_refusal self.old ≡ Some e) ⊎ ((write_refusal self.old ≡ None) × (e ≡ WriteError.OutOfMemory))) }
+        ensures err { IfErr result (λ e. (write_refusal self.old ≡ Some e) ⊎ ((write_refusal self.old
+            ≡ None) × (e ≡ WriteError.OutOfMemory))) }
         ensures written { OnOk result (let n = min limit (stream_room self.old) in self.new ≡ record self.old {
           pending = record self.old.pending {
             offset = self.old.pending.offset + min n (total (S.lists source.old));
@@ -213,11 +216,20 @@ impl Send {
             room = self.new.pending.room;
           };
         }) }
-        ensures bytes { IfOk result (λ w. w.bytes ≡ min (min limit (stream_room self.old)) (total (S.lists source.old))) }
+        ensures bytes { IfOk result (λ w. w.bytes
+            ≡ min (min limit (stream_room self.old)) (total (S.lists source.old))) }
         ensures chunks { IfOk result (λ w. w.chunks + length (S.lists source.new) ≡ length (S.lists source.old)) }
-        ensures left { OnOk result (S.lists source.new ≡ rest_of (min limit (stream_room self.old)) (S.lists source.old)) }
-        ensures same { OnErr result ((S.lists source.new ≡ S.lists source.old) × (self.new ≡ record self.old { pending = record self.old.pending { room = self.new.pending.room } })) }
-        ensures cuts { OnOk result ((cuts : List (List ℕ)) → HasCuts cuts self.old.pending → HasCuts (cuts ++ pieces_of (min limit (stream_room self.old)) (S.lists source.old)) self.new.pending) }
+        ensures left { OnOk result (S.lists source.new
+            ≡ rest_of (min limit (stream_room self.old)) (S.lists source.old)) }
+        ensures same { OnErr result ((S.lists source.new ≡ S.lists source.old) × (self.new
+            ≡ record self.old {
+              pending = record self.old.pending {
+                room = self.new.pending.room;
+              };
+            })) }
+        ensures cuts { OnOk result ((cuts : List (List ℕ)) → HasCuts cuts self.old.pending →
+            HasCuts (cuts ++ pieces_of (min limit (stream_room self.old)) (S.lists source.old))
+            self.new.pending) }
         ensures sound { OnOk result (IsSound self.new.pending) }
     {
         if !self.is_writable() {
@@ -240,7 +252,8 @@ impl Send {
     pub fn finish(&mut self) -> Result<(), FinishError>
         ensures ok { OnOk result (finish_refusal self.old ≡ None) }
         ensures err { IfErr result (λ e. finish_refusal self.old ≡ Some e) }
-        ensures finished { OnOk result (self.new ≡ record self.old { state = SendState.DataSent false; fin_pending = true }) }
+        ensures finished { OnOk result (self.new
+            ≡ record self.old { state = SendState.DataSent false; fin_pending = true }) }
         ensures same { OnErr result (self.new ≡ self.old) }
     {
         if let Some(code) = self.stop_reason {
@@ -287,7 +300,10 @@ impl Send {
     /// The peer sent STOP_SENDING. Answers whether it is the first; the code of the first stays.
     pub fn try_stop(&mut self, error_code: VarInt) -> bool
         ensures first { result ≡ is_none self.old.stop_reason }
-        ensures code { self.new ≡ record self.old { stop_reason = Some (unwrap_or self.old.stop_reason error_code) } }
+        ensures code { self.new ≡ record self.old {
+          stop_reason = Some (unwrap_or self.old.stop_reason
+              error_code);
+        } }
     {
         if self.stop_reason.is_some() {
             return false;
@@ -300,14 +316,19 @@ impl Send {
     /// the end and every byte are: never so of a stream that was not finished, or that was reset.
     pub fn ack(&mut self, offsets: Range<u64>, fin: bool) -> Result<bool, OutOfMemory>
         requires { offsets.end ≤ self.old.pending.unsent }
-        ensures done { IfOk result (λ done. IsTrue done ↔ ((is_finish_acked self.new.state ≡ true) × (self.new.pending.prefix ≡ self.new.pending.offset))) }
+        ensures done { IfOk result (λ done. IsTrue done ↔ ((is_finish_acked self.new.state ≡ true)
+            × (self.new.pending.prefix ≡ self.new.pending.offset))) }
         ensures state { OnOk result (self.new.state ≡ after_ack self.old.state fin) }
         ensures same { self.new ≡ record self.old { state = self.new.state; pending = self.new.pending } }
         ensures err { OnErr result (self.new ≡ self.old) }
-        ensures acked { OnOk result ((n : ℕ) → is_acked self.new.pending n ≡ (is_acked self.old.pending n || lies_in offsets n)) }
-        ensures lost { OnOk result ((n : ℕ) → is_lost self.new.pending n ≡ (is_lost self.old.pending n && not (lies_in offsets n))) }
-        ensures held { self.new.pending.held ≡ uncovered (self.new.pending.prefix - self.old.pending.gone) self.old.pending.held }
-        ensures unsent { (self.new.pending.unsent ≡ self.old.pending.unsent) × (self.new.pending.offset ≡ self.old.pending.offset) }
+        ensures acked { OnOk result ((n : ℕ) →
+            is_acked self.new.pending n ≡ (is_acked self.old.pending n || lies_in offsets n)) }
+        ensures lost { OnOk result ((n : ℕ) →
+            is_lost self.new.pending n ≡ (is_lost self.old.pending n && not (lies_in offsets n))) }
+        ensures held { self.new.pending.held
+            ≡ uncovered (self.new.pending.prefix - self.old.pending.gone) self.old.pending.held }
+        ensures unsent { (self.new.pending.unsent ≡ self.old.pending.unsent) × (self.new.pending.offset
+            ≡ self.old.pending.offset) }
         ensures room { self.old.pending.room ≤ self.new.pending.room }
         ensures cuts { (cuts : List (List ℕ)) → HasCuts cuts self.old.pending → HasCuts cuts self.new.pending }
         ensures sound { IsSound self.new.pending }
@@ -327,7 +348,9 @@ impl Send {
     /// A limit does not fall, and a greater one than 2^62 - 1, the greatest offset there is, counts
     /// as that.
     pub fn increase_max_data(&mut self, offset: u64) -> bool
-        ensures raised { is_ready self.old.state ≡ true → self.old.max_data < min offset (2 ^ 62 - 1) → (self.new ≡ record self.old { max_data = min offset (2 ^ 62 - 1) }) × (result ≡ (self.old.pending.offset == self.old.max_data)) }
+        ensures raised { is_ready self.old.state ≡ true → self.old.max_data < min offset (2 ^ 62 - 1) →
+            (self.new ≡ record self.old { max_data = min offset (2 ^ 62 - 1) }) × (result
+            ≡ (self.old.pending.offset == self.old.max_data)) }
         ensures closed { is_ready self.old.state ≡ false → (self.new ≡ self.old) × (result ≡ false) }
         ensures no_rise { min offset (2 ^ 62 - 1) ≤ self.old.max_data → (self.new ≡ self.old) × (result ≡ false) }
     {
@@ -357,8 +380,10 @@ fn write_source<S: BytesSource>(
     ensures bytes { IfOk result (λ w. w.bytes ≡ min limit (total (S.lists source.old))) }
     ensures chunks { IfOk result (λ w. w.chunks + length (S.lists source.new) ≡ length (S.lists source.old)) }
     ensures left { OnOk result (S.lists source.new ≡ rest_of limit (S.lists source.old)) }
-    ensures err { OnErr result ((S.lists source.new ≡ S.lists source.old) × (buffer.new ≡ record buffer.old { room = buffer.new.room })) }
-    ensures cuts { OnOk result ((cuts : List (List ℕ)) → HasCuts cuts buffer.old → HasCuts (cuts ++ pieces_of limit (S.lists source.old)) buffer.new) }
+    ensures err { OnErr result ((S.lists source.new ≡ S.lists source.old) × (buffer.new
+        ≡ record buffer.old { room = buffer.new.room })) }
+    ensures cuts { OnOk result ((cuts : List (List ℕ)) → HasCuts cuts buffer.old →
+        HasCuts (cuts ++ pieces_of limit (S.lists source.old)) buffer.new) }
     ensures sound { OnOk result (IsSound buffer.new) }
 {
     let count = source.prepare(limit)?;

@@ -116,7 +116,8 @@ impl SendBuffer {
     #[inline]
     pub fn buffered(&self) -> u64
         ensures held { result ≡ total self.now.held }
-        ensures cuts { (cuts : List (List ℕ)) → HasCuts cuts self.now → result ≡ total (uncovered self.now.prefix cuts) }
+        ensures cuts { (cuts : List (List ℕ)) → HasCuts cuts self.now →
+            result ≡ total (uncovered self.now.prefix cuts) }
     {
         self.offset() - self.pieces.gone()
     }
@@ -143,7 +144,8 @@ impl SendBuffer {
         }) }
         ensures err { OnErr result (self.new ≡ record self.old { room = self.new.room }) }
         ensures roomy { 0 < self.old.room → IsOk result × (self.old.room ≤ self.new.room + 1) }
-        ensures cuts { OnOk result ((cuts : List (List ℕ)) → HasCuts cuts self.old → HasCuts (cuts ++ cut piece) self.new) }
+        ensures cuts { OnOk result ((cuts : List (List ℕ)) → HasCuts cuts self.old →
+            HasCuts (cuts ++ cut piece) self.new) }
         ensures sound { IsSound self.new }
     {
         if !piece.is_empty() {
@@ -175,7 +177,9 @@ impl SendBuffer {
     /// Sent offsets of this range are lost: those that are not acknowledged are to be sent again.
     pub fn retransmit(&mut self, range: Range<u64>) -> Result<(), OutOfMemory>
         requires { range.end ≤ self.old.unsent }
-        ensures ok { OnOk result ((n : ℕ) → is_lost self.new n ≡ (is_lost self.old n || (lies_in range n && not (is_acked self.old n)))) }
+        ensures ok { OnOk result ((n : ℕ) →
+            is_lost self.new n ≡ (is_lost self.old n
+            || (lies_in range n && not (is_acked self.old n)))) }
         ensures same { self.new ≡ record self.old { lost = self.new.lost } }
         ensures err { OnErr result (self.new ≡ self.old) }
         ensures sound { IsSound self.new }
@@ -199,7 +203,8 @@ impl SendBuffer {
     pub fn ack(&mut self, range: Range<u64>) -> Result<(), OutOfMemory>
         requires { range.end ≤ self.old.unsent }
         ensures acked { OnOk result ((n : ℕ) → is_acked self.new n ≡ (is_acked self.old n || lies_in range n)) }
-        ensures lost { OnOk result ((n : ℕ) → is_lost self.new n ≡ (is_lost self.old n && not (lies_in range n))) }
+        ensures lost { OnOk result ((n : ℕ) →
+            is_lost self.new n ≡ (is_lost self.old n && not (lies_in range n))) }
         ensures held { self.new.held ≡ uncovered (self.new.prefix - self.old.gone) self.old.held }
         ensures unsent { (self.new.unsent ≡ self.old.unsent) × (self.new.offset ≡ self.old.offset) }
         ensures room { self.old.room ≤ self.new.room }
@@ -226,8 +231,10 @@ impl SendBuffer {
     fn ack_later(&mut self, range: Range<u64>) -> Result<(), OutOfMemory>
         requires above { self.old.prefix < range.start }
         requires sent { range.end ≤ self.old.unsent }
-        ensures later { OnOk result ((n : ℕ) → contains self.new.later n ≡ (contains self.old.later n || lies_in range n)) }
-        ensures lost { OnOk result ((n : ℕ) → is_lost self.new n ≡ (is_lost self.old n && not (lies_in range n))) }
+        ensures later { OnOk result ((n : ℕ) →
+            contains self.new.later n ≡ (contains self.old.later n || lies_in range n)) }
+        ensures lost { OnOk result ((n : ℕ) →
+            is_lost self.new n ≡ (is_lost self.old n && not (lies_in range n))) }
         ensures same { self.new ≡ record self.old { later = self.new.later; lost = self.new.lost } }
         ensures err { OnErr result (self.new ≡ self.old) }
         ensures sound { IsSound self.new }
@@ -257,9 +264,12 @@ impl SendBuffer {
         ensures acked { range.start < self.now.prefix → result.now ≡ [] }
         ensures unwritten { self.now.offset ≤ range.start → result.now ≡ [] }
         ensures most { length result.now ≤ range.end - range.start }
-        ensures some { self.now.prefix ≤ range.start → range.start < self.now.offset → range.start < range.end → 0 < length result.now }
-        ensures piece { (cuts : List (List ℕ)) → HasCuts cuts self.now → self.now.prefix ≤ range.start → result.now ≡ piece_part cuts range.start (range.end - range.start) }
-        ensures bytes { (cuts : List (List ℕ)) → HasCuts cuts self.now → self.now.prefix ≤ range.start → IsFrontAt (concat cuts) range.start (range.end - range.start) result.now }
+        ensures some { self.now.prefix ≤ range.start → range.start < self.now.offset →
+            range.start < range.end → 0 < length result.now }
+        ensures piece { (cuts : List (List ℕ)) → HasCuts cuts self.now → self.now.prefix ≤ range.start →
+            result.now ≡ piece_part cuts range.start (range.end - range.start) }
+        ensures bytes { (cuts : List (List ℕ)) → HasCuts cuts self.now → self.now.prefix ≤ range.start →
+            IsFrontAt (concat cuts) range.start (range.end - range.start) result.now }
     {
         if range.start < self.prefix {
             return &[];
@@ -274,7 +284,9 @@ impl SendBuffer {
         requires kept { self.now.prefix ≤ range.start }
         requires ordered { range.start ≤ range.end }
         requires written { range.end ≤ self.now.offset }
-        ensures ok { (cuts : List (List ℕ)) → HasCuts cuts self.now → OnOk result (out.new.items ≡ out.old.items ++ take (range.end - range.start) (drop range.start (concat cuts))) }
+        ensures ok { (cuts : List (List ℕ)) → HasCuts cuts self.now →
+            OnOk result (out.new.items
+            ≡ out.old.items ++ take (range.end - range.start) (drop range.start (concat cuts))) }
         ensures len { OnOk result (vec_len out.new ≡ vec_len out.old + (range.end - range.start)) }
         ensures err { OnErr result (out.new.items ≡ out.old.items) }
         ensures capacity { vec_capacity out.old ≤ vec_capacity out.new }
@@ -322,9 +334,12 @@ impl SendBuffer {
     #[inline]
     pub fn poll_transmit(&mut self, max_len: usize) -> Result<(Range<u64>, bool), OutOfMemory>
         requires { 16 ≤ max_len }
-        ensures ok { IfOk result (λ r. (e : ℕ) × IsNextRange self.old r.0.start e × (r.0.end ≡ frame_end r.0.start e max_len) × (r.1 ≡ has_length r.0.start e max_len)) }
-        ensures within { IfOk result (λ r. (self.old.prefix ≤ r.0.start) × (r.0.start ≤ r.0.end) × (r.0.end ≤ self.old.offset)) }
-        ensures lost { IfOk result (λ r. (n : ℕ) → is_lost self.new n ≡ (is_lost self.old n && not (lies_in r.0 n))) }
+        ensures ok { IfOk result (λ r. (e : ℕ) × IsNextRange self.old r.0.start e × (r.0.end
+            ≡ frame_end r.0.start e max_len) × (r.1 ≡ has_length r.0.start e max_len)) }
+        ensures within { IfOk result (λ r. (self.old.prefix ≤ r.0.start) × (r.0.start ≤ r.0.end)
+            × (r.0.end ≤ self.old.offset)) }
+        ensures lost { IfOk result (λ r. (n : ℕ) →
+            is_lost self.new n ≡ (is_lost self.old n && not (lies_in r.0 n))) }
         ensures sent { IfOk result (λ r. self.new.unsent ≡ max self.old.unsent r.0.end) }
         ensures same { self.new ≡ record self.old { lost = self.new.lost; unsent = self.new.unsent } }
         ensures err { OnErr result (self.new ≡ self.old) }
@@ -413,7 +428,8 @@ fn append(out: &mut Vec<u8>, bytes: &[u8])
 
 // A copy of the lost offsets, with those of a range that are not acknowledged.
 fn with_gaps(lost: &RangeSet, acked: &RangeSet, range: Range<u64>) -> Result<RangeSet, OutOfMemory>
-    ensures { IfOk result (λ s. (n : ℕ) → contains s n ≡ (contains lost.now n || (lies_in range n && not (contains acked.now n)))) }
+    ensures { IfOk result (λ s. (n : ℕ) →
+        contains s n ≡ (contains lost.now n || (lies_in range n && not (contains acked.now n)))) }
 {
     let mut copy = lost.try_clone()?;
     let mut at = range.start;
