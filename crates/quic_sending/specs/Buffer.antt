@@ -56,6 +56,13 @@ is_sent v n = nat_lt n v.unsent
 abbrev pub is_due : Buffered → ℕ → Bool
 is_due v n = is_lost v n || is_in (v.unsent, v.offset) n
 
+-- some offset is, or none
+abbrev pub HasDue : Buffered → Type 0
+HasDue v = (n : ℕ) × (is_due v n ≡ true)
+
+abbrev pub HasNoneDue : Buffered → Type 0
+HasNoneDue v = (n : ℕ) → is_due v n ≡ false
+
 -- from a up to b is the lowest lost range or, where nothing is lost, the range that was never sent
 abbrev pub IsNextRange : Buffered → ℕ → ℕ → Type 0
 IsNextRange v a b = IsLowestRun v.lost a b ⊎ (IsNothing v.lost × (a ≡ v.unsent) × (b ≡ v.offset))

@@ -1,5 +1,5 @@
 -- The send half of a stream (RFC 9000 section 3.1).
-use Rattle.std.specs.Prelude.{ℕ, ◌-◌, Bool, true, false, ◌||◌, nat_le, if◌then◌else◌, Option, Some, None}
+use Rattle.std.specs.Prelude.{◌≡◌, ◌⊎◌, min, ℕ, ◌-◌, Bool, true, false, ◌||◌, nat_le, if◌then◌else◌, Option, Some, None}
 use Rattle.quic_sending.specs.declared.send.Send.{Send}
 use Rattle.quic_sending.specs.declared.send.SendState.{SendState}
 use Rattle.quic_sending.specs.declared.send.SendState.TheVariants.{Ready, DataSent, ResetSent}
@@ -23,6 +23,10 @@ is_reset_sent ResetSent = true
 abbrev pub stream_room : Send → ℕ
 stream_room s = s.max_data - s.pending.offset
 
+-- how many bytes a write may take that is handed a limit
+abbrev pub permitted : Send → ℕ → ℕ
+permitted s limit = min limit (stream_room s)
+
 -- why a write is refused
 abbrev pub write_refusal : Send → Option WriteError
 write_refusal s = if is_ready s.state then stopped s.stop_reason else Some write_error.ClosedStream
@@ -30,6 +34,10 @@ write_refusal s = if is_ready s.state then stopped s.stop_reason else Some write
     stopped : Option ℕ → Option WriteError
     stopped None = if nat_le s.max_data s.pending.offset then Some write_error.Blocked else None
     stopped (Some code) = Some (write_error.Stopped code)
+
+-- the answer of a write that takes nothing: that refusal or, where there is none, want of memory
+abbrev pub IsWriteRefusal : Send → WriteError → Type 0
+IsWriteRefusal s e = (write_refusal s ≡ Some e) ⊎ ((write_refusal s ≡ None) × (e ≡ write_error.OutOfMemory))
 
 -- why a finish is refused
 abbrev pub finish_refusal : Send → Option FinishError

@@ -1,6 +1,6 @@
 ghost use Rattle.std.specs.Prelude.{◌≡◌, ◌+◌, ◌-◌, ◌<◌, ◌≤◌, ◌^◌, ◌↔◌, ◌==◌, ℕ, List, [], ◌++◌, ◌&&◌, ◌||◌, not, IsTrue, IfOk, OnOk, OnErr, IfErr, length, min, true, false, if◌then◌else◌, Some, None, Option, is_none, unwrap_or, ◌⊎◌, pos};
 ghost use Rattle.quic_values.specs.Runs.{lies_in};
-ghost use Rattle.quic_sending.specs.Buffer.{HasCuts, IsSound, is_due, is_acked, is_lost, total, uncovered};
+ghost use Rattle.quic_sending.specs.Buffer.{HasCuts, IsSound, HasDue, HasNoneDue, is_acked, is_lost, total, uncovered};
 ghost use Rattle.quic_sending.specs.Source.{pieces_of, rest_of};
 
 use crate::send_buffer::SendBuffer;
@@ -125,7 +125,7 @@ pub struct Send {
 }
 
 impl Send {
-    ghost use Rattle.quic_sending.specs.Sending.{is_ready, is_reset_sent, stream_room, write_refusal, finish_refusal, after_ack, is_finish_acked};
+    ghost use Rattle.quic_sending.specs.Sending.{is_ready, is_reset_sent, permitted, write_refusal, IsWriteRefusal, finish_refusal, after_ack, is_finish_acked};
 
     /// The send half of a stream to which nothing was written. Takes no memory.
     pub fn new(alloc: Global, max_data: VarInt) -> Self
@@ -191,10 +191,8 @@ impl Send {
     /// Whether something is to be sent: a lost or an unsent offset, or the end.
     #[inline]
     pub fn is_pending(&self) -> bool
-        ensures some { result ≡ true → (self.now.fin_pending ≡ false) → ((n : ℕ)
-            × (is_due self.now.pending n ≡ true)) }
-        ensures none { result ≡ false → (self.now.fin_pending ≡ false) × ((n : ℕ) →
-            is_due self.now.pending n ≡ false) }
+        ensures some { result ≡ true → self.now.fin_pending ≡ false → HasDue self.now.pending }
+        ensures none { result ≡ false → (self.now.fin_pending ≡ false) × HasNoneDue self.now.pending }
     {
         self.pending.has_unsent_data() || self.fin_pending
     }
@@ -207,29 +205,24 @@ impl Send {
         limit: u64,
     ) -> Result<Written, WriteError>
         ensures ok { OnOk result (write_refusal self.old ≡ None) }
-        ensures err { IfErr result (λ e. (write_refusal self.old ≡ Some e) ⊎ ((write_refusal self.old
-            ≡ None) × (e ≡ WriteError.OutOfMemory))) }
-        ensures written { OnOk result (let n = min limit (stream_room self.old) in self.new ≡ record self.old {
+        ensures err { IfErr result (λ e. IsWriteRefusal self.old e) }
+        ensures written { OnOk result (self.new ≡ record self.old {
           pending = record self.old.pending {
-            offset = self.old.pending.offset + min n (total (S.lists source.old));
-            held = self.old.pending.held ++ pieces_of n (S.lists source.old);
+            offset = self.old.pending.offset + min (permitted self.old limit) (total (S.lists source.old));
+            held = self.old.pending.held ++ pieces_of (permitted self.old limit) (S.lists source.old);
             room = self.new.pending.room;
           };
         }) }
-        ensures bytes { IfOk result (λ w. w.bytes
-            ≡ min (min limit (stream_room self.old)) (total (S.lists source.old))) }
+        ensures bytes { IfOk result (λ w. w.bytes ≡ min (permitted self.old limit) (total (S.lists source.old))) }
         ensures chunks { IfOk result (λ w. w.chunks + length (S.lists source.new) ≡ length (S.lists source.old)) }
-        ensures left { OnOk result (S.lists source.new
-            ≡ rest_of (min limit (stream_room self.old)) (S.lists source.old)) }
-        ensures same { OnErr result ((S.lists source.new ≡ S.lists source.old) × (self.new
-            ≡ record self.old {
-              pending = record self.old.pending {
-                room = self.new.pending.room;
-              };
-            })) }
-        ensures cuts { OnOk result ((cuts : List (List ℕ)) → HasCuts cuts self.old.pending →
-            HasCuts (cuts ++ pieces_of (min limit (stream_room self.old)) (S.lists source.old))
-            self.new.pending) }
+        ensures left { OnOk result (S.lists source.new ≡ rest_of (permitted self.old limit) (S.lists source.old)) }
+        ensures unchanged { OnErr result (S.lists source.new ≡ S.lists source.old) }
+        ensures same { OnErr result (self.new ≡ record self.old {
+          pending = record self.old.pending { room = self.new.pending.room };
+        }) }
+        ensures cuts { OnOk result ((cuts : List (List ℕ)) →
+            HasCuts cuts self.old.pending →
+            HasCuts (cuts ++ pieces_of (permitted self.old limit) (S.lists source.old)) self.new.pending) }
         ensures sound { OnOk result (IsSound self.new.pending) }
     {
         if !self.is_writable() {
