@@ -1,0 +1,4 @@
+pub mod Piece
+pub mod Reassembly
+pub mod Laws
+pub mod Compact

@@ -1,0 +1,12 @@
+//! Puts the pieces of a stream that come in any order into order (RFC 9000, section 2.2).
+#![tactic(auto)]
+
+mod assembly;
+mod chunk;
+mod compact;
+mod errors;
+mod piece;
+
+pub use assembly::Assembler;
+pub use chunk::Chunk;
+pub use errors::{EnsureError, IllegalOrderedRead, InsertError};
