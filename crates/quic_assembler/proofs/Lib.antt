@@ -1,3 +1,6 @@
 pub mod Runs
-pub mod Joins
-pub mod Rows
+pub mod Counts
+pub mod Parts
+pub mod Queue
+pub mod Fresh
+pub mod Whole

@@ -41,3 +41,14 @@ pub enum EnsureError {
     #[error("out of memory")]
     OutOfMemory,
 }
+
+impl From<OutOfMemory> for EnsureError {
+    ghost use Rattle.quic_assembler.specs.declared.errors.EnsureError.TheVariants.{OutOfMemory};
+    ghost use Rattle.std.specs.Prelude.{◌≡◌};
+
+    ghost from_gives = { λ _ error. error ≡ OutOfMemory };
+
+    fn from(_error: OutOfMemory) -> Self {
+        EnsureError::OutOfMemory
+    }
+}

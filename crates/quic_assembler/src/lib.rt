@@ -3,9 +3,10 @@
 
 mod assembly;
 mod chunk;
-mod compact;
 mod errors;
 mod piece;
+mod pieces;
+mod unreceived;
 
 pub use assembly::Assembler;
 pub use chunk::Chunk;
