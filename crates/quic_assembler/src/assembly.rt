@@ -7,6 +7,7 @@ use crate::chunk::Chunk;
 use crate::errors::{EnsureError, InsertError};
 use crate::piece::Piece;
 use crate::pieces::Pieces;
+use crate::reassemble::Reassemble;
 use crate::unreceived::hold_unreceived;
 use quic_values::{Bytes, OutOfMemory, RangeSet};
 use std::alloc::Global;
@@ -325,5 +326,57 @@ impl Assembler {
         self.received = received;
         self.ordered = false;
         Ok(())
+    }
+}
+
+impl Reassemble for Assembler {
+    ghost use Rattle.quic_assembler.specs.Reassembly.{Holds, is_done, piece_count};
+    ghost use Rattle.quic_assembler.specs.Laws.{done_below, held_above, held_or_not};
+
+    ghost holds = { Holds };
+
+    ghost is_done = { is_done };
+
+    ghost read_count = { λ a. a.bytes_read };
+
+    ghost is_ordered = { λ a. a.ordered };
+
+    ghost highest = { λ a. a.highest };
+
+    ghost piece_count = { piece_count };
+
+    ghost done_below = { done_below };
+
+    ghost held_above = { held_above };
+
+    ghost held_or_not = { held_or_not };
+
+    fn insert(
+        &mut self,
+        offset: u64,
+        bytes: Bytes,
+        allocation_size: usize,
+    ) -> Result<(), InsertError> {
+        Assembler::insert(self, offset, bytes, allocation_size)
+    }
+
+    fn read(&mut self, max_length: usize, ordered: bool) -> Result<Option<Chunk>, OutOfMemory> {
+        Assembler::read(self, max_length, ordered)
+    }
+
+    fn ensure_ordering(&mut self, ordered: bool) -> Result<(), EnsureError> {
+        Assembler::ensure_ordering(self, ordered)
+    }
+
+    fn bytes_read(&self) -> u64 {
+        Assembler::bytes_read(self)
+    }
+
+    fn clear(&mut self) {
+        Assembler::clear(self)
+    }
+
+    fn pieces(&self) -> usize {
+        Assembler::pieces(self)
     }
 }

@@ -6,8 +6,15 @@ mod chunk;
 mod errors;
 mod piece;
 mod pieces;
+mod reassemble;
+mod steps;
 mod unreceived;
 
 pub use assembly::Assembler;
 pub use chunk::Chunk;
 pub use errors::{EnsureError, IllegalOrderedRead, InsertError};
+pub use reassemble::Reassemble;
+pub use steps::{Op, ReplayError};
+
+#[cfg(test)]
+mod tests;
