@@ -4,3 +4,4 @@ pub mod Parts
 pub mod Queue
 pub mod Fresh
 pub mod Whole
+pub mod Replays

@@ -115,8 +115,8 @@ TakesFrom-part floor n xs ys zs ws r k h s l g = record {
     count = λ at. omega (arith, k.count at, count_one_less at ys zs r h, count_one_more at zs ws (advance_by n (cut_at floor r)) g, covers_split floor n at r s (omega (arith, length-drop (floor - r.offset) r.bytes)) (omega (arith, length-drop (floor - r.offset) r.bytes)));
   };
   count = λ at.
-    let taken : length (take n (cut_at floor r).bytes) ≡ n = simp length-take (omega arith) in
-    rw taken (omega (arith, k.count at, count_one_less at ys zs r h, count_one_more at zs ws (advance_by n (cut_at floor r)) g, covers_split floor n at r s (omega (arith, length-drop (floor - r.offset) r.bytes)) (omega (arith, length-drop (floor - r.offset) r.bytes))));
+      let taken : length (take n (cut_at floor r).bytes) ≡ n = simp length-take (omega arith) in
+      rw taken (omega (arith, k.count at, count_one_less at ys zs r h, count_one_more at zs ws (advance_by n (cut_at floor r)) g, covers_split floor n at r s (omega (arith, length-drop (floor - r.offset) r.bytes)) (omega (arith, length-drop (floor - r.offset) r.bytes))));
 }
 
 lies_within : (low high at : ℕ) (r : Run) → r.offset ≤ low → high ≤ run_end r → bit (lies low high at) ≤ covers at r
@@ -154,7 +154,6 @@ TakesSome-front floor most bytes xs ys zs ws r k h s f top e part whole =
       ]);
       here = (get_or r.bytes (floor - r.offset) 0, k.origin _ _ (Any-permutation _ _ _ (IsPermutation-sym _ _ h) (Any-here _ _ _ (s, f, refl))));
     }
-
 
 -- what lies below the floor is dropped, of runs that do not overlap
 pub above_lowest : (floor at : ℕ) (xs : List Run) → All (λ q. floor ≤ q.offset) xs → at < floor → cover_count at xs ≡ 0

@@ -345,8 +345,8 @@ leaves_order old new mid o n b h c k below rec =
     record {
       held = record {
         keeps = λ at w.
-          let mid_byte = holds_from_covers at mid (any_of_count at mid (omega (arith, c.count at, (count_of_held old at w).1))) in
-          (mid_byte.0, (omega arith, k.keeps at mid_byte.0 (omega (arith, (count_of_held old at w).0)) mid_byte.1));
+            let mid_byte = holds_from_covers at mid (any_of_count at mid (omega (arith, c.count at, (count_of_held old at w).1))) in
+            (mid_byte.0, (omega arith, k.keeps at mid_byte.0 (omega (arith, (count_of_held old at w).0)) mid_byte.1));
         origin = λ at byte w. elim (cases_lt at old.bytes_read) [
           | inl l ↦ absurd (omega (arith, below at l, count_of_holds new at byte w))
           | inr l ↦ (omega arith, c.origin at byte (k.origin at byte w.1))

@@ -14,7 +14,7 @@ pub use assembly::Assembler;
 pub use chunk::Chunk;
 pub use errors::{EnsureError, IllegalOrderedRead, InsertError};
 pub use reassemble::Reassemble;
-pub use steps::{Op, ReplayError};
+pub use steps::{Op, ReplayError, replay};
 
 #[cfg(test)]
 mod tests;

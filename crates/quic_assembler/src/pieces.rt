@@ -242,7 +242,11 @@ impl Pieces {
     }
 
     /// Takes the bytes from the floor on out of the first piece. Pieces that end at or below it go.
-    pub(crate) fn take_first(&mut self, floor: u64, max_length: usize) -> Result<Option<Bytes>, OutOfMemory>
+    pub(crate) fn take_first(
+        &mut self,
+        floor: u64,
+        max_length: usize,
+    ) -> Result<Option<Bytes>, OutOfMemory>
         ensures ok { IfOk result (λ given. MatchOption given (TakesNone floor self.old.runs self.new.runs) (λ v. TakesSome floor max_length v self.old.runs self.new.runs)) }
         ensures err { OnErr result (KeepsFrom floor self.old.runs self.new.runs) }
         ensures len { length self.new.runs ≤ length self.old.runs }

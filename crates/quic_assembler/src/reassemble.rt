@@ -42,6 +42,7 @@ pub trait Reassemble {
         ensures few { OnOk result (((is_ordered self.old ≡ true) × (offset < read_count self.old) × (offset + length bytes ≤ read_count self.old)) ⊎ (piece_count self.new ≤ 2048)) }
         ensures pieces { is_ordered self.old ≡ true → piece_count self.new ≤ piece_count self.old + 1 }
         ensures pieces_unordered { is_ordered self.old ≡ false → piece_count self.new ≤ piece_count self.old + run_count (is_done self.old) offset (length bytes) }
+        ensures pieces_stay { result ≡ Err InsertError.OutOfMemory → piece_count self.new ≡ piece_count self.old }
         ensures read_count { read_count self.new ≡ read_count self.old }
         ensures is_ordered { is_ordered self.new ≡ is_ordered self.old };
 
