@@ -13,7 +13,7 @@ use Rattle.quic_assembler.specs.declared.errors.InsertError.{InsertError}
 use Rattle.quic_assembler.specs.declared.errors.InsertError.TheVariants.{TooManyChunks, CompactionMemory, OutOfMemory}
 use Rattle.quic_assembler.specs.Piece.{Run, RunHolds, IsByteAt, Covers, covers, cover_count, bit, lies, run_end, cut_at, KeepsFrom, TakesSome, TakesNone, NoneHoldsAt}
 use Rattle.quic_assembler.specs.Compact.{Compacts}
-use Rattle.quic_assembler.specs.Reassembly.{Reassembly, floor, Holds, IsDone, is_done, IsHeld, IsWithin, Takes, Gives, SameHeld, KeepsOffsets, IsSameButHeld, MatchInsert, HoldsNothing, IsApart, IsAssembler, TakesFresh, Keeps, LeavesOrder, IsNext, IsStale, run_count, starts_run, piece_count, tally}
+use Rattle.quic_assembler.specs.Reassembly.{Reassembly, floor, Holds, IsDone, is_done, IsHeld, IsWithin, Takes, Gives, SameHeld, KeepsOffsets, IsSameButHeld, MatchInsert, HoldsNothing, HoldsOnce, IsApart, IsAssembler, TakesFresh, Keeps, LeavesOrder, IsNext, IsStale, run_count, starts_run, piece_count, tally}
 use Rattle.quic_assembler.specs.Laws.{done_below}
 use Rattle.quic_assembler.proofs.Counts.{Any-permutation, Any-here, Any-there, Any-cons, Any-nil, count_permuted, count_of_any, any_of_count, lies_in, lies_below, lies_above, bit-le-one, tally-le, tally-add, tally-ones, tally-lies}
 use Rattle.quic_assembler.proofs.Runs.{RunHolds-cut, RunHolds-uncut, covers_from_holds, holds_from_covers, above_lowest}
@@ -409,3 +409,22 @@ keeps_fresh_at old new r offset bytes p q o n e h t c =
 
 pub assembler_fresh : (xs ys : List Run) (received next : List Range) (ordered : Bool) (bytes_read : ℕ) (r : Run) → IsAssembler xs received ordered bytes_read → ordered ≡ false → TakesFresh received r xs ys → ((at : ℕ) → contains next at ≡ (contains received at || lies r.offset (run_end r) at)) → IsAssembler ys next ordered bytes_read
 assembler_fresh xs ys received next ordered bytes_read r a e t c = record { bounded = a.bounded; apart = λ _. apart_fresh xs ys received next bytes_read r (a.apart e) t c }
+
+-- where no two runs overlap, no two bytes are held at one offset
+one_byte : (xs : List Run) (at a b : ℕ) → cover_count at xs ≤ 1 → Any (RunHolds at a) xs → Any (RunHolds at b) xs → a ≡ b
+one_byte [] at a b l p q = absurd (Any-nil (RunHolds at a) p)
+one_byte (x ∷ xs) at a b l p q = elim (Any-cons (RunHolds at a) x xs p) [
+  | inl c ↦ elim (Any-cons (RunHolds at b) x xs q) [
+    | inl d ↦ sym c.2 ∙ d.2
+    | inr d ↦ absurd (omega (arith, lies_in x.offset (run_end x) at c.0 c.1, count_of_any at xs (covers_from_holds at b xs d)))
+  ]
+  | inr c ↦ elim (Any-cons (RunHolds at b) x xs q) [
+    | inl d ↦ absurd (omega (arith, lies_in x.offset (run_end x) at d.0 d.1, count_of_any at xs (covers_from_holds at a xs c)))
+    | inr d ↦ one_byte xs at a b (omega arith) c d
+  ]
+]
+
+pub compact_once : (r : Result (Unit {0}) Refusal) (xs : List Run) (new : Reassembly) → OnOk r (Compacts xs new.runs) → OnOk r (HoldsOnce (Holds new))
+unfolding Holds
+compact_once (Ok u) xs new c = λ at a b h k. one_byte new.runs at a b (omega (arith, c.count at)) h.1 k.1
+compact_once (Err e) xs new c = tt

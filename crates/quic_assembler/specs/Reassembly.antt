@@ -154,6 +154,10 @@ MatchInsert (Err TooManyChunks) P Q = P
 MatchInsert (Err CompactionMemory) P Q = P
 MatchInsert (Err OutOfMemory) P Q = Q
 
+-- no two bytes are held at one offset
+abbrev pub HoldsOnce : (ℕ → ℕ → Type 0) → Type 0
+HoldsOnce held = (at a b : ℕ) → held at a → held at b → a ≡ b
+
 abbrev pub HoldsNothing : (ℕ → ℕ → Type 0) → Type 0
 HoldsNothing held = (at byte : ℕ) → held at byte → ⊥
 

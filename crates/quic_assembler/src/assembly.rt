@@ -1,7 +1,7 @@
 // An assembler over a heap of pieces.
 ghost use Rattle.std.specs.Prelude.{◌≡◌, ◌≢◌, ℕ, ◌+◌, ◌^◌, ◌<◌, ◌≤◌, ◌↔◌, ◌⊎◌, ◌||◌, ◌&&◌, true, false, length, max, OnOk, OnErr, IfSome, IfNone, [], IsTrue, MatchOption, Ok, Err};
 ghost use Rattle.quic_assembler.specs.Piece.{Run, run_end, lies};
-ghost use Rattle.quic_assembler.specs.Reassembly.{Reassembly, Holds, IsDone, is_done, IsHeld, IsWithin, Takes, Gives, SameHeld, KeepsOffsets, IsSameButHeld, HoldsNothing, MatchInsert, IfGiven, OnNothing, IsStale, run_count, piece_count, Keeps, LeavesOrder, IsNext};
+ghost use Rattle.quic_assembler.specs.Reassembly.{Reassembly, Holds, IsDone, is_done, IsHeld, IsWithin, Takes, Gives, SameHeld, KeepsOffsets, IsSameButHeld, HoldsNothing, HoldsOnce, MatchInsert, IfGiven, OnNothing, IsStale, run_count, piece_count, Keeps, LeavesOrder, IsNext};
 
 use crate::chunk::Chunk;
 use crate::errors::{EnsureError, InsertError};
@@ -226,6 +226,7 @@ impl Assembler {
     /// Compacts what is held: of two bytes at one offset one goes, and small pieces that touch are joined.
     pub fn defragment(&mut self) -> Result<(), OutOfMemory>
         ensures held { KeepsOffsets (Holds self.old) (Holds self.new) }
+        ensures once { OnOk result (HoldsOnce (Holds self.new)) }
         ensures err { OnErr result (SameHeld (Holds self.old) (Holds self.new)) }
         ensures pieces { piece_count self.new ≤ piece_count self.old }
         ensures others { IsSameButHeld self.old self.new }

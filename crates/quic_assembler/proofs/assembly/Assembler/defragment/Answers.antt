@@ -1,5 +1,5 @@
 use Rattle.std.proofs.Common.{rules, refl, arith}
-use Rattle.quic_assembler.proofs.Whole.{assembler_less, same_but_held, compact_count, compact_offsets, compact_same}
+use Rattle.quic_assembler.proofs.Whole.{assembler_less, same_but_held, compact_count, compact_offsets, compact_same, compact_once}
 use Rattle.quic_assembler.proofs.assembly.Assembler.defragment.Goals as goal
 
 pub invariant_of-self : goal.invariant_of-self
@@ -13,3 +13,6 @@ returns-clause-err c = rw (← c.self.view_is) (compact_same c.compact.result _ 
 
 pub returns-clause-others : goal.returns-clause-others
 returns-clause-others c = rw (← c.self.view_is) (same_but_held _ _ refl refl refl refl)
+
+pub returns-clause-once : goal.returns-clause-once
+returns-clause-once c = compact_once c.compact.result _ _ c.compact.ensures.compacts
