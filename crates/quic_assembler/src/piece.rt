@@ -201,11 +201,17 @@ impl Ord for Piece {
 
     ghost matches_eq = { Prim.search (comparing, rules) depth 9 };
 
+    #[inline]
     fn cmp(&self, other: &Piece) -> Ordering {
-        other
-            .offset()
-            .cmp(&self.offset())
-            .then(self.len().cmp(&other.len()))
+        if self.offset < other.offset {
+            return Ordering::Greater;
+        }
+        if other.offset < self.offset {
+            return Ordering::Less;
+        }
+        self.bytes
+            .len()
+            .cmp(&other.bytes.len())
             .then(other.sequence.cmp(&self.sequence))
     }
 }

@@ -243,7 +243,10 @@ fn takes_a_stream_without_loss(rt: HostRuntime) -> Result<(), Fail> {
 fn bounds_pieces_with_gaps(rt: HostRuntime) -> Result<(), Fail> {
     let alloc = rt.alloc();
     let mut a = Assembler::new(alloc);
-    assert_eq!(rt; fill(&mut a, alloc, 1, 4, 8192, "gap", 3)?, Err(InsertError::TooManyChunks));
+    assert_eq!(rt;
+        fill(&mut a, alloc, 1, 4, 8192, "gap", 3)?,
+        Err(InsertError::TooManyChunks)
+    );
     assert_eq!(rt; a.pieces(), 2049);
     Ok(())
 }

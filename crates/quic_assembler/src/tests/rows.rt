@@ -61,9 +61,15 @@ fn refuses_too_many_pieces_with_gaps(rt: HostRuntime) -> Result<(), Fail> {
     let mut a = Assembler::new(alloc);
     assert_eq!(rt; fill(&mut a, alloc, 1, 4, 2048, "gap", 3)?, Ok(()));
     assert_eq!(rt; a.pieces(), 2048);
-    assert_eq!(rt; fill(&mut a, alloc, 8193, 4, 1, "gap", 3)?, Err(InsertError::TooManyChunks));
+    assert_eq!(rt;
+        fill(&mut a, alloc, 8193, 4, 1, "gap", 3)?,
+        Err(InsertError::TooManyChunks)
+    );
     assert_eq!(rt; a.pieces(), 2049);
-    assert_eq!(rt; a.insert(0, Bytes::new(alloc), 0), Err(InsertError::TooManyChunks));
+    assert_eq!(rt;
+        a.insert(0, Bytes::new(alloc), 0),
+        Err(InsertError::TooManyChunks)
+    );
     assert_eq!(rt; a.pieces(), 2049);
     Ok(())
 }
@@ -92,7 +98,10 @@ fn drops_what_was_read_with_the_mode(rt: HostRuntime) -> Result<(), Fail> {
     put(&mut a, alloc, 0, "abcdef")?;
     assert_read(&rt, &mut a, alloc, false, 2, "cdef")?;
     assert_none(&rt, &mut a, false)?;
-    assert_eq!(rt; a.ensure_ordering(true), Err(EnsureError::IllegalOrderedRead));
+    assert_eq!(rt;
+        a.ensure_ordering(true),
+        Err(EnsureError::IllegalOrderedRead)
+    );
     Ok(())
 }
 
@@ -112,7 +121,10 @@ fn joins_pieces_below_the_least_size(rt: HostRuntime) -> Result<(), Fail> {
     let alloc = rt.alloc();
     let mut a = Assembler::new(alloc);
     let long = "0123456789abcdef".repeat(alloc, 8)?;
-    assert_eq!(rt; fill(&mut a, alloc, 0, 128, 1024, long.as_str(), 128)?, Ok(()));
+    assert_eq!(rt;
+        fill(&mut a, alloc, 0, 128, 1024, long.as_str(), 128)?,
+        Ok(())
+    );
     assert_eq!(rt; fill(&mut a, alloc, 131_072, 1, 1, "x", 1)?, Ok(()));
     assert_eq!(rt; a.pieces(), 1025);
     a.defragment()?;
@@ -153,7 +165,10 @@ fn refuses_pieces_that_cannot_be_joined(rt: HostRuntime) -> Result<(), Fail> {
     alternate(&mut a, alloc, long.as_str())?;
     assert_eq!(rt; fill(&mut a, alloc, 130_940, 2, 18, "x", 1)?, Ok(()));
     assert_eq!(rt; a.pieces(), 2048);
-    assert_eq!(rt; fill(&mut a, alloc, 130_976, 2, 1, "x", 1)?, Err(InsertError::TooManyChunks));
+    assert_eq!(rt;
+        fill(&mut a, alloc, 130_976, 2, 1, "x", 1)?,
+        Err(InsertError::TooManyChunks)
+    );
     assert_eq!(rt; a.pieces(), 2049);
     Ok(())
 }
