@@ -1,18 +1,17 @@
 -- What of a run was not received.
-use Rattle.std.proofs.Common.{◌≡◌, ℕ, ◌+◌, ◌-◌, ◌≤◌, ◌<◌, ◌⊎◌, inl, inr, refl, sym, ◌∙◌, ap, List, [], ◌∷◌, ◌++◌, length, take, drop, arith, zero, suc, Bool, true, false, min, max}
-use Rattle.std.specs.Prelude.{nat_lt, nat_le, ◌&&◌, ◌||◌, ◌==◌, not}
-use Rattle.std.specs.List.{Any, All}
-use Rattle.std.specs.List.Sorted.{IsPermutation}
-use Rattle.std.proofs.lemmas.List.{length-append, length-drop, length-take, get_or-drop, get_or-take, drop-drop}
+use Rattle.std.proofs.Common.{◌≡◌, ℕ, ◌+◌, ◌-◌, ◌≤◌, ◌<◌, ◌⊎◌, inl, inr, refl, sym, ◌∙◌, ap, List, [], ◌∷◌, ◌++◌, length, take, drop, arith, zero, suc, Bool, true, false, min}
+use Rattle.std.specs.Prelude.{◌&&◌, not}
+use Rattle.std.specs.List.{Any}
+use Rattle.std.proofs.lemmas.List.{length-append, length-drop, length-take, get_or-take, drop-drop}
 use Rattle.std.proofs.lemmas.List.Elements.{All-push, All-nil}
 use Rattle.std.proofs.lemmas.Bool.{cases_lt}
 use Rattle.std.proofs.lemmas.Bool.Decides.{nat_tests}
 use Rattle.std.proofs.lemmas.Grind.{common_steps}
 use Rattle.quic_values.specs.Runs.{contains, Run as Range}
-use Rattle.quic_assembler.specs.Piece.{Run, RunHolds, IsSome, HoldsSame, Covers, covers, cover_count, bit, lies, run_end, cut_at}
+use Rattle.quic_assembler.specs.Piece.{Run, RunHolds, IsSome, HoldsSame, covers, cover_count, bit, lies, run_end, cut_at}
 use Rattle.quic_assembler.specs.Reassembly.{IsCut, TakesFront, TakesFresh, NoneReceived, run_count, starts_run}
 use Rattle.quic_assembler.proofs.Runs.{RunHolds-uncut, covers_from_holds}
-use Rattle.quic_assembler.proofs.Counts.{Any-permutation, Any-here, Any-there, Any-cons, Any-nil, Any-unpush, count_permuted, count-append, lies_in, lies_below, lies_above, lies_of_bit, count_of_any, any_of_count, bit-le-one}
+use Rattle.quic_assembler.proofs.Counts.{Any-cons, Any-nil, Any-unpush, count-append, lies_in, lies_below, lies_above, count_of_any}
 
 -- how many longest runs there are
 run_count-mono : (done : ℕ → Bool) (offset m n : ℕ) → m ≤ n → run_count done offset m ≤ run_count done offset n

@@ -1,18 +1,18 @@
 -- What compaction sees of runs in order.
-use Rattle.std.proofs.Common.{◌≡◌, ℕ, ◌+◌, ◌-◌, ◌*◌, ◌/◌, ◌≤◌, ◌<◌, ◌⊎◌, inl, inr, refl, sym, ◌∙◌, List, [], ◌∷◌, ◌++◌, length, arith, zero, suc, Bool, true, false, min, max}
-use Rattle.std.specs.Prelude.{nat_lt, nat_le, ◌&&◌, ◌||◌, not}
+use Rattle.std.proofs.Common.{◌≡◌, ℕ, ◌+◌, ◌-◌, ◌*◌, ◌/◌, ◌≤◌, ◌<◌, ◌⊎◌, inl, inr, refl, sym, ◌∙◌, List, [], ◌∷◌, ◌++◌, length, arith, suc, Bool, true, false, min, max}
+use Rattle.std.specs.Prelude.{nat_le}
 use Rattle.std.proofs.lemmas.Bool.Decides.{nat_tests}
 use Rattle.std.proofs.lemmas.Grind.{common_steps}
 use Rattle.std.specs.List.{Any, All}
 use Rattle.std.specs.List.Sorted.{IsPermutation}
-use Rattle.std.proofs.lemmas.List.{length-append, length-drop, get_or-drop}
+use Rattle.std.proofs.lemmas.List.{length-append}
 use Rattle.std.proofs.lemmas.List.Sorted.{IsPermutation-sym}
 use Rattle.std.proofs.lemmas.Bool.{cases_lt}
-use Rattle.std.proofs.lemmas.List.Elements.{All-head, All-tail}
+use Rattle.std.proofs.lemmas.List.Elements.{All-tail}
 use Rattle.std.proofs.Common.{get_or, drop, ap, add-one}
 use Rattle.std.proofs.Math.Seq.{drop-cons}
-use Rattle.quic_assembler.specs.Piece.{Run, IsSome, RunHolds, HoldsSame, Covers, covers, cover_count, bit, lies, run_end, cut_at}
-use Rattle.quic_assembler.specs.Compact.{is_large, is_small, seen, part, Adds, AddsSeen, AddsPart, HasSeen, Compacts, Rises, slots}
+use Rattle.quic_assembler.specs.Piece.{Run, IsSome, RunHolds, HoldsSame, covers, cover_count, run_end, cut_at}
+use Rattle.quic_assembler.specs.Compact.{is_large, is_small, seen, part, Adds, AddsSeen, AddsPart, HasSeen, Compacts, Rises}
 use Rattle.quic_assembler.proofs.Counts.{Any-permutation, Any-here, Any-there, Any-cons, Any-nil, count_permuted, count-append, lies_in, lies_below, lies_above}
 use Rattle.quic_assembler.proofs.Runs.{RunHolds-uncut, covers_cut, covers_cut_below, above_lowest}
 use Rattle.quic_assembler.proofs.Queue.{run_cmp-offset}

@@ -1,15 +1,15 @@
 -- A heap of runs with the sums of their lengths and allocation sizes.
-use Rattle.std.proofs.Common.{◌≡◌, ℕ, ◌+◌, ◌-◌, ◌*◌, ◌^◌, ◌≤◌, ◌<◌, refl, sym, ◌∙◌, List, [], ◌∷◌, length, arith, sum_by}
-use Rattle.std.specs.List.{All, Any}
+use Rattle.std.proofs.Common.{◌≡◌, ℕ, ◌+◌, ◌-◌, ◌*◌, ◌^◌, ◌≤◌, sym, ◌∙◌, List, ◌∷◌, length, arith}
+use Rattle.std.specs.List.{All}
 use Rattle.std.specs.List.Sorted.{IsPermutation}
 use Rattle.std.specs.BinaryHeap.{IsHeap, IsUpperBound}
 use Rattle.std.specs.Ordering.{is_lt}
 use Rattle.std.specs.Prelude.{false}
-use Rattle.std.proofs.lemmas.List.Sorted.{sum_by_pushed, sum_by_popped, sum_by-IsPermutation, All-permutation, length_permutation, IsPermutation-sym}
+use Rattle.std.proofs.lemmas.List.Sorted.{sum_by_pushed, sum_by_popped, sum_by-IsPermutation, All-permutation, IsPermutation-sym}
 use Rattle.std.proofs.lemmas.List.Sums.{sum_by-le}
 use Rattle.std.proofs.lemmas.List.Elements.{All-cons, All-head, All-tail, All-weaker, All-from_recursion}
 use Rattle.std.proofs.lemmas.Bool.Decides.{nat_tests}
-use Rattle.quic_assembler.specs.Piece.{Run, IsSome, IsSound, IsQueue, IsLowest, run_end, run_length, run_allocation, run_cmp}
+use Rattle.quic_assembler.specs.Piece.{Run, IsSome, IsSound, IsQueue, IsLowest, run_length, run_allocation, run_cmp}
 
 pub queue_pushed : (total allocated more memory : ℕ) (xs ys : List Run) (r : Run) → IsQueue total allocated xs → IsSound r → IsPermutation (r ∷ xs) ys → IsHeap run_cmp ys → more ≡ run_length r → memory ≡ run_allocation r → IsQueue (total + more) (allocated + memory) ys
 queue_pushed total allocated more memory xs ys r q s p h e f = record {

@@ -1,5 +1,5 @@
 -- What is known of a list of steps.
-use Rattle.std.proofs.Common.{◌≡◌, ◌≢◌, ℕ, ◌+◌, ◌-◌, ◌≤◌, ◌<◌, ◌⊎◌, ◌↔◌, inl, inr, refl, sym, ap, ◌∙◌, List, [], ◌∷◌, ◌++◌, length, take, get_or, arith, zero, suc, Bool, true, false, Option, Some, None, option_to_list, append_assoc}
+use Rattle.std.proofs.Common.{◌≡◌, ℕ, ◌+◌, ◌-◌, ◌≤◌, ◌<◌, ◌↔◌, inl, inr, refl, sym, ap, ◌∙◌, List, [], ◌∷◌, ◌++◌, length, take, get_or, arith, Bool, true, false, Option, Some, None, option_to_list, append_assoc}
 use Rattle.std.specs.Prelude.{◌||◌}
 use Rattle.std.specs.List.{Any, All, AllPairs}
 use Rattle.std.proofs.lemmas.List.{append-nil, length-append, get_or_append_left, get_or_at, get_or-take, length-take, get_or_default}
@@ -12,10 +12,9 @@ use Rattle.quic_assembler.specs.declared.steps.ReplayError.TheVariants.{OutOfMem
 use Rattle.std.proofs.Common.{Ok, Err}
 use Rattle.std.proofs.lemmas.List.{take_more}
 use Rattle.quic_assembler.specs.declared.chunk.Chunk.{Chunk}
-use Rattle.quic_assembler.specs.Piece.{IsByteAt, lies}
 use Rattle.quic_assembler.specs.Reassembly.{IsHeld, IsWithin, HoldsNothing}
-use Rattle.quic_assembler.specs.Steps.{State, IsDoneIn, Inserts, Reads, Stays, ReadsNothing, Leaves, TakesStep, Replays, Carries, IsCarriedBy, AreApart, Follows, ordered_steps, later_steps, IsGapless, IsReplay, Refuses}
-use Rattle.quic_assembler.proofs.Counts.{Any-cons, Any-here, Any-there, Any-nil, Any-unpush}
+use Rattle.quic_assembler.specs.Steps.{State, IsDoneIn, Reads, Stays, Leaves, TakesStep, Replays, Carries, IsCarriedBy, AreApart, Follows, ordered_steps, later_steps, IsGapless, IsReplay, Refuses}
+use Rattle.quic_assembler.proofs.Counts.{Any-nil, Any-unpush}
 
 -- one more step
 pub replays_push : {S : Type 0} (value : S → State) (ops : List Op) (op : Op) (a m b : S) (given : List Chunk) (o : Option Chunk) → Replays value ops a given m → TakesStep op (value m) o (value b) → Replays value (ops ++ op ∷ []) a (given ++ option_to_list o) b

@@ -1,5 +1,5 @@
 -- What a list of runs holds, as the runs change.
-use Rattle.std.proofs.Common.{[], ◌≡◌, ℕ, ◌+◌, ◌-◌, ◌≤◌, ◌<◌, ◌⊎◌, inl, inr, refl, sym, ◌∙◌, List, ◌∷◌, length, get_or, drop, take, arith, zero, suc, true, false, min, max, ◌^◌}
+use Rattle.std.proofs.Common.{[], ◌≡◌, ℕ, ◌+◌, ◌-◌, ◌≤◌, ◌<◌, inl, inr, refl, sym, ◌∙◌, List, ◌∷◌, length, get_or, drop, take, arith, min, max, ◌^◌}
 use Rattle.std.specs.List.{Any, All}
 use Rattle.std.specs.List.Sorted.{IsPermutation}
 use Rattle.std.proofs.lemmas.List.{get_or-drop, length-drop, get_or-take, length-take}

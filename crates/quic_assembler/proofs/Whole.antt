@@ -1,9 +1,9 @@
 -- What an assembler holds and is done with, as its runs change.
 use Rattle.std.proofs.Common.{◌≡◌, ℕ, ◌+◌, ◌-◌, ◌≤◌, ◌<◌, ◌^◌, ◌⊎◌, inl, inr, refl, sym, ap, ◌∙◌, List, [], ◌∷◌, length, get_or, arith, zero, suc, Bool, true, false, min, max, Result, Ok, Err}
-use Rattle.std.proofs.Common.{OnOk, OnErr}
+use Rattle.std.proofs.Common.{OnOk, OnErr, sum_by, ◌*◌, ◌/◌}
 use Rattle.quic_values.specs.declared.memory.OutOfMemory.{OutOfMemory as Refusal}
-use Rattle.std.specs.Prelude.{nat_lt, nat_le, ◌&&◌, ◌||◌, not}
-use Rattle.std.specs.List.{Any, All}
+use Rattle.std.specs.Prelude.{nat_lt, ◌&&◌, ◌||◌, not}
+use Rattle.std.specs.List.{Any}
 use Rattle.std.specs.List.Sorted.{IsPermutation}
 use Rattle.std.proofs.lemmas.List.Sorted.{IsPermutation-sym, length_permutation}
 use Rattle.std.proofs.lemmas.Bool.{cases_lt}
@@ -11,11 +11,11 @@ use Rattle.std.proofs.lemmas.Bool.Decides.{nat_tests}
 use Rattle.quic_values.specs.Runs.{contains, Run as Range}
 use Rattle.quic_assembler.specs.declared.errors.InsertError.{InsertError}
 use Rattle.quic_assembler.specs.declared.errors.InsertError.TheVariants.{TooManyChunks, CompactionMemory, OutOfMemory}
-use Rattle.quic_assembler.specs.Piece.{Run, RunHolds, IsByteAt, Covers, covers, cover_count, bit, lies, run_end, cut_at, KeepsFrom, TakesSome, TakesNone, NoneHoldsAt}
+use Rattle.quic_assembler.specs.Piece.{Run, RunHolds, cover_count, bit, lies, run_end, cut_at, KeepsFrom, TakesSome, NoneHoldsAt, run_allocation}
 use Rattle.quic_assembler.specs.Compact.{Compacts}
-use Rattle.quic_assembler.specs.Reassembly.{Reassembly, floor, Holds, IsDone, is_done, IsHeld, IsWithin, Takes, Gives, SameHeld, KeepsOffsets, IsSameButHeld, MatchInsert, HoldsNothing, HoldsOnce, IsApart, IsAssembler, TakesFresh, Keeps, LeavesOrder, IsNext, IsStale, run_count, starts_run, piece_count, tally}
+use Rattle.quic_assembler.specs.Reassembly.{Reassembly, floor, Holds, IsDone, is_done, IsHeld, IsWithin, Takes, Gives, SameHeld, KeepsOffsets, IsSameButHeld, MatchInsert, HoldsNothing, HoldsOnce, IsApart, IsAssembler, TakesFresh, Keeps, LeavesOrder, IsNext, run_count, is_wasteful, used}
 use Rattle.quic_assembler.specs.Laws.{done_below}
-use Rattle.quic_assembler.proofs.Counts.{Any-permutation, Any-here, Any-there, Any-cons, Any-nil, count_permuted, count_of_any, any_of_count, lies_in, lies_below, lies_above, bit-le-one, tally-le, tally-add, tally-ones, tally-lies}
+use Rattle.quic_assembler.proofs.Counts.{Any-permutation, Any-here, Any-there, Any-cons, Any-nil, count_permuted, count_of_any, any_of_count, lies_in, lies_above, bit-le-one, tally-le, tally-add, tally-ones, tally-lies}
 use Rattle.quic_assembler.proofs.Runs.{RunHolds-cut, RunHolds-uncut, covers_from_holds, holds_from_covers, above_lowest}
 
 true_not_false : (b : Bool) → b ≡ true → b ≡ false → ⊥
@@ -428,3 +428,15 @@ pub compact_once : (r : Result (Unit {0}) Refusal) (xs : List Run) (new : Reasse
 unfolding Holds
 compact_once (Ok u) xs new c = λ at a b h k. one_byte new.runs at a b (omega (arith, c.count at)) h.1 k.1
 compact_once (Err e) xs new c = tt
+
+-- when compaction is due
+pub wasteful_many : (a : Reassembly) → 2048 < length a.runs → is_wasteful a ≡ true
+unfolding is_wasteful
+wasteful_many a l = grind (arith, nat_tests)
+
+few_test : (b : Bool) (n : ℕ) → n ≤ 2048 → (nat_lt 2048 n || b) ≡ b
+few_test b n l = grind (arith, nat_tests)
+
+pub wasteful_memory : (a : Reassembly) (u t w : ℕ) → length a.runs ≤ 2048 → u ≡ used a → t ≡ max 32768 (u * 3 / 2) → w ≡ sum_by run_allocation a.runs - u → nat_lt t w ≡ is_wasteful a
+unfolding is_wasteful
+wasteful_memory a u t w l e f g = rw (f, g, e) (sym (few_test _ (length a.runs) l))

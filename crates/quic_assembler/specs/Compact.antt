@@ -1,7 +1,7 @@
 -- What compaction keeps, joins and drops.
-use Rattle.std.specs.Prelude.{ℕ, Bool, not, true, ◌≡◌, ◌+◌, ◌-◌, ◌*◌, ◌/◌, ◌≤◌, ◌<◌, ◌⊎◌, ◌&&◌, ◌||◌, nat_le, if◌then◌else◌, max, min, List, [], ◌∷◌, ◌++◌, length}
-use Rattle.std.specs.List.{Any, All, AllPairs}
-use Rattle.quic_assembler.specs.Piece.{Run, IsSome, RunHolds, Covers, cover_count, covers, run_end, cut_at}
+use Rattle.std.specs.Prelude.{ℕ, Bool, not, ◌≡◌, ◌+◌, ◌*◌, ◌/◌, ◌≤◌, ◌⊎◌, ◌&&◌, ◌||◌, nat_le, if◌then◌else◌, max, min, List, [], ◌∷◌, ◌++◌, length}
+use Rattle.std.specs.List.{Any, All}
+use Rattle.quic_assembler.specs.Piece.{Run, IsSome, RunHolds, cover_count, covers, run_end, cut_at}
 
 -- ys hold a byte where xs hold one, each offset once, and only bytes that xs hold
 pub record Compacts (xs ys : List Run) : Type 0 where

@@ -1,10 +1,10 @@
 -- What contracts see of an assembler.
 use Rattle.quic_values.specs.Runs.{contains, Run as Range}
-use Rattle.std.specs.Prelude.{◌≡◌, ◌==◌, ◌&&◌, ◌||◌, ◌-◌, ◌^◌, ◌↔◌, max, min, not, zero, suc, true, false, nat_lt, ℕ, Bool, ◌+◌, ◌≤◌, ◌<◌, ◌⊎◌, List, length, cond, Option, Result, IfOk, IfSome, MatchOption, Ok, Err}
+use Rattle.std.specs.Prelude.{◌≡◌, ◌==◌, ◌&&◌, ◌||◌, ◌-◌, ◌*◌, ◌/◌, ◌^◌, ◌↔◌, sum_by, max, min, not, zero, suc, true, false, nat_lt, ℕ, Bool, ◌+◌, ◌≤◌, ◌<◌, ◌⊎◌, List, length, cond, Option, Result, IfOk, IfSome, MatchOption, Ok, Err}
 use Rattle.quic_assembler.specs.declared.errors.InsertError.{InsertError}
 use Rattle.quic_assembler.specs.declared.errors.InsertError.TheVariants.{TooManyChunks, CompactionMemory, OutOfMemory}
 use Rattle.std.specs.List.{Any, All}
-use Rattle.quic_assembler.specs.Piece.{Run, RunHolds, Covers, IsByteAt, bit, lies, cover_count, run_end, cut_at, HoldsSame, IsSome}
+use Rattle.quic_assembler.specs.Piece.{Run, RunHolds, Covers, IsByteAt, bit, lies, cover_count, run_end, cut_at, HoldsSame, IsSome, run_length, run_allocation}
 
 -- the pieces that are held, in no order; the offsets ever received or read, in unordered mode
 pub record Reassembly : Type 0 where
@@ -171,3 +171,11 @@ pub record IsSameButHeld (a b : Reassembly) : Type 0 where
   pub ordered : b.ordered ≡ a.ordered
   pub highest : b.highest ≡ a.highest
   pub done : (at : ℕ) → is_done b at ≡ is_done a at
+
+-- how many bytes are of use: those that are held, and at most those up to the highest end that were not read
+abbrev pub used : Reassembly → ℕ
+used a = min (sum_by run_length a.runs) (a.highest - a.bytes_read)
+
+-- whether too many pieces are held, or they keep too much memory alive
+unfoldable pub is_wasteful : Reassembly → Bool
+is_wasteful a = nat_lt 2048 (length a.runs) || nat_lt (max 32768 (used a * 3 / 2)) (sum_by run_allocation a.runs - used a)

@@ -1,7 +1,7 @@
 // An assembler over a heap of pieces.
 ghost use Rattle.std.specs.Prelude.{◌≡◌, ◌≢◌, ℕ, ◌+◌, ◌^◌, ◌<◌, ◌≤◌, ◌↔◌, ◌⊎◌, ◌||◌, ◌&&◌, true, false, length, max, OnOk, OnErr, IfSome, IfNone, [], IsTrue, MatchOption, Ok, Err};
 ghost use Rattle.quic_assembler.specs.Piece.{Run, run_end, lies};
-ghost use Rattle.quic_assembler.specs.Reassembly.{Reassembly, Holds, IsDone, is_done, IsHeld, IsWithin, Takes, Gives, SameHeld, KeepsOffsets, IsSameButHeld, HoldsNothing, HoldsOnce, MatchInsert, IfGiven, OnNothing, IsStale, run_count, piece_count, Keeps, LeavesOrder, IsNext};
+ghost use Rattle.quic_assembler.specs.Reassembly.{Reassembly, Holds, IsDone, is_done, IsHeld, IsWithin, Takes, Gives, SameHeld, KeepsOffsets, IsSameButHeld, HoldsNothing, HoldsOnce, MatchInsert, IfGiven, OnNothing, IsStale, run_count, piece_count, Keeps, LeavesOrder, IsNext, is_wasteful};
 
 use crate::chunk::Chunk;
 use crate::errors::{EnsureError, InsertError};
@@ -191,7 +191,8 @@ impl Assembler {
 
     // Whether too many pieces are held, or they keep too much memory alive.
     fn is_wasteful(&self) -> bool
-        ensures { result ≡ false → piece_count self.now ≤ 2048 }
+        ensures exact { result ≡ is_wasteful self.now }
+        ensures few { result ≡ false → piece_count self.now ≤ 2048 }
     {
         if self.pieces.len() > COMPACT_THRESHOLD {
             return true;
@@ -204,6 +205,7 @@ impl Assembler {
 
     // Compacts where that is due.
     fn relieve(&mut self) -> Result<(), InsertError>
+        ensures idle { is_wasteful self.old ≡ false → (result ≡ Ok tt) × (self.new ≡ self.old) }
         ensures held { KeepsOffsets (Holds self.old) (Holds self.new) }
         ensures kept { MatchInsert result (Unit {0}) ⊥ }
         ensures many { result ≡ Err InsertError.TooManyChunks → 1024 < piece_count self.new }

@@ -1,4 +1,4 @@
-use Rattle.std.proofs.Common.{arith, rules, refl, sym, ◌∙◌, ◌++◌, option_to_list, append_assoc, []}
+use Rattle.std.proofs.Common.{arith, refl, sym, ◌++◌, option_to_list, append_assoc, []}
 use Rattle.std.proofs.lemmas.List.{append-nil}
 use Rattle.std.proofs.lemmas.Result.{err_from_is_err_and}
 use Rattle.quic_assembler.specs.Steps.{state_of}

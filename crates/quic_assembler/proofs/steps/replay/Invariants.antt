@@ -1,7 +1,7 @@
 use Rattle.std.proofs.Common.{◌≡◌, ◌++◌, List, take}
 use Rattle.quic_assembler.specs.declared.chunk.Chunk.{Chunk}
 use Rattle.quic_assembler.specs.Steps.{state_of, Replays}
-use Rattle.quic_assembler.proofs.Replays.{Known, replays_push, known_step, gapless}
+use Rattle.quic_assembler.proofs.Replays.{Known}
 use Rattle.quic_assembler.proofs.steps.replay.Given as goal
 
 abbrev pub invariant-loop-op : goal.invariant-loop-op

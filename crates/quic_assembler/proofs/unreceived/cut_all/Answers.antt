@@ -1,4 +1,3 @@
-use Rattle.std.proofs.Common.{arith, rules, refl, sym}
 use Rattle.quic_assembler.proofs.Fresh.{cut_none}
 use Rattle.quic_assembler.proofs.unreceived.cut_all.Goals as goal
 

@@ -1,4 +1,4 @@
-use Rattle.std.proofs.Common.{arith, rules, refl, sym}
+use Rattle.std.proofs.Common.{arith}
 use Rattle.quic_assembler.proofs.Fresh.{cut_step}
 use Rattle.quic_assembler.proofs.unreceived.cut_next.Goals as goal
 

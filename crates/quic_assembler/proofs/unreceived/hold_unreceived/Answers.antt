@@ -1,4 +1,4 @@
-use Rattle.std.proofs.Common.{arith, rules, refl, sym}
+use Rattle.std.proofs.Common.{arith}
 use Rattle.quic_assembler.proofs.Fresh.{takes_fresh}
 use Rattle.quic_assembler.proofs.unreceived.hold_unreceived.Goals as goal
 

@@ -1,8 +1,8 @@
-use Rattle.std.proofs.Common.{arith, rules, refl, sym, inl, inr}
+use Rattle.std.proofs.Common.{arith, refl, inl, inr}
 use Rattle.std.proofs.lemmas.List.Elements.{All-head, All-tail}
 use Rattle.std.proofs.lemmas.List.Sorted.{length_permutation, IsPermutation-sym}
 use Rattle.std.specs.Vec.Iter.{into_iter_items}
-use Rattle.quic_assembler.specs.Piece.{IsSome, RunHolds}
+use Rattle.quic_assembler.specs.Piece.{IsSome}
 use Rattle.quic_assembler.proofs.Counts.{Any-permutation, Any-here, Any-there, Any-cons, count_permuted, no_count}
 use Rattle.quic_assembler.proofs.unreceived.put_all.Goals as goal
 

@@ -1,5 +1,5 @@
-use Rattle.std.proofs.Common.{arith, rules, refl, sym}
-use Rattle.quic_assembler.proofs.Fresh.{fronts_none, fronts_split, cut_step}
+use Rattle.std.proofs.Common.{arith}
+use Rattle.quic_assembler.proofs.Fresh.{fronts_none, fronts_split}
 use Rattle.quic_assembler.proofs.unreceived.split_fresh.Goals as goal
 
 pub returns-then-offset-start : goal.returns-then-offset-start

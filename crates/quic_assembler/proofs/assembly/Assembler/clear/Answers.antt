@@ -1,5 +1,4 @@
 use Rattle.std.proofs.Common.{rules, refl, arith}
-use Rattle.quic_assembler.proofs.Counts.{no_count}
 use Rattle.quic_assembler.proofs.Whole.{holds_nothing, assembler_less, same_done}
 use Rattle.quic_assembler.proofs.assembly.Assembler.clear.Goals as goal
 

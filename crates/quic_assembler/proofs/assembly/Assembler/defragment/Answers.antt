@@ -1,4 +1,4 @@
-use Rattle.std.proofs.Common.{rules, refl, arith}
+use Rattle.std.proofs.Common.{refl}
 use Rattle.quic_assembler.proofs.Whole.{assembler_less, same_but_held, compact_count, compact_offsets, compact_same, compact_once}
 use Rattle.quic_assembler.proofs.assembly.Assembler.defragment.Goals as goal
 

@@ -1,4 +1,4 @@
-use Rattle.std.proofs.Common.{rules, refl, arith, sym, ap}
+use Rattle.std.proofs.Common.{rules, refl, arith}
 use Rattle.quic_assembler.proofs.Whole.{keeps_fresh_at, assembler_fresh}
 use Rattle.quic_assembler.proofs.assembly.Assembler.hold.Goals as goal
 

@@ -1,4 +1,4 @@
-use Rattle.std.proofs.Common.{refl, rules, arith, sym}
+use Rattle.std.proofs.Common.{refl}
 use Rattle.std.proofs.lemmas.Result.{err_from_is_err_and}
 use Rattle.quic_assembler.proofs.Whole.{leaves_order, assembler_left, same_permuted, same_but_held}
 use Rattle.quic_assembler.proofs.assembly.Assembler.leave_order.Goals as goal

@@ -1,4 +1,4 @@
-use Rattle.std.proofs.Common.{refl, rules, arith, sym, ◌∙◌}
+use Rattle.std.proofs.Common.{refl, sym, ◌∙◌}
 use Rattle.std.proofs.lemmas.Result.{err_from_is_err_and}
 use Rattle.std.proofs.lemmas.Option.{MatchOption-at_none, MatchOption-at_some}
 use Rattle.quic_assembler.proofs.Whole.{holds_nothing, assembler_less, assembler_read, gives_some, held_here, next_lowest, done_given, done_same_unordered, same_kept, none_next, none_at_next}

@@ -1,4 +1,4 @@
-use Rattle.std.proofs.Common.{rules, arith, length-drop, sym}
+use Rattle.std.proofs.Common.{arith, length-drop, sym}
 use Rattle.quic_assembler.proofs.Parts.{large_too_short, large_compact, large_used}
 use Rattle.quic_assembler.proofs.piece.Piece.is_large.Goals as goal
 

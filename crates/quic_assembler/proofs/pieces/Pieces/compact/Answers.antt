@@ -1,7 +1,6 @@
-use Rattle.std.proofs.Common.{arith, rules, refl, sym, ◌∙◌}
+use Rattle.std.proofs.Common.{arith}
 use Rattle.std.proofs.lemmas.List.Sorted.{IsPermutation-trans, length_permutation, All-permutation}
-use Rattle.quic_assembler.specs.Piece.{IsSome, IsSound}
-use Rattle.quic_assembler.specs.Compact.{is_small, is_large}
+use Rattle.quic_assembler.specs.Piece.{IsSome}
 use Rattle.quic_assembler.proofs.Parts.{parts_length, compacts_parts, rises_from_sorted}
 use Rattle.quic_assembler.proofs.Counts.{at_not_err}
 use Rattle.quic_assembler.proofs.Queue.{sound_is_some, queue_permuted}

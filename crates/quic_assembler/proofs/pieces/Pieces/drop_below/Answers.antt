@@ -1,5 +1,5 @@
 use Rattle.quic_assembler.specs.Piece.{Run}
-use Rattle.std.proofs.Common.{◌<◌, ◌≤◌, arith, refl, length-drop}
+use Rattle.std.proofs.Common.{◌<◌, ◌≤◌, arith, refl}
 use Rattle.std.proofs.lemmas.List.Sorted.{length_permutation}
 use Rattle.std.proofs.lemmas.List.Elements.{All-weaker}
 use Rattle.quic_assembler.proofs.Runs.{KeepsFrom-cut, none_below, above_lowest}

@@ -1,4 +1,4 @@
-use Rattle.std.proofs.Common.{rules, arith, refl}
+use Rattle.std.proofs.Common.{arith, refl}
 use Rattle.std.proofs.lemmas.List.Sorted.{length_permutation}
 use Rattle.quic_assembler.proofs.Runs.{KeepsFrom-refl, KeepsFrom-popped}
 use Rattle.quic_assembler.proofs.pieces.Pieces.drop_stale.Goals as goal

@@ -1,5 +1,5 @@
-use Rattle.std.proofs.Common.{arith, rules, refl, sym, ◌∙◌, drop, ◌≡◌, ℕ, min, ◌+◌, length-drop}
-use Rattle.quic_assembler.specs.Piece.{bit, cover_count, covers, lies, run_end}
+use Rattle.std.proofs.Common.{arith, drop, length-drop}
+use Rattle.quic_assembler.specs.Piece.{cover_count, lies, run_end}
 use Rattle.std.specs.BinaryHeap.{heap_items}
 use Rattle.quic_values.specs.Runs.{contains}
 use Rattle.quic_assembler.proofs.Counts.{bit-or, bit-from_zero, bit-le-one, no_count}

@@ -1,4 +1,3 @@
-use Rattle.std.proofs.Common.{rules, arith, sym}
 use Rattle.quic_assembler.proofs.Queue.{queue_popped, popped_sound, lowest_popped, sound_is_some}
 use Rattle.quic_assembler.proofs.pieces.Pieces.pop_first.Goals as goal
 

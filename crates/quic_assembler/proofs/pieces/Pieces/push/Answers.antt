@@ -1,4 +1,4 @@
-use Rattle.std.proofs.Common.{rules, arith}
+use Rattle.std.proofs.Common.{arith}
 use Rattle.quic_assembler.proofs.Queue.{queue_pushed, total_bound, allocated_bound}
 use Rattle.quic_assembler.proofs.pieces.Pieces.push.Goals as goal
 

@@ -1,8 +1,6 @@
-use Rattle.std.proofs.Common.{arith, rules, refl, length-drop, sym, ◌∙◌}
+use Rattle.std.proofs.Common.{arith}
 use Rattle.std.proofs.lemmas.List.Sorted.{length_permutation, IsPermutation-sym}
-use Rattle.quic_assembler.specs.Compact.{is_large, is_small}
 use Rattle.quic_assembler.proofs.Counts.{Any-permutation, Any-there, count_permuted}
-use Rattle.quic_assembler.proofs.Parts.{seen_below, seen_kept, seen_dropped, adds_nothing, adds_seen, adds_put, cut_at-max, adds_joined, adds_anew, small_of_large}
 use Rattle.quic_assembler.proofs.pieces.Pieces.put_some.Goals as goal
 
 pub returns-then-len-gt0-clause-count : goal.returns-then-len-gt0-clause-count

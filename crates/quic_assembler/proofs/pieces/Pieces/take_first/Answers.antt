@@ -1,4 +1,4 @@
-use Rattle.std.proofs.Common.{arith, refl, length-drop}
+use Rattle.std.proofs.Common.{arith, refl}
 use Rattle.std.proofs.lemmas.Result.{err_from_is_err_and}
 use Rattle.std.proofs.lemmas.List.Sorted.{length_permutation}
 use Rattle.quic_assembler.proofs.Runs.{KeepsFrom-cut, TakesSome-front, none_reaches}

@@ -1,9 +1,6 @@
-use Rattle.std.proofs.Common.{arith, rules, refl, length-drop, sym, ◌∙◌, ℕ, ◌≡◌, ◌≤◌}
+use Rattle.std.proofs.Common.{arith, length-drop, sym, ◌∙◌, ℕ, ◌≡◌, ◌≤◌}
 use Rattle.quic_assembler.specs.Piece.{Run, cut_at, HoldsSame}
-use Rattle.std.proofs.lemmas.List.Sorted.{length_permutation, IsPermutation-sym}
-use Rattle.quic_assembler.specs.Compact.{is_large, is_small}
-use Rattle.quic_assembler.proofs.Counts.{Any-permutation, Any-there, count_permuted}
-use Rattle.quic_assembler.proofs.Parts.{seen_below, seen_kept, seen_dropped, adds_nothing, adds_seen, adds_put, cut_at-max, adds_joined, adds_anew, small_of_large}
+use Rattle.quic_assembler.proofs.Parts.{adds_joined, adds_anew}
 use Rattle.quic_assembler.proofs.pieces.compact.join.Goals as goal
 
 pub extend-requires : goal.extend-requires

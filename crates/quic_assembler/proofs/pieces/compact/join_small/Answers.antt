@@ -1,4 +1,4 @@
-use Rattle.std.proofs.Common.{arith, rules, refl, sym, ◌∙◌, inl, inr, ◌+◌, drop, length-drop}
+use Rattle.std.proofs.Common.{arith, ◌∙◌, inl, inr, ◌+◌, drop, length-drop}
 use Rattle.quic_assembler.specs.Compact.{is_small}
 use Rattle.std.proofs.lemmas.List.Elements.{All-head}
 use Rattle.quic_assembler.specs.Piece.{IsSome, RunHolds}

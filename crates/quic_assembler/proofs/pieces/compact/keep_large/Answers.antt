@@ -1,6 +1,5 @@
-use Rattle.std.proofs.Common.{arith, rules, refl, sym, ◌+◌, length}
+use Rattle.std.proofs.Common.{arith, refl}
 use Rattle.std.proofs.lemmas.List.Elements.{All-head}
-use Rattle.std.proofs.Common.{ap}
 use Rattle.std.specs.Vec.Iter.{into_iter_items}
 use Rattle.quic_assembler.specs.Piece.{IsSome}
 use Rattle.quic_assembler.specs.Compact.{is_large}
