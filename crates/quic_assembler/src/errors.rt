@@ -37,7 +37,7 @@ pub enum EnsureError {
     /// Reads are unordered already, and there is no way back.
     #[error("ordered read after unordered read")]
     IllegalOrderedRead,
-    /// There was no memory. Nothing was changed but the cuts between pieces.
+    /// There was no memory. The mode is as it was, and so is what is held and done.
     #[error("out of memory")]
     OutOfMemory,
 }

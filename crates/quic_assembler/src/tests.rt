@@ -7,8 +7,8 @@ use std::process::Abort;
 use std::test::Fail;
 
 mod cases;
-mod rows;
 mod steps;
+mod worked;
 
 fn bytes(alloc: Global, text: &str) -> Result<Bytes, AllocError>
     ensures { IfOk result (λ b. b ≡ text.now) }
