@@ -15,7 +15,7 @@ test_of_lt a b h = grind (arith, nat_tests)
 
 -- in ordered mode what was read is done, and nothing else
 pub done_below : (a : Reassembly) (at : ℕ) → a.ordered ≡ true → IsDone a at ↔ (at < a.bytes_read)
-unfolding IsDone is_done
+unfolding is_done
 done_below a at e = rw e (lt_of_test at a.bytes_read, test_of_lt at a.bytes_read)
 
 pub held_above : (a : Reassembly) (at byte : ℕ) → a.ordered ≡ true → Holds a at byte → a.bytes_read ≤ at

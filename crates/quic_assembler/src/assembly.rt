@@ -131,7 +131,8 @@ impl Assembler {
 
         ensures many { result ≡ Err InsertError.TooManyChunks → 1024 < piece_count self.new }
         ensures few { OnOk result (IsStale self.old offset bytes ⊎ (piece_count self.new ≤ 2048)) }
-        ensures stale { IsStale self.old offset bytes → (result ≡ Ok tt) × (piece_count self.new ≡ piece_count self.old) }
+        ensures stale { IsStale self.old offset bytes → piece_count self.new ≡ piece_count self.old }
+        ensures stale_ok { IsStale self.old offset bytes → result ≡ Ok tt }
         ensures pieces { IsTrue self.old.ordered → piece_count self.new ≤ piece_count self.old + 1 }
         ensures pieces_unordered { self.old.ordered ≡ false → piece_count self.new ≤ piece_count self.old + run_count (is_done self.old) offset (length bytes) }
 
