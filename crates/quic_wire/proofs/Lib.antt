@@ -1,0 +1,5 @@
+pub mod Steps
+pub mod Numbers
+pub mod Read
+pub mod Joins
+pub mod Written

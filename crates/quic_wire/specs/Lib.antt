@@ -1,0 +1,6 @@
+pub use Rattle.quic_values.specs.Numbers
+pub use Rattle.quic_values.specs.Ids
+pub use Rattle.quic_values.specs.Runs
+pub mod Frames
+pub mod Text
+pub mod Reading

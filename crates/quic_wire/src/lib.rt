@@ -1,0 +1,14 @@
+//! The frames of QUIC that carry streams, as values and as bytes, and the errors and events about them.
+#![tactic(auto)]
+
+pub mod frame;
+
+mod reading;
+mod writing;
+
+pub use frame::{DecodeError, Frame};
+pub use quic_values::{
+    Bytes, Dir, MAX_STREAM_COUNT, Oom, OutOfMemory, RangeSet, Side, StreamId, VarInt, same_set,
+};
+pub use reading::decode;
+pub use writing::{frames_join, same_frames, spelled_so};

@@ -1,0 +1,239 @@
+ghost use Rattle.std.specs.Prelude.{◌≡◌, ◌^◌, ◌<◌, List, length, IfOk, IsErrOf, Ok, Some, ℕ};
+ghost use Rattle.std.specs.Int.{w16, w32, w64};
+ghost use Rattle.quic_wire.specs.declared.frame.Frame.{Frame as FrameValue};
+ghost use Rattle.quic_wire.specs.Frames.{AreFrames, has_bit};
+ghost use Rattle.quic_wire.specs.Reading.{Gives, wide_at, number_at, two_at, offset_at, content_at, reset_at, stop_at, stream_at, max_data_at, max_stream_data_at, max_streams_at, data_blocked_at, stream_data_blocked_at, datagram_at, frame_at};
+
+use crate::frame::{Datagram, DecodeError, Frame, ResetStream, StopSending, Stream};
+use quic_values::{Bytes, Dir, StreamId, VarInt};
+use std::alloc::Global;
+
+fn wide_two_at(bytes: &[u8]) -> Result<(u64, &[u8]), DecodeError>
+    ensures read { Gives (λ x. (x.0, x.1.now)) result (wide_at w16 (2 ^ 14) bytes.now) }
+    ensures small { IfOk result (λ x. x.0 < 2 ^ 14) }
+{
+    if bytes.len() < 2 {
+        return Err(DecodeError::Malformed);
+    }
+    let (front, rest) = bytes.split_at(2);
+    let number = u16::from_be_bytes([front[0], front[1]]) % (1 << 14);
+    Ok((u64::from(number), rest))
+}
+
+fn wide_four_at(bytes: &[u8]) -> Result<(u64, &[u8]), DecodeError>
+    ensures read { Gives (λ x. (x.0, x.1.now)) result (wide_at w32 (2 ^ 30) bytes.now) }
+    ensures small { IfOk result (λ x. x.0 < 2 ^ 30) }
+{
+    if bytes.len() < 4 {
+        return Err(DecodeError::Malformed);
+    }
+    let (front, rest) = bytes.split_at(4);
+    let number = u32::from_be_bytes([front[0], front[1], front[2], front[3]]) % (1 << 30);
+    Ok((u64::from(number), rest))
+}
+
+fn wide_eight_at(bytes: &[u8]) -> Result<(u64, &[u8]), DecodeError>
+    ensures read { Gives (λ x. (x.0, x.1.now)) result (wide_at w64 (2 ^ 62) bytes.now) }
+    ensures small { IfOk result (λ x. x.0 < 2 ^ 62) }
+{
+    if bytes.len() < 8 {
+        return Err(DecodeError::Malformed);
+    }
+    let (front, rest) = bytes.split_at(8);
+    let number = u64::from_be_bytes([
+        front[0], front[1], front[2], front[3], front[4], front[5], front[6], front[7],
+    ]) % (1 << 62);
+    Ok((number, rest))
+}
+
+#[tactic(auto, unfolding(crate::specs::Reading::number_at))]
+fn number_at(bytes: &[u8]) -> Result<(u64, &[u8]), DecodeError>
+    ensures read { Gives (λ x. (x.0, x.1.now)) result (number_at bytes.now) }
+    ensures small { IfOk result (λ x. x.0 < 2 ^ 62) }
+{
+    let [first, rest @ ..] = bytes else {
+        return Err(DecodeError::Malformed);
+    };
+    if *first < 0x40 {
+        return Ok((u64::from(*first), rest));
+    }
+    if *first < 0x80 {
+        return wide_two_at(bytes);
+    }
+    if *first < 0xc0 {
+        return wide_four_at(bytes);
+    }
+    wide_eight_at(bytes)
+}
+
+#[tactic(auto, unfolding(crate::specs::Reading::two_at))]
+fn two_at(bytes: &[u8]) -> Result<(u64, u64, &[u8]), DecodeError>
+    ensures read { Gives (λ x. (x.0, x.1, x.2.now)) result (two_at bytes.now) }
+    ensures small { IfOk result (λ x. (x.0 < 2 ^ 62) × (x.1 < 2 ^ 62)) }
+{
+    let (first, rest) = number_at(bytes)?;
+    let (second, rest) = number_at(rest)?;
+    Ok((first, second, rest))
+}
+
+#[tactic(auto, unfolding(crate::specs::Reading::offset_at))]
+fn offset_at(with_offset: bool, bytes: &[u8]) -> Result<(u64, &[u8]), DecodeError>
+    ensures { Gives (λ x. (x.0, x.1.now)) result (offset_at with_offset bytes.now) }
+{
+    if !with_offset {
+        return Ok((0, bytes));
+    }
+    let (offset, rest) = number_at(bytes)?;
+    Ok((offset, rest))
+}
+
+#[tactic(auto, unfolding(crate::specs::Reading::content_at))]
+fn content_at(alloc: Global, with_length: bool, bytes: &[u8]) -> Result<(Bytes, &[u8]), DecodeError>
+    ensures { Gives (λ x. (x.0, x.1.now)) result (content_at with_length bytes.now) }
+{
+    if !with_length {
+        return Ok((Bytes::copy_from_slice(alloc, bytes)?, &[]));
+    }
+    let (length, rest) = number_at(bytes)?;
+    let length = length as usize;
+    if rest.len() < length {
+        return Err(DecodeError::Malformed);
+    }
+    let (content, rest) = rest.split_at(length);
+    Ok((Bytes::copy_from_slice(alloc, content)?, rest))
+}
+
+#[tactic(auto, unfolding(crate::specs::Reading::reset_at))]
+fn reset_at(bytes: &[u8]) -> Result<(Frame, &[u8]), DecodeError>
+    ensures { Gives (λ x. (x.0, x.1.now)) result (reset_at bytes.now) }
+{
+    let (id, rest) = number_at(bytes)?;
+    let (error_code, final_offset, rest) = two_at(rest)?;
+    let frame = ResetStream {
+        id: StreamId::from(VarInt::new(id)),
+        error_code: VarInt::new(error_code),
+        final_offset: VarInt::new(final_offset),
+    };
+    Ok((Frame::ResetStream(frame), rest))
+}
+
+#[tactic(auto, unfolding(crate::specs::Reading::stop_at))]
+fn stop_at(bytes: &[u8]) -> Result<(Frame, &[u8]), DecodeError>
+    ensures { Gives (λ x. (x.0, x.1.now)) result (stop_at bytes.now) }
+{
+    let (id, error_code, rest) = two_at(bytes)?;
+    let frame = StopSending {
+        id: StreamId::from(VarInt::new(id)),
+        error_code: VarInt::new(error_code),
+    };
+    Ok((Frame::StopSending(frame), rest))
+}
+
+#[tactic(auto, unfolding(crate::specs::Reading::stream_at))]
+fn stream_at(alloc: Global, kind: u8, bytes: &[u8]) -> Result<(Frame, &[u8]), DecodeError>
+    ensures { Gives (λ x. (x.0, x.1.now)) result (stream_at kind bytes.now) }
+{
+    let (id, rest) = number_at(bytes)?;
+    let (offset, rest) = offset_at(kind & 0x04 != 0, rest)?;
+    let (bytes, rest) = content_at(alloc, kind & 0x02 != 0, rest)?;
+    let frame = Stream {
+        id: StreamId::from(VarInt::new(id)),
+        offset,
+        fin: kind & 0x01 != 0,
+        bytes,
+    };
+    Ok((Frame::Stream(frame), rest))
+}
+
+#[tactic(auto, unfolding(crate::specs::Reading::max_data_at))]
+fn max_data_at(bytes: &[u8]) -> Result<(Frame, &[u8]), DecodeError>
+    ensures { Gives (λ x. (x.0, x.1.now)) result (max_data_at bytes.now) }
+{
+    let (limit, rest) = number_at(bytes)?;
+    Ok((Frame::MaxData(VarInt::new(limit)), rest))
+}
+
+#[tactic(auto, unfolding(crate::specs::Reading::max_stream_data_at))]
+fn max_stream_data_at(bytes: &[u8]) -> Result<(Frame, &[u8]), DecodeError>
+    ensures { Gives (λ x. (x.0, x.1.now)) result (max_stream_data_at bytes.now) }
+{
+    let (id, offset, rest) = two_at(bytes)?;
+    let id = StreamId::from(VarInt::new(id));
+    Ok((Frame::MaxStreamData { id, offset }, rest))
+}
+
+#[tactic(auto, unfolding(crate::specs::Reading::max_streams_at))]
+fn max_streams_at(dir: Dir, bytes: &[u8]) -> Result<(Frame, &[u8]), DecodeError>
+    ensures { Gives (λ x. (x.0, x.1.now)) result (max_streams_at dir bytes.now) }
+{
+    let (count, rest) = number_at(bytes)?;
+    Ok((Frame::MaxStreams { dir, count }, rest))
+}
+
+#[tactic(auto, unfolding(crate::specs::Reading::data_blocked_at))]
+fn data_blocked_at(bytes: &[u8]) -> Result<(Frame, &[u8]), DecodeError>
+    ensures { Gives (λ x. (x.0, x.1.now)) result (data_blocked_at bytes.now) }
+{
+    let (offset, rest) = number_at(bytes)?;
+    Ok((Frame::DataBlocked { offset }, rest))
+}
+
+#[tactic(auto, unfolding(crate::specs::Reading::stream_data_blocked_at))]
+fn stream_data_blocked_at(bytes: &[u8]) -> Result<(Frame, &[u8]), DecodeError>
+    ensures { Gives (λ x. (x.0, x.1.now)) result (stream_data_blocked_at bytes.now) }
+{
+    let (id, offset, rest) = two_at(bytes)?;
+    let id = StreamId::from(VarInt::new(id));
+    Ok((Frame::StreamDataBlocked { id, offset }, rest))
+}
+
+#[tactic(auto, unfolding(crate::specs::Reading::datagram_at))]
+fn datagram_at(alloc: Global, kind: u8, bytes: &[u8]) -> Result<(Frame, &[u8]), DecodeError>
+    ensures { Gives (λ x. (x.0, x.1.now)) result (datagram_at kind bytes.now) }
+{
+    let (bytes, rest) = content_at(alloc, kind & 0x01 != 0, bytes)?;
+    Ok((Frame::Datagram(Datagram { bytes }), rest))
+}
+
+#[tactic(auto, unfolding(crate::specs::Reading::frame_at))]
+fn frame_at(alloc: Global, bytes: &[u8]) -> Result<(Frame, &[u8]), DecodeError>
+    ensures { Gives (λ x. (x.0, x.1.now)) result (frame_at bytes.now) }
+{
+    let [kind, bytes @ ..] = bytes else {
+        return Err(DecodeError::Malformed);
+    };
+    match *kind {
+        0x04 => reset_at(bytes),
+        0x05 => stop_at(bytes),
+        0x08..=0x0f => stream_at(alloc, *kind, bytes),
+        0x10 => max_data_at(bytes),
+        0x11 => max_stream_data_at(bytes),
+        0x12 => max_streams_at(Dir::Bi, bytes),
+        0x13 => max_streams_at(Dir::Uni, bytes),
+        0x14 => data_blocked_at(bytes),
+        0x15 => stream_data_blocked_at(bytes),
+        0x30..=0x31 => datagram_at(alloc, *kind, bytes),
+        _ => Err(DecodeError::Malformed),
+    }
+}
+
+/// The frames that a payload consists of (RFC 9000 section 12.4). It is `Malformed` where the payload is no join of
+/// the frames that are read here: RESET_STREAM, STOP_SENDING, STREAM, MAX_DATA, MAX_STREAM_DATA, MAX_STREAMS,
+/// DATA_BLOCKED, STREAM_DATA_BLOCKED and DATAGRAM. A payload without bytes has no frames.
+pub fn decode(alloc: Global, payload: &[u8]) -> Result<Vec<Frame>, DecodeError>
+    // What is read is spelled so.
+    ensures found { IfOk result (λ frames. AreFrames payload.now frames.items) }
+    // What is spelled so is read, unless memory runs out.
+    ensures only { (fs : List FrameValue) → AreFrames payload.now fs → Gives (λ frames. frames.items) result (Some fs) }
+    // Only what spells no frames is malformed.
+    ensures malformed { IsErrOf result DecodeError.Malformed → (fs : List FrameValue) → ¬ AreFrames payload.now fs }
+{
+    let mut frames = Vec::new(alloc);
+    let mut rest = payload;
+    while !rest.is_empty() {
+        let (frame, after) = frame_at(alloc, rest)?;
+        frames.push(frame)?;
+        rest = after;
+    }
+    Ok(frames)
+}
