@@ -3,9 +3,13 @@
 
 pub mod frame;
 
+mod error;
+mod event;
 mod reading;
 mod writing;
 
+pub use error::{ReceiveError, TransportError};
+pub use event::StreamEvent;
 pub use frame::{DecodeError, Frame};
 pub use quic_values::{
     Bytes, Dir, MAX_STREAM_COUNT, Oom, OutOfMemory, RangeSet, Side, StreamId, VarInt, same_set,

@@ -1,0 +1,136 @@
+ghost use Rattle.std.specs.Prelude.{◌≡◌};
+ghost use Rattle.quic_wire.specs.declared.error.ReceiveError.TheVariants.{Transport as transport, OutOfMemory as out_of_memory};
+
+use quic_values::OutOfMemory;
+use thiserror::Error;
+
+/// Why a connection is to be closed (RFC 9000 section 20.1).
+#[derive(Clone, Copy, Debug, Error, PartialEq, Eq)]
+#[error("code {code}: {reason}")]
+pub struct TransportError {
+    /// One of the codes below.
+    pub code: u64,
+    /// What happened, for a reader.
+    pub reason: &'static str,
+}
+
+impl TransportError {
+    /// An internal error.
+    pub const INTERNAL_ERROR: u64 = 1;
+    /// More data were received than permitted.
+    pub const FLOW_CONTROL_ERROR: u64 = 3;
+    /// More streams were opened than permitted.
+    pub const STREAM_LIMIT_ERROR: u64 = 4;
+    /// A frame came for a stream in a state that does not permit it.
+    pub const STREAM_STATE_ERROR: u64 = 5;
+    /// The final size of a stream changed, or data lie above it.
+    pub const FINAL_SIZE_ERROR: u64 = 6;
+    /// A frame was badly formatted.
+    pub const FRAME_ENCODING_ERROR: u64 = 7;
+    /// The peer has more connection ids than permitted.
+    pub const CONNECTION_ID_LIMIT_ERROR: u64 = 9;
+    /// Another violation of the protocol.
+    pub const PROTOCOL_VIOLATION: u64 = 10;
+
+    /// An error of a code.
+    #[inline]
+    pub fn new(code: u64, reason: &'static str) -> Self
+        ensures code { result.code ≡ code }
+        ensures reason { result.reason.now ≡ reason.now }
+    {
+        TransportError { code, reason }
+    }
+
+    #[inline]
+    pub fn internal_error(reason: &'static str) -> Self
+        ensures code { result.code ≡ Self.INTERNAL_ERROR }
+        ensures reason { result.reason.now ≡ reason.now }
+    {
+        Self::new(Self::INTERNAL_ERROR, reason)
+    }
+
+    #[inline]
+    pub fn flow_control_error(reason: &'static str) -> Self
+        ensures code { result.code ≡ Self.FLOW_CONTROL_ERROR }
+        ensures reason { result.reason.now ≡ reason.now }
+    {
+        Self::new(Self::FLOW_CONTROL_ERROR, reason)
+    }
+
+    #[inline]
+    pub fn stream_limit_error(reason: &'static str) -> Self
+        ensures code { result.code ≡ Self.STREAM_LIMIT_ERROR }
+        ensures reason { result.reason.now ≡ reason.now }
+    {
+        Self::new(Self::STREAM_LIMIT_ERROR, reason)
+    }
+
+    #[inline]
+    pub fn stream_state_error(reason: &'static str) -> Self
+        ensures code { result.code ≡ Self.STREAM_STATE_ERROR }
+        ensures reason { result.reason.now ≡ reason.now }
+    {
+        Self::new(Self::STREAM_STATE_ERROR, reason)
+    }
+
+    #[inline]
+    pub fn final_size_error(reason: &'static str) -> Self
+        ensures code { result.code ≡ Self.FINAL_SIZE_ERROR }
+        ensures reason { result.reason.now ≡ reason.now }
+    {
+        Self::new(Self::FINAL_SIZE_ERROR, reason)
+    }
+
+    #[inline]
+    pub fn frame_encoding_error(reason: &'static str) -> Self
+        ensures code { result.code ≡ Self.FRAME_ENCODING_ERROR }
+        ensures reason { result.reason.now ≡ reason.now }
+    {
+        Self::new(Self::FRAME_ENCODING_ERROR, reason)
+    }
+
+    #[inline]
+    pub fn connection_id_limit_error(reason: &'static str) -> Self
+        ensures code { result.code ≡ Self.CONNECTION_ID_LIMIT_ERROR }
+        ensures reason { result.reason.now ≡ reason.now }
+    {
+        Self::new(Self::CONNECTION_ID_LIMIT_ERROR, reason)
+    }
+
+    #[inline]
+    pub fn protocol_violation(reason: &'static str) -> Self
+        ensures code { result.code ≡ Self.PROTOCOL_VIOLATION }
+        ensures reason { result.reason.now ≡ reason.now }
+    {
+        Self::new(Self::PROTOCOL_VIOLATION, reason)
+    }
+}
+
+/// Why a received frame was not taken.
+#[derive(Clone, Copy, Debug, Error, PartialEq, Eq)]
+pub enum ReceiveError {
+    /// The connection is to be closed.
+    #[error(transparent)]
+    Transport(TransportError),
+    #[error("out of memory")]
+    OutOfMemory,
+    /// The frame was kept, but there was no memory to compact what is held.
+    #[error("out of memory")]
+    CompactionMemory,
+}
+
+impl From<TransportError> for ReceiveError {
+    ghost from_gives = { λ error e. e ≡ transport error };
+
+    fn from(error: TransportError) -> ReceiveError {
+        ReceiveError::Transport(error)
+    }
+}
+
+impl From<OutOfMemory> for ReceiveError {
+    ghost from_gives = { λ _ e. e ≡ out_of_memory };
+
+    fn from(_error: OutOfMemory) -> ReceiveError {
+        ReceiveError::OutOfMemory
+    }
+}
