@@ -3,3 +3,4 @@ pub mod Numbers
 pub mod Read
 pub mod Joins
 pub mod Written
+pub mod Within

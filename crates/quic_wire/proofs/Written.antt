@@ -1,16 +1,18 @@
 -- What is written is spelled so, and how long it is at most.
-use Rattle.std.proofs.Common.{◌≡◌, ℕ, ◌+◌, ◌-◌, ◌^◌, ◌<◌, ◌≤◌, Bool, true, false, cond, not, eqb, Option, Some, None, List, [], ◌∷◌, ◌++◌, length, refl, append_assoc, arith, inl, inr}
+use Rattle.std.proofs.Common.{◌≡◌, ℕ, ◌+◌, ◌-◌, ◌^◌, ◌<◌, ◌≤◌, Bool, true, false, cond, not, eqb, ltb, Option, Some, None, List, [], ◌∷◌, ◌++◌, length, refl, append_assoc, arith, inl, inr}
 use Rattle.std.specs.Prelude.{MatchBool}
+use Rattle.std.specs.List.{All, flat_map}
+use Rattle.std.proofs.lemmas.List.Elements.{All-head, All-tail}
 use Rattle.std.proofs.lemmas.Bool.{eqb-true, cases_lt, lt-ltb, le-ltb}
 use Rattle.std.proofs.lemmas.List.{append-nil, length-append}
 use Rattle.quic_values.specs.declared.ids.Dir.{Dir}
-use Rattle.quic_values.specs.Numbers.{BeginsNumber, shortest}
+use Rattle.quic_values.specs.Numbers.{BeginsNumber, shortest, size_of}
 use Rattle.quic_wire.specs.declared.frame.Stream.{Stream}
 use Rattle.quic_wire.specs.declared.frame.StreamMeta.{StreamMeta}
 use Rattle.quic_wire.specs.declared.frame.Datagram.{Datagram}
 use Rattle.quic_wire.specs.declared.frame.Frame.{Frame}
 use Rattle.quic_wire.specs.declared.frame.Frame.TheVariants as frames
-use Rattle.quic_wire.specs.Frames.{has_bit, BeginsTwo, BeginsOffset, BeginsContent, Begins}
+use Rattle.quic_wire.specs.Frames.{has_bit, BeginsTwo, BeginsOffset, BeginsContent, Begins, BeginsFrames}
 use Rattle.quic_wire.specs.Text.{HasSpelling, asked, text, stream_text, stream_head, stream_kind, meta_text, stream_of, offset_text, length_text, datagram_text, size_bound}
 use Rattle.quic_wire.proofs.Numbers.{shortest_spells}
 
@@ -93,21 +95,40 @@ frame_written (frames.StreamDataBlocked id n) rest can = (refl, two_written id n
 frame_written (frames.Datagram d) rest can = datagram_written d.bytes rest true (λ e. can) (λ e. absurd cc)
 frame_written _ rest can = absurd can
 
+pub frames_written : (fs : List Frame) (rest : List ℕ) → All HasSpelling fs → BeginsFrames (flat_map text fs ++ rest) fs rest
+frames_written [] rest can = refl
+frames_written (f ∷ fs) rest can =
+    let after = flat_map text fs ++ rest in
+    let first = frame_written f after (All-head HasSpelling f fs can) in
+    (after, rw append_assoc first, frames_written fs rest (All-tail HasSpelling f fs can))
+
 -- ---- sizes
 
-shortest_size : (n : ℕ) → length (shortest n) ≤ 8
+pub shortest_length : (n : ℕ) → length (shortest n) ≡ size_of n
 unfolding shortest
-shortest_size n =
+shortest_length n =
     elim (cases_lt n (2 ^ 6)) [
-      | inl one ↦ rw (lt-ltb n (2 ^ 6) one) (omega arith)
+      | inl one ↦ rw (lt-ltb n (2 ^ 6) one) refl
       | inr more ↦ elim (cases_lt n (2 ^ 14)) [
-        | inl two ↦ rw (le-ltb n (2 ^ 6) more, lt-ltb n (2 ^ 14) two) (omega arith)
+        | inl two ↦ rw (le-ltb n (2 ^ 6) more, lt-ltb n (2 ^ 14) two) refl
         | inr more' ↦ elim (cases_lt n (2 ^ 30)) [
-          | inl four ↦ rw (le-ltb n (2 ^ 6) more, le-ltb n (2 ^ 14) more', lt-ltb n (2 ^ 30) four) (omega arith)
-          | inr eight ↦ rw (le-ltb n (2 ^ 6) more, le-ltb n (2 ^ 14) more', le-ltb n (2 ^ 30) eight) (omega arith)
+          | inl four ↦ rw (le-ltb n (2 ^ 6) more, le-ltb n (2 ^ 14) more', lt-ltb n (2 ^ 30) four) refl
+          | inr eight ↦ rw (le-ltb n (2 ^ 6) more, le-ltb n (2 ^ 14) more', le-ltb n (2 ^ 30) eight) refl
         ]
       ]
     ]
+
+size_small : (n : ℕ) → size_of n ≤ 8
+size_small n = by (ltb n (2 ^ 6)) (ltb n (2 ^ 14)) (ltb n (2 ^ 30))
+  where
+    by : (a b c : Bool) → cond a 1 (cond b 2 (cond c 4 8)) ≤ 8
+    by true b c = omega arith
+    by false true c = omega arith
+    by false false true = omega arith
+    by false false false = omega arith
+
+shortest_size : (n : ℕ) → length (shortest n) ≤ 8
+shortest_size n = rw (shortest_length n) (size_small n)
 
 offset_size : (offset : ℕ) → length (offset_text offset) ≤ 8
 offset_size offset = by (eqb offset 0)
@@ -146,3 +167,6 @@ frame_size (frames.DataBlocked n) = omega (arith, shortest_size n)
 frame_size (frames.StreamDataBlocked id n) = two_size 21 (shortest id) (shortest n) (shortest_size id) (shortest_size n)
 frame_size (frames.Datagram d) = datagram_size d true
 frame_size _ = omega arith
+
+pub datagram_length : (d : Datagram) (number : ℕ) → number ≡ size_of (length d.bytes) → length (datagram_text d true) ≡ 1 + number + length d.bytes
+datagram_length d number is = omega (arith, is, shortest_length (length d.bytes), length-append (shortest (length d.bytes)) d.bytes)

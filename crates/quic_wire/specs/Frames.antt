@@ -1,5 +1,5 @@
 -- Which bytes are a frame (RFC 9000 section 19, RFC 9221 section 4).
-use Rattle.std.specs.Prelude.{◌≡◌, ℕ, ◌+◌, ◌≤◌, Bool, not, List, [], ◌∷◌, ◌++◌, length, ◌==◌, bit_and, MatchBool}
+use Rattle.std.specs.Prelude.{◌≡◌, ℕ, ◌+◌, ◌^◌, ◌<◌, ◌≤◌, Bool, not, List, [], ◌∷◌, ◌++◌, length, ◌==◌, bit_and, MatchBool}
 use Rattle.quic_values.specs.Numbers.{BeginsNumber}
 use Rattle.quic_values.specs.Ids.{dir_bit}
 use Rattle.quic_wire.specs.declared.frame.Stream.{Stream}
@@ -54,3 +54,13 @@ BeginsFrames bytes (f ∷ fs) rest = (b : List ℕ) × Begins bytes f b × Begin
 -- the bytes are spellings of the frames, one after the other; only the last can lack a length, since it leaves nothing
 abbrev pub AreFrames : List ℕ → List Frame → Type 0
 AreFrames bytes fs = BeginsFrames bytes fs []
+
+-- numbers below 2^62, and at most len bytes of data
+abbrev pub IsWithin : ℕ → Frame → Type 0
+IsWithin len (frames.Stream s) = (s.offset < 2 ^ 62) × (length s.bytes ≤ len)
+IsWithin len (frames.MaxStreamData id offset) = offset < 2 ^ 62
+IsWithin len (frames.MaxStreams dir count) = count < 2 ^ 62
+IsWithin len (frames.DataBlocked offset) = offset < 2 ^ 62
+IsWithin len (frames.StreamDataBlocked id offset) = offset < 2 ^ 62
+IsWithin len (frames.Datagram d) = length d.bytes ≤ len
+IsWithin len _ = Unit {0}

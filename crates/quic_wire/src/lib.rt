@@ -5,14 +5,15 @@ pub mod frame;
 
 mod error;
 mod event;
+mod laws;
 mod reading;
 mod writing;
 
 pub use error::{ReceiveError, TransportError};
 pub use event::StreamEvent;
 pub use frame::{DecodeError, Frame};
+pub use laws::{all_spelled_so, frames_join, number_sizes, same_frames, spelled_so};
 pub use quic_values::{
     Bytes, Dir, MAX_STREAM_COUNT, Oom, OutOfMemory, RangeSet, Side, StreamId, VarInt, same_set,
 };
 pub use reading::decode;
-pub use writing::{frames_join, same_frames, spelled_so};

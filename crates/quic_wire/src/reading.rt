@@ -1,7 +1,7 @@
-ghost use Rattle.std.specs.Prelude.{◌≡◌, ◌^◌, ◌<◌, List, length, IfOk, IsErrOf, Ok, Some, ℕ};
+ghost use Rattle.std.specs.Prelude.{◌≡◌, ◌^◌, ◌<◌, All, List, length, IfOk, IsErrOf, Ok, Some, ℕ};
 ghost use Rattle.std.specs.Int.{w16, w32, w64};
 ghost use Rattle.quic_wire.specs.declared.frame.Frame.{Frame as FrameValue};
-ghost use Rattle.quic_wire.specs.Frames.{AreFrames, has_bit};
+ghost use Rattle.quic_wire.specs.Frames.{AreFrames, IsWithin, has_bit};
 ghost use Rattle.quic_wire.specs.Reading.{Gives, wide_at, number_at, two_at, offset_at, content_at, reset_at, stop_at, stream_at, max_data_at, max_stream_data_at, max_streams_at, data_blocked_at, stream_data_blocked_at, datagram_at, frame_at};
 
 use crate::frame::{Datagram, DecodeError, Frame, ResetStream, StopSending, Stream};
@@ -225,6 +225,8 @@ pub fn decode(alloc: Global, payload: &[u8]) -> Result<Vec<Frame>, DecodeError>
     ensures found { IfOk result (λ frames. AreFrames payload.now frames.items) }
     // What is spelled so is read, unless memory runs out.
     ensures only { (fs : List FrameValue) → AreFrames payload.now fs → Gives (λ frames. frames.items) result (Some fs) }
+    // No number is too large, and no data are longer than the payload.
+    ensures within { IfOk result (λ frames. All (IsWithin (length payload.now)) frames.items) }
     // Only what spells no frames is malformed.
     ensures malformed { IsErrOf result DecodeError.Malformed → (fs : List FrameValue) → ¬ AreFrames payload.now fs }
 {

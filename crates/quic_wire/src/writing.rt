@@ -250,6 +250,19 @@ impl StopSending {
 }
 
 impl Datagram {
+    /// How many bytes the frame takes.
+    pub fn size(&self, with_length: bool) -> usize
+        requires { length self.now.bytes < 2 ^ 62 }
+        ensures { result ≡ length (datagram_text self.now with_length) }
+    {
+        let len = self.bytes.len();
+        if with_length {
+            1 + VarInt::new(len as u64).size() + len
+        } else {
+            1 + len
+        }
+    }
+
     fn put(&self, with_length: bool, buf: &mut Vec<u8>) -> Result<(), OutOfMemory>
         requires { with_length ≡ true → length self.now.bytes < 2 ^ 62 }
         ensures ok { OnOk result (buf.new.items ≡ buf.old.items ++ datagram_text self.now with_length) }
@@ -320,18 +333,3 @@ impl Frame {
         take_back(done, len, buf)
     }
 }
-
-/// What is written for a frame is spelled so, whatever follows.
-pub fn spelled_so()
-    ensures { (f : FrameValue) (rest : List ℕ) → HasSpelling f → Begins (text f ++ rest) f rest }
-{}
-
-/// Frames that bytes begin with, and those that the bytes after them begin with, are one list.
-pub fn frames_join()
-    ensures { (a b c : List ℕ) (fs gs : List FrameValue) → BeginsFrames a fs b → BeginsFrames b gs c → BeginsFrames a (fs ++ gs) c }
-{}
-
-/// Bytes are the spelling of one list of frames at most.
-pub fn same_frames()
-    ensures { (bytes : List ℕ) (fs gs : List FrameValue) → AreFrames bytes fs → AreFrames bytes gs → fs ≡ gs }
-{}

@@ -6,6 +6,7 @@ use Rattle.quic_wire.specs.declared.frame.Frame.{Frame}
 use Rattle.quic_wire.specs.Frames.{AreFrames}
 use Rattle.quic_wire.proofs.Read.{frame_takes}
 use Rattle.quic_wire.proofs.Joins.{first_is, fails_then}
+use Rattle.quic_wire.proofs.Within.{all_within}
 use Rattle.quic_wire.proofs.reading.decode.Goals as goal
 
 not_empty : (bytes : List ℕ) → false ≡ eqb (length bytes) 0 → 0 < length bytes
@@ -57,3 +58,8 @@ pub returns-in_err-frame-clause-malformed : goal.returns-in_err-frame-clause-mal
 returns-in_err-frame-clause-malformed c = λ is fs are.
     let h = rw is at (returns-in_err-frame-clause-only c fs are) in
     absurd cc
+
+pub returns-clause-within : goal.returns-clause-within
+returns-clause-within c =
+    let is = returns-clause-found c in
+    all_within (length c.args.payload.now) c.args.payload.now c.loop-rest.frames.items [] (omega arith) is

@@ -1,5 +1,5 @@
 use Rattle.quic_wire.proofs.Joins.{same}
-use Rattle.quic_wire.proofs.writing.same_frames.Goals as goal
+use Rattle.quic_wire.proofs.laws.same_frames.Goals as goal
 
 pub returns : goal.returns
 returns c = same
