@@ -6,7 +6,7 @@ use thiserror::Error;
 
 /// Why a connection is to be closed (RFC 9000 section 20.1).
 #[derive(Clone, Copy, Debug, Error, PartialEq, Eq)]
-#[error("code {code}: {reason}")]
+#[error("transport error {code}: {reason}")]
 pub struct TransportError {
     /// One of the codes below.
     pub code: u64,

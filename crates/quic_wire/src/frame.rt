@@ -1,6 +1,6 @@
 //! The frames (RFC 9000 section 19, RFC 9221 section 4).
 
-ghost use Rattle.std.specs.Prelude.{◌≡◌};
+ghost use Rattle.std.specs.Prelude.{◌≡◌, IfOk};
 ghost use Rattle.quic_wire.specs.declared.frame.DecodeError.TheVariants.{OutOfMemory as out_of_memory};
 
 use quic_values::{Bytes, Dir, OutOfMemory, StreamId, VarInt};
@@ -25,7 +25,7 @@ impl Stream {
 }
 
 /// A STREAM frame without its data: which bytes of which stream it carries.
-#[derive(Debug, Drop, PartialEq, Eq)]
+#[derive(Clone, Debug, Drop, PartialEq, Eq)]
 pub struct StreamMeta {
     pub id: StreamId,
     /// From where to where in the stream the data reach.
@@ -65,6 +65,18 @@ impl StopSending {
 pub struct Crypto {
     pub offset: u64,
     pub bytes: Bytes,
+}
+
+impl Crypto {
+    /// An equal frame.
+    pub fn try_clone(&self) -> Result<Self, OutOfMemory>
+        ensures { IfOk result (λ copy. copy ≡ self.now) }
+    {
+        Ok(Crypto {
+            offset: self.offset,
+            bytes: self.bytes.try_clone()?,
+        })
+    }
 }
 
 /// DATAGRAM: data that belong to no stream (RFC 9221 section 4).

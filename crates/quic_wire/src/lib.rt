@@ -9,6 +9,9 @@ mod laws;
 mod reading;
 mod writing;
 
+#[cfg(test)]
+mod tests;
+
 pub use error::{ReceiveError, TransportError};
 pub use event::StreamEvent;
 pub use frame::{DecodeError, Frame};
