@@ -231,25 +231,31 @@ chosen false x y z e = inr (refl, e)
 -- what was read of the types from 10 on
 rest_takes : (kind : ℕ) (bytes : List ℕ) (x : Frame × List ℕ) → IsBytes bytes
     → cond (eqb kind 16) (max_data_at bytes) (cond (eqb kind 17) (max_stream_data_at bytes) (cond (eqb kind 18) (max_streams_at dirs.Bi bytes) (cond (eqb kind 19) (max_streams_at dirs.Uni bytes)
-      (cond (eqb kind 20) (data_blocked_at bytes) (cond (eqb kind 21) (stream_data_blocked_at bytes) (cond (leb 48 kind && leb kind 49) (datagram_at kind bytes) None)))))) ≡ Some x
+    (cond (eqb kind 20) (data_blocked_at bytes) (cond (eqb kind 21) (stream_data_blocked_at bytes) (cond (leb 48 kind && leb kind 49) (datagram_at kind bytes) None)))))) ≡ Some x
     → TakesFrame (kind ∷ bytes) x.0 x.1
 rest_takes kind bytes x fits e =
     elim (chosen (eqb kind 16) _ _ (Some x) e) [
-    | inl is ↦ let k = eqb-true kind 16 is.0 in rw k (max_data_takes bytes x fits is.1)
-    | inr e1 ↦ elim (chosen (eqb kind 17) _ _ (Some x) e1.1) [
-    | inl is ↦ let k = eqb-true kind 17 is.0 in rw k (max_stream_data_takes bytes x fits is.1)
-    | inr e2 ↦ elim (chosen (eqb kind 18) _ _ (Some x) e2.1) [
-    | inl is ↦ let k = eqb-true kind 18 is.0 in rw k (max_streams_takes dirs.Bi bytes x fits is.1)
-    | inr e3 ↦ elim (chosen (eqb kind 19) _ _ (Some x) e3.1) [
-    | inl is ↦ let k = eqb-true kind 19 is.0 in rw k (max_streams_takes dirs.Uni bytes x fits is.1)
-    | inr e4 ↦ elim (chosen (eqb kind 20) _ _ (Some x) e4.1) [
-    | inl is ↦ let k = eqb-true kind 20 is.0 in rw k (data_blocked_takes bytes x fits is.1)
-    | inr e5 ↦ elim (chosen (eqb kind 21) _ _ (Some x) e5.1) [
-    | inl is ↦ let k = eqb-true kind 21 is.0 in rw k (stream_data_blocked_takes bytes x fits is.1)
-    | inr e6 ↦ elim (chosen (leb 48 kind && leb kind 49) _ _ (Some x) e6.1) [
-    | inl is ↦ let p = and_parts (leb 48 kind) (leb kind 49) is.0 in datagram_takes kind bytes x fits (leb-true 48 kind p.0) (leb-true kind 49 p.1) is.1
-    | inr none ↦ absurd (let h = none.1 in cc)
-    ] ] ] ] ] ] ]
+      | inl is ↦ let k = eqb-true kind 16 is.0 in rw k (max_data_takes bytes x fits is.1)
+      | inr e1 ↦ elim (chosen (eqb kind 17) _ _ (Some x) e1.1) [
+        | inl is ↦ let k = eqb-true kind 17 is.0 in rw k (max_stream_data_takes bytes x fits is.1)
+        | inr e2 ↦ elim (chosen (eqb kind 18) _ _ (Some x) e2.1) [
+          | inl is ↦ let k = eqb-true kind 18 is.0 in rw k (max_streams_takes dirs.Bi bytes x fits is.1)
+          | inr e3 ↦ elim (chosen (eqb kind 19) _ _ (Some x) e3.1) [
+            | inl is ↦ let k = eqb-true kind 19 is.0 in rw k (max_streams_takes dirs.Uni bytes x fits is.1)
+            | inr e4 ↦ elim (chosen (eqb kind 20) _ _ (Some x) e4.1) [
+              | inl is ↦ let k = eqb-true kind 20 is.0 in rw k (data_blocked_takes bytes x fits is.1)
+              | inr e5 ↦ elim (chosen (eqb kind 21) _ _ (Some x) e5.1) [
+                | inl is ↦ let k = eqb-true kind 21 is.0 in rw k (stream_data_blocked_takes bytes x fits is.1)
+                | inr e6 ↦ elim (chosen (leb 48 kind && leb kind 49) _ _ (Some x) e6.1) [
+                  | inl is ↦ let p = and_parts (leb 48 kind) (leb kind 49) is.0 in datagram_takes kind bytes x fits (leb-true 48 kind p.0) (leb-true kind 49 p.1) is.1
+                  | inr none ↦ absurd (let h = none.1 in cc)
+                ]
+              ]
+            ]
+          ]
+        ]
+      ]
+    ]
 
 pub frame_takes : (bytes : List ℕ) (x : Frame × List ℕ) → IsBytes bytes → frame_at bytes ≡ Some x → TakesFrame bytes x.0 x.1
 unfolding frame_at
@@ -257,10 +263,12 @@ frame_takes [] x fits e = absurd cc
 frame_takes (kind ∷ bytes) x fits e =
     let more = IsBytes-rest kind bytes fits in
     elim (chosen (eqb kind 4) _ _ (Some x) e) [
-    | inl is ↦ let k = eqb-true kind 4 is.0 in rw k (reset_takes bytes x more is.1)
-    | inr e1 ↦ elim (chosen (eqb kind 5) _ _ (Some x) e1.1) [
-    | inl is ↦ let k = eqb-true kind 5 is.0 in rw k (stop_takes bytes x more is.1)
-    | inr e2 ↦ elim (chosen (leb 8 kind && leb kind 15) _ _ (Some x) e2.1) [
-    | inl is ↦ let p = and_parts (leb 8 kind) (leb kind 15) is.0 in stream_takes kind bytes x more (leb-true 8 kind p.0) (leb-true kind 15 p.1) is.1
-    | inr e3 ↦ rest_takes kind bytes x more e3.1
-    ] ] ]
+      | inl is ↦ let k = eqb-true kind 4 is.0 in rw k (reset_takes bytes x more is.1)
+      | inr e1 ↦ elim (chosen (eqb kind 5) _ _ (Some x) e1.1) [
+        | inl is ↦ let k = eqb-true kind 5 is.0 in rw k (stop_takes bytes x more is.1)
+        | inr e2 ↦ elim (chosen (leb 8 kind && leb kind 15) _ _ (Some x) e2.1) [
+          | inl is ↦ let p = and_parts (leb 8 kind) (leb kind 15) is.0 in stream_takes kind bytes x more (leb-true 8 kind p.0) (leb-true kind 15 p.1) is.1
+          | inr e3 ↦ rest_takes kind bytes x more e3.1
+        ]
+      ]
+    ]

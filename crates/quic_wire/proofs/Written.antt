@@ -59,14 +59,28 @@ pub stream_written : (id offset : ℕ) (fin with_length : Bool) (xs rest : List 
     → Begins ((stream_head id offset fin (asked with_length (length xs)) ++ xs) ++ rest) (frames.Stream (record { id = id; offset = offset; fin = fin; bytes = xs })) rest
 stream_written id offset fin true xs rest lt-id lt-offset lt-len ends =
     let bits = kind_bits (eqb offset 0) true fin in
-    let after = shortest (length xs) ++ (xs ++ rest) in
-    (bits.low, bits.high, bits.fin, offset_text offset ++ after, number_written id _ _ lt-id (simp append_assoc), after, offset_written _ offset after lt-offset bits.offset,
-      rw bits.len (content_written true xs rest lt-len ends))
+    let after = shortest (length xs) ++ (xs ++ rest) in (
+      bits.low,
+      bits.high,
+      bits.fin,
+      offset_text offset ++ after,
+      number_written id _ _ lt-id (simp append_assoc),
+      after,
+      offset_written _ offset after lt-offset bits.offset,
+      rw bits.len (content_written true xs rest lt-len ends),
+    )
 stream_written id offset fin false xs rest lt-id lt-offset lt-len ends =
     let bits = kind_bits (eqb offset 0) false fin in
-    let after = xs ++ rest in
-    (bits.low, bits.high, bits.fin, offset_text offset ++ after, number_written id _ _ lt-id (simp (append_assoc, append-nil)), after, offset_written _ offset after lt-offset bits.offset,
-      rw bits.len (content_written false xs rest lt-len ends))
+    let after = xs ++ rest in (
+      bits.low,
+      bits.high,
+      bits.fin,
+      offset_text offset ++ after,
+      number_written id _ _ lt-id (simp (append_assoc, append-nil)),
+      after,
+      offset_written _ offset after lt-offset bits.offset,
+      rw bits.len (content_written false xs rest lt-len ends),
+    )
 
 -- a head, and as much content as it says
 pub meta_written : (m : StreamMeta) (with_length : Bool) (content rest : List ℕ) → m.id < 2 ^ 62 → m.offsets.start < 2 ^ 62 → (with_length ≡ true → length content < 2 ^ 62) → (with_length ≡ false → rest ≡ [])

@@ -1,16 +1,14 @@
 //! The frames of QUIC that carry streams, as values and as bytes, and the errors and events about them.
 #![tactic(auto)]
 
-pub mod frame;
-
 mod error;
 mod event;
+pub mod frame;
 mod laws;
 mod reading;
-mod writing;
-
 #[cfg(test)]
 mod tests;
+mod writing;
 
 pub use error::{ReceiveError, TransportError};
 pub use event::StreamEvent;

@@ -86,11 +86,23 @@ fn push_kinds(alloc: Global, frames: &mut Vec<Frame>) -> Result<(), DecodeError>
     frames.push(stream(alloc, 5, false, b"")?)?;
     frames.push(stream(alloc, 0, true, b"?")?)?;
     frames.push(Frame::MaxData(VarInt::from(33)))?;
-    frames.push(Frame::MaxStreamData { id: id(2), offset: 34 })?;
-    frames.push(Frame::MaxStreams { dir: Dir::Bi, count: 35 })?;
-    frames.push(Frame::MaxStreams { dir: Dir::Uni, count: 36 })?;
+    frames.push(Frame::MaxStreamData {
+        id: id(2),
+        offset: 34,
+    })?;
+    frames.push(Frame::MaxStreams {
+        dir: Dir::Bi,
+        count: 35,
+    })?;
+    frames.push(Frame::MaxStreams {
+        dir: Dir::Uni,
+        count: 36,
+    })?;
     frames.push(Frame::DataBlocked { offset: 37 })?;
-    frames.push(Frame::StreamDataBlocked { id: id(2), offset: 38 })?;
+    frames.push(Frame::StreamDataBlocked {
+        id: id(2),
+        offset: 38,
+    })?;
     frames.push(datagram(alloc, b"abc")?)?;
     Ok(())
 }
@@ -98,7 +110,11 @@ fn push_kinds(alloc: Global, frames: &mut Vec<Frame>) -> Result<(), DecodeError>
 #[test]
 fn numbers_are_read_and_written_as_the_rfc_shows(rt: HostRuntime) -> Result<(), Fail> {
     let samples: [(&[u8], u64, bool); 5] = [
-        (&[0xc2, 0x19, 0x7c, 0x5e, 0xff, 0x14, 0xe8, 0x8c], 151_288_809_941_952_652, true),
+        (
+            &[0xc2, 0x19, 0x7c, 0x5e, 0xff, 0x14, 0xe8, 0x8c],
+            151_288_809_941_952_652,
+            true,
+        ),
         (&[0x9d, 0x7f, 0x3e, 0x7d], 494_878_333, true),
         (&[0x7b, 0xbd], 15_293, true),
         (&[0x25], 37, true),
@@ -128,7 +144,10 @@ fn every_kind_is_read_in_every_length_of_field(rt: HostRuntime) -> Result<(), Fa
         put_kinds(&mut payload, length_bits)?;
         push_kinds(rt.alloc(), &mut expected)?;
     }
-    assert_eq!(rt; decode(rt.alloc(), &payload)?.as_slice(), expected.as_slice());
+    assert_eq!(rt;
+        decode(rt.alloc(), &payload)?.as_slice(),
+        expected.as_slice()
+    );
     let endings: [(u8, &[u8], u64, bool); 4] = [
         (0x08, &[8], 0, false),
         (0x09, &[8], 0, true),
@@ -141,7 +160,10 @@ fn every_kind_is_read_in_every_length_of_field(rt: HostRuntime) -> Result<(), Fa
             put_frame(&mut whole, length_bits, kind, numbers, b"to the end")?;
             let frames = decode(rt.alloc(), &whole)?;
             assert_eq!(rt; frames.len(), 4 * KINDS + 1);
-            assert_eq!(rt; frames[4 * KINDS], stream(rt.alloc(), offset, fin, b"to the end")?);
+            assert_eq!(rt;
+                frames[4 * KINDS],
+                stream(rt.alloc(), offset, fin, b"to the end")?
+            );
         }
     }
     put_frame(&mut payload, 0, 0x30, &[], b"to the end")?;
@@ -194,7 +216,13 @@ fn of_single_bytes_only_an_empty_datagram_is_a_frame(rt: HostRuntime) -> Result<
 }
 
 // What one byte and a frame behind it decode to. If refused, the byte stands alone.
-fn comes_back(rt: &impl Abort, alloc: Global, frame: &Frame, encoded: Result<(), OutOfMemory>, buf: &[u8]) {
+fn comes_back(
+    rt: &impl Abort,
+    alloc: Global,
+    frame: &Frame,
+    encoded: Result<(), OutOfMemory>,
+    buf: &[u8],
+) {
     match buf {
         [] => assert!(rt; false, "the byte was lost"),
         [first, rest @ ..] => {
@@ -252,7 +280,10 @@ fn a_refused_allocation_is_answered(rt: HostRuntime) {
 #[test]
 fn errors_print_their_texts(rt: HostRuntime) -> Result<(), Fail> {
     let errors = [
-        (ReceiveError::Transport(TransportError::flow_control_error("too much")), "transport error 3: too much"),
+        (
+            ReceiveError::Transport(TransportError::flow_control_error("too much")),
+            "transport error 3: too much",
+        ),
         (ReceiveError::OutOfMemory, "out of memory"),
         (ReceiveError::CompactionMemory, "out of memory"),
     ];
@@ -260,7 +291,10 @@ fn errors_print_their_texts(rt: HostRuntime) -> Result<(), Fail> {
         let printed = format!(in rt.alloc(); "{error}")?;
         assert_eq!(rt; printed.as_str(), text);
     }
-    for (error, text) in [(DecodeError::Malformed, "malformed frame"), (DecodeError::OutOfMemory, "out of memory")] {
+    for (error, text) in [
+        (DecodeError::Malformed, "malformed frame"),
+        (DecodeError::OutOfMemory, "out of memory"),
+    ] {
         let printed = format!(in rt.alloc(); "{error}")?;
         assert_eq!(rt; printed.as_str(), text);
     }

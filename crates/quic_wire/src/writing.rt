@@ -122,7 +122,11 @@ fn put_one(kind: u8, number: u64, buf: &mut Vec<u8>) -> Result<(), OutOfMemory>
 }
 
 // What was done, and if it was refused, the buffer cut to what it was before.
-fn take_back(done: Result<(), OutOfMemory>, len: usize, buf: &mut Vec<u8>) -> Result<(), OutOfMemory>
+fn take_back(
+    done: Result<(), OutOfMemory>,
+    len: usize,
+    buf: &mut Vec<u8>,
+) -> Result<(), OutOfMemory>
     ensures same { result ≡ done }
     ensures ok { OnOk result (buf.new.items ≡ buf.old.items) }
     ensures err { OnErr result (buf.new.items ≡ take len buf.old.items) }
@@ -308,8 +312,14 @@ impl Frame {
             Frame::Stream(frame) => frame.put(true, buf),
             Frame::MaxData(limit) => put_one(0x10, limit.into_inner(), buf),
             Frame::MaxStreamData { id, offset } => put_two(0x11, id_number(*id), *offset, buf),
-            Frame::MaxStreams { dir: Dir::Bi, count } => put_one(0x12, *count, buf),
-            Frame::MaxStreams { dir: Dir::Uni, count } => put_one(0x13, *count, buf),
+            Frame::MaxStreams {
+                dir: Dir::Bi,
+                count,
+            } => put_one(0x12, *count, buf),
+            Frame::MaxStreams {
+                dir: Dir::Uni,
+                count,
+            } => put_one(0x13, *count, buf),
             Frame::DataBlocked { offset } => put_one(0x14, *offset, buf),
             Frame::StreamDataBlocked { id, offset } => put_two(0x15, id_number(*id), *offset, buf),
             Frame::Datagram(frame) => frame.put(true, buf),
