@@ -5,6 +5,8 @@ mod bytes;
 mod ids;
 mod memory;
 mod range_set;
+#[cfg(test)]
+mod tests;
 mod var_int;
 
 pub use bytes::Bytes;

@@ -38,6 +38,7 @@ pub struct StreamMeta {
 #[derive(Clone, Copy, Debug, PartialEq, Eq)]
 pub struct ResetStream {
     pub id: StreamId,
+    /// Why, in the application's terms.
     pub error_code: VarInt,
     /// How many bytes of the stream count.
     pub final_offset: VarInt,
@@ -52,6 +53,7 @@ impl ResetStream {
 #[derive(Clone, Copy, Debug, PartialEq, Eq)]
 pub struct StopSending {
     pub id: StreamId,
+    /// Why, in the application's terms.
     pub error_code: VarInt,
 }
 
@@ -90,7 +92,7 @@ impl Datagram {
     pub const SIZE_BOUND: usize = 1 + 8;
 }
 
-/// A frame. Those without a field here have fields in QUIC; they are only named.
+/// A frame. The kinds that carry no streams are only named, so that they can be counted; some have fields in QUIC.
 #[derive(Debug, Drop, PartialEq, Eq)]
 pub enum Frame {
     Padding,

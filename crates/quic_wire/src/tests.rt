@@ -188,7 +188,8 @@ fn a_prefix_is_read_only_where_a_frame_ends(rt: HostRuntime) -> Result<(), Fail>
                     assert_eq!(rt; front.as_slice(), &frames[..front.len()]);
                     read += 1;
                 }
-                Err(error) => assert_eq!(rt; error, DecodeError::Malformed, "at {len}"),
+                Err(DecodeError::Malformed) => {}
+                Err(DecodeError::OutOfMemory) => return Err(OutOfMemory)?,
             }
             assert!(rt; read <= len + 1);
         }
@@ -205,10 +206,8 @@ fn of_single_bytes_only_an_empty_datagram_is_a_frame(rt: HostRuntime) -> Result<
                 assert_eq!(rt; byte, 0x30);
                 assert_eq!(rt; frames.as_slice(), [datagram(rt.alloc(), b"")?].as_slice());
             }
-            Err(error) => {
-                assert_eq!(rt; error, DecodeError::Malformed);
-                assert_ne!(rt; byte, 0x30);
-            }
+            Err(DecodeError::Malformed) => assert_ne!(rt; byte, 0x30),
+            Err(DecodeError::OutOfMemory) => return Err(OutOfMemory)?,
         }
     }
     assert_eq!(rt; decode(rt.alloc(), &[])?.len(), 0);

@@ -1,10 +1,9 @@
-ghost use Rattle.std.specs.Prelude.{◌≡◌, ◌<◌, ◌≤◌, ◌-◌, ◌^◌, ◌+◌, ◌++◌, [], ◌∷◌, List, ℕ, Bool, true, false, length, take, OnOk, OnErr, IfSome, if◌then◌else◌};
-ghost use Rattle.quic_values.specs.Ids.{dir_bit};
+ghost use Rattle.std.specs.Prelude.{◌≡◌, ◌<◌, ◌≤◌, ◌-◌, ◌^◌, ◌+◌, ◌++◌, [], ◌∷◌, List, ℕ, true, false, length, take, OnOk, OnErr, IfSome};
 ghost use Rattle.quic_values.specs.Numbers.{shortest};
 ghost use Rattle.quic_wire.specs.declared.frame.Frame.{Frame as FrameValue};
 ghost use Rattle.quic_wire.specs.declared.frame.Frame.TheVariants as FrameValues;
-ghost use Rattle.quic_wire.specs.Frames.{Begins, BeginsFrames, AreFrames};
-ghost use Rattle.quic_wire.specs.Text.{CanEncode, HasSpelling, Keeps, asked, text, stream_text, meta_text, stream_head, stream_kind, stream_of, size_bound, reset_text, stop_text, datagram_text, length_text, offset_text};
+ghost use Rattle.quic_wire.specs.Frames.{Begins};
+ghost use Rattle.quic_wire.specs.Text.{CanEncode, HasSpelling, Keeps, text, stream_text, meta_text, stream_head, stream_kind, stream_of, size_bound, reset_text, stop_text, datagram_text, length_text, offset_text};
 
 use crate::frame::{Datagram, Frame, ResetStream, StopSending, Stream, StreamMeta};
 use quic_values::{Dir, OutOfMemory, StreamId, VarInt};

@@ -1,0 +1,146 @@
+use crate::{Bytes, Dir, MAX_STREAM_COUNT, OutOfMemory, RangeSet, Side, StreamId, VarInt};
+use std::alloc::Global;
+use std::ops::Range;
+use std::process::Abort;
+use std::test::Fail;
+
+// The runs of a set, lowest first, after which the set is empty.
+fn is_runs(rt: &impl Abort, set: &mut RangeSet, runs: &[Range<u64>]) {
+    for run in runs {
+        assert_eq!(rt; set.min(), Some(run.start));
+        assert_eq!(rt; set.pop_min().as_ref(), Some(run));
+    }
+    assert!(rt; set.is_empty());
+    assert_eq!(rt; set.pop_min(), None);
+    assert_eq!(rt; set.min(), None);
+}
+
+fn set_of(alloc: Global, runs: &[Range<u64>]) -> Result<RangeSet, OutOfMemory> {
+    let mut set = RangeSet::new(alloc);
+    for run in runs {
+        set.insert(run.start..run.end)?;
+    }
+    Ok(set)
+}
+
+#[test]
+fn runs_that_touch_are_joined(rt: HostRuntime) -> Result<(), Fail> {
+    let mut set = set_of(rt.alloc(), &[0..2, 8..10])?;
+    assert!(rt; set.insert(2..4)?);
+    assert!(rt; set.insert(6..8)?);
+    assert!(rt; !set.insert(3..4)?);
+    assert!(rt; !set.insert(5..5)?);
+    let mut copy = set.try_clone()?;
+    is_runs(&rt, &mut set, &[0..4, 6..10]);
+    assert!(rt; copy.insert(4..6)?);
+    is_runs(&rt, &mut copy, &[0..10]);
+    Ok(())
+}
+
+#[test]
+fn a_run_that_is_cut_keeps_both_ends(rt: HostRuntime) -> Result<(), Fail> {
+    let mut set = set_of(rt.alloc(), &[0..10, 20..30])?;
+    assert!(rt; set.remove(3..5)?);
+    assert!(rt; set.remove(8..22)?);
+    assert!(rt; !set.remove(10..20)?);
+    assert!(rt; set.contains(2) && !set.contains(3) && !set.contains(4) && set.contains(5));
+    assert_eq!(rt; set.run_from(1), Some(1..3));
+    assert_eq!(rt; set.run_from(3), Some(5..8));
+    assert_eq!(rt; set.run_from(30), None);
+    is_runs(&rt, &mut set, &[0..3, 5..8, 22..30]);
+    Ok(())
+}
+
+#[test]
+fn the_highest_numbers_are_kept(rt: HostRuntime) -> Result<(), Fail> {
+    let mut set = set_of(rt.alloc(), &[u64::MAX - 1..u64::MAX])?;
+    assert!(rt; set.contains(u64::MAX - 1) && !set.contains(u64::MAX));
+    assert!(rt; set.remove(0..u64::MAX)?);
+    is_runs(&rt, &mut set, &[]);
+    Ok(())
+}
+
+#[test]
+fn ids_have_their_bits(rt: HostRuntime) -> Result<(), Fail> {
+    let samples = [
+        (
+            Side::Client,
+            Dir::Bi,
+            0,
+            0u64,
+            "client bidirectional stream 0",
+        ),
+        (Side::Server, Dir::Bi, 0, 1, "server bidirectional stream 0"),
+        (
+            Side::Client,
+            Dir::Uni,
+            0,
+            2,
+            "client unidirectional stream 0",
+        ),
+        (
+            Side::Server,
+            Dir::Uni,
+            3,
+            15,
+            "server unidirectional stream 3",
+        ),
+        (
+            Side::Server,
+            Dir::Uni,
+            MAX_STREAM_COUNT - 1,
+            (1 << 62) - 1,
+            "server unidirectional stream 1152921504606846975",
+        ),
+    ];
+    for (side, dir, index, number, text) in samples {
+        let id = StreamId::new(side, dir, index);
+        assert_eq!(rt; VarInt::from(id).into_inner(), number);
+        assert_eq!(rt; (id.initiator(), id.dir(), id.index()), (side, dir, index));
+        assert_eq!(rt; StreamId::from(VarInt::from(id)), id);
+        let printed = format!(in rt.alloc(); "{id}")?;
+        assert_eq!(rt; printed.as_str(), text);
+    }
+    assert_eq!(rt; !Side::Client, Side::Server);
+    assert!(rt; Side::Client.is_client() && !Side::Server.is_client());
+    Ok(())
+}
+
+#[test]
+fn numbers_are_printed_as_digits(rt: HostRuntime) -> Result<(), Fail> {
+    let samples = [
+        (63, 1, "63"),
+        (64, 2, "64"),
+        (16_383, 2, "16383"),
+        (16_384, 4, "16384"),
+        (1_073_741_824, 8, "1073741824"),
+    ];
+    for (number, size, text) in samples {
+        let number = VarInt::from_u64(number).ok_or("a number below 2^62")?;
+        assert_eq!(rt; number.size(), size);
+        let printed = format!(in rt.alloc(); "{number}")?;
+        assert_eq!(rt; printed.as_str(), text);
+    }
+    assert_eq!(rt; VarInt::from_u64(1 << 62), None);
+    assert_eq!(rt; VarInt::MAX.into_inner(), 4_611_686_018_427_387_903);
+    let printed = format!(in rt.alloc(); "{}", OutOfMemory)?;
+    assert_eq!(rt; printed.as_str(), "out of memory");
+    Ok(())
+}
+
+#[test]
+fn bytes_keep_what_was_not_let_go(rt: HostRuntime) -> Result<(), Fail> {
+    let mut bytes = Bytes::from(Vec::from_slice(rt.alloc(), b"hello world")?);
+    assert_eq!(rt; bytes.len(), 11);
+    let front = bytes.split_to(2)?;
+    assert_eq!(rt; front.as_slice(), b"he".as_slice());
+    assert_eq!(rt; bytes.len(), 9);
+    bytes.advance(4);
+    bytes.extend_from_slice(b"!")?;
+    let copy = bytes.try_clone()?;
+    assert!(rt; copy == bytes && !bytes.is_empty());
+    let content = bytes.into_vec();
+    assert_eq!(rt; content.as_slice(), b"world!".as_slice());
+    assert!(rt; Bytes::new(rt.alloc()).is_empty());
+    Ok(())
+}
