@@ -1,3 +1,6 @@
+ghost use Rattle.std.specs.Prelude.{◌≡◌, ◌∷◌, [], IfOk};
+ghost use Rattle.quic_wire.specs.Text.{CanEncode};
+
 use crate::frame::{Crypto, Datagram, ResetStream, StopSending, Stream, StreamMeta};
 use crate::{
     Bytes, DecodeError, Dir, Frame, OutOfMemory, ReceiveError, Side, StreamId, TransportError,
@@ -105,6 +108,17 @@ fn push_kinds(alloc: Global, frames: &mut Vec<Frame>) -> Result<(), DecodeError>
     })?;
     frames.push(datagram(alloc, b"abc")?)?;
     Ok(())
+}
+
+// What is written for a frame is read as the frame: proved here from the contracts, as any caller can.
+fn again(alloc: Global, frame: &Frame) -> Result<Vec<Frame>, DecodeError>
+    requires { CanEncode frame.now }
+    ensures { IfOk result (λ frames. frames.items ≡ frame.now ∷ []) }
+{
+    let mut buf = Vec::new(alloc);
+    frame.encode(&mut buf)?;
+    let frames = decode(alloc, &buf)?;
+    Ok(frames)
 }
 
 #[test]
@@ -274,6 +288,16 @@ fn a_refused_allocation_is_answered(rt: HostRuntime) {
             Err(error) => assert_eq!(rt; error, DecodeError::OutOfMemory),
         }
     }
+}
+
+#[test]
+fn what_is_written_is_read_again(rt: HostRuntime) -> Result<(), Fail> {
+    let frame = Frame::MaxStreams {
+        dir: Dir::Uni,
+        count: 1 << 40,
+    };
+    assert_eq!(rt; again(rt.alloc(), &frame)?.len(), 1);
+    Ok(())
 }
 
 #[test]
