@@ -2,6 +2,7 @@ ghost use Rattle.std.specs.Prelude.{◌≡◌};
 ghost use Rattle.quic_wire.specs.declared.error.ReceiveError.TheVariants.{Transport as transport, OutOfMemory as out_of_memory};
 
 use quic_values::OutOfMemory;
+use std::alloc::{AllocError, AllocFailed};
 use thiserror::Error;
 
 /// Why a connection is to be closed (RFC 9000 section 20.1).
@@ -131,6 +132,22 @@ impl From<OutOfMemory> for ReceiveError {
     ghost from_gives = { λ _ e. e ≡ out_of_memory };
 
     fn from(_error: OutOfMemory) -> ReceiveError {
+        ReceiveError::OutOfMemory
+    }
+}
+
+impl From<AllocError> for ReceiveError {
+    ghost from_gives = { λ _ e. e ≡ out_of_memory };
+
+    fn from(_error: AllocError) -> ReceiveError {
+        ReceiveError::OutOfMemory
+    }
+}
+
+impl<T: Drop> From<AllocFailed<T>> for ReceiveError {
+    ghost from_gives = { λ _ e. e ≡ out_of_memory };
+
+    fn from(_error: AllocFailed<T>) -> ReceiveError {
         ReceiveError::OutOfMemory
     }
 }
