@@ -5,13 +5,12 @@ use quic_values::OutOfMemory;
 use std::alloc::{AllocError, AllocFailed};
 use thiserror::Error;
 
-/// Why a connection is to be closed (RFC 9000 section 20.1).
+/// Why a connection is to be closed (RFC 9000 section 20.1): a code, one of the constants here, and what happened, for
+/// a reader.
 #[derive(Clone, Copy, Debug, Error, PartialEq, Eq)]
 #[error("transport error {code}: {reason}")]
 pub struct TransportError {
-    /// One of the codes below.
     pub code: u64,
-    /// What happened, for a reader.
     pub reason: &'static str,
 }
 
@@ -107,15 +106,14 @@ impl TransportError {
     }
 }
 
-/// Why a received frame was not taken.
+/// Why a received frame was refused. `Transport`: the connection is to be closed. `OutOfMemory`: the frame was not
+/// taken. `CompactionMemory`: the frame was taken, but there was no memory to compact what is held.
 #[derive(Clone, Copy, Debug, Error, PartialEq, Eq)]
 pub enum ReceiveError {
-    /// The connection is to be closed.
     #[error(transparent)]
     Transport(TransportError),
     #[error("out of memory")]
     OutOfMemory,
-    /// The frame was kept, but there was no memory to compact what is held.
     #[error("out of memory")]
     CompactionMemory,
 }

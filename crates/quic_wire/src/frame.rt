@@ -138,10 +138,9 @@ impl Frame {
     pub const STREAM_DATA_BLOCKED_SIZE_BOUND: usize = 1 + 8 + 8;
 }
 
-/// Why a payload was not decoded.
+/// Why a payload was not decoded: it is `Malformed` where its bytes are no frames, or memory ran out.
 #[derive(Clone, Copy, Debug, Error, PartialEq, Eq, Hash)]
 pub enum DecodeError {
-    /// The bytes are no frames.
     #[error("malformed frame")]
     Malformed,
     #[error("out of memory")]
