@@ -1,9 +1,9 @@
 -- Lemmas on queues of datagrams.
-use Rattle.std.proofs.Common.{◌≡◌, ℕ, ◌+◌, ◌<◌, ◌≤◌, List, [], ◌∷◌, ◌++◌, length, true, false, cond, refl, arith}
+use Rattle.std.proofs.Common.{◌≡◌, ℕ, ◌+◌, ◌-◌, ◌<◌, ◌≤◌, List, [], ◌∷◌, ◌++◌, length, true, false, cond, refl, arith}
 use Rattle.std.specs.Prelude.{nat_le}
 use Rattle.std.proofs.lemmas.Bool.Decides.{nat_tests}
 use Rattle.quic_wire.specs.declared.frame.Datagram.{Datagram}
-use Rattle.quic_datagrams.specs.Queue.{cost, total_cost, newest_within, no_longer_than}
+use Rattle.quic_datagrams.specs.Queue.{cost, total_cost, newest_within, with_newest, no_longer_than}
 
 -- what fits stays whole
 pub newest_within-fits : (n : ℕ) (ds : List Datagram) → total_cost ds ≤ n → newest_within n ds ≡ ds
@@ -26,3 +26,9 @@ total_cost-longer n (d ∷ ds) =
     | true ↦ omega (arith, total_cost-longer n ds)
     | false ↦ omega (arith, total_cost-longer n ds)
     ]
+
+-- none goes where all fit
+pub with_newest-roomy : (window : ℕ) (ds : List Datagram) (d : Datagram) → total_cost ds + cost d ≤ window → with_newest window ds d ≡ ds ++ d ∷ []
+with_newest-roomy window ds d h =
+    let fits : total_cost ds ≤ window - cost d = omega arith in
+    rw (newest_within-fits (window - cost d) ds fits) refl

@@ -1,11 +1,11 @@
 -- When a datagram may be sent.
-use Rattle.std.specs.Prelude.{◌≡◌, ℕ, ◌+◌, Bool, true, ◌&&◌, ◌||◌, List, length, nat_le, Option, Some, None, if◌then◌else◌}
+use Rattle.std.specs.Prelude.{◌≡◌, ℕ, ◌+◌, Bool, true, false, not, ◌&&◌, ◌||◌, List, length, nat_lt, nat_le, Option, Some, None, if◌then◌else◌}
 use Rattle.quic_wire.specs.declared.frame.Datagram.{Datagram}
 use Rattle.quic_datagrams.specs.declared.datagrams.DatagramLimits.{DatagramLimits}
 use Rattle.quic_datagrams.specs.declared.datagrams.DatagramState.{DatagramState}
 use Rattle.quic_datagrams.specs.declared.datagrams.SendDatagramError.{SendDatagramError}
 use Rattle.quic_datagrams.specs.declared.datagrams.SendDatagramError.TheVariants as send_error
-use Rattle.quic_datagrams.specs.Queue.{total_cost}
+use Rattle.quic_datagrams.specs.Queue.{total_cost, no_longer_than}
 
 -- why some content is not queued, if it is not: what waits leaves no room, and none of it may be dropped
 abbrev pub room_refusal : ℕ → List Datagram → List ℕ → Bool → Option SendDatagramError
@@ -37,3 +37,17 @@ IsSendRefusal limits queued content drop e = send_refusal limits queued content 
 abbrev pub after_refusal : DatagramState → SendDatagramError → DatagramState
 after_refusal s (send_error.Blocked content) = record s { send_blocked = true }
 after_refusal s _ = s
+
+
+-- some of them were, while a sender was blocked
+abbrev pub has_unblocked : Option ℕ → DatagramState → Bool
+has_unblocked None s = false
+has_unblocked (Some n) s = nat_lt (length (no_longer_than n s.outgoing)) (length s.outgoing) && s.send_blocked
+
+-- the datagrams once those went that are too long, if there is a greatest length
+abbrev pub after_drop : Option ℕ → DatagramState → DatagramState
+after_drop None s = s
+after_drop (Some n) s = record s {
+  outgoing = no_longer_than n s.outgoing;
+  send_blocked = s.send_blocked && not (has_unblocked (Some n) s);
+}

@@ -1,7 +1,8 @@
 //! Queues of datagrams (RFC 9221), each under a bound.
 
-ghost use Rattle.std.specs.Prelude.{◌≡◌, ◌+◌, ◌-◌, ◌<◌, ◌≤◌, ◌^◌, ◌==◌, ◌&&◌, [], ◌∷◌, List, true, false, not, length, nat_lt, nat_le, MatchOption, IfOk, IfErr, OnOk, OnErr, IsSomeAnd, None};
+ghost use Rattle.std.specs.Prelude.{◌≡◌, ◌+◌, ◌-◌, ◌<◌, ◌≤◌, ◌^◌, ◌++◌, ◌==◌, ◌&&◌, [], ◌∷◌, List, true, false, not, length, nat_lt, nat_le, MatchOption, IfOk, IfErr, OnOk, OnErr, IsSomeAnd, None};
 ghost use Rattle.std.specs.VecDeque.{deque_len, deque_capacity};
+ghost use Rattle.quic_datagrams.specs.Sending.{send_refusal, IsSendRefusal, after_refusal};
 ghost use Rattle.quic_datagrams.specs.Queue.{cost, total_cost, newest_within, with_newest, no_longer_than, fits_in, oldest_fits_in, ends_within, IsWritten, fits_alone, IsReceiveRefusal};
 
 use quic_wire::frame::Datagram;
@@ -276,5 +277,129 @@ impl DatagramState {
         ensures dropped { result ≡ nat_lt (length self.new.outgoing) (length self.old.outgoing) }
     {
         self.outgoing.drop_longer(max_payload)
+    }
+}
+
+/// The datagrams of a connection, with the limits of now.
+#[derive(Drop)]
+pub struct Datagrams<'a> {
+    pub state: &'a mut DatagramState,
+    pub limits: DatagramLimits,
+}
+
+impl<'a> Datagrams<'a> {
+    ghost use Rattle.quic_datagrams.specs.Sending.{after_drop, has_unblocked};
+
+    /// The datagrams, under limits.
+    pub fn new(state: &'a mut DatagramState, limits: DatagramLimits) -> Datagrams<'a>
+        ensures same_state { result.state.ghost_name ≡ state.entry.ghost_name }
+        ensures state { result.state.now ≡ state.old }
+        ensures limits { result.limits ≡ limits }
+    {
+        Datagrams { state, limits }
+    }
+
+    /// Queues a datagram. With `drop` the oldest that wait go until it fits, and without none goes. If refused, none
+    /// goes either, and the data come back where they could be queued later.
+    pub fn send(&mut self, bytes: Bytes, drop: bool) -> Result<(), SendDatagramError>
+        ensures same_state { self.new.state.ghost_name ≡ self.old.state.ghost_name }
+        ensures limits { self.new.limits ≡ self.old.limits }
+        ensures permitted { OnOk result (send_refusal self.old.limits self.old.state.now.outgoing bytes drop ≡ None) }
+        ensures queued { OnOk result (self.new.state.now ≡ record self.old.state.now {
+          outgoing = with_newest self.old.limits.send self.old.state.now.outgoing (record { bytes = bytes });
+        }) }
+        ensures within { OnOk result (total_cost self.new.state.now.outgoing ≤ self.old.limits.send) }
+        ensures roomy { total_cost self.old.state.now.outgoing + (length bytes + 32) ≤ self.old.limits.send
+            → OnOk result (self.new.state.now.outgoing ≡ self.old.state.now.outgoing ++ record { bytes = bytes } ∷ []) }
+        ensures without_drop { drop ≡ false
+            → OnOk result (self.new.state.now.outgoing ≡ self.old.state.now.outgoing ++ record { bytes = bytes } ∷ []) }
+        ensures refusal { IfErr result (λ e. IsSendRefusal self.old.limits self.old.state.now.outgoing bytes drop e) }
+        ensures err { IfErr result (λ e. self.new.state.now ≡ after_refusal self.old.state.now e) }
+    {
+        send_within(self.state, self.limits, bytes, drop)
+    }
+
+    /// The greatest length of a datagram, or `None` where datagrams are off at the peer.
+    #[inline]
+    pub fn max_size(&self) -> Option<usize>
+        ensures { result ≡ self.now.limits.max }
+    {
+        self.limits.max
+    }
+
+    /// Takes the oldest received datagram out.
+    pub fn recv(&mut self) -> Option<Bytes>
+        ensures same_state { self.new.state.ghost_name ≡ self.old.state.ghost_name }
+        ensures limits { self.new.limits ≡ self.old.limits }
+        ensures oldest { MatchOption result
+            ((self.old.state.now.incoming ≡ []) × (self.new.state.now ≡ self.old.state.now))
+            (λ bytes. self.old.state.now
+                ≡ record self.new.state.now { incoming = record { bytes = bytes } ∷ self.new.state.now.incoming }) }
+    {
+        self.state.recv()
+    }
+
+    /// The greatest length that can be queued now without a drop, if it is above 0.
+    pub fn send_buffer_space(&self) -> usize
+        ensures { result ≡ self.now.limits.send - total_cost self.now.state.now.outgoing - 32 }
+    {
+        self.limits
+            .send
+            .saturating_sub(self.state.outgoing.memory_used())
+            .saturating_sub(OVERHEAD)
+    }
+
+    /// Drops the waiting datagrams longer than the greatest length, if there is one. Says whether some went while a sender
+    /// was blocked, which is then no longer so.
+    pub fn drop_oversized(&mut self) -> bool
+        ensures same_state { self.new.state.ghost_name ≡ self.old.state.ghost_name }
+        ensures limits { self.new.limits ≡ self.old.limits }
+        ensures state { self.new.state.now ≡ after_drop self.old.limits.max self.old.state.now }
+        ensures unblocked { result ≡ has_unblocked self.old.limits.max self.old.state.now }
+    {
+        let Some(max) = self.limits.max else {
+            return false;
+        };
+        if !self.state.drop_oversized(max) || !self.state.send_blocked {
+            return false;
+        }
+        self.state.send_blocked = false;
+        true
+    }
+}
+
+// Queues a datagram, or says why not.
+fn send_within(
+    state: &mut DatagramState,
+    limits: DatagramLimits,
+    bytes: Bytes,
+    drop: bool,
+) -> Result<(), SendDatagramError>
+    ensures permitted { OnOk result (send_refusal limits state.old.outgoing bytes drop ≡ None) }
+    ensures queued { OnOk result (state.new ≡ record state.old { outgoing = with_newest limits.send state.old.outgoing (record { bytes = bytes }) }) }
+    ensures within { OnOk result (total_cost state.new.outgoing ≤ limits.send) }
+    ensures refusal { IfErr result (λ e. IsSendRefusal limits state.old.outgoing bytes drop e) }
+    ensures err { IfErr result (λ e. state.new ≡ after_refusal state.old e) }
+{
+    if limits.receive.is_none() {
+        return Err(SendDatagramError::Disabled);
+    }
+    let Some(max) = limits.max else {
+        return Err(SendDatagramError::UnsupportedByPeer);
+    };
+    let Some(room) = limits.send.checked_sub(OVERHEAD) else {
+        return Err(SendDatagramError::TooLarge);
+    };
+    let len = bytes.len();
+    if len > max || len > room {
+        return Err(SendDatagramError::TooLarge);
+    }
+    if !drop && state.outgoing.memory_used() > room - len {
+        state.send_blocked = true;
+        return Err(SendDatagramError::Blocked(bytes));
+    }
+    match state.outgoing.push_within(Datagram { bytes }, limits.send) {
+        Ok(()) => Ok(()),
+        Err(refused) => Err(SendDatagramError::OutOfMemory(refused.bytes)),
     }
 }

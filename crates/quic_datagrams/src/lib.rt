@@ -4,5 +4,5 @@
 pub mod datagrams;
 pub mod stats;
 
-pub use datagrams::{DatagramBuffer, DatagramLimits, DatagramState, SendDatagramError};
+pub use datagrams::{DatagramBuffer, DatagramLimits, DatagramState, Datagrams, SendDatagramError};
 pub use stats::FrameStats;
