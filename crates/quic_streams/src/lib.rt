@@ -1,0 +1,6 @@
+//! The streams of a connection.
+#![tactic(auto)]
+
+pub mod retransmits;
+
+pub use retransmits::{IssuedCid, Retransmits};
