@@ -23,3 +23,7 @@ choose false false rest = refl
 -- an id that was to be added is in the set
 pub added-here : (k id : ℕ) (old new rest : Bool) → new ≡ cond (k == id) true old → (new || rest) ≡ (old || ((id == k) || rest))
 added-here k id old new rest is = rw (is, ==-comm k id) (choose (id == k) old rest)
+
+-- sets with the same ids are one set
+pub same_ids : (a b : ℕ → Bool) → ((id : ℕ) → a id ≡ b id) → a ≡ b
+same_ids a b h = λ i id. h id i

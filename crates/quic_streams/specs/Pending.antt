@@ -1,6 +1,8 @@
 -- What is to be sent, again or for the first time, beside the data of streams.
-use Rattle.std.specs.Prelude.{◌≡◌, ℕ, ◌+◌, ◌-◌, ◌<◌, ◌≤◌, Bool, false, ◌||◌, ◌==◌, List, [], ◌∷◌, ◌++◌, length, slice_index_or}
-use Rattle.std.specs.HashSet.{HashSet, contains}
+use Rattle.std.specs.Prelude.{◌≡◌, ℕ, ◌+◌, ◌-◌, ◌<◌, ◌≤◌, Bool, false, ◌||◌, ◌==◌, List, [], ◌∷◌, ◌++◌, length, slice_index_or, vec_len, zero, suc}
+use Rattle.std.specs.HashSet.{HashSet, contains, hash_set_len, spare}
+use Rattle.std.specs.Vec.{vec_capacity}
+use Rattle.std.specs.VecDeque.{deque_len, deque_capacity}
 use Rattle.std.specs.declared.hash.FoldHasher.{FoldHasher}
 use Rattle.std.specs.declared.hash.BuildHasherDefault.{BuildHasherDefault}
 use Rattle.std.specs.declared.net.SocketAddr.{SocketAddr}
@@ -93,3 +95,25 @@ merged a b = record {
   new_tokens = a.new_tokens ++ b.new_tokens;
 }
 
+
+-- there is room for all that the second has in the first
+pub record HasRoomFor (a b : Retransmits) : Type 0 where
+  pub reset_stream : vec_len a.reset_stream + vec_len b.reset_stream ≤ vec_capacity a.reset_stream
+  pub stop_sending : vec_len a.stop_sending + vec_len b.stop_sending ≤ vec_capacity a.stop_sending
+  pub max_stream_data : hash_set_len b.max_stream_data ≤ spare a.max_stream_data
+  pub stream_data_blocked : hash_set_len b.stream_data_blocked ≤ spare a.stream_data_blocked
+  pub crypto : deque_len a.crypto + deque_len b.crypto ≤ deque_capacity a.crypto
+  pub new_cids : vec_len a.new_cids + vec_len b.new_cids ≤ vec_capacity a.new_cids
+  pub retire_cids : vec_len a.retire_cids + vec_len b.retire_cids ≤ vec_capacity a.retire_cids
+  pub new_tokens : vec_len a.new_tokens + vec_len b.new_tokens ≤ vec_capacity a.new_tokens
+
+-- numbers that follow each other, from one on
+abbrev pub numbers_from : ℕ → ℕ → List ℕ
+numbers_from start zero = []
+numbers_from start (suc n) = start ∷ numbers_from (start + 1) n
+
+-- why numbers are not queued: with them more than 50 would wait, or memory ran out
+abbrev pub IsRetireRefusal : ℕ → ReceiveError → Type 0
+IsRetireRefusal waiting (receive_error.Transport e) = (50 < waiting) × (e.code ≡ CONNECTION_ID_LIMIT_ERROR)
+IsRetireRefusal waiting receive_error.OutOfMemory = waiting ≤ 50
+IsRetireRefusal waiting receive_error.CompactionMemory = ⊥

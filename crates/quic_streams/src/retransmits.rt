@@ -1,15 +1,20 @@
 //! What is to be sent, again or for the first time, beside the data of streams.
 
-ghost use Rattle.std.specs.Prelude.{◌≡◌, ◌+◌, ◌-◌, ◌<◌, ◌≤◌, ◌++◌, ◌||◌, ℕ, [], OnOk, OnErr, IfOk, IfErr, false, true, vec_len, vec_capacity};
+ghost use Rattle.std.specs.Prelude.{◌≡◌, ◌+◌, ◌-◌, ◌<◌, ◌≤◌, ◌++◌, ◌||◌, ℕ, [], OnOk, OnErr, IfOk, IfErr, false, true, length, vec_len};
+ghost use Rattle.std.specs.Vec.{vec_capacity};
 ghost use Rattle.std.specs.VecDeque.{deque_len, deque_capacity};
 ghost use Rattle.std.specs.HashSet.{spare, hash_set_len};
-ghost use Rattle.quic_streams.specs.Pending.{shown, nothing, merged, is_in};
+ghost use Rattle.quic_streams.specs.Pending.{shown, nothing, merged, is_in, HasRoomFor, numbers_from, IsRetireRefusal};
 
 use quic_wire::frame::{Crypto, StopSending};
-use quic_wire::{Bytes, OutOfMemory, StreamId, VarInt};
+use quic_wire::{Bytes, OutOfMemory, ReceiveError, StreamId, TransportError, VarInt};
 use std::alloc::Global;
 use std::collections::{HashSet, VecDeque};
 use std::net::SocketAddr;
+use std::ops::Range;
+
+// How many sequence numbers may wait to be retired.
+const MAX_PENDING_RETIRED_CIDS: usize = 50;
 
 /// An id of this connection that was given to the peer (RFC 9000 section 19.15). Carried, and never looked into.
 #[derive(Debug, Drop)]
@@ -64,6 +69,112 @@ impl Retransmits {
     }
 }
 
+impl Retransmits {
+    /// Joins what `other` has: lists go behind, crypto in front, and sets are united. If refused, `other` comes back, and
+    /// all is as it was.
+    pub fn merge(&mut self, other: Retransmits) -> Result<(), Retransmits>
+        ensures ok { OnOk result (shown self.new ≡ merged (shown self.old) (shown other)) }
+        ensures err { OnErr result (shown self.new ≡ shown self.old) }
+        ensures value_returned { IfErr result (λ back. back ≡ other) }
+    {
+        if self.make_room(&other).is_err() {
+            return Err(other);
+        }
+        self.take_in(other);
+        Ok(())
+    }
+
+    fn make_room(&mut self, other: &Retransmits) -> Result<(), OutOfMemory>
+        ensures same { shown self.new ≡ shown self.old }
+        ensures ok { OnOk result (HasRoomFor self.new other.now) }
+    {
+        self.reset_stream.reserve(other.reset_stream.len())?;
+        self.stop_sending.reserve(other.stop_sending.len())?;
+        reserve_ids(&mut self.max_stream_data, other.max_stream_data.len())?;
+        reserve_ids(&mut self.stream_data_blocked, other.stream_data_blocked.len())?;
+        self.crypto.reserve(other.crypto.len())?;
+        self.new_cids.reserve(other.new_cids.len())?;
+        self.retire_cids.reserve(other.retire_cids.len())?;
+        self.new_tokens.reserve(other.new_tokens.len())?;
+        Ok(())
+    }
+
+    fn take_in(&mut self, other: Retransmits)
+        requires { HasRoomFor self.old other }
+        ensures { shown self.new ≡ merged (shown self.old) (shown other) }
+    {
+        let Retransmits {
+            max_data,
+            data_blocked,
+            max_stream_id,
+            reset_stream,
+            stop_sending,
+            max_stream_data,
+            stream_data_blocked,
+            crypto,
+            new_cids,
+            retire_cids,
+            ack_frequency,
+            handshake_done,
+            new_tokens,
+        } = other;
+        self.max_data |= max_data;
+        self.data_blocked |= data_blocked;
+        let [bi, uni] = self.max_stream_id;
+        self.max_stream_id = [bi | max_stream_id[0], uni | max_stream_id[1]];
+        append_all(&mut self.reset_stream, reset_stream);
+        append_all(&mut self.stop_sending, stop_sending);
+        add_all(&mut self.max_stream_data, &max_stream_data);
+        add_all(&mut self.stream_data_blocked, &stream_data_blocked);
+        put_in_front(&mut self.crypto, crypto);
+        append_all(&mut self.new_cids, new_cids);
+        append_all(&mut self.retire_cids, retire_cids);
+        self.ack_frequency |= ack_frequency;
+        self.handshake_done |= handshake_done;
+        append_all(&mut self.new_tokens, new_tokens);
+    }
+
+    /// Queues numbers to be retired. More than 50 never wait: past that it is a CONNECTION_ID_LIMIT_ERROR (RFC 9000
+    /// section 5.1.2). If refused, all is as it was.
+    pub fn retire_cids(&mut self, cids: Range<u64>) -> Result<(), ReceiveError>
+        ensures ok { OnOk result (shown self.new ≡ record (shown self.old) {
+          retire_cids = (shown self.old).retire_cids ++ numbers_from cids.start (cids.end - cids.start);
+        }) }
+        ensures few { OnOk result (length (shown self.new).retire_cids ≤ 50) }
+        ensures err { OnErr result (shown self.new ≡ shown self.old) }
+        ensures refusal { IfErr result (λ e. IsRetireRefusal (length (shown self.old).retire_cids + (cids.end - cids.start)) e) }
+    {
+        let count = cids.end.saturating_sub(cids.start);
+        let waiting = self.retire_cids.len();
+        if waiting > MAX_PENDING_RETIRED_CIDS
+            || count > (MAX_PENDING_RETIRED_CIDS - waiting) as u64
+        {
+            return Err(TransportError::connection_id_limit_error("queued too many retired CIDs").into());
+        }
+        self.retire_cids.reserve(count as usize)?;
+        push_numbers(&mut self.retire_cids, cids.start, cids.end);
+        Ok(())
+    }
+}
+
+// Appends numbers for which room was made.
+fn push_numbers(list: &mut Vec<u64>, start: u64, end: u64)
+    requires { vec_len list.old + (end - start) ≤ vec_capacity list.old }
+    ensures { list.new.items ≡ list.old.items ++ numbers_from start (end - start) }
+{
+    for number in start..end {
+        list.push_reserved(number);
+    }
+}
+
+fn reserve_ids(ids: &mut HashSet<StreamId>, additional: usize) -> Result<(), OutOfMemory>
+    ensures same { is_in ids.new ≡ is_in ids.old }
+    ensures ok { OnOk result (additional ≤ spare ids.new) }
+{
+    ids.reserve(additional)?;
+    Ok(())
+}
+
 // Appends a list for which room was made.
 fn append_all<T: Drop>(list: &mut Vec<T>, more: Vec<T>)
     requires { vec_len list.old + vec_len more ≤ vec_capacity list.old }
@@ -87,7 +198,7 @@ fn put_in_front(queue: &mut VecDeque<Crypto>, front: VecDeque<Crypto>)
 // Adds ids for which room was made.
 fn add_all(ids: &mut HashSet<StreamId>, more: &HashSet<StreamId>)
     requires { hash_set_len more.now ≤ spare ids.old }
-    ensures { (id : ℕ) → is_in ids.new id ≡ (is_in ids.old id || is_in more.now id) }
+    ensures { is_in ids.new ≡ (λ id. is_in ids.old id || is_in more.now id) }
 {
     for id in more.iter() {
         let _ = ids.insert(*id);

@@ -3,7 +3,7 @@ use Rattle.std.specs.HashSet.{spare}
 use Rattle.std.specs.Prelude.{◌||◌, ◌==◌}
 use Rattle.std.specs.List.{list_any}
 use Rattle.quic_streams.specs.Pending.{is_in}
-use Rattle.quic_streams.proofs.Sets.{OnOk-here, added-here, or-false}
+use Rattle.quic_streams.proofs.Sets.{OnOk-here, added-here, or-false, same_ids}
 use Rattle.quic_streams.proofs.retransmits.add_all.Goals as goal
 
 pub loop-id-init : goal.loop-id-init
@@ -24,6 +24,7 @@ loop-id-preserved c =
 
 pub returns : goal.returns
 returns c =
-    λ id.
-    or-false (is_in c.loop-id.ids id)
-    ∙ subst (λ (it : List ℕ). (is_in c.loop-id.ids id || list_any (λ q. id == q) it) ≡ (is_in c.args.ids.now id || is_in c.args.more.now id)) c.in-None.ensures.steps.0 (c.loop-id.invariant.all id)
+    same_ids (is_in c.loop-id.ids) (λ id. is_in c.args.ids.now id || is_in c.args.more.now id)
+    (λ id.
+      or-false (is_in c.loop-id.ids id)
+      ∙ subst (λ (it : List ℕ). (is_in c.loop-id.ids id || list_any (λ q. id == q) it) ≡ (is_in c.args.ids.now id || is_in c.args.more.now id)) c.in-None.ensures.steps.0 (c.loop-id.invariant.all id))
