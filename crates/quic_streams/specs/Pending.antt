@@ -1,7 +1,8 @@
 -- What is to be sent, again or for the first time, beside the data of streams.
-use Rattle.std.specs.Prelude.{◌≡◌, ℕ, ◌+◌, ◌-◌, ◌<◌, ◌≤◌, Bool, false, ◌||◌, ◌==◌, List, [], ◌∷◌, ◌++◌, length, slice_index_or, vec_len, zero, suc}
+use Rattle.std.specs.Prelude.{◌≡◌, ℕ, ◌+◌, ◌-◌, ◌<◌, ◌≤◌, Bool, false, ◌||◌, ◌==◌, List, [], ◌∷◌, ◌++◌, length, slice_index_or, vec_len, zero, suc, Option, Some, None}
 use Rattle.std.specs.HashSet.{HashSet, contains, hash_set_len, spare}
 use Rattle.std.specs.Vec.{vec_capacity}
+use Rattle.std.specs.Option.{option_map}
 use Rattle.std.specs.VecDeque.{deque_len, deque_capacity}
 use Rattle.std.specs.declared.hash.FoldHasher.{FoldHasher}
 use Rattle.std.specs.declared.hash.BuildHasherDefault.{BuildHasherDefault}
@@ -13,6 +14,7 @@ use Rattle.quic_wire.specs.declared.error.ReceiveError.TheVariants as receive_er
 use Rattle.quic_wire.specs.declared.error.TheConstants.TransportError.{CONNECTION_ID_LIMIT_ERROR}
 use Rattle.quic_streams.specs.declared.retransmits.IssuedCid.{IssuedCid}
 use Rattle.quic_streams.specs.declared.retransmits.Retransmits.{Retransmits}
+use Rattle.quic_streams.specs.declared.retransmits.ThinRetransmits.{ThinRetransmits}
 
 -- a set of stream ids
 abbrev pub IdSet : Type 0
@@ -95,6 +97,19 @@ merged a b = record {
   new_tokens = a.new_tokens ++ b.new_tokens;
 }
 
+
+abbrev pub merged_if : Pending → Option Pending → Pending
+merged_if a None = a
+merged_if a (Some b) = merged a b
+
+-- a list joined to what is there, from its first on
+abbrev pub collected : Pending → List Retransmits → Pending
+collected a [] = a
+collected a (r ∷ rs) = collected (merged a (shown r)) rs
+
+-- what is to be sent, if anything was asked for
+abbrev pub shown_if : ThinRetransmits → Option Pending
+shown_if t = option_map (λ b. shown b.value) t.retransmits
 
 -- there is room for all that the second has in the first
 pub record HasRoomFor (a b : Retransmits) : Type 0 where

@@ -3,4 +3,4 @@
 
 pub mod retransmits;
 
-pub use retransmits::{IssuedCid, Retransmits};
+pub use retransmits::{IssuedCid, Retransmits, ThinRetransmits};

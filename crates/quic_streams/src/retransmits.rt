@@ -4,7 +4,7 @@ ghost use Rattle.std.specs.Prelude.{◌≡◌, ◌+◌, ◌-◌, ◌<◌, ◌≤
 ghost use Rattle.std.specs.Vec.{vec_capacity};
 ghost use Rattle.std.specs.VecDeque.{deque_len, deque_capacity};
 ghost use Rattle.std.specs.HashSet.{spare, hash_set_len};
-ghost use Rattle.quic_streams.specs.Pending.{shown, nothing, merged, is_in, HasRoomFor, numbers_from, IsRetireRefusal};
+ghost use Rattle.quic_streams.specs.Pending.{shown, nothing, merged, is_in, shown_if, merged_if, collected, HasRoomFor, numbers_from, IsRetireRefusal};
 
 use quic_wire::frame::{Crypto, StopSending};
 use quic_wire::{Bytes, OutOfMemory, ReceiveError, StreamId, TransportError, VarInt};
@@ -22,6 +22,19 @@ pub struct IssuedCid {
     pub sequence: u64,
     pub id: Bytes,
     pub reset_token: [u8; 16],
+}
+
+impl IssuedCid {
+    /// An equal id.
+    pub fn try_clone(&self) -> Result<Self, OutOfMemory>
+        ensures { IfOk result (λ copy. copy ≡ self.now) }
+    {
+        Ok(IssuedCid {
+            sequence: self.sequence,
+            id: self.id.try_clone()?,
+            reset_token: self.reset_token,
+        })
+    }
 }
 
 /// What is to be sent beside the data of streams (RFC 9000 section 13.3).
@@ -82,6 +95,59 @@ impl Retransmits {
         }
         self.take_in(other);
         Ok(())
+    }
+
+    /// Joins what `other` has, if it has anything. If refused, `other` comes back, and all is as it was.
+    pub fn merge_thin(&mut self, other: ThinRetransmits) -> Result<(), ThinRetransmits>
+        ensures ok { OnOk result (shown self.new ≡ merged_if (shown self.old) (shown_if other)) }
+        ensures err { OnErr result (shown self.new ≡ shown self.old) }
+        ensures value_returned { IfErr result (λ back. back ≡ other) }
+    {
+        if let Some(retransmits) = &other.retransmits
+            && self.make_room(retransmits).is_err()
+        {
+            return Err(other);
+        }
+        let ThinRetransmits { retransmits, .. } = other;
+        if let Some(retransmits) = retransmits {
+            self.take_in(Box::into_inner(retransmits));
+        }
+        Ok(())
+    }
+
+    /// Joins all of a list, from the first on.
+    pub fn collect(alloc: Global, list: Vec<Retransmits>) -> Result<Self, OutOfMemory>
+        ensures { IfOk result (λ all. shown all ≡ collected nothing list.items) }
+    {
+        let mut all = Retransmits::new(alloc);
+        for part in list {
+            if all.merge(part).is_err() {
+                return Err(OutOfMemory);
+            }
+        }
+        Ok(all)
+    }
+
+    /// The same again.
+    pub fn clone(&self) -> Result<Self, OutOfMemory>
+        ensures { IfOk result (λ copy. shown copy ≡ shown self.now) }
+    {
+        let alloc = *self.reset_stream.allocator();
+        Ok(Retransmits {
+            max_data: self.max_data,
+            data_blocked: self.data_blocked,
+            max_stream_id: self.max_stream_id,
+            reset_stream: Vec::from_slice(alloc, self.reset_stream.as_slice())?,
+            stop_sending: Vec::from_slice(alloc, self.stop_sending.as_slice())?,
+            max_stream_data: clone_ids(alloc, &self.max_stream_data)?,
+            stream_data_blocked: clone_ids(alloc, &self.stream_data_blocked)?,
+            crypto: clone_crypto(alloc, &self.crypto)?,
+            new_cids: clone_cids(alloc, self.new_cids.as_slice())?,
+            retire_cids: Vec::from_slice(alloc, self.retire_cids.as_slice())?,
+            ack_frequency: self.ack_frequency,
+            handshake_done: self.handshake_done,
+            new_tokens: Vec::from_slice(alloc, self.new_tokens.as_slice())?,
+        })
     }
 
     fn make_room(&mut self, other: &Retransmits) -> Result<(), OutOfMemory>
@@ -202,5 +268,77 @@ fn add_all(ids: &mut HashSet<StreamId>, more: &HashSet<StreamId>)
 {
     for id in more.iter() {
         let _ = ids.insert(*id);
+    }
+}
+
+fn clone_ids(alloc: Global, ids: &HashSet<StreamId>) -> Result<HashSet<StreamId>, OutOfMemory>
+    ensures { IfOk result (λ copy. is_in copy ≡ is_in ids.now) }
+{
+    let mut copy = HashSet::new(alloc);
+    reserve_ids(&mut copy, ids.len())?;
+    add_all(&mut copy, ids);
+    Ok(copy)
+}
+
+fn clone_crypto(alloc: Global, queue: &VecDeque<Crypto>) -> Result<VecDeque<Crypto>, OutOfMemory>
+    ensures { IfOk result (λ copy. copy.items ≡ queue.now.items) }
+{
+    let mut copy = VecDeque::with_capacity(alloc, queue.len())?;
+    for frame in queue.iter() {
+        copy.push_back(frame.try_clone()?)?;
+    }
+    Ok(copy)
+}
+
+fn clone_cids(alloc: Global, cids: &[IssuedCid]) -> Result<Vec<IssuedCid>, OutOfMemory>
+    ensures { IfOk result (λ copy. copy.items ≡ cids.now) }
+{
+    let mut copy = Vec::with_capacity(alloc, cids.len())?;
+    for cid in cids {
+        copy.push(cid.try_clone()?)?;
+    }
+    Ok(copy)
+}
+
+/// The same, without memory of its own until there is something to be sent.
+#[derive(Drop)]
+pub struct ThinRetransmits {
+    retransmits: Option<Box<Retransmits>>,
+    alloc: Global,
+}
+
+impl ThinRetransmits {
+    ghost use Rattle.std.specs.Prelude.{None};
+    ghost use Rattle.std.specs.Option.{option_map};
+
+    /// Nothing is to be sent. Takes no memory.
+    pub fn new(alloc: Global) -> Self
+        ensures { shown_if result ≡ None }
+    {
+        ThinRetransmits {
+            retransmits: None,
+            alloc,
+        }
+    }
+
+    /// What is to be sent, if anything was asked for.
+    pub fn get(&self) -> Option<&Retransmits>
+        ensures { option_map (λ r. shown r.now) result ≡ shown_if self.now }
+    {
+        match &self.retransmits {
+            Some(retransmits) => Some(retransmits),
+            None => None,
+        }
+    }
+
+    /// The same again.
+    pub fn clone(&self) -> Result<Self, OutOfMemory>
+        ensures { IfOk result (λ copy. shown_if copy ≡ shown_if self.now) }
+    {
+        let mut copy = ThinRetransmits::new(self.alloc);
+        if let Some(retransmits) = self.get() {
+            copy.retransmits = Some(Box::new(self.alloc, Retransmits::clone(retransmits)?)?);
+        }
+        Ok(copy)
     }
 }
