@@ -23,8 +23,8 @@ pub total_cost-longer : (n : ℕ) (ds : List Datagram) → total_cost (no_longer
 total_cost-longer n [] = omega arith
 total_cost-longer n (d ∷ ds) =
     elim (nat_le (length d.bytes) n) as (λ b. total_cost (cond b (d ∷ no_longer_than n ds) (no_longer_than n ds)) ≤ cost d + total_cost ds) [
-    | true ↦ omega (arith, total_cost-longer n ds)
-    | false ↦ omega (arith, total_cost-longer n ds)
+      | true ↦ omega (arith, total_cost-longer n ds)
+      | false ↦ omega (arith, total_cost-longer n ds)
     ]
 
 -- none goes where all fit

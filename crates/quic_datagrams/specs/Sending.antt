@@ -38,7 +38,6 @@ abbrev pub after_refusal : DatagramState → SendDatagramError → DatagramState
 after_refusal s (send_error.Blocked content) = record s { send_blocked = true }
 after_refusal s _ = s
 
-
 -- some of them were, while a sender was blocked
 abbrev pub has_unblocked : Option ℕ → DatagramState → Bool
 has_unblocked None s = false

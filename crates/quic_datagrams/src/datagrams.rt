@@ -334,7 +334,7 @@ impl<'a> Datagrams<'a> {
         ensures oldest { MatchOption result
             ((self.old.state.now.incoming ≡ []) × (self.new.state.now ≡ self.old.state.now))
             (λ bytes. self.old.state.now
-                ≡ record self.new.state.now { incoming = record { bytes = bytes } ∷ self.new.state.now.incoming }) }
+            ≡ record self.new.state.now { incoming = record { bytes = bytes } ∷ self.new.state.now.incoming }) }
     {
         self.state.recv()
     }

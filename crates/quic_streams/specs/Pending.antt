@@ -97,7 +97,6 @@ merged a b = record {
   new_tokens = a.new_tokens ++ b.new_tokens;
 }
 
-
 abbrev pub merged_if : Pending → Option Pending → Pending
 merged_if a None = a
 merged_if a (Some b) = merged a b

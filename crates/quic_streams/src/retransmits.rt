@@ -157,7 +157,10 @@ impl Retransmits {
         self.reset_stream.reserve(other.reset_stream.len())?;
         self.stop_sending.reserve(other.stop_sending.len())?;
         reserve_ids(&mut self.max_stream_data, other.max_stream_data.len())?;
-        reserve_ids(&mut self.stream_data_blocked, other.stream_data_blocked.len())?;
+        reserve_ids(
+            &mut self.stream_data_blocked,
+            other.stream_data_blocked.len(),
+        )?;
         self.crypto.reserve(other.crypto.len())?;
         self.new_cids.reserve(other.new_cids.len())?;
         self.retire_cids.reserve(other.retire_cids.len())?;
@@ -215,7 +218,9 @@ impl Retransmits {
         if waiting > MAX_PENDING_RETIRED_CIDS
             || count > (MAX_PENDING_RETIRED_CIDS - waiting) as u64
         {
-            return Err(TransportError::connection_id_limit_error("queued too many retired CIDs").into());
+            return Err(TransportError::connection_id_limit_error(
+                "queued too many retired CIDs",
+            ).into());
         }
         self.retire_cids.reserve(count as usize)?;
         push_numbers(&mut self.retire_cids, cids.start, cids.end);
@@ -308,7 +313,9 @@ pub struct ThinRetransmits {
 }
 
 impl ThinRetransmits {
-    ghost use Rattle.std.specs.Prelude.{None};
+    ghost use Rattle.std.specs.Prelude.{None, Some, unwrap_or};
+    ghost use Rattle.std.specs.Borrow.{sem};
+    ghost use Rattle.quic_streams.specs.Lending.{LendsPending};
     ghost use Rattle.std.specs.Option.{option_map};
 
     /// Nothing is to be sent. Takes no memory.
@@ -340,5 +347,27 @@ impl ThinRetransmits {
             copy.retransmits = Some(Box::new(self.alloc, Retransmits::clone(retransmits)?)?);
         }
         Ok(copy)
+    }
+    /// What is to be sent, to be changed. Takes memory where nothing was asked for before.
+    pub fn get_or_create(&mut self) -> Result<&mut Retransmits, OutOfMemory>
+        ensures* lends { sem 𝓛 (LendsPending self.entry result) }
+        ensures before { IfOk result (λ r. shown r.now ≡ unwrap_or (shown_if self.old) nothing) }
+    {
+        self.create()?;
+        match &mut self.retransmits {
+            Some(retransmits) => Ok(retransmits),
+            None => unreachable!(),
+        }
+    }
+
+    fn create(&mut self) -> Result<(), OutOfMemory>
+        ensures ok { OnOk result (shown_if self.new ≡ Some (unwrap_or (shown_if self.old) nothing)) }
+        ensures err { OnErr result (shown_if self.new ≡ shown_if self.old) }
+    {
+        if self.retransmits.is_none() {
+            let retransmits = Box::new(self.alloc, Retransmits::new(self.alloc))?;
+            self.retransmits = Some(retransmits);
+        }
+        Ok(())
     }
 }

@@ -4,6 +4,6 @@ use Rattle.quic_datagrams.proofs.QueueLemmas.{newest_within-fits}
 use Rattle.quic_datagrams.proofs.datagrams.drop_oldest.Goals as goal
 
 pub returns-clause-kept : goal.returns-clause-kept
-returns-clause-kept c = 
+returns-clause-kept c =
     let fits : total_cost c.loop-size.queue.items ≤ c.args.room = omega arith in
     sym (newest_within-fits _ _ fits) ∙ c.loop-size.invariant.same

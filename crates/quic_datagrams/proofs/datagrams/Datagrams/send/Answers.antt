@@ -13,6 +13,6 @@ pub returns-clause-without_drop : goal.returns-clause-without_drop
 returns-clause-without_drop c =
     λ kept. OnOk-both c.send_within.result
     (λ permitted queued.
-      ap (λ (s : DatagramState). s.outgoing) queued
-      ∙ with_newest-roomy _ _ _ (send_refusal-none c.args.self.now.limits c.args.self.now.state.now.outgoing c.args.bytes (subst (λ (b : Bool). send_refusal c.args.self.now.limits c.args.self.now.state.now.outgoing c.args.bytes b ≡ None) kept permitted)))
+    ap (λ (s : DatagramState). s.outgoing) queued
+    ∙ with_newest-roomy _ _ _ (send_refusal-none c.args.self.now.limits c.args.self.now.state.now.outgoing c.args.bytes (subst (λ (b : Bool). send_refusal c.args.self.now.limits c.args.self.now.state.now.outgoing c.args.bytes b ≡ None) kept permitted)))
     c.send_within.ensures.permitted c.send_within.ensures.queued
