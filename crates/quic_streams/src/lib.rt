@@ -4,3 +4,6 @@
 pub mod retransmits;
 
 pub use retransmits::{IssuedCid, Retransmits, ThinRetransmits};
+
+#[cfg(test)]
+mod tests;
