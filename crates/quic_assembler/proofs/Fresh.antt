@@ -1,0 +1,181 @@
+-- What of a run was not received.
+use Rattle.std.proofs.Common.{◌≡◌, ℕ, ◌+◌, ◌-◌, ◌≤◌, ◌<◌, ◌⊎◌, inl, inr, refl, sym, ◌∙◌, ap, List, [], ◌∷◌, ◌++◌, length, take, drop, arith, zero, suc, Bool, true, false, min}
+use Rattle.std.specs.Prelude.{◌&&◌, not}
+use Rattle.std.specs.List.{Any}
+use Rattle.std.proofs.lemmas.List.{length-append, length-drop, length-take, get_or-take, drop-drop}
+use Rattle.std.proofs.lemmas.List.Elements.{All-push, All-nil}
+use Rattle.std.proofs.lemmas.Bool.{cases_lt}
+use Rattle.std.proofs.lemmas.Bool.Decides.{nat_tests}
+use Rattle.std.proofs.lemmas.Grind.{common_steps}
+use Rattle.quic_values.specs.Runs.{contains, Run as Range}
+use Rattle.quic_assembler.specs.Piece.{Run, RunHolds, IsSome, HoldsSame, covers, cover_count, bit, lies, run_end, cut_at}
+use Rattle.quic_assembler.specs.Reassembly.{IsCut, TakesFront, TakesFresh, NoneReceived, run_count, starts_run}
+use Rattle.quic_assembler.proofs.Runs.{RunHolds-uncut, covers_from_holds}
+use Rattle.quic_assembler.proofs.Counts.{Any-cons, Any-nil, Any-unpush, count-append, lies_in, lies_below, lies_above, count_of_any}
+
+-- how many longest runs there are
+run_count-mono : (done : ℕ → Bool) (offset m n : ℕ) → m ≤ n → run_count done offset m ≤ run_count done offset n
+run_count-mono done offset m zero l = let e : m ≡ 0 = omega arith in rw e (omega arith)
+run_count-mono done offset m (suc n) l = elim (cases_lt n m) [
+  | inl k ↦ (let e : m ≡ suc n = omega arith in rw e (omega arith))
+  | inr k ↦ omega (arith, run_count-mono done offset m n k)
+]
+
+pub run_count-more : (done : ℕ → Bool) (offset m n : ℕ) → starts_run done offset (offset + m) ≡ true → m < n → run_count done offset m + 1 ≤ run_count done offset n
+run_count-more done offset m n s l =
+    let one : run_count done offset (suc m) ≡ run_count done offset m + 1 = rw s refl in
+    omega (arith, one, run_count-mono done offset (suc m) n (omega arith))
+
+pub starts_here : (done : ℕ → Bool) (offset at : ℕ) → done at ≡ false → (at ≡ offset) ⊎ (done (at - 1) ≡ true) → starts_run done offset at ≡ true
+starts_here done offset at d (inl e) = rw (d, e) (grind (arith, nat_tests))
+starts_here done offset at d (inr e) = rw (d, e) (grind (arith, nat_tests))
+
+-- the tests of an offset in a range
+fresh_bit : (low high at : ℕ) (b : Bool) → b ≡ false → bit (lies low high at && not b) ≡ bit (lies low high at)
+fresh_bit low high at b e = rw e (grind (arith, nat_tests))
+
+old_bit : (low high at : ℕ) (b : Bool) → b ≡ true → bit (lies low high at && not b) ≡ 0
+old_bit low high at b e = rw e (grind (arith, nat_tests))
+
+same_test : (low r end at : ℕ) (b : Bool) → at < r → at < end → bit (lies low r at && not b) ≡ bit (lies low end at && not b)
+same_test low r end at b l m = grind (arith, nat_tests)
+
+same_bit : (at a b c d : ℕ) → a ≡ b → c ≡ d → bit (lies a c at) ≡ bit (lies b d at)
+same_bit at a b c d e f = rw (e, f) refl
+
+outside_bit : (low high at : ℕ) (b : Bool) → bit (lies low high at) ≡ 0 → bit (lies low high at && not b) ≡ 0
+outside_bit low high at b e = grind (arith, nat_tests)
+
+pub bit_of_fresh : (t b : Bool) → 0 < bit (t && not b) → (0 < bit t) × (b ≡ false)
+bit_of_fresh true true h = absurd (omega arith)
+bit_of_fresh true false h = (omega arith, refl)
+bit_of_fresh false b h = absurd (omega arith)
+
+-- a front that was split off
+lies_none : (low high at : ℕ) → high ≤ low → bit (lies low high at) ≡ 0
+lies_none low high at l = elim (cases_lt at low) [ inl m ↦ lies_below low high at m | inr m ↦ lies_above low high at (omega arith) ]
+
+pub fronts_none : (start : ℕ) (rest : Run) (fronts : List Run) → rest.offset ≡ start → TakesFront start rest rest fronts fronts
+fronts_none start rest fronts e = record {
+  same = record { offset = omega arith; bytes = (let z : start - rest.offset ≡ 0 = omega arith in rw z refl) };
+  count = λ at. omega (arith, lies_none rest.offset start at (omega arith));
+  origin = λ at byte h. inl h;
+  pieces = omega arith;
+  sound = λ s. s;
+}
+
+front_holds : (at byte offset n : ℕ) (bytes : List ℕ) → n ≤ length bytes → RunHolds at byte (record { offset = offset; bytes = take n bytes; allocation_size = 0; compact = true; sequence = 0 }) → RunHolds at byte (record { offset = offset; bytes = bytes; allocation_size = 0; compact = true; sequence = 0 })
+front_holds at byte offset n bytes l h = grind (arith, common_steps, get_or-take, length-take)
+
+pub fronts_split : (start : ℕ) (rest mid front : Run) (fronts next : List Run) → rest.offset < start → start ≤ run_end rest → HoldsSame (cut_at start rest) mid → front.offset ≡ rest.offset → front.bytes ≡ take (start - rest.offset) rest.bytes → next ≡ fronts ++ front ∷ [] → TakesFront start rest mid fronts next
+fronts_split start rest mid front fronts next l m s o b e =
+    let len : length front.bytes ≡ start - rest.offset = rw (b, length-take) (omega arith) in
+    let stop : run_end front ≡ start = omega arith in
+    record {
+      same = s;
+      count = λ at. rw e (omega (arith, count-append at fronts (front ∷ []), same_bit at front.offset rest.offset (run_end front) start o stop));
+      origin = λ at byte h. elim (Any-unpush (RunHolds at byte) fronts front (rw e at h)) [
+        | inl a ↦ inl a
+        | inr p ↦ inr (front_holds at byte rest.offset (start - rest.offset) rest.bytes (omega arith) (rw (o, b) at p))
+      ];
+      pieces = rw (e, length-append) (omega arith);
+      sound = λ all. rw e (All-push IsSome fronts front all (omega arith));
+    }
+
+-- a range that was received is cut out
+rest_end : (received : List Range) (whole rest : Run) (fronts : List Run) → IsCut received whole rest fronts → run_end rest ≡ run_end whole
+rest_end received whole rest fronts c = rw (c.same.bytes, length-drop) (omega (arith, c.from, c.to))
+
+rest_bytes : (end : ℕ) (whole rest mid next : Run) (start : ℕ) → whole.offset ≤ rest.offset → rest.offset ≤ start → start ≤ end → HoldsSame (cut_at rest.offset whole) rest → HoldsSame (cut_at start rest) mid → next ≡ cut_at end mid → (next.offset ≡ end) × (next.bytes ≡ drop (end - whole.offset) whole.bytes)
+rest_bytes end whole rest mid next start a b d r m e =
+    let n : (rest.offset - whole.offset) + ((start - rest.offset) + (end - mid.offset)) ≡ end - whole.offset = omega (arith, m.offset) in
+    ((rw e (omega (arith, m.offset))), (rw (e, m.bytes, r.bytes) (rw (drop-drop, drop-drop) (ap (λ k. drop k whole.bytes) n))))
+
+cut_count : (received : List Range) (low r start end at n : ℕ) → n ≡ bit (lies low r at && not (contains received at)) → low ≤ r → r ≤ start → start < end → ((k : ℕ) → r ≤ k → k < start → contains received k ≡ false) → ((k : ℕ) → start ≤ k → k < end → contains received k ≡ true) → n + bit (lies r start at) ≡ bit (lies low end at && not (contains received at))
+cut_count received low r start end at n e a b d fresh old = elim (cases_lt at r) [
+  | inl l ↦ omega (arith, lies_below r start at l, same_test low r end at (contains received at) l (omega arith))
+  | inr l ↦ elim (cases_lt at start) [
+    | inl m ↦ omega (arith, lies_in r start at l m, outside_bit low r at (contains received at) (lies_above low r at l), fresh_bit low end at (contains received at) (fresh at l m), lies_in low end at (omega arith) (omega arith))
+    | inr m ↦ elim (cases_lt at end) [
+      | inl k ↦ omega (arith, lies_above r start at m, outside_bit low r at (contains received at) (lies_above low r at l), old_bit low end at (contains received at) (old at m k))
+      | inr k ↦ omega (arith, lies_above r start at m, outside_bit low r at (contains received at) (lies_above low r at l), outside_bit low end at (contains received at) (lies_above low end at k))
+    ]
+  ]
+]
+
+cut_pieces : (received : List Range) (low r start end : ℕ) → low ≤ r → r ≤ start → start < end → ((k : ℕ) → r ≤ k → k < start → contains received k ≡ false) → (r ≡ low) ⊎ (contains received (r - 1) ≡ true) → run_count (contains received) low (r - low) + min 1 (start - r) ≤ run_count (contains received) low (end - low)
+cut_pieces received low r start end a b d fresh s = elim (cases_lt r start) [
+  | inl l ↦ (
+      let at : low + (r - low) ≡ r = omega arith in
+      omega (arith, run_count-more (contains received) low (r - low) (end - low) (rw at (starts_here (contains received) low r (fresh r (omega arith) l) s)) (omega arith)))
+  | inr l ↦ omega (arith, run_count-mono (contains received) low (r - low) (end - low) (omega arith))
+]
+
+pub cut_step : (received : List Range) (whole rest mid next : Run) (fronts more : List Run) (start end : ℕ) → IsCut received whole rest fronts → TakesFront start rest mid fronts more → next ≡ cut_at end mid → rest.offset ≤ start → start < end → end ≤ run_end rest → ((k : ℕ) → rest.offset ≤ k → k < start → contains received k ≡ false) → ((k : ℕ) → start ≤ k → k < end → contains received k ≡ true) → IsCut received whole next more
+cut_step received whole rest mid next fronts more start end c f e l m n fresh old =
+    let stop = rest_end received whole rest fronts c in
+    let place = rest_bytes end whole rest mid next start c.from l (omega arith) c.same f.same e in
+    record {
+      from = omega (arith, place.0, c.from);
+      to = omega (arith, place.0);
+      same = record { offset = omega (arith, place.0, c.from); bytes = rw place.0 place.1 };
+      sound = f.sound c.sound;
+      count = λ at. rw place.0 (f.count at ∙ cut_count received whole.offset rest.offset start end at (cover_count at fronts) (c.count at) c.from l m fresh old);
+      origin = λ at byte h. elim (f.origin at byte h) [
+        | inl a ↦ c.origin at byte a
+        | inr p ↦ RunHolds-uncut rest.offset at byte whole (rw (c.same.offset, c.same.bytes) at p)
+      ];
+      pieces = rw place.0 (omega (arith, f.pieces, c.pieces, cut_pieces received whole.offset rest.offset start end c.from l m fresh c.starts));
+      starts = inr (rw place.0 (old (end - 1) (omega arith) (omega arith)));
+    }
+
+-- all that was received is cut out
+pub cut_none : (received : List Range) (whole : Run) → IsCut received whole whole []
+cut_none received whole = record {
+  from = omega arith;
+  to = omega arith;
+  same = record { offset = omega arith; bytes = (let z : whole.offset - whole.offset ≡ 0 = omega arith in rw z refl) };
+  sound = All-nil IsSome;
+  count = λ at. sym (outside_bit whole.offset whole.offset at (contains received at) (lies_none whole.offset whole.offset at (omega arith)));
+  origin = λ at byte h. absurd (Any-nil (RunHolds at byte) h);
+  pieces = omega arith;
+  starts = inl refl;
+}
+
+rest_count : (received : List Range) (low r end at n m : ℕ) → n ≡ bit (lies low r at && not (contains received at)) → m ≡ bit (lies r end at) → low ≤ r → r ≤ end → ((k : ℕ) → r ≤ k → k < end → contains received k ≡ false) → m + n ≡ bit (lies low end at && not (contains received at))
+rest_count received low r end at n m e f a b none = elim (cases_lt at r) [
+  | inl l ↦ omega (arith, lies_below r end at l, same_test low r end at (contains received at) l (omega arith))
+  | inr l ↦ elim (cases_lt at end) [
+    | inl k ↦ omega (arith, lies_in r end at l k, outside_bit low r at (contains received at) (lies_above low r at l), fresh_bit low end at (contains received at) (none at l k), lies_in low end at (omega arith) k)
+    | inr k ↦ omega (arith, lies_above r end at k, outside_bit low r at (contains received at) (lies_above low r at l), outside_bit low end at (contains received at) (lies_above low end at k))
+  ]
+]
+
+rest_pieces : (received : List Range) (low r end : ℕ) → low ≤ r → r ≤ end → ((k : ℕ) → r ≤ k → k < end → contains received k ≡ false) → (r ≡ low) ⊎ (contains received (r - 1) ≡ true) → run_count (contains received) low (r - low) + min 1 (end - r) ≤ run_count (contains received) low (end - low)
+rest_pieces received low r end a b none s = elim (cases_lt r end) [
+  | inl l ↦ (
+      let at : low + (r - low) ≡ r = omega arith in
+      omega (arith, run_count-more (contains received) low (r - low) (end - low) (rw at (starts_here (contains received) low r (none r (omega arith) l) s)) (omega arith)))
+  | inr l ↦ omega (arith, run_count-mono (contains received) low (r - low) (end - low) (omega arith))
+]
+
+pub takes_fresh : (received : List Range) (whole rest : Run) (fronts xs ms ys : List Run) → IsCut received whole rest fronts → NoneReceived received rest
+    → ((at : ℕ) → cover_count at ms ≡ cover_count at xs + cover_count at fronts) → ((at byte : ℕ) → Any (RunHolds at byte) ms → Any (RunHolds at byte) xs ⊎ Any (RunHolds at byte) fronts) → length ms ≡ length xs + length fronts
+    → ((at : ℕ) → cover_count at ys ≡ cover_count at (rest ∷ ms)) → ((at byte : ℕ) → Any (RunHolds at byte) ys → Any (RunHolds at byte) (rest ∷ ms)) → length ys ≡ length ms + min 1 (length rest.bytes)
+    → TakesFresh received whole xs ys
+takes_fresh received whole rest fronts xs ms ys c none n1 o1 l1 n2 o2 l2 =
+    let stop = rest_end received whole rest fronts c in
+    let none' : (k : ℕ) → rest.offset ≤ k → k < run_end whole → contains received k ≡ false = λ k l m. none k l (omega arith) in
+    record {
+      count = λ at. omega (arith, n1 at, n2 at, rest_count received whole.offset rest.offset (run_end whole) at (cover_count at fronts) (covers at rest) (c.count at) (same_bit at rest.offset rest.offset (run_end rest) (run_end whole) refl stop) c.from c.to none');
+      origin = λ at byte h. elim (Any-cons _ _ _ (o2 at byte h)) [
+        | inl p ↦ inr (RunHolds-uncut rest.offset at byte whole (rw (c.same.offset, c.same.bytes) at p), none at p.0 p.1)
+        | inr a ↦ elim (o1 at byte a) [
+          | inl b ↦ inl b
+          | inr b ↦ inr (c.origin at byte b, (bit_of_fresh (lies whole.offset rest.offset at) (contains received at) (rw (← c.count at) (count_of_any at fronts (covers_from_holds at byte fronts b)))).1)
+        ]
+      ];
+      pieces =
+          let n : run_end whole - whole.offset ≡ length whole.bytes = omega arith in
+          omega (arith, l1, l2, c.pieces, stop, rw n at (rest_pieces received whole.offset rest.offset (run_end whole) c.from c.to none' c.starts));
+    }

@@ -1,0 +1,9 @@
+use Rattle.std.proofs.Common.{arith}
+use Rattle.quic_assembler.proofs.Fresh.{fronts_none, fronts_split}
+use Rattle.quic_assembler.proofs.unreceived.split_fresh.Goals as goal
+
+pub returns-then-offset-start : goal.returns-then-offset-start
+returns-then-offset-start c = fronts_none _ _ _ (omega arith)
+
+pub returns : goal.returns
+returns c = fronts_split _ _ _ c.in_ok-front.front _ _ (omega (arith, c.requires.from, c.offset.ensures)) c.requires.to c.in_ok-front.ensures.rest c.in_ok-front.ensures.offset c.in_ok-front.ensures.bytes c.in_ok-push.ensures.items

@@ -1,0 +1,181 @@
+-- What contracts see of an assembler.
+use Rattle.quic_values.specs.Runs.{contains, Run as Range}
+use Rattle.std.specs.Prelude.{◌≡◌, ◌==◌, ◌&&◌, ◌||◌, ◌-◌, ◌*◌, ◌/◌, ◌^◌, ◌↔◌, sum_by, max, min, not, zero, suc, true, false, nat_lt, ℕ, Bool, ◌+◌, ◌≤◌, ◌<◌, ◌⊎◌, List, length, cond, Option, Result, IfOk, IfSome, MatchOption, Ok, Err}
+use Rattle.quic_assembler.specs.declared.errors.InsertError.{InsertError}
+use Rattle.quic_assembler.specs.declared.errors.InsertError.TheVariants.{TooManyChunks, CompactionMemory, OutOfMemory}
+use Rattle.std.specs.List.{Any, All}
+use Rattle.quic_assembler.specs.Piece.{Run, RunHolds, Covers, IsByteAt, bit, lies, cover_count, run_end, cut_at, HoldsSame, IsSome, run_length, run_allocation}
+
+-- the pieces that are held, in no order; the offsets ever received or read, in unordered mode
+pub record Reassembly : Type 0 where
+  pub runs : List Run
+  pub received : List Range
+  pub bytes_read : ℕ
+  pub ordered : Bool
+  pub highest : ℕ
+
+-- in ordered mode, what lies below is taken no more
+abbrev pub floor : Reassembly → ℕ
+floor a = cond a.ordered a.bytes_read 0
+
+-- whether an offset is taken no more: in ordered mode those below the number read, in unordered mode those ever received or read
+unfoldable pub is_done : Reassembly → ℕ → Bool
+is_done a at = cond a.ordered (nat_lt at a.bytes_read) (contains a.received at)
+
+abbrev pub IsDone : Reassembly → ℕ → Type 0
+IsDone a at = is_done a at ≡ true
+
+unfoldable pub Holds : Reassembly → ℕ → ℕ → Type 0
+Holds a at byte = (floor a ≤ at) × Any (RunHolds at byte) a.runs
+
+abbrev pub piece_count : Reassembly → ℕ
+piece_count a = length a.runs
+
+-- an offset that is not done, and before which the bytes from offset on begin or are done
+abbrev pub starts_run : (ℕ → Bool) → ℕ → ℕ → Bool
+starts_run done offset at = not (done at) && ((at == offset) || done (at - 1))
+
+-- how many longest runs of offsets that are not done there are among so many from offset on
+abbrev pub run_count : (ℕ → Bool) → ℕ → ℕ → ℕ
+run_count done offset zero = 0
+run_count done offset (suc n) = run_count done offset n + bit (starts_run done offset (offset + n))
+
+-- the sum of f below n
+unfoldable pub tally : ℕ → (ℕ → ℕ) → ℕ
+tally zero f = 0
+tally (suc n) f = tally n f + f n
+
+-- in unordered mode no two pieces overlap, what is held was received, and what was read was received before
+pub record IsApart (runs : List Run) (received : List Range) (bytes_read : ℕ) : Type 0 where
+  pub count : (at : ℕ) → cover_count at runs ≤ bit (contains received at)
+  pub read : bytes_read + tally (2 ^ 62) (λ at. cover_count at runs) ≤ tally (2 ^ 62) (λ at. bit (contains received at))
+
+-- what is true of every assembler
+pub record IsAssembler (runs : List Run) (received : List Range) (ordered : Bool) (bytes_read : ℕ) : Type 0 where
+  pub bounded : bytes_read ≤ 2 ^ 62
+  pub apart : ordered ≡ false → IsApart runs received bytes_read
+
+-- ys hold what xs hold, and of a run what was not received
+pub record TakesFresh (received : List Range) (whole : Run) (xs ys : List Run) : Type 0 where
+  pub count : (at : ℕ) → cover_count at ys ≡ cover_count at xs + bit (lies whole.offset (run_end whole) at && not (contains received at))
+  pub origin : (at byte : ℕ) → Any (RunHolds at byte) ys → Any (RunHolds at byte) xs ⊎ (RunHolds at byte whole × (contains received at ≡ false))
+  pub pieces : length ys ≤ length xs + run_count (contains received) whole.offset (length whole.bytes)
+
+-- what lies before start was taken off `rest`, and is behind the fronts
+pub record TakesFront (start : ℕ) (rest rest' : Run) (fronts fronts' : List Run) : Type 0 where
+  pub same : HoldsSame (cut_at start rest) rest'
+  pub count : (at : ℕ) → cover_count at fronts' ≡ cover_count at fronts + bit (lies rest.offset start at)
+  pub origin : (at byte : ℕ) → Any (RunHolds at byte) fronts' → Any (RunHolds at byte) fronts ⊎ RunHolds at byte rest
+  pub pieces : length fronts' ≤ length fronts + min 1 (start - rest.offset)
+  pub sound : All IsSome fronts → All IsSome fronts'
+
+-- no offset of the run was received
+abbrev pub NoneReceived : List Range → Run → Type 0
+NoneReceived received r = (at : ℕ) → r.offset ≤ at → at < run_end r → contains received at ≡ false
+
+-- what was received before was cut out of the front of a run: `fronts` is what is left of it, `rest` is still to be cut
+pub record IsCut (received : List Range) (whole rest : Run) (fronts : List Run) : Type 0 where
+  pub from : whole.offset ≤ rest.offset
+  pub to : rest.offset ≤ run_end whole
+  pub same : HoldsSame (cut_at rest.offset whole) rest
+  pub sound : All IsSome fronts
+  pub count : (at : ℕ) → cover_count at fronts ≡ bit (lies whole.offset rest.offset at && not (contains received at))
+  pub origin : (at byte : ℕ) → Any (RunHolds at byte) fronts → RunHolds at byte whole
+  pub pieces : length fronts ≤ run_count (contains received) whole.offset (rest.offset - whole.offset)
+  pub starts : (rest.offset ≡ whole.offset) ⊎ (contains received (rest.offset - 1) ≡ true)
+
+-- some byte is held there
+abbrev pub IsHeld : (ℕ → ℕ → Type 0) → ℕ → Type 0
+IsHeld held at = (byte : ℕ) × held at byte
+
+-- an offset of the bytes that start at offset
+abbrev pub IsWithin : ℕ → List ℕ → ℕ → Type 0
+IsWithin offset bytes at = (offset ≤ at) × (at < offset + length bytes)
+
+-- held' is held and the bytes that start at offset, where they are not done; of two bytes at one offset one may go
+pub record Takes (held held' : ℕ → ℕ → Type 0) (done : ℕ → Type 0) (offset : ℕ) (bytes : List ℕ) : Type 0 where
+  pub keeps : (at : ℕ) → IsHeld held at → IsHeld held' at
+  pub gains : (at : ℕ) → IsWithin offset bytes at → done at ⊎ IsHeld held' at
+  pub origin : (at byte : ℕ) → held' at byte → held at byte ⊎ IsByteAt offset bytes at byte
+  pub fresh : (at byte : ℕ) → held' at byte → held at byte ⊎ (done at → ⊥)
+
+-- the same bytes are held
+pub record SameHeld (held held' : ℕ → ℕ → Type 0) : Type 0 where
+  pub keeps : (at byte : ℕ) → held at byte → held' at byte
+  pub origin : (at byte : ℕ) → held' at byte → held at byte
+
+-- the same offsets are held, and no byte that was not; of two bytes at one offset one may go
+pub record KeepsOffsets (held held' : ℕ → ℕ → Type 0) : Type 0 where
+  pub keeps : (at : ℕ) → IsHeld held at → IsHeld held' at
+  pub origin : (at byte : ℕ) → held' at byte → held at byte
+
+-- held' is held without the bytes that start at offset, which were held
+pub record Gives (held held' : ℕ → ℕ → Type 0) (offset : ℕ) (bytes : List ℕ) : Type 0 where
+  pub given : (at byte : ℕ) → IsByteAt offset bytes at byte → held at byte
+  pub gone : (at : ℕ) → IsWithin offset bytes at → IsHeld held' at → ⊥
+  pub keeps : (at byte : ℕ) → held at byte → IsWithin offset bytes at ⊎ held' at byte
+  pub origin : (at byte : ℕ) → held' at byte → held at byte
+
+-- what a read gave, and what it says where nothing was at hand
+abbrev pub IfGiven : {C E : Type 0} → Result (Option C) E → (C → Type 0) → Type 0
+IfGiven r P = IfOk r (λ o. IfSome o P)
+
+abbrev pub OnNothing : {C E : Type 0} → Result (Option C) E → Type 0 → Type 0
+OnNothing r P = IfOk r (λ o. MatchOption o P (λ _. Unit {0}))
+
+-- a piece was kept
+pub record Keeps (old new : Reassembly) (offset : ℕ) (bytes : List ℕ) : Type 0 where
+  pub held : Takes (Holds old) (Holds new) (IsDone old) offset bytes
+  pub done : (at : ℕ) → old.ordered ≡ false → is_done new at ≡ (is_done old at || lies offset (offset + length bytes) at)
+  pub pieces : old.ordered ≡ true → piece_count new ≤ piece_count old + 1
+  pub pieces_unordered : old.ordered ≡ false → piece_count new ≤ piece_count old + run_count (is_done old) offset (length bytes)
+  pub highest : new.highest ≡ max old.highest (offset + length bytes)
+  pub bytes_read : new.bytes_read ≡ old.bytes_read
+  pub ordered : new.ordered ≡ old.ordered
+
+-- reads go on at an offset: in ordered mode behind what was read, in unordered mode at the lowest piece
+pub record IsNext (a : Reassembly) (offset : ℕ) : Type 0 where
+  pub behind : a.ordered ≡ true → offset ≡ a.bytes_read
+  pub lowest : a.ordered ≡ false → All (λ q. offset ≤ q.offset) a.runs
+  pub covered : a.ordered ≡ false → Any (Covers offset) a.runs
+
+-- the mode was changed
+pub record LeavesOrder (old new : Reassembly) : Type 0 where
+  pub held : KeepsOffsets (Holds old) (Holds new)
+  pub done : (at : ℕ) → IsDone new at ↔ ((at < old.bytes_read) ⊎ IsHeld (Holds old) at)
+  pub ordered : new.ordered ≡ false
+  pub bytes_read : new.bytes_read ≡ old.bytes_read
+  pub highest : new.highest ≡ old.highest
+
+-- the piece was kept, or the call had no memory for it
+abbrev pub MatchInsert : Result (Unit {0}) InsertError → Type 0 → Type 0 → Type 0
+MatchInsert (Ok u) P Q = P
+MatchInsert (Err TooManyChunks) P Q = P
+MatchInsert (Err CompactionMemory) P Q = P
+MatchInsert (Err OutOfMemory) P Q = Q
+
+-- no two bytes are held at one offset
+abbrev pub HoldsOnce : (ℕ → ℕ → Type 0) → Type 0
+HoldsOnce held = (at a b : ℕ) → held at a → held at b → a ≡ b
+
+abbrev pub HoldsNothing : (ℕ → ℕ → Type 0) → Type 0
+HoldsNothing held = (at byte : ℕ) → held at byte → ⊥
+
+-- in ordered mode the bytes start below what was read, and end at or below it
+abbrev pub IsStale : Reassembly → ℕ → List ℕ → Type 0
+IsStale a offset bytes = (a.ordered ≡ true) × (offset < a.bytes_read) × (offset + length bytes ≤ a.bytes_read)
+
+-- all but what is held is the same
+pub record IsSameButHeld (a b : Reassembly) : Type 0 where
+  pub bytes_read : b.bytes_read ≡ a.bytes_read
+  pub ordered : b.ordered ≡ a.ordered
+  pub highest : b.highest ≡ a.highest
+  pub done : (at : ℕ) → is_done b at ≡ is_done a at
+
+-- how many bytes are of use: those that are held, and at most those up to the highest end that were not read
+abbrev pub used : Reassembly → ℕ
+used a = min (sum_by run_length a.runs) (a.highest - a.bytes_read)
+
+-- whether too many pieces are held, or they keep too much memory alive
+unfoldable pub is_wasteful : Reassembly → Bool
+is_wasteful a = nat_lt 2048 (length a.runs) || nat_lt (max 32768 (used a * 3 / 2)) (sum_by run_allocation a.runs - used a)

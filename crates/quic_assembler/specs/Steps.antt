@@ -1,0 +1,152 @@
+-- What steps do to a reassembler, one after the other.
+use Rattle.std.specs.Prelude.{ℕ, Bool, true, false, ◌≡◌, ◌+◌, ◌≤◌, ◌<◌, ◌^◌, ◌↔◌, ◌⊎◌, ◌||◌, max, List, [], ◌∷◌, ◌++◌, length, take, slice_index_or, Option, Some, None, option_to_list, Result, MatchResult}
+use Rattle.std.specs.List.{Any, All, AllPairs}
+use Rattle.quic_assembler.specs.declared.steps.Op.{Op}
+use Rattle.quic_assembler.specs.declared.steps.Op.TheVariants.{Insert, Read, Unordered}
+use Rattle.quic_assembler.specs.declared.steps.ReplayError.{ReplayError}
+use Rattle.quic_assembler.specs.declared.steps.ReplayError.TheVariants.{TooManyChunks, CompactionMemory, OutOfMemory, BadPiece}
+use Rattle.quic_assembler.specs.declared.chunk.Chunk.{Chunk}
+use Rattle.quic_assembler.specs.Piece.{IsByteAt, lies}
+use Rattle.quic_assembler.specs.Reassembly.{IsHeld, IsWithin, Takes, Gives, SameHeld, KeepsOffsets, HoldsNothing, run_count}
+
+-- what a reassembler holds, what it is done with, how many offsets were read, its mode, the highest end, and how many pieces it holds
+pub record State : Type 1 where
+  pub held : ℕ → ℕ → Type 0
+  pub done : ℕ → Bool
+  pub read : ℕ
+  pub ordered : Bool
+  pub highest : ℕ
+  pub pieces : ℕ
+
+abbrev pub IsDoneIn : State → ℕ → Type 0
+IsDoneIn s at = s.done at ≡ true
+
+abbrev pub state_of : {S : Type 0} → (S → ℕ → ℕ → Type 0) → (S → ℕ → Bool) → (S → ℕ) → (S → Bool) → (S → ℕ) → (S → ℕ) → S → State
+state_of holds done read ordered highest pieces s = record { held = holds s; done = done s; read = read s; ordered = ordered s; highest = highest s; pieces = pieces s }
+
+-- bytes were inserted and kept
+pub record Inserts (a b : State) (offset : ℕ) (bytes : List ℕ) : Type 0 where
+  pub held : Takes a.held b.held (IsDoneIn a) offset bytes
+  pub done : (at : ℕ) → a.ordered ≡ false → b.done at ≡ (a.done at || lies offset (offset + length bytes) at)
+  pub read : b.read ≡ a.read
+  pub ordered : b.ordered ≡ a.ordered
+  pub highest : b.highest ≡ max a.highest (offset + length bytes)
+  pub pieces : a.ordered ≡ true → b.pieces ≤ a.pieces + 1
+  pub pieces_unordered : a.ordered ≡ false → b.pieces ≤ a.pieces + run_count a.done offset (length bytes)
+
+-- a chunk was read
+pub record Reads (a b : State) (most : ℕ) (chunk : Chunk) : Type 0 where
+  pub gives : Gives a.held b.held chunk.offset chunk.bytes
+  pub limit : length chunk.bytes ≤ most
+  pub some : 0 < most → 0 < length chunk.bytes
+  pub start : a.ordered ≡ true → chunk.offset ≡ a.read
+  pub lowest : (at : ℕ) → at < chunk.offset → IsHeld a.held at → ⊥
+  pub moves : b.read ≡ a.read + length chunk.bytes
+  pub taken : (at : ℕ) → IsWithin chunk.offset chunk.bytes at → IsDoneIn b at
+  pub done : (at : ℕ) → a.ordered ≡ false → b.done at ≡ a.done at
+  pub ordered : b.ordered ≡ a.ordered
+  pub highest : b.highest ≡ a.highest
+  pub pieces : b.pieces ≤ a.pieces
+
+-- all is as before, but for pieces that are gone
+pub record Stays (a b : State) : Type 0 where
+  pub held : SameHeld a.held b.held
+  pub done : (at : ℕ) → a.ordered ≡ false → b.done at ≡ a.done at
+  pub read : b.read ≡ a.read
+  pub ordered : b.ordered ≡ a.ordered
+  pub highest : b.highest ≡ a.highest
+  pub pieces : b.pieces ≤ a.pieces
+
+-- there was nothing to read
+pub record ReadsNothing (a b : State) : Type 0 where
+  pub stays : Stays a b
+  pub none : a.ordered ≡ true → IsHeld a.held a.read → ⊥
+  pub none_unordered : a.ordered ≡ false → HoldsNothing a.held
+
+-- unordered mode holds from here on
+pub record Leaves (a b : State) : Type 0 where
+  pub held : KeepsOffsets a.held b.held
+  pub done : a.ordered ≡ true → (at : ℕ) → IsDoneIn b at ↔ ((at < a.read) ⊎ IsHeld a.held at)
+  pub done_same : a.ordered ≡ false → (at : ℕ) → b.done at ≡ a.done at
+  pub read : b.read ≡ a.read
+  pub ordered : b.ordered ≡ false
+  pub highest : b.highest ≡ a.highest
+  pub pieces : b.pieces ≤ a.pieces
+
+-- a step that was taken, and the chunk that it gave
+abbrev pub TakesStep : Op → State → Option Chunk → State → Type 0
+TakesStep (Insert offset bytes size) a o b = (o ≡ None) × Inserts a b offset bytes × (b.pieces ≤ 2048 ⊎ ((a.ordered ≡ true) × (offset < a.read) × (offset + length bytes ≤ a.read)))
+TakesStep (Read most) a None b = ReadsNothing a b
+TakesStep (Read most) a (Some chunk) b = Reads a b most chunk
+TakesStep Unordered a o b = (o ≡ None) × Leaves a b
+
+-- why a step was refused, and what it left
+abbrev pub Refuses : Op → ReplayError → State → State → Type 0
+Refuses (Insert offset bytes size) TooManyChunks a b = Inserts a b offset bytes × (1024 < b.pieces)
+Refuses (Insert offset bytes size) CompactionMemory a b = Inserts a b offset bytes
+Refuses (Insert offset bytes size) BadPiece a b = Stays a b × ((2 ^ 62 ≤ offset + length bytes) ⊎ (size < length bytes))
+Refuses (Insert offset bytes size) OutOfMemory a b = Stays a b
+Refuses (Read most) OutOfMemory a b = Stays a b
+Refuses (Read most) e a b = ⊥
+Refuses Unordered OutOfMemory a b = Stays a b
+Refuses Unordered e a b = ⊥
+
+-- the steps lead from a to b, one after the other, and gave the chunks
+abbrev pub Replays : {S : Type 0} → (S → State) → List Op → S → List Chunk → S → Type 0
+Replays value [] a given b = (b ≡ a) × (given ≡ [])
+Replays {S} value (op ∷ ops) a given b = (mid : S) × (chunk : Option Chunk) × (rest : List Chunk) × TakesStep op (value a) chunk (value mid) × Replays value ops mid rest b × (given ≡ option_to_list chunk ++ rest)
+
+-- the step brings `byte` at `at`
+abbrev pub Carries : ℕ → ℕ → Op → Type 0
+Carries at byte (Insert offset bytes size) = IsByteAt offset bytes at byte
+Carries at byte (Read most) = ⊥
+Carries at byte Unordered = ⊥
+
+-- each byte of the chunk was brought by a step
+abbrev pub IsCarriedBy : List Op → Chunk → Type 0
+IsCarriedBy ops chunk = (at byte : ℕ) → IsByteAt chunk.offset chunk.bytes at byte → Any (Carries at byte) ops
+
+-- no offset is in both
+abbrev pub AreApart : Chunk → Chunk → Type 0
+AreApart c d = (at : ℕ) → IsWithin c.offset c.bytes at → IsWithin d.offset d.bytes at → ⊥
+
+-- the chunks follow each other without a gap
+abbrev pub Follows : ℕ → List Chunk → ℕ → Type 0
+Follows start [] end = start ≡ end
+Follows start (c ∷ cs) end = (c.offset ≡ start) × Follows (start + length c.bytes) cs end
+
+-- the steps before the first change of mode
+abbrev pub ordered_steps : List Op → List Op
+ordered_steps [] = []
+ordered_steps (Insert offset bytes size ∷ ops) = Insert offset bytes size ∷ ordered_steps ops
+ordered_steps (Read most ∷ ops) = Read most ∷ ordered_steps ops
+ordered_steps (Unordered ∷ ops) = []
+
+-- the steps from the first change of mode on
+abbrev pub later_steps : List Op → List Op
+later_steps [] = []
+later_steps (Insert offset bytes size ∷ ops) = later_steps ops
+later_steps (Read most ∷ ops) = later_steps ops
+later_steps (Unordered ∷ ops) = Unordered ∷ ops
+
+-- the steps before the first change of mode gave `first`, without a gap from 0, and the others gave `later`
+pub record IsGapless {S : Type 0} (value : S → State) (ops : List Op) (a b : S) (given : List Chunk) : Type 0 where
+  pub mid : S
+  pub first : List Chunk
+  pub later : List Chunk
+  pub given_is : given ≡ first ++ later
+  pub before : Replays value (ordered_steps ops) a first mid
+  pub after : Replays value (later_steps ops) mid later b
+  pub follows : Follows 0 first ((value mid).read)
+
+-- so many steps were taken, up to a refusal or all of them, and what they gave was put behind `out`
+pub record IsReplay {S : Type 0} (value : S → State) (ops : List Op) (a b : S) (out next : List Chunk) (r : Result (Unit {0}) ReplayError) : Type 0 where
+  pub taken : ℕ
+  pub mid : S
+  pub given : List Chunk
+  pub added : next ≡ out ++ given
+  pub steps : Replays value (take taken ops) a given mid
+  pub end : MatchResult r (λ _. (taken ≡ length ops) × (b ≡ mid)) (λ e. (taken < length ops) × ((d : Op) → Refuses (slice_index_or ops taken d) e (value mid) (value b)))
+  pub carried : All (IsCarriedBy ops) given
+  pub apart : AllPairs AreApart given
+  pub gapless : IsGapless value (take taken ops) a mid given

@@ -1,0 +1,178 @@
+// A list of steps on any reassembler.
+ghost use Rattle.std.specs.Prelude.{◌≡◌, ℕ, ◌+◌, ◌^◌, ◌<◌, ◌≤◌, ◌⊎◌, Bool, true, false, OnOk, OnErr, IfOk, IfErr, length, take, vec_len, vec_capacity, option_to_list, IsTrue, [], ◌∷◌, ◌++◌};
+ghost use Rattle.quic_assembler.specs.Reassembly.{HoldsNothing};
+ghost use Rattle.quic_assembler.specs.Steps.{state_of, TakesStep, Refuses, IsReplay};
+
+use crate::chunk::Chunk;
+use crate::errors::InsertError;
+use crate::reassemble::Reassemble;
+use quic_values::{Bytes, OutOfMemory};
+use thiserror::Error;
+
+/// A step of [`replay`].
+#[derive(Debug, Drop, PartialEq, Eq)]
+pub enum Op {
+    /// Inserts a copy of the bytes.
+    Insert {
+        /// Where the bytes stand in the stream.
+        offset: u64,
+        /// The bytes.
+        bytes: Bytes,
+        /// How much memory they keep alive.
+        allocation_size: usize,
+    },
+    /// Reads in the mode that holds.
+    Read {
+        /// At most so many bytes.
+        max_length: usize,
+    },
+    /// Goes to unordered mode, if that does not hold already.
+    Unordered,
+}
+
+/// Why [`replay`] stopped.
+#[derive(Clone, Copy, Debug, Error, PartialEq, Eq)]
+pub enum ReplayError {
+    /// More than 1024 pieces are held after compaction. The last piece is kept.
+    #[error("too many pieces")]
+    TooManyChunks,
+    /// There was no memory to compact what is held. The last piece is kept.
+    #[error("no memory for compaction")]
+    CompactionMemory,
+    /// There was no memory. The last step was not taken.
+    #[error("out of memory")]
+    OutOfMemory,
+    /// A piece ends at 2^62 or above, or is longer than its allocation. Its step was not taken.
+    #[error("piece out of range")]
+    BadPiece,
+}
+
+impl From<OutOfMemory> for ReplayError {
+    ghost use Rattle.quic_assembler.specs.declared.steps.ReplayError.TheVariants.{OutOfMemory};
+    ghost use Rattle.std.specs.Prelude.{◌≡◌};
+
+    ghost from_gives = { λ _ error. error ≡ OutOfMemory };
+
+    fn from(_error: OutOfMemory) -> Self {
+        ReplayError::OutOfMemory
+    }
+}
+
+// Whether a piece may be inserted.
+fn is_piece(offset: u64, length: usize, allocation_size: usize) -> bool
+    ensures yes { IsTrue result → (offset + length < 2 ^ 62) × (length ≤ allocation_size) }
+    ensures no { result ≡ false → (2 ^ 62 ≤ offset + length) ⊎ (allocation_size < length) }
+{
+    if length > allocation_size {
+        return false;
+    }
+    let limit = 1 << 62;
+    offset < limit && (length as u64) < limit - offset
+}
+
+// Inserts a copy of the bytes.
+fn insert_copy<R: Reassemble>(
+    r: &mut R,
+    offset: u64,
+    bytes: &Bytes,
+    allocation_size: usize,
+) -> Result<Option<Chunk>, ReplayError>
+    ensures ok { IfOk result (λ chunk. TakesStep (Op.Insert offset bytes.now allocation_size) (state_of R.holds R.is_done R.read_count R.is_ordered R.highest R.piece_count r.old) chunk (state_of R.holds R.is_done R.read_count R.is_ordered R.highest R.piece_count r.new)) }
+    ensures err { IfErr result (λ e. Refuses (Op.Insert offset bytes.now allocation_size) e (state_of R.holds R.is_done R.read_count R.is_ordered R.highest R.piece_count r.old) (state_of R.holds R.is_done R.read_count R.is_ordered R.highest R.piece_count r.new)) }
+{
+    if !is_piece(offset, bytes.len(), allocation_size) {
+        return Err(ReplayError::BadPiece);
+    }
+    let copy = bytes.try_clone()?;
+    match r.insert(offset, copy, allocation_size) {
+        Ok(()) => Ok(None),
+        Err(InsertError::TooManyChunks) => Err(ReplayError::TooManyChunks),
+        Err(InsertError::CompactionMemory) => Err(ReplayError::CompactionMemory),
+        Err(InsertError::OutOfMemory) => Err(ReplayError::OutOfMemory),
+    }
+}
+
+// Reads in the mode that holds.
+fn read_next<R: Reassemble>(
+    r: &mut R,
+    max_length: usize,
+    ordered: bool,
+) -> Result<Option<Chunk>, ReplayError>
+    requires { ordered ≡ R.is_ordered r.old }
+    ensures ok { IfOk result (λ chunk. TakesStep (Op.Read max_length) (state_of R.holds R.is_done R.read_count R.is_ordered R.highest R.piece_count r.old) chunk (state_of R.holds R.is_done R.read_count R.is_ordered R.highest R.piece_count r.new)) }
+    ensures err { IfErr result (λ e. Refuses (Op.Read max_length) e (state_of R.holds R.is_done R.read_count R.is_ordered R.highest R.piece_count r.old) (state_of R.holds R.is_done R.read_count R.is_ordered R.highest R.piece_count r.new)) }
+{
+    match r.read(max_length, ordered)? {
+        None => Ok(None),
+        Some(chunk) => Ok(Some(chunk)),
+    }
+}
+
+// Goes to unordered mode.
+fn leave_order<R: Reassemble>(r: &mut R) -> Result<Option<Chunk>, ReplayError>
+    ensures ok { IfOk result (λ chunk. TakesStep Op.Unordered (state_of R.holds R.is_done R.read_count R.is_ordered R.highest R.piece_count r.old) chunk (state_of R.holds R.is_done R.read_count R.is_ordered R.highest R.piece_count r.new)) }
+    ensures err { IfErr result (λ e. Refuses Op.Unordered e (state_of R.holds R.is_done R.read_count R.is_ordered R.highest R.piece_count r.old) (state_of R.holds R.is_done R.read_count R.is_ordered R.highest R.piece_count r.new)) }
+{
+    if r.ensure_ordering(false).is_err() {
+        return Err(ReplayError::OutOfMemory);
+    }
+    Ok(None)
+}
+
+// Takes a step, and answers the chunk that it gave. `ordered` is the mode.
+fn take_step<R: Reassemble>(
+    r: &mut R,
+    op: &Op,
+    ordered: &mut bool,
+) -> Result<Option<Chunk>, ReplayError>
+    requires { ordered.old ≡ R.is_ordered r.old }
+    ensures ok { IfOk result (λ chunk. TakesStep op.now (state_of R.holds R.is_done R.read_count R.is_ordered R.highest R.piece_count r.old) chunk (state_of R.holds R.is_done R.read_count R.is_ordered R.highest R.piece_count r.new)) }
+    ensures err { IfErr result (λ e. Refuses op.now e (state_of R.holds R.is_done R.read_count R.is_ordered R.highest R.piece_count r.old) (state_of R.holds R.is_done R.read_count R.is_ordered R.highest R.piece_count r.new)) }
+    ensures mode { OnOk result (ordered.new ≡ R.is_ordered r.new) }
+{
+    match op {
+        Op::Insert {
+            offset,
+            bytes,
+            allocation_size,
+        } => insert_copy(r, *offset, bytes, *allocation_size),
+        Op::Read { max_length } => read_next(r, *max_length, *ordered),
+        Op::Unordered => {
+            let none = leave_order(r)?;
+            *ordered = false;
+            Ok(none)
+        }
+    }
+}
+
+// There is room.
+fn keep(out: &mut Vec<Chunk>, given: Option<Chunk>)
+    requires { vec_len out.old < vec_capacity out.old }
+    ensures { out.new.items ≡ out.old.items ++ option_to_list given }
+{
+    if let Some(chunk) = given {
+        if out.push(chunk).is_err() {
+            unreachable!();
+        }
+    }
+}
+
+/// Takes the steps in order, on a reassembler that holds nothing, has read nothing and is in ordered mode. A chunk that
+/// a read gives goes behind `out`; a read that gives none adds nothing. It stops at the first refusal: the steps
+/// before it stand, in `r` and in `out`.
+pub fn replay<R: Reassemble>(r: &mut R, ops: &[Op], out: &mut Vec<Chunk>) -> Result<(), ReplayError>
+    requires ordered { R.is_ordered r.old ≡ true }
+    requires fresh { R.read_count r.old ≡ 0 }
+    requires empty { HoldsNothing (R.holds r.old) }
+    ensures { IsReplay (state_of R.holds R.is_done R.read_count R.is_ordered R.highest R.piece_count) ops.now r.old r.new out.old.items out.new.items result }
+{
+    let mut ordered = true;
+    for op in ops {
+        if out.reserve(1).is_err() {
+            return Err(ReplayError::OutOfMemory);
+        }
+        let chunk = take_step(r, op, &mut ordered)?;
+        keep(out, chunk);
+    }
+    Ok(())
+}

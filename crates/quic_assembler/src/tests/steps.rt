@@ -1,0 +1,98 @@
+use super::{Assembler, Bytes, Chunk, Fail, Op, ReplayError, bytes, replay};
+use std::alloc::{AllocError, Global};
+use std::process::Abort;
+
+fn insert(alloc: Global, offset: u64, text: &str) -> Result<Op, AllocError> {
+    Ok(Op::Insert {
+        offset,
+        bytes: bytes(alloc, text)?,
+        allocation_size: text.len(),
+    })
+}
+
+const READ: usize = 32;
+
+// Asserts what a replay answers and gives.
+fn assert_replay(
+    rt: &impl Abort,
+    alloc: Global,
+    ops: &[Op],
+    answer: Result<(), ReplayError>,
+    wanted: &[(u64, &str)],
+) -> Result<(), Fail> {
+    let mut a = Assembler::new(alloc);
+    let mut out: Vec<Chunk> = Vec::new(alloc);
+    assert_eq!(rt; replay(&mut a, ops, &mut out), answer);
+    assert_eq!(rt; out.len(), wanted.len());
+    for (chunk, (offset, text)) in out.iter().zip(wanted) {
+        assert_eq!(rt; chunk.offset, *offset);
+        assert_eq!(rt; chunk.bytes.as_slice(), text.as_bytes());
+    }
+    Ok(())
+}
+
+#[test]
+fn replays_what_overlaps(rt: HostRuntime) -> Result<(), Fail> {
+    let alloc = rt.alloc();
+    let ops = vec![in alloc;
+        insert(alloc, 0, "123")?,
+        insert(alloc, 1, "234")?,
+        Op::Read { max_length: READ },
+        Op::Read { max_length: READ },
+        Op::Read { max_length: READ },
+    ]?;
+    assert_replay(&rt, alloc, &ops, Ok(()), &[(0, "123"), (3, "4")])
+}
+
+#[test]
+fn replays_a_change_of_mode(rt: HostRuntime) -> Result<(), Fail> {
+    let alloc = rt.alloc();
+    let ops = vec![in alloc;
+        insert(alloc, 0, "123")?,
+        insert(alloc, 1, "234")?,
+        Op::Read { max_length: READ },
+        Op::Unordered,
+        Op::Unordered,
+        Op::Read { max_length: READ },
+        Op::Read { max_length: READ },
+    ]?;
+    assert_replay(&rt, alloc, &ops, Ok(()), &[(0, "123"), (3, "4")])
+}
+
+#[test]
+fn replays_unordered_reads(rt: HostRuntime) -> Result<(), Fail> {
+    let alloc = rt.alloc();
+    let ops = vec![in alloc;
+        Op::Unordered,
+        insert(alloc, 3, "def")?,
+        Op::Read { max_length: READ },
+        Op::Read { max_length: READ },
+        insert(alloc, 0, "a")?,
+        insert(alloc, 0, "abcdefghi")?,
+        insert(alloc, 0, "abcd")?,
+        Op::Read { max_length: READ },
+        Op::Read { max_length: READ },
+        Op::Read { max_length: READ },
+        Op::Read { max_length: READ },
+    ]?;
+    let wanted = [(3, "def"), (0, "a"), (1, "bc"), (6, "ghi")];
+    assert_replay(&rt, alloc, &ops, Ok(()), &wanted)
+}
+
+#[test]
+fn stops_at_a_bad_piece(rt: HostRuntime) -> Result<(), Fail> {
+    let alloc = rt.alloc();
+    let ops = vec![in alloc;
+        insert(alloc, 0, "ab")?,
+        Op::Read { max_length: READ },
+        Op::Insert {
+            offset: 2,
+            bytes: bytes(alloc, "cd")?,
+            allocation_size: 1
+        },
+        Op::Read { max_length: READ },
+    ]?;
+    assert_replay(&rt, alloc, &ops, Err(ReplayError::BadPiece), &[(0, "ab")])?;
+    let ops = vec![in alloc; insert(alloc, (1 << 62) - 2, "ab")?]?;
+    assert_replay(&rt, alloc, &ops, Err(ReplayError::BadPiece), &[])
+}

@@ -1,0 +1,100 @@
+// What of a piece was not received before.
+ghost use Rattle.std.specs.Prelude.{◌≡◌, ℕ, ◌+◌, ◌-◌, ◌^◌, ◌<◌, ◌≤◌, ◌⊎◌, true, false, [], ◌∷◌, ◌++◌, length, max, min, take, drop, ◌||◌, IfOk, OnOk, OnErr, vec_len, IsTrue};
+ghost use Rattle.std.specs.List.{Any, All};
+ghost use Rattle.quic_values.specs.Runs.{contains};
+ghost use Rattle.quic_assembler.specs.Piece.{Run, run_end, cut_at, covers, cover_count, lies, IsSome, RunHolds};
+ghost use Rattle.quic_assembler.specs.Reassembly.{IsCut, TakesFront, TakesFresh, NoneReceived};
+
+use crate::piece::Piece;
+use crate::pieces::Pieces;
+use quic_values::{OutOfMemory, RangeSet};
+use std::alloc::Global;
+
+// Takes what lies before `start` off the rest, and puts it behind the fronts.
+fn split_fresh(rest: &mut Piece, start: u64, fronts: &mut Vec<Piece>) -> Result<(), OutOfMemory>
+    requires from { rest.old.offset ≤ start }
+    requires to { start ≤ run_end rest.old }
+    ensures { OnOk result (TakesFront start rest.old rest.new fronts.old.items fronts.new.items) }
+{
+    if rest.offset() == start {
+        return Ok(());
+    }
+    let front = rest.split_front(start)?;
+    fronts.push(front)?;
+    Ok(())
+}
+
+// Cuts the next range that was received out of the rest, and puts what lies before it behind the fronts. Answers
+// whether there was one.
+fn cut_next(
+    received: &RangeSet,
+    rest: &mut Piece,
+    fronts: &mut Vec<Piece>,
+) -> Result<bool, OutOfMemory>
+    ensures cut { (whole : Run) → IsCut received.now whole rest.old fronts.old.items → OnOk result (IsCut received.now whole rest.new fronts.new.items) }
+    ensures less { IfOk result (λ found. IsTrue found → length rest.new.bytes < length rest.old.bytes) }
+    ensures none { IfOk result (λ found. found ≡ false → NoneReceived received.now rest.new) }
+{
+    let Some(range) = received.run_from(rest.offset()) else {
+        return Ok(false);
+    };
+    let end = rest.end();
+    if range.start >= end {
+        return Ok(false);
+    }
+    split_fresh(rest, range.start, fronts)?;
+    rest.cut_below(range.end.min(end));
+    Ok(true)
+}
+
+// Cuts all that was received out of the rest.
+fn cut_all(
+    received: &RangeSet,
+    rest: &mut Piece,
+    fronts: &mut Vec<Piece>,
+) -> Result<(), OutOfMemory>
+    requires { fronts.old.items ≡ [] }
+    ensures cut { OnOk result (IsCut received.now rest.old rest.new fronts.new.items) }
+    ensures none { OnOk result (NoneReceived received.now rest.new) }
+{
+    while cut_next(received, rest, fronts)? {}
+    Ok(())
+}
+
+// There is room.
+fn put_all(pieces: &mut Pieces, fronts: Vec<Piece>)
+    requires some { All IsSome fronts.items }
+    requires room { length pieces.old.runs + vec_len fronts ≤ pieces.old.room }
+    ensures count { (at : ℕ) → cover_count at pieces.new.runs ≡ cover_count at pieces.old.runs + cover_count at fronts.items }
+    ensures origin { (at byte : ℕ) → Any (RunHolds at byte) pieces.new.runs → Any (RunHolds at byte) pieces.old.runs ⊎ Any (RunHolds at byte) fronts.items }
+    ensures len { length pieces.new.runs ≡ length pieces.old.runs + vec_len fronts }
+    ensures room { pieces.old.room ≤ pieces.new.room }
+{
+    for front in fronts {
+        pieces.put(front);
+    }
+}
+
+/// Holds of a piece what was not received, each longest run of it as a piece, and counts all of it as received.
+pub(crate) fn hold_unreceived(
+    pieces: &mut Pieces,
+    received: &mut RangeSet,
+    piece: Piece,
+    alloc: Global,
+) -> Result<(), OutOfMemory>
+    ensures ok { OnOk result (TakesFresh received.old piece pieces.old.runs pieces.new.runs) }
+    ensures received { OnOk result ((n : ℕ) → contains received.new n ≡ (contains received.old n || lies piece.offset (run_end piece) n)) }
+    ensures err { OnErr result (pieces.new.runs ≡ pieces.old.runs) }
+    ensures err_received { OnErr result (received.new ≡ received.old) }
+{
+    let start = piece.offset();
+    let end = piece.end();
+    let mut rest = piece;
+    let mut fronts = Vec::new(alloc);
+    cut_all(received, &mut rest, &mut fronts)?;
+    pieces.reserve(fronts.len() + 1)?;
+    received.insert(start..end)?;
+    put_all(pieces, fronts);
+    pieces.put_some(rest);
+    Ok(())
+}

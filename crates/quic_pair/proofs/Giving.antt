@@ -1,0 +1,83 @@
+-- What a read of several chunks gives, chunk by chunk.
+use Rattle.std.proofs.Common.{◌≡◌, ℕ, Bool, true, false, cond, Option, Some, None, subst, ◌+◌, ◌-◌, ◌≤◌, ◌<◌, ◌⊎◌, List, [], ◌∷◌, ◌++◌, length, refl, sym, ◌∙◌, ap, inl, inr, arith, length-append}
+use Rattle.std.proofs.lemmas.Bool.{cases_lt}
+use Rattle.std.proofs.Math.ListN.{get_or-append}
+use Rattle.std.proofs.Math.Seq.{get_or-append_right}
+use Rattle.quic_assembler.specs.Piece.{IsByteAt}
+use Rattle.quic_assembler.specs.Reassembly.{Reassembly, Holds, IsHeld, IsWithin, SameHeld}
+use Rattle.quic_assembler.specs.Reassembly as assembler
+use Rattle.std.specs.Prelude.{nat_eq}
+use Rattle.std.proofs.lemmas.Option.{same_Some}
+use Rattle.std.proofs.lemmas.Bool.{eqb-true, eqb-false}
+use Rattle.quic_pair.specs.declared.steps.Last.TheVariants.{Ended, Blocked}
+use Rattle.quic_pair.specs.Receiving.{Gives, Stops, last_at}
+
+byte_in_front : (offset at byte : ℕ) (xs ys : List ℕ) → IsByteAt offset (xs ++ ys) at byte → at < offset + length xs → IsByteAt offset xs at byte
+byte_in_front offset at byte xs ys h lt =
+    let inside : at - offset < length xs = omega (arith, h.0) in
+    (h.0, lt, sym (get_or-append xs ys 0 (at - offset) inside) ∙ h.2)
+
+byte_behind : (offset at byte : ℕ) (xs ys : List ℕ) → IsByteAt offset (xs ++ ys) at byte → offset + length xs ≤ at → IsByteAt (offset + length xs) ys at byte
+byte_behind offset at byte xs ys h ge =
+    let behind : length xs ≤ at - offset = omega arith in
+    let place : at - (offset + length xs) ≡ at - offset - length xs = omega arith in
+    (ge, omega (arith, h.1, length-append xs ys), rw place (sym (get_or-append_right xs ys (at - offset) 0 behind) ∙ h.2))
+
+-- nothing is given
+pub Gives-nothing : (a : Reassembly) → Gives a [] a
+Gives-nothing a = record {
+  given = λ at byte h. absurd (omega (arith, h.0, h.1));
+  kept = λ at byte h. h;
+  stays = λ at byte h ge. h;
+  read = omega arith;
+  ordered = refl;
+}
+
+-- one chunk is given
+pub Gives-chunk : (a b : Reassembly) (offset : ℕ) (bytes : List ℕ) → assembler.Gives (Holds a) (Holds b) offset bytes → offset ≡ a.bytes_read → b.bytes_read ≡ a.bytes_read + length bytes → b.ordered ≡ a.ordered → Gives a bytes b
+Gives-chunk a b offset bytes g start moves ordered = record {
+  given = λ at byte h. g.given at byte (rw start h);
+  kept = g.origin;
+  stays = λ at byte h ge. elim (g.keeps at byte h) [ inl w ↦ absurd (omega (arith, w.1)) | inr k ↦ k ];
+  read = moves;
+  ordered = ordered;
+}
+
+-- more bytes are given
+pub Gives-append : (a b c : Reassembly) (xs ys : List ℕ) → Gives a xs b → Gives b ys c → Gives a (xs ++ ys) c
+Gives-append a b c xs ys g h = record {
+  given = λ at byte i. elim (cases_lt at (a.bytes_read + length xs)) [
+    | inl lt ↦ g.given at byte (byte_in_front a.bytes_read at byte xs ys i lt)
+    | inr ge ↦ g.kept at byte (h.given at byte (rw g.read (byte_behind a.bytes_read at byte xs ys i ge)))
+  ];
+  kept = λ at byte i. g.kept at byte (h.kept at byte i);
+  stays = λ at byte i ge. h.stays at byte (g.stays at byte i (omega (arith, length-append xs ys))) (omega (arith, g.read, length-append xs ys));
+  read = omega (arith, g.read, h.read, length-append xs ys);
+  ordered = h.ordered ∙ g.ordered;
+}
+
+-- and then nothing more
+pub Gives-same : (a b c : Reassembly) (xs : List ℕ) → Gives a xs b → SameHeld (Holds b) (Holds c) → c.bytes_read ≡ b.bytes_read → c.ordered ≡ b.ordered → Gives a xs c
+Gives-same a b c xs g s read ordered = record {
+  given = g.given;
+  kept = λ at byte i. g.kept at byte (s.origin at byte i);
+  stays = λ at byte i ge. s.keeps at byte (g.stays at byte i ge);
+  read = read ∙ g.read;
+  ordered = ordered ∙ g.ordered;
+}
+
+-- where nothing is held before, nothing is held after
+pub not_held : (a b : Reassembly) → SameHeld (Holds a) (Holds b) → b.bytes_read ≡ a.bytes_read → (IsHeld (Holds a) a.bytes_read → ⊥) → IsHeld (Holds b) b.bytes_read → ⊥
+not_held a b s read none h = none (h.0, subst (λ n. Holds a n h.0) read (s.origin b.bytes_read h.0 h.1))
+
+some_other : (size read : ℕ) → (size ≡ read → ⊥) → Some size ≡ Some read → ⊥
+some_other size read n e = n (same_Some _ _ e)
+
+stops_if : (b : Bool) (size read : ℕ) (new : Reassembly) → (IsHeld (Holds new) new.bytes_read → ⊥) → new.bytes_read ≡ read → nat_eq size read ≡ b → Stops (Some size) new (cond b Ended Blocked)
+stops_if true size read new none is e = (none, ap Some (eqb-true size read e ∙ sym is))
+stops_if false size read new none is e = (none, λ q. eqb-false size read e (same_Some _ _ q ∙ is))
+
+-- a read that stops where the next bytes are not there says why
+pub Stops-at : (size : Option ℕ) (read : ℕ) (new : Reassembly) → (IsHeld (Holds new) new.bytes_read → ⊥) → new.bytes_read ≡ read → Stops size new (last_at size read)
+Stops-at None read new none is = (none, λ q. absurd cc)
+Stops-at (Some size) read new none is = stops_if (nat_eq size read) size read new none is refl

@@ -1,0 +1,14 @@
+pub mod Bounds
+pub mod Delivers
+pub mod Giving
+pub mod Grows
+pub mod Headlines
+pub mod Invariant
+pub mod Keeps
+pub mod Lists
+pub mod Parts
+pub mod Refused
+pub mod Reports
+pub mod Runs
+pub mod Spelled
+pub mod Turns

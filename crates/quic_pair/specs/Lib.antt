@@ -1,0 +1,10 @@
+pub mod Errors
+pub mod From
+pub mod Headline
+pub mod History
+pub mod Network
+pub mod Permits
+pub mod Receiving
+pub mod Refusals
+pub mod Sending
+pub mod Steps

@@ -1,0 +1,132 @@
+-- The end that reads, and what each call on it may do.
+use Rattle.std.specs.Prelude.{◌≡◌, ℕ, ◌+◌, ◌-◌, ◌/◌, ◌^◌, ◌≤◌, ◌<◌, ◌⊎◌, Bool, true, false, not, ◌&&◌, ◌||◌, ◌==◌, nat_lt, nat_le, if◌then◌else◌, List, [], ◌++◌, length, min, max, Option, Some, None, is_none, Result, Ok, Err}
+use Rattle.std.specs.List.{flat_map}
+use Rattle.quic_wire.specs.declared.ReceiveError.TheVariants.{Transport, CompactionMemory}
+use Rattle.quic_assembler.specs.Reassembly.{Reassembly, Holds, IsDone, IsHeld, HoldsNothing, SameHeld}
+use Rattle.quic_assembler.specs.Reassembly.{Takes as Inserts}
+use Rattle.quic_assembler.specs.Piece.{IsByteAt}
+use Rattle.quic_pair.specs.History.{Answer, bytes_of}
+use Rattle.quic_pair.specs.declared.steps.Last.{Last}
+use Rattle.quic_pair.specs.declared.steps.Last.TheVariants.{Ended, Blocked as Waits, Memory, More}
+use Rattle.quic_pair.specs.declared.steps.Reply.TheVariants.{Done, Fault, Closed, Nothing, Id, Read}
+use Rattle.quic_pair.specs.declared.steps.PairError.TheVariants.{OutOfMemory}
+
+pub record Receiving : Type 0 where
+  pub held : Reassembly
+  -- a frame opened the stream
+  pub opened : Bool
+  -- `Accept` gave the stream
+  pub taken : Bool
+  -- the end was read
+  pub freed : Bool
+  -- the highest offset received
+  pub end : ℕ
+  pub final_size : Option ℕ
+  -- how many bytes count against the connection's limit, and that limit
+  pub data_received : ℕ
+  pub local_max_data : ℕ
+  pub receive_window : ℕ
+  pub stream_receive_window : ℕ
+  pub max_concurrent : ℕ
+
+-- whether a frame lies past a final size, or ends the stream elsewhere
+abbrev pub is_past : Option ℕ → ℕ → Bool → Bool
+is_past None end fin = false
+is_past (Some size) end fin = nat_lt size end || (fin && not (end == size))
+
+-- the code of the error that a frame is, if it is one: FLOW_CONTROL_ERROR is 3, FINAL_SIZE_ERROR 6
+abbrev pub verdict : Receiving → ℕ → ℕ → Bool → Option ℕ
+verdict v offset count fin =
+    let end = offset + count in
+    if nat_le (2 ^ 62) end then Some 3
+    else if is_past v.final_size end fin then Some 6
+    else if fin && nat_lt end v.end then Some 6
+    else if nat_lt v.stream_receive_window end then Some 3
+    else if nat_lt v.local_max_data (v.data_received + (end - v.end)) then Some 3
+    else None
+
+-- a frame is kept and counted
+pub record Keeps (old : Receiving) (offset : ℕ) (bytes : List ℕ) (fin : Bool) (new : Receiving) : Type 0 where
+  pub held : old.freed ≡ false
+  pub allowed : verdict old offset (length bytes) fin ≡ None
+  pub inserts : Inserts (Holds old.held) (Holds new.held) (IsDone old.held) offset bytes
+  pub read : new.held.bytes_read ≡ old.held.bytes_read
+  pub ordered : new.held.ordered ≡ old.held.ordered
+  pub new_is : new ≡ record old {
+    held = new.held;
+    opened = new.opened;
+    end = max old.end (offset + length bytes);
+    final_size = if fin then Some (offset + length bytes) else old.final_size;
+    data_received = old.data_received + (offset + length bytes - old.end);
+  }
+
+abbrev pub Receives : Receiving → ℕ → List ℕ → Bool → Answer → Receiving → Type 0
+Receives old offset bytes fin (Ok Done) new =
+    ((old.freed ≡ true) × (new ≡ old)) ⊎ (Keeps old offset bytes fin new × (new.opened ≡ true))
+Receives old offset bytes fin (Ok (Fault (Transport error))) new =
+    ((old.freed ≡ false) × (verdict old offset (length bytes) fin ≡ Some error.code) × (new ≡ old))
+    ⊎ ((error.code ≡ 1) × Keeps old offset bytes fin new × (new.opened ≡ old.opened))
+Receives old offset bytes fin (Ok (Fault CompactionMemory)) new = Keeps old offset bytes fin new × (new.opened ≡ old.opened)
+Receives old offset bytes fin (Err OutOfMemory) new = new ≡ old
+Receives old offset bytes fin _ new = ⊥
+
+abbrev pub Accepts : Receiving → Answer → Receiving → Type 0
+Accepts old (Ok (Id id)) new = (id ≡ 2) × (old.opened ≡ true) × (old.taken ≡ false) × (new ≡ record old { taken = true })
+Accepts old (Ok Nothing) new = ((old.opened ≡ false) ⊎ (old.taken ≡ true)) × (new ≡ old)
+Accepts old _ new = ⊥
+
+-- bytes are given in order from the first that was not read
+pub record Gives (old : Reassembly) (bytes : List ℕ) (new : Reassembly) : Type 0 where
+  pub given : (at byte : ℕ) → IsByteAt old.bytes_read bytes at byte → Holds old at byte
+  pub kept : (at byte : ℕ) → Holds new at byte → Holds old at byte
+  pub stays : (at byte : ℕ) → Holds old at byte → old.bytes_read + length bytes ≤ at → Holds new at byte
+  pub read : new.bytes_read ≡ old.bytes_read + length bytes
+  pub ordered : new.ordered ≡ old.ordered
+
+-- how a read ends where the next bytes are not there
+abbrev pub last_at : Option ℕ → ℕ → Last
+last_at None read = Waits
+last_at (Some size) read = if size == read then Ended else Waits
+
+-- why a read of several chunks stopped
+abbrev pub Stops : Option ℕ → Reassembly → Last → Type 0
+Stops size new Ended = (IsHeld (Holds new) new.bytes_read → ⊥) × (size ≡ Some new.bytes_read)
+Stops size new Waits = (IsHeld (Holds new) new.bytes_read → ⊥) × (size ≡ Some new.bytes_read → ⊥)
+Stops size new Memory = Unit {0}
+Stops size new More = Unit {0}
+Stops size new _ = ⊥
+
+abbrev pub is_end : Last → Bool
+is_end Ended = true
+is_end _ = false
+
+-- whether the place of the stream that is freed lets a MAX_STREAMS be sent (RFC 9000 section 4.6)
+abbrev pub streams_due : Receiving → Bool
+streams_due v = v.freed && nat_lt v.max_concurrent (2 ^ 60) && nat_lt (v.max_concurrent / 8) 1
+
+-- whether the bytes that were read let a MAX_STREAM_DATA be sent (RFC 9000 section 4.2)
+abbrev pub stream_data_due : Receiving → Bool
+stream_data_due v = not v.freed && is_none v.final_size
+    && nat_le (v.stream_receive_window / 8) (min v.held.bytes_read (2 ^ 62 - 1 - v.stream_receive_window))
+
+-- whether they let a MAX_DATA be sent
+abbrev pub data_due : Receiving → Bool
+data_due v = nat_le v.local_max_data (2 ^ 62 - 1) && nat_le (v.receive_window + v.receive_window / 8) v.local_max_data
+
+-- bytes are given, and give the connection credit
+pub record ReadsAll (old : Receiving) (bytes : List ℕ) (last : Last) (transmit : Bool) (new : Receiving) : Type 0 where
+  pub was_held : old.freed ≡ false
+  pub gives : Gives old.held bytes new.held
+  pub stops : Stops old.final_size new.held last
+  pub new_is : new ≡ record old {
+    held = new.held;
+    freed = is_end last;
+    local_max_data = min (old.local_max_data + length bytes) (2 ^ 64 - 1);
+  }
+  pub transmit_is : transmit ≡ (streams_due new || stream_data_due new || data_due new)
+
+abbrev pub Reads : Receiving → Answer → Receiving → Type 0
+Reads old (Ok (Read chunks last transmit)) new = ReadsAll old (flat_map bytes_of chunks.items) last transmit new
+Reads old (Ok Closed) new = (old.freed ≡ true) × (new ≡ old)
+Reads old (Err OutOfMemory) new = new ≡ old
+Reads old _ new = ⊥

@@ -1,0 +1,7 @@
+pub mod Pieces
+pub mod Laid
+pub mod Sets
+pub mod Cuts
+pub mod Sound
+pub mod Sources
+pub mod Chunks

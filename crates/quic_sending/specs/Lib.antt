@@ -1,0 +1,5 @@
+pub mod Ranges
+pub mod Buffer
+pub mod Pieces
+pub mod Source
+pub mod Sending

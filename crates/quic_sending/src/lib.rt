@@ -1,0 +1,14 @@
+//! Sending on one stream: written bytes until they are acknowledged.
+#![tactic(auto)]
+
+mod piece_queue;
+pub mod send;
+pub mod send_buffer;
+pub mod source;
+
+pub use send::{ClosedStream, FinishError, Send, SendState, WriteError, Written};
+pub use send_buffer::SendBuffer;
+pub use source::{ByteSlice, BytesArray, BytesSource};
+
+#[cfg(test)]
+mod tests;

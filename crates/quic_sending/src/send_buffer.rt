@@ -1,0 +1,498 @@
+ghost use Rattle.std.specs.Prelude.{◌≡◌, ◌+◌, ◌-◌, ◌<◌, ◌≤◌, ◌^◌, ◌↔◌, ℕ, [], ◌++◌, ◌&&◌, ◌||◌, not, IsTrue, IsOk, OnOk, OnErr, length, nat_lt, true, false, IfOk, max, List, take, drop, vec_len, vec_capacity};
+ghost use Rattle.std.specs.List.{concat};
+ghost use Rattle.quic_values.specs.Runs.{contains, lies_in};
+ghost use Rattle.quic_sending.specs.Buffer.{HasCuts, IsFrontAt, is_due, IsNextRange, IsFrontOfNext, frame_end, has_length, cut, total, is_acked, is_lost, piece_part, uncovered, IsSound, Joins};
+
+use crate::piece_queue::PieceQueue;
+use quic_values::{Bytes, OutOfMemory, RangeSet, VarInt};
+use std::alloc::Global;
+use std::marker::Model;
+use std::ops::Range;
+
+/// The written bytes of one stream that are not acknowledged yet, with what was sent of them and
+/// what was lost (RFC 9000 sections 2.2 and 13.3).
+#[derive(Drop)]
+pub struct SendBuffer {
+    pieces: PieceQueue,
+    // All offsets below this one are acknowledged, and this one is not.
+    prefix: u64,
+    // The first offset that was never sent.
+    unsent: u64,
+    // The acknowledged offsets above the prefix.
+    later: RangeSet,
+    // The offsets to be sent again. None of them is acknowledged.
+    lost: RangeSet,
+    alloc: Global,
+}
+
+impl Model for SendBuffer {
+    ghost use Rattle.quic_sending.specs.Buffer.{Buffered, IsSound};
+
+    ghost Value = { Buffered };
+
+    ghost view = { λ s. record {
+      offset = s.pieces.end;
+      unsent = s.unsent;
+      prefix = s.prefix;
+      later = s.later;
+      lost = s.lost;
+      held = s.pieces.held;
+      gone = s.pieces.gone;
+      room = s.pieces.room;
+    } };
+
+    ghost invariant = { λ s. IsSound (record {
+      offset = s.pieces.end;
+      unsent = s.unsent;
+      prefix = s.prefix;
+      later = s.later;
+      lost = s.lost;
+      held = s.pieces.held;
+      gone = s.pieces.gone;
+      room = s.pieces.room;
+    }) };
+}
+
+impl SendBuffer {
+    /// A buffer to which nothing was written. Takes no memory.
+    pub fn new(alloc: Global) -> Self
+        ensures empty { result ≡ record {
+          offset = 0;
+          unsent = 0;
+          prefix = 0;
+          later = [];
+          lost = [];
+          held = [];
+          gone = 0;
+          room = result.room;
+        } }
+        ensures sound { IsSound result }
+        ensures cuts { HasCuts [] result }
+    {
+        SendBuffer {
+            pieces: PieceQueue::new(alloc),
+            prefix: 0,
+            unsent: 0,
+            later: RangeSet::new(alloc),
+            lost: RangeSet::new(alloc),
+            alloc,
+        }
+    }
+
+    /// The offset at which the next write begins.
+    #[inline]
+    pub fn offset(&self) -> u64
+        ensures { result ≡ self.now.offset }
+    {
+        self.pieces.end()
+    }
+
+    /// The first offset that was never sent.
+    #[inline]
+    pub fn unsent(&self) -> u64
+        ensures { result ≡ self.now.unsent }
+    {
+        self.unsent
+    }
+
+    /// The end of the acknowledged prefix: the first offset that is not acknowledged.
+    #[inline]
+    pub fn acked_prefix(&self) -> u64
+        ensures { result ≡ self.now.prefix }
+    {
+        self.prefix
+    }
+
+    /// Whether all that was written is acknowledged.
+    #[inline]
+    pub fn is_fully_acked(&self) -> bool
+        ensures { IsTrue result ↔ (self.now.prefix ≡ self.now.offset) }
+    {
+        self.prefix == self.offset()
+    }
+
+    /// How many bytes are retained: those of the written pieces that the acknowledged prefix does
+    /// not wholly cover.
+    #[inline]
+    pub fn buffered(&self) -> u64
+        ensures held { result ≡ total self.now.held }
+        ensures cuts { (cuts : List (List ℕ)) → HasCuts cuts self.now →
+            result ≡ total (uncovered self.now.prefix cuts) }
+    {
+        self.offset() - self.pieces.gone()
+    }
+
+    /// Makes room, so that as many writes then take no memory.
+    #[inline]
+    pub fn reserve(&mut self, pieces: usize) -> Result<(), OutOfMemory>
+        ensures ok { OnOk result (pieces ≤ self.new.room) }
+        ensures same { self.new ≡ record self.old { room = self.new.room } }
+        ensures room { self.old.room ≤ self.new.room }
+        ensures sound { IsSound self.new }
+    {
+        self.pieces.reserve(pieces)
+    }
+
+    /// Appends bytes, unsent. An empty piece is not kept.
+    #[inline]
+    pub fn write(&mut self, piece: Bytes) -> Result<(), OutOfMemory>
+        requires { self.old.offset + length piece < 2 ^ 62 }
+        ensures ok { OnOk result (self.new ≡ record self.old {
+          offset = self.old.offset + length piece;
+          held = self.old.held ++ cut piece;
+          room = self.new.room;
+        }) }
+        ensures err { OnErr result (self.new ≡ record self.old { room = self.new.room }) }
+        ensures roomy { 0 < self.old.room → IsOk result × (self.old.room ≤ self.new.room + 1) }
+        ensures cuts { OnOk result ((cuts : List (List ℕ)) → HasCuts cuts self.old →
+            HasCuts (cuts ++ cut piece) self.new) }
+        ensures sound { IsSound self.new }
+    {
+        if !piece.is_empty() {
+            self.pieces.push(piece)?;
+        }
+        Ok(())
+    }
+
+    // Appends bytes for which `reserve` made room.
+    #[inline]
+    pub(crate) fn write_reserved(&mut self, piece: Bytes)
+        requires room { 0 < self.old.room }
+        requires small { self.old.offset + length piece < 2 ^ 62 }
+        ensures same { self.new ≡ record self.old {
+          offset = self.old.offset + length piece;
+          held = self.old.held ++ cut piece;
+          room = self.new.room;
+        } }
+        ensures room { self.old.room ≤ self.new.room + 1 }
+        ensures cuts { (cuts : List (List ℕ)) → HasCuts cuts self.old → HasCuts (cuts ++ cut piece) self.new }
+        ensures sound { IsSound self.new }
+    {
+        match self.write(piece) {
+            Ok(()) => {}
+            Err(_) => unreachable!(),
+        }
+    }
+
+    /// Sent offsets of this range are lost: those that are not acknowledged are to be sent again.
+    pub fn retransmit(&mut self, range: Range<u64>) -> Result<(), OutOfMemory>
+        requires { range.end ≤ self.old.unsent }
+        ensures ok { OnOk result ((n : ℕ) →
+            is_lost self.new n ≡ (is_lost self.old n
+            || (lies_in range n && not (is_acked self.old n)))) }
+        ensures same { self.new ≡ record self.old { lost = self.new.lost } }
+        ensures err { OnErr result (self.new ≡ self.old) }
+        ensures sound { IsSound self.new }
+    {
+        let start = range.start.max(self.prefix);
+        if start >= range.end {
+            return Ok(());
+        }
+        match self.later.run_from(start) {
+            Some(run) if run.start < range.end => {
+                self.lost = with_gaps(&self.lost, &self.later, start..range.end)?;
+            }
+            _ => {
+                self.lost.insert(start..range.end)?;
+            }
+        }
+        Ok(())
+    }
+
+    /// Sent offsets of this range are acknowledged. They are never sent again.
+    pub fn ack(&mut self, range: Range<u64>) -> Result<(), OutOfMemory>
+        requires { range.end ≤ self.old.unsent }
+        ensures acked { OnOk result ((n : ℕ) → is_acked self.new n ≡ (is_acked self.old n || lies_in range n)) }
+        ensures lost { OnOk result ((n : ℕ) →
+            is_lost self.new n ≡ (is_lost self.old n && not (lies_in range n))) }
+        ensures held { self.new.held ≡ uncovered (self.new.prefix - self.old.gone) self.old.held }
+        ensures unsent { (self.new.unsent ≡ self.old.unsent) × (self.new.offset ≡ self.old.offset) }
+        ensures room { self.old.room ≤ self.new.room }
+        ensures err { OnErr result (self.new ≡ self.old) }
+        ensures cuts { (cuts : List (List ℕ)) → HasCuts cuts self.old → HasCuts cuts self.new }
+        ensures sound { IsSound self.new }
+    {
+        let start = range.start.max(self.prefix);
+        if start >= range.end {
+            return Ok(());
+        }
+        if start > self.prefix {
+            return self.ack_later(start..range.end);
+        }
+        if !self.lost.is_empty() {
+            self.lost.remove(start..range.end)?;
+        }
+        self.prefix = join_prefix(&mut self.later, range.end);
+        self.pieces.drop_covered(self.prefix);
+        Ok(())
+    }
+
+    // Sent offsets of a range above the prefix are acknowledged.
+    fn ack_later(&mut self, range: Range<u64>) -> Result<(), OutOfMemory>
+        requires above { self.old.prefix < range.start }
+        requires sent { range.end ≤ self.old.unsent }
+        ensures later { OnOk result ((n : ℕ) →
+            contains self.new.later n ≡ (contains self.old.later n || lies_in range n)) }
+        ensures lost { OnOk result ((n : ℕ) →
+            is_lost self.new n ≡ (is_lost self.old n && not (lies_in range n))) }
+        ensures same { self.new ≡ record self.old { later = self.new.later; lost = self.new.lost } }
+        ensures err { OnErr result (self.new ≡ self.old) }
+        ensures sound { IsSound self.new }
+    {
+        if self.lost.is_empty() {
+            self.later.insert(range)?;
+            return Ok(());
+        }
+        match self.lost.run_from(range.start) {
+            Some(run) if run.start < range.end => {
+                let mut lost = self.lost.try_clone()?;
+                lost.remove(range.start..range.end)?;
+                self.later.insert(range)?;
+                self.lost = lost;
+            }
+            _ => {
+                self.later.insert(range)?;
+            }
+        }
+        Ok(())
+    }
+
+    /// The written bytes of a range, as far as the piece goes that holds its start. Nothing, where
+    /// the start lies in the acknowledged prefix or was not written.
+    #[inline]
+    pub fn get(&self, range: Range<u64>) -> &[u8]
+        ensures acked { range.start < self.now.prefix → result.now ≡ [] }
+        ensures unwritten { self.now.offset ≤ range.start → result.now ≡ [] }
+        ensures most { length result.now ≤ range.end - range.start }
+        ensures some { self.now.prefix ≤ range.start → range.start < self.now.offset →
+            range.start < range.end → 0 < length result.now }
+        ensures piece { (cuts : List (List ℕ)) → HasCuts cuts self.now → self.now.prefix ≤ range.start →
+            result.now ≡ piece_part cuts range.start (range.end - range.start) }
+        ensures bytes { (cuts : List (List ℕ)) → HasCuts cuts self.now → self.now.prefix ≤ range.start →
+            IsFrontAt (concat cuts) range.start (range.end - range.start) result.now }
+    {
+        if range.start < self.prefix {
+            return &[];
+        }
+        let most = range.end.saturating_sub(range.start);
+        self.pieces.part(range.start, most)
+    }
+
+    /// Appends the written bytes of a range, none of them in the acknowledged prefix. If refused,
+    /// nothing is appended.
+    pub fn append_range(&self, range: Range<u64>, out: &mut Vec<u8>) -> Result<(), OutOfMemory>
+        requires kept { self.now.prefix ≤ range.start }
+        requires ordered { range.start ≤ range.end }
+        requires written { range.end ≤ self.now.offset }
+        ensures ok { (cuts : List (List ℕ)) → HasCuts cuts self.now →
+            OnOk result (out.new.items
+            ≡ out.old.items ++ take (range.end - range.start) (drop range.start (concat cuts))) }
+        ensures len { OnOk result (vec_len out.new ≡ vec_len out.old + (range.end - range.start)) }
+        ensures err { OnErr result (out.new.items ≡ out.old.items) }
+        ensures capacity { vec_capacity out.old ≤ vec_capacity out.new }
+        ensures succeeds { vec_len out.old + (range.end - range.start) ≤ vec_capacity out.old → IsOk result }
+    {
+        out.reserve((range.end - range.start) as usize)?;
+        let mut at = range.start;
+        while at < range.end {
+            let part = self.get(at..range.end);
+            at += part.len() as u64;
+            append(out, part);
+        }
+        Ok(())
+    }
+
+    /// Whether some offset is lost or was never sent.
+    #[inline]
+    pub fn has_unsent_data(&self) -> bool
+        ensures some { result ≡ true → ((n : ℕ) × (is_due self.now n ≡ true)) }
+        ensures none { result ≡ false → (n : ℕ) → is_due self.now n ≡ false }
+    {
+        self.unsent != self.offset() || !self.lost.is_empty()
+    }
+
+    // The lowest lost range, or else the range that was never sent.
+    #[inline]
+    fn next_range(&self) -> Range<u64>
+        ensures next { IsNextRange self.now result.start result.end }
+        ensures ordered { result.start ≤ result.end }
+        ensures small { result.end < 2 ^ 62 }
+    {
+        let unsent = self.unsent..self.offset();
+        if self.lost.is_empty() {
+            return unsent;
+        }
+        match self.lost.run_from(0) {
+            Some(run) => run,
+            None => unsent,
+        }
+    }
+
+    /// The range to be sent next in a frame whose offset, length and data may take `max_len` bytes,
+    /// and whether the frame has a length (RFC 9000 section 19.8). The range is then sent, and not
+    /// lost.
+    #[inline]
+    pub fn poll_transmit(&mut self, max_len: usize) -> Result<(Range<u64>, bool), OutOfMemory>
+        requires { 16 ≤ max_len }
+        ensures ok { IfOk result (λ r. (e : ℕ) × IsNextRange self.old r.0.start e × (r.0.end
+            ≡ frame_end r.0.start e max_len) × (r.1 ≡ has_length r.0.start e max_len)) }
+        ensures within { IfOk result (λ r. (self.old.prefix ≤ r.0.start) × (r.0.start ≤ r.0.end)
+            × (r.0.end ≤ self.old.offset)) }
+        ensures lost { IfOk result (λ r. (n : ℕ) →
+            is_lost self.new n ≡ (is_lost self.old n && not (lies_in r.0 n))) }
+        ensures sent { IfOk result (λ r. self.new.unsent ≡ max self.old.unsent r.0.end) }
+        ensures same { self.new ≡ record self.old { lost = self.new.lost; unsent = self.new.unsent } }
+        ensures err { OnErr result (self.new ≡ self.old) }
+        ensures sound { IsSound self.new }
+    {
+        let next = self.next_range();
+        let (end, has_length) = cut_to_frame(next.start, next.end, max_len);
+        if next.start < self.unsent {
+            self.lost.remove(next.start..end)?;
+        } else {
+            self.pieces.seek(next.start);
+            self.unsent = end;
+        }
+        Ok((next.start..end, has_length))
+    }
+
+    /// What `poll_transmit` would answer. Nothing changes.
+    #[inline]
+    pub fn next_transmit(&self, max_len: usize) -> (Range<u64>, bool)
+        requires { 16 ≤ max_len }
+        ensures next { (e : ℕ) × IsNextRange self.now result.0.start e × (result.0.end ≡ frame_end result.0.start e max_len) × (result.1 ≡ has_length result.0.start e max_len) }
+        ensures front { IsFrontOfNext self.now result.0.start result.0.end }
+        ensures within { (self.now.prefix ≤ result.0.start) × (result.0.start ≤ result.0.end) × (result.0.end ≤ self.now.offset) }
+        ensures small { self.now.offset < 2 ^ 62 }
+    {
+        let _ = &self.unsent;
+        let next = self.next_range();
+        let (end, has_length) = cut_to_frame(next.start, next.end, max_len);
+        (next.start..end, has_length)
+    }
+
+    /// A front of the range that is to be sent next was sent, and is not lost any more.
+    #[inline]
+    pub fn mark_sent(&mut self, range: Range<u64>) -> Result<(), OutOfMemory>
+        requires { IsFrontOfNext self.old range.start range.end }
+        ensures lost { OnOk result ((n : ℕ) → is_lost self.new n ≡ (is_lost self.old n && not (lies_in range n))) }
+        ensures sent { OnOk result (self.new.unsent ≡ max self.old.unsent range.end) }
+        ensures same { self.new ≡ record self.old { lost = self.new.lost; unsent = self.new.unsent } }
+        ensures err { OnErr result (self.new ≡ self.old) }
+        ensures sound { IsSound self.new }
+    {
+        if range.start < self.unsent {
+            self.lost.remove(range.start..range.end)?;
+        } else {
+            self.pieces.seek(range.start);
+            self.unsent = range.end;
+        }
+        Ok(())
+    }
+
+    /// All that was written counts as not sent, and nothing as lost.
+    pub fn retransmit_all_for_0rtt(&mut self)
+        requires { (n : ℕ) → is_acked self.old n ≡ false }
+        ensures same { self.new ≡ record self.old { lost = []; unsent = 0 } }
+        ensures sound { IsSound self.new }
+    {
+        self.lost = RangeSet::new(self.alloc);
+        self.unsent = 0;
+    }
+
+    /// Drops all bytes. Every offset counts as sent and acknowledged.
+    pub fn discard(&mut self)
+        ensures same { self.new ≡ record {
+          offset = self.old.offset;
+          unsent = self.old.offset;
+          prefix = self.old.offset;
+          later = [];
+          lost = [];
+          held = [];
+          gone = self.old.offset;
+          room = self.new.room;
+        } }
+        ensures room { self.old.room ≤ self.new.room }
+        ensures cuts { (cuts : List (List ℕ)) → HasCuts cuts self.old → HasCuts cuts self.new }
+        ensures sound { IsSound self.new }
+    {
+        let offset = self.offset();
+        self.pieces.clear();
+        self.later = RangeSet::new(self.alloc);
+        self.lost = RangeSet::new(self.alloc);
+        self.prefix = offset;
+        self.unsent = offset;
+    }
+}
+
+// Where the front of a range ends that fits a frame, and whether the frame has a length.
+#[inline]
+pub(crate) fn cut_to_frame(start: u64, end: u64, max_len: usize) -> (u64, bool)
+    requires ordered { start ≤ end }
+    requires small { end < 2 ^ 62 }
+    requires room { 16 ≤ max_len }
+    ensures end { result.0 ≡ frame_end start end max_len }
+    ensures length { result.1 ≡ has_length start end max_len }
+    ensures within { (start ≤ result.0) × (result.0 ≤ end) }
+{
+    let mut room = max_len as u64;
+    if start != 0 {
+        room -= VarInt::new(start).size() as u64;
+    }
+    let has_length = end - start < room;
+    if has_length {
+        room -= 8;
+    }
+    (end.min(room.saturating_add(start)), has_length)
+}
+
+// Appends bytes for which there is room.
+#[inline]
+fn append(out: &mut Vec<u8>, bytes: &[u8])
+    requires { vec_len out.old + length bytes.now ≤ vec_capacity out.old }
+    ensures items { out.new.items ≡ out.old.items ++ bytes.now }
+    ensures len { vec_len out.new ≡ vec_len out.old + length bytes.now }
+    ensures capacity { vec_capacity out.old ≤ vec_capacity out.new }
+{
+    match out.extend_from_slice(bytes) {
+        Ok(()) => {}
+        Err(_) => unreachable!(),
+    }
+}
+
+// A copy of the lost offsets, with those of a range that are not acknowledged.
+fn with_gaps(lost: &RangeSet, acked: &RangeSet, range: Range<u64>) -> Result<RangeSet, OutOfMemory>
+    ensures { IfOk result (λ s. (n : ℕ) →
+        contains s n ≡ (contains lost.now n || (lies_in range n && not (contains acked.now n)))) }
+{
+    let mut copy = lost.try_clone()?;
+    let mut at = range.start;
+    while let Some(run) = acked.run_from(at) {
+        if run.start >= range.end {
+            break;
+        }
+        copy.insert(at..run.start)?;
+        at = run.end;
+    }
+    copy.insert(at..range.end)?;
+    Ok(copy)
+}
+
+// Takes out the runs that touch the acknowledged prefix, which ends at `prefix`. The answer is
+// where it ends with them.
+#[inline]
+fn join_prefix(later: &mut RangeSet, prefix: u64) -> u64
+    ensures { Joins prefix result later.old later.new }
+{
+    let mut reached = 0;
+    while let Some(start) = later.min() {
+        if start > prefix.max(reached) {
+            break;
+        }
+        let Some(run) = later.pop_min() else {
+            break;
+        };
+        reached = run.end;
+    }
+    prefix.max(reached)
+}

@@ -1,0 +1,3 @@
+mod buffer;
+mod half;
+mod sources;

@@ -1,0 +1,19 @@
+//! Runs two ends over a network that loses, repeats and reorders: reads steps from standard input,
+//! a line each, and prints a reply to each.
+#![tactic(auto)]
+
+mod hexadecimal;
+mod lines;
+mod replies;
+mod session;
+#[cfg(test)]
+mod tests;
+
+pub use hexadecimal::{hex_bytes, hex_field};
+pub use session::serve;
+use std::io;
+use std::process::ExitCode;
+
+fn main(rt: HostRuntime) -> ExitCode {
+    ExitCode::from(serve(rt.alloc(), rt.reader(), io::writer(&rt)))
+}

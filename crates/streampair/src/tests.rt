@@ -1,0 +1,281 @@
+//! Whole sessions over memory.
+use crate::session::serve;
+use std::alloc::Global;
+use std::io;
+use std::io::{Read, Write};
+use std::process::Abort;
+use std::test::Fail;
+
+const CONFIGS: &str = "config a 4 4 1000 1000 1000\nconfig b 4 4 1000 1000 1000\n";
+
+// Serves a text: what is written, and the status.
+fn served(alloc: Global, input: &str) -> Result<(Vec<u8>, u8), Fail> {
+    let mut output = Vec::new(alloc);
+    let status = serve(alloc, input.as_bytes(), &mut output);
+    Ok((output, status))
+}
+
+// Serves the two configs and then some lines, and looks at what comes behind the two `ok`.
+fn session_gives(
+    rt: &impl Abort,
+    alloc: Global,
+    lines: &str,
+    replies: &str,
+    status: u8,
+) -> Result<(), Fail> {
+    let mut input = String::from_str(alloc, CONFIGS)?;
+    input.push_str(lines)?;
+    let mut wanted = String::from_str(alloc, "ok\nok\n")?;
+    wanted.push_str(replies)?;
+    let (output, ended) = served(alloc, input.as_str())?;
+    assert_eq!(rt; output.as_slice(), wanted.as_str().as_bytes(), "{lines:?}");
+    assert_eq!(rt; ended, status, "{lines:?}");
+    Ok(())
+}
+
+#[test]
+fn no_input_has_no_reply(rt: HostRuntime) -> Result<(), Fail> {
+    let (output, status) = served(rt.alloc(), "")?;
+    assert!(rt; output.is_empty());
+    assert_eq!(rt; status, 0);
+    Ok(())
+}
+
+#[test]
+fn one_config_line_is_answered(rt: HostRuntime) -> Result<(), Fail> {
+    let (output, status) = served(rt.alloc(), "config a 4 4 1000 1000 1000\n")?;
+    assert_eq!(rt; output.as_slice(), b"ok\n".as_slice());
+    assert_eq!(rt; status, 0);
+    Ok(())
+}
+
+// Serves a text, and looks at what is written.
+fn input_gives(rt: &impl Abort, alloc: Global, input: &str, wanted: &str) -> Result<(), Fail> {
+    let (output, _status) = served(alloc, input)?;
+    assert_eq!(rt; output.as_slice(), wanted.as_bytes(), "{input:?}");
+    Ok(())
+}
+
+#[test]
+fn the_first_line_is_the_config_of_a(rt: HostRuntime) -> Result<(), Fail> {
+    input_gives(
+        &rt,
+        rt.alloc(),
+        "config b 4 4 1000 1000 1000\n",
+        "malformed 1\n",
+    )?;
+    input_gives(&rt, rt.alloc(), "open a uni\n", "malformed 1\n")?;
+    input_gives(&rt, rt.alloc(), "config a 4 4 1000 1000\n", "malformed 1\n")?;
+    input_gives(
+        &rt,
+        rt.alloc(),
+        "config a 4 4 1 1 1\nconfig a 4 4 1 1 1\n",
+        "ok\nmalformed 2\n",
+    )
+}
+
+#[test]
+fn the_numbers_of_a_config_have_limits(rt: HostRuntime) -> Result<(), Fail> {
+    input_gives(
+        &rt,
+        rt.alloc(),
+        "config a 1152921504606846977 4 1 1 1\n",
+        "malformed 1\n",
+    )?;
+    input_gives(
+        &rt,
+        rt.alloc(),
+        "config a 4 4 1 4611686018427387904 1\n",
+        "malformed 1\n",
+    )?;
+    input_gives(
+        &rt,
+        rt.alloc(),
+        "config a 4 4 1 1 4611686018427387904\n",
+        "malformed 1\n",
+    )?;
+    input_gives(
+        &rt,
+        rt.alloc(),
+        "config a 1152921504606846976 4 18446744073709551615 4611686018427387903 1\n",
+        "ok\n",
+    )
+}
+
+// Lines that are no steps.
+const NO_STEPS: &str = "\
+opens a uni\nopen  a uni\nopen a uni \n open a uni\nopen a uni\r\nopen c uni\n\
+open a both\nopen a\n\nconfig a 4 4 1000 1000 1000\nwrite a 2 AA\nwrite a 2 a\n\
+write a 2 \nwrite a 2 gg\nwrite a 02 00\nwrite a +2 00\nwrite a 4611686018427387904 00\n\
+chunks a 2 00,,00\nread b 2 o 1 0\nread b 2 o 1 65536\nread b 2 x 1 1\n\
+read b 2 o 18446744073709551616 1\npriority a 2 -0\npriority a 2 2147483648\n\
+priority a 2 -2147483649\npriority a 2 --1\nemit a 30 g\n\
+max-concurrent a uni 1152921504606846977\ndeliver 0\ndeliver 0 18446744073709551616\n\
+open a un\u{ef}";
+
+#[test]
+fn lines_out_of_the_grammar_are_malformed(rt: HostRuntime) -> Result<(), Fail> {
+    for line in NO_STEPS.split('\n') {
+        let text = format!(in rt.alloc(); "{line}\n")?;
+        session_gives(&rt, rt.alloc(), text.as_str(), "malformed 3\n", 2)?;
+    }
+    Ok(())
+}
+
+#[test]
+fn the_last_line_may_lack_its_line_feed(rt: HostRuntime) -> Result<(), Fail> {
+    session_gives(&rt, rt.alloc(), "open a uni", "id 2\n", 0)
+}
+
+#[test]
+fn what_was_answered_stays_before_a_malformed_line(rt: HostRuntime) -> Result<(), Fail> {
+    session_gives(
+        &rt,
+        rt.alloc(),
+        "open a uni\nopen a uni x\nopen a uni\n",
+        "id 2\nmalformed 4\n",
+        2,
+    )
+}
+
+#[test]
+fn the_greatest_numbers_are_taken(rt: HostRuntime) -> Result<(), Fail> {
+    session_gives(
+        &rt,
+        rt.alloc(),
+        "open a uni\nemit a 18446744073709551615 u\npriority a 2 -2147483648\n\
+         priority a 2 2147483647\ndeliver 18446744073709551615 18446744073709551615\n\
+         finish a 4611686018427387903\n",
+        "id 2\npayload 0 -\nrefused 4 UnknownId\nrefused 4 UnknownId\nrefused 1 NoSuchPayload\n\
+         refused 4 UnknownId\n",
+        0,
+    )
+}
+
+#[test]
+fn each_refusal_has_its_number_and_name(rt: HostRuntime) -> Result<(), Fail> {
+    session_gives(
+        &rt,
+        rt.alloc(),
+        "deliver 0 0\nwrite a 2 00\nopen a uni\nwrite a 2 00\nemit a 100 f\ndeliver 0 1\n\
+         lose-stream 0 1\nack-stream 0 1\nack-stream 0 0\nread b 2 o 1 1\n",
+        "refused 1 NoSuchPayload\nrefused 4 UnknownId\nid 2\nwrote 1\npayload 0 0a020100\n\
+         refused 2 NoSuchFrame\nrefused 2 NoSuchFrame\nrefused 2 NoSuchFrame\n\
+         refused 3 NotAccepted\nrefused 4 UnknownId\n",
+        0,
+    )
+}
+
+// Steps that no end serves yet.
+const NOT_SERVED: &str = "\
+open a bi\nopen b uni\nopen a uni\naccept a uni\nwrite b 2 00\nchunks a 2 00,-,01\n\
+reset a 2 7\nstop b 2 7\npriority a 2 -1\nread b 2 u 1 1\nreceived-reset b 2\n\
+send-window a 5\nreceive-window b 5\nmax-concurrent b uni 5\npoll b\nemit b 100 f\n\
+lose-control 0\nack-control 0\n";
+
+#[test]
+fn steps_that_are_not_served_are_refused(rt: HostRuntime) -> Result<(), Fail> {
+    let mut input = String::from_str(rt.alloc(), "open a uni\n")?;
+    input.push_str(NOT_SERVED)?;
+    let mut wanted = String::from_str(rt.alloc(), "id 2\n")?;
+    for _ in 0..18 {
+        wanted.push_str("refused 4 UnknownId\n")?;
+    }
+    session_gives(&rt, rt.alloc(), input.as_str(), wanted.as_str(), 0)
+}
+
+#[test]
+fn a_very_long_line_is_one_step(rt: HostRuntime) -> Result<(), Fail> {
+    let mut input = String::from_str(
+        rt.alloc(),
+        "config a 1 0 1000000 1 1\nconfig b 1 0 1 1000000 1000000\nopen a uni\nwrite a 2 ",
+    )?;
+    for _ in 0..100_000 {
+        input.push_str("5a")?;
+    }
+    input.push_str("\nopen a un")?;
+    for _ in 0..100_000 {
+        input.push_str("i")?;
+    }
+    let (output, status) = served(rt.alloc(), input.as_str())?;
+    assert_eq!(rt;
+        output.as_slice(),
+        b"ok\nok\nid 2\nwrote 100000\nmalformed 5\n".as_slice()
+    );
+    assert_eq!(rt; status, 2);
+    Ok(())
+}
+
+#[test]
+fn limits_block_and_a_finished_stream_is_closed(rt: HostRuntime) -> Result<(), Fail> {
+    let lines = "config a 1 0 1000 1 1\nconfig b 1 0 1 4 3\nopen a uni\nwrite a 2 0001020304\n\
+                 write a 2 05\nfinish a 2\nfinish a 2\nwrite a 2 05\nwrite a 2 -\n";
+    let (output, status) = served(rt.alloc(), lines)?;
+    let wanted = "ok\nok\nid 2\nwrote 3\nblocked\nok\nclosed\nclosed\nclosed\n";
+    assert_eq!(rt; output.as_slice(), wanted.as_bytes());
+    assert_eq!(rt; status, 0);
+    Ok(())
+}
+
+#[test]
+fn an_empty_write_is_sent_as_an_empty_frame(rt: HostRuntime) -> Result<(), Fail> {
+    session_gives(
+        &rt,
+        rt.alloc(),
+        "open a uni\nwrite a 2 -\nemit a 100 f\nemit a 100 f\n",
+        "id 2\nwrote 0\npayload 0 0a0200\npayload 1 -\n",
+        0,
+    )
+}
+
+// Gives some bytes, and then fails.
+#[derive(Drop)]
+struct BrokenReader<'a>(&'a [u8]);
+
+impl Read for BrokenReader<'_> {
+    fn read(&mut self, buf: &mut [u8]) -> io::Result<usize> {
+        if self.0.is_empty() {
+            return Err(io::Error::from(io::ErrorKind::BrokenPipe));
+        }
+        self.0.read(buf)
+    }
+}
+
+// Takes some bytes, and then fails.
+#[derive(Drop)]
+struct BrokenWriter(usize);
+
+impl Write for BrokenWriter {
+    fn write(&mut self, buf: &[u8]) -> io::Result<usize> {
+        if self.0 == 0 {
+            return Err(io::Error::from(io::ErrorKind::BrokenPipe));
+        }
+        let count = buf.len().min(self.0);
+        self.0 -= count;
+        Ok(count)
+    }
+
+    fn flush(&mut self) -> io::Result<()> {
+        Ok(())
+    }
+}
+
+#[test]
+fn a_reader_that_fails_ends_the_session(rt: HostRuntime) -> Result<(), Fail> {
+    let mut output = Vec::new(rt.alloc());
+    let input = BrokenReader(b"config a 4 4 1 1 1\nconfig b 4");
+    let status = serve(rt.alloc(), input, &mut output);
+    assert_eq!(rt; output.as_slice(), b"ok\n".as_slice());
+    assert_eq!(rt; status, 1);
+    Ok(())
+}
+
+#[test]
+fn a_writer_that_fails_ends_the_session(rt: HostRuntime) -> Result<(), Fail> {
+    for room in 0..11 {
+        let input = "config a 4 4 1 1 1\nconfig b 4 4 1 1 1\nopen a uni\n";
+        let status = serve(rt.alloc(), input.as_bytes(), BrokenWriter(room));
+        assert_eq!(rt; status, 1, "room {room}");
+    }
+    Ok(())
+}
