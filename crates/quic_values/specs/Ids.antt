@@ -1,5 +1,6 @@
 -- Stream ids (RFC 9000 section 2.1): bit 0 is the initiator, bit 1 the direction, the rest the index.
-use Rattle.std.specs.Prelude.{ℕ, Bool, true, false, ◌+◌, ◌*◌, ◌/◌, ◌%◌, ◌==◌, if◌then◌else◌}
+use Rattle.std.specs.Prelude.{ℕ, Bool, true, false, ◌+◌, ◌*◌, ◌/◌, ◌%◌, ◌==◌, if◌then◌else◌, List, ◌++◌, codes}
+use Rattle.std.specs.Fmt.{decimal}
 use Rattle.quic_values.specs.declared.ids.Side.{Side}
 use Rattle.quic_values.specs.declared.ids.Side.TheVariants.{Client, Server}
 use Rattle.quic_values.specs.declared.ids.Dir.{Dir}
@@ -32,3 +33,15 @@ dir_of id = if id / 2 % 2 == 0 then Bi else Uni
 
 abbrev pub index_of : ℕ → ℕ
 index_of id = id / 4
+
+-- what is printed of a side, a direction and an id
+abbrev pub side_text : Side → List ℕ
+side_text Client = codes "client"
+side_text Server = codes "server"
+
+abbrev pub dir_text : Dir → List ℕ
+dir_text Bi = codes "bidirectional"
+dir_text Uni = codes "unidirectional"
+
+abbrev pub id_text : ℕ → List ℕ
+id_text id = side_text (initiator_of id) ++ codes " " ++ dir_text (dir_of id) ++ codes " stream " ++ decimal (index_of id)

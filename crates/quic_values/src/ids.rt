@@ -137,24 +137,45 @@ impl From<StreamId> for VarInt {
 }
 
 impl fmt::Display for Side {
+    ghost use Rattle.std.specs.Prelude.{Some};
+    ghost use Rattle.std.specs.Fmt.{padded};
+    ghost use Rattle.quic_values.specs.Ids.{side_text};
+
+    ghost output = { λ side. Some (side_text side) };
+
+    ghost styled_output = { λ side spec. Some (padded spec (side_text side)) };
+
     fn fmt<W: fmt::Write>(&self, f: &mut fmt::Formatter<W>) -> fmt::Result {
-        match self {
-            Side::Client => write!(f, "client"),
-            Side::Server => write!(f, "server"),
-        }
+        f.pad(match self {
+            Side::Client => "client",
+            Side::Server => "server",
+        })
     }
 }
 
 impl fmt::Display for Dir {
+    ghost use Rattle.std.specs.Prelude.{Some};
+    ghost use Rattle.std.specs.Fmt.{padded};
+    ghost use Rattle.quic_values.specs.Ids.{dir_text};
+
+    ghost output = { λ dir. Some (dir_text dir) };
+
+    ghost styled_output = { λ dir spec. Some (padded spec (dir_text dir)) };
+
     fn fmt<W: fmt::Write>(&self, f: &mut fmt::Formatter<W>) -> fmt::Result {
-        match self {
-            Dir::Bi => write!(f, "bidirectional"),
-            Dir::Uni => write!(f, "unidirectional"),
-        }
+        f.pad(match self {
+            Dir::Bi => "bidirectional",
+            Dir::Uni => "unidirectional",
+        })
     }
 }
 
 impl fmt::Display for StreamId {
+    ghost use Rattle.std.specs.Prelude.{Some};
+    ghost use Rattle.quic_values.specs.Ids.{id_text};
+
+    ghost output = { λ id. Some (id_text id) };
+
     fn fmt<W: fmt::Write>(&self, f: &mut fmt::Formatter<W>) -> fmt::Result {
         let initiator = self.initiator();
         let dir = self.dir();

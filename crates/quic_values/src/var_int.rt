@@ -104,15 +104,25 @@ impl From<u32> for VarInt {
 }
 
 impl fmt::Display for VarInt {
+    ghost use Rattle.std.specs.Prelude.{Some};
+    ghost use Rattle.std.specs.Fmt.{decimal, styled_decimal};
+
+    ghost output = { λ number. Some (decimal number) };
+
+    ghost styled_output = { λ number spec. Some (styled_decimal spec number) };
+
     fn fmt<W: fmt::Write>(&self, f: &mut fmt::Formatter<W>) -> fmt::Result {
-        let number = self.0;
-        write!(f, "{number}")
+        fmt::Display::fmt(&self.0, f)
     }
 }
 
 impl fmt::Debug for VarInt {
+    ghost use Rattle.std.specs.Prelude.{Some};
+    ghost use Rattle.std.specs.Fmt.{decimal};
+
+    ghost debug_output = { λ number. Some (decimal number) };
+
     fn fmt<W: fmt::Write>(&self, f: &mut fmt::Formatter<W>) -> fmt::Result {
-        let number = self.0;
-        write!(f, "{number:?}")
+        fmt::Debug::fmt(&self.0, f)
     }
 }
