@@ -1,38 +1,36 @@
 -- What bounds a write, from the configs and the history.
-use Rattle.std.proofs.Common.{◌≡◌, ℕ, ◌+◌, ◌-◌, ◌≤◌, ◌<◌, ◌⊎◌, Bool, true, false, not, ◌&&◌, ◌||◌, List, [], ◌∷◌, ◌++◌, Option, Some, None, Ok, Err, length, take, refl, sym, ap, ◌∙◌, subst, inl, inr, arith}
-use Rattle.std.specs.Prelude.{slice_get, slice_set, nat_lt, min}
+use Rattle.std.proofs.Common.{◌≡◌, ℕ, ◌-◌, ◌≤◌, ◌<◌, ◌⊎◌, Bool, true, false, ◌||◌, List, [], ◌∷◌, ◌++◌, Some, Ok, Err, length, take, refl, sym, ap, ◌∙◌, subst, inl, inr, arith}
+use Rattle.std.specs.Prelude.{slice_get, nat_lt, min}
 use Rattle.std.specs.List.{concat}
 use Rattle.std.specs.declared.ops.Range.{Range}
 use Rattle.std.proofs.lemmas.List.Folds.{concat-append}
-use Rattle.std.proofs.lemmas.Option.{none-some, same_Some, slice_get_within}
+use Rattle.std.proofs.lemmas.Option.{none-some}
 use Rattle.std.proofs.lemmas.Bool.Decides.{nat_tests}
-use Rattle.quic_values.specs.Runs.{contains, lies_in}
+use Rattle.quic_values.specs.Runs.{lies_in}
 use Rattle.quic_values.specs.declared.Dir.TheVariants.{Uni}
-use Rattle.quic_wire.specs.declared.ReceiveError.{ReceiveError}
 use Rattle.quic_wire.specs.declared.StreamEvent.{StreamEvent}
 use Rattle.quic_wire.specs.declared.StreamEvent.TheVariants.{Finished}
 use Rattle.quic_sending.specs.Buffer.{Buffered, HasCuts, IsSound, is_acked, cut, total, uncovered}
-use Rattle.quic_pair.specs.Network.{Sent, Piece, HasPiece, accepted_at}
-use Rattle.quic_pair.specs.Sending.{Sending, Opens, Writes, Takes, Finishes, Ends, Lost, Loses, Acked, Acks, Polls, write_limit, stream_room, permitted}
-use Rattle.quic_pair.specs.Receiving.{Receiving, Accepts, Reads}
-use Rattle.quic_pair.specs.Steps.{World, Next, Refuses, OnSending, OnStream, OnReceiving, OnlySending, OnlyReceiving, Emitted, Emits, HandsOver, Delivers, Faults, Delivered, ReportsLoss, LosesFrame, ReportsAck, AcksFrame, WritesBytes, Unknown}
+use Rattle.quic_pair.specs.Network.{Sent, Piece, HasPiece}
+use Rattle.quic_pair.specs.Sending.{Sending, Opens, Takes, Finishes, Ends, Lost, Loses, Acked, Acks, Polls, write_limit, stream_room}
+use Rattle.quic_pair.specs.Steps.{World, Next, Refuses, OnStream, OnReceiving, OnlySending, OnlyReceiving, Emitted, Emits, Delivers, Faults, Delivered, ReportsLoss, LosesFrame, ReportsAck, AcksFrame, WritesBytes, Unknown}
 use Rattle.quic_pair.specs.History.{Past, History, Answer, past_of, nothing_yet, after, after_open, after_accept, after_write, after_finish, after_read, after_poll, after_event, after_deliver, after_ack}
 use Rattle.quic_pair.specs.From.{From, begin, next, IsNew}
-use Rattle.quic_pair.specs.Permits.{IsReported, IsRetained, IsPermitted, IsBlocked, IsAnsweredSo, TakesWhatIsPermitted}
+use Rattle.quic_pair.specs.Permits.{IsReported, IsRetained, IsAnsweredSo, TakesWhatIsPermitted}
 use Rattle.quic_pair.specs.declared.steps.Config.{Config}
 use Rattle.quic_pair.specs.declared.steps.End.TheVariants.{A, B}
 use Rattle.quic_pair.specs.declared.steps.Step.{Step}
 use Rattle.quic_pair.specs.declared.steps.Step.TheVariants.{Open, Accept, Write, Finish, Read as ReadStep, Poll, Emit, Deliver, LoseStream, AckStream}
 use Rattle.quic_pair.specs.declared.steps.Reply.TheVariants.{Done, DoneTransmit, Fault, Id, Nothing, Wrote, Blocked, Closed, Read, Event, Payload}
 use Rattle.quic_pair.specs.declared.steps.PairError.TheVariants.{NoSuchPayload, NoSuchFrame, NotAccepted, UnknownId, OutOfMemory}
-use Rattle.quic_pair.proofs.Invariant.{Fits, IsComplete, flow_of}
-use Rattle.quic_pair.proofs.Headlines.{Fits-from, past_from-push}
+use Rattle.quic_pair.proofs.Invariant.{Fits}
+use Rattle.quic_pair.proofs.Histories.{Fits-from, past_from-push}
 use Rattle.quic_pair.proofs.Keeps.{concat_cut, HasPiece-left}
-use Rattle.quic_pair.proofs.Delivers.{Stays, HasPiece-stays, or_true, lies_bounds}
+use Rattle.quic_pair.proofs.Delivers.{HasPiece-stays, or_true, lies_bounds}
 use Rattle.quic_pair.proofs.Lists.{slice_get-append_left, slice_get-push, slice_get-last}
 use Rattle.quic_pair.proofs.Refused.{same_piece}
 use Rattle.quic_pair.proofs.Spelled.{total-concat}
-use Rattle.quic_pair.proofs.Turns.{Serves, Turns-serves, Turns-sound}
+use Rattle.quic_pair.proofs.Turns.{Turns-serves, Turns-sound}
 
 -- each frame that was reported is there
 abbrev pub AreThere : List (ℕ × ℕ) → List Sent → Type 0
@@ -213,9 +211,9 @@ delivers old k i (Err NoSuchFrame) new n = rw n.1 (Moves-same old)
 delivers old k i (Err OutOfMemory) new n = rw n (Moves-same old)
 delivers old k i _ new n = absurd n
 
-reads : (old : World) (id : ℕ) (answer : Answer) (new : World) → (Unknown old.receiving.taken id × Refuses old answer new) ⊎ OnReceiving old id answer new → Moves old new
-reads old id answer new (inl u) = rw u.1.1 (Moves-same old)
-reads old id answer new (inr n) = rw n.new_is (record { max_data = refl; max_stream_data = refl; send_window = refl; cuts = λ cs h. h; sound = λ h. h; acked = λ m. refl; reach = same_reach old.sent })
+reads : (most times : ℕ) (old : World) (id : ℕ) (answer : Answer) (new : World) → (Unknown old.receiving.taken id × Refuses old answer new) ⊎ OnReceiving most times old id answer new → Moves old new
+reads most times old id answer new (inl u) = rw u.1.1 (Moves-same old)
+reads most times old id answer new (inr n) = rw n.new_is (record { max_data = refl; max_stream_data = refl; send_window = refl; cuts = λ cs h. h; sound = λ h. h; acked = λ m. refl; reach = same_reach old.sent })
 
 -- a write adds a piece
 Bounds-write : (a b : Config) (p : Past) (old : World) (bytes : List ℕ) (count : ℕ) (s : Sending) → Bounds a b p.pieces p.written p.acknowledged old → Takes old.sending bytes count s →
@@ -401,7 +399,7 @@ Bounds-next a b p old (Write A id bytes) answer new f h n = writes a b p old byt
 Bounds-next a b p old (Write who id bytes) answer new f h n = rw (n.0, n.1) h
 Bounds-next a b p old (Finish A id) answer new f h n = by_past a b p _ old new (past_finish p answer) h (finishes old id answer new n)
 Bounds-next a b p old (Finish who id) answer new f h n = stays a b p _ old answer new (past_finish p answer) h n
-Bounds-next a b p old (ReadStep B id true max times) answer new f h n = by_past a b p _ old new (past_read p answer) h (reads old id answer new n)
+Bounds-next a b p old (ReadStep B id true max times) answer new f h n = by_past a b p _ old new (past_read p answer) h (reads max times old id answer new n)
 Bounds-next a b p old (ReadStep who id ordered max times) answer new f h n = stays a b p _ old answer new (past_read p answer) h n
 Bounds-next a b p old (Poll A) answer new f h n = by_past a b p _ old new (past_poll p answer) h (polls old answer new n)
 Bounds-next a b p old (Poll who) answer new f h n = stays a b p _ old answer new (past_poll p answer) h n
@@ -448,7 +446,7 @@ retained a b p v h = record {
   is = ap total h.cuts.retained;
 }
 
-written_size : (a b : Config) (p : Past) (v : World) → BoundsOf a b p v → v.sending.buffer.offset ≡ length p.written
+pub written_size : (a b : Config) (p : Past) (v : World) → BoundsOf a b p v → v.sending.buffer.offset ≡ length p.written
 written_size a b p v h = h.cuts.written ∙ total-concat p.pieces ∙ ap length h.joined
 
 least : (a b : Config) (p : Past) (v : World) (h : BoundsOf a b p v) →

@@ -1,32 +1,28 @@
 -- A delivery, a report of acknowledgement and a read keep what holds of a pair and its past.
-use Rattle.std.proofs.Common.{◌≡◌, ℕ, zero, suc, ◌+◌, ◌-◌, ◌≤◌, ◌<◌, ◌⊎◌, Bool, true, false, not, ◌&&◌, ◌||◌, List, [], ◌∷◌, ◌++◌, Option, Some, None, Ok, Err, length, take, drop, get_or, refl, sym, ap, ◌∙◌, subst, inl, inr, arith, cond, length-append, length-take, append-nil}
-use Rattle.std.specs.Prelude.{slice_get, slice_set, map, nat_lt, ◌==◌, option_map}
-use Rattle.std.specs.List.{concat, flat_map}
-use Rattle.std.specs.declared.ops.Range.{Range}
+use Rattle.std.proofs.Common.{◌≡◌, ℕ, zero, suc, ◌+◌, ◌-◌, ◌≤◌, ◌<◌, ◌⊎◌, Bool, true, false, ◌&&◌, ◌||◌, List, [], ◌∷◌, ◌++◌, Option, Some, Ok, Err, length, take, refl, sym, ap, ◌∙◌, subst, inl, inr, arith, cond, length-append, length-take, append-nil}
+use Rattle.std.specs.Prelude.{slice_get, slice_set, map, ◌==◌, option_map}
+use Rattle.std.specs.List.{flat_map}
 use Rattle.std.proofs.lemmas.List.{take_all, nil_from_length}
 use Rattle.std.proofs.lemmas.Option.{none-some, same_Some, slice_get-map, slice_get_within, get_or_from_slice_get}
 use Rattle.std.proofs.lemmas.Bool.{and_parts, eqb-true}
 use Rattle.std.proofs.lemmas.Bool.Decides.{nat_tests}
 use Rattle.quic_values.specs.Runs.{lies_in}
-use Rattle.quic_wire.specs.Frames.{AreFrames}
 use Rattle.quic_wire.specs.declared.frame.Stream.{Stream}
-use Rattle.quic_wire.specs.declared.frame.Frame.{Frame}
 use Rattle.quic_wire.specs.declared.frame.Frame.TheVariants as frames
 use Rattle.quic_wire.specs.declared.ReceiveError.{ReceiveError}
 use Rattle.quic_wire.specs.declared.ReceiveError.TheVariants.{Transport, CompactionMemory}
-use Rattle.quic_assembler.specs.Piece.{IsByteAt}
-use Rattle.quic_sending.specs.Buffer.{is_acked}
+use Rattle.quic_assembler.specs.declared.Chunk.{Chunk}
 use Rattle.quic_pair.specs.Network.{Sent, Piece, HasPiece, HasStream, SpellsStream, part, frame_of, accepted_at}
 use Rattle.quic_pair.specs.Sending.{Sending, Acked, Acks}
 use Rattle.quic_pair.specs.Receiving.{Receiving, Receives, Keeps, Reads, ReadsAll, Gives, Stops}
-use Rattle.quic_pair.specs.Steps.{World, OnReceiving, Refuses, Unknown, HandsOver, Delivers, Faults, Delivered, ReportsAck, AcksFrame}
+use Rattle.quic_pair.specs.Steps.{World, OnReceiving, Refuses, Unknown, Delivers, Faults, Delivered, ReportsAck, AcksFrame}
 use Rattle.quic_pair.specs.History.{Past, Answer, after_read, after_deliver, after_ack, bytes_of, ended_by}
 use Rattle.quic_pair.specs.Headline.{IsCarried, IsEndCarried, IsHonestPiece, IsHonestPayload}
 use Rattle.quic_pair.specs.declared.steps.Last.{Last}
 use Rattle.quic_pair.specs.declared.steps.Last.TheVariants.{Ended}
-use Rattle.quic_pair.specs.declared.steps.Reply.TheVariants.{Done, DoneTransmit, Fault, Closed, Read}
-use Rattle.quic_pair.specs.declared.steps.PairError.TheVariants.{NoSuchPayload, NoSuchFrame, NotAccepted, UnknownId, OutOfMemory}
-use Rattle.quic_pair.proofs.Invariant.{Flow, flow_of, SenderFits, ReceiverFits, AreHonest, AreDelivered, AreMarked, IsMarked, IsComplete, Fits}
+use Rattle.quic_pair.specs.declared.steps.Reply.TheVariants.{Done, Fault, Closed, Read}
+use Rattle.quic_pair.specs.declared.steps.PairError.TheVariants.{NoSuchPayload, NoSuchFrame, NotAccepted, OutOfMemory}
+use Rattle.quic_pair.proofs.Invariant.{Flow, flow_of, ReceiverFits, IsMarked, IsComplete, Fits}
 use Rattle.quic_pair.proofs.Lists.{slice_get-append_left, slice_get-slice_set, slice_set-keeps, slice_get-set_same, slice_get-last, slice_get-push, take_further}
 use Rattle.quic_pair.proofs.Parts.{part-has, length-part}
 
@@ -99,7 +95,7 @@ stream_is : (a b : Stream) → frames.Stream a ≡ frames.Stream b → a ≡ b
 stream_is a b e = cc
 
 -- what is decoded of an honest payload is what was written
-frame_is : (f : Flow) (whole : Sent) (i : ℕ) (p : Piece) (s : Stream) → IsHonestPayload f.written f.finished whole → slice_get whole.frames i ≡ Some p → SpellsStream whole.bytes i s → s ≡ record { id = 2; offset = p.start; fin = p.fin; bytes = part f.written p.start p.end }
+pub frame_is : (f : Flow) (whole : Sent) (i : ℕ) (p : Piece) (s : Stream) → IsHonestPayload f.written f.finished whole → slice_get whole.frames i ≡ Some p → SpellsStream whole.bytes i s → s ≡ record { id = 2; offset = p.start; fin = p.fin; bytes = part f.written p.start p.end }
 frame_is f whole i p s h at spells =
     let frames' = spells.only (map (frame_of f.written) whole.frames) h.spelled in
     let here : Some (frame_of f.written p) ≡ Some (frames.Stream s) =
@@ -175,7 +171,7 @@ marked_now sent k i k' i' whole x is at e =
     }
 
 -- the frame is marked as accepted
-Fits-marked : (p : Past) (v : World) (k i : ℕ) (whole : Sent) (x : Piece) → Fits p v → slice_get v.sent k ≡ Some whole → slice_get whole.frames i ≡ Some x → Fits (record p { accepted = p.accepted ++ (k, i) ∷ [] }) (record v { sent = slice_set v.sent k (accepted_at whole i x) })
+Fits-marked : (p : Past) (v : World) (k i : ℕ) (whole : Sent) (x : Piece) → Fits p v → slice_get v.sent k ≡ Some whole → slice_get whole.frames i ≡ Some x → Fits (record p { accepted = p.accepted ++ (k, i) ∷ []; kept = p.kept + 1 }) (record v { sent = slice_set v.sent k (accepted_at whole i x) })
 Fits-marked p v k i whole x h is at = record {
   opened = h.opened;
   taken = h.taken;
@@ -204,7 +200,7 @@ Fits-marked p v k i whole x h is at = record {
 world_is : (old new : World) (k i : ℕ) (n : Delivers old k i new) → new ≡ record old { receiving = new.receiving; sent = slice_set old.sent k (accepted_at n.hands.has.whole i n.hands.has.piece) }
 world_is old new k i n = ap (λ (s : Sending). record new { sending = s }) n.hands.sending ∙ ap (λ (xs : List Sent). record new { sending = old.sending; sent = xs }) n.sent
 
-delivers_done : (p : Past) (old : World) (k i : ℕ) (new : World) → Fits p old → Delivers old k i new → Fits (record p { accepted = p.accepted ++ (k, i) ∷ [] }) new
+delivers_done : (p : Past) (old : World) (k i : ℕ) (new : World) → Fits p old → Delivers old k i new → Fits (record p { accepted = p.accepted ++ (k, i) ∷ []; kept = p.kept + 1 }) new
 delivers_done p old k i new h n =
     let received = received_fits p old k i n.hands.frame n.hands.has (Ok Done) new.receiving h n.hands.receives in
     rw (world_is old new k i n)
@@ -213,8 +209,27 @@ delivers_done p old k i new h n =
 fault_is : (old new : World) (k i : ℕ) (answer : Answer) (n : Faults old k i answer new) → new ≡ record old { receiving = new.receiving }
 fault_is old new k i answer n = ap (λ (s : Sending). record new { sending = s }) n.hands.sending ∙ ap (λ (xs : List Sent). record new { sending = old.sending; sent = xs }) n.sent
 
-faults : (p : Past) (old : World) (k i : ℕ) (error : ReceiveError) (new : World) → Fits p old → Faults old k i (Ok (Fault error)) new → Fits p new
-faults p old k i error new h n = rw (fault_is old new k i (Ok (Fault error)) n) (received_fits p old k i n.hands.frame n.hands.has (Ok (Fault error)) new.receiving h n.hands.receives)
+-- how many frames were kept and which were refused is no part of what fits
+Fits-counted : (p : Past) (v : World) (kept : ℕ) (refused : List ℕ) → Fits p v → Fits (record p { kept = kept; refused = refused }) v
+Fits-counted p v kept refused h = record {
+  opened = h.opened;
+  taken = h.taken;
+  sender = h.sender;
+  frames = h.frames;
+  receiver = h.receiver;
+  delivered = h.delivered;
+  marked = h.marked;
+  acked = h.acked;
+  fin_acked = h.fin_acked;
+  freed = h.freed;
+  unreported = h.unreported;
+  ended = h.ended;
+  complete = h.complete;
+}
+
+faults : (p : Past) (old : World) (k i : ℕ) (error : ReceiveError) (new : World) → Fits p old → Faults old k i (Ok (Fault error)) new → Fits (after_deliver p k i (Ok (Fault error))) new
+faults p old k i error new h n =
+    Fits-counted p new _ _ (rw (fault_is old new k i (Ok (Fault error)) n) (received_fits p old k i n.hands.frame n.hands.has (Ok (Fault error)) new.receiving h n.hands.receives))
 
 pub delivers : (p : Past) (old : World) (k i : ℕ) (answer : Answer) (new : World) → Fits p old → Delivered old k i answer new → Fits (after_deliver p k i answer) new
 delivers p old k i (Ok Done) new h n = delivers_done p old k i new h n
@@ -335,8 +350,9 @@ all_given given more written n all e =
 stops_ended : (size : Option ℕ) (r : Receiving) (last : Last) → Stops size r.held last → last ≡ Ended → size ≡ Some r.held.bytes_read
 stops_ended size r last s e = (subst (λ (l : Last). Stops size r.held l) e s).1
 
-Fits-read : (p : Past) (old : World) (bytes : List ℕ) (last : Last) (transmit : Bool) (r : Receiving) → Fits p old → ReadsAll old.receiving bytes last transmit r → Fits (record p { given = p.given ++ bytes; ended = ended_by last p.ended }) (record old { receiving = r })
-Fits-read p old bytes last transmit r h n =
+Fits-read : (most times : ℕ) (p : Past) (old : World) (chunks : List Chunk) (last : Last) (transmit : Bool) (r : Receiving) → Fits p old → ReadsAll most times old.receiving chunks last transmit r → Fits (record p { given = p.given ++ flat_map bytes_of chunks; ended = ended_by last p.ended }) (record old { receiving = r })
+Fits-read most times p old chunks last transmit r h n =
+    let bytes : List ℕ = flat_map bytes_of chunks in
     let final = ap (λ (x : Receiving). x.final_size) n.new_is in
     let got = ReceiverFits-give (flow_of p) p.given old.receiving bytes r h.receiver n.gives final in
     record {
@@ -359,12 +375,12 @@ Fits-read p old bytes last transmit r h n =
       complete = h.complete;
     }
 
-reads_at : (p : Past) (old : World) (answer : Answer) (new : World) → Fits p old → Reads old.receiving answer new.receiving → new ≡ record old { receiving = new.receiving } → Fits (after_read p answer) new
-reads_at p old (Ok (Read chunks last transmit)) new h n is = rw is (Fits-read p old (flat_map bytes_of chunks.items) last transmit new.receiving h n)
-reads_at p old (Ok Closed) new h n is = rw (is, n.1) h
-reads_at p old (Err OutOfMemory) new h n is = rw (is, n) h
-reads_at p old _ new h n is = absurd n
+reads_at : (most times : ℕ) (p : Past) (old : World) (answer : Answer) (new : World) → Fits p old → Reads most times old.receiving answer new.receiving → new ≡ record old { receiving = new.receiving } → Fits (after_read p answer) new
+reads_at most times p old (Ok (Read chunks last transmit)) new h n is = rw is (Fits-read most times p old chunks.items last transmit new.receiving h n)
+reads_at most times p old (Ok Closed) new h n is = rw (is, n.1) h
+reads_at most times p old (Err OutOfMemory) new h n is = rw (is, n) h
+reads_at most times p old _ new h n is = absurd n
 
-pub reads : (p : Past) (old : World) (id : ℕ) (answer : Answer) (new : World) → Fits p old → (Unknown old.receiving.taken id × Refuses old answer new) ⊎ OnReceiving old id answer new → Fits (after_read p answer) new
-reads p old id answer new h (inl u) = rw (u.1.0, u.1.1) h
-reads p old id answer new h (inr n) = reads_at p old answer new h n.does n.new_is
+pub reads : (most times : ℕ) (p : Past) (old : World) (id : ℕ) (answer : Answer) (new : World) → Fits p old → (Unknown old.receiving.taken id × Refuses old answer new) ⊎ OnReceiving most times old id answer new → Fits (after_read p answer) new
+reads most times p old id answer new h (inl u) = rw (u.1.0, u.1.1) h
+reads most times p old id answer new h (inr n) = reads_at most times p old answer new h n.does n.new_is

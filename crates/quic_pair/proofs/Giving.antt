@@ -1,16 +1,19 @@
 -- What a read of several chunks gives, chunk by chunk.
-use Rattle.std.proofs.Common.{◌≡◌, ℕ, Bool, true, false, cond, Option, Some, None, subst, ◌+◌, ◌-◌, ◌≤◌, ◌<◌, ◌⊎◌, List, [], ◌∷◌, ◌++◌, length, refl, sym, ◌∙◌, ap, inl, inr, arith, length-append}
+use Rattle.std.proofs.Common.{◌≡◌, ℕ, Bool, true, false, cond, Option, Some, None, subst, ◌+◌, ◌-◌, ◌≤◌, ◌<◌, List, [], ◌∷◌, ◌++◌, length, refl, sym, ◌∙◌, ap, inl, inr, arith, length-append}
 use Rattle.std.proofs.lemmas.Bool.{cases_lt}
 use Rattle.std.proofs.Math.ListN.{get_or-append}
 use Rattle.std.proofs.Math.Seq.{get_or-append_right}
 use Rattle.quic_assembler.specs.Piece.{IsByteAt}
-use Rattle.quic_assembler.specs.Reassembly.{Reassembly, Holds, IsHeld, IsWithin, SameHeld}
+use Rattle.quic_assembler.specs.Reassembly.{Reassembly, Holds, IsHeld, IsWithin, SameHeld, piece_count}
 use Rattle.quic_assembler.specs.Reassembly as assembler
 use Rattle.std.specs.Prelude.{nat_eq}
 use Rattle.std.proofs.lemmas.Option.{same_Some}
 use Rattle.std.proofs.lemmas.Bool.{eqb-true, eqb-false}
 use Rattle.quic_pair.specs.declared.steps.Last.TheVariants.{Ended, Blocked}
-use Rattle.quic_pair.specs.Receiving.{Gives, Stops, last_at}
+use Rattle.std.specs.List.{flat_map}
+use Rattle.quic_assembler.specs.declared.Chunk.{Chunk}
+use Rattle.quic_pair.specs.History.{bytes_of}
+use Rattle.quic_pair.specs.Receiving.{AreChunks, Gives, Stops, last_at}
 
 byte_in_front : (offset at byte : ℕ) (xs ys : List ℕ) → IsByteAt offset (xs ++ ys) at byte → at < offset + length xs → IsByteAt offset xs at byte
 byte_in_front offset at byte xs ys h lt =
@@ -31,16 +34,18 @@ Gives-nothing a = record {
   stays = λ at byte h ge. h;
   read = omega arith;
   ordered = refl;
+  pieces = omega arith;
 }
 
 -- one chunk is given
-pub Gives-chunk : (a b : Reassembly) (offset : ℕ) (bytes : List ℕ) → assembler.Gives (Holds a) (Holds b) offset bytes → offset ≡ a.bytes_read → b.bytes_read ≡ a.bytes_read + length bytes → b.ordered ≡ a.ordered → Gives a bytes b
-Gives-chunk a b offset bytes g start moves ordered = record {
+pub Gives-chunk : (a b : Reassembly) (offset : ℕ) (bytes : List ℕ) → assembler.Gives (Holds a) (Holds b) offset bytes → offset ≡ a.bytes_read → b.bytes_read ≡ a.bytes_read + length bytes → b.ordered ≡ a.ordered → piece_count b ≤ piece_count a → Gives a bytes b
+Gives-chunk a b offset bytes g start moves ordered pieces = record {
   given = λ at byte h. g.given at byte (rw start h);
   kept = g.origin;
   stays = λ at byte h ge. elim (g.keeps at byte h) [ inl w ↦ absurd (omega (arith, w.1)) | inr k ↦ k ];
   read = moves;
   ordered = ordered;
+  pieces = pieces;
 }
 
 -- more bytes are given
@@ -54,17 +59,25 @@ Gives-append a b c xs ys g h = record {
   stays = λ at byte i ge. h.stays at byte (g.stays at byte i (omega (arith, length-append xs ys))) (omega (arith, g.read, length-append xs ys));
   read = omega (arith, g.read, h.read, length-append xs ys);
   ordered = h.ordered ∙ g.ordered;
+  pieces = omega (arith, g.pieces, h.pieces);
 }
 
 -- and then nothing more
-pub Gives-same : (a b c : Reassembly) (xs : List ℕ) → Gives a xs b → SameHeld (Holds b) (Holds c) → c.bytes_read ≡ b.bytes_read → c.ordered ≡ b.ordered → Gives a xs c
-Gives-same a b c xs g s read ordered = record {
+pub Gives-same : (a b c : Reassembly) (xs : List ℕ) → Gives a xs b → SameHeld (Holds b) (Holds c) → c.bytes_read ≡ b.bytes_read → c.ordered ≡ b.ordered → piece_count c ≤ piece_count b → Gives a xs c
+Gives-same a b c xs g s read ordered pieces = record {
   given = g.given;
   kept = λ at byte i. g.kept at byte (s.origin at byte i);
   stays = λ at byte i ge. s.keeps at byte (g.stays at byte i ge);
   read = read ∙ g.read;
   ordered = ordered ∙ g.ordered;
+  pieces = omega (arith, g.pieces, pieces);
 }
+
+-- one more chunk behind those that were read
+pub AreChunks-push : (most at : ℕ) (cs : List Chunk) (c : Chunk) → AreChunks most at cs → c.offset ≡ at + length (flat_map bytes_of cs) → length c.bytes ≤ most → (0 < most → 0 < length c.bytes) → AreChunks most at (cs ++ c ∷ [])
+AreChunks-push most at [] c h start limit some = (omega (arith, start), limit, some, tt)
+AreChunks-push most at (d ∷ cs) c h start limit some =
+    (h.0, h.1, h.2, AreChunks-push most (at + length d.bytes) cs c h.3 (omega (arith, start, length-append d.bytes (flat_map bytes_of cs))) limit some)
 
 -- where nothing is held before, nothing is held after
 pub not_held : (a b : Reassembly) → SameHeld (Holds a) (Holds b) → b.bytes_read ≡ a.bytes_read → (IsHeld (Holds a) a.bytes_read → ⊥) → IsHeld (Holds b) b.bytes_read → ⊥

@@ -1,8 +1,7 @@
 -- What stays true when more is written, or the stream is finished.
-use Rattle.std.proofs.Common.{◌≡◌, ℕ, ◌+◌, ◌-◌, ◌≤◌, ◌<◌, Bool, true, List, [], ◌∷◌, ◌++◌, length, take, drop, Some, refl, sym, ap, ◌∙◌, arith, length-append, append-nil}
-use Rattle.std.specs.Prelude.{slice_get, map}
+use Rattle.std.proofs.Common.{◌≡◌, ℕ, ◌≤◌, true, List, [], ◌++◌, length, refl, sym, ap, ◌∙◌, arith, length-append, append-nil}
+use Rattle.std.specs.Prelude.{map}
 use Rattle.std.proofs.lemmas.List.{take-append-le}
-use Rattle.quic_wire.specs.Frames.{AreFrames}
 use Rattle.quic_pair.specs.Network.{Sent, Piece, frame_of}
 use Rattle.quic_pair.specs.Receiving.{Receiving}
 use Rattle.quic_pair.specs.Headline.{IsHonestPiece, IsHonestPayload}

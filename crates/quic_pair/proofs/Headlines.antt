@@ -1,87 +1,23 @@
 -- The headline of the path, from what holds at each moment.
-use Rattle.std.proofs.Common.{◌≡◌, ℕ, ◌+◌, ◌≤◌, ◌<◌, Bool, true, false, not, ◌||◌, List, [], ◌∷◌, ◌++◌, Option, Some, None, Ok, Err, length, take, drop, refl, sym, ap, ◌∙◌, arith}
-use Rattle.std.specs.Prelude.{slice_get, nat_lt}
+use Rattle.std.proofs.Common.{◌≡◌, ℕ, ◌<◌, Bool, true, ◌||◌, drop, sym, ◌∙◌, arith}
+use Rattle.std.specs.Prelude.{nat_lt}
 use Rattle.std.proofs.lemmas.List.{take-append-drop}
-use Rattle.std.proofs.lemmas.Option.{none-some}
 use Rattle.std.proofs.lemmas.Bool.Decides.{nat_tests}
-use Rattle.quic_values.specs.declared.Dir.TheVariants.{Uni}
-use Rattle.quic_sending.specs.Buffer.{is_acked}
 use Rattle.quic_pair.specs.declared.steps.Config.{Config}
-use Rattle.quic_pair.specs.declared.steps.End.TheVariants.{A, B}
-use Rattle.quic_pair.specs.declared.steps.Step.{Step}
-use Rattle.quic_pair.specs.declared.steps.Step.TheVariants.{Open, Accept, Write, Finish, Read as ReadStep, Poll, Emit, Deliver, LoseStream, AckStream}
-use Rattle.quic_pair.specs.declared.steps.PairError.TheVariants.{UnknownId}
-use Rattle.quic_pair.specs.Steps.{World, Next, Refuses}
-use Rattle.quic_pair.specs.History.{Past, History, Answer, StepTaken, past_of, past_from, after, nothing_yet}
-use Rattle.quic_pair.specs.From.{From, begin, next, IsNew}
-use Rattle.quic_pair.specs.Headline.{Headline, IsCarried, IsEndCarried}
-use Rattle.quic_pair.proofs.Invariant.{Fits, IsComplete, flow_of}
-use Rattle.quic_pair.proofs.Keeps.{opens, accepts, writes, finishes, polls, emits, loses}
-use Rattle.quic_pair.proofs.Delivers.{delivers, acks, reads}
+use Rattle.quic_pair.specs.Steps.{World}
+use Rattle.quic_pair.specs.History.{Past, History, past_of}
+use Rattle.quic_pair.specs.From.{From}
+use Rattle.quic_pair.specs.Headline.{Headline}
+use Rattle.quic_pair.proofs.Invariant.{Fits, flow_of}
+use Rattle.quic_pair.proofs.Histories.{Fits-from}
+use Rattle.quic_pair.proofs.Admits.{Admits, Admits-from}
 use Rattle.quic_pair.proofs.Spelled.{written_length}
-
--- a new pair fits
-Fits-new : (a b : Config) (v : World) → IsNew a b v → Fits nothing_yet v
-Fits-new a b v n = record {
-  opened = n.sending.opened;
-  taken = n.receiving.taken;
-  sender = record { cuts = []; has = n.sending.cuts; joined = refl; finished = n.sending.finished };
-  frames = λ k s e. absurd (none-some s (rw n.sent at e));
-  receiver = record {
-    held = λ at byte h. absurd (n.receiving.empty at byte h);
-    size = λ e q. absurd (none-some e (sym n.receiving.final_size ∙ q));
-    read = omega (arith, n.receiving.read);
-    given_is = rw n.receiving.read refl;
-  };
-  delivered = λ k i p h e. absurd (none-some h.whole (rw n.sent at h.is));
-  marked = λ place k i e. absurd (none-some _ e);
-  acked = λ m e. absurd (let z = sym (n.sending.unacked m) ∙ e in cc);
-  fin_acked = λ e. absurd (let z = sym n.sending.fin_acked ∙ e in cc);
-  freed = λ e. absurd (let z = sym n.sending.freed ∙ e in cc);
-  unreported = λ e. absurd (let z = sym n.sending.unreported ∙ e in cc);
-  ended = λ e. absurd cc;
-  complete = λ e. absurd cc;
-}
-
-refuses : (p : Past) (old : World) (answer : Answer) (new : World) → Fits p old → Refuses old answer new → Fits p new
-refuses p old answer new h r = rw r.1 h
-
--- each step keeps it
-Fits-next : (p : Past) (old : World) (step : Step) (answer : Answer) (new : World) → Fits p old → Next old step answer new → Fits (after p step answer) new
-Fits-next p old (Open A Uni) answer new h n = opens p old answer new h n
-Fits-next p old (Open who dir) answer new h n = rw (n.0, n.1) h
-Fits-next p old (Accept B Uni) answer new h n = accepts p old answer new h n
-Fits-next p old (Accept who dir) answer new h n = rw (n.0, n.1) h
-Fits-next p old (Write A id bytes) answer new h n = writes p old bytes id answer new h n
-Fits-next p old (Write who id bytes) answer new h n = rw (n.0, n.1) h
-Fits-next p old (Finish A id) answer new h n = finishes p old id answer new h n
-Fits-next p old (Finish who id) answer new h n = rw (n.0, n.1) h
-Fits-next p old (ReadStep B id true max times) answer new h n = reads p old id answer new h n
-Fits-next p old (ReadStep who id ordered max times) answer new h n = rw (n.0, n.1) h
-Fits-next p old (Poll A) answer new h n = polls p old answer new h n
-Fits-next p old (Poll who) answer new h n = rw (n.0, n.1) h
-Fits-next p old (Emit A most fair) answer new h n = emits p old most answer new h n
-Fits-next p old (Emit who most fair) answer new h n = rw n.1 h
-Fits-next p old (Deliver payload index) answer new h n = delivers p old payload index answer new h n
-Fits-next p old (LoseStream payload index) answer new h n = loses p old payload index answer new h n
-Fits-next p old (AckStream payload index) answer new h n = acks p old payload index answer new h n
-Fits-next p old _ answer new h n = rw n.1 h
-
--- the past after one more step
-pub past_from-push : (p : Past) (h : History) (e : StepTaken) → past_from p (h ++ e ∷ []) ≡ after (past_from p h) e.0 e.1
-past_from-push p [] e = refl
-past_from-push p (d ∷ h) e = past_from-push (after p d.0 d.1) h e
-
-pub Fits-from : {a b : Config} {h : History} {v : World} → From a b h v → Fits (past_of h) v
-Fits-from {a} {b} (begin {v} n) = Fits-new a b v n
-Fits-from {a} {b} (next {h} {old} {new} step answer f n) =
-    rw (past_from-push nothing_yet h (step, answer)) (Fits-next (past_of h) old step answer new (Fits-from f) n)
 
 below_acked : (n prefix : ℕ) (later : Bool) → n < prefix → (nat_lt n prefix || later) ≡ true
 below_acked n prefix later h = grind (arith, nat_tests)
 
-Headline-fits : (p : Past) (v : World) → Fits p v → Headline p v
-Headline-fits p v h = record {
+Headline-fits : (b : Config) (p : Past) (v : World) → Fits p v → Admits b p v → Headline p v
+Headline-fits b p v h admits = record {
   beginning = (drop v.receiving.held.bytes_read p.written, rw h.receiver.given_is (take-append-drop v.receiving.held.bytes_read p.written));
   ended = h.ended;
   complete = λ e.
@@ -92,7 +28,8 @@ Headline-fits p v h = record {
         h.fin_acked z.fin_acked,
       );
   honest = h.frames;
+  unrefused = admits.refused;
 }
 
 pub Headline-from : {a b : Config} (h : History) (v : World) → From a b h v → Headline (past_of h) v
-Headline-from h v f = Headline-fits (past_of h) v (Fits-from f)
+Headline-from {a} {b} h v f = Headline-fits b (past_of h) v (Fits-from f) (Admits-from f)

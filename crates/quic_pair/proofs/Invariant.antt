@@ -1,16 +1,15 @@
 -- What holds of a pair and its past at each moment.
-use Rattle.std.proofs.Common.{◌≡◌, ℕ, ◌+◌, ◌≤◌, ◌<◌, Bool, true, List, [], ◌++◌, Some, length, take}
-use Rattle.std.specs.Prelude.{slice_get, map}
+use Rattle.std.proofs.Common.{◌≡◌, ℕ, ◌≤◌, Bool, true, List, [], ◌++◌, Some, length, take}
+use Rattle.std.specs.Prelude.{slice_get}
 use Rattle.std.specs.List.{concat}
-use Rattle.quic_wire.specs.Frames.{AreFrames}
 use Rattle.quic_assembler.specs.Reassembly.{Holds}
-use Rattle.quic_sending.specs.Buffer.{HasCuts, IsSound, is_acked}
-use Rattle.quic_pair.specs.Network.{Sent, Piece, HasPiece, frame_of}
+use Rattle.quic_sending.specs.Buffer.{HasCuts, is_acked}
+use Rattle.quic_pair.specs.Network.{Sent, Piece, HasPiece}
 use Rattle.quic_pair.specs.Sending.{Sending}
 use Rattle.quic_pair.specs.Receiving.{Receiving}
 use Rattle.quic_pair.specs.Steps.{World}
 use Rattle.quic_pair.specs.History.{Past}
-use Rattle.quic_pair.specs.Headline.{IsCarried, IsEndCarried, IsHonestPiece, IsHonestPayload}
+use Rattle.quic_pair.specs.Headline.{IsCarried, IsEndCarried, IsHonestPayload}
 
 -- the flow: what was written, and whether that is all
 pub record Flow : Type 0 where

@@ -1,38 +1,24 @@
 -- Each step keeps what holds of a pair and its past.
-use Rattle.std.proofs.Common.{◌≡◌, ℕ, ◌+◌, ◌-◌, ◌≤◌, ◌<◌, ◌⊎◌, Bool, true, false, not, ◌&&◌, ◌||◌, List, [], ◌∷◌, ◌++◌, Option, Some, None, Ok, Err, length, take, drop, get_or, refl, sym, ap, ◌∙◌, subst, inl, inr, arith, cond, length-append, length-take, append-nil}
-use Rattle.std.specs.Prelude.{slice_get, slice_set, map, nat_lt, ◌==◌, option_map}
-use Rattle.std.specs.List.{concat, flat_map}
+use Rattle.std.proofs.Common.{◌≡◌, ℕ, ◌⊎◌, Bool, true, false, List, [], ◌∷◌, ◌++◌, Some, Ok, Err, take, refl, sym, ap, ◌∙◌, inl, inr, append-nil}
+use Rattle.std.specs.Prelude.{slice_get}
+use Rattle.std.specs.List.{concat}
 use Rattle.std.specs.declared.ops.Range.{Range}
-use Rattle.std.proofs.lemmas.List.{take-append-le, take_all, take-append-drop, nil_from_length}
 use Rattle.std.proofs.lemmas.List.Folds.{concat-append}
-use Rattle.std.proofs.lemmas.Option.{none-some, same_Some, slice_get-map, slice_get-get_or, slice_get_within, get_or_from_slice_get}
-use Rattle.std.proofs.lemmas.Bool.{cases_lt, and_parts, or_parts, eqb-true}
-use Rattle.std.proofs.lemmas.Bool.Decides.{nat_tests}
-use Rattle.quic_values.specs.Runs.{lies_in}
-use Rattle.quic_wire.specs.declared.frame.Stream.{Stream}
-use Rattle.quic_wire.specs.declared.frame.Frame.{Frame}
-use Rattle.quic_wire.specs.declared.frame.Frame.TheVariants as frames
-use Rattle.quic_wire.specs.declared.ReceiveError.TheVariants.{Transport, CompactionMemory}
+use Rattle.std.proofs.lemmas.Option.{none-some}
 use Rattle.quic_wire.specs.declared.StreamEvent.TheVariants.{Finished}
-use Rattle.quic_assembler.specs.Reassembly.{Holds, IsHeld}
-use Rattle.quic_assembler.specs.Piece.{IsByteAt}
-use Rattle.quic_sending.specs.Buffer.{Buffered, HasCuts, is_acked, cut, total}
-use Rattle.quic_pair.specs.Network.{Sent, Piece, HasPiece, HasStream, SpellsStream, part, frame_of, accepted_at}
-use Rattle.quic_pair.specs.Sending.{Sending, Opens, Writes, Takes, Finishes, Ends, Lost, Loses, Acked, Acks, Polls}
-use Rattle.quic_pair.specs.Receiving.{Receiving, Receives, Keeps, Accepts, Reads, ReadsAll, Gives, Stops}
-use Rattle.quic_pair.specs.Steps.{World, Refuses, OnSending, OnStream, OnReceiving, OnlySending, OnlyReceiving, Emitted, Emits, EmitsAll, EmitsSome, HandsOver, Delivers, Faults, Delivered, ReportsLoss, LosesFrame, ReportsAck, AcksFrame, WritesBytes, Unknown}
-use Rattle.quic_pair.specs.History.{Past, Answer, after_open, after_accept, after_write, after_finish, after_read, after_poll, after_deliver, after_ack, bytes_of, ended_by}
-use Rattle.quic_pair.specs.Headline.{IsCarried, IsEndCarried, IsHonestPiece, IsHonestPayload}
-use Rattle.quic_pair.specs.declared.steps.Last.{Last}
-use Rattle.quic_pair.specs.declared.steps.Last.TheVariants.{Ended}
-use Rattle.quic_pair.specs.declared.steps.Reply.TheVariants.{Done, DoneTransmit, Fault, Id, Nothing, Wrote, Blocked, Closed, Read, Event, Payload}
-use Rattle.quic_pair.specs.declared.steps.PairError.TheVariants.{NoSuchPayload, NoSuchFrame, NotAccepted, UnknownId, OutOfMemory}
-use Rattle.quic_pair.proofs.Invariant.{Flow, flow_of, Grows, SenderFits, ReceiverFits, AreHonest, AreDelivered, AreMarked, IsComplete, Fits}
-use Rattle.quic_pair.proofs.Grows.{ReceiverFits-grows, AreHonest-grows, IsHonestPayload-grows, Grows-same}
-use Rattle.quic_pair.proofs.Lists.{slice_get-append_left, slice_get-push, slice_get-slice_set, slice_set-keeps, slice_get-set_same, slice_get-last, take_further}
-use Rattle.quic_pair.proofs.Parts.{part-has, length-part}
-use Rattle.quic_pair.proofs.Spelled.{PlaceFits-turns, PlaceFits-start, IsHonestPayload-turns, written_length, sender_kept}
-use Rattle.quic_pair.proofs.Turns.{Serves, Turns-serves, Turns-fresh}
+use Rattle.quic_sending.specs.Buffer.{Buffered, is_acked, cut}
+use Rattle.quic_pair.specs.Network.{Sent, Piece, HasPiece}
+use Rattle.quic_pair.specs.Sending.{Sending, Opens, Takes, Finishes, Ends, Lost, Loses, Polls}
+use Rattle.quic_pair.specs.Steps.{World, OnStream, OnlySending, OnlyReceiving, Emitted, Emits, ReportsLoss, LosesFrame, WritesBytes}
+use Rattle.quic_pair.specs.History.{Past, Answer, after_open, after_accept, after_write, after_finish, after_poll}
+use Rattle.quic_pair.specs.Headline.{IsCarried, IsEndCarried}
+use Rattle.quic_pair.specs.declared.steps.Reply.TheVariants.{Done, Id, Nothing, Wrote, Blocked, Closed, Event, Payload}
+use Rattle.quic_pair.specs.declared.steps.PairError.TheVariants.{NoSuchPayload, NoSuchFrame, UnknownId, OutOfMemory}
+use Rattle.quic_pair.proofs.Invariant.{flow_of, Grows, Fits}
+use Rattle.quic_pair.proofs.Grows.{ReceiverFits-grows, AreHonest-grows}
+use Rattle.quic_pair.proofs.Lists.{slice_get-append_left, slice_get-push}
+use Rattle.quic_pair.proofs.Spelled.{PlaceFits-turns, PlaceFits-start, IsHonestPayload-turns, sender_kept}
+use Rattle.quic_pair.proofs.Turns.{Turns-serves, Turns-fresh}
 
 -- the stream is given
 Fits-opened : (p : Past) (v : World) → Fits p v → Fits (record p { opened = true }) (record v { sending = record v.sending { opened = true } })

@@ -1,8 +1,10 @@
+pub mod Admits
 pub mod Bounds
 pub mod Delivers
 pub mod Giving
 pub mod Grows
 pub mod Headlines
+pub mod Histories
 pub mod Invariant
 pub mod Keeps
 pub mod Lists

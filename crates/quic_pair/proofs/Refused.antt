@@ -1,24 +1,23 @@
 -- A step is refused exactly where `refusal` says.
-use Rattle.std.proofs.Common.{◌≡◌, ℕ, zero, suc, ◌+◌, ◌-◌, ◌≤◌, ◌<◌, ◌⊎◌, Bool, true, false, ◌&&◌, ◌||◌, List, [], ◌∷◌, ◌++◌, Option, Some, None, Ok, Err, length, refl, sym, ap, ◌∙◌, inl, inr, arith, cond}
+use Rattle.std.proofs.Common.{◌≡◌, ℕ, zero, suc, ◌≤◌, ◌<◌, ◌⊎◌, Bool, true, false, ◌&&◌, ◌||◌, List, [], ◌∷◌, Option, Some, None, Ok, Err, length, refl, sym, ap, ◌∙◌, inl, inr, arith}
 use Rattle.std.specs.Prelude.{slice_get, nat_le, ◌==◌, if◌then◌else◌, map, option_map}
 use Rattle.std.proofs.lemmas.Option.{none-some, same_Some, slice_get-map, slice_get-get_or, slice_get_within}
-use Rattle.std.proofs.lemmas.Bool.{cases_lt, cases_Bool, and_parts, eqb-true, eq-eqb}
+use Rattle.std.proofs.lemmas.Bool.{cases_lt, and_parts, eqb-true, eq-eqb}
 use Rattle.std.proofs.lemmas.Bool.Decides.{nat_tests}
 use Rattle.quic_values.specs.declared.Dir.TheVariants.{Uni}
-use Rattle.quic_wire.specs.declared.frame.Frame.{Frame}
-use Rattle.quic_pair.specs.Network.{Sent, Piece, HasPiece, LacksPiece, LacksStream, frame_of}
+use Rattle.quic_pair.specs.Network.{Sent, Piece, HasPiece, LacksStream, frame_of}
 use Rattle.quic_pair.specs.Sending.{Sending, Opens, Finishes, Lost, Acked, Polls}
-use Rattle.quic_pair.specs.Receiving.{Receiving, Receives, Accepts, Reads}
-use Rattle.quic_pair.specs.Steps.{World, Next, Refuses, Unknown, OnSending, OnStream, OnReceiving, OnlySending, OnlyReceiving, WritesBytes, Emits, Delivered, LosesFrame, ReportsLoss, AcksFrame, ReportsAck, NotTaken}
+use Rattle.quic_pair.specs.Receiving.{Receiving, Reads}
+use Rattle.quic_pair.specs.Steps.{World, Next, Refuses, Unknown, OnStream, OnReceiving, OnlySending, OnlyReceiving, WritesBytes, Emits, Delivered, LosesFrame, ReportsLoss, AcksFrame, ReportsAck}
 use Rattle.quic_pair.specs.History.{Past, Answer}
-use Rattle.quic_pair.specs.Refusals.{knows, unless_known, unless_there, count_of_frames, is_among, refusal, IsRefusedSo}
+use Rattle.quic_pair.specs.Refusals.{unless_known, unless_there, count_of_frames, is_among, refusal, IsRefusedSo}
 use Rattle.quic_pair.specs.declared.steps.End.TheVariants.{A, B}
 use Rattle.quic_pair.specs.declared.steps.Step.{Step}
 use Rattle.quic_pair.specs.declared.steps.Step.TheVariants.{Open, Accept, Write, Finish, Read as ReadStep, Poll, Emit, Deliver, LoseStream, AckStream}
-use Rattle.quic_pair.specs.declared.steps.Reply.TheVariants.{Done, DoneTransmit, Fault, Id, Nothing, Wrote, Blocked, Closed, Read, Event, Payload}
+use Rattle.quic_pair.specs.declared.steps.Reply.TheVariants.{Done, Fault, Id, Nothing, Wrote, Blocked, Closed, Read, Event, Payload}
 use Rattle.quic_pair.specs.declared.steps.PairError.{PairError}
 use Rattle.quic_pair.specs.declared.steps.PairError.TheVariants.{NoSuchPayload, NoSuchFrame, NotAccepted, UnknownId, OutOfMemory}
-use Rattle.quic_pair.proofs.Invariant.{Fits, IsMarked}
+use Rattle.quic_pair.proofs.Invariant.{Fits}
 
 -- tests of numbers
 le_true : (a b : ℕ) → a ≤ b → nat_le a b ≡ true
@@ -134,11 +133,11 @@ finished old (Ok Done) new why n w = w
 finished old (Ok Closed) new why n w = w
 finished old _ new why n w = absurd n
 
-read : (old : Receiving) (answer : Answer) (new : Receiving) (why : Option PairError) → Reads old answer new → why ≡ None → IsRefusedSo answer why
-read old (Ok (Read chunks last transmit)) new why n w = w
-read old (Ok Closed) new why n w = w
-read old (Err OutOfMemory) new why n w = tt
-read old _ new why n w = absurd n
+read : (most times : ℕ) (old : Receiving) (answer : Answer) (new : Receiving) (why : Option PairError) → Reads most times old answer new → why ≡ None → IsRefusedSo answer why
+read most times old (Ok (Read chunks last transmit)) new why n w = w
+read most times old (Ok Closed) new why n w = w
+read most times old (Err OutOfMemory) new why n w = tt
+read most times old _ new why n w = absurd n
 
 polled : (old : World) (answer : Answer) (new : World) → OnlySending Polls old answer new → IsRefusedSo answer None
 polled old (Ok (Event event)) new n = refl
@@ -195,16 +194,16 @@ on_stream : (P : Sending → Answer → Sending → Type 0) → ((old : Sending)
 on_stream P each p old id answer new h (inl u) = refused answer _ u.1.0 (unknown old.sending.opened p.opened id h.opened u.0)
 on_stream P each p old id answer new h (inr n) = each old.sending answer new.sending _ n.does (known old.sending.opened p.opened id h.opened n.known)
 
-reads : (p : Past) (old : World) (id : ℕ) (answer : Answer) (new : World) → Fits p old → (Unknown old.receiving.taken id × Refuses old answer new) ⊎ OnReceiving old id answer new → IsRefusedSo answer (unless_known p.taken id)
-reads p old id answer new h (inl u) = refused answer _ u.1.0 (unknown old.receiving.taken p.taken id h.taken u.0)
-reads p old id answer new h (inr n) = read old.receiving answer new.receiving _ n.does (known old.receiving.taken p.taken id h.taken n.known)
+reads : (most times : ℕ) (p : Past) (old : World) (id : ℕ) (answer : Answer) (new : World) → Fits p old → (Unknown old.receiving.taken id × Refuses old answer new) ⊎ OnReceiving most times old id answer new → IsRefusedSo answer (unless_known p.taken id)
+reads most times p old id answer new h (inl u) = refused answer _ u.1.0 (unknown old.receiving.taken p.taken id h.taken u.0)
+reads most times p old id answer new h (inr n) = read most times old.receiving answer new.receiving _ n.does (known old.receiving.taken p.taken id h.taken n.known)
 
 pub refused_so : (p : Past) (old : World) (step : Step) (answer : Answer) (new : World) → Fits p old → Next old step answer new → IsRefusedSo answer (refusal p old.sent step)
 refused_so p old (Open A Uni) answer new h n = opened p old answer new h n
 refused_so p old (Accept B Uni) answer new h n = accepted old answer new n
 refused_so p old (Write A id bytes) answer new h n = on_stream (WritesBytes bytes) (wrote bytes) p old id answer new h n
 refused_so p old (Finish A id) answer new h n = on_stream Finishes finished p old id answer new h n
-refused_so p old (ReadStep B id true max times) answer new h n = reads p old id answer new h n
+refused_so p old (ReadStep B id true max times) answer new h n = reads max times p old id answer new h n
 refused_so p old (Poll A) answer new h n = polled old answer new n
 refused_so p old (Emit A most fair) answer new h n = emitted old most answer new n
 refused_so p old (Deliver payload index) answer new h n = delivered p old payload index answer new h n

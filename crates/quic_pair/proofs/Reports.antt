@@ -1,5 +1,5 @@
 -- A report that is answered by the end that writes is one of the step's answers.
-use Rattle.std.proofs.Common.{ℕ, Ok, Err}
+use Rattle.std.proofs.Common.{ℕ, Err}
 use Rattle.quic_pair.specs.History.{Answer}
 use Rattle.quic_pair.specs.Steps.{World, ReportsLoss, LosesFrame, ReportsAck, AcksFrame}
 use Rattle.quic_pair.specs.declared.steps.PairError.TheVariants.{NoSuchPayload, NoSuchFrame, NotAccepted}

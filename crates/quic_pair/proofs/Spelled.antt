@@ -1,17 +1,17 @@
 -- The payload that serving the send queue makes: it spells honest frames.
-use Rattle.std.proofs.Common.{◌≡◌, ℕ, ◌+◌, ◌-◌, ◌≤◌, ◌<◌, ◌⊎◌, Bool, true, false, List, [], ◌∷◌, ◌++◌, length, take, drop, Some, refl, sym, ap, ◌∙◌, inl, inr, arith, length-append, append-nil, append_assoc}
-use Rattle.std.specs.Prelude.{slice_get, map, min, nat_lt}
+use Rattle.std.proofs.Common.{◌≡◌, ℕ, ◌+◌, ◌-◌, ◌≤◌, ◌<◌, ◌⊎◌, Bool, true, false, List, [], ◌∷◌, ◌++◌, length, Some, refl, sym, ap, ◌∙◌, inl, inr, arith, length-append, append-nil, append_assoc}
+use Rattle.std.specs.Prelude.{slice_get, map}
 use Rattle.std.specs.List.{concat}
 use Rattle.std.proofs.lemmas.List.{map-append}
 use Rattle.std.proofs.lemmas.Bool.{and_parts, eqb-true}
 use Rattle.std.proofs.lemmas.Bool.Decides.{nat_tests}
 use Rattle.std.proofs.lemmas.Option.{none-some}
 use Rattle.quic_values.specs.Numbers.{size_of}
-use Rattle.quic_wire.specs.Frames.{Begins, BeginsFrames, AreFrames}
+use Rattle.quic_wire.specs.Frames.{BeginsFrames, AreFrames}
 use Rattle.quic_wire.specs.Text.{meta_text}
 use Rattle.quic_wire.specs.declared.frame.Frame.{Frame}
-use Rattle.quic_sending.specs.Buffer.{HasCuts, total, uncovered, frame_end, has_length, data_room}
-use Rattle.quic_pair.specs.Network.{Sent, Piece, part, frame_of}
+use Rattle.quic_sending.specs.Buffer.{total, uncovered, frame_end, has_length, data_room}
+use Rattle.quic_pair.specs.Network.{Piece, part, frame_of}
 use Rattle.quic_pair.specs.Sending.{Sending, Place, Turn, Turns, none, more, Sends, frame_room}
 use Rattle.quic_pair.specs.Headline.{IsHonestPiece, IsHonestPayload}
 use Rattle.quic_pair.proofs.Invariant.{Flow, SenderFits}

@@ -1,10 +1,10 @@
 -- What serving the send queue does, entry by entry.
-use Rattle.std.proofs.Common.{◌≡◌, ℕ, ◌+◌, ◌-◌, ◌≤◌, ◌<◌, ◌⊎◌, Bool, true, false, List, [], ◌∷◌, ◌++◌, length, Some, refl, sym, ◌∙◌, ap, inl, inr, arith}
+use Rattle.std.proofs.Common.{◌≡◌, ℕ, ◌≤◌, false, List, [], ◌∷◌, ◌++◌, Some, refl, ◌∙◌, ap, inl, inr, arith}
 use Rattle.std.specs.Prelude.{slice_get, slice_set, max}
 use Rattle.std.proofs.lemmas.Option.{none-some}
 use Rattle.quic_sending.specs.Buffer.{IsSound}
-use Rattle.quic_pair.specs.Network.{Piece, Sent, HasPiece, AreSent, accepted_at}
-use Rattle.quic_pair.specs.Sending.{Sending, Place, Turn, Turns, none, more, Sends}
+use Rattle.quic_pair.specs.Network.{Piece, Sent, AreSent, accepted_at}
+use Rattle.quic_pair.specs.Sending.{Sending, Place, Turn, Turns, none, more}
 use Rattle.quic_pair.proofs.Lists.{slice_get-push, slice_get-slice_set}
 
 -- no frame of a payload reaches beyond what was sent

@@ -1,6 +1,6 @@
 -- The histories that may have led to a pair.
-use Rattle.std.specs.Prelude.{◌≡◌, ℕ, false, true, None, [], ◌∷◌, ◌++◌}
-use Rattle.quic_assembler.specs.Reassembly.{Holds, HoldsNothing}
+use Rattle.std.specs.Prelude.{◌≡◌, ℕ, ◌<◌, ◌^◌, false, true, None, [], ◌∷◌, ◌++◌}
+use Rattle.quic_assembler.specs.Reassembly.{Holds, HoldsNothing, piece_count}
 use Rattle.quic_sending.specs.Buffer.{HasCuts, IsSound, is_acked}
 use Rattle.quic_pair.specs.declared.steps.Config.{Config}
 use Rattle.quic_pair.specs.declared.steps.Step.{Step}
@@ -29,6 +29,7 @@ pub record IsNewSending (own peer : Config) (s : Sending) : Type 0 where
 -- the end that reads, before a frame came to it
 pub record IsNewReceiving (own : Config) (r : Receiving) : Type 0 where
   pub empty : HoldsNothing (Holds r.held)
+  pub pieces : piece_count r.held ≡ 0
   pub read : r.held.bytes_read ≡ 0
   pub ordered : r.held.ordered ≡ true
   pub opened : r.opened ≡ false
@@ -38,6 +39,7 @@ pub record IsNewReceiving (own : Config) (r : Receiving) : Type 0 where
   pub final_size : r.final_size ≡ None
   pub data_received : r.data_received ≡ 0
   pub local_max_data : r.local_max_data ≡ own.receive_window
+  pub small : own.receive_window < 2 ^ 62
   pub receive_window : r.receive_window ≡ own.receive_window
   pub stream_receive_window : r.stream_receive_window ≡ own.stream_receive_window
   pub max_concurrent : r.max_concurrent ≡ own.max_remote_uni

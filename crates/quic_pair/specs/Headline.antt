@@ -1,5 +1,5 @@
 -- What holds between the two ends, whatever frames the network loses, repeats or reorders.
-use Rattle.std.specs.Prelude.{◌≡◌, ℕ, ◌<◌, ◌≤◌, Bool, true, List, ◌++◌, length, slice_get, Some, map}
+use Rattle.std.specs.Prelude.{◌≡◌, ℕ, ◌<◌, ◌≤◌, All, Bool, true, List, ◌++◌, length, slice_get, Some, map}
 use Rattle.quic_wire.specs.Frames.{AreFrames}
 use Rattle.quic_pair.specs.Network.{Sent, Piece, HasPiece, frame_of}
 use Rattle.quic_pair.specs.History.{Past}
@@ -49,3 +49,5 @@ pub record Headline (p : Past) (v : World) : Type 0 where
   pub complete : p.complete ≡ true → (p.finished ≡ true) × ((n : ℕ) → n < length p.written → IsCarried p.accepted v.sent n) × IsEndCarried p.accepted v.sent
   -- every frame that was ever sent is honest with what was written
   pub honest : (payload : ℕ) (s : Sent) → slice_get v.sent payload ≡ Some s → IsHonestPayload p.written p.finished s
+  -- no delivery was refused but for too many pieces (INTERNAL_ERROR is 1), and so only where more than 1024 frames were kept
+  pub unrefused : All (λ code. (code ≡ 1) × (1024 < p.kept)) p.refused

@@ -1,14 +1,14 @@
 -- The history of a pair: its steps with their replies, oldest first, and what a caller knows from it.
-use Rattle.std.specs.Prelude.{ℕ, Bool, true, false, List, [], ◌∷◌, ◌++◌, Result, Ok, Err, take}
+use Rattle.std.specs.Prelude.{ℕ, ◌+◌, ◌==◌, if◌then◌else◌, Bool, true, false, List, [], ◌∷◌, ◌++◌, Result, Ok, take}
 use Rattle.std.specs.List.{flat_map}
 use Rattle.quic_assembler.specs.declared.Chunk.{Chunk}
 use Rattle.quic_sending.specs.Buffer.{cut}
-use Rattle.quic_pair.specs.declared.steps.End.TheVariants as ends
-use Rattle.quic_values.specs.declared.Dir.TheVariants as dirs
+use Rattle.quic_wire.specs.declared.ReceiveError.{ReceiveError}
+use Rattle.quic_wire.specs.declared.ReceiveError.TheVariants as faults
 use Rattle.quic_pair.specs.declared.steps.Step.{Step}
 use Rattle.quic_pair.specs.declared.steps.Step.TheVariants.{Open, Accept, Write, Finish, Read as ReadStep, Poll, Deliver, AckStream}
 use Rattle.quic_pair.specs.declared.steps.Reply.{Reply}
-use Rattle.quic_pair.specs.declared.steps.Reply.TheVariants.{Done, DoneTransmit, Id, Wrote, Read, Event}
+use Rattle.quic_pair.specs.declared.steps.Reply.TheVariants.{Done, DoneTransmit, Fault, Id, Wrote, Read, Event}
 use Rattle.quic_pair.specs.declared.steps.Last.{Last}
 use Rattle.quic_pair.specs.declared.steps.Last.TheVariants.{Ended}
 use Rattle.quic_pair.specs.declared.steps.PairError.{PairError}
@@ -41,6 +41,10 @@ pub record Past : Type 0 where
   pub given : List ℕ
   -- the frames, by payload and place, of which a delivery was answered done
   pub accepted : List (ℕ × ℕ)
+  -- how many deliveries there were of which the frame was kept
+  pub kept : ℕ
+  -- the codes of the transport errors with which deliveries were refused
+  pub refused : List ℕ
   -- the frames that were reported acknowledged
   pub acknowledged : List (ℕ × ℕ)
   -- a read told the end
@@ -57,6 +61,8 @@ nothing_yet = record {
   finished = false;
   given = [];
   accepted = [];
+  kept = 0;
+  refused = [];
   acknowledged = [];
   ended = false;
   complete = false;
@@ -98,9 +104,21 @@ abbrev pub after_poll : Past → Answer → Past
 after_poll p (Ok (Event event)) = after_event p event
 after_poll p _ = p
 
+-- a frame is kept where there are too many pieces (INTERNAL_ERROR is 1), and where there is no memory to compact
+abbrev pub kept_by : ReceiveError → ℕ
+kept_by (faults.Transport error) = if error.code == 1 then 1 else 0
+kept_by faults.OutOfMemory = 0
+kept_by faults.CompactionMemory = 1
+
+abbrev pub codes_of : ReceiveError → List ℕ
+codes_of (faults.Transport error) = error.code ∷ []
+codes_of faults.OutOfMemory = []
+codes_of faults.CompactionMemory = []
+
 abbrev pub after_deliver : Past → ℕ → ℕ → Answer → Past
-after_deliver p payload frame (Ok Done) = record p { accepted = p.accepted ++ (payload, frame) ∷ [] }
-after_deliver p payload frame (Ok DoneTransmit) = record p { accepted = p.accepted ++ (payload, frame) ∷ [] }
+after_deliver p payload frame (Ok Done) = record p { accepted = p.accepted ++ (payload, frame) ∷ []; kept = p.kept + 1 }
+after_deliver p payload frame (Ok DoneTransmit) = record p { accepted = p.accepted ++ (payload, frame) ∷ []; kept = p.kept + 1 }
+after_deliver p payload frame (Ok (Fault fault)) = record p { kept = p.kept + kept_by fault; refused = p.refused ++ codes_of fault }
 after_deliver p payload frame _ = p
 
 abbrev pub after_ack : Past → ℕ → ℕ → Answer → Past

@@ -1,5 +1,5 @@
 -- What was sent: payloads, and the STREAM frames in them.
-use Rattle.std.specs.Prelude.{◌≡◌, ℕ, ◌-◌, ◌≤◌, Bool, true, List, Some, take, drop, length, slice_get, slice_set, map}
+use Rattle.std.specs.Prelude.{◌≡◌, ℕ, ◌-◌, ◌≤◌, Bool, true, List, Some, take, drop, length, slice_get, slice_set}
 use Rattle.quic_wire.specs.declared.frame.Stream.{Stream}
 use Rattle.quic_wire.specs.declared.frame.Frame.{Frame}
 use Rattle.quic_wire.specs.declared.frame.Frame.TheVariants as frames

@@ -1,5 +1,5 @@
 -- What a write may take (RFC 9000 sections 4.1 and 2.2).
-use Rattle.std.specs.Prelude.{◌≡◌, ℕ, ◌-◌, ◌<◌, ◌≤◌, ◌⊎◌, List, Some, Ok, length, min, slice_get}
+use Rattle.std.specs.Prelude.{◌≡◌, ℕ, ◌-◌, ◌<◌, ◌≤◌, List, Some, Ok, length, min, slice_get}
 use Rattle.quic_sending.specs.Buffer.{total, uncovered}
 use Rattle.quic_pair.specs.Network.{Sent, Piece, HasPiece}
 use Rattle.quic_pair.specs.History.{Past, Answer}

@@ -1,10 +1,11 @@
 -- The end that reads, and what each call on it may do.
-use Rattle.std.specs.Prelude.{◌≡◌, ℕ, ◌+◌, ◌-◌, ◌/◌, ◌^◌, ◌≤◌, ◌<◌, ◌⊎◌, Bool, true, false, not, ◌&&◌, ◌||◌, ◌==◌, nat_lt, nat_le, if◌then◌else◌, List, [], ◌++◌, length, min, max, Option, Some, None, is_none, Result, Ok, Err}
+use Rattle.std.specs.Prelude.{◌≡◌, ℕ, ◌+◌, ◌-◌, ◌/◌, ◌^◌, ◌≤◌, ◌<◌, ◌⊎◌, Bool, true, false, not, ◌&&◌, ◌||◌, ◌==◌, nat_lt, nat_le, if◌then◌else◌, List, [], ◌∷◌, length, min, max, Option, Some, None, is_none, Ok, Err}
 use Rattle.std.specs.List.{flat_map}
 use Rattle.quic_wire.specs.declared.ReceiveError.TheVariants.{Transport, CompactionMemory}
-use Rattle.quic_assembler.specs.Reassembly.{Reassembly, Holds, IsDone, IsHeld, HoldsNothing, SameHeld}
+use Rattle.quic_assembler.specs.Reassembly.{Reassembly, Holds, IsDone, IsHeld, piece_count}
 use Rattle.quic_assembler.specs.Reassembly.{Takes as Inserts}
 use Rattle.quic_assembler.specs.Piece.{IsByteAt}
+use Rattle.quic_assembler.specs.declared.Chunk.{Chunk}
 use Rattle.quic_pair.specs.History.{Answer, bytes_of}
 use Rattle.quic_pair.specs.declared.steps.Last.{Last}
 use Rattle.quic_pair.specs.declared.steps.Last.TheVariants.{Ended, Blocked as Waits, Memory, More}
@@ -52,6 +53,7 @@ pub record Keeps (old : Receiving) (offset : ℕ) (bytes : List ℕ) (fin : Bool
   pub inserts : Inserts (Holds old.held) (Holds new.held) (IsDone old.held) offset bytes
   pub read : new.held.bytes_read ≡ old.held.bytes_read
   pub ordered : new.held.ordered ≡ old.held.ordered
+  pub pieces : piece_count new.held ≤ piece_count old.held + 1
   pub new_is : new ≡ record old {
     held = new.held;
     opened = new.opened;
@@ -65,7 +67,7 @@ Receives old offset bytes fin (Ok Done) new =
     ((old.freed ≡ true) × (new ≡ old)) ⊎ (Keeps old offset bytes fin new × (new.opened ≡ true))
 Receives old offset bytes fin (Ok (Fault (Transport error))) new =
     ((old.freed ≡ false) × (verdict old offset (length bytes) fin ≡ Some error.code) × (new ≡ old))
-    ⊎ ((error.code ≡ 1) × Keeps old offset bytes fin new × (new.opened ≡ old.opened))
+    ⊎ ((error.code ≡ 1) × Keeps old offset bytes fin new × (new.opened ≡ old.opened) × (1024 < piece_count new.held))
 Receives old offset bytes fin (Ok (Fault CompactionMemory)) new = Keeps old offset bytes fin new × (new.opened ≡ old.opened)
 Receives old offset bytes fin (Err OutOfMemory) new = new ≡ old
 Receives old offset bytes fin _ new = ⊥
@@ -82,6 +84,12 @@ pub record Gives (old : Reassembly) (bytes : List ℕ) (new : Reassembly) : Type
   pub stays : (at byte : ℕ) → Holds old at byte → old.bytes_read + length bytes ≤ at → Holds new at byte
   pub read : new.bytes_read ≡ old.bytes_read + length bytes
   pub ordered : new.ordered ≡ old.ordered
+  pub pieces : piece_count new ≤ piece_count old
+
+-- chunks that stand one behind the other from a place on: each of at most so many bytes, and with some where some may be read
+abbrev pub AreChunks : ℕ → ℕ → List Chunk → Type 0
+AreChunks most at [] = Unit {0}
+AreChunks most at (c ∷ cs) = (c.offset ≡ at) × (length c.bytes ≤ most) × (0 < most → 0 < length c.bytes) × AreChunks most (at + length c.bytes) cs
 
 -- how a read ends where the next bytes are not there
 abbrev pub last_at : Option ℕ → ℕ → Last
@@ -113,20 +121,23 @@ stream_data_due v = not v.freed && is_none v.final_size
 abbrev pub data_due : Receiving → Bool
 data_due v = nat_le v.local_max_data (2 ^ 62 - 1) && nat_le (v.receive_window + v.receive_window / 8) v.local_max_data
 
--- bytes are given, and give the connection credit
-pub record ReadsAll (old : Receiving) (bytes : List ℕ) (last : Last) (transmit : Bool) (new : Receiving) : Type 0 where
+-- chunks are given, at most so many of at most so many bytes each, and give the connection credit
+pub record ReadsAll (most times : ℕ) (old : Receiving) (chunks : List Chunk) (last : Last) (transmit : Bool) (new : Receiving) : Type 0 where
   pub was_held : old.freed ≡ false
-  pub gives : Gives old.held bytes new.held
+  pub gives : Gives old.held (flat_map bytes_of chunks) new.held
+  pub are_chunks : AreChunks most old.held.bytes_read chunks
+  pub count : length chunks ≤ times
+  pub more : last ≡ More → length chunks ≡ times
   pub stops : Stops old.final_size new.held last
   pub new_is : new ≡ record old {
     held = new.held;
     freed = is_end last;
-    local_max_data = min (old.local_max_data + length bytes) (2 ^ 64 - 1);
+    local_max_data = min (old.local_max_data + length (flat_map bytes_of chunks)) (2 ^ 64 - 1);
   }
   pub transmit_is : transmit ≡ (streams_due new || stream_data_due new || data_due new)
 
-abbrev pub Reads : Receiving → Answer → Receiving → Type 0
-Reads old (Ok (Read chunks last transmit)) new = ReadsAll old (flat_map bytes_of chunks.items) last transmit new
-Reads old (Ok Closed) new = (old.freed ≡ true) × (new ≡ old)
-Reads old (Err OutOfMemory) new = new ≡ old
-Reads old _ new = ⊥
+abbrev pub Reads : ℕ → ℕ → Receiving → Answer → Receiving → Type 0
+Reads most times old (Ok (Read chunks last transmit)) new = ReadsAll most times old chunks.items last transmit new
+Reads most times old (Ok Closed) new = (old.freed ≡ true) × (new ≡ old)
+Reads most times old (Err OutOfMemory) new = new ≡ old
+Reads most times old _ new = ⊥

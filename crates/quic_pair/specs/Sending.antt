@@ -1,15 +1,14 @@
 -- The end that writes, and what each call on it may do.
-use Rattle.std.specs.Prelude.{◌≡◌, ℕ, ◌+◌, ◌-◌, ◌^◌, ◌≤◌, ◌<◌, ◌⊎◌, Bool, true, false, not, ◌&&◌, ◌||◌, ◌==◌, if◌then◌else◌, List, [], ◌∷◌, ◌++◌, length, take, drop, min, max, MatchBool, Result, Ok, Err}
+use Rattle.std.specs.Prelude.{◌≡◌, ℕ, ◌+◌, ◌-◌, ◌^◌, ◌≤◌, ◌<◌, ◌⊎◌, Bool, true, false, not, ◌&&◌, ◌||◌, ◌==◌, if◌then◌else◌, List, [], ◌∷◌, ◌++◌, length, take, min, max, MatchBool, Ok, Err}
 use Rattle.std.specs.List.{concat}
 use Rattle.std.specs.declared.ops.Range.{Range}
-use Rattle.quic_values.specs.Runs.{Run, lies_in}
+use Rattle.quic_values.specs.Runs.{lies_in}
 use Rattle.quic_values.specs.Numbers.{size_of}
-use Rattle.quic_wire.specs.declared.frame.StreamMeta.{StreamMeta}
 use Rattle.quic_wire.specs.declared.StreamEvent.TheVariants.{Finished}
 use Rattle.quic_wire.specs.Text.{meta_text, stream_of}
 use Rattle.quic_wire.specs.Frames.{Begins}
 use Rattle.quic_sending.specs.Buffer.{Buffered, HasCuts, IsSound, IsNextRange, is_due, is_lost, is_acked, cut, total, frame_end, has_length}
-use Rattle.quic_pair.specs.Network.{Sent, Piece, part}
+use Rattle.quic_pair.specs.Network.{Sent, part}
 use Rattle.quic_pair.specs.History.{Answer}
 use Rattle.quic_pair.specs.declared.steps.Reply.TheVariants.{Done, Wrote, Blocked, Closed, Nothing, Id, Event}
 use Rattle.quic_pair.specs.declared.steps.PairError.TheVariants.{OutOfMemory, UnknownId}

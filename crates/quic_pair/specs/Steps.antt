@@ -1,19 +1,15 @@
 -- Two ends of one stream and a network: what each step may do.
-use Rattle.std.specs.Prelude.{◌≡◌, ℕ, ◌≤◌, ◌<◌, ◌⊎◌, Bool, true, false, List, [], ◌∷◌, ◌++◌, Option, Some, None, Ok, Err, length, slice_get, slice_set}
-use Rattle.std.specs.declared.ops.Range.{Range}
+use Rattle.std.specs.Prelude.{◌≡◌, ℕ, ◌≤◌, ◌⊎◌, Bool, true, false, List, [], ◌∷◌, ◌++◌, Ok, Err, length, slice_set}
 use Rattle.quic_wire.specs.declared.frame.Stream.{Stream}
 use Rattle.quic_values.specs.declared.Dir.TheVariants.{Uni}
-use Rattle.quic_assembler.specs.Reassembly.{Holds, HoldsNothing}
-use Rattle.quic_sending.specs.Buffer.{HasCuts, IsSound}
 use Rattle.quic_pair.specs.Network.{Sent, Piece, HasPiece, LacksPiece, HasStream, LacksStream, accepted_at}
-use Rattle.quic_pair.specs.Sending.{Sending, Place, Turns, IsFull, Opens, Writes, Finishes, Lost, Acked, Polls}
+use Rattle.quic_pair.specs.Sending.{Sending, Turns, IsFull, Opens, Writes, Finishes, Lost, Acked, Polls}
 use Rattle.quic_pair.specs.Receiving.{Receiving, Receives, Accepts, Reads}
 use Rattle.quic_pair.specs.History.{Answer}
 use Rattle.quic_pair.specs.declared.steps.End.TheVariants.{A, B}
 use Rattle.quic_pair.specs.declared.steps.Step.{Step}
 use Rattle.quic_pair.specs.declared.steps.Step.TheVariants.{Open, Accept, Write, Finish, Read as ReadStep, Poll, Emit, Deliver, LoseStream, AckStream}
-use Rattle.quic_pair.specs.declared.steps.Reply.{Reply}
-use Rattle.quic_pair.specs.declared.steps.Reply.TheVariants.{Done, DoneTransmit, Payload, Fault}
+use Rattle.quic_pair.specs.declared.steps.Reply.TheVariants.{Done, Payload, Fault}
 use Rattle.quic_pair.specs.declared.steps.PairError.TheVariants.{NoSuchPayload, NoSuchFrame, NotAccepted, UnknownId, OutOfMemory}
 
 pub record World : Type 0 where
@@ -44,9 +40,9 @@ Unknown given id = (given ≡ false) ⊎ (id ≡ 2 → ⊥)
 abbrev pub OnStream : (Sending → Answer → Sending → Type 0) → World → ℕ → Answer → World → Type 0
 OnStream P old id answer new = (Unknown old.sending.opened id × Refuses old answer new) ⊎ OnSending P old id answer new
 
-pub record OnReceiving (old : World) (id : ℕ) (answer : Answer) (new : World) : Type 0 where
+pub record OnReceiving (most times : ℕ) (old : World) (id : ℕ) (answer : Answer) (new : World) : Type 0 where
   pub known : (id ≡ 2) × (old.receiving.taken ≡ true)
-  pub does : Reads old.receiving answer new.receiving
+  pub does : Reads most times old.receiving answer new.receiving
   pub new_is : new ≡ record old { receiving = new.receiving }
 
 -- a payload is sent
@@ -152,7 +148,7 @@ Next old (Accept B Uni) answer new = OnlyReceiving old answer new
 Next old (Write A id bytes) answer new = OnStream (WritesBytes bytes) old id answer new
 Next old (Finish A id) answer new = OnStream Finishes old id answer new
 Next old (ReadStep B id true max times) answer new =
-    (Unknown old.receiving.taken id × Refuses old answer new) ⊎ OnReceiving old id answer new
+    (Unknown old.receiving.taken id × Refuses old answer new) ⊎ OnReceiving max times old id answer new
 Next old (Poll A) answer new = OnlySending Polls old answer new
 Next old (Emit A most fair) answer new = Emits old most answer new
 Next old (Deliver payload index) answer new = Delivered old payload index answer new

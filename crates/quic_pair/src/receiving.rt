@@ -4,7 +4,7 @@ ghost use Rattle.std.specs.Prelude.{◌≡◌, ◌+◌, ◌-◌, ◌<◌, ◌≤
 ghost use Rattle.std.specs.List.{flat_map};
 ghost use Rattle.quic_pair.specs.History.{bytes_of};
 ghost use Rattle.quic_pair.specs.From.{IsNewReceiving};
-ghost use Rattle.quic_pair.specs.Receiving.{Receiving, Receives, Accepts, Reads, Gives, Stops, last_at, is_past, verdict, streams_due, stream_data_due, data_due};
+ghost use Rattle.quic_pair.specs.Receiving.{Receiving, Receives, Accepts, Reads, AreChunks, Gives, Stops, last_at, is_past, verdict, streams_due, stream_data_due, data_due};
 
 use crate::sending::the_stream;
 use crate::steps::{Config, Last, PairError, Reply};
@@ -180,7 +180,7 @@ impl ReceivingEnd {
 
     /// Reads up to `times` chunks of at most `max` bytes.
     pub(crate) fn read(&mut self, max: usize, times: u16) -> Result<Reply, PairError>
-        ensures { Reads self.old result self.new }
+        ensures { Reads max times self.old result self.new }
     {
         if self.is_freed {
             return Ok(Reply::Closed);
@@ -282,6 +282,9 @@ fn read_chunks(
     requires { assembler.old.ordered ≡ true }
     ensures gives { IfOk result (λ r. Gives assembler.old (flat_map bytes_of r.0.items) assembler.new) }
     ensures stops { IfOk result (λ r. Stops final_size assembler.new r.1) }
+    ensures chunks { IfOk result (λ r. AreChunks max assembler.old.bytes_read r.0.items) }
+    ensures count { IfOk result (λ r. length r.0.items ≤ times) }
+    ensures more { IfOk result (λ r. r.1 ≡ Last.More → length r.0.items ≡ times) }
     ensures err { OnErr result (assembler.new ≡ assembler.old) }
 {
     let mut chunks = Vec::with_capacity(alloc, times as usize)?;

@@ -1,4 +1,4 @@
-use Rattle.std.proofs.Common.{◌≡◌, true, rules, ℕ, refl, ap, arith}
+use Rattle.std.proofs.Common.{◌≡◌, true, rules, refl, ap, arith}
 use Rattle.quic_pair.specs.Network.{HasPiece, Piece}
 use Rattle.quic_pair.proofs.Reports.{acks-reported}
 use Rattle.quic_pair.proofs.pair.Pair.acknowledge.Goals as goal

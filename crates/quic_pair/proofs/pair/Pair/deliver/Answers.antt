@@ -1,6 +1,5 @@
-use Rattle.std.proofs.Common.{◌≡◌, refl, arith, rules}
-use Rattle.std.specs.Prelude.{slice_set}
-use Rattle.quic_pair.specs.Network.{HasStream, accepted_at}
+use Rattle.std.proofs.Common.{refl}
+use Rattle.quic_pair.specs.Network.{HasStream}
 use Rattle.quic_pair.proofs.Turns.{AreSent-accept}
 use Rattle.quic_pair.proofs.pair.Pair.deliver.Goals as goal
 

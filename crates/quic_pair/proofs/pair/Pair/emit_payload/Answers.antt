@@ -1,5 +1,4 @@
-use Rattle.std.proofs.Common.{◌≡◌, ◌++◌, ◌∷◌, [], List, refl, ap, arith, rules}
-use Rattle.quic_pair.specs.Network.{AreSent, Sent}
+use Rattle.std.proofs.Common.{◌≡◌, ◌++◌, ◌∷◌, [], rules}
 use Rattle.quic_pair.proofs.Turns.{AreSent-push, AreWithin-new, Turns-grows, Turns-within}
 use Rattle.quic_pair.proofs.pair.Pair.emit_payload.Goals as goal
 

@@ -1,4 +1,4 @@
-use Rattle.std.proofs.Common.{◌≡◌, ℕ, refl, ap, arith}
+use Rattle.std.proofs.Common.{◌≡◌, refl, ap, arith}
 use Rattle.quic_pair.specs.Network.{HasPiece, Piece}
 use Rattle.quic_pair.proofs.Reports.{loses-reported}
 use Rattle.quic_pair.proofs.pair.Pair.lose.Goals as goal

@@ -1,5 +1,6 @@
 use Rattle.quic_pair.specs.From.{next}
-use Rattle.quic_pair.proofs.Headlines.{Fits-from, Headline-from}
+use Rattle.quic_pair.proofs.Histories.{Fits-from}
+use Rattle.quic_pair.proofs.Headlines.{Headline-from}
 use Rattle.quic_pair.proofs.Refused.{refused_so}
 use Rattle.quic_pair.proofs.Bounds.{permitted_so}
 use Rattle.quic_pair.proofs.pair.Pair.step.Goals as goal

@@ -1,4 +1,4 @@
-use Rattle.std.proofs.Common.{rules, arith, ◌≡◌, ◌-◌, length, ap}
+use Rattle.std.proofs.Common.{rules, arith, ◌≡◌, ◌-◌, length}
 use Rattle.std.proofs.lemmas.Grind.{common_steps}
 use Rattle.quic_pair.specs.Sending.{frame_room}
 use Rattle.quic_pair.proofs.sending.SendingEnd.write_frame.Goals as goal

@@ -1,5 +1,5 @@
-use Rattle.std.proofs.Common.{◌≡◌, ◌+◌, ◌<◌, length, arith, rules}
-use Rattle.quic_pair.specs.Sending.{Turns, none, more}
+use Rattle.std.proofs.Common.{◌≡◌, length, arith, rules}
+use Rattle.quic_pair.specs.Sending.{none, more}
 use Rattle.quic_pair.proofs.sending.SendingEnd.write_stream_frames.Goals as goal
 
 pub loop-payload-init : goal.loop-payload-init
