@@ -2,7 +2,7 @@
 ghost use Rattle.std.specs.Prelude.{◌≡◌, ℕ, ◌+◌, ◌-◌, ◌^◌, ◌<◌, ◌≤◌, ◌↔◌, true, false, [], ◌∷◌, length, slice_index_or, take, drop, nat_lt, min, IfOk, OnOk, OnErr, IfSome, IfNone, IsTrue, MatchOption, sum_by};
 ghost use Rattle.std.specs.List.{Any, All};
 ghost use Rattle.std.specs.List.Sorted.{IsPermutation};
-ghost use Rattle.quic_assembler.specs.Compact.{Compacts, slots};
+ghost use Rattle.quic_assembler.specs.Compact.{Compacts, IsTight, slots, with_run};
 ghost use Rattle.quic_values.specs.Runs.{contains};
 ghost use Rattle.quic_assembler.specs.Piece.{Run, Covers, RunHolds, cover_count, bit, Queue, IsSome, IsSound, IsLowest, run_end, run_length, run_allocation, cut_at, advance_by, KeepsFrom, IsFreshFrom, NoneHoldsAt, TakesSome, TakesNone};
 
@@ -130,6 +130,7 @@ impl Pieces {
     /// Puts a piece, unless it is empty. There is room.
     pub(crate) fn put_some(&mut self, piece: Piece)
         requires { slots piece self.old.runs ≤ self.old.room }
+        ensures put { IsPermutation (with_run piece self.old.runs) self.new.runs }
         ensures count { (at : ℕ) → cover_count at self.new.runs ≡ cover_count at (piece ∷ self.old.runs) }
         ensures origin { (at byte : ℕ) → Any (RunHolds at byte) self.new.runs → Any (RunHolds at byte) (piece ∷ self.old.runs) }
         ensures len { length self.new.runs ≡ slots piece self.old.runs }
@@ -160,14 +161,15 @@ impl Pieces {
     /// pieces are there as before.
     pub(crate) fn compact(&mut self, alloc: Global) -> Result<(), OutOfMemory>
         ensures compacts { OnOk result (Compacts self.old.runs self.new.runs) }
+        ensures tight { OnOk result (All IsTight self.new.runs) }
         ensures len { length self.new.runs ≤ length self.old.runs }
         ensures err { OnErr result (IsPermutation self.old.runs self.new.runs) }
     {
         let least = self.total.div_ceil(MAX_CHUNKS).max(MIN_RETAINED_CHUNK_SIZE);
         let mut out = Pieces::with_capacity(alloc, self.heap.len())?;
         let heap = mem::replace(&mut self.heap, BinaryHeap::new(alloc));
-        let mut pieces = heap.into_sorted_vec();
-        pieces.reverse();
+        let mut pieces = heap.into_vec();
+        pieces.sort_unstable();
         if compact::join_small(&pieces, least, alloc, &mut out).is_err() {
             self.heap = BinaryHeap::from(pieces);
             return Err(OutOfMemory);

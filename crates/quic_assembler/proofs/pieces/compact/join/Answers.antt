@@ -1,6 +1,9 @@
 use Rattle.std.proofs.Common.{arith, length-drop, sym, ◌∙◌, ℕ, ◌≡◌, ◌≤◌}
+use Rattle.std.proofs.lemmas.List.Elements.{All-head, All-tail, All-cons}
+use Rattle.quic_assembler.specs.Compact.{IsTight}
 use Rattle.quic_assembler.specs.Piece.{Run, cut_at, HoldsSame}
-use Rattle.quic_assembler.proofs.Parts.{adds_joined, adds_anew}
+use Rattle.quic_assembler.proofs.Parts.{adds_joined, adds_anew, all_with_run}
+use Rattle.std.proofs.lemmas.List.Sorted.{All-permutation}
 use Rattle.quic_assembler.proofs.pieces.compact.join.Goals as goal
 
 pub extend-requires : goal.extend-requires
@@ -23,3 +26,11 @@ returns-clause-adds c =
       bytes = c.joined-next.ensures.bytes ∙ c.in_ok-bytes.ensures ∙ c.bytes_from-more.ensures.value;
     } in
     rw c.replace-done.ensures.after (adds_anew c.args.joined.now c.joined-next.result (cut_at c.args.start c.args.piece.now) _ _ next (rw c.replace-done.ensures.value at c.put_some.ensures.count) (rw c.replace-done.ensures.value at c.put_some.ensures.origin))
+
+pub returns-then-end-start-clause-tight : goal.returns-then-end-start-clause-tight
+returns-then-end-start-clause-tight c = All-cons IsTight _ _ (c.in_ok-extend.ensures.tight (All-head IsTight _ _ c.requires.tight).compact) (All-tail IsTight _ _ c.requires.tight)
+
+pub returns-clause-tight : goal.returns-clause-tight
+returns-clause-tight c =
+    let before = rw (← c.replace-done.ensures.value) at c.requires.tight in
+    rw c.replace-done.ensures.after (All-cons IsTight _ _ c.joined-next.ensures.tight (All-permutation IsTight _ _ c.put_some.ensures.put (all_with_run c.replace-done.result _ before)))
