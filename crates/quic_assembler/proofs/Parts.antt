@@ -1,5 +1,5 @@
 -- What compaction sees of runs in order.
-use Rattle.std.proofs.Common.{◌≡◌, ℕ, ◌+◌, ◌-◌, ◌*◌, ◌/◌, ◌≤◌, ◌<◌, ◌⊎◌, inl, inr, refl, sym, ◌∙◌, List, [], ◌∷◌, ◌++◌, length, arith, suc, Bool, true, false, cond, min, max}
+use Rattle.std.proofs.Common.{◌≡◌, ℕ, ◌+◌, ◌-◌, ◌*◌, ◌/◌, ◌≤◌, ◌<◌, ◌⊎◌, inl, inr, refl, sym, ◌∙◌, List, [], ◌∷◌, ◌++◌, length, arith, suc, Bool, true, false, min, max}
 use Rattle.std.specs.Prelude.{nat_le, nat_lt, not, ◌||◌, Option, Some, None}
 use Rattle.std.proofs.lemmas.Bool.Decides.{nat_tests}
 use Rattle.std.proofs.lemmas.Grind.{common_steps}
@@ -12,8 +12,8 @@ use Rattle.std.proofs.lemmas.List.Elements.{All-tail}
 use Rattle.std.proofs.Common.{get_or, drop, ap, add-one}
 use Rattle.std.proofs.Math.Seq.{drop-cons}
 use Rattle.quic_assembler.specs.Piece.{Run, IsSome, RunHolds, HoldsSame, covers, cover_count, run_end, cut_at}
-use Rattle.quic_assembler.specs.Compact.{is_kept, is_joined, is_alone, first_offset, seen, part, Adds, AddsSeen, AddsPart, HasSeen, Compacts, Rises, IsTight, with_run}
-use Rattle.quic_assembler.proofs.Counts.{Any-permutation, Any-here, Any-there, Any-cons, Any-nil, count_permuted, count-append, lies_in, lies_below, lies_above}
+use Rattle.quic_assembler.specs.Compact.{is_kept, is_joined, is_alone, first_offset, seen, part, Adds, AddsSeen, AddsPart, HasSeen, Compacts, Rises}
+use Rattle.quic_assembler.proofs.Counts.{Any-permutation, Any-append, Any-here, Any-there, Any-cons, Any-nil, count_permuted, count-append, lies_in, lies_below, lies_above}
 use Rattle.quic_assembler.proofs.Runs.{RunHolds-uncut, covers_cut, covers_cut_below, above_lowest}
 use Rattle.quic_assembler.proofs.Queue.{run_cmp-offset}
 use Rattle.quic_assembler.specs.Piece.{run_cmp}
@@ -261,19 +261,13 @@ parts_above least end at (r ∷ rs) s l = elim (cases_lt end (run_end r)) [
   | inr m ↦ omega (arith, parts_skip least end at r rs m, lies_above r.offset (run_end r) at (omega arith), parts_above least end at rs s.1 l)
 ]
 
-pub compacts_parts : (least : ℕ) (xs rs us ys : List Run) → IsPermutation xs rs → Rises rs → AddsPart (is_joined least) rs [] us → AddsPart (is_kept least) rs us ys → Compacts xs ys
-compacts_parts least xs rs us ys p s small large = record {
-  count = λ at. omega (arith, small.count at, large.count at, parts_above least 0 at rs s (omega arith), count_permuted at xs rs p);
-  origin = λ at byte h. Any-permutation _ _ _ (IsPermutation-sym _ _ p) (elim (large.origin at byte h) [
-    | inl a ↦ elim (small.origin at byte a) [ inl b ↦ absurd (Any-nil (RunHolds at byte) b) | inr b ↦ b ]
-    | inr a ↦ a
-  ]);
-}
-
--- one run more, unless it is empty
-with_run_some : (r : Run) (rs : List Run) (b : Bool) → All IsTight (r ∷ rs) → All IsTight (cond b (r ∷ rs) rs)
-with_run_some r rs true all = all
-with_run_some r rs false all = All-tail IsTight r rs all
-
-pub all_with_run : (r : Run) (rs : List Run) → All IsTight (r ∷ rs) → All IsTight (with_run r rs)
-all_with_run r rs all = with_run_some r rs (nat_lt 0 (length r.bytes)) all
+pub compacts_parts : (least : ℕ) (xs rs us ws vs ys : List Run) → IsPermutation xs rs → Rises rs → AddsPart (is_joined least) rs [] us → ws ≡ [] → AddsPart (is_kept least) rs ws vs → IsPermutation (us ++ vs) ys → Compacts xs ys
+compacts_parts least xs rs us ws vs ys p s copied e kept q =
+    let stays = rw e at kept in
+    record {
+      count = λ at. omega (arith, copied.count at, stays.count at, parts_above least 0 at rs s (omega arith), count_permuted at xs rs p, count_permuted at (us ++ vs) ys q, count-append at us vs);
+      origin = λ at byte h. Any-permutation _ _ _ (IsPermutation-sym _ _ p) (elim (Any-append _ us vs (Any-permutation _ _ _ (IsPermutation-sym _ _ q) h)) [
+        | inl a ↦ elim (copied.origin at byte a) [ inl b ↦ absurd (Any-nil (RunHolds at byte) b) | inr b ↦ b ]
+        | inr a ↦ elim (stays.origin at byte a) [ inl b ↦ absurd (Any-nil (RunHolds at byte) b) | inr b ↦ b ]
+      ]);
+    }

@@ -97,7 +97,9 @@ impl Piece {
         requires to { end ≤ run_end self.old }
         ensures offset { IfOk result (λ front. front.offset ≡ self.old.offset) }
         ensures bytes { IfOk result (λ front. front.bytes ≡ take (end - self.old.offset) self.old.bytes) }
+        ensures memory { IfOk result (λ front. front.allocation_size ≡ self.old.allocation_size) }
         ensures rest { OnOk result (HoldsSame (cut_at end self.old) self.new) }
+        ensures rest_memory { OnOk result (self.new.allocation_size ≡ self.old.allocation_size) }
         ensures err { OnErr result (self.new ≡ self.old) }
     {
         let offset = self.offset;
