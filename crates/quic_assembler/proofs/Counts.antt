@@ -1,16 +1,18 @@
 -- How many runs have a byte at an offset.
-use Rattle.std.proofs.Common.{◌≡◌, ℕ, ◌+◌, ◌-◌, ◌≤◌, ◌<◌, ◌⊎◌, inl, inr, refl, sym, ap, ◌∙◌, List, [], ◌∷◌, ◌++◌, length, arith, zero, suc, Bool, true, false, min, sum_by}
-use Rattle.std.specs.List.{Any}
+use Rattle.std.proofs.Common.{◌≡◌, ℕ, ◌+◌, ◌-◌, ◌≤◌, ◌<◌, ◌⊎◌, inl, inr, refl, sym, ap, ◌∙◌, List, [], ◌∷◌, ◌++◌, length, arith, zero, suc, Bool, true, false, cond, min, sum_by}
+use Rattle.std.specs.List.{Any, All}
+use Rattle.std.proofs.lemmas.List.Elements.{All-cons}
 use Rattle.std.proofs.Common.{Result, Ok, Err, OnOk}
 use Rattle.std.specs.Result.{is_err}
 use Rattle.std.proofs.lemmas.Bool.{false≢true}
 use Rattle.std.specs.List.Sorted.{IsPermutation}
 use Rattle.std.specs.Prelude.{nat_lt, nat_le, ◌&&◌, ◌||◌}
-use Rattle.std.proofs.lemmas.List.Sorted.{Contains-permutation, sum_by-IsPermutation}
+use Rattle.std.proofs.lemmas.List.Sorted.{Contains-permutation, sum_by-IsPermutation, IsPermutation-sym, IsPermutation-to_front}
 use Rattle.std.proofs.lemmas.List.Sums.{sum_by-cons}
 use Rattle.std.proofs.lemmas.Bool.{cases_lt}
 use Rattle.std.proofs.lemmas.Bool.Decides.{nat_tests}
 use Rattle.quic_assembler.specs.Piece.{Run, Covers, covers, cover_count, bit, lies, run_end}
+use Rattle.quic_assembler.specs.Compact.{with_run}
 use Rattle.quic_assembler.specs.Reassembly.{tally}
 
 -- `Any` of a list in another order, and of a list with one more
@@ -32,12 +34,23 @@ Any-cons P x xs (suc k, y, l, e, p) = inr (k, y, omega arith, e, p)
 pub Any-nil : {X : Type 0} (P : X → Type 0) → Any P [] → ⊥
 Any-nil P a = absurd (omega (arith, a.2))
 
+pub Any-append : {X : Type 0} (P : X → Type 0) (xs ys : List X) → Any P (xs ++ ys) → Any P xs ⊎ Any P ys
+Any-append P [] ys a = inr a
+Any-append P (x ∷ xs) ys a = elim (Any-cons P x (xs ++ ys) a) [
+  | inl p ↦ inl (Any-here P x xs p)
+  | inr b ↦ elim (Any-append P xs ys b) [ inl c ↦ inl (Any-there P x xs c) | inr c ↦ inr c ]
+]
+
 pub Any-unpush : {X : Type 0} (P : X → Type 0) (xs : List X) (x : X) → Any P (xs ++ x ∷ []) → Any P xs ⊎ P x
 Any-unpush P [] x a = elim (Any-cons P x [] a) [ inl p ↦ inr p | inr b ↦ inl b ]
 Any-unpush P (y ∷ ys) x a = elim (Any-cons P y (ys ++ x ∷ []) a) [
   | inl p ↦ inl (Any-here P y ys p)
   | inr b ↦ elim (Any-unpush P ys x b) [ inl c ↦ inl (Any-there P y ys c) | inr p ↦ inr p ]
 ]
+
+pub nothing_before : {X : Type 0} (xs ys zs : List X) → length ys ≡ 0 → IsPermutation xs (ys ++ zs) → IsPermutation xs zs
+nothing_before xs [] zs e p = p
+nothing_before xs (y ∷ ys) zs e p = absurd (omega arith)
 
 -- whether an offset lies in a range, as a number
 pub lies_in : (low high at : ℕ) → low ≤ at → at < high → bit (lies low high at) ≡ 1
@@ -92,7 +105,63 @@ pub no_count : (at : ℕ) (xs : List Run) → length xs ≡ 0 → cover_count at
 no_count at [] e = refl
 no_count at (x ∷ xs) e = absurd (omega arith)
 
+-- one run more, unless it is empty
+none_of_test : (n : ℕ) → nat_lt 0 n ≡ false → n ≡ 0
+none_of_test n e = grind (arith, nat_tests)
+
+some_of_test : (n : ℕ) → nat_lt 0 n ≡ true → 0 < n
+some_of_test n e = grind (arith, nat_tests)
+
+covers_empty : (at : ℕ) (r : Run) → length r.bytes ≡ 0 → covers at r ≡ 0
+covers_empty at r e = elim (cases_lt at r.offset) [
+  | inl l ↦ lies_below r.offset (run_end r) at l
+  | inr l ↦ lies_above r.offset (run_end r) at (omega arith)
+]
+
+with_run_count_at : (at : ℕ) (r : Run) (rs : List Run) (b : Bool) → nat_lt 0 (length r.bytes) ≡ b → cover_count at (cond b (r ∷ rs) rs) ≡ cover_count at (r ∷ rs)
+with_run_count_at at r rs true e = refl
+with_run_count_at at r rs false e = omega (arith, covers_empty at r (none_of_test (length r.bytes) e))
+
+pub with_run_pushed : (r : Run) (rs ys : List Run) → 0 < length r.bytes → ys ≡ rs ++ r ∷ [] → IsPermutation (with_run r rs) ys
+with_run_pushed r rs ys l e =
+    let t : nat_lt 0 (length r.bytes) ≡ true = grind (arith, nat_tests) in
+    rw (t, e) (IsPermutation-sym _ _ (IsPermutation-to_front rs r))
+
+pub with_run_count : (at : ℕ) (r : Run) (rs : List Run) → cover_count at (with_run r rs) ≡ cover_count at (r ∷ rs)
+with_run_count at r rs = with_run_count_at at r rs (nat_lt 0 (length r.bytes)) refl
+
+any_with_run_at : (P : Run → Type 0) (r : Run) (rs : List Run) (b : Bool) → Any P (cond b (r ∷ rs) rs) → Any P (r ∷ rs)
+any_with_run_at P r rs true a = a
+any_with_run_at P r rs false a = Any-there P r rs a
+
+pub any_with_run : (P : Run → Type 0) (r : Run) (rs : List Run) → Any P (with_run r rs) → Any P (r ∷ rs)
+any_with_run P r rs a = any_with_run_at P r rs (nat_lt 0 (length r.bytes)) a
+
+with_run_length_at : (r : Run) (rs : List Run) (b : Bool) → nat_lt 0 (length r.bytes) ≡ b → length (cond b (r ∷ rs) rs) ≡ length rs + min 1 (length r.bytes)
+with_run_length_at r rs true e = omega (arith, some_of_test (length r.bytes) e)
+with_run_length_at r rs false e = omega (arith, none_of_test (length r.bytes) e)
+
+pub with_run_length : (r : Run) (rs : List Run) → length (with_run r rs) ≡ length rs + min 1 (length r.bytes)
+with_run_length r rs = with_run_length_at r rs (nat_lt 0 (length r.bytes)) refl
+
+all_with_run_at : (P : Run → Type 0) (r : Run) (rs : List Run) (b : Bool) → nat_lt 0 (length r.bytes) ≡ b → (0 < length r.bytes → P r) → All P rs → All P (cond b (r ∷ rs) rs)
+all_with_run_at P r rs true e p all = All-cons P r rs (p (some_of_test (length r.bytes) e)) all
+all_with_run_at P r rs false e p all = all
+
+pub all_with_run : (P : Run → Type 0) (r : Run) (rs : List Run) → (0 < length r.bytes → P r) → All P rs → All P (with_run r rs)
+all_with_run P r rs p all = all_with_run_at P r rs (nat_lt 0 (length r.bytes)) refl p all
+
 -- sums below a number
+pub tally-same : (n : ℕ) (f g : ℕ → ℕ) → ((at : ℕ) → f at ≡ g at) → tally n f ≡ tally n g
+unfolding tally
+tally-same zero f g h = refl
+tally-same (suc n) f g h = omega (arith, tally-same n f g h, h n)
+
+pub tally-none : (n : ℕ) → tally n (λ at. 0) ≡ 0
+unfolding tally
+tally-none zero = refl
+tally-none (suc n) = omega (arith, tally-none n)
+
 pub tally-le : (n : ℕ) (f g : ℕ → ℕ) → ((at : ℕ) → f at ≤ g at) → tally n f ≤ tally n g
 unfolding tally
 tally-le zero f g h = omega arith

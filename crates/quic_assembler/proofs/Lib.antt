@@ -1,7 +1,8 @@
-pub mod Runs
 pub mod Counts
+pub mod Fresh
 pub mod Parts
 pub mod Queue
-pub mod Fresh
-pub mod Whole
 pub mod Replays
+pub mod Runs
+pub mod Sums
+pub mod Whole

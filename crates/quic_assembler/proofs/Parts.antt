@@ -1,6 +1,6 @@
 -- What compaction sees of runs in order.
 use Rattle.std.proofs.Common.{◌≡◌, ℕ, ◌+◌, ◌-◌, ◌*◌, ◌/◌, ◌≤◌, ◌<◌, ◌⊎◌, inl, inr, refl, sym, ◌∙◌, List, [], ◌∷◌, ◌++◌, length, arith, suc, Bool, true, false, min, max}
-use Rattle.std.specs.Prelude.{nat_le}
+use Rattle.std.specs.Prelude.{nat_le, nat_lt, not, ◌||◌, Option, Some, None}
 use Rattle.std.proofs.lemmas.Bool.Decides.{nat_tests}
 use Rattle.std.proofs.lemmas.Grind.{common_steps}
 use Rattle.std.specs.List.{Any, All}
@@ -12,8 +12,8 @@ use Rattle.std.proofs.lemmas.List.Elements.{All-tail}
 use Rattle.std.proofs.Common.{get_or, drop, ap, add-one}
 use Rattle.std.proofs.Math.Seq.{drop-cons}
 use Rattle.quic_assembler.specs.Piece.{Run, IsSome, RunHolds, HoldsSame, covers, cover_count, run_end, cut_at}
-use Rattle.quic_assembler.specs.Compact.{is_large, is_small, seen, part, Adds, AddsSeen, AddsPart, HasSeen, Compacts, Rises}
-use Rattle.quic_assembler.proofs.Counts.{Any-permutation, Any-here, Any-there, Any-cons, Any-nil, count_permuted, count-append, lies_in, lies_below, lies_above}
+use Rattle.quic_assembler.specs.Compact.{is_kept, is_joined, is_alone, first_offset, seen, part, Adds, AddsSeen, AddsPart, HasSeen, Compacts, Rises}
+use Rattle.quic_assembler.proofs.Counts.{Any-permutation, Any-append, Any-here, Any-there, Any-cons, Any-nil, count_permuted, count-append, lies_in, lies_below, lies_above}
 use Rattle.quic_assembler.proofs.Runs.{RunHolds-uncut, covers_cut, covers_cut_below, above_lowest}
 use Rattle.quic_assembler.proofs.Queue.{run_cmp-offset}
 use Rattle.quic_assembler.specs.Piece.{run_cmp}
@@ -23,23 +23,8 @@ use Rattle.std.specs.Cmp.{IsStrictWeakOrder}
 use Rattle.std.specs.Ordering.{is_lt}
 use Rattle.std.specs.List.Sorted.{IsSortedBy}
 use Rattle.std.proofs.lemmas.List.Sorted.{ranks_by, sorted_far}
-use Rattle.std.proofs.lemmas.List.{get_or-reverse, length-reverse}
+use Rattle.std.proofs.lemmas.List.{get_or-reverse, length-reverse, reverse-append}
 use Rattle.std.proofs.Common.{reverse}
-
-pub large_too_short : (least : ℕ) (r : Run) → length r.bytes < least → is_large least r ≡ false
-unfolding is_large
-large_too_short least r l = grind (arith, nat_tests)
-
-pub large_compact : (least : ℕ) (r : Run) → least ≤ length r.bytes → r.compact ≡ true → is_large least r ≡ true
-unfolding is_large
-large_compact least r l c = grind (arith, nat_tests)
-
-used : (a n : ℕ) → nat_le a (n * 6 / 5) ≡ nat_le (a * 5) (n * 6)
-used a n = grind (arith, nat_tests)
-
-pub large_used : (least n : ℕ) (r : Run) → n ≡ length r.bytes → least ≤ n → r.compact ≡ false → nat_le (r.allocation_size * 5) (n * 6) ≡ is_large least r
-unfolding is_large
-large_used least n r e l c = rw e (grind (arith, nat_tests, used))
 
 -- tests, as equations
 test_le : (a b : ℕ) → a ≤ b → nat_le a b ≡ true
@@ -48,27 +33,49 @@ test_le a b l = grind (arith, nat_tests)
 test_gt : (a b : ℕ) → b < a → nat_le a b ≡ false
 test_gt a b l = grind (arith, nat_tests)
 
+-- whether a run stays
+pub compact_test : (a n : ℕ) → nat_le (a * 5) (n * 6) ≡ nat_le a (n * 6 / 5)
+compact_test a n = grind (arith, nat_tests)
+
+pub kept_loose : (least end n : ℕ) (r : Run) (next : Option ℕ) → n ≡ length (cut_at end r).bytes → (r.compact || nat_le r.allocation_size (n * 6 / 5)) ≡ false → is_kept least end r next ≡ false
+unfolding is_kept
+kept_loose least end n r next e f = let g = rw e at f in rw g refl
+
+pub kept_long : (least end n : ℕ) (r : Run) (next : Option ℕ) → n ≡ length (cut_at end r).bytes → (r.compact || nat_le r.allocation_size (n * 6 / 5)) ≡ true → least ≤ n → is_kept least end r next ≡ true
+unfolding is_kept
+kept_long least end n r next e f l = let g = rw e at f in let t = rw e at (test_le least n l) in rw (g, t) refl
+
+pub kept_short : (least end n : ℕ) (r : Run) (next : Option ℕ) → n ≡ length (cut_at end r).bytes → (r.compact || nat_le r.allocation_size (n * 6 / 5)) ≡ true → n < least → is_kept least end r next ≡ is_alone end r next
+unfolding is_kept
+kept_short least end n r next e f l = let g = rw e at f in let t = rw e at (test_gt least n l) in rw (g, t) refl
+
+pub alone_above : (end next : ℕ) (r : Run) → end < r.offset → is_alone end r (Some next) ≡ nat_lt (run_end r) next
+alone_above end next r l = grind (arith, nat_tests)
+
+pub alone_touching : (end next : ℕ) (r : Run) → r.offset ≤ end → is_alone end r (Some next) ≡ nat_lt end r.offset
+alone_touching end next r l = grind (arith, nat_tests)
+
 -- what is seen of a run
-pub seen_below : (keep : Run → Bool) (end : ℕ) (r : Run) → run_end r ≤ end → seen keep end r ≡ []
-seen_below keep end r l = rw (test_le (run_end r) end l) refl
+pub seen_below : (passed : Bool) (end : ℕ) (r : Run) → run_end r ≤ end → seen passed end r ≡ []
+seen_below passed end r l = rw (test_le (run_end r) end l) refl
 
-pub seen_kept : (keep : Run → Bool) (end : ℕ) (r : Run) → end < run_end r → keep (cut_at end r) ≡ true → seen keep end r ≡ cut_at end r ∷ []
-seen_kept keep end r l k = rw (test_gt (run_end r) end l, k) refl
+pub seen_kept : (passed : Bool) (end : ℕ) (r : Run) → end < run_end r → passed ≡ true → seen passed end r ≡ cut_at end r ∷ []
+seen_kept passed end r l k = rw (test_gt (run_end r) end l, k) refl
 
-pub seen_dropped : (keep : Run → Bool) (end : ℕ) (r : Run) → keep (cut_at end r) ≡ false → seen keep end r ≡ []
-seen_dropped keep end r k = elim (cases_lt end (run_end r)) [
+pub seen_dropped : (passed : Bool) (end : ℕ) (r : Run) → passed ≡ false → seen passed end r ≡ []
+seen_dropped passed end r k = elim (cases_lt end (run_end r)) [
   | inl l ↦ rw (test_gt (run_end r) end l, k) refl
   | inr l ↦ rw (test_le (run_end r) end l) refl
 ]
 
-pub adds_nothing : (keep : Run → Bool) (end : ℕ) (r : Run) (xs : List Run) → seen keep end r ≡ [] → AddsSeen keep end r xs xs
-adds_nothing keep end r xs e = record {
+pub adds_nothing : (passed : Bool) (end : ℕ) (r : Run) (xs : List Run) → seen passed end r ≡ [] → AddsSeen passed end r xs xs
+adds_nothing passed end r xs e = record {
   count = λ at. rw e (omega arith);
   origin = λ at byte a. inl a;
 }
 
-pub adds_seen : (keep : Run → Bool) (end : ℕ) (r : Run) (xs ys : List Run) → seen keep end r ≡ cut_at end r ∷ [] → Adds (cut_at end r) xs ys → AddsSeen keep end r xs ys
-adds_seen keep end r xs ys e a = record {
+pub adds_seen : (passed : Bool) (end : ℕ) (r : Run) (xs ys : List Run) → seen passed end r ≡ cut_at end r ∷ [] → Adds (cut_at end r) xs ys → AddsSeen passed end r xs ys
+adds_seen passed end r xs ys e a = record {
   count = λ at. rw e (omega (arith, a.count at));
   origin = λ at byte h. elim (a.origin at byte h) [ inl p ↦ inl p | inr p ↦ inr (RunHolds-uncut end at byte r p) ];
 }
@@ -137,41 +144,54 @@ adds_anew a b c xs ys s n o = record {
 }
 
 -- a step over all runs
-pub seen_none : (keep : Run → Bool) (all xs : List Run) → All IsSome all → HasSeen keep all all xs xs 0
-seen_none keep all xs some = record { count = λ at. refl; origin = λ at byte h. inl h; left = λ at byte h. h; some = some }
+pub seen_none : (test : ℕ → Run → Option ℕ → Bool) (all xs : List Run) → All IsSome all → HasSeen test all all xs xs 0
+seen_none test all xs some = record { count = λ at. refl; origin = λ at byte h. inl h; left = λ at byte h. h; some = some }
 
-pub seen_next : (keep : Run → Bool) (all rest xs ys zs : List Run) (end : ℕ) (r : Run) → HasSeen keep all (r ∷ rest) xs ys end → AddsSeen keep end r ys zs → HasSeen keep all rest xs zs (max end (run_end r))
-seen_next keep all rest xs ys zs end r h a = record {
-  count = λ at. omega (arith, a.count at, h.count at, count-append at (seen keep end r) (part keep (max end (run_end r)) rest));
+pub seen_next : (test : ℕ → Run → Option ℕ → Bool) (all rest xs ys zs : List Run) (end : ℕ) (r : Run) → HasSeen test all (r ∷ rest) xs ys end → AddsSeen (test end r (first_offset rest)) end r ys zs → HasSeen test all rest xs zs (max end (run_end r))
+seen_next test all rest xs ys zs end r h a = record {
+  count = λ at. omega (arith, a.count at, h.count at, count-append at (seen (test end r (first_offset rest)) end r) (part test (max end (run_end r)) rest));
   origin = λ at byte p. elim (a.origin at byte p) [ inl q ↦ h.origin at byte q | inr q ↦ inr (h.left at byte (Any-here _ _ _ q)) ];
   left = λ at byte p. h.left at byte (Any-there _ _ _ p);
   some = All-tail IsSome r rest h.some;
 }
 
-pub seen_all : (keep : Run → Bool) (all rest xs ys : List Run) (end : ℕ) → HasSeen keep all rest xs ys end → length rest ≡ 0 → AddsPart keep all xs ys
-seen_all keep all [] xs ys end h e = record { count = λ at. omega (arith, h.count at); origin = h.origin }
-seen_all keep all (r ∷ rest) xs ys end h e = absurd (omega arith)
+pub seen_all : (test : ℕ → Run → Option ℕ → Bool) (all rest xs ys : List Run) (end : ℕ) → HasSeen test all rest xs ys end → length rest ≡ 0 → AddsPart test all xs ys
+seen_all test all [] xs ys end h e = record { count = λ at. omega (arith, h.count at); origin = h.origin }
+seen_all test all (r ∷ rest) xs ys end h e = absurd (omega arith)
 
-pub part_none : (keep : Run → Bool) (end : ℕ) (rest : List Run) → length rest ≡ 0 → length (part keep end rest) ≡ 0
-part_none keep end [] e = refl
-part_none keep end (r ∷ rest) e = absurd (omega arith)
+pub part_none : (test : ℕ → Run → Option ℕ → Bool) (end : ℕ) (rest : List Run) → length rest ≡ 0 → length (part test end rest) ≡ 0
+part_none test end [] e = refl
+part_none test end (r ∷ rest) e = absurd (omega arith)
 
-pub part_length : (keep : Run → Bool) (end : ℕ) (r : Run) (rest : List Run) → length (part keep end (r ∷ rest)) ≡ length (seen keep end r) + length (part keep (max end (run_end r)) rest)
-part_length keep end r rest = length-append (seen keep end r) (part keep (max end (run_end r)) rest)
+pub part_length : (test : ℕ → Run → Option ℕ → Bool) (end : ℕ) (r : Run) (rest : List Run) → length (part test end (r ∷ rest)) ≡ length (seen (test end r (first_offset rest)) end r) + length (part test (max end (run_end r)) rest)
+part_length test end r rest = length-append (seen (test end r (first_offset rest)) end r) (part test (max end (run_end r)) rest)
 
--- small and large parts together see each covered offset once
-seen_at : (least end at : ℕ) (r : Run) (b : Bool) → end < run_end r → is_large least (cut_at end r) ≡ b → cover_count at (seen (is_small least) end r) + cover_count at (seen (is_large least) end r) ≡ covers at (cut_at end r)
-seen_at least end at r true l e = rw (test_gt (run_end r) end l, e) (omega arith)
-seen_at least end at r false l e = rw (test_gt (run_end r) end l, e) (omega arith)
+-- what stays and what is copied together see each covered offset once
+seen_both : (end at : ℕ) (r : Run) (b : Bool) → end < run_end r → cover_count at (seen (not b) end r) + cover_count at (seen b end r) ≡ covers at (cut_at end r)
+seen_both end at r true l = rw (test_gt (run_end r) end l) (omega arith)
+seen_both end at r false l = rw (test_gt (run_end r) end l) (omega arith)
 
-pub seen_both : (least end at : ℕ) (r : Run) → end < run_end r → cover_count at (seen (is_small least) end r) + cover_count at (seen (is_large least) end r) ≡ covers at (cut_at end r)
-seen_both least end at r l = seen_at least end at r (is_large least (cut_at end r)) l refl
+pub not_kept : (b : Bool) → b ≡ false → not b ≡ true
+not_kept b e = rw e refl
 
-pub small_of_large : (least : ℕ) (r : Run) → is_large least r ≡ false → is_small least r ≡ true
-small_of_large least r e = rw e refl
+pub kept_not : (b : Bool) → b ≡ true → not b ≡ false
+kept_not b e = rw e refl
 
-pub small_not_large : (least : ℕ) (r : Run) → is_large least r ≡ true → is_small least r ≡ false
-small_not_large least r e = rw e refl
+-- the last of a list comes first in reverse
+first_at : (xs : List Run) (r : Run) → 0 < length xs → r ≡ get_or xs 0 r → first_offset xs ≡ Some r.offset
+first_at [] r l e = absurd (omega arith)
+first_at (x ∷ xs) r l e = ap (λ (y : Run). Some y.offset) (sym e)
+
+pub reverse_last : (xs ys : List Run) (r : Run) → xs ≡ ys ++ r ∷ [] → reverse xs ≡ r ∷ reverse ys
+reverse_last xs ys r e = rw (e, reverse-append) refl
+
+pub reverse_none : (xs : List Run) → length xs ≡ 0 → length (reverse xs) ≡ 0
+reverse_none xs e = simp length-reverse e
+
+pub last_first : (xs : List Run) (r : Run) → 0 < length xs → r ≡ get_or xs (length xs - 1) r → first_offset (reverse xs) ≡ Some r.offset
+last_first xs r l e =
+    let n : length xs - 1 - 0 ≡ length xs - 1 = omega arith in
+    first_at (reverse xs) r (simp length-reverse l) (e ∙ sym (rw n at (get_or-reverse xs 0 r l)))
 
 -- before the first piece nothing is joined
 pub joined_small : (r : Run) (bytes : List ℕ) → r.bytes ≡ bytes → bytes ≡ [] → (at : ℕ) → covers at r ≡ 0
@@ -201,35 +221,25 @@ rises_from_sorted xs s = rises_from_pairs (reverse xs) (λ i j d l m.
     rw (get_or-reverse xs i d o, get_or-reverse xs j d n)
     (run_cmp-offset (get_or xs (length xs - 1 - i) d) (get_or xs (length xs - 1 - j) d) (sorted_far _ order xs s (length xs - 1 - j) (length xs - 1 - i) d (omega arith) (omega arith))))
 
--- small and large parts of runs in order
-seen_length_at : (keep : Run → Bool) (end : ℕ) (r : Run) (b : Bool) → end < run_end r → keep (cut_at end r) ≡ b → length (seen keep end r) ≤ 1
-seen_length_at keep end r true l e = rw (seen_kept keep end r l e) (omega arith)
-seen_length_at keep end r false l e = rw (seen_dropped keep end r e) (omega arith)
+-- both parts of runs in order
+both_length : (end : ℕ) (r : Run) (b : Bool) → length (seen (not b) end r) + length (seen b end r) ≤ 1
+both_length end r true = elim (cases_lt end (run_end r)) [ inl l ↦ rw (test_gt (run_end r) end l) (omega arith) | inr l ↦ rw (test_le (run_end r) end l) (omega arith) ]
+both_length end r false = elim (cases_lt end (run_end r)) [ inl l ↦ rw (test_gt (run_end r) end l) (omega arith) | inr l ↦ rw (test_le (run_end r) end l) (omega arith) ]
 
-seen_length : (keep : Run → Bool) (end : ℕ) (r : Run) → length (seen keep end r) ≤ 1
-seen_length keep end r = elim (cases_lt end (run_end r)) [
-  | inl l ↦ seen_length_at keep end r (keep (cut_at end r)) l refl
-  | inr l ↦ rw (seen_below keep end r l) (omega arith)
-]
-
-both_length : (least end : ℕ) (r : Run) (b : Bool) → is_large least (cut_at end r) ≡ b → length (seen (is_small least) end r) + length (seen (is_large least) end r) ≤ 1
-both_length least end r true e = rw (seen_dropped (is_small least) end r (small_not_large least (cut_at end r) e)) (omega (arith, seen_length (is_large least) end r))
-both_length least end r false e = rw (seen_dropped (is_large least) end r e) (omega (arith, seen_length (is_small least) end r))
-
-pub parts_length : (least end : ℕ) (rs : List Run) → length (part (is_small least) end rs) + length (part (is_large least) end rs) ≤ length rs
+pub parts_length : (least end : ℕ) (rs : List Run) → length (part (is_joined least) end rs) + length (part (is_kept least) end rs) ≤ length rs
 parts_length least end [] = omega arith
-parts_length least end (r ∷ rs) = omega (arith, part_length (is_small least) end r rs, part_length (is_large least) end r rs, both_length least end r (is_large least (cut_at end r)) refl, parts_length least (max end (run_end r)) rs)
+parts_length least end (r ∷ rs) = omega (arith, part_length (is_joined least) end r rs, part_length (is_kept least) end r rs, both_length end r (is_kept least end r (first_offset rs)), parts_length least (max end (run_end r)) rs)
 
 abbrev parts_count : ℕ → ℕ → ℕ → List Run → ℕ
-parts_count least end at rs = cover_count at (part (is_small least) end rs) + cover_count at (part (is_large least) end rs)
+parts_count least end at rs = cover_count at (part (is_joined least) end rs) + cover_count at (part (is_kept least) end rs)
 
 parts_next : (least end at : ℕ) (r : Run) (rs : List Run) → end < run_end r → parts_count least end at (r ∷ rs) ≡ covers at (cut_at end r) + parts_count least (max end (run_end r)) at rs
-parts_next least end at r rs l = omega (arith, seen_both least end at r l, count-append at (seen (is_small least) end r) (part (is_small least) (max end (run_end r)) rs), count-append at (seen (is_large least) end r) (part (is_large least) (max end (run_end r)) rs))
+parts_next least end at r rs l = omega (arith, seen_both end at r (is_kept least end r (first_offset rs)) l, count-append at (seen (is_joined least end r (first_offset rs)) end r) (part (is_joined least) (max end (run_end r)) rs), count-append at (seen (is_kept least end r (first_offset rs)) end r) (part (is_kept least) (max end (run_end r)) rs))
 
 parts_skip : (least end at : ℕ) (r : Run) (rs : List Run) → run_end r ≤ end → parts_count least end at (r ∷ rs) ≡ parts_count least end at rs
 parts_skip least end at r rs l =
     let m : max end (run_end r) ≡ end = omega arith in
-    rw (seen_below (is_small least) end r l, seen_below (is_large least) end r l, m) refl
+    rw (seen_below (is_joined least end r (first_offset rs)) end r l, seen_below (is_kept least end r (first_offset rs)) end r l, m) refl
 
 parts_below : (least end at : ℕ) (rs : List Run) → at < end → parts_count least end at rs ≡ 0
 parts_below least end at [] l = refl
@@ -251,11 +261,13 @@ parts_above least end at (r ∷ rs) s l = elim (cases_lt end (run_end r)) [
   | inr m ↦ omega (arith, parts_skip least end at r rs m, lies_above r.offset (run_end r) at (omega arith), parts_above least end at rs s.1 l)
 ]
 
-pub compacts_parts : (least : ℕ) (xs rs us ys : List Run) → IsPermutation xs rs → Rises rs → AddsPart (is_small least) rs [] us → AddsPart (is_large least) rs us ys → Compacts xs ys
-compacts_parts least xs rs us ys p s small large = record {
-  count = λ at. omega (arith, small.count at, large.count at, parts_above least 0 at rs s (omega arith), count_permuted at xs rs p);
-  origin = λ at byte h. Any-permutation _ _ _ (IsPermutation-sym _ _ p) (elim (large.origin at byte h) [
-    | inl a ↦ elim (small.origin at byte a) [ inl b ↦ absurd (Any-nil (RunHolds at byte) b) | inr b ↦ b ]
-    | inr a ↦ a
-  ]);
-}
+pub compacts_parts : (least : ℕ) (xs rs us ws vs ys : List Run) → IsPermutation xs rs → Rises rs → AddsPart (is_joined least) rs [] us → ws ≡ [] → AddsPart (is_kept least) rs ws vs → IsPermutation (us ++ vs) ys → Compacts xs ys
+compacts_parts least xs rs us ws vs ys p s copied e kept q =
+    let stays = rw e at kept in
+    record {
+      count = λ at. omega (arith, copied.count at, stays.count at, parts_above least 0 at rs s (omega arith), count_permuted at xs rs p, count_permuted at (us ++ vs) ys q, count-append at us vs);
+      origin = λ at byte h. Any-permutation _ _ _ (IsPermutation-sym _ _ p) (elim (Any-append _ us vs (Any-permutation _ _ _ (IsPermutation-sym _ _ q) h)) [
+        | inl a ↦ elim (copied.origin at byte a) [ inl b ↦ absurd (Any-nil (RunHolds at byte) b) | inr b ↦ b ]
+        | inr a ↦ elim (stays.origin at byte a) [ inl b ↦ absurd (Any-nil (RunHolds at byte) b) | inr b ↦ b ]
+      ]);
+    }

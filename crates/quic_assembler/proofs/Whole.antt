@@ -1,8 +1,8 @@
 -- What an assembler holds and is done with, as its runs change.
 use Rattle.std.proofs.Common.{◌≡◌, ℕ, ◌+◌, ◌-◌, ◌≤◌, ◌<◌, ◌^◌, ◌⊎◌, inl, inr, refl, sym, ap, ◌∙◌, List, [], ◌∷◌, length, get_or, arith, zero, suc, Bool, true, false, min, max, Result, Ok, Err}
-use Rattle.std.proofs.Common.{OnOk, OnErr, sum_by, ◌*◌, ◌/◌}
+use Rattle.std.proofs.Common.{OnOk, OnErr, ◌*◌, ◌/◌}
 use Rattle.quic_values.specs.declared.memory.OutOfMemory.{OutOfMemory as Refusal}
-use Rattle.std.specs.Prelude.{nat_lt, ◌&&◌, ◌||◌, not}
+use Rattle.std.specs.Prelude.{nat_lt, ◌&&◌, ◌||◌, ◌==◌, not, drop}
 use Rattle.std.specs.List.{Any}
 use Rattle.std.specs.List.Sorted.{IsPermutation}
 use Rattle.std.proofs.lemmas.List.Sorted.{IsPermutation-sym, length_permutation}
@@ -11,12 +11,22 @@ use Rattle.std.proofs.lemmas.Bool.Decides.{nat_tests}
 use Rattle.quic_values.specs.Runs.{contains, Run as Range}
 use Rattle.quic_assembler.specs.declared.errors.InsertError.{InsertError}
 use Rattle.quic_assembler.specs.declared.errors.InsertError.TheVariants.{TooManyChunks, CompactionMemory, OutOfMemory}
-use Rattle.quic_assembler.specs.Piece.{Run, RunHolds, cover_count, bit, lies, run_end, cut_at, KeepsFrom, TakesSome, NoneHoldsAt, run_allocation}
+use Rattle.quic_assembler.specs.Piece.{Run, RunHolds, cover_count, bit, lies, run_end, cut_at, KeepsFrom, TakesSome, NoneHoldsAt, covers, Sums, sums_of}
 use Rattle.quic_assembler.specs.Compact.{Compacts}
-use Rattle.quic_assembler.specs.Reassembly.{Reassembly, floor, Holds, IsDone, is_done, IsHeld, IsWithin, Takes, Gives, SameHeld, KeepsOffsets, IsSameButHeld, MatchInsert, HoldsNothing, HoldsOnce, IsApart, IsAssembler, TakesFresh, Keeps, LeavesOrder, IsNext, run_count, is_wasteful, used}
+use Rattle.quic_assembler.specs.Reassembly.{Reassembly, floor, Holds, IsDone, is_done, IsHeld, IsWithin, Takes, Gives, SameHeld, KeepsOffsets, IsSameButHeld, MatchInsert, HoldsNothing, HoldsOnce, IsApart, IsAssembler, TakesFresh, Keeps, LeavesOrder, IsNext, run_count, fresh_count, is_wasteful, used, sums, covered, with_piece, covered_with, Settles}
+use Rattle.quic_assembler.proofs.Sums.{sums_permuted, sums_equal, sums_pushed}
+use Rattle.quic_assembler.proofs.Fresh.{fresh_bit, old_bit, outside_bit}
+use Rattle.std.proofs.lemmas.List.{length-drop}
+use Rattle.std.proofs.Math.Nat.{one-mul, zero-mul}
 use Rattle.quic_assembler.specs.Laws.{done_below}
-use Rattle.quic_assembler.proofs.Counts.{Any-permutation, Any-here, Any-there, Any-cons, Any-nil, count_permuted, count_of_any, any_of_count, lies_in, lies_above, bit-le-one, tally-le, tally-add, tally-ones, tally-lies}
-use Rattle.quic_assembler.proofs.Runs.{RunHolds-cut, RunHolds-uncut, covers_from_holds, holds_from_covers, above_lowest}
+use Rattle.quic_assembler.proofs.Counts.{Any-permutation, Any-here, Any-there, Any-cons, Any-nil, count_permuted, count_of_any, any_of_count, lies_in, lies_below, lies_above, bit-le-one, tally-le, tally-same, tally-add, tally-ones, tally-lies}
+use Rattle.quic_assembler.proofs.Runs.{RunHolds-cut, RunHolds-uncut, covers_from_holds, holds_from_covers, above_lowest, covers_cut, covers_cut_below}
+
+test_true : (a b : ℕ) → a < b → nat_lt a b ≡ true
+test_true a b l = grind (arith, nat_tests)
+
+test_false : (a b : ℕ) → b ≤ a → nat_lt a b ≡ false
+test_false a b l = grind (arith, nat_tests)
 
 true_not_false : (b : Bool) → b ≡ true → b ≡ false → ⊥
 true_not_false b e f = cc
@@ -38,6 +48,44 @@ same_done old new b o r at = rw (b, o, r) refl
 
 pub same_but_held : (old new : Reassembly) → new.bytes_read ≡ old.bytes_read → new.ordered ≡ old.ordered → new.highest ≡ old.highest → new.received ≡ old.received → IsSameButHeld old new
 same_but_held old new b o h r = record { bytes_read = b; ordered = o; highest = h; done = same_done old new b o r }
+
+-- in ordered mode what lies above the bytes that were read is one run
+ordered_done : (a : Reassembly) → a.ordered ≡ true → (at : ℕ) → is_done a at ≡ nat_lt at a.bytes_read
+unfolding is_done
+ordered_done a e at = rw e refl
+
+start_bit : (b offset n : ℕ) → min 1 (offset + n - max offset b) + bit (not (nat_lt (offset + n) b) && ((offset + n == offset) || nat_lt (offset + n - 1) b)) ≡ min 1 (offset + suc n - max offset b)
+start_bit b offset n = grind (arith, nat_tests)
+
+fresh_bit_above : (b at : ℕ) → bit (not (nat_lt at b)) ≡ min 1 (at + 1 - b)
+fresh_bit_above b at = grind (arith, nat_tests)
+
+ordered_runs : (done : ℕ → Bool) (b offset n : ℕ) → ((at : ℕ) → done at ≡ nat_lt at b) → run_count done offset n ≡ min 1 (offset + n - max offset b)
+ordered_runs done b offset zero h = omega arith
+ordered_runs done b offset (suc n) h = rw (h (offset + n), h (offset + n - 1), ordered_runs done b offset n h) (start_bit b offset n)
+
+ordered_fresh : (done : ℕ → Bool) (b offset n : ℕ) → ((at : ℕ) → done at ≡ nat_lt at b) → fresh_count done offset n ≡ offset + n - max offset b
+ordered_fresh done b offset zero h = omega arith
+ordered_fresh done b offset (suc n) h = rw (h (offset + n), ordered_fresh done b offset n h) (omega (arith, fresh_bit_above b (offset + n)))
+
+cut_bits : (b at : ℕ) (r : Run) → b ≤ run_end r → covers at (cut_at b r) ≡ bit (lies r.offset (run_end r) at && not (nat_lt at b))
+cut_bits b at r l = elim (cases_lt at b) [
+  | inl m ↦ omega (arith, covers_cut_below b at r m, old_bit r.offset (run_end r) at (nat_lt at b) (test_true at b m))
+  | inr m ↦ omega (arith, covers_cut b at r m l, fresh_bit r.offset (run_end r) at (nat_lt at b) (test_false at b m))
+]
+
+no_bits : (b offset end at : ℕ) → end ≤ max offset b → bit (lies offset end at && not (nat_lt at b)) ≡ 0
+no_bits b offset end at l = elim (cases_lt at b) [
+  | inl m ↦ old_bit offset end at (nat_lt at b) (test_true at b m)
+  | inr m ↦ elim (cases_lt at offset) [
+    | inl n ↦ outside_bit offset end at (nat_lt at b) (lies_below offset end at n)
+    | inr n ↦ outside_bit offset end at (nat_lt at b) (lies_above offset end at (omega arith))
+  ]
+]
+
+covers_more : (old new : Reassembly) (offset : ℕ) (bytes : List ℕ) → ((at : ℕ) → cover_count at new.runs ≡ cover_count at old.runs + bit (lies offset (offset + length bytes) at && not (is_done old at))) → covered new.runs ≡ covered_with old offset bytes
+unfolding covered covered_with
+covers_more old new offset bytes h = tally-same (2 ^ 62) _ _ (λ at. rw (h at) refl)
 
 -- what is held
 pub holds_nothing : (a : Reassembly) → a.runs ≡ [] → HoldsNothing (Holds a)
@@ -75,16 +123,20 @@ takes_pushed old new r o n e h =
       fresh = λ at byte w. inr (not_done old at o (omega arith));
     }
 
-pub keeps_pushed : (old new : Reassembly) (r : Run) → old.ordered ≡ true → new.ordered ≡ true → new.bytes_read ≡ old.bytes_read → new.highest ≡ max old.highest (run_end r) → IsPermutation (cut_at old.bytes_read r ∷ old.runs) new.runs → Keeps old new r.offset r.bytes
-keeps_pushed old new r o n e h p = record {
-  held = takes_pushed old new r o n e p;
-  done = λ at f. absurd (true_not_false old.ordered o f);
-  pieces = λ _. omega (arith, length_permutation _ _ p);
-  pieces_unordered = λ f. absurd (true_not_false old.ordered o f);
-  highest = h;
-  bytes_read = e;
-  ordered = n ∙ sym o;
-}
+pub keeps_pushed : (old new : Reassembly) (r : Run) → old.ordered ≡ true → new.ordered ≡ true → new.bytes_read ≡ old.bytes_read → max r.offset old.bytes_read < run_end r → new.highest ≡ max old.highest (run_end r) → IsPermutation (cut_at old.bytes_read r ∷ old.runs) new.runs → Keeps old new r.offset r.bytes r.allocation_size
+keeps_pushed old new r o n e l h p =
+    let one : run_count (is_done old) r.offset (length r.bytes) ≡ 1 = ordered_runs (is_done old) old.bytes_read r.offset (length r.bytes) (ordered_done old o) ∙ omega arith in
+    let all : fresh_count (is_done old) r.offset (length r.bytes) ≡ length (drop (old.bytes_read - r.offset) r.bytes) = ordered_fresh (is_done old) old.bytes_read r.offset (length r.bytes) (ordered_done old o) ∙ simp length-drop (omega arith) in
+    record {
+      held = takes_pushed old new r o n e p;
+      done = λ at f. absurd (true_not_false old.ordered o f);
+      sums = sums_pushed old.runs new.runs (cut_at old.bytes_read r) (with_piece old r.offset r.bytes r.allocation_size) p (omega (arith, one)) (omega (arith, all)) (rw (one, one-mul) refl);
+      covered = covers_more old new r.offset r.bytes (λ at. rw (ordered_done old o at) (omega (arith, count_permuted at (cut_at old.bytes_read r ∷ old.runs) new.runs p, cut_bits old.bytes_read at r (omega arith))));
+      pieces = λ _. omega (arith, length_permutation _ _ p);
+      highest = h;
+      bytes_read = e;
+      ordered = n ∙ sym o;
+    }
 
 -- bytes of which every offset is done
 pub takes_nothing : (old new : Reassembly) (offset : ℕ) (bytes : List ℕ) → new.runs ≡ old.runs → floor new ≡ floor old → ((at : ℕ) → IsWithin offset bytes at → IsDone old at) → Takes (Holds old) (Holds new) (IsDone old) offset bytes
@@ -96,32 +148,42 @@ takes_nothing old new offset bytes e f d = record {
   fresh = λ at byte w. inl (rw (← f, ← e) w);
 }
 
-pub keeps_nothing : (old new : Reassembly) (offset : ℕ) (bytes : List ℕ) → old.ordered ≡ true → new.ordered ≡ true → new.bytes_read ≡ old.bytes_read → new.runs ≡ old.runs → new.highest ≡ max old.highest (offset + length bytes) → offset + length bytes ≤ max offset old.bytes_read → Keeps old new offset bytes
-keeps_nothing old new offset bytes o n e r h l = record {
-  held = takes_nothing old new offset bytes r (rw (o, n) e) (λ at w. below_is_done old at o (omega arith));
-  done = λ at f. absurd (true_not_false old.ordered o f);
-  pieces = λ _. rw r (omega arith);
-  pieces_unordered = λ f. absurd (true_not_false old.ordered o f);
-  highest = h;
-  bytes_read = e;
-  ordered = n ∙ sym o;
-}
+pub keeps_nothing : (old new : Reassembly) (offset : ℕ) (bytes : List ℕ) (size : ℕ) → old.ordered ≡ true → new.ordered ≡ true → new.bytes_read ≡ old.bytes_read → new.runs ≡ old.runs → new.highest ≡ max old.highest (offset + length bytes) → offset + length bytes ≤ max offset old.bytes_read → Keeps old new offset bytes size
+keeps_nothing old new offset bytes size o n e r h l =
+    let none : run_count (is_done old) offset (length bytes) ≡ 0 = ordered_runs (is_done old) old.bytes_read offset (length bytes) (ordered_done old o) ∙ omega arith in
+    let no : fresh_count (is_done old) offset (length bytes) ≡ 0 = ordered_fresh (is_done old) old.bytes_read offset (length bytes) (ordered_done old o) ∙ omega arith in
+    record {
+      held = takes_nothing old new offset bytes r (rw (o, n) e) (λ at w. below_is_done old at o (omega arith));
+      done = λ at f. absurd (true_not_false old.ordered o f);
+      sums = sums_equal (sums_of new.runs) (with_piece old offset bytes size) (rw r (omega (arith, none))) (rw r (omega (arith, no))) (rw (r, none, zero-mul) (omega arith));
+      covered = covers_more old new offset bytes (λ at. rw (r, ordered_done old o at) (omega (arith, no_bits old.bytes_read offset (offset + length bytes) at l)));
+      pieces = λ _. rw r (omega arith);
+      highest = h;
+      bytes_read = e;
+      ordered = n ∙ sym o;
+    }
 
 -- bytes of which some were received before
 run_count-same : (f g : ℕ → Bool) (offset n : ℕ) → ((at : ℕ) → f at ≡ g at) → run_count f offset n ≡ run_count g offset n
 run_count-same f g offset zero h = refl
 run_count-same f g offset (suc n) h = rw (h (offset + n), h (offset + n - 1), run_count-same f g offset n h) refl
 
+fresh_count-same : (f g : ℕ → Bool) (offset n : ℕ) → ((at : ℕ) → f at ≡ g at) → fresh_count f offset n ≡ fresh_count g offset n
+fresh_count-same f g offset zero h = refl
+fresh_count-same f g offset (suc n) h = rw (h (offset + n), fresh_count-same f g offset n h) refl
+
 gain_or_old : (t b : Bool) → 0 < bit t → (b ≡ true) ⊎ (0 < bit (t && not b))
 gain_or_old true true h = inl refl
 gain_or_old true false h = inr (omega arith)
 gain_or_old false b h = absurd (omega arith)
 
-pub keeps_fresh : (old new : Reassembly) (r : Run) → old.ordered ≡ false → new.ordered ≡ old.ordered → new.bytes_read ≡ old.bytes_read → new.highest ≡ max old.highest (run_end r) → TakesFresh old.received r old.runs new.runs → ((at : ℕ) → contains new.received at ≡ (contains old.received at || lies r.offset (run_end r) at)) → Keeps old new r.offset r.bytes
+pub keeps_fresh : (old new : Reassembly) (r : Run) → old.ordered ≡ false → new.ordered ≡ old.ordered → new.bytes_read ≡ old.bytes_read → new.highest ≡ max old.highest (run_end r) → TakesFresh old.received r old.runs new.runs → ((at : ℕ) → contains new.received at ≡ (contains old.received at || lies r.offset (run_end r) at)) → Keeps old new r.offset r.bytes r.allocation_size
 unfolding Holds
 keeps_fresh old new r o n e h t c =
     let was : floor old ≡ 0 = rw o refl in
     let is : floor new ≡ 0 = rw (n, o) refl in
+    let runs = run_count-same (is_done old) (contains old.received) r.offset (length r.bytes) (λ at. done_unordered old at o) in
+    let fresh = fresh_count-same (is_done old) (contains old.received) r.offset (length r.bytes) (λ at. done_unordered old at o) in
     record {
       held = record {
         keeps = λ at w. held_of_count new at (omega arith) (omega (arith, t.count at, (count_of_held old at w).1));
@@ -133,8 +195,9 @@ keeps_fresh old new r o n e h t c =
         fresh = λ at byte w. elim (t.origin at byte w.1) [ inl a ↦ inl (omega arith, a) | inr p ↦ inr (λ d. true_not_false (contains old.received at) (sym (done_unordered old at o) ∙ d) p.1) ];
       };
       done = λ at f. done_unordered new at (n ∙ o) ∙ c at ∙ rw (done_unordered old at o) refl;
+      sums = sums_equal (sums_of new.runs) (with_piece old r.offset r.bytes r.allocation_size) (rw runs t.pieces) (rw fresh t.total) (rw runs t.allocated);
+      covered = covers_more old new r.offset r.bytes (λ at. rw (done_unordered old at o) (t.count at));
       pieces = λ f. absurd (true_not_false old.ordered f o);
-      pieces_unordered = λ f. rw (run_count-same (is_done old) (contains old.received) r.offset (length r.bytes) (λ at. done_unordered old at o)) t.pieces;
       highest = h;
       bytes_read = e;
       ordered = n;
@@ -396,16 +459,15 @@ pub compact_same : (r : Result (Unit {0}) Refusal) (old new : Reassembly) → fl
 compact_same (Ok u) old new e p = tt
 compact_same (Err r) old new e p = same_permuted old new e p
 
--- the same at an offset and bytes that are the run's
-pub keeps_pushed_at : (old new : Reassembly) (r : Run) (offset : ℕ) (bytes : List ℕ) → r.offset ≡ offset → r.bytes ≡ bytes → old.ordered ≡ true → new.ordered ≡ true → new.bytes_read ≡ old.bytes_read → new.highest ≡ max old.highest (offset + length bytes) → IsPermutation (cut_at old.bytes_read r ∷ old.runs) new.runs → Keeps old new offset bytes
-keeps_pushed_at old new r offset bytes p q o n e h i =
-    let k = keeps_pushed old new r o n e (rw (p, q) h) i in
-    rw (← p, ← q) k
+-- the same at an offset, bytes and a size that are the run's
+keeps_at : (old new : Reassembly) (r : Run) (offset : ℕ) (bytes : List ℕ) (size : ℕ) → r.offset ≡ offset → r.bytes ≡ bytes → r.allocation_size ≡ size → Keeps old new r.offset r.bytes r.allocation_size → Keeps old new offset bytes size
+keeps_at old new r offset bytes size p q m k = rw (← p, ← q, ← m) k
 
-pub keeps_fresh_at : (old new : Reassembly) (r : Run) (offset : ℕ) (bytes : List ℕ) → r.offset ≡ offset → r.bytes ≡ bytes → old.ordered ≡ false → new.ordered ≡ old.ordered → new.bytes_read ≡ old.bytes_read → new.highest ≡ max old.highest (offset + length bytes) → TakesFresh old.received r old.runs new.runs → ((at : ℕ) → contains new.received at ≡ (contains old.received at || lies r.offset (run_end r) at)) → Keeps old new offset bytes
-keeps_fresh_at old new r offset bytes p q o n e h t c =
-    let k = keeps_fresh old new r o n e (rw (p, q) h) t c in
-    rw (← p, ← q) k
+pub keeps_pushed_at : (old new : Reassembly) (r : Run) (offset : ℕ) (bytes : List ℕ) (size : ℕ) → r.offset ≡ offset → r.bytes ≡ bytes → r.allocation_size ≡ size → old.ordered ≡ true → new.ordered ≡ true → new.bytes_read ≡ old.bytes_read → max offset old.bytes_read < offset + length bytes → new.highest ≡ max old.highest (offset + length bytes) → IsPermutation (cut_at old.bytes_read r ∷ old.runs) new.runs → Keeps old new offset bytes size
+keeps_pushed_at old new r offset bytes size p q m o n e l h i = keeps_at old new r offset bytes size p q m (keeps_pushed old new r o n e (rw (p, q) l) (rw (p, q) h) i)
+
+pub keeps_fresh_at : (old new : Reassembly) (r : Run) (offset : ℕ) (bytes : List ℕ) (size : ℕ) → r.offset ≡ offset → r.bytes ≡ bytes → r.allocation_size ≡ size → old.ordered ≡ false → new.ordered ≡ old.ordered → new.bytes_read ≡ old.bytes_read → new.highest ≡ max old.highest (offset + length bytes) → TakesFresh old.received r old.runs new.runs → ((at : ℕ) → contains new.received at ≡ (contains old.received at || lies r.offset (run_end r) at)) → Keeps old new offset bytes size
+keeps_fresh_at old new r offset bytes size p q m o n e h t c = keeps_at old new r offset bytes size p q m (keeps_fresh old new r o n e (rw (p, q) h) t c)
 
 pub assembler_fresh : (xs ys : List Run) (received next : List Range) (ordered : Bool) (bytes_read : ℕ) (r : Run) → IsAssembler xs received ordered bytes_read → ordered ≡ false → TakesFresh received r xs ys → ((at : ℕ) → contains next at ≡ (contains received at || lies r.offset (run_end r) at)) → IsAssembler ys next ordered bytes_read
 assembler_fresh xs ys received next ordered bytes_read r a e t c = record { bounded = a.bounded; apart = λ _. apart_fresh xs ys received next bytes_read r (a.apart e) t c }
@@ -430,13 +492,27 @@ compact_once (Ok u) xs new c = λ at a b h k. one_byte new.runs at a b (omega (a
 compact_once (Err e) xs new c = tt
 
 -- when compaction is due
-pub wasteful_many : (a : Reassembly) → 2048 < length a.runs → is_wasteful a ≡ true
+pub wasteful_many : (s : Sums) (unread : ℕ) → 2048 < s.pieces → is_wasteful s unread ≡ true
 unfolding is_wasteful
-wasteful_many a l = grind (arith, nat_tests)
+wasteful_many s unread l = grind (arith, nat_tests)
 
 few_test : (b : Bool) (n : ℕ) → n ≤ 2048 → (nat_lt 2048 n || b) ≡ b
 few_test b n l = grind (arith, nat_tests)
 
-pub wasteful_memory : (a : Reassembly) (u t w : ℕ) → length a.runs ≤ 2048 → u ≡ used a → t ≡ max 32768 (u * 3 / 2) → w ≡ sum_by run_allocation a.runs - u → nat_lt t w ≡ is_wasteful a
+pub wasteful_memory : (s : Sums) (unread u t w : ℕ) → s.pieces ≤ 2048 → u ≡ used s unread → t ≡ max 32768 (u * 3 / 2) → w ≡ s.allocated - u → nat_lt t w ≡ is_wasteful s unread
 unfolding is_wasteful
-wasteful_memory a u t w l e f g = rw (f, g, e) (sym (few_test _ (length a.runs) l))
+wasteful_memory s unread u t w l e f g = rw (f, g, e) (sym (few_test _ s.pieces l))
+
+-- what an insert settles
+pub compact_sums : (r : Result (Unit {0}) Refusal) (xs ys : List Run) → OnErr r (IsPermutation xs ys) → OnErr r (sums_of ys ≡ sums_of xs)
+compact_sums (Ok u) xs ys p = tt
+compact_sums (Err e) xs ys p = sums_permuted xs ys p
+
+settles_same : (r : Result (Unit {0}) InsertError) (d e : Bool) (s u t : Sums) (n m : ℕ) → d ≡ e → s ≡ u → n ≡ m → Settles r d s n t → Settles r e u m t
+settles_same r d e s u t n m f g h p = rw (← f, ← g, ← h) p
+
+due_same : (s u : Sums) (h i b c : ℕ) → s ≡ u → h ≡ i → b ≡ c → is_wasteful s (h - b) ≡ is_wasteful u (i - c)
+due_same s u h i b c e f g = rw (e, f, g) refl
+
+pub settles_piece : (r : Result (Unit {0}) InsertError) (old mid new : Reassembly) (offset : ℕ) (bytes : List ℕ) (size : ℕ) → Keeps old mid offset bytes size → Settles r (is_wasteful (sums mid) (mid.highest - mid.bytes_read)) (sums mid) (covered mid.runs) (sums new) → Settles r (is_wasteful (with_piece old offset bytes size) (max old.highest (offset + length bytes) - old.bytes_read)) (with_piece old offset bytes size) (covered_with old offset bytes) (sums new)
+settles_piece r old mid new offset bytes size k s = settles_same r _ _ (sums mid) (with_piece old offset bytes size) (sums new) (covered mid.runs) (covered_with old offset bytes) (due_same (sums mid) (with_piece old offset bytes size) mid.highest (max old.highest (offset + length bytes)) mid.bytes_read old.bytes_read k.sums k.highest k.bytes_read) k.sums k.covered s

@@ -1,5 +1,5 @@
 -- What compaction keeps, joins and drops.
-use Rattle.std.specs.Prelude.{ℕ, Bool, not, ◌≡◌, ◌+◌, ◌*◌, ◌/◌, ◌≤◌, ◌⊎◌, ◌&&◌, ◌||◌, nat_le, if◌then◌else◌, max, min, List, [], ◌∷◌, ◌++◌, length}
+use Rattle.std.specs.Prelude.{ℕ, Bool, not, true, ◌≡◌, ◌+◌, ◌*◌, ◌/◌, ◌≤◌, ◌<◌, ◌⊎◌, ◌&&◌, ◌||◌, nat_le, nat_lt, if◌then◌else◌, cond, max, min, List, [], ◌∷◌, ◌++◌, length, Option, Some, None}
 use Rattle.std.specs.List.{Any, All}
 use Rattle.quic_assembler.specs.Piece.{Run, IsSome, RunHolds, cover_count, covers, run_end, cut_at}
 
@@ -13,21 +13,41 @@ abbrev pub Rises : List Run → Type 0
 Rises [] = Unit {0}
 Rises (r ∷ rs) = All (λ (q : Run). r.offset ≤ q.offset) rs × Rises rs
 
--- whether a run uses most of its memory, and has at least so many bytes
-unfoldable pub is_large : ℕ → Run → Bool
-is_large least r = (r.compact || nat_le r.allocation_size (length r.bytes * 6 / 5)) && nat_le least (length r.bytes)
+-- whether a run uses most of its memory
+abbrev pub is_compact : Run → Bool
+is_compact r = r.compact || nat_le r.allocation_size (length r.bytes * 6 / 5)
 
-abbrev pub is_small : ℕ → Run → Bool
-is_small least r = not (is_large least r)
+-- where the first of some runs starts
+abbrev pub first_offset : List Run → Option ℕ
+first_offset [] = None
+first_offset (r ∷ rs) = Some r.offset
 
--- of a run what lies above `end`, if the test keeps it
-abbrev pub seen : (Run → Bool) → ℕ → Run → List Run
-seen keep end r = if nat_le (run_end r) end then [] else (if keep (cut_at end r) then cut_at end r ∷ [] else [])
+-- whether a run touches neither what ends at `end` nor what starts at `next`
+abbrev pub is_alone : ℕ → Run → Option ℕ → Bool
+is_alone end r None = nat_lt end r.offset
+is_alone end r (Some next) = nat_lt end r.offset && nat_lt (run_end r) next
 
--- of runs in order what lies above `end` and above each run before, where the test keeps it
-abbrev pub part : (Run → Bool) → ℕ → List Run → List Run
-part keep end [] = []
-part keep end (r ∷ rs) = seen keep end r ++ part keep (max end (run_end r)) rs
+-- whether what lies above `end` of a run stays: it uses most of its memory, and has at least so many bytes or touches no other
+unfoldable pub is_kept : ℕ → ℕ → Run → Option ℕ → Bool
+is_kept least end r next = is_compact (cut_at end r) && (nat_le least (length (cut_at end r).bytes) || is_alone end r next)
+
+-- whether it is copied
+abbrev pub is_joined : ℕ → ℕ → Run → Option ℕ → Bool
+is_joined least end r next = not (is_kept least end r next)
+
+-- of a run what lies above `end`, if it passed a test
+abbrev pub seen : Bool → ℕ → Run → List Run
+seen passed end r = if nat_le (run_end r) end then [] else (if passed then cut_at end r ∷ [] else [])
+
+-- of runs in order what lies above `end` and above each run before, where it passes a test of `end`, the run, and where the next one starts
+abbrev pub part : (ℕ → Run → Option ℕ → Bool) → ℕ → List Run → List Run
+part test end [] = []
+part test end (r ∷ rs) = seen (test end r (first_offset rs)) end r ++ part test (max end (run_end r)) rs
+
+-- all the memory of a run that compaction made or kept is its bytes
+pub record IsTight (r : Run) : Type 0 where
+  pub allocation : r.allocation_size ≡ length r.bytes
+  pub compact : r.compact ≡ true
 
 -- ys hold what xs hold and what r holds
 pub record Adds (r : Run) (xs ys : List Run) : Type 0 where
@@ -35,22 +55,26 @@ pub record Adds (r : Run) (xs ys : List Run) : Type 0 where
   pub origin : (at byte : ℕ) → Any (RunHolds at byte) ys → Any (RunHolds at byte) xs ⊎ RunHolds at byte r
 
 -- ys hold what xs hold and what is seen of a run
-pub record AddsSeen (keep : Run → Bool) (end : ℕ) (r : Run) (xs ys : List Run) : Type 0 where
-  pub count : (at : ℕ) → cover_count at ys ≡ cover_count at xs + cover_count at (seen keep end r)
+pub record AddsSeen (passed : Bool) (end : ℕ) (r : Run) (xs ys : List Run) : Type 0 where
+  pub count : (at : ℕ) → cover_count at ys ≡ cover_count at xs + cover_count at (seen passed end r)
   pub origin : (at byte : ℕ) → Any (RunHolds at byte) ys → Any (RunHolds at byte) xs ⊎ RunHolds at byte r
 
 -- ys hold what xs hold and what is seen of all runs
-pub record AddsPart (keep : Run → Bool) (rs xs ys : List Run) : Type 0 where
-  pub count : (at : ℕ) → cover_count at ys ≡ cover_count at xs + cover_count at (part keep 0 rs)
+pub record AddsPart (test : ℕ → Run → Option ℕ → Bool) (rs xs ys : List Run) : Type 0 where
+  pub count : (at : ℕ) → cover_count at ys ≡ cover_count at xs + cover_count at (part test 0 rs)
   pub origin : (at byte : ℕ) → Any (RunHolds at byte) ys → Any (RunHolds at byte) xs ⊎ Any (RunHolds at byte) rs
 
 -- how many pieces there are, with one that is being joined, unless it is empty
 abbrev pub slots : Run → List Run → ℕ
 slots joined rs = length rs + min 1 (length joined.bytes)
 
+-- one run more, unless it is empty
+abbrev pub with_run : Run → List Run → List Run
+with_run r rs = cond (nat_lt 0 (length r.bytes)) (r ∷ rs) rs
+
 -- all but `rest` was seen: ys hold what xs hold, and what was seen so far
-pub record HasSeen (keep : Run → Bool) (all rest xs ys : List Run) (end : ℕ) : Type 0 where
-  pub count : (at : ℕ) → cover_count at ys + cover_count at (part keep end rest) ≡ cover_count at xs + cover_count at (part keep 0 all)
+pub record HasSeen (test : ℕ → Run → Option ℕ → Bool) (all rest xs ys : List Run) (end : ℕ) : Type 0 where
+  pub count : (at : ℕ) → cover_count at ys + cover_count at (part test end rest) ≡ cover_count at xs + cover_count at (part test 0 all)
   pub origin : (at byte : ℕ) → Any (RunHolds at byte) ys → Any (RunHolds at byte) xs ⊎ Any (RunHolds at byte) all
   pub left : (at byte : ℕ) → Any (RunHolds at byte) rest → Any (RunHolds at byte) all
   pub some : All IsSome rest

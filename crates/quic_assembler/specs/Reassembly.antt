@@ -4,7 +4,7 @@ use Rattle.std.specs.Prelude.{◌≡◌, ◌==◌, ◌&&◌, ◌||◌, ◌-◌, 
 use Rattle.quic_assembler.specs.declared.errors.InsertError.{InsertError}
 use Rattle.quic_assembler.specs.declared.errors.InsertError.TheVariants.{TooManyChunks, CompactionMemory, OutOfMemory}
 use Rattle.std.specs.List.{Any, All}
-use Rattle.quic_assembler.specs.Piece.{Run, RunHolds, Covers, IsByteAt, bit, lies, cover_count, run_end, cut_at, HoldsSame, IsSome, run_length, run_allocation}
+use Rattle.quic_assembler.specs.Piece.{Run, RunHolds, Covers, IsByteAt, bit, lies, cover_count, run_end, cut_at, HoldsSame, IsSome, run_length, run_allocation, Sums, sums_of, KeepsAlive}
 
 -- the pieces that are held, in no order; the offsets ever received or read, in unordered mode
 pub record Reassembly : Type 0 where
@@ -40,10 +40,28 @@ abbrev pub run_count : (ℕ → Bool) → ℕ → ℕ → ℕ
 run_count done offset zero = 0
 run_count done offset (suc n) = run_count done offset n + bit (starts_run done offset (offset + n))
 
+-- how many offsets that are not done there are among so many from offset on
+abbrev pub fresh_count : (ℕ → Bool) → ℕ → ℕ → ℕ
+fresh_count done offset zero = 0
+fresh_count done offset (suc n) = fresh_count done offset n + bit (not (done (offset + n)))
+
 -- the sum of f below n
 unfoldable pub tally : ℕ → (ℕ → ℕ) → ℕ
 tally zero f = 0
 tally (suc n) f = tally n f + f n
+
+-- the sums of the pieces that are held
+abbrev pub sums : Reassembly → Sums
+sums a = sums_of a.runs
+
+-- how many offsets pieces cover
+unfoldable pub covered : List Run → ℕ
+covered rs = tally (2 ^ 62) (λ at. min 1 (cover_count at rs))
+
+-- the pieces cover so many offsets, each once, and keep no other memory alive
+pub record IsCompacted (n : ℕ) (s : Sums) : Type 0 where
+  pub total : s.total ≡ n
+  pub allocated : s.allocated ≡ n
 
 -- in unordered mode no two pieces overlap, what is held was received, and what was read was received before
 pub record IsApart (runs : List Run) (received : List Range) (bytes_read : ℕ) : Type 0 where
@@ -59,14 +77,19 @@ pub record IsAssembler (runs : List Run) (received : List Range) (ordered : Bool
 pub record TakesFresh (received : List Range) (whole : Run) (xs ys : List Run) : Type 0 where
   pub count : (at : ℕ) → cover_count at ys ≡ cover_count at xs + bit (lies whole.offset (run_end whole) at && not (contains received at))
   pub origin : (at byte : ℕ) → Any (RunHolds at byte) ys → Any (RunHolds at byte) xs ⊎ (RunHolds at byte whole × (contains received at ≡ false))
-  pub pieces : length ys ≤ length xs + run_count (contains received) whole.offset (length whole.bytes)
+  pub pieces : length ys ≡ length xs + run_count (contains received) whole.offset (length whole.bytes)
+  pub total : sum_by run_length ys ≡ sum_by run_length xs + fresh_count (contains received) whole.offset (length whole.bytes)
+  pub allocated : sum_by run_allocation ys ≡ sum_by run_allocation xs + run_count (contains received) whole.offset (length whole.bytes) * whole.allocation_size
 
 -- what lies before start was taken off `rest`, and is behind the fronts
 pub record TakesFront (start : ℕ) (rest rest' : Run) (fronts fronts' : List Run) : Type 0 where
   pub same : HoldsSame (cut_at start rest) rest'
   pub count : (at : ℕ) → cover_count at fronts' ≡ cover_count at fronts + bit (lies rest.offset start at)
   pub origin : (at byte : ℕ) → Any (RunHolds at byte) fronts' → Any (RunHolds at byte) fronts ⊎ RunHolds at byte rest
-  pub pieces : length fronts' ≤ length fronts + min 1 (start - rest.offset)
+  pub pieces : length fronts' ≡ length fronts + min 1 (start - rest.offset)
+  pub total : sum_by run_length fronts' ≡ sum_by run_length fronts + (start - rest.offset)
+  pub memory : All (KeepsAlive rest.allocation_size) fronts → All (KeepsAlive rest.allocation_size) fronts'
+  pub alive : KeepsAlive rest.allocation_size rest'
   pub sound : All IsSome fronts → All IsSome fronts'
 
 -- no offset of the run was received
@@ -81,7 +104,10 @@ pub record IsCut (received : List Range) (whole rest : Run) (fronts : List Run) 
   pub sound : All IsSome fronts
   pub count : (at : ℕ) → cover_count at fronts ≡ bit (lies whole.offset rest.offset at && not (contains received at))
   pub origin : (at byte : ℕ) → Any (RunHolds at byte) fronts → RunHolds at byte whole
-  pub pieces : length fronts ≤ run_count (contains received) whole.offset (rest.offset - whole.offset)
+  pub pieces : length fronts ≡ run_count (contains received) whole.offset (rest.offset - whole.offset)
+  pub total : sum_by run_length fronts ≡ fresh_count (contains received) whole.offset (rest.offset - whole.offset)
+  pub memory : All (KeepsAlive whole.allocation_size) fronts
+  pub alive : KeepsAlive whole.allocation_size rest
   pub starts : (rest.offset ≡ whole.offset) ⊎ (contains received (rest.offset - 1) ≡ true)
 
 -- some byte is held there
@@ -123,12 +149,25 @@ IfGiven r P = IfOk r (λ o. IfSome o P)
 abbrev pub OnNothing : {C E : Type 0} → Result (Option C) E → Type 0 → Type 0
 OnNothing r P = IfOk r (λ o. MatchOption o P (λ _. Unit {0}))
 
+-- the sums with a piece of which each longest run of offsets that are not done is held, and keeps all its memory alive
+abbrev pub with_piece : Reassembly → ℕ → List ℕ → ℕ → Sums
+with_piece a offset bytes size = record {
+  pieces = piece_count a + run_count (is_done a) offset (length bytes);
+  total = sum_by run_length a.runs + fresh_count (is_done a) offset (length bytes);
+  allocated = sum_by run_allocation a.runs + run_count (is_done a) offset (length bytes) * size;
+}
+
+-- how many offsets the pieces cover then
+unfoldable pub covered_with : Reassembly → ℕ → List ℕ → ℕ
+covered_with a offset bytes = tally (2 ^ 62) (λ at. min 1 (cover_count at a.runs + bit (lies offset (offset + length bytes) at && not (is_done a at))))
+
 -- a piece was kept
-pub record Keeps (old new : Reassembly) (offset : ℕ) (bytes : List ℕ) : Type 0 where
+pub record Keeps (old new : Reassembly) (offset : ℕ) (bytes : List ℕ) (size : ℕ) : Type 0 where
   pub held : Takes (Holds old) (Holds new) (IsDone old) offset bytes
   pub done : (at : ℕ) → old.ordered ≡ false → is_done new at ≡ (is_done old at || lies offset (offset + length bytes) at)
+  pub sums : sums new ≡ with_piece old offset bytes size
+  pub covered : covered new.runs ≡ covered_with old offset bytes
   pub pieces : old.ordered ≡ true → piece_count new ≤ piece_count old + 1
-  pub pieces_unordered : old.ordered ≡ false → piece_count new ≤ piece_count old + run_count (is_done old) offset (length bytes)
   pub highest : new.highest ≡ max old.highest (offset + length bytes)
   pub bytes_read : new.bytes_read ≡ old.bytes_read
   pub ordered : new.ordered ≡ old.ordered
@@ -172,10 +211,17 @@ pub record IsSameButHeld (a b : Reassembly) : Type 0 where
   pub highest : b.highest ≡ a.highest
   pub done : (at : ℕ) → is_done b at ≡ is_done a at
 
--- how many bytes are of use: those that are held, and at most those up to the highest end that were not read
-abbrev pub used : Reassembly → ℕ
-used a = min (sum_by run_length a.runs) (a.highest - a.bytes_read)
+-- how many bytes are of use: those that are held, and at most so many as were not read
+abbrev pub used : Sums → ℕ → ℕ
+used s unread = min s.total unread
 
--- whether too many pieces are held, or they keep too much memory alive
-unfoldable pub is_wasteful : Reassembly → Bool
-is_wasteful a = nat_lt 2048 (length a.runs) || nat_lt (max 32768 (used a * 3 / 2)) (sum_by run_allocation a.runs - used a)
+-- whether compaction is due: too many pieces are held, or they keep too much memory alive
+unfoldable pub is_wasteful : Sums → ℕ → Bool
+is_wasteful s unread = nat_lt 2048 s.pieces || nat_lt (max 32768 (used s unread * 3 / 2)) (s.allocated - used s unread)
+
+-- pieces with the sums s that cover n offsets were compacted where that is due, and only there; t are the sums afterwards
+abbrev pub Settles : Result (Unit {0}) InsertError → Bool → Sums → ℕ → Sums → Type 0
+Settles (Ok u) due s n t = ((due ≡ false) × (t ≡ s)) ⊎ ((due ≡ true) × IsCompacted n t × (t.pieces ≤ 1024))
+Settles (Err TooManyChunks) due s n t = (due ≡ true) × IsCompacted n t × (1024 < t.pieces)
+Settles (Err CompactionMemory) due s n t = (due ≡ true) × (t ≡ s)
+Settles (Err OutOfMemory) due s n t = Unit {0}

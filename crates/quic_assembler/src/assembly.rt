@@ -1,7 +1,7 @@
 // An assembler over a heap of pieces.
-ghost use Rattle.std.specs.Prelude.{◌≡◌, ◌≢◌, ℕ, ◌+◌, ◌^◌, ◌<◌, ◌≤◌, ◌↔◌, ◌⊎◌, ◌||◌, ◌&&◌, true, false, length, max, OnOk, OnErr, IfSome, IfNone, [], IsTrue, MatchOption, Ok, Err};
+ghost use Rattle.std.specs.Prelude.{◌≡◌, ◌≢◌, ℕ, ◌+◌, ◌-◌, ◌^◌, ◌<◌, ◌≤◌, ◌↔◌, ◌⊎◌, ◌||◌, ◌&&◌, true, false, length, max, OnOk, OnErr, IfSome, IfNone, [], IsTrue, MatchOption, Ok, Err};
 ghost use Rattle.quic_assembler.specs.Piece.{Run, run_end, lies};
-ghost use Rattle.quic_assembler.specs.Reassembly.{Reassembly, Holds, IsDone, is_done, IsHeld, IsWithin, Takes, Gives, SameHeld, KeepsOffsets, IsSameButHeld, HoldsNothing, HoldsOnce, MatchInsert, IfGiven, OnNothing, IsStale, run_count, piece_count, Keeps, LeavesOrder, IsNext, is_wasteful};
+ghost use Rattle.quic_assembler.specs.Reassembly.{Reassembly, Holds, IsDone, is_done, IsHeld, IsWithin, Takes, Gives, SameHeld, KeepsOffsets, IsSameButHeld, HoldsNothing, HoldsOnce, MatchInsert, IfGiven, OnNothing, IsStale, run_count, piece_count, Keeps, LeavesOrder, IsNext, is_wasteful, sums, covered, with_piece, covered_with, IsCompacted, Settles};
 
 use crate::chunk::Chunk;
 use crate::errors::{EnsureError, InsertError};
@@ -133,6 +133,8 @@ impl Assembler {
         ensures few { OnOk result (IsStale self.old offset bytes ⊎ (piece_count self.new ≤ 2048)) }
         ensures stale { IsStale self.old offset bytes → piece_count self.new ≡ piece_count self.old }
         ensures stale_ok { IsStale self.old offset bytes → result ≡ Ok tt }
+        ensures stale_sums { IsStale self.old offset bytes → sums self.new ≡ sums self.old }
+        ensures settles { IsStale self.old offset bytes ⊎ Settles result (is_wasteful (with_piece self.old offset bytes allocation_size) (max self.old.highest (offset + length bytes) - self.old.bytes_read)) (with_piece self.old offset bytes allocation_size) (covered_with self.old offset bytes) (sums self.new) }
         ensures pieces { IsTrue self.old.ordered → piece_count self.new ≤ piece_count self.old + 1 }
         ensures pieces_unordered { self.old.ordered ≡ false → piece_count self.new ≤ piece_count self.old + run_count (is_done self.old) offset (length bytes) }
 
@@ -151,7 +153,7 @@ impl Assembler {
     // Keeps what is not done.
     fn hold(&mut self, offset: u64, bytes: Bytes, allocation_size: usize) -> Result<(), OutOfMemory>
         requires { offset + length bytes < 2 ^ 62 }
-        ensures ok { OnOk result (Keeps self.old self.new offset bytes) }
+        ensures ok { OnOk result (Keeps self.old self.new offset bytes allocation_size) }
         ensures err { OnErr result (self.new ≡ self.old) }
     {
         if self.ordered {
@@ -174,7 +176,7 @@ impl Assembler {
     ) -> Result<(), OutOfMemory>
         requires fits { offset + length bytes < 2 ^ 62 }
         requires mode { self.old.ordered ≡ true }
-        ensures ok { OnOk result (Keeps self.old self.new offset bytes) }
+        ensures ok { OnOk result (Keeps self.old self.new offset bytes allocation_size) }
         ensures err { OnErr result (self.new ≡ self.old) }
     {
         let end = offset + bytes.len() as u64;
@@ -192,7 +194,7 @@ impl Assembler {
 
     // Whether too many pieces are held, or they keep too much memory alive.
     fn is_wasteful(&self) -> bool
-        ensures exact { result ≡ is_wasteful self.now }
+        ensures exact { result ≡ is_wasteful (sums self.now) (self.now.highest - self.now.bytes_read) }
         ensures few { result ≡ false → piece_count self.now ≤ 2048 }
     {
         if self.pieces.len() > COMPACT_THRESHOLD {
@@ -206,7 +208,8 @@ impl Assembler {
 
     // Compacts where that is due.
     fn relieve(&mut self) -> Result<(), InsertError>
-        ensures idle { is_wasteful self.old ≡ false → (result ≡ Ok tt) × (self.new ≡ self.old) }
+        ensures idle { is_wasteful (sums self.old) (self.old.highest - self.old.bytes_read) ≡ false → (result ≡ Ok tt) × (self.new ≡ self.old) }
+        ensures settles { Settles result (is_wasteful (sums self.old) (self.old.highest - self.old.bytes_read)) (sums self.old) (covered self.old.runs) (sums self.new) }
         ensures held { KeepsOffsets (Holds self.old) (Holds self.new) }
         ensures kept { MatchInsert result (Unit {0}) ⊥ }
         ensures many { result ≡ Err InsertError.TooManyChunks → 1024 < piece_count self.new }
@@ -230,7 +233,9 @@ impl Assembler {
     pub fn defragment(&mut self) -> Result<(), OutOfMemory>
         ensures held { KeepsOffsets (Holds self.old) (Holds self.new) }
         ensures once { OnOk result (HoldsOnce (Holds self.new)) }
+        ensures compacted { OnOk result (IsCompacted (covered self.old.runs) (sums self.new)) }
         ensures err { OnErr result (SameHeld (Holds self.old) (Holds self.new)) }
+        ensures err_sums { OnErr result (sums self.new ≡ sums self.old) }
         ensures pieces { piece_count self.new ≤ piece_count self.old }
         ensures others { IsSameButHeld self.old self.new }
     {

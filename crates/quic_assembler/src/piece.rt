@@ -1,8 +1,8 @@
 // A piece of a stream that an assembler holds.
-ghost use Rattle.std.specs.Prelude.{◌≡◌, ◌++◌, ◌+◌, ◌-◌, ◌^◌, ◌<◌, ◌≤◌, true, false, length, take, drop, IfOk, OnOk, OnErr, vec_len, IsTrue};
+ghost use Rattle.std.specs.Prelude.{◌≡◌, ◌++◌, ◌+◌, ◌-◌, ◌*◌, ◌/◌, ◌^◌, ◌<◌, ◌≤◌, ◌||◌, nat_le, true, false, length, take, drop, IfOk, OnOk, OnErr, vec_len, IsTrue};
 ghost use Rattle.std.specs.Ordering.{as_partial_cmp};
 ghost use Rattle.quic_assembler.specs.Piece.{Run, run_end, run_cmp, run_eq, cut_at, advance_by, HoldsSame};
-ghost use Rattle.quic_assembler.specs.Compact.{is_large};
+ghost use Rattle.quic_assembler.specs.Compact.{is_kept, IsTight};
 
 use quic_values::{Bytes, OutOfMemory};
 use std::cmp::Ordering;
@@ -97,7 +97,9 @@ impl Piece {
         requires to { end ≤ run_end self.old }
         ensures offset { IfOk result (λ front. front.offset ≡ self.old.offset) }
         ensures bytes { IfOk result (λ front. front.bytes ≡ take (end - self.old.offset) self.old.bytes) }
+        ensures memory { IfOk result (λ front. front.allocation_size ≡ self.old.allocation_size) }
         ensures rest { OnOk result (HoldsSame (cut_at end self.old) self.new) }
+        ensures rest_memory { OnOk result (self.new.allocation_size ≡ self.old.allocation_size) }
         ensures err { OnErr result (self.new ≡ self.old) }
     {
         let offset = self.offset;
@@ -123,6 +125,7 @@ impl Piece {
         requires { offset + length bytes < 2 ^ 62 }
         ensures offset { result.offset ≡ offset }
         ensures bytes { result.bytes ≡ bytes }
+        ensures tight { IsTight result }
     {
         Piece {
             offset,
@@ -133,26 +136,41 @@ impl Piece {
         }
     }
 
-    /// Whether compaction keeps the piece as it is, once what lies below `floor` is cut off: it uses most of its
-    /// memory, and has at least so many bytes.
-    pub(crate) fn is_large(&self, floor: u64, least: u128) -> bool
-        requires { floor ≤ run_end self.now }
-        ensures { result ≡ is_large least (cut_at floor self.now) }
+    // Whether a part of so many bytes uses most of the memory.
+    fn is_compact(&self, length: u64) -> bool
+        ensures { result ≡ (self.now.compact || nat_le self.now.allocation_size (length * 6 / 5)) }
     {
-        let length = (self.offset + self.bytes.len() as u64 - self.offset.max(floor)) as u128;
-        if length < least {
-            return false;
-        }
         if self.compact {
             return true;
         }
-        self.allocation_size as u128 * 5 <= length * 6
+        self.allocation_size as u128 * 5 <= length as u128 * 6
+    }
+
+    /// Whether compaction lets the piece stay, once what lies below `end` is cut off: it uses most of its memory, and has
+    /// at least so many bytes, or touches neither what ends there nor what starts at `next`.
+    pub(crate) fn is_kept(&self, end: u64, next: Option<u64>, least: u128) -> bool
+        requires { end ≤ run_end self.now }
+        ensures { result ≡ is_kept least end self.now next }
+    {
+        let stop = self.offset + self.bytes.len() as u64;
+        let length = stop - self.offset.max(end);
+        if !self.is_compact(length) {
+            return false;
+        }
+        if length as u128 >= least {
+            return true;
+        }
+        match next {
+            None => end < self.offset,
+            Some(next) => end < self.offset && stop < next,
+        }
     }
 
     /// Cuts off what lies below `floor`, and is compact from then on.
     pub(crate) fn keep_from(&mut self, floor: u64)
         requires { floor ≤ run_end self.old }
-        ensures { HoldsSame (cut_at floor self.old) self.new }
+        ensures same { HoldsSame (cut_at floor self.old) self.new }
+        ensures tight { IsTight self.new }
     {
         self.cut_below(floor);
         self.allocation_size = self.bytes.len();
@@ -174,6 +192,7 @@ impl Piece {
         requires { run_end self.old + length more.now < 2 ^ 62 }
         ensures offset { OnOk result (self.new.offset ≡ self.old.offset) }
         ensures bytes { OnOk result (self.new.bytes ≡ self.old.bytes ++ more.now) }
+        ensures tight { OnOk result (self.old.compact ≡ true → IsTight self.new) }
         ensures err { OnErr result (self.new ≡ self.old) }
     {
         self.bytes.extend_from_slice(more)?;

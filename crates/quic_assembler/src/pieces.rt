@@ -1,10 +1,11 @@
 // The pieces that are held, the lowest offset first.
-ghost use Rattle.std.specs.Prelude.{◌≡◌, ℕ, ◌+◌, ◌-◌, ◌^◌, ◌<◌, ◌≤◌, ◌↔◌, true, false, [], ◌∷◌, length, slice_index_or, take, drop, nat_lt, min, IfOk, OnOk, OnErr, IfSome, IfNone, IsTrue, MatchOption, sum_by};
+ghost use Rattle.std.specs.Prelude.{◌≡◌, ℕ, ◌+◌, ◌-◌, ◌^◌, ◌<◌, ◌≤◌, ◌↔◌, true, false, [], ◌∷◌, ◌++◌, length, vec_len, slice_index_or, take, drop, nat_lt, min, IfOk, OnOk, OnErr, IfSome, IfNone, IsTrue, MatchOption, sum_by};
 ghost use Rattle.std.specs.List.{Any, All};
 ghost use Rattle.std.specs.List.Sorted.{IsPermutation};
-ghost use Rattle.quic_assembler.specs.Compact.{Compacts, slots};
+ghost use Rattle.quic_assembler.specs.Compact.{Compacts, slots, with_run};
+ghost use Rattle.quic_assembler.specs.Reassembly.{covered, IsCompacted};
 ghost use Rattle.quic_values.specs.Runs.{contains};
-ghost use Rattle.quic_assembler.specs.Piece.{Run, Covers, RunHolds, cover_count, bit, Queue, IsSome, IsSound, IsLowest, run_end, run_length, run_allocation, cut_at, advance_by, KeepsFrom, IsFreshFrom, NoneHoldsAt, TakesSome, TakesNone};
+ghost use Rattle.quic_assembler.specs.Piece.{Run, Covers, RunHolds, cover_count, bit, Queue, IsSome, IsSound, IsLowest, run_end, run_length, run_allocation, sums_of, cut_at, advance_by, KeepsFrom, IsFreshFrom, NoneHoldsAt, TakesSome, TakesNone};
 
 use crate::piece::Piece;
 use quic_values::{Bytes, OutOfMemory, RangeSet};
@@ -130,12 +131,22 @@ impl Pieces {
     /// Puts a piece, unless it is empty. There is room.
     pub(crate) fn put_some(&mut self, piece: Piece)
         requires { slots piece self.old.runs ≤ self.old.room }
-        ensures count { (at : ℕ) → cover_count at self.new.runs ≡ cover_count at (piece ∷ self.old.runs) }
-        ensures origin { (at byte : ℕ) → Any (RunHolds at byte) self.new.runs → Any (RunHolds at byte) (piece ∷ self.old.runs) }
-        ensures len { length self.new.runs ≡ slots piece self.old.runs }
+        ensures put { IsPermutation (with_run piece self.old.runs) self.new.runs }
         ensures room { self.old.room ≤ self.new.room }
     {
         if piece.len() > 0 {
+            self.put(piece);
+        }
+    }
+
+    /// Puts all of some pieces. There is room.
+    pub(crate) fn put_all(&mut self, pieces: Vec<Piece>)
+        requires some { All IsSome pieces.items }
+        requires room { length self.old.runs + vec_len pieces ≤ self.old.room }
+        ensures put { IsPermutation (pieces.items ++ self.old.runs) self.new.runs }
+        ensures room { self.old.room ≤ self.new.room }
+    {
+        for piece in pieces {
             self.put(piece);
         }
     }
@@ -160,21 +171,27 @@ impl Pieces {
     /// pieces are there as before.
     pub(crate) fn compact(&mut self, alloc: Global) -> Result<(), OutOfMemory>
         ensures compacts { OnOk result (Compacts self.old.runs self.new.runs) }
+        ensures compacted { OnOk result (IsCompacted (covered self.old.runs) (sums_of self.new.runs)) }
         ensures len { length self.new.runs ≤ length self.old.runs }
         ensures err { OnErr result (IsPermutation self.old.runs self.new.runs) }
     {
         let least = self.total.div_ceil(MAX_CHUNKS).max(MIN_RETAINED_CHUNK_SIZE);
         let mut out = Pieces::with_capacity(alloc, self.heap.len())?;
         let heap = mem::replace(&mut self.heap, BinaryHeap::new(alloc));
-        let mut pieces = heap.into_sorted_vec();
-        pieces.reverse();
-        if compact::join_small(&pieces, least, alloc, &mut out).is_err() {
-            self.heap = BinaryHeap::from(pieces);
-            return Err(OutOfMemory);
+        let mut pieces = heap.into_vec();
+        pieces.sort_unstable();
+        match compact::join_small(&pieces, least, alloc) {
+            Err(refused) => {
+                self.heap = BinaryHeap::from(pieces);
+                Err(refused)
+            }
+            Ok(copies) => {
+                compact::keep_large(pieces, least, &mut out);
+                out.put_all(copies);
+                *self = out;
+                Ok(())
+            }
         }
-        compact::keep_large(pieces, least, &mut out);
-        *self = out;
-        Ok(())
     }
 
     // Whether the first piece ends at or below the floor.

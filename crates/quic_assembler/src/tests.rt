@@ -7,6 +7,7 @@ use std::process::Abort;
 use std::test::Fail;
 
 mod cases;
+mod refusals;
 mod steps;
 mod worked;
 

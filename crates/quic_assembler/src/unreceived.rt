@@ -61,20 +61,6 @@ fn cut_all(
     Ok(())
 }
 
-// There is room.
-fn put_all(pieces: &mut Pieces, fronts: Vec<Piece>)
-    requires some { All IsSome fronts.items }
-    requires room { length pieces.old.runs + vec_len fronts ≤ pieces.old.room }
-    ensures count { (at : ℕ) → cover_count at pieces.new.runs ≡ cover_count at pieces.old.runs + cover_count at fronts.items }
-    ensures origin { (at byte : ℕ) → Any (RunHolds at byte) pieces.new.runs → Any (RunHolds at byte) pieces.old.runs ⊎ Any (RunHolds at byte) fronts.items }
-    ensures len { length pieces.new.runs ≡ length pieces.old.runs + vec_len fronts }
-    ensures room { pieces.old.room ≤ pieces.new.room }
-{
-    for front in fronts {
-        pieces.put(front);
-    }
-}
-
 /// Holds of a piece what was not received, each longest run of it as a piece, and counts all of it as received.
 pub(crate) fn hold_unreceived(
     pieces: &mut Pieces,
@@ -94,7 +80,7 @@ pub(crate) fn hold_unreceived(
     cut_all(received, &mut rest, &mut fronts)?;
     pieces.reserve(fronts.len() + 1)?;
     received.insert(start..end)?;
-    put_all(pieces, fronts);
+    pieces.put_all(fronts);
     pieces.put_some(rest);
     Ok(())
 }

@@ -1,8 +1,9 @@
 // Pieces in a row, without what an earlier one has, and small ones joined.
-ghost use Rattle.std.specs.Prelude.{◌≡◌, ℕ, ◌+◌, ◌-◌, ◌^◌, ◌<◌, ◌≤◌, ◌⊎◌, true, false, [], ◌∷◌, ◌++◌, length, max, min, IfOk, OnOk, OnErr, vec_len, IsTrue};
+ghost use Rattle.std.specs.Prelude.{◌≡◌, ℕ, ◌+◌, ◌-◌, ◌^◌, ◌<◌, ◌≤◌, ◌⊎◌, true, false, [], ◌∷◌, ◌++◌, length, max, min, reverse, IfOk, OnOk, OnErr, vec_len, IsTrue};
 ghost use Rattle.std.specs.List.{Any, All};
+ghost use Rattle.std.specs.List.Sorted.{IsPermutation};
 ghost use Rattle.quic_assembler.specs.Piece.{Run, IsSome, RunHolds, run_end, cut_at, covers, cover_count};
-ghost use Rattle.quic_assembler.specs.Compact.{Rises, is_large, is_small, seen, part, slots, Adds, AddsSeen, AddsPart};
+ghost use Rattle.quic_assembler.specs.Compact.{Rises, is_kept, is_joined, first_offset, seen, part, slots, Adds, AddsSeen, AddsPart, IsTight, with_run};
 
 use super::Pieces;
 use crate::piece::Piece;
@@ -10,21 +11,32 @@ use quic_values::{Bytes, OutOfMemory};
 use std::alloc::Global;
 use std::mem;
 
+// Puts a piece behind the others, unless it is empty.
+fn push_some(copies: &mut Vec<Piece>, piece: Piece) -> Result<(), OutOfMemory>
+    ensures { OnOk result (IsPermutation (with_run piece copies.old.items) copies.new.items) }
+{
+    if piece.len() > 0 {
+        copies.push(piece)?;
+    }
+    Ok(())
+}
+
 // Puts a copy of the bytes of a piece from `start` on behind those that are being joined. Where the two do not touch,
-// what was joined goes into `out`, and joining starts anew.
+// what was joined goes to the copies, and joining starts anew.
 fn join(
     joined: &mut Piece,
     piece: &Piece,
     start: u64,
     alloc: Global,
-    out: &mut Pieces,
+    copies: &mut Vec<Piece>,
 ) -> Result<(), OutOfMemory>
     requires from { piece.now.offset ≤ start }
     requires to { start < run_end piece.now }
-    requires room { slots joined.old out.old.runs ≤ out.old.room }
-    ensures adds { OnOk result (Adds (cut_at start piece.now) (joined.old ∷ out.old.runs) (joined.new ∷ out.new.runs)) }
-    ensures len { slots joined.new out.new.runs ≤ slots joined.old out.old.runs + 1 }
-    ensures room { out.old.room ≤ out.new.room }
+    requires tight { All IsTight (joined.old ∷ copies.old.items) }
+    ensures adds { OnOk result (Adds (cut_at start piece.now) (joined.old ∷ copies.old.items) (joined.new ∷ copies.new.items)) }
+    ensures tight { OnOk result (All IsTight (joined.new ∷ copies.new.items)) }
+    ensures some { OnOk result (All IsSome copies.old.items → All IsSome copies.new.items) }
+    ensures len { OnOk result (slots joined.new copies.new.items ≤ slots joined.old copies.old.items + 1) }
 {
     let more = piece.bytes_from(start);
     if joined.end() == start {
@@ -34,89 +46,109 @@ fn join(
     let bytes = Bytes::copy_from_slice(alloc, more)?;
     let next = Piece::joined(start, bytes, piece.sequence());
     let done = mem::replace(joined, next);
-    out.put_some(done);
+    push_some(copies, done)?;
     Ok(())
 }
 
-// Joins what is seen of a small piece. Answers where the next may begin.
+// Joins what is seen of a piece that does not stay. Answers where the next may begin.
 fn join_next(
     joined: &mut Piece,
     piece: &Piece,
+    next: Option<u64>,
     end: u64,
     least: u128,
     alloc: Global,
-    out: &mut Pieces,
+    copies: &mut Vec<Piece>,
 ) -> Result<u64, OutOfMemory>
     requires some { 0 < length piece.now.bytes }
-    requires room { slots joined.old out.old.runs ≤ out.old.room }
-    ensures end { IfOk result (λ next. next ≡ max end (run_end piece.now)) }
-    ensures adds { OnOk result (AddsSeen (is_small least) end piece.now (joined.old ∷ out.old.runs) (joined.new ∷ out.new.runs)) }
-    ensures len { OnOk result (slots joined.new out.new.runs ≤ slots joined.old out.old.runs + length (seen (is_small least) end piece.now)) }
-    ensures room { out.old.room ≤ out.new.room }
+    requires tight { All IsTight (joined.old ∷ copies.old.items) }
+    ensures end { IfOk result (λ e. e ≡ max end (run_end piece.now)) }
+    ensures adds { OnOk result (AddsSeen (is_joined least end piece.now next) end piece.now (joined.old ∷ copies.old.items) (joined.new ∷ copies.new.items)) }
+    ensures tight { OnOk result (All IsTight (joined.new ∷ copies.new.items)) }
+    ensures some { OnOk result (All IsSome copies.old.items → All IsSome copies.new.items) }
+    ensures len { OnOk result (slots joined.new copies.new.items ≤ slots joined.old copies.old.items + length (seen (is_joined least end piece.now next) end piece.now)) }
 {
-    let next = piece.end();
-    if next <= end {
+    let stop = piece.end();
+    if stop <= end {
         return Ok(end);
     }
-    if piece.is_large(end, least) {
-        return Ok(next);
+    if piece.is_kept(end, next, least) {
+        return Ok(stop);
     }
-    join(joined, piece, end.max(piece.offset()), alloc, out)?;
-    Ok(next)
+    join(joined, piece, end.max(piece.offset()), alloc, copies)?;
+    Ok(stop)
 }
 
-/// Puts copies of the small pieces into `out`, joined where they touch in a row.
+// Where the last of some pieces starts.
+fn last_offset(pieces: &[Piece]) -> Option<u64>
+    ensures { result ≡ first_offset (reverse pieces.now) }
+{
+    match pieces.last() {
+        None => None,
+        Some(piece) => Some(piece.offset()),
+    }
+}
+
+/// Copies of the pieces that do not stay, joined where they touch in a row. The last piece comes first.
 pub(super) fn join_small(
     pieces: &[Piece],
     least: u128,
     alloc: Global,
-    out: &mut Pieces,
-) -> Result<(), OutOfMemory>
-    requires some { All IsSome pieces.now }
-    requires empty { out.old.runs ≡ [] }
-    requires room { length (part (is_small least) 0 pieces.now) ≤ out.old.room }
-    ensures adds { OnOk result (AddsPart (is_small least) pieces.now [] out.new.runs) }
-    ensures len { OnOk result (length out.new.runs ≤ length (part (is_small least) 0 pieces.now)) }
-    ensures room { out.old.room ≤ out.new.room }
+) -> Result<Vec<Piece>, OutOfMemory>
+    requires { All IsSome pieces.now }
+    ensures adds { IfOk result (λ copies. AddsPart (is_joined least) (reverse pieces.now) [] copies.items) }
+    ensures tight { IfOk result (λ copies. All IsTight copies.items) }
+    ensures some { IfOk result (λ copies. All IsSome copies.items) }
+    ensures len { IfOk result (λ copies. length copies.items ≤ length (part (is_joined least) 0 (reverse pieces.now))) }
 {
+    let mut copies = Vec::new(alloc);
     let mut joined = Piece::joined(0, Bytes::new(alloc), 0);
     let mut end = 0;
-    for piece in pieces {
-        end = join_next(&mut joined, piece, end, least, alloc, out)?;
+    let mut left = pieces;
+    while let Some((piece, others)) = left.split_last() {
+        let next = last_offset(others);
+        end = join_next(&mut joined, piece, next, end, least, alloc, &mut copies)?;
+        left = others;
     }
-    out.put_some(joined);
-    Ok(())
+    push_some(&mut copies, joined)?;
+    Ok(copies)
 }
 
-// Keeps what is seen of a large piece. Answers where the next may begin.
-fn keep_next(mut piece: Piece, end: u64, least: u128, out: &mut Pieces) -> u64
+// Keeps what is seen of a piece that stays. Answers where the next may begin.
+fn keep_next(mut piece: Piece, next: Option<u64>, end: u64, least: u128, out: &mut Pieces) -> u64
     requires some { 0 < length piece.bytes }
-    requires room { length out.old.runs + length (seen (is_large least) end piece) ≤ out.old.room }
+    requires room { length out.old.runs + length (seen (is_kept least end piece next) end piece) ≤ out.old.room }
+    requires tight { All IsTight out.old.runs }
     ensures end { result ≡ max end (run_end piece) }
-    ensures adds { AddsSeen (is_large least) end piece out.old.runs out.new.runs }
-    ensures len { length out.new.runs ≡ length out.old.runs + length (seen (is_large least) end piece) }
+    ensures adds { AddsSeen (is_kept least end piece next) end piece out.old.runs out.new.runs }
+    ensures tight { All IsTight out.new.runs }
+    ensures len { length out.new.runs ≡ length out.old.runs + length (seen (is_kept least end piece next) end piece) }
     ensures room { out.old.room ≤ out.new.room }
 {
-    let next = piece.end();
-    if next <= end {
+    let stop = piece.end();
+    if stop <= end {
         return end;
     }
-    if piece.is_large(end, least) {
+    if piece.is_kept(end, next, least) {
         piece.keep_from(end);
         out.put(piece);
     }
-    next
+    stop
 }
 
-/// Puts the large pieces into `out`.
-pub(super) fn keep_large(pieces: Vec<Piece>, least: u128, out: &mut Pieces)
+/// Puts the pieces that stay into `out`. The last piece comes first.
+pub(super) fn keep_large(mut pieces: Vec<Piece>, least: u128, out: &mut Pieces)
     requires some { All IsSome pieces.items }
-    requires room { length out.old.runs + length (part (is_large least) 0 pieces.items) ≤ out.old.room }
-    ensures adds { AddsPart (is_large least) pieces.items out.old.runs out.new.runs }
-    ensures len { length out.new.runs ≡ length out.old.runs + length (part (is_large least) 0 pieces.items) }
+    requires room { length out.old.runs + length (part (is_kept least) 0 (reverse pieces.items)) ≤ out.old.room }
+    requires tight { All IsTight out.old.runs }
+    ensures adds { AddsPart (is_kept least) (reverse pieces.items) out.old.runs out.new.runs }
+    ensures tight { All IsTight out.new.runs }
+    ensures len { length out.new.runs ≡ length out.old.runs + length (part (is_kept least) 0 (reverse pieces.items)) }
+    ensures room { out.old.room ≤ out.new.room }
 {
     let mut end = 0;
-    for piece in pieces {
-        end = keep_next(piece, end, least, out);
+    while let Some(piece) = pieces.pop() {
+        let next = last_offset(pieces.as_slice());
+        end = keep_next(piece, next, end, least, out);
     }
 }

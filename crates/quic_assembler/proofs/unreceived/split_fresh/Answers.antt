@@ -6,4 +6,4 @@ pub returns-then-offset-start : goal.returns-then-offset-start
 returns-then-offset-start c = fronts_none _ _ _ (omega arith)
 
 pub returns : goal.returns
-returns c = fronts_split _ _ _ c.in_ok-front.front _ _ (omega (arith, c.requires.from, c.offset.ensures)) c.requires.to c.in_ok-front.ensures.rest c.in_ok-front.ensures.offset c.in_ok-front.ensures.bytes c.in_ok-push.ensures.items
+returns c = fronts_split _ _ _ c.in_ok-front.front _ _ (omega (arith, c.requires.from, c.offset.ensures)) c.requires.to c.in_ok-front.ensures.rest c.in_ok-front.ensures.offset c.in_ok-front.ensures.bytes c.in_ok-front.ensures.memory c.in_ok-front.ensures.rest_memory c.in_ok-push.ensures.items

@@ -1,5 +1,5 @@
 use Rattle.std.proofs.Common.{refl}
-use Rattle.quic_assembler.proofs.Whole.{assembler_less, same_but_held, compact_count, compact_offsets, compact_same, compact_once}
+use Rattle.quic_assembler.proofs.Whole.{assembler_less, same_but_held, compact_count, compact_offsets, compact_same, compact_once, compact_sums}
 use Rattle.quic_assembler.proofs.assembly.Assembler.defragment.Goals as goal
 
 pub invariant_of-self : goal.invariant_of-self
@@ -16,3 +16,6 @@ returns-clause-others c = rw (← c.self.view_is) (same_but_held _ _ refl refl r
 
 pub returns-clause-once : goal.returns-clause-once
 returns-clause-once c = compact_once c.compact.result _ _ c.compact.ensures.compacts
+
+pub returns-clause-err_sums : goal.returns-clause-err_sums
+returns-clause-err_sums c = rw (← c.self.view_is) (compact_sums c.compact.result _ _ c.compact.ensures.err)

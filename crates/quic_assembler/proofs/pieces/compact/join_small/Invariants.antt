@@ -1,10 +1,16 @@
-use Rattle.std.proofs.Common.{◌≤◌, ◌+◌, ◌∷◌, drop, length}
-use Rattle.quic_assembler.specs.Compact.{is_small, part, slots, HasSeen}
+use Rattle.std.proofs.Common.{◌≤◌, ◌+◌, ◌∷◌, [], reverse, length}
+use Rattle.std.specs.List.{All}
+use Rattle.quic_assembler.specs.Piece.{IsSome}
+use Rattle.quic_assembler.specs.Compact.{is_joined, part, slots, HasSeen, IsTight}
 use Rattle.quic_assembler.proofs.pieces.compact.join_small.Given as goal
 
 abbrev pub invariant-loop-piece : goal.invariant-loop-piece
 invariant-loop-piece l = record {
-  seen : HasSeen (is_small l.least) l.pieces (drop l.piece-index l.pieces) (l.initial.joined ∷ l.initial.out.runs) (l.joined ∷ l.out.runs) l.end;
-  slots : slots l.joined l.out.runs + length (part (is_small l.least) l.end (drop l.piece-index l.pieces)) ≤ length (part (is_small l.least) 0 l.pieces);
-  room : l.initial.out.room ≤ l.out.room;
+  seen : HasSeen (is_joined l.least) (reverse l.pieces) (reverse l.left) (l.initial.joined ∷ []) (l.joined ∷ l.copies.items) l.end;
+  tight : All IsTight (l.joined ∷ l.copies.items);
+  some : All IsSome l.copies.items;
+  slots : slots l.joined l.copies.items + length (part (is_joined l.least) l.end (reverse l.left)) ≤ length (part (is_joined l.least) 0 (reverse l.pieces));
 }
+
+abbrev pub decreases-loop-piece : goal.decreases-loop-piece
+decreases-loop-piece l = length l.left
