@@ -1,0 +1,4 @@
+pub mod State
+pub mod Errors
+pub mod Half
+pub mod Calls
