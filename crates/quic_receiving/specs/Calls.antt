@@ -1,5 +1,5 @@
 -- What the calls on a receive half do.
-use Rattle.std.specs.Prelude.{◌≡◌, ℕ, ◌+◌, ◌-◌, ◌≤◌, ◌<◌, ◌⊎◌, ◌↔◌, Bool, true, false, not, ◌&&◌, ◌||◌, max, List, length, Option, Some, None, is_none, is_some, Result, Ok, Err}
+use Rattle.std.specs.Prelude.{◌≡◌, ℕ, ◌+◌, ◌≤◌, ◌<◌, ◌⊎◌, Bool, true, false, not, ◌&&◌, ◌||◌, max, List, length, Option, Some, None, is_none, is_some, Result, Ok, Err}
 use Rattle.quic_assembler.specs.Piece.{lies}
 use Rattle.quic_assembler.specs.Reassembly.{Reassembly, Holds, IsDone, is_done, IsHeld, IsWithin, Takes, Gives, SameHeld, HoldsNothing, IsStale, LeavesOrder, run_count, piece_count}
 use Rattle.quic_assembler.specs.declared.Chunk.{Chunk}
@@ -12,7 +12,7 @@ use Rattle.quic_wire.specs.declared.ReceiveError.TheVariants as receive_error
 use Rattle.quic_receiving.specs.declared.errors.ReadError.{ReadError}
 use Rattle.quic_receiving.specs.declared.errors.ReadError.TheVariants as read_error
 use Rattle.quic_receiving.specs.declared.transmit.ShouldTransmit.{ShouldTransmit}
-use Rattle.quic_receiving.specs.Half.{Half, Verdict, Refused, Taken, verdict, reset_verdict, counted, new_bytes, internal_error, stop_credit, is_all}
+use Rattle.quic_receiving.specs.Half.{Half, Refused, Taken, verdict, reset_verdict, counted, new_bytes, internal_error, stop_credit, is_all}
 
 -- nothing came, and nothing was read
 pub record IsEmpty (a : Reassembly) : Type 0 where

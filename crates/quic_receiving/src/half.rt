@@ -327,20 +327,25 @@ impl Recv {
         requires { ordered ≡ self.old.buffer.ordered }
         ensures { Reads self.old max_length result self.new }
     {
-        if let Some(code) = self.reset_code() {
-            return Err(ReadError::Reset(code));
+        match self.reset_code() {
+            Some(code) => Err(ReadError::Reset(code)),
+            None => self.next_held(max_length, ordered),
         }
-        match self.assembler.read(max_length, ordered) {
-            Ok(Some(chunk)) => Ok(Some(chunk)),
-            Ok(None) => {
-                if is_all(self.state.final_size(), self.assembler.bytes_read()) {
-                    Ok(None)
-                } else {
-                    Err(ReadError::Blocked)
-                }
-            }
-            Err(_) => Err(ReadError::OutOfMemory),
+    }
+
+    // The next bytes of a half that was not reset.
+    fn next_held(&mut self, max_length: usize, ordered: bool) -> Result<Option<Chunk>, ReadError>
+        requires mode { ordered ≡ self.old.buffer.ordered }
+        requires running { self.old.reset ≡ None }
+        ensures { Reads self.old max_length result self.new }
+    {
+        if let Some(chunk) = self.assembler.read(max_length, ordered)? {
+            return Ok(Some(chunk));
         }
+        if is_all(self.state.final_size(), self.assembler.bytes_read()) {
+            return Ok(None);
+        }
+        Err(ReadError::Blocked)
     }
 }
 

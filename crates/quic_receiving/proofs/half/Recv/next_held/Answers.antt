@@ -1,0 +1,58 @@
+use Rattle.std.proofs.Common.{refl, rules}
+use Rattle.quic_receiving.proofs.Buffers.{rests}
+use Rattle.quic_receiving.proofs.Readings.{waits, no_memory}
+use Rattle.quic_receiving.proofs.half.Recv.next_held.Goals as goal
+use Rattle.quic_receiving.specs.contracts.half.Recv.{the_view}
+
+pub returns-in-Some : goal.returns-in-Some
+returns-in-Some c =
+    let e = rw c.in-Some.is at c.in_ok-chunk.ensures in
+    rw (← c.self.view_is) (
+      search rules,
+      record {
+        gives = e.given;
+        here = e.here;
+        limit = e.limit;
+        some = e.some;
+        start = λ o. e.start (search rules);
+        lowest = e.lowest;
+        taken = e.taken;
+        done = e.done;
+        bytes_read = e.moves;
+        ordered = e.ordered;
+        highest = e.highest;
+        pieces = e.pieces;
+      },
+      refl,
+    )
+
+pub returns-in_err-chunk : goal.returns-in_err-chunk
+returns-in_err-chunk c =
+    let e = c.in_err-chunk.ensures in
+    let old = the_view c.self.inside in
+    let new = c.read.new.self in
+    rw (← c.self.view_is)
+    (no_memory old c.args.max_length c.from_residual.result (record old { buffer = new }) c.from_residual.ensures.1
+    (waits old new (search rules) (rests old.buffer new e.err_held e.done e.err_read e.ordered e.highest e.pieces)))
+
+pub returns-then-is_all : goal.returns-then-is_all
+returns-then-is_all c =
+    let e = rw c.in_default.is at c.in_ok-chunk.ensures in
+    let old = the_view c.self.inside in
+    let new = c.read.new.self in
+    rw (← c.self.view_is) (
+      search rules,
+      record { next = λ o. e.none (search rules); any = λ u. e.none_unordered (search rules) },
+      waits old new (search rules) (rests old.buffer new e.none_held e.done e.none_read e.ordered e.highest e.pieces),
+    )
+
+pub returns : goal.returns
+returns c =
+    let e = rw c.in_default.is at c.in_ok-chunk.ensures in
+    let old = the_view c.self.inside in
+    let new = c.read.new.self in
+    rw (← c.self.view_is) (
+      search rules,
+      record { next = λ o. e.none (search rules); any = λ u. e.none_unordered (search rules) },
+      waits old new (search rules) (rests old.buffer new e.none_held e.done e.none_read e.ordered e.highest e.pieces),
+    )
