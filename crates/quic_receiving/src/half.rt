@@ -1,7 +1,10 @@
 //! The receive half of a stream.
-ghost use Rattle.std.specs.Prelude.{◌≡◌, ◌+◌, ◌-◌, ◌<◌, ◌≤◌, ◌^◌, ◌&&◌, ◌||◌, ℕ, length, not, true, None, Some, is_none, is_some, max, nat_lt, SomeIff, IfOk, IfErr};
+
+ghost use Rattle.std.specs.Prelude.{◌≡◌, ◌+◌, ◌-◌, ◌<◌, ◌≤◌, ◌^◌, ◌&&◌, ◌||◌, ℕ, length, not, true, None, Some, is_none, is_some, max, nat_lt, SomeIff, IfOk, IfErr, OnOk};
 ghost use Rattle.quic_receiving.specs.Half.{IsHalf, Refused, Taken, verdict, reset_verdict, is_past, is_unfit, is_beyond, is_open, is_all, counted, window_end, is_window_due};
 ghost use Rattle.quic_receiving.specs.Calls.{IsFresh, Ingests, Stops, Resets, Reads, Orders};
+
+mod queries;
 
 use crate::errors::ReadError;
 use crate::state::RecvState;
@@ -255,66 +258,10 @@ impl Recv {
         self.sent_max_stream_data = self.sent_max_stream_data.max(sent_value);
     }
 
-    /// The code of the RESET_STREAM that was taken, if one was.
-    #[inline]
-    pub fn reset_code(&self) -> Option<VarInt>
-        ensures { result ≡ self.now.reset }
-    {
-        self.state.reset_code()
-    }
-
-    /// Whether no frame has told yet how many bytes the stream has (RFC 9000 section 4.5).
-    #[inline]
-    pub fn final_offset_unknown(&self) -> bool
-        ensures { result ≡ is_none self.now.size }
-    {
-        self.state.final_size().is_none()
-    }
-
-    /// Whether MAX_STREAM_DATA is of use: more data may come, and are wanted.
-    #[inline]
-    pub fn can_send_flow_control(&self) -> bool
-        ensures { result ≡ is_open self.now }
-    {
-        self.final_offset_unknown() && !self.stopped
-    }
-
-    /// Whether no RESET_STREAM was taken.
-    #[inline]
-    pub fn is_receiving(&self) -> bool
-        ensures { result ≡ is_none self.now.reset }
-    {
-        self.state.reset_code().is_none()
-    }
-
-    /// Whether the application stopped it.
-    #[inline]
-    pub fn is_stopped(&self) -> bool
-        ensures { result ≡ self.now.stopped }
-    {
-        self.stopped
-    }
-
-    /// The highest offset received, which is the final size where that is known.
-    #[inline]
-    pub fn end(&self) -> u64
-        ensures end { result ≡ self.now.end }
-        ensures sound { IsHalf self.now }
-    {
-        self.end
-    }
-
-    /// How many bytes were read.
-    #[inline]
-    pub fn bytes_read(&self) -> u64
-        ensures { result ≡ self.now.buffer.bytes_read }
-    {
-        self.assembler.bytes_read()
-    }
-
     /// Asks for a mode of reading. There is no way back from unordered reads.
     pub fn ensure_ordering(&mut self, ordered: bool) -> Result<(), EnsureError>
-        ensures { Orders self.old ordered result self.new }
+        ensures orders { Orders self.old ordered result self.new }
+        ensures mode { OnOk result (self.new.buffer.ordered ≡ ordered) }
     {
         self.assembler.ensure_ordering(ordered)
     }
@@ -325,7 +272,8 @@ impl Recv {
     /// Of a stream that was reset nothing is given (RFC 9000 section 3.2).
     pub fn next(&mut self, max_length: usize, ordered: bool) -> Result<Option<Chunk>, ReadError>
         requires { ordered ≡ self.old.buffer.ordered }
-        ensures { Reads self.old max_length result self.new }
+        ensures reads { Reads self.old max_length result self.new }
+        ensures mode { self.new.buffer.ordered ≡ ordered }
     {
         match self.reset_code() {
             Some(code) => Err(ReadError::Reset(code)),
@@ -337,7 +285,8 @@ impl Recv {
     fn next_held(&mut self, max_length: usize, ordered: bool) -> Result<Option<Chunk>, ReadError>
         requires mode { ordered ≡ self.old.buffer.ordered }
         requires running { self.old.reset ≡ None }
-        ensures { Reads self.old max_length result self.new }
+        ensures reads { Reads self.old max_length result self.new }
+        ensures mode { self.new.buffer.ordered ≡ ordered }
     {
         if let Some(chunk) = self.assembler.read(max_length, ordered)? {
             return Ok(Some(chunk));

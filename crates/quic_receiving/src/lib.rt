@@ -12,3 +12,6 @@ pub use quic_assembler::{Chunk, EnsureError, IllegalOrderedRead};
 pub use quic_sending::ClosedStream;
 pub use state::RecvState;
 pub use transmit::ShouldTransmit;
+
+#[cfg(test)]
+mod tests;

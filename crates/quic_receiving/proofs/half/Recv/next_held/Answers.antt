@@ -4,8 +4,8 @@ use Rattle.quic_receiving.proofs.Readings.{waits, no_memory}
 use Rattle.quic_receiving.proofs.half.Recv.next_held.Goals as goal
 use Rattle.quic_receiving.specs.contracts.half.Recv.{the_view}
 
-pub returns-in-Some : goal.returns-in-Some
-returns-in-Some c =
+pub returns-in-Some-clause-reads : goal.returns-in-Some-clause-reads
+returns-in-Some-clause-reads c =
     let e = rw c.in-Some.is at c.in_ok-chunk.ensures in
     rw (← c.self.view_is) (
       search rules,
@@ -26,8 +26,8 @@ returns-in-Some c =
       refl,
     )
 
-pub returns-in_err-chunk : goal.returns-in_err-chunk
-returns-in_err-chunk c =
+pub returns-in_err-chunk-clause-reads : goal.returns-in_err-chunk-clause-reads
+returns-in_err-chunk-clause-reads c =
     let e = c.in_err-chunk.ensures in
     let old = the_view c.self.inside in
     let new = c.read.new.self in
@@ -35,8 +35,8 @@ returns-in_err-chunk c =
     (no_memory old c.args.max_length c.from_residual.result (record old { buffer = new }) c.from_residual.ensures.1
     (waits old new (search rules) (rests old.buffer new e.err_held e.done e.err_read e.ordered e.highest e.pieces)))
 
-pub returns-then-is_all : goal.returns-then-is_all
-returns-then-is_all c =
+pub returns-then-is_all-clause-reads : goal.returns-then-is_all-clause-reads
+returns-then-is_all-clause-reads c =
     let e = rw c.in_default.is at c.in_ok-chunk.ensures in
     let old = the_view c.self.inside in
     let new = c.read.new.self in
@@ -46,8 +46,8 @@ returns-then-is_all c =
       waits old new (search rules) (rests old.buffer new e.none_held e.done e.none_read e.ordered e.highest e.pieces),
     )
 
-pub returns : goal.returns
-returns c =
+pub returns-clause-reads : goal.returns-clause-reads
+returns-clause-reads c =
     let e = rw c.in_default.is at c.in_ok-chunk.ensures in
     let old = the_view c.self.inside in
     let new = c.read.new.self in
