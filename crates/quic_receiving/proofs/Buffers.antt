@@ -1,9 +1,9 @@
 -- What the promises of an assembler say of both modes together.
 use Rattle.std.proofs.Common.{◌≡◌, ℕ, ◌+◌, ◌<◌, ◌≤◌, Bool, true, false, not, ◌&&◌, ◌||◌, List, length, max, refl, sym, ◌∙◌, arith}
 use Rattle.quic_assembler.specs.Piece.{lies}
-use Rattle.quic_assembler.specs.Reassembly.{Reassembly, Holds, IsDone, is_done, Takes, SameHeld, IsStale, run_count, piece_count}
+use Rattle.quic_assembler.specs.Reassembly.{Reassembly, Holds, IsDone, is_done, Takes, SameHeld, HoldsNothing, IsStale, run_count, piece_count}
 use Rattle.quic_assembler.specs.Laws.{done_below}
-use Rattle.quic_receiving.specs.Calls.{Inserted, Rests}
+use Rattle.quic_receiving.specs.Calls.{Inserted, Rests, Clears}
 
 same_if_both : (a b : Bool) → (a ≡ true → b ≡ true) → (b ≡ true → a ≡ true) → b ≡ a
 same_if_both true b f g = f refl
@@ -19,7 +19,7 @@ by_mode true true d' l f g = f refl
 by_mode true false d' l f g = f refl
 by_mode false d d' l f g = g refl
 
-in_both_modes : (ordered : Bool) (P : Type 0) → (ordered ≡ true → P) → (ordered ≡ false → P) → P
+pub in_both_modes : (ordered : Bool) (P : Type 0) → (ordered ≡ true → P) → (ordered ≡ false → P) → P
 in_both_modes true P f g = f refl
 in_both_modes false P f g = g refl
 
@@ -69,6 +69,17 @@ pub rests : (old new : Reassembly) → SameHeld (Holds old) (Holds new) → ((at
 rests old new held done read same high pieces = record {
   held = held;
   done = done-rests old new same read done;
+  bytes_read = read;
+  ordered = same;
+  highest = high;
+  pieces = pieces;
+}
+
+pub clears : (old new : Reassembly) → HoldsNothing (Holds new) → ((at : ℕ) → is_done new at ≡ is_done old at) → new.bytes_read ≡ old.bytes_read
+    → new.ordered ≡ old.ordered → new.highest ≡ old.highest → piece_count new ≡ 0 → Clears old new
+clears old new nothing done read same high pieces = record {
+  nothing = nothing;
+  done = done;
   bytes_read = read;
   ordered = same;
   highest = high;

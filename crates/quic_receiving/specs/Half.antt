@@ -1,6 +1,7 @@
 -- What contracts see of the receive half of a stream (RFC 9000 sections 3.2, 4.1 and 4.5).
-use Rattle.std.specs.Prelude.{◌≡◌, ℕ, ◌+◌, ◌-◌, ◌/◌, ◌^◌, ◌<◌, Bool, true, false, not, ◌&&◌, ◌||◌, ◌==◌, nat_lt, nat_le, if◌then◌else◌, min, max, Option, Some, None, is_none, is_some}
+use Rattle.std.specs.Prelude.{◌≡◌, ℕ, ◌+◌, ◌-◌, ◌/◌, ◌^◌, ◌<◌, ◌≤◌, Bool, true, false, not, ◌&&◌, ◌||◌, ◌==◌, nat_lt, nat_le, if◌then◌else◌, min, max, Option, Some, None, is_none, is_some}
 use Rattle.quic_assembler.specs.Reassembly.{Reassembly}
+use Rattle.quic_receiving.specs.Counted.{IsCounted}
 
 pub record Half : Type 0 where
   -- what came and was not read
@@ -23,6 +24,10 @@ pub record IsHalf (h : Half) : Type 0 where
   -- a final size that is known is the highest offset received
   pub size_is : (size : ℕ) → h.size ≡ Some size → h.end ≡ size
   pub reset_sized : is_some h.reset ≡ true → is_some h.size ≡ true
+  -- what is held, and what was read, came
+  pub counted : IsCounted h.buffer
+  pub within : h.buffer.highest ≤ h.end
+  pub read_bound : h.buffer.bytes_read ≤ h.end
 
 -- The codes of errors (RFC 9000 section 20.1).
 abbrev pub internal_error : ℕ

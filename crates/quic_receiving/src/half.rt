@@ -1,7 +1,8 @@
 //! The receive half of a stream.
 
-ghost use Rattle.std.specs.Prelude.{◌≡◌, ◌+◌, ◌-◌, ◌<◌, ◌≤◌, ◌^◌, ◌&&◌, ◌||◌, ℕ, length, not, true, None, Some, is_none, is_some, max, nat_lt, SomeIff, IfOk, IfErr, OnOk};
-ghost use Rattle.quic_receiving.specs.Half.{IsHalf, Refused, Taken, verdict, reset_verdict, is_past, is_unfit, is_beyond, is_open, is_all, counted, window_end, is_window_due};
+ghost use Rattle.std.specs.Prelude.{◌≡◌, ◌+◌, ◌-◌, ◌<◌, ◌≤◌, ◌^◌, ◌&&◌, ◌||◌, ℕ, length, not, true, None, Some, is_none, is_some, max, nat_lt, if◌then◌else◌, SomeIff, IfOk, IfErr, OnOk};
+ghost use Rattle.quic_receiving.specs.Half.{IsHalf, Refused, Taken, verdict, reset_verdict, is_past, is_unfit, is_beyond, is_open, is_all, window_end, is_window_due};
+ghost use Rattle.quic_receiving.specs.State.{known_size, reset_code_of};
 ghost use Rattle.quic_receiving.specs.Calls.{IsFresh, Ingests, Stops, Resets, Reads, Orders};
 
 mod queries;
@@ -101,11 +102,11 @@ impl Recv {
         ensures permitted { self.old.end < self.new.end → received + (self.new.end - self.old.end) ≤ max_data }
         ensures sound { IsHalf self.new }
     {
-        let count = frame.bytes.len();
-        let end = self.judge(frame.offset, count, frame.fin, received, max_data)?;
+        let len = frame.bytes.len();
+        let end = self.judge(frame.offset, len, frame.fin, received, max_data)?;
         let new_bytes = end.saturating_sub(self.end);
         if self.stopped {
-            self.count(end, frame.fin);
+            count(&mut self.state, &mut self.end, end, frame.fin);
             return Ok((new_bytes, frame.fin));
         }
         match self
@@ -113,16 +114,16 @@ impl Recv {
             .insert(frame.offset, frame.bytes, payload_len)
         {
             Ok(()) => {
-                self.count(end, frame.fin);
+                count(&mut self.state, &mut self.end, end, frame.fin);
                 Ok((new_bytes, false))
             }
             Err(InsertError::TooManyChunks) => {
-                self.count(end, frame.fin);
+                count(&mut self.state, &mut self.end, end, frame.fin);
                 let error = TransportError::internal_error("too many gaps in stream buffer");
                 Err(ReceiveError::Transport(error))
             }
             Err(InsertError::CompactionMemory) => {
-                self.count(end, frame.fin);
+                count(&mut self.state, &mut self.end, end, frame.fin);
                 Err(ReceiveError::CompactionMemory)
             }
             Err(InsertError::OutOfMemory) => Err(ReceiveError::OutOfMemory),
@@ -170,18 +171,6 @@ impl Recv {
         }
     }
 
-    // Counts a frame that ends there.
-    fn count(&mut self, end: u64, fin: bool)
-        requires running { self.old.reset ≡ None }
-        requires sound { IsHalf (counted self.old end fin) }
-        ensures { self.new ≡ counted self.old end fin }
-    {
-        self.end = self.end.max(end);
-        if fin {
-            self.state = RecvState::Recv { size: Some(end) };
-        }
-    }
-
     /// The application wants no more of the stream. Answers how many bytes it gives credit for, and whether
     /// STOP_SENDING is of use (RFC 9000 section 3.5). What is held is let go.
     pub fn stop(&mut self) -> Result<(u64, ShouldTransmit), ClosedStream>
@@ -194,7 +183,7 @@ impl Recv {
         self.assembler.clear();
         let receiving = self.is_receiving();
         let credit = if receiving {
-            self.end.saturating_sub(self.assembler.bytes_read())
+            self.end - self.assembler.bytes_read()
         } else {
             0
         };
@@ -295,6 +284,19 @@ impl Recv {
             return Ok(None);
         }
         Err(ReadError::Blocked)
+    }
+}
+
+// Counts a frame that ends there.
+fn count(state: &mut RecvState, high: &mut u64, end: u64, fin: bool)
+    requires { reset_code_of state.old ≡ None }
+    ensures high { high.new ≡ max high.old end }
+    ensures size { known_size state.new ≡ (if fin then Some end else known_size state.old) }
+    ensures code { reset_code_of state.new ≡ reset_code_of state.old }
+{
+    *high = (*high).max(end);
+    if fin {
+        *state = RecvState::Recv { size: Some(end) };
     }
 }
 

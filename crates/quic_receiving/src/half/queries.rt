@@ -1,6 +1,6 @@
 //! What a receive half tells of itself.
 
-ghost use Rattle.std.specs.Prelude.{◌≡◌, is_none};
+ghost use Rattle.std.specs.Prelude.{◌≡◌, ◌≤◌, is_none};
 ghost use Rattle.quic_receiving.specs.Half.{IsHalf, is_open};
 
 use super::Recv;
@@ -57,10 +57,11 @@ impl Recv {
         self.end
     }
 
-    /// How many bytes were read.
+    /// How many bytes were read. They came, so there are at most as many as the highest offset received.
     #[inline]
     pub fn bytes_read(&self) -> u64
-        ensures { result ≡ self.now.buffer.bytes_read }
+        ensures read { result ≡ self.now.buffer.bytes_read }
+        ensures bound { result ≤ self.now.end }
     {
         self.assembler.bytes_read()
     }

@@ -1,97 +1,81 @@
-use super::{Credit, at, ends_at, read, take};
-use crate::{EnsureError, ReadError, Recv, RecvState, ShouldTransmit};
+use super::{Answer, Step, Why, run};
+use crate::{EnsureError, Recv, RecvState, ShouldTransmit};
 use std::test::Fail;
 
-const AMPLE: Credit = Credit {
-    received: 0,
-    max_data: 1 << 20,
-};
+const IN_ORDER: [Step; 6] = [
+    Step::Last(3, b"def", Answer::New(6)),
+    Step::Ordered(b"", Why::Blocked),
+    Step::Data(0, b"abc", Answer::New(0)),
+    Step::Ordered(b"abcdef", Why::Ended),
+    Step::Ordered(b"", Why::Ended),
+    Step::Is(6, 6, false),
+];
+
+const EMPTY: [Step; 2] = [
+    Step::Last(0, b"", Answer::New(0)),
+    Step::Ordered(b"", Why::Ended),
+];
 
 #[test]
 fn the_end_is_told_where_all_was_read(rt: HostRuntime) -> Result<(), Fail> {
-    let alloc = rt.alloc();
-    let mut half = Recv::new(alloc, 100);
-    assert_eq!(rt;
-        take(&rt, alloc, &mut half, ends_at(3, b"def"), AMPLE)?,
-        Ok((6, false))
-    );
-    let (bytes, last) = read(&rt, alloc, &mut half, 2, true)?;
-    assert_eq!(rt; bytes.len(), 0);
-    assert_eq!(rt; last, Some(ReadError::Blocked));
-    assert_eq!(rt;
-        take(&rt, alloc, &mut half, at(0, b"abc"), AMPLE)?,
-        Ok((0, false))
-    );
-    let (bytes, last) = read(&rt, alloc, &mut half, 2, true)?;
-    assert_eq!(rt; bytes.as_slice(), b"abcdef".as_slice());
-    assert_eq!(rt; last, None);
-    assert_eq!(rt; read(&rt, alloc, &mut half, 2, true)?.1, None);
-    assert_eq!(rt; half.bytes_read(), 6);
-
-    let mut empty = Recv::new(alloc, 100);
-    assert_eq!(rt;
-        take(&rt, alloc, &mut empty, ends_at(0, b""), AMPLE)?,
-        Ok((0, false))
-    );
-    assert_eq!(rt; read(&rt, alloc, &mut empty, 2, true)?.1, None);
+    let _ = run(&rt, rt.alloc(), 100, &IN_ORDER)?;
+    let _ = run(&rt, rt.alloc(), 100, &EMPTY)?;
     Ok(())
 }
+
+const OUT_OF_ORDER: [Step; 5] = [
+    Step::Last(3, b"def", Answer::New(6)),
+    Step::Unordered(b"def", Why::Blocked),
+    Step::Data(0, b"abcd", Answer::New(0)),
+    Step::Unordered(b"abc", Why::Ended),
+    Step::Is(6, 6, false),
+];
 
 #[test]
 fn unordered_reads_give_what_came(rt: HostRuntime) -> Result<(), Fail> {
-    let alloc = rt.alloc();
-    let mut half = Recv::new(alloc, 100);
+    let mut subject = run(&rt, rt.alloc(), 100, &OUT_OF_ORDER)?;
     assert_eq!(rt;
-        take(&rt, alloc, &mut half, ends_at(3, b"def"), AMPLE)?,
-        Ok((6, false))
-    );
-    let (bytes, last) = read(&rt, alloc, &mut half, 100, false)?;
-    assert_eq!(rt; bytes.as_slice(), b"def".as_slice());
-    assert_eq!(rt; last, Some(ReadError::Blocked));
-    assert_eq!(rt;
-        half.ensure_ordering(true),
+        subject.half.ensure_ordering(true),
         Err(EnsureError::IllegalOrderedRead)
     );
-    assert_eq!(rt;
-        take(&rt, alloc, &mut half, at(0, b"abcd"), AMPLE)?,
-        Ok((0, false))
-    );
-    let (bytes, last) = read(&rt, alloc, &mut half, 100, false)?;
-    assert_eq!(rt; bytes.as_slice(), b"abc".as_slice());
-    assert_eq!(rt; last, None);
     Ok(())
 }
 
+const WINDOWS: [Step; 14] = [
+    Step::Window(64, 64, false),
+    Step::Data(0, b"0123456", Answer::New(7)),
+    Step::Ordered(b"0123456", Why::Blocked),
+    Step::Window(64, 71, false),
+    Step::Data(7, b"7", Answer::New(1)),
+    Step::Ordered(b"7", Why::Blocked),
+    Step::Window(64, 72, true),
+    Step::Sent(72),
+    Step::Sent(70),
+    Step::Window(64, 72, false),
+    // A smaller window asks for less than was permitted already, and 8 is less than an eighth of 72.
+    Step::Window(32, 40, false),
+    Step::Window(72, 80, false),
+    Step::Window(73, 81, true),
+    Step::Window(u64::MAX, (1 << 62) - 1, true),
+];
+
+const LAST_WINDOW: [Step; 4] = [
+    Step::Data(0, b"x", Answer::New(1)),
+    Step::Ordered(b"x", Why::Blocked),
+    Step::Window((1 << 62) - 1, (1 << 62) - 1, false),
+    Step::Window(u64::MAX, (1 << 62) - 1, false),
+];
+
+const NO_WINDOW: [Step; 2] = [
+    Step::Last(0, b"", Answer::New(0)),
+    Step::Window(200, 200, false),
+];
+
 #[test]
 fn a_limit_is_told_once_it_gains_an_eighth(rt: HostRuntime) -> Result<(), Fail> {
-    let alloc = rt.alloc();
-    let mut half = Recv::new(alloc, 64);
-    assert_eq!(rt; half.max_stream_data(64), (64, ShouldTransmit(false)));
-    assert_eq!(rt;
-        take(&rt, alloc, &mut half, at(0, b"0123456"), AMPLE)?,
-        Ok((7, false))
-    );
-    assert_eq!(rt; read(&rt, alloc, &mut half, 100, true)?.0.len(), 7);
-    assert_eq!(rt; half.max_stream_data(64), (71, ShouldTransmit(false)));
-    assert_eq!(rt;
-        take(&rt, alloc, &mut half, at(7, b"7"), AMPLE)?,
-        Ok((1, false))
-    );
-    assert_eq!(rt; read(&rt, alloc, &mut half, 100, true)?.0.len(), 1);
-    assert_eq!(rt; half.max_stream_data(64), (72, ShouldTransmit(true)));
-    half.record_sent_max_stream_data(72);
-    half.record_sent_max_stream_data(70);
-    assert_eq!(rt; half.max_stream_data(64), (72, ShouldTransmit(false)));
-
-    // A smaller window asks for less than was permitted already.
-    assert_eq!(rt; half.max_stream_data(32), (40, ShouldTransmit(false)));
-    assert_eq!(rt; half.max_stream_data(72), (80, ShouldTransmit(false)));
-    assert_eq!(rt; half.max_stream_data(73), (81, ShouldTransmit(true)));
-    assert_eq!(rt;
-        take(&rt, alloc, &mut half, ends_at(8, b""), AMPLE)?,
-        Ok((0, false))
-    );
-    assert_eq!(rt; half.max_stream_data(73), (81, ShouldTransmit(false)));
+    let _ = run(&rt, rt.alloc(), 64, &WINDOWS)?;
+    let _ = run(&rt, rt.alloc(), (1 << 62) - 1, &LAST_WINDOW)?;
+    let _ = run(&rt, rt.alloc(), 8, &NO_WINDOW)?;
     Ok(())
 }
 
@@ -101,7 +85,6 @@ fn nothing_is_known_at_first(rt: HostRuntime) -> Result<(), Fail> {
     assert_eq!(rt; RecvState::default(), RecvState::Recv { size: None });
     assert!(rt; !ShouldTransmit::default().should_transmit());
     assert!(rt; ShouldTransmit(true).should_transmit());
-    assert_eq!(rt; half.reset_code(), None);
     assert!(rt; half.is_receiving() && half.can_send_flow_control() && !half.is_stopped());
     Ok(())
 }
