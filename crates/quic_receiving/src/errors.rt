@@ -34,7 +34,7 @@ pub enum ReadableError {
     /// The stream was not opened, or was stopped, or its end or reset was told.
     #[error("closed stream")]
     ClosedStream,
-    /// Reads were unordered before, and there is no way back.
+    #[doc = "Reads were unordered before, and there is no way back."]
     #[error("ordered read after unordered read")]
     IllegalOrderedRead,
     /// No memory was there.

@@ -75,10 +75,10 @@ impl Recv {
         requires { initial_max_data < 2 ^ 62 }
         ensures { IsFresh initial_max_data self.new }
     {
-        self.state = RecvState::default();
         self.assembler.reinit();
-        self.sent_max_stream_data = initial_max_data;
+        self.state = RecvState::default();
         self.end = 0;
+        self.sent_max_stream_data = initial_max_data;
         self.stopped = false;
     }
 

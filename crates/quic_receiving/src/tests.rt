@@ -107,6 +107,14 @@ fn reset(rt: &impl Abort, subject: &mut Subject, code: u32, size: u64) -> Answer
     }
 }
 
+fn why_of(error: ReadError) -> Why {
+    match error {
+        ReadError::Blocked => Why::Blocked,
+        ReadError::Reset(code) => Why::Reset(code.into_inner()),
+        ReadError::OutOfMemory => Why::NoMemory,
+    }
+}
+
 // Reads chunks of at most 4 bytes, and joins them.
 fn read(
     rt: &impl Abort,
@@ -121,9 +129,7 @@ fn read(
         match half.next(4, ordered) {
             Ok(Some(chunk)) => bytes.extend_from_slice(chunk.bytes.as_slice())?,
             Ok(None) => return Ok((bytes, Why::Ended)),
-            Err(ReadError::Blocked) => return Ok((bytes, Why::Blocked)),
-            Err(ReadError::Reset(code)) => return Ok((bytes, Why::Reset(code.into_inner()))),
-            Err(ReadError::OutOfMemory) => return Ok((bytes, Why::NoMemory)),
+            Err(error) => return Ok((bytes, why_of(error))),
         }
     }
     Ok((bytes, Why::NoMemory))
