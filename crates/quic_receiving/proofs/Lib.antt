@@ -1,0 +1,5 @@
+pub mod Buffers
+pub mod Frames
+pub mod Readings
+pub mod Counted
+pub mod Sound

@@ -1,0 +1,5 @@
+pub mod State
+pub mod Errors
+pub mod Counted
+pub mod Half
+pub mod Calls
