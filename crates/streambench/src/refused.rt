@@ -1,0 +1,40 @@
+use quic_assembler::{EnsureError, InsertError};
+use quic_values::OutOfMemory;
+use std::alloc::{AllocError, AllocFailed};
+
+/// The answer of a case that was not run to its end.
+pub const REFUSED: u64 = u64::MAX;
+
+/// The case cannot go on.
+#[derive(Clone, Copy, Debug, PartialEq, Eq)]
+pub(crate) struct Refused;
+
+impl From<OutOfMemory> for Refused {
+    fn from(_error: OutOfMemory) -> Self {
+        Refused
+    }
+}
+
+impl From<AllocError> for Refused {
+    fn from(_error: AllocError) -> Self {
+        Refused
+    }
+}
+
+impl<T: Drop> From<AllocFailed<T>> for Refused {
+    fn from(_error: AllocFailed<T>) -> Self {
+        Refused
+    }
+}
+
+impl From<InsertError> for Refused {
+    fn from(_error: InsertError) -> Self {
+        Refused
+    }
+}
+
+impl From<EnsureError> for Refused {
+    fn from(_error: EnsureError) -> Self {
+        Refused
+    }
+}
