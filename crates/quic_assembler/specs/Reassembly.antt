@@ -1,6 +1,6 @@
 -- What contracts see of an assembler.
 use Rattle.quic_values.specs.Runs.{contains, Run as Range}
-use Rattle.std.specs.Prelude.{◌≡◌, ◌==◌, ◌&&◌, ◌||◌, ◌-◌, ◌*◌, ◌/◌, ◌^◌, ◌↔◌, sum_by, max, min, not, zero, suc, true, false, nat_lt, ℕ, Bool, ◌+◌, ◌≤◌, ◌<◌, ◌⊎◌, List, length, cond, Option, Result, IfOk, IfSome, MatchOption, Ok, Err}
+use Rattle.std.specs.Prelude.{◌≡◌, ◌==◌, ◌&&◌, ◌||◌, ◌-◌, ◌*◌, ◌/◌, ◌^◌, ◌↔◌, sum_by, max, min, not, zero, suc, true, false, nat_lt, ℕ, Bool, ◌+◌, ◌≤◌, ◌<◌, ◌⊎◌, List, [], length, cond, Option, Result, IfOk, IfSome, MatchOption, Ok, Err}
 use Rattle.quic_assembler.specs.declared.errors.InsertError.{InsertError}
 use Rattle.quic_assembler.specs.declared.errors.InsertError.TheVariants.{TooManyChunks, CompactionMemory, OutOfMemory}
 use Rattle.std.specs.List.{Any, All}
@@ -13,6 +13,10 @@ pub record Reassembly : Type 0 where
   pub bytes_read : ℕ
   pub ordered : Bool
   pub highest : ℕ
+
+-- how an assembler begins: it holds nothing, and gave nothing
+abbrev pub fresh : Reassembly
+fresh = record { runs = []; received = []; bytes_read = 0; ordered = true; highest = 0 }
 
 -- in ordered mode, what lies below is taken no more
 abbrev pub floor : Reassembly → ℕ

@@ -1,7 +1,7 @@
 // An assembler over a heap of pieces.
 ghost use Rattle.std.specs.Prelude.{◌≡◌, ◌≢◌, ℕ, ◌+◌, ◌-◌, ◌^◌, ◌<◌, ◌≤◌, ◌↔◌, ◌⊎◌, ◌||◌, ◌&&◌, true, false, length, max, OnOk, OnErr, IfSome, IfNone, [], IsTrue, MatchOption, Ok, Err};
 ghost use Rattle.quic_assembler.specs.Piece.{Run, run_end, lies};
-ghost use Rattle.quic_assembler.specs.Reassembly.{Reassembly, Holds, IsDone, is_done, IsHeld, IsWithin, Takes, Gives, SameHeld, KeepsOffsets, IsSameButHeld, HoldsNothing, HoldsOnce, MatchInsert, IfGiven, OnNothing, IsStale, run_count, piece_count, Keeps, LeavesOrder, IsNext, is_wasteful, sums, covered, with_piece, covered_with, IsCompacted, Settles};
+ghost use Rattle.quic_assembler.specs.Reassembly.{Reassembly, fresh, Holds, IsDone, is_done, IsHeld, IsWithin, Takes, Gives, SameHeld, KeepsOffsets, IsSameButHeld, HoldsNothing, HoldsOnce, MatchInsert, IfGiven, OnNothing, IsStale, run_count, piece_count, Keeps, LeavesOrder, IsNext, is_wasteful, sums, covered, with_piece, covered_with, IsCompacted, Settles};
 
 use crate::chunk::Chunk;
 use crate::errors::{EnsureError, InsertError};
@@ -49,6 +49,7 @@ impl Model for Assembler {
 impl Assembler {
     /// An assembler that holds nothing, in ordered mode. Takes no memory.
     pub fn new(alloc: Global) -> Self
+        ensures fresh { result ≡ fresh }
         ensures empty { HoldsNothing (Holds result) }
         ensures bytes_read { result.bytes_read ≡ 0 }
         ensures ordered { result.ordered ≡ true }
@@ -68,6 +69,7 @@ impl Assembler {
 
     /// Makes it as [`Assembler::new`] does.
     pub fn reinit(&mut self)
+        ensures fresh { self.new ≡ fresh }
         ensures empty { HoldsNothing (Holds self.new) }
         ensures bytes_read { self.new.bytes_read ≡ 0 }
         ensures ordered { self.new.ordered ≡ true }
