@@ -1,0 +1,132 @@
+//! The streams of one direction that the peer may open (RFC 9000 section 4.6).
+
+ghost use Rattle.std.specs.Prelude.{◌≡◌, ◌<◌, ◌≤◌, ◌^◌, IfSome, nat_le};
+ghost use Rattle.quic_limits.specs.Remote.{Remote, IsRemote, new_remote, replaced, replacement, opened_up_to, is_max_streams_due, streams_announced};
+
+use quic_values::MAX_STREAM_COUNT;
+use std::marker::Model;
+
+/// How many streams of one direction the peer may open, and which it opened.
+#[derive(Drop)]
+pub struct RemoteStreams {
+    max_remote: u64,
+    sent_max_remote: u64,
+    allocated: u64,
+    max_concurrent: u64,
+    next_remote: u64,
+    next_reported: u64,
+    opened: bool,
+}
+
+impl Model for RemoteStreams {
+    ghost use Rattle.quic_limits.specs.Remote.{Remote, IsRemote};
+
+    ghost Value = { Remote };
+
+    ghost view = { λ r. record {
+      max_remote = r.max_remote;
+      sent_max_remote = r.sent_max_remote;
+      allocated = r.allocated;
+      max_concurrent = r.max_concurrent;
+      next_remote = r.next_remote;
+      next_reported = r.next_reported;
+      opened = r.opened;
+    } };
+
+    ghost invariant = { λ r. IsRemote (record {
+      max_remote = r.max_remote;
+      sent_max_remote = r.sent_max_remote;
+      allocated = r.allocated;
+      max_concurrent = r.max_concurrent;
+      next_remote = r.next_remote;
+      next_reported = r.next_reported;
+      opened = r.opened;
+    }) };
+}
+
+impl RemoteStreams {
+    /// The peer may open so many streams.
+    pub fn new(count: u64) -> Self
+        requires { count ≤ 2 ^ 60 }
+        ensures { result ≡ new_remote count }
+    {
+        RemoteStreams {
+            max_remote: count,
+            sent_max_remote: count,
+            allocated: count,
+            max_concurrent: count,
+            next_remote: 0,
+            next_reported: 0,
+            opened: false,
+        }
+    }
+
+    /// How many streams the peer may open in all.
+    #[inline]
+    pub fn max_remote(&self) -> u64
+        ensures count { result ≡ self.now.max_remote }
+        ensures small { result ≤ 2 ^ 60 }
+    {
+        self.max_remote
+    }
+
+    /// How many streams the peer may use now.
+    #[inline]
+    pub fn allocated(&self) -> u64
+        ensures { result ≡ self.now.allocated }
+    {
+        self.allocated
+    }
+
+    /// The lowest index that the peer did not open.
+    #[inline]
+    pub fn next_remote(&self) -> u64
+        ensures { result ≡ self.now.next_remote }
+    {
+        self.next_remote
+    }
+
+    /// The peer opened a stream, and with it all of lower index. Answers whether it was not open before.
+    pub fn open_up_to(&mut self, index: u64) -> bool
+        requires { index < self.old.max_remote }
+        ensures remote { self.new ≡ opened_up_to self.old index }
+        ensures opens { result ≡ nat_le self.old.next_remote index }
+    {
+        if index < self.next_remote {
+            return false;
+        }
+        self.next_remote = index + 1;
+        self.opened = true;
+        true
+    }
+
+    /// A stream was wholly freed. Answers the index of the one that is permitted in its place, if one is.
+    pub fn replace(&mut self) -> Option<u64>
+        ensures remote { self.new ≡ replaced self.old }
+        ensures index { result ≡ replacement self.old }
+        ensures small { IfSome result (λ index. index < 2 ^ 60) }
+    {
+        self.allocated = self.allocated.saturating_sub(1);
+        if self.allocated >= self.max_concurrent || self.max_remote >= MAX_STREAM_COUNT {
+            return None;
+        }
+        let index = self.max_remote;
+        self.max_remote += 1;
+        self.allocated += 1;
+        Some(index)
+    }
+
+    /// Whether MAX_STREAMS is to be sent.
+    pub fn is_max_streams_due(&self) -> bool
+        ensures { result ≡ is_max_streams_due self.now }
+    {
+        self.max_remote - self.sent_max_remote > self.max_concurrent / 8
+    }
+
+    /// The count of [`RemoteStreams::max_remote`] was announced.
+    pub fn announce(&mut self)
+        ensures { self.new ≡ streams_announced self.old }
+    {
+        self.sent_max_remote = self.max_remote;
+    }
+}
