@@ -1,14 +1,7 @@
 //! The streams of a connection.
 #![tactic(auto)]
 
-pub mod halves;
-mod queueing;
-pub mod reading;
-mod receiving;
-pub mod recv_stream;
 pub mod retransmits;
-pub mod sends;
-pub mod state;
 
 pub use retransmits::{IssuedCid, Retransmits, ThinRetransmits};
 
