@@ -81,7 +81,7 @@ next_line input number s t left after start before now read answered h taken dro
       lines = h.lines + 1;
       text = h.text ++ a.text;
       rest = drop_through 10 h.rest;
-      serves = line a.text t h.serves (some_left h.rest (omega (arith, some, ap length read_is))) (subst (λ (x : List ℕ). IsAscii x) (is ∙ ap (strip_last 10) read_is) a.ascii) a.answers;
+      serves = line a.text t h.serves (some_left h.rest (omega (arith, some, ap length read_is))) (subst (λ (x : List ℕ). IsAscii x) (is ∙ ap (strip_last 10) read_is) a.ascii) (subst (λ (x : List ℕ). Answers s x a.text t) (is ∙ ap (strip_last 10) read_is) a.answers);
       number_is = omega (arith, h.number_is);
       left_is = left_after left after h.rest h.left_is dropped;
       writes = Appends-join start before now h.text a.text h.writes a.writes;

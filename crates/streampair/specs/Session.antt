@@ -15,6 +15,8 @@ use Rattle.streampair.specs.declared.session.Stop.{Stop}
 use Rattle.streampair.specs.declared.session.Stop.TheVariants.{Malformed, NoPair, Failed}
 use Rattle.streampair.specs.declared.lines.LineError.{LineError}
 use Rattle.streampair.specs.declared.lines.LineError.TheVariants as lines
+use Rattle.quic_pair.specs.declared.steps.End.TheVariants.{A, B}
+use Rattle.streampair.specs.Grammar.{MeansStep, MeansConfig}
 use Rattle.streampair.specs.Line.{reply_text, refusal_text}
 
 abbrev pub ok_line : List ℕ
@@ -31,30 +33,36 @@ answer_line (Ok reply) = reply_text reply ++ codes "\n"
 answer_line (Err error) = refusal_text error ++ codes "\n"
 
 -- the pair took a step, and this text is the reply to it
-pub record IsStep (old : World) (text : List ℕ) (new : World) : Type 0 where
-  pub step : Step
+pub record IsStep (old : World) (step : Step) (text : List ℕ) (new : World) : Type 0 where
   pub reply : Answer
   pub goes_on : (a b : Config) (h : History) → From a b h old → From a b (h ++ (step, reply) ∷ []) new
   pub text_is : text ≡ answer_line reply
 
+-- that which the line means
+pub record TakesStep (line : List ℕ) (old : World) (text : List ℕ) (new : World) : Type 0 where
+  pub step : Step
+  pub means : MeansStep line step
+  pub taken : IsStep old step text new
+
 -- the pair is made of both configs
-pub record IsReady (a : Config) (text : List ℕ) (pair : World) : Type 0 where
+pub record IsReady (a : Config) (line text : List ℕ) (pair : World) : Type 0 where
   pub b : Config
+  pub means : MeansConfig line B b
   pub from : From a b [] pair
   pub text_is : text ≡ ok_line
 
 -- a session answers a line by this text, and goes on so
-abbrev pub Answers : Session → List ℕ → Session → Type 0
-Answers Start text (Configured config) = text ≡ ok_line
-Answers (Configured config) text (Running pair) = IsReady config text pair
-Answers (Running old) text (Running new) = IsStep old text new
-Answers _ text _ = ⊥
+abbrev pub Answers : Session → List ℕ → List ℕ → Session → Type 0
+Answers Start line text (Configured config) = MeansConfig line A config × (text ≡ ok_line)
+Answers (Configured config) line text (Running pair) = IsReady config line text pair
+Answers (Running old) line text (Running new) = TakesStep line old text new
+Answers _ line text _ = ⊥
 
 -- a session took a line, and its answer was written
 pub record AnswersLine (session : Session) (line : List ℕ) (old new : Option (List ℕ)) (next : Session) : Type 0 where
   pub ascii : IsAscii line
   pub text : List ℕ
-  pub answers : Answers session text next
+  pub answers : Answers session line text next
   pub writes : Appends old new text
 
 -- a line was not answered: where it is malformed, this is its number, and nothing was written
@@ -66,7 +74,7 @@ StopsWith number old new _ = Unit {0}
 pub data Serves (input : List ℕ) : ℕ → List ℕ → Session → List ℕ → Type 0 where
   begin : Serves input 0 [] Start input
   line : {lines : ℕ} {text rest : List ℕ} {old : Session} (more : List ℕ) (new : Session) → Serves input lines text old rest → 0 < length rest →
-      IsAscii (first_piece 10 rest) → Answers old more new → Serves input (lines + 1) (text ++ more) new (drop_through 10 rest)
+      IsAscii (first_piece 10 rest) → Answers old (first_piece 10 rest) more new → Serves input (lines + 1) (text ++ more) new (drop_through 10 rest)
 
 -- all lines were answered; what was written is known where the writer tells what it holds
 pub record IsServed (input : List ℕ) (old new : Option (List ℕ)) : Type 0 where

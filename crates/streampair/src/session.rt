@@ -65,7 +65,7 @@ enum Session {
 
 // Takes a step. Answers its reply, as a line with its line feed.
 fn answer_step(alloc: Global, pair: &mut Pair, step: Step) -> Result<String, OutOfMemory>
-    ensures { IfOk result (λ line. IsStep pair.old (string_bytes line) pair.new) }
+    ensures { IfOk result (λ line. IsStep pair.old step (string_bytes line) pair.new) }
 {
     let answer = pair.step(step);
     let line = answer_line(alloc, &answer)?;

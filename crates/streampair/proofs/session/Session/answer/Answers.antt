@@ -6,6 +6,6 @@ pub returns-in_ok-write_all-in-Configured-clause-ok : goal.returns-in_ok-write_a
 returns-in_ok-write_all-in-Configured-clause-ok g c = rw c.in-Configured.is (record {
   ascii = c.in-Ok-parse_config.ensures.ascii;
   text = ok_line;
-  answers = record { b = c.in-Ok-parse_config.config; from = c.in-Ok-new.ensures; text_is = refl };
+  answers = record { b = c.in-Ok-parse_config.config; means = c.in-Ok-parse_config.ensures.means; from = c.in-Ok-new.ensures; text_is = refl };
   writes = c.in_ok-write_all-in-Configured.ensures.bytes;
 })
