@@ -12,13 +12,6 @@ use Rattle.quic_receiving.specs.Counted.{number, is_first, is_held, is_gone, IsC
 use Rattle.quic_receiving.proofs.Buffers.{in_both_modes}
 use Rattle.quic_receiving.specs.Calls.{IsEmpty, Inserted, Clears, Given, Rests}
 
--- how many there are
-one_of : Bool → ℕ
-one_of b = cond b 1 0
-
-both_of : (a b : Bool) → a ≡ true → b ≡ true → (a && b) ≡ true
-both_of a b p q = rw (p, q) refl
-
 left_of : (a b : Bool) → (a && b) ≡ true → a ≡ true
 left_of true b h = refl
 left_of false b h = h
