@@ -72,11 +72,36 @@ fn unacked(alloc: Global, buffer: &SendBuffer) -> Result<Vec<u8>, OutOfMemory> {
     Ok(all)
 }
 
-// Each step that finds no memory is taken again, and then has to answer as if nothing had happened.
+// What a caller sees of a buffer, but for its bytes.
+#[derive(Clone, Copy, Debug, PartialEq, Eq)]
+struct Seen {
+    offset: u64,
+    unsent: u64,
+    prefix: u64,
+    buffered: u64,
+    // The start and the end of the range to be sent next, and whether its frame has a length.
+    next: (u64, u64, bool),
+}
+
+fn see(buffer: &SendBuffer) -> Seen {
+    let (range, has_length) = buffer.next_transmit(58);
+    Seen {
+        offset: buffer.offset(),
+        unsent: buffer.unsent(),
+        prefix: buffer.acked_prefix(),
+        buffered: buffer.buffered(),
+        next: (range.start, range.end, has_length),
+    }
+}
+
+// A step that finds no memory changes nothing. It is taken again, and it and those behind it have to answer as if
+// nothing had happened.
 fn run_again(rt: &impl Abort, alloc: Global, steps: &[Step]) -> Result<SendBuffer, OutOfMemory> {
     let mut buffer = SendBuffer::new(alloc);
     for step in steps {
+        let before = see(&buffer);
         if take(rt, alloc, &mut buffer, *step).is_err() {
+            assert_eq!(rt; see(&buffer), before, "{step:?}");
             take(rt, alloc, &mut buffer, *step)?;
         }
     }
@@ -313,5 +338,51 @@ fn refused_memory_changes_no_buffer(rt: HostRuntime) -> Result<(), Fail> {
     ] {
         let _ = run_again(&rt, rt.alloc(), steps)?;
     }
+    Ok(())
+}
+
+// Each kind of change: acknowledged and lost ranges that are new, joined, cut and split.
+const CHANGES: [Step; 22] = [
+    Step::Write(b"Hello, world wit"),
+    Step::Write(b"h extra data!"),
+    Step::Poll(16, 0, 16, false),
+    Step::Poll(16, 16, 23, true),
+    Step::Poll(58, 23, 29, true),
+    Step::Ack(8, 12),
+    Step::Lose(4, 20),
+    Step::Ack(14, 16),
+    Step::Lose(2, 4),
+    Step::Lose(26, 29),
+    Step::Poll(16, 2, 8, true),
+    Step::Poll(16, 12, 14, true),
+    Step::Ack(17, 18),
+    Step::Poll(16, 16, 17, true),
+    Step::Poll(16, 18, 20, true),
+    Step::Ack(0, 2),
+    Step::Ack(2, 8),
+    Step::Buffered(29),
+    Step::Ack(12, 14),
+    Step::Buffered(13),
+    Step::Unacked(b"h extra data!"),
+    Step::Poll(16, 26, 29, true),
+];
+
+#[test]
+fn each_refused_change_changes_nothing(rt: HostRuntime) -> Result<(), Fail> {
+    let mut buffer = run_again(&rt, rt.alloc(), &CHANGES)?;
+    let before = see(&buffer);
+    if buffer.reserve(20).is_err() {
+        assert_eq!(rt; see(&buffer), before);
+        buffer.reserve(20)?;
+    }
+    let mut text = Vec::new(rt.alloc());
+    assert!(rt; buffer.acked_prefix() <= 18 && buffer.offset() >= 29);
+    if buffer.append_range(18..29, &mut text).is_err() {
+        assert_eq!(rt; text.len(), 0);
+        assert_eq!(rt; see(&buffer), before);
+        buffer.append_range(18..29, &mut text)?;
+    }
+    assert_eq!(rt; text.as_slice(), b"extra data!".as_slice());
+    assert_eq!(rt; buffer.has_unsent_data(), false);
     Ok(())
 }

@@ -1,4 +1,4 @@
-use crate::source::{ByteSlice, BytesArray};
+use crate::source::{ByteSlice, BytesArray, BytesSource};
 use crate::{ClosedStream, FinishError, Send, WriteError, Written};
 use quic_values::{Bytes, OutOfMemory, VarInt};
 use std::alloc::Global;
@@ -95,7 +95,25 @@ fn write_takes_what_the_limit_leaves(rt: HostRuntime) -> Result<(), Fail> {
     Ok(())
 }
 
-// A write that finds no memory leaves the chunks and the half as they were: the next one takes all.
+// A write that finds no memory leaves the source and the half as they were: the next one takes all.
+fn write_again<S: BytesSource>(
+    rt: &impl Abort,
+    send: &mut Send,
+    source: &mut S,
+    limit: u64,
+) -> Result<Written, WriteError> {
+    let offset = send.offset();
+    match send.write(source, limit) {
+        Err(error) => {
+            assert_eq!(rt; error, WriteError::OutOfMemory);
+            assert_eq!(rt; send.offset(), offset);
+            assert_eq!(rt; send.pending.buffered(), offset);
+            send.write(source, limit)
+        }
+        written => written,
+    }
+}
+
 #[test]
 fn refused_memory_changes_no_source(rt: HostRuntime) -> Result<(), Fail> {
     let mut chunks = Vec::new(rt.alloc());
@@ -108,20 +126,25 @@ fn refused_memory_changes_no_source(rt: HostRuntime) -> Result<(), Fail> {
         }
     }
     let mut send = Send::new(rt.alloc(), VarInt::from(100));
-    if let Err(error) = write_chunks(rt.alloc(), &mut send, chunks.as_mut_slice(), 7) {
-        assert_eq!(rt; error, WriteError::OutOfMemory);
-        assert_eq!(rt; send.offset(), 0);
-        let written = write_chunks(rt.alloc(), &mut send, chunks.as_mut_slice(), 7)?;
-        assert_eq!(rt;
-            written,
-            Written {
-                bytes: 7,
-                chunks: 2
-            }
-        );
-    }
-    assert_eq!(rt; send.pending.get(0..7), b"Hello ".as_slice());
-    assert_eq!(rt; send.pending.get(6..7), b"W".as_slice());
+    let mut source = BytesArray::from_chunks(rt.alloc(), chunks.as_mut_slice());
+    assert_eq!(rt;
+        write_again(&rt, &mut send, &mut source, 7)?,
+        Written {
+            bytes: 7,
+            chunks: 2
+        }
+    );
+    let mut source = ByteSlice::from_slice(rt.alloc(), b"rld!");
+    assert_eq!(rt;
+        write_again(&rt, &mut send, &mut source, 3)?,
+        Written {
+            bytes: 3,
+            chunks: 0
+        }
+    );
+    assert_eq!(rt; send.pending.get(0..10), b"Hello ".as_slice());
+    assert_eq!(rt; send.pending.get(6..10), b"W".as_slice());
+    assert_eq!(rt; send.pending.get(7..10), b"rld".as_slice());
     Ok(())
 }
 
