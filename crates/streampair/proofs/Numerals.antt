@@ -1,6 +1,6 @@
 -- Numbers in a line: decimal digits without leading zeros.
-use Rattle.std.proofs.Common.{◌≡◌, ◌≢◌, ℕ, zero, suc, ◌+◌, ◌<◌, ◌≤◌, ◌^◌, true, List, [], ◌∷◌, Result, Ok, Err, length, drop, get_or, refl, sym, ap, ◌∙◌, arith, rules, lit<}
-use Rattle.std.specs.Prelude.{ℤ, pos, negsuc, IfOk}
+use Rattle.std.proofs.Common.{◌≡◌, ℕ, zero, suc, ◌<◌, ◌≤◌, ◌^◌, true, List, [], ◌∷◌, Result, Ok, Err, length, get_or, sym, ap, ◌∙◌, arith, rules, lit<}
+use Rattle.std.specs.Prelude.{ℤ, pos, IfOk}
 use Rattle.std.proofs.Math.IntN.{neg_ℤ}
 use Rattle.std.specs.Int.{w32}
 use Rattle.std.specs.Fmt.{decimal, signed_decimal}

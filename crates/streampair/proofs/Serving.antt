@@ -1,16 +1,16 @@
 -- What was written and read so far, as lines are answered.
-use Rattle.std.proofs.Common.{◌≡◌, ℕ, suc, ◌+◌, ◌-◌, ◌<◌, ◌≤◌, Bool, true, false, List, [], ◌∷◌, ◌++◌, Option, Some, None, length, refl, sym, ap, ◌∙◌, subst, arith, append_assoc, append-nil}
+use Rattle.std.proofs.Common.{◌≡◌, ℕ, ◌+◌, ◌<◌, List, [], ◌∷◌, ◌++◌, Option, Some, None, length, refl, sym, ap, ◌∙◌, subst, arith, append_assoc, append-nil}
 use Rattle.std.specs.Prelude.{IfSome}
 use Rattle.std.specs.Str.{IsAscii}
 use Rattle.std.specs.declared.io.BufReader.{BufReader}
 use Rattle.std.specs.Io.Buffered.{reader_inner, reader_buffer, reader_capacity, reader_remaining}
-use Rattle.std.specs.Io.BufRead.{take_through, drop_through, first_piece, strip_last, DropsThrough}
+use Rattle.std.specs.Io.BufRead.{take_through, drop_through, strip_last, DropsThrough}
 use Rattle.std.specs.Io.KnownBytes.{prepend_known, Appends, Keeps, IsAtEnd}
 use Rattle.streampair.specs.declared.session.Session.{Session}
 use Rattle.streampair.specs.declared.session.Session.TheVariants.{Start}
 use Rattle.streampair.specs.declared.session.Stop.{Stop}
 use Rattle.streampair.specs.declared.session.Stop.TheVariants.{Malformed, NoPair, Failed}
-use Rattle.streampair.specs.Session.{Answers, AnswersLine, StopsWith, Serves, begin, line, IsServed, IsServedUpTo, StopsAt, IsMalformed, malformed_line}
+use Rattle.streampair.specs.Session.{Answers, AnswersLine, StopsWith, Serves, begin, line, IsServed, StopsAt, IsMalformed, malformed_line}
 
 -- one write after the other
 pub Appends-join : (a b c : Option (List ℕ)) (xs ys : List ℕ) → Appends a b xs → Appends b c ys → Appends a c (xs ++ ys)

@@ -2,7 +2,6 @@
 use Rattle.std.specs.Prelude.{◌≡◌, ◌==◌, ℕ, Bool, true, false, List, [], ◌∷◌, codes, map}
 use Rattle.std.specs.Fmt.{decimal, signed_decimal}
 use Rattle.std.specs.List.{join_with_byte, slice_split}
-use Rattle.quic_wire.specs.declared.Dir.{Dir}
 use Rattle.quic_pair.specs.declared.steps.Config.{Config}
 use Rattle.quic_pair.specs.declared.steps.End.{End}
 use Rattle.quic_pair.specs.declared.steps.End.TheVariants.{A, B}

@@ -1,4 +1,4 @@
-use Rattle.std.proofs.Common.{◌≡◌, ◌<◌, ◌∙◌, length, arith}
+use Rattle.std.proofs.Common.{◌<◌, ◌∙◌, length, arith}
 use Rattle.std.specs.Io.Buffered.{reader_remaining}
 use Rattle.streampair.proofs.Serving.{Progress-start, Progress-line, Progress-end, Progress-stop, reader_start, all_read}
 use Rattle.streampair.proofs.session.run.Goals as goal
