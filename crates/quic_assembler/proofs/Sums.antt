@@ -1,14 +1,15 @@
 -- Sums of lengths and allocation sizes.
-use Rattle.std.proofs.Common.{◌≡◌, ℕ, ◌+◌, ◌-◌, ◌*◌, ◌^◌, ◌≤◌, ◌<◌, refl, sym, ◌∙◌, List, [], ◌∷◌, ◌++◌, length, arith, suc, Bool, true, false, cond, min, sum_by}
+use Rattle.std.proofs.Common.{◌≡◌, ℕ, ◌+◌, ◌-◌, ◌*◌, ◌^◌, ◌≤◌, ◌<◌, refl, sym, ◌∙◌, List, [], ◌∷◌, ◌++◌, length, arith, suc, Bool, true, false, cond, min, max, sum_by, take, drop}
 use Rattle.std.specs.Prelude.{nat_lt}
 use Rattle.std.specs.List.{All}
 use Rattle.std.specs.List.Sorted.{IsPermutation}
-use Rattle.std.proofs.lemmas.List.Sorted.{length_permutation, sum_by-IsPermutation, sum_by_pushed}
+use Rattle.std.proofs.lemmas.List.Sorted.{length_permutation, sum_by-IsPermutation, sum_by_pushed, IsPermutation-refl, IsPermutation-pop_more}
+use Rattle.std.proofs.lemmas.List.{length-drop, length-take}
 use Rattle.std.proofs.lemmas.List.Sums.{sum_by-cons, sum_by-append}
-use Rattle.std.proofs.lemmas.List.Elements.{All-head, All-tail}
+use Rattle.std.proofs.lemmas.List.Elements.{All-head, All-tail, All-nil, All-push}
 use Rattle.std.proofs.lemmas.Bool.Decides.{nat_tests}
 use Rattle.std.proofs.Math.Nat.{suc-mul, zero-mul, one-mul}
-use Rattle.quic_assembler.specs.Piece.{Run, IsSound, KeepsAlive, cover_count, covers, run_end, run_length, run_allocation, Sums, sums_of}
+use Rattle.quic_assembler.specs.Piece.{Run, IsSound, KeepsAlive, cover_count, covers, run_end, run_length, run_allocation, Sums, sums_of, cut_at, advance_by, left_of, Sheds, ReadsOff, TakesOff}
 use Rattle.quic_assembler.specs.Compact.{Compacts, IsTight, with_run}
 use Rattle.quic_assembler.specs.Reassembly.{tally, covered, IsCompacted}
 use Rattle.quic_assembler.proofs.Counts.{tally-add, tally-lies, tally-same, tally-none}
@@ -62,3 +63,53 @@ unfolding covered
 compacted xs ys c tight sound =
     let total : sum_by run_length ys ≡ tally (2 ^ 62) (λ at. min 1 (cover_count at xs)) = total_tally ys sound ∙ tally-same (2 ^ 62) (λ at. cover_count at ys) (λ at. min 1 (cover_count at xs)) c.count in
     record { total = total; allocated = sums_tight ys tight ∙ total }
+
+-- a read takes off what it gives
+left_total : (most : ℕ) (r : Run) (b : Bool) → nat_lt most (length r.bytes) ≡ b → sum_by run_length (cond b (advance_by most r ∷ []) []) + length (take most r.bytes) ≡ length r.bytes
+left_total most r true e = let l : most < length r.bytes = grind (arith, nat_tests) in omega (arith, sum_by-cons run_length (advance_by most r) [], length-drop most r.bytes, length-take most r.bytes)
+left_total most r false e = let l : length r.bytes ≤ most = grind (arith, nat_tests) in omega (arith, length-take most r.bytes)
+
+left_allocated : (most : ℕ) (r : Run) (b : Bool) → sum_by run_allocation (cond b (advance_by most r ∷ []) []) ≤ r.allocation_size
+left_allocated most r true = omega (arith, sum_by-cons run_allocation (advance_by most r) [])
+left_allocated most r false = omega arith
+
+parts_sum : (f : Run → ℕ) (xs gone mid rest left ys : List Run) (first : Run) → IsPermutation xs (gone ++ mid) → IsPermutation mid (first ∷ rest) → IsPermutation (left ++ rest) ys → (sum_by f gone + (f first + sum_by f rest) ≡ sum_by f xs) × (sum_by f ys ≡ sum_by f left + sum_by f rest)
+parts_sum f xs gone mid rest left ys first p q r = (
+  omega (arith, sum_by-IsPermutation f xs (gone ++ mid) p, sum_by-append f gone mid, sum_by-IsPermutation f mid (first ∷ rest) q, sum_by-cons f first rest),
+  omega (arith, sum_by-IsPermutation f (left ++ rest) ys r, sum_by-append f left rest),
+)
+
+pub takes_off : (floor most : ℕ) (bytes : List ℕ) (xs ys : List Run) → ReadsOff floor most bytes xs ys → TakesOff (length bytes) (sums_of xs) (sums_of ys)
+takes_off floor most bytes xs ys o =
+    let cut = cut_at floor o.first in
+    let lengths = parts_sum run_length xs o.sheds.gone o.mid o.rest (left_of most cut) ys o.first o.sheds.split o.popped o.left in
+    let sizes = parts_sum run_allocation xs o.sheds.gone o.mid o.rest (left_of most cut) ys o.first o.sheds.split o.popped o.left in
+    record {
+      total = rw o.given (omega (arith, lengths.0, lengths.1, left_total most cut (nat_lt most (length cut.bytes)) refl, length-drop (floor - o.first.offset) o.first.bytes));
+      allocated = omega (arith, sizes.0, sizes.1, left_allocated most cut (nat_lt most (length cut.bytes)));
+    }
+
+left_put_at : (most : ℕ) (r : Run) (rest ys : List Run) (b : Bool) → nat_lt most (length r.bytes) ≡ b → (most < length r.bytes → IsPermutation (advance_by most r ∷ rest) ys) → (length r.bytes ≤ most → ys ≡ rest) → IsPermutation (cond b (advance_by most r ∷ []) [] ++ rest) ys
+left_put_at most r rest ys true e part whole = part (grind (arith, nat_tests))
+left_put_at most r rest ys false e part whole = rw (whole (grind (arith, nat_tests))) (IsPermutation-refl rest)
+
+pub reads_off : (floor most : ℕ) (bytes : List ℕ) (xs mid rest ys : List Run) (r : Run) → Sheds floor xs mid → IsPermutation mid (r ∷ rest) → bytes ≡ take most (cut_at floor r).bytes → (most < length (cut_at floor r).bytes → IsPermutation (advance_by most (cut_at floor r) ∷ rest) ys) → (length (cut_at floor r).bytes ≤ most → ys ≡ rest) → ReadsOff floor most bytes xs ys
+reads_off floor most bytes xs mid rest ys r s p e part whole = record {
+  mid = mid;
+  first = r;
+  rest = rest;
+  sheds = s;
+  popped = p;
+  given = e;
+  left = left_put_at most (cut_at floor r) rest ys (nat_lt most (length (cut_at floor r).bytes)) refl part whole;
+}
+
+pub sheds_none : (floor : ℕ) (xs : List Run) → Sheds floor xs xs
+sheds_none floor xs = record { gone = []; stale = All-nil (λ g. run_end g ≤ floor); split = IsPermutation-refl xs }
+
+pub sheds_more : (floor : ℕ) (xs ys zs : List Run) (r : Run) → Sheds floor xs ys → IsPermutation ys (r ∷ zs) → run_end r ≤ floor → Sheds floor xs zs
+sheds_more floor xs ys zs r s p l = record {
+  gone = s.gone ++ r ∷ [];
+  stale = All-push (λ g. run_end g ≤ floor) s.gone r s.stale l;
+  split = IsPermutation-pop_more xs s.gone ys zs r s.split p;
+}

@@ -1,6 +1,6 @@
 // An assembler over a heap of pieces.
 ghost use Rattle.std.specs.Prelude.{◌≡◌, ◌≢◌, ℕ, ◌+◌, ◌-◌, ◌^◌, ◌<◌, ◌≤◌, ◌↔◌, ◌⊎◌, ◌||◌, ◌&&◌, true, false, length, max, OnOk, OnErr, IfSome, IfNone, [], IsTrue, MatchOption, Ok, Err};
-ghost use Rattle.quic_assembler.specs.Piece.{Run, run_end, lies};
+ghost use Rattle.quic_assembler.specs.Piece.{Run, run_end, lies, TakesOff};
 ghost use Rattle.quic_assembler.specs.Reassembly.{Reassembly, fresh, Holds, IsDone, is_done, IsHeld, IsWithin, Takes, Gives, SameHeld, KeepsOffsets, IsSameButHeld, HoldsNothing, HoldsOnce, MatchInsert, IfGiven, OnNothing, IsStale, run_count, piece_count, Keeps, LeavesOrder, IsNext, is_wasteful, sums, covered, with_piece, covered_with, IsCompacted, Settles};
 
 use crate::chunk::Chunk;
@@ -260,6 +260,8 @@ impl Assembler {
         ensures lowest { IfGiven result (λ chunk. (at : ℕ) → at < chunk.offset → IsHeld (Holds self.old) at → ⊥) }
         ensures moves { IfGiven result (λ chunk. self.new.bytes_read ≡ self.old.bytes_read + length chunk.bytes) }
         ensures taken { IfGiven result (λ chunk. (at : ℕ) → IsWithin chunk.offset chunk.bytes at → IsDone self.new at) }
+
+        ensures sums { IfGiven result (λ chunk. TakesOff (length chunk.bytes) (sums self.old) (sums self.new)) }
 
         ensures none { OnNothing result (IsTrue ordered → IsHeld (Holds self.old) self.old.bytes_read → ⊥) }
         ensures none_unordered { OnNothing result (ordered ≡ false → HoldsNothing (Holds self.old)) }

@@ -5,7 +5,7 @@ ghost use Rattle.std.specs.List.Sorted.{IsPermutation};
 ghost use Rattle.quic_assembler.specs.Compact.{Compacts, slots, with_run};
 ghost use Rattle.quic_assembler.specs.Reassembly.{covered, IsCompacted};
 ghost use Rattle.quic_values.specs.Runs.{contains};
-ghost use Rattle.quic_assembler.specs.Piece.{Run, Covers, RunHolds, cover_count, bit, Queue, IsSome, IsSound, IsLowest, run_end, run_length, run_allocation, sums_of, cut_at, advance_by, KeepsFrom, IsFreshFrom, NoneHoldsAt, TakesSome, TakesNone};
+ghost use Rattle.quic_assembler.specs.Piece.{Run, Covers, RunHolds, cover_count, bit, Queue, IsSome, IsSound, IsLowest, run_end, run_length, run_allocation, sums_of, cut_at, advance_by, KeepsFrom, IsFreshFrom, NoneHoldsAt, TakesSome, TakesNone, Sheds, ReadsOff};
 
 use crate::piece::Piece;
 use quic_values::{Bytes, OutOfMemory, RangeSet};
@@ -233,6 +233,7 @@ impl Pieces {
     fn drop_stale(&mut self, floor: u64)
         ensures kept { KeepsFrom floor self.old.runs self.new.runs }
         ensures fresh { IsFreshFrom floor self.new.runs }
+        ensures sheds { Sheds floor self.old.runs self.new.runs }
         ensures len { length self.new.runs ≤ length self.old.runs }
     {
         while self.is_stale(floor) {
@@ -265,6 +266,7 @@ impl Pieces {
         max_length: usize,
     ) -> Result<Option<Bytes>, OutOfMemory>
         ensures ok { IfOk result (λ given. MatchOption given (TakesNone floor self.old.runs self.new.runs) (λ v. TakesSome floor max_length v self.old.runs self.new.runs)) }
+        ensures off { IfOk result (λ given. MatchOption given (Sheds floor self.old.runs self.new.runs) (λ v. ReadsOff floor max_length v self.old.runs self.new.runs)) }
         ensures err { OnErr result (KeepsFrom floor self.old.runs self.new.runs) }
         ensures len { length self.new.runs ≤ length self.old.runs }
     {

@@ -2,7 +2,6 @@
 ghost use Rattle.std.specs.Prelude.{◌≡◌, ◌+◌, ◌^◌, ◌<◌, ◌≤◌, length, IfOk, OnOk, false};
 
 use super::{Assembler, Bytes, Chunk, Fail, InsertError, bytes};
-use crate::EnsureError;
 use std::alloc::{AllocError, Global};
 use std::process::Abort;
 
@@ -96,12 +95,15 @@ fn leave_order(rt: &impl Abort, a: &mut Assembler) -> Result<(), Fail>
     ensures { OnOk result (a.new.ordered ≡ false) }
 {
     let read = a.bytes_read();
-    if a.ensure_ordering(false) == Err(EnsureError::OutOfMemory) {
-        assert_eq!(rt; a.bytes_read(), read);
-        assert_eq!(rt; a.ensure_ordering(true), Ok(()));
-        a.ensure_ordering(false)?;
+    match a.ensure_ordering(false) {
+        Ok(()) => Ok(()),
+        Err(_) => {
+            assert_eq!(rt; a.bytes_read(), read);
+            assert_eq!(rt; a.ensure_ordering(true), Ok(()));
+            a.ensure_ordering(false)?;
+            Ok(())
+        }
     }
-    Ok(())
 }
 
 #[test]

@@ -2,6 +2,7 @@ use Rattle.std.proofs.Common.{refl, sym, ◌∙◌}
 use Rattle.std.proofs.lemmas.Result.{err_from_is_err_and}
 use Rattle.std.proofs.lemmas.Option.{MatchOption-at_none, MatchOption-at_some}
 use Rattle.quic_assembler.proofs.Whole.{holds_nothing, assembler_less, assembler_read, gives_some, held_here, next_lowest, done_given, done_same_unordered, same_kept, none_next, none_at_next}
+use Rattle.quic_assembler.proofs.Sums.{takes_off}
 use Rattle.quic_assembler.proofs.assembly.Assembler.read.Goals as goal
 
 pub returns-in_default-clause-none_unordered : goal.returns-in_default-clause-none_unordered
@@ -74,3 +75,8 @@ returns-in-Some-2-clause-taken c =
 
 pub returns-in-Some-2-clause-done : goal.returns-in-Some-2-clause-done
 returns-in-Some-2-clause-done c = rw (← c.self.view_is) (λ at e. done_same_unordered _ _ at e refl refl)
+
+pub returns-in-Some-2-clause-sums : goal.returns-in-Some-2-clause-sums
+returns-in-Some-2-clause-sums c =
+    let o = MatchOption-at_some _ _ _ c.in-Some-2.is c.in_ok-take_first.ensures.off in
+    rw (← c.self.view_is) (takes_off _ _ _ _ _ o)

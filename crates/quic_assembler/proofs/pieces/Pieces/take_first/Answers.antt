@@ -2,6 +2,7 @@ use Rattle.std.proofs.Common.{arith, refl}
 use Rattle.std.proofs.lemmas.Result.{err_from_is_err_and}
 use Rattle.std.proofs.lemmas.List.Sorted.{length_permutation}
 use Rattle.quic_assembler.proofs.Runs.{KeepsFrom-cut, TakesSome-front, none_reaches}
+use Rattle.quic_assembler.proofs.Sums.{reads_off}
 use Rattle.quic_assembler.proofs.pieces.Pieces.take_first.Goals as goal
 
 pub returns-then-not-reaches-clause-ok : goal.returns-then-not-reaches-clause-ok
@@ -29,6 +30,13 @@ returns-clause-ok c =
     let starts = rw (← c.pop_first-piece.ensures.first) at (c.if-not-reaches.ensures.yes r refl) in
     let ends = rw (← c.pop_first-piece.ensures.first) at (c.drop_stale.ensures.fresh r (omega (arith, length_permutation _ _ c.pop_first-piece.ensures.popped))) in
     TakesSome-front _ _ _ _ _ _ _ r c.drop_stale.ensures.kept c.pop_first-piece.ensures.popped starts ends c.pop_first-piece.ensures.sound.below
+    (rw c.cut_below.ensures.cut at c.in_ok-bytes.ensures.value)
+    (rw c.cut_below.ensures.cut at c.in_ok-bytes.ensures.part)
+    (rw c.cut_below.ensures.cut at c.in_ok-bytes.ensures.whole)
+
+pub returns-clause-off : goal.returns-clause-off
+returns-clause-off c =
+    reads_off _ _ _ _ _ _ _ c.pop_first-piece.result c.drop_stale.ensures.sheds c.pop_first-piece.ensures.popped
     (rw c.cut_below.ensures.cut at c.in_ok-bytes.ensures.value)
     (rw c.cut_below.ensures.cut at c.in_ok-bytes.ensures.part)
     (rw c.cut_below.ensures.cut at c.in_ok-bytes.ensures.whole)
