@@ -23,6 +23,17 @@ newest_within n (d ∷ ds) = if nat_le (total_cost (d ∷ ds)) n then d ∷ ds e
 abbrev pub with_newest : ℕ → List Datagram → Datagram → List Datagram
 with_newest window ds d = newest_within (window - cost d) ds ++ d ∷ []
 
+-- what stays of a queue once its oldest went: an end of it that counts at most n, and no longer one does
+pub record IsNewestWithin (n : ℕ) (old kept : List Datagram) : Type 0 where
+  pub gone : List Datagram
+  pub oldest_first : old ≡ gone ++ kept
+  pub within : total_cost kept ≤ n
+  pub longest : (front end : List Datagram) → old ≡ front ++ end → total_cost end ≤ n → length end ≤ length kept
+
+-- a datagram joined a queue under a window: of the oldest went no more than had to, and it stands behind the others
+abbrev pub JoinsWithin : ℕ → List Datagram → Datagram → List Datagram → Type 0
+JoinsWithin window old d new = (kept : List Datagram) × (new ≡ kept ++ d ∷ []) × (IsNewestWithin (window - cost d) old kept)
+
 -- the datagrams of at most n bytes
 abbrev pub no_longer_than : ℕ → List Datagram → List Datagram
 no_longer_than n ds = filter (λ d. nat_le (length d.bytes) n) ds

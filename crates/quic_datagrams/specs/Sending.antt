@@ -38,7 +38,7 @@ abbrev pub after_refusal : DatagramState → SendDatagramError → DatagramState
 after_refusal s (send_error.Blocked content) = record s { send_blocked = true }
 after_refusal s _ = s
 
--- some of them were, while a sender was blocked
+-- some that wait are longer than the greatest length, while a sender is blocked
 abbrev pub has_unblocked : Option ℕ → DatagramState → Bool
 has_unblocked None s = false
 has_unblocked (Some n) s = nat_lt (length (no_longer_than n s.outgoing)) (length s.outgoing) && s.send_blocked

@@ -3,7 +3,7 @@
 ghost use Rattle.std.specs.Prelude.{◌≡◌, ◌+◌, ◌-◌, ◌<◌, ◌≤◌, ◌^◌, ◌++◌, ◌==◌, ◌&&◌, [], ◌∷◌, List, true, false, not, length, nat_lt, nat_le, MatchOption, IfOk, IfErr, OnOk, OnErr, IsSomeAnd, None};
 ghost use Rattle.std.specs.VecDeque.{deque_len, deque_capacity};
 ghost use Rattle.quic_datagrams.specs.Sending.{send_refusal, IsSendRefusal, after_refusal};
-ghost use Rattle.quic_datagrams.specs.Queue.{cost, total_cost, newest_within, with_newest, no_longer_than, fits_in, oldest_fits_in, ends_within, IsWritten, fits_alone, IsReceiveRefusal};
+ghost use Rattle.quic_datagrams.specs.Queue.{cost, total_cost, newest_within, with_newest, no_longer_than, fits_in, oldest_fits_in, ends_within, IsWritten, IsReceiveRefusal, JoinsWithin};
 
 use quic_wire::frame::Datagram;
 use quic_wire::{Bytes, OutOfMemory, ReceiveError, TransportError};
@@ -111,6 +111,7 @@ impl DatagramBuffer {
     fn push_within(&mut self, datagram: Datagram, window: usize) -> Result<(), Datagram>
         requires { cost datagram ≤ window }
         ensures ok { OnOk result (self.new ≡ with_newest window self.old datagram) }
+        ensures joins { OnOk result (JoinsWithin window self.old datagram self.new) }
         ensures within { OnOk result (total_cost self.new ≤ window) }
         ensures err { OnErr result (self.new ≡ self.old) }
         ensures value_returned { IfErr result (λ back. back ≡ datagram) }
@@ -234,6 +235,7 @@ impl DatagramState {
         ensures queued { OnOk result (IsSomeAnd window.now (λ w. (cost datagram ≤ w)
             × (self.new ≡ record self.old { incoming = with_newest w self.old.incoming datagram })
             × (total_cost self.new.incoming ≤ w))) }
+        ensures oldest_go { OnOk result (IsSomeAnd window.now (λ w. JoinsWithin w self.old.incoming datagram self.new.incoming)) }
         ensures was_empty { IfOk result (λ was_empty. was_empty ≡ (length self.old.incoming == 0)) }
         ensures err { OnErr result (self.new ≡ self.old) }
         ensures refusal { IfErr result (λ e. IsReceiveRefusal window.now datagram e) }
@@ -308,6 +310,7 @@ impl<'a> Datagrams<'a> {
         ensures queued { OnOk result (self.new.state.now ≡ record self.old.state.now {
           outgoing = with_newest self.old.limits.send self.old.state.now.outgoing (record { bytes = bytes });
         }) }
+        ensures oldest_go { OnOk result (JoinsWithin self.old.limits.send self.old.state.now.outgoing (record { bytes = bytes }) self.new.state.now.outgoing) }
         ensures within { OnOk result (total_cost self.new.state.now.outgoing ≤ self.old.limits.send) }
         ensures roomy { total_cost self.old.state.now.outgoing + (length bytes + 32) ≤ self.old.limits.send
             → OnOk result (self.new.state.now.outgoing ≡ self.old.state.now.outgoing ++ record { bytes = bytes } ∷ []) }
@@ -377,6 +380,7 @@ fn send_within(
 ) -> Result<(), SendDatagramError>
     ensures permitted { OnOk result (send_refusal limits state.old.outgoing bytes drop ≡ None) }
     ensures queued { OnOk result (state.new ≡ record state.old { outgoing = with_newest limits.send state.old.outgoing (record { bytes = bytes }) }) }
+    ensures oldest_go { OnOk result (JoinsWithin limits.send state.old.outgoing (record { bytes = bytes }) state.new.outgoing) }
     ensures within { OnOk result (total_cost state.new.outgoing ≤ limits.send) }
     ensures refusal { IfErr result (λ e. IsSendRefusal limits state.old.outgoing bytes drop e) }
     ensures err { IfErr result (λ e. state.new ≡ after_refusal state.old e) }

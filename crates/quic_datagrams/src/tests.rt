@@ -1,40 +1,13 @@
+//! Queues of datagrams and counters of frames. Where memory runs out, a test shows that all is as it was, and asks once
+//! more.
 use crate::{DatagramLimits, DatagramState, Datagrams, FrameStats, SendDatagramError};
-use quic_wire::frame::Datagram;
-use quic_wire::{Bytes, Dir, Frame, OutOfMemory, ReceiveError, TransportError, decode};
+use quic_wire::frame::{Crypto, Datagram, ResetStream, StopSending, Stream};
+use quic_wire::{
+    Bytes, Dir, Frame, OutOfMemory, ReceiveError, Side, StreamId, TransportError, VarInt, decode,
+};
 use std::alloc::Global;
 use std::process::Abort;
 use std::test::Fail;
-
-fn zeros(alloc: Global, len: usize) -> Result<Bytes, OutOfMemory> {
-    Ok(Bytes::from(vec![in alloc; 0; len]?))
-}
-
-fn datagram(alloc: Global, len: usize) -> Result<Datagram, OutOfMemory> {
-    Ok(Datagram {
-        bytes: zeros(alloc, len)?,
-    })
-}
-
-// Queues so many bytes, which must be refused so, or taken where there is no error.
-fn shows_send(
-    rt: &impl Abort,
-    alloc: Global,
-    datagrams: &mut Datagrams<'_>,
-    len: usize,
-    drop: bool,
-    error: Option<SendDatagramError>,
-) -> Result<(), Fail> {
-    match datagrams.send(zeros(alloc, len)?, drop) {
-        Err(SendDatagramError::OutOfMemory(bytes)) => {
-            assert_eq!(rt; bytes.len(), len);
-            Err(Fail::from(OutOfMemory))
-        }
-        outcome => {
-            assert_eq!(rt; outcome.err(), error);
-            Ok(())
-        }
-    }
-}
 
 const LIMITS: DatagramLimits = DatagramLimits {
     receive: Some(100),
@@ -42,29 +15,94 @@ const LIMITS: DatagramLimits = DatagramLimits {
     max: Some(40),
 };
 
+// So many bytes, each with the same value.
+fn bytes(alloc: Global, len: usize, value: u8) -> Result<Bytes, OutOfMemory> {
+    Ok(Bytes::from(vec![in alloc; value; len]?))
+}
+
+fn datagram(alloc: Global, len: usize, value: u8) -> Result<Datagram, OutOfMemory> {
+    Ok(Datagram {
+        bytes: bytes(alloc, len, value)?,
+    })
+}
+
+// Queues a datagram, and says why not. Where memory ran out, it is asked once more.
+fn send(
+    state: &mut DatagramState,
+    limits: DatagramLimits,
+    bytes: Bytes,
+    drop: bool,
+) -> Option<SendDatagramError> {
+    match Datagrams::new(state, limits).send(bytes, drop) {
+        Err(SendDatagramError::OutOfMemory(back)) => {
+            Datagrams::new(state, limits).send(back, drop).err()
+        }
+        outcome => outcome.err(),
+    }
+}
+
+fn space(state: &mut DatagramState, limits: DatagramLimits) -> usize {
+    Datagrams::new(state, limits).send_buffer_space()
+}
+
+// The first byte and the length of each received datagram, the oldest first.
+fn shows_received(rt: &impl Abort, state: &mut DatagramState, wanted: &[(u8, usize)]) {
+    for (value, len) in wanted {
+        let oldest = state.recv();
+        assert_eq!(rt; oldest.as_ref().map(|bytes| bytes.len()), Some(*len));
+        assert_eq!(rt;
+            oldest.and_then(|bytes| bytes.as_slice().first().copied()),
+            Some(*value)
+        );
+    }
+    assert!(rt; state.incoming.is_empty());
+}
+
+fn code_of(refused: Result<bool, ReceiveError>) -> Option<u64> {
+    match refused {
+        Err(ReceiveError::Transport(error)) => Some(error.code),
+        _ => None,
+    }
+}
+
 #[test]
 fn oldest_received_go_first(rt: HostRuntime) -> Result<(), Fail> {
-    let mut state = DatagramState::new(rt.alloc());
+    let alloc = rt.alloc();
+    let mut state = DatagramState::new(alloc);
     let window = Some(64);
-    let long = state.received(datagram(rt.alloc(), 33)?, &window);
-    let code = match long {
-        Err(ReceiveError::Transport(error)) => error.code,
-        _ => 0,
-    };
-    assert_eq!(rt; code, TransportError::PROTOCOL_VIOLATION);
-    assert_eq!(rt; state.received(datagram(rt.alloc(), 10)?, &window)?, true);
-    assert_eq!(rt; state.received(datagram(rt.alloc(), 11)?, &window)?, false);
-    assert_eq!(rt; state.incoming.memory_used(), 43);
-    assert_eq!(rt; state.recv().map(|bytes| bytes.len()), Some(11));
-    assert_eq!(rt; state.recv(), None);
+    let long = state.received(datagram(alloc, 33, 1)?, &window);
+    assert_eq!(rt; code_of(long), Some(TransportError::PROTOCOL_VIOLATION));
+    assert_eq!(rt; state.received(datagram(alloc, 10, 2)?, &window)?, true);
+    assert_eq!(rt; state.received(datagram(alloc, 10, 3)?, &window)?, false);
+    assert_eq!(rt; state.incoming.memory_used(), 42);
+    shows_received(&rt, &mut state, &[(3, 10)]);
     Ok(())
 }
 
 #[test]
-fn none_is_received_without_a_window(rt: HostRuntime) -> Result<(), Fail> {
-    let mut state = DatagramState::new(rt.alloc());
-    assert!(rt; state.received(datagram(rt.alloc(), 0)?, &None).is_err());
+fn received_at_the_edge_of_the_window(rt: HostRuntime) -> Result<(), Fail> {
+    let alloc = rt.alloc();
+    let violation = Some(TransportError::PROTOCOL_VIOLATION);
+    let mut state = DatagramState::new(alloc);
+    assert_eq!(rt;
+        code_of(state.received(datagram(alloc, 0, 0)?, &Some(31))),
+        violation
+    );
+    assert_eq!(rt;
+        code_of(state.received(datagram(alloc, 0, 0)?, &None)),
+        violation
+    );
     assert!(rt; state.incoming.is_empty());
+    assert_eq!(rt; state.received(datagram(alloc, 0, 0)?, &Some(32))?, true);
+    assert_eq!(rt; state.received(datagram(alloc, 0, 0)?, &Some(32))?, false);
+    assert_eq!(rt; state.incoming.memory_used(), 32);
+    assert_eq!(rt;
+        Datagrams::new(&mut state, LIMITS)
+            .recv()
+            .map(|bytes| bytes.len()),
+        Some(0)
+    );
+    assert_eq!(rt; state.recv(), None);
     Ok(())
 }
 
@@ -72,80 +110,132 @@ fn none_is_received_without_a_window(rt: HostRuntime) -> Result<(), Fail> {
 fn send_under_limits(rt: HostRuntime) -> Result<(), Fail> {
     let alloc = rt.alloc();
     let mut state = DatagramState::new(alloc);
-    let mut datagrams = Datagrams::new(&mut state, LIMITS);
-    assert_eq!(rt; datagrams.max_size(), Some(40));
-    assert_eq!(rt; datagrams.send_buffer_space(), 32);
-    let too_large = Some(SendDatagramError::TooLarge);
-    shows_send(&rt, alloc, &mut datagrams, 33, false, too_large)?;
-    shows_send(&rt, alloc, &mut datagrams, 32, false, None)?;
-    assert_eq!(rt; datagrams.send_buffer_space(), 0);
-    let blocked = Some(SendDatagramError::Blocked(zeros(alloc, 1)?));
-    shows_send(&rt, alloc, &mut datagrams, 1, false, blocked)?;
-    shows_send(&rt, alloc, &mut datagrams, 1, true, None)?;
-    assert_eq!(rt; datagrams.send_buffer_space(), 0);
+    assert_eq!(rt; Datagrams::new(&mut state, LIMITS).max_size(), Some(40));
+    assert_eq!(rt; space(&mut state, LIMITS), 32);
+    let too_large = send(&mut state, LIMITS, bytes(alloc, 33, 1)?, false);
+    assert_eq!(rt; too_large, Some(SendDatagramError::TooLarge));
+    assert_eq!(rt; send(&mut state, LIMITS, bytes(alloc, 32, 2)?, false), None);
+    assert_eq!(rt; space(&mut state, LIMITS), 0);
+    let blocked = send(&mut state, LIMITS, bytes(alloc, 1, 3)?, false);
+    assert_eq!(rt;
+        blocked,
+        Some(SendDatagramError::Blocked(bytes(alloc, 1, 3)?))
+    );
+    assert!(rt; state.send_blocked);
+    assert_eq!(rt; send(&mut state, LIMITS, bytes(alloc, 1, 4)?, true), None);
     assert_eq!(rt; state.outgoing.memory_used(), 33);
+    let mut buf = Vec::new(alloc);
+    assert!(rt; state.write(&mut buf, 100)?);
+    assert_eq!(rt; buf.as_slice(), [0x31, 1, 4].as_slice());
+    Ok(())
+}
+
+#[test]
+fn send_at_the_edge_of_the_buffer(rt: HostRuntime) -> Result<(), Fail> {
+    let alloc = rt.alloc();
+    let mut state = DatagramState::new(alloc);
+    let off = DatagramLimits {
+        receive: None,
+        max: None,
+        ..LIMITS
+    };
+    let off_there = DatagramLimits {
+        max: None,
+        ..LIMITS
+    };
+    let short = DatagramLimits { send: 31, ..LIMITS };
+    let enough = DatagramLimits { send: 32, ..LIMITS };
+    let disabled = send(&mut state, off, Bytes::new(alloc), true);
+    assert_eq!(rt; disabled, Some(SendDatagramError::Disabled));
+    let unsupported = send(&mut state, off_there, Bytes::new(alloc), true);
+    assert_eq!(rt; unsupported, Some(SendDatagramError::UnsupportedByPeer));
+    let too_large = send(&mut state, short, Bytes::new(alloc), true);
+    assert_eq!(rt; too_large, Some(SendDatagramError::TooLarge));
+    assert_eq!(rt; send(&mut state, enough, Bytes::new(alloc), false), None);
+    assert_eq!(rt; space(&mut state, enough), 0);
+    assert!(rt; !state.send_blocked);
+    let blocked = send(&mut state, enough, Bytes::new(alloc), false);
+    assert_eq!(rt;
+        blocked,
+        Some(SendDatagramError::Blocked(Bytes::new(alloc)))
+    );
     assert!(rt; state.send_blocked);
     Ok(())
 }
 
 #[test]
-fn send_where_datagrams_are_off(rt: HostRuntime) -> Result<(), Fail> {
+fn make_space_for_accounts_for_new_datagram(rt: HostRuntime) -> Result<(), Fail> {
     let alloc = rt.alloc();
     let mut state = DatagramState::new(alloc);
-    for (limits, error) in [
-        (
-            DatagramLimits {
-                receive: None,
-                send: 64,
-                max: None,
-            },
-            SendDatagramError::Disabled,
-        ),
-        (
-            DatagramLimits {
-                receive: Some(0),
-                send: 0,
-                max: None,
-            },
-            SendDatagramError::UnsupportedByPeer,
-        ),
-        (
-            DatagramLimits {
-                receive: Some(0),
-                send: 31,
-                max: Some(0),
-            },
-            SendDatagramError::TooLarge,
-        ),
-    ] {
-        let mut datagrams = Datagrams::new(&mut state, limits);
-        shows_send(&rt, alloc, &mut datagrams, 0, true, Some(error))?;
-    }
+    let limits = DatagramLimits { send: 74, ..LIMITS };
+    assert_eq!(rt; send(&mut state, limits, bytes(alloc, 7, 1)?, false), None);
+    assert_eq!(rt; send(&mut state, limits, bytes(alloc, 2, 2)?, false), None);
+    assert_eq!(rt; state.outgoing.memory_used(), 73);
+    assert_eq!(rt; send(&mut state, limits, bytes(alloc, 4, 3)?, true), None);
+    assert_eq!(rt; state.outgoing.memory_used(), 70);
+    let mut buf = Vec::new(alloc);
+    assert!(rt; state.write(&mut buf, 100)? && state.write(&mut buf, 100)?);
+    assert_eq!(rt;
+        buf.as_slice(),
+        [0x31, 2, 2, 2, 0x31, 4, 3, 3, 3, 3].as_slice()
+    );
+    Ok(())
+}
+
+#[test]
+fn make_space_for_accounts_for_empty_datagram_metadata(rt: HostRuntime) -> Result<(), Fail> {
+    let alloc = rt.alloc();
+    let mut state = DatagramState::new(alloc);
+    assert_eq!(rt; send(&mut state, LIMITS, Bytes::new(alloc), false), None);
+    assert_eq!(rt; send(&mut state, LIMITS, Bytes::new(alloc), false), None);
+    let blocked = send(&mut state, LIMITS, Bytes::new(alloc), false);
+    assert_eq!(rt;
+        blocked,
+        Some(SendDatagramError::Blocked(Bytes::new(alloc)))
+    );
+    assert_eq!(rt; send(&mut state, LIMITS, Bytes::new(alloc), true), None);
+    assert_eq!(rt; state.outgoing.memory_used(), 64);
+    Ok(())
+}
+
+#[test]
+fn drop_oversized_keeps_datagrams_at_limit(rt: HostRuntime) -> Result<(), Fail> {
+    let alloc = rt.alloc();
+    let mut state = DatagramState::new(alloc);
+    let wide = DatagramLimits { send: 85, ..LIMITS };
+    assert_eq!(rt; send(&mut state, wide, bytes(alloc, 10, 1)?, false), None);
+    assert_eq!(rt; send(&mut state, wide, bytes(alloc, 11, 2)?, false), None);
+    assert!(rt; state.drop_oversized(10));
+    assert_eq!(rt; state.outgoing.memory_used(), 42);
+    assert!(rt; !state.drop_oversized(10));
     Ok(())
 }
 
 // Those that no longer fit the path go, and wake a blocked sender once.
 #[test]
-fn drop_oversized(rt: HostRuntime) -> Result<(), Fail> {
+fn drop_oversized_wakes_a_blocked_sender(rt: HostRuntime) -> Result<(), Fail> {
     let alloc = rt.alloc();
     let mut state = DatagramState::new(alloc);
-    let wide = DatagramLimits { send: 85, ..LIMITS };
-    let mut datagrams = Datagrams::new(&mut state, wide);
-    shows_send(&rt, alloc, &mut datagrams, 10, false, None)?;
-    shows_send(&rt, alloc, &mut datagrams, 11, false, None)?;
-    let blocked = Some(SendDatagramError::Blocked(zeros(alloc, 2)?));
-    shows_send(&rt, alloc, &mut datagrams, 2, false, blocked)?;
     let narrow = DatagramLimits {
         max: Some(10),
-        ..wide
+        ..LIMITS
     };
-    let off = DatagramLimits { max: None, ..wide };
+    let off = DatagramLimits {
+        max: None,
+        ..LIMITS
+    };
+    assert_eq!(rt; send(&mut state, LIMITS, bytes(alloc, 11, 1)?, false), None);
+    let blocked = send(&mut state, LIMITS, bytes(alloc, 1, 2)?, false);
+    assert_eq!(rt;
+        blocked,
+        Some(SendDatagramError::Blocked(bytes(alloc, 1, 2)?))
+    );
     assert!(rt; !Datagrams::new(&mut state, off).drop_oversized());
+    assert!(rt; state.send_blocked);
     assert!(rt; Datagrams::new(&mut state, narrow).drop_oversized());
-    assert!(rt; !state.send_blocked);
-    assert_eq!(rt; state.outgoing.memory_used(), 42);
-    assert!(rt; !state.drop_oversized(10));
-    assert!(rt; state.drop_oversized(9));
+    assert!(rt; !state.send_blocked && state.outgoing.is_empty());
+    assert_eq!(rt; send(&mut state, LIMITS, bytes(alloc, 11, 3)?, false), None);
+    assert!(rt; !Datagrams::new(&mut state, narrow).drop_oversized());
     assert!(rt; state.outgoing.is_empty());
     Ok(())
 }
@@ -154,19 +244,91 @@ fn drop_oversized(rt: HostRuntime) -> Result<(), Fail> {
 fn write_needs_the_room(rt: HostRuntime) -> Result<(), Fail> {
     let alloc = rt.alloc();
     let mut state = DatagramState::new(alloc);
-    let mut datagrams = Datagrams::new(&mut state, LIMITS);
     let hi = Bytes::copy_from_slice(alloc, b"hi")?;
-    if datagrams.send(hi, false).is_err() {
-        return Ok(());
-    }
+    assert!(rt; !state.outgoing.can_send_1rtt(100));
+    assert_eq!(rt; send(&mut state, LIMITS, hi, false), None);
+    assert!(rt; !state.outgoing.can_send_1rtt(3) && state.outgoing.can_send_1rtt(4));
     let mut buf = Vec::new(alloc);
-    assert!(rt; !state.outgoing.can_send_1rtt(3));
     assert!(rt; !state.write(&mut buf, 3)?);
-    assert!(rt; buf.is_empty());
+    assert!(rt; buf.is_empty() && !state.outgoing.is_empty());
     assert!(rt; state.write(&mut buf, 4)?);
     assert_eq!(rt; buf.as_slice(), b"\x31\x02hi".as_slice());
     assert!(rt; !state.write(&mut buf, 100)?);
     assert_eq!(rt; decode(alloc, buf.as_slice())?.len(), 1);
+    Ok(())
+}
+
+// Four wait, in all the room that there is, so the fifth needs memory for its place.
+#[test]
+fn refused_send_drops_nothing(rt: HostRuntime) -> Result<(), Fail> {
+    let alloc = rt.alloc();
+    let mut state = DatagramState::new(alloc);
+    let limits = DatagramLimits {
+        send: 4 * 33,
+        ..LIMITS
+    };
+    for value in 1..5 {
+        assert_eq!(rt;
+            send(&mut state, limits, bytes(alloc, 1, value)?, false),
+            None
+        );
+    }
+    let fifth = bytes(alloc, 1, 5)?;
+    match Datagrams::new(&mut state, limits).send(fifth, true) {
+        Err(SendDatagramError::OutOfMemory(back)) => {
+            assert_eq!(rt; back.as_slice(), [5].as_slice());
+            assert_eq!(rt; state.outgoing.memory_used(), 4 * 33);
+            assert_eq!(rt; send(&mut state, limits, back, true), None);
+        }
+        outcome => assert_eq!(rt; outcome.err(), None),
+    }
+    let mut buf = Vec::with_capacity(alloc, 12)?;
+    for _ in 0..4 {
+        assert!(rt; state.write(&mut buf, 12)?);
+    }
+    assert_eq!(rt;
+        buf.as_slice(),
+        [0x31, 1, 2, 0x31, 1, 3, 0x31, 1, 4, 0x31, 1, 5].as_slice()
+    );
+    Ok(())
+}
+
+#[test]
+fn refused_received_drops_nothing(rt: HostRuntime) -> Result<(), Fail> {
+    let alloc = rt.alloc();
+    let mut state = DatagramState::new(alloc);
+    let window = Some(4 * 33);
+    for value in 1..5 {
+        let first = state.incoming.is_empty();
+        if state.received(datagram(alloc, 1, value)?, &window) != Ok(first) {
+            assert_eq!(rt; state.received(datagram(alloc, 1, value)?, &window)?, first);
+        }
+    }
+    if state.received(datagram(alloc, 1, 5)?, &window) == Err(ReceiveError::OutOfMemory) {
+        assert_eq!(rt; state.incoming.memory_used(), 4 * 33);
+        assert_eq!(rt; state.received(datagram(alloc, 1, 5)?, &window)?, false);
+    }
+    shows_received(&rt, &mut state, &[(2, 1), (3, 1), (4, 1), (5, 1)]);
+    Ok(())
+}
+
+#[test]
+fn refused_write_keeps_the_datagram(rt: HostRuntime) -> Result<(), Fail> {
+    let alloc = rt.alloc();
+    let mut state = DatagramState::new(alloc);
+    assert_eq!(rt; send(&mut state, LIMITS, bytes(alloc, 30, 1)?, false), None);
+    let mut buf = Vec::with_capacity(alloc, 1)?;
+    buf.push(0x30)?;
+    match state.write(&mut buf, 33) {
+        Ok(wrote) => assert!(rt; wrote),
+        Err(OutOfMemory) => {
+            assert_eq!(rt; buf.as_slice(), [0x30].as_slice());
+            assert_eq!(rt; state.outgoing.memory_used(), 62);
+            assert!(rt; state.write(&mut buf, 33)?);
+        }
+    }
+    assert_eq!(rt; buf.len(), 33);
+    assert!(rt; state.outgoing.is_empty());
     Ok(())
 }
 
@@ -213,16 +375,108 @@ fn counters_stop(rt: HostRuntime) -> Result<(), Fail> {
     Ok(())
 }
 
+// The name of each counter stands before its own number.
 #[test]
 fn counters_by_name(rt: HostRuntime) -> Result<(), Fail> {
-    let mut stats = FrameStats::new();
-    stats.record(&Frame::Ack);
-    let text = format!(in rt.alloc(); "{stats:?}")?;
-    assert!(rt;
-        text.as_str().starts_with(
-            "FrameStats { ACK: 1, ACK_FREQUENCY: 0, CONNECTION_CLOSE: 0, CRYPTO: 0,"
-        )
+    let stats = FrameStats {
+        acks: 1,
+        ack_frequency: 2,
+        connection_close: 3,
+        crypto: 4,
+        data_blocked: 5,
+        datagram: 6,
+        handshake_done: 7,
+        immediate_ack: 8,
+        max_data: 9,
+        max_stream_data: 10,
+        max_streams_bidi: 11,
+        max_streams_uni: 12,
+        new_connection_id: 13,
+        new_token: 14,
+        path_challenge: 15,
+        path_response: 16,
+        ping: 17,
+        reset_stream: 18,
+        retire_connection_id: 19,
+        stream_data_blocked: 20,
+        streams_blocked_bidi: 21,
+        streams_blocked_uni: 22,
+        stop_sending: 23,
+        stream: 24,
+    };
+    let wanted = concat!(
+        "FrameStats { ACK: 1, ACK_FREQUENCY: 2, CONNECTION_CLOSE: 3, CRYPTO: 4, DATA_BLOCKED: 5, DATAGRAM: 6, ",
+        "HANDSHAKE_DONE: 7, IMMEDIATE_ACK: 8, MAX_DATA: 9, MAX_STREAM_DATA: 10, MAX_STREAMS_BIDI: 11, ",
+        "MAX_STREAMS_UNI: 12, NEW_CONNECTION_ID: 13, NEW_TOKEN: 14, PATH_CHALLENGE: 15, PATH_RESPONSE: 16, PING: 17, ",
+        "RESET_STREAM: 18, RETIRE_CONNECTION_ID: 19, STREAM_DATA_BLOCKED: 20, STREAMS_BLOCKED_BIDI: 21, ",
+        "STREAMS_BLOCKED_UNI: 22, STOP_SENDING: 23, STREAM: 24 }"
     );
-    assert!(rt; text.as_str().ends_with("STOP_SENDING: 0, STREAM: 0 }"));
+    assert_eq!(rt; format!(in rt.alloc(); "{stats:?}")?.as_str(), wanted);
+    Ok(())
+}
+
+fn one_of_each_kind(alloc: Global) -> Result<Vec<Frame>, OutOfMemory> {
+    let id = StreamId::new(Side::Client, Dir::Bi, 1);
+    let error_code = VarInt::from(7);
+    Ok(vec![in alloc;
+        Frame::Padding,
+        Frame::Ping,
+        Frame::Ack,
+        Frame::ResetStream(ResetStream {
+            id,
+            error_code,
+            final_offset: error_code
+        }),
+        Frame::StopSending(StopSending { id, error_code }),
+        Frame::Crypto(Crypto {
+            offset: 0,
+            bytes: Bytes::new(alloc)
+        }),
+        Frame::NewToken,
+        Frame::Stream(Stream {
+            id,
+            offset: 0,
+            fin: false,
+            bytes: Bytes::new(alloc)
+        }),
+        Frame::MaxData(error_code),
+        Frame::MaxStreamData { id, offset: 1 },
+        Frame::MaxStreams {
+            dir: Dir::Bi,
+            count: 1
+        },
+        Frame::MaxStreams {
+            dir: Dir::Uni,
+            count: 1
+        },
+        Frame::DataBlocked { offset: 1 },
+        Frame::StreamDataBlocked { id, offset: 1 },
+        Frame::StreamsBlocked { dir: Dir::Bi },
+        Frame::StreamsBlocked { dir: Dir::Uni },
+        Frame::NewConnectionId,
+        Frame::RetireConnectionId,
+        Frame::PathChallenge,
+        Frame::PathResponse,
+        Frame::Close,
+        Frame::Datagram(Datagram {
+            bytes: Bytes::new(alloc)
+        }),
+        Frame::AckFrequency,
+        Frame::ImmediateAck,
+        Frame::HandshakeDone,
+    ]?)
+}
+
+// Of 25 kinds with their directions all but padding have a counter, and each has its own.
+#[test]
+fn each_kind_is_counted_once(rt: HostRuntime) -> Result<(), Fail> {
+    let alloc = rt.alloc();
+    let mut stats = FrameStats::new();
+    for frame in one_of_each_kind(alloc)?.iter() {
+        stats.record(frame);
+    }
+    let text = format!(in alloc; "{stats:?}")?;
+    assert_eq!(rt; text.as_str().matches(": 1").count(), 24);
+    assert_eq!(rt; text.as_str().matches(": ").count(), 24);
     Ok(())
 }

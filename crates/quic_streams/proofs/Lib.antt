@@ -1,2 +1,3 @@
-pub mod Sets
+pub mod Merging
 pub mod Numbers
+pub mod Sets

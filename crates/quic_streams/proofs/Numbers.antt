@@ -1,5 +1,5 @@
 -- Lemmas on numbers that follow each other.
-use Rattle.std.proofs.Common.{◌≡◌, ℕ, ◌+◌, ◌-◌, ◌<◌, List, [], ◌∷◌, ◌++◌, length, refl, arith, zero, suc, ap, sym, ◌∙◌, append_assoc}
+use Rattle.std.proofs.Common.{◌≡◌, ℕ, ◌+◌, ◌-◌, ◌<◌, List, [], ◌∷◌, ◌++◌, length, refl, arith, zero, suc, append_assoc}
 use Rattle.quic_streams.specs.Pending.{numbers_from}
 
 pub length-numbers_from : (start n : ℕ) → length (numbers_from start n) ≡ n

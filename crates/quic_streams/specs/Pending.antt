@@ -1,5 +1,5 @@
 -- What is to be sent, again or for the first time, beside the data of streams.
-use Rattle.std.specs.Prelude.{◌≡◌, ℕ, ◌+◌, ◌-◌, ◌<◌, ◌≤◌, Bool, false, ◌||◌, ◌==◌, List, [], ◌∷◌, ◌++◌, length, slice_index_or, vec_len, zero, suc, Option, Some, None}
+use Rattle.std.specs.Prelude.{◌≡◌, ℕ, ◌+◌, ◌<◌, ◌≤◌, Bool, false, ◌||◌, ◌==◌, List, [], ◌∷◌, ◌++◌, slice_index_or, vec_len, zero, suc, Option, Some, None}
 use Rattle.std.specs.HashSet.{HashSet, contains, hash_set_len, spare}
 use Rattle.std.specs.Vec.{vec_capacity}
 use Rattle.std.specs.Option.{option_map}

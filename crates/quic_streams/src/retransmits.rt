@@ -89,6 +89,10 @@ impl Retransmits {
         ensures ok { OnOk result (shown self.new ≡ merged (shown self.old) (shown other)) }
         ensures err { OnErr result (shown self.new ≡ shown self.old) }
         ensures value_returned { IfErr result (λ back. back ≡ other) }
+
+        // What is empty adds nothing, on either side.
+        ensures with_nothing { shown other ≡ nothing → shown self.new ≡ shown self.old }
+        ensures onto_nothing { shown self.old ≡ nothing → OnOk result (shown self.new ≡ shown other) }
     {
         if self.make_room(&other).is_err() {
             return Err(other);
@@ -102,6 +106,7 @@ impl Retransmits {
         ensures ok { OnOk result (shown self.new ≡ merged_if (shown self.old) (shown_if other)) }
         ensures err { OnErr result (shown self.new ≡ shown self.old) }
         ensures value_returned { IfErr result (λ back. back ≡ other) }
+        ensures with_none { shown_if other ≡ None → shown self.new ≡ shown self.old }
     {
         if let Some(retransmits) = &other.retransmits
             && self.make_room(retransmits).is_err()
@@ -348,6 +353,7 @@ impl ThinRetransmits {
         }
         Ok(copy)
     }
+
     /// What is to be sent, to be changed. Takes memory where nothing was asked for before.
     pub fn get_or_create(&mut self) -> Result<&mut Retransmits, OutOfMemory>
         ensures* lends { sem 𝓛 (LendsPending self.entry result) }

@@ -1,4 +1,4 @@
-use Rattle.std.proofs.Common.{◌-◌, length, length-append, arith}
+use Rattle.std.proofs.Common.{◌-◌, length-append, arith}
 use Rattle.quic_streams.specs.Pending.{numbers_from}
 use Rattle.quic_streams.proofs.Numbers.{length-numbers_from}
 use Rattle.quic_streams.proofs.retransmits.Retransmits.retire_cids.Goals as goal
