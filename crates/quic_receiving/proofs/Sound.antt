@@ -1,8 +1,8 @@
 -- What is true of a half stays true.
-use Rattle.std.proofs.Common.{◌≡◌, ℕ, ◌+◌, ◌^◌, ◌<◌, ◌≤◌, ◌&&◌, Bool, true, false, not, nat_lt, nat_le, if◌then◌else◌, List, length, max, Option, Some, None, is_some, refl, sym, ◌∙◌, arith}
+use Rattle.std.proofs.Common.{◌≡◌, ℕ, ◌+◌, ◌^◌, ◌<◌, ◌≤◌, ◌&&◌, Bool, true, false, nat_lt, nat_le, if◌then◌else◌, List, length, max, Option, Some, None, is_some, refl, arith}
 use Rattle.std.proofs.lemmas.Bool.Decides.{nat_tests}
 use Rattle.quic_assembler.specs.Reassembly.{Reassembly}
-use Rattle.quic_receiving.specs.Half.{Half, IsHalf, Verdict, Refused, Taken, is_past, is_unfit, is_beyond, verdict, verdict_by, counted}
+use Rattle.quic_receiving.specs.Half.{Half, IsHalf, Refused, Taken, is_past, is_unfit, is_beyond, verdict, verdict_by, counted}
 use Rattle.quic_receiving.specs.Counted.{IsCounted}
 use Rattle.quic_receiving.specs.Calls.{Inserted}
 use Rattle.quic_receiving.proofs.Counted.{read-bound, counted-inserted}
