@@ -1,4 +1,4 @@
-ghost use Rattle.std.specs.Prelude.{◌≡◌, ◌≤◌, ◌<◌, ◌^◌, ◌↔◌, length, IsSome, IfOk};
+ghost use Rattle.std.specs.Prelude.{◌≡◌, ◌+◌, ◌%◌, ◌≤◌, ◌<◌, ◌^◌, ◌↔◌, length, IsSome, IfOk};
 ghost use Rattle.streambench.specs.Arguments.{CanRun};
 
 use quic_values::{Bytes, OutOfMemory};
@@ -71,19 +71,28 @@ pub(crate) struct Seen {
 impl Seen {
     /// Sees bytes at an offset.
     #[inline]
-    pub(crate) fn see(&mut self, offset: u64, bytes: &[u8]) {
+    pub(crate) fn see(&mut self, offset: u64, bytes: &[u8])
+        ensures { self.new.bytes ≡ (self.old.bytes + length bytes.now) % 2 ^ 64 }
+    {
         self.bytes = self.bytes.wrapping_add(bytes.len() as u64);
-        let skipped = (offset.wrapping_neg() % STEP) as usize;
-        let Some(marked) = bytes.get(skipped..) else {
-            return;
-        };
-        let mut factor = offset.div_ceil(STEP);
-        for block in marked.chunks(STEP as usize) {
-            factor = factor.wrapping_add(1);
-            if let Some(byte) = block.first() {
-                let term = (u64::from(*byte) + 1).wrapping_mul(factor);
-                self.sum = self.sum.wrapping_add(term);
-            }
+        self.sum = mix(self.sum, offset, bytes);
+    }
+}
+
+// A sum, and what bytes at an offset add to it.
+#[inline]
+fn mix(sum: u64, offset: u64, bytes: &[u8]) -> u64 {
+    let skipped = (offset.wrapping_neg() % STEP) as usize;
+    let Some(marked) = bytes.get(skipped..) else {
+        return sum;
+    };
+    let mut sum = sum;
+    let mut factor = offset.div_ceil(STEP);
+    for block in marked.chunks(STEP as usize) {
+        factor = factor.wrapping_add(1);
+        if let Some(byte) = block.first() {
+            sum = sum.wrapping_add((u64::from(*byte) + 1).wrapping_mul(factor));
         }
     }
+    sum
 }
