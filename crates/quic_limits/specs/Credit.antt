@@ -38,5 +38,5 @@ announced c = record c { sent_max_data = max c.sent_max_data (max_data_of c) }
 -- a larger window raises the limit by the gain, a smaller one adds the loss to the debt
 abbrev pub resized : Credit → ℕ → Credit
 resized c window = if nat_lt c.receive_window window
-  then record c { receive_window = window; local_max_data = min (c.local_max_data + (window - c.receive_window)) (2 ^ 64 - 1) }
-  else record c { receive_window = window; shrink_debt = min (c.shrink_debt + (c.receive_window - window)) (2 ^ 64 - 1) }
+    then record c { receive_window = window; local_max_data = min (c.local_max_data + (window - c.receive_window)) (2 ^ 64 - 1) }
+    else record c { receive_window = window; shrink_debt = min (c.shrink_debt + (c.receive_window - window)) (2 ^ 64 - 1) }
