@@ -1,3 +1,1 @@
 pub mod Fields
-pub mod Numerals
-pub mod Serving

@@ -1,4 +1,2 @@
 pub mod Field
-pub mod Grammar
 pub mod Line
-pub mod Session
