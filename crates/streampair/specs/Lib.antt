@@ -1,2 +1,4 @@
 pub mod Field
+pub mod Grammar
 pub mod Line
+pub mod Session

@@ -1,5 +1,10 @@
-ghost use Rattle.std.specs.Prelude.{◌≤◌, ◌^◌, IfOk};
+ghost use Rattle.std.specs.Prelude.{◌≡◌, ◌≤◌, ◌<◌, ◌^◌, ◌↔◌, IsTrue, IfOk, map, slice_index};
+ghost use Rattle.std.specs.Fmt.{decimal, signed_decimal};
+ghost use Rattle.std.specs.List.{join_with_byte};
 ghost use Rattle.std.specs.Str.{IsAscii};
+ghost use Rattle.streampair.specs.Field.{hex_form};
+ghost use Rattle.streampair.specs.Grammar.{end_text, letter_text, fields_of, step_fields, MeansStep, MeansConfig};
+ghost use Rattle.streampair.specs.Line.{direction_text};
 
 use crate::hexadecimal::hex_bytes;
 use quic_pair::{Config, End, Step};
@@ -33,7 +38,8 @@ impl<T: Drop> From<AllocFailed<T>> for LineError {
 
 // The fields of a line, which single spaces part.
 fn fields_of<'a>(alloc: Global, line: &'a [u8]) -> Result<Vec<&'a str>, LineError>
-    ensures { IfOk result (λ fields. IsAscii line.now) }
+    ensures ascii { IfOk result (λ fields. IsAscii line.now) }
+    ensures fields { IfOk result (λ fields. map (λ field. field.now) fields.items ≡ fields_of line.now) }
 {
     if !line.is_ascii() {
         return Err(LineError::Malformed);
@@ -41,38 +47,63 @@ fn fields_of<'a>(alloc: Global, line: &'a [u8]) -> Result<Vec<&'a str>, LineErro
     let Ok(text) = str::from_utf8(line) else {
         return Err(LineError::Malformed);
     };
-    let mut fields = Vec::new(alloc);
-    for field in text.split(' ') {
-        fields.push(field)?;
-    }
-    Ok(fields)
+    Ok(parts_of(alloc, text)?)
+}
+
+fn parts_of(alloc: Global, text: &str) -> Result<Vec<&str>, AllocError>
+    ensures { IfOk result (λ parts. map (λ part. part.now) parts.items ≡ fields_of text.now) }
+{
+    text.split(' ').collect(alloc)
+}
+
+fn begins_as_number(text: &[u8]) -> bool
+    ensures { IsTrue result ↔ ((49 ≤ slice_index text.now 0) × (slice_index text.now 0 ≤ 57)) }
+{
+    matches!(text, [b'1'..=b'9', ..])
+}
+
+fn begins_as_negative(text: &[u8]) -> bool
+    ensures { IsTrue result ↔ ((slice_index text.now 0 ≡ 45) × (49 ≤ slice_index text.now 1) × (slice_index text.now 1 ≤ 57)) }
+{
+    matches!(text, [b'-', b'1'..=b'9', ..])
 }
 
 // A decimal number without sign or leading zeros.
-fn number(field: &str) -> Result<u64, LineError> {
-    match field.as_bytes() {
-        b"0" => Ok(0),
-        [b'1'..=b'9', ..] => field.parse::<u64>().or(Err(LineError::Malformed)),
-        _ => Err(LineError::Malformed),
+fn number(field: &str) -> Result<u64, LineError>
+    ensures { IfOk result (λ n. field.now ≡ decimal n) }
+{
+    if field == "0" {
+        return Ok(0);
     }
+    if !begins_as_number(field.as_bytes()) {
+        return Err(LineError::Malformed);
+    }
+    field.parse::<u64>().or(Err(LineError::Malformed))
 }
 
-fn size(field: &str) -> Result<usize, LineError> {
+fn size(field: &str) -> Result<usize, LineError>
+    ensures { IfOk result (λ n. field.now ≡ decimal n) }
+{
     Ok(number(field)? as usize)
 }
 
 // A number below 2^62.
-fn var_int(field: &str) -> Result<VarInt, LineError> {
+fn var_int(field: &str) -> Result<VarInt, LineError>
+    ensures { IfOk result (λ n. field.now ≡ decimal n) }
+{
     VarInt::from_u64(number(field)?).ok_or(LineError::Malformed)
 }
 
-fn stream_id(field: &str) -> Result<StreamId, LineError> {
+fn stream_id(field: &str) -> Result<StreamId, LineError>
+    ensures { IfOk result (λ id. field.now ≡ decimal id) }
+{
     Ok(StreamId::from(var_int(field)?))
 }
 
 // A number of streams, at most 2^60.
 fn count(field: &str) -> Result<VarInt, LineError>
-    ensures { IfOk result (λ n. n ≤ 2 ^ 60) }
+    ensures small { IfOk result (λ n. n ≤ 2 ^ 60) }
+    ensures text { IfOk result (λ n. field.now ≡ decimal n) }
 {
     let count = number(field)?;
     if count > MAX_STREAM_COUNT {
@@ -82,18 +113,26 @@ fn count(field: &str) -> Result<VarInt, LineError>
 }
 
 // A number of 32 bits, with `-` in front where it is negative.
-fn priority(field: &str) -> Result<i32, LineError> {
-    match field.as_bytes() {
-        b"0" => Ok(0),
-        [b'1'..=b'9', ..] | [b'-', b'1'..=b'9', ..] => {
-            field.parse::<i32>().or(Err(LineError::Malformed))
-        }
-        _ => Err(LineError::Malformed),
+fn priority(field: &str) -> Result<i32, LineError>
+    ensures { IfOk result (λ n. field.now ≡ signed_decimal n) }
+{
+    if field == "0" {
+        return Ok(0);
     }
+    if begins_as_number(field.as_bytes()) {
+        return field.parse::<i32>().or(Err(LineError::Malformed));
+    }
+    if begins_as_negative(field.as_bytes()) {
+        return field.parse::<i32>().or(Err(LineError::Malformed));
+    }
+    Err(LineError::Malformed)
 }
 
 // How many chunks a read asks for, from 1 to 65535.
-fn times(field: &str) -> Result<u16, LineError> {
+fn times(field: &str) -> Result<u16, LineError>
+    ensures some { IfOk result (λ n. 0 < n) }
+    ensures text { IfOk result (λ n. field.now ≡ decimal n) }
+{
     let times = number(field)?;
     if times == 0 || times > 65535 {
         return Err(LineError::Malformed);
@@ -101,7 +140,9 @@ fn times(field: &str) -> Result<u16, LineError> {
     Ok(times as u16)
 }
 
-fn end(field: &str) -> Result<End, LineError> {
+fn end(field: &str) -> Result<End, LineError>
+    ensures { IfOk result (λ who. field.now ≡ end_text who) }
+{
     match field {
         "a" => Ok(End::A),
         "b" => Ok(End::B),
@@ -109,7 +150,9 @@ fn end(field: &str) -> Result<End, LineError> {
     }
 }
 
-fn direction(field: &str) -> Result<Dir, LineError> {
+fn direction(field: &str) -> Result<Dir, LineError>
+    ensures { IfOk result (λ dir. field.now ≡ direction_text dir) }
+{
     match field {
         "bi" => Ok(Dir::Bi),
         "uni" => Ok(Dir::Uni),
@@ -118,7 +161,9 @@ fn direction(field: &str) -> Result<Dir, LineError> {
 }
 
 // One of two letters: whether it is the first.
-fn is_first(field: &str, first: &str, second: &str) -> Result<bool, LineError> {
+fn is_first(field: &str, first: &str, second: &str) -> Result<bool, LineError>
+    ensures { IfOk result (λ b. field.now ≡ letter_text first.now second.now b) }
+{
     if field == first {
         Ok(true)
     } else if field == second {
@@ -128,14 +173,18 @@ fn is_first(field: &str, first: &str, second: &str) -> Result<bool, LineError> {
     }
 }
 
-fn bytes(alloc: Global, field: &str) -> Result<Bytes, LineError> {
+fn bytes(alloc: Global, field: &str) -> Result<Bytes, LineError>
+    ensures { IfOk result (λ bytes. field.now ≡ hex_form bytes) }
+{
     match hex_bytes(alloc, field)? {
         Some(bytes) => Ok(Bytes::from(bytes)),
         None => Err(LineError::Malformed),
     }
 }
 
-fn chunks(alloc: Global, field: &str) -> Result<Vec<Bytes>, LineError> {
+fn chunks(alloc: Global, field: &str) -> Result<Vec<Bytes>, LineError>
+    ensures { IfOk result (λ chunks. field.now ≡ join_with_byte 44 (map hex_form chunks.items)) }
+{
     let mut chunks = Vec::new(alloc);
     for part in field.split(',') {
         chunks.push(bytes(alloc, part)?)?;
@@ -145,7 +194,8 @@ fn chunks(alloc: Global, field: &str) -> Result<Vec<Bytes>, LineError> {
 
 /// One of the first two lines: what the end `who` permits.
 pub fn parse_config(alloc: Global, line: &[u8], who: End) -> Result<Config, LineError>
-    ensures { IfOk result (λ config. IsAscii line.now) }
+    ensures ascii { IfOk result (λ config. IsAscii line.now) }
+    ensures means { IfOk result (MeansConfig line.now who) }
 {
     let fields = fields_of(alloc, line)?;
     match fields.as_slice() {
@@ -169,7 +219,9 @@ pub fn parse_config(alloc: Global, line: &[u8], who: End) -> Result<Config, Line
 }
 
 // The steps of one end that send on a stream.
-fn parse_sending_step(alloc: Global, fields: &[&str]) -> Result<Step, LineError> {
+fn parse_sending_step(alloc: Global, fields: &[&str]) -> Result<Step, LineError>
+    ensures { IfOk result (λ step. map (λ field. field.now) fields.now ≡ step_fields step) }
+{
     match fields {
         ["write", who, id, bytes_field] => Ok(Step::Write {
             who: end(who)?,
@@ -200,7 +252,9 @@ fn parse_sending_step(alloc: Global, fields: &[&str]) -> Result<Step, LineError>
 }
 
 // The steps of one end that receive on a stream.
-fn parse_receiving_step(fields: &[&str]) -> Result<Step, LineError> {
+fn parse_receiving_step(fields: &[&str]) -> Result<Step, LineError>
+    ensures { IfOk result (λ step. map (λ field. field.now) fields.now ≡ step_fields step) }
+{
     match fields {
         ["stop", who, id, code] => Ok(Step::Stop {
             who: end(who)?,
@@ -223,7 +277,9 @@ fn parse_receiving_step(fields: &[&str]) -> Result<Step, LineError> {
 }
 
 // The steps of one end as a whole.
-fn parse_end_step(fields: &[&str]) -> Result<Step, LineError> {
+fn parse_end_step(fields: &[&str]) -> Result<Step, LineError>
+    ensures { IfOk result (λ step. map (λ field. field.now) fields.now ≡ step_fields step) }
+{
     match fields {
         ["open", who, dir] => Ok(Step::Open {
             who: end(who)?,
@@ -257,7 +313,9 @@ fn parse_end_step(fields: &[&str]) -> Result<Step, LineError> {
 }
 
 // The steps of the network.
-fn parse_network_step(fields: &[&str]) -> Result<Step, LineError> {
+fn parse_network_step(fields: &[&str]) -> Result<Step, LineError>
+    ensures { IfOk result (λ step. map (λ field. field.now) fields.now ≡ step_fields step) }
+{
     match fields {
         ["deliver", payload, frame] => Ok(Step::Deliver {
             payload: size(payload)?,
@@ -283,7 +341,8 @@ fn parse_network_step(fields: &[&str]) -> Result<Step, LineError> {
 
 /// Any later line: a step.
 pub fn parse_step(alloc: Global, line: &[u8]) -> Result<Step, LineError>
-    ensures { IfOk result (λ step. IsAscii line.now) }
+    ensures ascii { IfOk result (λ step. IsAscii line.now) }
+    ensures means { IfOk result (MeansStep line.now) }
 {
     let fields = fields_of(alloc, line)?;
     let fields = fields.as_slice();

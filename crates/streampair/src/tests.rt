@@ -8,10 +8,15 @@ use std::test::Fail;
 
 const CONFIGS: &str = "config a 4 4 1000 1000 1000\nconfig b 4 4 1000 1000 1000\n";
 
+// Serves an input, and gives the status.
+fn status_of<R: Read + Drop, W: Write + Drop>(alloc: Global, input: R, output: W) -> u8 {
+    serve(alloc, input, output)
+}
+
 // Serves a text: what is written, and the status.
 fn served(alloc: Global, input: &str) -> Result<(Vec<u8>, u8), Fail> {
     let mut output = Vec::new(alloc);
-    let status = serve(alloc, input.as_bytes(), &mut output);
+    let status = status_of(alloc, input.as_bytes(), &mut output);
     Ok((output, status))
 }
 
@@ -264,7 +269,7 @@ impl Write for BrokenWriter {
 fn a_reader_that_fails_ends_the_session(rt: HostRuntime) -> Result<(), Fail> {
     let mut output = Vec::new(rt.alloc());
     let input = BrokenReader(b"config a 4 4 1 1 1\nconfig b 4");
-    let status = serve(rt.alloc(), input, &mut output);
+    let status = status_of(rt.alloc(), input, &mut output);
     assert_eq!(rt; output.as_slice(), b"ok\n".as_slice());
     assert_eq!(rt; status, 1);
     Ok(())
@@ -274,7 +279,7 @@ fn a_reader_that_fails_ends_the_session(rt: HostRuntime) -> Result<(), Fail> {
 fn a_writer_that_fails_ends_the_session(rt: HostRuntime) -> Result<(), Fail> {
     for room in 0..11 {
         let input = "config a 4 4 1 1 1\nconfig b 4 4 1 1 1\nopen a uni\n";
-        let status = serve(rt.alloc(), input.as_bytes(), BrokenWriter(room));
+        let status = status_of(rt.alloc(), input.as_bytes(), BrokenWriter(room));
         assert_eq!(rt; status, 1, "room {room}");
     }
     Ok(())
