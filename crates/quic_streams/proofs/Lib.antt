@@ -1,3 +1,7 @@
+pub mod FirstStreams
+pub mod HalfMaps
 pub mod Merging
 pub mod Numbers
+pub mod SendMaps
 pub mod Sets
+pub mod WorldSteps
