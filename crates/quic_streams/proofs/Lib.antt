@@ -1,8 +1,11 @@
+pub mod Credits
 pub mod FirstStreams
 pub mod FrameSteps
 pub mod HalfMaps
+pub mod Histories
 pub mod Merging
 pub mod Numbers
 pub mod SendMaps
 pub mod Sets
+pub mod Totals
 pub mod WorldSteps

@@ -6,3 +6,4 @@ pub mod World
 pub mod Room
 pub mod Receiving
 pub mod Reading
+pub mod History

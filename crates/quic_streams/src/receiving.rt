@@ -1,10 +1,11 @@
 //! What the peer sends: frames with data and resets, and the credit that it is given.
 
-ghost use Rattle.std.specs.Prelude.{ℕ, ◌≡◌, ◌==◌, ◌≤◌, ◌||◌, ◌&&◌, not, length, true, is_some, Some, None, if◌then◌else◌};
+ghost use Rattle.std.specs.Prelude.{ℕ, List, ◌∷◌, ◌≡◌, ◌==◌, ◌≤◌, ◌||◌, ◌&&◌, not, length, true, is_some, Some, None, if◌then◌else◌};
 ghost use Rattle.quic_limits.specs.Credit.{is_max_data_due};
 ghost use Rattle.quic_limits.specs.Remote.{is_max_streams_due};
 ghost use Rattle.quic_streams.specs.Room.{rooms, window_rooms, HasEventRoom};
 ghost use Rattle.quic_streams.specs.World.{shown, refusal, freed, with_credit, with_receive};
+ghost use Rattle.quic_streams.specs.History.{Event, AddedCredits, From};
 ghost use Rattle.quic_streams.specs.Pending.{shown as listed};
 ghost use Rattle.quic_streams.specs.Receiving.{Receives, ReceivesReset, with_max_streams, with_rest};
 
@@ -179,6 +180,7 @@ impl StreamsState {
         ensures credit { shown self.new ≡ with_credit (shown self.old) credits }
         ensures due { result.0 ≡ is_max_data_due (shown self.new).credit }
         ensures rooms { rooms self.new ≡ rooms self.old }
+        ensures from { (h : List Event) → From h (shown self.old) → From (AddedCredits credits result ∷ h) (shown self.new) }
     {
         ShouldTransmit(self.credit.add(credits))
     }
