@@ -6,6 +6,7 @@ use Rattle.quic_streams.specs.World.{World, with_credit}
 use Rattle.quic_streams.specs.History.{Event, AddedCredits, Step, Facts, From, trace, consumed, debt, received}
 use Rattle.quic_streams.proofs.Credits.{credit-credited}
 use Rattle.quic_streams.proofs.Totals.{total_with, once_with}
+use Rattle.quic_streams.proofs.StreamSteps.{AllFrom}
 
 pub kept-credits : (h : List Event) (u v : World) (count : ℕ) (answer : ShouldTransmit) → Facts h u → v ≡ with_credit u count → Facts (AddedCredits count answer ∷ h) v
 kept-credits h u v count answer f is = rw is (record {

@@ -5,7 +5,9 @@ pub mod HalfMaps
 pub mod Histories
 pub mod Merging
 pub mod Numbers
+pub mod Refusals
 pub mod SendMaps
 pub mod Sets
+pub mod StreamSteps
 pub mod Totals
 pub mod WorldSteps
