@@ -7,6 +7,7 @@ use Rattle.quic_streams.specs.History.{Event, AddedCredits, Step, Facts, From, t
 use Rattle.quic_streams.proofs.Credits.{credit-credited}
 use Rattle.quic_streams.proofs.Totals.{total_with, once_with}
 use Rattle.quic_streams.proofs.StreamSteps.{AllFrom}
+use Rattle.quic_streams.proofs.FrameHistory.{Grows}
 
 pub kept-credits : (h : List Event) (u v : World) (count : ℕ) (answer : ShouldTransmit) → Facts h u → v ≡ with_credit u count → Facts (AddedCredits count answer ∷ h) v
 kept-credits h u v count answer f is = rw is (record {

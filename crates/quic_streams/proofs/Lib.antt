@@ -1,5 +1,6 @@
 pub mod Credits
 pub mod FirstStreams
+pub mod FrameHistory
 pub mod FrameSteps
 pub mod HalfMaps
 pub mod Histories
@@ -10,4 +11,5 @@ pub mod SendMaps
 pub mod Sets
 pub mod StreamSteps
 pub mod Totals
+pub mod Traces
 pub mod WorldSteps
