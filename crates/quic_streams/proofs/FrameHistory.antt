@@ -1,5 +1,5 @@
 -- A STREAM frame keeps what a history says.
-use Rattle.std.proofs.Common.{◌≡◌, ◌⊎◌, ℕ, Bool, true, false, ◌||◌, ◌&&◌, cond, eqb, List, ◌∷◌, length, Option, Some, None, is_some, Result, Ok, Err, max, refl, sym, ap, ◌∙◌, subst, inl, inr, arith, ◌+◌, ◌-◌, ◌≤◌}
+use Rattle.std.proofs.Common.{◌≡◌, ◌⊎◌, ℕ, Bool, true, false, ◌||◌, ◌&&◌, cond, eqb, List, ◌∷◌, length, Option, Some, None, is_some, Result, Ok, Err, max, refl, sym, ap, ◌∙◌, subst, inl, inr, arith, ◌+◌, ◌-◌, ◌/◌, ◌%◌, ◌≤◌}
 use Rattle.std.specs.Prelude.{nat_lt, nat_le, ◌^◌, if◌then◌else◌, ◌==◌}
 use Rattle.std.proofs.lemmas.Bool.Decides.{nat_tests}
 use Rattle.quic_wire.specs.declared.error.ReceiveError.{ReceiveError}
@@ -7,11 +7,13 @@ use Rattle.quic_wire.specs.declared.error.ReceiveError.TheVariants as receive_er
 use Rattle.quic_receiving.specs.Half.{Half, Refused, Taken, Verdict, verdict, is_past, is_beyond, counted}
 use Rattle.quic_receiving.specs.Calls.{Keeps, TakesFrame, Ingests}
 use Rattle.quic_receiving.specs.declared.transmit.ShouldTransmit.{ShouldTransmit}
-use Rattle.quic_streams.specs.World.{World, refusal, with_receive, with_counted, with_credit, advanced, noticed, freed}
+use Rattle.quic_values.specs.Ids.{index_of}
+use Rattle.quic_streams.specs.World.{World, refusal, is_own, with_receive, with_counted, with_credit, advanced, noticed, freed}
 use Rattle.quic_streams.specs.Receiving.{IsDropped, Reaches, Receives, after_data}
-use Rattle.quic_streams.specs.History.{Event, Received, Trace, HalfFrom, CreditFrom, Facts, trace, is_closed, is_kept, consumed, consumed_by, debt, received, frame_credit}
+use Rattle.quic_streams.specs.History.{Event, Received, Trace, HalfFrom, StreamFrom, CreditFrom, Facts, trace, is_closed, is_kept, consumed, consumed_by, debt, received, frame_credit}
 use Rattle.quic_streams.proofs.WorldSteps.{credit-with_receive, refusal-advanced, with_receive-back, with_counted-none}
-use Rattle.quic_streams.proofs.Totals.{by_cases}
+use Rattle.quic_streams.proofs.Refusals.{refusal_by, refusal-is}
+use Rattle.quic_streams.proofs.Totals.{by_cases, same}
 use Rattle.quic_streams.proofs.Credits.{credit-counted, credit-credited, credit-same}
 use Rattle.quic_streams.proofs.Traces.{itself, received-change}
 use Rattle.quic_streams.proofs.StreamSteps.{AllFrom, AllBut, all-told, half-from, gone-from, but-from, but-put, all-put, all-freed, all-noticed, credit-noticed, credit-freed}
@@ -190,3 +192,119 @@ module _ (h : List Event) (u : World) (id offset : ℕ) (bytes : List ℕ) (fin 
         (λ c. all-freed g w id but known_now (ap (λ k. k.gone) here ∙ and_both t.stopped fin stopped c))
         (λ c. put (ap (λ k. k.gone) here ∙ and_none t.stopped fin c));
       }
+
+-- ---- a frame that changes nothing
+
+or_second : (b c : Bool) → c ≡ true → (b || c) ≡ true
+or_second true c e = refl
+or_second false c e = e
+
+or_first : (b c : Bool) → b ≡ true → (b || c) ≡ true
+or_first b c e = rw e refl
+
+dropped_closed : (t : Trace) (r : Option ℕ) (o : Option Half) → r ≡ None → StreamFrom t r o → IsDropped o → is_closed t ≡ true
+dropped_closed t r None k s d = let gone : t.gone ≡ true = rw k at s in or_second t.reset t.gone gone
+dropped_closed t r (Some half) k s d = let x : HalfFrom t half = rw k at s in or_first t.reset t.gone (sym x.reset ∙ d)
+
+module _ (h : List Event) (u : World) (id offset : ℕ) (bytes : List ℕ) (fin : Bool) (answer : Result ShouldTransmit ReceiveError) (f : Facts h u)
+    (closed : is_kept answer ≡ true → is_closed (trace h id) ≡ true) where
+  abbrev e0 : Event
+  e0 = Received id offset bytes fin answer
+
+  abbrev g0 : ℕ → Trace
+  g0 = trace (e0 ∷ h)
+
+  untold : (q : ℕ) → g0 q ≡ trace h q
+  untold q = by_cases (eqb q id)
+      (λ t. by_cases (is_kept answer)
+      (λ k. let c : is_closed (trace h q) ≡ true = ap (λ x. is_closed (trace h x)) (same q id t) ∙ closed k in rw (t, k, c) refl)
+      (λ k. rw (t, k) refl))
+      (λ n. rw n refl)
+
+  unused : consumed_by h e0 ≡ 0
+  unused = by_cases (is_kept answer) (λ k. rw (k, closed k) refl) (λ k. rw k refl)
+
+  facts_unchanged : Facts (e0 ∷ h) u
+  facts_unchanged =
+      let change = received-change h g0 id (λ q n. untold q) in
+      let high : (g0 id).high ≡ (trace h id).high = ap (λ k. k.high) (untold id) in
+      let none = unused in
+      record {
+        credit = credit-same (consumed h) (debt h) (received h) (consumed (e0 ∷ h)) (debt (e0 ∷ h)) (received (e0 ∷ h)) u.credit (omega arith) (omega arith) (omega arith) f.credit;
+        streams = all-told (trace h) g0 u untold f.streams;
+      }
+
+pub facts-at : (h : List Event) (v w : World) → v ≡ w → Facts h w → Facts h v
+facts-at h v w e f = let P : World → Type 0 = λ x. Facts h x in subst P (sym e) f
+
+refusal_by_code : (own bi : Bool) (opened m n index code : ℕ) → refusal_by own bi opened m n index ≡ Some code → (code == 1) ≡ false
+refusal_by_code true true opened m n index code h = state_if (nat_le opened index) code h
+  where
+    state_if : (b : Bool) (code : ℕ) → (if b then Some 5 else None) ≡ Some code → (code == 1) ≡ false
+    state_if true code h = let e : 5 ≡ code = cc in grind (arith, nat_tests)
+    state_if false code h = cc
+refusal_by_code true false opened m n index code h = let e : 5 ≡ code = cc in grind (arith, nat_tests)
+refusal_by_code false true opened m n index code h = limit_if (nat_le m index) code h
+  where
+    limit_if : (b : Bool) (code : ℕ) → (if b then Some 4 else None) ≡ Some code → (code == 1) ≡ false
+    limit_if true code h = let e : 4 ≡ code = cc in grind (arith, nat_tests)
+    limit_if false code h = cc
+refusal_by_code false false opened m n index code h = limit_if (nat_le n index) code h
+  where
+    limit_if : (b : Bool) (code : ℕ) → (if b then Some 4 else None) ≡ Some code → (code == 1) ≡ false
+    limit_if true code h = let e : 4 ≡ code = cc in grind (arith, nat_tests)
+    limit_if false code h = cc
+
+-- a frame on a stream that the peer may not use is of another code than an internal error
+refusal_code : (w : World) (q code : ℕ) → refusal w q ≡ Some code → (code == 1) ≡ false
+refusal_code w q code e = refusal_by_code (is_own w q) (q / 2 % 2 == 0) w.opened_bi w.bi.max_remote w.uni.max_remote (index_of q) code (sym (refusal-is w q) ∙ e)
+
+not_kept : (b : Bool) {P : Type 0} → b ≡ false → b ≡ true → P
+not_kept b e k = absurd (cc)
+
+-- a half that is put back as it was
+unmoved : (u : World) (id : ℕ) (old new : Half) → u.receive id ≡ Some old → new ≡ old → advanced u id old new ≡ u
+unmoved u id old new half is = rw is (with_counted-none (with_receive u id (Some old)) (old.end - old.end) (omega arith) ∙ with_receive-back u id (Some old) half)
+
+after_data_stopped : (u : World) (id : ℕ) (old new : Half) (fin : Bool) → old.stopped ≡ true
+    → after_data u id old new fin ≡ with_credit (if fin then freed (advanced u id old new) id else advanced u id old new) (new.end - old.end)
+after_data_stopped u id old new fin s = rw s refl
+
+after_data_running : (u : World) (id : ℕ) (old new : Half) (fin : Bool) → old.stopped ≡ false → after_data u id old new fin ≡ noticed (advanced u id old new) id true
+after_data_running u id old new fin s = rw s refl
+
+-- ---- every answer
+
+pub kept-received : (h : List Event) (u v : World) (id offset : ℕ) (bytes : List ℕ) (fin : Bool) (answer : Result ShouldTransmit ReceiveError)
+    → Facts h u → Receives u id offset bytes fin answer v → Facts (Received id offset bytes fin answer ∷ h) v
+kept-received h u v id offset bytes fin (Ok transmit) f (inl s) =
+    facts-at _ v u s.3 (facts_unchanged h u id offset bytes fin (Ok transmit) f (λ k. dropped_closed (trace h id) (refusal u id) (u.receive id) s.0 (f.streams id) s.1))
+kept-received h u v id offset bytes fin (Ok transmit) f (inr s) =
+    let old = s.1 in
+    let new = s.2 in
+    let r = s.3 in
+    let grows = grows-takes old new offset bytes fin r.ingests.3 in
+    let fits = taken_fits old offset (length bytes) fin u.credit.data_recvd u.credit.local_max_data r.ingests.0 in
+    by_cases old.stopped
+    (λ k. facts-at _ v _ (s.5 ∙ after_data_stopped u id old new fin k) (facts_discarded h u id offset bytes fin (Ok transmit) old new f r.known r.half r.running grows fits refl k))
+    (λ k. facts-at _ v _ (s.5 ∙ after_data_running u id old new fin k) (facts_noticed h u id offset bytes fin (Ok transmit) old new f r.known r.half r.running grows fits refl k))
+kept-received h u v id offset bytes fin (Err (receive_error.Transport error)) f (inl s) =
+    facts-at _ v u s.1 (facts_unchanged h u id offset bytes fin (Err (receive_error.Transport error)) f (not_kept _ (refusal_code u id error.code s.0)))
+kept-received h u v id offset bytes fin (Err (receive_error.Transport error)) f (inr s) = refused s.2.ingests
+  where
+    refused : Ingests s.0 offset bytes fin u.credit.data_recvd u.credit.local_max_data (Err (receive_error.Transport error)) s.1 → Facts (Received id offset bytes fin (Err (receive_error.Transport error)) ∷ h) v
+    refused (inl k) =
+        facts-at _ v u (s.3 ∙ unmoved u id s.0 s.1 s.2.half k.1)
+        (facts_unchanged h u id offset bytes fin (Err (receive_error.Transport error)) f
+        (not_kept _ (refused_other s.0 offset (length bytes) fin u.credit.data_recvd u.credit.local_max_data error.code k.0)))
+    refused (inr k) =
+        let fits = taken_fits s.0 offset (length bytes) fin u.credit.data_recvd u.credit.local_max_data k.0 in
+        facts-at _ v _ s.3 (facts_running h u id offset bytes fin (Err (receive_error.Transport error)) s.0 s.1 f s.2.known s.2.half s.2.running
+        (grows-keeps s.0 s.1 offset bytes fin k.4) fits (rw k.1 refl) k.4.running)
+kept-received h u v id offset bytes fin (Err receive_error.CompactionMemory) f s =
+    let k = s.2.ingests in
+    let fits = taken_fits s.0 offset (length bytes) fin u.credit.data_recvd u.credit.local_max_data k.0 in
+    facts-at _ v _ s.3 (facts_running h u id offset bytes fin (Err receive_error.CompactionMemory) s.0 s.1 f s.2.known s.2.half s.2.running
+    (grows-keeps s.0 s.1 offset bytes fin k.2) fits refl k.2.running)
+kept-received h u v id offset bytes fin (Err receive_error.OutOfMemory) f s =
+    facts-at _ v u s (facts_unchanged h u id offset bytes fin (Err receive_error.OutOfMemory) f (not_kept false refl))
