@@ -187,10 +187,10 @@ module _ (h : List Event) (u : World) (id offset : ℕ) (bytes : List ℕ) (fin 
       let known_now : refusal w id ≡ None = refusal-advanced u id id old new ∙ known in
       record {
         credit = rw (credit_freed fin) (credit-same (consumed h + count) (debt h - count) (received (e ∷ h)) (consumed (e ∷ h)) (debt (e ∷ h)) (received (e ∷ h)) _
-        (omega arith) (omega arith) refl (credit-credited (consumed h) (debt h) (received (e ∷ h)) count w.credit counted-credit));
+            (omega arith) (omega arith) refl (credit-credited (consumed h) (debt h) (received (e ∷ h)) count w.credit counted-credit));
         streams = when g (freed w id) w fin
-        (λ c. all-freed g w id but known_now (ap (λ k. k.gone) here ∙ and_both t.stopped fin stopped c))
-        (λ c. put (ap (λ k. k.gone) here ∙ and_none t.stopped fin c));
+            (λ c. all-freed g w id but known_now (ap (λ k. k.gone) here ∙ and_both t.stopped fin stopped c))
+            (λ c. put (ap (λ k. k.gone) here ∙ and_none t.stopped fin c));
       }
 
 -- ---- a frame that changes nothing

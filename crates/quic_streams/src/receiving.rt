@@ -5,7 +5,7 @@ ghost use Rattle.quic_limits.specs.Credit.{is_max_data_due};
 ghost use Rattle.quic_limits.specs.Remote.{is_max_streams_due};
 ghost use Rattle.quic_streams.specs.Room.{rooms, window_rooms, HasEventRoom};
 ghost use Rattle.quic_streams.specs.World.{shown, refusal, freed, with_credit, with_receive};
-ghost use Rattle.quic_streams.specs.History.{Event, AddedCredits, From};
+ghost use Rattle.quic_streams.specs.History.{Event, Received, ReceivedReset, AddedCredits, From};
 ghost use Rattle.quic_streams.specs.Pending.{shown as listed};
 ghost use Rattle.quic_streams.specs.Receiving.{Receives, ReceivesReset, with_max_streams, with_rest};
 
@@ -23,6 +23,20 @@ impl StreamsState {
     /// A frame on a stream that was freed or reset is dropped. With an internal error (too many pieces) and with
     /// [`ReceiveError::CompactionMemory`] the frame is kept and counts all the same; other refusals change nothing.
     pub fn received(
+        &mut self,
+        frame: frame::Stream,
+        payload_len: usize,
+    ) -> Result<ShouldTransmit, ReceiveError>
+        requires { length frame.bytes ≤ payload_len }
+        ensures receives { Receives (shown self.old) frame.id frame.offset frame.bytes frame.fin result (shown self.new) }
+        ensures from { (h : List Event) → From h (shown self.old)
+            → From (Received frame.id frame.offset frame.bytes frame.fin result ∷ h) (shown self.new) }
+    {
+        self.receive_frame(frame, payload_len)
+    }
+
+    // The same, each way out.
+    fn receive_frame(
         &mut self,
         frame: frame::Stream,
         payload_len: usize,
