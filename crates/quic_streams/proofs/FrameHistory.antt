@@ -21,7 +21,7 @@ use Rattle.quic_streams.proofs.StreamSteps.{AllFrom, AllBut, all-told, half-from
 -- what a frame that was kept leaves of a half
 pub record Grows (old new : Half) (end : ℕ) (fin : Bool) : Type 0 where
   pub high : new.end ≡ max old.end end
-  pub sized : is_some new.size ≡ (is_some old.size || fin)
+  pub size : new.size ≡ (if fin then Some end else old.size)
   pub stopped : new.stopped ≡ old.stopped
   pub reset : new.reset ≡ old.reset
   pub read : new.buffer.bytes_read ≡ old.buffer.bytes_read
@@ -33,12 +33,12 @@ size_or (Some size) end true = refl
 size_or (Some size) end false = refl
 
 grows-counted : (old new : Half) (end : ℕ) (fin : Bool) → new ≡ counted old end fin → Grows old new end fin
-grows-counted old new end fin is = rw is (record { high = refl; sized = size_or old.size end fin; stopped = refl; reset = refl; read = refl })
+grows-counted old new end fin is = rw is (record { high = refl; size = refl; stopped = refl; reset = refl; read = refl })
 
 grows-keeps : (old new : Half) (offset : ℕ) (bytes : List ℕ) (fin : Bool) → Keeps old offset bytes fin new → Grows old new (offset + length bytes) fin
 grows-keeps old new offset bytes fin k = record {
   high = ap (λ x. x.end) k.is;
-  sized = ap (λ x. is_some x.size) k.is ∙ size_or old.size (offset + length bytes) fin;
+  size = ap (λ x. x.size) k.is;
   stopped = ap (λ x. x.stopped) k.is;
   reset = ap (λ x. x.reset) k.is;
   read = k.inserted.bytes_read;
@@ -49,21 +49,39 @@ grows-takes old new offset bytes fin t = by_cases old.stopped
     (λ s. grows-counted old new (offset + length bytes) fin (t.stopped s))
     (λ s. grows-keeps old new offset bytes fin (t.running s))
 
-no_test_fails : (a b c d : Bool) (e k : ℕ) → (if a then Refused e else if b then Refused k else if c then Refused k else if d then Refused e else Taken) ≡ Taken → d ≡ false
+-- what a frame that is taken passed
+pub record Passes (old : Half) (end : ℕ) (fin : Bool) (had most : ℕ) : Type 0 where
+  pub past : is_past old.size end fin ≡ false
+  pub low : fin ≡ true → old.end ≤ end
+  pub fits : had + (end - old.end) ≤ most
+
+no_test_fails : (a b c d : Bool) (e k : ℕ) → (if a then Refused e else if b then Refused k else if c then Refused k else if d then Refused e else Taken) ≡ Taken
+    → (b ≡ false) × (c ≡ false) × (d ≡ false)
 no_test_fails true b c d e k h = cc
 no_test_fails false true c d e k h = cc
 no_test_fails false false true d e k h = cc
 no_test_fails false false false true e k h = cc
-no_test_fails false false false false e k h = refl
+no_test_fails false false false false e k h = (refl, refl, refl)
 
-not_beyond : (high limit end had most : ℕ) → is_beyond high limit end had most ≡ false → had + (end - high) ≤ most
+pub not_beyond : (high limit end had most : ℕ) → is_beyond high limit end had most ≡ false → had + (end - high) ≤ most
 not_beyond high limit end had most h = grind (arith, nat_tests)
 
--- a frame that is taken fits the limit of the connection
-taken_fits : (h : Half) (offset count : ℕ) (fin : Bool) (had most : ℕ) → verdict h offset count fin had most ≡ Taken → had + ((offset + count) - h.end) ≤ most
-taken_fits h offset count fin had most v = let end = offset + count in
-    not_beyond h.end h.sent_max end had most
-    (no_test_fails (nat_le (2 ^ 62) end) (is_past h.size end fin) (fin && nat_lt end h.end) (is_beyond h.end h.sent_max end had most) 3 6 v)
+high_after : (fin : Bool) (high end : ℕ) → (fin && nat_lt end high) ≡ false → fin ≡ true → high ≤ end
+high_after true high end h t = grind (arith, nat_tests)
+high_after false high end h t = cc
+
+passes : (h : Half) (offset count : ℕ) (fin : Bool) (had most : ℕ) → verdict h offset count fin had most ≡ Taken → Passes h (offset + count) fin had most
+passes h offset count fin had most v =
+    let end = offset + count in
+    let tests = no_test_fails (nat_le (2 ^ 62) end) (is_past h.size end fin) (fin && nat_lt end h.end) (is_beyond h.end h.sent_max end had most) 3 6 v in
+    record { past = tests.0; low = high_after fin h.end end tests.1; fits = not_beyond h.end h.sent_max end had most tests.2 }
+
+-- then a final size that is known is the highest offset still
+size_after : (o : Option ℕ) (high end : ℕ) (fin : Bool) → ((e : ℕ) → o ≡ Some e → high ≡ e) → is_past o end fin ≡ false
+    → (fin ≡ true → high ≤ end) → (e : ℕ) → (if fin then Some end else o) ≡ Some e → max high end ≡ e
+size_after o high end true final past low e h = let k : end ≡ e = cc in omega (arith, low refl)
+size_after None high end false final past low e h = cc
+size_after (Some size) high end false final past low e h = let k : high ≡ e = final e h in let m : size ≡ e = cc in grind (arith, nat_tests)
 
 -- a frame that is refused is of another code than an internal error
 refused_code : (a b c d : Bool) (code : ℕ) → (if a then Refused 3 else if b then Refused 6 else if c then Refused 6 else if d then Refused 3 else Taken) ≡ Refused code → (code == 1) ≡ false
@@ -84,15 +102,16 @@ closed_or b c e k = rw (e, k) refl
 pub open-trace : (t : Trace) (h : Half) → HalfFrom t h → h.reset ≡ None → is_closed t ≡ false
 open-trace t h x running = closed_or t.reset t.gone (sym x.reset ∙ ap is_some running) x.there
 
-half_grown : (t t' : Trace) (old new : Half) (end : ℕ) (fin : Bool) → HalfFrom t old → Grows old new end fin
+half_grown : (t t' : Trace) (old new : Half) (end : ℕ) (fin : Bool) (had most : ℕ) → HalfFrom t old → Grows old new end fin → Passes old end fin had most
     → t' ≡ record t { high = max t.high end; sized = t.sized || fin; gone = t.stopped && fin } → t'.gone ≡ false → HalfFrom t' new
-half_grown t t' old new end fin x g e there = record {
+half_grown t t' old new end fin had most x g p e there = record {
   high = g.high ∙ ap (λ n. max n end) x.high ∙ sym (ap (λ k. k.high) e);
   read = g.read ∙ x.read ∙ sym (ap (λ k. k.read) e);
-  sized = g.sized ∙ ap (λ b. b || fin) x.sized ∙ sym (ap (λ k. k.sized) e);
+  sized = ap is_some g.size ∙ size_or old.size end fin ∙ ap (λ b. b || fin) x.sized ∙ sym (ap (λ k. k.sized) e);
   stopped = g.stopped ∙ x.stopped ∙ sym (ap (λ k. k.stopped) e);
   reset = ap is_some g.reset ∙ x.reset ∙ sym (ap (λ k. k.reset) e);
   there = there;
+  final = λ size k. g.high ∙ size_after old.size old.end end fin x.final p.past p.low size (sym g.size ∙ k);
 }
 
 pub when : (g : ℕ → Trace) (u v : World) (b : Bool) → (b ≡ true → AllFrom g u) → (b ≡ false → AllFrom g v) → AllFrom g (if b then u else v)
@@ -110,7 +129,7 @@ and_both b c e k = rw (e, k) refl
 
 module _ (h : List Event) (u : World) (id offset : ℕ) (bytes : List ℕ) (fin : Bool) (answer : Result ShouldTransmit ReceiveError) (old new : Half) (f : Facts h u)
     (known : refusal u id ≡ None) (half : u.receive id ≡ Some old) (running : old.reset ≡ None) (grows : Grows old new (offset + length bytes) fin)
-    (fits : u.credit.data_recvd + ((offset + length bytes) - old.end) ≤ u.credit.local_max_data) (kept : is_kept answer ≡ true) where
+    (passed : Passes old (offset + length bytes) fin u.credit.data_recvd u.credit.local_max_data) (kept : is_kept answer ≡ true) where
   abbrev e : Event
   e = Received id offset bytes fin answer
 
@@ -139,7 +158,7 @@ module _ (h : List Event) (u : World) (id offset : ℕ) (bytes : List ℕ) (fin 
   but = but-put g u id (Some new) (but-from (trace h) g u id others f.streams)
 
   put : (g id).gone ≡ false → AllFrom g w
-  put there = all-put g u id new (but-from (trace h) g u id others f.streams) known (half_grown t (g id) old new end fin was grows here there)
+  put there = all-put g u id new (but-from (trace h) g u id others f.streams) known (half_grown t (g id) old new end fin u.credit.data_recvd u.credit.local_max_data was grows passed here there)
 
   came : received (e ∷ h) ≡ received h + (new.end - old.end)
   came = let change = received-change h g id others in
@@ -150,7 +169,7 @@ module _ (h : List Event) (u : World) (id offset : ℕ) (bytes : List ℕ) (fin 
 
   counted-credit : CreditFrom (consumed h) (debt h) (received (e ∷ h)) w.credit
   counted-credit = rw (credit-with_receive u id (Some new))
-      (credit-counted (consumed h) (debt h) (received h) (new.end - old.end) (received (e ∷ h)) u.credit f.credit came (let b = grows.high in omega arith))
+      (credit-counted (consumed h) (debt h) (received h) (new.end - old.end) (received (e ∷ h)) u.credit f.credit came (let b = grows.high in let fits = passed.fits in omega arith))
 
   used : (n : ℕ) → (if t.stopped then end - t.high else 0) ≡ n → consumed_by h e ≡ n
   used n is = rw (kept, open-trace t old was running) is
@@ -284,10 +303,10 @@ kept-received h u v id offset bytes fin (Ok transmit) f (inr s) =
     let new = s.2 in
     let r = s.3 in
     let grows = grows-takes old new offset bytes fin r.ingests.3 in
-    let fits = taken_fits old offset (length bytes) fin u.credit.data_recvd u.credit.local_max_data r.ingests.0 in
+    let passed = passes old offset (length bytes) fin u.credit.data_recvd u.credit.local_max_data r.ingests.0 in
     by_cases old.stopped
-    (λ k. facts-at _ v _ (s.5 ∙ after_data_stopped u id old new fin k) (facts_discarded h u id offset bytes fin (Ok transmit) old new f r.known r.half r.running grows fits refl k))
-    (λ k. facts-at _ v _ (s.5 ∙ after_data_running u id old new fin k) (facts_noticed h u id offset bytes fin (Ok transmit) old new f r.known r.half r.running grows fits refl k))
+    (λ k. facts-at _ v _ (s.5 ∙ after_data_stopped u id old new fin k) (facts_discarded h u id offset bytes fin (Ok transmit) old new f r.known r.half r.running grows passed refl k))
+    (λ k. facts-at _ v _ (s.5 ∙ after_data_running u id old new fin k) (facts_noticed h u id offset bytes fin (Ok transmit) old new f r.known r.half r.running grows passed refl k))
 kept-received h u v id offset bytes fin (Err (receive_error.Transport error)) f (inl s) =
     facts-at _ v u s.1 (facts_unchanged h u id offset bytes fin (Err (receive_error.Transport error)) f (not_kept _ (refusal_code u id error.code s.0)))
 kept-received h u v id offset bytes fin (Err (receive_error.Transport error)) f (inr s) = refused s.2.ingests
@@ -298,13 +317,13 @@ kept-received h u v id offset bytes fin (Err (receive_error.Transport error)) f 
         (facts_unchanged h u id offset bytes fin (Err (receive_error.Transport error)) f
         (not_kept _ (refused_other s.0 offset (length bytes) fin u.credit.data_recvd u.credit.local_max_data error.code k.0)))
     refused (inr k) =
-        let fits = taken_fits s.0 offset (length bytes) fin u.credit.data_recvd u.credit.local_max_data k.0 in
+        let passed = passes s.0 offset (length bytes) fin u.credit.data_recvd u.credit.local_max_data k.0 in
         facts-at _ v _ s.3 (facts_running h u id offset bytes fin (Err (receive_error.Transport error)) s.0 s.1 f s.2.known s.2.half s.2.running
-        (grows-keeps s.0 s.1 offset bytes fin k.4) fits (rw k.1 refl) k.4.running)
+        (grows-keeps s.0 s.1 offset bytes fin k.4) passed (rw k.1 refl) k.4.running)
 kept-received h u v id offset bytes fin (Err receive_error.CompactionMemory) f s =
     let k = s.2.ingests in
-    let fits = taken_fits s.0 offset (length bytes) fin u.credit.data_recvd u.credit.local_max_data k.0 in
+    let passed = passes s.0 offset (length bytes) fin u.credit.data_recvd u.credit.local_max_data k.0 in
     facts-at _ v _ s.3 (facts_running h u id offset bytes fin (Err receive_error.CompactionMemory) s.0 s.1 f s.2.known s.2.half s.2.running
-    (grows-keeps s.0 s.1 offset bytes fin k.2) fits refl k.2.running)
+    (grows-keeps s.0 s.1 offset bytes fin k.2) passed refl k.2.running)
 kept-received h u v id offset bytes fin (Err receive_error.OutOfMemory) f s =
     facts-at _ v u s (facts_unchanged h u id offset bytes fin (Err receive_error.OutOfMemory) f (not_kept false refl))

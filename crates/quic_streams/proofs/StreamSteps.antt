@@ -97,7 +97,7 @@ all-without g w id s known is q = by_cases (eqb q id)
     (but-put g w id None s q)
 
 new-half-from : (window : ℕ) → HalfFrom untouched (new_half window)
-new-half-from window = record { high = refl; read = refl; sized = refl; stopped = refl; reset = refl; there = refl }
+new-half-from window = record { high = refl; read = refl; sized = refl; stopped = refl; reset = refl; there = refl; final = λ size e. cc }
 
 -- the next stream of the peer is permitted
 raised_all : (f : ℕ → Trace) (d : Dir) (u v : World) (window : ℕ) → v.side ≡ u.side → v.opened_bi ≡ u.opened_bi → IsRaised d u v

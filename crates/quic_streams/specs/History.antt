@@ -221,6 +221,8 @@ pub record HalfFrom (t : Trace) (h : Half) : Type 0 where
   pub stopped : h.stopped ≡ t.stopped
   pub reset : is_some h.reset ≡ t.reset
   pub there : t.gone ≡ false
+  -- a final size that is known is the highest offset
+  pub final : (size : ℕ) → h.size ≡ Some size → h.end ≡ size
 
 -- a stream whose frames are refused has no receive half, and nothing was told of it. Another has one until it is freed
 abbrev pub StreamFrom : Trace → Option ℕ → Option Half → Type 0
