@@ -1,3 +1,15 @@
+pub mod Credits
+pub mod FirstStreams
+pub mod FrameHistory
+pub mod FrameSteps
+pub mod HalfMaps
+pub mod Histories
 pub mod Merging
 pub mod Numbers
+pub mod Refusals
+pub mod SendMaps
 pub mod Sets
+pub mod StreamSteps
+pub mod Totals
+pub mod Traces
+pub mod WorldSteps

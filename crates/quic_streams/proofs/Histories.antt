@@ -1,0 +1,24 @@
+-- Each call keeps what a history says.
+use Rattle.std.proofs.Common.{◌≡◌, ℕ, Bool, List, ◌∷◌, Result}
+use Rattle.quic_wire.specs.declared.error.ReceiveError.{ReceiveError}
+use Rattle.quic_receiving.specs.declared.transmit.ShouldTransmit.{ShouldTransmit}
+use Rattle.quic_limits.specs.Credit.{is_max_data_due}
+use Rattle.quic_streams.specs.World.{World, with_credit}
+use Rattle.quic_streams.specs.Receiving.{Receives}
+use Rattle.quic_streams.specs.History.{Event, Received, AddedCredits, Facts, From, consumed, debt, received}
+use Rattle.quic_streams.proofs.Credits.{credit-credited}
+use Rattle.quic_streams.proofs.FrameHistory.{kept-received}
+
+pub kept-credits : (h : List Event) (u v : World) (count : ℕ) (answer : ShouldTransmit) → Facts h u → v ≡ with_credit u count → Facts (AddedCredits count answer ∷ h) v
+kept-credits h u v count answer f is = rw is (record {
+  credit = credit-credited (consumed h) (debt h) (received h) count u.credit f.credit;
+  streams = f.streams;
+})
+
+pub next-credits : (h : List Event) (u v : World) (count : ℕ) (answer : ShouldTransmit) → From h u → v ≡ with_credit u count → answer.0 ≡ is_max_data_due v.credit
+    → From (AddedCredits count answer ∷ h) v
+next-credits h u v count answer f is due = record { run = (u, f.run, tt, (is, due)); facts = kept-credits h u v count answer f.facts is }
+
+pub next-received : (h : List Event) (u v : World) (id offset : ℕ) (bytes : List ℕ) (fin : Bool) (answer : Result ShouldTransmit ReceiveError) → From h u
+    → Receives u id offset bytes fin answer v → From (Received id offset bytes fin answer ∷ h) v
+next-received h u v id offset bytes fin answer f s = record { run = (u, f.run, tt, s); facts = kept-received h u v id offset bytes fin answer f.facts s }

@@ -1,0 +1,11 @@
+use Rattle.std.proofs.Common.{ap}
+use Rattle.quic_streams.specs.World.{World, shown}
+use Rattle.quic_streams.proofs.Histories.{next-credits}
+use Rattle.quic_streams.proofs.state.StreamsState.add_read_credits.Goals as goal
+
+pub returns-clause-from : goal.returns-clause-from
+unfolding shown
+returns-clause-from c = λ h f.
+    let u = shown c.args.self.now in
+    let v = record u { credit = c.add.new.self } in
+    next-credits h u v c.args.credits (record { 0 = c.add.result }) f (ap (λ k. record u { credit = k }) c.add.ensures.credit) c.add.ensures.due
