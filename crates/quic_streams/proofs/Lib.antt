@@ -1,3 +1,4 @@
+pub mod Beginnings
 pub mod Credits
 pub mod FirstStreams
 pub mod FrameHistory
@@ -7,6 +8,7 @@ pub mod Histories
 pub mod Merging
 pub mod Numbers
 pub mod Refusals
+pub mod ResetHistory
 pub mod SendMaps
 pub mod Sets
 pub mod StreamSteps

@@ -96,7 +96,7 @@ all-without g w id s known is q = by_cases (eqb q id)
     subst P (sym (same q id t)) (set_none (g id) _ _ (refusal-with_receive w id id None ∙ known) (receive-there w id None) is))
     (but-put g w id None s q)
 
-new-half-from : (window : ℕ) → HalfFrom untouched (new_half window)
+pub new-half-from : (window : ℕ) → HalfFrom untouched (new_half window)
 new-half-from window = record { high = refl; read = refl; sized = refl; stopped = refl; reset = refl; there = refl; final = λ size e. cc }
 
 -- the next stream of the peer is permitted

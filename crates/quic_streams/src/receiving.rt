@@ -121,6 +121,15 @@ impl StreamsState {
         &mut self,
         frame: frame::ResetStream,
     ) -> Result<ShouldTransmit, ReceiveError>
+        ensures receives { ReceivesReset (shown self.old) frame.id frame.error_code frame.final_offset result (shown self.new) }
+        ensures from { (h : List Event) → From h (shown self.old)
+            → From (ReceivedReset frame.id frame.error_code frame.final_offset result ∷ h) (shown self.new) }
+    {
+        self.receive_reset(frame)
+    }
+
+    // The same, each way out.
+    fn receive_reset(&mut self, frame: frame::ResetStream) -> Result<ShouldTransmit, ReceiveError>
         ensures { ReceivesReset (shown self.old) frame.id frame.error_code frame.final_offset result (shown self.new) }
     {
         let id = frame.id;

@@ -1,11 +1,12 @@
 //! The streams of one end of a connection.
 
-ghost use Rattle.std.specs.Prelude.{◌≡◌, ◌+◌, ◌-◌, ◌<◌, ◌≤◌, ◌^◌, IfOk, IfErr, IfSome, OnOk, OnErr, IfNone, Some, None, is_some, true};
+ghost use Rattle.std.specs.Prelude.{[], ◌≡◌, ◌+◌, ◌-◌, ◌<◌, ◌≤◌, ◌^◌, IfOk, IfErr, IfSome, OnOk, OnErr, IfNone, Some, None, is_some, true};
 ghost use Rattle.std.specs.Option.{option_map};
 ghost use Rattle.quic_receiving.specs.Half.{new_half};
 ghost use Rattle.quic_streams.specs.Halves.{room, is_due_in, TellsCode};
 ghost use Rattle.quic_streams.specs.Sends.{send_room};
 ghost use Rattle.quic_streams.specs.Room.{rooms, HasEventRoom};
+ghost use Rattle.quic_streams.specs.History.{From};
 ghost use Rattle.quic_streams.specs.World.{World, shown, start, refusal, is_own, is_same_side, own_refusal, permitted, replaced_in, released, freed, told_readable, noticed, with_receive, with_counted};
 
 use crate::halves::ReceiveHalves;
@@ -50,7 +51,8 @@ impl StreamsState {
     ) -> Result<Self, OutOfMemory>
         requires uni { max_remote_uni ≤ 2 ^ 60 }
         requires bi { max_remote_bi ≤ 2 ^ 60 }
-        ensures { IfOk result (λ state. shown state ≡ start side max_remote_uni max_remote_bi send_window receive_window stream_receive_window) }
+        ensures start { IfOk result (λ state. shown state ≡ start side max_remote_uni max_remote_bi send_window receive_window stream_receive_window) }
+        ensures from { IfOk result (λ state. From [] (shown state)) }
     {
         let (uni, bi) = (max_remote_uni.into_inner(), max_remote_bi.into_inner());
         let mut receive = ReceiveHalves::new(alloc, stream_receive_window);
