@@ -9,6 +9,7 @@ use Rattle.quic_streams.specs.History.{Event, Received, ReceivedReset, AddedCred
 use Rattle.quic_streams.proofs.Credits.{credit-credited}
 use Rattle.quic_streams.proofs.FrameHistory.{kept-received}
 use Rattle.quic_streams.proofs.ResetHistory.{kept-reset}
+use Rattle.quic_streams.proofs.ReadHistory.{kept-began, kept-gave}
 
 pub kept-credits : (h : List Event) (u v : World) (count : ℕ) (answer : ShouldTransmit) → Facts h u → v ≡ with_credit u count → Facts (AddedCredits count answer ∷ h) v
 kept-credits h u v count answer f is = rw is (record {

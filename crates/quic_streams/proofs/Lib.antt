@@ -7,6 +7,7 @@ pub mod HalfMaps
 pub mod Histories
 pub mod Merging
 pub mod Numbers
+pub mod ReadHistory
 pub mod Refusals
 pub mod ResetHistory
 pub mod SendMaps

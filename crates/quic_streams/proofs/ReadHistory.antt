@@ -1,0 +1,148 @@
+-- Reads, stops, and what is told of resets keep what a history says.
+use Rattle.std.proofs.Common.{◌≡◌, ◌⊎◌, ℕ, Bool, true, false, eqb, List, length, ◌∷◌, Option, Some, None, is_some, is_none, Result, Ok, Err, refl, sym, ap, ◌∙◌, inl, inr, arith, ◌+◌, ◌-◌}
+use Rattle.std.specs.Prelude.{if◌then◌else◌}
+use Rattle.quic_assembler.specs.declared.chunk.Chunk.{Chunk}
+use Rattle.quic_assembler.specs.declared.errors.EnsureError.{EnsureError}
+use Rattle.quic_assembler.specs.declared.errors.EnsureError.TheVariants as ensure_error
+use Rattle.quic_assembler.specs.Reassembly.{Reassembly}
+use Rattle.quic_receiving.specs.Half.{Half, stop_credit}
+use Rattle.quic_receiving.specs.Calls.{Orders, Reads, Rests, Waits}
+use Rattle.quic_receiving.specs.declared.errors.ReadError.{ReadError}
+use Rattle.quic_receiving.specs.declared.errors.ReadError.TheVariants as read_error
+use Rattle.quic_receiving.specs.declared.errors.ReadableError.{ReadableError}
+use Rattle.quic_receiving.specs.declared.errors.ReadableError.TheVariants as readable_error
+use Rattle.quic_receiving.specs.declared.errors.HandleError.{HandleError}
+use Rattle.quic_receiving.specs.declared.errors.HandleError.TheVariants as handle_error
+use Rattle.quic_streams.specs.Pending.{Pending}
+use Rattle.quic_streams.specs.World.{World, refusal, with_receive, with_credit, freed}
+use Rattle.quic_streams.specs.Reading.{Begins, Asks, ReadsHalf, Stops, TellsReset, after_stop}
+use Rattle.quic_streams.specs.History.{Event, Began, Gave, Ended, Stopped, ToldReset, Trace, HalfFrom, CreditFrom, Facts, trace, with_read, streams, consumed, consumed_by, debt, received, total}
+use Rattle.quic_streams.specs.History as history
+use Rattle.quic_streams.proofs.WorldSteps.{credit-with_receive}
+use Rattle.quic_streams.proofs.Totals.{by_cases}
+use Rattle.quic_streams.proofs.Credits.{credit-credited, credit-same}
+use Rattle.quic_streams.proofs.Traces.{itself, high-gave, received-same}
+use Rattle.quic_streams.proofs.StreamSteps.{AllFrom, all-told, half-from, known-from, but-from, all-put, all-freed, credit-freed}
+use Rattle.quic_streams.proofs.FrameHistory.{facts-at, when}
+
+-- ---- a call that receives nothing and gives no credit
+
+module _ (h : List Event) (e : Event) (u : World) (f : Facts h u) (same_streams : streams (e ∷ h) ≡ streams h)
+    (highs : (q : ℕ) → (trace (e ∷ h) q).high ≡ (trace h q).high) (unused : consumed_by h e ≡ 0) where
+  abbrev g : ℕ → Trace
+  g = trace (e ∷ h)
+
+  came : received (e ∷ h) ≡ received h
+  came = ap (total (λ q. (g q).high)) same_streams ∙ received-same h g highs
+
+  credit_idle : CreditFrom (consumed (e ∷ h)) (debt (e ∷ h)) (received (e ∷ h)) u.credit
+  credit_idle = let none = unused in
+      credit-same (consumed h) (debt h) (received h) (consumed (e ∷ h)) (debt (e ∷ h)) (received (e ∷ h)) u.credit (omega arith) (omega arith) came f.credit
+
+  -- it changes nothing
+  facts_idle : ((q : ℕ) → g q ≡ trace h q) → Facts (e ∷ h) u
+  facts_idle untold = record { credit = credit_idle; streams = all-told (trace h) g u untold f.streams }
+
+  -- one half changes
+  facts_put : (id : ℕ) (new : Half) → ((q : ℕ) → eqb q id ≡ false → g q ≡ trace h q) → refusal u id ≡ None → HalfFrom (g id) new → Facts (e ∷ h) (with_receive u id (Some new))
+  facts_put id new others known is = record {
+    credit = rw (credit-with_receive u id (Some new)) credit_idle;
+    streams = all-put g u id new (but-from (trace h) g u id others f.streams) known is;
+  }
+
+  -- one half goes
+  facts_freed : (id : ℕ) → ((q : ℕ) → eqb q id ≡ false → g q ≡ trace h q) → refusal u id ≡ None → (g id).gone ≡ true → Facts (e ∷ h) (freed u id)
+  facts_freed id others known is = record {
+    credit = rw (credit-freed u id) credit_idle;
+    streams = all-freed g u id (but-from (trace h) g u id others f.streams) known is;
+  }
+
+-- a half of which only the buffer changed, and not how much was read
+half_same : (t : Trace) (old new : Half) → HalfFrom t old → new ≡ record old { buffer = new.buffer } → new.buffer.bytes_read ≡ old.buffer.bytes_read → HalfFrom t new
+half_same t old new x is read = record {
+  high = ap (λ k. k.end) is ∙ x.high;
+  read = read ∙ x.read;
+  sized = ap (λ k. is_some k.size) is ∙ x.sized;
+  stopped = ap (λ k. k.stopped) is ∙ x.stopped;
+  reset = ap (λ k. is_some k.reset) is ∙ x.reset;
+  there = x.there;
+  final = λ size k. ap (λ y. y.end) is ∙ x.final size (sym (ap (λ y. y.size) is) ∙ k);
+}
+
+-- ---- a reader is asked for
+
+ordered_half : (t : Trace) (old new : Half) (ordered : Bool) (answer : Result (Unit {0}) EnsureError) → HalfFrom t old → Orders old ordered answer new → HalfFrom t new
+ordered_half t old new ordered (Ok u) x (inl s) = rw s.1 x
+ordered_half t old new ordered (Ok u) x (inr s) = half_same t old new x s.2 s.1.leaves.bytes_read
+ordered_half t old new ordered (Err ensure_error.IllegalOrderedRead) x s = half_same t old new x s.3 s.2.bytes_read
+ordered_half t old new ordered (Err ensure_error.OutOfMemory) x s = half_same t old new x s.2 s.1.bytes_read
+
+facts_asks : (h : List Event) (u v : World) (id : ℕ) (ordered : Bool) (answer : Result (Unit {0}) ReadableError) (asked : Result (Unit {0}) EnsureError) → Facts h u
+    → Asks u id ordered asked v → Facts (Began id ordered answer ∷ h) v
+facts_asks h u v id ordered answer asked f a =
+    let known = known-from (trace h) u id a.old f.streams a.half in
+    facts-at _ v (with_receive u id (Some a.new)) a.is
+    (facts_put h (Began id ordered answer) u f refl (λ q. refl) refl id a.new (λ q n. refl) known
+    (ordered_half (trace h id) a.old a.new ordered asked (half-from (trace h) u id a.old f.streams known a.half) a.orders))
+
+facts_asked_none : (h : List Event) (u v : World) (id : ℕ) (ordered : Bool) (answer : Result (Unit {0}) ReadableError) → Facts h u → v ≡ u → Facts (Began id ordered answer ∷ h) v
+facts_asked_none h u v id ordered answer f is = facts-at _ v u is (facts_idle h (Began id ordered answer) u f refl (λ q. refl) refl (λ q. refl))
+
+pub kept-began : (h : List Event) (u v : World) (id : ℕ) (ordered : Bool) (answer : Result (Unit {0}) ReadableError) → Facts h u → Begins u id ordered answer v → Facts (Began id ordered answer ∷ h) v
+kept-began h u v id ordered (Ok x) f s = facts_asks h u v id ordered (Ok x) (Ok x) f s
+kept-began h u v id ordered (Err readable_error.ClosedStream) f s = facts_asked_none h u v id ordered (Err readable_error.ClosedStream) f s.1
+kept-began h u v id ordered (Err readable_error.IllegalOrderedRead) f s = facts_asks h u v id ordered (Err readable_error.IllegalOrderedRead) (Err ensure_error.IllegalOrderedRead) f s
+kept-began h u v id ordered (Err readable_error.OutOfMemory) f (inl s) = facts_asked_none h u v id ordered (Err readable_error.OutOfMemory) f s
+kept-began h u v id ordered (Err readable_error.OutOfMemory) f (inr s) = facts_asks h u v id ordered (Err readable_error.OutOfMemory) (Err ensure_error.OutOfMemory) f s
+
+-- ---- a read
+
+module _ (h : List Event) (u : World) (id most : ℕ) (answer : Result (Option Chunk) ReadError) (old new : Half) (f : Facts h u) (half : u.receive id ≡ Some old) where
+  abbrev e : Event
+  e = Gave id most answer
+
+  known : refusal u id ≡ None
+  known = known-from (trace h) u id old f.streams half
+
+  was : HalfFrom (trace h id) old
+  was = half-from (trace h) u id old f.streams known half
+
+  others : (q : ℕ) → eqb q id ≡ false → trace (e ∷ h) q ≡ trace h q
+  others q n = rw n refl
+
+  here : trace (e ∷ h) id ≡ with_read answer (trace h id)
+  here = rw (itself id) refl
+
+  highs : (q : ℕ) → (trace (e ∷ h) q).high ≡ (trace h q).high
+  highs q = high-gave q id most answer (trace h q)
+
+  facts_read : HalfFrom (with_read answer (trace h id)) new → Facts (e ∷ h) (with_receive u id (Some new))
+  facts_read is = facts_put h e u f refl highs refl id new others known (rw here is)
+
+  facts_ended : (with_read answer (trace h id)).gone ≡ true → Facts (e ∷ h) (freed u id)
+  facts_ended is = facts_freed h e u f refl highs refl id others known (ap (λ k. k.gone) here ∙ is)
+
+half_given : (t : Trace) (old new : Half) (count : ℕ) → HalfFrom t old → new ≡ record old { buffer = new.buffer } → new.buffer.bytes_read ≡ old.buffer.bytes_read + count
+    → HalfFrom (record t { read = t.read + count }) new
+half_given t old new count x is read = record {
+  high = ap (λ k. k.end) is ∙ x.high;
+  read = read ∙ ap (λ n. n + count) x.read;
+  sized = ap (λ k. is_some k.size) is ∙ x.sized;
+  stopped = ap (λ k. k.stopped) is ∙ x.stopped;
+  reset = ap (λ k. is_some k.reset) is ∙ x.reset;
+  there = x.there;
+  final = λ size k. ap (λ y. y.end) is ∙ x.final size (sym (ap (λ y. y.size) is) ∙ k);
+}
+
+pub kept-gave : (h : List Event) (u v : World) (id most : ℕ) (answer : Result (Option Chunk) ReadError) → Facts h u → ReadsHalf u id most answer v → Facts (Gave id most answer ∷ h) v
+kept-gave h u v id most (Ok (Some chunk)) f s =
+    facts-at _ v _ s.is (facts_read h u id most (Ok (Some chunk)) s.old s.new f s.half
+    (half_given (trace h id) s.old s.new (length chunk.bytes) (was h u id most (Ok (Some chunk)) s.old s.new f s.half) s.reads.2 s.reads.1.bytes_read))
+kept-gave h u v id most (Ok None) f s = facts-at _ v _ s.is (facts_ended h u id most (Ok None) s.old s.new f s.half refl)
+kept-gave h u v id most (Err read_error.Blocked) f s =
+    facts-at _ v _ s.is (facts_read h u id most (Err read_error.Blocked) s.old s.new f s.half
+    (half_same (trace h id) s.old s.new (was h u id most (Err read_error.Blocked) s.old s.new f s.half) s.reads.2.is s.reads.2.rests.bytes_read))
+kept-gave h u v id most (Err (read_error.Reset code)) f s = facts-at _ v _ s.is (facts_ended h u id most (Err (read_error.Reset code)) s.old s.new f s.half refl)
+kept-gave h u v id most (Err read_error.OutOfMemory) f s =
+    facts-at _ v _ s.is (facts_read h u id most (Err read_error.OutOfMemory) s.old s.new f s.half
+    (half_same (trace h id) s.old s.new (was h u id most (Err read_error.OutOfMemory) s.old s.new f s.half) s.reads.is s.reads.rests.bytes_read))
