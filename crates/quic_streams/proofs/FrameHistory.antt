@@ -5,7 +5,9 @@ use Rattle.std.proofs.lemmas.Bool.Decides.{nat_tests}
 use Rattle.quic_wire.specs.declared.error.ReceiveError.{ReceiveError}
 use Rattle.quic_wire.specs.declared.error.ReceiveError.TheVariants as receive_error
 use Rattle.quic_receiving.specs.Half.{Half, Refused, Taken, Verdict, verdict, is_past, is_beyond, counted}
-use Rattle.quic_receiving.specs.Calls.{Keeps, TakesFrame, Ingests}
+use Rattle.quic_receiving.specs.Data.{IsData}
+use Rattle.quic_receiving.specs.Calls.{Inserted, Keeps, TakesFrame, Ingests}
+use Rattle.quic_receiving.proofs.Data.{data-inserted}
 use Rattle.quic_receiving.specs.declared.transmit.ShouldTransmit.{ShouldTransmit}
 use Rattle.quic_values.specs.Ids.{index_of}
 use Rattle.quic_streams.specs.World.{World, refusal, is_own, with_receive, with_counted, with_credit, advanced, noticed, freed}
@@ -19,12 +21,14 @@ use Rattle.quic_streams.proofs.Traces.{itself, received-change}
 use Rattle.quic_streams.proofs.StreamSteps.{AllFrom, AllBut, all-told, half-from, gone-from, but-from, but-put, all-put, all-freed, all-noticed, credit-noticed, credit-freed}
 
 -- what a frame that was kept leaves of a half
-pub record Grows (old new : Half) (end : ℕ) (fin : Bool) : Type 0 where
-  pub high : new.end ≡ max old.end end
-  pub size : new.size ≡ (if fin then Some end else old.size)
+pub record Grows (old new : Half) (offset : ℕ) (bytes : List ℕ) (fin : Bool) : Type 0 where
+  pub high : new.end ≡ max old.end (offset + length bytes)
+  pub size : new.size ≡ (if fin then Some (offset + length bytes) else old.size)
   pub stopped : new.stopped ≡ old.stopped
   pub reset : new.reset ≡ old.reset
   pub read : new.buffer.bytes_read ≡ old.buffer.bytes_read
+  pub highest : new.buffer.highest ≤ max old.buffer.highest (offset + length bytes)
+  pub inserts : old.stopped ≡ false → Inserted old.buffer new.buffer offset bytes
 
 size_or : (o : Option ℕ) (end : ℕ) (fin : Bool) → is_some (if fin then Some end else o) ≡ (is_some o || fin)
 size_or None end true = refl
@@ -32,21 +36,31 @@ size_or None end false = refl
 size_or (Some size) end true = refl
 size_or (Some size) end false = refl
 
-grows-counted : (old new : Half) (end : ℕ) (fin : Bool) → new ≡ counted old end fin → Grows old new end fin
-grows-counted old new end fin is = rw is (record { high = refl; size = refl; stopped = refl; reset = refl; read = refl })
+grows-counted : (old new : Half) (offset : ℕ) (bytes : List ℕ) (fin : Bool) → old.stopped ≡ true → new ≡ counted old (offset + length bytes) fin → Grows old new offset bytes fin
+grows-counted old new offset bytes fin stopped is = rw is (record {
+  high = refl;
+  size = refl;
+  stopped = refl;
+  reset = refl;
+  read = refl;
+  highest = omega arith;
+  inserts = λ s. cc;
+})
 
-grows-keeps : (old new : Half) (offset : ℕ) (bytes : List ℕ) (fin : Bool) → Keeps old offset bytes fin new → Grows old new (offset + length bytes) fin
+grows-keeps : (old new : Half) (offset : ℕ) (bytes : List ℕ) (fin : Bool) → Keeps old offset bytes fin new → Grows old new offset bytes fin
 grows-keeps old new offset bytes fin k = record {
   high = ap (λ x. x.end) k.is;
   size = ap (λ x. x.size) k.is;
   stopped = ap (λ x. x.stopped) k.is;
   reset = ap (λ x. x.reset) k.is;
   read = k.inserted.bytes_read;
+  highest = omega (arith, k.inserted.highest);
+  inserts = λ s. k.inserted;
 }
 
-grows-takes : (old new : Half) (offset : ℕ) (bytes : List ℕ) (fin : Bool) → TakesFrame old offset bytes fin new → Grows old new (offset + length bytes) fin
+grows-takes : (old new : Half) (offset : ℕ) (bytes : List ℕ) (fin : Bool) → TakesFrame old offset bytes fin new → Grows old new offset bytes fin
 grows-takes old new offset bytes fin t = by_cases old.stopped
-    (λ s. grows-counted old new (offset + length bytes) fin (t.stopped s))
+    (λ s. grows-counted old new offset bytes fin s (t.stopped s))
     (λ s. grows-keeps old new offset bytes fin (t.running s))
 
 -- what a frame that is taken passed
@@ -102,17 +116,24 @@ closed_or b c e k = rw (e, k) refl
 pub open-trace : (t : Trace) (h : Half) → HalfFrom t h → h.reset ≡ None → is_closed t ≡ false
 open-trace t h x running = closed_or t.reset t.gone (sym x.reset ∙ ap is_some running) x.there
 
-half_grown : (t t' : Trace) (old new : Half) (end : ℕ) (fin : Bool) (had most : ℕ) → HalfFrom t old → Grows old new end fin → Passes old end fin had most
-    → t' ≡ record t { high = max t.high end; sized = t.sized || fin; gone = t.stopped && fin } → t'.gone ≡ false → HalfFrom t' new
-half_grown t t' old new end fin had most x g p e there = record {
-  high = g.high ∙ ap (λ n. max n end) x.high ∙ sym (ap (λ k. k.high) e);
+half_grown : (t t' : Trace) (old new : Half) (offset : ℕ) (bytes : List ℕ) (fin : Bool) (had most : ℕ) → HalfFrom t old → Grows old new offset bytes fin
+    → Passes old (offset + length bytes) fin had most
+    → t' ≡ record t { high = max t.high (offset + length bytes); sized = t.sized || fin; gone = t.stopped && fin; kept = record { offset = offset; bytes = bytes } ∷ t.kept }
+    → t'.gone ≡ false → HalfFrom t' new
+half_grown t t' old new offset bytes fin had most x g p e there = record {
+  high = g.high ∙ ap (λ n. max n (offset + length bytes)) x.high ∙ sym (ap (λ k. k.high) e);
   read = g.read ∙ x.read ∙ sym (ap (λ k. k.read) e);
-  sized = ap is_some g.size ∙ size_or old.size end fin ∙ ap (λ b. b || fin) x.sized ∙ sym (ap (λ k. k.sized) e);
+  sized = ap is_some g.size ∙ size_or old.size (offset + length bytes) fin ∙ ap (λ b. b || fin) x.sized ∙ sym (ap (λ k. k.sized) e);
   stopped = g.stopped ∙ x.stopped ∙ sym (ap (λ k. k.stopped) e);
   reset = ap is_some g.reset ∙ x.reset ∙ sym (ap (λ k. k.reset) e);
   there = there;
-  final = λ size k. g.high ∙ size_after old.size old.end end fin x.final p.past p.low size (sym g.size ∙ k);
+  final = λ size k. g.high ∙ size_after old.size old.end (offset + length bytes) fin x.final p.past p.low size (sym g.size ∙ k);
+  within = omega (arith, g.high, g.highest, x.within);
+  holds = subst HasData (sym e) (λ s r. data-inserted t.kept t.given old.buffer new.buffer offset bytes (g.inserts (x.stopped ∙ s)) (x.holds s r));
 }
+  where
+    HasData : Trace → Type 0
+    HasData k = k.stopped ≡ false → k.reset ≡ false → IsData k.kept k.given new.buffer
 
 pub when : (g : ℕ → Trace) (u v : World) (b : Bool) → (b ≡ true → AllFrom g u) → (b ≡ false → AllFrom g v) → AllFrom g (if b then u else v)
 when g u v true s t = s refl
@@ -128,7 +149,7 @@ and_both b c e k = rw (e, k) refl
 -- ---- a frame that was kept, on a half that was not reset
 
 module _ (h : List Event) (u : World) (id offset : ℕ) (bytes : List ℕ) (fin : Bool) (answer : Result ShouldTransmit ReceiveError) (old new : Half) (f : Facts h u)
-    (known : refusal u id ≡ None) (half : u.receive id ≡ Some old) (running : old.reset ≡ None) (grows : Grows old new (offset + length bytes) fin)
+    (known : refusal u id ≡ None) (half : u.receive id ≡ Some old) (running : old.reset ≡ None) (grows : Grows old new offset bytes fin)
     (passed : Passes old (offset + length bytes) fin u.credit.data_recvd u.credit.local_max_data) (kept : is_kept answer ≡ true) where
   abbrev e : Event
   e = Received id offset bytes fin answer
@@ -151,14 +172,14 @@ module _ (h : List Event) (u : World) (id offset : ℕ) (bytes : List ℕ) (fin 
   others : (q : ℕ) → eqb q id ≡ false → g q ≡ trace h q
   others q n = rw n refl
 
-  here : g id ≡ record t { high = max t.high end; sized = t.sized || fin; gone = t.stopped && fin }
+  here : g id ≡ record t { high = max t.high end; sized = t.sized || fin; gone = t.stopped && fin; kept = record { offset = offset; bytes = bytes } ∷ t.kept }
   here = rw (itself id, kept, open-trace t old was running) refl
 
   but : AllBut id g w
   but = but-put g u id (Some new) (but-from (trace h) g u id others f.streams)
 
   put : (g id).gone ≡ false → AllFrom g w
-  put there = all-put g u id new (but-from (trace h) g u id others f.streams) known (half_grown t (g id) old new end fin u.credit.data_recvd u.credit.local_max_data was grows passed here there)
+  put there = all-put g u id new (but-from (trace h) g u id others f.streams) known (half_grown t (g id) old new offset bytes fin u.credit.data_recvd u.credit.local_max_data was grows passed here there)
 
   came : received (e ∷ h) ≡ received h + (new.end - old.end)
   came = let change = received-change h g id others in

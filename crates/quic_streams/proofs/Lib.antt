@@ -1,5 +1,6 @@
 pub mod Beginnings
 pub mod Credits
+pub mod Endings
 pub mod FirstStreams
 pub mod FrameHistory
 pub mod FrameSteps

@@ -6,7 +6,9 @@ use Rattle.quic_assembler.specs.declared.errors.EnsureError.{EnsureError}
 use Rattle.quic_assembler.specs.declared.errors.EnsureError.TheVariants as ensure_error
 use Rattle.quic_assembler.specs.Reassembly.{Reassembly}
 use Rattle.quic_receiving.specs.Half.{Half, stop_credit}
-use Rattle.quic_receiving.specs.Calls.{Orders, Reads, Rests, Waits}
+use Rattle.quic_receiving.specs.Data.{IsData}
+use Rattle.quic_receiving.specs.Calls.{Orders, Reads, Given, Rests, Waits}
+use Rattle.quic_receiving.proofs.Data.{data-rests, data-leaves, data-given}
 use Rattle.quic_receiving.specs.declared.errors.ReadError.{ReadError}
 use Rattle.quic_receiving.specs.declared.errors.ReadError.TheVariants as read_error
 use Rattle.quic_receiving.specs.declared.errors.ReadableError.{ReadableError}
@@ -58,8 +60,9 @@ module _ (h : List Event) (e : Event) (u : World) (f : Facts h u) (same_streams 
   }
 
 -- a half of which only the buffer changed, and not how much was read
-half_same : (t : Trace) (old new : Half) → HalfFrom t old → new ≡ record old { buffer = new.buffer } → new.buffer.bytes_read ≡ old.buffer.bytes_read → HalfFrom t new
-half_same t old new x is read = record {
+half_same : (t : Trace) (old new : Half) → HalfFrom t old → new ≡ record old { buffer = new.buffer } → new.buffer.bytes_read ≡ old.buffer.bytes_read
+    → new.buffer.highest ≡ old.buffer.highest → (IsData t.kept t.given old.buffer → IsData t.kept t.given new.buffer) → HalfFrom t new
+half_same t old new x is read highest more = record {
   high = ap (λ k. k.end) is ∙ x.high;
   read = read ∙ x.read;
   sized = ap (λ k. is_some k.size) is ∙ x.sized;
@@ -67,15 +70,20 @@ half_same t old new x is read = record {
   reset = ap (λ k. is_some k.reset) is ∙ x.reset;
   there = x.there;
   final = λ size k. ap (λ y. y.end) is ∙ x.final size (sym (ap (λ y. y.size) is) ∙ k);
+  within = omega (arith, highest, ap (λ y. y.end) is, x.within);
+  holds = λ s r. more (x.holds s r);
 }
+
+half_rests : (t : Trace) (old new : Half) → HalfFrom t old → new ≡ record old { buffer = new.buffer } → Rests old.buffer new.buffer → HalfFrom t new
+half_rests t old new x is rests = half_same t old new x is rests.bytes_read rests.highest (data-rests t.kept t.given old.buffer new.buffer rests)
 
 -- ---- a reader is asked for
 
 ordered_half : (t : Trace) (old new : Half) (ordered : Bool) (answer : Result (Unit {0}) EnsureError) → HalfFrom t old → Orders old ordered answer new → HalfFrom t new
 ordered_half t old new ordered (Ok u) x (inl s) = rw s.1 x
-ordered_half t old new ordered (Ok u) x (inr s) = half_same t old new x s.2 s.1.leaves.bytes_read
-ordered_half t old new ordered (Err ensure_error.IllegalOrderedRead) x s = half_same t old new x s.3 s.2.bytes_read
-ordered_half t old new ordered (Err ensure_error.OutOfMemory) x s = half_same t old new x s.2 s.1.bytes_read
+ordered_half t old new ordered (Ok u) x (inr s) = half_same t old new x s.2 s.1.leaves.bytes_read s.1.leaves.highest (data-leaves t.kept t.given old.buffer new.buffer s.1)
+ordered_half t old new ordered (Err ensure_error.IllegalOrderedRead) x s = half_rests t old new x s.3 s.2
+ordered_half t old new ordered (Err ensure_error.OutOfMemory) x s = half_rests t old new x s.2 s.1
 
 facts_asks : (h : List Event) (u v : World) (id : ℕ) (ordered : Bool) (answer : Result (Unit {0}) ReadableError) (asked : Result (Unit {0}) EnsureError) → Facts h u
     → Asks u id ordered asked v → Facts (Began id ordered answer ∷ h) v
@@ -122,27 +130,29 @@ module _ (h : List Event) (u : World) (id most : ℕ) (answer : Result (Option C
   facts_ended : (with_read answer (trace h id)).gone ≡ true → Facts (e ∷ h) (freed u id)
   facts_ended is = facts_freed h e u f refl highs refl id others known (ap (λ k. k.gone) here ∙ is)
 
-half_given : (t : Trace) (old new : Half) (count : ℕ) → HalfFrom t old → new ≡ record old { buffer = new.buffer } → new.buffer.bytes_read ≡ old.buffer.bytes_read + count
-    → HalfFrom (record t { read = t.read + count }) new
-half_given t old new count x is read = record {
+half_given : (t : Trace) (old new : Half) (most : ℕ) (chunk : Chunk) → HalfFrom t old → new ≡ record old { buffer = new.buffer } → Given old.buffer most chunk new.buffer
+    → HalfFrom (with_read (Ok (Some chunk)) t) new
+half_given t old new most chunk x is gives = record {
   high = ap (λ k. k.end) is ∙ x.high;
-  read = read ∙ ap (λ n. n + count) x.read;
+  read = gives.bytes_read ∙ ap (λ n. n + length chunk.bytes) x.read;
   sized = ap (λ k. is_some k.size) is ∙ x.sized;
   stopped = ap (λ k. k.stopped) is ∙ x.stopped;
   reset = ap (λ k. is_some k.reset) is ∙ x.reset;
   there = x.there;
   final = λ size k. ap (λ y. y.end) is ∙ x.final size (sym (ap (λ y. y.size) is) ∙ k);
+  within = omega (arith, gives.highest, ap (λ y. y.end) is, x.within);
+  holds = λ s r. data-given t.kept t.given old.buffer new.buffer most chunk gives (x.holds s r);
 }
 
 pub kept-gave : (h : List Event) (u v : World) (id most : ℕ) (answer : Result (Option Chunk) ReadError) → Facts h u → ReadsHalf u id most answer v → Facts (Gave id most answer ∷ h) v
 kept-gave h u v id most (Ok (Some chunk)) f s =
     facts-at _ v _ s.is (facts_read h u id most (Ok (Some chunk)) s.old s.new f s.half
-    (half_given (trace h id) s.old s.new (length chunk.bytes) (was h u id most (Ok (Some chunk)) s.old s.new f s.half) s.reads.2 s.reads.1.bytes_read))
+    (half_given (trace h id) s.old s.new most chunk (was h u id most (Ok (Some chunk)) s.old s.new f s.half) s.reads.2 s.reads.1))
 kept-gave h u v id most (Ok None) f s = facts-at _ v _ s.is (facts_ended h u id most (Ok None) s.old s.new f s.half refl)
 kept-gave h u v id most (Err read_error.Blocked) f s =
     facts-at _ v _ s.is (facts_read h u id most (Err read_error.Blocked) s.old s.new f s.half
-    (half_same (trace h id) s.old s.new (was h u id most (Err read_error.Blocked) s.old s.new f s.half) s.reads.2.is s.reads.2.rests.bytes_read))
+    (half_rests (trace h id) s.old s.new (was h u id most (Err read_error.Blocked) s.old s.new f s.half) s.reads.2.is s.reads.2.rests))
 kept-gave h u v id most (Err (read_error.Reset code)) f s = facts-at _ v _ s.is (facts_ended h u id most (Err (read_error.Reset code)) s.old s.new f s.half refl)
 kept-gave h u v id most (Err read_error.OutOfMemory) f s =
     facts-at _ v _ s.is (facts_read h u id most (Err read_error.OutOfMemory) s.old s.new f s.half
-    (half_same (trace h id) s.old s.new (was h u id most (Err read_error.OutOfMemory) s.old s.new f s.half) s.reads.is s.reads.rests.bytes_read))
+    (half_rests (trace h id) s.old s.new (was h u id most (Err read_error.OutOfMemory) s.old s.new f s.half) s.reads.is s.reads.rests))

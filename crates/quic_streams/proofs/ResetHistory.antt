@@ -102,6 +102,8 @@ module _ (h : List Event) (u : World) (id code final : ℕ) (transmit : ShouldTr
     reset = ap (λ x. is_some x.reset) is ∙ sym (ap (λ k. k.reset) here);
     there = ap (λ k. k.gone) here ∙ s;
     final = λ size k. end_is ∙ (let m : Some final ≡ Some size = sym (ap (λ x. x.size) is) ∙ k in cc);
+    within = omega (arith, end_is, low, clears.highest, was.within);
+    holds = λ s r. let k : true ≡ false = sym (ap (λ k. k.reset) here) ∙ r in cc;
   }
 
   credited_is : (b c : Bool) → c ≡ b → final - (if b then t.high else t.read) ≡ new.end - (if c then old.end else old.buffer.bytes_read)

@@ -11,6 +11,7 @@ use Rattle.quic_limits.specs.Remote.{Remote}
 use Rattle.quic_receiving.specs.Half.{Half, new_half}
 use Rattle.quic_streams.specs.Halves.{Halves, with_half}
 use Rattle.quic_streams.specs.World.{World, refusal, is_own, remote_of, with_remote, with_receive, permitted, permitted_if, replaced_in, released, freed, told_readable, noticed}
+use Rattle.quic_receiving.proofs.Data.{data-fresh}
 use Rattle.quic_streams.specs.History.{Trace, untouched, HalfFrom, StreamFrom}
 use Rattle.quic_streams.proofs.WorldSteps.{receive-there, refusal-with_receive, credit-with_receive}
 use Rattle.quic_streams.proofs.Refusals.{IsRaised, refusal-same, refusal-raised, refusal-next, refusal-permitted}
@@ -97,7 +98,17 @@ all-without g w id s known is q = by_cases (eqb q id)
     (but-put g w id None s q)
 
 pub new-half-from : (window : ℕ) → HalfFrom untouched (new_half window)
-new-half-from window = record { high = refl; read = refl; sized = refl; stopped = refl; reset = refl; there = refl; final = λ size e. cc }
+new-half-from window = record {
+  high = refl;
+  read = refl;
+  sized = refl;
+  stopped = refl;
+  reset = refl;
+  there = refl;
+  final = λ size e. cc;
+  within = omega arith;
+  holds = λ s r. data-fresh;
+}
 
 -- the next stream of the peer is permitted
 raised_all : (f : ℕ → Trace) (d : Dir) (u v : World) (window : ℕ) → v.side ≡ u.side → v.opened_bi ≡ u.opened_bi → IsRaised d u v

@@ -8,6 +8,7 @@ use Rattle.quic_wire.specs.declared.error.ReceiveError.{ReceiveError}
 use Rattle.quic_wire.specs.declared.error.ReceiveError.TheVariants as receive_error
 use Rattle.quic_wire.specs.declared.error.TheConstants.TransportError.{INTERNAL_ERROR}
 use Rattle.quic_limits.specs.Credit.{Credit, is_max_data_due}
+use Rattle.quic_receiving.specs.Data.{Slice, IsData, IsAllGiven}
 use Rattle.quic_receiving.specs.Half.{Half}
 use Rattle.quic_receiving.specs.declared.transmit.ShouldTransmit.{ShouldTransmit}
 use Rattle.quic_receiving.specs.declared.errors.ReadError.{ReadError}
@@ -95,9 +96,15 @@ pub record Trace : Type 0 where
   pub reset : Bool
   -- whether its receive half was freed
   pub gone : Bool
+  -- whether a read told the end
+  pub ended : Bool
+  -- the frames that were kept, the last first
+  pub kept : List Slice
+  -- the chunks that reads gave, the last first
+  pub given : List Slice
 
 abbrev pub untouched : Trace
-untouched = record { high = 0; read = 0; sized = false; stopped = false; reset = false; gone = false }
+untouched = record { high = 0; read = 0; sized = false; stopped = false; reset = false; gone = false; ended = false; kept = []; given = [] }
 
 -- whether frames on a stream are dropped
 abbrev pub is_closed : Trace → Bool
@@ -110,9 +117,14 @@ is_kept (Err (receive_error.Transport error)) = error.code == INTERNAL_ERROR
 is_kept (Err receive_error.CompactionMemory) = true
 is_kept (Err receive_error.OutOfMemory) = false
 
--- a STREAM frame that ends there was kept. The end of a stopped stream frees it
-abbrev pub with_frame : ℕ → Bool → Trace → Trace
-with_frame end fin t = if is_closed t then t else record t { high = max t.high end; sized = t.sized || fin; gone = t.stopped && fin }
+-- a STREAM frame was kept. The end of a stopped stream frees it
+abbrev pub with_frame : ℕ → List ℕ → Bool → Trace → Trace
+with_frame offset bytes fin t = if is_closed t then t else record t {
+  high = max t.high (offset + length bytes);
+  sized = t.sized || fin;
+  gone = t.stopped && fin;
+  kept = record { offset = offset; bytes = bytes } ∷ t.kept;
+}
 
 -- a RESET_STREAM with a final size was taken. That of a stopped stream frees it
 abbrev pub with_reset : ℕ → Trace → Trace
@@ -120,8 +132,8 @@ with_reset final t = if is_closed t then t else record t { high = final; sized =
 
 -- a read answered so. The end and a reset free the stream
 abbrev pub with_read : Result (Option Chunk) ReadError → Trace → Trace
-with_read (Ok (Some chunk)) t = record t { read = t.read + length chunk.bytes }
-with_read (Ok None) t = record t { gone = true }
+with_read (Ok (Some chunk)) t = record t { read = t.read + length chunk.bytes; given = record { offset = chunk.offset; bytes = chunk.bytes } ∷ t.given }
+with_read (Ok None) t = record t { gone = true; ended = true }
 with_read (Err read_error.Blocked) t = t
 with_read (Err (read_error.Reset code)) t = record t { gone = true }
 with_read (Err read_error.OutOfMemory) t = t
@@ -136,7 +148,7 @@ with_told None t = t
 with_told (Some code) t = record t { gone = true }
 
 abbrev pub with_event : ℕ → Event → Trace → Trace
-with_event q (Received id offset bytes fin answer) t = if q == id && is_kept answer then with_frame (offset + length bytes) fin t else t
+with_event q (Received id offset bytes fin answer) t = if q == id && is_kept answer then with_frame offset bytes fin t else t
 with_event q (ReceivedReset id code final (Ok transmit)) t = if q == id then with_reset final t else t
 with_event q (Gave id most answer) t = if q == id then with_read answer t else t
 with_event q (Stopped id code (Ok u)) t = if q == id then with_stop t else t
@@ -223,6 +235,10 @@ pub record HalfFrom (t : Trace) (h : Half) : Type 0 where
   pub there : t.gone ≡ false
   -- a final size that is known is the highest offset
   pub final : (size : ℕ) → h.size ≡ Some size → h.end ≡ size
+  -- what is held lies below the highest offset
+  pub within : h.buffer.highest ≤ h.end
+  -- while it is neither stopped nor reset, it holds what came in kept frames and was not given
+  pub holds : t.stopped ≡ false → t.reset ≡ false → IsData t.kept t.given h.buffer
 
 -- a stream whose frames are refused has no receive half, and nothing was told of it. Another has one until it is freed
 abbrev pub StreamFrom : Trace → Option ℕ → Option Half → Type 0
@@ -230,6 +246,10 @@ StreamFrom t None (Some h) = HalfFrom t h
 StreamFrom t None None = t.gone ≡ true
 StreamFrom t (Some error) (Some h) = ⊥
 StreamFrom t (Some error) None = t ≡ untouched
+
+-- where a read told the end, the half was freed, and each byte below the final size was given
+abbrev pub EndsSo : Trace → Type 0
+EndsSo t = t.ended ≡ true → (t.gone ≡ true) × IsAllGiven t.given t.high
 
 -- what a history says of the end that it led to
 pub record Facts (h : List Event) (v : World) : Type 0 where
@@ -240,3 +260,4 @@ pub record Facts (h : List Event) (v : World) : Type 0 where
 pub record From (h : List Event) (v : World) : Type 0 where
   pub run : IsRun h v
   pub facts : Facts h v
+  pub ends : (q : ℕ) → EndsSo (trace h q)

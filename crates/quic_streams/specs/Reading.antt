@@ -72,6 +72,7 @@ pub record ReadsHalf (w : World) (id most : ℕ) (result : Result (Option Chunk)
   pub old : Half
   pub new : Half
   pub half : w.receive id ≡ Some old
+  pub running : old.stopped ≡ false
   pub reads : Reads old most result new
   pub is : v ≡ after_read w id new result
 
