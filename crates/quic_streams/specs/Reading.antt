@@ -83,6 +83,12 @@ progress_after (Err read_error.Blocked) = progress.Readable
 progress_after (Err (read_error.Reset code)) = progress.Reset code
 progress_after (Err read_error.OutOfMemory) = progress.Readable
 
+-- whether nothing more comes, and the half is freed
+abbrev pub is_ended : Progress → Bool
+is_ended progress.Readable = false
+is_ended (progress.Reset code) = true
+is_ended progress.Finished = true
+
 -- how many bytes an answer gives
 abbrev pub given_by : Result (Option Chunk) ReadError → ℕ
 given_by (Ok (Some chunk)) = length chunk.bytes

@@ -1,9 +1,9 @@
 //! Reading of streams.
 
-ghost use Rattle.std.specs.Prelude.{◌≡◌, ◌+◌, ◌<◌, ◌≤◌, ◌^◌, true, is_some, Some, OnOk};
+ghost use Rattle.std.specs.Prelude.{◌≡◌, ◌+◌, ◌<◌, ◌≤◌, ◌^◌, true, is_some, Some, Err, OnOk};
 ghost use Rattle.quic_streams.specs.World.{shown, with_credit, with_receive};
 ghost use Rattle.quic_streams.specs.Pending.{shown as listed};
-ghost use Rattle.quic_streams.specs.Reading.{Begins, Nexts, ReadsHalf, is_reading, needed, pending_after, is_transmit_due, is_window_queued, progress_after, given_by};
+ghost use Rattle.quic_streams.specs.Reading.{Begins, Nexts, ReadsHalf, is_reading, needed, pending_after, is_transmit_due, is_window_queued, progress_after, is_ended, given_by};
 ghost use Rattle.quic_streams.specs.Room.{rooms, window_rooms};
 
 use crate::retransmits::Retransmits;
@@ -21,6 +21,19 @@ pub enum Progress {
     Reset(VarInt),
     /// All was read. The half is freed.
     Finished,
+}
+
+impl Progress {
+    // Whether nothing more comes.
+    fn is_ended(self) -> bool
+        ensures { result ≡ is_ended self }
+    {
+        match self {
+            Progress::Readable => false,
+            Progress::Reset(_) => true,
+            Progress::Finished => true,
+        }
+    }
 }
 
 /// The chunks of a stream, one after another.
@@ -150,9 +163,18 @@ fn progress_after(answer: &Result<Option<Chunk>, ReadError>) -> Progress
     match answer {
         Ok(Some(_)) => Progress::Readable,
         Ok(None) => Progress::Finished,
-        Err(ReadError::Blocked) => Progress::Readable,
-        Err(ReadError::Reset(code)) => Progress::Reset(*code),
-        Err(ReadError::OutOfMemory) => Progress::Readable,
+        Err(error) => progress_after_error(*error),
+    }
+}
+
+// Where a reader is after a read that was refused.
+fn progress_after_error(error: ReadError) -> Progress
+    ensures { result ≡ progress_after (Err error) }
+{
+    match error {
+        ReadError::Blocked => Progress::Readable,
+        ReadError::Reset(code) => Progress::Reset(code),
+        ReadError::OutOfMemory => Progress::Readable,
     }
 }
 
@@ -283,18 +305,9 @@ impl StreamsState {
         let answer = half.next(max_length, ordered);
         let _total = half.bytes_read();
         self.put_half(id, half);
-        match answer {
-            Ok(Some(chunk)) => Ok(Some(chunk)),
-            Ok(None) => {
-                self.free_receive(id);
-                Ok(None)
-            }
-            Err(ReadError::Blocked) => Err(ReadError::Blocked),
-            Err(ReadError::Reset(code)) => {
-                self.free_receive(id);
-                Err(ReadError::Reset(code))
-            }
-            Err(ReadError::OutOfMemory) => Err(ReadError::OutOfMemory),
+        if progress_after(&answer).is_ended() {
+            self.free_receive(id);
         }
+        answer
     }
 }
