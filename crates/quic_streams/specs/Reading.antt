@@ -95,6 +95,12 @@ given_by (Ok (Some chunk)) = length chunk.bytes
 given_by (Ok None) = 0
 given_by (Err e) = 0
 
+-- what was told at the end
+abbrev pub IsLastAnswer : Progress → Result (Option Chunk) ReadError → Type 0
+IsLastAnswer progress.Readable result = ⊥
+IsLastAnswer (progress.Reset code) result = result ≡ Err (read_error.Reset code)
+IsLastAnswer progress.Finished result = result ≡ Ok None
+
 -- a reader gave its next answer. What it told at the end it tells again
 abbrev pub Nexts : Progress → World → ℕ → ℕ → Result (Option Chunk) ReadError → World → Type 0
 Nexts progress.Readable w id most result v = ReadsHalf w id most result v
@@ -121,7 +127,7 @@ pending_after progress w id read p = record (with_max_streams w p) {
 -- whether something was queued at the end of a reader
 abbrev pub is_transmit_due : Progress → World → ℕ → ℕ → Bool
 is_transmit_due progress w id read = (is_max_streams_due w.bi || is_max_streams_due w.uni)
-  || (is_window_queued progress w (w.receive id) || is_max_data_due (credited w.credit read))
+    || (is_window_queued progress w (w.receive id) || is_max_data_due (credited w.credit read))
 
 -- a list of STOP_SENDING frames, with one more where that is due
 abbrev pub with_stop : List StopSending → ℕ → ℕ → Bool → List StopSending
