@@ -1,4 +1,5 @@
 pub mod FirstStreams
+pub mod FrameSteps
 pub mod HalfMaps
 pub mod Merging
 pub mod Numbers

@@ -1,5 +1,5 @@
 -- Lemmas on maps from ids to send halves.
-use Rattle.std.proofs.Common.{◌≡◌, ℕ, Bool, true, false, cond, Option, Some, None, refl, sym, ap, ◌∙◌, is_some}
+use Rattle.std.proofs.Common.{◌≡◌, ℕ, Bool, true, false, cond, Option, Some, refl, ap, ◌∙◌, is_some}
 use Rattle.std.specs.Prelude.{◌==◌}
 use Rattle.quic_streams.specs.Sends.{with_send}
 use Rattle.quic_streams.proofs.Sets.{==-comm}

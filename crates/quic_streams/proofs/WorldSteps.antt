@@ -1,6 +1,5 @@
 -- How the halves of a state answer after steps.
-use Rattle.std.proofs.Common.{◌≡◌, ℕ, Option, Some, None, refl, ap, ◌∙◌, arith, ◌+◌, ◌-◌}
-use Rattle.quic_limits.specs.Credit.{Credit}
+use Rattle.std.proofs.Common.{◌≡◌, ℕ, Option, refl, ap, arith, ◌+◌}
 use Rattle.quic_receiving.specs.Half.{Half}
 use Rattle.quic_streams.specs.World.{World, with_receive, with_counted, advanced, refusal}
 use Rattle.quic_streams.proofs.HalfMaps.{half-there, with_half-twice, with_half-back}

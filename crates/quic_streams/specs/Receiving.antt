@@ -1,5 +1,5 @@
 -- What the receiving calls of a connection do.
-use Rattle.std.specs.Prelude.{ℕ, Bool, true, false, not, ◌≡◌, ◌-◌, ◌==◌, ◌<◌, ◌⊎◌, ◌&&◌, ◌||◌, if◌then◌else◌, List, length, Option, Some, None, is_none, is_some, Result, Ok, Err}
+use Rattle.std.specs.Prelude.{ℕ, Bool, true, false, not, ◌≡◌, ◌-◌, ◌==◌, ◌⊎◌, ◌&&◌, ◌||◌, if◌then◌else◌, List, Option, Some, None, is_some, Result, Ok, Err}
 use Rattle.quic_wire.specs.declared.error.ReceiveError.{ReceiveError}
 use Rattle.quic_wire.specs.declared.error.ReceiveError.TheVariants as receive_error
 use Rattle.quic_wire.specs.declared.error.TransportError.{TransportError}
@@ -19,9 +19,9 @@ IsDropped (Some h) = is_some h.reset ≡ true
 -- a STREAM frame was taken on a half
 abbrev pub after_data : World → ℕ → Half → Half → Bool → World
 after_data w id h h' fin = let u = advanced w id h h' in
-  if h.stopped
-  then with_credit (if fin then freed u id else u) (h'.end - h.end)
-  else noticed u id true
+    if h.stopped
+    then with_credit (if fin then freed u id else u) (h'.end - h.end)
+    else noticed u id true
 
 -- a STREAM frame reached the half h, and made it h'
 pub record Reaches (w : World) (id offset : ℕ) (bytes : List ℕ) (fin : Bool) (answer : Result (ℕ × Bool) ReceiveError) (h h' : Half) : Type 0 where
@@ -35,7 +35,7 @@ abbrev pub Receives : World → ℕ → ℕ → List ℕ → Bool → Result Sho
 Receives w id offset bytes fin (Ok transmit) v =
     ((refusal w id ≡ None) × IsDropped (w.receive id) × (transmit.0 ≡ false) × (v ≡ w))
     ⊎ ((answer : ℕ × Bool) × (h : Half) × (h' : Half) × Reaches w id offset bytes fin (Ok answer) h h'
-      × (transmit.0 ≡ (h.stopped && is_max_data_due v.credit)) × (v ≡ after_data w id h h' fin))
+    × (transmit.0 ≡ (h.stopped && is_max_data_due v.credit)) × (v ≡ after_data w id h h' fin))
 Receives w id offset bytes fin (Err (receive_error.Transport error)) v =
     ((refusal w id ≡ Some error.code) × (v ≡ w))
     ⊎ ((h : Half) × (h' : Half) × Reaches w id offset bytes fin (Err (receive_error.Transport error)) h h' × (v ≡ advanced w id h h'))
@@ -60,7 +60,7 @@ with_rest w n = if n == 0 then w else with_credit w n
 -- the first RESET_STREAM was taken on a half
 abbrev pub after_reset : World → ℕ → Half → Half → World
 after_reset w id h h' = let u = noticed (advanced w id h h') id (not h.stopped) in
-  with_rest (if h.stopped then freed u id else u) (h'.end - credited_to h)
+    with_rest (if h.stopped then freed u id else u) (h'.end - credited_to h)
 
 -- what came of a RESET_STREAM frame (RFC 9000 section 19.4)
 abbrev pub ReceivesReset : World → ℕ → ℕ → ℕ → Result ShouldTransmit ReceiveError → World → Type 0
@@ -68,7 +68,7 @@ ReceivesReset w id code final (Ok transmit) v =
     ((refusal w id ≡ None) × (w.receive id ≡ None) × (transmit.0 ≡ false) × (v ≡ w))
     ⊎ ((h : Half) × (h' : Half) × ResetReaches w id code final (Ok false) h h' × (transmit.0 ≡ false) × (v ≡ w))
     ⊎ ((h : Half) × (h' : Half) × ResetReaches w id code final (Ok true) h h'
-      × (transmit.0 ≡ (not (h'.end - credited_to h == 0) && is_max_data_due v.credit)) × (v ≡ after_reset w id h h'))
+    × (transmit.0 ≡ (not (h'.end - credited_to h == 0) && is_max_data_due v.credit)) × (v ≡ after_reset w id h h'))
 ReceivesReset w id code final (Err (receive_error.Transport error)) v =
     ((refusal w id ≡ Some error.code) × (v ≡ w))
     ⊎ ((h : Half) × (h' : Half) × ResetReaches w id code final (Err error) h h' × (v ≡ w))

@@ -1,5 +1,5 @@
 -- The streams of one end of a connection, as contracts see them.
-use Rattle.std.specs.Prelude.{ℕ, Bool, true, false, ◌==◌, ◌+◌, ◌-◌, ◌≡◌, nat_le, if◌then◌else◌, List, [], ◌∷◌, ◌++◌, Option, Some, None, zero, suc}
+use Rattle.std.specs.Prelude.{ℕ, Bool, true, false, ◌-◌, nat_le, if◌then◌else◌, List, [], ◌∷◌, ◌++◌, Option, Some, None}
 use Rattle.quic_values.specs.declared.ids.Side.{Side}
 use Rattle.quic_values.specs.declared.ids.Side.TheVariants.{Client, Server}
 use Rattle.quic_values.specs.declared.ids.Dir.{Dir}
@@ -96,13 +96,13 @@ own_refusal w Bi index = if nat_le w.opened_bi index then Some STREAM_STATE_ERRO
 
 abbrev pub refusal : World → ℕ → Option ℕ
 refusal w id = if is_own w id then own_refusal w (dir_of id) (index_of id)
-  else (if nat_le (remote_of w (dir_of id)).max_remote (index_of id) then Some STREAM_LIMIT_ERROR else None)
+    else (if nat_le (remote_of w (dir_of id)).max_remote (index_of id) then Some STREAM_LIMIT_ERROR else None)
 
 -- a stream of the peer is permitted: its halves are new
 abbrev pub permitted : World → Dir → ℕ → World
 permitted w Uni index = with_receive w (stream_id (other_side w.side) Uni index) (Some (new_half w.window))
 permitted w Bi index = let id = stream_id (other_side w.side) Bi index in
-  record (with_receive w id (Some (new_half w.window))) { sends = with_send w.sends id true }
+    record (with_receive w id (Some (new_half w.window))) { sends = with_send w.sends id true }
 
 abbrev pub permitted_if : World → Dir → Option ℕ → World
 permitted_if w dir None = w
@@ -120,7 +120,7 @@ released w Bi id = if w.sends id then w else replaced_in w Bi
 -- the receive half of a stream is freed
 abbrev pub freed : World → ℕ → World
 freed w id = let u = with_receive w id None in
-  if is_own u id then u else released u (dir_of id) id
+    if is_own u id then u else released u (dir_of id) id
 
 abbrev pub told : World → StreamEvent → World
 told w e = record w { events = w.events ++ e ∷ [] }
@@ -132,7 +132,7 @@ told_readable w id false = w
 -- a frame came on a stream: it opens the stream where it was not, and else the application is told that it may read
 abbrev pub noticed : World → ℕ → Bool → World
 noticed w id readable = if is_own w id then told_readable w id readable
-  else (if nat_le (remote_of w (dir_of id)).next_remote (index_of id)
+    else (if nat_le (remote_of w (dir_of id)).next_remote (index_of id)
     then with_remote w (dir_of id) (opened_up_to (remote_of w (dir_of id)) (index_of id))
     else told_readable w id readable)
 

@@ -57,7 +57,12 @@ impl ReceiveHalves {
     }
 
     /// The first so many streams of an initiator and a direction are permitted.
-    pub(crate) fn permit_first(&mut self, initiator: Side, dir: Dir, count: u64) -> Result<(), OutOfMemory>
+    pub(crate) fn permit_first(
+        &mut self,
+        initiator: Side,
+        dir: Dir,
+        count: u64,
+    ) -> Result<(), OutOfMemory>
         requires { count ≤ 2 ^ 60 }
         ensures held { OnOk result (held self.new ≡ with_first (held self.old) initiator dir count (Some (new_half self.old.window))) }
         ensures window { self.new.window ≡ self.old.window }
@@ -99,7 +104,10 @@ impl ReceiveHalves {
             None => false,
             // Nothing was read.
             Some(None) => self.window.into_inner() < 8,
-            Some(Some(half)) => half.max_stream_data(self.window.into_inner()).1.should_transmit(),
+            Some(Some(half)) => half
+                .max_stream_data(self.window.into_inner())
+                .1
+                .should_transmit(),
         }
     }
 

@@ -12,8 +12,7 @@ use crate::retransmits::Retransmits;
 use crate::state::StreamsState;
 use quic_receiving::{Recv, ShouldTransmit};
 use quic_values::StreamId;
-use quic_wire::ReceiveError;
-use quic_wire::frame;
+use quic_wire::{ReceiveError, frame};
 
 #[tactic(auto, using(crate::proofs::WorldSteps::world_steps))]
 impl StreamsState {
@@ -103,7 +102,10 @@ impl StreamsState {
     ///
     /// What is held is let go, and what gave no credit yet up to the final size gives it. A further one changes
     /// nothing.
-    pub fn received_reset(&mut self, frame: frame::ResetStream) -> Result<ShouldTransmit, ReceiveError>
+    pub fn received_reset(
+        &mut self,
+        frame: frame::ResetStream,
+    ) -> Result<ShouldTransmit, ReceiveError>
         ensures { ReceivesReset (shown self.old) frame.id frame.error_code frame.final_offset result (shown self.new) }
     {
         let id = frame.id;

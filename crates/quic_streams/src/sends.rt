@@ -46,7 +46,12 @@ impl SendHalves {
     }
 
     /// The first so many streams of an initiator and a direction are permitted.
-    pub(crate) fn permit_first(&mut self, initiator: Side, dir: Dir, count: u64) -> Result<(), OutOfMemory>
+    pub(crate) fn permit_first(
+        &mut self,
+        initiator: Side,
+        dir: Dir,
+        count: u64,
+    ) -> Result<(), OutOfMemory>
         requires { count ≤ 2 ^ 60 }
         ensures { OnOk result (sending self.new ≡ with_first_sends (sending self.old) initiator dir count) }
     {

@@ -107,9 +107,7 @@ impl StreamsState {
             )),
             Dir::Bi => {
                 if index >= self.opened_bi {
-                    return Err(TransportError::stream_state_error(
-                        "operation on unopened stream",
-                    ));
+                    return Err(TransportError::stream_state_error("operation on unopened stream"));
                 }
                 Ok(())
             }
@@ -259,8 +257,7 @@ impl StreamsState {
         ensures rooms { rooms self.new ≡ rooms self.old }
     {
         if readable {
-            self.events
-                .push_back_reserved(StreamEvent::Readable { id });
+            self.events.push_back_reserved(StreamEvent::Readable { id });
         }
     }
 

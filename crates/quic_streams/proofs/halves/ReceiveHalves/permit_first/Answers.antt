@@ -19,8 +19,8 @@ loop-index-preserved c =
     let o = Some (new_half c.args.self.now.window) in
     record {
       held = c.permit.ensures.held ∙ ap (λ k. with_half (held c.loop-index.self) k (Some (new_half c.loop-index.self.window))) c.new.ensures.number
-        ∙ ap (λ w. with_half (held c.loop-index.self) id (Some (new_half w))) i.window
-        ∙ ap (λ f. with_half f id o) i.held ∙ with_first-more _ c.args.initiator c.args.dir c.loop-index.index o;
+          ∙ ap (λ w. with_half (held c.loop-index.self) id (Some (new_half w))) i.window
+          ∙ ap (λ f. with_half f id o) i.held ∙ with_first-more _ c.args.initiator c.args.dir c.loop-index.index o;
       window = c.permit.ensures.window ∙ i.window;
       room = omega arith;
     }

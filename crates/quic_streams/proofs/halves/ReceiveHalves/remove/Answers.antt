@@ -1,4 +1,3 @@
-use Rattle.std.proofs.Common.{rules}
 use Rattle.quic_streams.specs.Halves.{held}
 use Rattle.quic_streams.proofs.HalfMaps.{held-put}
 use Rattle.quic_streams.proofs.halves.ReceiveHalves.remove.Goals as goal

@@ -10,7 +10,7 @@ returns-in_err-half-in-None-used-clause-err c =
     let moved = held-put w _ _ c.args.id _ ((c.get_mut.follows.holds c.take-used.new.self).3 (search rules)).0 in
     let none = sym c.take-used.ensures.value ∙ c.in-None-used.is in
     on_err _ (moved ∙ ap (λ o. with_half (held c.args.self.now) c.args.id (entry_half w (Some o))) c.take-used.ensures.after
-      ∙ with_half-back (held c.args.self.now) c.args.id _ (ap (entry_half w) (sym c.in-Some.ensures.value) ∙ ap (λ o. Some (half_in w o)) none))
+    ∙ with_half-back (held c.args.self.now) c.args.id _ (ap (entry_half w) (sym c.in-Some.ensures.value) ∙ ap (λ o. Some (half_in w o)) none))
 
 pub returns-in-Some-used-clause-held : goal.returns-in-Some-used-clause-held
 unfolding held
@@ -18,7 +18,7 @@ returns-in-Some-used-clause-held c =
     let w = c.args.self.now.window in
     let moved = held-put w _ _ c.args.id _ ((c.get_mut.follows.holds c.take-used.new.self).3 (search rules)).0 in
     moved ∙ ap (λ o. with_half (held c.args.self.now) c.args.id (entry_half w (Some o))) c.take-used.ensures.after
-      ∙ sym (taken-some (held c.args.self.now) c.args.id w _ (ap (entry_half w) (sym c.in-Some.ensures.value)))
+    ∙ sym (taken-some (held c.args.self.now) c.args.id w _ (ap (entry_half w) (sym c.in-Some.ensures.value)))
 
 pub returns-in_ok-half-in-None-used-clause-held : goal.returns-in_ok-half-in-None-used-clause-held
 unfolding held
@@ -26,4 +26,4 @@ returns-in_ok-half-in-None-used-clause-held c =
     let w = c.args.self.now.window in
     let moved = held-put w _ _ c.args.id _ ((c.get_mut.follows.holds c.take-used.new.self).3 (search rules)).0 in
     moved ∙ ap (λ o. with_half (held c.args.self.now) c.args.id (entry_half w (Some o))) c.take-used.ensures.after
-      ∙ sym (taken-some (held c.args.self.now) c.args.id w _ (ap (entry_half w) (sym c.in-Some.ensures.value)))
+    ∙ sym (taken-some (held c.args.self.now) c.args.id w _ (ap (entry_half w) (sym c.in-Some.ensures.value)))

@@ -15,6 +15,6 @@ loop-index-preserved c =
     let id = stream_id c.args.initiator c.args.dir c.loop-index.index in
     record {
       sending = c.permit.ensures.sending ∙ ap (λ k. with_send (sending c.loop-index.self) k true) c.new.ensures.number
-        ∙ ap (λ f. with_send f id true) c.loop-index.invariant.sending ∙ first_sends-more _ c.args.initiator c.args.dir c.loop-index.index;
+          ∙ ap (λ f. with_send f id true) c.loop-index.invariant.sending ∙ first_sends-more _ c.args.initiator c.args.dir c.loop-index.index;
       room = omega arith;
     }
