@@ -1,7 +1,12 @@
 use super::id;
-use super::steps::{Answer, Given, Last, Reads, Step, Told, WINDOW, client, run, run_on_client};
+use super::steps::{
+    Answer, Given, Last, Reads, Step, Subject, Told, WINDOW, client, run, run_on_client,
+};
 use crate::recv_stream::RecvStream;
+use quic_values::OutOfMemory;
+use std::alloc::Global;
 use std::mem::forget;
+use std::process::Abort;
 use std::test::Fail;
 
 const TAKEN: Answer = Answer::Taken(false);
@@ -120,12 +125,7 @@ const ONE_STREAM: [Step; 8] = [
 #[test]
 fn the_end_makes_place_for_a_stream(rt: HostRuntime) -> Result<(), Fail> {
     let alloc = rt.alloc();
-    run(
-        &rt,
-        alloc,
-        &mut client(alloc, 1, WINDOW, WINDOW)?,
-        &ONE_STREAM,
-    )?;
+    let _ = run(&rt, alloc, client(alloc, 1, WINDOW, WINDOW)?, &ONE_STREAM)?;
     Ok(())
 }
 
@@ -143,12 +143,7 @@ const EIGHTH: [Step; 8] = [
 #[test]
 fn credit_is_queued_by_eighths_of_the_window(rt: HostRuntime) -> Result<(), Fail> {
     let alloc = rt.alloc();
-    run(
-        &rt,
-        alloc,
-        &mut client(alloc, 128, WINDOW, 2 * WINDOW)?,
-        &EIGHTH,
-    )?;
+    let _ = run(&rt, alloc, client(alloc, 128, WINDOW, 2 * WINDOW)?, &EIGHTH)?;
     Ok(())
 }
 
@@ -162,29 +157,56 @@ const ONE_BYTE_READ: [Step; 4] = [
     Step::Is(1, 1),
 ];
 
+// A client to which one byte came, of a stream on which it permits 8.
+fn one_byte_came(rt: &impl Abort, alloc: Global) -> Result<Subject, OutOfMemory> {
+    run(rt, alloc, client(alloc, 128, WINDOW, 8)?, &ONE_BYTE)
+}
+
 #[test]
 fn a_reader_that_is_finalized_gives_credit(rt: HostRuntime) -> Result<(), Fail> {
-    let alloc = rt.alloc();
-    let mut subject = client(alloc, 128, WINDOW, 8)?;
-    run(&rt, alloc, &mut subject, &ONE_BYTE)?;
-    let mut stream = RecvStream::new(id(3), &mut subject.state, &mut subject.pending);
+    let Subject {
+        mut state,
+        mut pending,
+        window,
+    } = one_byte_came(&rt, rt.alloc())?;
+    let mut stream = RecvStream::new(id(3), &mut state, &mut pending);
     let mut chunks = stream.read(true)?;
     assert!(rt; chunks.next(1)?.is_some());
     assert!(rt; chunks.finalize().should_transmit());
-    run(&rt, alloc, &mut subject, &ONE_BYTE_READ)?;
+    let _ = run(
+        &rt,
+        rt.alloc(),
+        Subject {
+            state,
+            pending,
+            window,
+        },
+        &ONE_BYTE_READ,
+    )?;
     Ok(())
 }
 
 #[test]
 fn a_reader_that_is_dropped_gives_credit(rt: HostRuntime) -> Result<(), Fail> {
-    let alloc = rt.alloc();
-    let mut subject = client(alloc, 128, WINDOW, 8)?;
-    run(&rt, alloc, &mut subject, &ONE_BYTE)?;
-    let mut stream = RecvStream::new(id(3), &mut subject.state, &mut subject.pending);
+    let Subject {
+        mut state,
+        mut pending,
+        window,
+    } = one_byte_came(&rt, rt.alloc())?;
+    let mut stream = RecvStream::new(id(3), &mut state, &mut pending);
     let mut chunks = stream.read(true)?;
     assert!(rt; chunks.next(1)?.is_some());
     drop(chunks);
-    run(&rt, alloc, &mut subject, &ONE_BYTE_READ)?;
+    let _ = run(
+        &rt,
+        rt.alloc(),
+        Subject {
+            state,
+            pending,
+            window,
+        },
+        &ONE_BYTE_READ,
+    )?;
     Ok(())
 }
 
@@ -201,13 +223,24 @@ const LEAKED: [Step; 7] = [
 
 #[test]
 fn a_reader_that_is_leaked_leaves_the_stream(rt: HostRuntime) -> Result<(), Fail> {
-    let alloc = rt.alloc();
-    let mut subject = client(alloc, 128, WINDOW, 8)?;
-    run(&rt, alloc, &mut subject, &ONE_BYTE)?;
-    let mut stream = RecvStream::new(id(3), &mut subject.state, &mut subject.pending);
+    let Subject {
+        mut state,
+        mut pending,
+        window,
+    } = one_byte_came(&rt, rt.alloc())?;
+    let mut stream = RecvStream::new(id(3), &mut state, &mut pending);
     let mut chunks = stream.read(true)?;
     assert!(rt; chunks.next(1)?.is_some());
     forget(chunks);
-    run(&rt, alloc, &mut subject, &LEAKED)?;
+    let _ = run(
+        &rt,
+        rt.alloc(),
+        Subject {
+            state,
+            pending,
+            window,
+        },
+        &LEAKED,
+    )?;
     Ok(())
 }

@@ -24,13 +24,8 @@ const CONNECTION_LIMIT: [Step; 4] = [
 #[test]
 fn no_more_than_permitted_is_taken(rt: HostRuntime) -> Result<(), Fail> {
     let alloc = rt.alloc();
-    run(&rt, alloc, &mut client(alloc, 128, 1000, 8)?, &LIMITS)?;
-    run(
-        &rt,
-        alloc,
-        &mut client(alloc, 128, 10, 8)?,
-        &CONNECTION_LIMIT,
-    )?;
+    let _ = run(&rt, alloc, client(alloc, 128, 1000, 8)?, &LIMITS)?;
+    let _ = run(&rt, alloc, client(alloc, 128, 10, 8)?, &CONNECTION_LIMIT)?;
     run_on_client(
         &rt,
         alloc,
@@ -74,7 +69,7 @@ const IDS: [Step; 6] = [
 #[test]
 fn ids_that_the_peer_may_not_use_are_refused(rt: HostRuntime) -> Result<(), Fail> {
     let alloc = rt.alloc();
-    run(&rt, alloc, &mut client(alloc, 1, WINDOW, WINDOW)?, &IDS)?;
+    let _ = run(&rt, alloc, client(alloc, 1, WINDOW, WINDOW)?, &IDS)?;
     Ok(())
 }
 

@@ -100,7 +100,7 @@ pub const STOP_CODE: u32 = 9;
 pub struct Subject {
     pub state: StreamsState,
     pub pending: Retransmits,
-    window: u64,
+    pub window: u64,
 }
 
 // A client that permits so many streams of each direction.
@@ -193,19 +193,25 @@ fn data(
     receive(alloc, subject, stream, offset, count, fin)
 }
 
+fn reset_once(subject: &mut Subject, stream: u32, code: u32, size: VarInt) -> Answer {
+    answer_of(
+        subject.state.received_reset(frame::ResetStream {
+            id: id(stream),
+            error_code: VarInt::from(code),
+            final_offset: size,
+        }),
+    )
+}
+
 fn reset(rt: &impl Abort, subject: &mut Subject, stream: u32, code: u32, size: u64) -> Answer {
-    let frame = frame::ResetStream {
-        id: id(stream),
-        error_code: VarInt::from(code),
-        final_offset: VarInt::from_u64(size).expect(rt, "a final size"),
-    };
+    let size = VarInt::from_u64(size).expect(rt, "a final size");
     let before = counts(subject);
-    let answer = answer_of(subject.state.received_reset(frame));
+    let answer = reset_once(subject, stream, code, size);
     if answer != Answer::NoMemory {
         return answer;
     }
     assert_eq!(rt; counts(subject), before);
-    answer_of(subject.state.received_reset(frame))
+    reset_once(subject, stream, code, size)
 }
 
 fn last_of(error: ReadError) -> Last {
@@ -247,45 +253,60 @@ fn go_on(
     Ok((given, Last::Asked))
 }
 
+// Why a stream was not opened for reads.
+fn refusal_of(error: ReadableError) -> Last {
+    match error {
+        ReadableError::ClosedStream => Last::Closed,
+        ReadableError::IllegalOrderedRead => Last::Illegal,
+        ReadableError::OutOfMemory => Last::NoMemory,
+    }
+}
+
+// Reads and finalizes. The subject is passed on, since no promise of `read` tells what becomes of what it borrows.
 fn read_once(
     rt: &impl Abort,
     alloc: Global,
-    subject: &mut Subject,
+    subject: Subject,
     stream: u32,
     ordered: bool,
     reads: Reads,
-) -> Result<Given, OutOfMemory> {
-    let mut stream = RecvStream::new(id(stream), &mut subject.state, &mut subject.pending);
-    let mut chunks = match stream.read(ordered) {
-        Ok(chunks) => chunks,
-        Err(error) => {
-            let last = match error {
-                ReadableError::ClosedStream => Last::Closed,
-                ReadableError::IllegalOrderedRead => Last::Illegal,
-                ReadableError::OutOfMemory => Last::NoMemory,
-            };
-            return Ok(Given(0, last, false));
+) -> Result<(Subject, Given), OutOfMemory> {
+    let Subject {
+        mut state,
+        mut pending,
+        window,
+    } = subject;
+    let given = match RecvStream::new(id(stream), &mut state, &mut pending).read(ordered) {
+        Ok(mut chunks) => {
+            let (bytes, last) = go_on(rt, alloc, &mut chunks, reads)?;
+            Given(bytes, last, chunks.finalize().should_transmit())
         }
+        Err(error) => Given(0, refusal_of(error), false),
     };
-    let (bytes, last) = go_on(rt, alloc, &mut chunks, reads)?;
-    Ok(Given(bytes, last, chunks.finalize().should_transmit()))
+    let subject = Subject {
+        state,
+        pending,
+        window,
+    };
+    Ok((subject, given))
 }
 
 // Reads and finalizes, and goes on where memory was wanting.
 fn read(
     rt: &impl Abort,
     alloc: Global,
-    subject: &mut Subject,
+    subject: Subject,
     stream: u32,
     ordered: bool,
     reads: Reads,
-) -> Result<Given, OutOfMemory> {
-    let Given(bytes, last, transmit) = read_once(rt, alloc, subject, stream, ordered, reads)?;
-    if last != Last::NoMemory {
-        return Ok(Given(bytes, last, transmit));
+) -> Result<(Subject, Given), OutOfMemory> {
+    let (subject, first) = read_once(rt, alloc, subject, stream, ordered, reads)?;
+    if first.1 != Last::NoMemory {
+        return Ok((subject, first));
     }
-    let again = read_once(rt, alloc, subject, stream, ordered, reads)?;
-    Ok(Given(bytes.saturating_add(again.0), again.1, transmit | again.2))
+    let (subject, second) = read_once(rt, alloc, subject, stream, ordered, reads)?;
+    let bytes = first.0.saturating_add(second.0);
+    Ok((subject, Given(bytes, second.1, first.2 | second.2)))
 }
 
 // Stops a stream, once more where memory was wanting. Whether it was open.
@@ -304,7 +325,7 @@ fn stop(rt: &impl Abort, subject: &mut Subject, stream: u32) -> bool {
     second.is_ok()
 }
 
-fn ask_once(subject: &mut Subject, stream: u32) -> Told {
+fn ask_code_once(subject: &mut Subject, stream: u32) -> Told {
     let mut stream = RecvStream::new(id(stream), &mut subject.state, &mut subject.pending);
     match stream.received_reset() {
         Ok(Some(code)) => Told::Code(code.into_inner()),
@@ -314,57 +335,96 @@ fn ask_once(subject: &mut Subject, stream: u32) -> Told {
     }
 }
 
-fn ask(subject: &mut Subject, stream: u32) -> Told {
-    match ask_once(subject, stream) {
-        Told::NoMemory => ask_once(subject, stream),
+fn ask_code(subject: &mut Subject, stream: u32) -> Told {
+    match ask_code_once(subject, stream) {
+        Told::NoMemory => ask_code_once(subject, stream),
         answer => answer,
     }
+}
+
+// Reads, and compares.
+fn take_reads(
+    rt: &impl Abort,
+    alloc: Global,
+    subject: Subject,
+    stream: u32,
+    ordered: bool,
+    reads: Reads,
+    given: Given,
+) -> Result<Subject, OutOfMemory> {
+    let (subject, is) = read(rt, alloc, subject, stream, ordered, reads)?;
+    assert_eq!(rt; is, given, "reads of {stream}");
+    Ok(subject)
 }
 
 fn take(
     rt: &impl Abort,
     alloc: Global,
-    subject: &mut Subject,
+    subject: Subject,
     step: Step,
-) -> Result<(), OutOfMemory> {
+) -> Result<Subject, OutOfMemory> {
+    let mut subject = subject;
     match step {
+        Step::Ordered(stream, reads, given) => {
+            return take_reads(rt, alloc, subject, stream, true, reads, given);
+        }
+        Step::Unordered(stream, reads, given) => {
+            return take_reads(rt, alloc, subject, stream, false, reads, given);
+        }
         Step::Data(stream, offset, count, answer) => {
-            let is = data(rt, alloc, subject, stream, offset, count, false)?;
+            let is = data(rt, alloc, &mut subject, stream, offset, count, false)?;
             assert_eq!(rt; is, answer, "data at {offset} of {stream}");
         }
         Step::Final(stream, offset, count, answer) => {
-            let is = data(rt, alloc, subject, stream, offset, count, true)?;
+            let is = data(rt, alloc, &mut subject, stream, offset, count, true)?;
             assert_eq!(rt; is, answer, "the last data at {offset} of {stream}");
         }
+        Step::Limit(stream, window, limit) => {
+            assert_eq!(rt; limit_of(&mut subject, stream, window)?, limit);
+        }
+        _ => ask(rt, &mut subject, step),
+    }
+    Ok(subject)
+}
+
+// The limit that MAX_STREAM_DATA would announce.
+#[tactic(auto, using(crate::proofs::WorldSteps::world_steps))]
+fn limit_of(subject: &mut Subject, stream: u32, window: u64) -> Result<u64, OutOfMemory> {
+    let stream = id(stream);
+    match subject.state.take_half(stream) {
+        Ok(Some(half)) => {
+            let (limit, _) = half.max_stream_data(window);
+            subject.state.put_half(stream, half);
+            Ok(limit)
+        }
+        Ok(None) => Ok(0),
+        Err(OutOfMemory) => Err(OutOfMemory),
+    }
+}
+
+// The steps that need no memory of their own.
+fn ask(rt: &impl Abort, subject: &mut Subject, step: Step) {
+    match step {
         Step::Reset(stream, code, size, answer) => {
             let is = reset(rt, subject, stream, code, size);
             assert_eq!(rt; is, answer, "reset of {stream} at {size}");
-        }
-        Step::Ordered(stream, reads, given) => {
-            let is = read(rt, alloc, subject, stream, true, reads)?;
-            assert_eq!(rt; is, given, "ordered reads of {stream}");
-        }
-        Step::Unordered(stream, reads, given) => {
-            let is = read(rt, alloc, subject, stream, false, reads)?;
-            assert_eq!(rt; is, given, "unordered reads of {stream}");
         }
         Step::Stop(stream, open) => {
             assert_eq!(rt; stop(rt, subject, stream), open, "stop of {stream}");
         }
         Step::Told(stream, answer) => {
-            assert_eq!(rt; ask(subject, stream), answer, "reset of {stream}");
+            assert_eq!(rt; ask_code(subject, stream), answer, "reset of {stream}");
         }
         Step::Credit(credits, due) => {
             let is = subject.state.add_read_credits(credits);
             assert_eq!(rt; is, ShouldTransmit(due));
         }
-        _ => shows(rt, subject, step)?,
+        _ => shows(rt, subject, step),
     }
-    Ok(())
 }
 
 // The steps that only look.
-fn shows(rt: &impl Abort, subject: &mut Subject, step: Step) -> Result<(), OutOfMemory> {
+fn shows(rt: &impl Abort, subject: &Subject, step: Step) {
     let state = &subject.state;
     match step {
         Step::Is(credit, received) => {
@@ -376,12 +436,6 @@ fn shows(rt: &impl Abort, subject: &mut Subject, step: Step) -> Result<(), OutOf
             assert_eq!(rt; is, (bi, uni));
             assert_eq!(rt; state.uni.next_remote(), opened);
         }
-        Step::Limit(stream, window, limit) => {
-            let half = subject.state.take_half(id(stream))?;
-            let half = half.expect(rt, "a half");
-            assert_eq!(rt; half.max_stream_data(window).0, limit);
-            subject.state.put_half(id(stream), half);
-        }
         Step::Readable(streams) => {
             assert_eq!(rt; state.events.len(), streams.len());
             for (event, stream) in state.events.iter().zip(streams) {
@@ -390,7 +444,6 @@ fn shows(rt: &impl Abort, subject: &mut Subject, step: Step) -> Result<(), OutOf
         }
         _ => waits(rt, &subject.pending, step),
     }
-    Ok(())
 }
 
 // What waits to be sent.
@@ -418,17 +471,18 @@ fn waits(rt: &impl Abort, pending: &Retransmits, step: Step) {
 pub fn run(
     rt: &impl Abort,
     alloc: Global,
-    subject: &mut Subject,
+    subject: Subject,
     steps: &[Step],
-) -> Result<(), OutOfMemory> {
+) -> Result<Subject, OutOfMemory> {
+    let mut subject = subject;
     for step in steps {
-        take(rt, alloc, subject, *step)?;
+        subject = take(rt, alloc, subject, *step)?;
     }
-    Ok(())
+    Ok(subject)
 }
 
 // Takes steps on a client that permits 128 streams of each direction, with windows of 2^20 bytes.
 pub fn run_on_client(rt: &impl Abort, alloc: Global, steps: &[Step]) -> Result<(), OutOfMemory> {
-    let mut subject = client(alloc, 128, WINDOW, WINDOW)?;
-    run(rt, alloc, &mut subject, steps)
+    let _after = run(rt, alloc, client(alloc, 128, WINDOW, WINDOW)?, steps)?;
+    Ok(())
 }
