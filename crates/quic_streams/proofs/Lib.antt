@@ -9,6 +9,7 @@ pub mod Histories
 pub mod Merging
 pub mod Numbers
 pub mod ReadHistory
+pub mod ReadingSteps
 pub mod Refusals
 pub mod ResetHistory
 pub mod SendMaps

@@ -84,11 +84,23 @@ progress_after (Err read_error.Blocked) = progress.Readable
 progress_after (Err (read_error.Reset code)) = progress.Reset code
 progress_after (Err read_error.OutOfMemory) = progress.Readable
 
+-- whether nothing more comes, and the half is freed
+abbrev pub is_ended : Progress → Bool
+is_ended progress.Readable = false
+is_ended (progress.Reset code) = true
+is_ended progress.Finished = true
+
 -- how many bytes an answer gives
 abbrev pub given_by : Result (Option Chunk) ReadError → ℕ
 given_by (Ok (Some chunk)) = length chunk.bytes
 given_by (Ok None) = 0
 given_by (Err e) = 0
+
+-- what was told at the end
+abbrev pub IsLastAnswer : Progress → Result (Option Chunk) ReadError → Type 0
+IsLastAnswer progress.Readable result = ⊥
+IsLastAnswer (progress.Reset code) result = result ≡ Err (read_error.Reset code)
+IsLastAnswer progress.Finished result = result ≡ Ok None
 
 -- a reader gave its next answer. What it told at the end it tells again
 abbrev pub Nexts : Progress → World → ℕ → ℕ → Result (Option Chunk) ReadError → World → Type 0
@@ -116,7 +128,7 @@ pending_after progress w id read p = record (with_max_streams w p) {
 -- whether something was queued at the end of a reader
 abbrev pub is_transmit_due : Progress → World → ℕ → ℕ → Bool
 is_transmit_due progress w id read = (is_max_streams_due w.bi || is_max_streams_due w.uni)
-  || (is_window_queued progress w (w.receive id) || is_max_data_due (credited w.credit read))
+    || (is_window_queued progress w (w.receive id) || is_max_data_due (credited w.credit read))
 
 -- a list of STOP_SENDING frames, with one more where that is due
 abbrev pub with_stop : List StopSending → ℕ → ℕ → Bool → List StopSending

@@ -1,9 +1,9 @@
 //! Reading of streams.
 
-ghost use Rattle.std.specs.Prelude.{◌≡◌, ◌+◌, ◌<◌, ◌≤◌, ◌^◌, true, is_some, Some, OnOk};
+ghost use Rattle.std.specs.Prelude.{◌≡◌, ◌+◌, ◌<◌, ◌≤◌, ◌^◌, true, is_some, Some, Err, OnOk};
 ghost use Rattle.quic_streams.specs.World.{shown, with_credit, with_receive};
 ghost use Rattle.quic_streams.specs.Pending.{shown as listed};
-ghost use Rattle.quic_streams.specs.Reading.{Begins, Nexts, ReadsHalf, is_reading, needed, pending_after, is_transmit_due, is_window_queued, progress_after, given_by};
+ghost use Rattle.quic_streams.specs.Reading.{Begins, Nexts, ReadsHalf, is_reading, needed, pending_after, is_transmit_due, is_window_queued, progress_after, is_ended, IsLastAnswer, given_by};
 ghost use Rattle.quic_streams.specs.Room.{rooms, window_rooms};
 
 use crate::retransmits::Retransmits;
@@ -21,6 +21,31 @@ pub enum Progress {
     Reset(VarInt),
     /// All was read. The half is freed.
     Finished,
+}
+
+impl Progress {
+    // Whether nothing more comes.
+    fn is_ended(self) -> bool
+        ensures { result ≡ is_ended self }
+    {
+        match self {
+            Progress::Readable => false,
+            Progress::Reset(_) => true,
+            Progress::Finished => true,
+        }
+    }
+
+    // What was told at the end.
+    fn last_answer(self) -> Result<Option<Chunk>, ReadError>
+        requires { is_ended self ≡ true }
+        ensures { IsLastAnswer self result }
+    {
+        match self {
+            Progress::Readable => unreachable!(),
+            Progress::Reset(code) => Err(ReadError::Reset(code)),
+            Progress::Finished => Ok(None),
+        }
+    }
 }
 
 /// The chunks of a stream, one after another.
@@ -41,7 +66,7 @@ pub struct Chunks<'a> {
 
 impl<'a> Chunks<'a> {
     // A reader of a stream that was opened for it.
-    fn new(
+    pub(crate) fn new(
         streams: &'a mut StreamsState,
         pending: &'a mut Retransmits,
         id: StreamId,
@@ -72,6 +97,7 @@ impl<'a> Chunks<'a> {
     /// Gives the next chunk, of at most `max_length` bytes: `None` at the end of the stream.
     ///
     /// The end and a reset free the stream, and are told again if asked again.
+    #[tactic(auto, using(crate::proofs::ReadingSteps::next_steps))]
     pub fn next(&mut self, max_length: usize) -> Result<Option<Chunk>, ReadError>
         ensures same_streams { self.new.streams.ghost_name ≡ self.old.streams.ghost_name }
         ensures same_pending { self.new.pending.ghost_name ≡ self.old.pending.ghost_name }
@@ -82,18 +108,15 @@ impl<'a> Chunks<'a> {
         ensures progress { self.new.progress ≡ progress_after result }
         ensures read { self.new.read ≡ self.old.read + given_by result }
     {
-        match self.progress {
-            Progress::Reset(code) => Err(ReadError::Reset(code)),
-            Progress::Finished => Ok(None),
-            Progress::Readable => {
-                let result = self
-                    .streams
-                    .read_half(self.id, max_length, self.ordered, self.read);
-                self.read += given(&result);
-                self.progress = progress_after(&result);
-                result
-            }
+        if self.progress.is_ended() {
+            return self.progress.last_answer();
         }
+        let answer = self
+            .streams
+            .read_half(self.id, max_length, self.ordered, self.read);
+        self.read += given(&answer);
+        self.progress = progress_after(&answer);
+        answer
     }
 
     /// Gives the peer credit for what was read, and queues the frames that tell it. Takes no memory. Answers whether
@@ -150,9 +173,18 @@ fn progress_after(answer: &Result<Option<Chunk>, ReadError>) -> Progress
     match answer {
         Ok(Some(_)) => Progress::Readable,
         Ok(None) => Progress::Finished,
-        Err(ReadError::Blocked) => Progress::Readable,
-        Err(ReadError::Reset(code)) => Progress::Reset(*code),
-        Err(ReadError::OutOfMemory) => Progress::Readable,
+        Err(error) => progress_after_error(*error),
+    }
+}
+
+// Where a reader is after a read that was refused.
+fn progress_after_error(error: ReadError) -> Progress
+    ensures { result ≡ progress_after (Err error) }
+{
+    match error {
+        ReadError::Blocked => Progress::Readable,
+        ReadError::Reset(code) => Progress::Reset(code),
+        ReadError::OutOfMemory => Progress::Readable,
     }
 }
 
@@ -281,20 +313,12 @@ impl StreamsState {
     {
         let mut half = half;
         let answer = half.next(max_length, ordered);
-        let _total = half.bytes_read();
+        // All that was read came, so the count of it is no more than the highest offset.
+        let _read = half.bytes_read();
         self.put_half(id, half);
-        match answer {
-            Ok(Some(chunk)) => Ok(Some(chunk)),
-            Ok(None) => {
-                self.free_receive(id);
-                Ok(None)
-            }
-            Err(ReadError::Blocked) => Err(ReadError::Blocked),
-            Err(ReadError::Reset(code)) => {
-                self.free_receive(id);
-                Err(ReadError::Reset(code))
-            }
-            Err(ReadError::OutOfMemory) => Err(ReadError::OutOfMemory),
+        if progress_after(&answer).is_ended() {
+            self.free_receive(id);
         }
+        answer
     }
 }

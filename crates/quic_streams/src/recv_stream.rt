@@ -1,14 +1,15 @@
 //! The receive half of a stream, for the application.
 
-ghost use Rattle.std.specs.Prelude.{◌≡◌, ◌≤◌, is_some, Some, true};
-ghost use Rattle.quic_streams.specs.World.{shown, with_receive};
+ghost use Rattle.std.specs.Prelude.{◌≡◌, ◌≤◌, is_some, IfOk, IfErr, Ok, Err, Some, true};
+ghost use Rattle.quic_streams.specs.World.{World, shown, with_receive};
 ghost use Rattle.quic_streams.specs.Pending.{shown as listed};
-ghost use Rattle.quic_streams.specs.Reading.{Stops, TellsReset};
+ghost use Rattle.quic_streams.specs.Reading.{Begins, Stops, TellsReset};
 ghost use Rattle.quic_streams.specs.Room.{rooms, stop_rooms};
 
+use crate::reading::{Chunks, Progress};
 use crate::retransmits::Retransmits;
 use crate::state::StreamsState;
-use quic_receiving::{HandleError, Recv};
+use quic_receiving::{HandleError, ReadableError, Recv};
 use quic_values::{StreamId, VarInt};
 
 /// The receive half of a stream.
@@ -29,6 +30,25 @@ impl<'a> RecvStream<'a> {
         ensures id { result.id ≡ id }
     {
         RecvStream { id, state, pending }
+    }
+
+    /// Opens the stream for reads, in order or as bytes come. There is no way back from unordered reads: a refused
+    /// ordered one leaves the stream as it is.
+    ///
+    /// This makes the room that the reader may need, so that its end takes no memory. What the reader does to the
+    /// state its own calls say.
+    pub fn read(&mut self, ordered: bool) -> Result<Chunks<'_>, ReadableError>
+        ensures begins { IfOk result (λ chunks. Begins (shown self.old.state.now) self.old.id ordered (Ok tt) (shown chunks.streams.now)) }
+        ensures refused { IfErr result (λ error. (after : World) × Begins (shown self.old.state.now) self.old.id ordered (Err error) after) }
+        ensures pending { IfOk result (λ chunks. listed chunks.pending.now ≡ listed self.old.pending.now) }
+        ensures id { IfOk result (λ chunks. chunks.id ≡ self.old.id) }
+        ensures ordered { IfOk result (λ chunks. chunks.ordered ≡ ordered) }
+        ensures progress { IfOk result (λ chunks. chunks.progress ≡ Progress.Readable) }
+        ensures read { IfOk result (λ chunks. chunks.read ≡ 0) }
+    {
+        self.state.begin(self.pending, self.id, ordered)?;
+        let RecvStream { id, state, pending } = self;
+        Ok(Chunks::new(state, pending, *id, ordered))
     }
 
     /// Stops the stream: what was not read is let go and gives credit, and the peer is asked to send no more, with this
