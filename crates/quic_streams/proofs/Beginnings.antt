@@ -87,6 +87,7 @@ pub begins : (side : Side) (uni bi send_window receive_window window : ℕ) → 
 begins side uni bi send_window receive_window window small = record {
   run = record { side = side; uni = uni; bi = bi; send_window = send_window; receive_window = receive_window; window = window; small = small; is = refl };
   facts = record { credit = credit-start receive_window small; streams = all_start side uni bi send_window receive_window window };
+  ends = λ q e. cc;
 }
 
 pub begins_at : (side : Side) (uni bi send_window receive_window window : ℕ) (v : World) → receive_window < 2 ^ 62 → v ≡ start side uni bi send_window receive_window window → From [] v

@@ -1,5 +1,5 @@
 -- A reported end means that every byte was given, over every history.
-use Rattle.std.proofs.Common.{◌≡◌, ℕ, Bool, true, false, ◌||◌, ◌&&◌, eqb, List, ◌∷◌, Option, Some, None, is_some, Result, Ok, Err, refl, sym, ap, ◌∙◌, subst, arith, ◌+◌, length}
+use Rattle.std.proofs.Common.{◌≡◌, ℕ, Bool, true, false, ◌||◌, ◌&&◌, eqb, List, ◌∷◌, Option, Some, None, is_some, Result, Ok, Err, refl, sym, ap, ◌∙◌, subst, arith, ◌+◌, ◌≤◌, length}
 use Rattle.std.specs.Prelude.{if◌then◌else◌, ◌==◌}
 use Rattle.std.proofs.lemmas.Bool.Decides.{nat_tests}
 use Rattle.quic_assembler.specs.declared.chunk.Chunk.{Chunk}
@@ -81,8 +81,8 @@ kept-ends h u (Stopped id code (Ok x)) v f s p q = ends_if (q == id) (with_stop 
   where
     stop : (q == id) ≡ true → EndsSo (with_stop (trace h q))
     stop t = let P : ℕ → Type 0 = λ k. EndsSo (with_stop (trace h k)) in
-        let known = known-from (trace h) u id s.2.0 f.streams s.2.2.0 in
-        let was = half-from (trace h) u id s.2.0 f.streams known s.2.2.0 in
+        let known = known-from (trace h) u id s.2.0 f.streams s.2.2 in
+        let was = half-from (trace h) u id s.2.0 f.streams known s.2.2 in
         subst P (sym (same q id t)) (λ e. not_ended (trace h id) (p id) was.there e)
 kept-ends h u (Stopped id code (Err error)) v f s p q = p q
 kept-ends h u (ToldReset id (Ok code)) v f s p q = ends_if (q == id) (with_told code (trace h q)) (trace h q) (λ t. ends_told (trace h q) code (p q)) (p q)

@@ -54,6 +54,7 @@ unmade w v id most window same there = record {
   old = new_half window;
   new = new_half window;
   half = there;
+  running = refl;
   reads = record { running = refl; rests = rests-same (new_half window).buffer; is = refl };
   is = same ∙ sym (with_receive-back w id (Some (new_half window)) there);
 }
@@ -93,5 +94,13 @@ pub given-last : (p : Progress) (r : Result (Option Chunk) ReadError) (read : �
 given-last progress.Readable r read h = absurd h
 given-last (progress.Reset code) r read h = rw h (omega arith)
 given-last progress.Finished r read h = rw h (omega arith)
+
+-- a half that is read is not stopped
+pub reader_runs : (h : Half) (ordered : Bool) (read : ℕ) → is_reading progress.Readable (Some h) ordered read ≡ true → h.stopped ≡ false
+reader_runs h ordered read e = not_stopped h.stopped (is_mode h.buffer.ordered ordered && nat_le read h.buffer.bytes_read) e
+  where
+    not_stopped : (b c : Bool) → (not b && c) ≡ true → b ≡ false
+    not_stopped true c k = cc
+    not_stopped false c k = refl
 
 pub ruleset next_steps = (goes_on, needs_one, needs_less, nexts-read, nexts-last, progress-last, given-last)

@@ -295,6 +295,7 @@ impl StreamsState {
     }
 
     // Reads a half that was taken out.
+    #[tactic(auto, using(crate::proofs::WorldSteps::world_steps, crate::proofs::ReadingSteps::reader_runs))]
     fn read_from(
         &mut self,
         id: StreamId,
