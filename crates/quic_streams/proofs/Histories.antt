@@ -3,6 +3,7 @@ use Rattle.std.proofs.Common.{◌≡◌, List, ◌∷◌}
 use Rattle.quic_streams.specs.World.{World, with_credit}
 use Rattle.quic_streams.specs.History.{Event, Received, ReceivedReset, AddedCredits, Began, Gave, Ended, Stopped, ToldReset, Step, Fits, Facts, From, consumed, debt, received}
 use Rattle.quic_streams.proofs.Credits.{credit-credited}
+use Rattle.quic_streams.proofs.Limits.{never-falls}
 use Rattle.quic_streams.proofs.FrameHistory.{kept-received}
 use Rattle.quic_streams.proofs.ResetHistory.{kept-reset}
 use Rattle.quic_streams.proofs.ReadHistory.{kept-began, kept-gave, kept-ended, kept-stopped, kept-told}
@@ -22,4 +23,4 @@ kept h u (ToldReset id answer) v f s = kept-told h u v id answer s.0 s.1 f s.2
 
 -- an end that may come from a history may come, after a call, from the history with that call
 pub next : (h : List Event) (u : World) (e : Event) (v : World) → Fits h e → From h u → Step u e v → From (e ∷ h) v
-next h u e v fits f s = record { run = (u, f.run, fits, s); facts = kept h u e v f.facts s }
+next h u e v fits f s = record { run = (u, f.run, fits, s); limit = (never-falls h u e v f.facts s, f.limit); facts = kept h u e v f.facts s }
