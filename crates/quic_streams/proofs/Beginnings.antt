@@ -86,6 +86,7 @@ all_start side uni bi send_window receive_window window q =
 pub begins : (side : Side) (uni bi send_window receive_window window : ℕ) → receive_window < 2 ^ 62 → From [] (start side uni bi send_window receive_window window)
 begins side uni bi send_window receive_window window small = record {
   run = record { side = side; uni = uni; bi = bi; send_window = send_window; receive_window = receive_window; window = window; small = small; is = refl };
+  limit = tt;
   facts = record { credit = credit-start receive_window small; streams = all_start side uni bi send_window receive_window window };
   ends = λ q e. cc;
 }

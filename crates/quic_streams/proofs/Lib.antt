@@ -6,6 +6,7 @@ pub mod FrameHistory
 pub mod FrameSteps
 pub mod HalfMaps
 pub mod Histories
+pub mod Limits
 pub mod Merging
 pub mod Numbers
 pub mod ReadHistory

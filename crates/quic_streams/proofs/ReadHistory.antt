@@ -5,6 +5,7 @@ use Rattle.quic_assembler.specs.declared.chunk.Chunk.{Chunk}
 use Rattle.quic_assembler.specs.declared.errors.EnsureError.{EnsureError}
 use Rattle.quic_assembler.specs.declared.errors.EnsureError.TheVariants as ensure_error
 use Rattle.quic_assembler.specs.Reassembly.{Reassembly}
+use Rattle.quic_limits.specs.Credit.{credited}
 use Rattle.quic_receiving.specs.Half.{Half, stop_credit}
 use Rattle.quic_receiving.specs.Data.{IsData}
 use Rattle.quic_receiving.specs.Calls.{Orders, Reads, Given, Rests, Waits}
@@ -156,3 +157,115 @@ kept-gave h u v id most (Err (read_error.Reset code)) f s = facts-at _ v _ s.is 
 kept-gave h u v id most (Err read_error.OutOfMemory) f s =
     facts-at _ v _ s.is (facts_read h u id most (Err read_error.OutOfMemory) s.old s.new f s.half
     (half_rests (trace h id) s.old s.new (was h u id most (Err read_error.OutOfMemory) s.old s.new f s.half) s.reads.is s.reads.rests))
+
+-- ---- a reader is ended
+
+pub kept-ended : (h : List Event) (u v : World) (id count : ℕ) → Facts h u → v ≡ with_credit u count → Facts (Ended id count ∷ h) v
+kept-ended h u v id count f is = rw is (record {
+  credit = credit-credited (consumed h) (debt h) (received h) count u.credit f.credit;
+  streams = f.streams;
+})
+
+-- ---- a stop
+
+module _ (h : List Event) (u : World) (id code : ℕ) (old new : Half) (f : Facts h u) (half : u.receive id ≡ Some old)
+    (is : new ≡ record old { buffer = new.buffer; stopped = true }) (read : new.buffer.bytes_read ≡ old.buffer.bytes_read) (highest : new.buffer.highest ≡ old.buffer.highest) where
+  abbrev es : Event
+  es = Stopped id code (Ok tt)
+
+  abbrev gs : ℕ → Trace
+  gs = trace (es ∷ h)
+
+  abbrev t : Trace
+  t = trace h id
+
+  known_stop : refusal u id ≡ None
+  known_stop = known-from (trace h) u id old f.streams half
+
+  was_stop : HalfFrom t old
+  was_stop = half-from (trace h) u id old f.streams known_stop half
+
+  others_stop : (q : ℕ) → eqb q id ≡ false → gs q ≡ trace h q
+  others_stop q n = rw n refl
+
+  here_stop : gs id ≡ record t { stopped = true; gone = t.sized }
+  here_stop = rw (itself id) refl
+
+  highs_stop : (q : ℕ) → (gs q).high ≡ (trace h q).high
+  highs_stop q = by_cases (eqb q id) (λ k. rw k refl) (λ k. rw k refl)
+
+  came_stop : received (es ∷ h) ≡ received h
+  came_stop = received-same h gs highs_stop
+
+  reset_is : (o : Option ℕ) (b : Bool) → is_some o ≡ b → (m n : ℕ) → (if b then 0 else m - n) ≡ (if is_none o then m - n else 0)
+  reset_is None b k m n = rw (← k) refl
+  reset_is (Some c) b k m n = rw (← k) refl
+
+  used_stop : history.stop_credit t ≡ stop_credit old
+  used_stop = rw (was_stop.high, was_stop.read) (reset_is old.reset t.reset was_stop.reset t.high t.read)
+
+  half_stopped : t.sized ≡ false → HalfFrom (gs id) new
+  half_stopped s = record {
+    high = ap (λ k. k.end) is ∙ was_stop.high ∙ sym (ap (λ k. k.high) here_stop);
+    read = read ∙ was_stop.read ∙ sym (ap (λ k. k.read) here_stop);
+    sized = ap (λ k. is_some k.size) is ∙ was_stop.sized ∙ sym (ap (λ k. k.sized) here_stop);
+    stopped = ap (λ k. k.stopped) is ∙ sym (ap (λ k. k.stopped) here_stop);
+    reset = ap (λ k. is_some k.reset) is ∙ was_stop.reset ∙ sym (ap (λ k. k.reset) here_stop);
+    there = ap (λ k. k.gone) here_stop ∙ s;
+    final = λ size k. ap (λ y. y.end) is ∙ was_stop.final size (sym (ap (λ y. y.size) is) ∙ k);
+    within = omega (arith, highest, ap (λ y. y.end) is, was_stop.within);
+    holds = λ k r. let e : true ≡ false = sym (ap (λ y. y.stopped) here_stop) ∙ k in cc;
+  }
+
+  credit_stop : (b : Bool) → (if b then freed u id else with_receive u id (Some new)).credit ≡ u.credit
+  credit_stop true = credit-freed u id
+  credit_stop false = credit-with_receive u id (Some new)
+
+  facts_stopped : Facts (es ∷ h) (after_stop u id old new)
+  facts_stopped =
+      let n : ℕ = stop_credit old in
+      let y = if is_some old.size then freed u id else with_receive u id (Some new) in
+      let base : CreditFrom (consumed h) (debt h) (received h) y.credit = rw (credit_stop (is_some old.size)) f.credit in
+      let some : consumed_by h es ≡ n = used_stop in
+      let came = came_stop in
+      let but = but-from (trace h) gs u id others_stop f.streams in
+      record {
+        credit = credit-same (consumed h + n) (debt h - n) (received h) (consumed (es ∷ h)) (debt (es ∷ h)) (received (es ∷ h)) (credited y.credit n)
+            (omega arith) (omega arith) came_stop (credit-credited (consumed h) (debt h) (received h) n y.credit base);
+        streams = when gs (freed u id) (with_receive u id (Some new)) (is_some old.size)
+            (λ s. all-freed gs u id but known_stop (ap (λ k. k.gone) here_stop ∙ sym was_stop.sized ∙ s))
+            (λ s. all-put gs u id new but known_stop (half_stopped (sym was_stop.sized ∙ s)));
+      }
+
+pub kept-stopped : (h : List Event) (u v : World) (id code : ℕ) (answer : Result (Unit {0}) HandleError) (p q : Pending) → Facts h u → Stops u id code p answer v q
+    → Facts (Stopped id code answer ∷ h) v
+kept-stopped h u v id code (Ok x) p q f s = facts-at _ v _ s.6 (facts_stopped h u id code s.0 s.1 f s.2 s.5 s.4.bytes_read s.4.highest)
+kept-stopped h u v id code (Err handle_error.ClosedStream) p q f s =
+    facts-at _ v u s.1 (facts_idle h (Stopped id code (Err handle_error.ClosedStream)) u f refl (λ q. refl) refl (λ q. refl))
+kept-stopped h u v id code (Err handle_error.OutOfMemory) p q f s =
+    facts-at _ v u s.0 (facts_idle h (Stopped id code (Err handle_error.OutOfMemory)) u f refl (λ q. refl) refl (λ q. refl))
+
+-- ---- the code of a reset is asked for
+
+module _ (h : List Event) (u : World) (id code : ℕ) (f : Facts h u) where
+  told_others : (q : ℕ) → eqb q id ≡ false → trace (ToldReset id (Ok (Some code)) ∷ h) q ≡ trace h q
+  told_others q n = rw n refl
+
+  told_highs : (q : ℕ) → (trace (ToldReset id (Ok (Some code)) ∷ h) q).high ≡ (trace h q).high
+  told_highs q = by_cases (eqb q id) (λ k. rw k refl) (λ k. rw k refl)
+
+  told_none : (q : ℕ) → trace (ToldReset id (Ok None) ∷ h) q ≡ trace h q
+  told_none q = by_cases (eqb q id) (λ k. rw k refl) (λ k. rw k refl)
+
+  facts_told : refusal u id ≡ None → Facts (ToldReset id (Ok (Some code)) ∷ h) (freed u id)
+  facts_told known = facts_freed h (ToldReset id (Ok (Some code))) u f refl told_highs refl id told_others known (rw (itself id) refl)
+
+pub kept-told : (h : List Event) (u v : World) (id : ℕ) (answer : Result (Option ℕ) HandleError) (p q : Pending) → Facts h u → TellsReset u id p answer v q
+    → Facts (ToldReset id answer ∷ h) v
+kept-told h u v id (Ok (Some code)) p q f s = facts-at _ v _ s.4 (facts_told h u id code f (known-from (trace h) u id s.0 f.streams s.1))
+kept-told h u v id (Ok None) p q f s =
+    facts-at _ v u s.4 (facts_idle h (ToldReset id (Ok None)) u f refl (λ k. ap (λ x. x.high) (told_none h u id 0 f k)) refl (told_none h u id 0 f))
+kept-told h u v id (Err handle_error.ClosedStream) p q f s =
+    facts-at _ v u s.1 (facts_idle h (ToldReset id (Err handle_error.ClosedStream)) u f refl (λ k. refl) refl (λ k. refl))
+kept-told h u v id (Err handle_error.OutOfMemory) p q f s =
+    facts-at _ v u s.3 (facts_idle h (ToldReset id (Err handle_error.OutOfMemory)) u f refl (λ k. refl) refl (λ k. refl))

@@ -256,8 +256,14 @@ pub record Facts (h : List Event) (v : World) : Type 0 where
   pub credit : CreditFrom (consumed h) (debt h) (received h) v.credit
   pub streams : (q : ℕ) → StreamFrom (trace h q) (refusal v q) (v.receive q)
 
+-- no call made the limit of the connection lower
+abbrev pub NeverFalls : (h : List Event) (v : World) → IsRun h v → Type 0
+NeverFalls [] v run = Unit {0}
+NeverFalls (e ∷ h) v run = (run.0.credit.local_max_data ≤ v.credit.local_max_data) × NeverFalls h run.0 run.1
+
 -- an end may come from a history
 pub record From (h : List Event) (v : World) : Type 0 where
   pub run : IsRun h v
+  pub limit : NeverFalls h v run
   pub facts : Facts h v
   pub ends : (q : ℕ) → EndsSo (trace h q)
