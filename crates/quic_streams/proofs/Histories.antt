@@ -1,7 +1,12 @@
 -- Each call keeps what a history says.
-use Rattle.std.proofs.Common.{◌≡◌, List, ◌∷◌}
+use Rattle.std.proofs.Common.{◌≡◌, ℕ, false, List, ◌∷◌, Option, Result}
+use Rattle.quic_assembler.specs.declared.chunk.Chunk.{Chunk}
+use Rattle.quic_receiving.specs.declared.errors.ReadError.{ReadError}
+use Rattle.quic_streams.specs.declared.reading.Progress.{Progress}
+use Rattle.quic_streams.specs.declared.reading.Progress.TheVariants as progress
+use Rattle.quic_streams.specs.Reading.{is_ended, ReadsHalf}
 use Rattle.quic_streams.specs.World.{World, with_credit}
-use Rattle.quic_streams.specs.History.{Event, Received, ReceivedReset, AddedCredits, Began, Gave, Ended, Stopped, ToldReset, Step, Fits, Facts, From, consumed, debt, received}
+use Rattle.quic_streams.specs.History.{Event, Received, ReceivedReset, AddedCredits, Began, Gave, Ended, Stopped, ToldReset, Step, Fits, Facts, From, with_next, consumed, debt, received}
 use Rattle.quic_streams.proofs.Credits.{credit-credited}
 use Rattle.quic_streams.proofs.Endings.{kept-ends}
 use Rattle.quic_streams.proofs.Limits.{never-falls}
@@ -30,3 +35,10 @@ next h u e v fits f s = record {
   facts = kept h u e v f.facts s;
   ends = kept-ends h u e v f.facts s f.ends;
 }
+
+-- the same for an answer of a reader that may go on
+pub next-answer : (h : List Event) (p : Progress) (u v : World) (id most : ℕ) (r : Result (Option Chunk) ReadError) → is_ended p ≡ false → From h u → ReadsHalf u id most r v
+    → From (with_next p id most r h) v
+next-answer h progress.Readable u v id most r e f s = next h u (Gave id most r) v tt f s
+next-answer h (progress.Reset code) u v id most r e f s = cc
+next-answer h progress.Finished u v id most r e f s = cc

@@ -15,6 +15,8 @@ use Rattle.quic_receiving.specs.declared.errors.ReadError.{ReadError}
 use Rattle.quic_receiving.specs.declared.errors.ReadError.TheVariants as read_error
 use Rattle.quic_receiving.specs.declared.errors.ReadableError.{ReadableError}
 use Rattle.quic_receiving.specs.declared.errors.HandleError.{HandleError}
+use Rattle.quic_streams.specs.declared.reading.Progress.{Progress}
+use Rattle.quic_streams.specs.declared.reading.Progress.TheVariants as progress
 use Rattle.quic_streams.specs.Pending.{Pending}
 use Rattle.quic_streams.specs.World.{World, start, refusal, with_credit}
 use Rattle.quic_streams.specs.Receiving.{Receives, ReceivesReset}
@@ -38,6 +40,12 @@ pub data Event : Type 0 where
   Stopped : (id code : ℕ) → (answer : Result (Unit {0}) HandleError) → Event
   -- the code of a reset was asked for
   ToldReset : (id : ℕ) → (answer : Result (Option ℕ) HandleError) → Event
+
+-- an answer of a reader that may go on is a call; what it told at the end it tells again, and that is none
+abbrev pub with_next : Progress → ℕ → ℕ → Result (Option Chunk) ReadError → List Event → List Event
+with_next progress.Readable id most answer h = Gave id most answer ∷ h
+with_next (progress.Reset code) id most answer h = h
+with_next progress.Finished id most answer h = h
 
 -- what one call may do
 abbrev pub Step : World → Event → World → Type 0

@@ -1,9 +1,10 @@
 //! Reading of streams.
 
-ghost use Rattle.std.specs.Prelude.{◌≡◌, ◌+◌, ◌<◌, ◌≤◌, ◌^◌, true, is_some, Some, Err, OnOk};
+ghost use Rattle.std.specs.Prelude.{◌≡◌, ◌+◌, ◌<◌, ◌≤◌, ◌^◌, true, is_some, Some, Err, OnOk, List, ◌∷◌};
 ghost use Rattle.quic_streams.specs.World.{shown, with_credit, with_receive};
 ghost use Rattle.quic_streams.specs.Pending.{shown as listed};
 ghost use Rattle.quic_streams.specs.Reading.{Begins, Nexts, ReadsHalf, is_reading, needed, pending_after, is_transmit_due, is_window_queued, progress_after, is_ended, IsLastAnswer, given_by};
+ghost use Rattle.quic_streams.specs.History.{Event, Ended, From, given, with_next};
 ghost use Rattle.quic_streams.specs.Room.{rooms, window_rooms};
 
 use crate::retransmits::Retransmits;
@@ -107,6 +108,8 @@ impl<'a> Chunks<'a> {
         ensures next { Nexts self.old.progress (shown self.old.streams.now) self.old.id max_length result (shown self.new.streams.now) }
         ensures progress { self.new.progress ≡ progress_after result }
         ensures read { self.new.read ≡ self.old.read + given_by result }
+        ensures from { (h : List Event) → From h (shown self.old.streams.now)
+            → From (with_next self.old.progress self.old.id max_length result h) (shown self.new.streams.now) }
     {
         if self.progress.is_ended() {
             return self.progress.last_answer();
@@ -125,6 +128,8 @@ impl<'a> Chunks<'a> {
         ensures streams { shown self.exit.0.now ≡ with_credit (shown self.entry.streams.now) self.entry.read }
         ensures pending { listed self.exit.1.0.now ≡ pending_after self.entry.progress (shown self.entry.streams.now) self.entry.id self.entry.read (listed self.entry.pending.now) }
         ensures transmit { result.0 ≡ is_transmit_due self.entry.progress (shown self.entry.streams.now) self.entry.id self.entry.read }
+        ensures from { (h : List Event) → From h (shown self.entry.streams.now) → self.entry.read ≡ given h
+            → From (Ended self.entry.id self.entry.read ∷ h) (shown self.exit.0.now) }
     {
         let Chunks {
             streams,
@@ -142,6 +147,8 @@ impl Drop for Chunks<'_> {
     fn drop(self)
         ensures streams { shown self.exit.0.now ≡ with_credit (shown self.entry.streams.now) self.entry.read }
         ensures pending { listed self.exit.1.0.now ≡ pending_after self.entry.progress (shown self.entry.streams.now) self.entry.id self.entry.read (listed self.entry.pending.now) }
+        ensures from { (h : List Event) → From h (shown self.entry.streams.now) → self.entry.read ≡ given h
+            → From (Ended self.entry.id self.entry.read ∷ h) (shown self.exit.0.now) }
     {
         let Chunks {
             streams,

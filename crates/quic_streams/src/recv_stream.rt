@@ -1,6 +1,7 @@
 //! The receive half of a stream, for the application.
 
-ghost use Rattle.std.specs.Prelude.{◌≡◌, ◌≤◌, is_some, IfOk, IfErr, Ok, Err, Some, true};
+ghost use Rattle.std.specs.Prelude.{◌≡◌, ◌≤◌, is_some, IfOk, IfErr, Ok, Err, Some, true, List, ◌∷◌};
+ghost use Rattle.quic_streams.specs.History.{Event, Began, Stopped, ToldReset, From};
 ghost use Rattle.quic_streams.specs.World.{World, shown, with_receive};
 ghost use Rattle.quic_streams.specs.Pending.{shown as listed};
 ghost use Rattle.quic_streams.specs.Reading.{Begins, Stops, TellsReset};
@@ -45,6 +46,8 @@ impl<'a> RecvStream<'a> {
         ensures ordered { IfOk result (λ chunks. chunks.ordered ≡ ordered) }
         ensures progress { IfOk result (λ chunks. chunks.progress ≡ Progress.Readable) }
         ensures read { IfOk result (λ chunks. chunks.read ≡ 0) }
+        ensures from { IfOk result (λ chunks. (h : List Event) → From h (shown self.old.state.now)
+            → From (Began self.old.id ordered (Ok tt) ∷ h) (shown chunks.streams.now)) }
     {
         self.state.begin(self.pending, self.id, ordered)?;
         let RecvStream { id, state, pending } = self;
@@ -58,6 +61,7 @@ impl<'a> RecvStream<'a> {
         ensures same_pending { self.new.pending.ghost_name ≡ self.old.pending.ghost_name }
         ensures id { self.new.id ≡ self.old.id }
         ensures stops { Stops (shown self.old.state.now) self.old.id error_code (listed self.old.pending.now) result (shown self.new.state.now) (listed self.new.pending.now) }
+        ensures from { (h : List Event) → From h (shown self.old.state.now) → From (Stopped self.old.id error_code result ∷ h) (shown self.new.state.now) }
     {
         self.state.stop(self.pending, self.id, error_code)
     }
@@ -68,6 +72,7 @@ impl<'a> RecvStream<'a> {
         ensures same_pending { self.new.pending.ghost_name ≡ self.old.pending.ghost_name }
         ensures id { self.new.id ≡ self.old.id }
         ensures tells { TellsReset (shown self.old.state.now) self.old.id (listed self.old.pending.now) result (shown self.new.state.now) (listed self.new.pending.now) }
+        ensures from { (h : List Event) → From h (shown self.old.state.now) → From (ToldReset self.old.id result ∷ h) (shown self.new.state.now) }
     {
         self.state.tell_reset(self.pending, self.id)
     }
