@@ -10,6 +10,7 @@ use Rattle.quic_values.specs.Ids.{stream_id, other_side, index_of, initiator_of}
 use Rattle.quic_receiving.specs.Half.{Half, new_half}
 use Rattle.quic_streams.specs.Halves.{Halves, is_among, with_first}
 use Rattle.quic_streams.specs.World.{World, start, refusal, is_own, is_same_side}
+use Rattle.quic_streams.proofs.Endings.{tells-ends}
 use Rattle.quic_streams.specs.History.{StreamFrom, untouched, trace, IsStart, Facts, From}
 use Rattle.quic_streams.proofs.Refusals.{refusal_by, refusal-is}
 use Rattle.quic_streams.proofs.Credits.{credit-start}
@@ -82,13 +83,17 @@ all_start side uni bi send_window receive_window window q =
     rw (refusal-is w q, among (other_side side) Uni uni q (q % 2 == 0) (q / 2 % 2 == 0) refl refl, among (other_side side) Bi bi q (q % 2 == 0) (q / 2 % 2 == 0) refl refl)
     (by_bits side (q % 2 == 0) (q / 2 % 2 == 0) uni bi window (index_of q))
 
+facts_start : (side : Side) (uni bi send_window receive_window window : ℕ) → receive_window < 2 ^ 62 → Facts [] (start side uni bi send_window receive_window window)
+facts_start side uni bi send_window receive_window window small = record { credit = credit-start receive_window small; streams = all_start side uni bi send_window receive_window window }
+
 -- an end that was just made may come from no calls
 pub begins : (side : Side) (uni bi send_window receive_window window : ℕ) → receive_window < 2 ^ 62 → From [] (start side uni bi send_window receive_window window)
 begins side uni bi send_window receive_window window small = record {
   run = record { side = side; uni = uni; bi = bi; send_window = send_window; receive_window = receive_window; window = window; small = small; is = refl };
   limit = tt;
-  facts = record { credit = credit-start receive_window small; streams = all_start side uni bi send_window receive_window window };
+  facts = facts_start side uni bi send_window receive_window window small;
   ends = λ q e. cc;
+  tells = tells-ends [] (start side uni bi send_window receive_window window) (facts_start side uni bi send_window receive_window window small);
 }
 
 pub begins_at : (side : Side) (uni bi send_window receive_window window : ℕ) (v : World) → receive_window < 2 ^ 62 → v ≡ start side uni bi send_window receive_window window → From [] v

@@ -1,5 +1,5 @@
 -- A reported end means that every byte was given, over every history.
-use Rattle.std.proofs.Common.{◌≡◌, ℕ, Bool, true, false, ◌||◌, ◌&&◌, eqb, List, ◌∷◌, Option, Some, None, is_some, Result, Ok, Err, refl, sym, ap, ◌∙◌, subst, arith, ◌+◌, ◌≤◌, length}
+use Rattle.std.proofs.Common.{◌≡◌, ℕ, Bool, true, false, ◌||◌, ◌&&◌, eqb, List, ◌∷◌, Option, Some, None, is_some, Result, Ok, Err, refl, sym, ap, ◌∙◌, ◌↔◌, subst, arith, ◌+◌, ◌≤◌, length}
 use Rattle.std.specs.Prelude.{if◌then◌else◌, ◌==◌}
 use Rattle.std.proofs.lemmas.Bool.Decides.{nat_tests}
 use Rattle.quic_assembler.specs.declared.chunk.Chunk.{Chunk}
@@ -11,7 +11,7 @@ use Rattle.quic_receiving.specs.declared.errors.ReadError.TheVariants as read_er
 use Rattle.quic_receiving.proofs.Data.{all_given}
 use Rattle.quic_streams.specs.World.{World}
 use Rattle.quic_streams.specs.Reading.{ReadsHalf}
-use Rattle.quic_streams.specs.History.{Event, Received, ReceivedReset, AddedCredits, Began, Gave, Ended, Stopped, ToldReset, Step, Trace, HalfFrom, Facts, EndsSo, trace, is_closed, is_kept, with_frame, with_reset, with_read, with_stop, with_told}
+use Rattle.quic_streams.specs.History.{Event, Received, ReceivedReset, AddedCredits, Began, Gave, Ended, Stopped, ToldReset, Step, Trace, HalfFrom, Facts, EndsSo, TellsEnds, trace, is_closed, is_kept, with_frame, with_reset, with_read, with_stop, with_told}
 use Rattle.quic_streams.proofs.Totals.{by_cases, same}
 use Rattle.quic_streams.proofs.Traces.{itself}
 use Rattle.quic_streams.proofs.StreamSteps.{half-from, known-from}
@@ -43,16 +43,23 @@ all_of : (o : Option ℕ) (count : ℕ) → is_all o count ≡ true → (size : 
 all_of None count h = cc
 all_of (Some size) count h = (size, refl, grind (arith, nat_tests))
 
+-- as many bytes were read as a known final size tells exactly where every byte below it was given
+half_tells : (t : Trace) (h : Half) → HalfFrom t h → h.stopped ≡ false → h.reset ≡ None → (size : ℕ) → h.size ≡ Some size → (h.buffer.bytes_read ≡ size) ↔ IsAllGiven t.given size
+half_tells t h x running unreset size sized =
+    let end : h.end ≡ size = x.final size sized in
+    let most : h.buffer.highest ≤ size = omega (arith, x.within, end) in
+    all_given t.kept t.given h.buffer size most (x.holds (sym x.stopped ∙ running) (sym x.reset ∙ ap is_some unreset))
+
+pub tells-ends : (h : List Event) (v : World) → Facts h v → TellsEnds h v
+tells-ends h v f q half there running unreset size sized =
+    half_tells (trace h q) half (half-from (trace h) v q half f.streams (known-from (trace h) v q half f.streams there) there) running unreset size sized
+
 -- the end is told where every byte was given
 given_all : (t : Trace) (h : Half) → HalfFrom t h → h.stopped ≡ false → h.reset ≡ None → is_all h.size h.buffer.bytes_read ≡ true → IsAllGiven t.given t.high
 given_all t h x running unreset all =
     let k = all_of h.size h.buffer.bytes_read all in
-    let size : ℕ = k.0 in
-    let end : h.end ≡ size = x.final size k.1 in
-    let held = x.holds (sym x.stopped ∙ running) (sym x.reset ∙ ap is_some unreset) in
-    let most : h.buffer.highest ≤ size = omega (arith, x.within, end) in
-    let high : t.high ≡ size = sym x.high ∙ end in
-    rw high ((all_given t.kept t.given h.buffer size most held).0 k.2)
+    let high : t.high ≡ k.0 = sym x.high ∙ x.final k.0 k.1 in
+    rw high ((half_tells t h x running unreset k.0 k.1).0 k.2)
 
 ends_read : (t : Trace) (old new : Half) (most : ℕ) (answer : Result (Option Chunk) ReadError) → HalfFrom t old → old.stopped ≡ false → Reads old most answer new
     → EndsSo t → EndsSo (with_read answer t)

@@ -1,6 +1,6 @@
 -- The history of one end of a connection: the calls on its streams with their answers, the newest first; and what it
 -- says of the end.
-use Rattle.std.specs.Prelude.{ℕ, Bool, true, false, not, ◌≡◌, ◌+◌, ◌-◌, ◌^◌, ◌==◌, ◌≤◌, ◌<◌, ◌&&◌, ◌||◌, max, if◌then◌else◌, nat_eq, List, [], ◌∷◌, length, Option, Some, None, is_some, Result, Ok, Err}
+use Rattle.std.specs.Prelude.{◌↔◌, ℕ, Bool, true, false, not, ◌≡◌, ◌+◌, ◌-◌, ◌^◌, ◌==◌, ◌≤◌, ◌<◌, ◌&&◌, ◌||◌, max, if◌then◌else◌, nat_eq, List, [], ◌∷◌, length, Option, Some, None, is_some, Result, Ok, Err}
 use Rattle.std.specs.List.{list_any}
 use Rattle.quic_values.specs.declared.ids.Side.{Side}
 use Rattle.quic_assembler.specs.declared.chunk.Chunk.{Chunk}
@@ -264,6 +264,11 @@ pub record Facts (h : List Event) (v : World) : Type 0 where
   pub credit : CreditFrom (consumed h) (debt h) (received h) v.credit
   pub streams : (q : ℕ) → StreamFrom (trace h q) (refusal v q) (v.receive q)
 
+-- of a stream that is neither stopped nor reset, as many bytes were read as a known final size tells, where reads tell the end, exactly where each byte below it was given
+abbrev pub TellsEnds : List Event → World → Type 0
+TellsEnds h v = (q : ℕ) (half : Half) → v.receive q ≡ Some half → half.stopped ≡ false → half.reset ≡ None → (size : ℕ) → half.size ≡ Some size
+    → (half.buffer.bytes_read ≡ size) ↔ IsAllGiven (trace h q).given size
+
 -- no call made the limit of the connection lower
 abbrev pub NeverFalls : (h : List Event) (v : World) → IsRun h v → Type 0
 NeverFalls [] v run = Unit {0}
@@ -275,3 +280,4 @@ pub record From (h : List Event) (v : World) : Type 0 where
   pub limit : NeverFalls h v run
   pub facts : Facts h v
   pub ends : (q : ℕ) → EndsSo (trace h q)
+  pub tells : TellsEnds h v

@@ -38,7 +38,7 @@ pub struct StreamsState {
 #[tactic(auto, unfolding(crate::specs::World::shown, crate::specs::World::with_receive, crate::specs::Room::rooms, crate::specs::Room::HasEventRoom))]
 impl StreamsState {
     /// The streams of one end, of which none is open. The peer may open so many unidirectional and bidirectional
-    /// streams, and send `receive_window` bytes in all, and `stream_receive_window` on each stream, before credit is
+    /// streams, and send `receive_window` bytes in all, and `stream_window` on each stream, before credit is
     /// given. `send_window` is how many bytes this end keeps that were sent and not acknowledged.
     pub fn new(
         alloc: Global,
@@ -47,15 +47,15 @@ impl StreamsState {
         max_remote_bi: VarInt,
         send_window: u64,
         receive_window: VarInt,
-        stream_receive_window: VarInt,
+        stream_window: VarInt,
     ) -> Result<Self, OutOfMemory>
         requires uni { max_remote_uni ≤ 2 ^ 60 }
         requires bi { max_remote_bi ≤ 2 ^ 60 }
-        ensures start { IfOk result (λ state. shown state ≡ start side max_remote_uni max_remote_bi send_window receive_window stream_receive_window) }
+        ensures start { IfOk result (λ state. shown state ≡ start side max_remote_uni max_remote_bi send_window receive_window stream_window) }
         ensures from { IfOk result (λ state. From [] (shown state)) }
     {
         let (uni, bi) = (max_remote_uni.into_inner(), max_remote_bi.into_inner());
-        let mut receive = ReceiveHalves::new(alloc, stream_receive_window);
+        let mut receive = ReceiveHalves::new(alloc, stream_window);
         let mut send = SendHalves::new(alloc);
         receive.permit_first(!side, Dir::Bi, bi)?;
         receive.permit_first(!side, Dir::Uni, uni)?;
