@@ -123,8 +123,8 @@ data-inserted kept given a b offset bytes s d = record {
   ];
   once = λ at h k. elim (s.takes.fresh at k.0 k.1) [ inl o ↦ d.once at h (k.0, o) | inr n ↦ n (given_done kept given a d at h) ];
   done = λ at. in_both_modes a.ordered (is_done b at ≡ (if b.ordered then is_in given at else (lies offset (offset + length bytes) at || is_in kept at)))
-    (λ o. in-order b.ordered (is_in given at) (lies offset (offset + length bytes) at || is_in kept at) (is_done b at) (s.ordered ∙ o) (s.done at ∙ insert-order a.ordered (is_done a at) (lies offset (offset + length bytes) at) o ∙ of-order a.ordered (is_in given at) (is_in kept at) (is_done a at) o (d.done at)))
-    (λ u. no-order b.ordered (is_in given at) (lies offset (offset + length bytes) at || is_in kept at) (is_done b at) (s.ordered ∙ u) (s.done at ∙ insert-no-order a.ordered (is_done a at) (lies offset (offset + length bytes) at) u ∙ ap (λ x. lies offset (offset + length bytes) at || x) (of-no-order a.ordered (is_in given at) (is_in kept at) (is_done a at) u (d.done at))));
+      (λ o. in-order b.ordered (is_in given at) (lies offset (offset + length bytes) at || is_in kept at) (is_done b at) (s.ordered ∙ o) (s.done at ∙ insert-order a.ordered (is_done a at) (lies offset (offset + length bytes) at) o ∙ of-order a.ordered (is_in given at) (is_in kept at) (is_done a at) o (d.done at)))
+      (λ u. no-order b.ordered (is_in given at) (lies offset (offset + length bytes) at || is_in kept at) (is_done b at) (s.ordered ∙ u) (s.done at ∙ insert-no-order a.ordered (is_done a at) (lies offset (offset + length bytes) at) u ∙ ap (λ x. lies offset (offset + length bytes) at || x) (of-no-order a.ordered (is_in given at) (is_in kept at) (is_done a at) u (d.done at))));
   count = λ n l. d.count n (omega (arith, s.highest)) ∙ sym s.bytes_read;
   within = λ at h. elim (or-split (lies offset (offset + length bytes) at) (is_in kept at) h) [
     | inl l ↦ omega (arith, s.highest, lies-high offset (offset + length bytes) at l)
@@ -163,6 +163,7 @@ data-leaves kept given a b s d = record {
       | inl l ↦ done_came kept given a d at ((done_below a at s.was_ordered).1 l)
       | inr k ↦ carried-in kept at k.0 (d.held at k.0 k.1)
     ]
+
     back : (at : ℕ) → is_in kept at ≡ true → is_done b at ≡ true
     back at h = elim (d.complete at h) [
       | inl g ↦ (s.leaves.done at).1 (inl ((done_below a at s.was_ordered).0 (given_done kept given a d at g)))
@@ -213,24 +214,31 @@ data-given kept given a b most chunk s d = record {
     | inr g ↦ d.once at g (k.0, s.gives.origin at k.0 k.1)
   ];
   done = λ at. in_both_modes a.ordered (is_done b at ≡ (if b.ordered then (lies chunk.offset (chunk.offset + length chunk.bytes) at || is_in given at) else is_in kept at))
-    (λ o. in-order b.ordered (lies chunk.offset (chunk.offset + length chunk.bytes) at || is_in given at) (is_in kept at) (is_done b at) (s.ordered ∙ o) (same-bits (is_done b at) (lies chunk.offset (chunk.offset + length chunk.bytes) at || is_in given at) (forth o at) (back o at)))
-    (λ u. no-order b.ordered (lies chunk.offset (chunk.offset + length chunk.bytes) at || is_in given at) (is_in kept at) (is_done b at) (s.ordered ∙ u) (s.done at u ∙ of-no-order a.ordered (is_in given at) (is_in kept at) (is_done a at) u (d.done at)));
+      (λ o. in-order b.ordered (lies chunk.offset (chunk.offset + length chunk.bytes) at || is_in given at) (is_in kept at) (is_done b at) (s.ordered ∙ o) (same-bits (is_done b at) (lies chunk.offset (chunk.offset + length chunk.bytes) at || is_in given at) (forth o at) (back o at)))
+      (λ u. no-order b.ordered (lies chunk.offset (chunk.offset + length chunk.bytes) at || is_in given at) (is_in kept at) (is_done b at) (s.ordered ∙ u) (s.done at u ∙ of-no-order a.ordered (is_in given at) (is_in kept at) (is_done a at) u (d.done at)));
   count = λ n l. number-or n (lies chunk.offset (chunk.offset + length chunk.bytes)) (is_in given) apart
-    ∙ omega (arith, d.count n (omega (arith, s.highest)), s.bytes_read,
-    given_count n chunk.offset (length chunk.bytes) (below n a.highest chunk.offset (length chunk.bytes) (chunk_end kept given a b most chunk s d) (omega (arith, s.highest))));
+      ∙ omega (
+        arith,
+        d.count n (omega (arith, s.highest)),
+        s.bytes_read,
+        given_count n chunk.offset (length chunk.bytes) (below n a.highest chunk.offset (length chunk.bytes) (chunk_end kept given a b most chunk s d) (omega (arith, s.highest))),
+      );
   within = λ at h. omega (arith, s.highest, d.within at h);
 }
   where
     within_chunk : (at : ℕ) → lies chunk.offset (chunk.offset + length chunk.bytes) at ≡ true → IsWithin chunk.offset chunk.bytes at
     within_chunk at l = (lies-low chunk.offset (chunk.offset + length chunk.bytes) at l, lies-high chunk.offset (chunk.offset + length chunk.bytes) at l)
+
     apart : (at : ℕ) → lies chunk.offset (chunk.offset + length chunk.bytes) at ≡ true → is_in given at ≡ true → ⊥
     apart at l g = d.once at g (given_held a b most chunk s at (within_chunk at l))
+
     forth : a.ordered ≡ true → (at : ℕ) → is_done b at ≡ true → (lies chunk.offset (chunk.offset + length chunk.bytes) at || is_in given at) ≡ true
     forth o at h = let l : at < b.bytes_read = (done_below b at (s.ordered ∙ o)).0 h in
         elim (cases_lt at a.bytes_read) [
           | inl m ↦ or-right (lies chunk.offset (chunk.offset + length chunk.bytes) at) (is_in given at) (sym (of-order a.ordered (is_in given at) (is_in kept at) (is_done a at) o (d.done at)) ∙ (done_below a at o).1 m)
           | inr m ↦ or-left _ (is_in given at) (lies-in chunk.offset (chunk.offset + length chunk.bytes) at (omega (arith, s.start o)) (omega (arith, s.start o, s.bytes_read)))
         ]
+
     back : a.ordered ≡ true → (at : ℕ) → (lies chunk.offset (chunk.offset + length chunk.bytes) at || is_in given at) ≡ true → is_done b at ≡ true
     back o at h = (done_below b at (s.ordered ∙ o)).1 (elim (or-split (lies chunk.offset (chunk.offset + length chunk.bytes) at) (is_in given at) h) [
       | inl l ↦ omega (arith, s.start o, s.bytes_read, lies-high chunk.offset (chunk.offset + length chunk.bytes) at l)
@@ -249,6 +257,7 @@ number-all (suc n) f h at l = elim (cases_lt at n) [
     bit-bound : (b : Bool) → cond b 1 0 ≤ 1
     bit-bound true = omega arith
     bit-bound false = omega arith
+
     bit-full : (b : Bool) → 1 ≤ cond b 1 0 → b ≡ true
     bit-full true h = refl
     bit-full false h = absurd (omega (arith, h))
@@ -266,4 +275,5 @@ all-number (suc n) f h = omega (arith, all-number n f (λ at l. h at (omega arit
 pub all_given : (kept given : List Slice) (a : Reassembly) (size : ℕ) → a.highest ≤ size → IsData kept given a → (a.bytes_read ≡ size) ↔ IsAllGiven given size
 all_given kept given a size l d = (
   (λ e. number-all size (is_in given) (d.count size l ∙ e)),
-  (λ h. sym (d.count size l) ∙ all-number size (is_in given) h))
+  (λ h. sym (d.count size l) ∙ all-number size (is_in given) h),
+)
