@@ -49,12 +49,12 @@ number-add (suc n) f g h p q apart = omega (arith, number-add n f g h p q apart,
     bits false true c p q apart = rw (q refl) (omega arith)
     bits false false c p q apart = omega arith
 
-number-lies : (n low high : ℕ) → low ≤ high → number (lies low high) n ≡ min n high - low
+pub number-lies : (n low high : ℕ) → low ≤ high → number (lies low high) n ≡ min n high - low
 unfolding number
 number-lies zero low high l = omega arith
 number-lies (suc n) low high l = let e = number-lies n low high l in grind (arith, nat_tests)
 
-number-bound : (n : ℕ) (f : ℕ → Bool) → number f n ≤ n
+pub number-bound : (n : ℕ) (f : ℕ → Bool) → number f n ≤ n
 unfolding number
 number-bound zero f = omega arith
 number-bound (suc n) f = omega (arith, number-bound n f, bits (f n))
@@ -120,18 +120,18 @@ counted-clears a b s i = counted-same a b s.bytes_read (omega (arith, s.highest)
     (λ at g. gone b at (s.done at ∙ gone_done a at g) (λ h. s.nothing at h.0 h.1))
     i
 
-lies-low : (low high at : ℕ) → lies low high at ≡ true → low ≤ at
+pub lies-low : (low high at : ℕ) → lies low high at ≡ true → low ≤ at
 lies-low low high at h = grind (arith, nat_tests)
 
-lies-high : (low high at : ℕ) → lies low high at ≡ true → at < high
+pub lies-high : (low high at : ℕ) → lies low high at ≡ true → at < high
 lies-high low high at h = grind (arith, nat_tests)
 
 -- each offset of a chunk that was given was held
-given_held : (a b : Reassembly) (most : ℕ) (chunk : Chunk) → Given a most chunk b → (at : ℕ) → IsWithin chunk.offset chunk.bytes at → IsHeld (Holds a) at
+pub given_held : (a b : Reassembly) (most : ℕ) (chunk : Chunk) → Given a most chunk b → (at : ℕ) → IsWithin chunk.offset chunk.bytes at → IsHeld (Holds a) at
 given_held a b most chunk s at w = (slice_index chunk.bytes (at - chunk.offset), s.gives.given at (slice_index chunk.bytes (at - chunk.offset)) (w.0, w.1, refl))
 
 -- so the chunk ends below the highest end, unless it is empty
-given_end : (a b : Reassembly) (most : ℕ) (chunk : Chunk) → Given a most chunk b → IsCounted a → (chunk.offset + length chunk.bytes ≤ a.highest) ⊎ (length chunk.bytes ≡ 0)
+pub given_end : (a b : Reassembly) (most : ℕ) (chunk : Chunk) → Given a most chunk b → IsCounted a → (chunk.offset + length chunk.bytes ≤ a.highest) ⊎ (length chunk.bytes ≡ 0)
 given_end a b most chunk s i = elim (cases_lt 0 (length chunk.bytes)) [
   | inl l ↦
       let at : ℕ = chunk.offset + (length chunk.bytes - 1) in
@@ -140,7 +140,7 @@ given_end a b most chunk s i = elim (cases_lt 0 (length chunk.bytes)) [
   | inr l ↦ inr (omega arith)
 ]
 
-given_count : (n offset count : ℕ) → (offset + count ≤ n) ⊎ (count ≡ 0) → number (lies offset (offset + count)) n ≡ count
+pub given_count : (n offset count : ℕ) → (offset + count ≤ n) ⊎ (count ≡ 0) → number (lies offset (offset + count)) n ≡ count
 given_count n offset count (inl l) = omega (arith, number-lies n offset (offset + count) (omega arith))
 given_count n offset count (inr e) = omega (arith, number-lies n offset (offset + count) (omega arith))
 

@@ -2,4 +2,5 @@ pub mod Buffers
 pub mod Frames
 pub mod Readings
 pub mod Counted
+pub mod Data
 pub mod Sound

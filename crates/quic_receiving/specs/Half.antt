@@ -1,6 +1,6 @@
 -- What contracts see of the receive half of a stream (RFC 9000 sections 3.2, 4.1 and 4.5).
 use Rattle.std.specs.Prelude.{◌≡◌, ℕ, ◌+◌, ◌-◌, ◌/◌, ◌^◌, ◌<◌, ◌≤◌, Bool, true, false, not, ◌&&◌, ◌||◌, ◌==◌, nat_lt, nat_le, if◌then◌else◌, min, max, Option, Some, None, is_none, is_some}
-use Rattle.quic_assembler.specs.Reassembly.{Reassembly}
+use Rattle.quic_assembler.specs.Reassembly.{Reassembly, fresh}
 use Rattle.quic_receiving.specs.Counted.{IsCounted}
 
 pub record Half : Type 0 where
@@ -16,6 +16,10 @@ pub record Half : Type 0 where
   pub sent_max : ℕ
   -- whether the application stopped it
   pub stopped : Bool
+
+-- a half to which nothing came
+abbrev pub new_half : ℕ → Half
+new_half limit = record { buffer = fresh; size = None; reset = None; end = 0; sent_max = limit; stopped = false }
 
 -- what is true of every half
 pub record IsHalf (h : Half) : Type 0 where

@@ -1,7 +1,7 @@
 //! The receive half of a stream.
 
 ghost use Rattle.std.specs.Prelude.{◌≡◌, ◌+◌, ◌-◌, ◌<◌, ◌≤◌, ◌^◌, ◌&&◌, ◌||◌, ℕ, length, not, true, None, Some, is_none, is_some, max, nat_lt, if◌then◌else◌, SomeIff, IfOk, IfErr, OnOk};
-ghost use Rattle.quic_receiving.specs.Half.{IsHalf, Refused, Taken, verdict, reset_verdict, is_past, is_unfit, is_beyond, is_open, is_all, window_end, is_window_due};
+ghost use Rattle.quic_receiving.specs.Half.{IsHalf, new_half, Refused, Taken, verdict, reset_verdict, is_past, is_unfit, is_beyond, is_open, is_all, window_end, is_window_due};
 ghost use Rattle.quic_receiving.specs.State.{known_size, reset_code_of};
 ghost use Rattle.quic_receiving.specs.Calls.{IsFresh, Ingests, Stops, Resets, Reads, Orders};
 
@@ -59,7 +59,8 @@ impl Recv {
     /// send when the stream began. Takes no memory.
     pub fn new(alloc: Global, initial_max_data: u64) -> Self
         requires { initial_max_data < 2 ^ 62 }
-        ensures { IsFresh initial_max_data result }
+        ensures fresh { IsFresh initial_max_data result }
+        ensures new { result ≡ new_half initial_max_data }
     {
         Recv {
             state: RecvState::default(),

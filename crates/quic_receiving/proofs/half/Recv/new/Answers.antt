@@ -2,8 +2,8 @@ use Rattle.std.proofs.Common.{refl}
 use Rattle.quic_receiving.proofs.Buffers.{done-none}
 use Rattle.quic_receiving.proofs.half.Recv.new.Goals as goal
 
-pub returns : goal.returns
-returns c =
+pub returns-clause-fresh : goal.returns-clause-fresh
+returns-clause-fresh c =
     let e = c.new.ensures in
     rw c.default.ensures (record {
       empty = record {

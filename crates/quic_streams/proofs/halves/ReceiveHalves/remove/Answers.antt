@@ -1,0 +1,7 @@
+use Rattle.quic_streams.specs.Halves.{held}
+use Rattle.quic_streams.proofs.HalfMaps.{held-put}
+use Rattle.quic_streams.proofs.halves.ReceiveHalves.remove.Goals as goal
+
+pub returns-clause-held : goal.returns-clause-held
+unfolding held
+returns-clause-held c = held-put c.args.self.now.window _ _ c.args.id _ c.remove.ensures.updates.0

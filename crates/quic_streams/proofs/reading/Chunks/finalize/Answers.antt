@@ -1,0 +1,8 @@
+use Rattle.quic_streams.specs.World.{shown}
+use Rattle.quic_streams.specs.History.{Ended}
+use Rattle.quic_streams.proofs.Histories.{next}
+use Rattle.quic_streams.proofs.reading.Chunks.finalize.Goals as goal
+
+pub returns-clause-from : goal.returns-clause-from
+returns-clause-from c = λ h f fits.
+    next h (shown c.args.self.streams.now) (Ended c.args.self.id c.args.self.read) (shown c.finish.new.streams) fits f c.finish.ensures.streams

@@ -1,0 +1,9 @@
+use Rattle.std.proofs.Common.{Ok, rules}
+use Rattle.quic_streams.specs.World.{shown}
+use Rattle.quic_streams.specs.History.{Began}
+use Rattle.quic_streams.proofs.Histories.{next}
+use Rattle.quic_streams.proofs.recv_stream.RecvStream.read.Goals as goal
+
+pub returns-clause-from : goal.returns-clause-from
+returns-clause-from c = λ h f.
+    next h (shown c.args.self.now.state.now) (Began c.args.self.now.id c.args.ordered (Ok tt)) (shown c.new.result.streams.now) tt f (search rules)

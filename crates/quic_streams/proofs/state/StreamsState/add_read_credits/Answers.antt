@@ -1,0 +1,13 @@
+use Rattle.std.proofs.Common.{ap}
+use Rattle.quic_streams.specs.World.{World, shown}
+use Rattle.quic_streams.specs.History.{AddedCredits}
+use Rattle.quic_streams.proofs.Histories.{next}
+use Rattle.quic_streams.proofs.state.StreamsState.add_read_credits.Goals as goal
+
+pub returns-clause-from : goal.returns-clause-from
+unfolding shown
+returns-clause-from c = λ h f.
+    let u = shown c.args.self.now in
+    let v = record u { credit = c.add.new.self } in
+    let e = AddedCredits c.args.credits (record { 0 = c.add.result }) in
+    next h u e v tt f (ap (λ k. record u { credit = k }) c.add.ensures.credit, c.add.ensures.due)

@@ -1,0 +1,9 @@
+use Rattle.quic_streams.specs.World.{shown}
+use Rattle.quic_streams.specs.History.{ReceivedReset}
+use Rattle.quic_streams.proofs.Histories.{next}
+use Rattle.quic_streams.proofs.state.StreamsState.received_reset.Goals as goal
+
+pub returns-clause-from : goal.returns-clause-from
+returns-clause-from c = λ h f.
+    let e = ReceivedReset c.args.frame.id c.args.frame.error_code c.args.frame.final_offset c.receive_reset.result in
+    next h (shown c.args.self.now) e (shown c.receive_reset.new.self) tt f c.receive_reset.ensures

@@ -1,0 +1,151 @@
+//! The receive halves of a connection's streams.
+
+ghost use Rattle.std.specs.Prelude.{true, ◌≡◌, ◌+◌, ◌<◌, ◌≤◌, ◌^◌, Some, None, IsSome, IfOk, OnOk, OnErr, is_some};
+ghost use Rattle.std.specs.Option.{option_map};
+ghost use Rattle.quic_receiving.specs.Half.{new_half};
+ghost use Rattle.quic_streams.specs.Halves.{held, room, with_half, with_first, taken, is_due_in, TellsCode};
+
+use quic_receiving::{ClosedStream, Recv};
+use quic_values::{Dir, OutOfMemory, Side, StreamId, VarInt};
+use std::alloc::Global;
+use std::collections::HashMap;
+
+/// The receive halves of the streams that are open, or that the peer may open. One to which nothing came takes no
+/// memory of its own.
+#[derive(Drop)]
+pub struct ReceiveHalves {
+    alloc: Global,
+    // The first limit of each stream.
+    window: VarInt,
+    // `None` is a half to which nothing came.
+    entries: HashMap<StreamId, Option<Box<Recv>>>,
+}
+
+#[tactic(auto, unfolding(crate::specs::Halves::held, crate::specs::Halves::with_half))]
+impl ReceiveHalves {
+    /// No halves. Takes no memory.
+    pub(crate) fn new(alloc: Global, window: VarInt) -> Self
+        ensures held { held result ≡ (λ id. None) }
+        ensures window { result.window ≡ window }
+    {
+        ReceiveHalves {
+            alloc,
+            window,
+            entries: HashMap::new(alloc),
+        }
+    }
+
+    /// Makes room for so many more.
+    pub(crate) fn reserve(&mut self, additional: usize) -> Result<(), OutOfMemory>
+        ensures held { held self.new ≡ held self.old }
+        ensures window { self.new.window ≡ self.old.window }
+        ensures ok { OnOk result (additional ≤ room self.new) }
+        ensures room { room self.old ≤ room self.new }
+    {
+        self.entries.reserve(additional)?;
+        Ok(())
+    }
+
+    /// A stream is permitted, for which there is room.
+    pub(crate) fn permit(&mut self, id: StreamId)
+        requires { 0 < room self.old }
+        ensures held { held self.new ≡ with_half (held self.old) id (Some (new_half self.old.window)) }
+        ensures window { self.new.window ≡ self.old.window }
+        ensures room { room self.old ≤ room self.new + 1 }
+    {
+        let _ = self.entries.insert(id, None);
+    }
+
+    /// The first so many streams of an initiator and a direction are permitted.
+    pub(crate) fn permit_first(
+        &mut self,
+        initiator: Side,
+        dir: Dir,
+        count: u64,
+    ) -> Result<(), OutOfMemory>
+        requires { count ≤ 2 ^ 60 }
+        ensures held { OnOk result (held self.new ≡ with_first (held self.old) initiator dir count (Some (new_half self.old.window))) }
+        ensures window { self.new.window ≡ self.old.window }
+    {
+        self.reserve(count as usize)?;
+        for index in 0..count {
+            self.permit(StreamId::new(initiator, dir, index));
+        }
+        Ok(())
+    }
+
+    /// Takes a half out, to be put back or removed. It is made where nothing came yet.
+    pub(crate) fn take(&mut self, id: StreamId) -> Result<Option<Box<Recv>>, OutOfMemory>
+        ensures half { IfOk result (λ half. option_map (λ b. b.value) half ≡ held self.old id) }
+        ensures held { IfOk result (λ half. held self.new ≡ taken (held self.old) id self.old.window (held self.old id)) }
+        ensures err { OnErr result (held self.new ≡ held self.old) }
+        ensures err_new { OnErr result (held self.old id ≡ Some (new_half self.old.window)) }
+        ensures window { self.new.window ≡ self.old.window }
+        ensures room { room self.new ≡ room self.old }
+    {
+        let used = match self.entries.get_mut(&id) {
+            None => return Ok(None),
+            Some(entry) => entry.take(),
+        };
+        match used {
+            Some(half) => Ok(Some(half)),
+            None => {
+                let half = Box::new(self.alloc, Recv::new(self.alloc, self.window.into_inner()))?;
+                Ok(Some(half))
+            }
+        }
+    }
+
+    /// Whether MAX_STREAM_DATA is worth a frame on a stream.
+    pub(crate) fn is_window_due(&self, id: StreamId) -> bool
+        ensures { result ≡ is_due_in self.now.window (held self.now id) }
+    {
+        match self.entries.get(&id) {
+            None => false,
+            // Nothing was read.
+            Some(None) => self.window.into_inner() < 8,
+            Some(Some(half)) => half
+                .max_stream_data(self.window.into_inner())
+                .1
+                .should_transmit(),
+        }
+    }
+
+    /// The code of the reset of a stream that is not stopped, if it was reset.
+    pub(crate) fn reset_code(&self, id: StreamId) -> Result<Option<VarInt>, ClosedStream>
+        ensures { TellsCode (held self.now id) result }
+    {
+        match self.entries.get(&id) {
+            None => Err(ClosedStream),
+            Some(None) => Ok(None),
+            Some(Some(half)) => {
+                if half.is_stopped() {
+                    return Err(ClosedStream);
+                }
+                Ok(half.reset_code())
+            }
+        }
+    }
+
+    /// Puts a half back.
+    pub(crate) fn put(&mut self, id: StreamId, half: Box<Recv>)
+        requires { is_some (held self.old id) ≡ true }
+        ensures held { held self.new ≡ with_half (held self.old) id (Some half.value) }
+        ensures window { self.new.window ≡ self.old.window }
+        ensures room { room self.new ≡ room self.old }
+    {
+        match self.entries.get_mut(&id) {
+            Some(entry) => *entry = Some(half),
+            None => unreachable!(),
+        }
+    }
+
+    /// Lets a half go.
+    pub(crate) fn remove(&mut self, id: StreamId)
+        ensures held { held self.new ≡ with_half (held self.old) id None }
+        ensures window { self.new.window ≡ self.old.window }
+        ensures room { room self.old ≤ room self.new }
+    {
+        let _ = self.entries.remove(&id);
+    }
+}

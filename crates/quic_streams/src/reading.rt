@@ -1,0 +1,332 @@
+//! Reading of streams.
+
+ghost use Rattle.std.specs.Prelude.{◌≡◌, ◌+◌, ◌<◌, ◌≤◌, ◌^◌, true, is_some, Some, Err, OnOk, List, ◌∷◌};
+ghost use Rattle.quic_streams.specs.World.{shown, with_credit, with_receive};
+ghost use Rattle.quic_streams.specs.Pending.{shown as listed};
+ghost use Rattle.quic_streams.specs.Reading.{Begins, Nexts, ReadsHalf, is_reading, needed, pending_after, is_transmit_due, is_window_queued, progress_after, is_ended, IsLastAnswer, given_by};
+ghost use Rattle.quic_streams.specs.History.{Event, Ended, From, given, with_next};
+ghost use Rattle.quic_streams.specs.Room.{rooms, window_rooms};
+
+use crate::retransmits::Retransmits;
+use crate::state::StreamsState;
+use quic_assembler::{Chunk, EnsureError};
+use quic_receiving::{ReadError, ReadableError, Recv, ShouldTransmit};
+use quic_values::{StreamId, VarInt};
+
+/// How far a reader of a stream has come.
+#[derive(Clone, Copy, Debug, PartialEq, Eq)]
+pub enum Progress {
+    /// More may be read.
+    Readable,
+    /// The peer gave the stream up, with this code. The half is freed.
+    Reset(VarInt),
+    /// All was read. The half is freed.
+    Finished,
+}
+
+impl Progress {
+    // Whether nothing more comes.
+    fn is_ended(self) -> bool
+        ensures { result ≡ is_ended self }
+    {
+        match self {
+            Progress::Readable => false,
+            Progress::Reset(_) => true,
+            Progress::Finished => true,
+        }
+    }
+
+    // What was told at the end.
+    fn last_answer(self) -> Result<Option<Chunk>, ReadError>
+        requires { is_ended self ≡ true }
+        ensures { IsLastAnswer self result }
+    {
+        match self {
+            Progress::Readable => unreachable!(),
+            Progress::Reset(code) => Err(ReadError::Reset(code)),
+            Progress::Finished => Ok(None),
+        }
+    }
+}
+
+/// The chunks of a stream, one after another.
+///
+/// What was read gives credit to the peer once [`Chunks::finalize`] is called, or this is dropped.
+pub struct Chunks<'a> {
+    streams: &'a mut StreamsState,
+    pending: &'a mut Retransmits,
+    id: StreamId,
+    ordered: bool,
+    progress: Progress,
+    // How many bytes were read.
+    read: u64,
+    ghost reading: { is_reading progress ((shown streams.now).receive id) ordered read ≡ true },
+    ghost room: { needed progress ≤ rooms streams.now },
+    ghost window_room: { needed progress ≤ window_rooms pending.now id },
+}
+
+impl<'a> Chunks<'a> {
+    // A reader of a stream that was opened for it.
+    pub(crate) fn new(
+        streams: &'a mut StreamsState,
+        pending: &'a mut Retransmits,
+        id: StreamId,
+        ordered: bool,
+    ) -> Chunks<'a>
+        requires reading { is_reading Progress.Readable ((shown streams.old).receive id) ordered 0 ≡ true }
+        requires room { 1 ≤ rooms streams.old }
+        requires window_room { 1 ≤ window_rooms pending.old id }
+        ensures same_streams { result.streams.ghost_name ≡ streams.entry.ghost_name }
+        ensures same_pending { result.pending.ghost_name ≡ pending.entry.ghost_name }
+        ensures streams { result.streams.now ≡ streams.old }
+        ensures pending { result.pending.now ≡ pending.old }
+        ensures id { result.id ≡ id }
+        ensures ordered { result.ordered ≡ ordered }
+        ensures progress { result.progress ≡ Progress.Readable }
+        ensures read { result.read ≡ 0 }
+    {
+        Chunks {
+            streams,
+            pending,
+            id,
+            ordered,
+            progress: Progress::Readable,
+            read: 0,
+        }
+    }
+
+    /// Gives the next chunk, of at most `max_length` bytes: `None` at the end of the stream.
+    ///
+    /// The end and a reset free the stream, and are told again if asked again.
+    #[tactic(auto, using(crate::proofs::ReadingSteps::next_steps))]
+    pub fn next(&mut self, max_length: usize) -> Result<Option<Chunk>, ReadError>
+        ensures same_streams { self.new.streams.ghost_name ≡ self.old.streams.ghost_name }
+        ensures same_pending { self.new.pending.ghost_name ≡ self.old.pending.ghost_name }
+        ensures pending { self.new.pending.now ≡ self.old.pending.now }
+        ensures id { self.new.id ≡ self.old.id }
+        ensures ordered { self.new.ordered ≡ self.old.ordered }
+        ensures next { Nexts self.old.progress (shown self.old.streams.now) self.old.id max_length result (shown self.new.streams.now) }
+        ensures progress { self.new.progress ≡ progress_after result }
+        ensures read { self.new.read ≡ self.old.read + given_by result }
+        ensures from { (h : List Event) → From h (shown self.old.streams.now)
+            → From (with_next self.old.progress self.old.id max_length result h) (shown self.new.streams.now) }
+    {
+        if self.progress.is_ended() {
+            return self.progress.last_answer();
+        }
+        let answer = self
+            .streams
+            .read_half(self.id, max_length, self.ordered, self.read);
+        self.read += given(&answer);
+        self.progress = progress_after(&answer);
+        answer
+    }
+
+    /// Gives the peer credit for what was read, and queues the frames that tell it. Takes no memory. Answers whether
+    /// one was queued.
+    pub fn finalize(self) -> ShouldTransmit
+        ensures streams { shown self.exit.0.now ≡ with_credit (shown self.entry.streams.now) self.entry.read }
+        ensures pending { listed self.exit.1.0.now ≡ pending_after self.entry.progress (shown self.entry.streams.now) self.entry.id self.entry.read (listed self.entry.pending.now) }
+        ensures transmit { result.0 ≡ is_transmit_due self.entry.progress (shown self.entry.streams.now) self.entry.id self.entry.read }
+        ensures from { (h : List Event) → From h (shown self.entry.streams.now) → self.entry.read ≡ given h
+            → From (Ended self.entry.id self.entry.read ∷ h) (shown self.exit.0.now) }
+    {
+        let Chunks {
+            streams,
+            pending,
+            id,
+            ordered: _,
+            progress,
+            read,
+        } = self;
+        finish(streams, pending, id, progress, read)
+    }
+}
+
+impl Drop for Chunks<'_> {
+    fn drop(self)
+        ensures streams { shown self.exit.0.now ≡ with_credit (shown self.entry.streams.now) self.entry.read }
+        ensures pending { listed self.exit.1.0.now ≡ pending_after self.entry.progress (shown self.entry.streams.now) self.entry.id self.entry.read (listed self.entry.pending.now) }
+        ensures from { (h : List Event) → From h (shown self.entry.streams.now) → self.entry.read ≡ given h
+            → From (Ended self.entry.id self.entry.read ∷ h) (shown self.exit.0.now) }
+    {
+        let Chunks {
+            streams,
+            pending,
+            id,
+            ordered: _,
+            progress,
+            read,
+        } = self;
+        let _ = finish(streams, pending, id, progress, read);
+    }
+}
+
+// How many bytes an answer gives.
+fn given(answer: &Result<Option<Chunk>, ReadError>) -> u64
+    ensures { result ≡ given_by answer.now }
+{
+    match answer {
+        Ok(Some(chunk)) => chunk.bytes.len() as u64,
+        Ok(None) => 0,
+        Err(_) => 0,
+    }
+}
+
+// Where a reader is after an answer.
+fn progress_after(answer: &Result<Option<Chunk>, ReadError>) -> Progress
+    ensures { result ≡ progress_after answer.now }
+{
+    match answer {
+        Ok(Some(_)) => Progress::Readable,
+        Ok(None) => Progress::Finished,
+        Err(error) => progress_after_error(*error),
+    }
+}
+
+// Where a reader is after a read that was refused.
+fn progress_after_error(error: ReadError) -> Progress
+    ensures { result ≡ progress_after (Err error) }
+{
+    match error {
+        ReadError::Blocked => Progress::Readable,
+        ReadError::Reset(code) => Progress::Reset(code),
+        ReadError::OutOfMemory => Progress::Readable,
+    }
+}
+
+// A reader ended.
+fn finish(
+    streams: &mut StreamsState,
+    pending: &mut Retransmits,
+    id: StreamId,
+    progress: Progress,
+    read: u64,
+) -> ShouldTransmit
+    requires { needed progress ≤ window_rooms pending.old id }
+    ensures streams { shown streams.new ≡ with_credit (shown streams.old) read }
+    ensures rooms { rooms streams.new ≡ rooms streams.old }
+    ensures pending { listed pending.new ≡ pending_after progress (shown streams.old) id read (listed pending.old) }
+    ensures window_room { needed progress ≤ window_rooms pending.new id }
+    ensures transmit { result.0 ≡ is_transmit_due progress (shown streams.old) id read }
+{
+    let streams_due = streams.queue_max_stream_id(pending);
+    let window_due = streams.is_window_queued(progress, id);
+    pending.queue_window(id, window_due);
+    let data_due = streams.add_read_credits(read).should_transmit();
+    pending.queue_max_data(data_due);
+    ShouldTransmit(streams_due | (window_due | data_due))
+}
+
+#[tactic(auto, using(crate::proofs::WorldSteps::world_steps))]
+impl StreamsState {
+    // Opens a stream for a reader, with the room that its end may need.
+    pub(crate) fn begin(
+        &mut self,
+        pending: &mut Retransmits,
+        id: StreamId,
+        ordered: bool,
+    ) -> Result<(), ReadableError>
+        ensures begins { Begins (shown self.old) id ordered result (shown self.new) }
+        ensures pending { listed pending.new ≡ listed pending.old }
+        ensures reading { OnOk result (is_reading Progress.Readable ((shown self.new).receive id) ordered 0 ≡ true) }
+        ensures rooms { OnOk result (1 ≤ rooms self.new) }
+        ensures window_room { OnOk result (1 ≤ window_rooms pending.new id) }
+    {
+        if pending.reserve_window(id).is_err() {
+            return Err(ReadableError::OutOfMemory);
+        }
+        if self.make_stream_room().is_err() {
+            return Err(ReadableError::OutOfMemory);
+        }
+        match self.take_half(id) {
+            Err(_) => Err(ReadableError::OutOfMemory),
+            Ok(None) => Err(ReadableError::ClosedStream),
+            Ok(Some(half)) => self.ask(id, half, ordered),
+        }
+    }
+
+    // Whether MAX_STREAM_DATA is to be queued at the end of a reader.
+    fn is_window_queued(&self, progress: Progress, id: StreamId) -> bool
+        ensures { result ≡ is_window_queued progress (shown self.now) ((shown self.now).receive id) }
+    {
+        match progress {
+            Progress::Readable => self.is_window_due(id),
+            Progress::Reset(_) => false,
+            Progress::Finished => false,
+        }
+    }
+
+    // Asks a half that was taken out for a mode.
+    fn ask(&mut self, id: StreamId, half: Box<Recv>, ordered: bool) -> Result<(), ReadableError>
+        requires { is_some ((shown self.old).receive id) ≡ true }
+        ensures begins { Begins (with_receive (shown self.old) id (Some half.value)) id ordered result (shown self.new) }
+        ensures reading { OnOk result (is_reading Progress.Readable ((shown self.new).receive id) ordered 0 ≡ true) }
+        ensures rooms { rooms self.new ≡ rooms self.old }
+    {
+        let mut half = half;
+        if half.is_stopped() {
+            self.put_half(id, half);
+            return Err(ReadableError::ClosedStream);
+        }
+        let answer = half.ensure_ordering(ordered);
+        self.put_half(id, half);
+        match answer {
+            Ok(()) => Ok(()),
+            Err(EnsureError::IllegalOrderedRead) => Err(ReadableError::IllegalOrderedRead),
+            Err(EnsureError::OutOfMemory) => Err(ReadableError::OutOfMemory),
+        }
+    }
+
+    // Reads the half of a stream that was opened for a reader which read so many bytes. It is freed at its end and
+    // after a reset.
+    fn read_half(
+        &mut self,
+        id: StreamId,
+        max_length: usize,
+        ordered: bool,
+        read: u64,
+    ) -> Result<Option<Chunk>, ReadError>
+        requires reading { is_reading Progress.Readable ((shown self.old).receive id) ordered read ≡ true }
+        requires rooms { 1 ≤ rooms self.old }
+        ensures reads { ReadsHalf (shown self.old) id max_length result (shown self.new) }
+        ensures reading { is_reading (progress_after result) ((shown self.new).receive id) ordered (read + given_by result) ≡ true }
+        ensures rooms { needed (progress_after result) ≤ rooms self.new }
+        ensures bound { read + given_by result < 2 ^ 64 }
+    {
+        match self.take_half(id) {
+            Err(_) => Err(ReadError::OutOfMemory),
+            Ok(None) => unreachable!(),
+            Ok(Some(half)) => self.read_from(id, half, max_length, ordered, read),
+        }
+    }
+
+    // Reads a half that was taken out.
+    #[tactic(auto, using(crate::proofs::WorldSteps::world_steps, crate::proofs::ReadingSteps::reader_runs))]
+    fn read_from(
+        &mut self,
+        id: StreamId,
+        half: Box<Recv>,
+        max_length: usize,
+        ordered: bool,
+        read: u64,
+    ) -> Result<Option<Chunk>, ReadError>
+        requires there { is_some ((shown self.old).receive id) ≡ true }
+        requires reading { is_reading Progress.Readable (Some half.value) ordered read ≡ true }
+        requires rooms { 1 ≤ rooms self.old }
+        ensures reads { ReadsHalf (with_receive (shown self.old) id (Some half.value)) id max_length result (shown self.new) }
+        ensures reading { is_reading (progress_after result) ((shown self.new).receive id) ordered (read + given_by result) ≡ true }
+        ensures rooms { needed (progress_after result) ≤ rooms self.new }
+        ensures bound { read + given_by result < 2 ^ 64 }
+    {
+        let mut half = half;
+        let answer = half.next(max_length, ordered);
+        // All that was read came, so the count of it is no more than the highest offset.
+        let _read = half.bytes_read();
+        self.put_half(id, half);
+        if progress_after(&answer).is_ended() {
+            self.free_receive(id);
+        }
+        answer
+    }
+}

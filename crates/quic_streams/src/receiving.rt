@@ -1,0 +1,223 @@
+//! What the peer sends: frames with data and resets, and the credit that it is given.
+
+ghost use Rattle.std.specs.Prelude.{ℕ, List, ◌∷◌, ◌≡◌, ◌==◌, ◌≤◌, ◌||◌, ◌&&◌, not, length, true, is_some, Some, None, if◌then◌else◌};
+ghost use Rattle.quic_limits.specs.Credit.{is_max_data_due};
+ghost use Rattle.quic_limits.specs.Remote.{is_max_streams_due};
+ghost use Rattle.quic_streams.specs.Room.{rooms, window_rooms, HasEventRoom};
+ghost use Rattle.quic_streams.specs.World.{shown, refusal, freed, with_credit, with_receive};
+ghost use Rattle.quic_streams.specs.History.{Event, Received, ReceivedReset, AddedCredits, From};
+ghost use Rattle.quic_streams.specs.Pending.{shown as listed};
+ghost use Rattle.quic_streams.specs.Receiving.{Receives, ReceivesReset, with_max_streams, with_rest};
+
+use crate::retransmits::Retransmits;
+use crate::state::StreamsState;
+use quic_receiving::{Recv, ShouldTransmit};
+use quic_values::StreamId;
+use quic_wire::{ReceiveError, frame};
+
+#[tactic(auto, using(crate::proofs::WorldSteps::world_steps))]
+impl StreamsState {
+    /// Takes a STREAM frame (RFC 9000 section 19.8), of a payload of `payload_len` bytes. Answers whether MAX_DATA is
+    /// to be sent.
+    ///
+    /// A frame on a stream that was freed or reset is dropped. With an internal error (too many pieces) and with
+    /// [`ReceiveError::CompactionMemory`] the frame is kept and counts all the same; other refusals change nothing.
+    pub fn received(
+        &mut self,
+        frame: frame::Stream,
+        payload_len: usize,
+    ) -> Result<ShouldTransmit, ReceiveError>
+        requires { length frame.bytes ≤ payload_len }
+        ensures receives { Receives (shown self.old) frame.id frame.offset frame.bytes frame.fin result (shown self.new) }
+        ensures from { (h : List Event) → From h (shown self.old)
+            → From (Received frame.id frame.offset frame.bytes frame.fin result ∷ h) (shown self.new) }
+    {
+        self.receive_frame(frame, payload_len)
+    }
+
+    // The same, each way out.
+    fn receive_frame(
+        &mut self,
+        frame: frame::Stream,
+        payload_len: usize,
+    ) -> Result<ShouldTransmit, ReceiveError>
+        requires { length frame.bytes ≤ payload_len }
+        ensures { Receives (shown self.old) frame.id frame.offset frame.bytes frame.fin result (shown self.new) }
+    {
+        let id = frame.id;
+        if let Err(error) = self.validate_receive_id(id) {
+            return Err(ReceiveError::Transport(error));
+        }
+        if self.make_room().is_err() {
+            return Err(ReceiveError::OutOfMemory);
+        }
+        let (received, permitted) = self.received_of_permitted();
+        match self.take_half(id) {
+            Err(_) => Err(ReceiveError::OutOfMemory),
+            Ok(None) => Ok(ShouldTransmit(false)),
+            Ok(Some(half)) => self.ingest_on(half, frame, payload_len, received, permitted),
+        }
+    }
+
+    // Takes a STREAM frame on a half that was taken out.
+    fn ingest_on(
+        &mut self,
+        half: Box<Recv>,
+        frame: frame::Stream,
+        payload_len: usize,
+        received: u64,
+        permitted: u64,
+    ) -> Result<ShouldTransmit, ReceiveError>
+        requires within { length frame.bytes ≤ payload_len }
+        requires known { refusal (shown self.old) frame.id ≡ None }
+        requires there { is_some ((shown self.old).receive frame.id) ≡ true }
+        requires received { received ≡ (shown self.old).credit.data_recvd }
+        requires permitted { permitted ≡ (shown self.old).credit.local_max_data }
+        requires events { HasEventRoom self.old }
+        requires rooms { 1 ≤ rooms self.old }
+        ensures { Receives (with_receive (shown self.old) frame.id (Some half.value)) frame.id frame.offset frame.bytes frame.fin result (shown self.new) }
+    {
+        let id = frame.id;
+        let mut half = half;
+        if !half.is_receiving() {
+            self.put_half(id, half);
+            return Ok(ShouldTransmit(false));
+        }
+        let high = half.end();
+        let answer = half.ingest(frame, payload_len, received, permitted);
+        let grown = half.end() - high;
+        let stopped = half.is_stopped();
+        self.put_half(id, half);
+        self.count(grown);
+        match answer {
+            Err(error) => Err(error),
+            Ok((_, closed)) => {
+                if stopped {
+                    return Ok(self.discard(id, grown, closed));
+                }
+                self.notice(id, true);
+                Ok(ShouldTransmit(false))
+            }
+        }
+    }
+
+    // Bytes that came on a stopped stream give credit at once, and its end frees it.
+    fn discard(&mut self, id: StreamId, new_bytes: u64, closed: bool) -> ShouldTransmit
+        requires { 1 ≤ rooms self.old }
+        ensures discarded { shown self.new ≡ with_credit (if closed then freed (shown self.old) id else shown self.old) new_bytes }
+        ensures due { result.0 ≡ is_max_data_due (shown self.new).credit }
+    {
+        if closed {
+            self.free_receive(id);
+        }
+        self.add_read_credits(new_bytes)
+    }
+
+    /// Takes a RESET_STREAM frame (RFC 9000 section 19.4). Answers whether MAX_DATA is to be sent.
+    ///
+    /// What is held is let go, and what gave no credit yet up to the final size gives it. A further one changes
+    /// nothing.
+    pub fn received_reset(
+        &mut self,
+        frame: frame::ResetStream,
+    ) -> Result<ShouldTransmit, ReceiveError>
+        ensures receives { ReceivesReset (shown self.old) frame.id frame.error_code frame.final_offset result (shown self.new) }
+        ensures from { (h : List Event) → From h (shown self.old)
+            → From (ReceivedReset frame.id frame.error_code frame.final_offset result ∷ h) (shown self.new) }
+    {
+        self.receive_reset(frame)
+    }
+
+    // The same, each way out.
+    fn receive_reset(&mut self, frame: frame::ResetStream) -> Result<ShouldTransmit, ReceiveError>
+        ensures { ReceivesReset (shown self.old) frame.id frame.error_code frame.final_offset result (shown self.new) }
+    {
+        let id = frame.id;
+        if let Err(error) = self.validate_receive_id(id) {
+            return Err(ReceiveError::Transport(error));
+        }
+        if self.make_room().is_err() {
+            return Err(ReceiveError::OutOfMemory);
+        }
+        let (received, permitted) = self.received_of_permitted();
+        match self.take_half(id) {
+            Err(_) => Err(ReceiveError::OutOfMemory),
+            Ok(None) => Ok(ShouldTransmit(false)),
+            Ok(Some(half)) => self.reset_on(half, frame, received, permitted),
+        }
+    }
+
+    // Takes a RESET_STREAM frame on a half that was taken out.
+    fn reset_on(
+        &mut self,
+        half: Box<Recv>,
+        frame: frame::ResetStream,
+        received: u64,
+        permitted: u64,
+    ) -> Result<ShouldTransmit, ReceiveError>
+        requires known { refusal (shown self.old) frame.id ≡ None }
+        requires there { is_some ((shown self.old).receive frame.id) ≡ true }
+        requires received { received ≡ (shown self.old).credit.data_recvd }
+        requires permitted { permitted ≡ (shown self.old).credit.local_max_data }
+        requires events { HasEventRoom self.old }
+        requires rooms { 1 ≤ rooms self.old }
+        ensures { ReceivesReset (with_receive (shown self.old) frame.id (Some half.value)) frame.id frame.error_code frame.final_offset result (shown self.new) }
+    {
+        let id = frame.id;
+        let mut half = half;
+        let (high, stopped) = (half.end(), half.is_stopped());
+        let credited = if stopped { high } else { half.bytes_read() };
+        let answer = half.reset(frame.error_code, frame.final_offset, received, permitted);
+        let end = half.end();
+        self.put_half(id, half);
+        match answer {
+            Err(error) => Err(ReceiveError::Transport(error)),
+            Ok(false) => Ok(ShouldTransmit(false)),
+            Ok(true) => {
+                self.count(end - high);
+                self.notice(id, !stopped);
+                if stopped {
+                    self.free_receive(id);
+                }
+                Ok(self.add_rest(end.saturating_sub(credited)))
+            }
+        }
+    }
+
+    // Gives credit for bytes, if they are some.
+    fn add_rest(&mut self, rest: u64) -> ShouldTransmit
+        ensures credit { shown self.new ≡ with_rest (shown self.old) rest }
+        ensures due { result.0 ≡ (not (rest == 0) && is_max_data_due (shown self.new).credit) }
+    {
+        if rest == 0 {
+            return ShouldTransmit(false);
+        }
+        self.add_read_credits(rest)
+    }
+}
+
+#[tactic(auto, unfolding(crate::specs::World::shown, crate::specs::Room::rooms))]
+impl StreamsState {
+    /// Gives credit for bytes that were consumed (RFC 9000 section 4.2). Answers whether MAX_DATA is to be sent.
+    pub fn add_read_credits(&mut self, credits: u64) -> ShouldTransmit
+        ensures credit { shown self.new ≡ with_credit (shown self.old) credits }
+        ensures due { result.0 ≡ is_max_data_due (shown self.new).credit }
+        ensures rooms { rooms self.new ≡ rooms self.old }
+        ensures from { (h : List Event) → From h (shown self.old) → From (AddedCredits credits result ∷ h) (shown self.new) }
+    {
+        ShouldTransmit(self.credit.add(credits))
+    }
+
+    /// Queues MAX_STREAMS for each direction in which enough streams were permitted since the last (RFC 9000 section
+    /// 4.6). Answers whether one was due.
+    pub fn queue_max_stream_id(&self, pending: &mut Retransmits) -> bool
+        ensures pending { listed pending.new ≡ with_max_streams (shown self.now) (listed pending.old) }
+        ensures rooms { (id : ℕ) → window_rooms pending.new id ≡ window_rooms pending.old id }
+        ensures due { result ≡ (is_max_streams_due (shown self.now).bi || is_max_streams_due (shown self.now).uni) }
+    {
+        let (bi, uni) = (self.bi.is_max_streams_due(), self.uni.is_max_streams_due());
+        let [had_bi, had_uni] = pending.max_stream_id;
+        pending.max_stream_id = [had_bi | bi, had_uni | uni];
+        bi | uni
+    }
+}

@@ -1,0 +1,157 @@
+//! The receive half of a stream, for the application.
+
+ghost use Rattle.std.specs.Prelude.{◌≡◌, ◌≤◌, is_some, IfOk, IfErr, Ok, Err, Some, true, List, ◌∷◌};
+ghost use Rattle.quic_streams.specs.History.{Event, Began, Stopped, ToldReset, From};
+ghost use Rattle.quic_streams.specs.World.{World, shown, with_receive};
+ghost use Rattle.quic_streams.specs.Pending.{shown as listed};
+ghost use Rattle.quic_streams.specs.Reading.{Begins, Stops, TellsReset};
+ghost use Rattle.quic_streams.specs.Room.{rooms, stop_rooms};
+
+use crate::reading::{Chunks, Progress};
+use crate::retransmits::Retransmits;
+use crate::state::StreamsState;
+use quic_receiving::{HandleError, ReadableError, Recv};
+use quic_values::{StreamId, VarInt};
+
+/// The receive half of a stream.
+#[derive(Drop)]
+pub struct RecvStream<'a> {
+    id: StreamId,
+    state: &'a mut StreamsState,
+    pending: &'a mut Retransmits,
+}
+
+impl<'a> RecvStream<'a> {
+    /// The receive half of a stream. What is to be sent is queued in `pending`.
+    pub fn new(id: StreamId, state: &'a mut StreamsState, pending: &'a mut Retransmits) -> Self
+        ensures same_state { result.state.ghost_name ≡ state.entry.ghost_name }
+        ensures same_pending { result.pending.ghost_name ≡ pending.entry.ghost_name }
+        ensures state { result.state.now ≡ state.old }
+        ensures pending { result.pending.now ≡ pending.old }
+        ensures id { result.id ≡ id }
+    {
+        RecvStream { id, state, pending }
+    }
+
+    /// Opens the stream for reads, in order or as bytes come. There is no way back from unordered reads: a refused
+    /// ordered one leaves the stream as it is.
+    ///
+    /// This makes the room that the reader may need, so that its end takes no memory. What the reader does to the
+    /// state its own calls say.
+    pub fn read(&mut self, ordered: bool) -> Result<Chunks<'_>, ReadableError>
+        ensures begins { IfOk result (λ chunks. Begins (shown self.old.state.now) self.old.id ordered (Ok tt) (shown chunks.streams.now)) }
+        ensures refused { IfErr result (λ error. (after : World) × Begins (shown self.old.state.now) self.old.id ordered (Err error) after) }
+        ensures pending { IfOk result (λ chunks. listed chunks.pending.now ≡ listed self.old.pending.now) }
+        ensures id { IfOk result (λ chunks. chunks.id ≡ self.old.id) }
+        ensures ordered { IfOk result (λ chunks. chunks.ordered ≡ ordered) }
+        ensures progress { IfOk result (λ chunks. chunks.progress ≡ Progress.Readable) }
+        ensures read { IfOk result (λ chunks. chunks.read ≡ 0) }
+        ensures from { IfOk result (λ chunks. (h : List Event) → From h (shown self.old.state.now)
+            → From (Began self.old.id ordered (Ok tt) ∷ h) (shown chunks.streams.now)) }
+    {
+        self.state.begin(self.pending, self.id, ordered)?;
+        let RecvStream { id, state, pending } = self;
+        Ok(Chunks::new(state, pending, *id, ordered))
+    }
+
+    /// Stops the stream: what was not read is let go and gives credit, and the peer is asked to send no more, with this
+    /// code (RFC 9000 section 3.5).
+    pub fn stop(&mut self, error_code: VarInt) -> Result<(), HandleError>
+        ensures same_state { self.new.state.ghost_name ≡ self.old.state.ghost_name }
+        ensures same_pending { self.new.pending.ghost_name ≡ self.old.pending.ghost_name }
+        ensures id { self.new.id ≡ self.old.id }
+        ensures stops { Stops (shown self.old.state.now) self.old.id error_code (listed self.old.pending.now) result (shown self.new.state.now) (listed self.new.pending.now) }
+        ensures from { (h : List Event) → From h (shown self.old.state.now) → From (Stopped self.old.id error_code result ∷ h) (shown self.new.state.now) }
+    {
+        self.state.stop(self.pending, self.id, error_code)
+    }
+
+    /// The code with which the peer gave the stream up, if it did. Then the half is freed.
+    pub fn received_reset(&mut self) -> Result<Option<VarInt>, HandleError>
+        ensures same_state { self.new.state.ghost_name ≡ self.old.state.ghost_name }
+        ensures same_pending { self.new.pending.ghost_name ≡ self.old.pending.ghost_name }
+        ensures id { self.new.id ≡ self.old.id }
+        ensures tells { TellsReset (shown self.old.state.now) self.old.id (listed self.old.pending.now) result (shown self.new.state.now) (listed self.new.pending.now) }
+        ensures from { (h : List Event) → From h (shown self.old.state.now) → From (ToldReset self.old.id result ∷ h) (shown self.new.state.now) }
+    {
+        self.state.tell_reset(self.pending, self.id)
+    }
+}
+
+#[tactic(auto, using(crate::proofs::WorldSteps::world_steps))]
+impl StreamsState {
+    // Stops a receive half.
+    pub(crate) fn stop(
+        &mut self,
+        pending: &mut Retransmits,
+        id: StreamId,
+        error_code: VarInt,
+    ) -> Result<(), HandleError>
+        ensures { Stops (shown self.old) id error_code (listed pending.old) result (shown self.new) (listed pending.new) }
+    {
+        if pending.reserve_stop().is_err() {
+            return Err(HandleError::OutOfMemory);
+        }
+        if self.make_stream_room().is_err() {
+            return Err(HandleError::OutOfMemory);
+        }
+        match self.take_half(id) {
+            Err(_) => Err(HandleError::OutOfMemory),
+            Ok(None) => Err(HandleError::ClosedStream),
+            Ok(Some(half)) => self.stop_half(pending, id, half, error_code),
+        }
+    }
+
+    // Stops a half that was taken out.
+    fn stop_half(
+        &mut self,
+        pending: &mut Retransmits,
+        id: StreamId,
+        half: Box<Recv>,
+        error_code: VarInt,
+    ) -> Result<(), HandleError>
+        requires there { is_some ((shown self.old).receive id) ≡ true }
+        requires rooms { 1 ≤ rooms self.old }
+        requires stop_room { 1 ≤ stop_rooms pending.old }
+        ensures { Stops (with_receive (shown self.old) id (Some half.value)) id error_code (listed pending.old) result (shown self.new) (listed pending.new) }
+    {
+        let mut half = half;
+        let ended = !half.final_offset_unknown();
+        let answer = half.stop();
+        self.put_half(id, half);
+        match answer {
+            Err(_) => Err(HandleError::ClosedStream),
+            Ok((credit, transmit)) => {
+                if ended {
+                    self.free_receive(id);
+                }
+                let due = self.add_read_credits(credit).should_transmit();
+                pending.queue_stop(id, error_code, transmit.should_transmit());
+                pending.queue_max_data(due);
+                Ok(())
+            }
+        }
+    }
+
+    // Tells the code of a reset, and frees the half.
+    pub(crate) fn tell_reset(
+        &mut self,
+        pending: &mut Retransmits,
+        id: StreamId,
+    ) -> Result<Option<VarInt>, HandleError>
+        ensures { TellsReset (shown self.old) id (listed pending.old) result (shown self.new) (listed pending.new) }
+    {
+        match self.reset_code(id) {
+            Err(_) => Err(HandleError::ClosedStream),
+            Ok(None) => Ok(None),
+            Ok(Some(code)) => {
+                if self.make_stream_room().is_err() {
+                    return Err(HandleError::OutOfMemory);
+                }
+                self.free_receive(id);
+                let _ = self.queue_max_stream_id(pending);
+                Ok(Some(code))
+            }
+        }
+    }
+}

@@ -1,0 +1,297 @@
+//! The streams of one end of a connection.
+
+ghost use Rattle.std.specs.Prelude.{[], ◌≡◌, ◌+◌, ◌-◌, ◌<◌, ◌≤◌, ◌^◌, IfOk, IfErr, IfSome, OnOk, OnErr, IfNone, Some, None, is_some, true};
+ghost use Rattle.std.specs.Option.{option_map};
+ghost use Rattle.quic_receiving.specs.Half.{new_half};
+ghost use Rattle.quic_streams.specs.Halves.{room, is_due_in, TellsCode};
+ghost use Rattle.quic_streams.specs.Sends.{send_room};
+ghost use Rattle.quic_streams.specs.Room.{rooms, HasEventRoom};
+ghost use Rattle.quic_streams.specs.History.{From};
+ghost use Rattle.quic_streams.specs.World.{World, shown, start, refusal, is_own, is_same_side, own_refusal, permitted, replaced_in, released, freed, told_readable, noticed, with_receive, with_counted};
+
+use crate::halves::ReceiveHalves;
+use crate::sends::SendHalves;
+use quic_limits::{ReceiveCredit, RemoteStreams};
+use quic_receiving::{ClosedStream, Recv};
+use quic_values::{Dir, OutOfMemory, Side, StreamId, VarInt};
+use quic_wire::{StreamEvent, TransportError};
+use std::alloc::Global;
+use std::collections::VecDeque;
+
+/// The streams of one end of a connection (RFC 9000 sections 2 to 4).
+#[derive(Drop)]
+pub struct StreamsState {
+    pub(crate) side: Side,
+    pub(crate) credit: ReceiveCredit,
+    // The streams that the peer may open.
+    pub(crate) bi: RemoteStreams,
+    pub(crate) uni: RemoteStreams,
+    // How many bidirectional streams this end opened.
+    pub(crate) opened_bi: u64,
+    // How many bytes may be sent and not acknowledged.
+    pub(crate) send_window: u64,
+    pub(crate) receive: ReceiveHalves,
+    pub(crate) send: SendHalves,
+    pub(crate) events: VecDeque<StreamEvent>,
+}
+
+#[tactic(auto, unfolding(crate::specs::World::shown, crate::specs::World::with_receive, crate::specs::Room::rooms, crate::specs::Room::HasEventRoom))]
+impl StreamsState {
+    /// The streams of one end, of which none is open. The peer may open so many unidirectional and bidirectional
+    /// streams, and send `receive_window` bytes in all, and `stream_window` on each stream, before credit is
+    /// given. `send_window` is how many bytes this end keeps that were sent and not acknowledged.
+    pub fn new(
+        alloc: Global,
+        side: Side,
+        max_remote_uni: VarInt,
+        max_remote_bi: VarInt,
+        send_window: u64,
+        receive_window: VarInt,
+        stream_window: VarInt,
+    ) -> Result<Self, OutOfMemory>
+        requires uni { max_remote_uni ≤ 2 ^ 60 }
+        requires bi { max_remote_bi ≤ 2 ^ 60 }
+        ensures start { IfOk result (λ state. shown state ≡ start side max_remote_uni max_remote_bi send_window receive_window stream_window) }
+        ensures from { IfOk result (λ state. From [] (shown state)) }
+    {
+        let (uni, bi) = (max_remote_uni.into_inner(), max_remote_bi.into_inner());
+        let mut receive = ReceiveHalves::new(alloc, stream_window);
+        let mut send = SendHalves::new(alloc);
+        receive.permit_first(!side, Dir::Bi, bi)?;
+        receive.permit_first(!side, Dir::Uni, uni)?;
+        send.permit_first(!side, Dir::Bi, bi)?;
+        Ok(StreamsState {
+            side,
+            credit: ReceiveCredit::new(receive_window),
+            bi: RemoteStreams::new(bi),
+            uni: RemoteStreams::new(uni),
+            opened_bi: 0,
+            send_window,
+            receive,
+            send,
+            events: VecDeque::new(alloc),
+        })
+    }
+
+    // Whether this end opened a stream, or is to open it.
+    pub(crate) fn is_own(&self, id: StreamId) -> bool
+        ensures { result ≡ is_own (shown self.now) id }
+    {
+        is_same_side(self.side, id.initiator())
+    }
+
+    // The error of a frame on a stream that the peer may not send on, or may not open.
+    pub(crate) fn validate_receive_id(&self, id: StreamId) -> Result<(), TransportError>
+        ensures ok { OnOk result (refusal (shown self.now) id ≡ None) }
+        ensures err { IfErr result (λ error. refusal (shown self.now) id ≡ Some error.code) }
+    {
+        if self.is_own(id) {
+            return self.validate_own(id.dir(), id.index());
+        }
+        let max_remote = match id.dir() {
+            Dir::Bi => self.bi.max_remote(),
+            Dir::Uni => self.uni.max_remote(),
+        };
+        if id.index() >= max_remote {
+            return Err(TransportError::stream_limit_error(""));
+        }
+        Ok(())
+    }
+
+    // The same for a stream of this end.
+    fn validate_own(&self, dir: Dir, index: u64) -> Result<(), TransportError>
+        ensures ok { OnOk result (own_refusal (shown self.now) dir index ≡ None) }
+        ensures err { IfErr result (λ error. own_refusal (shown self.now) dir index ≡ Some error.code) }
+    {
+        match dir {
+            Dir::Uni => Err(TransportError::stream_state_error(
+                "illegal operation on send-only stream",
+            )),
+            Dir::Bi => {
+                if index >= self.opened_bi {
+                    return Err(TransportError::stream_state_error("operation on unopened stream"));
+                }
+                Ok(())
+            }
+        }
+    }
+
+    // Makes room for a stream that takes the place of a freed one.
+    pub(crate) fn make_stream_room(&mut self) -> Result<(), OutOfMemory>
+        ensures same { shown self.new ≡ shown self.old }
+        ensures rooms { OnOk result (1 ≤ rooms self.new) }
+    {
+        self.receive.reserve(1)?;
+        self.send.reserve(1)?;
+        Ok(())
+    }
+
+    // Makes the room that a frame may need: for an event, and for a stream that takes the place of a freed one.
+    pub(crate) fn make_room(&mut self) -> Result<(), OutOfMemory>
+        ensures same { shown self.new ≡ shown self.old }
+        ensures rooms { OnOk result (1 ≤ rooms self.new) }
+        ensures events { OnOk result (HasEventRoom self.new) }
+    {
+        self.make_stream_room()?;
+        self.events.reserve(1)?;
+        Ok(())
+    }
+
+    // Takes a receive half out, to be put back or freed. It is made where nothing came yet.
+    pub(crate) fn take_half(&mut self, id: StreamId) -> Result<Option<Box<Recv>>, OutOfMemory>
+        ensures half { IfOk result (λ half. option_map (λ b. b.value) half ≡ (shown self.old).receive id) }
+        ensures taken { IfOk result (λ half. IfSome half (λ _. shown self.new ≡ with_receive (shown self.old) id (Some (new_half (shown self.old).window)))) }
+        ensures none { IfOk result (λ half. IfNone half (shown self.new ≡ shown self.old)) }
+        ensures err { OnErr result (shown self.new ≡ shown self.old) }
+        ensures err_new { OnErr result ((shown self.old).receive id ≡ Some (new_half (shown self.old).window)) }
+        ensures events { HasEventRoom self.old → HasEventRoom self.new }
+        ensures rooms { rooms self.new ≡ rooms self.old }
+    {
+        self.receive.take(id)
+    }
+
+    // Puts a receive half back.
+    pub(crate) fn put_half(&mut self, id: StreamId, half: Box<Recv>)
+        requires { is_some ((shown self.old).receive id) ≡ true }
+        ensures put { shown self.new ≡ with_receive (shown self.old) id (Some half.value) }
+        ensures events { HasEventRoom self.old → HasEventRoom self.new }
+        ensures rooms { rooms self.new ≡ rooms self.old }
+    {
+        self.receive.put(id, half);
+    }
+
+    // Whether MAX_STREAM_DATA is worth a frame on a stream.
+    pub(crate) fn is_window_due(&self, id: StreamId) -> bool
+        ensures { result ≡ is_due_in (shown self.now).window ((shown self.now).receive id) }
+    {
+        self.receive.is_window_due(id)
+    }
+
+    // The code of the reset of a stream that is not stopped, if it was reset.
+    pub(crate) fn reset_code(&self, id: StreamId) -> Result<Option<VarInt>, ClosedStream>
+        ensures { TellsCode ((shown self.now).receive id) result }
+    {
+        self.receive.reset_code(id)
+    }
+
+    // How many bytes of all streams were received, and how many are permitted.
+    pub(crate) fn received_of_permitted(&self) -> (u64, u64)
+        ensures received { result.0 ≡ (shown self.now).credit.data_recvd }
+        ensures permitted { result.1 ≡ (shown self.now).credit.local_max_data }
+    {
+        (self.credit.data_recvd(), self.credit.local_max_data())
+    }
+
+    // Counts bytes that lie above what was received before.
+    pub(crate) fn count(&mut self, new_bytes: u64)
+        requires { (shown self.old).credit.data_recvd + new_bytes < 2 ^ 64 }
+        ensures counted { shown self.new ≡ with_counted (shown self.old) new_bytes }
+        ensures events { HasEventRoom self.old → HasEventRoom self.new }
+        ensures rooms { rooms self.new ≡ rooms self.old }
+    {
+        self.credit.count(new_bytes);
+    }
+
+    // A stream of the peer is permitted.
+    fn permit_uni(&mut self, index: u64)
+        requires room { 0 < room self.old.receive }
+        requires index { index < 2 ^ 60 }
+        ensures { shown self.new ≡ permitted (shown self.old) Dir.Uni index }
+    {
+        self.receive
+            .permit(StreamId::new(!self.side, Dir::Uni, index));
+    }
+
+    fn permit_bi(&mut self, index: u64)
+        requires room { 0 < room self.old.receive }
+        requires send_room { 0 < send_room self.old.send }
+        requires index { index < 2 ^ 60 }
+        ensures { shown self.new ≡ permitted (shown self.old) Dir.Bi index }
+    {
+        let id = StreamId::new(!self.side, Dir::Bi, index);
+        self.receive.permit(id);
+        self.send.permit(id);
+    }
+
+    // A stream of the peer was wholly freed, and another may take its place.
+    fn replace_uni(&mut self)
+        requires { 0 < room self.old.receive }
+        ensures { shown self.new ≡ replaced_in (shown self.old) Dir.Uni }
+    {
+        if let Some(index) = self.uni.replace() {
+            self.permit_uni(index);
+        }
+    }
+
+    fn replace_bi(&mut self)
+        requires room { 0 < room self.old.receive }
+        requires send_room { 0 < send_room self.old.send }
+        ensures { shown self.new ≡ replaced_in (shown self.old) Dir.Bi }
+    {
+        if let Some(index) = self.bi.replace() {
+            self.permit_bi(index);
+        }
+    }
+
+    // A receive half is freed. There is room for a stream in its place.
+    pub(crate) fn free_receive(&mut self, id: StreamId)
+        requires { 1 ≤ rooms self.old }
+        ensures { shown self.new ≡ freed (shown self.old) id }
+    {
+        self.receive.remove(id);
+        if self.is_own(id) {
+            return;
+        }
+        match id.dir() {
+            Dir::Uni => self.replace_uni(),
+            Dir::Bi => {
+                if !self.send.contains(id) {
+                    self.replace_bi();
+                }
+            }
+        }
+    }
+
+    // The application is to be told that it may read.
+    fn tell_readable(&mut self, id: StreamId, readable: bool)
+        requires { HasEventRoom self.old }
+        ensures told { shown self.new ≡ told_readable (shown self.old) id readable }
+        ensures rooms { rooms self.new ≡ rooms self.old }
+    {
+        if readable {
+            self.events.push_back_reserved(StreamEvent::Readable { id });
+        }
+    }
+
+    // A frame came on a stream.
+    pub(crate) fn notice(&mut self, id: StreamId, readable: bool)
+        requires event { HasEventRoom self.old }
+        requires known { refusal (shown self.old) id ≡ None }
+        ensures noticed { shown self.new ≡ noticed (shown self.old) id readable }
+        ensures rooms { rooms self.new ≡ rooms self.old }
+    {
+        if self.is_own(id) {
+            self.tell_readable(id, readable);
+            return;
+        }
+        let opens = match id.dir() {
+            Dir::Bi => self.bi.open_up_to(id.index()),
+            Dir::Uni => self.uni.open_up_to(id.index()),
+        };
+        if !opens {
+            self.tell_readable(id, readable);
+        }
+    }
+}
+
+// Whether two ends are one.
+fn is_same_side(a: Side, b: Side) -> bool
+    ensures { result ≡ is_same_side a b }
+{
+    match (a, b) {
+        (Side::Client, Side::Client) => true,
+        (Side::Client, Side::Server) => false,
+        (Side::Server, Side::Client) => false,
+        (Side::Server, Side::Server) => true,
+    }
+}
