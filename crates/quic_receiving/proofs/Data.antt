@@ -246,7 +246,7 @@ data-given kept given a b most chunk s d = record {
     ])
 
 -- a set has all offsets below n exactly where it has n of them
-number-all : (n : ℕ) (f : ℕ → Bool) → number f n ≡ n → (at : ℕ) → at < n → f at ≡ true
+pub number-all : (n : ℕ) (f : ℕ → Bool) → number f n ≡ n → (at : ℕ) → at < n → f at ≡ true
 unfolding number
 number-all zero f h at l = absurd (omega arith)
 number-all (suc n) f h at l = elim (cases_lt at n) [

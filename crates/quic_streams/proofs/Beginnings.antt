@@ -1,5 +1,5 @@
 -- Where a history begins.
-use Rattle.std.proofs.Common.{◌≡◌, ℕ, Bool, true, false, ◌||◌, ◌&&◌, not, cond, List, [], Option, Some, None, refl, sym, ap, ◌∙◌, subst, arith, ◌+◌, ◌*◌, ◌/◌, ◌%◌, ◌<◌, ◌^◌}
+use Rattle.std.proofs.Common.{◌≡◌, ℕ, Bool, true, false, ◌||◌, ◌&&◌, not, cond, List, [], Option, Some, None, refl, sym, ap, ◌∙◌, subst, arith, ◌+◌, ◌*◌, ◌/◌, ◌%◌, ◌<◌, ◌≤◌, ◌^◌, zero, suc}
 use Rattle.std.specs.Prelude.{nat_lt, nat_le, if◌then◌else◌, ◌==◌}
 use Rattle.std.proofs.lemmas.Bool.Decides.{nat_tests}
 use Rattle.quic_values.specs.declared.ids.Side.{Side}
@@ -7,11 +7,14 @@ use Rattle.quic_values.specs.declared.ids.Side.TheVariants.{Client, Server}
 use Rattle.quic_values.specs.declared.ids.Dir.{Dir}
 use Rattle.quic_values.specs.declared.ids.Dir.TheVariants.{Bi, Uni}
 use Rattle.quic_values.specs.Ids.{stream_id, other_side, index_of, initiator_of}
+use Rattle.quic_limits.specs.Remote.{new_remote}
+use Rattle.quic_receiving.specs.Counted.{number}
 use Rattle.quic_receiving.specs.Half.{Half, new_half}
 use Rattle.quic_streams.specs.Halves.{Halves, is_among, with_first}
 use Rattle.quic_streams.specs.World.{World, start, refusal, is_own, is_same_side}
 use Rattle.quic_streams.proofs.Endings.{tells-ends}
-use Rattle.quic_streams.specs.History.{StreamFrom, untouched, trace, IsStart, Facts, From}
+use Rattle.quic_streams.proofs.Remotes.{AllRemotes}
+use Rattle.quic_streams.specs.History.{StreamFrom, RemoteFrom, untouched, trace, IsStart, Facts, From}
 use Rattle.quic_streams.proofs.Refusals.{refusal_by, refusal-is}
 use Rattle.quic_streams.proofs.Credits.{credit-start}
 use Rattle.quic_streams.proofs.StreamSteps.{AllFrom, new-half-from}
@@ -86,17 +89,30 @@ all_start side uni bi send_window receive_window window q =
 facts_start : (side : Side) (uni bi send_window receive_window window : ℕ) → receive_window < 2 ^ 62 → Facts [] (start side uni bi send_window receive_window window)
 facts_start side uni bi send_window receive_window window small = record { credit = credit-start receive_window small; streams = all_start side uni bi send_window receive_window window }
 
--- an end that was just made may come from no calls
-pub begins : (side : Side) (uni bi send_window receive_window window : ℕ) → receive_window < 2 ^ 62 → From [] (start side uni bi send_window receive_window window)
-begins side uni bi send_window receive_window window small = record {
-  run = record { side = side; uni = uni; bi = bi; send_window = send_window; receive_window = receive_window; window = window; small = small; is = refl };
-  limit = tt;
-  facts = facts_start side uni bi send_window receive_window window small;
-  ends = λ q e. cc;
-  tells = tells-ends [] (start side uni bi send_window receive_window window) (facts_start side uni bi send_window receive_window window small);
-}
+none_over : (n : ℕ) (over : ℕ → Bool) → ((i : ℕ) → over i ≡ false) → number over n ≡ 0
+unfolding number
+none_over zero over none = refl
+none_over (suc n) over none = let e = none n in rw e (omega (arith, none_over n over none))
 
-pub begins_at : (side : Side) (uni bi send_window receive_window window : ℕ) (v : World) → receive_window < 2 ^ 62 → v ≡ start side uni bi send_window receive_window window → From [] v
-begins_at side uni bi send_window receive_window window v small e =
+remote_start : (over : ℕ → Bool) (count : ℕ) → ((i : ℕ) → over i ≡ false) → count ≤ 2 ^ 60 → RemoteFrom over (new_remote count)
+remote_start over count none few = let e = none_over count over none in record { allocated = omega arith; permitted = omega arith }
+
+-- no stream was freed
+remotes_start : (side : Side) (uni bi send_window receive_window window : ℕ) → uni ≤ 2 ^ 60 → bi ≤ 2 ^ 60 → AllRemotes (trace []) (start side uni bi send_window receive_window window)
+remotes_start side uni bi send_window receive_window window few_uni few_bi Bi = remote_start _ bi (λ i. refl) few_bi
+remotes_start side uni bi send_window receive_window window few_uni few_bi Uni = remote_start _ uni (λ i. refl) few_uni
+
+-- an end that was just made may come from no calls
+pub begins : (side : Side) (uni bi send_window receive_window window : ℕ) (v : World) → uni ≤ 2 ^ 60 → bi ≤ 2 ^ 60 → receive_window < 2 ^ 62
+    → v ≡ start side uni bi send_window receive_window window → From [] v
+begins side uni bi send_window receive_window window v few_uni few_bi small e =
     let P : World → Type 0 = λ x. From [] x in
-    subst P (sym e) (begins side uni bi send_window receive_window window small)
+    let facts = facts_start side uni bi send_window receive_window window small in
+    subst P (sym e) (record {
+      run = record { side = side; uni = uni; bi = bi; send_window = send_window; receive_window = receive_window; window = window; few_uni = few_uni; few_bi = few_bi; small = small; is = refl };
+      limit = tt;
+      facts = facts;
+      ends = λ q k. cc;
+      tells = tells-ends [] (start side uni bi send_window receive_window window) facts;
+      remotes = remotes_start side uni bi send_window receive_window window few_uni few_bi;
+    })

@@ -105,8 +105,8 @@ refused_code false false true d code h = let e : 6 ≡ code = cc in grind (arith
 refused_code false false false true code h = let e : 3 ≡ code = cc in grind (arith, nat_tests)
 refused_code false false false false code h = cc
 
-refused_other : (h : Half) (offset count : ℕ) (fin : Bool) (had most code : ℕ) → verdict h offset count fin had most ≡ Refused code → (code == 1) ≡ false
-refused_other h offset count fin had most code v = let end = offset + count in
+pub refused-other : (h : Half) (offset count : ℕ) (fin : Bool) (had most code : ℕ) → verdict h offset count fin had most ≡ Refused code → (code == 1) ≡ false
+refused-other h offset count fin had most code v = let end = offset + count in
     refused_code (nat_le (2 ^ 62) end) (is_past h.size end fin) (fin && nat_lt end h.end) (is_beyond h.end h.sent_max end had most) code v
 
 closed_or : (b c : Bool) → b ≡ false → c ≡ false → (b || c) ≡ false
@@ -242,9 +242,9 @@ or_second false c e = e
 or_first : (b c : Bool) → b ≡ true → (b || c) ≡ true
 or_first b c e = rw e refl
 
-dropped_closed : (t : Trace) (r : Option ℕ) (o : Option Half) → r ≡ None → StreamFrom t r o → IsDropped o → is_closed t ≡ true
-dropped_closed t r None k s d = let gone : t.gone ≡ true = rw k at s in or_second t.reset t.gone gone
-dropped_closed t r (Some half) k s d = let x : HalfFrom t half = rw k at s in or_first t.reset t.gone (sym x.reset ∙ d)
+pub dropped-closed : (t : Trace) (r : Option ℕ) (o : Option Half) → r ≡ None → StreamFrom t r o → IsDropped o → is_closed t ≡ true
+dropped-closed t r None k s d = let gone : t.gone ≡ true = rw k at s in or_second t.reset t.gone gone
+dropped-closed t r (Some half) k s d = let x : HalfFrom t half = rw k at s in or_first t.reset t.gone (sym x.reset ∙ d)
 
 module _ (h : List Event) (u : World) (id offset : ℕ) (bytes : List ℕ) (fin : Bool) (answer : Result ShouldTransmit ReceiveError) (f : Facts h u)
     (closed : is_kept answer ≡ true → is_closed (trace h id) ≡ true) where
@@ -254,7 +254,7 @@ module _ (h : List Event) (u : World) (id offset : ℕ) (bytes : List ℕ) (fin 
   abbrev g0 : ℕ → Trace
   g0 = trace (e0 ∷ h)
 
-  untold : (q : ℕ) → g0 q ≡ trace h q
+  pub untold : (q : ℕ) → g0 q ≡ trace h q
   untold q = by_cases (eqb q id)
       (λ t. by_cases (is_kept answer)
       (λ k. let c : is_closed (trace h q) ≡ true = ap (λ x. is_closed (trace h x)) (same q id t) ∙ closed k in rw (t, k, c) refl)
@@ -296,21 +296,21 @@ refusal_by_code false false opened m n index code h = limit_if (nat_le n index) 
     limit_if false code h = cc
 
 -- a frame on a stream that the peer may not use is of another code than an internal error
-refusal_code : (w : World) (q code : ℕ) → refusal w q ≡ Some code → (code == 1) ≡ false
-refusal_code w q code e = refusal_by_code (is_own w q) (q / 2 % 2 == 0) w.opened_bi w.bi.max_remote w.uni.max_remote (index_of q) code (sym (refusal-is w q) ∙ e)
+pub refusal-code : (w : World) (q code : ℕ) → refusal w q ≡ Some code → (code == 1) ≡ false
+refusal-code w q code e = refusal_by_code (is_own w q) (q / 2 % 2 == 0) w.opened_bi w.bi.max_remote w.uni.max_remote (index_of q) code (sym (refusal-is w q) ∙ e)
 
 not_kept : (b : Bool) {P : Type 0} → b ≡ false → b ≡ true → P
 not_kept b e k = absurd (cc)
 
 -- a half that is put back as it was
-unmoved : (u : World) (id : ℕ) (old new : Half) → u.receive id ≡ Some old → new ≡ old → advanced u id old new ≡ u
+pub unmoved : (u : World) (id : ℕ) (old new : Half) → u.receive id ≡ Some old → new ≡ old → advanced u id old new ≡ u
 unmoved u id old new half is = rw is (with_counted-none (with_receive u id (Some old)) (old.end - old.end) (omega arith) ∙ with_receive-back u id (Some old) half)
 
-after_data_stopped : (u : World) (id : ℕ) (old new : Half) (fin : Bool) → old.stopped ≡ true
+pub after_data_stopped : (u : World) (id : ℕ) (old new : Half) (fin : Bool) → old.stopped ≡ true
     → after_data u id old new fin ≡ with_credit (if fin then freed (advanced u id old new) id else advanced u id old new) (new.end - old.end)
 after_data_stopped u id old new fin s = rw s refl
 
-after_data_running : (u : World) (id : ℕ) (old new : Half) (fin : Bool) → old.stopped ≡ false → after_data u id old new fin ≡ noticed (advanced u id old new) id true
+pub after_data_running : (u : World) (id : ℕ) (old new : Half) (fin : Bool) → old.stopped ≡ false → after_data u id old new fin ≡ noticed (advanced u id old new) id true
 after_data_running u id old new fin s = rw s refl
 
 -- ---- every answer
@@ -318,7 +318,7 @@ after_data_running u id old new fin s = rw s refl
 pub kept-received : (h : List Event) (u v : World) (id offset : ℕ) (bytes : List ℕ) (fin : Bool) (answer : Result ShouldTransmit ReceiveError)
     → Facts h u → Receives u id offset bytes fin answer v → Facts (Received id offset bytes fin answer ∷ h) v
 kept-received h u v id offset bytes fin (Ok transmit) f (inl s) =
-    facts-at _ v u s.3 (facts_unchanged h u id offset bytes fin (Ok transmit) f (λ k. dropped_closed (trace h id) (refusal u id) (u.receive id) s.0 (f.streams id) s.1))
+    facts-at _ v u s.3 (facts_unchanged h u id offset bytes fin (Ok transmit) f (λ k. dropped-closed (trace h id) (refusal u id) (u.receive id) s.0 (f.streams id) s.1))
 kept-received h u v id offset bytes fin (Ok transmit) f (inr s) =
     let old = s.1 in
     let new = s.2 in
@@ -329,14 +329,14 @@ kept-received h u v id offset bytes fin (Ok transmit) f (inr s) =
     (λ k. facts-at _ v _ (s.5 ∙ after_data_stopped u id old new fin k) (facts_discarded h u id offset bytes fin (Ok transmit) old new f r.known r.half r.running grows passed refl k))
     (λ k. facts-at _ v _ (s.5 ∙ after_data_running u id old new fin k) (facts_noticed h u id offset bytes fin (Ok transmit) old new f r.known r.half r.running grows passed refl k))
 kept-received h u v id offset bytes fin (Err (receive_error.Transport error)) f (inl s) =
-    facts-at _ v u s.1 (facts_unchanged h u id offset bytes fin (Err (receive_error.Transport error)) f (not_kept _ (refusal_code u id error.code s.0)))
+    facts-at _ v u s.1 (facts_unchanged h u id offset bytes fin (Err (receive_error.Transport error)) f (not_kept _ (refusal-code u id error.code s.0)))
 kept-received h u v id offset bytes fin (Err (receive_error.Transport error)) f (inr s) = refused s.2.ingests
   where
     refused : Ingests s.0 offset bytes fin u.credit.data_recvd u.credit.local_max_data (Err (receive_error.Transport error)) s.1 → Facts (Received id offset bytes fin (Err (receive_error.Transport error)) ∷ h) v
     refused (inl k) =
         facts-at _ v u (s.3 ∙ unmoved u id s.0 s.1 s.2.half k.1)
         (facts_unchanged h u id offset bytes fin (Err (receive_error.Transport error)) f
-        (not_kept _ (refused_other s.0 offset (length bytes) fin u.credit.data_recvd u.credit.local_max_data error.code k.0)))
+        (not_kept _ (refused-other s.0 offset (length bytes) fin u.credit.data_recvd u.credit.local_max_data error.code k.0)))
     refused (inr k) =
         let passed = passes s.0 offset (length bytes) fin u.credit.data_recvd u.credit.local_max_data k.0 in
         facts-at _ v _ s.3 (facts_running h u id offset bytes fin (Err (receive_error.Transport error)) s.0 s.1 f s.2.known s.2.half s.2.running

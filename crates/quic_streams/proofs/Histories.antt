@@ -9,6 +9,7 @@ use Rattle.quic_streams.specs.World.{World, with_credit}
 use Rattle.quic_streams.specs.History.{Event, Received, ReceivedReset, AddedCredits, Began, Gave, Ended, Stopped, ToldReset, Step, Fits, Facts, From, with_next, consumed, debt, received}
 use Rattle.quic_streams.proofs.Credits.{credit-credited}
 use Rattle.quic_streams.proofs.Endings.{kept-ends, tells-ends}
+use Rattle.quic_streams.proofs.RemoteHistory.{kept-remotes}
 use Rattle.quic_streams.proofs.Limits.{never-falls}
 use Rattle.quic_streams.proofs.FrameHistory.{kept-received}
 use Rattle.quic_streams.proofs.ResetHistory.{kept-reset}
@@ -35,6 +36,7 @@ next h u e v fits f s = record {
   facts = kept h u e v f.facts s;
   ends = kept-ends h u e v f.facts s f.ends;
   tells = tells-ends (e ∷ h) v (kept h u e v f.facts s);
+  remotes = kept-remotes h u e v f.facts f.remotes s;
 }
 
 -- the same for an answer of a reader that may go on

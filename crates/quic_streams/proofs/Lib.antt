@@ -12,6 +12,8 @@ pub mod Numbers
 pub mod ReadHistory
 pub mod ReadingSteps
 pub mod Refusals
+pub mod RemoteHistory
+pub mod Remotes
 pub mod ResetHistory
 pub mod SendMaps
 pub mod Sets

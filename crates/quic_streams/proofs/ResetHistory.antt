@@ -157,30 +157,30 @@ module _ (h : List Event) (u : World) (id code final : ℕ) (answer : Result Sho
 
 -- on a stream that is closed
 module _ (h : List Event) (u : World) (id code final : ℕ) (transmit : ShouldTransmit) (f : Facts h u) (closed : is_closed (trace h id) ≡ true) where
-  untold_closed : (q : ℕ) → trace (ReceivedReset id code final (Ok transmit) ∷ h) q ≡ trace h q
-  untold_closed q = by_cases (eqb q id)
+  pub untold-closed : (q : ℕ) → trace (ReceivedReset id code final (Ok transmit) ∷ h) q ≡ trace h q
+  untold-closed q = by_cases (eqb q id)
       (λ t. let c : is_closed (trace h q) ≡ true = ap (λ x. is_closed (trace h x)) (same q id t) ∙ closed in rw (t, c) refl)
       (λ n. rw n refl)
 
   facts_closed : Facts (ReceivedReset id code final (Ok transmit) ∷ h) u
-  facts_closed = facts_unchanged h u id code final (Ok transmit) f untold_closed (rw closed refl)
+  facts_closed = facts_unchanged h u id code final (Ok transmit) f untold-closed (rw closed refl)
 
-or_second : (b c : Bool) → c ≡ true → (b || c) ≡ true
-or_second true c e = refl
-or_second false c e = e
+pub or-second : (b c : Bool) → c ≡ true → (b || c) ≡ true
+or-second true c e = refl
+or-second false c e = e
 
-or_first : (b c : Bool) → b ≡ true → (b || c) ≡ true
-or_first b c e = rw e refl
+pub or-first : (b c : Bool) → b ≡ true → (b || c) ≡ true
+or-first b c e = rw e refl
 
 -- ---- every answer
 
 pub kept-reset : (h : List Event) (u v : World) (id code final : ℕ) (answer : Result ShouldTransmit ReceiveError)
     → Facts h u → ReceivesReset u id code final answer v → Facts (ReceivedReset id code final answer ∷ h) v
 kept-reset h u v id code final (Ok transmit) f (inl s) =
-    facts-at _ v u s.3 (facts_closed h u id code final transmit f (or_second (trace h id).reset (trace h id).gone (gone-from (trace h) u id f.streams s.0 s.1)))
+    facts-at _ v u s.3 (facts_closed h u id code final transmit f (or-second (trace h id).reset (trace h id).gone (gone-from (trace h) u id f.streams s.0 s.1)))
 kept-reset h u v id code final (Ok transmit) f (inr (inl s)) =
     let x = half-from (trace h) u id s.0 f.streams s.2.known s.2.half in
-    facts-at _ v u s.4 (facts_closed h u id code final transmit f (or_first (trace h id).reset (trace h id).gone (sym x.reset ∙ s.2.resets.1)))
+    facts-at _ v u s.4 (facts_closed h u id code final transmit f (or-first (trace h id).reset (trace h id).gone (sym x.reset ∙ s.2.resets.1)))
 kept-reset h u v id code final (Ok transmit) f (inr (inr s)) =
     let r = s.2 in
     facts-at _ v _ s.4 (facts_reset h u id code final transmit s.0 s.1 f r.known r.half r.resets.1

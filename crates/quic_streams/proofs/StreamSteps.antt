@@ -58,9 +58,9 @@ known_half t r o h k s = let there = rw k at s in known_by t r h there
 pub known-from : (f : ℕ → Trace) (w : World) (id : ℕ) (h : Half) → AllFrom f w → w.receive id ≡ Some h → refusal w id ≡ None
 known-from f w id h s k = known_half (f id) (refusal w id) (w.receive id) h k (s id)
 
-new_from : (t : Trace) (r : Option ℕ) (o : Option Half) (error : ℕ) → r ≡ Some error → StreamFrom t r o → t ≡ untouched
-new_from t r None error e s = let there = rw e at s in there
-new_from t r (Some h) error e s = absurd (rw e at s)
+pub new-from : (t : Trace) (r : Option ℕ) (o : Option Half) (error : ℕ) → r ≡ Some error → StreamFrom t r o → t ≡ untouched
+new-from t r None error e s = let there = rw e at s in there
+new-from t r (Some h) error e s = absurd (rw e at s)
 
 receive-other : (w : World) (id q : ℕ) (o : Option Half) → eqb q id ≡ false → (with_receive w id o).receive q ≡ w.receive q
 unfolding with_receive with_half
@@ -120,7 +120,7 @@ raised_all f d u v window side opened r halves s q =
     by_cases (eqb q id)
     (λ t.
     let is : q ≡ id = same q id t in
-    let told : f q ≡ untouched = new_from (f q) (refusal u q) (u.receive q) _ (ap (refusal u) is ∙ refusal-next d u) (s q) in
+    let told : f q ≡ untouched = new-from (f q) (refusal u q) (u.receive q) _ (ap (refusal u) is ∙ refusal-next d u) (s q) in
     retold untouched (f q) (refusal v q) (v.receive q) told
     (set_half untouched (refusal v q) (v.receive q) (new_half window) (ap (refusal v) is ∙ refusal-permitted d u v side r) (at ∙ rw t refl) (new-half-from window)))
     (λ n. moved (f q) (refusal u q) (refusal v q) (u.receive q) (v.receive q) (refusal-raised d u v q side opened r n) (at ∙ rw n refl) (s q))
@@ -166,9 +166,9 @@ if_any P u v true s t = s
 if_any P u v false s t = t
 
 -- what a notice may be
-noticed_any : (P : World → Type 0) (w : World) (id : ℕ) (b : Bool) → P (told_readable w id b)
+pub noticed-any : (P : World → Type 0) (w : World) (id : ℕ) (b : Bool) → P (told_readable w id b)
     → P (with_remote w (dir_of id) (remote.opened_up_to (remote_of w (dir_of id)) (index_of id))) → P (noticed w id b)
-noticed_any P w id b told opened = if_any P _ _ (is_own w id) told (if_any P _ _ (nat_le (remote_of w (dir_of id)).next_remote (index_of id)) opened told)
+noticed-any P w id b told opened = if_any P _ _ (is_own w id) told (if_any P _ _ (nat_le (remote_of w (dir_of id)).next_remote (index_of id)) opened told)
 
 opened_max : (r : Remote) (index : ℕ) (b : Bool) → (if b then record r { next_remote = index + 1; opened = true } else r).max_remote ≡ r.max_remote
 opened_max r index true = refl
@@ -186,7 +186,7 @@ refusal_remote w Uni r q e = refusal-same (with_remote w Uni r) w q refl refl re
 pub refusal-noticed : (w : World) (id : ℕ) (b : Bool) (q : ℕ) → refusal (noticed w id b) q ≡ refusal w q
 refusal-noticed w id b q =
     let P : World → Type 0 = λ x. refusal x q ≡ refusal w q in
-    noticed_any P w id b (refusal_readable w id b q) (refusal_remote w (dir_of id) _ q (opened_max (remote_of w (dir_of id)) (index_of id) _))
+    noticed-any P w id b (refusal_readable w id b q) (refusal_remote w (dir_of id) _ q (opened_max (remote_of w (dir_of id)) (index_of id) _))
 
 receive_readable : (w : World) (id : ℕ) (b : Bool) (q : ℕ) → (told_readable w id b).receive q ≡ w.receive q
 receive_readable w id true q = refl
@@ -200,7 +200,7 @@ receive_remote w Uni r q = refl
 receive-noticed : (w : World) (id : ℕ) (b : Bool) (q : ℕ) → (noticed w id b).receive q ≡ w.receive q
 receive-noticed w id b q =
     let P : World → Type 0 = λ x. x.receive q ≡ w.receive q in
-    noticed_any P w id b (receive_readable w id b q) (receive_remote w (dir_of id) _ q)
+    noticed-any P w id b (receive_readable w id b q) (receive_remote w (dir_of id) _ q)
 
 pub all-noticed : (g : ℕ → Trace) (w : World) (id : ℕ) (b : Bool) → AllFrom g w → AllFrom g (noticed w id b)
 all-noticed g w id b s q = moved (g q) (refusal w q) _ (w.receive q) _ (refusal-noticed w id b q) (receive-noticed w id b q) (s q)
@@ -220,7 +220,7 @@ credit_remote w Uni r = refl
 pub credit-noticed : (w : World) (id : ℕ) (b : Bool) → (noticed w id b).credit ≡ w.credit
 credit-noticed w id b =
     let P : World → Type 0 = λ x. x.credit ≡ w.credit in
-    noticed_any P w id b (credit_readable w id b) (credit_remote w (dir_of id) _)
+    noticed-any P w id b (credit_readable w id b) (credit_remote w (dir_of id) _)
 
 credit_permitted : (w : World) (d : Dir) (index : ℕ) → (permitted w d index).credit ≡ w.credit
 unfolding with_receive

@@ -1,8 +1,13 @@
 -- The history of one end of a connection: the calls on its streams with their answers, the newest first; and what it
 -- says of the end.
-use Rattle.std.specs.Prelude.{◌↔◌, ℕ, Bool, true, false, not, ◌≡◌, ◌+◌, ◌-◌, ◌^◌, ◌==◌, ◌≤◌, ◌<◌, ◌&&◌, ◌||◌, max, if◌then◌else◌, nat_eq, List, [], ◌∷◌, length, Option, Some, None, is_some, Result, Ok, Err}
+use Rattle.std.specs.Prelude.{◌↔◌, ℕ, Bool, true, false, not, ◌≡◌, ◌+◌, ◌-◌, ◌^◌, ◌==◌, ◌≤◌, ◌<◌, ◌&&◌, ◌||◌, max, min, if◌then◌else◌, nat_eq, List, [], ◌∷◌, length, Option, Some, None, is_some, Result, Ok, Err}
 use Rattle.std.specs.List.{list_any}
 use Rattle.quic_values.specs.declared.ids.Side.{Side}
+use Rattle.quic_values.specs.declared.ids.Dir.{Dir}
+use Rattle.quic_values.specs.declared.ids.Dir.TheVariants.{Bi, Uni}
+use Rattle.quic_values.specs.Ids.{stream_id, other_side}
+use Rattle.quic_limits.specs.Remote.{Remote}
+use Rattle.quic_receiving.specs.Counted.{number}
 use Rattle.quic_assembler.specs.declared.chunk.Chunk.{Chunk}
 use Rattle.quic_wire.specs.declared.error.ReceiveError.{ReceiveError}
 use Rattle.quic_wire.specs.declared.error.ReceiveError.TheVariants as receive_error
@@ -18,7 +23,7 @@ use Rattle.quic_receiving.specs.declared.errors.HandleError.{HandleError}
 use Rattle.quic_streams.specs.declared.reading.Progress.{Progress}
 use Rattle.quic_streams.specs.declared.reading.Progress.TheVariants as progress
 use Rattle.quic_streams.specs.Pending.{Pending}
-use Rattle.quic_streams.specs.World.{World, start, refusal, with_credit}
+use Rattle.quic_streams.specs.World.{World, start, refusal, remote_of, with_credit}
 use Rattle.quic_streams.specs.Receiving.{Receives, ReceivesReset}
 use Rattle.quic_streams.specs.Reading.{Begins, ReadsHalf, Stops, TellsReset}
 
@@ -82,6 +87,8 @@ pub record IsStart (v : World) : Type 0 where
   pub send_window : ℕ
   pub receive_window : ℕ
   pub window : ℕ
+  pub few_uni : uni ≤ 2 ^ 60
+  pub few_bi : bi ≤ 2 ^ 60
   pub small : receive_window < 2 ^ 62
   pub is : v ≡ start side uni bi send_window receive_window window
 
@@ -255,6 +262,18 @@ StreamFrom t None None = t.gone ≡ true
 StreamFrom t (Some error) (Some h) = ⊥
 StreamFrom t (Some error) None = t ≡ untouched
 
+-- whether a stream of the peer is wholly freed: its receive half is gone, and no send half is held
+abbrev pub is_freed : (ℕ → Trace) → Side → (ℕ → Bool) → Dir → ℕ → Bool
+is_freed f side sends Uni index = (f (stream_id (other_side side) Uni index)).gone
+is_freed f side sends Bi index = (f (stream_id (other_side side) Bi index)).gone && not (sends (stream_id (other_side side) Bi index))
+
+-- the streams of the peer of one direction, of which these indices are wholly freed (RFC 9000 section 4.6)
+pub record RemoteFrom (over : ℕ → Bool) (r : Remote) : Type 0 where
+  -- the peer may use those that are not
+  pub allocated : r.allocated + number over r.max_remote ≡ r.max_remote
+  -- it may open as many as it is to be able to use at a time, and one more for each that is, up to 2^60
+  pub permitted : r.max_remote ≡ min (r.max_concurrent + number over r.max_remote) (2 ^ 60)
+
 -- where a read told the end, the half was freed, and each byte below the final size was given
 abbrev pub EndsSo : Trace → Type 0
 EndsSo t = t.ended ≡ true → (t.gone ≡ true) × IsAllGiven t.given t.high
@@ -281,3 +300,4 @@ pub record From (h : List Event) (v : World) : Type 0 where
   pub facts : Facts h v
   pub ends : (q : ℕ) → EndsSo (trace h q)
   pub tells : TellsEnds h v
+  pub remotes : (d : Dir) → RemoteFrom (is_freed (trace h) v.side v.sends d) (remote_of v d)

@@ -1,6 +1,6 @@
 use Rattle.std.proofs.Common.{rules, ◌≡◌, ◌<◌, ◌^◌, arith}
 use Rattle.quic_streams.specs.World.{World, shown, start}
-use Rattle.quic_streams.proofs.Beginnings.{begins_at}
+use Rattle.quic_streams.proofs.Beginnings.{begins}
 use Rattle.quic_streams.proofs.state.StreamsState.new.Goals as goal
 
 pub returns-clause-from : goal.returns-clause-from
@@ -10,4 +10,4 @@ returns-clause-from c =
     let w : World = start c.args.side c.args.max_remote_uni c.args.max_remote_bi c.args.send_window c.args.receive_window c.args.stream_window in
     let is : v ≡ w = search rules in
     let small : c.args.receive_window < 2 ^ 62 = search rules in
-    begins_at c.args.side c.args.max_remote_uni c.args.max_remote_bi c.args.send_window c.args.receive_window c.args.stream_window v small is
+    begins c.args.side c.args.max_remote_uni c.args.max_remote_bi c.args.send_window c.args.receive_window c.args.stream_window v c.requires.uni c.requires.bi small is
