@@ -1,8 +1,6 @@
 //! Sets of what is to be sent. Where memory runs out, a test shows that all is as it was, and asks once more.
 
-mod reading;
-mod receiving;
-mod steps;
+mod streams;
 
 use crate::{IssuedCid, Retransmits, ThinRetransmits};
 use quic_wire::frame::{Crypto, StopSending};

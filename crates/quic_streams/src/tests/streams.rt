@@ -1,5 +1,8 @@
 //! Steps on the receiving side of one end, and what each has to answer.
 
+mod reading;
+mod receiving;
+
 use super::id;
 use crate::Retransmits;
 use crate::reading::Chunks;
@@ -11,19 +14,19 @@ use quic_wire::{ReceiveError, StreamEvent, TransportError, frame};
 use std::alloc::Global;
 use std::process::Abort;
 
-pub const WINDOW: u32 = 1 << 20;
+const WINDOW: u32 = 1 << 20;
 
-pub const FLOW_CONTROL: Answer = Answer::Refused(TransportError::FLOW_CONTROL_ERROR);
+const FLOW_CONTROL: Answer = Answer::Refused(TransportError::FLOW_CONTROL_ERROR);
 
-pub const FINAL_SIZE: Answer = Answer::Refused(TransportError::FINAL_SIZE_ERROR);
+const FINAL_SIZE: Answer = Answer::Refused(TransportError::FINAL_SIZE_ERROR);
 
-pub const STREAM_LIMIT: Answer = Answer::Refused(TransportError::STREAM_LIMIT_ERROR);
+const STREAM_LIMIT: Answer = Answer::Refused(TransportError::STREAM_LIMIT_ERROR);
 
-pub const STREAM_STATE: Answer = Answer::Refused(TransportError::STREAM_STATE_ERROR);
+const STREAM_STATE: Answer = Answer::Refused(TransportError::STREAM_STATE_ERROR);
 
 // What a frame came to.
 #[derive(Clone, Copy, Debug, PartialEq, Eq)]
-pub enum Answer {
+enum Answer {
     // It was taken. Whether MAX_DATA is to be sent.
     Taken(bool),
     // The code of an error.
@@ -33,7 +36,7 @@ pub enum Answer {
 
 // Why a reader gave no more.
 #[derive(Clone, Copy, Debug, PartialEq, Eq)]
-pub enum Last {
+enum Last {
     // It was not opened.
     Closed,
     Illegal,
@@ -47,7 +50,7 @@ pub enum Last {
 
 // What came of asking for the code of a reset.
 #[derive(Clone, Copy, Debug, PartialEq, Eq)]
-pub enum Told {
+enum Told {
     Code(u64),
     Nothing,
     Closed,
@@ -56,15 +59,15 @@ pub enum Told {
 
 // Reads of at most so many bytes, so many times.
 #[derive(Clone, Copy, Debug)]
-pub struct Reads(pub usize, pub u32);
+struct Reads(pub usize, pub u32);
 
 // What reads came to: how many bytes were given, why no more, and whether to transmit at the end.
 #[derive(Clone, Copy, Debug, PartialEq, Eq)]
-pub struct Given(pub usize, pub Last, pub bool);
+struct Given(pub usize, pub Last, pub bool);
 
 // A call, mostly on the stream of an id, and what it has to answer.
 #[derive(Clone, Copy, Debug)]
-pub enum Step {
+enum Step {
     // So many bytes at an offset.
     Data(u32, u64, usize, Answer),
     // The same, with FIN.
@@ -94,17 +97,17 @@ pub enum Step {
 }
 
 // The code of each stop.
-pub const STOP_CODE: u32 = 9;
+const STOP_CODE: u32 = 9;
 
 #[derive(Drop)]
-pub struct Subject {
+struct Subject {
     pub state: StreamsState,
     pub pending: Retransmits,
     pub window: u64,
 }
 
 // A client that permits so many streams of each direction.
-pub fn client(
+fn client(
     alloc: Global,
     streams: u32,
     window: u32,
@@ -468,7 +471,7 @@ fn waits(rt: &impl Abort, pending: &Retransmits, step: Step) {
     }
 }
 
-pub fn run(
+fn run(
     rt: &impl Abort,
     alloc: Global,
     subject: Subject,
@@ -482,7 +485,7 @@ pub fn run(
 }
 
 // Takes steps on a client that permits 128 streams of each direction, with windows of 2^20 bytes.
-pub fn run_on_client(rt: &impl Abort, alloc: Global, steps: &[Step]) -> Result<(), OutOfMemory> {
+fn run_on_client(rt: &impl Abort, alloc: Global, steps: &[Step]) -> Result<(), OutOfMemory> {
     let _after = run(rt, alloc, client(alloc, 128, WINDOW, WINDOW)?, steps)?;
     Ok(())
 }

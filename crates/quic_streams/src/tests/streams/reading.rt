@@ -1,6 +1,5 @@
-use super::id;
-use super::steps::{
-    Answer, Given, Last, Reads, Step, Subject, Told, WINDOW, client, run, run_on_client,
+use super::{
+    Answer, Given, Last, Reads, Step, Subject, Told, WINDOW, client, id, run, run_on_client,
 };
 use crate::recv_stream::RecvStream;
 use quic_values::OutOfMemory;

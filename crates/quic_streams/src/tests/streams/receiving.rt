@@ -1,4 +1,4 @@
-use super::steps::{
+use super::{
     Answer, FINAL_SIZE, FLOW_CONTROL, Given, Last, Reads, STREAM_LIMIT, STREAM_STATE, Step, Told,
     WINDOW, client, run, run_on_client,
 };
