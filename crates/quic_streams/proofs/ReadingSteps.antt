@@ -9,8 +9,8 @@ use Rattle.quic_receiving.specs.declared.errors.ReadError.{ReadError}
 use Rattle.quic_receiving.specs.declared.errors.ReadError.TheVariants as read_error
 use Rattle.quic_streams.specs.declared.reading.Progress.{Progress}
 use Rattle.quic_streams.specs.declared.reading.Progress.TheVariants as progress
-use Rattle.quic_streams.specs.Reading.{is_mode, is_reading, needed, is_ended, IsLastAnswer, progress_after, given_by, after_read, ReadsHalf, Nexts}
-use Rattle.quic_streams.specs.World.{World, with_receive}
+use Rattle.quic_streams.specs.Reading.{is_mode, is_reading, needed, is_ended, IsLastAnswer, progress_after, given_by, ReadsHalf, Nexts}
+use Rattle.quic_streams.specs.World.{World}
 use Rattle.quic_streams.proofs.WorldSteps.{with_receive-back}
 
 more : (read bytes n : ℕ) → nat_le (read + n) (bytes + n) ≡ nat_le read bytes

@@ -1,6 +1,6 @@
-use Rattle.std.proofs.Common.{ap, refl}
+use Rattle.std.proofs.Common.{ap}
 use Rattle.quic_streams.specs.Pending.{shown}
-use Rattle.quic_streams.proofs.Sets.{OnOk-here, fits, with_one, with_none}
+use Rattle.quic_streams.proofs.Sets.{OnOk-here, fits, with_one}
 use Rattle.quic_streams.proofs.retransmits.Retransmits.queue_window.Goals as goal
 
 pub returns-then-due-clause-queued : goal.returns-then-due-clause-queued
