@@ -10,7 +10,7 @@ use Rattle.streampair.specs.declared.session.Session.{Session}
 use Rattle.streampair.specs.declared.session.Session.TheVariants.{Start}
 use Rattle.streampair.specs.declared.session.Stop.{Stop}
 use Rattle.streampair.specs.declared.session.Stop.TheVariants.{Malformed, NoPair, Failed}
-use Rattle.streampair.specs.Session.{Answers, AnswersLine, StopsWith, Serves, begin, line, IsServed, StopsAt, IsMalformed, malformed_line}
+use Rattle.streampair.specs.Session.{Answers, AnswersLine, StopsWith, MeansNothing, Serves, begin, line, IsServed, StopsAt, IsMalformed, malformed_line}
 
 -- one write after the other
 pub Appends-join : (a b c : Option (List ℕ)) (xs ys : List ℕ) → Appends a b xs → Appends b c ys → Appends a c (xs ++ ys)
@@ -110,8 +110,8 @@ Progress-end None number s left start now h end = tt
 Progress-end (Some all) number s left start now h end = all_served all number s left start now h end
 
 -- a line was not answered
-stopped : (input : List ℕ) (number : ℕ) (s : Session) (left start before now : Option (List ℕ)) (read : List ℕ) (stop : Stop) → Progress input number s left start before → IfSome left (λ xs. read ≡ take_through 10 xs) → 0 < length read → StopsWith number before now stop → StopsAt input start now stop
-stopped input number s left start before now read (Malformed told) h taken some w =
+stopped : (input : List ℕ) (number : ℕ) (s : Session) (left start before now : Option (List ℕ)) (read answered : List ℕ) (stop : Stop) → Progress input number s left start before → IfSome left (λ xs. read ≡ take_through 10 xs) → 0 < length read → answered ≡ strip_last 10 read → StopsWith number s answered before now stop → StopsAt input start now stop
+stopped input number s left start before now read answered (Malformed told) h taken some is w =
     let read_is = line_is left h.rest read h.left_is taken in
     record {
       lines = h.lines;
@@ -120,15 +120,16 @@ stopped input number s left start before now read (Malformed told) h taken some 
       rest = h.rest;
       serves = h.serves;
       some = some_left h.rest (omega (arith, some, ap length read_is));
+      nothing = subst (λ (x : List ℕ). MeansNothing s x) (is ∙ ap (strip_last 10) read_is) w.2;
       number_is = w.0 ∙ h.number_is;
       writes = rw (append-nil h.text, w.1) h.writes;
     }
-stopped input number s left start before now read NoPair h taken some w = tt
-stopped input number s left start before now read Failed h taken some w = tt
+stopped input number s left start before now read answered NoPair h taken some is w = tt
+stopped input number s left start before now read answered Failed h taken some is w = tt
 
-pub Progress-stop : (input : Option (List ℕ)) (number : ℕ) (s : Session) (left start before now : Option (List ℕ)) (read : List ℕ) (stop : Stop) → IfSome input (λ all. Progress all number s left start before) → IfSome left (λ xs. read ≡ take_through 10 xs) → 0 < length read → StopsWith number before now stop → IfSome input (λ all. StopsAt all start now stop)
-Progress-stop None number s left start before now read stop h taken some w = tt
-Progress-stop (Some all) number s left start before now read stop h taken some w = stopped all number s left start before now read stop h taken some w
+pub Progress-stop : (input : Option (List ℕ)) (number : ℕ) (s : Session) (left start before now : Option (List ℕ)) (read answered : List ℕ) (stop : Stop) → IfSome input (λ all. Progress all number s left start before) → IfSome left (λ xs. read ≡ take_through 10 xs) → 0 < length read → answered ≡ strip_last 10 read → StopsWith number s answered before now stop → IfSome input (λ all. StopsAt all start now stop)
+Progress-stop None number s left start before now read answered stop h taken some is w = tt
+Progress-stop (Some all) number s left start before now read answered stop h taken some is w = stopped all number s left start before now read answered stop h taken some is w
 
 pub Failed-stops : (input start now : Option (List ℕ)) (stop : Stop) → stop ≡ Failed → IfSome input (λ all. StopsAt all start now stop)
 Failed-stops None start now stop e = tt
@@ -145,6 +146,7 @@ behind input start before now number h w = record {
     rest = h.rest;
     serves = h.serves;
     some = h.some;
+    nothing = h.nothing;
     number_is = h.number_is;
     writes = Appends-join start before now h.text (malformed_line number) (rw (append-nil h.text) at h.writes) w;
   };
@@ -170,5 +172,5 @@ pub IsMalformed-unknown : (input old new : Option (List ℕ)) → IfSome input (
 IsMalformed-unknown None old new h = tt
 IsMalformed-unknown (Some all) old new h = record {
   number = h.number;
-  served = record { lines = h.served.lines; text = h.served.text; session = h.served.session; rest = h.served.rest; serves = h.served.serves; some = h.served.some; number_is = h.served.number_is; writes = tt };
+  served = record { lines = h.served.lines; text = h.served.text; session = h.served.session; rest = h.served.rest; serves = h.served.serves; some = h.served.some; nothing = h.served.nothing; number_is = h.served.number_is; writes = tt };
 }

@@ -1,5 +1,6 @@
 -- What the lines of a session spell, field by field. Fields are parted by single spaces.
-use Rattle.std.specs.Prelude.{◌≡◌, ◌==◌, ℕ, Bool, true, false, List, [], ◌∷◌, codes, map}
+use Rattle.std.specs.Prelude.{◌≡◌, ◌==◌, ◌<◌, ◌≤◌, ◌^◌, ℕ, FitsSigned, Bool, true, false, List, [], ◌∷◌, codes, map}
+use Rattle.std.specs.Int.{w32}
 use Rattle.std.specs.Fmt.{decimal, signed_decimal}
 use Rattle.std.specs.List.{join_with_byte, slice_split}
 use Rattle.quic_pair.specs.declared.steps.Config.{Config}
@@ -7,7 +8,8 @@ use Rattle.quic_pair.specs.declared.steps.End.{End}
 use Rattle.quic_pair.specs.declared.steps.End.TheVariants.{A, B}
 use Rattle.quic_pair.specs.declared.steps.Step.{Step}
 use Rattle.quic_pair.specs.declared.steps.Step.TheVariants as steps
-use Rattle.streampair.specs.Field.{hex_form}
+use Rattle.hex.specs.Hex.{IsBytes}
+use Rattle.streampair.specs.Field.{hex_form, AreChunks}
 use Rattle.streampair.specs.Line.{direction_text}
 
 abbrev pub end_text : End → List ℕ
@@ -47,8 +49,37 @@ step_fields (steps.AckStream payload index) = codes "ack-stream" ∷ decimal pay
 step_fields (steps.LoseControl payload) = codes "lose-control" ∷ decimal payload ∷ []
 step_fields (steps.AckControl payload) = codes "ack-control" ∷ decimal payload ∷ []
 
+-- the numbers of a step lie in the ranges that its fields have, and chunks are one or more
+abbrev pub IsInRange : Step → Type 0
+IsInRange (steps.Open who dir) = Unit {0}
+IsInRange (steps.Accept who dir) = Unit {0}
+IsInRange (steps.Write who id bytes) = (id < 2 ^ 62) × IsBytes bytes
+IsInRange (steps.WriteChunks who id chunks) = (id < 2 ^ 62) × AreChunks chunks.items
+IsInRange (steps.Finish who id) = id < 2 ^ 62
+IsInRange (steps.Reset who id code) = (id < 2 ^ 62) × (code < 2 ^ 62)
+IsInRange (steps.Stop who id code) = (id < 2 ^ 62) × (code < 2 ^ 62)
+IsInRange (steps.SetPriority who id priority) = (id < 2 ^ 62) × FitsSigned w32 priority
+IsInRange (steps.Read who id ordered max times) = (id < 2 ^ 62) × (max < 2 ^ 64) × (0 < times) × (times ≤ 65535)
+IsInRange (steps.ReceivedReset who id) = id < 2 ^ 62
+IsInRange (steps.SetSendWindow who window) = window < 2 ^ 64
+IsInRange (steps.SetReceiveWindow who window) = window < 2 ^ 62
+IsInRange (steps.SetMaxConcurrent who dir count) = count ≤ 2 ^ 60
+IsInRange (steps.Poll who) = Unit {0}
+IsInRange (steps.Emit who max_size fair) = max_size < 2 ^ 64
+IsInRange (steps.Deliver payload frame) = (payload < 2 ^ 64) × (frame < 2 ^ 64)
+IsInRange (steps.LoseStream payload index) = (payload < 2 ^ 64) × (index < 2 ^ 64)
+IsInRange (steps.AckStream payload index) = (payload < 2 ^ 64) × (index < 2 ^ 64)
+IsInRange (steps.LoseControl payload) = payload < 2 ^ 64
+IsInRange (steps.AckControl payload) = payload < 2 ^ 64
+
+abbrev pub IsConfigInRange : Config → Type 0
+IsConfigInRange c = (c.max_remote_uni ≤ 2 ^ 60) × (c.max_remote_bi ≤ 2 ^ 60) × (c.send_window < 2 ^ 64) × (c.receive_window < 2 ^ 62) × (c.stream_receive_window < 2 ^ 62)
+
+abbrev pub limit_fields : Config → List (List ℕ)
+limit_fields c = decimal c.max_remote_uni ∷ decimal c.max_remote_bi ∷ decimal c.send_window ∷ decimal c.receive_window ∷ decimal c.stream_receive_window ∷ []
+
 abbrev pub config_fields : End → Config → List (List ℕ)
-config_fields who c = codes "config" ∷ end_text who ∷ decimal c.max_remote_uni ∷ decimal c.max_remote_bi ∷ decimal c.send_window ∷ decimal c.receive_window ∷ decimal c.stream_receive_window ∷ []
+config_fields who c = codes "config" ∷ end_text who ∷ limit_fields c
 
 -- the fields of a line
 abbrev pub fields_of : List ℕ → List (List ℕ)
@@ -60,3 +91,14 @@ MeansStep line step = fields_of line ≡ step_fields step
 
 abbrev pub MeansConfig : List ℕ → End → Config → Type 0
 MeansConfig line who config = fields_of line ≡ config_fields who config
+
+-- no step has these fields
+abbrev pub SpellsNoStep : List (List ℕ) → Type 0
+SpellsNoStep fields = (step : Step) → IsInRange step → fields ≡ step_fields step → ⊥
+
+-- a line means no step, or no config of this end
+abbrev pub MeansNoStep : List ℕ → Type 0
+MeansNoStep line = (step : Step) → IsInRange step → MeansStep line step → ⊥
+
+abbrev pub MeansNoConfig : List ℕ → End → Type 0
+MeansNoConfig line who = (config : Config) → IsConfigInRange config → MeansConfig line who config → ⊥

@@ -1,3 +1,4 @@
+pub mod Arguments
 pub mod Field
 pub mod Grammar
 pub mod Line

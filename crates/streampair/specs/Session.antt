@@ -16,7 +16,7 @@ use Rattle.streampair.specs.declared.session.Stop.TheVariants.{Malformed, NoPair
 use Rattle.streampair.specs.declared.lines.LineError.{LineError}
 use Rattle.streampair.specs.declared.lines.LineError.TheVariants as lines
 use Rattle.quic_pair.specs.declared.steps.End.TheVariants.{A, B}
-use Rattle.streampair.specs.Grammar.{MeansStep, MeansConfig}
+use Rattle.streampair.specs.Grammar.{MeansStep, MeansConfig, MeansNoStep, MeansNoConfig}
 use Rattle.streampair.specs.Line.{reply_text, refusal_text}
 
 abbrev pub ok_line : List ℕ
@@ -65,10 +65,16 @@ pub record AnswersLine (session : Session) (line : List ℕ) (old new : Option (
   pub answers : Answers session line text next
   pub writes : Appends old new text
 
--- a line was not answered: where it is malformed, this is its number, and nothing was written
-abbrev pub StopsWith : ℕ → Option (List ℕ) → Option (List ℕ) → Stop → Type 0
-StopsWith number old new (Malformed told) = (told ≡ number) × (new ≡ old)
-StopsWith number old new _ = Unit {0}
+-- a line spells nothing that may stand there
+abbrev pub MeansNothing : Session → List ℕ → Type 0
+MeansNothing Start line = MeansNoConfig line A
+MeansNothing (Configured config) line = MeansNoConfig line B
+MeansNothing (Running pair) line = MeansNoStep line
+
+-- a line was not answered: where it is malformed, this is its number, it spells nothing, and nothing was written
+abbrev pub StopsWith : ℕ → Session → List ℕ → Option (List ℕ) → Option (List ℕ) → Stop → Type 0
+StopsWith number session line old new (Malformed told) = (told ≡ number) × (new ≡ old) × MeansNothing session line
+StopsWith number session line old new _ = Unit {0}
 
 -- so many lines of the input were answered by this text, each by one line; so the session stands, and the rest is left
 pub data Serves (input : List ℕ) : ℕ → List ℕ → Session → List ℕ → Type 0 where
@@ -84,7 +90,7 @@ pub record IsServed (input : List ℕ) (old new : Option (List ℕ)) : Type 0 wh
   pub serves : Serves input lines text session []
   pub writes : Appends old new text
 
--- the lines before this one were answered, and this one was not
+-- the lines before this one were answered, and this one was not, since it spells nothing that may stand there
 pub record IsServedUpTo (input : List ℕ) (number : ℕ) (last : List ℕ) (old new : Option (List ℕ)) : Type 0 where
   pub lines : ℕ
   pub text : List ℕ
@@ -92,6 +98,7 @@ pub record IsServedUpTo (input : List ℕ) (number : ℕ) (last : List ℕ) (old
   pub rest : List ℕ
   pub serves : Serves input lines text session rest
   pub some : 0 < length rest
+  pub nothing : MeansNothing session (first_piece 10 rest)
   pub number_is : number ≡ lines + 1
   pub writes : Appends old new (text ++ last)
 

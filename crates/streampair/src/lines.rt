@@ -1,13 +1,14 @@
-ghost use Rattle.std.specs.Prelude.{◌≡◌, ◌≤◌, ◌<◌, ◌^◌, ◌↔◌, IsTrue, IfOk, map, slice_index};
+ghost use Rattle.std.specs.Prelude.{◌≡◌, ◌≤◌, ◌<◌, ◌^◌, ◌↔◌, ℕ, ℤ, Bool, FitsSigned, IsTrue, IfOk, IfErr, map, slice_index};
+ghost use Rattle.std.specs.Int.{w32};
 ghost use Rattle.std.specs.Fmt.{decimal, signed_decimal};
 ghost use Rattle.std.specs.List.{join_with_byte};
 ghost use Rattle.std.specs.Str.{IsAscii};
-ghost use Rattle.streampair.specs.Field.{hex_form};
-ghost use Rattle.streampair.specs.Grammar.{end_text, letter_text, fields_of, step_fields, MeansStep, MeansConfig};
+ghost use Rattle.streampair.specs.Field.{hex_form, SpellsNoBytes, SpellsNoChunks};
+ghost use Rattle.streampair.specs.Grammar.{end_text, letter_text, fields_of, limit_fields, MeansConfig, MeansNoConfig, IsConfigInRange};
 ghost use Rattle.streampair.specs.Line.{direction_text};
 
 use crate::hexadecimal::hex_bytes;
-use quic_pair::{Config, End, Step};
+use quic_pair::{Config, End};
 use quic_wire::{Bytes, Dir, MAX_STREAM_COUNT, OutOfMemory, StreamId, VarInt};
 use std::alloc::{AllocError, AllocFailed, Global};
 
@@ -19,25 +20,41 @@ pub enum LineError {
 }
 
 impl From<OutOfMemory> for LineError {
+    ghost use Rattle.std.specs.Prelude.{◌≡◌};
+    ghost use Rattle.streampair.specs.declared.lines.LineError.TheVariants.{OutOfMemory};
+
+    ghost from_gives = { λ _ error. error ≡ OutOfMemory };
+
     fn from(_error: OutOfMemory) -> Self {
         LineError::OutOfMemory
     }
 }
 
 impl From<AllocError> for LineError {
+    ghost use Rattle.std.specs.Prelude.{◌≡◌};
+    ghost use Rattle.streampair.specs.declared.lines.LineError.TheVariants.{OutOfMemory};
+
+    ghost from_gives = { λ _ error. error ≡ OutOfMemory };
+
     fn from(_error: AllocError) -> Self {
         LineError::OutOfMemory
     }
 }
 
 impl<T: Drop> From<AllocFailed<T>> for LineError {
+    ghost use Rattle.std.specs.Prelude.{◌≡◌};
+    ghost use Rattle.streampair.specs.declared.lines.LineError.TheVariants.{OutOfMemory};
+
+    ghost from_gives = { λ _ error. error ≡ OutOfMemory };
+
     fn from(_error: AllocFailed<T>) -> Self {
         LineError::OutOfMemory
     }
 }
 
 // The fields of a line, which single spaces part.
-fn fields_of<'a>(alloc: Global, line: &'a [u8]) -> Result<Vec<&'a str>, LineError>
+pub fn fields_of<'a>(alloc: Global, line: &'a [u8]) -> Result<Vec<&'a str>, LineError>
+    ensures none { IfErr result (λ error. error ≡ LineError.Malformed → IsAscii line.now → ⊥) }
     ensures ascii { IfOk result (λ fields. IsAscii line.now) }
     ensures fields { IfOk result (λ fields. map (λ field. field.now) fields.items ≡ fields_of line.now) }
 {
@@ -69,8 +86,9 @@ fn begins_as_negative(text: &[u8]) -> bool
 }
 
 // A decimal number without sign or leading zeros.
-fn number(field: &str) -> Result<u64, LineError>
-    ensures { IfOk result (λ n. field.now ≡ decimal n) }
+pub fn number(field: &str) -> Result<u64, LineError>
+    ensures text { IfOk result (λ n. field.now ≡ decimal n) }
+    ensures none { IfErr result (λ error. (n : ℕ) → n < 2 ^ 64 → field.now ≡ decimal n → ⊥) }
 {
     if field == "0" {
         return Ok(0);
@@ -81,40 +99,45 @@ fn number(field: &str) -> Result<u64, LineError>
     field.parse::<u64>().or(Err(LineError::Malformed))
 }
 
-fn size(field: &str) -> Result<usize, LineError>
-    ensures { IfOk result (λ n. field.now ≡ decimal n) }
+pub fn size(field: &str) -> Result<usize, LineError>
+    ensures text { IfOk result (λ n. field.now ≡ decimal n) }
+    ensures none { IfErr result (λ error. (n : ℕ) → n < 2 ^ 64 → field.now ≡ decimal n → ⊥) }
 {
     Ok(number(field)? as usize)
 }
 
 // A number below 2^62.
-fn var_int(field: &str) -> Result<VarInt, LineError>
-    ensures { IfOk result (λ n. field.now ≡ decimal n) }
+pub fn var_int(field: &str) -> Result<VarInt, LineError>
+    ensures text { IfOk result (λ n. field.now ≡ decimal n) }
+    ensures none { IfErr result (λ error. (n : ℕ) → n < 2 ^ 62 → field.now ≡ decimal n → ⊥) }
 {
     VarInt::from_u64(number(field)?).ok_or(LineError::Malformed)
 }
 
-fn stream_id(field: &str) -> Result<StreamId, LineError>
-    ensures { IfOk result (λ id. field.now ≡ decimal id) }
+pub fn stream_id(field: &str) -> Result<StreamId, LineError>
+    ensures text { IfOk result (λ id. field.now ≡ decimal id) }
+    ensures none { IfErr result (λ error. (id : ℕ) → id < 2 ^ 62 → field.now ≡ decimal id → ⊥) }
 {
     Ok(StreamId::from(var_int(field)?))
 }
 
 // A number of streams, at most 2^60.
-fn count(field: &str) -> Result<VarInt, LineError>
+pub fn count(field: &str) -> Result<VarInt, LineError>
     ensures small { IfOk result (λ n. n ≤ 2 ^ 60) }
     ensures text { IfOk result (λ n. field.now ≡ decimal n) }
+    ensures none { IfErr result (λ error. (n : ℕ) → n ≤ 2 ^ 60 → field.now ≡ decimal n → ⊥) }
 {
-    let count = number(field)?;
-    if count > MAX_STREAM_COUNT {
+    let count = var_int(field)?;
+    if count.into_inner() > MAX_STREAM_COUNT {
         return Err(LineError::Malformed);
     }
-    VarInt::from_u64(count).ok_or(LineError::Malformed)
+    Ok(count)
 }
 
 // A number of 32 bits, with `-` in front where it is negative.
-fn priority(field: &str) -> Result<i32, LineError>
-    ensures { IfOk result (λ n. field.now ≡ signed_decimal n) }
+pub fn priority(field: &str) -> Result<i32, LineError>
+    ensures text { IfOk result (λ n. field.now ≡ signed_decimal n) }
+    ensures none { IfErr result (λ error. (n : ℤ) → FitsSigned w32 n → field.now ≡ signed_decimal n → ⊥) }
 {
     if field == "0" {
         return Ok(0);
@@ -129,9 +152,10 @@ fn priority(field: &str) -> Result<i32, LineError>
 }
 
 // How many chunks a read asks for, from 1 to 65535.
-fn times(field: &str) -> Result<u16, LineError>
+pub fn times(field: &str) -> Result<u16, LineError>
     ensures some { IfOk result (λ n. 0 < n) }
     ensures text { IfOk result (λ n. field.now ≡ decimal n) }
+    ensures none { IfErr result (λ error. (n : ℕ) → 0 < n → n ≤ 65535 → field.now ≡ decimal n → ⊥) }
 {
     let times = number(field)?;
     if times == 0 || times > 65535 {
@@ -140,8 +164,9 @@ fn times(field: &str) -> Result<u16, LineError>
     Ok(times as u16)
 }
 
-fn end(field: &str) -> Result<End, LineError>
-    ensures { IfOk result (λ who. field.now ≡ end_text who) }
+pub fn end(field: &str) -> Result<End, LineError>
+    ensures text { IfOk result (λ who. field.now ≡ end_text who) }
+    ensures none { IfErr result (λ error. (who : End) → field.now ≡ end_text who → ⊥) }
 {
     match field {
         "a" => Ok(End::A),
@@ -150,8 +175,9 @@ fn end(field: &str) -> Result<End, LineError>
     }
 }
 
-fn direction(field: &str) -> Result<Dir, LineError>
-    ensures { IfOk result (λ dir. field.now ≡ direction_text dir) }
+pub fn direction(field: &str) -> Result<Dir, LineError>
+    ensures text { IfOk result (λ dir. field.now ≡ direction_text dir) }
+    ensures none { IfErr result (λ error. (dir : Dir) → field.now ≡ direction_text dir → ⊥) }
 {
     match field {
         "bi" => Ok(Dir::Bi),
@@ -161,8 +187,9 @@ fn direction(field: &str) -> Result<Dir, LineError>
 }
 
 // One of two letters: whether it is the first.
-fn is_first(field: &str, first: &str, second: &str) -> Result<bool, LineError>
-    ensures { IfOk result (λ b. field.now ≡ letter_text first.now second.now b) }
+pub fn is_first(field: &str, first: &str, second: &str) -> Result<bool, LineError>
+    ensures text { IfOk result (λ b. field.now ≡ letter_text first.now second.now b) }
+    ensures none { IfErr result (λ error. (b : Bool) → field.now ≡ letter_text first.now second.now b → ⊥) }
 {
     if field == first {
         Ok(true)
@@ -173,8 +200,9 @@ fn is_first(field: &str, first: &str, second: &str) -> Result<bool, LineError>
     }
 }
 
-fn bytes(alloc: Global, field: &str) -> Result<Bytes, LineError>
-    ensures { IfOk result (λ bytes. field.now ≡ hex_form bytes) }
+pub fn bytes(alloc: Global, field: &str) -> Result<Bytes, LineError>
+    ensures text { IfOk result (λ bytes. field.now ≡ hex_form bytes) }
+    ensures none { IfErr result (λ error. error ≡ LineError.Malformed → SpellsNoBytes field.now) }
 {
     match hex_bytes(alloc, field)? {
         Some(bytes) => Ok(Bytes::from(bytes)),
@@ -182,8 +210,9 @@ fn bytes(alloc: Global, field: &str) -> Result<Bytes, LineError>
     }
 }
 
-fn chunks(alloc: Global, field: &str) -> Result<Vec<Bytes>, LineError>
-    ensures { IfOk result (λ chunks. field.now ≡ join_with_byte 44 (map hex_form chunks.items)) }
+pub fn chunks(alloc: Global, field: &str) -> Result<Vec<Bytes>, LineError>
+    ensures text { IfOk result (λ chunks. field.now ≡ join_with_byte 44 (map hex_form chunks.items)) }
+    ensures none { IfErr result (λ error. error ≡ LineError.Malformed → SpellsNoChunks field.now) }
 {
     let mut chunks = Vec::new(alloc);
     for part in field.split(',') {
@@ -196,18 +225,28 @@ fn chunks(alloc: Global, field: &str) -> Result<Vec<Bytes>, LineError>
 pub fn parse_config(alloc: Global, line: &[u8], who: End) -> Result<Config, LineError>
     ensures ascii { IfOk result (λ config. IsAscii line.now) }
     ensures means { IfOk result (MeansConfig line.now who) }
+    ensures none { IfErr result (λ error. error ≡ LineError.Malformed → MeansNoConfig line.now who) }
 {
     let fields = fields_of(alloc, line)?;
     match fields.as_slice() {
+        ["config", name, limits @ ..] if end(name)? == who => config_of(limits),
+        _ => Err(LineError::Malformed),
+    }
+}
+
+// What stands behind the end in a config.
+fn config_of(limits: &[&str]) -> Result<Config, LineError>
+    ensures text { IfOk result (λ config. map (λ field. field.now) limits.now ≡ limit_fields config) }
+    ensures none { IfErr result (λ error. (config : Config) → IsConfigInRange config → map (λ field. field.now) limits.now ≡ limit_fields config → ⊥) }
+{
+    match limits {
         [
-            "config",
-            name,
             max_remote_uni,
             max_remote_bi,
             send_window,
             receive_window,
             stream_receive_window,
-        ] if end(name)? == who => Ok(Config {
+        ] => Ok(Config {
             max_remote_uni: count(max_remote_uni)?,
             max_remote_bi: count(max_remote_bi)?,
             send_window: number(send_window)?,
@@ -215,146 +254,5 @@ pub fn parse_config(alloc: Global, line: &[u8], who: End) -> Result<Config, Line
             stream_receive_window: var_int(stream_receive_window)?,
         }),
         _ => Err(LineError::Malformed),
-    }
-}
-
-// The steps of one end that send on a stream.
-fn parse_sending_step(alloc: Global, fields: &[&str]) -> Result<Step, LineError>
-    ensures { IfOk result (λ step. map (λ field. field.now) fields.now ≡ step_fields step) }
-{
-    match fields {
-        ["write", who, id, bytes_field] => Ok(Step::Write {
-            who: end(who)?,
-            id: stream_id(id)?,
-            bytes: bytes(alloc, bytes_field)?,
-        }),
-        ["chunks", who, id, chunks_field] => Ok(Step::WriteChunks {
-            who: end(who)?,
-            id: stream_id(id)?,
-            chunks: chunks(alloc, chunks_field)?,
-        }),
-        ["finish", who, id] => Ok(Step::Finish {
-            who: end(who)?,
-            id: stream_id(id)?,
-        }),
-        ["reset", who, id, code] => Ok(Step::Reset {
-            who: end(who)?,
-            id: stream_id(id)?,
-            code: var_int(code)?,
-        }),
-        ["priority", who, id, level] => Ok(Step::SetPriority {
-            who: end(who)?,
-            id: stream_id(id)?,
-            priority: priority(level)?,
-        }),
-        _ => Err(LineError::Malformed),
-    }
-}
-
-// The steps of one end that receive on a stream.
-fn parse_receiving_step(fields: &[&str]) -> Result<Step, LineError>
-    ensures { IfOk result (λ step. map (λ field. field.now) fields.now ≡ step_fields step) }
-{
-    match fields {
-        ["stop", who, id, code] => Ok(Step::Stop {
-            who: end(who)?,
-            id: stream_id(id)?,
-            code: var_int(code)?,
-        }),
-        ["read", who, id, mode, max, turns] => Ok(Step::Read {
-            who: end(who)?,
-            id: stream_id(id)?,
-            ordered: is_first(mode, "o", "u")?,
-            max: size(max)?,
-            times: times(turns)?,
-        }),
-        ["received-reset", who, id] => Ok(Step::ReceivedReset {
-            who: end(who)?,
-            id: stream_id(id)?,
-        }),
-        _ => Err(LineError::Malformed),
-    }
-}
-
-// The steps of one end as a whole.
-fn parse_end_step(fields: &[&str]) -> Result<Step, LineError>
-    ensures { IfOk result (λ step. map (λ field. field.now) fields.now ≡ step_fields step) }
-{
-    match fields {
-        ["open", who, dir] => Ok(Step::Open {
-            who: end(who)?,
-            dir: direction(dir)?,
-        }),
-        ["accept", who, dir] => Ok(Step::Accept {
-            who: end(who)?,
-            dir: direction(dir)?,
-        }),
-        ["send-window", who, window] => Ok(Step::SetSendWindow {
-            who: end(who)?,
-            window: number(window)?,
-        }),
-        ["receive-window", who, window] => Ok(Step::SetReceiveWindow {
-            who: end(who)?,
-            window: var_int(window)?,
-        }),
-        ["max-concurrent", who, dir, limit] => Ok(Step::SetMaxConcurrent {
-            who: end(who)?,
-            dir: direction(dir)?,
-            count: count(limit)?,
-        }),
-        ["poll", who] => Ok(Step::Poll { who: end(who)? }),
-        ["emit", who, max_size, fairness] => Ok(Step::Emit {
-            who: end(who)?,
-            max_size: size(max_size)?,
-            fair: is_first(fairness, "f", "u")?,
-        }),
-        _ => Err(LineError::Malformed),
-    }
-}
-
-// The steps of the network.
-fn parse_network_step(fields: &[&str]) -> Result<Step, LineError>
-    ensures { IfOk result (λ step. map (λ field. field.now) fields.now ≡ step_fields step) }
-{
-    match fields {
-        ["deliver", payload, frame] => Ok(Step::Deliver {
-            payload: size(payload)?,
-            frame: size(frame)?,
-        }),
-        ["lose-stream", payload, index] => Ok(Step::LoseStream {
-            payload: size(payload)?,
-            index: size(index)?,
-        }),
-        ["ack-stream", payload, index] => Ok(Step::AckStream {
-            payload: size(payload)?,
-            index: size(index)?,
-        }),
-        ["lose-control", payload] => Ok(Step::LoseControl {
-            payload: size(payload)?,
-        }),
-        ["ack-control", payload] => Ok(Step::AckControl {
-            payload: size(payload)?,
-        }),
-        _ => Err(LineError::Malformed),
-    }
-}
-
-/// Any later line: a step.
-pub fn parse_step(alloc: Global, line: &[u8]) -> Result<Step, LineError>
-    ensures ascii { IfOk result (λ step. IsAscii line.now) }
-    ensures means { IfOk result (MeansStep line.now) }
-{
-    let fields = fields_of(alloc, line)?;
-    let fields = fields.as_slice();
-    match fields {
-        ["write" | "chunks" | "finish" | "reset" | "priority", ..] => {
-            parse_sending_step(alloc, fields)
-        }
-        ["stop" | "read" | "received-reset", ..] => parse_receiving_step(fields),
-        [
-            "deliver" | "lose-stream" | "ack-stream" | "lose-control" | "ack-control",
-            ..
-        ] => { parse_network_step(fields) }
-        _ => parse_end_step(fields),
     }
 }

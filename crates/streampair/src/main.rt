@@ -6,6 +6,7 @@ mod hexadecimal;
 mod lines;
 mod replies;
 mod session;
+mod steps;
 #[cfg(test)]
 mod tests;
 

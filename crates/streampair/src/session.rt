@@ -2,8 +2,9 @@ ghost use Rattle.std.specs.Prelude.{◌≡◌, ◌≤◌, ◌++◌, IfOk, IfErr,
 ghost use Rattle.std.specs.Io.BufRead.{strip_last};
 ghost use Rattle.streampair.specs.Session.{answer_line, AnswersLine, IsStep, IsServed, IsMalformed, StopsAt, StopsWith, stop_of};
 
-use crate::lines::{LineError, parse_config, parse_step};
+use crate::lines::{LineError, parse_config};
 use crate::replies::{refusal_line, reply_line};
+use crate::steps::parse_step;
 use quic_pair::{Config, End, Pair, PairError, Reply, Step};
 use quic_wire::OutOfMemory;
 use std::alloc::Global;
@@ -105,7 +106,7 @@ impl Session {
         output: &mut W,
     ) -> Result<Session, Stop>
         ensures ok { IfOk result (AnswersLine self line.now (W.contents output.old) (W.contents output.new)) }
-        ensures stops { IfErr result (StopsWith number (W.contents output.old) (W.contents output.new)) }
+        ensures stops { IfErr result (StopsWith number self line.now (W.contents output.old) (W.contents output.new)) }
     {
         match self {
             Session::Start => {

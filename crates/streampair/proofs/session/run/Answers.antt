@@ -16,8 +16,8 @@ returns-then-branch-eq0-clause-ok g c =
 pub returns-in-Err-clause-stops : goal.returns-in-Err-clause-stops
 returns-in-Err-clause-stops g c =
     let some : 0 < length c.read_until.new.buf.items = omega (arith, c.in_ok-read_until.ensures.ok, c.read_until.new.buf.ok.0, c.if-branch-eq0.false) in
-    Progress-stop (g.R.Read.remaining c.args.input) c.loop-number.number c.loop-number.session (reader_remaining g.R.Read.remaining c.loop-number.reader) (g.W.Write.contents c.args.output.now) (g.W.Write.contents c.loop-number.output) (g.W.Write.contents c.answer.new.output) c.read_until.new.buf.items c.in-Err.stop
-    c.loop-number.invariant (all_read (reader_remaining g.R.Read.remaining c.loop-number.reader) c.clear.new.self.items c.read_until.new.buf.items c.clear.ensures.items c.in_ok-read_until.ensures.bytes) some c.in-Err.ensures.stops
+    Progress-stop (g.R.Read.remaining c.args.input) c.loop-number.number c.loop-number.session (reader_remaining g.R.Read.remaining c.loop-number.reader) (g.W.Write.contents c.args.output.now) (g.W.Write.contents c.loop-number.output) (g.W.Write.contents c.answer.new.output) c.read_until.new.buf.items c.as_slice.result.now c.in-Err.stop
+    c.loop-number.invariant (all_read (reader_remaining g.R.Read.remaining c.loop-number.reader) c.clear.new.self.items c.read_until.new.buf.items c.clear.ensures.items c.in_ok-read_until.ensures.bytes) some (c.as_slice.ensures.value ∙ c.drop_line_feed.ensures) c.in-Err.ensures.stops
 
 pub loop-number-preserved : goal.loop-number-preserved
 loop-number-preserved g c =
