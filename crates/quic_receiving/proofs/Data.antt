@@ -1,16 +1,16 @@
 -- What a receive half holds follows from the frames that it kept and the chunks that it gave, whatever is called.
-use Rattle.std.proofs.Common.{◌≡◌, ◌⊎◌, inl, inr, ℕ, zero, suc, ◌+◌, ◌-◌, ◌<◌, ◌≤◌, Bool, true, false, not, ◌&&◌, ◌||◌, cond, List, [], ◌∷◌, length, slice_index, min, refl, sym, ap, ◌∙◌, ◌↔◌, arith, if◌then◌else◌}
+use Rattle.std.proofs.Common.{◌≡◌, ◌⊎◌, inl, inr, ℕ, zero, suc, ◌+◌, ◌-◌, ◌<◌, ◌≤◌, Bool, true, false, not, ◌&&◌, ◌||◌, cond, List, [], ◌∷◌, length, slice_index, refl, sym, ap, ◌∙◌, ◌↔◌, arith, if◌then◌else◌}
 use Rattle.std.proofs.lemmas.Bool.{cases_lt, false≢true}
 use Rattle.std.proofs.lemmas.Bool.Decides.{nat_tests}
-use Rattle.quic_assembler.specs.Piece.{lies, IsByteAt}
-use Rattle.quic_assembler.specs.Reassembly.{Reassembly, Holds, IsDone, is_done, IsHeld, IsWithin, fresh}
+use Rattle.quic_assembler.specs.Piece.{lies}
+use Rattle.quic_assembler.specs.Reassembly.{Reassembly, Holds, is_done, IsHeld, IsWithin, fresh}
 use Rattle.quic_assembler.specs.Laws.{done_below}
 use Rattle.quic_assembler.specs.declared.Chunk.{Chunk}
 use Rattle.quic_receiving.specs.Counted.{number}
 use Rattle.quic_receiving.specs.Data.{Slice, Carries, is_in, IsData, IsAllGiven}
 use Rattle.quic_receiving.specs.Calls.{Inserted, Given, Rests, Leaves}
 use Rattle.quic_receiving.proofs.Buffers.{in_both_modes}
-use Rattle.quic_receiving.proofs.Counted.{number-lies, number-bound, given_held, given_count, lies-low, lies-high}
+use Rattle.quic_receiving.proofs.Counted.{number-bound, given_held, given_count, lies-low, lies-high}
 
 or-left : (a b : Bool) → a ≡ true → (a || b) ≡ true
 or-left a b h = rw h refl

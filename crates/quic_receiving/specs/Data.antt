@@ -1,5 +1,5 @@
 -- What a receive half holds, by the frames that it kept and the chunks that it gave.
-use Rattle.std.specs.Prelude.{◌≡◌, ℕ, ◌+◌, ◌≤◌, ◌<◌, ◌⊎◌, ◌↔◌, Bool, true, false, ◌||◌, if◌then◌else◌, List, [], ◌∷◌, length}
+use Rattle.std.specs.Prelude.{◌≡◌, ℕ, ◌+◌, ◌≤◌, ◌<◌, ◌⊎◌, Bool, true, false, ◌||◌, if◌then◌else◌, List, [], ◌∷◌, length}
 use Rattle.quic_assembler.specs.Piece.{lies, IsByteAt}
 use Rattle.quic_assembler.specs.Reassembly.{Reassembly, Holds, is_done, IsHeld}
 use Rattle.quic_receiving.specs.Counted.{number}

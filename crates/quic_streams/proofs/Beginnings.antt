@@ -1,20 +1,20 @@
 -- Where a history begins.
-use Rattle.std.proofs.Common.{◌≡◌, ℕ, Bool, true, false, ◌||◌, ◌&&◌, not, cond, List, [], Option, Some, None, refl, sym, ap, ◌∙◌, subst, arith, ◌+◌, ◌*◌, ◌/◌, ◌%◌, ◌<◌, ◌≤◌, ◌^◌, zero, suc}
+use Rattle.std.proofs.Common.{◌≡◌, ℕ, Bool, true, false, ◌&&◌, not, cond, [], Some, None, refl, sym, ap, subst, arith, ◌/◌, ◌%◌, ◌<◌, ◌≤◌, ◌^◌, zero, suc}
 use Rattle.std.specs.Prelude.{nat_lt, nat_le, if◌then◌else◌, ◌==◌}
 use Rattle.std.proofs.lemmas.Bool.Decides.{nat_tests}
 use Rattle.quic_values.specs.declared.ids.Side.{Side}
 use Rattle.quic_values.specs.declared.ids.Side.TheVariants.{Client, Server}
 use Rattle.quic_values.specs.declared.ids.Dir.{Dir}
 use Rattle.quic_values.specs.declared.ids.Dir.TheVariants.{Bi, Uni}
-use Rattle.quic_values.specs.Ids.{stream_id, other_side, index_of, initiator_of}
+use Rattle.quic_values.specs.Ids.{stream_id, other_side, index_of}
 use Rattle.quic_limits.specs.Remote.{new_remote}
 use Rattle.quic_receiving.specs.Counted.{number}
-use Rattle.quic_receiving.specs.Half.{Half, new_half}
-use Rattle.quic_streams.specs.Halves.{Halves, is_among, with_first}
-use Rattle.quic_streams.specs.World.{World, start, refusal, is_own, is_same_side}
+use Rattle.quic_receiving.specs.Half.{new_half}
+use Rattle.quic_streams.specs.Halves.{is_among, with_first}
+use Rattle.quic_streams.specs.World.{World, start, is_same_side}
 use Rattle.quic_streams.proofs.Endings.{tells-ends}
 use Rattle.quic_streams.proofs.Remotes.{AllRemotes}
-use Rattle.quic_streams.specs.History.{StreamFrom, RemoteFrom, untouched, trace, IsStart, Facts, From}
+use Rattle.quic_streams.specs.History.{StreamFrom, RemoteFrom, untouched, trace, Facts, From}
 use Rattle.quic_streams.proofs.Refusals.{refusal_by, refusal-is}
 use Rattle.quic_streams.proofs.Credits.{credit-start}
 use Rattle.quic_streams.proofs.StreamSteps.{AllFrom, new-half-from}

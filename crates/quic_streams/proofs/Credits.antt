@@ -1,5 +1,5 @@
 -- The credit of a connection over its history.
-use Rattle.std.proofs.Common.{◌≡◌, ℕ, refl, sym, ap, ◌∙◌, arith, ◌+◌, ◌-◌, ◌≤◌, ◌<◌, ◌^◌, min}
+use Rattle.std.proofs.Common.{◌≡◌, ℕ, refl, arith, ◌+◌, ◌-◌, ◌≤◌, ◌<◌, ◌^◌}
 use Rattle.quic_limits.specs.Credit.{Credit, new_credit, credited, counted}
 use Rattle.quic_streams.specs.History.{CreditFrom}
 

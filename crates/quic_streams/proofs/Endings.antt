@@ -1,5 +1,5 @@
 -- A reported end means that every byte was given, over every history.
-use Rattle.std.proofs.Common.{◌≡◌, ℕ, Bool, true, false, ◌||◌, ◌&&◌, eqb, List, ◌∷◌, Option, Some, None, is_some, Result, Ok, Err, refl, sym, ap, ◌∙◌, ◌↔◌, subst, arith, ◌+◌, ◌≤◌, length}
+use Rattle.std.proofs.Common.{◌≡◌, ℕ, Bool, true, false, ◌||◌, ◌&&◌, List, ◌∷◌, Option, Some, None, is_some, Result, Ok, Err, refl, sym, ap, ◌∙◌, ◌↔◌, subst, arith, ◌≤◌}
 use Rattle.std.specs.Prelude.{if◌then◌else◌, ◌==◌}
 use Rattle.std.proofs.lemmas.Bool.Decides.{nat_tests}
 use Rattle.quic_assembler.specs.declared.chunk.Chunk.{Chunk}
@@ -10,10 +10,8 @@ use Rattle.quic_receiving.specs.declared.errors.ReadError.{ReadError}
 use Rattle.quic_receiving.specs.declared.errors.ReadError.TheVariants as read_error
 use Rattle.quic_receiving.proofs.Data.{all_given}
 use Rattle.quic_streams.specs.World.{World}
-use Rattle.quic_streams.specs.Reading.{ReadsHalf}
 use Rattle.quic_streams.specs.History.{Event, Received, ReceivedReset, AddedCredits, Began, Gave, Ended, Stopped, ToldReset, Step, Trace, HalfFrom, Facts, EndsSo, TellsEnds, trace, is_closed, is_kept, with_frame, with_reset, with_read, with_stop, with_told}
 use Rattle.quic_streams.proofs.Totals.{by_cases, same}
-use Rattle.quic_streams.proofs.Traces.{itself}
 use Rattle.quic_streams.proofs.StreamSteps.{half-from, known-from}
 
 or_false : (b c : Bool) → (b || c) ≡ false → c ≡ false

@@ -1,24 +1,24 @@
 -- A STREAM frame keeps what a history says.
-use Rattle.std.proofs.Common.{◌≡◌, ◌⊎◌, ℕ, Bool, true, false, ◌||◌, ◌&&◌, cond, eqb, List, ◌∷◌, length, Option, Some, None, is_some, Result, Ok, Err, max, refl, sym, ap, ◌∙◌, subst, inl, inr, arith, ◌+◌, ◌-◌, ◌/◌, ◌%◌, ◌≤◌}
+use Rattle.std.proofs.Common.{◌≡◌, ℕ, Bool, true, false, ◌||◌, ◌&&◌, eqb, List, ◌∷◌, length, Option, Some, None, is_some, Result, Ok, Err, max, refl, sym, ap, ◌∙◌, subst, inl, inr, arith, ◌+◌, ◌-◌, ◌/◌, ◌%◌, ◌≤◌}
 use Rattle.std.specs.Prelude.{nat_lt, nat_le, ◌^◌, if◌then◌else◌, ◌==◌}
 use Rattle.std.proofs.lemmas.Bool.Decides.{nat_tests}
 use Rattle.quic_wire.specs.declared.error.ReceiveError.{ReceiveError}
 use Rattle.quic_wire.specs.declared.error.ReceiveError.TheVariants as receive_error
-use Rattle.quic_receiving.specs.Half.{Half, Refused, Taken, Verdict, verdict, is_past, is_beyond, counted}
+use Rattle.quic_receiving.specs.Half.{Half, Refused, Taken, verdict, is_past, is_beyond, counted}
 use Rattle.quic_receiving.specs.Data.{IsData}
 use Rattle.quic_receiving.specs.Calls.{Inserted, Keeps, TakesFrame, Ingests}
 use Rattle.quic_receiving.proofs.Data.{data-inserted}
 use Rattle.quic_receiving.specs.declared.transmit.ShouldTransmit.{ShouldTransmit}
 use Rattle.quic_values.specs.Ids.{index_of}
-use Rattle.quic_streams.specs.World.{World, refusal, is_own, with_receive, with_counted, with_credit, advanced, noticed, freed}
-use Rattle.quic_streams.specs.Receiving.{IsDropped, Reaches, Receives, after_data}
-use Rattle.quic_streams.specs.History.{Event, Received, Trace, HalfFrom, StreamFrom, CreditFrom, Facts, trace, is_closed, is_kept, consumed, consumed_by, debt, received, frame_credit}
+use Rattle.quic_streams.specs.World.{World, refusal, is_own, with_receive, with_credit, advanced, noticed, freed}
+use Rattle.quic_streams.specs.Receiving.{IsDropped, Receives, after_data}
+use Rattle.quic_streams.specs.History.{Event, Received, Trace, HalfFrom, StreamFrom, CreditFrom, Facts, trace, is_closed, is_kept, consumed, consumed_by, debt, received}
 use Rattle.quic_streams.proofs.WorldSteps.{credit-with_receive, refusal-advanced, with_receive-back, with_counted-none}
 use Rattle.quic_streams.proofs.Refusals.{refusal_by, refusal-is}
 use Rattle.quic_streams.proofs.Totals.{by_cases, same}
 use Rattle.quic_streams.proofs.Credits.{credit-counted, credit-credited, credit-same}
 use Rattle.quic_streams.proofs.Traces.{itself, received-change}
-use Rattle.quic_streams.proofs.StreamSteps.{AllFrom, AllBut, all-told, half-from, gone-from, but-from, but-put, all-put, all-freed, all-noticed, credit-noticed, credit-freed}
+use Rattle.quic_streams.proofs.StreamSteps.{AllFrom, AllBut, all-told, half-from, but-from, but-put, all-put, all-freed, all-noticed, credit-noticed, credit-freed}
 
 -- what a frame that was kept leaves of a half
 pub record Grows (old new : Half) (offset : ℕ) (bytes : List ℕ) (fin : Bool) : Type 0 where

@@ -5,7 +5,7 @@ use Rattle.quic_receiving.specs.declared.errors.ReadError.{ReadError}
 use Rattle.quic_streams.specs.declared.reading.Progress.{Progress}
 use Rattle.quic_streams.specs.declared.reading.Progress.TheVariants as progress
 use Rattle.quic_streams.specs.Reading.{is_ended, ReadsHalf}
-use Rattle.quic_streams.specs.World.{World, with_credit}
+use Rattle.quic_streams.specs.World.{World}
 use Rattle.quic_streams.specs.History.{Event, Received, ReceivedReset, AddedCredits, Began, Gave, Ended, Stopped, ToldReset, Step, Fits, Facts, From, with_next, consumed, debt, received}
 use Rattle.quic_streams.proofs.Credits.{credit-credited}
 use Rattle.quic_streams.proofs.Endings.{kept-ends, tells-ends}

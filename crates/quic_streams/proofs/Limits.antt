@@ -1,5 +1,5 @@
 -- The limit of a connection never falls.
-use Rattle.std.proofs.Common.{◌≡◌, ◌⊎◌, ℕ, Bool, true, false, List, Option, Some, None, is_some, Result, Ok, Err, refl, sym, ap, ◌∙◌, subst, inl, inr, arith, ◌+◌, ◌-◌, ◌≤◌, ◌<◌, ◌^◌}
+use Rattle.std.proofs.Common.{◌≡◌, ℕ, Bool, true, false, List, Option, Some, None, is_some, Result, Ok, Err, refl, ap, ◌∙◌, inl, inr, arith, ◌-◌, ◌≤◌, ◌<◌, ◌^◌}
 use Rattle.std.specs.Prelude.{not, if◌then◌else◌, ◌==◌}
 use Rattle.quic_assembler.specs.declared.chunk.Chunk.{Chunk}
 use Rattle.quic_wire.specs.declared.error.ReceiveError.{ReceiveError}
@@ -14,8 +14,8 @@ use Rattle.quic_receiving.specs.declared.errors.HandleError.{HandleError}
 use Rattle.quic_receiving.specs.declared.errors.HandleError.TheVariants as handle_error
 use Rattle.quic_streams.specs.Pending.{Pending}
 use Rattle.quic_streams.specs.World.{World, with_receive, with_credit, advanced, noticed, freed}
-use Rattle.quic_streams.specs.Receiving.{Receives, ReceivesReset, after_data, after_reset, with_rest, credited_to}
-use Rattle.quic_streams.specs.Reading.{Begins, ReadsHalf, Stops, TellsReset, after_read, after_stop}
+use Rattle.quic_streams.specs.Receiving.{Receives, ReceivesReset, after_data, after_reset, credited_to}
+use Rattle.quic_streams.specs.Reading.{Begins, Stops, TellsReset, after_read, after_stop}
 use Rattle.quic_streams.specs.History.{Event, Received, ReceivedReset, AddedCredits, Began, Gave, Ended, Stopped, ToldReset, Step, Facts}
 use Rattle.quic_streams.proofs.WorldSteps.{credit-with_receive}
 use Rattle.quic_streams.proofs.StreamSteps.{credit-noticed, credit-freed}

@@ -1,14 +1,13 @@
 -- Reads, stops, and what is told of resets keep what a history says.
-use Rattle.std.proofs.Common.{◌≡◌, ◌⊎◌, ℕ, Bool, true, false, eqb, List, length, ◌∷◌, Option, Some, None, is_some, is_none, Result, Ok, Err, refl, sym, ap, ◌∙◌, inl, inr, arith, ◌+◌, ◌-◌}
+use Rattle.std.proofs.Common.{◌≡◌, ℕ, Bool, true, false, eqb, List, length, ◌∷◌, Option, Some, None, is_some, is_none, Result, Ok, Err, refl, sym, ap, ◌∙◌, inl, inr, arith, ◌+◌, ◌-◌}
 use Rattle.std.specs.Prelude.{if◌then◌else◌}
 use Rattle.quic_assembler.specs.declared.chunk.Chunk.{Chunk}
 use Rattle.quic_assembler.specs.declared.errors.EnsureError.{EnsureError}
 use Rattle.quic_assembler.specs.declared.errors.EnsureError.TheVariants as ensure_error
-use Rattle.quic_assembler.specs.Reassembly.{Reassembly}
 use Rattle.quic_limits.specs.Credit.{credited}
 use Rattle.quic_receiving.specs.Half.{Half, stop_credit}
 use Rattle.quic_receiving.specs.Data.{IsData}
-use Rattle.quic_receiving.specs.Calls.{Orders, Reads, Given, Rests, Waits}
+use Rattle.quic_receiving.specs.Calls.{Orders, Given, Rests}
 use Rattle.quic_receiving.proofs.Data.{data-rests, data-leaves, data-given}
 use Rattle.quic_receiving.specs.declared.errors.ReadError.{ReadError}
 use Rattle.quic_receiving.specs.declared.errors.ReadError.TheVariants as read_error
@@ -25,7 +24,7 @@ use Rattle.quic_streams.proofs.WorldSteps.{credit-with_receive}
 use Rattle.quic_streams.proofs.Totals.{by_cases}
 use Rattle.quic_streams.proofs.Credits.{credit-credited, credit-same}
 use Rattle.quic_streams.proofs.Traces.{itself, high-gave, received-same}
-use Rattle.quic_streams.proofs.StreamSteps.{AllFrom, all-told, half-from, known-from, but-from, all-put, all-freed, credit-freed}
+use Rattle.quic_streams.proofs.StreamSteps.{all-told, half-from, known-from, but-from, all-put, all-freed, credit-freed}
 use Rattle.quic_streams.proofs.FrameHistory.{facts-at, when}
 
 -- ---- a call that receives nothing and gives no credit

@@ -1,5 +1,5 @@
 -- Each call keeps what a history says of how many streams the peer may open.
-use Rattle.std.proofs.Common.{◌≡◌, ◌⊎◌, ℕ, Bool, true, false, ◌||◌, ◌&&◌, eqb, List, ◌∷◌, length, Option, Some, None, is_some, Result, Ok, Err, refl, sym, ap, ◌∙◌, subst, inl, inr, arith, ◌+◌, ◌-◌}
+use Rattle.std.proofs.Common.{◌≡◌, ℕ, Bool, true, false, ◌&&◌, eqb, List, ◌∷◌, length, Option, Some, None, is_some, Result, Ok, Err, refl, sym, ap, ◌∙◌, subst, inl, inr, ◌-◌}
 use Rattle.std.specs.Prelude.{not, ◌==◌, if◌then◌else◌}
 use Rattle.quic_values.specs.declared.ids.Dir.{Dir}
 use Rattle.quic_values.specs.declared.ids.Dir.TheVariants.{Bi, Uni}
@@ -18,10 +18,10 @@ use Rattle.quic_receiving.specs.declared.errors.HandleError.{HandleError}
 use Rattle.quic_receiving.specs.declared.errors.HandleError.TheVariants as handle_error
 use Rattle.quic_streams.specs.Pending.{Pending}
 use Rattle.quic_streams.specs.World.{World, refusal, remote_of, with_receive, with_credit, advanced, noticed, freed}
-use Rattle.quic_streams.specs.Receiving.{Receives, ReceivesReset, after_data, after_reset, credited_to}
+use Rattle.quic_streams.specs.Receiving.{Receives, ReceivesReset, after_reset, credited_to}
 use Rattle.quic_streams.specs.Reading.{Begins, ReadsHalf, Stops, TellsReset, after_stop}
 use Rattle.quic_streams.specs.History.{Event, Received, ReceivedReset, AddedCredits, Began, Gave, Ended, Stopped, ToldReset, Step, Trace, HalfFrom, untouched, trace, is_closed, is_kept, with_read, Facts}
-use Rattle.quic_streams.proofs.WorldSteps.{refusal-with_receive, refusal-advanced}
+use Rattle.quic_streams.proofs.WorldSteps.{refusal-advanced}
 use Rattle.quic_streams.proofs.Refusals.{refusal-next}
 use Rattle.quic_streams.proofs.Totals.{by_cases, same}
 use Rattle.quic_streams.proofs.Traces.{itself}

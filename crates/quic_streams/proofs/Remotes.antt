@@ -1,5 +1,5 @@
 -- How many streams the peer may open, over histories.
-use Rattle.std.proofs.Common.{◌≡◌, ◌⊎◌, ℕ, zero, suc, add-one, Bool, true, false, ◌||◌, ◌&&◌, not, cond, eqb, min, List, Option, Some, None, refl, sym, ap, ◌∙◌, subst, inl, inr, arith, ◌+◌, ◌-◌, ◌/◌, ◌%◌, ◌≤◌, ◌<◌}
+use Rattle.std.proofs.Common.{◌≡◌, ◌⊎◌, ℕ, zero, suc, add-one, Bool, true, false, ◌&&◌, not, eqb, Option, Some, None, refl, sym, ap, ◌∙◌, inl, inr, arith, ◌+◌, ◌-◌, ◌/◌, ◌%◌, ◌≤◌, ◌<◌}
 use Rattle.std.specs.Prelude.{◌==◌, ◌^◌, nat_le, nat_lt, if◌then◌else◌}
 use Rattle.std.proofs.lemmas.Bool.{cases_lt}
 use Rattle.std.proofs.lemmas.Bool.Decides.{nat_tests}
@@ -7,14 +7,14 @@ use Rattle.quic_values.specs.declared.ids.Side.{Side}
 use Rattle.quic_values.specs.declared.ids.Side.TheVariants.{Client, Server}
 use Rattle.quic_values.specs.declared.ids.Dir.{Dir}
 use Rattle.quic_values.specs.declared.ids.Dir.TheVariants.{Bi, Uni}
-use Rattle.quic_values.specs.Ids.{stream_id, other_side, initiator_of, dir_of, index_of}
+use Rattle.quic_values.specs.Ids.{stream_id, other_side, dir_of, index_of}
 use Rattle.quic_wire.specs.declared.error.TheConstants.TransportError.{STREAM_LIMIT_ERROR}
 use Rattle.quic_limits.specs.Remote as remote
 use Rattle.quic_limits.specs.Remote.{Remote}
 use Rattle.quic_receiving.specs.Counted.{number}
 use Rattle.quic_receiving.specs.Half.{Half}
 use Rattle.quic_streams.specs.Sends.{with_send}
-use Rattle.quic_streams.specs.World.{World, refusal, own_refusal, is_own, is_same_side, remote_of, with_remote, with_receive, permitted, permitted_if, replaced_in, released, freed, told_readable, noticed}
+use Rattle.quic_streams.specs.World.{World, refusal, own_refusal, is_own, is_same_side, remote_of, with_remote, with_receive, permitted_if, replaced_in, released, freed, told_readable, noticed}
 use Rattle.quic_streams.specs.History.{Trace, RemoteFrom, is_freed}
 use Rattle.quic_streams.proofs.Totals.{by_cases, same}
 use Rattle.quic_streams.proofs.Refusals.{own-other}

@@ -1,5 +1,5 @@
 -- A RESET_STREAM frame keeps what a history says.
-use Rattle.std.proofs.Common.{◌≡◌, ◌⊎◌, ℕ, Bool, true, false, ◌||◌, eqb, List, ◌∷◌, Option, Some, None, is_some, Result, Ok, Err, refl, sym, ap, ◌∙◌, inl, inr, arith, ◌+◌, ◌-◌, ◌≤◌}
+use Rattle.std.proofs.Common.{◌≡◌, ℕ, Bool, true, false, ◌||◌, eqb, List, ◌∷◌, Option, Some, None, is_some, Result, Ok, Err, refl, sym, ap, ◌∙◌, inl, inr, arith, ◌+◌, ◌-◌, ◌≤◌}
 use Rattle.std.specs.Prelude.{not, if◌then◌else◌, ◌==◌}
 use Rattle.std.proofs.lemmas.Bool.Decides.{nat_tests}
 use Rattle.quic_wire.specs.declared.error.ReceiveError.{ReceiveError}
@@ -7,9 +7,9 @@ use Rattle.quic_wire.specs.declared.error.ReceiveError.TheVariants as receive_er
 use Rattle.quic_receiving.specs.Half.{Half, Refused, Taken, reset_verdict, is_unfit, is_beyond}
 use Rattle.quic_receiving.specs.Calls.{Clears}
 use Rattle.quic_receiving.specs.declared.transmit.ShouldTransmit.{ShouldTransmit}
-use Rattle.quic_streams.specs.World.{World, refusal, with_receive, with_credit, advanced, noticed, freed}
-use Rattle.quic_streams.specs.Receiving.{ReceivesReset, ResetReaches, after_reset, with_rest, credited_to}
-use Rattle.quic_streams.specs.History.{Event, ReceivedReset, Trace, HalfFrom, StreamFrom, CreditFrom, Facts, trace, is_closed, with_reset, consumed, consumed_by, debt, received, reset_credit}
+use Rattle.quic_streams.specs.World.{World, refusal, with_credit, advanced, noticed, freed}
+use Rattle.quic_streams.specs.Receiving.{ReceivesReset, after_reset, with_rest, credited_to}
+use Rattle.quic_streams.specs.History.{Event, ReceivedReset, Trace, HalfFrom, CreditFrom, Facts, trace, is_closed, consumed, consumed_by, debt, received}
 use Rattle.quic_streams.proofs.WorldSteps.{credit-with_receive, refusal-advanced}
 use Rattle.quic_streams.proofs.Totals.{by_cases, same}
 use Rattle.quic_streams.proofs.Credits.{credit-counted, credit-credited, credit-same}

@@ -1,15 +1,13 @@
 -- What is told of each stream stays true at each step.
-use Rattle.std.proofs.Common.{◌≡◌, ℕ, Bool, true, false, cond, eqb, Option, Some, None, refl, sym, ap, ◌∙◌, subst, arith, ◌+◌, is_some}
-use Rattle.std.specs.Prelude.{◌==◌, nat_le, if◌then◌else◌}
-use Rattle.std.proofs.lemmas.Bool.Decides.{nat_tests}
+use Rattle.std.proofs.Common.{◌≡◌, ℕ, Bool, true, false, cond, eqb, Option, Some, None, refl, sym, ap, ◌∙◌, subst, arith, ◌+◌}
+use Rattle.std.specs.Prelude.{nat_le, if◌then◌else◌}
 use Rattle.quic_values.specs.declared.ids.Dir.{Dir}
 use Rattle.quic_values.specs.declared.ids.Dir.TheVariants.{Bi, Uni}
 use Rattle.quic_values.specs.Ids.{stream_id, other_side, dir_of, index_of}
-use Rattle.quic_wire.specs.declared.event.StreamEvent.{StreamEvent}
 use Rattle.quic_limits.specs.Remote as remote
 use Rattle.quic_limits.specs.Remote.{Remote}
 use Rattle.quic_receiving.specs.Half.{Half, new_half}
-use Rattle.quic_streams.specs.Halves.{Halves, with_half}
+use Rattle.quic_streams.specs.Halves.{with_half}
 use Rattle.quic_streams.specs.World.{World, refusal, is_own, remote_of, with_remote, with_receive, permitted, permitted_if, replaced_in, released, freed, told_readable, noticed}
 use Rattle.quic_receiving.proofs.Data.{data-fresh}
 use Rattle.quic_streams.specs.History.{Trace, untouched, HalfFrom, StreamFrom}

@@ -1,4 +1,4 @@
-use Rattle.std.proofs.Common.{rules, sym, ap, ◌∙◌, arith, Some}
+use Rattle.std.proofs.Common.{sym, ap, ◌∙◌, arith, Some}
 use Rattle.quic_values.specs.Ids.{stream_id}
 use Rattle.quic_receiving.specs.Half.{new_half}
 use Rattle.quic_streams.specs.Halves.{held, with_half}

@@ -1,4 +1,4 @@
-use Rattle.std.proofs.Common.{rules, sym, ap, ◌∙◌, arith, true}
+use Rattle.std.proofs.Common.{sym, ap, ◌∙◌, arith, true}
 use Rattle.quic_values.specs.Ids.{stream_id}
 use Rattle.quic_streams.specs.Sends.{sending, with_send}
 use Rattle.quic_streams.proofs.FirstStreams.{first_sends-none, first_sends-more}

@@ -1,5 +1,5 @@
 use Rattle.std.proofs.Common.{ap}
-use Rattle.quic_streams.specs.World.{World, shown}
+use Rattle.quic_streams.specs.World.{shown}
 use Rattle.quic_streams.specs.History.{AddedCredits}
 use Rattle.quic_streams.proofs.Histories.{next}
 use Rattle.quic_streams.proofs.state.StreamsState.add_read_credits.Goals as goal

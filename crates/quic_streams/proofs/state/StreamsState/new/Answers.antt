@@ -1,4 +1,4 @@
-use Rattle.std.proofs.Common.{rules, ◌≡◌, ◌<◌, ◌^◌, arith}
+use Rattle.std.proofs.Common.{rules, ◌≡◌, ◌<◌, ◌^◌}
 use Rattle.quic_streams.specs.World.{World, shown, start}
 use Rattle.quic_streams.proofs.Beginnings.{begins}
 use Rattle.quic_streams.proofs.state.StreamsState.new.Goals as goal
