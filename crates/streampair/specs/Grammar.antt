@@ -49,7 +49,7 @@ step_fields (steps.AckStream payload index) = codes "ack-stream" ∷ decimal pay
 step_fields (steps.LoseControl payload) = codes "lose-control" ∷ decimal payload ∷ []
 step_fields (steps.AckControl payload) = codes "ack-control" ∷ decimal payload ∷ []
 
--- the numbers of a step lie in the ranges that its fields have, and chunks are one or more
+-- the numbers of a step lie in the ranges of its fields: a read asks for 1 to 65535 chunks, a limit of streams is at most 2^60, and chunks to write are one or more
 abbrev pub IsInRange : Step → Type 0
 IsInRange (steps.Open who dir) = Unit {0}
 IsInRange (steps.Accept who dir) = Unit {0}

@@ -35,6 +35,7 @@ pub enum Verb {
     AckControl,
 }
 
+// The verb that the first field of a step is.
 fn read_verb(field: &str) -> Result<Verb, LineError>
     ensures text { IfOk result (λ verb. field.now ≡ verb_text verb) }
     ensures none { IfErr result (λ error. (verb : Verb) → field.now ≡ verb_text verb → ⊥) }
