@@ -11,7 +11,7 @@ use Rattle.std.proofs.lemmas.List.Sorted.{Contains-permutation, sum_by-IsPermuta
 use Rattle.std.proofs.lemmas.List.Sums.{sum_by-cons}
 use Rattle.std.proofs.lemmas.Bool.{cases_lt}
 use Rattle.std.proofs.lemmas.Bool.Decides.{nat_tests}
-use Rattle.quic_assembler.specs.Piece.{Run, Covers, covers, cover_count, bit, lies, run_end}
+use Rattle.quic_assembler.specs.Piece.{PieceView, Covers, covers, cover_count, bit, lies, run_end}
 use Rattle.quic_assembler.specs.Compact.{with_run}
 use Rattle.quic_assembler.specs.Reassembly.{tally}
 
@@ -76,32 +76,32 @@ bit-le-one true = omega arith
 bit-le-one false = omega arith
 
 -- an offset is covered where the count is not zero
-pub count_of_any : (at : ℕ) (xs : List Run) → Any (Covers at) xs → 0 < cover_count at xs
+pub count_of_any : (at : ℕ) (xs : List PieceView) → Any (Covers at) xs → 0 < cover_count at xs
 count_of_any at [] a = absurd (Any-nil (Covers at) a)
 count_of_any at (x ∷ xs) a = elim (Any-cons _ _ _ a) [
   | inl p ↦ omega (arith, lies_in x.offset (run_end x) at p.0 p.1)
   | inr b ↦ omega (arith, count_of_any at xs b)
 ]
 
-pub any_of_count : (at : ℕ) (xs : List Run) → 0 < cover_count at xs → Any (Covers at) xs
+pub any_of_count : (at : ℕ) (xs : List PieceView) → 0 < cover_count at xs → Any (Covers at) xs
 any_of_count at [] l = absurd (omega (arith, l))
 any_of_count at (x ∷ xs) l = elim (cases_lt 0 (covers at x)) [
   | inl m ↦ Any-here _ _ _ (lies_of_bit x.offset (run_end x) at m)
   | inr m ↦ Any-there _ _ _ (any_of_count at xs (omega arith))
 ]
 
-count-sum : (at : ℕ) (xs : List Run) → cover_count at xs ≡ sum_by (covers at) xs
+count-sum : (at : ℕ) (xs : List PieceView) → cover_count at xs ≡ sum_by (covers at) xs
 count-sum at [] = refl
 count-sum at (x ∷ xs) = ap (λ n. covers at x + n) (count-sum at xs) ∙ sym (sum_by-cons (covers at) x xs)
 
-pub count_permuted : (at : ℕ) (xs ys : List Run) → IsPermutation xs ys → cover_count at ys ≡ cover_count at xs
+pub count_permuted : (at : ℕ) (xs ys : List PieceView) → IsPermutation xs ys → cover_count at ys ≡ cover_count at xs
 count_permuted at xs ys h = count-sum at ys ∙ sum_by-IsPermutation (covers at) xs ys h ∙ sym (count-sum at xs)
 
-pub count-append : (at : ℕ) (xs ys : List Run) → cover_count at (xs ++ ys) ≡ cover_count at xs + cover_count at ys
+pub count-append : (at : ℕ) (xs ys : List PieceView) → cover_count at (xs ++ ys) ≡ cover_count at xs + cover_count at ys
 count-append at [] ys = omega arith
 count-append at (x ∷ xs) ys = omega (arith, count-append at xs ys)
 
-pub no_count : (at : ℕ) (xs : List Run) → length xs ≡ 0 → cover_count at xs ≡ 0
+pub no_count : (at : ℕ) (xs : List PieceView) → length xs ≡ 0 → cover_count at xs ≡ 0
 no_count at [] e = refl
 no_count at (x ∷ xs) e = absurd (omega arith)
 
@@ -112,43 +112,43 @@ none_of_test n e = grind (arith, nat_tests)
 some_of_test : (n : ℕ) → nat_lt 0 n ≡ true → 0 < n
 some_of_test n e = grind (arith, nat_tests)
 
-covers_empty : (at : ℕ) (r : Run) → length r.bytes ≡ 0 → covers at r ≡ 0
+covers_empty : (at : ℕ) (r : PieceView) → length r.bytes ≡ 0 → covers at r ≡ 0
 covers_empty at r e = elim (cases_lt at r.offset) [
   | inl l ↦ lies_below r.offset (run_end r) at l
   | inr l ↦ lies_above r.offset (run_end r) at (omega arith)
 ]
 
-with_run_count_at : (at : ℕ) (r : Run) (rs : List Run) (b : Bool) → nat_lt 0 (length r.bytes) ≡ b → cover_count at (cond b (r ∷ rs) rs) ≡ cover_count at (r ∷ rs)
+with_run_count_at : (at : ℕ) (r : PieceView) (rs : List PieceView) (b : Bool) → nat_lt 0 (length r.bytes) ≡ b → cover_count at (cond b (r ∷ rs) rs) ≡ cover_count at (r ∷ rs)
 with_run_count_at at r rs true e = refl
 with_run_count_at at r rs false e = omega (arith, covers_empty at r (none_of_test (length r.bytes) e))
 
-pub with_run_pushed : (r : Run) (rs ys : List Run) → 0 < length r.bytes → ys ≡ rs ++ r ∷ [] → IsPermutation (with_run r rs) ys
+pub with_run_pushed : (r : PieceView) (rs ys : List PieceView) → 0 < length r.bytes → ys ≡ rs ++ r ∷ [] → IsPermutation (with_run r rs) ys
 with_run_pushed r rs ys l e =
     let t : nat_lt 0 (length r.bytes) ≡ true = grind (arith, nat_tests) in
     rw (t, e) (IsPermutation-sym _ _ (IsPermutation-to_front rs r))
 
-pub with_run_count : (at : ℕ) (r : Run) (rs : List Run) → cover_count at (with_run r rs) ≡ cover_count at (r ∷ rs)
+pub with_run_count : (at : ℕ) (r : PieceView) (rs : List PieceView) → cover_count at (with_run r rs) ≡ cover_count at (r ∷ rs)
 with_run_count at r rs = with_run_count_at at r rs (nat_lt 0 (length r.bytes)) refl
 
-any_with_run_at : (P : Run → Type 0) (r : Run) (rs : List Run) (b : Bool) → Any P (cond b (r ∷ rs) rs) → Any P (r ∷ rs)
+any_with_run_at : (P : PieceView → Type 0) (r : PieceView) (rs : List PieceView) (b : Bool) → Any P (cond b (r ∷ rs) rs) → Any P (r ∷ rs)
 any_with_run_at P r rs true a = a
 any_with_run_at P r rs false a = Any-there P r rs a
 
-pub any_with_run : (P : Run → Type 0) (r : Run) (rs : List Run) → Any P (with_run r rs) → Any P (r ∷ rs)
+pub any_with_run : (P : PieceView → Type 0) (r : PieceView) (rs : List PieceView) → Any P (with_run r rs) → Any P (r ∷ rs)
 any_with_run P r rs a = any_with_run_at P r rs (nat_lt 0 (length r.bytes)) a
 
-with_run_length_at : (r : Run) (rs : List Run) (b : Bool) → nat_lt 0 (length r.bytes) ≡ b → length (cond b (r ∷ rs) rs) ≡ length rs + min 1 (length r.bytes)
+with_run_length_at : (r : PieceView) (rs : List PieceView) (b : Bool) → nat_lt 0 (length r.bytes) ≡ b → length (cond b (r ∷ rs) rs) ≡ length rs + min 1 (length r.bytes)
 with_run_length_at r rs true e = omega (arith, some_of_test (length r.bytes) e)
 with_run_length_at r rs false e = omega (arith, none_of_test (length r.bytes) e)
 
-pub with_run_length : (r : Run) (rs : List Run) → length (with_run r rs) ≡ length rs + min 1 (length r.bytes)
+pub with_run_length : (r : PieceView) (rs : List PieceView) → length (with_run r rs) ≡ length rs + min 1 (length r.bytes)
 with_run_length r rs = with_run_length_at r rs (nat_lt 0 (length r.bytes)) refl
 
-all_with_run_at : (P : Run → Type 0) (r : Run) (rs : List Run) (b : Bool) → nat_lt 0 (length r.bytes) ≡ b → (0 < length r.bytes → P r) → All P rs → All P (cond b (r ∷ rs) rs)
+all_with_run_at : (P : PieceView → Type 0) (r : PieceView) (rs : List PieceView) (b : Bool) → nat_lt 0 (length r.bytes) ≡ b → (0 < length r.bytes → P r) → All P rs → All P (cond b (r ∷ rs) rs)
 all_with_run_at P r rs true e p all = All-cons P r rs (p (some_of_test (length r.bytes) e)) all
 all_with_run_at P r rs false e p all = all
 
-pub all_with_run : (P : Run → Type 0) (r : Run) (rs : List Run) → (0 < length r.bytes → P r) → All P rs → All P (with_run r rs)
+pub all_with_run : (P : PieceView → Type 0) (r : PieceView) (rs : List PieceView) → (0 < length r.bytes → P r) → All P rs → All P (with_run r rs)
 all_with_run P r rs p all = all_with_run_at P r rs (nat_lt 0 (length r.bytes)) refl p all
 
 -- sums below a number

@@ -9,7 +9,7 @@ use Rattle.std.proofs.lemmas.Bool.Decides.{nat_tests}
 use Rattle.std.proofs.lemmas.Grind.{common_steps}
 use Rattle.quic_values.specs.Runs.{contains, Run as Range}
 use Rattle.quic_assembler.specs.Compact.{with_run}
-use Rattle.quic_assembler.specs.Piece.{Run, RunHolds, IsSome, KeepsAlive, run_length, run_allocation, HoldsSame, covers, cover_count, bit, lies, run_end, cut_at}
+use Rattle.quic_assembler.specs.Piece.{PieceView, RunHolds, IsSome, KeepsAlive, run_length, run_allocation, HoldsSame, covers, cover_count, bit, lies, run_end, cut_at}
 use Rattle.quic_assembler.specs.Reassembly.{IsCut, TakesFront, TakesFresh, NoneReceived, run_count, fresh_count, starts_run}
 use Rattle.quic_assembler.proofs.Runs.{RunHolds-uncut, covers_from_holds}
 use Rattle.quic_assembler.proofs.Counts.{Any-cons, Any-nil, Any-append, Any-permutation, Any-unpush, any_with_run, with_run_count, with_run_length, count-append, count_permuted, lies_in, lies_below, lies_above, count_of_any}
@@ -84,7 +84,7 @@ bit_of_fresh false b h = absurd (omega arith)
 lies_none : (low high at : ℕ) → high ≤ low → bit (lies low high at) ≡ 0
 lies_none low high at l = elim (cases_lt at low) [ inl m ↦ lies_below low high at m | inr m ↦ lies_above low high at (omega arith) ]
 
-pub fronts_none : (start : ℕ) (rest : Run) (fronts : List Run) → rest.offset ≡ start → TakesFront start rest rest fronts fronts
+pub fronts_none : (start : ℕ) (rest : PieceView) (fronts : List PieceView) → rest.offset ≡ start → TakesFront start rest rest fronts fronts
 fronts_none start rest fronts e = record {
   same = record { offset = omega arith; bytes = (let z : start - rest.offset ≡ 0 = omega arith in rw z refl) };
   count = λ at. omega (arith, lies_none rest.offset start at (omega arith));
@@ -99,7 +99,7 @@ fronts_none start rest fronts e = record {
 front_holds : (at byte offset n : ℕ) (bytes : List ℕ) → n ≤ length bytes → RunHolds at byte (record { offset = offset; bytes = take n bytes; allocation_size = 0; compact = true; sequence = 0 }) → RunHolds at byte (record { offset = offset; bytes = bytes; allocation_size = 0; compact = true; sequence = 0 })
 front_holds at byte offset n bytes l h = grind (arith, common_steps, get_or-take, length-take)
 
-pub fronts_split : (start : ℕ) (rest mid front : Run) (fronts next : List Run) → rest.offset < start → start ≤ run_end rest → HoldsSame (cut_at start rest) mid → front.offset ≡ rest.offset → front.bytes ≡ take (start - rest.offset) rest.bytes → front.allocation_size ≡ rest.allocation_size → mid.allocation_size ≡ rest.allocation_size → next ≡ fronts ++ front ∷ [] → TakesFront start rest mid fronts next
+pub fronts_split : (start : ℕ) (rest mid front : PieceView) (fronts next : List PieceView) → rest.offset < start → start ≤ run_end rest → HoldsSame (cut_at start rest) mid → front.offset ≡ rest.offset → front.bytes ≡ take (start - rest.offset) rest.bytes → front.allocation_size ≡ rest.allocation_size → mid.allocation_size ≡ rest.allocation_size → next ≡ fronts ++ front ∷ [] → TakesFront start rest mid fronts next
 fronts_split start rest mid front fronts next l m s o b f g e =
     let len : length front.bytes ≡ start - rest.offset = rw (b, length-take) (omega arith) in
     let stop : run_end front ≡ start = omega arith in
@@ -118,10 +118,10 @@ fronts_split start rest mid front fronts next l m s o b f g e =
     }
 
 -- a range that was received is cut out
-rest_end : (received : List Range) (whole rest : Run) (fronts : List Run) → IsCut received whole rest fronts → run_end rest ≡ run_end whole
+rest_end : (received : List Range) (whole rest : PieceView) (fronts : List PieceView) → IsCut received whole rest fronts → run_end rest ≡ run_end whole
 rest_end received whole rest fronts c = rw (c.same.bytes, length-drop) (omega (arith, c.from, c.to))
 
-rest_bytes : (end : ℕ) (whole rest mid next : Run) (start : ℕ) → whole.offset ≤ rest.offset → rest.offset ≤ start → start ≤ end → HoldsSame (cut_at rest.offset whole) rest → HoldsSame (cut_at start rest) mid → next ≡ cut_at end mid → (next.offset ≡ end) × (next.bytes ≡ drop (end - whole.offset) whole.bytes)
+rest_bytes : (end : ℕ) (whole rest mid next : PieceView) (start : ℕ) → whole.offset ≤ rest.offset → rest.offset ≤ start → start ≤ end → HoldsSame (cut_at rest.offset whole) rest → HoldsSame (cut_at start rest) mid → next ≡ cut_at end mid → (next.offset ≡ end) × (next.bytes ≡ drop (end - whole.offset) whole.bytes)
 rest_bytes end whole rest mid next start a b d r m e =
     let n : (rest.offset - whole.offset) + ((start - rest.offset) + (end - mid.offset)) ≡ end - whole.offset = omega (arith, m.offset) in
     ((rw e (omega (arith, m.offset))), (rw (e, m.bytes, r.bytes) (rw (drop-drop, drop-drop) (ap (λ k. drop k whole.bytes) n))))
@@ -151,7 +151,7 @@ cut_fresh : (received : List Range) (low r start end : ℕ) → low ≤ r → r 
 cut_fresh received low r start end a b d fresh old =
     omega (arith, fresh_count-all (contains received) low (r - low) (start - low) (omega arith) (λ k l m. fresh k (omega arith) (omega arith)), fresh_count-done (contains received) low (start - low) (end - low) (omega arith) (λ k l m. old k (omega arith) (omega arith)))
 
-pub cut_step : (received : List Range) (whole rest mid next : Run) (fronts more : List Run) (start end : ℕ) → IsCut received whole rest fronts → TakesFront start rest mid fronts more → next ≡ cut_at end mid → rest.offset ≤ start → start < end → end ≤ run_end rest → ((k : ℕ) → rest.offset ≤ k → k < start → contains received k ≡ false) → ((k : ℕ) → start ≤ k → k < end → contains received k ≡ true) → IsCut received whole next more
+pub cut_step : (received : List Range) (whole rest mid next : PieceView) (fronts more : List PieceView) (start end : ℕ) → IsCut received whole rest fronts → TakesFront start rest mid fronts more → next ≡ cut_at end mid → rest.offset ≤ start → start < end → end ≤ run_end rest → ((k : ℕ) → rest.offset ≤ k → k < start → contains received k ≡ false) → ((k : ℕ) → start ≤ k → k < end → contains received k ≡ true) → IsCut received whole next more
 cut_step received whole rest mid next fronts more start end c f e l m n fresh old =
     let stop = rest_end received whole rest fronts c in
     let place = rest_bytes end whole rest mid next start c.from l (omega arith) c.same f.same e in
@@ -173,7 +173,7 @@ cut_step received whole rest mid next fronts more start end c f e l m n fresh ol
     }
 
 -- all that was received is cut out
-pub cut_none : (received : List Range) (whole : Run) → IsCut received whole whole []
+pub cut_none : (received : List Range) (whole : PieceView) → IsCut received whole whole []
 cut_none received whole = record {
   from = omega arith;
   to = omega arith;
@@ -209,10 +209,10 @@ rest_fresh : (received : List Range) (low r end : ℕ) → low ≤ r → r ≤ e
 rest_fresh received low r end a b none = omega (arith, fresh_count-all (contains received) low (r - low) (end - low) (omega arith) (λ k l m. none k (omega arith) (omega arith)))
 
 -- what is left of a run is held
-sums_joined : (f : Run → ℕ) (fronts xs ms ys zs : List Run) → IsPermutation (fronts ++ xs) ms → IsPermutation zs ys → (sum_by f ms ≡ sum_by f fronts + sum_by f xs) × (sum_by f ys ≡ sum_by f zs)
+sums_joined : (f : PieceView → ℕ) (fronts xs ms ys zs : List PieceView) → IsPermutation (fronts ++ xs) ms → IsPermutation zs ys → (sum_by f ms ≡ sum_by f fronts + sum_by f xs) × (sum_by f ys ≡ sum_by f zs)
 sums_joined f fronts xs ms ys zs p q = (sum_by-IsPermutation f (fronts ++ xs) ms p ∙ sum_by-append f fronts xs, sum_by-IsPermutation f zs ys q)
 
-pub takes_fresh : (received : List Range) (whole rest : Run) (fronts xs ms ys : List Run) → IsCut received whole rest fronts → NoneReceived received rest
+pub takes_fresh : (received : List Range) (whole rest : PieceView) (fronts xs ms ys : List PieceView) → IsCut received whole rest fronts → NoneReceived received rest
     → IsPermutation (fronts ++ xs) ms → IsPermutation (with_run rest ms) ys → TakesFresh received whole xs ys
 takes_fresh received whole rest fronts xs ms ys c none p q =
     let stop = rest_end received whole rest fronts c in

@@ -13,18 +13,18 @@ use Rattle.std.proofs.Common.{Ok, Err}
 use Rattle.std.proofs.lemmas.List.{take_more}
 use Rattle.quic_assembler.specs.declared.chunk.Chunk.{Chunk}
 use Rattle.quic_assembler.specs.Reassembly.{IsHeld, IsWithin, HoldsNothing}
-use Rattle.quic_assembler.specs.Steps.{State, IsDoneIn, Reads, Stays, Leaves, TakesStep, Replays, Carries, IsCarriedBy, AreApart, Follows, ordered_steps, later_steps, IsGapless, IsReplay, Refuses}
+use Rattle.quic_assembler.specs.Steps.{State, IsDoneIn, ReadsChunk, Stays, LeavesMode, TakesOp, Replays, StepCarries, IsCarriedBy, AreApart, Follows, ordered_steps, later_steps, IsGapless, IsReplay, RefusesStep}
 use Rattle.quic_assembler.proofs.Counts.{Any-nil, Any-unpush}
 
 -- one more step
-pub replays_push : {S : Type 0} (value : S → State) (ops : List Op) (op : Op) (a m b : S) (given : List Chunk) (o : Option Chunk) → Replays value ops a given m → TakesStep op (value m) o (value b) → Replays value (ops ++ op ∷ []) a (given ++ option_to_list o) b
+pub replays_push : {S : Type 0} (value : S → State) (ops : List Op) (op : Op) (a m b : S) (given : List Chunk) (o : Option Chunk) → Replays value ops a given m → TakesOp op (value m) o (value b) → Replays value (ops ++ op ∷ []) a (given ++ option_to_list o) b
 replays_push value [] op a m b given o r s = (b, o, [], (rw r.0 at s), (refl, refl), (rw (r.1, append-nil) refl))
 replays_push value (p ∷ ops) op a m b given o (mid, chunk, rest, t, r, e) s =
     (mid, chunk, rest ++ option_to_list o, t, replays_push value ops op mid m b rest o r s, (rw (e, append_assoc) refl))
 
 -- what is known after steps: what is held was brought, what was given was brought, given once, is done and is not held
 pub record Known (ops : List Op) (given : List Chunk) (s : State) : Type 0 where
-  pub held : (at byte : ℕ) → s.held at byte → Any (Carries at byte) ops
+  pub held : (at byte : ℕ) → s.held at byte → Any (StepCarries at byte) ops
   pub carried : All (IsCarriedBy ops) given
   pub apart : AllPairs AreApart given
   pub past : (at : ℕ) → Any (λ (c : Chunk). IsWithin c.offset c.bytes at) given → IsDoneIn s at × (IsHeld s.held at → ⊥)
@@ -47,7 +47,7 @@ pairs_push R xs x a h = λ i j d l m. elim (cases_lt j (length xs)) [
 ]
 
 carried_more : (ops : List Op) (op : Op) (given : List Chunk) → All (IsCarriedBy ops) given → All (IsCarriedBy (ops ++ op ∷ [])) given
-carried_more ops op given h = All-weaker (IsCarriedBy ops) (IsCarriedBy (ops ++ op ∷ [])) (λ c w at byte p. Any-left (Carries at byte) ops op (w at byte p)) given h
+carried_more ops op given h = All-weaker (IsCarriedBy ops) (IsCarriedBy (ops ++ op ∷ [])) (λ c w at byte p. Any-left (StepCarries at byte) ops op (w at byte p)) given h
 
 -- what is done stays done
 done_kept : (x y : State) (at : ℕ) (mode : Bool) → x.ordered ≡ mode → y.ordered ≡ x.ordered → x.read ≤ y.read
@@ -58,7 +58,7 @@ done_kept x y at false e o l p q h d = h e d
 default_same : (xs : List Chunk) (i : ℕ) (d : Chunk) → i < length xs → get_or xs i (get_or xs i d) ≡ get_or xs i d
 default_same xs i d l = get_or_default xs i (get_or xs i d) d l
 
-known_none : (ops : List Op) (op : Op) (given : List Chunk) (x y : State) → Known ops given x → ((at byte : ℕ) → y.held at byte → Any (Carries at byte) (ops ++ op ∷ [])) → ((at : ℕ) → IsDoneIn x at → IsDoneIn y at) → ((at : ℕ) → IsDoneIn x at → (IsHeld x.held at → ⊥) → IsHeld y.held at → ⊥) → Known (ops ++ op ∷ []) (given ++ []) y
+known_none : (ops : List Op) (op : Op) (given : List Chunk) (x y : State) → Known ops given x → ((at byte : ℕ) → y.held at byte → Any (StepCarries at byte) (ops ++ op ∷ [])) → ((at : ℕ) → IsDoneIn x at → IsDoneIn y at) → ((at : ℕ) → IsDoneIn x at → (IsHeld x.held at → ⊥) → IsHeld y.held at → ⊥) → Known (ops ++ op ∷ []) (given ++ []) y
 known_none ops op given x y k h d n = rw append-nil (record {
   held = h;
   carried = carried_more ops op given k.carried;
@@ -66,10 +66,10 @@ known_none ops op given x y k h d n = rw append-nil (record {
   past = λ at a. (d at (k.past at a).0, n at (k.past at a).0 (k.past at a).1);
 })
 
-known_chunk : (ops : List Op) (op : Op) (given : List Chunk) (x y : State) (most : ℕ) (chunk : Chunk) → Known ops given x → Reads x y most chunk → ((at : ℕ) → IsDoneIn x at → IsDoneIn y at) → Known (ops ++ op ∷ []) (given ++ chunk ∷ []) y
+known_chunk : (ops : List Op) (op : Op) (given : List Chunk) (x y : State) (most : ℕ) (chunk : Chunk) → Known ops given x → ReadsChunk x y most chunk → ((at : ℕ) → IsDoneIn x at → IsDoneIn y at) → Known (ops ++ op ∷ []) (given ++ chunk ∷ []) y
 known_chunk ops op given x y most chunk k r d = record {
-  held = λ at byte h. Any-left (Carries at byte) ops op (k.held at byte (r.gives.origin at byte h));
-  carried = All-push (IsCarriedBy (ops ++ op ∷ [])) given chunk (carried_more ops op given k.carried) (λ at byte p. Any-left (Carries at byte) ops op (k.held at byte (r.gives.given at byte p)));
+  held = λ at byte h. Any-left (StepCarries at byte) ops op (k.held at byte (r.gives.origin at byte h));
+  carried = All-push (IsCarriedBy (ops ++ op ∷ [])) given chunk (carried_more ops op given k.carried) (λ at byte p. Any-left (StepCarries at byte) ops op (k.held at byte (r.gives.given at byte p)));
   apart = pairs_push AreApart given chunk k.apart (λ i e l at p q.
       (k.past at (i, get_or given i e, l, default_same given i e l, p)).1 (get_or chunk.bytes (at - chunk.offset) 0, r.gives.given at (get_or chunk.bytes (at - chunk.offset) 0) (q.0, q.1, refl)));
   past = λ at a. elim (Any-unpush (λ (c : Chunk). IsWithin c.offset c.bytes at) given chunk a) [
@@ -78,7 +78,7 @@ known_chunk ops op given x y most chunk k r d = record {
   ];
 }
 
-done_left : (x y : State) (at : ℕ) (mode : Bool) → x.ordered ≡ mode → Leaves x y → (x.ordered ≡ true → IsDoneIn x at ↔ (at < x.read)) → IsDoneIn x at → IsDoneIn y at
+done_left : (x y : State) (at : ℕ) (mode : Bool) → x.ordered ≡ mode → LeavesMode x y → (x.ordered ≡ true → IsDoneIn x at ↔ (at < x.read)) → IsDoneIn x at → IsDoneIn y at
 done_left x y at true e l p d = (l.done e at).1 (inl ((p e).0 d))
 done_left x y at false e l p d = l.done_same e at ∙ d
 
@@ -86,19 +86,19 @@ or_true : (b t c : Bool) → b ≡ true → c ≡ (b || t) → c ≡ true
 or_true b t c e f = f ∙ rw e refl
 
 -- each step keeps what is known
-pub known_step : {S : Type 0} (value : S → State) (law : (x : S) (at : ℕ) → (value x).ordered ≡ true → IsDoneIn (value x) at ↔ (at < (value x).read)) (ops : List Op) (op : Op) (given : List Chunk) (o : Option Chunk) (a b : S) → Known ops given (value a) → TakesStep op (value a) o (value b) → Known (ops ++ op ∷ []) (given ++ option_to_list o) (value b)
+pub known_step : {S : Type 0} (value : S → State) (law : (x : S) (at : ℕ) → (value x).ordered ≡ true → IsDoneIn (value x) at ↔ (at < (value x).read)) (ops : List Op) (op : Op) (given : List Chunk) (o : Option Chunk) (a b : S) → Known ops given (value a) → TakesOp op (value a) o (value b) → Known (ops ++ op ∷ []) (given ++ option_to_list o) (value b)
 known_step value law ops (Insert offset bytes size) given o a b k (e, i, few) =
     let d : (at : ℕ) → IsDoneIn (value a) at → IsDoneIn (value b) at = λ at. done_kept (value a) (value b) at (value a).ordered refl i.ordered (omega (arith, i.read)) (law a at) (law b at) (λ f h. or_true _ _ _ h (i.done at f)) in
     rw e (known_none ops (Insert offset bytes size) given (value a) (value b) k
     (λ at byte h. elim (i.held.origin at byte h) [
-      | inl w ↦ Any-left (Carries at byte) ops (Insert offset bytes size) (k.held at byte w)
-      | inr w ↦ Any-last (Carries at byte) ops (Insert offset bytes size) w
+      | inl w ↦ Any-left (StepCarries at byte) ops (Insert offset bytes size) (k.held at byte w)
+      | inr w ↦ Any-last (StepCarries at byte) ops (Insert offset bytes size) w
     ])
     d
     (λ at done none h. elim (i.held.fresh at h.0 h.1) [ inl w ↦ none (h.0, w) | inr w ↦ w done ]))
 known_step value law ops (Read most) given None a b k r =
     known_none ops (Read most) given (value a) (value b) k
-    (λ at byte h. Any-left (Carries at byte) ops (Read most) (k.held at byte (r.stays.held.origin at byte h)))
+    (λ at byte h. Any-left (StepCarries at byte) ops (Read most) (k.held at byte (r.stays.held.origin at byte h)))
     (λ at. done_kept (value a) (value b) at (value a).ordered refl r.stays.ordered (omega (arith, r.stays.read)) (law a at) (law b at) (λ f h. r.stays.done at f ∙ h))
     (λ at done none h. none (h.0, r.stays.held.origin at h.0 h.1))
 known_step value law ops (Read most) given (Some chunk) a b k r =
@@ -106,7 +106,7 @@ known_step value law ops (Read most) given (Some chunk) a b k r =
     (λ at. done_kept (value a) (value b) at (value a).ordered refl r.ordered (omega (arith, r.moves)) (law a at) (law b at) (λ f h. r.done at f ∙ h))
 known_step value law ops Unordered given o a b k (e, l) =
     rw e (known_none ops Unordered given (value a) (value b) k
-    (λ at byte h. Any-left (Carries at byte) ops Unordered (k.held at byte (l.held.origin at byte h)))
+    (λ at byte h. Any-left (StepCarries at byte) ops Unordered (k.held at byte (l.held.origin at byte h)))
     (λ at. done_left (value a) (value b) at (value a).ordered refl l (law a at))
     (λ at done none h. none (h.0, l.held.origin at h.0 h.1)))
 
@@ -165,7 +165,7 @@ Any-take P xs i (k, x, l, e, p) =
     (k, x, omega (arith, length-take i xs), sym (get_or-take i xs k x m) ∙ e, p)
 
 carried_whole : (ops : List Op) (i : ℕ) (given : List Chunk) → All (IsCarriedBy (take i ops)) given → All (IsCarriedBy ops) given
-carried_whole ops i given h = All-weaker (IsCarriedBy (take i ops)) (IsCarriedBy ops) (λ c w at byte p. Any-take (Carries at byte) ops i (w at byte p)) given h
+carried_whole ops i given h = All-weaker (IsCarriedBy (take i ops)) (IsCarriedBy ops) (λ c w at byte p. Any-take (StepCarries at byte) ops i (w at byte p)) given h
 
 -- after the last step, or a refusal
 pub replay_end : {S : Type 0} (value : S → State) (ops : List Op) (i : ℕ) (a b : S) (out next given : List Chunk) → length ops ≤ i → i ≤ length ops → next ≡ out ++ given → Replays value (take i ops) a given b → Known (take i ops) given (value b) → (value a).ordered ≡ true → (value a).read ≡ 0 → IsReplay value ops a b out next (Ok tt)
@@ -181,7 +181,7 @@ replay_end value ops i a b out next given l m e r k o z = record {
   gapless = gapless value (take i ops) a b given r o z;
 }
 
-pub replay_refused : {S : Type 0} (value : S → State) (ops : List Op) (i : ℕ) (a m b : S) (out next given : List Chunk) (op : Op) (error : ReplayError) → i < length ops → op ≡ get_or ops i op → next ≡ out ++ given → Replays value (take i ops) a given m → Known (take i ops) given (value m) → (value a).ordered ≡ true → (value a).read ≡ 0 → Refuses op error (value m) (value b) → IsReplay value ops a b out next (Err error)
+pub replay_refused : {S : Type 0} (value : S → State) (ops : List Op) (i : ℕ) (a m b : S) (out next given : List Chunk) (op : Op) (error : ReplayError) → i < length ops → op ≡ get_or ops i op → next ≡ out ++ given → Replays value (take i ops) a given m → Known (take i ops) given (value m) → (value a).ordered ≡ true → (value a).read ≡ 0 → RefusesStep op error (value m) (value b) → IsReplay value ops a b out next (Err error)
 replay_refused value ops i a m b out next given op error l p e r k o z f = record {
   taken = i;
   mid = m;
@@ -197,7 +197,7 @@ replay_refused value ops i a m b out next given op error l p e r k o z f = recor
 stays_same : (s : State) → Stays s s
 stays_same s = record { held = record { keeps = λ at byte h. h; origin = λ at byte h. h }; done = λ at _. refl; read = refl; ordered = refl; highest = refl; pieces = omega arith }
 
-pub refused_memory : (op : Op) (s : State) → Refuses op OutOfMemory s s
+pub refused_memory : (op : Op) (s : State) → RefusesStep op OutOfMemory s s
 refused_memory (Insert offset bytes size) s = stays_same s
 refused_memory (Read most) s = stays_same s
 refused_memory Unordered s = stays_same s

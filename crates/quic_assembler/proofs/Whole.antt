@@ -11,7 +11,7 @@ use Rattle.std.proofs.lemmas.Bool.Decides.{nat_tests}
 use Rattle.quic_values.specs.Runs.{contains, Run as Range}
 use Rattle.quic_assembler.specs.declared.errors.InsertError.{InsertError}
 use Rattle.quic_assembler.specs.declared.errors.InsertError.TheVariants.{TooManyChunks, CompactionMemory, OutOfMemory}
-use Rattle.quic_assembler.specs.Piece.{Run, RunHolds, cover_count, bit, lies, run_end, cut_at, KeepsFrom, TakesSome, NoneHoldsAt, covers, Sums, sums_of}
+use Rattle.quic_assembler.specs.Piece.{PieceView, RunHolds, cover_count, bit, lies, run_end, cut_at, KeepsFrom, TakesSome, NoneHoldsAt, covers, Sums, sums_of}
 use Rattle.quic_assembler.specs.Compact.{Compacts}
 use Rattle.quic_assembler.specs.Reassembly.{Reassembly, floor, Holds, IsDone, is_done, IsHeld, IsWithin, Takes, Gives, SameHeld, KeepsOffsets, IsSameButHeld, MatchInsert, HoldsNothing, HoldsOnce, IsApart, IsAssembler, TakesFresh, Keeps, LeavesOrder, IsNext, run_count, fresh_count, is_wasteful, used, sums, covered, with_piece, covered_with, Settles}
 use Rattle.quic_assembler.proofs.Sums.{sums_permuted, sums_equal, sums_pushed}
@@ -68,7 +68,7 @@ ordered_fresh : (done : ℕ → Bool) (b offset n : ℕ) → ((at : ℕ) → don
 ordered_fresh done b offset zero h = omega arith
 ordered_fresh done b offset (suc n) h = rw (h (offset + n), ordered_fresh done b offset n h) (omega (arith, fresh_bit_above b (offset + n)))
 
-cut_bits : (b at : ℕ) (r : Run) → b ≤ run_end r → covers at (cut_at b r) ≡ bit (lies r.offset (run_end r) at && not (nat_lt at b))
+cut_bits : (b at : ℕ) (r : PieceView) → b ≤ run_end r → covers at (cut_at b r) ≡ bit (lies r.offset (run_end r) at && not (nat_lt at b))
 cut_bits b at r l = elim (cases_lt at b) [
   | inl m ↦ omega (arith, covers_cut_below b at r m, old_bit r.offset (run_end r) at (nat_lt at b) (test_true at b m))
   | inr m ↦ omega (arith, covers_cut b at r m l, fresh_bit r.offset (run_end r) at (nat_lt at b) (test_false at b m))
@@ -105,7 +105,7 @@ unfolding Holds
 count_of_holds a at byte h = count_of_any at a.runs (covers_from_holds at byte a.runs h.1)
 
 -- a pushed run, cut at what was read
-pub takes_pushed : (old new : Reassembly) (r : Run) → old.ordered ≡ true → new.ordered ≡ true → new.bytes_read ≡ old.bytes_read → IsPermutation (cut_at old.bytes_read r ∷ old.runs) new.runs → Takes (Holds old) (Holds new) (IsDone old) r.offset r.bytes
+pub takes_pushed : (old new : Reassembly) (r : PieceView) → old.ordered ≡ true → new.ordered ≡ true → new.bytes_read ≡ old.bytes_read → IsPermutation (cut_at old.bytes_read r ∷ old.runs) new.runs → Takes (Holds old) (Holds new) (IsDone old) r.offset r.bytes
 unfolding Holds
 takes_pushed old new r o n e h =
     let was : floor old ≡ old.bytes_read = rw o refl in
@@ -123,7 +123,7 @@ takes_pushed old new r o n e h =
       fresh = λ at byte w. inr (not_done old at o (omega arith));
     }
 
-pub keeps_pushed : (old new : Reassembly) (r : Run) → old.ordered ≡ true → new.ordered ≡ true → new.bytes_read ≡ old.bytes_read → max r.offset old.bytes_read < run_end r → new.highest ≡ max old.highest (run_end r) → IsPermutation (cut_at old.bytes_read r ∷ old.runs) new.runs → Keeps old new r.offset r.bytes r.allocation_size
+pub keeps_pushed : (old new : Reassembly) (r : PieceView) → old.ordered ≡ true → new.ordered ≡ true → new.bytes_read ≡ old.bytes_read → max r.offset old.bytes_read < run_end r → new.highest ≡ max old.highest (run_end r) → IsPermutation (cut_at old.bytes_read r ∷ old.runs) new.runs → Keeps old new r.offset r.bytes r.allocation_size
 keeps_pushed old new r o n e l h p =
     let one : run_count (is_done old) r.offset (length r.bytes) ≡ 1 = ordered_runs (is_done old) old.bytes_read r.offset (length r.bytes) (ordered_done old o) ∙ omega arith in
     let all : fresh_count (is_done old) r.offset (length r.bytes) ≡ length (drop (old.bytes_read - r.offset) r.bytes) = ordered_fresh (is_done old) old.bytes_read r.offset (length r.bytes) (ordered_done old o) ∙ simp length-drop (omega arith) in
@@ -177,7 +177,7 @@ gain_or_old true true h = inl refl
 gain_or_old true false h = inr (omega arith)
 gain_or_old false b h = absurd (omega arith)
 
-pub keeps_fresh : (old new : Reassembly) (r : Run) → old.ordered ≡ false → new.ordered ≡ old.ordered → new.bytes_read ≡ old.bytes_read → new.highest ≡ max old.highest (run_end r) → TakesFresh old.received r old.runs new.runs → ((at : ℕ) → contains new.received at ≡ (contains old.received at || lies r.offset (run_end r) at)) → Keeps old new r.offset r.bytes r.allocation_size
+pub keeps_fresh : (old new : Reassembly) (r : PieceView) → old.ordered ≡ false → new.ordered ≡ old.ordered → new.bytes_read ≡ old.bytes_read → new.highest ≡ max old.highest (run_end r) → TakesFresh old.received r old.runs new.runs → ((at : ℕ) → contains new.received at ≡ (contains old.received at || lies r.offset (run_end r) at)) → Keeps old new r.offset r.bytes r.allocation_size
 unfolding Holds
 keeps_fresh old new r o n e h t c =
     let was : floor old ≡ 0 = rw o refl in
@@ -216,13 +216,13 @@ more_bits true false = omega arith
 more_bits false true = omega arith
 more_bits false false = omega arith
 
-pub apart_less : (xs ys : List Run) (received : List Range) (bytes_read : ℕ) → IsApart xs received bytes_read → ((at : ℕ) → cover_count at ys ≤ cover_count at xs) → IsApart ys received bytes_read
+pub apart_less : (xs ys : List PieceView) (received : List Range) (bytes_read : ℕ) → IsApart xs received bytes_read → ((at : ℕ) → cover_count at ys ≤ cover_count at xs) → IsApart ys received bytes_read
 apart_less xs ys received bytes_read a l = record {
   count = λ at. omega (arith, a.count at, l at);
   read = omega (arith, a.read, tally-le (2 ^ 62) (λ at. cover_count at ys) (λ at. cover_count at xs) l);
 }
 
-pub apart_fresh : (xs ys : List Run) (received next : List Range) (bytes_read : ℕ) (r : Run) → IsApart xs received bytes_read → TakesFresh received r xs ys → ((at : ℕ) → contains next at ≡ (contains received at || lies r.offset (run_end r) at)) → IsApart ys next bytes_read
+pub apart_fresh : (xs ys : List PieceView) (received next : List Range) (bytes_read : ℕ) (r : PieceView) → IsApart xs received bytes_read → TakesFresh received r xs ys → ((at : ℕ) → contains next at ≡ (contains received at || lies r.offset (run_end r) at)) → IsApart ys next bytes_read
 apart_fresh xs ys received next bytes_read r a t c =
     let old : ℕ → ℕ = λ at. bit (contains received at) in
     let new : ℕ → ℕ = λ at. bit (contains next at) in
@@ -234,10 +234,10 @@ apart_fresh xs ys received next bytes_read r a t c =
       read = omega (arith, a.read, tally-add (2 ^ 62) after old, tally-add (2 ^ 62) before new, tally-le (2 ^ 62) (λ at. after at + old at) (λ at. before at + new at) more);
     }
 
-pub assembler_less : (xs ys : List Run) (received : List Range) (ordered : Bool) (bytes_read : ℕ) → IsAssembler xs received ordered bytes_read → ((at : ℕ) → cover_count at ys ≤ cover_count at xs) → IsAssembler ys received ordered bytes_read
+pub assembler_less : (xs ys : List PieceView) (received : List Range) (ordered : Bool) (bytes_read : ℕ) → IsAssembler xs received ordered bytes_read → ((at : ℕ) → cover_count at ys ≤ cover_count at xs) → IsAssembler ys received ordered bytes_read
 assembler_less xs ys received ordered bytes_read a l = record { bounded = a.bounded; apart = λ o. apart_less xs ys received bytes_read (a.apart o) l }
 
-pub assembler_pushed : (xs ys : List Run) (received : List Range) (ordered : Bool) (bytes_read : ℕ) → ordered ≡ true → IsAssembler xs received ordered bytes_read → IsAssembler ys received ordered bytes_read
+pub assembler_pushed : (xs ys : List PieceView) (received : List Range) (ordered : Bool) (bytes_read : ℕ) → ordered ≡ true → IsAssembler xs received ordered bytes_read → IsAssembler ys received ordered bytes_read
 assembler_pushed xs ys received ordered bytes_read o a = record { bounded = a.bounded; apart = λ f. absurd (true_not_false ordered o f) }
 
 -- a compaction
@@ -326,7 +326,7 @@ floor_next : (a : Reassembly) (offset : ℕ) (mode : Bool) → a.ordered ≡ mod
 floor_next a offset true e n = (let f : floor a ≡ a.bytes_read = rw e refl in omega (arith, n.behind e))
 floor_next a offset false e n = (let f : floor a ≡ 0 = rw e refl in omega arith)
 
-pub held_here : (old : Reassembly) (offset most : ℕ) (bytes : List ℕ) (ys : List Run) → IsNext old offset → TakesSome offset most bytes old.runs ys → IsHeld (Holds old) offset
+pub held_here : (old : Reassembly) (offset most : ℕ) (bytes : List ℕ) (ys : List PieceView) → IsNext old offset → TakesSome offset most bytes old.runs ys → IsHeld (Holds old) offset
 unfolding Holds
 held_here old offset most bytes ys n t = (t.here.0, (floor_next old offset old.ordered refl n, t.here.1))
 
@@ -367,7 +367,7 @@ pub none_at_next : (old : Reassembly) (offset : ℕ) → IsNext old offset → o
 none_at_next old offset n e none = (let b = holds_from_covers offset old.runs (n.covered e) in none b.0 b.1)
 
 -- the invariant after a read
-apart_read : (xs ys : List Run) (received : List Range) (bytes_read offset most : ℕ) (bytes : List ℕ) → IsApart xs received bytes_read → TakesSome offset most bytes xs ys → IsApart ys received (bytes_read + length bytes)
+apart_read : (xs ys : List PieceView) (received : List Range) (bytes_read offset most : ℕ) (bytes : List ℕ) → IsApart xs received bytes_read → TakesSome offset most bytes xs ys → IsApart ys received (bytes_read + length bytes)
 apart_read xs ys received bytes_read offset most bytes a t =
     let before : ℕ → ℕ = λ at. cover_count at xs in
     let after : ℕ → ℕ = λ at. cover_count at ys in
@@ -377,14 +377,14 @@ apart_read xs ys received bytes_read offset most bytes a t =
       read = omega (arith, a.read, tally-add (2 ^ 62) after given, tally-le (2 ^ 62) (λ at. after at + given at) before t.taken.count, tally-lies (2 ^ 62) offset (offset + length bytes) (omega arith), t.fits);
     }
 
-pub apart_bounded : (xs : List Run) (received : List Range) (bytes_read : ℕ) → IsApart xs received bytes_read → bytes_read ≤ 2 ^ 62
+pub apart_bounded : (xs : List PieceView) (received : List Range) (bytes_read : ℕ) → IsApart xs received bytes_read → bytes_read ≤ 2 ^ 62
 apart_bounded xs received bytes_read a = omega (arith, a.read, tally-ones (2 ^ 62) (λ at. bit (contains received at)) (λ at. bit-le-one (contains received at)))
 
-bounded_at : (xs ys : List Run) (received : List Range) (ordered mode : Bool) (bytes_read offset most : ℕ) (bytes : List ℕ) → ordered ≡ mode → IsAssembler xs received ordered bytes_read → (ordered ≡ true → offset ≡ bytes_read) → TakesSome offset most bytes xs ys → bytes_read + length bytes ≤ 2 ^ 62
+bounded_at : (xs ys : List PieceView) (received : List Range) (ordered mode : Bool) (bytes_read offset most : ℕ) (bytes : List ℕ) → ordered ≡ mode → IsAssembler xs received ordered bytes_read → (ordered ≡ true → offset ≡ bytes_read) → TakesSome offset most bytes xs ys → bytes_read + length bytes ≤ 2 ^ 62
 bounded_at xs ys received ordered true bytes_read offset most bytes e a n t = omega (arith, n e, t.fits)
 bounded_at xs ys received ordered false bytes_read offset most bytes e a n t = apart_bounded ys received (bytes_read + length bytes) (apart_read xs ys received bytes_read offset most bytes (a.apart e) t)
 
-pub assembler_read : (xs ys : List Run) (received : List Range) (ordered : Bool) (bytes_read offset most : ℕ) (bytes : List ℕ) → IsAssembler xs received ordered bytes_read → (ordered ≡ true → offset ≡ bytes_read) → TakesSome offset most bytes xs ys → IsAssembler ys received ordered (bytes_read + length bytes)
+pub assembler_read : (xs ys : List PieceView) (received : List Range) (ordered : Bool) (bytes_read offset most : ℕ) (bytes : List ℕ) → IsAssembler xs received ordered bytes_read → (ordered ≡ true → offset ≡ bytes_read) → TakesSome offset most bytes xs ys → IsAssembler ys received ordered (bytes_read + length bytes)
 assembler_read xs ys received ordered bytes_read offset most bytes a n t = record {
   bounded = bounded_at xs ys received ordered ordered bytes_read offset most bytes refl a n t;
   apart = λ e. apart_read xs ys received bytes_read offset most bytes (a.apart e) t;
@@ -400,7 +400,7 @@ bit_of_true : (b : Bool) → b ≡ true → bit b ≡ 1
 bit_of_true b e = rw e refl
 
 -- leaving ordered mode
-pub leaves_order : (old new : Reassembly) (mid : List Run) → old.ordered ≡ true → new.ordered ≡ false → new.bytes_read ≡ old.bytes_read → new.highest ≡ old.highest → Compacts old.runs mid → KeepsFrom old.bytes_read mid new.runs → ((at : ℕ) → at < old.bytes_read → cover_count at new.runs ≡ 0) → ((at : ℕ) → bit (contains new.received at) ≡ min 1 (bit (nat_lt at old.bytes_read) + cover_count at old.runs)) → LeavesOrder old new
+pub leaves_order : (old new : Reassembly) (mid : List PieceView) → old.ordered ≡ true → new.ordered ≡ false → new.bytes_read ≡ old.bytes_read → new.highest ≡ old.highest → Compacts old.runs mid → KeepsFrom old.bytes_read mid new.runs → ((at : ℕ) → at < old.bytes_read → cover_count at new.runs ≡ 0) → ((at : ℕ) → bit (contains new.received at) ≡ min 1 (bit (nat_lt at old.bytes_read) + cover_count at old.runs)) → LeavesOrder old new
 unfolding Holds
 leaves_order old new mid o n b h c k below rec =
     let was : floor old ≡ old.bytes_read = rw o refl in
@@ -430,7 +430,7 @@ leaves_order old new mid o n b h c k below rec =
       highest = h;
     }
 
-pub assembler_left : (xs mid ys : List Run) (received : List Range) (bytes_read : ℕ) → bytes_read ≤ 2 ^ 62 → Compacts xs mid → KeepsFrom bytes_read mid ys → ((at : ℕ) → at < bytes_read → cover_count at ys ≡ 0) → ((at : ℕ) → bit (contains received at) ≡ min 1 (bit (nat_lt at bytes_read) + cover_count at xs)) → IsAssembler ys received false bytes_read
+pub assembler_left : (xs mid ys : List PieceView) (received : List Range) (bytes_read : ℕ) → bytes_read ≤ 2 ^ 62 → Compacts xs mid → KeepsFrom bytes_read mid ys → ((at : ℕ) → at < bytes_read → cover_count at ys ≡ 0) → ((at : ℕ) → bit (contains received at) ≡ min 1 (bit (nat_lt at bytes_read) + cover_count at xs)) → IsAssembler ys received false bytes_read
 assembler_left xs mid ys received bytes_read l c k below rec =
     let after : ℕ → ℕ = λ at. cover_count at ys in
     let read : ℕ → ℕ = λ at. bit (lies 0 bytes_read at) in
@@ -447,7 +447,7 @@ assembler_left xs mid ys received bytes_read l c k below rec =
     }
 
 -- a compaction, refused or not
-pub compact_count : (r : Result (Unit {0}) Refusal) (xs ys : List Run) → OnOk r (Compacts xs ys) → OnErr r (IsPermutation xs ys) → (at : ℕ) → cover_count at ys ≤ cover_count at xs
+pub compact_count : (r : Result (Unit {0}) Refusal) (xs ys : List PieceView) → OnOk r (Compacts xs ys) → OnErr r (IsPermutation xs ys) → (at : ℕ) → cover_count at ys ≤ cover_count at xs
 compact_count (Ok u) xs ys c p at = omega (arith, c.count at)
 compact_count (Err e) xs ys c p at = omega (arith, count_permuted at xs ys p)
 
@@ -460,20 +460,20 @@ compact_same (Ok u) old new e p = tt
 compact_same (Err r) old new e p = same_permuted old new e p
 
 -- the same at an offset, bytes and a size that are the run's
-keeps_at : (old new : Reassembly) (r : Run) (offset : ℕ) (bytes : List ℕ) (size : ℕ) → r.offset ≡ offset → r.bytes ≡ bytes → r.allocation_size ≡ size → Keeps old new r.offset r.bytes r.allocation_size → Keeps old new offset bytes size
+keeps_at : (old new : Reassembly) (r : PieceView) (offset : ℕ) (bytes : List ℕ) (size : ℕ) → r.offset ≡ offset → r.bytes ≡ bytes → r.allocation_size ≡ size → Keeps old new r.offset r.bytes r.allocation_size → Keeps old new offset bytes size
 keeps_at old new r offset bytes size p q m k = rw (← p, ← q, ← m) k
 
-pub keeps_pushed_at : (old new : Reassembly) (r : Run) (offset : ℕ) (bytes : List ℕ) (size : ℕ) → r.offset ≡ offset → r.bytes ≡ bytes → r.allocation_size ≡ size → old.ordered ≡ true → new.ordered ≡ true → new.bytes_read ≡ old.bytes_read → max offset old.bytes_read < offset + length bytes → new.highest ≡ max old.highest (offset + length bytes) → IsPermutation (cut_at old.bytes_read r ∷ old.runs) new.runs → Keeps old new offset bytes size
+pub keeps_pushed_at : (old new : Reassembly) (r : PieceView) (offset : ℕ) (bytes : List ℕ) (size : ℕ) → r.offset ≡ offset → r.bytes ≡ bytes → r.allocation_size ≡ size → old.ordered ≡ true → new.ordered ≡ true → new.bytes_read ≡ old.bytes_read → max offset old.bytes_read < offset + length bytes → new.highest ≡ max old.highest (offset + length bytes) → IsPermutation (cut_at old.bytes_read r ∷ old.runs) new.runs → Keeps old new offset bytes size
 keeps_pushed_at old new r offset bytes size p q m o n e l h i = keeps_at old new r offset bytes size p q m (keeps_pushed old new r o n e (rw (p, q) l) (rw (p, q) h) i)
 
-pub keeps_fresh_at : (old new : Reassembly) (r : Run) (offset : ℕ) (bytes : List ℕ) (size : ℕ) → r.offset ≡ offset → r.bytes ≡ bytes → r.allocation_size ≡ size → old.ordered ≡ false → new.ordered ≡ old.ordered → new.bytes_read ≡ old.bytes_read → new.highest ≡ max old.highest (offset + length bytes) → TakesFresh old.received r old.runs new.runs → ((at : ℕ) → contains new.received at ≡ (contains old.received at || lies r.offset (run_end r) at)) → Keeps old new offset bytes size
+pub keeps_fresh_at : (old new : Reassembly) (r : PieceView) (offset : ℕ) (bytes : List ℕ) (size : ℕ) → r.offset ≡ offset → r.bytes ≡ bytes → r.allocation_size ≡ size → old.ordered ≡ false → new.ordered ≡ old.ordered → new.bytes_read ≡ old.bytes_read → new.highest ≡ max old.highest (offset + length bytes) → TakesFresh old.received r old.runs new.runs → ((at : ℕ) → contains new.received at ≡ (contains old.received at || lies r.offset (run_end r) at)) → Keeps old new offset bytes size
 keeps_fresh_at old new r offset bytes size p q m o n e h t c = keeps_at old new r offset bytes size p q m (keeps_fresh old new r o n e (rw (p, q) h) t c)
 
-pub assembler_fresh : (xs ys : List Run) (received next : List Range) (ordered : Bool) (bytes_read : ℕ) (r : Run) → IsAssembler xs received ordered bytes_read → ordered ≡ false → TakesFresh received r xs ys → ((at : ℕ) → contains next at ≡ (contains received at || lies r.offset (run_end r) at)) → IsAssembler ys next ordered bytes_read
+pub assembler_fresh : (xs ys : List PieceView) (received next : List Range) (ordered : Bool) (bytes_read : ℕ) (r : PieceView) → IsAssembler xs received ordered bytes_read → ordered ≡ false → TakesFresh received r xs ys → ((at : ℕ) → contains next at ≡ (contains received at || lies r.offset (run_end r) at)) → IsAssembler ys next ordered bytes_read
 assembler_fresh xs ys received next ordered bytes_read r a e t c = record { bounded = a.bounded; apart = λ _. apart_fresh xs ys received next bytes_read r (a.apart e) t c }
 
 -- where no two runs overlap, no two bytes are held at one offset
-one_byte : (xs : List Run) (at a b : ℕ) → cover_count at xs ≤ 1 → Any (RunHolds at a) xs → Any (RunHolds at b) xs → a ≡ b
+one_byte : (xs : List PieceView) (at a b : ℕ) → cover_count at xs ≤ 1 → Any (RunHolds at a) xs → Any (RunHolds at b) xs → a ≡ b
 one_byte [] at a b l p q = absurd (Any-nil (RunHolds at a) p)
 one_byte (x ∷ xs) at a b l p q = elim (Any-cons (RunHolds at a) x xs p) [
   | inl c ↦ elim (Any-cons (RunHolds at b) x xs q) [
@@ -486,7 +486,7 @@ one_byte (x ∷ xs) at a b l p q = elim (Any-cons (RunHolds at a) x xs p) [
   ]
 ]
 
-pub compact_once : (r : Result (Unit {0}) Refusal) (xs : List Run) (new : Reassembly) → OnOk r (Compacts xs new.runs) → OnOk r (HoldsOnce (Holds new))
+pub compact_once : (r : Result (Unit {0}) Refusal) (xs : List PieceView) (new : Reassembly) → OnOk r (Compacts xs new.runs) → OnOk r (HoldsOnce (Holds new))
 unfolding Holds
 compact_once (Ok u) xs new c = λ at a b h k. one_byte new.runs at a b (omega (arith, c.count at)) h.1 k.1
 compact_once (Err e) xs new c = tt
@@ -504,7 +504,7 @@ unfolding is_wasteful
 wasteful_memory s unread u t w l e f g = rw (f, g, e) (sym (few_test _ s.pieces l))
 
 -- what an insert settles
-pub compact_sums : (r : Result (Unit {0}) Refusal) (xs ys : List Run) → OnErr r (IsPermutation xs ys) → OnErr r (sums_of ys ≡ sums_of xs)
+pub compact_sums : (r : Result (Unit {0}) Refusal) (xs ys : List PieceView) → OnErr r (IsPermutation xs ys) → OnErr r (sums_of ys ≡ sums_of xs)
 compact_sums (Ok u) xs ys p = tt
 compact_sums (Err e) xs ys p = sums_permuted xs ys p
 

@@ -2,7 +2,7 @@
 use Rattle.std.specs.List.{Any}
 use Rattle.std.proofs.lemmas.Bool.{cases_lt}
 use Rattle.std.proofs.lemmas.Bool.Decides.{nat_tests}
-use Rattle.quic_assembler.specs.Piece.{Run, Covers, run_end}
+use Rattle.quic_assembler.specs.Piece.{PieceView, Covers, run_end}
 use Rattle.std.specs.Prelude.{slice_index, nat_lt}
 use Rattle.std.proofs.Common.{◌⊎◌, inl, inr, refl, List, [], ◌∷◌, ◌-◌, zero, suc, arith, ◌≡◌, ℕ, ◌≤◌, ◌<◌, ◌↔◌, true}
 use Rattle.quic_assembler.specs.Reassembly.{IsHeld, Reassembly, floor, Holds, IsDone, is_done}
@@ -23,7 +23,7 @@ unfolding Holds
 held_above a at byte e h = rw e at h.0
 
 -- whether a byte is held at an offset can be told
-covers_or_not : (at : ℕ) (r : Run) → Covers at r ⊎ (Covers at r → ⊥)
+covers_or_not : (at : ℕ) (r : PieceView) → Covers at r ⊎ (Covers at r → ⊥)
 covers_or_not at r = elim (cases_lt at r.offset) [
   | inl l ↦ inr (λ h. absurd (omega arith))
   | inr l ↦ elim (cases_lt at (run_end r)) [ inl m ↦ inl (l, m) | inr m ↦ inr (λ h. absurd (omega arith)) ]

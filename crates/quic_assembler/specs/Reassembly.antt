@@ -4,11 +4,11 @@ use Rattle.std.specs.Prelude.{◌≡◌, ◌==◌, ◌&&◌, ◌||◌, ◌-◌, 
 use Rattle.quic_assembler.specs.declared.errors.InsertError.{InsertError}
 use Rattle.quic_assembler.specs.declared.errors.InsertError.TheVariants.{TooManyChunks, CompactionMemory, OutOfMemory}
 use Rattle.std.specs.List.{Any, All}
-use Rattle.quic_assembler.specs.Piece.{Run, RunHolds, Covers, IsByteAt, bit, lies, cover_count, run_end, cut_at, HoldsSame, IsSome, run_length, run_allocation, Sums, sums_of, KeepsAlive}
+use Rattle.quic_assembler.specs.Piece.{PieceView, RunHolds, Covers, IsByteAt, bit, lies, cover_count, run_end, cut_at, HoldsSame, IsSome, run_length, run_allocation, Sums, sums_of, KeepsAlive}
 
 -- the pieces that are held, in no order; the offsets ever received or read, in unordered mode
 pub record Reassembly : Type 0 where
-  pub runs : List Run
+  pub runs : List PieceView
   pub received : List Range
   pub bytes_read : ℕ
   pub ordered : Bool
@@ -59,7 +59,7 @@ abbrev pub sums : Reassembly → Sums
 sums a = sums_of a.runs
 
 -- how many offsets pieces cover
-unfoldable pub covered : List Run → ℕ
+unfoldable pub covered : List PieceView → ℕ
 covered rs = tally (2 ^ 62) (λ at. min 1 (cover_count at rs))
 
 -- the pieces cover so many offsets, each once, and keep no other memory alive
@@ -68,17 +68,17 @@ pub record IsCompacted (n : ℕ) (s : Sums) : Type 0 where
   pub allocated : s.allocated ≡ n
 
 -- in unordered mode no two pieces overlap, what is held was received, and what was read was received before
-pub record IsApart (runs : List Run) (received : List Range) (bytes_read : ℕ) : Type 0 where
+pub record IsApart (runs : List PieceView) (received : List Range) (bytes_read : ℕ) : Type 0 where
   pub count : (at : ℕ) → cover_count at runs ≤ bit (contains received at)
   pub read : bytes_read + tally (2 ^ 62) (λ at. cover_count at runs) ≤ tally (2 ^ 62) (λ at. bit (contains received at))
 
 -- what is true of every assembler
-pub record IsAssembler (runs : List Run) (received : List Range) (ordered : Bool) (bytes_read : ℕ) : Type 0 where
+pub record IsAssembler (runs : List PieceView) (received : List Range) (ordered : Bool) (bytes_read : ℕ) : Type 0 where
   pub bounded : bytes_read ≤ 2 ^ 62
   pub apart : ordered ≡ false → IsApart runs received bytes_read
 
 -- ys hold what xs hold, and of a run what was not received
-pub record TakesFresh (received : List Range) (whole : Run) (xs ys : List Run) : Type 0 where
+pub record TakesFresh (received : List Range) (whole : PieceView) (xs ys : List PieceView) : Type 0 where
   pub count : (at : ℕ) → cover_count at ys ≡ cover_count at xs + bit (lies whole.offset (run_end whole) at && not (contains received at))
   pub origin : (at byte : ℕ) → Any (RunHolds at byte) ys → Any (RunHolds at byte) xs ⊎ (RunHolds at byte whole × (contains received at ≡ false))
   pub pieces : length ys ≡ length xs + run_count (contains received) whole.offset (length whole.bytes)
@@ -86,7 +86,7 @@ pub record TakesFresh (received : List Range) (whole : Run) (xs ys : List Run) :
   pub allocated : sum_by run_allocation ys ≡ sum_by run_allocation xs + run_count (contains received) whole.offset (length whole.bytes) * whole.allocation_size
 
 -- what lies before start was taken off `rest`, and is behind the fronts
-pub record TakesFront (start : ℕ) (rest rest' : Run) (fronts fronts' : List Run) : Type 0 where
+pub record TakesFront (start : ℕ) (rest rest' : PieceView) (fronts fronts' : List PieceView) : Type 0 where
   pub same : HoldsSame (cut_at start rest) rest'
   pub count : (at : ℕ) → cover_count at fronts' ≡ cover_count at fronts + bit (lies rest.offset start at)
   pub origin : (at byte : ℕ) → Any (RunHolds at byte) fronts' → Any (RunHolds at byte) fronts ⊎ RunHolds at byte rest
@@ -97,11 +97,11 @@ pub record TakesFront (start : ℕ) (rest rest' : Run) (fronts fronts' : List Ru
   pub sound : All IsSome fronts → All IsSome fronts'
 
 -- no offset of the run was received
-abbrev pub NoneReceived : List Range → Run → Type 0
+abbrev pub NoneReceived : List Range → PieceView → Type 0
 NoneReceived received r = (at : ℕ) → r.offset ≤ at → at < run_end r → contains received at ≡ false
 
 -- what was received before was cut out of the front of a run: `fronts` is what is left of it, `rest` is still to be cut
-pub record IsCut (received : List Range) (whole rest : Run) (fronts : List Run) : Type 0 where
+pub record IsCut (received : List Range) (whole rest : PieceView) (fronts : List PieceView) : Type 0 where
   pub from : whole.offset ≤ rest.offset
   pub to : rest.offset ≤ run_end whole
   pub same : HoldsSame (cut_at rest.offset whole) rest

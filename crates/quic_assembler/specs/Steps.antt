@@ -35,7 +35,7 @@ pub record Inserts (a b : State) (offset : ℕ) (bytes : List ℕ) : Type 0 wher
   pub pieces_unordered : a.ordered ≡ false → b.pieces ≤ a.pieces + run_count a.done offset (length bytes)
 
 -- a chunk was read
-pub record Reads (a b : State) (most : ℕ) (chunk : Chunk) : Type 0 where
+pub record ReadsChunk (a b : State) (most : ℕ) (chunk : Chunk) : Type 0 where
   pub gives : Gives a.held b.held chunk.offset chunk.bytes
   pub limit : length chunk.bytes ≤ most
   pub some : 0 < most → 0 < length chunk.bytes
@@ -64,7 +64,7 @@ pub record ReadsNothing (a b : State) : Type 0 where
   pub none_unordered : a.ordered ≡ false → HoldsNothing a.held
 
 -- unordered mode holds from here on
-pub record Leaves (a b : State) : Type 0 where
+pub record LeavesMode (a b : State) : Type 0 where
   pub held : KeepsOffsets a.held b.held
   pub done : a.ordered ≡ true → (at : ℕ) → IsDoneIn b at ↔ ((at < a.read) ⊎ IsHeld a.held at)
   pub done_same : a.ordered ≡ false → (at : ℕ) → b.done at ≡ a.done at
@@ -74,37 +74,37 @@ pub record Leaves (a b : State) : Type 0 where
   pub pieces : b.pieces ≤ a.pieces
 
 -- a step that was taken, and the chunk that it gave
-abbrev pub TakesStep : Op → State → Option Chunk → State → Type 0
-TakesStep (Insert offset bytes size) a o b = (o ≡ None) × Inserts a b offset bytes × (b.pieces ≤ 2048 ⊎ ((a.ordered ≡ true) × (offset < a.read) × (offset + length bytes ≤ a.read)))
-TakesStep (Read most) a None b = ReadsNothing a b
-TakesStep (Read most) a (Some chunk) b = Reads a b most chunk
-TakesStep Unordered a o b = (o ≡ None) × Leaves a b
+abbrev pub TakesOp : Op → State → Option Chunk → State → Type 0
+TakesOp (Insert offset bytes size) a o b = (o ≡ None) × Inserts a b offset bytes × (b.pieces ≤ 2048 ⊎ ((a.ordered ≡ true) × (offset < a.read) × (offset + length bytes ≤ a.read)))
+TakesOp (Read most) a None b = ReadsNothing a b
+TakesOp (Read most) a (Some chunk) b = ReadsChunk a b most chunk
+TakesOp Unordered a o b = (o ≡ None) × LeavesMode a b
 
 -- why a step was refused, and what it left
-abbrev pub Refuses : Op → ReplayError → State → State → Type 0
-Refuses (Insert offset bytes size) TooManyChunks a b = Inserts a b offset bytes × (1024 < b.pieces)
-Refuses (Insert offset bytes size) CompactionMemory a b = Inserts a b offset bytes
-Refuses (Insert offset bytes size) BadPiece a b = Stays a b × ((2 ^ 62 ≤ offset + length bytes) ⊎ (size < length bytes))
-Refuses (Insert offset bytes size) OutOfMemory a b = Stays a b
-Refuses (Read most) OutOfMemory a b = Stays a b
-Refuses (Read most) e a b = ⊥
-Refuses Unordered OutOfMemory a b = Stays a b
-Refuses Unordered e a b = ⊥
+abbrev pub RefusesStep : Op → ReplayError → State → State → Type 0
+RefusesStep (Insert offset bytes size) TooManyChunks a b = Inserts a b offset bytes × (1024 < b.pieces)
+RefusesStep (Insert offset bytes size) CompactionMemory a b = Inserts a b offset bytes
+RefusesStep (Insert offset bytes size) BadPiece a b = Stays a b × ((2 ^ 62 ≤ offset + length bytes) ⊎ (size < length bytes))
+RefusesStep (Insert offset bytes size) OutOfMemory a b = Stays a b
+RefusesStep (Read most) OutOfMemory a b = Stays a b
+RefusesStep (Read most) e a b = ⊥
+RefusesStep Unordered OutOfMemory a b = Stays a b
+RefusesStep Unordered e a b = ⊥
 
 -- the steps lead from a to b, one after the other, and gave the chunks
 abbrev pub Replays : {S : Type 0} → (S → State) → List Op → S → List Chunk → S → Type 0
 Replays value [] a given b = (b ≡ a) × (given ≡ [])
-Replays {S} value (op ∷ ops) a given b = (mid : S) × (chunk : Option Chunk) × (rest : List Chunk) × TakesStep op (value a) chunk (value mid) × Replays value ops mid rest b × (given ≡ option_to_list chunk ++ rest)
+Replays {S} value (op ∷ ops) a given b = (mid : S) × (chunk : Option Chunk) × (rest : List Chunk) × TakesOp op (value a) chunk (value mid) × Replays value ops mid rest b × (given ≡ option_to_list chunk ++ rest)
 
 -- the step brings `byte` at `at`
-abbrev pub Carries : ℕ → ℕ → Op → Type 0
-Carries at byte (Insert offset bytes size) = IsByteAt offset bytes at byte
-Carries at byte (Read most) = ⊥
-Carries at byte Unordered = ⊥
+abbrev pub StepCarries : ℕ → ℕ → Op → Type 0
+StepCarries at byte (Insert offset bytes size) = IsByteAt offset bytes at byte
+StepCarries at byte (Read most) = ⊥
+StepCarries at byte Unordered = ⊥
 
 -- each byte of the chunk was brought by a step
 abbrev pub IsCarriedBy : List Op → Chunk → Type 0
-IsCarriedBy ops chunk = (at byte : ℕ) → IsByteAt chunk.offset chunk.bytes at byte → Any (Carries at byte) ops
+IsCarriedBy ops chunk = (at byte : ℕ) → IsByteAt chunk.offset chunk.bytes at byte → Any (StepCarries at byte) ops
 
 -- no offset is in both
 abbrev pub AreApart : Chunk → Chunk → Type 0
@@ -146,7 +146,7 @@ pub record IsReplay {S : Type 0} (value : S → State) (ops : List Op) (a b : S)
   pub given : List Chunk
   pub added : next ≡ out ++ given
   pub steps : Replays value (take taken ops) a given mid
-  pub end : MatchResult r (λ _. (taken ≡ length ops) × (b ≡ mid)) (λ e. (taken < length ops) × ((d : Op) → Refuses (slice_index_or ops taken d) e (value mid) (value b)))
+  pub end : MatchResult r (λ _. (taken ≡ length ops) × (b ≡ mid)) (λ e. (taken < length ops) × ((d : Op) → RefusesStep (slice_index_or ops taken d) e (value mid) (value b)))
   pub carried : All (IsCarriedBy ops) given
   pub apart : AllPairs AreApart given
   pub gapless : IsGapless value (take taken ops) a mid given

@@ -1,6 +1,6 @@
 // An assembler over a heap of pieces.
 ghost use Rattle.std.specs.Prelude.{◌≡◌, ◌≢◌, ℕ, ◌+◌, ◌-◌, ◌^◌, ◌<◌, ◌≤◌, ◌↔◌, ◌⊎◌, ◌||◌, ◌&&◌, true, false, length, max, OnOk, OnErr, IfSome, IfNone, [], IsTrue, MatchOption, Ok, Err};
-ghost use Rattle.quic_assembler.specs.Piece.{Run, run_end, lies, TakesOff};
+ghost use Rattle.quic_assembler.specs.Piece.{PieceView, run_end, lies, TakesOff};
 ghost use Rattle.quic_assembler.specs.Reassembly.{Reassembly, fresh, Holds, IsDone, is_done, IsHeld, IsWithin, Takes, Gives, SameHeld, KeepsOffsets, IsSameButHeld, HoldsNothing, HoldsOnce, MatchInsert, IfGiven, OnNothing, IsStale, run_count, piece_count, Keeps, LeavesOrder, IsNext, is_wasteful, sums, covered, with_piece, covered_with, IsCompacted, Settles};
 
 use crate::chunk::Chunk;

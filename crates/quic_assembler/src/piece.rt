@@ -1,8 +1,8 @@
 // A piece of a stream that an assembler holds.
 ghost use Rattle.std.specs.Prelude.{◌≡◌, ◌++◌, ◌+◌, ◌-◌, ◌*◌, ◌/◌, ◌^◌, ◌<◌, ◌≤◌, ◌||◌, nat_le, true, false, length, take, drop, IfOk, OnOk, OnErr, vec_len, IsTrue};
 ghost use Rattle.std.specs.Ordering.{as_partial_cmp};
-ghost use Rattle.quic_assembler.specs.Piece.{Run, run_end, run_cmp, run_eq, cut_at, advance_by, HoldsSame};
-ghost use Rattle.quic_assembler.specs.Compact.{is_kept, IsTight};
+ghost use Rattle.quic_assembler.specs.Piece.{PieceView, run_end, run_cmp, run_eq, cut_at, advance_by, HoldsSame};
+ghost use Rattle.quic_assembler.specs.Compact.{stays, IsTight};
 
 use quic_values::{Bytes, OutOfMemory};
 use std::cmp::Ordering;
@@ -22,9 +22,9 @@ pub(crate) struct Piece {
 
 impl Model for Piece {
     ghost use Rattle.std.specs.Prelude.{◌+◌, ◌^◌, ◌<◌, length};
-    ghost use Rattle.quic_assembler.specs.Piece.{Run};
+    ghost use Rattle.quic_assembler.specs.Piece.{PieceView};
 
-    ghost Value = { Run };
+    ghost Value = { PieceView };
 
     ghost view = { λ p. record { offset = p.offset; bytes = p.bytes; allocation_size = p.allocation_size; compact = p.compact; sequence = p.sequence } };
 
@@ -150,7 +150,7 @@ impl Piece {
     /// at least so many bytes, or touches neither what ends there nor what starts at `next`.
     pub(crate) fn is_kept(&self, end: u64, next: Option<u64>, least: u128) -> bool
         requires { end ≤ run_end self.now }
-        ensures { result ≡ is_kept least end self.now next }
+        ensures { result ≡ stays least end self.now next }
     {
         let stop = self.offset + self.bytes.len() as u64;
         let length = stop - self.offset.max(end);

@@ -5,7 +5,7 @@ ghost use Rattle.std.specs.List.Sorted.{IsPermutation};
 ghost use Rattle.quic_assembler.specs.Compact.{Compacts, slots, with_run};
 ghost use Rattle.quic_assembler.specs.Reassembly.{covered, IsCompacted};
 ghost use Rattle.quic_values.specs.Runs.{contains};
-ghost use Rattle.quic_assembler.specs.Piece.{Run, Covers, RunHolds, cover_count, bit, Queue, IsSome, IsSound, IsLowest, run_end, run_length, run_allocation, sums_of, cut_at, advance_by, KeepsFrom, IsFreshFrom, NoneHoldsAt, TakesSome, TakesNone, Sheds, ReadsOff};
+ghost use Rattle.quic_assembler.specs.Piece.{PieceView, Covers, RunHolds, cover_count, bit, Queue, IsSome, IsPieceSound, IsLowest, run_end, run_length, run_allocation, sums_of, cut_at, advance_by, KeepsFrom, IsFreshFrom, NoneHoldsAt, TakesSome, TakesNone, Sheds, ReadsOff};
 
 use crate::piece::Piece;
 use quic_values::{Bytes, OutOfMemory, RangeSet};
@@ -157,7 +157,7 @@ impl Pieces {
         ensures first { result ≡ slice_index_or self.old.runs 0 result }
         ensures popped { IsPermutation self.old.runs (result ∷ self.new.runs) }
         ensures lowest { IsLowest result self.old.runs }
-        ensures sound { IsSound result }
+        ensures sound { IsPieceSound result }
         ensures others { All IsSome self.new.runs }
         ensures room { length self.new.runs < self.new.room }
     {
@@ -197,7 +197,7 @@ impl Pieces {
     // Whether the first piece ends at or below the floor.
     fn is_stale(&self, floor: u64) -> bool
         ensures some { IsTrue result → 0 < length self.now.runs }
-        ensures value { (d : Run) → 0 < length self.now.runs → IsTrue result ↔ (run_end (slice_index_or self.now.runs 0 d) ≤ floor) }
+        ensures value { (d : PieceView) → 0 < length self.now.runs → IsTrue result ↔ (run_end (slice_index_or self.now.runs 0 d) ≤ floor) }
     {
         match self.heap.peek() {
             None => false,
@@ -208,7 +208,7 @@ impl Pieces {
     // Whether the first piece starts at or below the floor.
     fn reaches(&self, floor: u64) -> bool
         ensures some { IsTrue result → 0 < length self.now.runs }
-        ensures yes { (d : Run) → IsTrue result → (slice_index_or self.now.runs 0 d).offset ≤ floor }
+        ensures yes { (d : PieceView) → IsTrue result → (slice_index_or self.now.runs 0 d).offset ≤ floor }
         ensures no { result ≡ false → All (λ q. floor < q.offset) self.now.runs }
     {
         match self.heap.peek() {

@@ -1,7 +1,7 @@
 // A list of steps on any reassembler.
 ghost use Rattle.std.specs.Prelude.{◌≡◌, ℕ, ◌+◌, ◌^◌, ◌<◌, ◌≤◌, ◌⊎◌, Bool, true, false, OnOk, OnErr, IfOk, IfErr, length, take, vec_len, vec_capacity, option_to_list, IsTrue, [], ◌∷◌, ◌++◌};
 ghost use Rattle.quic_assembler.specs.Reassembly.{HoldsNothing};
-ghost use Rattle.quic_assembler.specs.Steps.{state_of, TakesStep, Refuses, IsReplay};
+ghost use Rattle.quic_assembler.specs.Steps.{state_of, TakesOp, RefusesStep, IsReplay};
 
 use crate::chunk::Chunk;
 use crate::errors::InsertError;
@@ -77,8 +77,8 @@ fn insert_copy<R: Reassemble>(
     bytes: &Bytes,
     allocation_size: usize,
 ) -> Result<Option<Chunk>, ReplayError>
-    ensures ok { IfOk result (λ chunk. TakesStep (Op.Insert offset bytes.now allocation_size) (state_of R.holds R.is_done R.read_count R.is_ordered R.highest R.piece_count r.old) chunk (state_of R.holds R.is_done R.read_count R.is_ordered R.highest R.piece_count r.new)) }
-    ensures err { IfErr result (λ e. Refuses (Op.Insert offset bytes.now allocation_size) e (state_of R.holds R.is_done R.read_count R.is_ordered R.highest R.piece_count r.old) (state_of R.holds R.is_done R.read_count R.is_ordered R.highest R.piece_count r.new)) }
+    ensures ok { IfOk result (λ chunk. TakesOp (Op.Insert offset bytes.now allocation_size) (state_of R.holds R.is_done R.read_count R.is_ordered R.highest R.piece_count r.old) chunk (state_of R.holds R.is_done R.read_count R.is_ordered R.highest R.piece_count r.new)) }
+    ensures err { IfErr result (λ e. RefusesStep (Op.Insert offset bytes.now allocation_size) e (state_of R.holds R.is_done R.read_count R.is_ordered R.highest R.piece_count r.old) (state_of R.holds R.is_done R.read_count R.is_ordered R.highest R.piece_count r.new)) }
 {
     if !is_piece(offset, bytes.len(), allocation_size) {
         return Err(ReplayError::BadPiece);
@@ -99,8 +99,8 @@ fn read_next<R: Reassemble>(
     ordered: bool,
 ) -> Result<Option<Chunk>, ReplayError>
     requires { ordered ≡ R.is_ordered r.old }
-    ensures ok { IfOk result (λ chunk. TakesStep (Op.Read max_length) (state_of R.holds R.is_done R.read_count R.is_ordered R.highest R.piece_count r.old) chunk (state_of R.holds R.is_done R.read_count R.is_ordered R.highest R.piece_count r.new)) }
-    ensures err { IfErr result (λ e. Refuses (Op.Read max_length) e (state_of R.holds R.is_done R.read_count R.is_ordered R.highest R.piece_count r.old) (state_of R.holds R.is_done R.read_count R.is_ordered R.highest R.piece_count r.new)) }
+    ensures ok { IfOk result (λ chunk. TakesOp (Op.Read max_length) (state_of R.holds R.is_done R.read_count R.is_ordered R.highest R.piece_count r.old) chunk (state_of R.holds R.is_done R.read_count R.is_ordered R.highest R.piece_count r.new)) }
+    ensures err { IfErr result (λ e. RefusesStep (Op.Read max_length) e (state_of R.holds R.is_done R.read_count R.is_ordered R.highest R.piece_count r.old) (state_of R.holds R.is_done R.read_count R.is_ordered R.highest R.piece_count r.new)) }
 {
     match r.read(max_length, ordered)? {
         None => Ok(None),
@@ -110,8 +110,8 @@ fn read_next<R: Reassemble>(
 
 // Goes to unordered mode.
 fn leave_order<R: Reassemble>(r: &mut R) -> Result<Option<Chunk>, ReplayError>
-    ensures ok { IfOk result (λ chunk. TakesStep Op.Unordered (state_of R.holds R.is_done R.read_count R.is_ordered R.highest R.piece_count r.old) chunk (state_of R.holds R.is_done R.read_count R.is_ordered R.highest R.piece_count r.new)) }
-    ensures err { IfErr result (λ e. Refuses Op.Unordered e (state_of R.holds R.is_done R.read_count R.is_ordered R.highest R.piece_count r.old) (state_of R.holds R.is_done R.read_count R.is_ordered R.highest R.piece_count r.new)) }
+    ensures ok { IfOk result (λ chunk. TakesOp Op.Unordered (state_of R.holds R.is_done R.read_count R.is_ordered R.highest R.piece_count r.old) chunk (state_of R.holds R.is_done R.read_count R.is_ordered R.highest R.piece_count r.new)) }
+    ensures err { IfErr result (λ e. RefusesStep Op.Unordered e (state_of R.holds R.is_done R.read_count R.is_ordered R.highest R.piece_count r.old) (state_of R.holds R.is_done R.read_count R.is_ordered R.highest R.piece_count r.new)) }
 {
     if r.ensure_ordering(false).is_err() {
         return Err(ReplayError::OutOfMemory);
@@ -126,8 +126,8 @@ fn take_step<R: Reassemble>(
     ordered: &mut bool,
 ) -> Result<Option<Chunk>, ReplayError>
     requires { ordered.old ≡ R.is_ordered r.old }
-    ensures ok { IfOk result (λ chunk. TakesStep op.now (state_of R.holds R.is_done R.read_count R.is_ordered R.highest R.piece_count r.old) chunk (state_of R.holds R.is_done R.read_count R.is_ordered R.highest R.piece_count r.new)) }
-    ensures err { IfErr result (λ e. Refuses op.now e (state_of R.holds R.is_done R.read_count R.is_ordered R.highest R.piece_count r.old) (state_of R.holds R.is_done R.read_count R.is_ordered R.highest R.piece_count r.new)) }
+    ensures ok { IfOk result (λ chunk. TakesOp op.now (state_of R.holds R.is_done R.read_count R.is_ordered R.highest R.piece_count r.old) chunk (state_of R.holds R.is_done R.read_count R.is_ordered R.highest R.piece_count r.new)) }
+    ensures err { IfErr result (λ e. RefusesStep op.now e (state_of R.holds R.is_done R.read_count R.is_ordered R.highest R.piece_count r.old) (state_of R.holds R.is_done R.read_count R.is_ordered R.highest R.piece_count r.new)) }
     ensures mode { OnOk result (ordered.new ≡ R.is_ordered r.new) }
 {
     match op {

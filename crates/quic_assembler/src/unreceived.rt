@@ -2,7 +2,7 @@
 ghost use Rattle.std.specs.Prelude.{◌≡◌, ℕ, ◌+◌, ◌-◌, ◌^◌, ◌<◌, ◌≤◌, ◌⊎◌, true, false, [], ◌∷◌, ◌++◌, length, max, min, take, drop, ◌||◌, IfOk, OnOk, OnErr, vec_len, IsTrue};
 ghost use Rattle.std.specs.List.{Any, All};
 ghost use Rattle.quic_values.specs.Runs.{contains};
-ghost use Rattle.quic_assembler.specs.Piece.{Run, run_end, cut_at, covers, cover_count, lies, IsSome, RunHolds};
+ghost use Rattle.quic_assembler.specs.Piece.{PieceView, run_end, cut_at, covers, cover_count, lies, IsSome, RunHolds};
 ghost use Rattle.quic_assembler.specs.Reassembly.{IsCut, TakesFront, TakesFresh, NoneReceived};
 
 use crate::piece::Piece;
@@ -31,7 +31,7 @@ fn cut_next(
     rest: &mut Piece,
     fronts: &mut Vec<Piece>,
 ) -> Result<bool, OutOfMemory>
-    ensures cut { (whole : Run) → IsCut received.now whole rest.old fronts.old.items → OnOk result (IsCut received.now whole rest.new fronts.new.items) }
+    ensures cut { (whole : PieceView) → IsCut received.now whole rest.old fronts.old.items → OnOk result (IsCut received.now whole rest.new fronts.new.items) }
     ensures less { IfOk result (λ found. IsTrue found → length rest.new.bytes < length rest.old.bytes) }
     ensures none { IfOk result (λ found. found ≡ false → NoneReceived received.now rest.new) }
 {

@@ -4,10 +4,7 @@ use Rattle.quic_values.specs.declared.ids.Dir.TheVariants as dirs
 use Rattle.quic_wire.specs.declared.frame.Frame.{Frame}
 use Rattle.quic_wire.specs.declared.frame.Frame.TheVariants as frames
 use Rattle.quic_datagrams.specs.declared.stats.FrameStats.{FrameStats}
-
--- one more, up to the greatest number of 64 bits
-abbrev pub one_more : ℕ → ℕ
-one_more n = min (n + 1) (2 ^ 64 - 1)
+use Rattle.quic_values.specs.Offsets.{one_more}
 
 -- one more, up to the greatest number of 8 bits
 abbrev pub one_more_short : ℕ → ℕ

@@ -1,7 +1,7 @@
 //! How many frames of each type were sent or received.
 
 ghost use Rattle.std.specs.Prelude.{◌≡◌};
-ghost use Rattle.quic_datagrams.specs.Counting.{one_more};
+ghost use Rattle.quic_values.specs.Offsets.{one_more};
 
 use quic_wire::{Dir, Frame};
 use std::fmt;

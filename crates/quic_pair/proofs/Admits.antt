@@ -15,10 +15,11 @@ use Rattle.quic_wire.specs.declared.frame.Stream.{Stream}
 use Rattle.quic_assembler.specs.Reassembly.{piece_count}
 use Rattle.quic_assembler.specs.declared.Chunk.{Chunk}
 use Rattle.quic_pair.specs.Network.{HasStream, part}
-use Rattle.quic_pair.specs.Sending.{Sending, Takes, Finishes}
-use Rattle.quic_pair.specs.Receiving.{Receiving, Receives, Keeps, Reads, ReadsAll, verdict, is_past}
-use Rattle.quic_pair.specs.Steps.{World, Next, Refuses, OnStream, OnReceiving, OnlyReceiving, Emits, Delivered, ReportsLoss, LosesFrame, ReportsAck, AcksFrame, WritesBytes, Unknown}
-use Rattle.quic_pair.specs.History.{Past, Answer, History, past_of, nothing_yet, after, after_open, after_accept, after_write, after_finish, after_read, after_poll, after_event, after_deliver, after_ack, codes_of, kept_by}
+use Rattle.quic_pair.specs.Sending.{Sending, TakesBytes, Finishes}
+use Rattle.quic_pair.specs.Receiving.{Receiving, ReceivesFrame, KeepsFrame, ReadsStream, ReadsAll, frame_verdict}
+use Rattle.quic_values.specs.Offsets.{is_past}
+use Rattle.quic_pair.specs.Steps.{World, Next, KnowsNoId, OnStream, OnReceiving, OnlyReceiving, Emits, Delivered, ReportsLoss, LosesFrame, ReportsAck, AcksFrame, WritesBytes, Unknown}
+use Rattle.quic_pair.specs.History.{Past, Answer, History, past_of, nothing_yet, after, after_open, after_accept, after_write, after_finish, past_read, after_poll, after_event, after_deliver, past_ack, codes_of, kept_by}
 use Rattle.quic_pair.specs.From.{From, begin, next, IsNew}
 use Rattle.quic_pair.specs.declared.steps.Config.{Config}
 use Rattle.quic_pair.specs.declared.steps.End.TheVariants.{A, B}
@@ -105,7 +106,7 @@ not_short true end high written ends h = let e = ends refl in lt_false end high 
 not_short false end high written ends h = refl
 
 -- it is no error
-no_error : (b : Config) (written kept : ℕ) (r : Receiving) (s : Stream) → Within b written kept r → ((e : ℕ) → r.final_size ≡ Some e → e ≡ written) → IsHonestFrame written s → verdict r s.offset (length s.bytes) s.fin ≡ None
+no_error : (b : Config) (written kept : ℕ) (r : Receiving) (s : Stream) → Within b written kept r → ((e : ℕ) → r.final_size ≡ Some e → e ≡ written) → IsHonestFrame written s → frame_verdict r s.offset (length s.bytes) s.fin ≡ None
 no_error b written kept r s h size honest =
     let far = le_false (2 ^ 62) (s.offset + length s.bytes) (omega (arith, honest.within, h.connection, h.small)) in
     let past = not_past r.final_size (s.offset + length s.bytes) written s.fin size honest.within honest.ends in
@@ -115,7 +116,7 @@ no_error b written kept r s h size honest =
     rw (far, past, short, stream, connection) refl
 
 -- a frame is kept
-Within-keeps : (b : Config) (written kept : ℕ) (old : Receiving) (s : Stream) (new : Receiving) → Within b written kept old → IsHonestFrame written s → Keeps old s.offset s.bytes s.fin new → Within b written (kept + 1) new
+Within-keeps : (b : Config) (written kept : ℕ) (old : Receiving) (s : Stream) (new : Receiving) → Within b written kept old → IsHonestFrame written s → KeepsFrame old s.offset s.bytes s.fin new → Within b written (kept + 1) new
 Within-keeps b written kept old s new h honest k =
     let end = ap (λ (r : Receiving). r.end) k.new_is in
     let received = ap (λ (r : Receiving). r.data_received) k.new_is in
@@ -152,7 +153,7 @@ refused_more kept more codes h = All-weaker (IsTooMany kept) (IsTooMany (kept + 
 size_of_past : (p : Past) (v : World) → Fits p v → (e : ℕ) → v.receiving.final_size ≡ Some e → e ≡ length p.written
 size_of_past p v h e q = (h.receiver.size e q).1
 
-received_done : (b : Config) (p : Past) (old : World) (s : Stream) (new : Receiving) → Admits b p old → IsHonestFrame (length p.written) s → Receives old.receiving s.offset s.bytes s.fin (Ok Done) new → Within b (length p.written) (p.kept + 1) new
+received_done : (b : Config) (p : Past) (old : World) (s : Stream) (new : Receiving) → Admits b p old → IsHonestFrame (length p.written) s → ReceivesFrame old.receiving s.offset s.bytes s.fin (Ok Done) new → Within b (length p.written) (p.kept + 1) new
 received_done b p old s new h honest (inl same) = rw same.1 (Within-more b (length p.written) p.kept 1 old.receiving h.within)
 received_done b p old s new h honest (inr kept) = Within-keeps b (length p.written) p.kept old.receiving s new h.within honest kept.0
 
@@ -164,7 +165,7 @@ pub record IsCounted (b : Config) (p : Past) (error : ReceiveError) (new : Recei
 one_kept : (error : TransportError) → error.code ≡ 1 → kept_by (Transport error) ≡ 1
 one_kept error e = rw (eq-eqb error.code 1 e) refl
 
-fault_counted : (b : Config) (p : Past) (old : World) (s : Stream) (error : TransportError) (new : Receiving) → Admits b p old → IsHonestFrame (length p.written) s → error.code ≡ 1 → Keeps old.receiving s.offset s.bytes s.fin new → 1024 < piece_count new.held → IsCounted b p (Transport error) new
+fault_counted : (b : Config) (p : Past) (old : World) (s : Stream) (error : TransportError) (new : Receiving) → Admits b p old → IsHonestFrame (length p.written) s → error.code ≡ 1 → KeepsFrame old.receiving s.offset s.bytes s.fin new → 1024 < piece_count new.held → IsCounted b p (Transport error) new
 fault_counted b p old s error new h honest code keeps many =
     let kept = one_kept error code in
     let within = Within-keeps b (length p.written) p.kept old.receiving s new h.within honest keeps in
@@ -174,7 +175,7 @@ fault_counted b p old s error new h honest code keeps many =
           (All-cons (IsTooMany (p.kept + 1)) error.code [] (code, omega (arith, many, within.pieces)) (All-nil (IsTooMany (p.kept + 1)))));
     }
 
-received_fault : (b : Config) (p : Past) (old : World) (s : Stream) (error : ReceiveError) (new : Receiving) → Admits b p old → Fits p old → IsHonestFrame (length p.written) s → Receives old.receiving s.offset s.bytes s.fin (Ok (Fault error)) new → IsCounted b p error new
+received_fault : (b : Config) (p : Past) (old : World) (s : Stream) (error : ReceiveError) (new : Receiving) → Admits b p old → Fits p old → IsHonestFrame (length p.written) s → ReceivesFrame old.receiving s.offset s.bytes s.fin (Ok (Fault error)) new → IsCounted b p error new
 received_fault b p old s (Transport error) new h fits honest (inl same) =
     absurd (none-some error.code (sym (no_error b (length p.written) p.kept old.receiving s h.within (size_of_past p old fits) honest) ∙ same.1))
 received_fault b p old s (Transport error) new h fits honest (inr kept) = fault_counted b p old s error new h honest kept.0 kept.1 kept.3
@@ -218,13 +219,13 @@ read_admits most times b p old chunks last transmit r h n =
       pieces = omega (arith, h.within.pieces, n.gives.pieces);
     }
 
-reads_at : (most times : ℕ) (b : Config) (p : Past) (old : World) (answer : Answer) (new : World) → Admits b p old → Reads most times old.receiving answer new.receiving → Admits b (after_read p answer) new
+reads_at : (most times : ℕ) (b : Config) (p : Past) (old : World) (answer : Answer) (new : World) → Admits b p old → ReadsStream most times old.receiving answer new.receiving → Admits b (past_read p answer) new
 reads_at most times b p old (Ok (Read chunks last transmit)) new h n = record { within = read_admits most times b p old chunks.items last transmit new.receiving h n; refused = h.refused }
 reads_at most times b p old (Ok Closed) new h n = admits_same b p old new n.1 h
 reads_at most times b p old (Err OutOfMemory) new h n = admits_same b p old new n h
 reads_at most times b p old _ new h n = absurd n
 
-reads : (most times : ℕ) (b : Config) (p : Past) (old : World) (id : ℕ) (answer : Answer) (new : World) → Admits b p old → (Unknown old.receiving.taken id × Refuses old answer new) ⊎ OnReceiving most times old id answer new → Admits b (after_read p answer) new
+reads : (most times : ℕ) (b : Config) (p : Past) (old : World) (id : ℕ) (answer : Answer) (new : World) → Admits b p old → (Unknown old.receiving.taken id × KnowsNoId old answer new) ⊎ OnReceiving most times old id answer new → Admits b (past_read p answer) new
 reads most times b p old id answer new h (inl u) = rw (u.1.0, u.1.1) h
 reads most times b p old id answer new h (inr n) = reads_at most times b p old answer new h n.does
 
@@ -250,12 +251,12 @@ accepts b p old (Ok Nothing) new h n = admits_same b p old new n.does.1 h
 accepts b p old _ new h n = absurd n.does
 
 -- a write stays within what is permitted
-within_limits : (a b : Config) (p : Past) (old : World) (bytes : List ℕ) (count : ℕ) (s : Sending) → BoundsOf a b p old → Takes old.sending bytes count s → (count ≤ b.receive_window - length p.written) × (count ≤ b.stream_receive_window - length p.written)
+within_limits : (a b : Config) (p : Past) (old : World) (bytes : List ℕ) (count : ℕ) (s : Sending) → BoundsOf a b p old → TakesBytes old.sending bytes count s → (count ≤ b.receive_window - length p.written) × (count ≤ b.stream_receive_window - length p.written)
 within_limits a b p old bytes count s bounds t =
     let size = written_size a b p old bounds in
     (omega (arith, t.count_is, size, bounds.max_data), omega (arith, t.count_is, size, bounds.max_stream_data))
 
-write_admits : (a b : Config) (p : Past) (old : World) (bytes : List ℕ) (count : ℕ) (s : Sending) → BoundsOf a b p old → Admits b p old → Takes old.sending bytes count s → Within b (length (p.written ++ take count bytes)) p.kept old.receiving
+write_admits : (a b : Config) (p : Past) (old : World) (bytes : List ℕ) (count : ℕ) (s : Sending) → BoundsOf a b p old → Admits b p old → TakesBytes old.sending bytes count s → Within b (length (p.written ++ take count bytes)) p.kept old.receiving
 write_admits a b p old bytes count s bounds h t =
     let limits = within_limits a b p old bytes count s bounds t in
     let size : length (p.written ++ take count bytes) ≡ length p.written + length (take count bytes) = length-append p.written (take count bytes) in
@@ -305,7 +306,7 @@ past_poll : (p : Past) (answer : Answer) → SameTold p (after_poll p answer)
 past_poll p (Ok (Event event)) = past_event p event
 past_poll p _ = record { written = refl; kept = refl; refused = refl }
 
-past_ack : (p : Past) (k i : ℕ) (answer : Answer) → SameTold p (after_ack p k i answer)
+past_ack : (p : Past) (k i : ℕ) (answer : Answer) → SameTold p (past_ack p k i answer)
 past_ack p k i (Ok Done) = record { written = refl; kept = refl; refused = refl }
 past_ack p k i _ = record { written = refl; kept = refl; refused = refl }
 
@@ -316,7 +317,7 @@ stays b p q old new same is h = record {
   refused = rw (same.kept, same.refused) h.refused;
 }
 
-refuses : (b : Config) (p q : Past) (old : World) (answer : Answer) (new : World) → SameTold p q → Refuses old answer new → Admits b p old → Admits b q new
+refuses : (b : Config) (p q : Past) (old : World) (answer : Answer) (new : World) → SameTold p q → KnowsNoId old answer new → Admits b p old → Admits b q new
 refuses b p q old answer new same r h = stays b p q old new same (ap (λ (v : World). v.receiving) r.1) h
 
 on_stream : (P : Sending → Answer → Sending → Type 0) (old : World) (id : ℕ) (answer : Answer) (new : World) → OnStream P old id answer new → new.receiving ≡ old.receiving

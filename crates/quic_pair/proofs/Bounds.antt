@@ -10,11 +10,11 @@ use Rattle.quic_values.specs.Runs.{lies_in}
 use Rattle.quic_values.specs.declared.Dir.TheVariants.{Uni}
 use Rattle.quic_wire.specs.declared.StreamEvent.{StreamEvent}
 use Rattle.quic_wire.specs.declared.StreamEvent.TheVariants.{Finished}
-use Rattle.quic_sending.specs.Buffer.{Buffered, HasCuts, IsSound, is_acked, cut, total, uncovered}
+use Rattle.quic_sending.specs.Buffer.{Buffered, HasCuts, IsSound, is_acked, cut_of, total_length, uncovered}
 use Rattle.quic_pair.specs.Network.{Sent, Piece, HasPiece}
-use Rattle.quic_pair.specs.Sending.{Sending, Opens, Takes, Finishes, Ends, Lost, Loses, Acked, Acks, Polls, write_limit, stream_room}
-use Rattle.quic_pair.specs.Steps.{World, Next, Refuses, OnStream, OnReceiving, OnlySending, OnlyReceiving, Emitted, Emits, Delivers, Faults, Delivered, ReportsLoss, LosesFrame, ReportsAck, AcksFrame, WritesBytes, Unknown}
-use Rattle.quic_pair.specs.History.{Past, History, Answer, past_of, nothing_yet, after, after_open, after_accept, after_write, after_finish, after_read, after_poll, after_event, after_deliver, after_ack}
+use Rattle.quic_pair.specs.Sending.{Sending, Opens, TakesBytes, Finishes, Ends, Lost, Loses, Acked, Acks, Polls, write_limit, limit_room}
+use Rattle.quic_pair.specs.Steps.{World, Next, KnowsNoId, OnStream, OnReceiving, OnlySending, OnlyReceiving, Emitted, Emits, Delivers, Faults, Delivered, ReportsLoss, LosesFrame, ReportsAck, AcksFrame, WritesBytes, Unknown}
+use Rattle.quic_pair.specs.History.{Past, History, Answer, past_of, nothing_yet, after, after_open, after_accept, after_write, after_finish, past_read, after_poll, after_event, after_deliver, past_ack}
 use Rattle.quic_pair.specs.From.{From, begin, next, IsNew}
 use Rattle.quic_pair.specs.Permits.{IsReported, IsRetained, IsAnsweredSo, TakesWhatIsPermitted}
 use Rattle.quic_pair.specs.declared.steps.Config.{Config}
@@ -211,13 +211,13 @@ delivers old k i (Err NoSuchFrame) new n = rw n.1 (Moves-same old)
 delivers old k i (Err OutOfMemory) new n = rw n (Moves-same old)
 delivers old k i _ new n = absurd n
 
-reads : (most times : ℕ) (old : World) (id : ℕ) (answer : Answer) (new : World) → (Unknown old.receiving.taken id × Refuses old answer new) ⊎ OnReceiving most times old id answer new → Moves old new
+reads : (most times : ℕ) (old : World) (id : ℕ) (answer : Answer) (new : World) → (Unknown old.receiving.taken id × KnowsNoId old answer new) ⊎ OnReceiving most times old id answer new → Moves old new
 reads most times old id answer new (inl u) = rw u.1.1 (Moves-same old)
 reads most times old id answer new (inr n) = rw n.new_is (record { max_data = refl; max_stream_data = refl; send_window = refl; cuts = λ cs h. h; sound = λ h. h; acked = λ m. refl; reach = same_reach old.sent })
 
 -- a write adds a piece
-Bounds-write : (a b : Config) (p : Past) (old : World) (bytes : List ℕ) (count : ℕ) (s : Sending) → Bounds a b p.pieces p.written p.acknowledged old → Takes old.sending bytes count s →
-    Bounds a b (p.pieces ++ cut (take count bytes)) (p.written ++ take count bytes) p.acknowledged (record old { sending = s })
+Bounds-write : (a b : Config) (p : Past) (old : World) (bytes : List ℕ) (count : ℕ) (s : Sending) → Bounds a b p.pieces p.written p.acknowledged old → TakesBytes old.sending bytes count s →
+    Bounds a b (p.pieces ++ cut_of (take count bytes)) (p.written ++ take count bytes) p.acknowledged (record old { sending = s })
 Bounds-write a b p old bytes count s h t =
     let buffer = ap (λ (x : Sending). x.buffer) t.new_is in
     record {
@@ -226,7 +226,7 @@ Bounds-write a b p old bytes count s h t =
       send_window = ap (λ (x : Sending). x.send_window) t.new_is ∙ h.send_window;
       cuts = t.cuts p.pieces h.cuts;
       sound = t.sound;
-      joined = concat-append p.pieces (cut (take count bytes)) ∙ rw (h.joined, concat_cut (take count bytes)) refl;
+      joined = concat-append p.pieces (cut_of (take count bytes)) ∙ rw (h.joined, concat_cut (take count bytes)) refl;
       there = h.there;
       told = λ n e. h.told n (rw buffer at e);
       acked = λ n z. rw buffer (h.acked n z);
@@ -325,18 +325,18 @@ Bounds-late a b p old k i x f h has freed = record {
 }
 
 acked_at : (a b : Config) (p : Past) (old : World) (k i : ℕ) (x : Piece) (answer : Answer) (s : Sending) → Fits p old → Bounds a b p.pieces p.written p.acknowledged old → HasPiece old.sent k i x → Acked old.sending (record { start = x.start; end = x.end }) x.fin answer s →
-    (let q = after_ack p k i answer in Bounds a b q.pieces q.written q.acknowledged (record old { sending = s }))
+    (let q = past_ack p k i answer in Bounds a b q.pieces q.written q.acknowledged (record old { sending = s }))
 acked_at a b p old k i x (Ok Done) s f h has (inl e) = rw e.1 (Bounds-late a b p old k i x f h has e.0)
 acked_at a b p old k i x (Ok Done) s f h has (inr t) = Bounds-ack a b p old k i x s h has t
 acked_at a b p old k i x (Err OutOfMemory) s f h has t = rw t h
 acked_at a b p old k i x _ s f h has t = absurd t
 
 acks_at : (a b : Config) (p : Past) (old : World) (k i : ℕ) (answer : Answer) (new : World) → Fits p old → Bounds a b p.pieces p.written p.acknowledged old → ReportsAck old k i answer new →
-    (let q = after_ack p k i answer in Bounds a b q.pieces q.written q.acknowledged new)
+    (let q = past_ack p k i answer in Bounds a b q.pieces q.written q.acknowledged new)
 acks_at a b p old k i answer new f h n = rw n.new_is (acked_at a b p old k i n.piece answer new.sending f h n.has n.does)
 
 acks : (a b : Config) (p : Past) (old : World) (k i : ℕ) (answer : Answer) (new : World) → Fits p old → Bounds a b p.pieces p.written p.acknowledged old → AcksFrame old k i answer new →
-    (let q = after_ack p k i answer in Bounds a b q.pieces q.written q.acknowledged new)
+    (let q = past_ack p k i answer in Bounds a b q.pieces q.written q.acknowledged new)
 acks a b p old k i (Err NoSuchPayload) new f h n = rw n.1 h
 acks a b p old k i (Err NoSuchFrame) new f h n = rw n.1 h
 acks a b p old k i (Err NotAccepted) new f h n = rw n.1 h
@@ -367,7 +367,7 @@ past_finish : (p : Past) (answer : Answer) → SamePast p (after_finish p answer
 past_finish p (Ok Done) = record { pieces = refl; written = refl; acknowledged = refl }
 past_finish p _ = record { pieces = refl; written = refl; acknowledged = refl }
 
-past_read : (p : Past) (answer : Answer) → SamePast p (after_read p answer)
+past_read : (p : Past) (answer : Answer) → SamePast p (past_read p answer)
 past_read p (Ok (Read chunks last transmit)) = record { pieces = refl; written = refl; acknowledged = refl }
 past_read p _ = record { pieces = refl; written = refl; acknowledged = refl }
 
@@ -387,7 +387,7 @@ past_deliver p k i _ = record { pieces = refl; written = refl; acknowledged = re
 by_past : (a b : Config) (p q : Past) (old new : World) → SamePast p q → BoundsOf a b p old → Moves old new → BoundsOf a b q new
 by_past a b p q old new s h m = moved a b p q old new s.pieces s.written s.acknowledged h m
 
-stays : (a b : Config) (p q : Past) (old : World) (answer : Answer) (new : World) → SamePast p q → BoundsOf a b p old → Refuses old answer new → BoundsOf a b q new
+stays : (a b : Config) (p q : Past) (old : World) (answer : Answer) (new : World) → SamePast p q → BoundsOf a b p old → KnowsNoId old answer new → BoundsOf a b q new
 stays a b p q old answer new s h r = by_past a b p q old new s h (rw r.1 (Moves-same old))
 
 Bounds-next : (a b : Config) (p : Past) (old : World) (step : Step) (answer : Answer) (new : World) → Fits p old → BoundsOf a b p old → Next old step answer new → BoundsOf a b (after p step answer) new
@@ -438,37 +438,37 @@ past_prefix v s e = elim (or_true _ _ e) [
   | inr later ↦ let z = s.later_in v.prefix later in omega (arith, z.0)
 ]
 
-retained : (a b : Config) (p : Past) (v : World) → BoundsOf a b p v → IsRetained p v.sent (total v.sending.buffer.held)
+retained : (a b : Config) (p : Past) (v : World) → BoundsOf a b p v → IsRetained p v.sent (total_length v.sending.buffer.held)
 retained a b p v h = record {
   prefix = v.sending.buffer.prefix;
   below = λ n low. h.told n (below_true n v.sending.buffer.prefix _ low);
   at = λ z. past_prefix v.sending.buffer h.sound (h.acked v.sending.buffer.prefix z);
-  is = ap total h.cuts.retained;
+  is = ap total_length h.cuts.retained;
 }
 
 pub written_size : (a b : Config) (p : Past) (v : World) → BoundsOf a b p v → v.sending.buffer.offset ≡ length p.written
 written_size a b p v h = h.cuts.written ∙ total-concat p.pieces ∙ ap length h.joined
 
 least : (a b : Config) (p : Past) (v : World) (h : BoundsOf a b p v) →
-    min (write_limit v.sending) (stream_room v.sending) ≡ min (min (b.receive_window - length p.written) (a.send_window - total v.sending.buffer.held)) (b.stream_receive_window - length p.written)
+    min (write_limit v.sending) (limit_room v.sending) ≡ min (min (b.receive_window - length p.written) (a.send_window - total_length v.sending.buffer.held)) (b.stream_receive_window - length p.written)
 least a b p v h = rw (h.max_data, h.max_stream_data, h.send_window, written_size a b p v h) refl
 
 blocked_least : (x y : ℕ) → (x ≡ 0) ⊎ (y ≡ 0) → min x y ≡ 0
 blocked_least x y (inl e) = omega arith
 blocked_least x y (inr e) = omega arith
 
-blocked_by : (s : Sending) → (write_limit s ≡ 0) ⊎ ((s.finished ≡ false) × (stream_room s ≡ 0)) → (write_limit s ≡ 0) ⊎ (stream_room s ≡ 0)
+blocked_by : (s : Sending) → (write_limit s ≡ 0) ⊎ ((s.finished ≡ false) × (limit_room s ≡ 0)) → (write_limit s ≡ 0) ⊎ (limit_room s ≡ 0)
 blocked_by s (inl e) = inl e
 blocked_by s (inr e) = inr e.1
 
 answered : (a b : Config) (p : Past) (old : World) (bytes : List ℕ) (answer : Answer) (new : Sending) → BoundsOf a b p old → WritesBytes bytes old.sending answer new → IsAnsweredSo a b p old.sent (length bytes) answer
 answered a b p old bytes (Ok (Wrote count)) new h t = record {
-  retained = total old.sending.buffer.held;
+  retained = total_length old.sending.buffer.held;
   is_retained = retained a b p old h;
   count_is = t.count_is ∙ ap (λ n. min (length bytes) n) (least a b p old h);
 }
 answered a b p old bytes (Ok Blocked) new h t = record {
-  retained = total old.sending.buffer.held;
+  retained = total_length old.sending.buffer.held;
   is_retained = retained a b p old h;
   none_left = sym (least a b p old h) ∙ blocked_least _ _ (blocked_by old.sending t.1);
 }

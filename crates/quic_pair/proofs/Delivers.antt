@@ -14,9 +14,9 @@ use Rattle.quic_wire.specs.declared.ReceiveError.TheVariants.{Transport, Compact
 use Rattle.quic_assembler.specs.declared.Chunk.{Chunk}
 use Rattle.quic_pair.specs.Network.{Sent, Piece, HasPiece, HasStream, SpellsStream, part, frame_of, accepted_at}
 use Rattle.quic_pair.specs.Sending.{Sending, Acked, Acks}
-use Rattle.quic_pair.specs.Receiving.{Receiving, Receives, Keeps, Reads, ReadsAll, Gives, Stops}
-use Rattle.quic_pair.specs.Steps.{World, OnReceiving, Refuses, Unknown, Delivers, Faults, Delivered, ReportsAck, AcksFrame}
-use Rattle.quic_pair.specs.History.{Past, Answer, after_read, after_deliver, after_ack, bytes_of, ended_by}
+use Rattle.quic_pair.specs.Receiving.{Receiving, ReceivesFrame, KeepsFrame, ReadsStream, ReadsAll, GivesInOrder, WhyStopped}
+use Rattle.quic_pair.specs.Steps.{World, OnReceiving, KnowsNoId, Unknown, Delivers, Faults, Delivered, ReportsAck, AcksFrame}
+use Rattle.quic_pair.specs.History.{Past, Answer, past_read, after_deliver, past_ack, bytes_of, ended_by}
 use Rattle.quic_pair.specs.Headline.{IsCarried, IsEndCarried, IsHonestPiece, IsHonestPayload}
 use Rattle.quic_pair.specs.declared.steps.Last.{Last}
 use Rattle.quic_pair.specs.declared.steps.Last.TheVariants.{Ended}
@@ -108,7 +108,7 @@ size_after : (f : Flow) (fin : Bool) (end e : ℕ) (old : Option ℕ) → (fin �
 size_after f true end e old ends was q = let z = ends refl in (z.0, sym (same_Some _ _ q) ∙ z.1)
 size_after f false end e old ends was q = was e q
 
-ReceiverFits-keep : (f : Flow) (given : List ℕ) (old : Receiving) (p : Piece) (new : Receiving) → ReceiverFits f given old → IsHonestPiece f.written f.finished p → Keeps old p.start (part f.written p.start p.end) p.fin new → ReceiverFits f given new
+ReceiverFits-keep : (f : Flow) (given : List ℕ) (old : Receiving) (p : Piece) (new : Receiving) → ReceiverFits f given old → IsHonestPiece f.written f.finished p → KeepsFrame old p.start (part f.written p.start p.end) p.fin new → ReceiverFits f given new
 ReceiverFits-keep f given old p new h honest k =
     let size = length-part f.written p.start p.end honest.ordered honest.within in
     let end : p.start + length (part f.written p.start p.end) ≡ p.end = omega (arith, honest.ordered) in
@@ -121,9 +121,9 @@ ReceiverFits-keep f given old p new h honest k =
     }
 
 -- the same for a stream that is decoded
-keep_decoded : (f : Flow) (given : List ℕ) (old : Receiving) (p : Piece) (s : Stream) (new : Receiving) → ReceiverFits f given old → IsHonestPiece f.written f.finished p → s ≡ record { id = 2; offset = p.start; fin = p.fin; bytes = part f.written p.start p.end } → Keeps old s.offset s.bytes s.fin new → ReceiverFits f given new
+keep_decoded : (f : Flow) (given : List ℕ) (old : Receiving) (p : Piece) (s : Stream) (new : Receiving) → ReceiverFits f given old → IsHonestPiece f.written f.finished p → s ≡ record { id = 2; offset = p.start; fin = p.fin; bytes = part f.written p.start p.end } → KeepsFrame old s.offset s.bytes s.fin new → ReceiverFits f given new
 keep_decoded f given old p s new h honest e k =
-    ReceiverFits-keep f given old p new h honest (subst (λ (x : Stream). Keeps old x.offset x.bytes x.fin new) e k)
+    ReceiverFits-keep f given old p new h honest (subst (λ (x : Stream). KeepsFrame old x.offset x.bytes x.fin new) e k)
 
 -- with a receiving end that fits, and the rest as it was
 Fits-received : (p : Past) (old : World) (r : Receiving) → Fits p old → r.taken ≡ old.receiving.taken → ReceiverFits (flow_of p) p.given r → Fits p (record old { receiving = r })
@@ -143,14 +143,14 @@ Fits-received p old r h taken fits = record {
   complete = h.complete;
 }
 
-kept_fits : (p : Past) (old : World) (k i : ℕ) (s : Stream) (has : HasStream old.sent k i s) (r : Receiving) → Fits p old → Keeps old.receiving s.offset s.bytes s.fin r → Fits p (record old { receiving = r })
+kept_fits : (p : Past) (old : World) (k i : ℕ) (s : Stream) (has : HasStream old.sent k i s) (r : Receiving) → Fits p old → KeepsFrame old.receiving s.offset s.bytes s.fin r → Fits p (record old { receiving = r })
 kept_fits p old k i s has r h keeps =
     let honest = h.frames k has.whole has.is in
     let e = frame_is (flow_of p) has.whole i has.piece s honest has.at has.spells in
     Fits-received p old r h (ap (λ (x : Receiving). x.taken) keeps.new_is)
     (keep_decoded (flow_of p) p.given old.receiving has.piece s r h.receiver (honest.pieces i has.piece has.at) e keeps)
 
-received_fits : (p : Past) (old : World) (k i : ℕ) (s : Stream) (has : HasStream old.sent k i s) (answer : Answer) (r : Receiving) → Fits p old → Receives old.receiving s.offset s.bytes s.fin answer r → Fits p (record old { receiving = r })
+received_fits : (p : Past) (old : World) (k i : ℕ) (s : Stream) (has : HasStream old.sent k i s) (answer : Answer) (r : Receiving) → Fits p old → ReceivesFrame old.receiving s.offset s.bytes s.fin answer r → Fits p (record old { receiving = r })
 received_fits p old k i s has (Ok Done) r h (inl same) = rw same.1 h
 received_fits p old k i s has (Ok Done) r h (inr kept) = kept_fits p old k i s has r h kept.0
 received_fits p old k i s has (Ok (Fault (Transport error))) r h (inl same) = rw same.2 h
@@ -307,26 +307,26 @@ Fits-told p v more h = record {
   complete = h.complete;
 }
 
-after_report : (p : Past) (k i : ℕ) (answer : Answer) (v : World) → Fits p v → Fits (after_ack p k i answer) v
+after_report : (p : Past) (k i : ℕ) (answer : Answer) (v : World) → Fits p v → Fits (past_ack p k i answer) v
 after_report p k i (Ok Done) v h = Fits-told p v _ h
 after_report p k i _ v h = h
 
-acks_at : (p : Past) (old : World) (k i : ℕ) (answer : Answer) (new : World) → Fits p old → ReportsAck old k i answer new → Fits (after_ack p k i answer) new
+acks_at : (p : Past) (old : World) (k i : ℕ) (answer : Answer) (new : World) → Fits p old → ReportsAck old k i answer new → Fits (past_ack p k i answer) new
 acks_at p old k i answer new h n = after_report p k i answer new (rw n.new_is (acked_by p old k i n.piece answer new.sending h n.has n.accepted n.does))
 
-pub acks : (p : Past) (old : World) (k i : ℕ) (answer : Answer) (new : World) → Fits p old → AcksFrame old k i answer new → Fits (after_ack p k i answer) new
+pub acks : (p : Past) (old : World) (k i : ℕ) (answer : Answer) (new : World) → Fits p old → AcksFrame old k i answer new → Fits (past_ack p k i answer) new
 acks p old k i (Err NoSuchPayload) new h n = rw n.1 h
 acks p old k i (Err NoSuchFrame) new h n = rw n.1 h
 acks p old k i (Err NotAccepted) new h n = rw n.1 h
 acks p old k i answer new h n = acks_at p old k i answer new h n
 
 -- bytes are given
-given_at : (old : Receiving) (f : Flow) (bytes : List ℕ) (r : Receiving) (given : List ℕ) → ReceiverFits f given old → Gives old.held bytes r.held → (o b : ℕ) → (old.held.bytes_read ≤ o) × (slice_get bytes (o - old.held.bytes_read) ≡ Some b) → slice_get f.written o ≡ Some b
+given_at : (old : Receiving) (f : Flow) (bytes : List ℕ) (r : Receiving) (given : List ℕ) → ReceiverFits f given old → GivesInOrder old.held bytes r.held → (o b : ℕ) → (old.held.bytes_read ≤ o) × (slice_get bytes (o - old.held.bytes_read) ≡ Some b) → slice_get f.written o ≡ Some b
 given_at old f bytes r given h g o b e =
     let inside = slice_get_within bytes (o - old.held.bytes_read) b e.1 in
     h.held o b (g.given o b (e.0, omega (arith, e.0), get_or_from_slice_get bytes (o - old.held.bytes_read) b 0 e.1))
 
-ReceiverFits-give : (f : Flow) (given : List ℕ) (old : Receiving) (bytes : List ℕ) (new : Receiving) → ReceiverFits f given old → Gives old.held bytes new.held → new.final_size ≡ old.final_size → ReceiverFits f (given ++ bytes) new
+ReceiverFits-give : (f : Flow) (given : List ℕ) (old : Receiving) (bytes : List ℕ) (new : Receiving) → ReceiverFits f given old → GivesInOrder old.held bytes new.held → new.final_size ≡ old.final_size → ReceiverFits f (given ++ bytes) new
 ReceiverFits-give f given old bytes new h g final =
     let further = take_further old.held.bytes_read f.written bytes h.read (given_at old f bytes new given h g) in
     let size = ap length further ∙ length-take _ _ in
@@ -347,8 +347,8 @@ all_given given more written n all e =
     let nothing = nil_from_length more (omega (arith, length-append given more, ap length e, length-take n written, ap length all)) in
     ap (λ (m : List ℕ). given ++ m) nothing ∙ append-nil given ∙ all
 
-stops_ended : (size : Option ℕ) (r : Receiving) (last : Last) → Stops size r.held last → last ≡ Ended → size ≡ Some r.held.bytes_read
-stops_ended size r last s e = (subst (λ (l : Last). Stops size r.held l) e s).1
+stops_ended : (size : Option ℕ) (r : Receiving) (last : Last) → WhyStopped size r.held last → last ≡ Ended → size ≡ Some r.held.bytes_read
+stops_ended size r last s e = (subst (λ (l : Last). WhyStopped size r.held l) e s).1
 
 Fits-read : (most times : ℕ) (p : Past) (old : World) (chunks : List Chunk) (last : Last) (transmit : Bool) (r : Receiving) → Fits p old → ReadsAll most times old.receiving chunks last transmit r → Fits (record p { given = p.given ++ flat_map bytes_of chunks; ended = ended_by last p.ended }) (record old { receiving = r })
 Fits-read most times p old chunks last transmit r h n =
@@ -375,12 +375,12 @@ Fits-read most times p old chunks last transmit r h n =
       complete = h.complete;
     }
 
-reads_at : (most times : ℕ) (p : Past) (old : World) (answer : Answer) (new : World) → Fits p old → Reads most times old.receiving answer new.receiving → new ≡ record old { receiving = new.receiving } → Fits (after_read p answer) new
+reads_at : (most times : ℕ) (p : Past) (old : World) (answer : Answer) (new : World) → Fits p old → ReadsStream most times old.receiving answer new.receiving → new ≡ record old { receiving = new.receiving } → Fits (past_read p answer) new
 reads_at most times p old (Ok (Read chunks last transmit)) new h n is = rw is (Fits-read most times p old chunks.items last transmit new.receiving h n)
 reads_at most times p old (Ok Closed) new h n is = rw (is, n.1) h
 reads_at most times p old (Err OutOfMemory) new h n is = rw (is, n) h
 reads_at most times p old _ new h n is = absurd n
 
-pub reads : (most times : ℕ) (p : Past) (old : World) (id : ℕ) (answer : Answer) (new : World) → Fits p old → (Unknown old.receiving.taken id × Refuses old answer new) ⊎ OnReceiving most times old id answer new → Fits (after_read p answer) new
+pub reads : (most times : ℕ) (p : Past) (old : World) (id : ℕ) (answer : Answer) (new : World) → Fits p old → (Unknown old.receiving.taken id × KnowsNoId old answer new) ⊎ OnReceiving most times old id answer new → Fits (past_read p answer) new
 reads most times p old id answer new h (inl u) = rw (u.1.0, u.1.1) h
 reads most times p old id answer new h (inr n) = reads_at most times p old answer new h n.does n.new_is

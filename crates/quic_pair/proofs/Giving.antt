@@ -13,7 +13,7 @@ use Rattle.quic_pair.specs.declared.steps.Last.TheVariants.{Ended, Blocked}
 use Rattle.std.specs.List.{flat_map}
 use Rattle.quic_assembler.specs.declared.Chunk.{Chunk}
 use Rattle.quic_pair.specs.History.{bytes_of}
-use Rattle.quic_pair.specs.Receiving.{AreChunks, Gives, Stops, last_at}
+use Rattle.quic_pair.specs.Receiving.{AreChunksInARow, GivesInOrder, WhyStopped, last_at}
 
 byte_in_front : (offset at byte : ℕ) (xs ys : List ℕ) → IsByteAt offset (xs ++ ys) at byte → at < offset + length xs → IsByteAt offset xs at byte
 byte_in_front offset at byte xs ys h lt =
@@ -27,7 +27,7 @@ byte_behind offset at byte xs ys h ge =
     (ge, omega (arith, h.1, length-append xs ys), rw place (sym (get_or-append_right xs ys (at - offset) 0 behind) ∙ h.2))
 
 -- nothing is given
-pub Gives-nothing : (a : Reassembly) → Gives a [] a
+pub Gives-nothing : (a : Reassembly) → GivesInOrder a [] a
 Gives-nothing a = record {
   given = λ at byte h. absurd (omega (arith, h.0, h.1));
   kept = λ at byte h. h;
@@ -38,7 +38,7 @@ Gives-nothing a = record {
 }
 
 -- one chunk is given
-pub Gives-chunk : (a b : Reassembly) (offset : ℕ) (bytes : List ℕ) → assembler.Gives (Holds a) (Holds b) offset bytes → offset ≡ a.bytes_read → b.bytes_read ≡ a.bytes_read + length bytes → b.ordered ≡ a.ordered → piece_count b ≤ piece_count a → Gives a bytes b
+pub Gives-chunk : (a b : Reassembly) (offset : ℕ) (bytes : List ℕ) → assembler.Gives (Holds a) (Holds b) offset bytes → offset ≡ a.bytes_read → b.bytes_read ≡ a.bytes_read + length bytes → b.ordered ≡ a.ordered → piece_count b ≤ piece_count a → GivesInOrder a bytes b
 Gives-chunk a b offset bytes g start moves ordered pieces = record {
   given = λ at byte h. g.given at byte (rw start h);
   kept = g.origin;
@@ -49,7 +49,7 @@ Gives-chunk a b offset bytes g start moves ordered pieces = record {
 }
 
 -- more bytes are given
-pub Gives-append : (a b c : Reassembly) (xs ys : List ℕ) → Gives a xs b → Gives b ys c → Gives a (xs ++ ys) c
+pub Gives-append : (a b c : Reassembly) (xs ys : List ℕ) → GivesInOrder a xs b → GivesInOrder b ys c → GivesInOrder a (xs ++ ys) c
 Gives-append a b c xs ys g h = record {
   given = λ at byte i. elim (cases_lt at (a.bytes_read + length xs)) [
     | inl lt ↦ g.given at byte (byte_in_front a.bytes_read at byte xs ys i lt)
@@ -63,7 +63,7 @@ Gives-append a b c xs ys g h = record {
 }
 
 -- and then nothing more
-pub Gives-same : (a b c : Reassembly) (xs : List ℕ) → Gives a xs b → SameHeld (Holds b) (Holds c) → c.bytes_read ≡ b.bytes_read → c.ordered ≡ b.ordered → piece_count c ≤ piece_count b → Gives a xs c
+pub Gives-same : (a b c : Reassembly) (xs : List ℕ) → GivesInOrder a xs b → SameHeld (Holds b) (Holds c) → c.bytes_read ≡ b.bytes_read → c.ordered ≡ b.ordered → piece_count c ≤ piece_count b → GivesInOrder a xs c
 Gives-same a b c xs g s read ordered pieces = record {
   given = g.given;
   kept = λ at byte i. g.kept at byte (s.origin at byte i);
@@ -74,7 +74,7 @@ Gives-same a b c xs g s read ordered pieces = record {
 }
 
 -- one more chunk behind those that were read
-pub AreChunks-push : (most at : ℕ) (cs : List Chunk) (c : Chunk) → AreChunks most at cs → c.offset ≡ at + length (flat_map bytes_of cs) → length c.bytes ≤ most → (0 < most → 0 < length c.bytes) → AreChunks most at (cs ++ c ∷ [])
+pub AreChunks-push : (most at : ℕ) (cs : List Chunk) (c : Chunk) → AreChunksInARow most at cs → c.offset ≡ at + length (flat_map bytes_of cs) → length c.bytes ≤ most → (0 < most → 0 < length c.bytes) → AreChunksInARow most at (cs ++ c ∷ [])
 AreChunks-push most at [] c h start limit some = (omega (arith, start), limit, some, tt)
 AreChunks-push most at (d ∷ cs) c h start limit some =
     (h.0, h.1, h.2, AreChunks-push most (at + length d.bytes) cs c h.3 (omega (arith, start, length-append d.bytes (flat_map bytes_of cs))) limit some)
@@ -86,11 +86,11 @@ not_held a b s read none h = none (h.0, subst (λ n. Holds a n h.0) read (s.orig
 some_other : (size read : ℕ) → (size ≡ read → ⊥) → Some size ≡ Some read → ⊥
 some_other size read n e = n (same_Some _ _ e)
 
-stops_if : (b : Bool) (size read : ℕ) (new : Reassembly) → (IsHeld (Holds new) new.bytes_read → ⊥) → new.bytes_read ≡ read → nat_eq size read ≡ b → Stops (Some size) new (cond b Ended Blocked)
+stops_if : (b : Bool) (size read : ℕ) (new : Reassembly) → (IsHeld (Holds new) new.bytes_read → ⊥) → new.bytes_read ≡ read → nat_eq size read ≡ b → WhyStopped (Some size) new (cond b Ended Blocked)
 stops_if true size read new none is e = (none, ap Some (eqb-true size read e ∙ sym is))
 stops_if false size read new none is e = (none, λ q. eqb-false size read e (same_Some _ _ q ∙ is))
 
 -- a read that stops where the next bytes are not there says why
-pub Stops-at : (size : Option ℕ) (read : ℕ) (new : Reassembly) → (IsHeld (Holds new) new.bytes_read → ⊥) → new.bytes_read ≡ read → Stops size new (last_at size read)
+pub Stops-at : (size : Option ℕ) (read : ℕ) (new : Reassembly) → (IsHeld (Holds new) new.bytes_read → ⊥) → new.bytes_read ≡ read → WhyStopped size new (last_at size read)
 Stops-at None read new none is = (none, λ q. absurd cc)
 Stops-at (Some size) read new none is = stops_if (nat_eq size read) size read new none is refl

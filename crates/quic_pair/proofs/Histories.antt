@@ -6,7 +6,7 @@ use Rattle.quic_pair.specs.declared.steps.Config.{Config}
 use Rattle.quic_pair.specs.declared.steps.End.TheVariants.{A, B}
 use Rattle.quic_pair.specs.declared.steps.Step.{Step}
 use Rattle.quic_pair.specs.declared.steps.Step.TheVariants.{Open, Accept, Write, Finish, Read as ReadStep, Poll, Emit, Deliver, LoseStream, AckStream}
-use Rattle.quic_pair.specs.Steps.{World, Next, Refuses}
+use Rattle.quic_pair.specs.Steps.{World, Next, KnowsNoId}
 use Rattle.quic_pair.specs.History.{Past, History, Answer, StepTaken, past_of, past_from, after, nothing_yet}
 use Rattle.quic_pair.specs.From.{From, begin, next, IsNew}
 use Rattle.quic_pair.proofs.Invariant.{Fits}
@@ -36,7 +36,7 @@ Fits-new a b v n = record {
   complete = λ e. absurd cc;
 }
 
-refuses : (p : Past) (old : World) (answer : Answer) (new : World) → Fits p old → Refuses old answer new → Fits p new
+refuses : (p : Past) (old : World) (answer : Answer) (new : World) → Fits p old → KnowsNoId old answer new → Fits p new
 refuses p old answer new h r = rw r.1 h
 
 -- each step keeps it

@@ -6,9 +6,9 @@ use Rattle.std.specs.declared.ops.Range.{Range}
 use Rattle.std.proofs.lemmas.List.Folds.{concat-append}
 use Rattle.std.proofs.lemmas.Option.{none-some}
 use Rattle.quic_wire.specs.declared.StreamEvent.TheVariants.{Finished}
-use Rattle.quic_sending.specs.Buffer.{Buffered, is_acked, cut}
+use Rattle.quic_sending.specs.Buffer.{Buffered, is_acked, cut_of}
 use Rattle.quic_pair.specs.Network.{Sent, Piece, HasPiece}
-use Rattle.quic_pair.specs.Sending.{Sending, Opens, Takes, Finishes, Ends, Lost, Loses, Polls}
+use Rattle.quic_pair.specs.Sending.{Sending, Opens, TakesBytes, Finishes, Ends, Lost, Loses, Polls}
 use Rattle.quic_pair.specs.Steps.{World, OnStream, OnlySending, OnlyReceiving, Emitted, Emits, ReportsLoss, LosesFrame, WritesBytes}
 use Rattle.quic_pair.specs.History.{Past, Answer, after_open, after_accept, after_write, after_finish, after_poll}
 use Rattle.quic_pair.specs.Headline.{IsCarried, IsEndCarried}
@@ -70,11 +70,11 @@ accepts p old _ new h n = absurd n.does
 Grows-write : (p : Past) (more : List ℕ) → p.finished ≡ false → Grows (flow_of p) (record { written = p.written ++ more; finished = p.finished })
 Grows-write p more open' = record { more = more; written = refl; closed = λ e. absurd (let x = sym open' ∙ e in cc); finished = λ e. e }
 
-pub concat_cut : (bytes : List ℕ) → concat (cut bytes) ≡ bytes
+pub concat_cut : (bytes : List ℕ) → concat (cut_of bytes) ≡ bytes
 concat_cut [] = refl
 concat_cut (b ∷ bs) = append-nil (b ∷ bs)
 
-Fits-write : (p : Past) (old : World) (bytes : List ℕ) (count : ℕ) (s : Sending) → Fits p old → Takes old.sending bytes count s → Fits (record p { written = p.written ++ take count bytes; pieces = p.pieces ++ cut (take count bytes) }) (record old { sending = s })
+Fits-write : (p : Past) (old : World) (bytes : List ℕ) (count : ℕ) (s : Sending) → Fits p old → TakesBytes old.sending bytes count s → Fits (record p { written = p.written ++ take count bytes; pieces = p.pieces ++ cut_of (take count bytes) }) (record old { sending = s })
 Fits-write p old bytes count s h t =
     let finished = ap (λ (x : Sending). x.finished) t.new_is in
     let freed = ap (λ (x : Sending). x.freed) t.new_is in
@@ -85,9 +85,9 @@ Fits-write p old bytes count s h t =
       opened = ap (λ (x : Sending). x.opened) t.new_is ∙ h.opened;
       taken = h.taken;
       sender = record {
-        cuts = h.sender.cuts ++ cut (take count bytes);
+        cuts = h.sender.cuts ++ cut_of (take count bytes);
         has = t.cuts h.sender.cuts h.sender.has;
-        joined = concat-append h.sender.cuts (cut (take count bytes)) ∙ rw (h.sender.joined, concat_cut (take count bytes)) refl;
+        joined = concat-append h.sender.cuts (cut_of (take count bytes)) ∙ rw (h.sender.joined, concat_cut (take count bytes)) refl;
         finished = finished ∙ h.sender.finished;
       };
       frames = AreHonest-grows (flow_of p) _ old.sent grows h.frames;

@@ -7,10 +7,10 @@ use Rattle.std.proofs.lemmas.Bool.Decides.{nat_tests}
 use Rattle.quic_values.specs.declared.Dir.TheVariants.{Uni}
 use Rattle.quic_pair.specs.Network.{Sent, Piece, HasPiece, LacksStream, frame_of}
 use Rattle.quic_pair.specs.Sending.{Sending, Opens, Finishes, Lost, Acked, Polls}
-use Rattle.quic_pair.specs.Receiving.{Receiving, Reads}
-use Rattle.quic_pair.specs.Steps.{World, Next, Refuses, Unknown, OnStream, OnReceiving, OnlySending, OnlyReceiving, WritesBytes, Emits, Delivered, LosesFrame, ReportsLoss, AcksFrame, ReportsAck}
+use Rattle.quic_pair.specs.Receiving.{Receiving, ReadsStream}
+use Rattle.quic_pair.specs.Steps.{World, Next, KnowsNoId, Unknown, OnStream, OnReceiving, OnlySending, OnlyReceiving, WritesBytes, Emits, Delivered, LosesFrame, ReportsLoss, AcksFrame, ReportsAck}
 use Rattle.quic_pair.specs.History.{Past, Answer}
-use Rattle.quic_pair.specs.Refusals.{unless_known, unless_there, count_of_frames, is_among, refusal, IsRefusedSo}
+use Rattle.quic_pair.specs.Refusals.{unless_known, unless_there, count_of_frames, is_listed, refusal, IsRefusedSo}
 use Rattle.quic_pair.specs.declared.steps.End.TheVariants.{A, B}
 use Rattle.quic_pair.specs.declared.steps.Step.{Step}
 use Rattle.quic_pair.specs.declared.steps.Step.TheVariants.{Open, Accept, Write, Finish, Read as ReadStep, Poll, Emit, Deliver, LoseStream, AckStream}
@@ -56,7 +56,7 @@ or_right : (a b : Bool) → b ≡ true → (a || b) ≡ true
 or_right true b h = refl
 or_right false b h = h
 
-among_at : (xs : List (ℕ × ℕ)) (place k i : ℕ) → slice_get xs place ≡ Some (k, i) → is_among xs k i ≡ true
+among_at : (xs : List (ℕ × ℕ)) (place k i : ℕ) → slice_get xs place ≡ Some (k, i) → is_listed xs k i ≡ true
 among_at [] place k i h = absurd (none-some _ h)
 among_at (x ∷ xs) zero k i h =
     let e = same_Some _ _ h in
@@ -72,7 +72,7 @@ or_cases false b h = inr h
 pair_is : (a b c d : ℕ) → a ≡ c → b ≡ d → ◌≡◌ {A = ℕ × ℕ} (a, b) (c, d)
 pair_is a b c d p q = rw (p, q) refl
 
-place_of : (xs : List (ℕ × ℕ)) (k i : ℕ) → is_among xs k i ≡ true → (place : ℕ) × (slice_get xs place ≡ Some (k, i))
+place_of : (xs : List (ℕ × ℕ)) (k i : ℕ) → is_listed xs k i ≡ true → (place : ℕ) × (slice_get xs place ≡ Some (k, i))
 place_of [] k i h = absurd cc
 place_of (x ∷ xs) k i h = elim (or_cases _ _ h) [
   | inl here ↦ let z = and_parts _ _ here in (0, ap Some (pair_is x.0 x.1 k i (eqb-true _ _ z.0) (eqb-true _ _ z.1)))
@@ -84,7 +84,7 @@ same_piece sent k i x y h g =
     let whole = same_Some _ _ (sym h.is ∙ g.is) in
     same_Some _ _ (sym h.at ∙ ap (λ (s : Sent). slice_get s.frames i) whole ∙ g.at)
 
-not_among : (p : Past) (v : World) (k i : ℕ) (x : Piece) → Fits p v → HasPiece v.sent k i x → x.accepted ≡ false → (b : Bool) → is_among p.accepted k i ≡ b → b ≡ false
+not_among : (p : Past) (v : World) (k i : ℕ) (x : Piece) → Fits p v → HasPiece v.sent k i x → x.accepted ≡ false → (b : Bool) → is_listed p.accepted k i ≡ b → b ≡ false
 not_among p v k i x h has refused false e = refl
 not_among p v k i x h has refused true e =
     let z = place_of p.accepted k i e in
@@ -133,7 +133,7 @@ finished old (Ok Done) new why n w = w
 finished old (Ok Closed) new why n w = w
 finished old _ new why n w = absurd n
 
-read : (most times : ℕ) (old : Receiving) (answer : Answer) (new : Receiving) (why : Option PairError) → Reads most times old answer new → why ≡ None → IsRefusedSo answer why
+read : (most times : ℕ) (old : Receiving) (answer : Answer) (new : Receiving) (why : Option PairError) → ReadsStream most times old answer new → why ≡ None → IsRefusedSo answer why
 read most times old (Ok (Read chunks last transmit)) new why n w = w
 read most times old (Ok Closed) new why n w = w
 read most times old (Err OutOfMemory) new why n w = tt
@@ -176,17 +176,17 @@ acked old (Ok Done) new x why n w = w
 acked old (Err OutOfMemory) new x why n w = tt
 acked old _ new x why n w = absurd n
 
-acks_at : (p : Past) (old : World) (k i : ℕ) (answer : Answer) (new : World) → Fits p old → ReportsAck old k i answer new → IsRefusedSo answer (unless_there old.sent k i (if is_among p.accepted k i then None else Some NotAccepted))
+acks_at : (p : Past) (old : World) (k i : ℕ) (answer : Answer) (new : World) → Fits p old → ReportsAck old k i answer new → IsRefusedSo answer (unless_there old.sent k i (if is_listed p.accepted k i then None else Some NotAccepted))
 acks_at p old k i answer new h n =
     let told = h.delivered k i n.piece n.has n.accepted in
     let among = among_at p.accepted told.0 k i told.1 in
     acked old.sending answer new.sending n.piece _ n.does (there old.sent k i n.piece _ n.has ∙ rw among refl)
 
-acks : (p : Past) (old : World) (k i : ℕ) (answer : Answer) (new : World) → Fits p old → AcksFrame old k i answer new → IsRefusedSo answer (unless_there old.sent k i (if is_among p.accepted k i then None else Some NotAccepted))
+acks : (p : Past) (old : World) (k i : ℕ) (answer : Answer) (new : World) → Fits p old → AcksFrame old k i answer new → IsRefusedSo answer (unless_there old.sent k i (if is_listed p.accepted k i then None else Some NotAccepted))
 acks p old k i (Err NoSuchPayload) new h n = no_payload old.sent k i _ n.0
 acks p old k i (Err NoSuchFrame) new h n = no_frame old.sent k i n.0.whole _ n.0.is n.0.past
 acks p old k i (Err NotAccepted) new h n =
-    there old.sent k i n.0.piece _ n.0.has ∙ rw (not_among p old k i n.0.piece h n.0.has n.0.refused (is_among p.accepted k i) refl) refl
+    there old.sent k i n.0.piece _ n.0.has ∙ rw (not_among p old k i n.0.piece h n.0.has n.0.refused (is_listed p.accepted k i) refl) refl
 acks p old k i answer new h n = acks_at p old k i answer new h n
 
 on_stream : (P : Sending → Answer → Sending → Type 0) → ((old : Sending) (answer : Answer) (new : Sending) (why : Option PairError) → P old answer new → why ≡ None → IsRefusedSo answer why) →
@@ -194,7 +194,7 @@ on_stream : (P : Sending → Answer → Sending → Type 0) → ((old : Sending)
 on_stream P each p old id answer new h (inl u) = refused answer _ u.1.0 (unknown old.sending.opened p.opened id h.opened u.0)
 on_stream P each p old id answer new h (inr n) = each old.sending answer new.sending _ n.does (known old.sending.opened p.opened id h.opened n.known)
 
-reads : (most times : ℕ) (p : Past) (old : World) (id : ℕ) (answer : Answer) (new : World) → Fits p old → (Unknown old.receiving.taken id × Refuses old answer new) ⊎ OnReceiving most times old id answer new → IsRefusedSo answer (unless_known p.taken id)
+reads : (most times : ℕ) (p : Past) (old : World) (id : ℕ) (answer : Answer) (new : World) → Fits p old → (Unknown old.receiving.taken id × KnowsNoId old answer new) ⊎ OnReceiving most times old id answer new → IsRefusedSo answer (unless_known p.taken id)
 reads most times p old id answer new h (inl u) = refused answer _ u.1.0 (unknown old.receiving.taken p.taken id h.taken u.0)
 reads most times p old id answer new h (inr n) = read most times old.receiving answer new.receiving _ n.does (known old.receiving.taken p.taken id h.taken n.known)
 

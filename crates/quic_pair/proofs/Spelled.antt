@@ -10,7 +10,7 @@ use Rattle.quic_values.specs.Numbers.{size_of}
 use Rattle.quic_wire.specs.Frames.{BeginsFrames, AreFrames}
 use Rattle.quic_wire.specs.Text.{meta_text}
 use Rattle.quic_wire.specs.declared.frame.Frame.{Frame}
-use Rattle.quic_sending.specs.Buffer.{total, uncovered, frame_end, has_length, data_room}
+use Rattle.quic_sending.specs.Buffer.{total_length, uncovered, frame_end, has_length, data_room}
 use Rattle.quic_pair.specs.Network.{Piece, part, frame_of}
 use Rattle.quic_pair.specs.Sending.{Sending, Place, Turn, Turns, none, more, Sends, frame_room}
 use Rattle.quic_pair.specs.Headline.{IsHonestPiece, IsHonestPayload}
@@ -32,7 +32,7 @@ pub record PlaceFits (most : ℕ) (f : Flow) (p : Place) : Type 0 where
   pub pieces : (index : ℕ) (q : Piece) → slice_get p.payload.frames index ≡ Some q → IsHonestPiece f.written f.finished q
   pub spelled : Spells most p.payload.bytes (map (frame_of f.written) p.payload.frames)
 
-pub total-concat : (cuts : List (List ℕ)) → total cuts ≡ length (concat cuts)
+pub total-concat : (cuts : List (List ℕ)) → total_length cuts ≡ length (concat cuts)
 total-concat [] = refl
 total-concat (c ∷ cs) = rw (length-append c (concat cs), total-concat cs) refl
 

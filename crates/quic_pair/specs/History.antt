@@ -2,7 +2,7 @@
 use Rattle.std.specs.Prelude.{ℕ, ◌+◌, ◌==◌, if◌then◌else◌, Bool, true, false, List, [], ◌∷◌, ◌++◌, Result, Ok, take}
 use Rattle.std.specs.List.{flat_map}
 use Rattle.quic_assembler.specs.declared.Chunk.{Chunk}
-use Rattle.quic_sending.specs.Buffer.{cut}
+use Rattle.quic_sending.specs.Buffer.{cut_of}
 use Rattle.quic_wire.specs.declared.ReceiveError.{ReceiveError}
 use Rattle.quic_wire.specs.declared.ReceiveError.TheVariants as faults
 use Rattle.quic_pair.specs.declared.steps.Step.{Step}
@@ -77,7 +77,7 @@ after_accept p (Ok (Id id)) = record p { taken = true }
 after_accept p _ = p
 
 abbrev pub after_write : Past → List ℕ → Answer → Past
-after_write p bytes (Ok (Wrote count)) = record p { written = p.written ++ take count bytes; pieces = p.pieces ++ cut (take count bytes) }
+after_write p bytes (Ok (Wrote count)) = record p { written = p.written ++ take count bytes; pieces = p.pieces ++ cut_of (take count bytes) }
 after_write p bytes _ = p
 
 abbrev pub after_finish : Past → Answer → Past
@@ -91,10 +91,10 @@ abbrev pub ended_by : Last → Bool → Bool
 ended_by Ended before = true
 ended_by _ before = before
 
-abbrev pub after_read : Past → Answer → Past
-after_read p (Ok (Read chunks last transmit)) =
+abbrev pub past_read : Past → Answer → Past
+past_read p (Ok (Read chunks last transmit)) =
     record p { given = p.given ++ flat_map bytes_of chunks.items; ended = ended_by last p.ended }
-after_read p _ = p
+past_read p _ = p
 
 abbrev pub after_event : Past → StreamEvent → Past
 after_event p (Finished id) = record p { complete = true }
@@ -121,9 +121,9 @@ after_deliver p payload frame (Ok DoneTransmit) = record p { accepted = p.accept
 after_deliver p payload frame (Ok (Fault fault)) = record p { kept = p.kept + kept_by fault; refused = p.refused ++ codes_of fault }
 after_deliver p payload frame _ = p
 
-abbrev pub after_ack : Past → ℕ → ℕ → Answer → Past
-after_ack p payload index (Ok Done) = record p { acknowledged = p.acknowledged ++ (payload, index) ∷ [] }
-after_ack p payload index _ = p
+abbrev pub past_ack : Past → ℕ → ℕ → Answer → Past
+past_ack p payload index (Ok Done) = record p { acknowledged = p.acknowledged ++ (payload, index) ∷ [] }
+past_ack p payload index _ = p
 
 -- the past after one more step
 abbrev pub after : Past → Step → Answer → Past
@@ -131,10 +131,10 @@ after p (Open who dir) answer = after_open p answer
 after p (Accept who dir) answer = after_accept p answer
 after p (Write who id bytes) answer = after_write p bytes answer
 after p (Finish who id) answer = after_finish p answer
-after p (ReadStep who id ordered max times) answer = after_read p answer
+after p (ReadStep who id ordered max times) answer = past_read p answer
 after p (Poll who) answer = after_poll p answer
 after p (Deliver payload frame) answer = after_deliver p payload frame answer
-after p (AckStream payload index) answer = after_ack p payload index answer
+after p (AckStream payload index) answer = past_ack p payload index answer
 after p _ answer = p
 
 abbrev pub past_from : Past → History → Past

@@ -1,6 +1,6 @@
 -- What a write may take (RFC 9000 sections 4.1 and 2.2).
 use Rattle.std.specs.Prelude.{◌≡◌, ℕ, ◌-◌, ◌<◌, ◌≤◌, List, Some, Ok, length, min, slice_get}
-use Rattle.quic_sending.specs.Buffer.{total, uncovered}
+use Rattle.quic_sending.specs.Buffer.{total_length, uncovered}
 use Rattle.quic_pair.specs.Network.{Sent, Piece, HasPiece}
 use Rattle.quic_pair.specs.History.{Past, Answer}
 use Rattle.quic_pair.specs.declared.steps.Config.{Config}
@@ -25,7 +25,7 @@ pub record IsRetained (p : Past) (sent : List Sent) (retained : ℕ) : Type 0 wh
   pub prefix : ℕ
   pub below : (n : ℕ) → n < prefix → IsReported p.acknowledged sent n
   pub at : IsReported p.acknowledged sent prefix → ⊥
-  pub is : retained ≡ total (uncovered prefix p.pieces)
+  pub is : retained ≡ total_length (uncovered prefix p.pieces)
 
 -- what the limit of the connection, the send window and the limit of the stream leave
 abbrev pub connection_room : Config → Past → ℕ
@@ -34,20 +34,20 @@ connection_room b p = b.receive_window - length p.written
 abbrev pub window_room : Config → ℕ → ℕ
 window_room a retained = a.send_window - retained
 
-abbrev pub stream_room : Config → Past → ℕ
-stream_room b p = b.stream_receive_window - length p.written
+abbrev pub config_room : Config → Past → ℕ
+config_room b p = b.stream_receive_window - length p.written
 
 -- a write takes the least of its bytes and of the three rooms
 pub record IsPermitted (a b : Config) (p : Past) (sent : List Sent) (offered count : ℕ) : Type 0 where
   pub retained : ℕ
   pub is_retained : IsRetained p sent retained
-  pub count_is : count ≡ min offered (min (min (connection_room b p) (window_room a retained)) (stream_room b p))
+  pub count_is : count ≡ min offered (min (min (connection_room b p) (window_room a retained)) (config_room b p))
 
 -- one of the rooms is 0
 pub record IsBlocked (a b : Config) (p : Past) (sent : List Sent) : Type 0 where
   pub retained : ℕ
   pub is_retained : IsRetained p sent retained
-  pub none_left : min (min (connection_room b p) (window_room a retained)) (stream_room b p) ≡ 0
+  pub none_left : min (min (connection_room b p) (window_room a retained)) (config_room b p) ≡ 0
 
 -- a write of these bytes was answered so
 abbrev pub IsAnsweredSo : Config → Config → Past → List Sent → ℕ → Answer → Type 0

@@ -11,6 +11,7 @@ use Rattle.quic_pair.specs.declared.steps.Last.{Last}
 use Rattle.quic_pair.specs.declared.steps.Last.TheVariants.{Ended, Blocked as Waits, Memory, More}
 use Rattle.quic_pair.specs.declared.steps.Reply.TheVariants.{Done, Fault, Closed, Nothing, Id, Read}
 use Rattle.quic_pair.specs.declared.steps.PairError.TheVariants.{OutOfMemory}
+use Rattle.quic_values.specs.Offsets.{is_past}
 
 pub record Receiving : Type 0 where
   pub held : Reassembly
@@ -30,14 +31,9 @@ pub record Receiving : Type 0 where
   pub stream_receive_window : ℕ
   pub max_concurrent : ℕ
 
--- whether a frame lies past a final size, or ends the stream elsewhere
-abbrev pub is_past : Option ℕ → ℕ → Bool → Bool
-is_past None end fin = false
-is_past (Some size) end fin = nat_lt size end || (fin && not (end == size))
-
 -- the code of the error that a frame is, if it is one: FLOW_CONTROL_ERROR is 3, FINAL_SIZE_ERROR 6
-abbrev pub verdict : Receiving → ℕ → ℕ → Bool → Option ℕ
-verdict v offset count fin =
+abbrev pub frame_verdict : Receiving → ℕ → ℕ → Bool → Option ℕ
+frame_verdict v offset count fin =
     let end = offset + count in
     if nat_le (2 ^ 62) end then Some 3
     else if is_past v.final_size end fin then Some 6
@@ -47,9 +43,9 @@ verdict v offset count fin =
     else None
 
 -- a frame is kept and counted
-pub record Keeps (old : Receiving) (offset : ℕ) (bytes : List ℕ) (fin : Bool) (new : Receiving) : Type 0 where
+pub record KeepsFrame (old : Receiving) (offset : ℕ) (bytes : List ℕ) (fin : Bool) (new : Receiving) : Type 0 where
   pub held : old.freed ≡ false
-  pub allowed : verdict old offset (length bytes) fin ≡ None
+  pub allowed : frame_verdict old offset (length bytes) fin ≡ None
   pub inserts : Inserts (Holds old.held) (Holds new.held) (IsDone old.held) offset bytes
   pub read : new.held.bytes_read ≡ old.held.bytes_read
   pub ordered : new.held.ordered ≡ old.held.ordered
@@ -62,15 +58,15 @@ pub record Keeps (old : Receiving) (offset : ℕ) (bytes : List ℕ) (fin : Bool
     data_received = old.data_received + (offset + length bytes - old.end);
   }
 
-abbrev pub Receives : Receiving → ℕ → List ℕ → Bool → Answer → Receiving → Type 0
-Receives old offset bytes fin (Ok Done) new =
-    ((old.freed ≡ true) × (new ≡ old)) ⊎ (Keeps old offset bytes fin new × (new.opened ≡ true))
-Receives old offset bytes fin (Ok (Fault (Transport error))) new =
-    ((old.freed ≡ false) × (verdict old offset (length bytes) fin ≡ Some error.code) × (new ≡ old))
-    ⊎ ((error.code ≡ 1) × Keeps old offset bytes fin new × (new.opened ≡ old.opened) × (1024 < piece_count new.held))
-Receives old offset bytes fin (Ok (Fault CompactionMemory)) new = Keeps old offset bytes fin new × (new.opened ≡ old.opened)
-Receives old offset bytes fin (Err OutOfMemory) new = new ≡ old
-Receives old offset bytes fin _ new = ⊥
+abbrev pub ReceivesFrame : Receiving → ℕ → List ℕ → Bool → Answer → Receiving → Type 0
+ReceivesFrame old offset bytes fin (Ok Done) new =
+    ((old.freed ≡ true) × (new ≡ old)) ⊎ (KeepsFrame old offset bytes fin new × (new.opened ≡ true))
+ReceivesFrame old offset bytes fin (Ok (Fault (Transport error))) new =
+    ((old.freed ≡ false) × (frame_verdict old offset (length bytes) fin ≡ Some error.code) × (new ≡ old))
+    ⊎ ((error.code ≡ 1) × KeepsFrame old offset bytes fin new × (new.opened ≡ old.opened) × (1024 < piece_count new.held))
+ReceivesFrame old offset bytes fin (Ok (Fault CompactionMemory)) new = KeepsFrame old offset bytes fin new × (new.opened ≡ old.opened)
+ReceivesFrame old offset bytes fin (Err OutOfMemory) new = new ≡ old
+ReceivesFrame old offset bytes fin _ new = ⊥
 
 abbrev pub Accepts : Receiving → Answer → Receiving → Type 0
 Accepts old (Ok (Id id)) new = (id ≡ 2) × (old.opened ≡ true) × (old.taken ≡ false) × (new ≡ record old { taken = true })
@@ -78,7 +74,7 @@ Accepts old (Ok Nothing) new = ((old.opened ≡ false) ⊎ (old.taken ≡ true))
 Accepts old _ new = ⊥
 
 -- bytes are given in order from the first that was not read
-pub record Gives (old : Reassembly) (bytes : List ℕ) (new : Reassembly) : Type 0 where
+pub record GivesInOrder (old : Reassembly) (bytes : List ℕ) (new : Reassembly) : Type 0 where
   pub given : (at byte : ℕ) → IsByteAt old.bytes_read bytes at byte → Holds old at byte
   pub kept : (at byte : ℕ) → Holds new at byte → Holds old at byte
   pub stays : (at byte : ℕ) → Holds old at byte → old.bytes_read + length bytes ≤ at → Holds new at byte
@@ -87,9 +83,9 @@ pub record Gives (old : Reassembly) (bytes : List ℕ) (new : Reassembly) : Type
   pub pieces : piece_count new ≤ piece_count old
 
 -- chunks that stand one behind the other from a place on: each of at most so many bytes, and with some where some may be read
-abbrev pub AreChunks : ℕ → ℕ → List Chunk → Type 0
-AreChunks most at [] = Unit {0}
-AreChunks most at (c ∷ cs) = (c.offset ≡ at) × (length c.bytes ≤ most) × (0 < most → 0 < length c.bytes) × AreChunks most (at + length c.bytes) cs
+abbrev pub AreChunksInARow : ℕ → ℕ → List Chunk → Type 0
+AreChunksInARow most at [] = Unit {0}
+AreChunksInARow most at (c ∷ cs) = (c.offset ≡ at) × (length c.bytes ≤ most) × (0 < most → 0 < length c.bytes) × AreChunksInARow most (at + length c.bytes) cs
 
 -- how a read ends where the next bytes are not there
 abbrev pub last_at : Option ℕ → ℕ → Last
@@ -97,12 +93,12 @@ last_at None read = Waits
 last_at (Some size) read = if size == read then Ended else Waits
 
 -- why a read of several chunks stopped
-abbrev pub Stops : Option ℕ → Reassembly → Last → Type 0
-Stops size new Ended = (IsHeld (Holds new) new.bytes_read → ⊥) × (size ≡ Some new.bytes_read)
-Stops size new Waits = (IsHeld (Holds new) new.bytes_read → ⊥) × (size ≡ Some new.bytes_read → ⊥)
-Stops size new Memory = Unit {0}
-Stops size new More = Unit {0}
-Stops size new _ = ⊥
+abbrev pub WhyStopped : Option ℕ → Reassembly → Last → Type 0
+WhyStopped size new Ended = (IsHeld (Holds new) new.bytes_read → ⊥) × (size ≡ Some new.bytes_read)
+WhyStopped size new Waits = (IsHeld (Holds new) new.bytes_read → ⊥) × (size ≡ Some new.bytes_read → ⊥)
+WhyStopped size new Memory = Unit {0}
+WhyStopped size new More = Unit {0}
+WhyStopped size new _ = ⊥
 
 abbrev pub is_end : Last → Bool
 is_end Ended = true
@@ -124,11 +120,11 @@ data_due v = nat_le v.local_max_data (2 ^ 62 - 1) && nat_le (v.receive_window + 
 -- chunks are given, at most so many of at most so many bytes each, and give the connection credit
 pub record ReadsAll (most times : ℕ) (old : Receiving) (chunks : List Chunk) (last : Last) (transmit : Bool) (new : Receiving) : Type 0 where
   pub was_held : old.freed ≡ false
-  pub gives : Gives old.held (flat_map bytes_of chunks) new.held
-  pub are_chunks : AreChunks most old.held.bytes_read chunks
+  pub gives : GivesInOrder old.held (flat_map bytes_of chunks) new.held
+  pub are_chunks : AreChunksInARow most old.held.bytes_read chunks
   pub count : length chunks ≤ times
   pub more : last ≡ More → length chunks ≡ times
-  pub stops : Stops old.final_size new.held last
+  pub stops : WhyStopped old.final_size new.held last
   pub new_is : new ≡ record old {
     held = new.held;
     freed = is_end last;
@@ -136,8 +132,8 @@ pub record ReadsAll (most times : ℕ) (old : Receiving) (chunks : List Chunk) (
   }
   pub transmit_is : transmit ≡ (streams_due new || stream_data_due new || data_due new)
 
-abbrev pub Reads : ℕ → ℕ → Receiving → Answer → Receiving → Type 0
-Reads most times old (Ok (Read chunks last transmit)) new = ReadsAll most times old chunks.items last transmit new
-Reads most times old (Ok Closed) new = (old.freed ≡ true) × (new ≡ old)
-Reads most times old (Err OutOfMemory) new = new ≡ old
-Reads most times old _ new = ⊥
+abbrev pub ReadsStream : ℕ → ℕ → Receiving → Answer → Receiving → Type 0
+ReadsStream most times old (Ok (Read chunks last transmit)) new = ReadsAll most times old chunks.items last transmit new
+ReadsStream most times old (Ok Closed) new = (old.freed ≡ true) × (new ≡ old)
+ReadsStream most times old (Err OutOfMemory) new = new ≡ old
+ReadsStream most times old _ new = ⊥

@@ -28,9 +28,9 @@ unless_there sent payload index then' =
     else then'
 
 -- whether a frame is in the list
-abbrev pub is_among : List (ℕ × ℕ) → ℕ → ℕ → Bool
-is_among [] payload index = false
-is_among (x ∷ xs) payload index = (x.0 == payload && x.1 == index) || is_among xs payload index
+abbrev pub is_listed : List (ℕ × ℕ) → ℕ → ℕ → Bool
+is_listed [] payload index = false
+is_listed (x ∷ xs) payload index = (x.0 == payload && x.1 == index) || is_listed xs payload index
 
 -- why a step is refused, if it is: what is known of the past, and the payloads that were sent, decide it
 abbrev pub refusal : Past → List Sent → Step → Option PairError
@@ -43,7 +43,7 @@ refusal p sent (Poll A) = None
 refusal p sent (Emit A most fair) = None
 refusal p sent (Deliver payload index) = unless_there sent payload index None
 refusal p sent (LoseStream payload index) = unless_there sent payload index None
-refusal p sent (AckStream payload index) = unless_there sent payload index (if is_among p.accepted payload index then None else Some NotAccepted)
+refusal p sent (AckStream payload index) = unless_there sent payload index (if is_listed p.accepted payload index then None else Some NotAccepted)
 refusal p sent _ = Some UnknownId
 
 -- a step is refused so, and not otherwise; want of memory is excused

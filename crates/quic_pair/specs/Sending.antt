@@ -6,12 +6,13 @@ use Rattle.quic_values.specs.Runs.{lies_in}
 use Rattle.quic_values.specs.Numbers.{size_of}
 use Rattle.quic_wire.specs.declared.StreamEvent.TheVariants.{Finished}
 use Rattle.quic_wire.specs.Text.{meta_text, stream_of}
-use Rattle.quic_wire.specs.Frames.{Begins}
-use Rattle.quic_sending.specs.Buffer.{Buffered, HasCuts, IsSound, IsNextRange, is_due, is_lost, is_acked, cut, total, frame_end, has_length}
+use Rattle.quic_wire.specs.Frames.{BeginsWith}
+use Rattle.quic_sending.specs.Buffer.{Buffered, HasCuts, IsSound, IsNextRange, is_due, is_lost, is_acked, cut_of, total_length, frame_end, has_length}
 use Rattle.quic_pair.specs.Network.{Sent, part}
 use Rattle.quic_pair.specs.History.{Answer}
 use Rattle.quic_pair.specs.declared.steps.Reply.TheVariants.{Done, Wrote, Blocked, Closed, Nothing, Id, Event}
 use Rattle.quic_pair.specs.declared.steps.PairError.TheVariants.{OutOfMemory, UnknownId}
+use Rattle.quic_values.specs.Offsets.{one_more}
 
 pub record Sending : Type 0 where
   pub buffer : Buffered
@@ -40,23 +41,19 @@ without_room b = record b { room = 0 }
 
 -- the limits of the connection and of the send window leave so much
 abbrev pub write_limit : Sending → ℕ
-write_limit s = min (s.max_data - s.buffer.offset) (s.send_window - total s.buffer.held)
+write_limit s = min (s.max_data - s.buffer.offset) (s.send_window - total_length s.buffer.held)
 
 -- the limit of the stream leaves so much
-abbrev pub stream_room : Sending → ℕ
-stream_room s = s.max_stream_data - s.buffer.offset
+abbrev pub limit_room : Sending → ℕ
+limit_room s = s.max_stream_data - s.buffer.offset
 
 -- what is taken of so many bytes
-abbrev pub permitted : Sending → ℕ → ℕ
-permitted s count = min count (min (write_limit s) (stream_room s))
+abbrev pub takeable : Sending → ℕ → ℕ
+takeable s count = min count (min (write_limit s) (limit_room s))
 
 -- whether something is to be sent: bytes or the end
 abbrev pub IsPending : Sending → Bool → Type 0
 IsPending s b = MatchBool b ((s.fin_pending ≡ true) ⊎ ((n : ℕ) × (is_due s.buffer n ≡ true))) ((s.fin_pending ≡ false) × ((n : ℕ) → is_due s.buffer n ≡ false))
-
--- one more, as far as a number of 64 bits counts
-abbrev pub one_more : ℕ → ℕ
-one_more n = min (n + 1) (2 ^ 64 - 1)
 
 -- the stream is queued, unless something was to be sent already
 pub record Queues (old : Sending) (queued : ℕ) : Type 0 where
@@ -70,24 +67,24 @@ Opens old (Ok Nothing) new = (old.opened ≡ false) × (old.max_streams ≡ 0) �
 Opens old (Err UnknownId) new = (old.opened ≡ true) × (new ≡ old)
 Opens old _ new = ⊥
 
--- so many bytes are taken: exactly what is permitted
-pub record Takes (old : Sending) (bytes : List ℕ) (count : ℕ) (new : Sending) : Type 0 where
+-- so many bytes are taken: exactly what is takeable
+pub record TakesBytes (old : Sending) (bytes : List ℕ) (count : ℕ) (new : Sending) : Type 0 where
   pub held : old.freed ≡ false
   pub unfinished : old.finished ≡ false
   pub allowed : 0 < write_limit old
-  pub room : 0 < stream_room old
-  pub count_is : count ≡ permitted old (length bytes)
+  pub room : 0 < limit_room old
+  pub count_is : count ≡ takeable old (length bytes)
   pub queues : Queues old new.queued
   pub new_is : new ≡ record old {
-    buffer = record old.buffer { offset = old.buffer.offset + count; held = old.buffer.held ++ cut (take count bytes) };
+    buffer = record old.buffer { offset = old.buffer.offset + count; held = old.buffer.held ++ cut_of (take count bytes) };
     queued = new.queued;
   }
-  pub cuts : (cuts : List (List ℕ)) → HasCuts cuts old.buffer → HasCuts (cuts ++ cut (take count bytes)) new.buffer
+  pub cuts : (cuts : List (List ℕ)) → HasCuts cuts old.buffer → HasCuts (cuts ++ cut_of (take count bytes)) new.buffer
   pub sound : IsSound new.buffer
 
 abbrev pub Writes : Sending → List ℕ → Answer → Sending → Type 0
-Writes old bytes (Ok (Wrote count)) new = Takes old bytes count new
-Writes old bytes (Ok Blocked) new = (old.freed ≡ false) × ((write_limit old ≡ 0) ⊎ ((old.finished ≡ false) × (stream_room old ≡ 0))) × (new ≡ old)
+Writes old bytes (Ok (Wrote count)) new = TakesBytes old bytes count new
+Writes old bytes (Ok Blocked) new = (old.freed ≡ false) × ((write_limit old ≡ 0) ⊎ ((old.finished ≡ false) × (limit_room old ≡ 0))) × (new ≡ old)
 Writes old bytes (Ok Closed) new = ((old.freed ≡ true) ⊎ ((0 < write_limit old) × (old.finished ≡ true))) × (new ≡ old)
 Writes old bytes (Err OutOfMemory) new = new ≡ old
 Writes old bytes _ new = ⊥
@@ -181,7 +178,7 @@ pub record Sends (most : ℕ) (old new : Place) : Type 0 where
   pub text : (cuts : List (List ℕ)) → HasCuts cuts old.end.buffer →
       new.payload.bytes ≡ old.payload.bytes ++ meta_text (record { id = 2; offsets = record { start = start; end = stop }; fin = fin }) with_length ++ part (concat cuts) start stop
   pub spelled : (content rest : List ℕ) → length content ≡ stop - start → (with_length ≡ false → rest ≡ []) →
-      Begins (meta_text (record { id = 2; offsets = record { start = start; end = stop }; fin = fin }) with_length ++ content ++ rest)
+      BeginsWith (meta_text (record { id = 2; offsets = record { start = start; end = stop }; fin = fin }) with_length ++ content ++ rest)
       (stream_of (record { id = 2; offsets = record { start = start; end = stop }; fin = fin }) content) rest
   pub frames : new.payload.frames ≡ old.payload.frames ++ record { start = start; end = stop; fin = fin; accepted = false } ∷ []
 

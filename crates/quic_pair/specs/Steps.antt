@@ -4,7 +4,7 @@ use Rattle.quic_wire.specs.declared.frame.Stream.{Stream}
 use Rattle.quic_values.specs.declared.Dir.TheVariants.{Uni}
 use Rattle.quic_pair.specs.Network.{Sent, Piece, HasPiece, LacksPiece, HasStream, LacksStream, accepted_at}
 use Rattle.quic_pair.specs.Sending.{Sending, Turns, IsFull, Opens, Writes, Finishes, Lost, Acked, Polls}
-use Rattle.quic_pair.specs.Receiving.{Receiving, Receives, Accepts, Reads}
+use Rattle.quic_pair.specs.Receiving.{Receiving, ReceivesFrame, Accepts, ReadsStream}
 use Rattle.quic_pair.specs.History.{Answer}
 use Rattle.quic_pair.specs.declared.steps.End.TheVariants.{A, B}
 use Rattle.quic_pair.specs.declared.steps.Step.{Step}
@@ -19,8 +19,8 @@ pub record World : Type 0 where
   pub sent : List Sent
 
 -- the step is refused, since it does not know the id
-abbrev pub Refuses : World → Answer → World → Type 0
-Refuses old answer new = (answer ≡ Err UnknownId) × (new ≡ old)
+abbrev pub KnowsNoId : World → Answer → World → Type 0
+KnowsNoId old answer new = (answer ≡ Err UnknownId) × (new ≡ old)
 
 abbrev pub with_sending : World → Sending → World
 with_sending v s = record v { sending = s }
@@ -38,11 +38,11 @@ abbrev pub Unknown : Bool → ℕ → Type 0
 Unknown given id = (given ≡ false) ⊎ (id ≡ 2 → ⊥)
 
 abbrev pub OnStream : (Sending → Answer → Sending → Type 0) → World → ℕ → Answer → World → Type 0
-OnStream P old id answer new = (Unknown old.sending.opened id × Refuses old answer new) ⊎ OnSending P old id answer new
+OnStream P old id answer new = (Unknown old.sending.opened id × KnowsNoId old answer new) ⊎ OnSending P old id answer new
 
 pub record OnReceiving (most times : ℕ) (old : World) (id : ℕ) (answer : Answer) (new : World) : Type 0 where
   pub known : (id ≡ 2) × (old.receiving.taken ≡ true)
-  pub does : Reads most times old.receiving answer new.receiving
+  pub does : ReadsStream most times old.receiving answer new.receiving
   pub new_is : new ≡ record old { receiving = new.receiving }
 
 -- a payload is sent
@@ -79,7 +79,7 @@ NoStream v payload index = LacksStream v.sent payload index
 pub record HandsOver (old : World) (payload index : ℕ) (answer : Answer) (new : World) : Type 0 where
   pub frame : Stream
   pub has : HasStream old.sent payload index frame
-  pub receives : Receives old.receiving frame.offset frame.bytes frame.fin answer new.receiving
+  pub receives : ReceivesFrame old.receiving frame.offset frame.bytes frame.fin answer new.receiving
   pub sending : new.sending ≡ old.sending
 
 pub record Delivers (old : World) (payload index : ℕ) (new : World) : Type 0 where
@@ -148,10 +148,10 @@ Next old (Accept B Uni) answer new = OnlyReceiving old answer new
 Next old (Write A id bytes) answer new = OnStream (WritesBytes bytes) old id answer new
 Next old (Finish A id) answer new = OnStream Finishes old id answer new
 Next old (ReadStep B id true max times) answer new =
-    (Unknown old.receiving.taken id × Refuses old answer new) ⊎ OnReceiving max times old id answer new
+    (Unknown old.receiving.taken id × KnowsNoId old answer new) ⊎ OnReceiving max times old id answer new
 Next old (Poll A) answer new = OnlySending Polls old answer new
 Next old (Emit A most fair) answer new = Emits old most answer new
 Next old (Deliver payload index) answer new = Delivered old payload index answer new
 Next old (LoseStream payload index) answer new = LosesFrame old payload index answer new
 Next old (AckStream payload index) answer new = AcksFrame old payload index answer new
-Next old _ answer new = Refuses old answer new
+Next old _ answer new = KnowsNoId old answer new

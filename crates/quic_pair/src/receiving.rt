@@ -4,7 +4,8 @@ ghost use Rattle.std.specs.Prelude.{◌≡◌, ◌+◌, ◌-◌, ◌<◌, ◌≤
 ghost use Rattle.std.specs.List.{flat_map};
 ghost use Rattle.quic_pair.specs.History.{bytes_of};
 ghost use Rattle.quic_pair.specs.From.{IsNewReceiving};
-ghost use Rattle.quic_pair.specs.Receiving.{Receiving, Receives, Accepts, Reads, AreChunks, Gives, Stops, last_at, is_past, verdict, streams_due, stream_data_due, data_due};
+ghost use Rattle.quic_pair.specs.Receiving.{Receiving, ReceivesFrame, Accepts, ReadsStream, AreChunksInARow, GivesInOrder, WhyStopped, last_at, frame_verdict, streams_due, stream_data_due, data_due};
+ghost use Rattle.quic_values.specs.Offsets.{is_past};
 
 use crate::sending::the_stream;
 use crate::steps::{Config, Last, PairError, Reply};
@@ -123,7 +124,7 @@ impl ReceivingEnd {
 
     // The error that a frame is, if it is one (RFC 9000 sections 4.1 and 4.5).
     fn error_of(&self, offset: u64, len: usize, fin: bool) -> Option<TransportError>
-        ensures { MatchOption result (verdict self.now offset len fin ≡ None) (λ e. verdict self.now offset len fin ≡ Some e.code) }
+        ensures { MatchOption result (frame_verdict self.now offset len fin ≡ None) (λ e. frame_verdict self.now offset len fin ≡ Some e.code) }
     {
         let Some(end) = end_of(offset, len) else {
             return Some(TransportError::flow_control_error("offset above the greatest number"));
@@ -146,7 +147,7 @@ impl ReceivingEnd {
 
     /// Takes a frame in.
     pub(crate) fn receive(&mut self, frame: Stream, payload_len: usize) -> Result<Reply, PairError>
-        ensures { Receives self.old frame.offset frame.bytes frame.fin result self.new }
+        ensures { ReceivesFrame self.old frame.offset frame.bytes frame.fin result self.new }
     {
         if self.is_freed {
             return Ok(Reply::Done);
@@ -180,7 +181,7 @@ impl ReceivingEnd {
 
     /// Reads up to `times` chunks of at most `max` bytes.
     pub(crate) fn read(&mut self, max: usize, times: u16) -> Result<Reply, PairError>
-        ensures { Reads max times self.old result self.new }
+        ensures { ReadsStream max times self.old result self.new }
     {
         if self.is_freed {
             return Ok(Reply::Closed);
@@ -280,9 +281,9 @@ fn read_chunks(
     times: u16,
 ) -> Result<(Vec<Chunk>, Last), OutOfMemory>
     requires { assembler.old.ordered ≡ true }
-    ensures gives { IfOk result (λ r. Gives assembler.old (flat_map bytes_of r.0.items) assembler.new) }
-    ensures stops { IfOk result (λ r. Stops final_size assembler.new r.1) }
-    ensures chunks { IfOk result (λ r. AreChunks max assembler.old.bytes_read r.0.items) }
+    ensures gives { IfOk result (λ r. GivesInOrder assembler.old (flat_map bytes_of r.0.items) assembler.new) }
+    ensures stops { IfOk result (λ r. WhyStopped final_size assembler.new r.1) }
+    ensures chunks { IfOk result (λ r. AreChunksInARow max assembler.old.bytes_read r.0.items) }
     ensures count { IfOk result (λ r. length r.0.items ≤ times) }
     ensures more { IfOk result (λ r. r.1 ≡ Last.More → length r.0.items ≡ times) }
     ensures err { OnErr result (assembler.new ≡ assembler.old) }

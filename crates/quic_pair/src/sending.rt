@@ -3,9 +3,10 @@
 ghost use Rattle.std.specs.Prelude.{◌≡◌, ◌+◌, ◌-◌, ◌^◌, ◌<◌, ◌≤◌, ◌++◌, ℕ, [], List, length, take, true, false, IfOk, OnOk, OnErr, MatchBool, if◌then◌else◌, ◌&&◌, ◌==◌, not, vec_len, vec_capacity};
 ghost use Rattle.std.specs.List.{concat};
 ghost use Rattle.quic_sending.specs.Buffer.{HasCuts};
-ghost use Rattle.quic_wire.specs.Frames.{Begins};
+ghost use Rattle.quic_wire.specs.Frames.{BeginsWith};
 ghost use Rattle.quic_wire.specs.Text.{meta_text, stream_of};
-ghost use Rattle.quic_pair.specs.Sending.{Sending, Place, Sends, Turn, Turns, IsFull, one_more, Opens, Writes, Finishes, Lost, Acked, Polls, IsPending, write_limit, stream_room};
+ghost use Rattle.quic_pair.specs.Sending.{Sending, Place, Sends, Turn, Turns, IsFull, Opens, Writes, Finishes, Lost, Acked, Polls, IsPending, write_limit, limit_room};
+ghost use Rattle.quic_values.specs.Offsets.{one_more};
 ghost use Rattle.quic_pair.specs.From.{IsNewSending};
 ghost use Rattle.quic_pair.specs.Network.{Sent, part};
 
@@ -177,7 +178,7 @@ impl SendingEnd {
 
     // What the limit of the stream leaves.
     fn stream_room(&self) -> u64
-        ensures { result ≡ stream_room self.now }
+        ensures { result ≡ limit_room self.now }
     {
         self.max_stream_data.saturating_sub(self.buffer.offset())
     }
@@ -366,7 +367,7 @@ fn put_head(meta: &StreamMeta, with_length: bool, bytes: &mut Vec<u8>) -> Result
     requires ordered { meta.now.offsets.start ≤ meta.now.offsets.end }
     requires small { meta.now.offsets.end < 2 ^ 62 }
     ensures ok { OnOk result (bytes.new.items ≡ bytes.old.items ++ meta_text meta.now with_length) }
-    ensures spelled { OnOk result ((content rest : List ℕ) → length content ≡ meta.now.offsets.end - meta.now.offsets.start → (with_length ≡ false → rest ≡ []) → Begins (meta_text meta.now with_length ++ content ++ rest) (stream_of meta.now content) rest) }
+    ensures spelled { OnOk result ((content rest : List ℕ) → length content ≡ meta.now.offsets.end - meta.now.offsets.start → (with_length ≡ false → rest ≡ []) → BeginsWith (meta_text meta.now with_length ++ content ++ rest) (stream_of meta.now content) rest) }
     ensures room { OnOk result (vec_len bytes.new + (meta.now.offsets.end - meta.now.offsets.start) ≤ vec_capacity bytes.new) }
     ensures err { OnErr result (bytes.new.items ≡ bytes.old.items) }
 {

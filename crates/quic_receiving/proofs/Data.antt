@@ -7,7 +7,7 @@ use Rattle.quic_assembler.specs.Reassembly.{Reassembly, Holds, is_done, IsHeld, 
 use Rattle.quic_assembler.specs.Laws.{done_below}
 use Rattle.quic_assembler.specs.declared.Chunk.{Chunk}
 use Rattle.quic_receiving.specs.Counted.{number}
-use Rattle.quic_receiving.specs.Data.{Slice, Carries, is_in, IsData, IsAllGiven}
+use Rattle.quic_receiving.specs.Data.{Slice, Carries, is_in_slices, IsData, IsAllGiven}
 use Rattle.quic_receiving.specs.Calls.{Inserted, Given, Rests, Leaves}
 use Rattle.quic_receiving.proofs.Buffers.{in_both_modes}
 use Rattle.quic_receiving.proofs.Counted.{number-bound, given_held, given_count, lies-low, lies-high}
@@ -64,35 +64,35 @@ insert-no-order false x l e = or-swap x l
 lies-in : (low high at : ℕ) → low ≤ at → at < high → lies low high at ≡ true
 lies-in low high at l h = grind (arith, nat_tests)
 
-carried-in : (ss : List Slice) (at byte : ℕ) → Carries ss at byte → is_in ss at ≡ true
+carried-in : (ss : List Slice) (at byte : ℕ) → Carries ss at byte → is_in_slices ss at ≡ true
 carried-in [] at byte h = absurd h
-carried-in (s ∷ ss) at byte (inl h) = or-left _ (is_in ss at) (lies-in s.offset (s.offset + length s.bytes) at h.0 h.1)
+carried-in (s ∷ ss) at byte (inl h) = or-left _ (is_in_slices ss at) (lies-in s.offset (s.offset + length s.bytes) at h.0 h.1)
 carried-in (s ∷ ss) at byte (inr h) = or-right (lies s.offset (s.offset + length s.bytes) at) _ (carried-in ss at byte h)
 
-pub in-carried : (ss : List Slice) (at : ℕ) → is_in ss at ≡ true → (byte : ℕ) × Carries ss at byte
+pub in-carried : (ss : List Slice) (at : ℕ) → is_in_slices ss at ≡ true → (byte : ℕ) × Carries ss at byte
 in-carried [] at h = absurd (false≢true h)
-in-carried (s ∷ ss) at h = elim (or-split (lies s.offset (s.offset + length s.bytes) at) (is_in ss at) h) [
+in-carried (s ∷ ss) at h = elim (or-split (lies s.offset (s.offset + length s.bytes) at) (is_in_slices ss at) h) [
   | inl l ↦ (slice_index s.bytes (at - s.offset), inl (lies-low s.offset (s.offset + length s.bytes) at l, lies-high s.offset (s.offset + length s.bytes) at l, refl))
   | inr k ↦ let c = in-carried ss at k in (c.0, inr c.1)
 ]
 
 -- what was given came
-given_came : (kept given : List Slice) (a : Reassembly) → IsData kept given a → (at : ℕ) → is_in given at ≡ true → is_in kept at ≡ true
+given_came : (kept given : List Slice) (a : Reassembly) → IsData kept given a → (at : ℕ) → is_in_slices given at ≡ true → is_in_slices kept at ≡ true
 given_came kept given a d at h = let c = in-carried given at h in carried-in kept at c.0 (d.came at c.0 c.1)
 
 -- what is done came
-done_came : (kept given : List Slice) (a : Reassembly) → IsData kept given a → (at : ℕ) → is_done a at ≡ true → is_in kept at ≡ true
-done_came kept given a d at h = in_both_modes a.ordered (is_in kept at ≡ true)
-    (λ o. given_came kept given a d at (sym (of-order a.ordered (is_in given at) (is_in kept at) (is_done a at) o (d.done at)) ∙ h))
-    (λ u. sym (of-no-order a.ordered (is_in given at) (is_in kept at) (is_done a at) u (d.done at)) ∙ h)
+done_came : (kept given : List Slice) (a : Reassembly) → IsData kept given a → (at : ℕ) → is_done a at ≡ true → is_in_slices kept at ≡ true
+done_came kept given a d at h = in_both_modes a.ordered (is_in_slices kept at ≡ true)
+    (λ o. given_came kept given a d at (sym (of-order a.ordered (is_in_slices given at) (is_in_slices kept at) (is_done a at) o (d.done at)) ∙ h))
+    (λ u. sym (of-no-order a.ordered (is_in_slices given at) (is_in_slices kept at) (is_done a at) u (d.done at)) ∙ h)
 
 -- what was given is done
-given_done : (kept given : List Slice) (a : Reassembly) → IsData kept given a → (at : ℕ) → is_in given at ≡ true → is_done a at ≡ true
+given_done : (kept given : List Slice) (a : Reassembly) → IsData kept given a → (at : ℕ) → is_in_slices given at ≡ true → is_done a at ≡ true
 given_done kept given a d at h = in_both_modes a.ordered (is_done a at ≡ true)
-    (λ o. of-order a.ordered (is_in given at) (is_in kept at) (is_done a at) o (d.done at) ∙ h)
-    (λ u. of-no-order a.ordered (is_in given at) (is_in kept at) (is_done a at) u (d.done at) ∙ given_came kept given a d at h)
+    (λ o. of-order a.ordered (is_in_slices given at) (is_in_slices kept at) (is_done a at) o (d.done at) ∙ h)
+    (λ u. of-no-order a.ordered (is_in_slices given at) (is_in_slices kept at) (is_done a at) u (d.done at) ∙ given_came kept given a d at h)
 
-number-none : (n : ℕ) → number (is_in []) n ≡ 0
+number-none : (n : ℕ) → number (is_in_slices []) n ≡ 0
 unfolding number
 number-none zero = refl
 number-none (suc n) = omega (arith, number-none n)
@@ -114,7 +114,7 @@ pub data-inserted : (kept given : List Slice) (a b : Reassembly) (offset : ℕ) 
 data-inserted kept given a b offset bytes s d = record {
   held = λ at byte h. elim (s.takes.origin at byte h) [ inl k ↦ inr (d.held at byte k) | inr k ↦ inl k ];
   came = λ at byte h. inr (d.came at byte h);
-  complete = λ at h. elim (or-split (lies offset (offset + length bytes) at) (is_in kept at) h) [
+  complete = λ at h. elim (or-split (lies offset (offset + length bytes) at) (is_in_slices kept at) h) [
     | inl l ↦ elim (s.takes.gains at (lies-low offset (offset + length bytes) at l, lies-high offset (offset + length bytes) at l)) [
       | inl k ↦ before at (d.complete at (done_came kept given a d at k))
       | inr k ↦ inr k
@@ -122,17 +122,17 @@ data-inserted kept given a b offset bytes s d = record {
     | inr k ↦ before at (d.complete at k)
   ];
   once = λ at h k. elim (s.takes.fresh at k.0 k.1) [ inl o ↦ d.once at h (k.0, o) | inr n ↦ n (given_done kept given a d at h) ];
-  done = λ at. in_both_modes a.ordered (is_done b at ≡ (if b.ordered then is_in given at else (lies offset (offset + length bytes) at || is_in kept at)))
-      (λ o. in-order b.ordered (is_in given at) (lies offset (offset + length bytes) at || is_in kept at) (is_done b at) (s.ordered ∙ o) (s.done at ∙ insert-order a.ordered (is_done a at) (lies offset (offset + length bytes) at) o ∙ of-order a.ordered (is_in given at) (is_in kept at) (is_done a at) o (d.done at)))
-      (λ u. no-order b.ordered (is_in given at) (lies offset (offset + length bytes) at || is_in kept at) (is_done b at) (s.ordered ∙ u) (s.done at ∙ insert-no-order a.ordered (is_done a at) (lies offset (offset + length bytes) at) u ∙ ap (λ x. lies offset (offset + length bytes) at || x) (of-no-order a.ordered (is_in given at) (is_in kept at) (is_done a at) u (d.done at))));
+  done = λ at. in_both_modes a.ordered (is_done b at ≡ (if b.ordered then is_in_slices given at else (lies offset (offset + length bytes) at || is_in_slices kept at)))
+      (λ o. in-order b.ordered (is_in_slices given at) (lies offset (offset + length bytes) at || is_in_slices kept at) (is_done b at) (s.ordered ∙ o) (s.done at ∙ insert-order a.ordered (is_done a at) (lies offset (offset + length bytes) at) o ∙ of-order a.ordered (is_in_slices given at) (is_in_slices kept at) (is_done a at) o (d.done at)))
+      (λ u. no-order b.ordered (is_in_slices given at) (lies offset (offset + length bytes) at || is_in_slices kept at) (is_done b at) (s.ordered ∙ u) (s.done at ∙ insert-no-order a.ordered (is_done a at) (lies offset (offset + length bytes) at) u ∙ ap (λ x. lies offset (offset + length bytes) at || x) (of-no-order a.ordered (is_in_slices given at) (is_in_slices kept at) (is_done a at) u (d.done at))));
   count = λ n l. d.count n (omega (arith, s.highest)) ∙ sym s.bytes_read;
-  within = λ at h. elim (or-split (lies offset (offset + length bytes) at) (is_in kept at) h) [
+  within = λ at h. elim (or-split (lies offset (offset + length bytes) at) (is_in_slices kept at) h) [
     | inl l ↦ omega (arith, s.highest, lies-high offset (offset + length bytes) at l)
     | inr k ↦ omega (arith, s.highest, d.within at k)
   ];
 }
   where
-    before : (at : ℕ) → (is_in given at ≡ true) ⊎ IsHeld (Holds a) at → (is_in given at ≡ true) ⊎ IsHeld (Holds b) at
+    before : (at : ℕ) → (is_in_slices given at ≡ true) ⊎ IsHeld (Holds a) at → (is_in_slices given at ≡ true) ⊎ IsHeld (Holds b) at
     before at (inl g) = inl g
     before at (inr k) = inr (s.takes.keeps at k)
 
@@ -142,7 +142,7 @@ data-rests kept given a b s d = record {
   came = d.came;
   complete = λ at h. elim (d.complete at h) [ inl g ↦ inl g | inr k ↦ inr (k.0, s.held.keeps at k.0 k.1) ];
   once = λ at h k. d.once at h (k.0, s.held.origin at k.0 k.1);
-  done = λ at. s.done at ∙ d.done at ∙ ap (λ m. if m then is_in given at else is_in kept at) (sym s.ordered);
+  done = λ at. s.done at ∙ d.done at ∙ ap (λ m. if m then is_in_slices given at else is_in_slices kept at) (sym s.ordered);
   count = λ n l. d.count n (omega (arith, s.highest)) ∙ sym s.bytes_read;
   within = λ at h. omega (arith, s.highest, d.within at h);
 }
@@ -153,18 +153,18 @@ data-leaves kept given a b s d = record {
   came = d.came;
   complete = λ at h. elim (d.complete at h) [ inl g ↦ inl g | inr k ↦ inr (s.leaves.held.keeps at k) ];
   once = λ at h k. d.once at h (k.0, s.leaves.held.origin at k.0 k.1);
-  done = λ at. no-order b.ordered (is_in given at) (is_in kept at) (is_done b at) s.leaves.ordered (same-bits (is_done b at) (is_in kept at) (forth at) (back at));
+  done = λ at. no-order b.ordered (is_in_slices given at) (is_in_slices kept at) (is_done b at) s.leaves.ordered (same-bits (is_done b at) (is_in_slices kept at) (forth at) (back at));
   count = λ n l. d.count n (omega (arith, s.leaves.highest)) ∙ sym s.leaves.bytes_read;
   within = λ at h. omega (arith, s.leaves.highest, d.within at h);
 }
   where
-    forth : (at : ℕ) → is_done b at ≡ true → is_in kept at ≡ true
+    forth : (at : ℕ) → is_done b at ≡ true → is_in_slices kept at ≡ true
     forth at h = elim ((s.leaves.done at).0 h) [
       | inl l ↦ done_came kept given a d at ((done_below a at s.was_ordered).1 l)
       | inr k ↦ carried-in kept at k.0 (d.held at k.0 k.1)
     ]
 
-    back : (at : ℕ) → is_in kept at ≡ true → is_done b at ≡ true
+    back : (at : ℕ) → is_in_slices kept at ≡ true → is_done b at ≡ true
     back at h = elim (d.complete at h) [
       | inl g ↦ (s.leaves.done at).1 (inl ((done_below a at s.was_ordered).0 (given_done kept given a d at g)))
       | inr k ↦ (s.leaves.done at).1 (inr k)
@@ -203,20 +203,20 @@ data-given kept given a b most chunk s d = record {
   held = λ at byte h. d.held at byte (s.gives.origin at byte h);
   came = λ at byte h. elim h [ inl k ↦ d.held at byte (s.gives.given at byte k) | inr k ↦ d.came at byte k ];
   complete = λ at h. elim (d.complete at h) [
-    | inl g ↦ inl (or-right (lies chunk.offset (chunk.offset + length chunk.bytes) at) (is_in given at) g)
+    | inl g ↦ inl (or-right (lies chunk.offset (chunk.offset + length chunk.bytes) at) (is_in_slices given at) g)
     | inr k ↦ elim (s.gives.keeps at k.0 k.1) [
-      | inl w ↦ inl (or-left _ (is_in given at) (lies-in chunk.offset (chunk.offset + length chunk.bytes) at w.0 w.1))
+      | inl w ↦ inl (or-left _ (is_in_slices given at) (lies-in chunk.offset (chunk.offset + length chunk.bytes) at w.0 w.1))
       | inr o ↦ inr (k.0, o)
     ]
   ];
-  once = λ at h k. elim (or-split (lies chunk.offset (chunk.offset + length chunk.bytes) at) (is_in given at) h) [
+  once = λ at h k. elim (or-split (lies chunk.offset (chunk.offset + length chunk.bytes) at) (is_in_slices given at) h) [
     | inl l ↦ s.gives.gone at (within_chunk at l) k
     | inr g ↦ d.once at g (k.0, s.gives.origin at k.0 k.1)
   ];
-  done = λ at. in_both_modes a.ordered (is_done b at ≡ (if b.ordered then (lies chunk.offset (chunk.offset + length chunk.bytes) at || is_in given at) else is_in kept at))
-      (λ o. in-order b.ordered (lies chunk.offset (chunk.offset + length chunk.bytes) at || is_in given at) (is_in kept at) (is_done b at) (s.ordered ∙ o) (same-bits (is_done b at) (lies chunk.offset (chunk.offset + length chunk.bytes) at || is_in given at) (forth o at) (back o at)))
-      (λ u. no-order b.ordered (lies chunk.offset (chunk.offset + length chunk.bytes) at || is_in given at) (is_in kept at) (is_done b at) (s.ordered ∙ u) (s.done at u ∙ of-no-order a.ordered (is_in given at) (is_in kept at) (is_done a at) u (d.done at)));
-  count = λ n l. number-or n (lies chunk.offset (chunk.offset + length chunk.bytes)) (is_in given) apart
+  done = λ at. in_both_modes a.ordered (is_done b at ≡ (if b.ordered then (lies chunk.offset (chunk.offset + length chunk.bytes) at || is_in_slices given at) else is_in_slices kept at))
+      (λ o. in-order b.ordered (lies chunk.offset (chunk.offset + length chunk.bytes) at || is_in_slices given at) (is_in_slices kept at) (is_done b at) (s.ordered ∙ o) (same-bits (is_done b at) (lies chunk.offset (chunk.offset + length chunk.bytes) at || is_in_slices given at) (forth o at) (back o at)))
+      (λ u. no-order b.ordered (lies chunk.offset (chunk.offset + length chunk.bytes) at || is_in_slices given at) (is_in_slices kept at) (is_done b at) (s.ordered ∙ u) (s.done at u ∙ of-no-order a.ordered (is_in_slices given at) (is_in_slices kept at) (is_done a at) u (d.done at)));
+  count = λ n l. number-or n (lies chunk.offset (chunk.offset + length chunk.bytes)) (is_in_slices given) apart
       ∙ omega (
         arith,
         d.count n (omega (arith, s.highest)),
@@ -229,18 +229,18 @@ data-given kept given a b most chunk s d = record {
     within_chunk : (at : ℕ) → lies chunk.offset (chunk.offset + length chunk.bytes) at ≡ true → IsWithin chunk.offset chunk.bytes at
     within_chunk at l = (lies-low chunk.offset (chunk.offset + length chunk.bytes) at l, lies-high chunk.offset (chunk.offset + length chunk.bytes) at l)
 
-    apart : (at : ℕ) → lies chunk.offset (chunk.offset + length chunk.bytes) at ≡ true → is_in given at ≡ true → ⊥
+    apart : (at : ℕ) → lies chunk.offset (chunk.offset + length chunk.bytes) at ≡ true → is_in_slices given at ≡ true → ⊥
     apart at l g = d.once at g (given_held a b most chunk s at (within_chunk at l))
 
-    forth : a.ordered ≡ true → (at : ℕ) → is_done b at ≡ true → (lies chunk.offset (chunk.offset + length chunk.bytes) at || is_in given at) ≡ true
+    forth : a.ordered ≡ true → (at : ℕ) → is_done b at ≡ true → (lies chunk.offset (chunk.offset + length chunk.bytes) at || is_in_slices given at) ≡ true
     forth o at h = let l : at < b.bytes_read = (done_below b at (s.ordered ∙ o)).0 h in
         elim (cases_lt at a.bytes_read) [
-          | inl m ↦ or-right (lies chunk.offset (chunk.offset + length chunk.bytes) at) (is_in given at) (sym (of-order a.ordered (is_in given at) (is_in kept at) (is_done a at) o (d.done at)) ∙ (done_below a at o).1 m)
-          | inr m ↦ or-left _ (is_in given at) (lies-in chunk.offset (chunk.offset + length chunk.bytes) at (omega (arith, s.start o)) (omega (arith, s.start o, s.bytes_read)))
+          | inl m ↦ or-right (lies chunk.offset (chunk.offset + length chunk.bytes) at) (is_in_slices given at) (sym (of-order a.ordered (is_in_slices given at) (is_in_slices kept at) (is_done a at) o (d.done at)) ∙ (done_below a at o).1 m)
+          | inr m ↦ or-left _ (is_in_slices given at) (lies-in chunk.offset (chunk.offset + length chunk.bytes) at (omega (arith, s.start o)) (omega (arith, s.start o, s.bytes_read)))
         ]
 
-    back : a.ordered ≡ true → (at : ℕ) → (lies chunk.offset (chunk.offset + length chunk.bytes) at || is_in given at) ≡ true → is_done b at ≡ true
-    back o at h = (done_below b at (s.ordered ∙ o)).1 (elim (or-split (lies chunk.offset (chunk.offset + length chunk.bytes) at) (is_in given at) h) [
+    back : a.ordered ≡ true → (at : ℕ) → (lies chunk.offset (chunk.offset + length chunk.bytes) at || is_in_slices given at) ≡ true → is_done b at ≡ true
+    back o at h = (done_below b at (s.ordered ∙ o)).1 (elim (or-split (lies chunk.offset (chunk.offset + length chunk.bytes) at) (is_in_slices given at) h) [
       | inl l ↦ omega (arith, s.start o, s.bytes_read, lies-high chunk.offset (chunk.offset + length chunk.bytes) at l)
       | inr g ↦ omega (arith, s.bytes_read, (done_below a at o).0 (given_done kept given a d at g))
     ])
@@ -274,6 +274,6 @@ all-number (suc n) f h = omega (arith, all-number n f (λ at l. h at (omega arit
 -- as many bytes were read as the final size tells exactly where each byte below it was given
 pub all_given : (kept given : List Slice) (a : Reassembly) (size : ℕ) → a.highest ≤ size → IsData kept given a → (a.bytes_read ≡ size) ↔ IsAllGiven given size
 all_given kept given a size l d = (
-  (λ e. number-all size (is_in given) (d.count size l ∙ e)),
-  (λ h. sym (d.count size l) ∙ all-number size (is_in given) h),
+  (λ e. number-all size (is_in_slices given) (d.count size l ∙ e)),
+  (λ h. sym (d.count size l) ∙ all-number size (is_in_slices given) h),
 )

@@ -2,7 +2,8 @@
 use Rattle.std.proofs.Common.{◌≡◌, ℕ, ◌+◌, ◌^◌, ◌<◌, ◌≤◌, ◌&&◌, Bool, true, false, nat_lt, nat_le, if◌then◌else◌, List, length, max, Option, Some, None, is_some, refl, arith}
 use Rattle.std.proofs.lemmas.Bool.Decides.{nat_tests}
 use Rattle.quic_assembler.specs.Reassembly.{Reassembly}
-use Rattle.quic_receiving.specs.Half.{Half, IsHalf, Refused, Taken, is_past, is_unfit, is_beyond, verdict, verdict_by, counted}
+use Rattle.quic_receiving.specs.Half.{Half, IsHalf, Refused, Taken, is_unfit, is_beyond, verdict, verdict_by, counted_to}
+use Rattle.quic_values.specs.Offsets.{is_past}
 use Rattle.quic_receiving.specs.Counted.{IsCounted}
 use Rattle.quic_receiving.specs.Calls.{Inserted}
 use Rattle.quic_receiving.proofs.Counted.{read-bound, counted-inserted}
@@ -10,21 +11,21 @@ use Rattle.quic_receiving.proofs.Counted.{read-bound, counted-inserted}
 pub sound : (buffer : Reassembly) (size reset : Option ℕ) (end sent_max : ℕ) (stopped : Bool) → end < 2 ^ 62 → sent_max < 2 ^ 62
     → ((e : ℕ) → size ≡ Some e → end ≡ e) → (is_some reset ≡ true → is_some size ≡ true) → IsCounted buffer → buffer.highest ≤ end
     → IsHalf (record { buffer = buffer; size = size; reset = reset; end = end; sent_max = sent_max; stopped = stopped })
-sound buffer size reset end sent_max stopped bound limit size_is sized counted within = record {
+sound buffer size reset end sent_max stopped bound limit size_is sized counted_to within = record {
   end_bound = bound;
   limit_bound = limit;
   size_is = size_is;
   reset_sized = sized;
-  counted = counted;
+  counted_to = counted_to;
   within = within;
-  read_bound = omega (arith, read-bound buffer counted);
+  read_bound = omega (arith, read-bound buffer counted_to);
 }
 
 -- another buffer with the same highest end
 pub sound_buffer : (h : Half) (buffer : Reassembly) (stopped : Bool) → IsHalf h → buffer.highest ≡ h.buffer.highest → IsCounted buffer
     → IsHalf (record h { buffer = buffer; stopped = stopped })
-sound_buffer h buffer stopped i same counted =
-    sound buffer h.size h.reset h.end h.sent_max stopped i.end_bound i.limit_bound i.size_is i.reset_sized counted (omega (arith, i.within))
+sound_buffer h buffer stopped i same counted_to =
+    sound buffer h.size h.reset h.end h.sent_max stopped i.end_bound i.limit_bound i.size_is i.reset_sized counted_to (omega (arith, i.within))
 
 -- a frame is taken where no test fails
 no_test_fails : (a b c d : Bool) (e f : ℕ) → (if a then Refused e else if b then Refused f else if c then Refused f else if d then Refused e else Taken) ≡ Taken
@@ -48,7 +49,7 @@ high_after false high end h t = cc
 -- a frame that was taken
 pub sound_frame : (h : Half) (buffer : Reassembly) (offset : ℕ) (bytes : List ℕ) (fin : Bool) (end received max_data : ℕ) → IsHalf h
     → end ≡ offset + length bytes → verdict h offset (length bytes) fin received max_data ≡ Taken → Inserted h.buffer buffer offset bytes
-    → h.reset ≡ None → IsHalf (record (counted h end fin) { buffer = buffer })
+    → h.reset ≡ None → IsHalf (record (counted_to h end fin) { buffer = buffer })
 sound_frame h buffer offset bytes fin end received max_data i e taken inserted running =
     let v : verdict_by h.size h.end h.sent_max end fin received max_data ≡ Taken = rw e taken in
     let tests = no_test_fails (nat_le (2 ^ 62) end) (is_past h.size end fin) (fin && nat_lt end h.end) (is_beyond h.end h.sent_max end received max_data) 3 6 v in

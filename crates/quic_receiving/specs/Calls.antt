@@ -12,7 +12,7 @@ use Rattle.quic_wire.specs.declared.ReceiveError.TheVariants as receive_error
 use Rattle.quic_receiving.specs.declared.errors.ReadError.{ReadError}
 use Rattle.quic_receiving.specs.declared.errors.ReadError.TheVariants as read_error
 use Rattle.quic_receiving.specs.declared.transmit.ShouldTransmit.{ShouldTransmit}
-use Rattle.quic_receiving.specs.Half.{Half, Refused, Taken, verdict, reset_verdict, counted, new_bytes, internal_error, stop_credit, is_all}
+use Rattle.quic_receiving.specs.Half.{Half, Refused, Taken, verdict, reset_verdict, counted_to, new_bytes, internal_error, stop_credit, is_all}
 
 -- nothing came, and nothing was read
 pub record IsEmpty (a : Reassembly) : Type 0 where
@@ -40,15 +40,15 @@ pub record Inserted (old new : Reassembly) (offset : ℕ) (bytes : List ℕ) : T
   pub stale : IsStale old offset bytes → piece_count new ≡ piece_count old
 
 -- the bytes of a frame are kept, and its end counts
-pub record Keeps (old : Half) (offset : ℕ) (bytes : List ℕ) (fin : Bool) (new : Half) : Type 0 where
+pub record KeepsBytes (old : Half) (offset : ℕ) (bytes : List ℕ) (fin : Bool) (new : Half) : Type 0 where
   pub running : old.stopped ≡ false
   pub inserted : Inserted old.buffer new.buffer offset bytes
-  pub is : new ≡ record (counted old (offset + length bytes) fin) { buffer = new.buffer }
+  pub is : new ≡ record (counted_to old (offset + length bytes) fin) { buffer = new.buffer }
 
 -- a frame was taken: of a stopped half only its end counts
 pub record TakesFrame (old : Half) (offset : ℕ) (bytes : List ℕ) (fin : Bool) (new : Half) : Type 0 where
-  pub stopped : old.stopped ≡ true → new ≡ counted old (offset + length bytes) fin
-  pub running : old.stopped ≡ false → Keeps old offset bytes fin new
+  pub stopped : old.stopped ≡ true → new ≡ counted_to old (offset + length bytes) fin
+  pub running : old.stopped ≡ false → KeepsBytes old offset bytes fin new
   pub few : old.stopped ≡ false → IsStale old.buffer offset bytes ⊎ (piece_count new.buffer ≤ 2048)
 
 -- what came of a STREAM frame
@@ -61,10 +61,10 @@ Ingests old offset bytes fin received max_data (Ok answer) new =
 Ingests old offset bytes fin received max_data (Err (receive_error.Transport error)) new =
     ((verdict old offset (length bytes) fin received max_data ≡ Refused error.code) × (new ≡ old))
     ⊎ ((verdict old offset (length bytes) fin received max_data ≡ Taken) × (error.code ≡ internal_error)
-    × (1024 < piece_count new.buffer) × (IsStale old.buffer offset bytes → ⊥) × Keeps old offset bytes fin new)
+    × (1024 < piece_count new.buffer) × (IsStale old.buffer offset bytes → ⊥) × KeepsBytes old offset bytes fin new)
 Ingests old offset bytes fin received max_data (Err receive_error.CompactionMemory) new =
     (verdict old offset (length bytes) fin received max_data ≡ Taken)
-    × (IsStale old.buffer offset bytes → ⊥) × Keeps old offset bytes fin new
+    × (IsStale old.buffer offset bytes → ⊥) × KeepsBytes old offset bytes fin new
 Ingests old offset bytes fin received max_data (Err receive_error.OutOfMemory) new =
     (verdict old offset (length bytes) fin received max_data ≡ Taken)
     × (old.stopped ≡ false) × (IsStale old.buffer offset bytes → ⊥) × (new ≡ old)
@@ -79,11 +79,11 @@ pub record Clears (old new : Reassembly) : Type 0 where
   pub pieces : piece_count new ≡ 0
 
 -- what came of a stop: the credit, and whether STOP_SENDING is of use
-abbrev pub Stops : Half → Result (ℕ × ShouldTransmit) ClosedStream → Half → Type 0
-Stops old (Ok answer) new =
+abbrev pub StopsHalf : Half → Result (ℕ × ShouldTransmit) ClosedStream → Half → Type 0
+StopsHalf old (Ok answer) new =
     (old.stopped ≡ false) × (answer.0 ≡ stop_credit old) × (answer.1.0 ≡ is_none old.reset)
     × Clears old.buffer new.buffer × (new ≡ record old { buffer = new.buffer; stopped = true })
-Stops old (Err error) new = (old.stopped ≡ true) × (new ≡ old)
+StopsHalf old (Err error) new = (old.stopped ≡ true) × (new ≡ old)
 
 -- what came of a RESET_STREAM: whether it is the first
 abbrev pub Resets : Half → ℕ → ℕ → ℕ → ℕ → Result Bool TransportError → Half → Type 0

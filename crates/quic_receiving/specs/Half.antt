@@ -2,6 +2,7 @@
 use Rattle.std.specs.Prelude.{◌≡◌, ℕ, ◌+◌, ◌-◌, ◌/◌, ◌^◌, ◌<◌, ◌≤◌, Bool, true, false, not, ◌&&◌, ◌||◌, ◌==◌, nat_lt, nat_le, if◌then◌else◌, min, max, Option, Some, None, is_none, is_some}
 use Rattle.quic_assembler.specs.Reassembly.{Reassembly, fresh}
 use Rattle.quic_receiving.specs.Counted.{IsCounted}
+use Rattle.quic_values.specs.Offsets.{is_past}
 
 pub record Half : Type 0 where
   -- what came and was not read
@@ -48,11 +49,6 @@ pub data Verdict : Type 0 where
   Refused : ℕ → Verdict
   Taken : Verdict
 
--- whether a frame that ends at `end` lies past a final size, or ends the stream elsewhere
-abbrev pub is_past : Option ℕ → ℕ → Bool → Bool
-is_past None end fin = false
-is_past (Some size) end fin = nat_lt size end || (fin && not (end == size))
-
 -- how many bytes up to `end` are above the highest offset received
 abbrev pub new_bytes : ℕ → ℕ → ℕ
 new_bytes high end = end - high
@@ -88,8 +84,8 @@ reset_verdict h final received max_data =
     else verdict_of_limits h.end h.sent_max final received max_data
 
 -- once a frame that ends at `end` counts
-abbrev pub counted : Half → ℕ → Bool → Half
-counted h end fin = record h { end = max h.end end; size = if fin then Some end else h.size }
+abbrev pub counted_to : Half → ℕ → Bool → Half
+counted_to h end fin = record h { end = max h.end end; size = if fin then Some end else h.size }
 
 -- how many bytes a stop gives credit for: those that were not read, and none after a reset, which gave it
 abbrev pub stop_credit : Half → ℕ

@@ -1,9 +1,10 @@
 //! The receive half of a stream.
 
 ghost use Rattle.std.specs.Prelude.{◌≡◌, ◌+◌, ◌-◌, ◌<◌, ◌≤◌, ◌^◌, ◌&&◌, ◌||◌, ℕ, length, not, true, None, Some, is_none, is_some, max, nat_lt, if◌then◌else◌, SomeIff, IfOk, IfErr, OnOk};
-ghost use Rattle.quic_receiving.specs.Half.{IsHalf, new_half, Refused, Taken, verdict, reset_verdict, is_past, is_unfit, is_beyond, is_open, is_all, window_end, is_window_due};
+ghost use Rattle.quic_receiving.specs.Half.{IsHalf, new_half, Refused, Taken, verdict, reset_verdict, is_unfit, is_beyond, is_open, is_all, window_end, is_window_due};
+ghost use Rattle.quic_values.specs.Offsets.{is_past};
 ghost use Rattle.quic_receiving.specs.State.{known_size, reset_code_of};
-ghost use Rattle.quic_receiving.specs.Calls.{IsFresh, Ingests, Stops, Resets, Reads, Orders};
+ghost use Rattle.quic_receiving.specs.Calls.{IsFresh, Ingests, StopsHalf, Resets, Reads, Orders};
 
 mod queries;
 
@@ -175,7 +176,7 @@ impl Recv {
     /// The application wants no more of the stream. Answers how many bytes it gives credit for, and whether
     /// STOP_SENDING is of use (RFC 9000 section 3.5). What is held is let go.
     pub fn stop(&mut self) -> Result<(u64, ShouldTransmit), ClosedStream>
-        ensures { Stops self.old result self.new }
+        ensures { StopsHalf self.old result self.new }
     {
         if self.stopped {
             return Err(ClosedStream);

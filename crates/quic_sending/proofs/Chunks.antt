@@ -3,7 +3,7 @@ use Rattle.std.proofs.Common.{◌≡◌, ℕ, ◌+◌, ◌-◌, ◌<◌, ◌≤�
 use Rattle.std.proofs.lemmas.Bool.{cases_lt}
 use Rattle.std.proofs.lemmas.Bool.Decides.{nat_tests}
 use Rattle.std.proofs.lemmas.List.{drop_more, drop_all, drop-set-lt, get_or-set_same, take_all, append-nil}
-use Rattle.quic_sending.specs.Buffer.{cut}
+use Rattle.quic_sending.specs.Buffer.{cut_of}
 use Rattle.quic_sending.specs.Source.{pieces_of, popped, after_pop, cut_piece, drop_empty}
 
 -- the chunks from a place on, by the one that is there
@@ -50,17 +50,17 @@ pieces_of-zero n ([] ∷ ps) e = pieces_of-zero n ps e
 pieces_of-zero n ((b ∷ bs) ∷ ps) e = rw e (pieces_of-zero (0 - length (b ∷ bs)) ps (omega arith))
 
 -- a chunk of which a part is taken
-pub pieces_of-part : (n : ℕ) (p : List ℕ) (ps : List (List ℕ)) → n < length p → pieces_of n (p ∷ ps) ≡ cut (take n p)
+pub pieces_of-part : (n : ℕ) (p : List ℕ) (ps : List (List ℕ)) → n < length p → pieces_of n (p ∷ ps) ≡ cut_of (take n p)
 pieces_of-part n [] ps h = absurd (omega arith)
 pieces_of-part n (b ∷ bs) ps h =
     let none : n - length (b ∷ bs) ≡ 0 = omega arith in
-    ap (λ (x : List (List ℕ)). cut (take n (b ∷ bs)) ++ x) (pieces_of-zero _ ps none) ∙ append-nil _
+    ap (λ (x : List (List ℕ)). cut_of (take n (b ∷ bs)) ++ x) (pieces_of-zero _ ps none) ∙ append-nil _
 
-pub length-cut-none : (p : List ℕ) → length p ≡ 0 → length (cut p) ≡ 0
+pub length-cut-none : (p : List ℕ) → length p ≡ 0 → length (cut_of p) ≡ 0
 length-cut-none [] h = refl
 length-cut-none (b ∷ bs) h = absurd (omega arith)
 
-pub length-cut-some : (p : List ℕ) → 0 < length p → length (cut p) ≡ 1
+pub length-cut-some : (p : List ℕ) → 0 < length p → length (cut_of p) ≡ 1
 length-cut-some [] h = absurd (omega arith)
 length-cut-some (b ∷ bs) h = refl
 

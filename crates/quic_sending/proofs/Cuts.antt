@@ -4,13 +4,13 @@ use Rattle.std.specs.List.{concat}
 use Rattle.std.proofs.lemmas.Bool.{cases_lt}
 use Rattle.std.proofs.lemmas.List.{append-nil, drop-append-le, drop-drop, take-append-le, take_min}
 use Rattle.std.proofs.Math.Seq.{drop-append-add, take-add}
-use Rattle.quic_sending.specs.Buffer.{Buffered, cut, total, uncovered, piece_part, HasCuts, IsFrontAt}
+use Rattle.quic_sending.specs.Buffer.{Buffered, cut_of, total_length, uncovered, piece_part, HasCuts, IsFrontAt}
 use Rattle.quic_sending.proofs.Pieces.{total-append, uncovered-keep, uncovered-skip, piece_part-skip, piece_part-here}
 
 uncovered-all : (d : ℕ) (p : List ℕ) (ps : List (List ℕ)) → d < length p → uncovered d (p ∷ ps) ≡ p ∷ ps
 uncovered-all d p ps h = uncovered-keep d (p ∷ ps) h
 
-pub uncovered-push : (d : ℕ) (ps : List (List ℕ)) (p : List ℕ) → d ≤ total ps → 0 < length p → uncovered d (ps ++ p ∷ []) ≡ uncovered d ps ++ p ∷ []
+pub uncovered-push : (d : ℕ) (ps : List (List ℕ)) (p : List ℕ) → d ≤ total_length ps → 0 < length p → uncovered d (ps ++ p ∷ []) ≡ uncovered d ps ++ p ∷ []
 uncovered-push d [] p h f = uncovered-all d p [] (omega arith)
 uncovered-push d (q ∷ qs) p h f = by (cases_lt d (length q)) (uncovered-push (d - length q) qs p (omega arith) f)
   where
@@ -18,14 +18,14 @@ uncovered-push d (q ∷ qs) p h f = by (cases_lt d (length q)) (uncovered-push (
     by (inl c) ih = uncovered-all d q (qs ++ p ∷ []) c ∙ ap (λ (x : List (List ℕ)). x ++ p ∷ []) (sym (uncovered-all d q qs c))
     by (inr c) ih = uncovered-skip d q (qs ++ p ∷ []) c ∙ (ih ∙ ap (λ (x : List (List ℕ)). x ++ p ∷ []) (sym (uncovered-skip d q qs c)))
 
-pub total-uncovered-le : (d : ℕ) (ps : List (List ℕ)) → total (uncovered d ps) ≤ total ps
+pub total-uncovered-le : (d : ℕ) (ps : List (List ℕ)) → total_length (uncovered d ps) ≤ total_length ps
 total-uncovered-le d [] = omega arith
 total-uncovered-le d (q ∷ qs) =
     let ih = total-uncovered-le (d - length q) qs in
     ⊎_elim (λ c. rw (uncovered-all d q qs c) (omega arith)) (λ c. rw (uncovered-skip d q qs c) (omega arith)) (cases_lt d (length q))
 
 -- what a longer prefix leaves of the pieces that a shorter one leaves
-pub uncovered-uncovered : (d e : ℕ) (ps : List (List ℕ)) → d ≤ e → uncovered (e - (total ps - total (uncovered d ps))) (uncovered d ps) ≡ uncovered e ps
+pub uncovered-uncovered : (d e : ℕ) (ps : List (List ℕ)) → d ≤ e → uncovered (e - (total_length ps - total_length (uncovered d ps))) (uncovered d ps) ≡ uncovered e ps
 uncovered-uncovered d e [] h = refl
 uncovered-uncovered d e (q ∷ qs) h =
     ⊎_elim
@@ -33,13 +33,13 @@ uncovered-uncovered d e (q ∷ qs) h =
     (λ c.
     let le = total-uncovered-le (d - length q) qs in
     let ih = uncovered-uncovered (d - length q) (e - length q) qs (omega arith) in
-    let same : e - (length q + total qs - total (uncovered (d - length q) qs)) ≡ (e - length q) - (total qs - total (uncovered (d - length q) qs)) = omega arith in
+    let same : e - (length q + total_length qs - total_length (uncovered (d - length q) qs)) ≡ (e - length q) - (total_length qs - total_length (uncovered (d - length q) qs)) = omega arith in
     let skipped : length q ≤ e = omega arith in
     rw (uncovered-skip d q qs c) (ap (λ (n : ℕ). uncovered n (uncovered (d - length q) qs)) same ∙ (ih ∙ sym (uncovered-skip e q qs skipped))))
     (cases_lt d (length q))
 
 -- a part that does not begin below the place d is found in the pieces that d leaves
-pub piece_part-uncovered : (d s n : ℕ) (ps : List (List ℕ)) → d ≤ s → piece_part (uncovered d ps) (s - (total ps - total (uncovered d ps))) n ≡ piece_part ps s n
+pub piece_part-uncovered : (d s n : ℕ) (ps : List (List ℕ)) → d ≤ s → piece_part (uncovered d ps) (s - (total_length ps - total_length (uncovered d ps))) n ≡ piece_part ps s n
 piece_part-uncovered d s n [] h = refl
 piece_part-uncovered d s n (q ∷ qs) h =
     ⊎_elim
@@ -47,12 +47,12 @@ piece_part-uncovered d s n (q ∷ qs) h =
     (λ c.
     let le = total-uncovered-le (d - length q) qs in
     let ih = piece_part-uncovered (d - length q) (s - length q) n qs (omega arith) in
-    let same : s - (length q + total qs - total (uncovered (d - length q) qs)) ≡ (s - length q) - (total qs - total (uncovered (d - length q) qs)) = omega arith in
+    let same : s - (length q + total_length qs - total_length (uncovered (d - length q) qs)) ≡ (s - length q) - (total_length qs - total_length (uncovered (d - length q) qs)) = omega arith in
     let skipped : length q ≤ s = omega arith in
     rw (uncovered-skip d q qs c) (ap (λ (m : ℕ). piece_part (uncovered (d - length q) qs) m n) same ∙ (ih ∙ sym (piece_part-skip q qs s n skipped))))
     (cases_lt d (length q))
 
-pub length-concat : (ps : List (List ℕ)) → length (concat ps) ≡ total ps
+pub length-concat : (ps : List (List ℕ)) → length (concat ps) ≡ total_length ps
 length-concat [] = refl
 length-concat (q ∷ qs) = length-append q (concat qs) ∙ ap (λ n. length q + n) (length-concat qs)
 
@@ -87,7 +87,7 @@ IsFrontAt-piece_part (q ∷ qs) s n =
         }
 
 -- a write adds a piece
-pub HasCuts-write : (v w : Buffered) (cuts : List (List ℕ)) (p : List ℕ) → HasCuts cuts v → v.prefix ≤ v.offset → w.offset ≡ v.offset + length p → w.prefix ≡ v.prefix → w.held ≡ v.held ++ cut p → HasCuts (cuts ++ cut p) w
+pub HasCuts-write : (v w : Buffered) (cuts : List (List ℕ)) (p : List ℕ) → HasCuts cuts v → v.prefix ≤ v.offset → w.offset ≡ v.offset + length p → w.prefix ≡ v.prefix → w.held ≡ v.held ++ cut_of p → HasCuts (cuts ++ cut_of p) w
 HasCuts-write v w cuts [] h l o p e =
     let written = h.written in
     record {
@@ -97,24 +97,24 @@ HasCuts-write v w cuts [] h l o p e =
 HasCuts-write v w cuts (b ∷ bs) h l o p e =
     let written = h.written in
     let sums = total-append cuts ((b ∷ bs) ∷ []) in
-    let reached : v.prefix ≤ total cuts = omega arith in
+    let reached : v.prefix ≤ total_length cuts = omega arith in
     record {
       written = omega arith;
       retained = e ∙ rw (h.retained, p) (sym (uncovered-push v.prefix cuts (b ∷ bs) reached (omega arith)));
     }
 
 -- a longer acknowledged prefix
-pub HasCuts-ack : (v w : Buffered) (cuts : List (List ℕ)) → HasCuts cuts v → v.gone + total v.held ≡ v.offset → w.offset ≡ v.offset → v.prefix ≤ w.prefix → w.held ≡ uncovered (w.prefix - v.gone) v.held → HasCuts cuts w
+pub HasCuts-ack : (v w : Buffered) (cuts : List (List ℕ)) → HasCuts cuts v → v.gone + total_length v.held ≡ v.offset → w.offset ≡ v.offset → v.prefix ≤ w.prefix → w.held ≡ uncovered (w.prefix - v.gone) v.held → HasCuts cuts w
 HasCuts-ack v w cuts h l o p e =
     let written = h.written in
-    let sums = ap total h.retained in
-    let gone : v.gone ≡ total cuts - total (uncovered v.prefix cuts) = omega arith in
+    let sums = ap total_length h.retained in
+    let gone : v.gone ≡ total_length cuts - total_length (uncovered v.prefix cuts) = omega arith in
     record {
       written = o ∙ h.written;
       retained = e ∙ (rw (gone, h.retained) (uncovered-uncovered v.prefix w.prefix cuts p));
     }
 
-uncovered-none : (d : ℕ) (ps : List (List ℕ)) → total ps ≤ d → uncovered d ps ≡ []
+uncovered-none : (d : ℕ) (ps : List (List ℕ)) → total_length ps ≤ d → uncovered d ps ≡ []
 uncovered-none d [] h = refl
 uncovered-none d (q ∷ qs) h =
     let skipped : length q ≤ d = omega arith in
@@ -130,11 +130,11 @@ HasCuts-all v w cuts h o p e =
     }
 
 -- the part that the held pieces have is that of all pieces
-pub HasCuts-part : (v : Buffered) (cuts : List (List ℕ)) (s n : ℕ) → HasCuts cuts v → v.gone + total v.held ≡ v.offset → v.prefix ≤ s → piece_part v.held (s - v.gone) n ≡ piece_part cuts s n
+pub HasCuts-part : (v : Buffered) (cuts : List (List ℕ)) (s n : ℕ) → HasCuts cuts v → v.gone + total_length v.held ≡ v.offset → v.prefix ≤ s → piece_part v.held (s - v.gone) n ≡ piece_part cuts s n
 HasCuts-part v cuts s n h l p =
     let written = h.written in
-    let sums = ap total h.retained in
-    let gone : v.gone ≡ total cuts - total (uncovered v.prefix cuts) = omega arith in
+    let sums = ap total_length h.retained in
+    let gone : v.gone ≡ total_length cuts - total_length (uncovered v.prefix cuts) = omega arith in
     rw (gone, h.retained) (piece_part-uncovered v.prefix s n cuts p)
 
 -- one more part of the bytes from s on

@@ -2,7 +2,7 @@
 use Rattle.std.proofs.Common.{◌≡◌, ℕ, ◌+◌, ◌-◌, ◌<◌, ◌≤◌, zero, suc, List, [], ◌∷◌, ◌++◌, length, get_or, refl, sym, ap, ◌∙◌, min, take, drop, length-drop, arith}
 use Rattle.std.proofs.lemmas.List.{take_min}
 use Rattle.quic_sending.specs.declared.piece_queue.Piece.{Piece}
-use Rattle.quic_sending.specs.Buffer.{total, piece_part, AreFilled}
+use Rattle.quic_sending.specs.Buffer.{total_length, piece_part, AreFilled}
 use Rattle.quic_sending.specs.Pieces.{contents, IsLaidOut, IsBetween, IsCountUpTo}
 use Rattle.quic_sending.proofs.Pieces.{piece_part-skip, piece_part-here}
 
@@ -10,7 +10,7 @@ pub contents-append : (ps qs : List Piece) → contents (ps ++ qs) ≡ contents 
 contents-append [] qs = refl
 contents-append (p ∷ ps) qs = ap (λ (x : List (List ℕ)). p.bytes ∷ x) (contents-append ps qs)
 
-pub IsLaidOut-push : (n : ℕ) (ps : List Piece) (p : Piece) → IsLaidOut n ps → p.start ≡ n + total (contents ps) → 0 < length p.bytes → IsLaidOut n (ps ++ p ∷ [])
+pub IsLaidOut-push : (n : ℕ) (ps : List Piece) (p : Piece) → IsLaidOut n ps → p.start ≡ n + total_length (contents ps) → 0 < length p.bytes → IsLaidOut n (ps ++ p ∷ [])
 IsLaidOut-push n [] p h s f = (omega arith, f, tt)
 IsLaidOut-push n (q ∷ qs) p h s f = (h.0, h.1, IsLaidOut-push (n + length q.bytes) qs p h.2 (omega arith) f)
 

@@ -1,9 +1,9 @@
 -- Lemmas on lists of pieces.
 use Rattle.std.proofs.Common.{◌≡◌, ℕ, ◌+◌, ◌-◌, ◌<◌, ◌≤◌, List, [], ◌∷◌, ◌++◌, length, take, drop, refl, arith}
 use Rattle.std.proofs.lemmas.Bool.Decides.{nat_tests}
-use Rattle.quic_sending.specs.Buffer.{total, uncovered, piece_part, AreFilled, IsInFirst}
+use Rattle.quic_sending.specs.Buffer.{total_length, uncovered, piece_part, AreFilled, IsInFirst}
 
-pub total-append : (a b : List (List ℕ)) → total (a ++ b) ≡ total a + total b
+pub total-append : (a b : List (List ℕ)) → total_length (a ++ b) ≡ total_length a + total_length b
 total-append [] b = omega arith
 total-append (p ∷ ps) b = omega (arith, total-append ps b)
 
@@ -31,7 +31,7 @@ pub piece_part-here : (p : List ℕ) (ps : List (List ℕ)) (s n : ℕ) → s < 
 piece_part-here p ps s n h = grind (arith, nat_tests)
 
 -- there is nothing behind the last piece
-pub piece_part-past : (ps : List (List ℕ)) (s n : ℕ) → total ps ≤ s → piece_part ps s n ≡ []
+pub piece_part-past : (ps : List (List ℕ)) (s n : ℕ) → total_length ps ≤ s → piece_part ps s n ≡ []
 piece_part-past [] s n h = refl
 piece_part-past (p ∷ ps) s n h =
     let skipped : length p ≤ s = omega arith in

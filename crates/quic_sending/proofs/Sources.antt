@@ -3,10 +3,10 @@ use Rattle.std.proofs.Common.{◌≡◌, ℕ, ◌+◌, ◌-◌, ◌<◌, ◌≤�
 use Rattle.std.proofs.lemmas.Bool.{cases_lt}
 use Rattle.std.proofs.lemmas.Bool.Decides.{nat_tests}
 use Rattle.std.proofs.lemmas.List.{take_all, append_assoc}
-use Rattle.quic_sending.specs.Buffer.{Buffered, cut, total}
+use Rattle.quic_sending.specs.Buffer.{Buffered, cut_of, total_length}
 use Rattle.quic_sending.specs.Source.{pieces_of, rest_of, popped, after_pop}
 
-cut-filled : (xs : List ℕ) → 0 < length xs → cut xs ≡ xs ∷ []
+cut-filled : (xs : List ℕ) → 0 < length xs → cut_of xs ≡ xs ∷ []
 cut-filled [] h = absurd (omega arith)
 cut-filled (x ∷ xs) h = refl
 
@@ -79,7 +79,7 @@ rest_of-none n ((b ∷ bs) ∷ ps) h =
     after_pop-part n b bs ps part ∙ sym (rest_of-part n b bs ps part)
 
 -- how many bytes there are
-pub min-total-step : (n : ℕ) (ps : List (List ℕ)) → min n (total ps) ≡ length (popped n ps) + min (n - length (popped n ps)) (total (after_pop n ps))
+pub min-total-step : (n : ℕ) (ps : List (List ℕ)) → min n (total_length ps) ≡ length (popped n ps) + min (n - length (popped n ps)) (total_length (after_pop n ps))
 min-total-step n [] = omega arith
 min-total-step n ([] ∷ ps) = omega (arith, min-total-step n ps)
 min-total-step n ((b ∷ bs) ∷ ps) =
@@ -90,7 +90,7 @@ min-total-step n ((b ∷ bs) ∷ ps) =
     (λ c. rw (after_pop-whole n b bs ps c) (omega arith))
     (cases_lt n (length (b ∷ bs)))
 
-pub min-total-none : (n : ℕ) (ps : List (List ℕ)) → length (popped n ps) ≡ 0 → min n (total ps) ≡ 0
+pub min-total-none : (n : ℕ) (ps : List (List ℕ)) → length (popped n ps) ≡ 0 → min n (total_length ps) ≡ 0
 min-total-none n [] h = omega arith
 min-total-none n ([] ∷ ps) h = omega (arith, min-total-none n ps h)
 min-total-none n ((b ∷ bs) ∷ ps) h =
@@ -102,7 +102,7 @@ pub same_others : (v w x : Buffered) (n : ℕ) (held : List (List ℕ)) → w �
 same_others v w x n held e f o h = cc
 
 -- one write of a piece
-pub held-step : (was now : List (List ℕ)) (piece : List ℕ) (rest all : List (List ℕ)) → 0 < length piece → now ≡ was ++ cut piece → was ++ (piece ∷ rest) ≡ all → now ++ rest ≡ all
+pub held-step : (was now : List (List ℕ)) (piece : List ℕ) (rest all : List (List ℕ)) → 0 < length piece → now ≡ was ++ cut_of piece → was ++ (piece ∷ rest) ≡ all → now ++ rest ≡ all
 held-step was now piece rest all h e f = rw (e, cut-filled piece h, append_assoc) f
 
 pub same_others-step : (v w x : Buffered) (n room : ℕ) (held : List (List ℕ)) → w ≡ record v { offset = w.offset; held = w.held; room = w.room } → x ≡ record w { offset = n; held = held; room = room } → x ≡ record v { offset = x.offset; held = x.held; room = x.room }

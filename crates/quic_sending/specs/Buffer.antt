@@ -5,14 +5,14 @@ use Rattle.quic_values.specs.Runs.{Run, contains, is_in}
 use Rattle.quic_sending.specs.Ranges.{IsNothing, IsLowestRun}
 
 -- what a write of these bytes adds to the pieces
-abbrev pub cut : List ℕ → List (List ℕ)
-cut [] = []
-cut (b ∷ bs) = (b ∷ bs) ∷ []
+abbrev pub cut_of : List ℕ → List (List ℕ)
+cut_of [] = []
+cut_of (b ∷ bs) = (b ∷ bs) ∷ []
 
 -- how many bytes there are in all pieces
-abbrev pub total : List (List ℕ) → ℕ
-total [] = 0
-total (p ∷ ps) = length p + total ps
+abbrev pub total_length : List (List ℕ) → ℕ
+total_length [] = 0
+total_length (p ∷ ps) = length p + total_length ps
 
 -- a queue of pieces
 pub record Queued : Type 0 where
@@ -86,7 +86,7 @@ uncovered d (p ∷ ps) = if nat_lt d (length p) then p ∷ ps else uncovered (d 
 
 -- v may be the value of a buffer to which these pieces were written
 pub record HasCuts (cuts : List (List ℕ)) (v : Buffered) : Type 0 where
-  pub written : v.offset ≡ total cuts
+  pub written : v.offset ≡ total_length cuts
   pub retained : v.held ≡ uncovered v.prefix cuts
 
 -- xs is what some bytes begin with from s on, at most n of them, and some where there are some
@@ -107,7 +107,7 @@ IsInFirst d (p ∷ ps) = d < length p
 
 -- what holds of every send buffer
 pub record IsSound (v : Buffered) : Type 0 where
-  pub lengths : v.gone + total v.held ≡ v.offset
+  pub lengths : v.gone + total_length v.held ≡ v.offset
   pub filled : AreFilled v.held
   pub first : IsInFirst (v.prefix - v.gone) v.held
   pub gone_acked : v.gone ≤ v.prefix

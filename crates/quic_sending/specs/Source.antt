@@ -1,12 +1,12 @@
 -- A source of bytes, as the lists of bytes that are left of it.
 use Rattle.std.specs.Prelude.{ℕ, ◌-◌, nat_lt, if◌then◌else◌, List, [], ◌∷◌, ◌++◌, length, take, drop}
-use Rattle.quic_sending.specs.Buffer.{cut}
+use Rattle.quic_sending.specs.Buffer.{cut_of}
 
 -- the first n bytes, as one piece for each list of which they have some
 abbrev pub pieces_of : ℕ → List (List ℕ) → List (List ℕ)
 pieces_of n [] = []
 pieces_of n ([] ∷ ps) = pieces_of n ps
-pieces_of n ((b ∷ bs) ∷ ps) = cut (take n (b ∷ bs)) ++ pieces_of (n - length (b ∷ bs)) ps
+pieces_of n ((b ∷ bs) ∷ ps) = cut_of (take n (b ∷ bs)) ++ pieces_of (n - length (b ∷ bs)) ps
 
 -- the lists without their first n bytes, and without those in front of which nothing is left
 abbrev pub rest_of : ℕ → List (List ℕ) → List (List ℕ)

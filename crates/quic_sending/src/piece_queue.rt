@@ -1,6 +1,6 @@
 ghost use Rattle.std.specs.Prelude.{◌≡◌, ◌+◌, ◌-◌, ◌<◌, ◌≤◌, ◌^◌, ℕ, ◌++◌, ◌∷◌, [], OnOk, OnErr, IsOk, length};
 ghost use Rattle.std.specs.VecDeque.{deque_len, deque_capacity};
-ghost use Rattle.quic_sending.specs.Buffer.{Queued, total, AreFilled, IsInFirst, piece_part, uncovered};
+ghost use Rattle.quic_sending.specs.Buffer.{Queued, total_length, AreFilled, IsInFirst, piece_part, uncovered};
 ghost use Rattle.quic_sending.specs.Pieces.{contents, IsLaidOut, IsCountUpTo, IsBetween};
 
 use quic_values::{Bytes, OutOfMemory};
@@ -31,7 +31,7 @@ pub(crate) struct PieceQueue {
 impl Model for PieceQueue {
     ghost use Rattle.std.specs.Prelude.{◌≡◌, ◌+◌, ◌-◌, ◌<◌, ◌^◌};
     ghost use Rattle.std.specs.VecDeque.{deque_len, deque_capacity};
-    ghost use Rattle.quic_sending.specs.Buffer.{Queued, total};
+    ghost use Rattle.quic_sending.specs.Buffer.{Queued, total_length};
     ghost use Rattle.quic_sending.specs.Pieces.{contents, IsLaidOut};
 
     ghost Value = { Queued };
@@ -43,7 +43,7 @@ impl Model for PieceQueue {
       room = deque_capacity s.pieces - deque_len s.pieces;
     } };
 
-    ghost invariant = { λ s. IsLaidOut s.gone s.pieces.items × (s.gone + total (contents s.pieces.items) ≡ s.end) × (s.end < 2 ^ 62) };
+    ghost invariant = { λ s. IsLaidOut s.gone s.pieces.items × (s.gone + total_length (contents s.pieces.items) ≡ s.end) × (s.end < 2 ^ 62) };
 }
 
 impl PieceQueue {
@@ -111,7 +111,7 @@ impl PieceQueue {
         requires { (self.old.gone ≤ prefix) × (prefix ≤ self.old.end) }
         ensures held { self.new.held ≡ uncovered (prefix - self.old.gone) self.old.held }
         ensures end { self.new.end ≡ self.old.end }
-        ensures lengths { self.new.gone + total self.new.held ≡ self.new.end }
+        ensures lengths { self.new.gone + total_length self.new.held ≡ self.new.end }
         ensures filled { AreFilled self.new.held }
         ensures first { IsInFirst (prefix - self.new.gone) self.new.held }
         ensures gone { self.new.gone ≤ prefix }
@@ -212,11 +212,11 @@ fn bounds_at(pieces: &VecDeque<Piece>, hint: usize, offset: u64) -> (usize, usiz
 fn drop_covered(pieces: &mut VecDeque<Piece>, gone: &mut u64, prefix: u64)
     requires gone_acked { gone.old ≤ prefix }
     requires laid_out { IsLaidOut gone.old pieces.old.items }
-    requires small { gone.old + total (contents pieces.old.items) < 2 ^ 62 }
-    requires acked_written { prefix ≤ gone.old + total (contents pieces.old.items) }
+    requires small { gone.old + total_length (contents pieces.old.items) < 2 ^ 62 }
+    requires acked_written { prefix ≤ gone.old + total_length (contents pieces.old.items) }
     ensures held { contents pieces.new.items ≡ uncovered (prefix - gone.old) (contents pieces.old.items) }
     ensures laid_out { IsLaidOut gone.new pieces.new.items }
-    ensures lengths { gone.new + total (contents pieces.new.items) ≡ gone.old + total (contents pieces.old.items) }
+    ensures lengths { gone.new + total_length (contents pieces.new.items) ≡ gone.old + total_length (contents pieces.old.items) }
     ensures first { IsInFirst (prefix - gone.new) (contents pieces.new.items) }
     ensures gone_acked { gone.new ≤ prefix }
     ensures room { (deque_len pieces.new ≤ deque_len pieces.old) × (deque_capacity pieces.new

@@ -1,6 +1,6 @@
 ghost use Rattle.std.specs.Prelude.{◌≡◌, ◌+◌, ◌-◌, ◌<◌, ◌≤◌, ◌^◌, ◌↔◌, ◌==◌, ℕ, List, [], ◌++◌, ◌&&◌, ◌||◌, not, IsTrue, IfOk, OnOk, OnErr, IfErr, length, min, true, false, if◌then◌else◌, Some, None, Option, is_none, unwrap_or, ◌⊎◌, pos};
 ghost use Rattle.quic_values.specs.Runs.{lies_in};
-ghost use Rattle.quic_sending.specs.Buffer.{HasCuts, IsSound, HasDue, HasNoneDue, is_acked, is_lost, total, uncovered};
+ghost use Rattle.quic_sending.specs.Buffer.{HasCuts, IsSound, HasDue, HasNoneDue, is_acked, is_lost, total_length, uncovered};
 ghost use Rattle.quic_sending.specs.Source.{pieces_of, rest_of};
 
 use crate::send_buffer::SendBuffer;
@@ -208,12 +208,12 @@ impl Send {
         ensures err { IfErr result (λ e. IsWriteRefusal self.old e) }
         ensures written { OnOk result (self.new ≡ record self.old {
           pending = record self.old.pending {
-            offset = self.old.pending.offset + min (permitted self.old limit) (total (S.lists source.old));
+            offset = self.old.pending.offset + min (permitted self.old limit) (total_length (S.lists source.old));
             held = self.old.pending.held ++ pieces_of (permitted self.old limit) (S.lists source.old);
             room = self.new.pending.room;
           };
         }) }
-        ensures bytes { IfOk result (λ w. w.bytes ≡ min (permitted self.old limit) (total (S.lists source.old))) }
+        ensures bytes { IfOk result (λ w. w.bytes ≡ min (permitted self.old limit) (total_length (S.lists source.old))) }
         ensures chunks { IfOk result (λ w. w.chunks + length (S.lists source.new) ≡ length (S.lists source.old)) }
         ensures left { OnOk result (S.lists source.new ≡ rest_of (permitted self.old limit) (S.lists source.old)) }
         ensures unchanged { OnErr result (S.lists source.new ≡ S.lists source.old) }
@@ -366,11 +366,11 @@ fn write_source<S: BytesSource>(
 ) -> Result<Written, OutOfMemory>
     requires { buffer.old.offset + limit < 2 ^ 62 }
     ensures written { OnOk result (buffer.new ≡ record buffer.old {
-      offset = buffer.old.offset + min limit (total (S.lists source.old));
+      offset = buffer.old.offset + min limit (total_length (S.lists source.old));
       held = buffer.old.held ++ pieces_of limit (S.lists source.old);
       room = buffer.new.room;
     }) }
-    ensures bytes { IfOk result (λ w. w.bytes ≡ min limit (total (S.lists source.old))) }
+    ensures bytes { IfOk result (λ w. w.bytes ≡ min limit (total_length (S.lists source.old))) }
     ensures chunks { IfOk result (λ w. w.chunks + length (S.lists source.new) ≡ length (S.lists source.old)) }
     ensures left { OnOk result (S.lists source.new ≡ rest_of limit (S.lists source.old)) }
     ensures err { OnErr result ((S.lists source.new ≡ S.lists source.old) × (buffer.new

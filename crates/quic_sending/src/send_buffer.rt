@@ -1,7 +1,7 @@
 ghost use Rattle.std.specs.Prelude.{◌≡◌, ◌+◌, ◌-◌, ◌<◌, ◌≤◌, ◌^◌, ◌↔◌, ℕ, [], ◌++◌, ◌&&◌, ◌||◌, not, IsTrue, IsOk, OnOk, OnErr, length, nat_lt, true, false, IfOk, max, List, take, drop, vec_len, vec_capacity};
 ghost use Rattle.std.specs.List.{concat};
 ghost use Rattle.quic_values.specs.Runs.{contains, lies_in};
-ghost use Rattle.quic_sending.specs.Buffer.{HasCuts, IsFrontAt, is_due, IsNextRange, IsFrontOfNext, frame_end, has_length, cut, total, is_acked, is_lost, piece_part, uncovered, IsSound, Joins};
+ghost use Rattle.quic_sending.specs.Buffer.{HasCuts, IsFrontAt, is_due, IsNextRange, IsFrontOfNext, frame_end, has_length, cut_of, total_length, is_acked, is_lost, piece_part, uncovered, IsSound, Joins};
 
 use crate::piece_queue::PieceQueue;
 use quic_values::{Bytes, OutOfMemory, RangeSet, VarInt};
@@ -115,9 +115,9 @@ impl SendBuffer {
     /// not wholly cover.
     #[inline]
     pub fn buffered(&self) -> u64
-        ensures held { result ≡ total self.now.held }
+        ensures held { result ≡ total_length self.now.held }
         ensures cuts { (cuts : List (List ℕ)) → HasCuts cuts self.now →
-            result ≡ total (uncovered self.now.prefix cuts) }
+            result ≡ total_length (uncovered self.now.prefix cuts) }
     {
         self.offset() - self.pieces.gone()
     }
@@ -139,13 +139,13 @@ impl SendBuffer {
         requires { self.old.offset + length piece < 2 ^ 62 }
         ensures ok { OnOk result (self.new ≡ record self.old {
           offset = self.old.offset + length piece;
-          held = self.old.held ++ cut piece;
+          held = self.old.held ++ cut_of piece;
           room = self.new.room;
         }) }
         ensures err { OnErr result (self.new ≡ record self.old { room = self.new.room }) }
         ensures roomy { 0 < self.old.room → IsOk result × (self.old.room ≤ self.new.room + 1) }
         ensures cuts { OnOk result ((cuts : List (List ℕ)) → HasCuts cuts self.old →
-            HasCuts (cuts ++ cut piece) self.new) }
+            HasCuts (cuts ++ cut_of piece) self.new) }
         ensures sound { IsSound self.new }
     {
         if !piece.is_empty() {
@@ -161,11 +161,11 @@ impl SendBuffer {
         requires small { self.old.offset + length piece < 2 ^ 62 }
         ensures same { self.new ≡ record self.old {
           offset = self.old.offset + length piece;
-          held = self.old.held ++ cut piece;
+          held = self.old.held ++ cut_of piece;
           room = self.new.room;
         } }
         ensures room { self.old.room ≤ self.new.room + 1 }
-        ensures cuts { (cuts : List (List ℕ)) → HasCuts cuts self.old → HasCuts (cuts ++ cut piece) self.new }
+        ensures cuts { (cuts : List (List ℕ)) → HasCuts cuts self.old → HasCuts (cuts ++ cut_of piece) self.new }
         ensures sound { IsSound self.new }
     {
         match self.write(piece) {

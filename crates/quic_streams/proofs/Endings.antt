@@ -10,7 +10,7 @@ use Rattle.quic_receiving.specs.declared.errors.ReadError.{ReadError}
 use Rattle.quic_receiving.specs.declared.errors.ReadError.TheVariants as read_error
 use Rattle.quic_receiving.proofs.Data.{all_given}
 use Rattle.quic_streams.specs.World.{World}
-use Rattle.quic_streams.specs.History.{Event, Received, ReceivedReset, AddedCredits, Began, Gave, Ended, Stopped, ToldReset, Step, Trace, HalfFrom, Facts, EndsSo, TellsEnds, trace, is_closed, is_kept, with_frame, with_reset, with_read, with_stop, with_told}
+use Rattle.quic_streams.specs.History.{Event, Received, ReceivedReset, AddedCredits, Began, Gave, Ended, Stopped, ToldReset, Step, Trace, HalfFrom, Facts, EndsSo, TellsEnds, trace, is_closed, is_kept, with_kept_frame, with_reset, with_read, with_stop, with_told}
 use Rattle.quic_streams.proofs.Totals.{by_cases, same}
 use Rattle.quic_streams.proofs.StreamSteps.{half-from, known-from}
 
@@ -26,7 +26,7 @@ ends_if false t u p q = q
 not_ended : (t : Trace) {P : Type 0} → EndsSo t → t.gone ≡ false → t.ended ≡ true → P
 not_ended t p there e = let k = (p e).0 in cc
 
-ends_frame : (t : Trace) (offset : ℕ) (bytes : List ℕ) (fin : Bool) → EndsSo t → EndsSo (with_frame offset bytes fin t)
+ends_frame : (t : Trace) (offset : ℕ) (bytes : List ℕ) (fin : Bool) → EndsSo t → EndsSo (with_kept_frame offset bytes fin t)
 ends_frame t offset bytes fin p = by_cases (is_closed t) (λ c. rw c p) (λ c. rw c (λ e. not_ended t p (or_false t.reset t.gone c) e))
 
 ends_reset : (t : Trace) (final : ℕ) → EndsSo t → EndsSo (with_reset final t)
@@ -70,7 +70,7 @@ ends_read t old new most (Err read_error.OutOfMemory) x running s p = p
 -- every call keeps it
 pub kept-ends : (h : List Event) (u : World) (e : Event) (v : World) → Facts h u → Step u e v → ((q : ℕ) → EndsSo (trace h q)) → (q : ℕ) → EndsSo (trace (e ∷ h) q)
 kept-ends h u (Received id offset bytes fin answer) v f s p q =
-    ends_if (q == id && is_kept answer) (with_frame offset bytes fin (trace h q)) (trace h q) (λ t. ends_frame (trace h q) offset bytes fin (p q)) (p q)
+    ends_if (q == id && is_kept answer) (with_kept_frame offset bytes fin (trace h q)) (trace h q) (λ t. ends_frame (trace h q) offset bytes fin (p q)) (p q)
 kept-ends h u (ReceivedReset id code final (Ok transmit)) v f s p q = ends_if (q == id) (with_reset final (trace h q)) (trace h q) (λ t. ends_reset (trace h q) final (p q)) (p q)
 kept-ends h u (ReceivedReset id code final (Err error)) v f s p q = p q
 kept-ends h u (AddedCredits count answer) v f s p q = p q

@@ -4,13 +4,14 @@ use Rattle.std.specs.Prelude.{nat_lt, nat_le, ◌^◌, if◌then◌else◌, ◌=
 use Rattle.std.proofs.lemmas.Bool.Decides.{nat_tests}
 use Rattle.quic_wire.specs.declared.error.ReceiveError.{ReceiveError}
 use Rattle.quic_wire.specs.declared.error.ReceiveError.TheVariants as receive_error
-use Rattle.quic_receiving.specs.Half.{Half, Refused, Taken, verdict, is_past, is_beyond, counted}
+use Rattle.quic_receiving.specs.Half.{Half, Refused, Taken, verdict, is_beyond, counted_to}
+use Rattle.quic_values.specs.Offsets.{is_past}
 use Rattle.quic_receiving.specs.Data.{IsData}
-use Rattle.quic_receiving.specs.Calls.{Inserted, Keeps, TakesFrame, Ingests}
+use Rattle.quic_receiving.specs.Calls.{Inserted, KeepsBytes, TakesFrame, Ingests}
 use Rattle.quic_receiving.proofs.Data.{data-inserted}
 use Rattle.quic_receiving.specs.declared.transmit.ShouldTransmit.{ShouldTransmit}
 use Rattle.quic_values.specs.Ids.{index_of}
-use Rattle.quic_streams.specs.World.{World, refusal, is_own, with_receive, with_credit, advanced, noticed, freed}
+use Rattle.quic_streams.specs.World.{World, id_refusal, is_own, with_receive, with_credit, advanced, noticed, with_freed}
 use Rattle.quic_streams.specs.Receiving.{IsDropped, Receives, after_data}
 use Rattle.quic_streams.specs.History.{Event, Received, Trace, HalfFrom, StreamFrom, CreditFrom, Facts, trace, is_closed, is_kept, consumed, consumed_by, debt, received}
 use Rattle.quic_streams.proofs.WorldSteps.{credit-with_receive, refusal-advanced, with_receive-back, with_counted-none}
@@ -36,7 +37,7 @@ size_or None end false = refl
 size_or (Some size) end true = refl
 size_or (Some size) end false = refl
 
-grows-counted : (old new : Half) (offset : ℕ) (bytes : List ℕ) (fin : Bool) → old.stopped ≡ true → new ≡ counted old (offset + length bytes) fin → Grows old new offset bytes fin
+grows-counted : (old new : Half) (offset : ℕ) (bytes : List ℕ) (fin : Bool) → old.stopped ≡ true → new ≡ counted_to old (offset + length bytes) fin → Grows old new offset bytes fin
 grows-counted old new offset bytes fin stopped is = rw is (record {
   high = refl;
   size = refl;
@@ -47,7 +48,7 @@ grows-counted old new offset bytes fin stopped is = rw is (record {
   inserts = λ s. cc;
 })
 
-grows-keeps : (old new : Half) (offset : ℕ) (bytes : List ℕ) (fin : Bool) → Keeps old offset bytes fin new → Grows old new offset bytes fin
+grows-keeps : (old new : Half) (offset : ℕ) (bytes : List ℕ) (fin : Bool) → KeepsBytes old offset bytes fin new → Grows old new offset bytes fin
 grows-keeps old new offset bytes fin k = record {
   high = ap (λ x. x.end) k.is;
   size = ap (λ x. x.size) k.is;
@@ -149,7 +150,7 @@ and_both b c e k = rw (e, k) refl
 -- ---- a frame that was kept, on a half that was not reset
 
 module _ (h : List Event) (u : World) (id offset : ℕ) (bytes : List ℕ) (fin : Bool) (answer : Result ShouldTransmit ReceiveError) (old new : Half) (f : Facts h u)
-    (known : refusal u id ≡ None) (half : u.receive id ≡ Some old) (running : old.reset ≡ None) (grows : Grows old new offset bytes fin)
+    (known : id_refusal u id ≡ None) (half : u.receive id ≡ Some old) (running : old.reset ≡ None) (grows : Grows old new offset bytes fin)
     (passed : Passes old (offset + length bytes) fin u.credit.data_recvd u.credit.local_max_data) (kept : is_kept answer ≡ true) where
   abbrev e : Event
   e = Received id offset bytes fin answer
@@ -212,23 +213,23 @@ module _ (h : List Event) (u : World) (id offset : ℕ) (bytes : List ℕ) (fin 
     streams = all-noticed g w id true r.streams;
   }
 
-  credit_freed : (b : Bool) → (if b then freed w id else w).credit ≡ w.credit
+  credit_freed : (b : Bool) → (if b then with_freed w id else w).credit ≡ w.credit
   credit_freed true = credit-freed w id
   credit_freed false = refl
 
   -- its bytes are discarded
-  facts_discarded : old.stopped ≡ true → Facts (e ∷ h) (with_credit (if fin then freed w id else w) (new.end - old.end))
+  facts_discarded : old.stopped ≡ true → Facts (e ∷ h) (with_credit (if fin then with_freed w id else w) (new.end - old.end))
   facts_discarded s =
       let stopped : t.stopped ≡ true = sym was.stopped ∙ s in
       let high = was.high in
       let grown = grows.high in
       let count : ℕ = new.end - old.end in
       let some : consumed_by h e ≡ count = used count (rw stopped (omega arith)) in
-      let known_now : refusal w id ≡ None = refusal-advanced u id id old new ∙ known in
+      let known_now : id_refusal w id ≡ None = refusal-advanced u id id old new ∙ known in
       record {
         credit = rw (credit_freed fin) (credit-same (consumed h + count) (debt h - count) (received (e ∷ h)) (consumed (e ∷ h)) (debt (e ∷ h)) (received (e ∷ h)) _
             (omega arith) (omega arith) refl (credit-credited (consumed h) (debt h) (received (e ∷ h)) count w.credit counted-credit));
-        streams = when g (freed w id) w fin
+        streams = when g (with_freed w id) w fin
             (λ c. all-freed g w id but known_now (ap (λ k. k.gone) here ∙ and_both t.stopped fin stopped c))
             (λ c. put (ap (λ k. k.gone) here ∙ and_none t.stopped fin c));
       }
@@ -296,7 +297,7 @@ refusal_by_code false false opened m n index code h = limit_if (nat_le n index) 
     limit_if false code h = cc
 
 -- a frame on a stream that the peer may not use is of another code than an internal error
-pub refusal-code : (w : World) (q code : ℕ) → refusal w q ≡ Some code → (code == 1) ≡ false
+pub refusal-code : (w : World) (q code : ℕ) → id_refusal w q ≡ Some code → (code == 1) ≡ false
 refusal-code w q code e = refusal_by_code (is_own w q) (q / 2 % 2 == 0) w.opened_bi w.bi.max_remote w.uni.max_remote (index_of q) code (sym (refusal-is w q) ∙ e)
 
 not_kept : (b : Bool) {P : Type 0} → b ≡ false → b ≡ true → P
@@ -307,7 +308,7 @@ pub unmoved : (u : World) (id : ℕ) (old new : Half) → u.receive id ≡ Some 
 unmoved u id old new half is = rw is (with_counted-none (with_receive u id (Some old)) (old.end - old.end) (omega arith) ∙ with_receive-back u id (Some old) half)
 
 pub after_data_stopped : (u : World) (id : ℕ) (old new : Half) (fin : Bool) → old.stopped ≡ true
-    → after_data u id old new fin ≡ with_credit (if fin then freed (advanced u id old new) id else advanced u id old new) (new.end - old.end)
+    → after_data u id old new fin ≡ with_credit (if fin then with_freed (advanced u id old new) id else advanced u id old new) (new.end - old.end)
 after_data_stopped u id old new fin s = rw s refl
 
 pub after_data_running : (u : World) (id : ℕ) (old new : Half) (fin : Bool) → old.stopped ≡ false → after_data u id old new fin ≡ noticed (advanced u id old new) id true
@@ -318,7 +319,7 @@ after_data_running u id old new fin s = rw s refl
 pub kept-received : (h : List Event) (u v : World) (id offset : ℕ) (bytes : List ℕ) (fin : Bool) (answer : Result ShouldTransmit ReceiveError)
     → Facts h u → Receives u id offset bytes fin answer v → Facts (Received id offset bytes fin answer ∷ h) v
 kept-received h u v id offset bytes fin (Ok transmit) f (inl s) =
-    facts-at _ v u s.3 (facts_unchanged h u id offset bytes fin (Ok transmit) f (λ k. dropped-closed (trace h id) (refusal u id) (u.receive id) s.0 (f.streams id) s.1))
+    facts-at _ v u s.3 (facts_unchanged h u id offset bytes fin (Ok transmit) f (λ k. dropped-closed (trace h id) (id_refusal u id) (u.receive id) s.0 (f.streams id) s.1))
 kept-received h u v id offset bytes fin (Ok transmit) f (inr s) =
     let old = s.1 in
     let new = s.2 in

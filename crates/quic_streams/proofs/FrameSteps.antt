@@ -6,7 +6,7 @@ use Rattle.quic_receiving.specs.Half.{Half}
 use Rattle.quic_wire.specs.declared.error.ReceiveError.{ReceiveError}
 use Rattle.quic_receiving.specs.Calls.{Ingests, TakesFrame}
 use Rattle.quic_receiving.specs.declared.transmit.ShouldTransmit.{ShouldTransmit}
-use Rattle.quic_streams.specs.World.{World, refusal, freed, noticed, with_credit, with_receive, with_counted, advanced}
+use Rattle.quic_streams.specs.World.{World, id_refusal, with_freed, noticed, with_credit, with_receive, with_counted, advanced}
 use Rattle.quic_streams.specs.Receiving.{Reaches, Receives}
 use Rattle.quic_streams.proofs.WorldSteps.{receive-there, with_receive-twice, credit-with_receive, refusal-with_receive, refusal-advanced}
 
@@ -18,8 +18,8 @@ put_and_counted s id h h' n u v put is count =
     ∙ ap (with_counted (with_receive (with_receive s id (Some h)) id (Some h'))) is
 
 -- that refuses no frame that was not refused
-pub known_after : (s : World) (id : ℕ) (h h' : Half) (v : World) → v ≡ advanced (with_receive s id (Some h)) id h h' → refusal s id ≡ None → refusal v id ≡ None
-known_after s id h h' v is known = ap (λ x. refusal x id) is ∙ refusal-advanced (with_receive s id (Some h)) id id h h' ∙ refusal-with_receive s id id (Some h) ∙ known
+pub known_after : (s : World) (id : ℕ) (h h' : Half) (v : World) → v ≡ advanced (with_receive s id (Some h)) id h h' → id_refusal s id ≡ None → id_refusal v id ≡ None
+known_after s id h h' v is known = ap (λ x. id_refusal x id) is ∙ refusal-advanced (with_receive s id (Some h)) id id h h' ∙ refusal-with_receive s id id (Some h) ∙ known
 
 by_cases : (b : Bool) {P : Type 0} → (b ≡ true → P) → (b ≡ false → P) → P
 by_cases true t f = t refl
@@ -36,13 +36,13 @@ and_true false = refl
 -- a frame was taken on a stopped half
 pub receives_stopped : (w : World) (id offset : ℕ) (bytes : List ℕ) (fin : Bool) (transmit : ShouldTransmit) (answer : ℕ × Bool) (h h' : Half) (v : World)
     → Reaches w id offset bytes fin (Ok answer) h h' → h'.stopped ≡ true → transmit.0 ≡ is_max_data_due v.credit
-    → v ≡ with_credit (if answer.1 then freed (advanced w id h h') id else advanced w id h h') (h'.end - h.end)
+    → v ≡ with_credit (if answer.1 then with_freed (advanced w id h h') id else advanced w id h h') (h'.end - h.end)
     → Receives w id offset bytes fin (Ok transmit) v
 receives_stopped w id offset bytes fin transmit answer h h' v r s due is =
     let stopped : h.stopped ≡ true = sym (takes-stopped h offset bytes fin h' r.ingests.3) ∙ s in
     let closed : answer.1 ≡ fin = r.ingests.2 ∙ ap (λ b. fin && b) stopped ∙ and_true fin in
-    let ended : v ≡ with_credit (if fin then freed (advanced w id h h') id else advanced w id h h') (h'.end - h.end) =
-    is ∙ ap (λ b. with_credit (if b then freed (advanced w id h h') id else advanced w id h h') (h'.end - h.end)) closed in
+    let ended : v ≡ with_credit (if fin then with_freed (advanced w id h h') id else advanced w id h h') (h'.end - h.end) =
+    is ∙ ap (λ b. with_credit (if b then with_freed (advanced w id h h') id else advanced w id h h') (h'.end - h.end)) closed in
     inr (answer, h, h', r, rw stopped due, rw stopped ended)
 
 -- a frame was taken on a half that is read
@@ -55,7 +55,7 @@ receives_running w id offset bytes fin transmit answer h h' v r s due is =
 
 -- a frame reaches the half that was put aside for it
 pub reaches : (s : World) (id offset : ℕ) (bytes : List ℕ) (fin : Bool) (answer : Result (ℕ × Bool) ReceiveError) (h k h' : Half) (received permitted : ℕ)
-    → refusal s id ≡ None → h.reset ≡ None → received ≡ s.credit.data_recvd → permitted ≡ s.credit.local_max_data → k ≡ h
+    → id_refusal s id ≡ None → h.reset ≡ None → received ≡ s.credit.data_recvd → permitted ≡ s.credit.local_max_data → k ≡ h
     → Ingests k offset bytes fin received permitted answer h' → Reaches (with_receive s id (Some h)) id offset bytes fin answer h h'
 reaches s id offset bytes fin answer h k h' received permitted known running used limit is ingests =
     record {
@@ -66,6 +66,6 @@ reaches s id offset bytes fin answer h k h' received permitted known running use
     }
 
 -- up to where a half gives credit when its bytes are discarded
-pub discarded_by : (u u' v : World) (id n n' : ℕ) (closed : Bool) → v ≡ with_credit (if closed then freed u id else u) n → u ≡ u' → n ≡ n'
-    → v ≡ with_credit (if closed then freed u' id else u') n'
-discarded_by u u' v id n n' closed is same count = is ∙ ap (λ x. with_credit (if closed then freed x id else x) n) same ∙ ap (with_credit (if closed then freed u' id else u')) count
+pub discarded_by : (u u' v : World) (id n n' : ℕ) (closed : Bool) → v ≡ with_credit (if closed then with_freed u id else u) n → u ≡ u' → n ≡ n'
+    → v ≡ with_credit (if closed then with_freed u' id else u') n'
+discarded_by u u' v id n n' closed is same count = is ∙ ap (λ x. with_credit (if closed then with_freed x id else x) n) same ∙ ap (with_credit (if closed then with_freed u' id else u')) count

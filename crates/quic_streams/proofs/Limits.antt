@@ -13,7 +13,7 @@ use Rattle.quic_receiving.specs.declared.errors.ReadableError.TheVariants as rea
 use Rattle.quic_receiving.specs.declared.errors.HandleError.{HandleError}
 use Rattle.quic_receiving.specs.declared.errors.HandleError.TheVariants as handle_error
 use Rattle.quic_streams.specs.Pending.{Pending}
-use Rattle.quic_streams.specs.World.{World, with_receive, with_credit, advanced, noticed, freed}
+use Rattle.quic_streams.specs.World.{World, with_receive, with_credit, advanced, noticed, with_freed}
 use Rattle.quic_streams.specs.Receiving.{Receives, ReceivesReset, after_data, after_reset, credited_to}
 use Rattle.quic_streams.specs.Reading.{Begins, Stops, TellsReset, after_read, after_stop}
 use Rattle.quic_streams.specs.History.{Event, Received, ReceivedReset, AddedCredits, Began, Gave, Ended, Stopped, ToldReset, Step, Facts}
@@ -36,7 +36,7 @@ rises_at u v w e r = let k : limit_of v ≡ limit_of w = ap limit_of e in omega 
 limit-put : (u : World) (id : ℕ) (o : Option Half) → limit_of (with_receive u id o) ≡ limit_of u
 limit-put u id o = ap (λ c. c.local_max_data) (credit-with_receive u id o)
 
-limit-freed : (u : World) (id : ℕ) → limit_of (freed u id) ≡ limit_of u
+limit-freed : (u : World) (id : ℕ) → limit_of (with_freed u id) ≡ limit_of u
 limit-freed u id = ap (λ c. c.local_max_data) (credit-freed u id)
 
 limit-noticed : (u : World) (id : ℕ) (b : Bool) → limit_of (noticed u id b) ≡ limit_of u
@@ -54,11 +54,11 @@ limit-either u v w true e k = e
 limit-either u v w false e k = k
 
 rises-data : (u : World) (id : ℕ) (old new : Half) (fin stopped : Bool) → limit_of u < 2 ^ 64
-    → Rises u (if stopped then with_credit (if fin then freed (advanced u id old new) id else advanced u id old new) (new.end - old.end) else noticed (advanced u id old new) id true)
+    → Rises u (if stopped then with_credit (if fin then with_freed (advanced u id old new) id else advanced u id old new) (new.end - old.end) else noticed (advanced u id old new) id true)
 rises-data u id old new fin true fits =
     let w = advanced u id old new in
     let same = limit-put u id (Some new) in
-    credit_rises u (if fin then freed w id else w) (new.end - old.end) fits (limit-either u (freed w id) w fin (limit-freed w id ∙ same) same)
+    credit_rises u (if fin then with_freed w id else w) (new.end - old.end) fits (limit-either u (with_freed w id) w fin (limit-freed w id ∙ same) same)
 rises-data u id old new fin false fits =
     let w = advanced u id old new in
     stays u (noticed w id true) (limit-noticed w id true ∙ limit-put u id (Some new))
@@ -82,8 +82,8 @@ rises-reset u v id code final (Ok transmit) fits (inr (inr s)) =
     let x = noticed w id (not old.stopped) in
     let same = limit-noticed w id (not old.stopped) ∙ limit-put u id (Some new) in
     rises_at u v (after_reset u id old new) s.4
-    (rest_rises u (if old.stopped then freed x id else x) (new.end - credited_to old) (new.end - credited_to old == 0) fits
-    (limit-either u (freed x id) x old.stopped (limit-freed x id ∙ same) same))
+    (rest_rises u (if old.stopped then with_freed x id else x) (new.end - credited_to old) (new.end - credited_to old == 0) fits
+    (limit-either u (with_freed x id) x old.stopped (limit-freed x id ∙ same) same))
 rises-reset u v id code final (Err (receive_error.Transport error)) fits (inl s) = stays u v (ap limit_of s.1)
 rises-reset u v id code final (Err (receive_error.Transport error)) fits (inr s) = stays u v (ap limit_of s.3)
 rises-reset u v id code final (Err receive_error.CompactionMemory) fits s = absurd s
@@ -106,8 +106,8 @@ limit-read u id new (Err read_error.OutOfMemory) = limit-put u id (Some new)
 rises-stopped : (u v : World) (id code : ℕ) (answer : Result (Unit {0}) HandleError) (p q : Pending) → limit_of u < 2 ^ 64 → Stops u id code p answer v q → Rises u v
 rises-stopped u v id code (Ok x) p q fits s =
     rises_at u v (after_stop u id s.0 s.1) s.6
-    (credit_rises u (if is_some s.0.size then freed u id else with_receive u id (Some s.1)) (stop_credit s.0) fits
-    (limit-either u (freed u id) (with_receive u id (Some s.1)) (is_some s.0.size) (limit-freed u id) (limit-put u id (Some s.1))))
+    (credit_rises u (if is_some s.0.size then with_freed u id else with_receive u id (Some s.1)) (stop_credit s.0) fits
+    (limit-either u (with_freed u id) (with_receive u id (Some s.1)) (is_some s.0.size) (limit-freed u id) (limit-put u id (Some s.1))))
 rises-stopped u v id code (Err handle_error.ClosedStream) p q fits s = stays u v (ap limit_of s.1)
 rises-stopped u v id code (Err handle_error.OutOfMemory) p q fits s = stays u v (ap limit_of s.0)
 

@@ -16,9 +16,9 @@ use Rattle.quic_receiving.specs.declared.errors.ReadableError.TheVariants as rea
 use Rattle.quic_receiving.specs.declared.errors.HandleError.{HandleError}
 use Rattle.quic_receiving.specs.declared.errors.HandleError.TheVariants as handle_error
 use Rattle.quic_streams.specs.Pending.{Pending}
-use Rattle.quic_streams.specs.World.{World, refusal, with_receive, with_credit, freed}
+use Rattle.quic_streams.specs.World.{World, id_refusal, with_receive, with_credit, with_freed}
 use Rattle.quic_streams.specs.Reading.{Begins, Asks, ReadsHalf, Stops, TellsReset, after_stop}
-use Rattle.quic_streams.specs.History.{Event, Began, Gave, Ended, Stopped, ToldReset, Trace, HalfFrom, CreditFrom, Facts, trace, with_read, streams, consumed, consumed_by, debt, received, total}
+use Rattle.quic_streams.specs.History.{Event, Began, Gave, Ended, Stopped, ToldReset, Trace, HalfFrom, CreditFrom, Facts, trace, with_read, streams, consumed, consumed_by, debt, received, total_over}
 use Rattle.quic_streams.specs.History as history
 use Rattle.quic_streams.proofs.WorldSteps.{credit-with_receive}
 use Rattle.quic_streams.proofs.Totals.{by_cases}
@@ -35,7 +35,7 @@ module _ (h : List Event) (e : Event) (u : World) (f : Facts h u) (same_streams 
   g = trace (e ∷ h)
 
   came : received (e ∷ h) ≡ received h
-  came = ap (total (λ q. (g q).high)) same_streams ∙ received-same h g highs
+  came = ap (total_over (λ q. (g q).high)) same_streams ∙ received-same h g highs
 
   credit_idle : CreditFrom (consumed (e ∷ h)) (debt (e ∷ h)) (received (e ∷ h)) u.credit
   credit_idle = let none = unused in
@@ -46,14 +46,14 @@ module _ (h : List Event) (e : Event) (u : World) (f : Facts h u) (same_streams 
   facts_idle untold = record { credit = credit_idle; streams = all-told (trace h) g u untold f.streams }
 
   -- one half changes
-  facts_put : (id : ℕ) (new : Half) → ((q : ℕ) → eqb q id ≡ false → g q ≡ trace h q) → refusal u id ≡ None → HalfFrom (g id) new → Facts (e ∷ h) (with_receive u id (Some new))
+  facts_put : (id : ℕ) (new : Half) → ((q : ℕ) → eqb q id ≡ false → g q ≡ trace h q) → id_refusal u id ≡ None → HalfFrom (g id) new → Facts (e ∷ h) (with_receive u id (Some new))
   facts_put id new others known is = record {
     credit = rw (credit-with_receive u id (Some new)) credit_idle;
     streams = all-put g u id new (but-from (trace h) g u id others f.streams) known is;
   }
 
   -- one half goes
-  facts_freed : (id : ℕ) → ((q : ℕ) → eqb q id ≡ false → g q ≡ trace h q) → refusal u id ≡ None → (g id).gone ≡ true → Facts (e ∷ h) (freed u id)
+  facts_freed : (id : ℕ) → ((q : ℕ) → eqb q id ≡ false → g q ≡ trace h q) → id_refusal u id ≡ None → (g id).gone ≡ true → Facts (e ∷ h) (with_freed u id)
   facts_freed id others known is = record {
     credit = rw (credit-freed u id) credit_idle;
     streams = all-freed g u id (but-from (trace h) g u id others f.streams) known is;
@@ -109,7 +109,7 @@ module _ (h : List Event) (u : World) (id most : ℕ) (answer : Result (Option C
   abbrev e : Event
   e = Gave id most answer
 
-  known : refusal u id ≡ None
+  known : id_refusal u id ≡ None
   known = known-from (trace h) u id old f.streams half
 
   was : HalfFrom (trace h id) old
@@ -127,7 +127,7 @@ module _ (h : List Event) (u : World) (id most : ℕ) (answer : Result (Option C
   facts_read : HalfFrom (with_read answer (trace h id)) new → Facts (e ∷ h) (with_receive u id (Some new))
   facts_read is = facts_put h e u f refl highs refl id new others known (rw here is)
 
-  facts_ended : (with_read answer (trace h id)).gone ≡ true → Facts (e ∷ h) (freed u id)
+  facts_ended : (with_read answer (trace h id)).gone ≡ true → Facts (e ∷ h) (with_freed u id)
   facts_ended is = facts_freed h e u f refl highs refl id others known (ap (λ k. k.gone) here ∙ is)
 
 half_given : (t : Trace) (old new : Half) (most : ℕ) (chunk : Chunk) → HalfFrom t old → new ≡ record old { buffer = new.buffer } → Given old.buffer most chunk new.buffer
@@ -178,7 +178,7 @@ module _ (h : List Event) (u : World) (id code : ℕ) (old new : Half) (f : Fact
   abbrev t : Trace
   t = trace h id
 
-  known_stop : refusal u id ≡ None
+  known_stop : id_refusal u id ≡ None
   known_stop = known-from (trace h) u id old f.streams half
 
   was_stop : HalfFrom t old
@@ -200,7 +200,7 @@ module _ (h : List Event) (u : World) (id code : ℕ) (old new : Half) (f : Fact
   reset_is None b k m n = rw (← k) refl
   reset_is (Some c) b k m n = rw (← k) refl
 
-  used_stop : history.stop_credit t ≡ stop_credit old
+  used_stop : history.stop_gives t ≡ stop_credit old
   used_stop = rw (was_stop.high, was_stop.read) (reset_is old.reset t.reset was_stop.reset t.high t.read)
 
   half_stopped : t.sized ≡ false → HalfFrom (gs id) new
@@ -216,14 +216,14 @@ module _ (h : List Event) (u : World) (id code : ℕ) (old new : Half) (f : Fact
     holds = λ k r. let e : true ≡ false = sym (ap (λ y. y.stopped) here_stop) ∙ k in cc;
   }
 
-  credit_stop : (b : Bool) → (if b then freed u id else with_receive u id (Some new)).credit ≡ u.credit
+  credit_stop : (b : Bool) → (if b then with_freed u id else with_receive u id (Some new)).credit ≡ u.credit
   credit_stop true = credit-freed u id
   credit_stop false = credit-with_receive u id (Some new)
 
   facts_stopped : Facts (es ∷ h) (after_stop u id old new)
   facts_stopped =
       let n : ℕ = stop_credit old in
-      let y = if is_some old.size then freed u id else with_receive u id (Some new) in
+      let y = if is_some old.size then with_freed u id else with_receive u id (Some new) in
       let base : CreditFrom (consumed h) (debt h) (received h) y.credit = rw (credit_stop (is_some old.size)) f.credit in
       let some : consumed_by h es ≡ n = used_stop in
       let came = came_stop in
@@ -231,7 +231,7 @@ module _ (h : List Event) (u : World) (id code : ℕ) (old new : Half) (f : Fact
       record {
         credit = credit-same (consumed h + n) (debt h - n) (received h) (consumed (es ∷ h)) (debt (es ∷ h)) (received (es ∷ h)) (credited y.credit n)
             (omega arith) (omega arith) came_stop (credit-credited (consumed h) (debt h) (received h) n y.credit base);
-        streams = when gs (freed u id) (with_receive u id (Some new)) (is_some old.size)
+        streams = when gs (with_freed u id) (with_receive u id (Some new)) (is_some old.size)
             (λ s. all-freed gs u id but known_stop (ap (λ k. k.gone) here_stop ∙ sym was_stop.sized ∙ s))
             (λ s. all-put gs u id new but known_stop (half_stopped (sym was_stop.sized ∙ s)));
       }
@@ -256,7 +256,7 @@ module _ (h : List Event) (u : World) (id code : ℕ) (f : Facts h u) where
   told_none : (q : ℕ) → trace (ToldReset id (Ok None) ∷ h) q ≡ trace h q
   told_none q = by_cases (eqb q id) (λ k. rw k refl) (λ k. rw k refl)
 
-  facts_told : refusal u id ≡ None → Facts (ToldReset id (Ok (Some code)) ∷ h) (freed u id)
+  facts_told : id_refusal u id ≡ None → Facts (ToldReset id (Ok (Some code)) ∷ h) (with_freed u id)
   facts_told known = facts_freed h (ToldReset id (Ok (Some code))) u f refl told_highs refl id told_others known (rw (itself id) refl)
 
 pub kept-told : (h : List Event) (u v : World) (id : ℕ) (answer : Result (Option ℕ) HandleError) (p q : Pending) → Facts h u → TellsReset u id p answer v q

@@ -17,7 +17,7 @@ use Rattle.quic_receiving.specs.declared.errors.ReadableError.TheVariants as rea
 use Rattle.quic_receiving.specs.declared.errors.HandleError.{HandleError}
 use Rattle.quic_receiving.specs.declared.errors.HandleError.TheVariants as handle_error
 use Rattle.quic_streams.specs.Pending.{Pending}
-use Rattle.quic_streams.specs.World.{World, refusal, remote_of, with_receive, with_credit, advanced, noticed, freed}
+use Rattle.quic_streams.specs.World.{World, id_refusal, remote_of, with_receive, with_credit, advanced, noticed, with_freed}
 use Rattle.quic_streams.specs.Receiving.{Receives, ReceivesReset, after_reset, credited_to}
 use Rattle.quic_streams.specs.Reading.{Begins, ReadsHalf, Stops, TellsReset, after_stop}
 use Rattle.quic_streams.specs.History.{Event, Received, ReceivedReset, AddedCredits, Began, Gave, Ended, Stopped, ToldReset, Step, Trace, HalfFrom, untouched, trace, is_closed, is_kept, with_read, Facts}
@@ -54,19 +54,19 @@ module _ (h : List Event) (e : Event) (u : World) (f : Facts h u) (x : AllRemote
   idle : (v : World) → ((q : ℕ) → (g q).gone ≡ (trace h q).gone) → SameRemotes u v → AllRemotes g v
   idle v gone s = remotes-idle (trace h) g u v gone s x
 
-  not_next : (v : World) (id : ℕ) → ((q : ℕ) → refusal v q ≡ refusal u q) → refusal u id ≡ None → ((q : ℕ) → eqb q id ≡ false → g q ≡ trace h q)
+  not_next : (v : World) (id : ℕ) → ((q : ℕ) → id_refusal v q ≡ id_refusal u q) → id_refusal u id ≡ None → ((q : ℕ) → eqb q id ≡ false → g q ≡ trace h q)
       → (d : Dir) → (g (stream_id (other_side v.side) d (remote_of v d).max_remote)).gone ≡ false
   not_next v id same_refusals known others d =
       let k : ℕ = stream_id (other_side v.side) d (remote_of v d).max_remote in
       let refused = sym (same_refusals k) ∙ refusal-next d v in
-      let new : trace h k ≡ untouched = new-from (trace h k) (refusal u k) (u.receive k) _ refused (f.streams k) in
+      let new : trace h k ≡ untouched = new-from (trace h k) (id_refusal u k) (u.receive k) _ refused (f.streams k) in
       by_cases (eqb k id)
-      (λ t. absurd (let a : refusal u k ≡ None = ap (refusal u) (same k id t) ∙ known in cc))
+      (λ t. absurd (let a : id_refusal u k ≡ None = ap (id_refusal u) (same k id t) ∙ known in cc))
       (λ n. ap (λ t. t.gone) (others k n ∙ new))
 
   -- a call that frees one
-  frees : (v : World) (id : ℕ) → SameRemotes u v → ((q : ℕ) → refusal v q ≡ refusal u q) → refusal u id ≡ None → ((q : ℕ) → eqb q id ≡ false → g q ≡ trace h q)
-      → (trace h id).gone ≡ false → (g id).gone ≡ true → AllRemotes g (freed v id)
+  frees : (v : World) (id : ℕ) → SameRemotes u v → ((q : ℕ) → id_refusal v q ≡ id_refusal u q) → id_refusal u id ≡ None → ((q : ℕ) → eqb q id ≡ false → g q ≡ trace h q)
+      → (trace h id).gone ≡ false → (g id).gone ≡ true → AllRemotes g (with_freed v id)
   frees v id s same_refusals known others was is =
       remotes-freed (trace h) g v id (same_refusals id ∙ known) was is others (not_next v id same_refusals known others) (remotes-idle (trace h) (trace h) u v (λ q. refl) s x)
 
@@ -101,7 +101,7 @@ module _ (h : List Event) (u : World) (id offset : ℕ) (bytes : List ℕ) (fin 
   frame_others : (q : ℕ) → eqb q id ≡ false → gf q ≡ trace h q
   frame_others q n = rw n refl
 
-  module _ (old new : Half) (known : refusal u id ≡ None) (half : u.receive id ≡ Some old) (running : old.reset ≡ None) (kept : is_kept answer ≡ true) where
+  module _ (old new : Half) (known : id_refusal u id ≡ None) (half : u.receive id ≡ Some old) (running : old.reset ≡ None) (kept : is_kept answer ≡ true) where
     frame_was : HalfFrom t old
     frame_was = half-from (trace h) u id old f.streams known half
 
@@ -125,23 +125,23 @@ module _ (h : List Event) (u : World) (id offset : ℕ) (bytes : List ℕ) (fin 
     frame_noticed : old.stopped ≡ false → AllRemotes gf (noticed (advanced u id old new) id true)
     frame_noticed s = remotes-idle gf gf (advanced u id old new) (noticed (advanced u id old new) id true) (λ q. refl) (remotes-noticed (advanced u id old new) id true) (frame_running s)
 
-    frame_stopped : old.stopped ≡ true → AllRemotes gf (with_credit (if fin then freed (advanced u id old new) id else advanced u id old new) (new.end - old.end))
+    frame_stopped : old.stopped ≡ true → AllRemotes gf (with_credit (if fin then with_freed (advanced u id old new) id else advanced u id old new) (new.end - old.end))
     frame_stopped s =
         let w = advanced u id old new in
         let n : ℕ = new.end - old.end in
-        remotes_credit gf (if fin then freed w id else w) n
-        (either gf (freed w id) w fin
+        remotes_credit gf (if fin then with_freed w id else w) n
+        (either gf (with_freed w id) w fin
         (λ c. frees h ef u f x w id put_same (λ q. refusal-advanced u id q old new) known frame_others frame_was.there (frame_here ∙ rw (sym frame_was.stopped ∙ s, c) refl))
         (λ c. frame_stays (and_none t.stopped fin c)))
 
 remotes-received : (h : List Event) (u v : World) (id offset : ℕ) (bytes : List ℕ) (fin : Bool) (answer : Result ShouldTransmit ReceiveError)
     → Facts h u → AllRemotes (trace h) u → Receives u id offset bytes fin answer v → AllRemotes (trace (Received id offset bytes fin answer ∷ h)) v
 remotes-received h u v id offset bytes fin (Ok transmit) f x (inl s) =
-    remotes_at (trace (Received id offset bytes fin (Ok transmit) ∷ h)) v u s.3 (frame_none h u id offset bytes fin (Ok transmit) f x (λ k. dropped-closed (trace h id) (refusal u id) (u.receive id) s.0 (f.streams id) s.1))
+    remotes_at (trace (Received id offset bytes fin (Ok transmit) ∷ h)) v u s.3 (frame_none h u id offset bytes fin (Ok transmit) f x (λ k. dropped-closed (trace h id) (id_refusal u id) (u.receive id) s.0 (f.streams id) s.1))
 remotes-received h u v id offset bytes fin (Ok transmit) f x (inr s) =
     let r = s.3 in
     by_cases s.1.stopped
-    (λ k. remotes_at (trace (Received id offset bytes fin (Ok transmit) ∷ h)) v (with_credit (if fin then freed (advanced u id s.1 s.2) id else advanced u id s.1 s.2) (s.2.end - s.1.end)) (s.5 ∙ after_data_stopped u id s.1 s.2 fin k) (frame_stopped h u id offset bytes fin (Ok transmit) f x s.1 s.2 r.known r.half r.running refl k))
+    (λ k. remotes_at (trace (Received id offset bytes fin (Ok transmit) ∷ h)) v (with_credit (if fin then with_freed (advanced u id s.1 s.2) id else advanced u id s.1 s.2) (s.2.end - s.1.end)) (s.5 ∙ after_data_stopped u id s.1 s.2 fin k) (frame_stopped h u id offset bytes fin (Ok transmit) f x s.1 s.2 r.known r.half r.running refl k))
     (λ k. remotes_at (trace (Received id offset bytes fin (Ok transmit) ∷ h)) v (noticed (advanced u id s.1 s.2) id true) (s.5 ∙ after_data_running u id s.1 s.2 fin k) (frame_noticed h u id offset bytes fin (Ok transmit) f x s.1 s.2 r.known r.half r.running refl k))
 remotes-received h u v id offset bytes fin (Err (receive_error.Transport error)) f x (inl s) =
     remotes_at (trace (Received id offset bytes fin (Err (receive_error.Transport error)) ∷ h)) v u s.1 (frame_none h u id offset bytes fin (Err (receive_error.Transport error)) f x (not_kept _ (refusal-code u id error.code s.0)))
@@ -179,7 +179,7 @@ module _ (h : List Event) (u : World) (id code final : ℕ) (transmit : ShouldTr
   reset_others : (q : ℕ) → eqb q id ≡ false → gr q ≡ trace h q
   reset_others q n = rw n refl
 
-  module _ (old new : Half) (known : refusal u id ≡ None) (half : u.receive id ≡ Some old) (running : old.reset ≡ None) where
+  module _ (old new : Half) (known : id_refusal u id ≡ None) (half : u.receive id ≡ Some old) (running : old.reset ≡ None) where
     reset_was : HalfFrom (trace h id) old
     reset_was = half-from (trace h) u id old f.streams known half
 
@@ -204,9 +204,9 @@ module _ (h : List Event) (u : World) (id code final : ℕ) (transmit : ShouldTr
 
     remotes_after : AllRemotes gr (after_reset u id old new)
     remotes_after =
-        let y = if old.stopped then freed xr id else xr in
+        let y = if old.stopped then with_freed xr id else xr in
         let n : ℕ = new.end - credited_to old in
-        let all : AllRemotes gr y = either gr (freed xr id) xr old.stopped
+        let all : AllRemotes gr y = either gr (with_freed xr id) xr old.stopped
         (λ s. frees h er u f x xr id reset_same (λ q. refusal-noticed wr id (not old.stopped) q ∙ refusal-advanced u id q old new) known reset_others reset_was.there
         (reset_here ∙ sym reset_was.stopped ∙ s))
         (λ s. idle h er u f x xr (gone_others (trace h) gr id reset_others (reset_here ∙ sym reset_was.stopped ∙ s ∙ sym reset_was.there)) reset_same) in
@@ -243,7 +243,7 @@ module _ (h : List Event) (u : World) (id most : ℕ) (answer : Result (Option C
   abbrev eg : Event
   eg = Gave id most answer
 
-  gave_known : refusal u id ≡ None
+  gave_known : id_refusal u id ≡ None
   gave_known = known-from (trace h) u id old f.streams half
 
   gave_was : HalfFrom (trace h id) old
@@ -258,15 +258,15 @@ module _ (h : List Event) (u : World) (id most : ℕ) (answer : Result (Option C
   gave_put : (new : Half) → (with_read answer (trace h id)).gone ≡ (trace h id).gone → AllRemotes (trace (eg ∷ h)) (with_receive u id (Some new))
   gave_put new e = idle h eg u f x (with_receive u id (Some new)) (gone_others (trace h) (trace (eg ∷ h)) id gave_others (ap (λ k. k.gone) gave_here ∙ e)) (remotes-put u id (Some new))
 
-  gave_freed : (with_read answer (trace h id)).gone ≡ true → AllRemotes (trace (eg ∷ h)) (freed u id)
+  gave_freed : (with_read answer (trace h id)).gone ≡ true → AllRemotes (trace (eg ∷ h)) (with_freed u id)
   gave_freed e = frees h eg u f x u id (same_remotes u) (λ q. refl) gave_known gave_others gave_was.there (ap (λ k. k.gone) gave_here ∙ e)
 
 remotes-gave : (h : List Event) (u v : World) (id most : ℕ) (answer : Result (Option Chunk) ReadError) → Facts h u → AllRemotes (trace h) u → ReadsHalf u id most answer v
     → AllRemotes (trace (Gave id most answer ∷ h)) v
 remotes-gave h u v id most (Ok (Some chunk)) f x s = remotes_at (trace (Gave id most (Ok (Some chunk)) ∷ h)) v (with_receive u id (Some s.new)) s.is (gave_put h u id most (Ok (Some chunk)) s.old f x s.half s.new refl)
-remotes-gave h u v id most (Ok None) f x s = remotes_at (trace (Gave id most (Ok None) ∷ h)) v (freed u id) s.is (gave_freed h u id most (Ok None) s.old f x s.half refl)
+remotes-gave h u v id most (Ok None) f x s = remotes_at (trace (Gave id most (Ok None) ∷ h)) v (with_freed u id) s.is (gave_freed h u id most (Ok None) s.old f x s.half refl)
 remotes-gave h u v id most (Err read_error.Blocked) f x s = remotes_at (trace (Gave id most (Err read_error.Blocked) ∷ h)) v (with_receive u id (Some s.new)) s.is (gave_put h u id most (Err read_error.Blocked) s.old f x s.half s.new refl)
-remotes-gave h u v id most (Err (read_error.Reset code)) f x s = remotes_at (trace (Gave id most (Err (read_error.Reset code)) ∷ h)) v (freed u id) s.is (gave_freed h u id most (Err (read_error.Reset code)) s.old f x s.half refl)
+remotes-gave h u v id most (Err (read_error.Reset code)) f x s = remotes_at (trace (Gave id most (Err (read_error.Reset code)) ∷ h)) v (with_freed u id) s.is (gave_freed h u id most (Err (read_error.Reset code)) s.old f x s.half refl)
 remotes-gave h u v id most (Err read_error.OutOfMemory) f x s = remotes_at (trace (Gave id most (Err read_error.OutOfMemory) ∷ h)) v (with_receive u id (Some s.new)) s.is (gave_put h u id most (Err read_error.OutOfMemory) s.old f x s.half s.new refl)
 
 -- ---- a stop, and the code of a reset
@@ -282,10 +282,10 @@ remotes-stopped h u v id code (Ok y) p q f x s =
     let was = half-from (trace h) u id old f.streams known s.2 in
     let others = λ (k : ℕ) (n : eqb k id ≡ false). stop_others h id code k n in
     let here = stop_here h id code in
-    let z = if is_some old.size then freed u id else with_receive u id (Some new) in
+    let z = if is_some old.size then with_freed u id else with_receive u id (Some new) in
     remotes_at g v (after_stop u id old new) s.6
     (remotes_credit g z (stop_credit old)
-    (either g (freed u id) (with_receive u id (Some new)) (is_some old.size)
+    (either g (with_freed u id) (with_receive u id (Some new)) (is_some old.size)
     (λ k. frees h e u f x u id (same_remotes u) (λ j. refl) known others was.there (here ∙ sym was.sized ∙ k))
     (λ k. idle h e u f x (with_receive u id (Some new)) (gone_others (trace h) g id others (here ∙ sym was.sized ∙ k ∙ sym was.there)) (remotes-put u id (Some new)))))
   where
@@ -311,7 +311,7 @@ remotes-told : (h : List Event) (u v : World) (id : ℕ) (answer : Result (Optio
 remotes-told h u v id (Ok (Some code)) p q f x s =
     let known = known-from (trace h) u id s.0 f.streams s.1 in
     let was = half-from (trace h) u id s.0 f.streams known s.1 in
-    remotes_at (trace (ToldReset id (Ok (Some code)) ∷ h)) v (freed u id) s.4
+    remotes_at (trace (ToldReset id (Ok (Some code)) ∷ h)) v (with_freed u id) s.4
     (frees h (ToldReset id (Ok (Some code))) u f x u id (same_remotes u) (λ j. refl) known (λ k n. told_others h id code k n) was.there (told_here h id code))
 remotes-told h u v id (Ok None) p q f x s = remotes_at (trace (ToldReset id (Ok None) ∷ h)) v u s.4 (idle h (ToldReset id (Ok None)) u f x u (told_none h id) (same_remotes u))
 remotes-told h u v id (Err handle_error.ClosedStream) p q f x s = remotes_at (trace (ToldReset id (Err handle_error.ClosedStream) ∷ h)) v u s.1 x

@@ -14,7 +14,7 @@ use Rattle.quic_limits.specs.Remote.{Remote}
 use Rattle.quic_receiving.specs.Counted.{number}
 use Rattle.quic_receiving.specs.Half.{Half}
 use Rattle.quic_streams.specs.Sends.{with_send}
-use Rattle.quic_streams.specs.World.{World, refusal, own_refusal, is_own, is_same_side, remote_of, with_remote, with_receive, permitted_if, replaced_in, released, freed, told_readable, noticed}
+use Rattle.quic_streams.specs.World.{World, id_refusal, own_refusal, is_own, is_same_side, remote_of, with_remote, with_receive, permitted_if, replaced_in, released, with_freed, told_readable, noticed}
 use Rattle.quic_streams.specs.History.{Trace, RemoteFrom, is_freed}
 use Rattle.quic_streams.proofs.Totals.{by_cases, same}
 use Rattle.quic_streams.proofs.Refusals.{own-other}
@@ -75,7 +75,7 @@ unfolding number
 next_number n g e = rw (add-one, e) (omega arith)
 
 after_replaced : (f g : ℕ → Bool) (r : Remote) (i : ℕ) (b : Bool) → remote.lacks_streams (remote.freed r) ≡ b → i < r.max_remote → f i ≡ false → g i ≡ true
-    → ((k : ℕ) → eqb k i ≡ false → g k ≡ f k) → g r.max_remote ≡ false → RemoteFrom f r → RemoteFrom g (if b then remote.permitted (remote.freed r) else remote.freed r)
+    → ((k : ℕ) → eqb k i ≡ false → g k ≡ f k) → g r.max_remote ≡ false → RemoteFrom f r → RemoteFrom g (if b then remote.one_permitted (remote.freed r) else remote.freed r)
 after_replaced f g r i true lacks l before after e last x =
     let one = number_one r.max_remote i f g l before after e in
     let less = number_less r.max_remote i f l before in
@@ -108,7 +108,7 @@ after_replaced f g r i false lacks l before after e last x =
       | inr k ↦ inl k
     ]
 
--- one more is wholly freed, and the next is not
+-- one more is wholly with_freed, and the next is not
 pub remote-replaced : (f g : ℕ → Bool) (r : Remote) (i : ℕ) → i < r.max_remote → f i ≡ false → g i ≡ true
     → ((k : ℕ) → eqb k i ≡ false → g k ≡ f k) → g r.max_remote ≡ false → RemoteFrom f r → RemoteFrom g (remote.replaced r)
 remote-replaced f g r i l before after e last x = after_replaced f g r i (remote.lacks_streams (remote.freed r)) refl l before after e last x
@@ -183,7 +183,7 @@ remotes-idle f g u v gone s x d =
     rw (s.side, s.sends) (remote-same (is_freed f u.side u.sends d) (is_freed g u.side u.sends d) (remote_of u d) (remote_of v d) (s.limits d)
     (λ i l. freed_same f g u.side u.sends d i (gone (stream_id (other_side u.side) d i))) (x d))
 
--- ---- a half is freed
+-- ---- a half is with_freed
 
 other_place : (s : Side) (d : Dir) (i j : ℕ) → eqb i j ≡ false → eqb (stream_id s d i) (stream_id s d j) ≡ false
 other_place Client Bi i j e = grind (arith, nat_tests)
@@ -245,7 +245,7 @@ module _ (f g : ℕ → Trace) (w : World) (id : ℕ) (was : (f id).gone ≡ fal
       (λ i n. ap (λ t. t.gone) (others (stream_id o Uni i) (rw e (other_place o Uni i j n)))) (next Uni) (x Uni))
   uni_replaced v j e l r Bi = rw (r.0, r.1, r.3) (bi_stays j e)
 
-  -- a bidirectional stream whose send half is held is not wholly freed
+  -- a bidirectional stream whose send half is held is not wholly with_freed
   bi_held : (j : ℕ) → id ≡ stream_id o Bi j → w.sends id ≡ true → RemoteFrom (is_freed g w.side w.sends Bi) w.bi
   bi_held j e held = remote-same (is_freed f w.side w.sends Bi) (is_freed g w.side w.sends Bi) w.bi w.bi (limits-refl w.bi)
       (λ i l. by_cases (eqb i j)
@@ -327,9 +327,9 @@ own_put : (w : World) (id : ℕ) → is_own (with_receive w id None) id ≡ is_o
 unfolding with_receive
 own_put w id = refl
 
--- a half is freed, and no other
-pub remotes-freed : (f g : ℕ → Trace) (w : World) (id : ℕ) → refusal w id ≡ None → (f id).gone ≡ false → (g id).gone ≡ true → ((q : ℕ) → eqb q id ≡ false → g q ≡ f q)
-    → ((d : Dir) → (g (stream_id (other_side w.side) d (remote_of w d).max_remote)).gone ≡ false) → AllRemotes f w → AllRemotes g (freed w id)
+-- a half is with_freed, and no other
+pub remotes-freed : (f g : ℕ → Trace) (w : World) (id : ℕ) → id_refusal w id ≡ None → (f id).gone ≡ false → (g id).gone ≡ true → ((q : ℕ) → eqb q id ≡ false → g q ≡ f q)
+    → ((d : Dir) → (g (stream_id (other_side w.side) d (remote_of w d).max_remote)).gone ≡ false) → AllRemotes f w → AllRemotes g (with_freed w id)
 remotes-freed f g w id known was is others next x =
     let u = with_receive w id None in
     freed_if g u (released u (dir_of id) id) (is_own u id)

@@ -7,7 +7,7 @@ use Rattle.quic_wire.specs.declared.error.ReceiveError.TheVariants as receive_er
 use Rattle.quic_receiving.specs.Half.{Half, Refused, Taken, reset_verdict, is_unfit, is_beyond}
 use Rattle.quic_receiving.specs.Calls.{Clears}
 use Rattle.quic_receiving.specs.declared.transmit.ShouldTransmit.{ShouldTransmit}
-use Rattle.quic_streams.specs.World.{World, refusal, with_credit, advanced, noticed, freed}
+use Rattle.quic_streams.specs.World.{World, id_refusal, with_credit, advanced, noticed, with_freed}
 use Rattle.quic_streams.specs.Receiving.{ReceivesReset, after_reset, with_rest, credited_to}
 use Rattle.quic_streams.specs.History.{Event, ReceivedReset, Trace, HalfFrom, CreditFrom, Facts, trace, is_closed, consumed, consumed_by, debt, received}
 use Rattle.quic_streams.proofs.WorldSteps.{credit-with_receive, refusal-advanced}
@@ -49,7 +49,7 @@ all_rest g n w s = when g w (with_credit w n) (n == 0) (λ _. s) (λ _. s)
 -- ---- the first reset that is taken, on a half that is there
 
 module _ (h : List Event) (u : World) (id code final : ℕ) (transmit : ShouldTransmit) (old new : Half) (f : Facts h u)
-    (known : refusal u id ≡ None) (half : u.receive id ≡ Some old) (running : old.reset ≡ None) (passed : Passes old final u.credit.data_recvd u.credit.local_max_data)
+    (known : id_refusal u id ≡ None) (half : u.receive id ≡ Some old) (running : old.reset ≡ None) (passed : Passes old final u.credit.data_recvd u.credit.local_max_data)
     (clears : Clears old.buffer new.buffer) (is : new ≡ record old { buffer = new.buffer; size = Some final; reset = Some code; end = final }) where
   abbrev e : Event
   e = ReceivedReset id code final (Ok transmit)
@@ -116,20 +116,20 @@ module _ (h : List Event) (u : World) (id code final : ℕ) (transmit : ShouldTr
   abbrev x : World
   x = noticed w id (not old.stopped)
 
-  credit_freed : (b : Bool) → (if b then freed x id else x).credit ≡ w.credit
+  credit_freed : (b : Bool) → (if b then with_freed x id else x).credit ≡ w.credit
   credit_freed true = credit-freed x id ∙ credit-noticed w id (not old.stopped)
   credit_freed false = credit-noticed w id (not old.stopped)
 
   facts_reset : Facts (e ∷ h) (after_reset u id old new)
   facts_reset =
       let n : ℕ = new.end - credited_to old in
-      let y = if old.stopped then freed x id else x in
+      let y = if old.stopped then with_freed x id else x in
       let base : CreditFrom (consumed h) (debt h) (received (e ∷ h)) y.credit = rw (credit_freed old.stopped) counted-credit in
       let some = used in
       record {
         credit = credit-same (consumed h + n) (debt h - n) (received (e ∷ h)) (consumed (e ∷ h)) (debt (e ∷ h)) (received (e ∷ h)) (with_rest y n).credit
             (omega arith) (omega arith) refl (rest_if (n == 0) n (consumed h) (debt h) (received (e ∷ h)) y refl base);
-        streams = all_rest g n y (when g (freed x id) x old.stopped
+        streams = all_rest g n y (when g (with_freed x id) x old.stopped
             (λ s. all-freed g x id (but-noticed g w id id (not old.stopped) but) (refusal-noticed w id (not old.stopped) id ∙ refusal-advanced u id id old new ∙ known)
             (ap (λ k. k.gone) here ∙ sym was.stopped ∙ s))
             (λ s. all-noticed g w id (not old.stopped) (all-put g u id new (but-from (trace h) g u id others f.streams) known (half_reset (sym was.stopped ∙ s)))));

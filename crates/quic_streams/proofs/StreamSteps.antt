@@ -8,7 +8,7 @@ use Rattle.quic_limits.specs.Remote as remote
 use Rattle.quic_limits.specs.Remote.{Remote}
 use Rattle.quic_receiving.specs.Half.{Half, new_half}
 use Rattle.quic_streams.specs.Halves.{with_half}
-use Rattle.quic_streams.specs.World.{World, refusal, is_own, remote_of, with_remote, with_receive, permitted, permitted_if, replaced_in, released, freed, told_readable, noticed}
+use Rattle.quic_streams.specs.World.{World, id_refusal, is_own, remote_of, with_remote, with_receive, with_permitted, permitted_if, replaced_in, released, with_freed, told_readable, noticed}
 use Rattle.quic_receiving.proofs.Data.{data-fresh}
 use Rattle.quic_streams.specs.History.{Trace, untouched, HalfFrom, StreamFrom}
 use Rattle.quic_streams.proofs.WorldSteps.{receive-there, refusal-with_receive, credit-with_receive}
@@ -17,7 +17,7 @@ use Rattle.quic_streams.proofs.Totals.{by_cases, same}
 
 -- what is told of each stream is true of an end
 abbrev pub AllFrom : (ℕ → Trace) → World → Type 0
-AllFrom f w = (q : ℕ) → StreamFrom (f q) (refusal w q) (w.receive q)
+AllFrom f w = (q : ℕ) → StreamFrom (f q) (id_refusal w q) (w.receive q)
 
 moved : (t : Trace) (r r' : Option ℕ) (o o' : Option Half) → r' ≡ r → o' ≡ o → StreamFrom t r o → StreamFrom t r' o'
 moved t r r' o o' e k s = rw (e, k) s
@@ -26,24 +26,24 @@ retold : (t t' : Trace) (r : Option ℕ) (o : Option Half) → t' ≡ t → Stre
 retold t t' r o e s = rw e s
 
 -- the same halves, and the same frames are refused
-pub all-same : (f : ℕ → Trace) (u v : World) → ((q : ℕ) → refusal v q ≡ refusal u q) → ((q : ℕ) → v.receive q ≡ u.receive q) → AllFrom f u → AllFrom f v
-all-same f u v r o s q = moved (f q) (refusal u q) (refusal v q) (u.receive q) (v.receive q) (r q) (o q) (s q)
+pub all-same : (f : ℕ → Trace) (u v : World) → ((q : ℕ) → id_refusal v q ≡ id_refusal u q) → ((q : ℕ) → v.receive q ≡ u.receive q) → AllFrom f u → AllFrom f v
+all-same f u v r o s q = moved (f q) (id_refusal u q) (id_refusal v q) (u.receive q) (v.receive q) (r q) (o q) (s q)
 
 -- the same is told
 pub all-told : (f g : ℕ → Trace) (u : World) → ((q : ℕ) → g q ≡ f q) → AllFrom f u → AllFrom g u
-all-told f g u e s q = retold (f q) (g q) (refusal u q) (u.receive q) (e q) (s q)
+all-told f g u e s q = retold (f q) (g q) (id_refusal u q) (u.receive q) (e q) (s q)
 
 here : (t : Trace) (r : Option ℕ) (o : Option Half) (h : Half) → r ≡ None → o ≡ Some h → StreamFrom t r o → HalfFrom t h
 here t r o h e k s = let there = rw (e, k) at s in there
 
-pub half-from : (f : ℕ → Trace) (w : World) (id : ℕ) (h : Half) → AllFrom f w → refusal w id ≡ None → w.receive id ≡ Some h → HalfFrom (f id) h
-half-from f w id h s e k = here (f id) (refusal w id) (w.receive id) h e k (s id)
+pub half-from : (f : ℕ → Trace) (w : World) (id : ℕ) (h : Half) → AllFrom f w → id_refusal w id ≡ None → w.receive id ≡ Some h → HalfFrom (f id) h
+half-from f w id h s e k = here (f id) (id_refusal w id) (w.receive id) h e k (s id)
 
 gone : (t : Trace) (r : Option ℕ) (o : Option Half) → r ≡ None → o ≡ None → StreamFrom t r o → t.gone ≡ true
 gone t r o e k s = let there = rw (e, k) at s in there
 
-pub gone-from : (f : ℕ → Trace) (w : World) (id : ℕ) → AllFrom f w → refusal w id ≡ None → w.receive id ≡ None → (f id).gone ≡ true
-gone-from f w id s e k = gone (f id) (refusal w id) (w.receive id) e k (s id)
+pub gone-from : (f : ℕ → Trace) (w : World) (id : ℕ) → AllFrom f w → id_refusal w id ≡ None → w.receive id ≡ None → (f id).gone ≡ true
+gone-from f w id s e k = gone (f id) (id_refusal w id) (w.receive id) e k (s id)
 
 -- a half that is there is of a stream whose frames are not refused
 known_by : (t : Trace) (r : Option ℕ) (h : Half) → StreamFrom t r (Some h) → r ≡ None
@@ -53,8 +53,8 @@ known_by t (Some error) h s = absurd s
 known_half : (t : Trace) (r : Option ℕ) (o : Option Half) (h : Half) → o ≡ Some h → StreamFrom t r o → r ≡ None
 known_half t r o h k s = let there = rw k at s in known_by t r h there
 
-pub known-from : (f : ℕ → Trace) (w : World) (id : ℕ) (h : Half) → AllFrom f w → w.receive id ≡ Some h → refusal w id ≡ None
-known-from f w id h s k = known_half (f id) (refusal w id) (w.receive id) h k (s id)
+pub known-from : (f : ℕ → Trace) (w : World) (id : ℕ) (h : Half) → AllFrom f w → w.receive id ≡ Some h → id_refusal w id ≡ None
+known-from f w id h s k = known_half (f id) (id_refusal w id) (w.receive id) h k (s id)
 
 pub new-from : (t : Trace) (r : Option ℕ) (o : Option Half) (error : ℕ) → r ≡ Some error → StreamFrom t r o → t ≡ untouched
 new-from t r None error e s = let there = rw e at s in there
@@ -72,26 +72,26 @@ set_none t r o e k s = rw (e, k) s
 
 -- what is told of each stream but one is true of an end
 abbrev pub AllBut : ℕ → (ℕ → Trace) → World → Type 0
-AllBut id g w = (q : ℕ) → eqb q id ≡ false → StreamFrom (g q) (refusal w q) (w.receive q)
+AllBut id g w = (q : ℕ) → eqb q id ≡ false → StreamFrom (g q) (id_refusal w q) (w.receive q)
 
 pub but-from : (f g : ℕ → Trace) (w : World) (id : ℕ) → ((q : ℕ) → eqb q id ≡ false → g q ≡ f q) → AllFrom f w → AllBut id g w
-but-from f g w id others s q n = retold (f q) (g q) (refusal w q) (w.receive q) (others q n) (s q)
+but-from f g w id others s q n = retold (f q) (g q) (id_refusal w q) (w.receive q) (others q n) (s q)
 
 -- the half of that stream changes
 pub but-put : (g : ℕ → Trace) (w : World) (id : ℕ) (o : Option Half) → AllBut id g w → AllBut id g (with_receive w id o)
-but-put g w id o s q n = moved (g q) (refusal w q) _ (w.receive q) _ (refusal-with_receive w id q o) (receive-other w id q o n) (s q n)
+but-put g w id o s q n = moved (g q) (id_refusal w q) _ (w.receive q) _ (refusal-with_receive w id q o) (receive-other w id q o n) (s q n)
 
 -- it is as is told of it
-pub all-put : (g : ℕ → Trace) (w : World) (id : ℕ) (h : Half) → AllBut id g w → refusal w id ≡ None → HalfFrom (g id) h → AllFrom g (with_receive w id (Some h))
+pub all-put : (g : ℕ → Trace) (w : World) (id : ℕ) (h : Half) → AllBut id g w → id_refusal w id ≡ None → HalfFrom (g id) h → AllFrom g (with_receive w id (Some h))
 all-put g w id h s known is q = by_cases (eqb q id)
-    (λ t. let P : ℕ → Type 0 = λ k. StreamFrom (g k) (refusal (with_receive w id (Some h)) k) ((with_receive w id (Some h)).receive k) in
+    (λ t. let P : ℕ → Type 0 = λ k. StreamFrom (g k) (id_refusal (with_receive w id (Some h)) k) ((with_receive w id (Some h)).receive k) in
     subst P (sym (same q id t)) (set_half (g id) _ _ h (refusal-with_receive w id id (Some h) ∙ known) (receive-there w id (Some h)) is))
     (but-put g w id (Some h) s q)
 
 -- it goes, as is told of it
-all-without : (g : ℕ → Trace) (w : World) (id : ℕ) → AllBut id g w → refusal w id ≡ None → (g id).gone ≡ true → AllFrom g (with_receive w id None)
+all-without : (g : ℕ → Trace) (w : World) (id : ℕ) → AllBut id g w → id_refusal w id ≡ None → (g id).gone ≡ true → AllFrom g (with_receive w id None)
 all-without g w id s known is q = by_cases (eqb q id)
-    (λ t. let P : ℕ → Type 0 = λ k. StreamFrom (g k) (refusal (with_receive w id None) k) ((with_receive w id None).receive k) in
+    (λ t. let P : ℕ → Type 0 = λ k. StreamFrom (g k) (id_refusal (with_receive w id None) k) ((with_receive w id None).receive k) in
     subst P (sym (same q id t)) (set_none (g id) _ _ (refusal-with_receive w id id None ∙ known) (receive-there w id None) is))
     (but-put g w id None s q)
 
@@ -108,7 +108,7 @@ new-half-from window = record {
   holds = λ s r. data-fresh;
 }
 
--- the next stream of the peer is permitted
+-- the next stream of the peer is with_permitted
 raised_all : (f : ℕ → Trace) (d : Dir) (u v : World) (window : ℕ) → v.side ≡ u.side → v.opened_bi ≡ u.opened_bi → IsRaised d u v
     → v.receive ≡ with_half u.receive (stream_id (other_side u.side) d (remote_of u d).max_remote) (Some (new_half window)) → AllFrom f u → AllFrom f v
 unfolding with_half
@@ -118,14 +118,14 @@ raised_all f d u v window side opened r halves s q =
     by_cases (eqb q id)
     (λ t.
     let is : q ≡ id = same q id t in
-    let told : f q ≡ untouched = new-from (f q) (refusal u q) (u.receive q) _ (ap (refusal u) is ∙ refusal-next d u) (s q) in
-    retold untouched (f q) (refusal v q) (v.receive q) told
-    (set_half untouched (refusal v q) (v.receive q) (new_half window) (ap (refusal v) is ∙ refusal-permitted d u v side r) (at ∙ rw t refl) (new-half-from window)))
-    (λ n. moved (f q) (refusal u q) (refusal v q) (u.receive q) (v.receive q) (refusal-raised d u v q side opened r n) (at ∙ rw n refl) (s q))
+    let told : f q ≡ untouched = new-from (f q) (id_refusal u q) (u.receive q) _ (ap (id_refusal u) is ∙ refusal-next d u) (s q) in
+    retold untouched (f q) (id_refusal v q) (v.receive q) told
+    (set_half untouched (id_refusal v q) (v.receive q) (new_half window) (ap (id_refusal v) is ∙ refusal-permitted d u v side r) (at ∙ rw t refl) (new-half-from window)))
+    (λ n. moved (f q) (id_refusal u q) (id_refusal v q) (u.receive q) (v.receive q) (refusal-raised d u v q side opened r n) (at ∙ rw n refl) (s q))
 
 -- the world with it
 abbrev with_next : Dir → World → World
-with_next d u = permitted (with_remote u d (remote.permitted (remote.freed (remote_of u d)))) d (remote_of u d).max_remote
+with_next d u = with_permitted (with_remote u d (remote.one_permitted (remote.freed (remote_of u d)))) d (remote_of u d).max_remote
 
 all-permitted : (f : ℕ → Trace) (d : Dir) (u : World) → AllFrom f u → AllFrom f (with_next d u)
 unfolding with_receive
@@ -137,7 +137,7 @@ all-remote f Bi u r e s = all-same f u (with_remote u Bi r) (λ q. refusal-same 
 all-remote f Uni u r e s = all-same f u (with_remote u Uni r) (λ q. refusal-same (with_remote u Uni r) u q refl refl refl e) (λ q. refl) s
 
 replaced_if : (f : ℕ → Trace) (d : Dir) (u : World) (b : Bool) → AllFrom f u
-    → AllFrom f (permitted_if (with_remote u d (if b then remote.permitted (remote.freed (remote_of u d)) else remote.freed (remote_of u d))) d (if b then Some (remote_of u d).max_remote else None))
+    → AllFrom f (permitted_if (with_remote u d (if b then remote.one_permitted (remote.freed (remote_of u d)) else remote.freed (remote_of u d))) d (if b then Some (remote_of u d).max_remote else None))
 replaced_if f d u true s = all-permitted f d u s
 replaced_if f d u false s = all-remote f d u (remote.freed (remote_of u d)) refl s
 
@@ -152,8 +152,8 @@ all-released : (f : ℕ → Trace) (d : Dir) (u : World) (id : ℕ) → AllFrom 
 all-released f Uni u id s = all-replaced f Uni u s
 all-released f Bi u id s = either f u (replaced_in u Bi) (u.sends id) s (all-replaced f Bi u s)
 
--- a half is freed, as is told of its stream
-pub all-freed : (g : ℕ → Trace) (w : World) (id : ℕ) → AllBut id g w → refusal w id ≡ None → (g id).gone ≡ true → AllFrom g (freed w id)
+-- a half is with_freed, as is told of its stream
+pub all-freed : (g : ℕ → Trace) (w : World) (id : ℕ) → AllBut id g w → id_refusal w id ≡ None → (g id).gone ≡ true → AllFrom g (with_freed w id)
 all-freed g w id s known is =
     let u = with_receive w id None in
     let t = all-without g w id s known is in
@@ -172,18 +172,18 @@ opened_max : (r : Remote) (index : ℕ) (b : Bool) → (if b then record r { nex
 opened_max r index true = refl
 opened_max r index false = refl
 
-refusal_readable : (w : World) (id : ℕ) (b : Bool) (q : ℕ) → refusal (told_readable w id b) q ≡ refusal w q
+refusal_readable : (w : World) (id : ℕ) (b : Bool) (q : ℕ) → id_refusal (told_readable w id b) q ≡ id_refusal w q
 refusal_readable w id true q = refl
 refusal_readable w id false q = refl
 
-refusal_remote : (w : World) (d : Dir) (r : Remote) (q : ℕ) → r.max_remote ≡ (remote_of w d).max_remote → refusal (with_remote w d r) q ≡ refusal w q
+refusal_remote : (w : World) (d : Dir) (r : Remote) (q : ℕ) → r.max_remote ≡ (remote_of w d).max_remote → id_refusal (with_remote w d r) q ≡ id_refusal w q
 refusal_remote w Bi r q e = refusal-same (with_remote w Bi r) w q refl refl e refl
 refusal_remote w Uni r q e = refusal-same (with_remote w Uni r) w q refl refl refl e
 
 -- a frame that is noticed changes nothing of what is refused
-pub refusal-noticed : (w : World) (id : ℕ) (b : Bool) (q : ℕ) → refusal (noticed w id b) q ≡ refusal w q
+pub refusal-noticed : (w : World) (id : ℕ) (b : Bool) (q : ℕ) → id_refusal (noticed w id b) q ≡ id_refusal w q
 refusal-noticed w id b q =
-    let P : World → Type 0 = λ x. refusal x q ≡ refusal w q in
+    let P : World → Type 0 = λ x. id_refusal x q ≡ id_refusal w q in
     noticed-any P w id b (refusal_readable w id b q) (refusal_remote w (dir_of id) _ q (opened_max (remote_of w (dir_of id)) (index_of id) _))
 
 receive_readable : (w : World) (id : ℕ) (b : Bool) (q : ℕ) → (told_readable w id b).receive q ≡ w.receive q
@@ -201,10 +201,10 @@ receive-noticed w id b q =
     noticed-any P w id b (receive_readable w id b q) (receive_remote w (dir_of id) _ q)
 
 pub all-noticed : (g : ℕ → Trace) (w : World) (id : ℕ) (b : Bool) → AllFrom g w → AllFrom g (noticed w id b)
-all-noticed g w id b s q = moved (g q) (refusal w q) _ (w.receive q) _ (refusal-noticed w id b q) (receive-noticed w id b q) (s q)
+all-noticed g w id b s q = moved (g q) (id_refusal w q) _ (w.receive q) _ (refusal-noticed w id b q) (receive-noticed w id b q) (s q)
 
 pub but-noticed : (g : ℕ → Trace) (w : World) (id k : ℕ) (b : Bool) → AllBut k g w → AllBut k g (noticed w id b)
-but-noticed g w id k b s q n = moved (g q) (refusal w q) _ (w.receive q) _ (refusal-noticed w id b q) (receive-noticed w id b q) (s q n)
+but-noticed g w id k b s q n = moved (g q) (id_refusal w q) _ (w.receive q) _ (refusal-noticed w id b q) (receive-noticed w id b q) (s q n)
 
 -- nor of the credit
 credit_readable : (w : World) (id : ℕ) (b : Bool) → (told_readable w id b).credit ≡ w.credit
@@ -220,7 +220,7 @@ credit-noticed w id b =
     let P : World → Type 0 = λ x. x.credit ≡ w.credit in
     noticed-any P w id b (credit_readable w id b) (credit_remote w (dir_of id) _)
 
-credit_permitted : (w : World) (d : Dir) (index : ℕ) → (permitted w d index).credit ≡ w.credit
+credit_permitted : (w : World) (d : Dir) (index : ℕ) → (with_permitted w d index).credit ≡ w.credit
 unfolding with_receive
 credit_permitted w Bi index = refl
 credit_permitted w Uni index = refl
@@ -238,8 +238,8 @@ credit_released w Bi id =
     let P : World → Type 0 = λ x. x.credit ≡ w.credit in
     if_any P w (replaced_in w Bi) (w.sends id) refl (credit_replaced w Bi)
 
--- a half that is freed changes nothing of the credit
-pub credit-freed : (w : World) (id : ℕ) → (freed w id).credit ≡ w.credit
+-- a half that is with_freed changes nothing of the credit
+pub credit-freed : (w : World) (id : ℕ) → (with_freed w id).credit ≡ w.credit
 credit-freed w id =
     let u = with_receive w id None in
     let P : World → Type 0 = λ x. x.credit ≡ w.credit in

@@ -3,7 +3,7 @@ use Rattle.std.proofs.Common.{◌≡◌, ℕ, Bool, true, false, ◌||◌, eqb, 
 use Rattle.std.specs.Prelude.{nat_eq, if◌then◌else◌}
 use Rattle.std.specs.List.{list_any}
 use Rattle.std.proofs.lemmas.Bool.Decides.{nat_tests}
-use Rattle.quic_streams.specs.History.{total, with_stream}
+use Rattle.quic_streams.specs.History.{total_over, with_stream}
 
 or_true : (b c : Bool) → (b || c) ≡ true → b ≡ false → c ≡ true
 or_true true c h n = absurd (cc)
@@ -36,7 +36,7 @@ pub once_with : (id : ℕ) (ids : List ℕ) → IsOnce ids → IsOnce (with_stre
 once_with id ids o = once_if (list_any (nat_eq id) ids) id ids refl o
 
 -- the stream is not among those
-total_without : (f g : ℕ → ℕ) (k : ℕ) (xs : List ℕ) → list_any (nat_eq k) xs ≡ false → ((q : ℕ) → eqb q k ≡ false → g q ≡ f q) → total g xs ≡ total f xs
+total_without : (f g : ℕ → ℕ) (k : ℕ) (xs : List ℕ) → list_any (nat_eq k) xs ≡ false → ((q : ℕ) → eqb q k ≡ false → g q ≡ f q) → total_over g xs ≡ total_over f xs
 total_without f g k [] absent h = refl
 total_without f g k (x ∷ xs) absent h =
     let parts = or_false (eqb k x) (list_any (nat_eq k) xs) absent in
@@ -44,23 +44,23 @@ total_without f g k (x ∷ xs) absent h =
 
 -- one stream of those changes
 total_at_one : (f g : ℕ → ℕ) (k : ℕ) (xs : List ℕ) → IsOnce xs → list_any (nat_eq k) xs ≡ true → ((q : ℕ) → eqb q k ≡ false → g q ≡ f q)
-    → total g xs + f k ≡ total f xs + g k
+    → total_over g xs + f k ≡ total_over f xs + g k
 total_at_one f g k [] once is h = absurd (cc)
 total_at_one f g k (x ∷ xs) once is h = by_cases (eqb k x)
     (λ t. let e = same k x t in rw e (omega (arith, total_without f g x xs once.0 (λ q n. h q (rw e n)))))
     (λ n. omega (arith, h x (turned k x n), total_at_one f g k xs once.1 (or_true (eqb k x) (list_any (nat_eq k) xs) is n) h))
 
 total_if : (f g : ℕ → ℕ) (k : ℕ) (xs : List ℕ) (b : Bool) → list_any (nat_eq k) xs ≡ b → IsOnce xs → (list_any (nat_eq k) xs ≡ false → f k ≡ 0)
-    → ((q : ℕ) → eqb q k ≡ false → g q ≡ f q) → total g (if b then xs else k ∷ xs) + f k ≡ total f xs + g k
+    → ((q : ℕ) → eqb q k ≡ false → g q ≡ f q) → total_over g (if b then xs else k ∷ xs) + f k ≡ total_over f xs + g k
 total_if f g k xs true e once none h = total_at_one f g k xs once e h
 total_if f g k xs false e once none h = omega (arith, none e, total_without f g k xs e h)
 
 -- one stream changes, which is none of those only where it counted nothing
 pub total_with : (f g : ℕ → ℕ) (k : ℕ) (xs : List ℕ) → IsOnce xs → (list_any (nat_eq k) xs ≡ false → f k ≡ 0) → ((q : ℕ) → eqb q k ≡ false → g q ≡ f q)
-    → total g (with_stream k xs) + f k ≡ total f xs + g k
+    → total_over g (with_stream k xs) + f k ≡ total_over f xs + g k
 total_with f g k xs once none h = total_if f g k xs (list_any (nat_eq k) xs) refl once none h
 
 -- no stream changes
-pub total_same : (f g : ℕ → ℕ) (xs : List ℕ) → ((q : ℕ) → g q ≡ f q) → total g xs ≡ total f xs
+pub total_same : (f g : ℕ → ℕ) (xs : List ℕ) → ((q : ℕ) → g q ≡ f q) → total_over g xs ≡ total_over f xs
 total_same f g [] h = refl
 total_same f g (x ∷ xs) h = omega (arith, h x, total_same f g xs h)

@@ -6,7 +6,7 @@ use Rattle.std.proofs.lemmas.Bool.Decides.{nat_tests}
 use Rattle.quic_assembler.specs.declared.chunk.Chunk.{Chunk}
 use Rattle.quic_receiving.specs.declared.errors.ReadError.{ReadError}
 use Rattle.quic_receiving.specs.declared.errors.ReadError.TheVariants as read_error
-use Rattle.quic_streams.specs.History.{Event, Received, ReceivedReset, AddedCredits, Began, Gave, Ended, Stopped, ToldReset, Trace, trace, with_event, with_read, with_stop, with_told, with_stream, streams, received, total}
+use Rattle.quic_streams.specs.History.{Event, Received, ReceivedReset, AddedCredits, Began, Gave, Ended, Stopped, ToldReset, Trace, trace, with_event, with_read, with_stop, with_told, with_stream, streams, received, total_over}
 use Rattle.quic_streams.proofs.Totals.{IsOnce, once_with, total_with, total_same, same, by_cases}
 
 pub itself : (k : ℕ) → eqb k k ≡ true
@@ -73,10 +73,10 @@ quiet (ToldReset id (Err error) ∷ h) q a = quiet h q a
 
 -- a frame changes the sum of the highest offsets by what it changes that of its stream
 pub received-change : (h : List Event) (g : ℕ → Trace) (id : ℕ) → ((q : ℕ) → eqb q id ≡ false → g q ≡ trace h q)
-    → total (λ q. (g q).high) (with_stream id (streams h)) + (trace h id).high ≡ received h + (g id).high
+    → total_over (λ q. (g q).high) (with_stream id (streams h)) + (trace h id).high ≡ received h + (g id).high
 received-change h g id others =
     total_with (λ q. (trace h q).high) (λ q. (g q).high) id (streams h) (streams-once h) (quiet h id) (λ q n. ap (λ t. t.high) (others q n))
 
 -- a call that leaves the highest offsets leaves their sum
-pub received-same : (h : List Event) (g : ℕ → Trace) → ((q : ℕ) → (g q).high ≡ (trace h q).high) → total (λ q. (g q).high) (streams h) ≡ received h
+pub received-same : (h : List Event) (g : ℕ → Trace) → ((q : ℕ) → (g q).high ≡ (trace h q).high) → total_over (λ q. (g q).high) (streams h) ≡ received h
 received-same h g e = total_same (λ q. (trace h q).high) (λ q. (g q).high) (streams h) e

@@ -1,7 +1,7 @@
 -- How the halves of a state answer after steps.
 use Rattle.std.proofs.Common.{◌≡◌, ℕ, Option, refl, ap, arith, ◌+◌}
 use Rattle.quic_receiving.specs.Half.{Half}
-use Rattle.quic_streams.specs.World.{World, with_receive, with_counted, advanced, refusal}
+use Rattle.quic_streams.specs.World.{World, with_receive, with_counted, advanced, id_refusal}
 use Rattle.quic_streams.proofs.HalfMaps.{half-there, with_half-twice, with_half-back}
 
 pub receive-there : (w : World) (id : ℕ) (o : Option Half) → (with_receive w id o).receive id ≡ o
@@ -24,11 +24,11 @@ pub window-with_receive : (w : World) (id : ℕ) (o : Option Half) → (with_rec
 unfolding with_receive
 window-with_receive w id o = refl
 
-pub refusal-with_receive : (w : World) (id q : ℕ) (o : Option Half) → refusal (with_receive w id o) q ≡ refusal w q
+pub refusal-with_receive : (w : World) (id q : ℕ) (o : Option Half) → id_refusal (with_receive w id o) q ≡ id_refusal w q
 unfolding with_receive
 refusal-with_receive w id q o = refl
 
-pub refusal-advanced : (w : World) (id q : ℕ) (h h' : Half) → refusal (advanced w id h h') q ≡ refusal w q
+pub refusal-advanced : (w : World) (id q : ℕ) (h h' : Half) → id_refusal (advanced w id h h') q ≡ id_refusal w q
 unfolding with_receive
 refusal-advanced w id q h h' = refl
 

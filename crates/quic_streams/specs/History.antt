@@ -23,7 +23,7 @@ use Rattle.quic_receiving.specs.declared.errors.HandleError.{HandleError}
 use Rattle.quic_streams.specs.declared.reading.Progress.{Progress}
 use Rattle.quic_streams.specs.declared.reading.Progress.TheVariants as progress
 use Rattle.quic_streams.specs.Pending.{Pending}
-use Rattle.quic_streams.specs.World.{World, start, refusal, remote_of, with_credit}
+use Rattle.quic_streams.specs.World.{World, start, id_refusal, remote_of, with_credit}
 use Rattle.quic_streams.specs.Receiving.{Receives, ReceivesReset}
 use Rattle.quic_streams.specs.Reading.{Begins, ReadsHalf, Stops, TellsReset}
 
@@ -133,8 +133,8 @@ is_kept (Err receive_error.CompactionMemory) = true
 is_kept (Err receive_error.OutOfMemory) = false
 
 -- a STREAM frame was kept. The end of a stopped stream frees it
-abbrev pub with_frame : ℕ → List ℕ → Bool → Trace → Trace
-with_frame offset bytes fin t = if is_closed t then t else record t {
+abbrev pub with_kept_frame : ℕ → List ℕ → Bool → Trace → Trace
+with_kept_frame offset bytes fin t = if is_closed t then t else record t {
   high = max t.high (offset + length bytes);
   sized = t.sized || fin;
   gone = t.stopped && fin;
@@ -163,7 +163,7 @@ with_told None t = t
 with_told (Some code) t = record t { gone = true }
 
 abbrev pub with_event : ℕ → Event → Trace → Trace
-with_event q (Received id offset bytes fin answer) t = if q == id && is_kept answer then with_frame offset bytes fin t else t
+with_event q (Received id offset bytes fin answer) t = if q == id && is_kept answer then with_kept_frame offset bytes fin t else t
 with_event q (ReceivedReset id code final (Ok transmit)) t = if q == id then with_reset final t else t
 with_event q (Gave id most answer) t = if q == id then with_read answer t else t
 with_event q (Stopped id code (Ok u)) t = if q == id then with_stop t else t
@@ -188,13 +188,13 @@ streams [] = []
 streams (e ∷ h) = with_streams e (streams h)
 
 -- the sum of a function over a list
-abbrev pub total : (ℕ → ℕ) → List ℕ → ℕ
-total f [] = 0
-total f (x ∷ xs) = f x + total f xs
+abbrev pub total_over : (ℕ → ℕ) → List ℕ → ℕ
+total_over f [] = 0
+total_over f (x ∷ xs) = f x + total_over f xs
 
 -- the sum of the highest offsets received, over all streams
 abbrev pub received : List Event → ℕ
-received h = total (λ q. (trace h q).high) (streams h)
+received h = total_over (λ q. (trace h q).high) (streams h)
 
 -- how many bytes a frame that ends there gives credit for: on a stopped stream those above the highest offset
 abbrev pub frame_credit : Trace → ℕ → ℕ
@@ -205,8 +205,8 @@ abbrev pub reset_credit : Trace → ℕ → ℕ
 reset_credit t final = if is_closed t then 0 else final - (if t.stopped then t.high else t.read)
 
 -- how many bytes a stop gives credit for: those that were not read, and none after a reset, which gave it
-abbrev pub stop_credit : Trace → ℕ
-stop_credit t = if t.reset then 0 else t.high - t.read
+abbrev pub stop_gives : Trace → ℕ
+stop_gives t = if t.reset then 0 else t.high - t.read
 
 -- how many bytes a call gives credit for
 abbrev pub consumed_by : List Event → Event → ℕ
@@ -214,7 +214,7 @@ consumed_by h (Received id offset bytes fin answer) = if is_kept answer then fra
 consumed_by h (ReceivedReset id code final (Ok transmit)) = reset_credit (trace h id) final
 consumed_by h (AddedCredits count answer) = count
 consumed_by h (Ended id count) = count
-consumed_by h (Stopped id code (Ok u)) = stop_credit (trace h id)
+consumed_by h (Stopped id code (Ok u)) = stop_gives (trace h id)
 consumed_by h _ = 0
 
 -- the bytes whose credit was given back, each once
@@ -281,7 +281,7 @@ EndsSo t = t.ended ≡ true → (t.gone ≡ true) × IsAllGiven t.given t.high
 -- what a history says of the end that it led to
 pub record Facts (h : List Event) (v : World) : Type 0 where
   pub credit : CreditFrom (consumed h) (debt h) (received h) v.credit
-  pub streams : (q : ℕ) → StreamFrom (trace h q) (refusal v q) (v.receive q)
+  pub streams : (q : ℕ) → StreamFrom (trace h q) (id_refusal v q) (v.receive q)
 
 -- of a stream that is neither stopped nor reset, as many bytes were read as a known final size tells, where reads tell the end, exactly where each byte below it was given
 abbrev pub TellsEnds : List Event → World → Type 0

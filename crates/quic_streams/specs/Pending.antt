@@ -21,8 +21,8 @@ abbrev pub IdSet : Type 0
 IdSet = HashSet ℕ (BuildHasherDefault FoldHasher)
 
 -- whether an id is in a set
-abbrev pub is_in : IdSet → ℕ → Bool
-is_in ids id = contains ◌==◌ ids id
+abbrev pub is_in_ids : IdSet → ℕ → Bool
+is_in_ids ids id = contains ◌==◌ ids id
 
 -- lists in the order of their elements, and sets as functions that say what is in them
 pub record Pending : Type 0 where
@@ -41,16 +41,16 @@ pub record Pending : Type 0 where
   pub handshake_done : Bool
   pub new_tokens : List SocketAddr
 
-abbrev pub shown : Retransmits → Pending
-shown r = record {
+abbrev pub shown_pending : Retransmits → Pending
+shown_pending r = record {
   max_data = r.max_data;
   data_blocked = r.data_blocked;
   max_streams_bi = slice_index_or r.max_stream_id 0 false;
   max_streams_uni = slice_index_or r.max_stream_id 1 false;
   reset_stream = r.reset_stream.items;
   stop_sending = r.stop_sending.items;
-  max_stream_data = is_in r.max_stream_data;
-  stream_data_blocked = is_in r.stream_data_blocked;
+  max_stream_data = is_in_ids r.max_stream_data;
+  stream_data_blocked = is_in_ids r.stream_data_blocked;
   crypto = r.crypto.items;
   new_cids = r.new_cids.items;
   retire_cids = r.retire_cids.items;
@@ -104,11 +104,11 @@ merged_if a (Some b) = merged a b
 -- a list joined to what is there, from its first on
 abbrev pub collected : Pending → List Retransmits → Pending
 collected a [] = a
-collected a (r ∷ rs) = collected (merged a (shown r)) rs
+collected a (r ∷ rs) = collected (merged a (shown_pending r)) rs
 
 -- what is to be sent, if anything was asked for
 abbrev pub shown_if : ThinRetransmits → Option Pending
-shown_if t = option_map (λ b. shown b.value) t.retransmits
+shown_if t = option_map (λ b. shown_pending b.value) t.retransmits
 
 -- there is room for all that the second has in the first
 pub record HasRoomFor (a b : Retransmits) : Type 0 where

@@ -19,7 +19,7 @@ use Rattle.quic_streams.specs.declared.reading.Progress.TheVariants as progress
 use Rattle.quic_streams.specs.Halves.{is_due_in}
 use Rattle.quic_streams.specs.Pending.{Pending}
 use Rattle.quic_streams.specs.Receiving.{with_max_streams}
-use Rattle.quic_streams.specs.World.{World, freed, with_credit, with_receive}
+use Rattle.quic_streams.specs.World.{World, with_freed, with_credit, with_receive}
 
 abbrev pub is_mode : Bool → Bool → Bool
 is_mode true ordered = ordered
@@ -62,9 +62,9 @@ Begins w id ordered (Err readable_error.OutOfMemory) v = (v ≡ w) ⊎ Asks w id
 -- the state once a read answered so and left the half h
 abbrev pub after_read : World → ℕ → Half → Result (Option Chunk) ReadError → World
 after_read w id h (Ok (Some chunk)) = with_receive w id (Some h)
-after_read w id h (Ok None) = freed w id
+after_read w id h (Ok None) = with_freed w id
 after_read w id h (Err read_error.Blocked) = with_receive w id (Some h)
-after_read w id h (Err (read_error.Reset code)) = freed w id
+after_read w id h (Err (read_error.Reset code)) = with_freed w id
 after_read w id h (Err read_error.OutOfMemory) = with_receive w id (Some h)
 
 -- a half was read
@@ -84,7 +84,7 @@ progress_after (Err read_error.Blocked) = progress.Readable
 progress_after (Err (read_error.Reset code)) = progress.Reset code
 progress_after (Err read_error.OutOfMemory) = progress.Readable
 
--- whether nothing more comes, and the half is freed
+-- whether nothing more comes, and the half is with_freed
 abbrev pub is_ended : Progress → Bool
 is_ended progress.Readable = false
 is_ended (progress.Reset code) = true
@@ -131,19 +131,19 @@ is_transmit_due progress w id read = (is_max_streams_due w.bi || is_max_streams_
     || (is_window_queued progress w (w.receive id) || is_max_data_due (credited w.credit read))
 
 -- a list of STOP_SENDING frames, with one more where that is due
-abbrev pub with_stop : List StopSending → ℕ → ℕ → Bool → List StopSending
-with_stop frames id code due = if due then frames ++ record { id = id; error_code = code } ∷ [] else frames
+abbrev pub with_stop_sending : List StopSending → ℕ → ℕ → Bool → List StopSending
+with_stop_sending frames id code due = if due then frames ++ record { id = id; error_code = code } ∷ [] else frames
 
 -- a stream was stopped: STOP_SENDING is queued unless it was reset, and MAX_DATA where it is due
 abbrev pub pending_stopped : World → Half → ℕ → ℕ → Pending → Pending
 pending_stopped v h id code p = record p {
-  stop_sending = with_stop p.stop_sending id code (is_none h.reset);
+  stop_sending = with_stop_sending p.stop_sending id code (is_none h.reset);
   max_data = p.max_data || is_max_data_due v.credit;
 }
 
 -- the state once a half was stopped, which made it h'
 abbrev pub after_stop : World → ℕ → Half → Half → World
-after_stop w id h h' = with_credit (if is_some h.size then freed w id else with_receive w id (Some h')) (stop_credit h)
+after_stop w id h h' = with_credit (if is_some h.size then with_freed w id else with_receive w id (Some h')) (stop_credit h)
 
 -- what came of a stop
 abbrev pub Stops : World → ℕ → ℕ → Pending → Result (Unit {0}) HandleError → World → Pending → Type 0
@@ -156,7 +156,7 @@ Stops w id code p (Err handle_error.OutOfMemory) v q = (v ≡ w) × (q ≡ p)
 -- what came of asking for the code of a reset
 abbrev pub TellsReset : World → ℕ → Pending → Result (Option ℕ) HandleError → World → Pending → Type 0
 TellsReset w id p (Ok (Some code)) v q = (h : Half) × (w.receive id ≡ Some h) × (h.stopped ≡ false) × (h.reset ≡ Some code)
-    × (v ≡ freed w id) × (q ≡ with_max_streams v p)
+    × (v ≡ with_freed w id) × (q ≡ with_max_streams v p)
 TellsReset w id p (Ok None) v q = (h : Half) × (w.receive id ≡ Some h) × (h.stopped ≡ false) × (h.reset ≡ None) × (v ≡ w) × (q ≡ p)
 TellsReset w id p (Err handle_error.ClosedStream) v q = IsClosed (w.receive id) × (v ≡ w) × (q ≡ p)
 TellsReset w id p (Err handle_error.OutOfMemory) v q = (h : Half) × (w.receive id ≡ Some h) × (is_some h.reset ≡ true) × (v ≡ w) × (q ≡ p)

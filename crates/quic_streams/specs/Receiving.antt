@@ -9,7 +9,7 @@ use Rattle.quic_receiving.specs.Half.{Half}
 use Rattle.quic_receiving.specs.Calls.{Ingests, Resets}
 use Rattle.quic_receiving.specs.declared.transmit.ShouldTransmit.{ShouldTransmit}
 use Rattle.quic_streams.specs.Pending.{Pending}
-use Rattle.quic_streams.specs.World.{World, refusal, freed, noticed, with_credit, advanced}
+use Rattle.quic_streams.specs.World.{World, id_refusal, with_freed, noticed, with_credit, advanced}
 
 -- frames on a stream without a receive half, and on one that was reset, are dropped
 abbrev pub IsDropped : Option Half → Type 0
@@ -20,12 +20,12 @@ IsDropped (Some h) = is_some h.reset ≡ true
 abbrev pub after_data : World → ℕ → Half → Half → Bool → World
 after_data w id h h' fin = let u = advanced w id h h' in
     if h.stopped
-    then with_credit (if fin then freed u id else u) (h'.end - h.end)
+    then with_credit (if fin then with_freed u id else u) (h'.end - h.end)
     else noticed u id true
 
 -- a STREAM frame reached the half h, and made it h'
 pub record Reaches (w : World) (id offset : ℕ) (bytes : List ℕ) (fin : Bool) (answer : Result (ℕ × Bool) ReceiveError) (h h' : Half) : Type 0 where
-  pub known : refusal w id ≡ None
+  pub known : id_refusal w id ≡ None
   pub half : w.receive id ≡ Some h
   pub running : h.reset ≡ None
   pub ingests : Ingests h offset bytes fin w.credit.data_recvd w.credit.local_max_data answer h'
@@ -33,11 +33,11 @@ pub record Reaches (w : World) (id offset : ℕ) (bytes : List ℕ) (fin : Bool)
 -- what came of a STREAM frame (RFC 9000 section 19.8)
 abbrev pub Receives : World → ℕ → ℕ → List ℕ → Bool → Result ShouldTransmit ReceiveError → World → Type 0
 Receives w id offset bytes fin (Ok transmit) v =
-    ((refusal w id ≡ None) × IsDropped (w.receive id) × (transmit.0 ≡ false) × (v ≡ w))
+    ((id_refusal w id ≡ None) × IsDropped (w.receive id) × (transmit.0 ≡ false) × (v ≡ w))
     ⊎ ((answer : ℕ × Bool) × (h : Half) × (h' : Half) × Reaches w id offset bytes fin (Ok answer) h h'
     × (transmit.0 ≡ (h.stopped && is_max_data_due v.credit)) × (v ≡ after_data w id h h' fin))
 Receives w id offset bytes fin (Err (receive_error.Transport error)) v =
-    ((refusal w id ≡ Some error.code) × (v ≡ w))
+    ((id_refusal w id ≡ Some error.code) × (v ≡ w))
     ⊎ ((h : Half) × (h' : Half) × Reaches w id offset bytes fin (Err (receive_error.Transport error)) h h' × (v ≡ advanced w id h h'))
 Receives w id offset bytes fin (Err receive_error.CompactionMemory) v =
     (h : Half) × (h' : Half) × Reaches w id offset bytes fin (Err receive_error.CompactionMemory) h h' × (v ≡ advanced w id h h')
@@ -45,7 +45,7 @@ Receives w id offset bytes fin (Err receive_error.OutOfMemory) v = v ≡ w
 
 -- a RESET_STREAM reached the half h, and made it h'
 pub record ResetReaches (w : World) (id code final : ℕ) (answer : Result Bool TransportError) (h h' : Half) : Type 0 where
-  pub known : refusal w id ≡ None
+  pub known : id_refusal w id ≡ None
   pub half : w.receive id ≡ Some h
   pub resets : Resets h code final w.credit.data_recvd w.credit.local_max_data answer h'
 
@@ -60,17 +60,17 @@ with_rest w n = if n == 0 then w else with_credit w n
 -- the first RESET_STREAM was taken on a half
 abbrev pub after_reset : World → ℕ → Half → Half → World
 after_reset w id h h' = let u = noticed (advanced w id h h') id (not h.stopped) in
-    with_rest (if h.stopped then freed u id else u) (h'.end - credited_to h)
+    with_rest (if h.stopped then with_freed u id else u) (h'.end - credited_to h)
 
 -- what came of a RESET_STREAM frame (RFC 9000 section 19.4)
 abbrev pub ReceivesReset : World → ℕ → ℕ → ℕ → Result ShouldTransmit ReceiveError → World → Type 0
 ReceivesReset w id code final (Ok transmit) v =
-    ((refusal w id ≡ None) × (w.receive id ≡ None) × (transmit.0 ≡ false) × (v ≡ w))
+    ((id_refusal w id ≡ None) × (w.receive id ≡ None) × (transmit.0 ≡ false) × (v ≡ w))
     ⊎ ((h : Half) × (h' : Half) × ResetReaches w id code final (Ok false) h h' × (transmit.0 ≡ false) × (v ≡ w))
     ⊎ ((h : Half) × (h' : Half) × ResetReaches w id code final (Ok true) h h'
     × (transmit.0 ≡ (not (h'.end - credited_to h == 0) && is_max_data_due v.credit)) × (v ≡ after_reset w id h h'))
 ReceivesReset w id code final (Err (receive_error.Transport error)) v =
-    ((refusal w id ≡ Some error.code) × (v ≡ w))
+    ((id_refusal w id ≡ Some error.code) × (v ≡ w))
     ⊎ ((h : Half) × (h' : Half) × ResetReaches w id code final (Err error) h h' × (v ≡ w))
 ReceivesReset w id code final (Err receive_error.CompactionMemory) v = ⊥
 ReceivesReset w id code final (Err receive_error.OutOfMemory) v = v ≡ w

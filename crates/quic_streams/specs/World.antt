@@ -94,32 +94,32 @@ abbrev pub own_refusal : World → Dir → ℕ → Option ℕ
 own_refusal w Uni index = Some STREAM_STATE_ERROR
 own_refusal w Bi index = if nat_le w.opened_bi index then Some STREAM_STATE_ERROR else None
 
-abbrev pub refusal : World → ℕ → Option ℕ
-refusal w id = if is_own w id then own_refusal w (dir_of id) (index_of id)
+abbrev pub id_refusal : World → ℕ → Option ℕ
+id_refusal w id = if is_own w id then own_refusal w (dir_of id) (index_of id)
     else (if nat_le (remote_of w (dir_of id)).max_remote (index_of id) then Some STREAM_LIMIT_ERROR else None)
 
--- a stream of the peer is permitted: its halves are new
-abbrev pub permitted : World → Dir → ℕ → World
-permitted w Uni index = with_receive w (stream_id (other_side w.side) Uni index) (Some (new_half w.window))
-permitted w Bi index = let id = stream_id (other_side w.side) Bi index in
+-- a stream of the peer is with_permitted: its halves are new
+abbrev pub with_permitted : World → Dir → ℕ → World
+with_permitted w Uni index = with_receive w (stream_id (other_side w.side) Uni index) (Some (new_half w.window))
+with_permitted w Bi index = let id = stream_id (other_side w.side) Bi index in
     record (with_receive w id (Some (new_half w.window))) { sends = with_send w.sends id true }
 
 abbrev pub permitted_if : World → Dir → Option ℕ → World
 permitted_if w dir None = w
-permitted_if w dir (Some index) = permitted w dir index
+permitted_if w dir (Some index) = with_permitted w dir index
 
--- a stream of the peer was wholly freed, and another may take its place
+-- a stream of the peer was wholly with_freed, and another may take its place
 abbrev pub replaced_in : World → Dir → World
 replaced_in w dir = permitted_if (with_remote w dir (replaced (remote_of w dir))) dir (replacement (remote_of w dir))
 
--- a stream of the peer lost its receive half: it is wholly freed, unless its send half is held
+-- a stream of the peer lost its receive half: it is wholly with_freed, unless its send half is held
 abbrev pub released : World → Dir → ℕ → World
 released w Uni id = replaced_in w Uni
 released w Bi id = if w.sends id then w else replaced_in w Bi
 
--- the receive half of a stream is freed
-abbrev pub freed : World → ℕ → World
-freed w id = let u = with_receive w id None in
+-- the receive half of a stream is with_freed
+abbrev pub with_freed : World → ℕ → World
+with_freed w id = let u = with_receive w id None in
     if is_own u id then u else released u (dir_of id) id
 
 abbrev pub told : World → StreamEvent → World

@@ -2,7 +2,7 @@
 
 ghost use Rattle.std.specs.Prelude.{◌≡◌, ◌+◌, ◌<◌, ◌≤◌, ◌^◌, true, is_some, Some, Err, OnOk, List, ◌∷◌};
 ghost use Rattle.quic_streams.specs.World.{shown, with_credit, with_receive};
-ghost use Rattle.quic_streams.specs.Pending.{shown as listed};
+ghost use Rattle.quic_streams.specs.Pending.{shown_pending as listed};
 ghost use Rattle.quic_streams.specs.Reading.{Begins, Nexts, ReadsHalf, is_reading, needed, pending_after, is_transmit_due, is_window_queued, progress_after, is_ended, IsLastAnswer, given_by};
 ghost use Rattle.quic_streams.specs.History.{Event, Ended, From, given, with_next};
 ghost use Rattle.quic_streams.specs.Room.{rooms, window_rooms};

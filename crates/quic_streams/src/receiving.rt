@@ -4,9 +4,9 @@ ghost use Rattle.std.specs.Prelude.{ℕ, List, ◌∷◌, ◌≡◌, ◌==◌, �
 ghost use Rattle.quic_limits.specs.Credit.{is_max_data_due};
 ghost use Rattle.quic_limits.specs.Remote.{is_max_streams_due};
 ghost use Rattle.quic_streams.specs.Room.{rooms, window_rooms, HasEventRoom};
-ghost use Rattle.quic_streams.specs.World.{shown, refusal, freed, with_credit, with_receive};
+ghost use Rattle.quic_streams.specs.World.{shown, id_refusal, with_freed, with_credit, with_receive};
 ghost use Rattle.quic_streams.specs.History.{Event, Received, ReceivedReset, AddedCredits, From};
-ghost use Rattle.quic_streams.specs.Pending.{shown as listed};
+ghost use Rattle.quic_streams.specs.Pending.{shown_pending as listed};
 ghost use Rattle.quic_streams.specs.Receiving.{Receives, ReceivesReset, with_max_streams, with_rest};
 
 use crate::retransmits::Retransmits;
@@ -69,7 +69,7 @@ impl StreamsState {
         permitted: u64,
     ) -> Result<ShouldTransmit, ReceiveError>
         requires within { length frame.bytes ≤ payload_len }
-        requires known { refusal (shown self.old) frame.id ≡ None }
+        requires known { id_refusal (shown self.old) frame.id ≡ None }
         requires there { is_some ((shown self.old).receive frame.id) ≡ true }
         requires received { received ≡ (shown self.old).credit.data_recvd }
         requires permitted { permitted ≡ (shown self.old).credit.local_max_data }
@@ -104,7 +104,7 @@ impl StreamsState {
     // Bytes that came on a stopped stream give credit at once, and its end frees it.
     fn discard(&mut self, id: StreamId, new_bytes: u64, closed: bool) -> ShouldTransmit
         requires { 1 ≤ rooms self.old }
-        ensures discarded { shown self.new ≡ with_credit (if closed then freed (shown self.old) id else shown self.old) new_bytes }
+        ensures discarded { shown self.new ≡ with_credit (if closed then with_freed (shown self.old) id else shown self.old) new_bytes }
         ensures due { result.0 ≡ is_max_data_due (shown self.new).credit }
     {
         if closed {
@@ -155,7 +155,7 @@ impl StreamsState {
         received: u64,
         permitted: u64,
     ) -> Result<ShouldTransmit, ReceiveError>
-        requires known { refusal (shown self.old) frame.id ≡ None }
+        requires known { id_refusal (shown self.old) frame.id ≡ None }
         requires there { is_some ((shown self.old).receive frame.id) ≡ true }
         requires received { received ≡ (shown self.old).credit.data_recvd }
         requires permitted { permitted ≡ (shown self.old).credit.local_max_data }

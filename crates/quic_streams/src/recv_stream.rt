@@ -3,7 +3,7 @@
 ghost use Rattle.std.specs.Prelude.{◌≡◌, ◌≤◌, is_some, IfOk, IfErr, Ok, Err, Some, true, List, ◌∷◌};
 ghost use Rattle.quic_streams.specs.History.{Event, Began, Stopped, ToldReset, From};
 ghost use Rattle.quic_streams.specs.World.{World, shown, with_receive};
-ghost use Rattle.quic_streams.specs.Pending.{shown as listed};
+ghost use Rattle.quic_streams.specs.Pending.{shown_pending as listed};
 ghost use Rattle.quic_streams.specs.Reading.{Begins, Stops, TellsReset};
 ghost use Rattle.quic_streams.specs.Room.{rooms, stop_rooms};
 

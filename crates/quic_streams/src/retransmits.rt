@@ -4,7 +4,7 @@ ghost use Rattle.std.specs.Prelude.{◌≡◌, ◌+◌, ◌-◌, ◌<◌, ◌≤
 ghost use Rattle.std.specs.Vec.{vec_capacity};
 ghost use Rattle.std.specs.VecDeque.{deque_len, deque_capacity};
 ghost use Rattle.std.specs.HashSet.{spare, hash_set_len};
-ghost use Rattle.quic_streams.specs.Pending.{shown, nothing, merged, is_in, shown_if, merged_if, collected, HasRoomFor, numbers_from, IsRetireRefusal};
+ghost use Rattle.quic_streams.specs.Pending.{shown_pending, nothing, merged, is_in_ids, shown_if, merged_if, collected, HasRoomFor, numbers_from, IsRetireRefusal};
 
 use quic_wire::frame::{Crypto, StopSending};
 use quic_wire::{Bytes, OutOfMemory, ReceiveError, StreamId, TransportError, VarInt};
@@ -62,7 +62,7 @@ pub struct Retransmits {
 impl Retransmits {
     /// Nothing is to be sent. Takes no memory.
     pub fn new(alloc: Global) -> Self
-        ensures { shown result ≡ nothing }
+        ensures { shown_pending result ≡ nothing }
     {
         Retransmits {
             max_data: false,
@@ -86,13 +86,13 @@ impl Retransmits {
     /// Joins what `other` has: lists go behind, crypto in front, and sets are united. If refused, `other` comes back, and
     /// all is as it was.
     pub fn merge(&mut self, other: Retransmits) -> Result<(), Retransmits>
-        ensures ok { OnOk result (shown self.new ≡ merged (shown self.old) (shown other)) }
-        ensures err { OnErr result (shown self.new ≡ shown self.old) }
+        ensures ok { OnOk result (shown_pending self.new ≡ merged (shown_pending self.old) (shown_pending other)) }
+        ensures err { OnErr result (shown_pending self.new ≡ shown_pending self.old) }
         ensures value_returned { IfErr result (λ back. back ≡ other) }
 
         // What is empty adds nothing, on either side.
-        ensures with_nothing { shown other ≡ nothing → shown self.new ≡ shown self.old }
-        ensures onto_nothing { shown self.old ≡ nothing → OnOk result (shown self.new ≡ shown other) }
+        ensures with_nothing { shown_pending other ≡ nothing → shown_pending self.new ≡ shown_pending self.old }
+        ensures onto_nothing { shown_pending self.old ≡ nothing → OnOk result (shown_pending self.new ≡ shown_pending other) }
     {
         if self.make_room(&other).is_err() {
             return Err(other);
@@ -103,10 +103,10 @@ impl Retransmits {
 
     /// Joins what `other` has, if it has anything. If refused, `other` comes back, and all is as it was.
     pub fn merge_thin(&mut self, other: ThinRetransmits) -> Result<(), ThinRetransmits>
-        ensures ok { OnOk result (shown self.new ≡ merged_if (shown self.old) (shown_if other)) }
-        ensures err { OnErr result (shown self.new ≡ shown self.old) }
+        ensures ok { OnOk result (shown_pending self.new ≡ merged_if (shown_pending self.old) (shown_if other)) }
+        ensures err { OnErr result (shown_pending self.new ≡ shown_pending self.old) }
         ensures value_returned { IfErr result (λ back. back ≡ other) }
-        ensures with_none { shown_if other ≡ None → shown self.new ≡ shown self.old }
+        ensures with_none { shown_if other ≡ None → shown_pending self.new ≡ shown_pending self.old }
     {
         if let Some(retransmits) = &other.retransmits
             && self.make_room(retransmits).is_err()
@@ -122,7 +122,7 @@ impl Retransmits {
 
     /// Joins all of a list, from the first on.
     pub fn collect(alloc: Global, list: Vec<Retransmits>) -> Result<Self, OutOfMemory>
-        ensures { IfOk result (λ all. shown all ≡ collected nothing list.items) }
+        ensures { IfOk result (λ all. shown_pending all ≡ collected nothing list.items) }
     {
         let mut all = Retransmits::new(alloc);
         for part in list {
@@ -135,7 +135,7 @@ impl Retransmits {
 
     /// The same again.
     pub fn clone(&self) -> Result<Self, OutOfMemory>
-        ensures { IfOk result (λ copy. shown copy ≡ shown self.now) }
+        ensures { IfOk result (λ copy. shown_pending copy ≡ shown_pending self.now) }
     {
         let alloc = *self.reset_stream.allocator();
         Ok(Retransmits {
@@ -156,7 +156,7 @@ impl Retransmits {
     }
 
     fn make_room(&mut self, other: &Retransmits) -> Result<(), OutOfMemory>
-        ensures same { shown self.new ≡ shown self.old }
+        ensures same { shown_pending self.new ≡ shown_pending self.old }
         ensures ok { OnOk result (HasRoomFor self.new other.now) }
     {
         self.reset_stream.reserve(other.reset_stream.len())?;
@@ -175,7 +175,7 @@ impl Retransmits {
 
     fn take_in(&mut self, other: Retransmits)
         requires { HasRoomFor self.old other }
-        ensures { shown self.new ≡ merged (shown self.old) (shown other) }
+        ensures { shown_pending self.new ≡ merged (shown_pending self.old) (shown_pending other) }
     {
         let Retransmits {
             max_data,
@@ -211,12 +211,12 @@ impl Retransmits {
     /// Queues numbers to be retired. More than 50 never wait: past that it is a CONNECTION_ID_LIMIT_ERROR (RFC 9000
     /// section 5.1.2). If refused, all is as it was.
     pub fn retire_cids(&mut self, cids: Range<u64>) -> Result<(), ReceiveError>
-        ensures ok { OnOk result (shown self.new ≡ record (shown self.old) {
-          retire_cids = (shown self.old).retire_cids ++ numbers_from cids.start (cids.end - cids.start);
+        ensures ok { OnOk result (shown_pending self.new ≡ record (shown_pending self.old) {
+          retire_cids = (shown_pending self.old).retire_cids ++ numbers_from cids.start (cids.end - cids.start);
         }) }
-        ensures few { OnOk result (length (shown self.new).retire_cids ≤ 50) }
-        ensures err { OnErr result (shown self.new ≡ shown self.old) }
-        ensures refusal { IfErr result (λ e. IsRetireRefusal (length (shown self.old).retire_cids + (cids.end - cids.start)) e) }
+        ensures few { OnOk result (length (shown_pending self.new).retire_cids ≤ 50) }
+        ensures err { OnErr result (shown_pending self.new ≡ shown_pending self.old) }
+        ensures refusal { IfErr result (λ e. IsRetireRefusal (length (shown_pending self.old).retire_cids + (cids.end - cids.start)) e) }
     {
         let count = cids.end.saturating_sub(cids.start);
         let waiting = self.retire_cids.len();
@@ -244,7 +244,7 @@ fn push_numbers(list: &mut Vec<u64>, start: u64, end: u64)
 }
 
 fn reserve_ids(ids: &mut HashSet<StreamId>, additional: usize) -> Result<(), OutOfMemory>
-    ensures same { is_in ids.new ≡ is_in ids.old }
+    ensures same { is_in_ids ids.new ≡ is_in_ids ids.old }
     ensures ok { OnOk result (additional ≤ spare ids.new) }
 {
     ids.reserve(additional)?;
@@ -274,7 +274,7 @@ fn put_in_front(queue: &mut VecDeque<Crypto>, front: VecDeque<Crypto>)
 // Adds ids for which room was made.
 fn add_all(ids: &mut HashSet<StreamId>, more: &HashSet<StreamId>)
     requires { hash_set_len more.now ≤ spare ids.old }
-    ensures { is_in ids.new ≡ (λ id. is_in ids.old id || is_in more.now id) }
+    ensures { is_in_ids ids.new ≡ (λ id. is_in_ids ids.old id || is_in_ids more.now id) }
 {
     for id in more.iter() {
         let _ = ids.insert(*id);
@@ -282,7 +282,7 @@ fn add_all(ids: &mut HashSet<StreamId>, more: &HashSet<StreamId>)
 }
 
 fn clone_ids(alloc: Global, ids: &HashSet<StreamId>) -> Result<HashSet<StreamId>, OutOfMemory>
-    ensures { IfOk result (λ copy. is_in copy ≡ is_in ids.now) }
+    ensures { IfOk result (λ copy. is_in_ids copy ≡ is_in_ids ids.now) }
 {
     let mut copy = HashSet::new(alloc);
     reserve_ids(&mut copy, ids.len())?;
@@ -335,7 +335,7 @@ impl ThinRetransmits {
 
     /// What is to be sent, if anything was asked for.
     pub fn get(&self) -> Option<&Retransmits>
-        ensures { option_map (λ r. shown r.now) result ≡ shown_if self.now }
+        ensures { option_map (λ r. shown_pending r.now) result ≡ shown_if self.now }
     {
         match &self.retransmits {
             Some(retransmits) => Some(retransmits),
@@ -357,7 +357,7 @@ impl ThinRetransmits {
     /// What is to be sent, to be changed. Takes memory where nothing was asked for before.
     pub fn get_or_create(&mut self) -> Result<&mut Retransmits, OutOfMemory>
         ensures* lends { sem 𝓛 (LendsPending self.entry result) }
-        ensures before { IfOk result (λ r. shown r.now ≡ unwrap_or (shown_if self.old) nothing) }
+        ensures before { IfOk result (λ r. shown_pending r.now ≡ unwrap_or (shown_if self.old) nothing) }
     {
         self.create()?;
         match &mut self.retransmits {

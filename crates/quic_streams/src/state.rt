@@ -7,7 +7,7 @@ ghost use Rattle.quic_streams.specs.Halves.{room, is_due_in, TellsCode};
 ghost use Rattle.quic_streams.specs.Sends.{send_room};
 ghost use Rattle.quic_streams.specs.Room.{rooms, HasEventRoom};
 ghost use Rattle.quic_streams.specs.History.{From};
-ghost use Rattle.quic_streams.specs.World.{World, shown, start, refusal, is_own, is_same_side, own_refusal, permitted, replaced_in, released, freed, told_readable, noticed, with_receive, with_counted};
+ghost use Rattle.quic_streams.specs.World.{World, shown, start, id_refusal, is_own, is_same_side, own_refusal, with_permitted, replaced_in, released, with_freed, told_readable, noticed, with_receive, with_counted};
 
 use crate::halves::ReceiveHalves;
 use crate::sends::SendHalves;
@@ -82,8 +82,8 @@ impl StreamsState {
 
     // The error of a frame on a stream that the peer may not send on, or may not open.
     pub(crate) fn validate_receive_id(&self, id: StreamId) -> Result<(), TransportError>
-        ensures ok { OnOk result (refusal (shown self.now) id ≡ None) }
-        ensures err { IfErr result (λ error. refusal (shown self.now) id ≡ Some error.code) }
+        ensures ok { OnOk result (id_refusal (shown self.now) id ≡ None) }
+        ensures err { IfErr result (λ error. id_refusal (shown self.now) id ≡ Some error.code) }
     {
         if self.is_own(id) {
             return self.validate_own(id.dir(), id.index());
@@ -196,7 +196,7 @@ impl StreamsState {
     fn permit_uni(&mut self, index: u64)
         requires room { 0 < room self.old.receive }
         requires index { index < 2 ^ 60 }
-        ensures { shown self.new ≡ permitted (shown self.old) Dir.Uni index }
+        ensures { shown self.new ≡ with_permitted (shown self.old) Dir.Uni index }
     {
         self.receive
             .permit(StreamId::new(!self.side, Dir::Uni, index));
@@ -206,7 +206,7 @@ impl StreamsState {
         requires room { 0 < room self.old.receive }
         requires send_room { 0 < send_room self.old.send }
         requires index { index < 2 ^ 60 }
-        ensures { shown self.new ≡ permitted (shown self.old) Dir.Bi index }
+        ensures { shown self.new ≡ with_permitted (shown self.old) Dir.Bi index }
     {
         let id = StreamId::new(!self.side, Dir::Bi, index);
         self.receive.permit(id);
@@ -236,7 +236,7 @@ impl StreamsState {
     // A receive half is freed. There is room for a stream in its place.
     pub(crate) fn free_receive(&mut self, id: StreamId)
         requires { 1 ≤ rooms self.old }
-        ensures { shown self.new ≡ freed (shown self.old) id }
+        ensures { shown self.new ≡ with_freed (shown self.old) id }
     {
         self.receive.remove(id);
         if self.is_own(id) {
@@ -266,7 +266,7 @@ impl StreamsState {
     // A frame came on a stream.
     pub(crate) fn notice(&mut self, id: StreamId, readable: bool)
         requires event { HasEventRoom self.old }
-        requires known { refusal (shown self.old) id ≡ None }
+        requires known { id_refusal (shown self.old) id ≡ None }
         ensures noticed { shown self.new ≡ noticed (shown self.old) id readable }
         ensures rooms { rooms self.new ≡ rooms self.old }
     {

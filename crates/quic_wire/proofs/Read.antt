@@ -9,7 +9,7 @@ use Rattle.quic_values.specs.Numbers.{BeginsNumber}
 use Rattle.quic_wire.specs.declared.frame.Stream.{Stream}
 use Rattle.quic_wire.specs.declared.frame.Frame.{Frame}
 use Rattle.quic_wire.specs.declared.frame.Frame.TheVariants as frames
-use Rattle.quic_wire.specs.Frames.{has_bit, BeginsTwo, BeginsOffset, BeginsContent, BeginsStream, Begins}
+use Rattle.quic_wire.specs.Frames.{has_bit, BeginsTwo, BeginsOffset, BeginsContent, BeginsStream, BeginsWith}
 use Rattle.quic_wire.specs.Reading.{◌>>=◌, number_at, two_at, offset_at, content_at, split_at, reset_at, stop_at, stream_at, max_data_at, max_stream_data_at, max_streams_at, data_blocked_at, stream_data_blocked_at, datagram_at, frame_at}
 use Rattle.quic_wire.proofs.Steps.{IsBytes, IsBytes-drop, IsBytes-rest, bind_some, guard_some, some_is}
 use Rattle.quic_wire.proofs.Numbers.{number_begins, number_takes}
@@ -55,7 +55,7 @@ unfolding frame_at max_streams_at
 max_streams_begins dirs.Bi kind bytes n rest is h = rw (is, number_begins bytes n rest h) refl
 max_streams_begins dirs.Uni kind bytes n rest is h = rw (is, number_begins bytes n rest h) refl
 
-pub frame_begins : (bytes : List ℕ) (f : Frame) (rest : List ℕ) → Begins bytes f rest → frame_at bytes ≡ Some (f, rest)
+pub frame_begins : (bytes : List ℕ) (f : Frame) (rest : List ℕ) → BeginsWith bytes f rest → frame_at bytes ≡ Some (f, rest)
 unfolding frame_at reset_at stop_at max_data_at max_stream_data_at data_blocked_at stream_data_blocked_at
 frame_begins [] f rest h = absurd h
 frame_begins (kind ∷ bytes) (frames.ResetStream f) rest h = rw (h.0, number_begins bytes f.id h.1 h.2, two_begins h.1 f.error_code f.final_offset rest h.3) refl
@@ -137,12 +137,12 @@ content_takes false bytes xs rest fits e =
     record { begins = (xs-is, sym rest-is); fits = rw (← rest-is) IsBytes-nil; shorter = rw (← rest-is) (omega arith) }
 
 pub record TakesFrame (bytes : List ℕ) (f : Frame) (rest : List ℕ) : Type 0 where
-  pub begins : Begins bytes f rest
+  pub begins : BeginsWith bytes f rest
   pub fits : IsBytes rest
   pub shorter : length rest < length bytes
 
 -- a frame of one number
-one_takes : (kind : ℕ) (make : ℕ → Frame) (bytes : List ℕ) (x : Frame × List ℕ) → ((n : ℕ) (rest : List ℕ) → BeginsNumber bytes n rest → Begins (kind ∷ bytes) (make n) rest) → IsBytes bytes
+one_takes : (kind : ℕ) (make : ℕ → Frame) (bytes : List ℕ) (x : Frame × List ℕ) → ((n : ℕ) (rest : List ℕ) → BeginsNumber bytes n rest → BeginsWith (kind ∷ bytes) (make n) rest) → IsBytes bytes
     → (number_at bytes >>= λ n. Some (make n.0, n.1)) ≡ Some x → TakesFrame (kind ∷ bytes) x.0 x.1
 one_takes kind make bytes x is fits e =
     let a = bind_some (number_at bytes) (λ n. Some (make n.0, n.1)) x e in
@@ -151,7 +151,7 @@ one_takes kind make bytes x is fits e =
     subst (λ (y : Frame × List ℕ). TakesFrame (kind ∷ bytes) y.0 y.1) (some_is made x a.2) (record { begins = is a.0.0 a.0.1 t.begins; fits = t.fits; shorter = omega (arith, t.shorter) })
 
 -- a frame of two numbers
-of_two_takes : (kind : ℕ) (make : ℕ → ℕ → Frame) (bytes : List ℕ) (x : Frame × List ℕ) → ((m n : ℕ) (rest : List ℕ) → BeginsTwo bytes m n rest → Begins (kind ∷ bytes) (make m n) rest) → IsBytes bytes
+of_two_takes : (kind : ℕ) (make : ℕ → ℕ → Frame) (bytes : List ℕ) (x : Frame × List ℕ) → ((m n : ℕ) (rest : List ℕ) → BeginsTwo bytes m n rest → BeginsWith (kind ∷ bytes) (make m n) rest) → IsBytes bytes
     → (two_at bytes >>= λ n. Some (make n.0 n.1, n.2)) ≡ Some x → TakesFrame (kind ∷ bytes) x.0 x.1
 of_two_takes kind make bytes x is fits e =
     let a = bind_some (two_at bytes) (λ n. Some (make n.0 n.1, n.2)) x e in

@@ -7,7 +7,7 @@ use Rattle.quic_values.specs.Numbers.{BeginsNumber, SpellsNumber}
 use Rattle.quic_wire.specs.declared.frame.Stream.{Stream}
 use Rattle.quic_wire.specs.declared.frame.Frame.{Frame}
 use Rattle.quic_wire.specs.declared.frame.Frame.TheVariants as frames
-use Rattle.quic_wire.specs.Frames.{has_bit, BeginsTwo, BeginsOffset, BeginsContent, BeginsStream, Begins, BeginsFrames, IsWithin}
+use Rattle.quic_wire.specs.Frames.{has_bit, BeginsTwo, BeginsOffset, BeginsContent, BeginsStream, BeginsWith, BeginsFrames, IsFrameWithin}
 
 record LeavesNumber (bytes : List ℕ) (n : ℕ) (rest : List ℕ) : Type 0 where
   small : n < 2 ^ 62
@@ -41,10 +41,10 @@ stream_leaves kind bytes s rest is =
     (b.0, omega (arith, a.left, b.1, c))
 
 record LeavesFrame (bytes : List ℕ) (f : Frame) (rest : List ℕ) : Type 0 where
-  within : (len : ℕ) → length bytes ≤ len → IsWithin len f
+  within : (len : ℕ) → length bytes ≤ len → IsFrameWithin len f
   left : length rest ≤ length bytes
 
-frame_leaves : (bytes : List ℕ) (f : Frame) (rest : List ℕ) → Begins bytes f rest → LeavesFrame bytes f rest
+frame_leaves : (bytes : List ℕ) (f : Frame) (rest : List ℕ) → BeginsWith bytes f rest → LeavesFrame bytes f rest
 frame_leaves [] f rest is = absurd is
 frame_leaves (kind ∷ bytes) (frames.ResetStream f) rest is =
     let a = number_leaves bytes f.id is.1 is.2 in
@@ -60,8 +60,8 @@ frame_leaves (kind ∷ bytes) (frames.StreamDataBlocked id n) rest is = let h = 
 frame_leaves (kind ∷ bytes) (frames.Datagram d) rest is = let h = content_leaves (has_bit kind 1) bytes d.bytes rest is.2 in record { within = λ len le. omega (arith, h); left = omega (arith, h) }
 frame_leaves (kind ∷ bytes) _ rest is = absurd is
 
-pub all_within : (len : ℕ) (bytes : List ℕ) (fs : List Frame) (rest : List ℕ) → length bytes ≤ len → BeginsFrames bytes fs rest → All (IsWithin len) fs
-all_within len bytes [] rest le is = All-nil (IsWithin len)
+pub all_within : (len : ℕ) (bytes : List ℕ) (fs : List Frame) (rest : List ℕ) → length bytes ≤ len → BeginsFrames bytes fs rest → All (IsFrameWithin len) fs
+all_within len bytes [] rest le is = All-nil (IsFrameWithin len)
 all_within len bytes (f ∷ fs) rest le is =
     let h = frame_leaves bytes f is.0 is.1 in
-    All-cons (IsWithin len) f fs (h.within len le) (all_within len is.0 fs rest (omega (arith, h.left)) is.2)
+    All-cons (IsFrameWithin len) f fs (h.within len le) (all_within len is.0 fs rest (omega (arith, h.left)) is.2)

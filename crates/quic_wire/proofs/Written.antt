@@ -12,7 +12,7 @@ use Rattle.quic_wire.specs.declared.frame.StreamMeta.{StreamMeta}
 use Rattle.quic_wire.specs.declared.frame.Datagram.{Datagram}
 use Rattle.quic_wire.specs.declared.frame.Frame.{Frame}
 use Rattle.quic_wire.specs.declared.frame.Frame.TheVariants as frames
-use Rattle.quic_wire.specs.Frames.{has_bit, BeginsTwo, BeginsOffset, BeginsContent, Begins, BeginsFrames}
+use Rattle.quic_wire.specs.Frames.{has_bit, BeginsTwo, BeginsOffset, BeginsContent, BeginsWith, BeginsFrames}
 use Rattle.quic_wire.specs.Text.{HasSpelling, asked, text, stream_text, stream_head, stream_kind, meta_text, stream_of, offset_text, length_text, datagram_text, size_bound}
 use Rattle.quic_wire.proofs.Numbers.{shortest_spells}
 
@@ -56,7 +56,7 @@ content_written true xs rest lt ends = number_written (length xs) _ (xs ++ rest)
 content_written false xs rest lt ends = let none = ends refl in (rw none (append-nil xs), none)
 
 pub stream_written : (id offset : ℕ) (fin with_length : Bool) (xs rest : List ℕ) → id < 2 ^ 62 → offset < 2 ^ 62 → (with_length ≡ true → length xs < 2 ^ 62) → (with_length ≡ false → rest ≡ [])
-    → Begins ((stream_head id offset fin (asked with_length (length xs)) ++ xs) ++ rest) (frames.Stream (record { id = id; offset = offset; fin = fin; bytes = xs })) rest
+    → BeginsWith ((stream_head id offset fin (asked with_length (length xs)) ++ xs) ++ rest) (frames.Stream (record { id = id; offset = offset; fin = fin; bytes = xs })) rest
 stream_written id offset fin true xs rest lt-id lt-offset lt-len ends =
     let bits = kind_bits (eqb offset 0) true fin in
     let after = shortest (length xs) ++ (xs ++ rest) in (
@@ -84,19 +84,19 @@ stream_written id offset fin false xs rest lt-id lt-offset lt-len ends =
 
 -- a head, and as much content as it says
 pub meta_written : (m : StreamMeta) (with_length : Bool) (content rest : List ℕ) → m.id < 2 ^ 62 → m.offsets.start < 2 ^ 62 → (with_length ≡ true → length content < 2 ^ 62) → (with_length ≡ false → rest ≡ [])
-    → length content ≡ m.offsets.end - m.offsets.start → Begins ((meta_text m with_length ++ content) ++ rest) (stream_of m content) rest
+    → length content ≡ m.offsets.end - m.offsets.start → BeginsWith ((meta_text m with_length ++ content) ++ rest) (stream_of m content) rest
 meta_written m with_length content rest lt-id lt-offset lt-len ends len =
     rw (← len) (stream_written m.id m.offsets.start m.fin with_length content rest lt-id lt-offset lt-len ends)
 
 pub datagram_written : (xs rest : List ℕ) (with_length : Bool) → (with_length ≡ true → length xs < 2 ^ 62) → (with_length ≡ false → rest ≡ [])
-    → Begins (datagram_text (record { bytes = xs }) with_length ++ rest) (frames.Datagram (record { bytes = xs })) rest
+    → BeginsWith (datagram_text (record { bytes = xs }) with_length ++ rest) (frames.Datagram (record { bytes = xs })) rest
 datagram_written xs rest true lt ends = (omega arith, omega arith, rw append_assoc (content_written true xs rest lt ends))
 datagram_written xs rest false lt ends = (omega arith, omega arith, content_written false xs rest lt ends)
 
-dir_written : (dir : Dir) (n : ℕ) (rest : List ℕ) → n < 2 ^ 62 → Begins (text (frames.MaxStreams dir n) ++ rest) (frames.MaxStreams dir n) rest
+dir_written : (dir : Dir) (n : ℕ) (rest : List ℕ) → n < 2 ^ 62 → BeginsWith (text (frames.MaxStreams dir n) ++ rest) (frames.MaxStreams dir n) rest
 dir_written dir n rest lt = (refl, number_written n _ rest lt refl)
 
-pub frame_written : (f : Frame) (rest : List ℕ) → HasSpelling f → Begins (text f ++ rest) f rest
+pub frame_written : (f : Frame) (rest : List ℕ) → HasSpelling f → BeginsWith (text f ++ rest) f rest
 frame_written (frames.ResetStream f) rest can =
     (refl, shortest f.error_code ++ shortest f.final_offset ++ rest, number_written f.id _ _ can.0 (simp append_assoc), two_written f.error_code f.final_offset rest can.1 can.2)
 frame_written (frames.StopSending f) rest can = (refl, two_written f.id f.error_code rest can.0 can.1)

@@ -42,25 +42,25 @@ BeginsFields kind bytes (frames.Datagram d) rest = (0x30 ≤ kind) × (kind ≤ 
 BeginsFields kind bytes _ rest = ⊥
 
 -- the bytes are a spelling of the frame, and then the rest
-abbrev pub Begins : List ℕ → Frame → List ℕ → Type 0
-Begins [] f rest = ⊥
-Begins (kind ∷ bytes) f rest = BeginsFields kind bytes f rest
+abbrev pub BeginsWith : List ℕ → Frame → List ℕ → Type 0
+BeginsWith [] f rest = ⊥
+BeginsWith (kind ∷ bytes) f rest = BeginsFields kind bytes f rest
 
 -- the bytes are spellings of the frames, one after the other, and then the rest
 abbrev pub BeginsFrames : List ℕ → List Frame → List ℕ → Type 0
 BeginsFrames bytes [] rest = bytes ≡ rest
-BeginsFrames bytes (f ∷ fs) rest = (b : List ℕ) × Begins bytes f b × BeginsFrames b fs rest
+BeginsFrames bytes (f ∷ fs) rest = (b : List ℕ) × BeginsWith bytes f b × BeginsFrames b fs rest
 
 -- the bytes are spellings of the frames, one after the other; only the last can lack a length, since it leaves nothing
 abbrev pub AreFrames : List ℕ → List Frame → Type 0
 AreFrames bytes fs = BeginsFrames bytes fs []
 
 -- numbers below 2^62, and at most len bytes of data
-abbrev pub IsWithin : ℕ → Frame → Type 0
-IsWithin len (frames.Stream s) = (s.offset < 2 ^ 62) × (length s.bytes ≤ len)
-IsWithin len (frames.MaxStreamData id offset) = offset < 2 ^ 62
-IsWithin len (frames.MaxStreams dir count) = count < 2 ^ 62
-IsWithin len (frames.DataBlocked offset) = offset < 2 ^ 62
-IsWithin len (frames.StreamDataBlocked id offset) = offset < 2 ^ 62
-IsWithin len (frames.Datagram d) = length d.bytes ≤ len
-IsWithin len _ = Unit {0}
+abbrev pub IsFrameWithin : ℕ → Frame → Type 0
+IsFrameWithin len (frames.Stream s) = (s.offset < 2 ^ 62) × (length s.bytes ≤ len)
+IsFrameWithin len (frames.MaxStreamData id offset) = offset < 2 ^ 62
+IsFrameWithin len (frames.MaxStreams dir count) = count < 2 ^ 62
+IsFrameWithin len (frames.DataBlocked offset) = offset < 2 ^ 62
+IsFrameWithin len (frames.StreamDataBlocked id offset) = offset < 2 ^ 62
+IsFrameWithin len (frames.Datagram d) = length d.bytes ≤ len
+IsFrameWithin len _ = Unit {0}

@@ -18,9 +18,9 @@ abbrev pub Fails : {Y : Type 0} → DecodeError → Option Y → Type 0
 Fails errors.OutOfMemory read = Unit {0}
 Fails errors.Malformed read = read ≡ None
 
-abbrev pub Gives : {X Y : Type 0} → (X → Y) → Result X DecodeError → Option Y → Type 0
-Gives view (Ok x) read = read ≡ Some (view x)
-Gives view (Err e) read = Fails e read
+abbrev pub ReadsAs : {X Y : Type 0} → (X → Y) → Result X DecodeError → Option Y → Type 0
+ReadsAs view (Ok x) read = read ≡ Some (view x)
+ReadsAs view (Err e) read = Fails e read
 
 -- a number of a width, below the two bits that say the width, and the bytes after it
 abbrev pub wide_at : Width → ℕ → List ℕ → Option (ℕ × List ℕ)

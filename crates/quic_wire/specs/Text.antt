@@ -105,5 +105,5 @@ size_bound (frames.Datagram d) = 9 + length d.bytes
 size_bound _ = 0
 
 -- new begins with old
-abbrev pub Keeps : List ℕ → List ℕ → Type 0
-Keeps old new = take (length old) new ≡ old
+abbrev pub KeepsFront : List ℕ → List ℕ → Type 0
+KeepsFront old new = take (length old) new ≡ old

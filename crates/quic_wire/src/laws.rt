@@ -1,12 +1,12 @@
 ghost use Rattle.std.specs.Prelude.{◌≡◌, ◌++◌, All, List, ℕ, flat_map, length};
 ghost use Rattle.quic_values.specs.Numbers.{shortest, size_of};
 ghost use Rattle.quic_wire.specs.declared.frame.Frame.{Frame as FrameValue};
-ghost use Rattle.quic_wire.specs.Frames.{AreFrames, Begins, BeginsFrames};
+ghost use Rattle.quic_wire.specs.Frames.{AreFrames, BeginsWith, BeginsFrames};
 ghost use Rattle.quic_wire.specs.Text.{HasSpelling, text};
 
 /// What is written for a frame is spelled so, whatever follows.
 pub fn spelled_so()
-    ensures { (f : FrameValue) (rest : List ℕ) → HasSpelling f → Begins (text f ++ rest) f rest }
+    ensures { (f : FrameValue) (rest : List ℕ) → HasSpelling f → BeginsWith (text f ++ rest) f rest }
 {}
 
 /// What is written for frames, one after the other, is spelled so, whatever follows.

@@ -1,15 +1,15 @@
 ghost use Rattle.std.specs.Prelude.{◌≡◌, ◌^◌, ◌<◌, All, List, length, IfOk, IsErrOf, Ok, Some, ℕ};
 ghost use Rattle.std.specs.Int.{w16, w32, w64};
 ghost use Rattle.quic_wire.specs.declared.frame.Frame.{Frame as FrameValue};
-ghost use Rattle.quic_wire.specs.Frames.{AreFrames, IsWithin, has_bit};
-ghost use Rattle.quic_wire.specs.Reading.{Gives, wide_at, number_at, two_at, offset_at, content_at, reset_at, stop_at, stream_at, max_data_at, max_stream_data_at, max_streams_at, data_blocked_at, stream_data_blocked_at, datagram_at, frame_at};
+ghost use Rattle.quic_wire.specs.Frames.{AreFrames, IsFrameWithin, has_bit};
+ghost use Rattle.quic_wire.specs.Reading.{ReadsAs, wide_at, number_at, two_at, offset_at, content_at, reset_at, stop_at, stream_at, max_data_at, max_stream_data_at, max_streams_at, data_blocked_at, stream_data_blocked_at, datagram_at, frame_at};
 
 use crate::frame::{Datagram, DecodeError, Frame, ResetStream, StopSending, Stream};
 use quic_values::{Bytes, Dir, StreamId, VarInt};
 use std::alloc::Global;
 
 fn wide_two_at(bytes: &[u8]) -> Result<(u64, &[u8]), DecodeError>
-    ensures read { Gives (λ x. (x.0, x.1.now)) result (wide_at w16 (2 ^ 14) bytes.now) }
+    ensures read { ReadsAs (λ x. (x.0, x.1.now)) result (wide_at w16 (2 ^ 14) bytes.now) }
     ensures small { IfOk result (λ x. x.0 < 2 ^ 14) }
 {
     if bytes.len() < 2 {
@@ -21,7 +21,7 @@ fn wide_two_at(bytes: &[u8]) -> Result<(u64, &[u8]), DecodeError>
 }
 
 fn wide_four_at(bytes: &[u8]) -> Result<(u64, &[u8]), DecodeError>
-    ensures read { Gives (λ x. (x.0, x.1.now)) result (wide_at w32 (2 ^ 30) bytes.now) }
+    ensures read { ReadsAs (λ x. (x.0, x.1.now)) result (wide_at w32 (2 ^ 30) bytes.now) }
     ensures small { IfOk result (λ x. x.0 < 2 ^ 30) }
 {
     if bytes.len() < 4 {
@@ -33,7 +33,7 @@ fn wide_four_at(bytes: &[u8]) -> Result<(u64, &[u8]), DecodeError>
 }
 
 fn wide_eight_at(bytes: &[u8]) -> Result<(u64, &[u8]), DecodeError>
-    ensures read { Gives (λ x. (x.0, x.1.now)) result (wide_at w64 (2 ^ 62) bytes.now) }
+    ensures read { ReadsAs (λ x. (x.0, x.1.now)) result (wide_at w64 (2 ^ 62) bytes.now) }
     ensures small { IfOk result (λ x. x.0 < 2 ^ 62) }
 {
     if bytes.len() < 8 {
@@ -48,7 +48,7 @@ fn wide_eight_at(bytes: &[u8]) -> Result<(u64, &[u8]), DecodeError>
 
 #[tactic(auto, unfolding(crate::specs::Reading::number_at))]
 fn number_at(bytes: &[u8]) -> Result<(u64, &[u8]), DecodeError>
-    ensures read { Gives (λ x. (x.0, x.1.now)) result (number_at bytes.now) }
+    ensures read { ReadsAs (λ x. (x.0, x.1.now)) result (number_at bytes.now) }
     ensures small { IfOk result (λ x. x.0 < 2 ^ 62) }
 {
     let [first, rest @ ..] = bytes else {
@@ -68,7 +68,7 @@ fn number_at(bytes: &[u8]) -> Result<(u64, &[u8]), DecodeError>
 
 #[tactic(auto, unfolding(crate::specs::Reading::two_at))]
 fn two_at(bytes: &[u8]) -> Result<(u64, u64, &[u8]), DecodeError>
-    ensures read { Gives (λ x. (x.0, x.1, x.2.now)) result (two_at bytes.now) }
+    ensures read { ReadsAs (λ x. (x.0, x.1, x.2.now)) result (two_at bytes.now) }
     ensures small { IfOk result (λ x. (x.0 < 2 ^ 62) × (x.1 < 2 ^ 62)) }
 {
     let (first, rest) = number_at(bytes)?;
@@ -78,7 +78,7 @@ fn two_at(bytes: &[u8]) -> Result<(u64, u64, &[u8]), DecodeError>
 
 #[tactic(auto, unfolding(crate::specs::Reading::offset_at))]
 fn offset_at(with_offset: bool, bytes: &[u8]) -> Result<(u64, &[u8]), DecodeError>
-    ensures { Gives (λ x. (x.0, x.1.now)) result (offset_at with_offset bytes.now) }
+    ensures { ReadsAs (λ x. (x.0, x.1.now)) result (offset_at with_offset bytes.now) }
 {
     if !with_offset {
         return Ok((0, bytes));
@@ -89,7 +89,7 @@ fn offset_at(with_offset: bool, bytes: &[u8]) -> Result<(u64, &[u8]), DecodeErro
 
 #[tactic(auto, unfolding(crate::specs::Reading::content_at))]
 fn content_at(alloc: Global, with_length: bool, bytes: &[u8]) -> Result<(Bytes, &[u8]), DecodeError>
-    ensures { Gives (λ x. (x.0, x.1.now)) result (content_at with_length bytes.now) }
+    ensures { ReadsAs (λ x. (x.0, x.1.now)) result (content_at with_length bytes.now) }
 {
     if !with_length {
         return Ok((Bytes::copy_from_slice(alloc, bytes)?, &[]));
@@ -105,7 +105,7 @@ fn content_at(alloc: Global, with_length: bool, bytes: &[u8]) -> Result<(Bytes, 
 
 #[tactic(auto, unfolding(crate::specs::Reading::reset_at))]
 fn reset_at(bytes: &[u8]) -> Result<(Frame, &[u8]), DecodeError>
-    ensures { Gives (λ x. (x.0, x.1.now)) result (reset_at bytes.now) }
+    ensures { ReadsAs (λ x. (x.0, x.1.now)) result (reset_at bytes.now) }
 {
     let (id, rest) = number_at(bytes)?;
     let (error_code, final_offset, rest) = two_at(rest)?;
@@ -119,7 +119,7 @@ fn reset_at(bytes: &[u8]) -> Result<(Frame, &[u8]), DecodeError>
 
 #[tactic(auto, unfolding(crate::specs::Reading::stop_at))]
 fn stop_at(bytes: &[u8]) -> Result<(Frame, &[u8]), DecodeError>
-    ensures { Gives (λ x. (x.0, x.1.now)) result (stop_at bytes.now) }
+    ensures { ReadsAs (λ x. (x.0, x.1.now)) result (stop_at bytes.now) }
 {
     let (id, error_code, rest) = two_at(bytes)?;
     let frame = StopSending {
@@ -131,7 +131,7 @@ fn stop_at(bytes: &[u8]) -> Result<(Frame, &[u8]), DecodeError>
 
 #[tactic(auto, unfolding(crate::specs::Reading::stream_at))]
 fn stream_at(alloc: Global, kind: u8, bytes: &[u8]) -> Result<(Frame, &[u8]), DecodeError>
-    ensures { Gives (λ x. (x.0, x.1.now)) result (stream_at kind bytes.now) }
+    ensures { ReadsAs (λ x. (x.0, x.1.now)) result (stream_at kind bytes.now) }
 {
     let (id, rest) = number_at(bytes)?;
     let (offset, rest) = offset_at(kind & 0x04 != 0, rest)?;
@@ -147,7 +147,7 @@ fn stream_at(alloc: Global, kind: u8, bytes: &[u8]) -> Result<(Frame, &[u8]), De
 
 #[tactic(auto, unfolding(crate::specs::Reading::max_data_at))]
 fn max_data_at(bytes: &[u8]) -> Result<(Frame, &[u8]), DecodeError>
-    ensures { Gives (λ x. (x.0, x.1.now)) result (max_data_at bytes.now) }
+    ensures { ReadsAs (λ x. (x.0, x.1.now)) result (max_data_at bytes.now) }
 {
     let (limit, rest) = number_at(bytes)?;
     Ok((Frame::MaxData(VarInt::new(limit)), rest))
@@ -155,7 +155,7 @@ fn max_data_at(bytes: &[u8]) -> Result<(Frame, &[u8]), DecodeError>
 
 #[tactic(auto, unfolding(crate::specs::Reading::max_stream_data_at))]
 fn max_stream_data_at(bytes: &[u8]) -> Result<(Frame, &[u8]), DecodeError>
-    ensures { Gives (λ x. (x.0, x.1.now)) result (max_stream_data_at bytes.now) }
+    ensures { ReadsAs (λ x. (x.0, x.1.now)) result (max_stream_data_at bytes.now) }
 {
     let (id, offset, rest) = two_at(bytes)?;
     let id = StreamId::from(VarInt::new(id));
@@ -164,7 +164,7 @@ fn max_stream_data_at(bytes: &[u8]) -> Result<(Frame, &[u8]), DecodeError>
 
 #[tactic(auto, unfolding(crate::specs::Reading::max_streams_at))]
 fn max_streams_at(dir: Dir, bytes: &[u8]) -> Result<(Frame, &[u8]), DecodeError>
-    ensures { Gives (λ x. (x.0, x.1.now)) result (max_streams_at dir bytes.now) }
+    ensures { ReadsAs (λ x. (x.0, x.1.now)) result (max_streams_at dir bytes.now) }
 {
     let (count, rest) = number_at(bytes)?;
     Ok((Frame::MaxStreams { dir, count }, rest))
@@ -172,7 +172,7 @@ fn max_streams_at(dir: Dir, bytes: &[u8]) -> Result<(Frame, &[u8]), DecodeError>
 
 #[tactic(auto, unfolding(crate::specs::Reading::data_blocked_at))]
 fn data_blocked_at(bytes: &[u8]) -> Result<(Frame, &[u8]), DecodeError>
-    ensures { Gives (λ x. (x.0, x.1.now)) result (data_blocked_at bytes.now) }
+    ensures { ReadsAs (λ x. (x.0, x.1.now)) result (data_blocked_at bytes.now) }
 {
     let (offset, rest) = number_at(bytes)?;
     Ok((Frame::DataBlocked { offset }, rest))
@@ -180,7 +180,7 @@ fn data_blocked_at(bytes: &[u8]) -> Result<(Frame, &[u8]), DecodeError>
 
 #[tactic(auto, unfolding(crate::specs::Reading::stream_data_blocked_at))]
 fn stream_data_blocked_at(bytes: &[u8]) -> Result<(Frame, &[u8]), DecodeError>
-    ensures { Gives (λ x. (x.0, x.1.now)) result (stream_data_blocked_at bytes.now) }
+    ensures { ReadsAs (λ x. (x.0, x.1.now)) result (stream_data_blocked_at bytes.now) }
 {
     let (id, offset, rest) = two_at(bytes)?;
     let id = StreamId::from(VarInt::new(id));
@@ -189,7 +189,7 @@ fn stream_data_blocked_at(bytes: &[u8]) -> Result<(Frame, &[u8]), DecodeError>
 
 #[tactic(auto, unfolding(crate::specs::Reading::datagram_at))]
 fn datagram_at(alloc: Global, kind: u8, bytes: &[u8]) -> Result<(Frame, &[u8]), DecodeError>
-    ensures { Gives (λ x. (x.0, x.1.now)) result (datagram_at kind bytes.now) }
+    ensures { ReadsAs (λ x. (x.0, x.1.now)) result (datagram_at kind bytes.now) }
 {
     let (bytes, rest) = content_at(alloc, kind & 0x01 != 0, bytes)?;
     Ok((Frame::Datagram(Datagram { bytes }), rest))
@@ -197,7 +197,7 @@ fn datagram_at(alloc: Global, kind: u8, bytes: &[u8]) -> Result<(Frame, &[u8]), 
 
 #[tactic(auto, unfolding(crate::specs::Reading::frame_at))]
 fn frame_at(alloc: Global, bytes: &[u8]) -> Result<(Frame, &[u8]), DecodeError>
-    ensures { Gives (λ x. (x.0, x.1.now)) result (frame_at bytes.now) }
+    ensures { ReadsAs (λ x. (x.0, x.1.now)) result (frame_at bytes.now) }
 {
     let [kind, bytes @ ..] = bytes else {
         return Err(DecodeError::Malformed);
@@ -224,9 +224,9 @@ pub fn decode(alloc: Global, payload: &[u8]) -> Result<Vec<Frame>, DecodeError>
     // What is read is spelled so.
     ensures found { IfOk result (λ frames. AreFrames payload.now frames.items) }
     // What is spelled so is read, unless memory runs out.
-    ensures only { (fs : List FrameValue) → AreFrames payload.now fs → Gives (λ frames. frames.items) result (Some fs) }
+    ensures only { (fs : List FrameValue) → AreFrames payload.now fs → ReadsAs (λ frames. frames.items) result (Some fs) }
     // No number is too large, and no data are longer than the payload.
-    ensures within { IfOk result (λ frames. All (IsWithin (length payload.now)) frames.items) }
+    ensures within { IfOk result (λ frames. All (IsFrameWithin (length payload.now)) frames.items) }
     // Only what spells no frames is malformed.
     ensures malformed { IsErrOf result DecodeError.Malformed → (fs : List FrameValue) → ¬ AreFrames payload.now fs }
 {

@@ -2,8 +2,8 @@ ghost use Rattle.std.specs.Prelude.{◌≡◌, ◌<◌, ◌≤◌, ◌-◌, ◌^
 ghost use Rattle.quic_values.specs.Numbers.{shortest};
 ghost use Rattle.quic_wire.specs.declared.frame.Frame.{Frame as FrameValue};
 ghost use Rattle.quic_wire.specs.declared.frame.Frame.TheVariants as FrameValues;
-ghost use Rattle.quic_wire.specs.Frames.{Begins};
-ghost use Rattle.quic_wire.specs.Text.{CanEncode, HasSpelling, Keeps, text, stream_text, meta_text, stream_head, stream_kind, stream_of, size_bound, reset_text, stop_text, datagram_text, length_text, offset_text};
+ghost use Rattle.quic_wire.specs.Frames.{BeginsWith};
+ghost use Rattle.quic_wire.specs.Text.{CanEncode, HasSpelling, KeepsFront, text, stream_text, meta_text, stream_head, stream_kind, stream_of, size_bound, reset_text, stop_text, datagram_text, length_text, offset_text};
 
 use crate::frame::{Datagram, Frame, ResetStream, StopSending, Stream, StreamMeta};
 use quic_values::{Dir, OutOfMemory, StreamId, VarInt};
@@ -66,7 +66,7 @@ fn put_head(
     requires offset { offset < 2 ^ 62 }
     requires length { IfSome length (λ n. n < 2 ^ 62) }
     ensures ok { OnOk result (buf.new.items ≡ buf.old.items ++ stream_head id offset fin length) }
-    ensures err { OnErr result (Keeps buf.old.items buf.new.items) }
+    ensures err { OnErr result (KeepsFront buf.old.items buf.new.items) }
 {
     buf.push(stream_kind(offset, fin, length))?;
     put_number(id, buf)?;
@@ -87,7 +87,7 @@ fn put_three(
     requires second { second < 2 ^ 62 }
     requires third { third < 2 ^ 62 }
     ensures ok { OnOk result (buf.new.items ≡ buf.old.items ++ kind ∷ (shortest first ++ shortest second ++ shortest third)) }
-    ensures err { OnErr result (Keeps buf.old.items buf.new.items) }
+    ensures err { OnErr result (KeepsFront buf.old.items buf.new.items) }
 {
     buf.push(kind)?;
     put_number(first, buf)?;
@@ -101,7 +101,7 @@ fn put_two(kind: u8, first: u64, second: u64, buf: &mut Vec<u8>) -> Result<(), O
     requires first { first < 2 ^ 62 }
     requires second { second < 2 ^ 62 }
     ensures ok { OnOk result (buf.new.items ≡ buf.old.items ++ kind ∷ (shortest first ++ shortest second)) }
-    ensures err { OnErr result (Keeps buf.old.items buf.new.items) }
+    ensures err { OnErr result (KeepsFront buf.old.items buf.new.items) }
 {
     buf.push(kind)?;
     put_number(first, buf)?;
@@ -113,7 +113,7 @@ fn put_two(kind: u8, first: u64, second: u64, buf: &mut Vec<u8>) -> Result<(), O
 fn put_one(kind: u8, number: u64, buf: &mut Vec<u8>) -> Result<(), OutOfMemory>
     requires { number < 2 ^ 62 }
     ensures ok { OnOk result (buf.new.items ≡ buf.old.items ++ kind ∷ shortest number) }
-    ensures err { OnErr result (Keeps buf.old.items buf.new.items) }
+    ensures err { OnErr result (KeepsFront buf.old.items buf.new.items) }
 {
     buf.push(kind)?;
     put_number(number, buf)?;
@@ -147,7 +147,7 @@ impl StreamMeta {
         ensures err { OnErr result (buf.new.items ≡ buf.old.items) }
 
         // With the data behind it, it is the frame.
-        ensures spelled { (content rest : List ℕ) → length content ≡ self.now.offsets.end - self.now.offsets.start → (with_length ≡ false → rest ≡ []) → Begins (meta_text self.now with_length ++ content ++ rest) (stream_of self.now content) rest }
+        ensures spelled { (content rest : List ℕ) → length content ≡ self.now.offsets.end - self.now.offsets.start → (with_length ≡ false → rest ≡ []) → BeginsWith (meta_text self.now with_length ++ content ++ rest) (stream_of self.now content) rest }
         ensures bound { length (meta_text self.now with_length) ≤ Stream.SIZE_BOUND }
     {
         let length = if with_length {
@@ -167,7 +167,7 @@ impl Stream {
         requires offset { self.now.offset < 2 ^ 62 }
         requires len { with_length ≡ true → length self.now.bytes < 2 ^ 62 }
         ensures ok { OnOk result (buf.new.items ≡ buf.old.items ++ stream_text self.now with_length) }
-        ensures err { OnErr result (Keeps buf.old.items buf.new.items) }
+        ensures err { OnErr result (KeepsFront buf.old.items buf.new.items) }
         ensures small { self.now.id < 2 ^ 62 }
     {
         let id = id_number(self.id);
@@ -190,7 +190,7 @@ impl Stream {
         ensures err { OnErr result (buf.new.items ≡ buf.old.items) }
 
         // What is appended is the frame.
-        ensures spelled { (rest : List ℕ) → (with_length ≡ false → rest ≡ []) → Begins (stream_text self.now with_length ++ rest) (FrameValues.Stream self.now) rest }
+        ensures spelled { (rest : List ℕ) → (with_length ≡ false → rest ≡ []) → BeginsWith (stream_text self.now with_length ++ rest) (FrameValues.Stream self.now) rest }
         ensures bound { length (stream_text self.now with_length) ≤ Stream.SIZE_BOUND + length self.now.bytes }
     {
         let len = buf.len();
@@ -202,7 +202,7 @@ impl Stream {
 impl ResetStream {
     fn put(&self, buf: &mut Vec<u8>) -> Result<(), OutOfMemory>
         ensures ok { OnOk result (buf.new.items ≡ buf.old.items ++ reset_text self.now) }
-        ensures err { OnErr result (Keeps buf.old.items buf.new.items) }
+        ensures err { OnErr result (KeepsFront buf.old.items buf.new.items) }
         ensures spelling { HasSpelling (FrameValues.ResetStream self.now) }
     {
         let id = id_number(self.id);
@@ -217,7 +217,7 @@ impl ResetStream {
         ensures err { OnErr result (buf.new.items ≡ buf.old.items) }
 
         // What is appended is the frame.
-        ensures spelled { (rest : List ℕ) → Begins (reset_text self.now ++ rest) (FrameValues.ResetStream self.now) rest }
+        ensures spelled { (rest : List ℕ) → BeginsWith (reset_text self.now ++ rest) (FrameValues.ResetStream self.now) rest }
         ensures bound { length (reset_text self.now) ≤ Self.SIZE_BOUND }
     {
         let len = buf.len();
@@ -229,7 +229,7 @@ impl ResetStream {
 impl StopSending {
     fn put(&self, buf: &mut Vec<u8>) -> Result<(), OutOfMemory>
         ensures ok { OnOk result (buf.new.items ≡ buf.old.items ++ stop_text self.now) }
-        ensures err { OnErr result (Keeps buf.old.items buf.new.items) }
+        ensures err { OnErr result (KeepsFront buf.old.items buf.new.items) }
         ensures spelling { HasSpelling (FrameValues.StopSending self.now) }
     {
         let id = id_number(self.id);
@@ -243,7 +243,7 @@ impl StopSending {
         ensures err { OnErr result (buf.new.items ≡ buf.old.items) }
 
         // What is appended is the frame.
-        ensures spelled { (rest : List ℕ) → Begins (stop_text self.now ++ rest) (FrameValues.StopSending self.now) rest }
+        ensures spelled { (rest : List ℕ) → BeginsWith (stop_text self.now ++ rest) (FrameValues.StopSending self.now) rest }
         ensures bound { length (stop_text self.now) ≤ Self.SIZE_BOUND }
     {
         let len = buf.len();
@@ -269,7 +269,7 @@ impl Datagram {
     fn put(&self, with_length: bool, buf: &mut Vec<u8>) -> Result<(), OutOfMemory>
         requires { with_length ≡ true → length self.now.bytes < 2 ^ 62 }
         ensures ok { OnOk result (buf.new.items ≡ buf.old.items ++ datagram_text self.now with_length) }
-        ensures err { OnErr result (Keeps buf.old.items buf.new.items) }
+        ensures err { OnErr result (KeepsFront buf.old.items buf.new.items) }
     {
         if with_length {
             buf.push(0x31)?;
@@ -289,7 +289,7 @@ impl Datagram {
         ensures err { OnErr result (buf.new.items ≡ buf.old.items) }
 
         // What is appended is the frame.
-        ensures spelled { (rest : List ℕ) → (with_length ≡ false → rest ≡ []) → Begins (datagram_text self.now with_length ++ rest) (FrameValues.Datagram self.now) rest }
+        ensures spelled { (rest : List ℕ) → (with_length ≡ false → rest ≡ []) → BeginsWith (datagram_text self.now with_length ++ rest) (FrameValues.Datagram self.now) rest }
         ensures bound { length (datagram_text self.now with_length) ≤ Self.SIZE_BOUND + length self.now.bytes }
     {
         let len = buf.len();
@@ -302,7 +302,7 @@ impl Frame {
     fn put(&self, buf: &mut Vec<u8>) -> Result<(), OutOfMemory>
         requires { CanEncode self.now }
         ensures ok { OnOk result (buf.new.items ≡ buf.old.items ++ text self.now) }
-        ensures err { OnErr result (Keeps buf.old.items buf.new.items) }
+        ensures err { OnErr result (KeepsFront buf.old.items buf.new.items) }
         ensures spelling { HasSpelling self.now }
     {
         match self {
@@ -334,7 +334,7 @@ impl Frame {
         ensures err { OnErr result (buf.new.items ≡ buf.old.items) }
 
         // What is appended is the frame.
-        ensures spelled { (rest : List ℕ) → Begins (text self.now ++ rest) self.now rest }
+        ensures spelled { (rest : List ℕ) → BeginsWith (text self.now ++ rest) self.now rest }
         ensures bound { length (text self.now) ≤ size_bound self.now }
     {
         let len = buf.len();

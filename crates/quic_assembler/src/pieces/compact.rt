@@ -2,8 +2,8 @@
 ghost use Rattle.std.specs.Prelude.{◌≡◌, ℕ, ◌+◌, ◌-◌, ◌^◌, ◌<◌, ◌≤◌, ◌⊎◌, true, false, [], ◌∷◌, ◌++◌, length, max, min, reverse, IfOk, OnOk, OnErr, vec_len, IsTrue};
 ghost use Rattle.std.specs.List.{Any, All};
 ghost use Rattle.std.specs.List.Sorted.{IsPermutation};
-ghost use Rattle.quic_assembler.specs.Piece.{Run, IsSome, RunHolds, run_end, cut_at, covers, cover_count};
-ghost use Rattle.quic_assembler.specs.Compact.{Rises, is_kept, is_joined, first_offset, seen, part, slots, Adds, AddsSeen, AddsPart, IsTight, with_run};
+ghost use Rattle.quic_assembler.specs.Piece.{PieceView, IsSome, RunHolds, run_end, cut_at, covers, cover_count};
+ghost use Rattle.quic_assembler.specs.Compact.{Rises, stays, is_joined, first_offset, seen, parts_where, slots, Adds, AddsSeen, AddsPart, IsTight, with_run};
 
 use super::Pieces;
 use crate::piece::Piece;
@@ -99,7 +99,7 @@ pub(super) fn join_small(
     ensures adds { IfOk result (λ copies. AddsPart (is_joined least) (reverse pieces.now) [] copies.items) }
     ensures tight { IfOk result (λ copies. All IsTight copies.items) }
     ensures some { IfOk result (λ copies. All IsSome copies.items) }
-    ensures len { IfOk result (λ copies. length copies.items ≤ length (part (is_joined least) 0 (reverse pieces.now))) }
+    ensures len { IfOk result (λ copies. length copies.items ≤ length (parts_where (is_joined least) 0 (reverse pieces.now))) }
 {
     let mut copies = Vec::new(alloc);
     let mut joined = Piece::joined(0, Bytes::new(alloc), 0);
@@ -117,12 +117,12 @@ pub(super) fn join_small(
 // Keeps what is seen of a piece that stays. Answers where the next may begin.
 fn keep_next(mut piece: Piece, next: Option<u64>, end: u64, least: u128, out: &mut Pieces) -> u64
     requires some { 0 < length piece.bytes }
-    requires room { length out.old.runs + length (seen (is_kept least end piece next) end piece) ≤ out.old.room }
+    requires room { length out.old.runs + length (seen (stays least end piece next) end piece) ≤ out.old.room }
     requires tight { All IsTight out.old.runs }
     ensures end { result ≡ max end (run_end piece) }
-    ensures adds { AddsSeen (is_kept least end piece next) end piece out.old.runs out.new.runs }
+    ensures adds { AddsSeen (stays least end piece next) end piece out.old.runs out.new.runs }
     ensures tight { All IsTight out.new.runs }
-    ensures len { length out.new.runs ≡ length out.old.runs + length (seen (is_kept least end piece next) end piece) }
+    ensures len { length out.new.runs ≡ length out.old.runs + length (seen (stays least end piece next) end piece) }
     ensures room { out.old.room ≤ out.new.room }
 {
     let stop = piece.end();
@@ -139,11 +139,11 @@ fn keep_next(mut piece: Piece, next: Option<u64>, end: u64, least: u128, out: &m
 /// Puts the pieces that stay into `out`. The last piece comes first.
 pub(super) fn keep_large(mut pieces: Vec<Piece>, least: u128, out: &mut Pieces)
     requires some { All IsSome pieces.items }
-    requires room { length out.old.runs + length (part (is_kept least) 0 (reverse pieces.items)) ≤ out.old.room }
+    requires room { length out.old.runs + length (parts_where (stays least) 0 (reverse pieces.items)) ≤ out.old.room }
     requires tight { All IsTight out.old.runs }
-    ensures adds { AddsPart (is_kept least) (reverse pieces.items) out.old.runs out.new.runs }
+    ensures adds { AddsPart (stays least) (reverse pieces.items) out.old.runs out.new.runs }
     ensures tight { All IsTight out.new.runs }
-    ensures len { length out.new.runs ≡ length out.old.runs + length (part (is_kept least) 0 (reverse pieces.items)) }
+    ensures len { length out.new.runs ≡ length out.old.runs + length (parts_where (stays least) 0 (reverse pieces.items)) }
     ensures room { out.old.room ≤ out.new.room }
 {
     let mut end = 0;

@@ -1,6 +1,6 @@
 use Rattle.std.proofs.Common.{◌≡◌, ℕ, ◌+◌, ◌-◌, ◌<◌, List, ◌++◌, length, refl, sym, ap, ◌∙◌, arith}
 use Rattle.std.proofs.lemmas.List.{append-nil, append_assoc}
-use Rattle.quic_sending.specs.Buffer.{Buffered, HasCuts, cut, total}
+use Rattle.quic_sending.specs.Buffer.{Buffered, HasCuts, cut_of, total_length}
 use Rattle.quic_sending.specs.Source.{pieces_of, rest_of, popped, after_pop}
 use Rattle.quic_sending.proofs.Cuts.{HasCuts-reserve}
 use Rattle.quic_sending.proofs.Sources.{pieces_of-step, pieces_of-none, rest_of-step, rest_of-none, min-total-step, min-total-none, same_others, same_others-step, held-step}
@@ -12,7 +12,7 @@ returns-then-len-eq0-clause-bytes g c =
     let size = ap length c.pop_chunk-chunk.ensures.piece in
     let none : length (popped c.loop-chunk.left left) ≡ 0 = omega arith in
     let end = min-total-none c.loop-chunk.left left none in
-    let same = ap total c.prepare.ensures.same in
+    let same = ap total_length c.prepare.ensures.same in
     omega arith
 
 pub returns-then-len-eq0-clause-left : goal.returns-then-len-eq0-clause-left
@@ -29,7 +29,7 @@ returns-then-len-eq0-clause-written g c =
     let none : length (popped c.loop-chunk.left left) ≡ 0 = omega arith in
     let end = min-total-none c.loop-chunk.left left none in
     let gone = pieces_of-none c.loop-chunk.left left none in
-    let lists = ap total c.prepare.ensures.same in
+    let lists = ap total_length c.prepare.ensures.same in
     let pieces = ap (pieces_of c.args.limit) c.prepare.ensures.same in
     let offset = ap (λ (v : Buffered). v.offset) c.reserve.ensures.same in
     let held = ap (λ (v : Buffered). v.held) c.reserve.ensures.same in
@@ -73,8 +73,8 @@ loop-chunk-preserved g c =
     let taken : c.len-len.result ≡ length (popped n left) = omega arith in
     let wrote = c.write_reserved.ensures.same in
     let offset : c.write_reserved.new.self.offset ≡ c.loop-chunk.buffer.offset + length c.pop_chunk-chunk.result.0 = ap (λ (v : Buffered). v.offset) wrote in
-    let held : c.write_reserved.new.self.held ≡ c.loop-chunk.buffer.held ++ cut c.pop_chunk-chunk.result.0 = ap (λ (v : Buffered). v.held) wrote in
-    let rest_bytes : total (g.S.BytesSource.lists c.pop_chunk-chunk.new.self) ≡ total (after_pop n left) = ap total after in
+    let held : c.write_reserved.new.self.held ≡ c.loop-chunk.buffer.held ++ cut_of c.pop_chunk-chunk.result.0 = ap (λ (v : Buffered). v.held) wrote in
+    let rest_bytes : total_length (g.S.BytesSource.lists c.pop_chunk-chunk.new.self) ≡ total_length (after_pop n left) = ap total_length after in
     let rest_pieces : length (pieces_of (n - c.len-len.result) (g.S.BytesSource.lists c.pop_chunk-chunk.new.self)) ≡ length (pieces_of (n - length (popped n left)) (after_pop n left)) = rw (taken, after) refl in
     let long : 0 < length c.pop_chunk-chunk.result.0 = omega arith in
     record {
@@ -89,7 +89,7 @@ loop-chunk-preserved g c =
       other = same_others-step c.reserve.new.self c.loop-chunk.buffer c.write_reserved.new.self _ _ _ c.loop-chunk.invariant.other wrote;
       cuts = λ cuts h.
           let done = c.loop-chunk.invariant.cuts cuts h in
-          let more : HasCuts (cuts ++ (done.0 ++ cut c.pop_chunk-chunk.result.0)) c.write_reserved.new.self = rw (← append_assoc cuts done.0 (cut c.pop_chunk-chunk.result.0)) (c.write_reserved.ensures.cuts (cuts ++ done.0) done.1) in
-          (done.0 ++ cut c.pop_chunk-chunk.result.0, more, rw (taken, after) (held-step done.0 _ _ _ _ long refl (rw (piece, ← pieces) done.2)));
+          let more : HasCuts (cuts ++ (done.0 ++ cut_of c.pop_chunk-chunk.result.0)) c.write_reserved.new.self = rw (← append_assoc cuts done.0 (cut_of c.pop_chunk-chunk.result.0)) (c.write_reserved.ensures.cuts (cuts ++ done.0) done.1) in
+          (done.0 ++ cut_of c.pop_chunk-chunk.result.0, more, rw (taken, after) (held-step done.0 _ _ _ _ long refl (rw (piece, ← pieces) done.2)));
       sound = c.write_reserved.ensures.sound;
     }

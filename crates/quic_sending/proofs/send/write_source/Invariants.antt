@@ -1,5 +1,5 @@
 use Rattle.std.proofs.Common.{◌≡◌, ℕ, ◌+◌, ◌-◌, ◌≤◌, List, ◌++◌, length, min}
-use Rattle.quic_sending.specs.Buffer.{HasCuts, total, IsSound}
+use Rattle.quic_sending.specs.Buffer.{HasCuts, total_length, IsSound}
 use Rattle.quic_sending.specs.Source.{pieces_of, rest_of}
 use Rattle.quic_sending.proofs.send.write_source.Given as goal
 
@@ -10,8 +10,8 @@ invariant-loop-chunk g l =
       ready : l.left ≡ g.S.BytesSource.ready l.source;
       held : l.buffer.held ++ pieces_of l.left (lists l.source) ≡ l.initial.buffer.held ++ pieces_of l.limit (lists l.initial.source);
       rest : rest_of l.left (lists l.source) ≡ rest_of l.limit (lists l.initial.source);
-      offset : l.buffer.offset + min l.left (total (lists l.source)) ≡ l.initial.buffer.offset + min l.limit (total (lists l.initial.source));
-      bytes : (l.limit - l.left) + min l.left (total (lists l.source)) ≡ min l.limit (total (lists l.initial.source));
+      offset : l.buffer.offset + min l.left (total_length (lists l.source)) ≡ l.initial.buffer.offset + min l.limit (total_length (lists l.initial.source));
+      bytes : (l.limit - l.left) + min l.left (total_length (lists l.source)) ≡ min l.limit (total_length (lists l.initial.source));
       below : l.left ≤ l.limit;
       chunks : l.chunks + length (lists l.source) ≡ length (lists l.initial.source);
       room : length (pieces_of l.left (lists l.source)) ≤ l.buffer.room;

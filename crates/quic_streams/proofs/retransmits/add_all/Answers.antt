@@ -2,7 +2,7 @@ use Rattle.std.proofs.Common.{◌≡◌, ◌∙◌, ℕ, List, refl, subst, ap, 
 use Rattle.std.specs.HashSet.{spare}
 use Rattle.std.specs.Prelude.{◌||◌, ◌==◌}
 use Rattle.std.specs.List.{list_any}
-use Rattle.quic_streams.specs.Pending.{is_in}
+use Rattle.quic_streams.specs.Pending.{is_in_ids}
 use Rattle.quic_streams.proofs.Sets.{OnOk-here, added-here, or-false, same_ids}
 use Rattle.quic_streams.proofs.retransmits.add_all.Goals as goal
 
@@ -17,14 +17,14 @@ loop-id-preserved c =
     let updates = OnOk-here c.insert.result (c.insert.ensures.succeeds some) c.insert.ensures.updates in
     record {
       all = λ id.
-          added-here c.in-Some.id.now id (is_in c.loop-id.ids id) (is_in c.insert.new.self id) (list_any (λ q. id == q) c.next.new.self) (updates.0 id)
-          ∙ subst (λ (it : List ℕ). (is_in c.loop-id.ids id || list_any (λ q. id == q) it) ≡ (is_in c.args.ids.now id || is_in c.args.more.now id)) c.in-Some.ensures.steps (c.loop-id.invariant.all id);
+          added-here c.in-Some.id.now id (is_in_ids c.loop-id.ids id) (is_in_ids c.insert.new.self id) (list_any (λ q. id == q) c.next.new.self) (updates.0 id)
+          ∙ subst (λ (it : List ℕ). (is_in_ids c.loop-id.ids id || list_any (λ q. id == q) it) ≡ (is_in_ids c.args.ids.now id || is_in_ids c.args.more.now id)) c.in-Some.ensures.steps (c.loop-id.invariant.all id);
       room = omega arith;
     }
 
 pub returns : goal.returns
 returns c =
-    same_ids (is_in c.loop-id.ids) (λ id. is_in c.args.ids.now id || is_in c.args.more.now id)
+    same_ids (is_in_ids c.loop-id.ids) (λ id. is_in_ids c.args.ids.now id || is_in_ids c.args.more.now id)
     (λ id.
-    or-false (is_in c.loop-id.ids id)
-    ∙ subst (λ (it : List ℕ). (is_in c.loop-id.ids id || list_any (λ q. id == q) it) ≡ (is_in c.args.ids.now id || is_in c.args.more.now id)) c.in-None.ensures.steps.0 (c.loop-id.invariant.all id))
+    or-false (is_in_ids c.loop-id.ids id)
+    ∙ subst (λ (it : List ℕ). (is_in_ids c.loop-id.ids id || list_any (λ q. id == q) it) ≡ (is_in_ids c.args.ids.now id || is_in_ids c.args.more.now id)) c.in-None.ensures.steps.0 (c.loop-id.invariant.all id))

@@ -1,11 +1,11 @@
 use Rattle.std.proofs.Common.{◌≡◌, ◌∙◌, ℕ, Bool, false, ap, refl}
-use Rattle.quic_streams.specs.Pending.{is_in}
+use Rattle.quic_streams.specs.Pending.{is_in_ids}
 use Rattle.quic_streams.proofs.Sets.{same_ids}
 use Rattle.quic_streams.proofs.retransmits.clone_ids.Goals as goal
 
 pub returns : goal.returns
 returns c =
-    let empty : (id : ℕ) → is_in c.new-copy.result id ≡ false = λ id. rw c.new-copy.ensures.empty refl in
-    let none : (id : ℕ) → is_in c.reserve_ids.new.ids id ≡ false = λ id. ap (λ (ids : ℕ → Bool). ids id) c.reserve_ids.ensures.same ∙ empty id in
-    same_ids (is_in c.add_all.new.ids) (is_in c.args.ids.now)
+    let empty : (id : ℕ) → is_in_ids c.new-copy.result id ≡ false = λ id. rw c.new-copy.ensures.empty refl in
+    let none : (id : ℕ) → is_in_ids c.reserve_ids.new.ids id ≡ false = λ id. ap (λ (ids : ℕ → Bool). ids id) c.reserve_ids.ensures.same ∙ empty id in
+    same_ids (is_in_ids c.add_all.new.ids) (is_in_ids c.args.ids.now)
     (λ id. ap (λ (ids : ℕ → Bool). ids id) c.add_all.ensures ∙ rw (none id) refl)

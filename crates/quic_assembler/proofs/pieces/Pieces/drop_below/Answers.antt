@@ -1,4 +1,4 @@
-use Rattle.quic_assembler.specs.Piece.{Run}
+use Rattle.quic_assembler.specs.Piece.{PieceView}
 use Rattle.std.proofs.Common.{◌<◌, ◌≤◌, arith, refl}
 use Rattle.std.proofs.lemmas.List.Sorted.{length_permutation}
 use Rattle.std.proofs.lemmas.List.Elements.{All-weaker}
@@ -22,4 +22,4 @@ pub returns-then-reaches-clause-len : goal.returns-then-reaches-clause-len
 returns-then-reaches-clause-len c = omega (arith, length_permutation _ _ c.put.ensures.put, length_permutation _ _ c.pop_first-piece.ensures.popped)
 
 pub returns-else-reaches-clause-below : goal.returns-else-reaches-clause-below
-returns-else-reaches-clause-below c = λ at l. above_lowest c.args.floor at _ (All-weaker (λ (q : Run). c.args.floor < q.offset) (λ (q : Run). c.args.floor ≤ q.offset) (λ q h. omega arith) _ (c.if-reaches.ensures.no refl)) l
+returns-else-reaches-clause-below c = λ at l. above_lowest c.args.floor at _ (All-weaker (λ (q : PieceView). c.args.floor < q.offset) (λ (q : PieceView). c.args.floor ≤ q.offset) (λ q h. omega arith) _ (c.if-reaches.ensures.no refl)) l

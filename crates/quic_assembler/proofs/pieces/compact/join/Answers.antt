@@ -1,7 +1,7 @@
 use Rattle.std.proofs.Common.{arith, length-drop, sym, ◌∙◌, ℕ, ◌≡◌, ◌≤◌}
 use Rattle.std.proofs.lemmas.List.Elements.{All-head, All-tail, All-cons}
 use Rattle.quic_assembler.specs.Compact.{IsTight}
-use Rattle.quic_assembler.specs.Piece.{Run, IsSome, cut_at, HoldsSame}
+use Rattle.quic_assembler.specs.Piece.{PieceView, IsSome, cut_at, HoldsSame}
 use Rattle.quic_assembler.proofs.Parts.{adds_joined, adds_anew}
 use Rattle.quic_assembler.proofs.Counts.{count_permuted, with_run_count, with_run_length, any_with_run, all_with_run, Any-permutation}
 use Rattle.std.proofs.lemmas.List.Sorted.{All-permutation, IsPermutation-sym, length_permutation}
@@ -13,7 +13,7 @@ extend-requires c = rw c.bytes_from-more.ensures.value (simp length-drop (omega 
 pub joined-next-requires : goal.joined-next-requires
 joined-next-requires c = rw (c.in_ok-bytes.ensures, c.bytes_from-more.ensures.value) (simp length-drop (omega (arith, c.bytes_from-more.ensures.bound)))
 
-cut_start : (start : ℕ) (r : Run) → r.offset ≤ start → (cut_at start r).offset ≡ start
+cut_start : (start : ℕ) (r : PieceView) → r.offset ≤ start → (cut_at start r).offset ≡ start
 cut_start start r l = omega arith
 
 pub returns-then-end-start-clause-adds : goal.returns-then-end-start-clause-adds

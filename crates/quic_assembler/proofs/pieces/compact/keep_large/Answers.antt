@@ -1,7 +1,7 @@
 use Rattle.std.proofs.Common.{arith, reverse}
 use Rattle.std.proofs.lemmas.List.Elements.{All-head}
 use Rattle.quic_assembler.specs.Piece.{IsSome}
-use Rattle.quic_assembler.specs.Compact.{is_kept}
+use Rattle.quic_assembler.specs.Compact.{stays}
 use Rattle.quic_assembler.proofs.Parts.{seen_next, part_length, reverse_last}
 use Rattle.quic_assembler.proofs.pieces.compact.keep_large.Goals as goal
 
@@ -14,6 +14,6 @@ loop-piece-preserved c =
     record {
       seen = rw c.keep_next-end.ensures.end (seen_next _ _ _ _ _ _ _ c.in-Some.piece seen (rw next at c.keep_next-end.ensures.adds));
       tight = c.keep_next-end.ensures.tight;
-      length_is = rw c.keep_next-end.ensures.end (omega (arith, length_is, rw next at c.keep_next-end.ensures.len, part_length (is_kept c.args.least) c.loop-piece.end c.in-Some.piece (reverse c.pop.new.self.items)));
+      length_is = rw c.keep_next-end.ensures.end (omega (arith, length_is, rw next at c.keep_next-end.ensures.len, part_length (stays c.args.least) c.loop-piece.end c.in-Some.piece (reverse c.pop.new.self.items)));
       room = omega (arith, c.loop-piece.invariant.room, c.keep_next-end.ensures.room);
     }

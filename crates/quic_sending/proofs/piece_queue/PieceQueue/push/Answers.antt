@@ -1,5 +1,5 @@
 use Rattle.std.proofs.Common.{◌≡◌, ◌<◌, ◌∷◌, [], ap, length, refl, arith}
-use Rattle.quic_sending.specs.Buffer.{Queued, total}
+use Rattle.quic_sending.specs.Buffer.{Queued, total_length}
 use Rattle.quic_sending.specs.Pieces.{contents}
 use Rattle.quic_sending.proofs.Pieces.{total-append}
 use Rattle.quic_sending.proofs.Laid.{contents-append, IsLaidOut-push}
@@ -11,7 +11,7 @@ invariant_of-self-2 c =
     let lengths = c.self.invariant.1 in
     let all = contents-append c.self.inside.pieces.items (record { start = c.self.inside.end; bytes = c.args.piece } ∷ []) in
     let sums = total-append (contents c.self.inside.pieces.items) (c.args.piece ∷ []) in
-    let joined = ap total all in
+    let joined = ap total_length all in
     let filled : 0 < length c.args.piece = omega arith in
     rw c.in_ok-push_back.ensures.items (IsLaidOut-push c.self.inside.gone _ _ c.self.invariant.0 (omega arith) filled, omega arith, omega arith)
 

@@ -1,5 +1,5 @@
 use Rattle.quic_streams.specs.World.{shown}
-use Rattle.quic_streams.specs.Pending.{shown as listed}
+use Rattle.quic_streams.specs.Pending.{shown_pending as listed}
 use Rattle.quic_streams.specs.History.{Stopped}
 use Rattle.quic_streams.proofs.Histories.{next}
 use Rattle.quic_streams.proofs.recv_stream.RecvStream.stop.Goals as goal
