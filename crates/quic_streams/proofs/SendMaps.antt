@@ -1,8 +1,8 @@
 -- Lemmas on maps from ids to send halves.
 use Rattle.std.proofs.Common.{◌≡◌, ℕ, Bool, true, false, cond, Option, Some, refl, ap, ◌∙◌, is_some}
 use Rattle.std.specs.Prelude.{◌==◌}
-use Rattle.quic_streams.specs.Sends.{with_send}
-use Rattle.quic_streams.proofs.Sets.{==-comm}
+use Rattle.quic_history.specs.Sends.{with_send}
+use Rattle.quic_retransmits.proofs.Sets.{==-comm}
 
 abbrev pub sends_of : {X : Type 0} → (ℕ → Option X) → ℕ → Bool
 sends_of f q = is_some (f q)

@@ -1,9 +1,3 @@
-pub mod Pending
-pub mod Lending
-pub mod Halves
-pub mod Sends
-pub mod World
+pub mod Held
+pub mod Shown
 pub mod Room
-pub mod Receiving
-pub mod Reading
-pub mod History

@@ -3,7 +3,8 @@
 ghost use Rattle.std.specs.Prelude.{true, ◌≡◌, ◌+◌, ◌<◌, ◌≤◌, ◌^◌, Some, None, IsSome, IfOk, OnOk, OnErr, is_some};
 ghost use Rattle.std.specs.Option.{option_map};
 ghost use Rattle.quic_receiving.specs.Half.{new_half};
-ghost use Rattle.quic_streams.specs.Halves.{held, room, with_half, with_first, taken, is_due_in, TellsCode};
+ghost use Rattle.quic_streams.specs.Held.{held, room};
+ghost use Rattle.quic_history.specs.Halves.{with_half, with_first, taken, is_due_in, TellsCode};
 
 use quic_receiving::{ClosedStream, Recv};
 use quic_values::{Dir, OutOfMemory, Side, StreamId, VarInt};
@@ -21,7 +22,7 @@ pub struct ReceiveHalves {
     entries: HashMap<StreamId, Option<Box<Recv>>>,
 }
 
-#[tactic(auto, unfolding(crate::specs::Halves::held, crate::specs::Halves::with_half))]
+#[tactic(auto, unfolding(crate::specs::Held::held, quic_history::specs::Halves::with_half))]
 impl ReceiveHalves {
     /// No halves. Takes no memory.
     pub(crate) fn new(alloc: Global, window: VarInt) -> Self

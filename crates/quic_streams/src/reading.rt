@@ -1,53 +1,20 @@
 //! Reading of streams.
 
 ghost use Rattle.std.specs.Prelude.{◌≡◌, ◌+◌, ◌<◌, ◌≤◌, ◌^◌, true, is_some, Some, Err, OnOk, List, ◌∷◌};
-ghost use Rattle.quic_streams.specs.World.{shown, with_credit, with_receive};
-ghost use Rattle.quic_streams.specs.Pending.{shown_pending as listed};
-ghost use Rattle.quic_streams.specs.Reading.{Begins, Nexts, ReadsHalf, is_reading, needed, pending_after, is_transmit_due, is_window_queued, progress_after, is_ended, IsLastAnswer, given_by};
-ghost use Rattle.quic_streams.specs.History.{Event, Ended, From, given, with_next};
-ghost use Rattle.quic_streams.specs.Room.{rooms, window_rooms};
+ghost use Rattle.quic_streams.specs.Shown.{shown};
+ghost use Rattle.quic_history.specs.World.{with_credit, with_receive};
+ghost use Rattle.quic_retransmits.specs.Pending.{shown_pending as listed};
+ghost use Rattle.quic_history.specs.Reading.{Begins, Nexts, ReadsHalf, is_reading, needed, pending_after, is_transmit_due, is_window_queued, progress_after, given_by};
+ghost use Rattle.quic_history.specs.History.{Event, Ended, From, given, with_next};
+ghost use Rattle.quic_streams.specs.Room.{rooms};
+ghost use Rattle.quic_retransmits.specs.Queueing.{window_rooms};
 
-use crate::retransmits::Retransmits;
 use crate::state::StreamsState;
 use quic_assembler::{Chunk, EnsureError};
+use quic_history::progress::Progress;
 use quic_receiving::{ReadError, ReadableError, Recv, ShouldTransmit};
+use quic_retransmits::Retransmits;
 use quic_values::{StreamId, VarInt};
-
-/// How far a reader of a stream has come.
-#[derive(Clone, Copy, Debug, PartialEq, Eq)]
-pub enum Progress {
-    /// More may be read.
-    Readable,
-    /// The peer gave the stream up, with this code. The half is freed.
-    Reset(VarInt),
-    /// All was read. The half is freed.
-    Finished,
-}
-
-impl Progress {
-    // Whether nothing more comes.
-    fn is_ended(self) -> bool
-        ensures { result ≡ is_ended self }
-    {
-        match self {
-            Progress::Readable => false,
-            Progress::Reset(_) => true,
-            Progress::Finished => true,
-        }
-    }
-
-    // What was told at the end.
-    fn last_answer(self) -> Result<Option<Chunk>, ReadError>
-        requires { is_ended self ≡ true }
-        ensures { IsLastAnswer self result }
-    {
-        match self {
-            Progress::Readable => unreachable!(),
-            Progress::Reset(code) => Err(ReadError::Reset(code)),
-            Progress::Finished => Ok(None),
-        }
-    }
-}
 
 /// The chunks of a stream, one after another.
 ///
@@ -98,7 +65,7 @@ impl<'a> Chunks<'a> {
     /// Gives the next chunk, of at most `max_length` bytes: `None` at the end of the stream.
     ///
     /// The end and a reset free the stream, and are told again if asked again.
-    #[tactic(auto, using(crate::proofs::ReadingSteps::next_steps))]
+    #[tactic(auto, using(quic_history::proofs::ReadingSteps::next_steps))]
     pub fn next(&mut self, max_length: usize) -> Result<Option<Chunk>, ReadError>
         ensures same_streams { self.new.streams.ghost_name ≡ self.old.streams.ghost_name }
         ensures same_pending { self.new.pending.ghost_name ≡ self.old.pending.ghost_name }
@@ -218,7 +185,7 @@ fn finish(
     ShouldTransmit(streams_due | (window_due | data_due))
 }
 
-#[tactic(auto, using(crate::proofs::WorldSteps::world_steps))]
+#[tactic(auto, using(quic_history::proofs::WorldSteps::world_steps))]
 impl StreamsState {
     // Opens a stream for a reader, with the room that its end may need.
     pub(crate) fn begin(
@@ -302,7 +269,7 @@ impl StreamsState {
     }
 
     // Reads a half that was taken out.
-    #[tactic(auto, using(crate::proofs::WorldSteps::world_steps, crate::proofs::ReadingSteps::reader_runs))]
+    #[tactic(auto, using(quic_history::proofs::WorldSteps::world_steps, quic_history::proofs::ReadingSteps::reader_runs))]
     fn read_from(
         &mut self,
         id: StreamId,

@@ -3,19 +3,21 @@
 ghost use Rattle.std.specs.Prelude.{ℕ, List, ◌∷◌, ◌≡◌, ◌==◌, ◌≤◌, ◌||◌, ◌&&◌, not, length, true, is_some, Some, None, if◌then◌else◌};
 ghost use Rattle.quic_limits.specs.Credit.{is_max_data_due};
 ghost use Rattle.quic_limits.specs.Remote.{is_max_streams_due};
-ghost use Rattle.quic_streams.specs.Room.{rooms, window_rooms, HasEventRoom};
-ghost use Rattle.quic_streams.specs.World.{shown, id_refusal, with_freed, with_credit, with_receive};
-ghost use Rattle.quic_streams.specs.History.{Event, Received, ReceivedReset, AddedCredits, From};
-ghost use Rattle.quic_streams.specs.Pending.{shown_pending as listed};
-ghost use Rattle.quic_streams.specs.Receiving.{Receives, ReceivesReset, with_max_streams, with_rest};
+ghost use Rattle.quic_streams.specs.Room.{rooms, HasEventRoom};
+ghost use Rattle.quic_retransmits.specs.Queueing.{window_rooms};
+ghost use Rattle.quic_streams.specs.Shown.{shown};
+ghost use Rattle.quic_history.specs.World.{id_refusal, with_freed, with_credit, with_receive};
+ghost use Rattle.quic_history.specs.History.{Event, Received, ReceivedReset, AddedCredits, From};
+ghost use Rattle.quic_retransmits.specs.Pending.{shown_pending as listed};
+ghost use Rattle.quic_history.specs.Receiving.{Receives, ReceivesReset, with_max_streams, with_rest};
 
-use crate::retransmits::Retransmits;
 use crate::state::StreamsState;
 use quic_receiving::{Recv, ShouldTransmit};
+use quic_retransmits::Retransmits;
 use quic_values::StreamId;
 use quic_wire::{ReceiveError, frame};
 
-#[tactic(auto, using(crate::proofs::WorldSteps::world_steps))]
+#[tactic(auto, using(quic_history::proofs::WorldSteps::world_steps))]
 impl StreamsState {
     /// Takes a STREAM frame (RFC 9000 section 19.8), of a payload of `payload_len` bytes. Answers whether MAX_DATA is
     /// to be sent.
@@ -196,7 +198,7 @@ impl StreamsState {
     }
 }
 
-#[tactic(auto, unfolding(crate::specs::World::shown, crate::specs::Room::rooms))]
+#[tactic(auto, unfolding(crate::specs::Shown::shown, crate::specs::Room::rooms))]
 impl StreamsState {
     /// Gives credit for bytes that were consumed (RFC 9000 section 4.2). Answers whether MAX_DATA is to be sent.
     pub fn add_read_credits(&mut self, credits: u64) -> ShouldTransmit

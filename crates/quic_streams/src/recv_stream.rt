@@ -1,16 +1,19 @@
 //! The receive half of a stream, for the application.
 
 ghost use Rattle.std.specs.Prelude.{◌≡◌, ◌≤◌, is_some, IfOk, IfErr, Ok, Err, Some, true, List, ◌∷◌};
-ghost use Rattle.quic_streams.specs.History.{Event, Began, Stopped, ToldReset, From};
-ghost use Rattle.quic_streams.specs.World.{World, shown, with_receive};
-ghost use Rattle.quic_streams.specs.Pending.{shown_pending as listed};
-ghost use Rattle.quic_streams.specs.Reading.{Begins, Stops, TellsReset};
-ghost use Rattle.quic_streams.specs.Room.{rooms, stop_rooms};
+ghost use Rattle.quic_history.specs.History.{Event, Began, Stopped, ToldReset, From};
+ghost use Rattle.quic_history.specs.World.{World, with_receive};
+ghost use Rattle.quic_streams.specs.Shown.{shown};
+ghost use Rattle.quic_retransmits.specs.Pending.{shown_pending as listed};
+ghost use Rattle.quic_history.specs.Reading.{Begins, Stops, TellsReset};
+ghost use Rattle.quic_streams.specs.Room.{rooms};
+ghost use Rattle.quic_retransmits.specs.Queueing.{stop_rooms};
 
-use crate::reading::{Chunks, Progress};
-use crate::retransmits::Retransmits;
+use crate::reading::Chunks;
 use crate::state::StreamsState;
+use quic_history::progress::Progress;
 use quic_receiving::{HandleError, ReadableError, Recv};
+use quic_retransmits::Retransmits;
 use quic_values::{StreamId, VarInt};
 
 /// The receive half of a stream.
@@ -78,7 +81,7 @@ impl<'a> RecvStream<'a> {
     }
 }
 
-#[tactic(auto, using(crate::proofs::WorldSteps::world_steps))]
+#[tactic(auto, using(quic_history::proofs::WorldSteps::world_steps))]
 impl StreamsState {
     // Stops a receive half.
     pub(crate) fn stop(

@@ -1,7 +1,8 @@
 //! The send halves of a connection's streams.
 
 ghost use Rattle.std.specs.Prelude.{◌≡◌, ◌+◌, ◌<◌, ◌≤◌, ◌^◌, OnOk, false, true};
-ghost use Rattle.quic_streams.specs.Sends.{sending, send_room, with_send, with_first_sends};
+ghost use Rattle.quic_streams.specs.Held.{sending, send_room};
+ghost use Rattle.quic_history.specs.Sends.{with_send, with_first_sends};
 
 use quic_sending::send::Send;
 use quic_values::{Dir, OutOfMemory, Side, StreamId};
@@ -15,7 +16,7 @@ pub struct SendHalves {
     entries: HashMap<StreamId, Option<Box<Send>>>,
 }
 
-#[tactic(auto, unfolding(crate::specs::Sends::sending, crate::specs::Sends::with_send))]
+#[tactic(auto, unfolding(crate::specs::Held::sending, quic_history::specs::Sends::with_send))]
 impl SendHalves {
     /// No halves. Takes no memory.
     pub(crate) fn new(alloc: Global) -> Self

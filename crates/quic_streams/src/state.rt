@@ -3,11 +3,13 @@
 ghost use Rattle.std.specs.Prelude.{[], ◌≡◌, ◌+◌, ◌-◌, ◌<◌, ◌≤◌, ◌^◌, IfOk, IfErr, IfSome, OnOk, OnErr, IfNone, Some, None, is_some, true};
 ghost use Rattle.std.specs.Option.{option_map};
 ghost use Rattle.quic_receiving.specs.Half.{new_half};
-ghost use Rattle.quic_streams.specs.Halves.{room, is_due_in, TellsCode};
-ghost use Rattle.quic_streams.specs.Sends.{send_room};
+ghost use Rattle.quic_streams.specs.Held.{room};
+ghost use Rattle.quic_history.specs.Halves.{is_due_in, TellsCode};
+ghost use Rattle.quic_streams.specs.Held.{send_room};
 ghost use Rattle.quic_streams.specs.Room.{rooms, HasEventRoom};
-ghost use Rattle.quic_streams.specs.History.{From};
-ghost use Rattle.quic_streams.specs.World.{World, shown, start, id_refusal, is_own, is_same_side, own_refusal, with_permitted, replaced_in, released, with_freed, told_readable, noticed, with_receive, with_counted};
+ghost use Rattle.quic_history.specs.History.{From};
+ghost use Rattle.quic_history.specs.World.{World, start, id_refusal, is_own, is_same_side, own_refusal, with_permitted, replaced_in, released, with_freed, told_readable, noticed, with_receive, with_counted};
+ghost use Rattle.quic_streams.specs.Shown.{shown};
 
 use crate::halves::ReceiveHalves;
 use crate::sends::SendHalves;
@@ -35,7 +37,7 @@ pub struct StreamsState {
     pub(crate) events: VecDeque<StreamEvent>,
 }
 
-#[tactic(auto, unfolding(crate::specs::World::shown, crate::specs::World::with_receive, crate::specs::Room::rooms, crate::specs::Room::HasEventRoom))]
+#[tactic(auto, unfolding(crate::specs::Shown::shown, quic_history::specs::World::with_receive, crate::specs::Room::rooms, crate::specs::Room::HasEventRoom))]
 impl StreamsState {
     /// The streams of one end, of which none is open. The peer may open so many unidirectional and bidirectional
     /// streams, and send `receive_window` bytes in all, and `stream_window` on each stream, before credit is

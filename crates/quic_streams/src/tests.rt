@@ -1,292 +1,494 @@
-//! Sets of what is to be sent. Where memory runs out, a test shows that all is as it was, and asks once more.
+//! Steps on the receiving side of one end, and what each has to answer.
 
-mod streams;
+mod reading;
+mod receiving;
 
-use crate::{IssuedCid, Retransmits, ThinRetransmits};
-use quic_wire::frame::{Crypto, StopSending};
-use quic_wire::{Bytes, OutOfMemory, ReceiveError, StreamId, TransportError, VarInt};
+use crate::Retransmits;
+use crate::reading::Chunks;
+use crate::recv_stream::RecvStream;
+use crate::state::StreamsState;
+use quic_receiving::{HandleError, ReadError, ReadableError, ShouldTransmit};
+use quic_values::{Bytes, OutOfMemory, Side, StreamId, VarInt};
+use quic_wire::{ReceiveError, StreamEvent, TransportError, frame};
 use std::alloc::Global;
-use std::net::{IpAddr, Ipv4Addr, SocketAddr};
 use std::process::Abort;
-use std::test::Fail;
 
-const FIRST: [u32; 1] = [0];
-
-const OTHERS: [u32; 9] = [1, 2, 3, 4, 5, 6, 7, 8, 9];
-
-const ALL: [u32; 10] = [0, 1, 2, 3, 4, 5, 6, 7, 8, 9];
-
-const OTHERS_IN_FRONT: [u32; 10] = [1, 2, 3, 4, 5, 6, 7, 8, 9, 0];
+const WINDOW: u32 = 1 << 20;
 
 fn id(number: u32) -> StreamId {
     StreamId::from(VarInt::from(number))
 }
 
-fn address(number: u32) -> SocketAddr {
-    SocketAddr::new(IpAddr::V4(Ipv4Addr::from(number)), 443)
+const FLOW_CONTROL: Answer = Answer::Refused(TransportError::FLOW_CONTROL_ERROR);
+
+const FINAL_SIZE: Answer = Answer::Refused(TransportError::FINAL_SIZE_ERROR);
+
+const STREAM_LIMIT: Answer = Answer::Refused(TransportError::STREAM_LIMIT_ERROR);
+
+const STREAM_STATE: Answer = Answer::Refused(TransportError::STREAM_STATE_ERROR);
+
+// What a frame came to.
+#[derive(Clone, Copy, Debug, PartialEq, Eq)]
+enum Answer {
+    // It was taken. Whether MAX_DATA is to be sent.
+    Taken(bool),
+    // The code of an error.
+    Refused(u64),
+    NoMemory,
 }
 
-fn crypto(alloc: Global, number: u32) -> Crypto {
-    Crypto {
-        offset: u64::from(number),
-        bytes: Bytes::new(alloc),
+// Why a reader gave no more.
+#[derive(Clone, Copy, Debug, PartialEq, Eq)]
+enum Last {
+    // It was not opened.
+    Closed,
+    Illegal,
+    // It was not asked for more.
+    Asked,
+    Blocked,
+    Ended,
+    Reset(u64),
+    NoMemory,
+}
+
+// What came of asking for the code of a reset.
+#[derive(Clone, Copy, Debug, PartialEq, Eq)]
+enum Told {
+    Code(u64),
+    Nothing,
+    Closed,
+    NoMemory,
+}
+
+// Reads of at most so many bytes, so many times.
+#[derive(Clone, Copy, Debug)]
+struct Reads(pub usize, pub u32);
+
+// What reads came to: how many bytes were given, why no more, and whether to transmit at the end.
+#[derive(Clone, Copy, Debug, PartialEq, Eq)]
+struct Given(pub usize, pub Last, pub bool);
+
+// A call, mostly on the stream of an id, and what it has to answer.
+#[derive(Clone, Copy, Debug)]
+enum Step {
+    // So many bytes at an offset.
+    Data(u32, u64, usize, Answer),
+    // The same, with FIN.
+    Final(u32, u64, usize, Answer),
+    // A code and a final size.
+    Reset(u32, u32, u64, Answer),
+    Ordered(u32, Reads, Given),
+    Unordered(u32, Reads, Given),
+    // Whether the stream was open.
+    Stop(u32, bool),
+    Told(u32, Told),
+    // Bytes that were consumed elsewhere, and whether MAX_DATA is to be sent.
+    Credit(u64, bool),
+    // How many bytes of credit were given beyond the window, and how many were received.
+    Is(u64, u64),
+    // How many bidirectional and unidirectional streams the peer may open, and how many of these it opened.
+    Remote(u64, u64, u64),
+    // The window and the limit that MAX_STREAM_DATA would announce.
+    Limit(u32, u64, u64),
+    // The streams of which the application is told that it may read.
+    Readable(&'static [u32]),
+    // What waits to be sent.
+    MaxData(bool),
+    MaxStreams(bool, bool),
+    Windows(&'static [u32]),
+    Stops(&'static [u32]),
+}
+
+// The code of each stop.
+const STOP_CODE: u32 = 9;
+
+#[derive(Drop)]
+struct Subject {
+    pub state: StreamsState,
+    pub pending: Retransmits,
+    pub window: u64,
+}
+
+// A client that permits so many streams of each direction.
+fn client(
+    alloc: Global,
+    streams: u32,
+    window: u32,
+    stream_window: u32,
+) -> Result<Subject, OutOfMemory> {
+    let state = StreamsState::new(
+        alloc,
+        Side::Client,
+        VarInt::from(streams),
+        VarInt::from(streams),
+        u64::from(WINDOW),
+        VarInt::from(window),
+        VarInt::from(stream_window),
+    )?;
+    Ok(Subject {
+        state,
+        pending: Retransmits::new(alloc),
+        window: u64::from(window),
+    })
+}
+
+// The bytes of every stream: each tells its place.
+fn pattern(alloc: Global, offset: u64, count: usize) -> Result<Bytes, OutOfMemory> {
+    let mut bytes = Vec::with_capacity(alloc, count)?;
+    for place in 0..count as u64 {
+        bytes.push((offset.wrapping_add(place) % 251) as u8)?;
+    }
+    Bytes::copy_from_slice(alloc, bytes.as_slice())
+}
+
+fn answer_of(answer: Result<ShouldTransmit, ReceiveError>) -> Answer {
+    match answer {
+        Ok(transmit) => Answer::Taken(transmit.should_transmit()),
+        Err(ReceiveError::Transport(error)) => Answer::Refused(error.code),
+        Err(_) => Answer::NoMemory,
     }
 }
 
-// A set with something for each number in each list and in each set.
-fn filled(alloc: Global, numbers: &[u32]) -> Result<Retransmits, OutOfMemory> {
-    let mut set = Retransmits::new(alloc);
-    set.reset_stream.reserve(numbers.len())?;
-    set.stop_sending.reserve(numbers.len())?;
-    set.max_stream_data.reserve(numbers.len())?;
-    set.stream_data_blocked.reserve(numbers.len())?;
-    set.crypto.reserve(numbers.len())?;
-    set.new_cids.reserve(numbers.len())?;
-    set.retire_cids.reserve(numbers.len())?;
-    set.new_tokens.reserve(numbers.len())?;
-    for number in numbers {
-        let error_code = VarInt::from(*number);
-        let id = id(*number);
-        set.reset_stream.push((id, error_code))?;
-        set.stop_sending.push(StopSending { id, error_code })?;
-        set.max_stream_data.insert(id)?;
-        set.stream_data_blocked.insert(id)?;
-        set.crypto.push_back(crypto(alloc, *number))?;
-        set.new_cids.push(IssuedCid {
-            sequence: u64::from(*number),
-            id: Bytes::new(alloc),
-            reset_token: [7; 16],
-        })?;
-        set.retire_cids.push(u64::from(*number))?;
-        set.new_tokens.push(address(*number))?;
-    }
-    Ok(set)
+// What want of memory has to leave as it was.
+fn counts(subject: &Subject) -> [u64; 6] {
+    let state = &subject.state;
+    [
+        state.credit.local_max_data(),
+        state.credit.data_recvd(),
+        state.bi.max_remote(),
+        state.uni.max_remote(),
+        state.uni.next_remote(),
+        state.events.len() as u64,
+    ]
 }
 
-fn filled_thin(alloc: Global, numbers: &[u32]) -> Result<ThinRetransmits, OutOfMemory> {
-    let mut thin = ThinRetransmits::new(alloc);
-    *thin.get_or_create()? = filled(alloc, numbers)?;
-    Ok(thin)
-}
-
-// The lists have what belongs to these numbers, in their order, crypto in its own, and the sets have just that.
-fn shows(rt: &impl Abort, set: &Retransmits, numbers: &[u32], crypto: &[u32]) {
-    assert_eq!(rt; set.reset_stream.len(), numbers.len());
-    assert_eq!(rt; set.stop_sending.len(), numbers.len());
-    assert_eq!(rt; set.max_stream_data.len(), numbers.len());
-    assert_eq!(rt; set.stream_data_blocked.len(), numbers.len());
-    assert_eq!(rt; set.new_cids.len(), numbers.len());
-    assert_eq!(rt; set.retire_cids.len(), numbers.len());
-    assert_eq!(rt; set.new_tokens.len(), numbers.len());
-    for (place, number) in numbers.iter().enumerate() {
-        let error_code = VarInt::from(*number);
-        let id = id(*number);
-        assert_eq!(rt;
-            set.reset_stream.get(place).copied(),
-            Some((id, error_code))
-        );
-        assert_eq!(rt;
-            set.stop_sending.get(place).copied(),
-            Some(StopSending { id, error_code })
-        );
-        assert!(rt; set.max_stream_data.contains(&id));
-        assert!(rt; set.stream_data_blocked.contains(&id));
-        assert_eq!(rt;
-            set.new_cids.get(place).map(|cid| cid.sequence),
-            Some(u64::from(*number))
-        );
-        assert_eq!(rt;
-            set.retire_cids.get(place).copied(),
-            Some(u64::from(*number))
-        );
-        assert_eq!(rt; set.new_tokens.get(place).copied(), Some(address(*number)));
-    }
-    shows_crypto(rt, set, crypto);
-}
-
-fn shows_crypto(rt: &impl Abort, set: &Retransmits, numbers: &[u32]) {
-    assert_eq!(rt; set.crypto.len(), numbers.len());
-    for (frame, number) in set.crypto.iter().zip(numbers) {
-        assert_eq!(rt; frame.offset, u64::from(*number));
-    }
-}
-
-fn shows_thin(rt: &impl Abort, thin: &ThinRetransmits, numbers: &[u32]) -> Result<(), Fail> {
-    let Some(set) = thin.get() else {
-        return Err(Fail::from("there is nothing"));
+fn receive(
+    alloc: Global,
+    subject: &mut Subject,
+    stream: u32,
+    offset: u64,
+    count: usize,
+    fin: bool,
+) -> Result<Answer, OutOfMemory> {
+    let frame = frame::Stream {
+        id: id(stream),
+        offset,
+        fin,
+        bytes: pattern(alloc, offset, count)?,
     };
-    shows(rt, set, numbers, numbers);
-    Ok(())
+    let len = frame.bytes.len();
+    Ok(answer_of(subject.state.received(frame, len)))
 }
 
-#[test]
-fn crypto_of_the_right_side_goes_in_front(rt: HostRuntime) -> Result<(), Fail> {
-    let alloc = rt.alloc();
-    let mut merged = filled(alloc, &[1])?;
-    merged
-        .merge(filled(alloc, &[2, 3])?)
-        .map_err(|_| OutOfMemory)?;
-    shows_crypto(&rt, &merged, &[2, 3, 1]);
-    let mut merged = filled(alloc, &[1])?;
-    merged
-        .merge_thin(filled_thin(alloc, &[2, 3])?)
-        .map_err(|_| OutOfMemory)?;
-    shows_crypto(&rt, &merged, &[2, 3, 1]);
-    let list = vec![in alloc; filled(alloc, &[1])?, filled(alloc, &[2, 3])?]?;
-    shows_crypto(&rt, &Retransmits::collect(alloc, list)?, &[2, 3, 1]);
-    Ok(())
-}
-
-// Lists go behind, and an id that both sides have is there once.
-#[test]
-fn lists_go_behind_and_sets_are_united(rt: HostRuntime) -> Result<(), Fail> {
-    let alloc = rt.alloc();
-    let mut set = Retransmits::new(alloc);
-    set.reset_stream.push((id(2), VarInt::from(7)))?;
-    set.max_stream_data.insert(id(2))?;
-    set.max_stream_id = [true, false];
-    let mut other = Retransmits::new(alloc);
-    other.reset_stream.push((id(6), VarInt::from(1)))?;
-    other.max_stream_data.insert(id(2))?;
-    other.max_stream_data.insert(id(6))?;
-    other.max_stream_id = [false, true];
-    other.handshake_done = true;
-    set.merge(other).map_err(|_| OutOfMemory)?;
-    assert_eq!(rt;
-        set.reset_stream.as_slice(),
-        [(id(2), VarInt::from(7)), (id(6), VarInt::from(1))].as_slice()
-    );
-    assert_eq!(rt; set.max_stream_data.len(), 2);
-    assert!(rt; set.max_stream_data.contains(&id(2)) && set.max_stream_data.contains(&id(6)));
-    assert_eq!(rt; set.max_stream_id, [true, true]);
-    assert!(rt; set.handshake_done && !set.max_data);
-    Ok(())
-}
-
-#[test]
-fn merge_with_nothing_changes_nothing(rt: HostRuntime) -> Result<(), Fail> {
-    let alloc = rt.alloc();
-    let mut set = filled(alloc, &FIRST)?;
-    set.merge(Retransmits::new(alloc)).map_err(|_| OutOfMemory)?;
-    set.merge_thin(ThinRetransmits::new(alloc))
-        .map_err(|_| OutOfMemory)?;
-    shows(&rt, &set, &FIRST, &FIRST);
-    let mut empty = Retransmits::new(alloc);
-    empty.merge(set).map_err(|_| OutOfMemory)?;
-    shows(&rt, &empty, &FIRST, &FIRST);
-    Ok(())
-}
-
-#[test]
-fn refused_merge_leaves_both_sides(rt: HostRuntime) -> Result<(), Fail> {
-    let alloc = rt.alloc();
-    let mut set = filled(alloc, &FIRST)?;
-    if let Err(back) = set.merge(filled(alloc, &OTHERS)?) {
-        shows(&rt, &set, &FIRST, &FIRST);
-        shows(&rt, &back, &OTHERS, &OTHERS);
-        set.merge(back).map_err(|_| OutOfMemory)?;
+// Takes a frame, and once more where memory was wanting.
+fn data(
+    rt: &impl Abort,
+    alloc: Global,
+    subject: &mut Subject,
+    stream: u32,
+    offset: u64,
+    count: usize,
+    fin: bool,
+) -> Result<Answer, OutOfMemory> {
+    let before = counts(subject);
+    let answer = receive(alloc, subject, stream, offset, count, fin)?;
+    if answer != Answer::NoMemory {
+        return Ok(answer);
     }
-    shows(&rt, &set, &ALL, &OTHERS_IN_FRONT);
-    Ok(())
+    assert_eq!(rt; counts(subject), before);
+    receive(alloc, subject, stream, offset, count, fin)
 }
 
-#[test]
-fn refused_merge_thin_leaves_both_sides(rt: HostRuntime) -> Result<(), Fail> {
-    let alloc = rt.alloc();
-    let mut set = filled(alloc, &FIRST)?;
-    if let Err(back) = set.merge_thin(filled_thin(alloc, &OTHERS)?) {
-        shows(&rt, &set, &FIRST, &FIRST);
-        shows_thin(&rt, &back, &OTHERS)?;
-        set.merge_thin(back).map_err(|_| OutOfMemory)?;
+fn reset_once(subject: &mut Subject, stream: u32, code: u32, size: VarInt) -> Answer {
+    answer_of(
+        subject.state.received_reset(frame::ResetStream {
+            id: id(stream),
+            error_code: VarInt::from(code),
+            final_offset: size,
+        }),
+    )
+}
+
+fn reset(rt: &impl Abort, subject: &mut Subject, stream: u32, code: u32, size: u64) -> Answer {
+    let size = VarInt::from_u64(size).expect(rt, "a final size");
+    let before = counts(subject);
+    let answer = reset_once(subject, stream, code, size);
+    if answer != Answer::NoMemory {
+        return answer;
     }
-    shows(&rt, &set, &ALL, &OTHERS_IN_FRONT);
-    Ok(())
+    assert_eq!(rt; counts(subject), before);
+    reset_once(subject, stream, code, size)
 }
 
-fn collected(alloc: Global) -> Result<Retransmits, OutOfMemory> {
-    let list = vec![in alloc; filled(alloc, &FIRST)?, filled(alloc, &OTHERS)?]?;
-    Retransmits::collect(alloc, list)
+fn last_of(error: ReadError) -> Last {
+    match error {
+        ReadError::Blocked => Last::Blocked,
+        ReadError::Reset(code) => Last::Reset(code.into_inner()),
+        ReadError::OutOfMemory => Last::NoMemory,
+    }
 }
 
-#[test]
-fn refused_collect_can_be_asked_again(rt: HostRuntime) -> Result<(), Fail> {
-    let alloc = rt.alloc();
-    let set = match collected(alloc) {
-        Ok(set) => set,
-        Err(OutOfMemory) => collected(alloc)?,
-    };
-    shows(&rt, &set, &ALL, &OTHERS_IN_FRONT);
-    Ok(())
-}
-
-#[test]
-fn refused_clone_leaves_its_source(rt: HostRuntime) -> Result<(), Fail> {
-    let alloc = rt.alloc();
-    let set = filled(alloc, &OTHERS)?;
-    let copy = match Retransmits::clone(&set) {
-        Ok(copy) => copy,
-        Err(OutOfMemory) => {
-            shows(&rt, &set, &OTHERS, &OTHERS);
-            Retransmits::clone(&set)?
+// Goes on with a reader. The end is asked for twice.
+fn go_on(
+    rt: &impl Abort,
+    alloc: Global,
+    chunks: &mut Chunks<'_>,
+    reads: Reads,
+) -> Result<(usize, Last), OutOfMemory> {
+    let Reads(most, times) = reads;
+    let mut given = 0usize;
+    for _turn in 0..times {
+        match chunks.next(most) {
+            Ok(Some(chunk)) => {
+                let expected = pattern(alloc, chunk.offset, chunk.bytes.len())?;
+                assert_eq!(rt; chunk.bytes.as_slice(), expected.as_slice());
+                given = given.saturating_add(chunk.bytes.len());
+            }
+            Ok(None) => {
+                assert!(rt; matches!(chunks.next(most), Ok(None)));
+                return Ok((given, Last::Ended));
+            }
+            Err(error) => {
+                if let ReadError::Reset(_) = error {
+                    assert!(rt; matches!(chunks.next(most), Err(ReadError::Reset(_))));
+                }
+                return Ok((given, last_of(error)));
+            }
         }
+    }
+    Ok((given, Last::Asked))
+}
+
+// Why a stream was not opened for reads.
+fn refusal_of(error: ReadableError) -> Last {
+    match error {
+        ReadableError::ClosedStream => Last::Closed,
+        ReadableError::IllegalOrderedRead => Last::Illegal,
+        ReadableError::OutOfMemory => Last::NoMemory,
+    }
+}
+
+// Reads and finalizes. The subject is passed on, since no promise of `read` tells what becomes of what it borrows.
+fn read_once(
+    rt: &impl Abort,
+    alloc: Global,
+    subject: Subject,
+    stream: u32,
+    ordered: bool,
+    reads: Reads,
+) -> Result<(Subject, Given), OutOfMemory> {
+    let Subject {
+        mut state,
+        mut pending,
+        window,
+    } = subject;
+    let given = match RecvStream::new(id(stream), &mut state, &mut pending).read(ordered) {
+        Ok(mut chunks) => {
+            let (bytes, last) = go_on(rt, alloc, &mut chunks, reads)?;
+            Given(bytes, last, chunks.finalize().should_transmit())
+        }
+        Err(error) => Given(0, refusal_of(error), false),
     };
-    shows(&rt, &copy, &OTHERS, &OTHERS);
-    shows(&rt, &set, &OTHERS, &OTHERS);
-    Ok(())
-}
-
-#[test]
-fn refused_thin_clone_leaves_its_source(rt: HostRuntime) -> Result<(), Fail> {
-    let alloc = rt.alloc();
-    assert!(rt; ThinRetransmits::new(alloc).clone()?.get().is_none());
-    let thin = filled_thin(alloc, &FIRST)?;
-    let copy = match thin.clone() {
-        Ok(copy) => copy,
-        Err(OutOfMemory) => thin.clone()?,
+    let subject = Subject {
+        state,
+        pending,
+        window,
     };
-    shows_thin(&rt, &copy, &FIRST)?;
-    shows_thin(&rt, &thin, &FIRST)
+    Ok((subject, given))
 }
 
-// What was asked for is made once, and is there from then on.
-#[test]
-fn get_or_create_makes_one(rt: HostRuntime) -> Result<(), Fail> {
-    let mut thin = ThinRetransmits::new(rt.alloc());
-    assert!(rt; thin.get().is_none());
-    if thin.get_or_create().is_err() {
-        assert!(rt; thin.get().is_none());
+// Reads and finalizes, and goes on where memory was wanting.
+fn read(
+    rt: &impl Abort,
+    alloc: Global,
+    subject: Subject,
+    stream: u32,
+    ordered: bool,
+    reads: Reads,
+) -> Result<(Subject, Given), OutOfMemory> {
+    let (subject, first) = read_once(rt, alloc, subject, stream, ordered, reads)?;
+    if first.1 != Last::NoMemory {
+        return Ok((subject, first));
     }
-    thin.get_or_create()?.max_data = true;
-    thin.get_or_create()?.data_blocked = true;
-    assert_eq!(rt;
-        thin.get().map(|set| (set.max_data, set.data_blocked)),
-        Some((true, true))
-    );
-    Ok(())
+    let (subject, second) = read_once(rt, alloc, subject, stream, ordered, reads)?;
+    let bytes = first.0.saturating_add(second.0);
+    Ok((subject, Given(bytes, second.1, first.2 | second.2)))
 }
 
-fn code_of(refused: Result<(), ReceiveError>) -> Option<u64> {
-    match refused {
-        Err(ReceiveError::Transport(error)) => Some(error.code),
-        _ => None,
+// Stops a stream, once more where memory was wanting. Whether it was open.
+fn stop(rt: &impl Abort, subject: &mut Subject, stream: u32) -> bool {
+    let before = counts(subject);
+    let code = VarInt::from(STOP_CODE);
+    let mut stream = RecvStream::new(id(stream), &mut subject.state, &mut subject.pending);
+    let first = stream.stop(code);
+    if first != Err(HandleError::OutOfMemory) {
+        return first.is_ok();
+    }
+    let second = stream.stop(code);
+    if second.is_err() {
+        assert_eq!(rt; counts(subject), before);
+    }
+    second.is_ok()
+}
+
+fn ask_code_once(subject: &mut Subject, stream: u32) -> Told {
+    let mut stream = RecvStream::new(id(stream), &mut subject.state, &mut subject.pending);
+    match stream.received_reset() {
+        Ok(Some(code)) => Told::Code(code.into_inner()),
+        Ok(None) => Told::Nothing,
+        Err(HandleError::ClosedStream) => Told::Closed,
+        Err(HandleError::OutOfMemory) => Told::NoMemory,
     }
 }
 
-#[test]
-fn fifty_ids_wait_at_most(rt: HostRuntime) -> Result<(), Fail> {
-    let refused = Some(TransportError::CONNECTION_ID_LIMIT_ERROR);
-    let mut set = Retransmits::new(rt.alloc());
-    assert_eq!(rt; code_of(set.retire_cids(0..u64::MAX)), refused);
-    assert_eq!(rt; set.retire_cids.len(), 0);
-    if set.retire_cids(0..50) == Err(ReceiveError::OutOfMemory) {
-        assert_eq!(rt; set.retire_cids.len(), 0);
-        set.retire_cids(0..50)?;
+fn ask_code(subject: &mut Subject, stream: u32) -> Told {
+    match ask_code_once(subject, stream) {
+        Told::NoMemory => ask_code_once(subject, stream),
+        answer => answer,
     }
-    assert_eq!(rt; code_of(set.retire_cids(50..51)), refused);
-    set.retire_cids(7..7)?;
-    assert_eq!(rt; set.retire_cids.len(), 50);
-    for (waiting, number) in set.retire_cids.iter().zip(0..50u64) {
-        assert_eq!(rt; *waiting, number);
+}
+
+// Reads, and compares.
+fn take_reads(
+    rt: &impl Abort,
+    alloc: Global,
+    subject: Subject,
+    stream: u32,
+    ordered: bool,
+    reads: Reads,
+    given: Given,
+) -> Result<Subject, OutOfMemory> {
+    let (subject, is) = read(rt, alloc, subject, stream, ordered, reads)?;
+    assert_eq!(rt; is, given, "reads of {stream}");
+    Ok(subject)
+}
+
+fn take(
+    rt: &impl Abort,
+    alloc: Global,
+    subject: Subject,
+    step: Step,
+) -> Result<Subject, OutOfMemory> {
+    let mut subject = subject;
+    match step {
+        Step::Ordered(stream, reads, given) => {
+            return take_reads(rt, alloc, subject, stream, true, reads, given);
+        }
+        Step::Unordered(stream, reads, given) => {
+            return take_reads(rt, alloc, subject, stream, false, reads, given);
+        }
+        Step::Data(stream, offset, count, answer) => {
+            let is = data(rt, alloc, &mut subject, stream, offset, count, false)?;
+            assert_eq!(rt; is, answer, "data at {offset} of {stream}");
+        }
+        Step::Final(stream, offset, count, answer) => {
+            let is = data(rt, alloc, &mut subject, stream, offset, count, true)?;
+            assert_eq!(rt; is, answer, "the last data at {offset} of {stream}");
+        }
+        Step::Limit(stream, window, limit) => {
+            assert_eq!(rt; limit_of(&mut subject, stream, window)?, limit);
+        }
+        _ => ask(rt, &mut subject, step),
     }
+    Ok(subject)
+}
+
+// The limit that MAX_STREAM_DATA would announce.
+#[tactic(auto, using(quic_history::proofs::WorldSteps::world_steps))]
+fn limit_of(subject: &mut Subject, stream: u32, window: u64) -> Result<u64, OutOfMemory> {
+    let stream = id(stream);
+    match subject.state.take_half(stream) {
+        Ok(Some(half)) => {
+            let (limit, _) = half.max_stream_data(window);
+            subject.state.put_half(stream, half);
+            Ok(limit)
+        }
+        Ok(None) => Ok(0),
+        Err(OutOfMemory) => Err(OutOfMemory),
+    }
+}
+
+// The steps that need no memory of their own.
+fn ask(rt: &impl Abort, subject: &mut Subject, step: Step) {
+    match step {
+        Step::Reset(stream, code, size, answer) => {
+            let is = reset(rt, subject, stream, code, size);
+            assert_eq!(rt; is, answer, "reset of {stream} at {size}");
+        }
+        Step::Stop(stream, open) => {
+            assert_eq!(rt; stop(rt, subject, stream), open, "stop of {stream}");
+        }
+        Step::Told(stream, answer) => {
+            assert_eq!(rt; ask_code(subject, stream), answer, "reset of {stream}");
+        }
+        Step::Credit(credits, due) => {
+            let is = subject.state.add_read_credits(credits);
+            assert_eq!(rt; is, ShouldTransmit(due));
+        }
+        _ => shows(rt, subject, step),
+    }
+}
+
+// The steps that only look.
+fn shows(rt: &impl Abort, subject: &Subject, step: Step) {
+    let state = &subject.state;
+    match step {
+        Step::Is(credit, received) => {
+            let given = state.credit.local_max_data().saturating_sub(subject.window);
+            assert_eq!(rt; (given, state.credit.data_recvd()), (credit, received));
+        }
+        Step::Remote(bi, uni, opened) => {
+            let is = (state.bi.max_remote(), state.uni.max_remote());
+            assert_eq!(rt; is, (bi, uni));
+            assert_eq!(rt; state.uni.next_remote(), opened);
+        }
+        Step::Readable(streams) => {
+            assert_eq!(rt; state.events.len(), streams.len());
+            for (event, stream) in state.events.iter().zip(streams) {
+                assert_eq!(rt; *event, StreamEvent::Readable { id: id(*stream) });
+            }
+        }
+        _ => waits(rt, &subject.pending, step),
+    }
+}
+
+// What waits to be sent.
+fn waits(rt: &impl Abort, pending: &Retransmits, step: Step) {
+    match step {
+        Step::MaxData(due) => assert_eq!(rt; pending.max_data, due),
+        Step::MaxStreams(bi, uni) => assert_eq!(rt; pending.max_stream_id, [bi, uni]),
+        Step::Windows(streams) => {
+            assert_eq!(rt; pending.max_stream_data.len(), streams.len());
+            for stream in streams {
+                assert!(rt; pending.max_stream_data.contains(&id(*stream)));
+            }
+        }
+        Step::Stops(streams) => {
+            assert_eq!(rt; pending.stop_sending.len(), streams.len());
+            for (frame, stream) in pending.stop_sending.iter().zip(streams) {
+                let is = (frame.id, frame.error_code);
+                assert_eq!(rt; is, (id(*stream), VarInt::from(STOP_CODE)));
+            }
+        }
+        _ => {}
+    }
+}
+
+fn run(
+    rt: &impl Abort,
+    alloc: Global,
+    subject: Subject,
+    steps: &[Step],
+) -> Result<Subject, OutOfMemory> {
+    let mut subject = subject;
+    for step in steps {
+        subject = take(rt, alloc, subject, *step)?;
+    }
+    Ok(subject)
+}
+
+// Takes steps on a client that permits 128 streams of each direction, with windows of 2^20 bytes.
+fn run_on_client(rt: &impl Abort, alloc: Global, steps: &[Step]) -> Result<(), OutOfMemory> {
+    let _after = run(rt, alloc, client(alloc, 128, WINDOW, WINDOW)?, steps)?;
     Ok(())
 }

@@ -1,8 +1,9 @@
 use Rattle.std.proofs.Common.{sym, ap, ◌∙◌, arith, Some}
 use Rattle.quic_values.specs.Ids.{stream_id}
 use Rattle.quic_receiving.specs.Half.{new_half}
-use Rattle.quic_streams.specs.Halves.{held, with_half}
-use Rattle.quic_streams.proofs.FirstStreams.{with_first-none, with_first-more}
+use Rattle.quic_streams.specs.Held.{held}
+use Rattle.quic_history.specs.Halves.{with_half}
+use Rattle.quic_history.proofs.FirstStreams.{with_first-none, with_first-more}
 use Rattle.quic_streams.proofs.halves.ReceiveHalves.permit_first.Goals as goal
 
 pub loop-index-init : goal.loop-index-init

@@ -1,6 +1,7 @@
 use Rattle.std.proofs.Common.{◌≡◌, ◌+◌, ◌≤◌, Some}
 use Rattle.quic_receiving.specs.Half.{new_half}
-use Rattle.quic_streams.specs.Halves.{held, room, with_first}
+use Rattle.quic_streams.specs.Held.{held, room}
+use Rattle.quic_history.specs.Halves.{with_first}
 use Rattle.quic_streams.proofs.halves.ReceiveHalves.permit_first.Given as goal
 
 abbrev pub invariant-loop-index : goal.invariant-loop-index

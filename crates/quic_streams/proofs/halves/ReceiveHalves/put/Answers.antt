@@ -1,6 +1,6 @@
 use Rattle.std.proofs.Common.{rules, Some}
-use Rattle.quic_streams.specs.Halves.{held}
-use Rattle.quic_streams.proofs.HalfMaps.{held-put}
+use Rattle.quic_streams.specs.Held.{held}
+use Rattle.quic_streams.proofs.HeldMaps.{held-put}
 use Rattle.quic_streams.proofs.halves.ReceiveHalves.put.Goals as goal
 
 pub returns-clause-held : goal.returns-clause-held

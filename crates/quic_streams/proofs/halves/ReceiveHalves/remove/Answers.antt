@@ -1,5 +1,5 @@
-use Rattle.quic_streams.specs.Halves.{held}
-use Rattle.quic_streams.proofs.HalfMaps.{held-put}
+use Rattle.quic_streams.specs.Held.{held}
+use Rattle.quic_streams.proofs.HeldMaps.{held-put}
 use Rattle.quic_streams.proofs.halves.ReceiveHalves.remove.Goals as goal
 
 pub returns-clause-held : goal.returns-clause-held

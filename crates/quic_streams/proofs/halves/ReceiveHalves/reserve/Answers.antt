@@ -1,5 +1,5 @@
-use Rattle.quic_streams.specs.Halves.{held}
-use Rattle.quic_streams.proofs.HalfMaps.{held-same}
+use Rattle.quic_streams.specs.Held.{held}
+use Rattle.quic_streams.proofs.HeldMaps.{held-same}
 use Rattle.quic_streams.proofs.halves.ReceiveHalves.reserve.Goals as goal
 
 pub returns-clause-held : goal.returns-clause-held

@@ -1,6 +1,8 @@
 use Rattle.std.proofs.Common.{rules, sym, ap, ◌∙◌, Some}
-use Rattle.quic_streams.specs.Halves.{held, with_half, half_in}
-use Rattle.quic_streams.proofs.HalfMaps.{held-put, taken-some, with_half-back, entry_half, on_err}
+use Rattle.quic_streams.specs.Held.{held, half_in}
+use Rattle.quic_history.specs.Halves.{with_half}
+use Rattle.quic_streams.proofs.HeldMaps.{held-put, entry_half, on_err}
+use Rattle.quic_history.proofs.HalfMaps.{taken-some, with_half-back}
 use Rattle.quic_streams.proofs.halves.ReceiveHalves.take.Goals as goal
 
 pub returns-in_err-half-in-None-used-clause-err : goal.returns-in_err-half-in-None-used-clause-err

@@ -1,6 +1,6 @@
 use Rattle.std.proofs.Common.{rules}
-use Rattle.quic_streams.specs.World.{shown}
-use Rattle.quic_streams.proofs.Histories.{next-answer}
+use Rattle.quic_streams.specs.Shown.{shown}
+use Rattle.quic_history.proofs.Histories.{next-answer}
 use Rattle.quic_streams.proofs.reading.Chunks.next.Goals as goal
 
 pub returns-clause-from : goal.returns-clause-from

@@ -1,7 +1,7 @@
 use Rattle.std.proofs.Common.{Ok, rules}
-use Rattle.quic_streams.specs.World.{shown}
-use Rattle.quic_streams.specs.History.{Began}
-use Rattle.quic_streams.proofs.Histories.{next}
+use Rattle.quic_streams.specs.Shown.{shown}
+use Rattle.quic_history.specs.History.{Began}
+use Rattle.quic_history.proofs.Histories.{next}
 use Rattle.quic_streams.proofs.recv_stream.RecvStream.read.Goals as goal
 
 pub returns-clause-from : goal.returns-clause-from

@@ -1,7 +1,7 @@
-use Rattle.quic_streams.specs.World.{shown}
-use Rattle.quic_streams.specs.Pending.{shown_pending as listed}
-use Rattle.quic_streams.specs.History.{ToldReset}
-use Rattle.quic_streams.proofs.Histories.{next}
+use Rattle.quic_streams.specs.Shown.{shown}
+use Rattle.quic_retransmits.specs.Pending.{shown_pending as listed}
+use Rattle.quic_history.specs.History.{ToldReset}
+use Rattle.quic_history.proofs.Histories.{next}
 use Rattle.quic_streams.proofs.recv_stream.RecvStream.received_reset.Goals as goal
 
 pub returns-clause-from : goal.returns-clause-from

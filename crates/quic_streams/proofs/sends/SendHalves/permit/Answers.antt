@@ -1,5 +1,5 @@
-use Rattle.quic_streams.specs.Sends.{sending}
-use Rattle.quic_streams.proofs.Sets.{OnOk-here}
+use Rattle.quic_streams.specs.Held.{sending}
+use Rattle.quic_retransmits.proofs.Sets.{OnOk-here}
 use Rattle.quic_streams.proofs.SendMaps.{sends-put}
 use Rattle.quic_streams.proofs.sends.SendHalves.permit.Goals as goal
 

@@ -1,7 +1,8 @@
 use Rattle.std.proofs.Common.{sym, ap, ◌∙◌, arith, true}
 use Rattle.quic_values.specs.Ids.{stream_id}
-use Rattle.quic_streams.specs.Sends.{sending, with_send}
-use Rattle.quic_streams.proofs.FirstStreams.{first_sends-none, first_sends-more}
+use Rattle.quic_streams.specs.Held.{sending}
+use Rattle.quic_history.specs.Sends.{with_send}
+use Rattle.quic_history.proofs.FirstStreams.{first_sends-none, first_sends-more}
 use Rattle.quic_streams.proofs.sends.SendHalves.permit_first.Goals as goal
 
 pub loop-index-init : goal.loop-index-init

@@ -1,5 +1,6 @@
 use Rattle.std.proofs.Common.{◌≡◌, ◌+◌, ◌≤◌}
-use Rattle.quic_streams.specs.Sends.{sending, send_room, with_first_sends}
+use Rattle.quic_streams.specs.Held.{sending, send_room}
+use Rattle.quic_history.specs.Sends.{with_first_sends}
 use Rattle.quic_streams.proofs.sends.SendHalves.permit_first.Given as goal
 
 abbrev pub invariant-loop-index : goal.invariant-loop-index

@@ -1,4 +1,4 @@
-use Rattle.quic_streams.specs.Sends.{sending}
+use Rattle.quic_streams.specs.Held.{sending}
 use Rattle.quic_streams.proofs.SendMaps.{sends-same}
 use Rattle.quic_streams.proofs.sends.SendHalves.reserve.Goals as goal
 

@@ -1,7 +1,7 @@
 use Rattle.std.proofs.Common.{ap}
-use Rattle.quic_streams.specs.World.{shown}
-use Rattle.quic_streams.specs.History.{AddedCredits}
-use Rattle.quic_streams.proofs.Histories.{next}
+use Rattle.quic_streams.specs.Shown.{shown}
+use Rattle.quic_history.specs.History.{AddedCredits}
+use Rattle.quic_history.proofs.Histories.{next}
 use Rattle.quic_streams.proofs.state.StreamsState.add_read_credits.Goals as goal
 
 pub returns-clause-from : goal.returns-clause-from

@@ -1,6 +1,7 @@
 use Rattle.std.proofs.Common.{rules, ◌≡◌, ap, ◌∙◌, refl, Some, None, Ok, true, false}
-use Rattle.quic_streams.specs.World.{shown, noticed, with_receive}
-use Rattle.quic_streams.proofs.FrameSteps.{put_and_counted, known_after, reaches, discarded_by, receives_stopped, receives_running}
+use Rattle.quic_streams.specs.Shown.{shown}
+use Rattle.quic_history.specs.World.{noticed, with_receive}
+use Rattle.quic_history.proofs.FrameSteps.{put_and_counted, known_after, reaches, discarded_by, receives_stopped, receives_running}
 use Rattle.quic_streams.proofs.state.StreamsState.ingest_on.Goals as goal
 
 pub notice-requires-clause-known : goal.notice-requires-clause-known

@@ -1,6 +1,7 @@
 use Rattle.std.proofs.Common.{rules, ◌≡◌, ◌<◌, ◌^◌}
-use Rattle.quic_streams.specs.World.{World, shown, start}
-use Rattle.quic_streams.proofs.Beginnings.{begins}
+use Rattle.quic_history.specs.World.{World, start}
+use Rattle.quic_streams.specs.Shown.{shown}
+use Rattle.quic_history.proofs.Beginnings.{begins}
 use Rattle.quic_streams.proofs.state.StreamsState.new.Goals as goal
 
 pub returns-clause-from : goal.returns-clause-from

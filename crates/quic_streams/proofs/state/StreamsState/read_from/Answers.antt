@@ -1,6 +1,6 @@
 use Rattle.std.proofs.Common.{rules}
-use Rattle.quic_streams.proofs.ReadingSteps.{reading-after}
-use Rattle.quic_streams.proofs.WorldSteps.{receive-there}
+use Rattle.quic_history.proofs.ReadingSteps.{reading-after}
+use Rattle.quic_history.proofs.WorldSteps.{receive-there}
 use Rattle.quic_streams.proofs.state.StreamsState.read_from.Goals as goal
 
 pub returns-else-is_ended-clause-reading : goal.returns-else-is_ended-clause-reading

@@ -1,4 +1,4 @@
-use Rattle.quic_streams.proofs.ReadingSteps.{unmade}
+use Rattle.quic_history.proofs.ReadingSteps.{unmade}
 use Rattle.quic_streams.proofs.state.StreamsState.read_half.Goals as goal
 
 pub returns-in-Err-clause-reads : goal.returns-in-Err-clause-reads

@@ -1,6 +1,6 @@
-use Rattle.quic_streams.specs.World.{shown}
-use Rattle.quic_streams.specs.History.{Received}
-use Rattle.quic_streams.proofs.Histories.{next}
+use Rattle.quic_streams.specs.Shown.{shown}
+use Rattle.quic_history.specs.History.{Received}
+use Rattle.quic_history.proofs.Histories.{next}
 use Rattle.quic_streams.proofs.state.StreamsState.received.Goals as goal
 
 pub returns-clause-from : goal.returns-clause-from

@@ -1,6 +1,6 @@
 use Rattle.std.proofs.Common.{rules}
-use Rattle.quic_streams.specs.World.{shown}
-use Rattle.quic_streams.proofs.FrameSteps.{put_and_counted, known_after}
+use Rattle.quic_streams.specs.Shown.{shown}
+use Rattle.quic_history.proofs.FrameSteps.{put_and_counted, known_after}
 use Rattle.quic_streams.proofs.state.StreamsState.reset_on.Goals as goal
 
 pub notice-requires-clause-known : goal.notice-requires-clause-known

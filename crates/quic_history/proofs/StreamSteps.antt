@@ -1,0 +1,246 @@
+-- What is told of each stream stays true at each step.
+use Rattle.std.proofs.Common.{◌≡◌, ℕ, Bool, true, false, cond, eqb, Option, Some, None, refl, sym, ap, ◌∙◌, subst, arith, ◌+◌}
+use Rattle.std.specs.Prelude.{nat_le, if◌then◌else◌}
+use Rattle.quic_values.specs.declared.ids.Dir.{Dir}
+use Rattle.quic_values.specs.declared.ids.Dir.TheVariants.{Bi, Uni}
+use Rattle.quic_values.specs.Ids.{stream_id, other_side, dir_of, index_of}
+use Rattle.quic_limits.specs.Remote as remote
+use Rattle.quic_limits.specs.Remote.{Remote}
+use Rattle.quic_receiving.specs.Half.{Half, new_half}
+use Rattle.quic_history.specs.Halves.{with_half}
+use Rattle.quic_history.specs.World.{World, id_refusal, is_own, remote_of, with_remote, with_receive, with_permitted, permitted_if, replaced_in, released, with_freed, told_readable, noticed}
+use Rattle.quic_receiving.proofs.Data.{data-fresh}
+use Rattle.quic_history.specs.History.{Trace, untouched, HalfFrom, StreamFrom}
+use Rattle.quic_history.proofs.WorldSteps.{receive-there, refusal-with_receive, credit-with_receive}
+use Rattle.quic_history.proofs.Refusals.{IsRaised, refusal-same, refusal-raised, refusal-next, refusal-permitted}
+use Rattle.quic_history.proofs.Totals.{by_cases, same}
+
+-- what is told of each stream is true of an end
+abbrev pub AllFrom : (ℕ → Trace) → World → Type 0
+AllFrom f w = (q : ℕ) → StreamFrom (f q) (id_refusal w q) (w.receive q)
+
+moved : (t : Trace) (r r' : Option ℕ) (o o' : Option Half) → r' ≡ r → o' ≡ o → StreamFrom t r o → StreamFrom t r' o'
+moved t r r' o o' e k s = rw (e, k) s
+
+retold : (t t' : Trace) (r : Option ℕ) (o : Option Half) → t' ≡ t → StreamFrom t r o → StreamFrom t' r o
+retold t t' r o e s = rw e s
+
+-- the same halves, and the same frames are refused
+pub all-same : (f : ℕ → Trace) (u v : World) → ((q : ℕ) → id_refusal v q ≡ id_refusal u q) → ((q : ℕ) → v.receive q ≡ u.receive q) → AllFrom f u → AllFrom f v
+all-same f u v r o s q = moved (f q) (id_refusal u q) (id_refusal v q) (u.receive q) (v.receive q) (r q) (o q) (s q)
+
+-- the same is told
+pub all-told : (f g : ℕ → Trace) (u : World) → ((q : ℕ) → g q ≡ f q) → AllFrom f u → AllFrom g u
+all-told f g u e s q = retold (f q) (g q) (id_refusal u q) (u.receive q) (e q) (s q)
+
+here : (t : Trace) (r : Option ℕ) (o : Option Half) (h : Half) → r ≡ None → o ≡ Some h → StreamFrom t r o → HalfFrom t h
+here t r o h e k s = let there = rw (e, k) at s in there
+
+pub half-from : (f : ℕ → Trace) (w : World) (id : ℕ) (h : Half) → AllFrom f w → id_refusal w id ≡ None → w.receive id ≡ Some h → HalfFrom (f id) h
+half-from f w id h s e k = here (f id) (id_refusal w id) (w.receive id) h e k (s id)
+
+gone : (t : Trace) (r : Option ℕ) (o : Option Half) → r ≡ None → o ≡ None → StreamFrom t r o → t.gone ≡ true
+gone t r o e k s = let there = rw (e, k) at s in there
+
+pub gone-from : (f : ℕ → Trace) (w : World) (id : ℕ) → AllFrom f w → id_refusal w id ≡ None → w.receive id ≡ None → (f id).gone ≡ true
+gone-from f w id s e k = gone (f id) (id_refusal w id) (w.receive id) e k (s id)
+
+-- a half that is there is of a stream whose frames are not refused
+known_by : (t : Trace) (r : Option ℕ) (h : Half) → StreamFrom t r (Some h) → r ≡ None
+known_by t None h s = refl
+known_by t (Some error) h s = absurd s
+
+known_half : (t : Trace) (r : Option ℕ) (o : Option Half) (h : Half) → o ≡ Some h → StreamFrom t r o → r ≡ None
+known_half t r o h k s = let there = rw k at s in known_by t r h there
+
+pub known-from : (f : ℕ → Trace) (w : World) (id : ℕ) (h : Half) → AllFrom f w → w.receive id ≡ Some h → id_refusal w id ≡ None
+known-from f w id h s k = known_half (f id) (id_refusal w id) (w.receive id) h k (s id)
+
+pub new-from : (t : Trace) (r : Option ℕ) (o : Option Half) (error : ℕ) → r ≡ Some error → StreamFrom t r o → t ≡ untouched
+new-from t r None error e s = let there = rw e at s in there
+new-from t r (Some h) error e s = absurd (rw e at s)
+
+receive-other : (w : World) (id q : ℕ) (o : Option Half) → eqb q id ≡ false → (with_receive w id o).receive q ≡ w.receive q
+unfolding with_receive with_half
+receive-other w id q o n = rw n refl
+
+set_half : (t : Trace) (r : Option ℕ) (o : Option Half) (h : Half) → r ≡ None → o ≡ Some h → HalfFrom t h → StreamFrom t r o
+set_half t r o h e k s = rw (e, k) s
+
+set_none : (t : Trace) (r : Option ℕ) (o : Option Half) → r ≡ None → o ≡ None → t.gone ≡ true → StreamFrom t r o
+set_none t r o e k s = rw (e, k) s
+
+-- what is told of each stream but one is true of an end
+abbrev pub AllBut : ℕ → (ℕ → Trace) → World → Type 0
+AllBut id g w = (q : ℕ) → eqb q id ≡ false → StreamFrom (g q) (id_refusal w q) (w.receive q)
+
+pub but-from : (f g : ℕ → Trace) (w : World) (id : ℕ) → ((q : ℕ) → eqb q id ≡ false → g q ≡ f q) → AllFrom f w → AllBut id g w
+but-from f g w id others s q n = retold (f q) (g q) (id_refusal w q) (w.receive q) (others q n) (s q)
+
+-- the half of that stream changes
+pub but-put : (g : ℕ → Trace) (w : World) (id : ℕ) (o : Option Half) → AllBut id g w → AllBut id g (with_receive w id o)
+but-put g w id o s q n = moved (g q) (id_refusal w q) _ (w.receive q) _ (refusal-with_receive w id q o) (receive-other w id q o n) (s q n)
+
+-- it is as is told of it
+pub all-put : (g : ℕ → Trace) (w : World) (id : ℕ) (h : Half) → AllBut id g w → id_refusal w id ≡ None → HalfFrom (g id) h → AllFrom g (with_receive w id (Some h))
+all-put g w id h s known is q = by_cases (eqb q id)
+    (λ t. let P : ℕ → Type 0 = λ k. StreamFrom (g k) (id_refusal (with_receive w id (Some h)) k) ((with_receive w id (Some h)).receive k) in
+    subst P (sym (same q id t)) (set_half (g id) _ _ h (refusal-with_receive w id id (Some h) ∙ known) (receive-there w id (Some h)) is))
+    (but-put g w id (Some h) s q)
+
+-- it goes, as is told of it
+all-without : (g : ℕ → Trace) (w : World) (id : ℕ) → AllBut id g w → id_refusal w id ≡ None → (g id).gone ≡ true → AllFrom g (with_receive w id None)
+all-without g w id s known is q = by_cases (eqb q id)
+    (λ t. let P : ℕ → Type 0 = λ k. StreamFrom (g k) (id_refusal (with_receive w id None) k) ((with_receive w id None).receive k) in
+    subst P (sym (same q id t)) (set_none (g id) _ _ (refusal-with_receive w id id None ∙ known) (receive-there w id None) is))
+    (but-put g w id None s q)
+
+pub new-half-from : (window : ℕ) → HalfFrom untouched (new_half window)
+new-half-from window = record {
+  high = refl;
+  read = refl;
+  sized = refl;
+  stopped = refl;
+  reset = refl;
+  there = refl;
+  final = λ size e. cc;
+  within = omega arith;
+  holds = λ s r. data-fresh;
+}
+
+-- the next stream of the peer is with_permitted
+raised_all : (f : ℕ → Trace) (d : Dir) (u v : World) (window : ℕ) → v.side ≡ u.side → v.opened_bi ≡ u.opened_bi → IsRaised d u v
+    → v.receive ≡ with_half u.receive (stream_id (other_side u.side) d (remote_of u d).max_remote) (Some (new_half window)) → AllFrom f u → AllFrom f v
+unfolding with_half
+raised_all f d u v window side opened r halves s q =
+    let id = stream_id (other_side u.side) d (remote_of u d).max_remote in
+    let at : v.receive q ≡ cond (eqb q id) (Some (new_half window)) (u.receive q) = ap (λ k. k q) halves in
+    by_cases (eqb q id)
+    (λ t.
+    let is : q ≡ id = same q id t in
+    let told : f q ≡ untouched = new-from (f q) (id_refusal u q) (u.receive q) _ (ap (id_refusal u) is ∙ refusal-next d u) (s q) in
+    retold untouched (f q) (id_refusal v q) (v.receive q) told
+    (set_half untouched (id_refusal v q) (v.receive q) (new_half window) (ap (id_refusal v) is ∙ refusal-permitted d u v side r) (at ∙ rw t refl) (new-half-from window)))
+    (λ n. moved (f q) (id_refusal u q) (id_refusal v q) (u.receive q) (v.receive q) (refusal-raised d u v q side opened r n) (at ∙ rw n refl) (s q))
+
+-- the world with it
+abbrev with_next : Dir → World → World
+with_next d u = with_permitted (with_remote u d (remote.one_permitted (remote.freed (remote_of u d)))) d (remote_of u d).max_remote
+
+all-permitted : (f : ℕ → Trace) (d : Dir) (u : World) → AllFrom f u → AllFrom f (with_next d u)
+unfolding with_receive
+all-permitted f Bi u s = raised_all f Bi u (with_next Bi u) u.window refl refl (refl, refl) refl s
+all-permitted f Uni u s = raised_all f Uni u (with_next Uni u) u.window refl refl (refl, refl) refl s
+
+all-remote : (f : ℕ → Trace) (d : Dir) (u : World) (r : Remote) → r.max_remote ≡ (remote_of u d).max_remote → AllFrom f u → AllFrom f (with_remote u d r)
+all-remote f Bi u r e s = all-same f u (with_remote u Bi r) (λ q. refusal-same (with_remote u Bi r) u q refl refl e refl) (λ q. refl) s
+all-remote f Uni u r e s = all-same f u (with_remote u Uni r) (λ q. refusal-same (with_remote u Uni r) u q refl refl refl e) (λ q. refl) s
+
+replaced_if : (f : ℕ → Trace) (d : Dir) (u : World) (b : Bool) → AllFrom f u
+    → AllFrom f (permitted_if (with_remote u d (if b then remote.one_permitted (remote.freed (remote_of u d)) else remote.freed (remote_of u d))) d (if b then Some (remote_of u d).max_remote else None))
+replaced_if f d u true s = all-permitted f d u s
+replaced_if f d u false s = all-remote f d u (remote.freed (remote_of u d)) refl s
+
+pub all-replaced : (f : ℕ → Trace) (d : Dir) (u : World) → AllFrom f u → AllFrom f (replaced_in u d)
+all-replaced f d u s = replaced_if f d u (remote.lacks_streams (remote.freed (remote_of u d))) s
+
+either : (f : ℕ → Trace) (u v : World) (b : Bool) → AllFrom f u → AllFrom f v → AllFrom f (if b then u else v)
+either f u v true s t = s
+either f u v false s t = t
+
+all-released : (f : ℕ → Trace) (d : Dir) (u : World) (id : ℕ) → AllFrom f u → AllFrom f (released u d id)
+all-released f Uni u id s = all-replaced f Uni u s
+all-released f Bi u id s = either f u (replaced_in u Bi) (u.sends id) s (all-replaced f Bi u s)
+
+-- a half is with_freed, as is told of its stream
+pub all-freed : (g : ℕ → Trace) (w : World) (id : ℕ) → AllBut id g w → id_refusal w id ≡ None → (g id).gone ≡ true → AllFrom g (with_freed w id)
+all-freed g w id s known is =
+    let u = with_receive w id None in
+    let t = all-without g w id s known is in
+    either g u (released u (dir_of id) id) (is_own u id) t (all-released g (dir_of id) u id t)
+
+if_any : (P : World → Type 0) (u v : World) (b : Bool) → P u → P v → P (if b then u else v)
+if_any P u v true s t = s
+if_any P u v false s t = t
+
+-- what a notice may be
+pub noticed-any : (P : World → Type 0) (w : World) (id : ℕ) (b : Bool) → P (told_readable w id b)
+    → P (with_remote w (dir_of id) (remote.opened_up_to (remote_of w (dir_of id)) (index_of id))) → P (noticed w id b)
+noticed-any P w id b told opened = if_any P _ _ (is_own w id) told (if_any P _ _ (nat_le (remote_of w (dir_of id)).next_remote (index_of id)) opened told)
+
+opened_max : (r : Remote) (index : ℕ) (b : Bool) → (if b then record r { next_remote = index + 1; opened = true } else r).max_remote ≡ r.max_remote
+opened_max r index true = refl
+opened_max r index false = refl
+
+refusal_readable : (w : World) (id : ℕ) (b : Bool) (q : ℕ) → id_refusal (told_readable w id b) q ≡ id_refusal w q
+refusal_readable w id true q = refl
+refusal_readable w id false q = refl
+
+refusal_remote : (w : World) (d : Dir) (r : Remote) (q : ℕ) → r.max_remote ≡ (remote_of w d).max_remote → id_refusal (with_remote w d r) q ≡ id_refusal w q
+refusal_remote w Bi r q e = refusal-same (with_remote w Bi r) w q refl refl e refl
+refusal_remote w Uni r q e = refusal-same (with_remote w Uni r) w q refl refl refl e
+
+-- a frame that is noticed changes nothing of what is refused
+pub refusal-noticed : (w : World) (id : ℕ) (b : Bool) (q : ℕ) → id_refusal (noticed w id b) q ≡ id_refusal w q
+refusal-noticed w id b q =
+    let P : World → Type 0 = λ x. id_refusal x q ≡ id_refusal w q in
+    noticed-any P w id b (refusal_readable w id b q) (refusal_remote w (dir_of id) _ q (opened_max (remote_of w (dir_of id)) (index_of id) _))
+
+receive_readable : (w : World) (id : ℕ) (b : Bool) (q : ℕ) → (told_readable w id b).receive q ≡ w.receive q
+receive_readable w id true q = refl
+receive_readable w id false q = refl
+
+receive_remote : (w : World) (d : Dir) (r : Remote) (q : ℕ) → (with_remote w d r).receive q ≡ w.receive q
+receive_remote w Bi r q = refl
+receive_remote w Uni r q = refl
+
+-- nor of the halves
+receive-noticed : (w : World) (id : ℕ) (b : Bool) (q : ℕ) → (noticed w id b).receive q ≡ w.receive q
+receive-noticed w id b q =
+    let P : World → Type 0 = λ x. x.receive q ≡ w.receive q in
+    noticed-any P w id b (receive_readable w id b q) (receive_remote w (dir_of id) _ q)
+
+pub all-noticed : (g : ℕ → Trace) (w : World) (id : ℕ) (b : Bool) → AllFrom g w → AllFrom g (noticed w id b)
+all-noticed g w id b s q = moved (g q) (id_refusal w q) _ (w.receive q) _ (refusal-noticed w id b q) (receive-noticed w id b q) (s q)
+
+pub but-noticed : (g : ℕ → Trace) (w : World) (id k : ℕ) (b : Bool) → AllBut k g w → AllBut k g (noticed w id b)
+but-noticed g w id k b s q n = moved (g q) (id_refusal w q) _ (w.receive q) _ (refusal-noticed w id b q) (receive-noticed w id b q) (s q n)
+
+-- nor of the credit
+credit_readable : (w : World) (id : ℕ) (b : Bool) → (told_readable w id b).credit ≡ w.credit
+credit_readable w id true = refl
+credit_readable w id false = refl
+
+credit_remote : (w : World) (d : Dir) (r : Remote) → (with_remote w d r).credit ≡ w.credit
+credit_remote w Bi r = refl
+credit_remote w Uni r = refl
+
+pub credit-noticed : (w : World) (id : ℕ) (b : Bool) → (noticed w id b).credit ≡ w.credit
+credit-noticed w id b =
+    let P : World → Type 0 = λ x. x.credit ≡ w.credit in
+    noticed-any P w id b (credit_readable w id b) (credit_remote w (dir_of id) _)
+
+credit_permitted : (w : World) (d : Dir) (index : ℕ) → (with_permitted w d index).credit ≡ w.credit
+unfolding with_receive
+credit_permitted w Bi index = refl
+credit_permitted w Uni index = refl
+
+credit_permitted_if : (w : World) (d : Dir) (o : Option ℕ) → (permitted_if w d o).credit ≡ w.credit
+credit_permitted_if w d None = refl
+credit_permitted_if w d (Some index) = credit_permitted w d index
+
+credit_replaced : (w : World) (d : Dir) → (replaced_in w d).credit ≡ w.credit
+credit_replaced w d = credit_permitted_if (with_remote w d (remote.replaced (remote_of w d))) d (remote.replacement (remote_of w d)) ∙ credit_remote w d _
+
+credit_released : (w : World) (d : Dir) (id : ℕ) → (released w d id).credit ≡ w.credit
+credit_released w Uni id = credit_replaced w Uni
+credit_released w Bi id =
+    let P : World → Type 0 = λ x. x.credit ≡ w.credit in
+    if_any P w (replaced_in w Bi) (w.sends id) refl (credit_replaced w Bi)
+
+-- a half that is with_freed changes nothing of the credit
+pub credit-freed : (w : World) (id : ℕ) → (with_freed w id).credit ≡ w.credit
+credit-freed w id =
+    let u = with_receive w id None in
+    let P : World → Type 0 = λ x. x.credit ≡ w.credit in
+    if_any P u (released u (dir_of id) id) (is_own u id) (credit-with_receive w id None) (credit_released u (dir_of id) id ∙ credit-with_receive w id None)

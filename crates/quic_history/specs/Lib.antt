@@ -1,0 +1,6 @@
+pub mod Halves
+pub mod Sends
+pub mod World
+pub mod Receiving
+pub mod Reading
+pub mod History

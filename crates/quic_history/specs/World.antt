@@ -1,0 +1,133 @@
+-- The streams of one end of a connection, as contracts see them.
+use Rattle.std.specs.Prelude.{ℕ, Bool, true, false, ◌-◌, nat_le, if◌then◌else◌, List, [], ◌∷◌, ◌++◌, Option, Some, None}
+use Rattle.quic_values.specs.declared.ids.Side.{Side}
+use Rattle.quic_values.specs.declared.ids.Side.TheVariants.{Client, Server}
+use Rattle.quic_values.specs.declared.ids.Dir.{Dir}
+use Rattle.quic_values.specs.declared.ids.Dir.TheVariants.{Bi, Uni}
+use Rattle.quic_values.specs.Ids.{other_side, stream_id, initiator_of, dir_of, index_of}
+use Rattle.quic_wire.specs.declared.event.StreamEvent.{StreamEvent}
+use Rattle.quic_wire.specs.declared.event.StreamEvent.TheVariants as stream_event
+use Rattle.quic_wire.specs.declared.error.TheConstants.TransportError.{STREAM_LIMIT_ERROR, STREAM_STATE_ERROR}
+use Rattle.quic_limits.specs.Credit.{Credit, new_credit, credited, counted}
+use Rattle.quic_limits.specs.Remote.{Remote, new_remote, replaced, replacement, opened_up_to}
+use Rattle.quic_receiving.specs.Half.{Half, new_half}
+use Rattle.quic_history.specs.Halves.{Halves, with_half, with_first}
+use Rattle.quic_history.specs.Sends.{with_send, with_first_sends}
+
+-- side: which end this is
+-- credit: for the data of all streams together
+-- bi, uni: the streams that the peer may open
+-- opened_bi: how many bidirectional streams this end opened
+-- send_window: how many bytes may be sent and not acknowledged
+-- receive: the receive half of a stream, if one is held
+-- sends: whether the send half of a stream is held
+-- window: the first limit of each stream
+-- events: what the application was not told yet
+pub record World : Type 0 where
+  pub side : Side
+  pub credit : Credit
+  pub bi : Remote
+  pub uni : Remote
+  pub opened_bi : ℕ
+  pub send_window : ℕ
+  pub receive : Halves
+  pub sends : ℕ → Bool
+  pub window : ℕ
+  pub events : List StreamEvent
+
+-- how an end begins: the streams that the peer may open have new halves
+abbrev pub start : Side → ℕ → ℕ → ℕ → ℕ → ℕ → World
+start side uni bi send_window receive_window window = record {
+  side = side;
+  credit = new_credit receive_window;
+  bi = new_remote bi;
+  uni = new_remote uni;
+  opened_bi = 0;
+  send_window = send_window;
+  receive = with_first (with_first (λ id. None) (other_side side) Bi bi (Some (new_half window))) (other_side side) Uni uni (Some (new_half window));
+  sends = with_first_sends (λ id. false) (other_side side) Bi bi;
+  window = window;
+  events = [];
+}
+
+-- whether two ends are one
+abbrev pub is_same_side : Side → Side → Bool
+is_same_side Client Client = true
+is_same_side Client Server = false
+is_same_side Server Client = false
+is_same_side Server Server = true
+
+-- whether this end opened the stream, or is to open it
+abbrev pub is_own : World → ℕ → Bool
+is_own w id = is_same_side w.side (initiator_of id)
+
+-- the peer's streams of a direction
+abbrev pub remote_of : World → Dir → Remote
+remote_of w Bi = w.bi
+remote_of w Uni = w.uni
+
+abbrev pub with_remote : World → Dir → Remote → World
+with_remote w Bi r = record w { bi = r }
+with_remote w Uni r = record w { uni = r }
+
+-- another receive half, or none, of a stream
+unfoldable pub with_receive : World → ℕ → Option Half → World
+with_receive w id h = record w { receive = with_half w.receive id h }
+
+-- the error of a frame on a stream that the peer may not send on, or may not open (RFC 9000 sections 4.6 and 19.8)
+abbrev pub own_refusal : World → Dir → ℕ → Option ℕ
+own_refusal w Uni index = Some STREAM_STATE_ERROR
+own_refusal w Bi index = if nat_le w.opened_bi index then Some STREAM_STATE_ERROR else None
+
+abbrev pub id_refusal : World → ℕ → Option ℕ
+id_refusal w id = if is_own w id then own_refusal w (dir_of id) (index_of id)
+    else (if nat_le (remote_of w (dir_of id)).max_remote (index_of id) then Some STREAM_LIMIT_ERROR else None)
+
+-- a stream of the peer is with_permitted: its halves are new
+abbrev pub with_permitted : World → Dir → ℕ → World
+with_permitted w Uni index = with_receive w (stream_id (other_side w.side) Uni index) (Some (new_half w.window))
+with_permitted w Bi index = let id = stream_id (other_side w.side) Bi index in
+    record (with_receive w id (Some (new_half w.window))) { sends = with_send w.sends id true }
+
+abbrev pub permitted_if : World → Dir → Option ℕ → World
+permitted_if w dir None = w
+permitted_if w dir (Some index) = with_permitted w dir index
+
+-- a stream of the peer was wholly with_freed, and another may take its place
+abbrev pub replaced_in : World → Dir → World
+replaced_in w dir = permitted_if (with_remote w dir (replaced (remote_of w dir))) dir (replacement (remote_of w dir))
+
+-- a stream of the peer lost its receive half: it is wholly with_freed, unless its send half is held
+abbrev pub released : World → Dir → ℕ → World
+released w Uni id = replaced_in w Uni
+released w Bi id = if w.sends id then w else replaced_in w Bi
+
+-- the receive half of a stream is with_freed
+abbrev pub with_freed : World → ℕ → World
+with_freed w id = let u = with_receive w id None in
+    if is_own u id then u else released u (dir_of id) id
+
+abbrev pub told : World → StreamEvent → World
+told w e = record w { events = w.events ++ e ∷ [] }
+
+abbrev pub told_readable : World → ℕ → Bool → World
+told_readable w id true = told w (stream_event.Readable id)
+told_readable w id false = w
+
+-- a frame came on a stream: it opens the stream where it was not, and else the application is told that it may read
+abbrev pub noticed : World → ℕ → Bool → World
+noticed w id readable = if is_own w id then told_readable w id readable
+    else (if nat_le (remote_of w (dir_of id)).next_remote (index_of id)
+    then with_remote w (dir_of id) (opened_up_to (remote_of w (dir_of id)) (index_of id))
+    else told_readable w id readable)
+
+abbrev pub with_credit : World → ℕ → World
+with_credit w n = record w { credit = credited w.credit n }
+
+-- the highest offsets grew by n
+abbrev pub with_counted : World → ℕ → World
+with_counted w n = record w { credit = counted w.credit n }
+
+-- a half changed, and what came of it counts
+abbrev pub advanced : World → ℕ → Half → Half → World
+advanced w id h h' = with_counted (with_receive w id (Some h')) (h'.end - h.end)

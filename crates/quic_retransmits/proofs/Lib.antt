@@ -1,0 +1,3 @@
+pub mod Merging
+pub mod Numbers
+pub mod Sets

@@ -1,0 +1,23 @@
+-- What calls queue to be sent, and the room for it.
+use Rattle.std.specs.Prelude.{ℕ, Bool, ◌-◌, ◌==◌, ◌&&◌, ◌||◌, vec_len, if◌then◌else◌, List, [], ◌∷◌, ◌++◌}
+use Rattle.std.specs.HashSet.{spare}
+use Rattle.std.specs.Vec.{vec_capacity}
+use Rattle.quic_wire.specs.declared.frame.StopSending.{StopSending}
+use Rattle.quic_retransmits.specs.Pending.{is_in_ids}
+use Rattle.quic_retransmits.specs.declared.retransmits.Retransmits.{Retransmits}
+
+-- a set of ids, with one more where that is due
+abbrev pub with_id : (ℕ → Bool) → ℕ → Bool → ℕ → Bool
+with_id ids id due = λ q. ids q || (due && (q == id))
+
+-- a list of STOP_SENDING frames, with one more where that is due
+abbrev pub with_stop_sending : List StopSending → ℕ → ℕ → Bool → List StopSending
+with_stop_sending frames id code due = if due then frames ++ record { id = id; error_code = code } ∷ [] else frames
+
+-- how many places there are for an id to be queued for MAX_STREAM_DATA
+abbrev pub window_rooms : Retransmits → ℕ → ℕ
+window_rooms r id = if is_in_ids r.max_stream_data id then 1 else spare r.max_stream_data
+
+-- how many more STOP_SENDING frames can be queued without new memory
+abbrev pub stop_rooms : Retransmits → ℕ
+stop_rooms r = vec_capacity r.stop_sending - vec_len r.stop_sending

@@ -1,0 +1,10 @@
+//! What is to be sent, again or for the first time, beside the data of streams.
+#![tactic(auto)]
+
+mod queueing;
+pub mod retransmits;
+
+pub use retransmits::{IssuedCid, Retransmits, ThinRetransmits};
+
+#[cfg(test)]
+mod tests;
