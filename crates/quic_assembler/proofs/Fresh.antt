@@ -1,7 +1,6 @@
 -- What of a run was not received.
 use Rattle.std.proofs.Common.{◌≡◌, ℕ, ◌+◌, ◌-◌, ◌≤◌, ◌<◌, ◌⊎◌, inl, inr, refl, sym, ◌∙◌, ap, List, [], ◌∷◌, ◌++◌, length, take, drop, arith, zero, suc, Bool, true, false, min, sum_by, ◌*◌}
 use Rattle.std.specs.Prelude.{◌&&◌, not}
-use Rattle.std.specs.List.{Any, All}
 use Rattle.std.proofs.lemmas.List.{length-append, length-drop, length-take, get_or-take, drop-drop}
 use Rattle.std.proofs.lemmas.List.Elements.{All-push, All-nil}
 use Rattle.std.proofs.lemmas.Bool.{cases_lt}

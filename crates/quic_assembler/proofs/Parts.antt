@@ -1,6 +1,6 @@
 -- What compaction sees of runs in order.
 use Rattle.std.proofs.Common.{◌≡◌, ℕ, ◌+◌, ◌-◌, ◌*◌, ◌/◌, ◌≤◌, ◌<◌, ◌⊎◌, inl, inr, refl, sym, ◌∙◌, List, [], ◌∷◌, ◌++◌, length, arith, suc, Bool, true, false, min, max}
-use Rattle.std.specs.Prelude.{nat_le, nat_lt, not, ◌||◌, Option, Some, None}
+use Rattle.std.specs.Prelude.{nat_le, nat_lt, not, ◌||◌, Option, Some}
 use Rattle.std.proofs.lemmas.Bool.Decides.{nat_tests}
 use Rattle.std.proofs.lemmas.Grind.{common_steps}
 use Rattle.std.specs.List.{Any, All}

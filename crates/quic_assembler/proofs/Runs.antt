@@ -8,7 +8,7 @@ use Rattle.std.proofs.lemmas.Bool.{cases_lt}
 use Rattle.std.proofs.lemmas.List.Elements.{All-head, All-tail}
 use Rattle.std.proofs.lemmas.List.{get_or_default}
 use Rattle.std.proofs.lemmas.Grind.{common_steps}
-use Rattle.quic_assembler.specs.Piece.{PieceView, IsSome, IsLowest, RunHolds, run_end, cut_at, advance_by, IsByteAt, KeepsFrom, TakesFrom, NoneHoldsAt, TakesSome, Covers, covers, cover_count, bit, lies}
+use Rattle.quic_assembler.specs.Piece.{PieceView, IsSome, IsLowest, RunHolds, run_end, cut_at, advance_by, IsByteAt, KeepsFrom, TakesFrom, NoneHoldsAt, CoversMore, TakesSome, Covers, covers, cover_count, bit, lies}
 use Rattle.quic_assembler.proofs.Counts.{Any-permutation, Any-here, Any-there, Any-cons, count_permuted, count_of_any, lies_in, lies_below, lies_above, bit-le-one}
 
 -- a run that is cut holds what lies from the floor on
@@ -180,3 +180,9 @@ covers_from_holds at byte xs (k, r, l, e, p) = (k, r, l, e, (p.0, p.1))
 
 pub holds_from_covers : (at : ℕ) (xs : List PieceView) → Any (Covers at) xs → (byte : ℕ) × Any (RunHolds at byte) xs
 holds_from_covers at xs (k, r, l, e, p) = (get_or r.bytes (at - r.offset) 0, (k, r, l, e, (p.0, p.1, refl)))
+
+-- a run that reaches over the floor, and further than so many offsets
+pub CoversMore-front : (floor most : ℕ) (xs ys zs : List PieceView) (r : PieceView) → KeepsFrom floor xs ys → IsPermutation ys (r ∷ zs) → r.offset ≤ floor → floor < run_end r → most < length (cut_at floor r).bytes → CoversMore floor most xs
+CoversMore-front floor most xs ys zs r k h s f l = λ at m n.
+    let in_run : at < run_end r = omega (arith, length-drop (floor - r.offset) r.bytes) in
+    covers_from_holds at (get_or r.bytes (at - r.offset) 0) xs (k.origin at _ (Any-permutation _ _ _ (IsPermutation-sym _ _ h) (Any-here _ _ _ (omega arith, in_run, refl))))

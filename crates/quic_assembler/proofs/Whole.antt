@@ -11,9 +11,9 @@ use Rattle.std.proofs.lemmas.Bool.Decides.{nat_tests}
 use Rattle.quic_values.specs.Runs.{contains, Run as Range}
 use Rattle.quic_assembler.specs.declared.errors.InsertError.{InsertError}
 use Rattle.quic_assembler.specs.declared.errors.InsertError.TheVariants.{TooManyChunks, CompactionMemory, OutOfMemory}
-use Rattle.quic_assembler.specs.Piece.{PieceView, RunHolds, cover_count, bit, lies, run_end, cut_at, KeepsFrom, TakesSome, NoneHoldsAt, covers, Sums, sums_of}
+use Rattle.quic_assembler.specs.Piece.{PieceView, RunHolds, cover_count, bit, lies, run_end, cut_at, KeepsFrom, CoversMore, TakesSome, NoneHoldsAt, covers, Sums, sums_of}
 use Rattle.quic_assembler.specs.Compact.{Compacts}
-use Rattle.quic_assembler.specs.Reassembly.{Reassembly, floor, Holds, IsDone, is_done, IsHeld, IsWithin, Takes, Gives, SameHeld, KeepsOffsets, IsSameButHeld, MatchInsert, HoldsNothing, HoldsOnce, IsApart, IsAssembler, TakesFresh, Keeps, LeavesOrder, IsNext, run_count, fresh_count, is_wasteful, used, sums, covered, with_piece, covered_with, Settles}
+use Rattle.quic_assembler.specs.Reassembly.{Reassembly, floor, Holds, IsDone, is_done, IsHeld, IsWithin, HoldsMore, Takes, Gives, SameHeld, KeepsOffsets, IsSameButHeld, MatchInsert, HoldsNothing, HoldsOnce, IsApart, IsAssembler, TakesFresh, Keeps, LeavesOrder, IsNext, run_count, fresh_count, is_wasteful, used, sums, covered, with_piece, covered_with, Settles}
 use Rattle.quic_assembler.proofs.Sums.{sums_permuted, sums_equal, sums_pushed}
 use Rattle.quic_assembler.proofs.Fresh.{fresh_bit, old_bit, outside_bit}
 use Rattle.std.proofs.lemmas.List.{length-drop}
@@ -365,6 +365,20 @@ none_next a offset n e none h = none_held a a.bytes_read (rw (n.behind e) at non
 
 pub none_at_next : (old : Reassembly) (offset : ℕ) → IsNext old offset → old.ordered ≡ false → NoneHoldsAt offset old.runs → ⊥
 none_at_next old offset n e none = (let b = holds_from_covers offset old.runs (n.covered e) in none b.0 b.1)
+
+-- what a read that is refused has at hand
+more_floor : (old : Reassembly) (offset at : ℕ) (mode : Bool) → old.ordered ≡ mode → IsNext old offset → offset ≤ at → floor old ≤ at
+more_floor old offset at true e n l = (let f : floor old ≡ old.bytes_read = rw e refl in omega (arith, n.behind e))
+more_floor old offset at false e n l = (let f : floor old ≡ 0 = rw e refl in omega arith)
+
+pub holds_more : (old : Reassembly) (offset most : ℕ) → IsNext old offset → CoversMore offset most old.runs → HoldsMore (Holds old) old.ordered old.bytes_read most
+unfolding Holds
+holds_more old offset most n c = record {
+  start = offset;
+  behind = n.behind;
+  lowest = λ at l h. next_lowest old offset at n l h;
+  row = λ at l m. (let b = holds_from_covers at old.runs (c at l m) in (b.0, (more_floor old offset at old.ordered refl n l, b.1)));
+}
 
 -- the invariant after a read
 apart_read : (xs ys : List PieceView) (received : List Range) (bytes_read offset most : ℕ) (bytes : List ℕ) → IsApart xs received bytes_read → TakesSome offset most bytes xs ys → IsApart ys received (bytes_read + length bytes)

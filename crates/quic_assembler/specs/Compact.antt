@@ -1,5 +1,5 @@
 -- What compaction keeps, joins and drops.
-use Rattle.std.specs.Prelude.{ℕ, Bool, not, true, ◌≡◌, ◌+◌, ◌*◌, ◌/◌, ◌≤◌, ◌<◌, ◌⊎◌, ◌&&◌, ◌||◌, nat_le, nat_lt, if◌then◌else◌, cond, max, min, List, [], ◌∷◌, ◌++◌, length, Option, Some, None}
+use Rattle.std.specs.Prelude.{ℕ, Bool, not, true, ◌≡◌, ◌+◌, ◌*◌, ◌/◌, ◌≤◌, ◌⊎◌, ◌&&◌, ◌||◌, nat_le, nat_lt, if◌then◌else◌, cond, max, min, List, [], ◌∷◌, ◌++◌, length, Option, Some, None}
 use Rattle.std.specs.List.{Any, All}
 use Rattle.quic_assembler.specs.Piece.{PieceView, IsSome, RunHolds, cover_count, covers, run_end, cut_at}
 

@@ -146,6 +146,13 @@ pub record Gives (held held' : ℕ → ℕ → Type 0) (offset : ℕ) (bytes : L
   pub keeps : (at byte : ℕ) → held at byte → IsWithin offset bytes at ⊎ held' at byte
   pub origin : (at byte : ℕ) → held' at byte → held at byte
 
+-- where reads go on, in ordered mode at `read` and else at the lowest offset that is held, more than so many offsets in a row are held
+pub record HoldsMore (held : ℕ → ℕ → Type 0) (ordered : Bool) (read most : ℕ) : Type 0 where
+  pub start : ℕ
+  pub behind : ordered ≡ true → start ≡ read
+  pub lowest : (at : ℕ) → at < start → IsHeld held at → ⊥
+  pub row : (at : ℕ) → start ≤ at → at ≤ start + most → IsHeld held at
+
 -- what a read gave, and what it says where nothing was at hand
 abbrev pub IfGiven : {C E : Type 0} → Result (Option C) E → (C → Type 0) → Type 0
 IfGiven r P = IfOk r (λ o. IfSome o P)
@@ -229,3 +236,8 @@ Settles (Ok u) due s n t = ((due ≡ false) × (t ≡ s)) ⊎ ((due ≡ true) ×
 Settles (Err TooManyChunks) due s n t = (due ≡ true) × IsCompacted n t × (1024 < t.pieces)
 Settles (Err CompactionMemory) due s n t = (due ≡ true) × (t ≡ s)
 Settles (Err OutOfMemory) due s n t = Unit {0}
+
+-- what the pieces come to once bytes came that keep so much memory alive, and whether they were compacted for it
+pub record Accounts (old : Reassembly) (offset : ℕ) (bytes : List ℕ) (size : ℕ) (r : Result (Unit {0}) InsertError) (new : Reassembly) : Type 0 where
+  pub stale : IsStale old offset bytes → sums new ≡ sums old
+  pub settles : IsStale old offset bytes ⊎ Settles r (is_wasteful (with_piece old offset bytes size) (max old.highest (offset + length bytes) - old.bytes_read)) (with_piece old offset bytes size) (covered_with old offset bytes) (sums new)

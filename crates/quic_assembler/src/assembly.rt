@@ -1,7 +1,7 @@
 // An assembler over a heap of pieces.
 ghost use Rattle.std.specs.Prelude.{◌≡◌, ◌≢◌, ℕ, ◌+◌, ◌-◌, ◌^◌, ◌<◌, ◌≤◌, ◌↔◌, ◌⊎◌, ◌||◌, ◌&&◌, true, false, length, max, OnOk, OnErr, IfSome, IfNone, [], IsTrue, MatchOption, Ok, Err};
 ghost use Rattle.quic_assembler.specs.Piece.{PieceView, run_end, lies, TakesOff};
-ghost use Rattle.quic_assembler.specs.Reassembly.{Reassembly, fresh, Holds, IsDone, is_done, IsHeld, IsWithin, Takes, Gives, SameHeld, KeepsOffsets, IsSameButHeld, HoldsNothing, HoldsOnce, MatchInsert, IfGiven, OnNothing, IsStale, run_count, piece_count, Keeps, LeavesOrder, IsNext, is_wasteful, sums, covered, with_piece, covered_with, IsCompacted, Settles};
+ghost use Rattle.quic_assembler.specs.Reassembly.{Reassembly, fresh, Holds, IsDone, is_done, IsHeld, IsWithin, HoldsMore, Takes, Gives, SameHeld, KeepsOffsets, IsSameButHeld, HoldsNothing, HoldsOnce, MatchInsert, IfGiven, OnNothing, IsStale, run_count, piece_count, Keeps, LeavesOrder, IsNext, is_wasteful, sums, covered, with_piece, covered_with, IsCompacted, Settles};
 
 use crate::chunk::Chunk;
 use crate::errors::{EnsureError, InsertError};
@@ -248,8 +248,9 @@ impl Assembler {
     /// that follow what was read, in unordered mode those of lowest offset. `None` where there are none. `ordered` is
     /// the mode.
     ///
-    /// A piece that is given whole is not copied. Where there is no memory to cut one, nothing is given, and only
-    /// pieces that were wholly read before may be gone.
+    /// A piece that is given whole is not copied. Memory is wanted only to cut one, so only where more than `max_length`
+    /// bytes in a row are at hand. Where there is none, nothing is given, and only pieces that were wholly read before
+    /// may be gone.
     pub fn read(&mut self, max_length: usize, ordered: bool) -> Result<Option<Chunk>, OutOfMemory>
         requires { ordered ≡ self.old.ordered }
         ensures given { IfGiven result (λ chunk. Gives (Holds self.old) (Holds self.new) chunk.offset chunk.bytes) }
@@ -270,6 +271,7 @@ impl Assembler {
 
         ensures err_held { OnErr result (SameHeld (Holds self.old) (Holds self.new)) }
         ensures err_read { OnErr result (self.new.bytes_read ≡ self.old.bytes_read) }
+        ensures err_more { OnErr result (HoldsMore (Holds self.old) ordered self.old.bytes_read max_length) }
 
         ensures done { (at : ℕ) → self.old.ordered ≡ false → is_done self.new at ≡ is_done self.old at }
         ensures ordered { self.new.ordered ≡ self.old.ordered }

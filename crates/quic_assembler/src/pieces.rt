@@ -5,7 +5,7 @@ ghost use Rattle.std.specs.List.Sorted.{IsPermutation};
 ghost use Rattle.quic_assembler.specs.Compact.{Compacts, slots, with_run};
 ghost use Rattle.quic_assembler.specs.Reassembly.{covered, IsCompacted};
 ghost use Rattle.quic_values.specs.Runs.{contains};
-ghost use Rattle.quic_assembler.specs.Piece.{PieceView, Covers, RunHolds, cover_count, bit, Queue, IsSome, IsPieceSound, IsLowest, run_end, run_length, run_allocation, sums_of, cut_at, advance_by, KeepsFrom, IsFreshFrom, NoneHoldsAt, TakesSome, TakesNone, Sheds, ReadsOff};
+ghost use Rattle.quic_assembler.specs.Piece.{PieceView, Covers, RunHolds, cover_count, bit, Queue, IsSome, IsPieceSound, IsLowest, run_end, run_length, run_allocation, sums_of, cut_at, advance_by, KeepsFrom, CoversMore, IsFreshFrom, NoneHoldsAt, TakesSome, TakesNone, Sheds, ReadsOff};
 
 use crate::piece::Piece;
 use quic_values::{Bytes, OutOfMemory, RangeSet};
@@ -249,6 +249,7 @@ impl Pieces {
         ensures part { OnOk result (max_length < length piece.bytes → IsPermutation (advance_by max_length piece ∷ self.old.runs) self.new.runs) }
         ensures whole { OnOk result (length piece.bytes ≤ max_length → self.new.runs ≡ self.old.runs) }
         ensures err { OnErr result (IsPermutation (piece ∷ self.old.runs) self.new.runs) }
+        ensures err_part { OnErr result (max_length < length piece.bytes) }
         ensures len { length self.new.runs ≤ length self.old.runs + 1 }
     {
         if piece.len() <= max_length {
@@ -268,6 +269,7 @@ impl Pieces {
         ensures ok { IfOk result (λ given. MatchOption given (TakesNone floor self.old.runs self.new.runs) (λ v. TakesSome floor max_length v self.old.runs self.new.runs)) }
         ensures off { IfOk result (λ given. MatchOption given (Sheds floor self.old.runs self.new.runs) (λ v. ReadsOff floor max_length v self.old.runs self.new.runs)) }
         ensures err { OnErr result (KeepsFrom floor self.old.runs self.new.runs) }
+        ensures err_more { OnErr result (CoversMore floor max_length self.old.runs) }
         ensures len { length self.new.runs ≤ length self.old.runs }
     {
         self.drop_stale(floor);

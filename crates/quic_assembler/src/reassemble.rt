@@ -1,7 +1,7 @@
 // What a reassembler does, however it keeps its pieces.
 ghost use Rattle.std.specs.Prelude.{◌≡◌, ℕ, ◌+◌, ◌^◌, ◌<◌, ◌≤◌, ◌↔◌, ◌⊎◌, ◌||◌, Bool, true, false, max, length, OnOk, OnErr, IsTrue, Ok, Err};
 ghost use Rattle.quic_assembler.specs.Piece.{lies};
-ghost use Rattle.quic_assembler.specs.Reassembly.{IsHeld, IsWithin, Takes, Gives, SameHeld, KeepsOffsets, HoldsNothing, MatchInsert, IfGiven, OnNothing, run_count};
+ghost use Rattle.quic_assembler.specs.Reassembly.{IsHeld, IsWithin, HoldsMore, Takes, Gives, SameHeld, KeepsOffsets, HoldsNothing, MatchInsert, IfGiven, OnNothing, run_count};
 
 use crate::chunk::Chunk;
 use crate::errors::{EnsureError, InsertError};
@@ -63,6 +63,7 @@ pub trait Reassemble {
         ensures none_read { OnNothing result (read_count self.new ≡ read_count self.old) }
         ensures err_held { OnErr result (SameHeld (holds self.old) (holds self.new)) }
         ensures err_read { OnErr result (read_count self.new ≡ read_count self.old) }
+        ensures err_more { OnErr result (HoldsMore (holds self.old) ordered (read_count self.old) max_length) }
         ensures done { (at : ℕ) → is_ordered self.old ≡ false → is_done self.new at ≡ is_done self.old at }
         ensures is_ordered { is_ordered self.new ≡ is_ordered self.old }
         ensures top { highest self.new ≡ highest self.old }

@@ -1,8 +1,8 @@
 -- A read that gives nothing.
-use Rattle.std.proofs.Common.{◌≡◌, ℕ, Option, None, Result, Ok, Err, refl}
+use Rattle.std.proofs.Common.{◌≡◌, ℕ, Bool, Option, None, Result, Ok, Err, refl}
 use Rattle.std.specs.Result.{IsErrAnd}
 use Rattle.quic_assembler.specs.declared.Chunk.{Chunk}
-use Rattle.quic_assembler.specs.Reassembly.{Reassembly}
+use Rattle.quic_assembler.specs.Reassembly.{Reassembly, Holds, HoldsMore}
 use Rattle.quic_receiving.specs.declared.errors.ReadError.{ReadError}
 use Rattle.quic_receiving.specs.declared.errors.ReadError.TheVariants as read_error
 use Rattle.quic_receiving.specs.Half.{Half}
@@ -16,6 +16,7 @@ waits old buffer running rests = record {
 }
 
 pub no_memory : (old : Half) (most : ℕ) (r : Result (Option Chunk) ReadError) (new : Half)
-    → IsErrAnd r (λ e. e ≡ read_error.OutOfMemory) → Waits old new → Reads old most r new
-no_memory old most (Ok o) new h w = absurd h
-no_memory old most (Err e) new h w = rw h w
+    → IsErrAnd r (λ e. e ≡ read_error.OutOfMemory) → (ordered : Bool) → ordered ≡ old.buffer.ordered → HoldsMore (Holds old.buffer) ordered old.buffer.bytes_read most
+    → Waits old new → Reads old most r new
+no_memory old most (Ok o) new h ordered m l w = absurd h
+no_memory old most (Err e) new h ordered m l w = rw h (rw m at l, w)

@@ -11,21 +11,21 @@ use Rattle.quic_receiving.proofs.Counted.{read-bound, counted-inserted}
 pub sound : (buffer : Reassembly) (size reset : Option ℕ) (end sent_max : ℕ) (stopped : Bool) → end < 2 ^ 62 → sent_max < 2 ^ 62
     → ((e : ℕ) → size ≡ Some e → end ≡ e) → (is_some reset ≡ true → is_some size ≡ true) → IsCounted buffer → buffer.highest ≤ end
     → IsHalf (record { buffer = buffer; size = size; reset = reset; end = end; sent_max = sent_max; stopped = stopped })
-sound buffer size reset end sent_max stopped bound limit size_is sized counted_to within = record {
+sound buffer size reset end sent_max stopped bound limit size_is sized counted within = record {
   end_bound = bound;
   limit_bound = limit;
   size_is = size_is;
   reset_sized = sized;
-  counted_to = counted_to;
+  counted = counted;
   within = within;
-  read_bound = omega (arith, read-bound buffer counted_to);
+  read_bound = omega (arith, read-bound buffer counted);
 }
 
 -- another buffer with the same highest end
 pub sound_buffer : (h : Half) (buffer : Reassembly) (stopped : Bool) → IsHalf h → buffer.highest ≡ h.buffer.highest → IsCounted buffer
     → IsHalf (record h { buffer = buffer; stopped = stopped })
-sound_buffer h buffer stopped i same counted_to =
-    sound buffer h.size h.reset h.end h.sent_max stopped i.end_bound i.limit_bound i.size_is i.reset_sized counted_to (omega (arith, i.within))
+sound_buffer h buffer stopped i same counted =
+    sound buffer h.size h.reset h.end h.sent_max stopped i.end_bound i.limit_bound i.size_is i.reset_sized counted (omega (arith, i.within))
 
 -- a frame is taken where no test fails
 no_test_fails : (a b c d : Bool) (e f : ℕ) → (if a then Refused e else if b then Refused f else if c then Refused f else if d then Refused e else Taken) ≡ Taken

@@ -1,10 +1,12 @@
 -- What the calls on a receive half do.
 use Rattle.std.specs.Prelude.{◌≡◌, ℕ, ◌+◌, ◌≤◌, ◌<◌, ◌⊎◌, Bool, true, false, not, ◌&&◌, ◌||◌, max, List, length, Option, Some, None, is_none, is_some, Result, Ok, Err}
 use Rattle.quic_assembler.specs.Piece.{lies}
-use Rattle.quic_assembler.specs.Reassembly.{Reassembly, Holds, IsDone, is_done, IsHeld, IsWithin, Takes, Gives, SameHeld, HoldsNothing, IsStale, LeavesOrder, run_count, piece_count}
+use Rattle.quic_assembler.specs.Reassembly.{Reassembly, Holds, IsDone, is_done, IsHeld, IsWithin, HoldsMore, Takes, Gives, SameHeld, HoldsNothing, IsStale, LeavesOrder, run_count, piece_count}
 use Rattle.quic_assembler.specs.declared.Chunk.{Chunk}
 use Rattle.quic_assembler.specs.declared.EnsureError.{EnsureError}
 use Rattle.quic_assembler.specs.declared.EnsureError.TheVariants as ensure_error
+use Rattle.quic_assembler.specs.declared.InsertError.{InsertError}
+use Rattle.quic_assembler.specs.declared.InsertError.TheVariants as insert_error
 use Rattle.quic_sending.specs.declared.ClosedStream.{ClosedStream}
 use Rattle.quic_wire.specs.declared.TransportError.{TransportError}
 use Rattle.quic_wire.specs.declared.ReceiveError.{ReceiveError}
@@ -68,6 +70,13 @@ Ingests old offset bytes fin received max_data (Err receive_error.CompactionMemo
 Ingests old offset bytes fin received max_data (Err receive_error.OutOfMemory) new =
     (verdict old offset (length bytes) fin received max_data ≡ Taken)
     × (old.stopped ≡ false) × (IsStale old.buffer offset bytes → ⊥) × (new ≡ old)
+
+-- what the buffer answered, where a frame is taken
+abbrev pub buffer_answer : Result (ℕ × Bool) ReceiveError → Result (Unit {0}) InsertError
+buffer_answer (Ok answer) = Ok tt
+buffer_answer (Err (receive_error.Transport error)) = Err insert_error.TooManyChunks
+buffer_answer (Err receive_error.CompactionMemory) = Err insert_error.CompactionMemory
+buffer_answer (Err receive_error.OutOfMemory) = Err insert_error.OutOfMemory
 
 -- what is held is let go, and nothing else changes
 pub record Clears (old new : Reassembly) : Type 0 where
@@ -137,7 +146,8 @@ Reads old most (Ok (Some chunk)) new =
 Reads old most (Ok None) new = (is_all old.size old.buffer.bytes_read ≡ true) × HasNone old.buffer × Waits old new
 Reads old most (Err read_error.Blocked) new = (is_all old.size old.buffer.bytes_read ≡ false) × HasNone old.buffer × Waits old new
 Reads old most (Err (read_error.Reset code)) new = (old.reset ≡ Some code) × (new ≡ old)
-Reads old most (Err read_error.OutOfMemory) new = Waits old new
+Reads old most (Err read_error.OutOfMemory) new =
+    HoldsMore (Holds old.buffer) old.buffer.ordered old.buffer.bytes_read most × Waits old new
 
 -- unordered mode holds from here on
 pub record Leaves (old new : Reassembly) : Type 0 where

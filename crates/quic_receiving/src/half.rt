@@ -1,10 +1,11 @@
 //! The receive half of a stream.
 
-ghost use Rattle.std.specs.Prelude.{◌≡◌, ◌+◌, ◌-◌, ◌<◌, ◌≤◌, ◌^◌, ◌&&◌, ◌||◌, ℕ, length, not, true, None, Some, is_none, is_some, max, nat_lt, if◌then◌else◌, SomeIff, IfOk, IfErr, OnOk};
+ghost use Rattle.std.specs.Prelude.{◌≡◌, ◌+◌, ◌-◌, ◌<◌, ◌≤◌, ◌^◌, ◌&&◌, ◌||◌, ℕ, length, not, true, false, None, Some, is_none, is_some, max, nat_lt, if◌then◌else◌, SomeIff, IfOk, IfErr, OnOk};
 ghost use Rattle.quic_receiving.specs.Half.{IsHalf, new_half, Refused, Taken, verdict, reset_verdict, is_unfit, is_beyond, is_open, is_all, window_end, is_window_due};
 ghost use Rattle.quic_values.specs.Offsets.{is_past};
+ghost use Rattle.quic_assembler.specs.Reassembly.{Accounts};
 ghost use Rattle.quic_receiving.specs.State.{known_size, reset_code_of};
-ghost use Rattle.quic_receiving.specs.Calls.{IsFresh, Ingests, StopsHalf, Resets, Reads, Orders};
+ghost use Rattle.quic_receiving.specs.Calls.{IsFresh, Ingests, buffer_answer, StopsHalf, Resets, Reads, Orders};
 
 mod queries;
 
@@ -89,7 +90,8 @@ impl Recv {
     ///
     /// Answers how many bytes lie above the highest offset received before, and whether the frame closes a stopped
     /// half. Where too many pieces are held (an internal error), or there is no memory to compact them, the frame is
-    /// kept and counts all the same: the new bytes are then what `end` grew by. Other refusals change nothing.
+    /// kept and counts all the same: the new bytes are then what `end` grew by. Other refusals change nothing. The data
+    /// keep the whole payload alive, so that this is their allocation size.
     pub fn ingest(
         &mut self,
         frame: frame::Stream,
@@ -100,6 +102,7 @@ impl Recv {
         requires running { self.old.reset ≡ None }
         requires within { length frame.bytes ≤ payload_len }
         ensures ingests { Ingests self.old frame.offset frame.bytes frame.fin received max_data result self.new }
+        ensures accounts { self.old.stopped ≡ false → verdict self.old frame.offset (length frame.bytes) frame.fin received max_data ≡ Taken → Accounts self.old.buffer frame.offset frame.bytes payload_len (buffer_answer result) self.new.buffer }
         ensures grows { self.old.end ≤ self.new.end }
         ensures permitted { self.old.end < self.new.end → received + (self.new.end - self.old.end) ≤ max_data }
         ensures sound { IsHalf self.new }

@@ -1,7 +1,7 @@
 use Rattle.std.proofs.Common.{refl, sym, ◌∙◌}
 use Rattle.std.proofs.lemmas.Result.{err_from_is_err_and}
 use Rattle.std.proofs.lemmas.Option.{MatchOption-at_none, MatchOption-at_some}
-use Rattle.quic_assembler.proofs.Whole.{holds_nothing, assembler_less, assembler_read, gives_some, held_here, next_lowest, done_given, done_same_unordered, same_kept, none_next, none_at_next}
+use Rattle.quic_assembler.proofs.Whole.{holds_nothing, assembler_less, assembler_read, gives_some, held_here, next_lowest, done_given, done_same_unordered, same_kept, holds_more, none_next, none_at_next}
 use Rattle.quic_assembler.proofs.Sums.{takes_off}
 use Rattle.quic_assembler.proofs.assembly.Assembler.read.Goals as goal
 
@@ -16,6 +16,12 @@ returns-in_err-take_first-clause-err_held c =
     let p = err_from_is_err_and c.from_residual.result c.from_residual.ensures.1 in
     let next = rw (← c.self.view_is) at c.in-Some.ensures.next in
     rw (p.1, ← c.self.view_is) (same_kept _ _ _ next refl c.in_err-take_first.ensures.err)
+
+pub returns-in_err-take_first-clause-err_more : goal.returns-in_err-take_first-clause-err_more
+returns-in_err-take_first-clause-err_more c =
+    let p = err_from_is_err_and c.from_residual.result c.from_residual.ensures.1 in
+    let next = rw (← c.self.view_is) at c.in-Some.ensures.next in
+    rw (p.1, c.requires, ← c.self.view_is) (holds_more _ _ _ next c.in_err-take_first.ensures.err_more)
 
 pub returns-in_err-take_first-clause-done : goal.returns-in_err-take_first-clause-done
 returns-in_err-take_first-clause-done c = rw (← c.self.view_is) (λ at e. done_same_unordered _ _ at e refl refl)

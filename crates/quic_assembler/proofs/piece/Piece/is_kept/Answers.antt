@@ -1,4 +1,4 @@
-use Rattle.std.proofs.Common.{Some, arith, length-drop, sym, ◌∙◌, ◌+◌, ◌-◌}
+use Rattle.std.proofs.Common.{Some, arith, length-drop, sym, ◌+◌, ◌-◌}
 use Rattle.quic_assembler.specs.Piece.{PieceView}
 use Rattle.quic_assembler.proofs.Parts.{kept_loose, kept_long, kept_short, alone_above, alone_touching}
 use Rattle.quic_assembler.proofs.piece.Piece.is_kept.Goals as goal

@@ -1,4 +1,4 @@
-use Rattle.std.proofs.Common.{arith, ◌∙◌, inl, inr, ◌+◌, reverse, sym, []}
+use Rattle.std.proofs.Common.{arith, ◌∙◌, inl, inr, reverse, []}
 use Rattle.quic_assembler.specs.Compact.{is_joined, IsTight}
 use Rattle.std.proofs.lemmas.List.Elements.{All-head, All-tail}
 use Rattle.std.proofs.lemmas.List.Sorted.{All-permutation, IsPermutation-sym, length_permutation}

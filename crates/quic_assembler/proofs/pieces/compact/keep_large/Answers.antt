@@ -1,6 +1,4 @@
 use Rattle.std.proofs.Common.{arith, reverse}
-use Rattle.std.proofs.lemmas.List.Elements.{All-head}
-use Rattle.quic_assembler.specs.Piece.{IsSome}
 use Rattle.quic_assembler.specs.Compact.{stays}
 use Rattle.quic_assembler.proofs.Parts.{seen_next, part_length, reverse_last}
 use Rattle.quic_assembler.proofs.pieces.compact.keep_large.Goals as goal

@@ -1,7 +1,7 @@
 use Rattle.std.proofs.Common.{arith, length-drop, sym}
 use Rattle.std.proofs.lemmas.List.Sorted.{length_permutation, All-permutation}
 use Rattle.std.proofs.lemmas.List.Elements.{All-cons}
-use Rattle.quic_assembler.specs.Compact.{stays, IsTight}
+use Rattle.quic_assembler.specs.Compact.{IsTight}
 use Rattle.quic_assembler.proofs.Parts.{seen_kept, adds_seen, adds_put}
 use Rattle.quic_assembler.proofs.pieces.compact.keep_next.Goals as goal
 

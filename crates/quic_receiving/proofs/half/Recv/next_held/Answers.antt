@@ -34,7 +34,7 @@ returns-in_err-chunk-clause-reads c =
     let old = the_view c.self.inside in
     let new = c.read.new.self in
     rw (← c.self.view_is)
-    (no_memory old c.args.max_length c.from_residual.result (record old { buffer = new }) c.from_residual.ensures.1
+    (no_memory old c.args.max_length c.from_residual.result (record old { buffer = new }) c.from_residual.ensures.1 c.args.ordered (search rules) e.err_more
     (waits old new (search rules) (rests old.buffer new e.err_held e.done e.err_read e.ordered e.highest e.pieces)))
 
 pub returns-then-is_all-clause-reads : goal.returns-then-is_all-clause-reads
