@@ -1,6 +1,6 @@
 -- Where a history begins.
 use Rattle.std.proofs.Common.{◌≡◌, ℕ, Bool, true, false, ◌&&◌, not, cond, [], Some, None, refl, sym, ap, subst, arith, ◌/◌, ◌%◌, ◌<◌, ◌≤◌, ◌^◌, zero, suc}
-use Rattle.std.specs.Prelude.{nat_lt, nat_le, if◌then◌else◌, ◌==◌}
+use Rattle.std.specs.Prelude.{max, min, ◌+◌, nat_lt, nat_le, if◌then◌else◌, ◌==◌}
 use Rattle.std.proofs.lemmas.Bool.Decides.{nat_tests}
 use Rattle.quic_values.specs.declared.ids.Side.{Side}
 use Rattle.quic_values.specs.declared.ids.Side.TheVariants.{Client, Server}
@@ -11,7 +11,7 @@ use Rattle.quic_limits.specs.Remote.{new_remote}
 use Rattle.quic_receiving.specs.Counted.{number}
 use Rattle.quic_receiving.specs.Half.{new_half}
 use Rattle.quic_history.specs.Halves.{is_among, with_first}
-use Rattle.quic_history.specs.World.{World, start, is_same_side}
+use Rattle.quic_history.specs.World.{World, Made, count_of, start, is_same_side}
 use Rattle.quic_history.proofs.Endings.{tells-ends}
 use Rattle.quic_history.proofs.Remotes.{AllRemotes}
 use Rattle.quic_history.specs.History.{StreamFrom, RemoteFrom, untouched, trace, Facts, From}
@@ -79,40 +79,44 @@ by_bits Server false true uni bi window index = rw (least index) refl
 by_bits Server false false uni bi window index = refl
 
 -- what is told of each stream is true at the start
-all_start : (side : Side) (uni bi send_window receive_window window : ℕ) → AllFrom (λ q. untouched) (start side uni bi send_window receive_window window)
+all_start : (m : Made) → AllFrom (λ q. untouched) (start m)
 unfolding with_first
-all_start side uni bi send_window receive_window window q =
-    let w = start side uni bi send_window receive_window window in
-    rw (refusal-is w q, among (other_side side) Uni uni q (q % 2 == 0) (q / 2 % 2 == 0) refl refl, among (other_side side) Bi bi q (q % 2 == 0) (q / 2 % 2 == 0) refl refl)
-    (by_bits side (q % 2 == 0) (q / 2 % 2 == 0) uni bi window (index_of q))
+all_start m q =
+    let w = start m in
+    rw (refusal-is w q, among (other_side m.side) Uni m.uni q (q % 2 == 0) (q / 2 % 2 == 0) refl refl, among (other_side m.side) Bi m.bi q (q % 2 == 0) (q / 2 % 2 == 0) refl refl)
+    (by_bits m.side (q % 2 == 0) (q / 2 % 2 == 0) m.uni m.bi m.window (index_of q))
 
-facts_start : (side : Side) (uni bi send_window receive_window window : ℕ) → receive_window < 2 ^ 62 → Facts [] (start side uni bi send_window receive_window window)
-facts_start side uni bi send_window receive_window window small = record { credit = credit-start receive_window small; streams = all_start side uni bi send_window receive_window window }
+facts_start : (m : Made) → m.receive_window < 2 ^ 62 → Facts m.receive_window [] (start m)
+facts_start m small = record { credit = credit-start m.receive_window small; streams = all_start m }
 
 none_over : (n : ℕ) (over : ℕ → Bool) → ((i : ℕ) → over i ≡ false) → number over n ≡ 0
 unfolding number
 none_over zero over none = refl
 none_over (suc n) over none = let e = none n in rw e (omega (arith, none_over n over none))
 
-remote_start : (over : ℕ → Bool) (count : ℕ) → ((i : ℕ) → over i ≡ false) → count ≤ 2 ^ 60 → RemoteFrom over (new_remote count)
-remote_start over count none few = let e = none_over count over none in record { allocated = omega arith; permitted = omega arith }
+remote_start : (over : ℕ → Bool) (count : ℕ) → ((i : ℕ) → over i ≡ false) → count ≤ 2 ^ 60 → RemoteFrom count 0 over (new_remote count)
+remote_start over count none few =
+    let e = none_over count over none in
+    let p : count ≡ max 0 (min (count + number over count) (2 ^ 60)) = omega arith in
+    record { concurrent = refl; allocated = omega arith; permitted = p }
 
 -- no stream was freed
-remotes_start : (side : Side) (uni bi send_window receive_window window : ℕ) → uni ≤ 2 ^ 60 → bi ≤ 2 ^ 60 → AllRemotes (trace []) (start side uni bi send_window receive_window window)
-remotes_start side uni bi send_window receive_window window few_uni few_bi Bi = remote_start _ bi (λ i. refl) few_bi
-remotes_start side uni bi send_window receive_window window few_uni few_bi Uni = remote_start _ uni (λ i. refl) few_uni
+remotes_start : (m : Made) → m.uni ≤ 2 ^ 60 → m.bi ≤ 2 ^ 60 → AllRemotes (count_of m) (λ d. 0) (trace []) (start m)
+remotes_start m few_uni few_bi Bi = remote_start _ m.bi (λ i. refl) few_bi
+remotes_start m few_uni few_bi Uni = remote_start _ m.uni (λ i. refl) few_uni
 
--- an end that was just made may come from no calls
-pub begins : (side : Side) (uni bi send_window receive_window window : ℕ) (v : World) → uni ≤ 2 ^ 60 → bi ≤ 2 ^ 60 → receive_window < 2 ^ 62
-    → v ≡ start side uni bi send_window receive_window window → From [] v
-begins side uni bi send_window receive_window window v few_uni few_bi small e =
-    let P : World → Type 0 = λ x. From [] x in
-    let facts = facts_start side uni bi send_window receive_window window small in
+-- an end that was just made may come from what it was made with and no calls
+pub begins : (m : Made) (v : World) → m.uni ≤ 2 ^ 60 → m.bi ≤ 2 ^ 60 → m.receive_window < 2 ^ 62 → v ≡ start m → From m [] v
+begins m v few_uni few_bi small e =
+    let P : World → Type 0 = λ x. From m [] x in
+    let facts = facts_start m small in
     subst P (sym e) (record {
-      run = record { side = side; uni = uni; bi = bi; send_window = send_window; receive_window = receive_window; window = window; few_uni = few_uni; few_bi = few_bi; small = small; is = refl };
-      limit = tt;
+      run = record { few_uni = few_uni; few_bi = few_bi; small = small; is = refl };
+      side = refl;
+      window = refl;
       facts = facts;
-      ends = λ q k. cc;
-      tells = tells-ends [] (start side uni bi send_window receive_window window) facts;
-      remotes = remotes_start side uni bi send_window receive_window window few_uni few_bi;
+      given = λ q. record { came = λ at byte h. absurd h; once = tt };
+      ends = λ q. record { freed = λ k. cc; sized = λ k. cc; all = λ k. cc };
+      tells = tells-ends m.receive_window [] (start m) facts;
+      remotes = remotes_start m few_uni few_bi;
     })

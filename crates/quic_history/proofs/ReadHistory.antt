@@ -18,42 +18,38 @@ use Rattle.quic_receiving.specs.declared.errors.HandleError.TheVariants as handl
 use Rattle.quic_retransmits.specs.Pending.{Pending}
 use Rattle.quic_history.specs.World.{World, id_refusal, with_receive, with_credit, with_freed}
 use Rattle.quic_history.specs.Reading.{Begins, Asks, ReadsHalf, Stops, TellsReset, after_stop}
-use Rattle.quic_history.specs.History.{Event, Began, Gave, Ended, Stopped, ToldReset, Trace, HalfFrom, CreditFrom, Facts, trace, with_read, streams, consumed, consumed_by, debt, received, total_over}
+use Rattle.quic_history.specs.History.{Event, Began, Gave, Ended, Stopped, ToldReset, Trace, HalfFrom, CreditFrom, Facts, slices, trace, with_read, consumed, consumed_by, debt, received}
 use Rattle.quic_history.specs.History as history
 use Rattle.quic_history.proofs.WorldSteps.{credit-with_receive}
 use Rattle.quic_history.proofs.Totals.{by_cases}
 use Rattle.quic_history.proofs.Credits.{credit-credited, credit-same}
-use Rattle.quic_history.proofs.Traces.{itself, high-gave, received-same}
+use Rattle.quic_history.proofs.Traces.{itself, high-read, received-kept}
 use Rattle.quic_history.proofs.StreamSteps.{all-told, half-from, known-from, but-from, all-put, all-freed, credit-freed}
 use Rattle.quic_history.proofs.FrameHistory.{facts-at, when}
 
 -- ---- a call that receives nothing and gives no credit
 
-module _ (h : List Event) (e : Event) (u : World) (f : Facts h u) (same_streams : streams (e ∷ h) ≡ streams h)
-    (highs : (q : ℕ) → (trace (e ∷ h) q).high ≡ (trace h q).high) (unused : consumed_by h e ≡ 0) where
+module _ (window : ℕ) (h : List Event) (e : Event) (u : World) (f : Facts window h u) (came : received (e ∷ h) ≡ received h) (unused : consumed_by h e ≡ 0) where
   abbrev g : ℕ → Trace
   g = trace (e ∷ h)
 
-  came : received (e ∷ h) ≡ received h
-  came = ap (total_over (λ q. (g q).high)) same_streams ∙ received-same h g highs
-
-  credit_idle : CreditFrom (consumed (e ∷ h)) (debt (e ∷ h)) (received (e ∷ h)) u.credit
+  credit_idle : CreditFrom window (consumed (e ∷ h)) (debt (e ∷ h)) (received (e ∷ h)) u.credit
   credit_idle = let none = unused in
-      credit-same (consumed h) (debt h) (received h) (consumed (e ∷ h)) (debt (e ∷ h)) (received (e ∷ h)) u.credit (omega arith) (omega arith) came f.credit
+      credit-same window (consumed h) (debt h) (received h) (consumed (e ∷ h)) (debt (e ∷ h)) (received (e ∷ h)) u.credit (omega arith) (omega arith) came f.credit
 
   -- it changes nothing
-  facts_idle : ((q : ℕ) → g q ≡ trace h q) → Facts (e ∷ h) u
+  facts_idle : ((q : ℕ) → g q ≡ trace h q) → Facts window (e ∷ h) u
   facts_idle untold = record { credit = credit_idle; streams = all-told (trace h) g u untold f.streams }
 
   -- one half changes
-  facts_put : (id : ℕ) (new : Half) → ((q : ℕ) → eqb q id ≡ false → g q ≡ trace h q) → id_refusal u id ≡ None → HalfFrom (g id) new → Facts (e ∷ h) (with_receive u id (Some new))
+  facts_put : (id : ℕ) (new : Half) → ((q : ℕ) → eqb q id ≡ false → g q ≡ trace h q) → id_refusal u id ≡ None → HalfFrom (g id) new → Facts window (e ∷ h) (with_receive u id (Some new))
   facts_put id new others known is = record {
     credit = rw (credit-with_receive u id (Some new)) credit_idle;
     streams = all-put g u id new (but-from (trace h) g u id others f.streams) known is;
   }
 
   -- one half goes
-  facts_freed : (id : ℕ) → ((q : ℕ) → eqb q id ≡ false → g q ≡ trace h q) → id_refusal u id ≡ None → (g id).gone ≡ true → Facts (e ∷ h) (with_freed u id)
+  facts_freed : (id : ℕ) → ((q : ℕ) → eqb q id ≡ false → g q ≡ trace h q) → id_refusal u id ≡ None → (g id).gone ≡ true → Facts window (e ∷ h) (with_freed u id)
   facts_freed id others known is = record {
     credit = rw (credit-freed u id) credit_idle;
     streams = all-freed g u id (but-from (trace h) g u id others f.streams) known is;
@@ -61,13 +57,13 @@ module _ (h : List Event) (e : Event) (u : World) (f : Facts h u) (same_streams 
 
 -- a half of which only the buffer changed, and not how much was read
 half_same : (t : Trace) (old new : Half) → HalfFrom t old → new ≡ record old { buffer = new.buffer } → new.buffer.bytes_read ≡ old.buffer.bytes_read
-    → new.buffer.highest ≡ old.buffer.highest → (IsData t.kept t.given old.buffer → IsData t.kept t.given new.buffer) → HalfFrom t new
+    → new.buffer.highest ≡ old.buffer.highest → (IsData t.kept (slices t.given) old.buffer → IsData t.kept (slices t.given) new.buffer) → HalfFrom t new
 half_same t old new x is read highest more = record {
   high = ap (λ k. k.end) is ∙ x.high;
   read = read ∙ x.read;
   sized = ap (λ k. is_some k.size) is ∙ x.sized;
   stopped = ap (λ k. k.stopped) is ∙ x.stopped;
-  reset = ap (λ k. is_some k.reset) is ∙ x.reset;
+  reset = ap (λ k. k.reset) is ∙ x.reset;
   there = x.there;
   final = λ size k. ap (λ y. y.end) is ∙ x.final size (sym (ap (λ y. y.size) is) ∙ k);
   within = omega (arith, highest, ap (λ y. y.end) is, x.within);
@@ -75,39 +71,39 @@ half_same t old new x is read highest more = record {
 }
 
 half_rests : (t : Trace) (old new : Half) → HalfFrom t old → new ≡ record old { buffer = new.buffer } → Rests old.buffer new.buffer → HalfFrom t new
-half_rests t old new x is rests = half_same t old new x is rests.bytes_read rests.highest (data-rests t.kept t.given old.buffer new.buffer rests)
+half_rests t old new x is rests = half_same t old new x is rests.bytes_read rests.highest (data-rests t.kept (slices t.given) old.buffer new.buffer rests)
 
 -- ---- a reader is asked for
 
 ordered_half : (t : Trace) (old new : Half) (ordered : Bool) (answer : Result (Unit {0}) EnsureError) → HalfFrom t old → Orders old ordered answer new → HalfFrom t new
 ordered_half t old new ordered (Ok u) x (inl s) = rw s.1 x
-ordered_half t old new ordered (Ok u) x (inr s) = half_same t old new x s.2 s.1.leaves.bytes_read s.1.leaves.highest (data-leaves t.kept t.given old.buffer new.buffer s.1)
+ordered_half t old new ordered (Ok u) x (inr s) = half_same t old new x s.2 s.1.leaves.bytes_read s.1.leaves.highest (data-leaves t.kept (slices t.given) old.buffer new.buffer s.1)
 ordered_half t old new ordered (Err ensure_error.IllegalOrderedRead) x s = half_rests t old new x s.3 s.2
 ordered_half t old new ordered (Err ensure_error.OutOfMemory) x s = half_rests t old new x s.2 s.1
 
-facts_asks : (h : List Event) (u v : World) (id : ℕ) (ordered : Bool) (answer : Result (Unit {0}) ReadableError) (asked : Result (Unit {0}) EnsureError) → Facts h u
-    → Asks u id ordered asked v → Facts (Began id ordered answer ∷ h) v
-facts_asks h u v id ordered answer asked f a =
+facts_asks : (window : ℕ) (h : List Event) (u v : World) (id : ℕ) (ordered : Bool) (answer : Result (Unit {0}) ReadableError) (asked : Result (Unit {0}) EnsureError) → Facts window h u
+    → Asks u id ordered asked v → Facts window (Began id ordered answer ∷ h) v
+facts_asks window h u v id ordered answer asked f a =
     let known = known-from (trace h) u id a.old f.streams a.half in
-    facts-at _ v (with_receive u id (Some a.new)) a.is
-    (facts_put h (Began id ordered answer) u f refl (λ q. refl) refl id a.new (λ q n. refl) known
+    facts-at window _ v (with_receive u id (Some a.new)) a.is
+    (facts_put window h (Began id ordered answer) u f refl refl id a.new (λ q n. refl) known
     (ordered_half (trace h id) a.old a.new ordered asked (half-from (trace h) u id a.old f.streams known a.half) a.orders))
 
-facts_asked_none : (h : List Event) (u v : World) (id : ℕ) (ordered : Bool) (answer : Result (Unit {0}) ReadableError) → Facts h u → v ≡ u → Facts (Began id ordered answer ∷ h) v
-facts_asked_none h u v id ordered answer f is = facts-at _ v u is (facts_idle h (Began id ordered answer) u f refl (λ q. refl) refl (λ q. refl))
+facts_asked_none : (window : ℕ) (h : List Event) (u v : World) (id : ℕ) (ordered : Bool) (answer : Result (Unit {0}) ReadableError) → Facts window h u → v ≡ u → Facts window (Began id ordered answer ∷ h) v
+facts_asked_none window h u v id ordered answer f is = facts-at window _ v u is (facts_idle window h (Began id ordered answer) u f refl refl (λ q. refl))
 
-pub kept-began : (h : List Event) (u v : World) (id : ℕ) (ordered : Bool) (answer : Result (Unit {0}) ReadableError) → Facts h u → Begins u id ordered answer v → Facts (Began id ordered answer ∷ h) v
-kept-began h u v id ordered (Ok x) f s = facts_asks h u v id ordered (Ok x) (Ok x) f s
-kept-began h u v id ordered (Err readable_error.ClosedStream) f s = facts_asked_none h u v id ordered (Err readable_error.ClosedStream) f s.1
-kept-began h u v id ordered (Err readable_error.IllegalOrderedRead) f s = facts_asks h u v id ordered (Err readable_error.IllegalOrderedRead) (Err ensure_error.IllegalOrderedRead) f s
-kept-began h u v id ordered (Err readable_error.OutOfMemory) f (inl s) = facts_asked_none h u v id ordered (Err readable_error.OutOfMemory) f s
-kept-began h u v id ordered (Err readable_error.OutOfMemory) f (inr s) = facts_asks h u v id ordered (Err readable_error.OutOfMemory) (Err ensure_error.OutOfMemory) f s
+pub kept-began : (window : ℕ) (h : List Event) (u v : World) (id : ℕ) (ordered : Bool) (answer : Result (Unit {0}) ReadableError) → Facts window h u → Begins u id ordered answer v → Facts window (Began id ordered answer ∷ h) v
+kept-began window h u v id ordered (Ok x) f s = facts_asks window h u v id ordered (Ok x) (Ok x) f s
+kept-began window h u v id ordered (Err readable_error.ClosedStream) f s = facts_asked_none window h u v id ordered (Err readable_error.ClosedStream) f s.1
+kept-began window h u v id ordered (Err readable_error.IllegalOrderedRead) f s = facts_asks window h u v id ordered (Err readable_error.IllegalOrderedRead) (Err ensure_error.IllegalOrderedRead) f s
+kept-began window h u v id ordered (Err readable_error.OutOfMemory) f (inl s) = facts_asked_none window h u v id ordered (Err readable_error.OutOfMemory) f s
+kept-began window h u v id ordered (Err readable_error.OutOfMemory) f (inr s) = facts_asks window h u v id ordered (Err readable_error.OutOfMemory) (Err ensure_error.OutOfMemory) f s
 
 -- ---- a read
 
-module _ (h : List Event) (u : World) (id most : ℕ) (answer : Result (Option Chunk) ReadError) (old new : Half) (f : Facts h u) (half : u.receive id ≡ Some old) where
+module _ (window : ℕ) (h : List Event) (u : World) (id most : ℕ) (ordered : Bool) (answer : Result (Option Chunk) ReadError) (old new : Half) (f : Facts window h u) (half : u.receive id ≡ Some old) where
   abbrev e : Event
-  e = Gave id most answer
+  e = Gave id most ordered answer
 
   known : id_refusal u id ≡ None
   known = known-from (trace h) u id old f.streams half
@@ -118,56 +114,56 @@ module _ (h : List Event) (u : World) (id most : ℕ) (answer : Result (Option C
   others : (q : ℕ) → eqb q id ≡ false → trace (e ∷ h) q ≡ trace h q
   others q n = rw n refl
 
-  here : trace (e ∷ h) id ≡ with_read answer (trace h id)
+  here : trace (e ∷ h) id ≡ with_read ordered answer (trace h id)
   here = rw (itself id) refl
 
-  highs : (q : ℕ) → (trace (e ∷ h) q).high ≡ (trace h q).high
-  highs q = high-gave q id most answer (trace h q)
+  came_read : received (e ∷ h) ≡ received h
+  came_read = received-kept h (trace (e ∷ h)) id others (ap (λ k. k.high) here ∙ high-read ordered answer (trace h id))
 
-  facts_read : HalfFrom (with_read answer (trace h id)) new → Facts (e ∷ h) (with_receive u id (Some new))
-  facts_read is = facts_put h e u f refl highs refl id new others known (rw here is)
+  facts_read : HalfFrom (with_read ordered answer (trace h id)) new → Facts window (e ∷ h) (with_receive u id (Some new))
+  facts_read is = facts_put window h e u f came_read refl id new others known (rw here is)
 
-  facts_ended : (with_read answer (trace h id)).gone ≡ true → Facts (e ∷ h) (with_freed u id)
-  facts_ended is = facts_freed h e u f refl highs refl id others known (ap (λ k. k.gone) here ∙ is)
+  facts_ended : (with_read ordered answer (trace h id)).gone ≡ true → Facts window (e ∷ h) (with_freed u id)
+  facts_ended is = facts_freed window h e u f came_read refl id others known (ap (λ k. k.gone) here ∙ is)
 
-half_given : (t : Trace) (old new : Half) (most : ℕ) (chunk : Chunk) → HalfFrom t old → new ≡ record old { buffer = new.buffer } → Given old.buffer most chunk new.buffer
-    → HalfFrom (with_read (Ok (Some chunk)) t) new
-half_given t old new most chunk x is gives = record {
+half_given : (t : Trace) (old new : Half) (most : ℕ) (ordered : Bool) (chunk : Chunk) → HalfFrom t old → new ≡ record old { buffer = new.buffer } → Given old.buffer most chunk new.buffer
+    → HalfFrom (with_read ordered (Ok (Some chunk)) t) new
+half_given t old new most ordered chunk x is gives = record {
   high = ap (λ k. k.end) is ∙ x.high;
   read = gives.bytes_read ∙ ap (λ n. n + length chunk.bytes) x.read;
   sized = ap (λ k. is_some k.size) is ∙ x.sized;
   stopped = ap (λ k. k.stopped) is ∙ x.stopped;
-  reset = ap (λ k. is_some k.reset) is ∙ x.reset;
+  reset = ap (λ k. k.reset) is ∙ x.reset;
   there = x.there;
   final = λ size k. ap (λ y. y.end) is ∙ x.final size (sym (ap (λ y. y.size) is) ∙ k);
   within = omega (arith, gives.highest, ap (λ y. y.end) is, x.within);
-  holds = λ s r. data-given t.kept t.given old.buffer new.buffer most chunk gives (x.holds s r);
+  holds = λ s r. data-given t.kept (slices t.given) old.buffer new.buffer most chunk gives (x.holds s r);
 }
 
-pub kept-gave : (h : List Event) (u v : World) (id most : ℕ) (answer : Result (Option Chunk) ReadError) → Facts h u → ReadsHalf u id most answer v → Facts (Gave id most answer ∷ h) v
-kept-gave h u v id most (Ok (Some chunk)) f s =
-    facts-at _ v _ s.is (facts_read h u id most (Ok (Some chunk)) s.old s.new f s.half
-    (half_given (trace h id) s.old s.new most chunk (was h u id most (Ok (Some chunk)) s.old s.new f s.half) s.reads.2 s.reads.1))
-kept-gave h u v id most (Ok None) f s = facts-at _ v _ s.is (facts_ended h u id most (Ok None) s.old s.new f s.half refl)
-kept-gave h u v id most (Err read_error.Blocked) f s =
-    facts-at _ v _ s.is (facts_read h u id most (Err read_error.Blocked) s.old s.new f s.half
-    (half_rests (trace h id) s.old s.new (was h u id most (Err read_error.Blocked) s.old s.new f s.half) s.reads.2.is s.reads.2.rests))
-kept-gave h u v id most (Err (read_error.Reset code)) f s = facts-at _ v _ s.is (facts_ended h u id most (Err (read_error.Reset code)) s.old s.new f s.half refl)
-kept-gave h u v id most (Err read_error.OutOfMemory) f s =
-    facts-at _ v _ s.is (facts_read h u id most (Err read_error.OutOfMemory) s.old s.new f s.half
-    (half_rests (trace h id) s.old s.new (was h u id most (Err read_error.OutOfMemory) s.old s.new f s.half) s.reads.is s.reads.rests))
+pub kept-gave : (window : ℕ) (h : List Event) (u v : World) (id most : ℕ) (ordered : Bool) (answer : Result (Option Chunk) ReadError) → Facts window h u → ReadsHalf u id most ordered answer v → Facts window (Gave id most ordered answer ∷ h) v
+kept-gave window h u v id most ordered (Ok (Some chunk)) f s =
+    facts-at window _ v _ s.is (facts_read window h u id most ordered (Ok (Some chunk)) s.old s.new f s.half
+    (half_given (trace h id) s.old s.new most ordered chunk (was window h u id most ordered (Ok (Some chunk)) s.old s.new f s.half) s.reads.2 s.reads.1))
+kept-gave window h u v id most ordered (Ok None) f s = facts-at window _ v _ s.is (facts_ended window h u id most ordered (Ok None) s.old s.new f s.half refl)
+kept-gave window h u v id most ordered (Err read_error.Blocked) f s =
+    facts-at window _ v _ s.is (facts_read window h u id most ordered (Err read_error.Blocked) s.old s.new f s.half
+    (half_rests (trace h id) s.old s.new (was window h u id most ordered (Err read_error.Blocked) s.old s.new f s.half) s.reads.2.is s.reads.2.rests))
+kept-gave window h u v id most ordered (Err (read_error.Reset code)) f s = facts-at window _ v _ s.is (facts_ended window h u id most ordered (Err (read_error.Reset code)) s.old s.new f s.half refl)
+kept-gave window h u v id most ordered (Err read_error.OutOfMemory) f s =
+    facts-at window _ v _ s.is (facts_read window h u id most ordered (Err read_error.OutOfMemory) s.old s.new f s.half
+    (half_rests (trace h id) s.old s.new (was window h u id most ordered (Err read_error.OutOfMemory) s.old s.new f s.half) s.reads.1.is s.reads.1.rests))
 
 -- ---- a reader is ended
 
-pub kept-ended : (h : List Event) (u v : World) (id count : ℕ) → Facts h u → v ≡ with_credit u count → Facts (Ended id count ∷ h) v
-kept-ended h u v id count f is = rw is (record {
-  credit = credit-credited (consumed h) (debt h) (received h) count u.credit f.credit;
+pub kept-ended : (window : ℕ) (h : List Event) (u v : World) (id count : ℕ) → Facts window h u → v ≡ with_credit u count → Facts window (Ended id count ∷ h) v
+kept-ended window h u v id count f is = rw is (record {
+  credit = credit-credited window (consumed h) (debt h) (received h) count u.credit f.credit;
   streams = f.streams;
 })
 
 -- ---- a stop
 
-module _ (h : List Event) (u : World) (id code : ℕ) (old new : Half) (f : Facts h u) (half : u.receive id ≡ Some old)
+module _ (window : ℕ) (h : List Event) (u : World) (id code : ℕ) (old new : Half) (f : Facts window h u) (half : u.receive id ≡ Some old)
     (is : new ≡ record old { buffer = new.buffer; stopped = true }) (read : new.buffer.bytes_read ≡ old.buffer.bytes_read) (highest : new.buffer.highest ≡ old.buffer.highest) where
   abbrev es : Event
   es = Stopped id code (Ok tt)
@@ -190,15 +186,12 @@ module _ (h : List Event) (u : World) (id code : ℕ) (old new : Half) (f : Fact
   here_stop : gs id ≡ record t { stopped = true; gone = t.sized }
   here_stop = rw (itself id) refl
 
-  highs_stop : (q : ℕ) → (gs q).high ≡ (trace h q).high
-  highs_stop q = by_cases (eqb q id) (λ k. rw k refl) (λ k. rw k refl)
-
   came_stop : received (es ∷ h) ≡ received h
-  came_stop = received-same h gs highs_stop
+  came_stop = received-kept h gs id others_stop (ap (λ k. k.high) here_stop)
 
-  reset_is : (o : Option ℕ) (b : Bool) → is_some o ≡ b → (m n : ℕ) → (if b then 0 else m - n) ≡ (if is_none o then m - n else 0)
-  reset_is None b k m n = rw (← k) refl
-  reset_is (Some c) b k m n = rw (← k) refl
+  reset_is : (o p : Option ℕ) → o ≡ p → (m n : ℕ) → (if is_some p then 0 else m - n) ≡ (if is_none o then m - n else 0)
+  reset_is None p k m n = rw (← k) refl
+  reset_is (Some c) p k m n = rw (← k) refl
 
   used_stop : history.stop_gives t ≡ stop_credit old
   used_stop = rw (was_stop.high, was_stop.read) (reset_is old.reset t.reset was_stop.reset t.high t.read)
@@ -209,7 +202,7 @@ module _ (h : List Event) (u : World) (id code : ℕ) (old new : Half) (f : Fact
     read = read ∙ was_stop.read ∙ sym (ap (λ k. k.read) here_stop);
     sized = ap (λ k. is_some k.size) is ∙ was_stop.sized ∙ sym (ap (λ k. k.sized) here_stop);
     stopped = ap (λ k. k.stopped) is ∙ sym (ap (λ k. k.stopped) here_stop);
-    reset = ap (λ k. is_some k.reset) is ∙ was_stop.reset ∙ sym (ap (λ k. k.reset) here_stop);
+    reset = ap (λ k. k.reset) is ∙ was_stop.reset ∙ sym (ap (λ k. k.reset) here_stop);
     there = ap (λ k. k.gone) here_stop ∙ s;
     final = λ size k. ap (λ y. y.end) is ∙ was_stop.final size (sym (ap (λ y. y.size) is) ∙ k);
     within = omega (arith, highest, ap (λ y. y.end) is, was_stop.within);
@@ -220,51 +213,48 @@ module _ (h : List Event) (u : World) (id code : ℕ) (old new : Half) (f : Fact
   credit_stop true = credit-freed u id
   credit_stop false = credit-with_receive u id (Some new)
 
-  facts_stopped : Facts (es ∷ h) (after_stop u id old new)
+  facts_stopped : Facts window (es ∷ h) (after_stop u id old new)
   facts_stopped =
       let n : ℕ = stop_credit old in
       let y = if is_some old.size then with_freed u id else with_receive u id (Some new) in
-      let base : CreditFrom (consumed h) (debt h) (received h) y.credit = rw (credit_stop (is_some old.size)) f.credit in
+      let base : CreditFrom window (consumed h) (debt h) (received h) y.credit = rw (credit_stop (is_some old.size)) f.credit in
       let some : consumed_by h es ≡ n = used_stop in
       let came = came_stop in
       let but = but-from (trace h) gs u id others_stop f.streams in
       record {
-        credit = credit-same (consumed h + n) (debt h - n) (received h) (consumed (es ∷ h)) (debt (es ∷ h)) (received (es ∷ h)) (credited y.credit n)
-            (omega arith) (omega arith) came_stop (credit-credited (consumed h) (debt h) (received h) n y.credit base);
+        credit = credit-same window (consumed h + n) (debt h - n) (received h) (consumed (es ∷ h)) (debt (es ∷ h)) (received (es ∷ h)) (credited y.credit n)
+            (omega arith) (omega arith) came_stop (credit-credited window (consumed h) (debt h) (received h) n y.credit base);
         streams = when gs (with_freed u id) (with_receive u id (Some new)) (is_some old.size)
             (λ s. all-freed gs u id but known_stop (ap (λ k. k.gone) here_stop ∙ sym was_stop.sized ∙ s))
             (λ s. all-put gs u id new but known_stop (half_stopped (sym was_stop.sized ∙ s)));
       }
 
-pub kept-stopped : (h : List Event) (u v : World) (id code : ℕ) (answer : Result (Unit {0}) HandleError) (p q : Pending) → Facts h u → Stops u id code p answer v q
-    → Facts (Stopped id code answer ∷ h) v
-kept-stopped h u v id code (Ok x) p q f s = facts-at _ v _ s.6 (facts_stopped h u id code s.0 s.1 f s.2 s.5 s.4.bytes_read s.4.highest)
-kept-stopped h u v id code (Err handle_error.ClosedStream) p q f s =
-    facts-at _ v u s.1 (facts_idle h (Stopped id code (Err handle_error.ClosedStream)) u f refl (λ q. refl) refl (λ q. refl))
-kept-stopped h u v id code (Err handle_error.OutOfMemory) p q f s =
-    facts-at _ v u s.0 (facts_idle h (Stopped id code (Err handle_error.OutOfMemory)) u f refl (λ q. refl) refl (λ q. refl))
+pub kept-stopped : (window : ℕ) (h : List Event) (u v : World) (id code : ℕ) (answer : Result (Unit {0}) HandleError) (p q : Pending) → Facts window h u → Stops u id code p answer v q
+    → Facts window (Stopped id code answer ∷ h) v
+kept-stopped window h u v id code (Ok x) p q f s = facts-at window _ v _ s.6 (facts_stopped window h u id code s.0 s.1 f s.2 s.5 s.4.bytes_read s.4.highest)
+kept-stopped window h u v id code (Err handle_error.ClosedStream) p q f s =
+    facts-at window _ v u s.1 (facts_idle window h (Stopped id code (Err handle_error.ClosedStream)) u f refl refl (λ k. refl))
+kept-stopped window h u v id code (Err handle_error.OutOfMemory) p q f s =
+    facts-at window _ v u s.0 (facts_idle window h (Stopped id code (Err handle_error.OutOfMemory)) u f refl refl (λ k. refl))
 
 -- ---- the code of a reset is asked for
 
-module _ (h : List Event) (u : World) (id code : ℕ) (f : Facts h u) where
+module _ (window : ℕ) (h : List Event) (u : World) (id code : ℕ) (f : Facts window h u) where
   told_others : (q : ℕ) → eqb q id ≡ false → trace (ToldReset id (Ok (Some code)) ∷ h) q ≡ trace h q
   told_others q n = rw n refl
 
-  told_highs : (q : ℕ) → (trace (ToldReset id (Ok (Some code)) ∷ h) q).high ≡ (trace h q).high
-  told_highs q = by_cases (eqb q id) (λ k. rw k refl) (λ k. rw k refl)
+  came_told : received (ToldReset id (Ok (Some code)) ∷ h) ≡ received h
+  came_told = received-kept h (trace (ToldReset id (Ok (Some code)) ∷ h)) id told_others (rw (itself id) refl)
 
-  told_none : (q : ℕ) → trace (ToldReset id (Ok None) ∷ h) q ≡ trace h q
-  told_none q = by_cases (eqb q id) (λ k. rw k refl) (λ k. rw k refl)
+  facts_told : id_refusal u id ≡ None → Facts window (ToldReset id (Ok (Some code)) ∷ h) (with_freed u id)
+  facts_told known = facts_freed window h (ToldReset id (Ok (Some code))) u f came_told refl id told_others known (rw (itself id) refl)
 
-  facts_told : id_refusal u id ≡ None → Facts (ToldReset id (Ok (Some code)) ∷ h) (with_freed u id)
-  facts_told known = facts_freed h (ToldReset id (Ok (Some code))) u f refl told_highs refl id told_others known (rw (itself id) refl)
-
-pub kept-told : (h : List Event) (u v : World) (id : ℕ) (answer : Result (Option ℕ) HandleError) (p q : Pending) → Facts h u → TellsReset u id p answer v q
-    → Facts (ToldReset id answer ∷ h) v
-kept-told h u v id (Ok (Some code)) p q f s = facts-at _ v _ s.4 (facts_told h u id code f (known-from (trace h) u id s.0 f.streams s.1))
-kept-told h u v id (Ok None) p q f s =
-    facts-at _ v u s.4 (facts_idle h (ToldReset id (Ok None)) u f refl (λ k. ap (λ x. x.high) (told_none h u id 0 f k)) refl (told_none h u id 0 f))
-kept-told h u v id (Err handle_error.ClosedStream) p q f s =
-    facts-at _ v u s.1 (facts_idle h (ToldReset id (Err handle_error.ClosedStream)) u f refl (λ k. refl) refl (λ k. refl))
-kept-told h u v id (Err handle_error.OutOfMemory) p q f s =
-    facts-at _ v u s.3 (facts_idle h (ToldReset id (Err handle_error.OutOfMemory)) u f refl (λ k. refl) refl (λ k. refl))
+pub kept-told : (window : ℕ) (h : List Event) (u v : World) (id : ℕ) (answer : Result (Option ℕ) HandleError) (p q : Pending) → Facts window h u → TellsReset u id p answer v q
+    → Facts window (ToldReset id answer ∷ h) v
+kept-told window h u v id (Ok (Some code)) p q f s = facts-at window _ v _ s.4 (facts_told window h u id code f (known-from (trace h) u id s.0 f.streams s.1))
+kept-told window h u v id (Ok None) p q f s =
+    facts-at window _ v u s.4 (facts_idle window h (ToldReset id (Ok None)) u f refl refl (λ k. refl))
+kept-told window h u v id (Err handle_error.ClosedStream) p q f s =
+    facts-at window _ v u s.1 (facts_idle window h (ToldReset id (Err handle_error.ClosedStream)) u f refl refl (λ k. refl))
+kept-told window h u v id (Err handle_error.OutOfMemory) p q f s =
+    facts-at window _ v u s.3 (facts_idle window h (ToldReset id (Err handle_error.OutOfMemory)) u f refl refl (λ k. refl))

@@ -30,29 +30,29 @@ use Rattle.quic_history.proofs.FrameHistory.{open-trace, dropped-closed, refusal
 use Rattle.quic_history.proofs.ResetHistory.{untold-closed, or-second, or-first}
 use Rattle.quic_history.proofs.Remotes.{AllRemotes, SameLimits, SameRemotes, remotes-put, remotes-noticed, remotes-then, remotes-idle, remotes-freed}
 
-remotes_at : (f : ℕ → Trace) (v w : World) → v ≡ w → AllRemotes f w → AllRemotes f v
-remotes_at f v w e s = let P : World → Type 0 = λ x. AllRemotes f x in subst P (sym e) s
+remotes_at : (at_once b : Dir → ℕ) (f : ℕ → Trace) (v w : World) → v ≡ w → AllRemotes at_once b f w → AllRemotes at_once b f v
+remotes_at at_once b f v w e s = let P : World → Type 0 = λ x. AllRemotes at_once b f x in subst P (sym e) s
 
 -- the credit does not count
-remotes_credit : (f : ℕ → Trace) (w : World) (n : ℕ) → AllRemotes f w → AllRemotes f (with_credit w n)
-remotes_credit f w n s Bi = s Bi
-remotes_credit f w n s Uni = s Uni
+remotes_credit : (at_once b : Dir → ℕ) (f : ℕ → Trace) (w : World) (n : ℕ) → AllRemotes at_once b f w → AllRemotes at_once b f (with_credit w n)
+remotes_credit at_once b f w n s Bi = s Bi
+remotes_credit at_once b f w n s Uni = s Uni
 
-remotes_advanced : (f : ℕ → Trace) (u : World) (id : ℕ) (old new : Half) → AllRemotes f (with_receive u id (Some new)) → AllRemotes f (advanced u id old new)
-remotes_advanced f u id old new s Bi = s Bi
-remotes_advanced f u id old new s Uni = s Uni
+remotes_advanced : (at_once b : Dir → ℕ) (f : ℕ → Trace) (u : World) (id : ℕ) (old new : Half) → AllRemotes at_once b f (with_receive u id (Some new)) → AllRemotes at_once b f (advanced u id old new)
+remotes_advanced at_once b f u id old new s Bi = s Bi
+remotes_advanced at_once b f u id old new s Uni = s Uni
 
-either : (f : ℕ → Trace) (u v : World) (b : Bool) → (b ≡ true → AllRemotes f u) → (b ≡ false → AllRemotes f v) → AllRemotes f (if b then u else v)
-either f u v true s t = s refl
-either f u v false s t = t refl
+either : (at_once b : Dir → ℕ) (f : ℕ → Trace) (u v : World) (c : Bool) → (c ≡ true → AllRemotes at_once b f u) → (c ≡ false → AllRemotes at_once b f v) → AllRemotes at_once b f (if c then u else v)
+either at_once b f u v true s t = s refl
+either at_once b f u v false s t = t refl
 
-module _ (h : List Event) (e : Event) (u : World) (f : Facts h u) (x : AllRemotes (trace h) u) where
+module _ (window : ℕ) (at_once b : Dir → ℕ) (h : List Event) (e : Event) (u : World) (f : Facts window h u) (x : AllRemotes at_once b (trace h) u) where
   abbrev g : ℕ → Trace
   g = trace (e ∷ h)
 
   -- a call that frees no half
-  idle : (v : World) → ((q : ℕ) → (g q).gone ≡ (trace h q).gone) → SameRemotes u v → AllRemotes g v
-  idle v gone s = remotes-idle (trace h) g u v gone s x
+  idle : (v : World) → ((q : ℕ) → (g q).gone ≡ (trace h q).gone) → SameRemotes u v → AllRemotes at_once b g v
+  idle v gone s = remotes-idle at_once b (trace h) g u v gone s x
 
   not_next : (v : World) (id : ℕ) → ((q : ℕ) → id_refusal v q ≡ id_refusal u q) → id_refusal u id ≡ None → ((q : ℕ) → eqb q id ≡ false → g q ≡ trace h q)
       → (d : Dir) → (g (stream_id (other_side v.side) d (remote_of v d).max_remote)).gone ≡ false
@@ -66,9 +66,9 @@ module _ (h : List Event) (e : Event) (u : World) (f : Facts h u) (x : AllRemote
 
   -- a call that frees one
   frees : (v : World) (id : ℕ) → SameRemotes u v → ((q : ℕ) → id_refusal v q ≡ id_refusal u q) → id_refusal u id ≡ None → ((q : ℕ) → eqb q id ≡ false → g q ≡ trace h q)
-      → (trace h id).gone ≡ false → (g id).gone ≡ true → AllRemotes g (with_freed v id)
+      → (trace h id).gone ≡ false → (g id).gone ≡ true → AllRemotes at_once b g (with_freed v id)
   frees v id s same_refusals known others was is =
-      remotes-freed (trace h) g v id (same_refusals id ∙ known) was is others (not_next v id same_refusals known others) (remotes-idle (trace h) (trace h) u v (λ q. refl) s x)
+      remotes-freed at_once b (trace h) g v id (same_refusals id ∙ known) was is others (not_next v id same_refusals known others) (remotes-idle at_once b (trace h) (trace h) u v (λ q. refl) s x)
 
 gone_others : (f g : ℕ → Trace) (id : ℕ) → ((q : ℕ) → eqb q id ≡ false → g q ≡ f q) → (g id).gone ≡ (f id).gone → (q : ℕ) → (g q).gone ≡ (f q).gone
 gone_others f g id others here q = by_cases (eqb q id)
@@ -84,7 +84,7 @@ and_none : (b c : Bool) → c ≡ false → (b && c) ≡ false
 and_none true c e = e
 and_none false c e = refl
 
-module _ (h : List Event) (u : World) (id offset : ℕ) (bytes : List ℕ) (fin : Bool) (answer : Result ShouldTransmit ReceiveError) (f : Facts h u) (x : AllRemotes (trace h) u) where
+module _ (window : ℕ) (at_once b : Dir → ℕ) (h : List Event) (u : World) (id offset : ℕ) (bytes : List ℕ) (fin : Bool) (answer : Result ShouldTransmit ReceiveError) (f : Facts window h u) (x : AllRemotes at_once b (trace h) u) where
   abbrev ef : Event
   ef = Received id offset bytes fin answer
 
@@ -95,8 +95,8 @@ module _ (h : List Event) (u : World) (id offset : ℕ) (bytes : List ℕ) (fin 
   t = trace h id
 
   -- that changes nothing
-  frame_none : (is_kept answer ≡ true → is_closed t ≡ true) → AllRemotes gf u
-  frame_none closed = idle h ef u f x u (λ q. ap (λ k. k.gone) (untold h u id offset bytes fin answer f closed q)) (record { side = refl; sends = refl; limits = λ d. record { max = refl; allocated = refl; concurrent = refl } })
+  frame_none : (is_kept answer ≡ true → is_closed t ≡ true) → AllRemotes at_once b gf u
+  frame_none closed = idle window at_once b h ef u f x u (λ q. ap (λ k. k.gone) (untold window h u id offset bytes fin answer f closed q)) (record { side = refl; sends = refl; limits = λ d. record { max = refl; allocated = refl; concurrent = refl } })
 
   frame_others : (q : ℕ) → eqb q id ≡ false → gf q ≡ trace h q
   frame_others q n = rw n refl
@@ -108,11 +108,11 @@ module _ (h : List Event) (u : World) (id offset : ℕ) (bytes : List ℕ) (fin 
     frame_here : (gf id).gone ≡ (t.stopped && fin)
     frame_here = rw (itself id, kept, open-trace t old frame_was running) refl
 
-    frame_stays : (t.stopped && fin) ≡ false → AllRemotes gf (advanced u id old new)
-    frame_stays e = remotes_advanced gf u id old new
-        (idle h ef u f x (with_receive u id (Some new)) (gone_others (trace h) gf id frame_others (frame_here ∙ e ∙ sym frame_was.there)) (remotes-put u id (Some new)))
+    frame_stays : (t.stopped && fin) ≡ false → AllRemotes at_once b gf (advanced u id old new)
+    frame_stays e = remotes_advanced at_once b gf u id old new
+        (idle window at_once b h ef u f x (with_receive u id (Some new)) (gone_others (trace h) gf id frame_others (frame_here ∙ e ∙ sym frame_was.there)) (remotes-put u id (Some new)))
 
-    frame_running : old.stopped ≡ false → AllRemotes gf (advanced u id old new)
+    frame_running : old.stopped ≡ false → AllRemotes at_once b gf (advanced u id old new)
     frame_running s = frame_stays (ap (λ b. b && fin) (sym frame_was.stopped ∙ s))
 
     put_same : SameRemotes u (advanced u id old new)
@@ -122,59 +122,59 @@ module _ (h : List Event) (u : World) (id offset : ℕ) (bytes : List ℕ) (fin 
         limits_of s Bi = s.limits Bi
         limits_of s Uni = s.limits Uni
 
-    frame_noticed : old.stopped ≡ false → AllRemotes gf (noticed (advanced u id old new) id true)
-    frame_noticed s = remotes-idle gf gf (advanced u id old new) (noticed (advanced u id old new) id true) (λ q. refl) (remotes-noticed (advanced u id old new) id true) (frame_running s)
+    frame_noticed : old.stopped ≡ false → AllRemotes at_once b gf (noticed (advanced u id old new) id true)
+    frame_noticed s = remotes-idle at_once b gf gf (advanced u id old new) (noticed (advanced u id old new) id true) (λ q. refl) (remotes-noticed (advanced u id old new) id true) (frame_running s)
 
-    frame_stopped : old.stopped ≡ true → AllRemotes gf (with_credit (if fin then with_freed (advanced u id old new) id else advanced u id old new) (new.end - old.end))
+    frame_stopped : old.stopped ≡ true → AllRemotes at_once b gf (with_credit (if fin then with_freed (advanced u id old new) id else advanced u id old new) (new.end - old.end))
     frame_stopped s =
         let w = advanced u id old new in
         let n : ℕ = new.end - old.end in
-        remotes_credit gf (if fin then with_freed w id else w) n
-        (either gf (with_freed w id) w fin
-        (λ c. frees h ef u f x w id put_same (λ q. refusal-advanced u id q old new) known frame_others frame_was.there (frame_here ∙ rw (sym frame_was.stopped ∙ s, c) refl))
+        remotes_credit at_once b gf (if fin then with_freed w id else w) n
+        (either at_once b gf (with_freed w id) w fin
+        (λ c. frees window at_once b h ef u f x w id put_same (λ q. refusal-advanced u id q old new) known frame_others frame_was.there (frame_here ∙ rw (sym frame_was.stopped ∙ s, c) refl))
         (λ c. frame_stays (and_none t.stopped fin c)))
 
-remotes-received : (h : List Event) (u v : World) (id offset : ℕ) (bytes : List ℕ) (fin : Bool) (answer : Result ShouldTransmit ReceiveError)
-    → Facts h u → AllRemotes (trace h) u → Receives u id offset bytes fin answer v → AllRemotes (trace (Received id offset bytes fin answer ∷ h)) v
-remotes-received h u v id offset bytes fin (Ok transmit) f x (inl s) =
-    remotes_at (trace (Received id offset bytes fin (Ok transmit) ∷ h)) v u s.3 (frame_none h u id offset bytes fin (Ok transmit) f x (λ k. dropped-closed (trace h id) (id_refusal u id) (u.receive id) s.0 (f.streams id) s.1))
-remotes-received h u v id offset bytes fin (Ok transmit) f x (inr s) =
+remotes-received : (window : ℕ) (at_once b : Dir → ℕ) (h : List Event) (u v : World) (id offset : ℕ) (bytes : List ℕ) (fin : Bool) (answer : Result ShouldTransmit ReceiveError)
+    → Facts window h u → AllRemotes at_once b (trace h) u → Receives u id offset bytes fin answer v → AllRemotes at_once b (trace (Received id offset bytes fin answer ∷ h)) v
+remotes-received window at_once b h u v id offset bytes fin (Ok transmit) f x (inl s) =
+    remotes_at at_once b (trace (Received id offset bytes fin (Ok transmit) ∷ h)) v u s.3 (frame_none window at_once b h u id offset bytes fin (Ok transmit) f x (λ k. dropped-closed (trace h id) (id_refusal u id) (u.receive id) s.0 (f.streams id) s.1))
+remotes-received window at_once b h u v id offset bytes fin (Ok transmit) f x (inr s) =
     let r = s.3 in
     by_cases s.1.stopped
-    (λ k. remotes_at (trace (Received id offset bytes fin (Ok transmit) ∷ h)) v (with_credit (if fin then with_freed (advanced u id s.1 s.2) id else advanced u id s.1 s.2) (s.2.end - s.1.end)) (s.5 ∙ after_data_stopped u id s.1 s.2 fin k) (frame_stopped h u id offset bytes fin (Ok transmit) f x s.1 s.2 r.known r.half r.running refl k))
-    (λ k. remotes_at (trace (Received id offset bytes fin (Ok transmit) ∷ h)) v (noticed (advanced u id s.1 s.2) id true) (s.5 ∙ after_data_running u id s.1 s.2 fin k) (frame_noticed h u id offset bytes fin (Ok transmit) f x s.1 s.2 r.known r.half r.running refl k))
-remotes-received h u v id offset bytes fin (Err (receive_error.Transport error)) f x (inl s) =
-    remotes_at (trace (Received id offset bytes fin (Err (receive_error.Transport error)) ∷ h)) v u s.1 (frame_none h u id offset bytes fin (Err (receive_error.Transport error)) f x (not_kept _ (refusal-code u id error.code s.0)))
-remotes-received h u v id offset bytes fin (Err (receive_error.Transport error)) f x (inr s) = refused s.2.ingests
+    (λ k. remotes_at at_once b (trace (Received id offset bytes fin (Ok transmit) ∷ h)) v (with_credit (if fin then with_freed (advanced u id s.1 s.2) id else advanced u id s.1 s.2) (s.2.end - s.1.end)) (s.5 ∙ after_data_stopped u id s.1 s.2 fin k) (frame_stopped window at_once b h u id offset bytes fin (Ok transmit) f x s.1 s.2 r.known r.half r.running refl k))
+    (λ k. remotes_at at_once b (trace (Received id offset bytes fin (Ok transmit) ∷ h)) v (noticed (advanced u id s.1 s.2) id true) (s.5 ∙ after_data_running u id s.1 s.2 fin k) (frame_noticed window at_once b h u id offset bytes fin (Ok transmit) f x s.1 s.2 r.known r.half r.running refl k))
+remotes-received window at_once b h u v id offset bytes fin (Err (receive_error.Transport error)) f x (inl s) =
+    remotes_at at_once b (trace (Received id offset bytes fin (Err (receive_error.Transport error)) ∷ h)) v u s.1 (frame_none window at_once b h u id offset bytes fin (Err (receive_error.Transport error)) f x (not_kept _ (refusal-code u id error.code s.0)))
+remotes-received window at_once b h u v id offset bytes fin (Err (receive_error.Transport error)) f x (inr s) = refused s.2.ingests
   where
     refused : Ingests s.0 offset bytes fin u.credit.data_recvd u.credit.local_max_data (Err (receive_error.Transport error)) s.1
-        → AllRemotes (trace (Received id offset bytes fin (Err (receive_error.Transport error)) ∷ h)) v
+        → AllRemotes at_once b (trace (Received id offset bytes fin (Err (receive_error.Transport error)) ∷ h)) v
     refused (inl k) =
-        remotes_at (trace (Received id offset bytes fin (Err (receive_error.Transport error)) ∷ h)) v u (s.3 ∙ unmoved u id s.0 s.1 s.2.half k.1)
-        (frame_none h u id offset bytes fin (Err (receive_error.Transport error)) f x
+        remotes_at at_once b (trace (Received id offset bytes fin (Err (receive_error.Transport error)) ∷ h)) v u (s.3 ∙ unmoved u id s.0 s.1 s.2.half k.1)
+        (frame_none window at_once b h u id offset bytes fin (Err (receive_error.Transport error)) f x
         (not_kept _ (refused-other s.0 offset (length bytes) fin u.credit.data_recvd u.credit.local_max_data error.code k.0)))
     refused (inr k) =
-        remotes_at (trace (Received id offset bytes fin (Err (receive_error.Transport error)) ∷ h)) v (advanced u id s.0 s.1) s.3
-        (frame_running h u id offset bytes fin (Err (receive_error.Transport error)) f x s.0 s.1 s.2.known s.2.half s.2.running (rw k.1 refl) k.4.running)
-remotes-received h u v id offset bytes fin (Err receive_error.CompactionMemory) f x s =
-    remotes_at (trace (Received id offset bytes fin (Err receive_error.CompactionMemory) ∷ h)) v (advanced u id s.0 s.1) s.3 (frame_running h u id offset bytes fin (Err receive_error.CompactionMemory) f x s.0 s.1 s.2.known s.2.half s.2.running refl s.2.ingests.2.running)
-remotes-received h u v id offset bytes fin (Err receive_error.OutOfMemory) f x s =
-    remotes_at (trace (Received id offset bytes fin (Err receive_error.OutOfMemory) ∷ h)) v u s (frame_none h u id offset bytes fin (Err receive_error.OutOfMemory) f x (not_kept false refl))
+        remotes_at at_once b (trace (Received id offset bytes fin (Err (receive_error.Transport error)) ∷ h)) v (advanced u id s.0 s.1) s.3
+        (frame_running window at_once b h u id offset bytes fin (Err (receive_error.Transport error)) f x s.0 s.1 s.2.known s.2.half s.2.running (rw k.1 refl) k.4.running)
+remotes-received window at_once b h u v id offset bytes fin (Err receive_error.CompactionMemory) f x s =
+    remotes_at at_once b (trace (Received id offset bytes fin (Err receive_error.CompactionMemory) ∷ h)) v (advanced u id s.0 s.1) s.3 (frame_running window at_once b h u id offset bytes fin (Err receive_error.CompactionMemory) f x s.0 s.1 s.2.known s.2.half s.2.running refl s.2.ingests.2.running)
+remotes-received window at_once b h u v id offset bytes fin (Err receive_error.OutOfMemory) f x s =
+    remotes_at at_once b (trace (Received id offset bytes fin (Err receive_error.OutOfMemory) ∷ h)) v u s (frame_none window at_once b h u id offset bytes fin (Err receive_error.OutOfMemory) f x (not_kept false refl))
 
 -- ---- a RESET_STREAM frame
 
 same_remotes : (u : World) → SameRemotes u u
 same_remotes u = record { side = refl; sends = refl; limits = λ d. record { max = refl; allocated = refl; concurrent = refl } }
 
-module _ (h : List Event) (u : World) (id code final : ℕ) (transmit : ShouldTransmit) (f : Facts h u) (x : AllRemotes (trace h) u) where
+module _ (window : ℕ) (at_once b : Dir → ℕ) (h : List Event) (u : World) (id code final : ℕ) (transmit : ShouldTransmit) (f : Facts window h u) (x : AllRemotes at_once b (trace h) u) where
   abbrev er : Event
   er = ReceivedReset id code final (Ok transmit)
 
   abbrev gr : ℕ → Trace
   gr = trace (er ∷ h)
 
-  reset_none : is_closed (trace h id) ≡ true → AllRemotes gr u
-  reset_none closed = idle h er u f x u (λ q. ap (λ k. k.gone) (untold-closed h u id code final transmit f closed q)) (same_remotes u)
+  reset_none : is_closed (trace h id) ≡ true → AllRemotes at_once b gr u
+  reset_none closed = idle window at_once b h er u f x u (λ q. ap (λ k. k.gone) (untold-closed window h u id code final transmit f closed q)) (same_remotes u)
 
   reset_others : (q : ℕ) → eqb q id ≡ false → gr q ≡ trace h q
   reset_others q n = rw n refl
@@ -202,46 +202,46 @@ module _ (h : List Event) (u : World) (id code final : ℕ) (transmit : ShouldTr
     reset_same : SameRemotes u xr
     reset_same = remotes-then u wr xr reset_put (remotes-noticed wr id (not old.stopped))
 
-    remotes_after : AllRemotes gr (after_reset u id old new)
+    remotes_after : AllRemotes at_once b gr (after_reset u id old new)
     remotes_after =
         let y = if old.stopped then with_freed xr id else xr in
         let n : ℕ = new.end - credited_to old in
-        let all : AllRemotes gr y = either gr (with_freed xr id) xr old.stopped
-        (λ s. frees h er u f x xr id reset_same (λ q. refusal-noticed wr id (not old.stopped) q ∙ refusal-advanced u id q old new) known reset_others reset_was.there
+        let all : AllRemotes at_once b gr y = either at_once b gr (with_freed xr id) xr old.stopped
+        (λ s. frees window at_once b h er u f x xr id reset_same (λ q. refusal-noticed wr id (not old.stopped) q ∙ refusal-advanced u id q old new) known reset_others reset_was.there
         (reset_here ∙ sym reset_was.stopped ∙ s))
-        (λ s. idle h er u f x xr (gone_others (trace h) gr id reset_others (reset_here ∙ sym reset_was.stopped ∙ s ∙ sym reset_was.there)) reset_same) in
-        either gr y (with_credit y n) (n == 0) (λ k. all) (λ k. remotes_credit gr y n all)
+        (λ s. idle window at_once b h er u f x xr (gone_others (trace h) gr id reset_others (reset_here ∙ sym reset_was.stopped ∙ s ∙ sym reset_was.there)) reset_same) in
+        either at_once b gr y (with_credit y n) (n == 0) (λ k. all) (λ k. remotes_credit at_once b gr y n all)
 
-remotes-reset : (h : List Event) (u v : World) (id code final : ℕ) (answer : Result ShouldTransmit ReceiveError)
-    → Facts h u → AllRemotes (trace h) u → ReceivesReset u id code final answer v → AllRemotes (trace (ReceivedReset id code final answer ∷ h)) v
-remotes-reset h u v id code final (Ok transmit) f x (inl s) =
-    remotes_at (trace (ReceivedReset id code final (Ok transmit) ∷ h)) v u s.3 (reset_none h u id code final transmit f x (or-second (trace h id).reset (trace h id).gone (gone-from (trace h) u id f.streams s.0 s.1)))
-remotes-reset h u v id code final (Ok transmit) f x (inr (inl s)) =
+remotes-reset : (window : ℕ) (at_once b : Dir → ℕ) (h : List Event) (u v : World) (id code final : ℕ) (answer : Result ShouldTransmit ReceiveError)
+    → Facts window h u → AllRemotes at_once b (trace h) u → ReceivesReset u id code final answer v → AllRemotes at_once b (trace (ReceivedReset id code final answer ∷ h)) v
+remotes-reset window at_once b h u v id code final (Ok transmit) f x (inl s) =
+    remotes_at at_once b (trace (ReceivedReset id code final (Ok transmit) ∷ h)) v u s.3 (reset_none window at_once b h u id code final transmit f x (or-second (is_some (trace h id).reset) (trace h id).gone (gone-from (trace h) u id f.streams s.0 s.1)))
+remotes-reset window at_once b h u v id code final (Ok transmit) f x (inr (inl s)) =
     let was = half-from (trace h) u id s.0 f.streams s.2.known s.2.half in
-    remotes_at (trace (ReceivedReset id code final (Ok transmit) ∷ h)) v u s.4 (reset_none h u id code final transmit f x (or-first (trace h id).reset (trace h id).gone (sym was.reset ∙ s.2.resets.1)))
-remotes-reset h u v id code final (Ok transmit) f x (inr (inr s)) =
-    remotes_at (trace (ReceivedReset id code final (Ok transmit) ∷ h)) v (after_reset u id s.0 s.1) s.4 (remotes_after h u id code final transmit f x s.0 s.1 s.2.known s.2.half s.2.resets.1)
-remotes-reset h u v id code final (Err (receive_error.Transport error)) f x (inl s) = remotes_at (trace (ReceivedReset id code final (Err (receive_error.Transport error)) ∷ h)) v u s.1 x
-remotes-reset h u v id code final (Err (receive_error.Transport error)) f x (inr s) = remotes_at (trace (ReceivedReset id code final (Err (receive_error.Transport error)) ∷ h)) v u s.3 x
-remotes-reset h u v id code final (Err receive_error.CompactionMemory) f x s = absurd s
-remotes-reset h u v id code final (Err receive_error.OutOfMemory) f x s = remotes_at (trace (ReceivedReset id code final (Err receive_error.OutOfMemory) ∷ h)) v u s x
+    remotes_at at_once b (trace (ReceivedReset id code final (Ok transmit) ∷ h)) v u s.4 (reset_none window at_once b h u id code final transmit f x (or-first (is_some (trace h id).reset) (trace h id).gone (ap (λ (o : Option ℕ). is_some o) (sym was.reset) ∙ s.2.resets.1)))
+remotes-reset window at_once b h u v id code final (Ok transmit) f x (inr (inr s)) =
+    remotes_at at_once b (trace (ReceivedReset id code final (Ok transmit) ∷ h)) v (after_reset u id s.0 s.1) s.4 (remotes_after window at_once b h u id code final transmit f x s.0 s.1 s.2.known s.2.half s.2.resets.1)
+remotes-reset window at_once b h u v id code final (Err (receive_error.Transport error)) f x (inl s) = remotes_at at_once b (trace (ReceivedReset id code final (Err (receive_error.Transport error)) ∷ h)) v u s.1 x
+remotes-reset window at_once b h u v id code final (Err (receive_error.Transport error)) f x (inr s) = remotes_at at_once b (trace (ReceivedReset id code final (Err (receive_error.Transport error)) ∷ h)) v u s.3 x
+remotes-reset window at_once b h u v id code final (Err receive_error.CompactionMemory) f x s = absurd s
+remotes-reset window at_once b h u v id code final (Err receive_error.OutOfMemory) f x s = remotes_at at_once b (trace (ReceivedReset id code final (Err receive_error.OutOfMemory) ∷ h)) v u s x
 
 -- ---- reads
 
-remotes_half : (f : ℕ → Trace) (u : World) (id : ℕ) (new : Half) → AllRemotes f u → AllRemotes f (with_receive u id (Some new))
-remotes_half f u id new x = remotes-idle f f u (with_receive u id (Some new)) (λ q. refl) (remotes-put u id (Some new)) x
+remotes_half : (at_once b : Dir → ℕ) (f : ℕ → Trace) (u : World) (id : ℕ) (new : Half) → AllRemotes at_once b f u → AllRemotes at_once b f (with_receive u id (Some new))
+remotes_half at_once b f u id new x = remotes-idle at_once b f f u (with_receive u id (Some new)) (λ q. refl) (remotes-put u id (Some new)) x
 
-remotes-began : (h : List Event) (u v : World) (id : ℕ) (ordered : Bool) (answer : Result (Unit {0}) ReadableError) → AllRemotes (trace h) u → Begins u id ordered answer v
-    → AllRemotes (trace h) v
-remotes-began h u v id ordered (Ok y) x s = remotes_at (trace h) v (with_receive u id (Some s.new)) s.is (remotes_half (trace h) u id s.new x)
-remotes-began h u v id ordered (Err readable_error.ClosedStream) x s = remotes_at (trace h) v u s.1 x
-remotes-began h u v id ordered (Err readable_error.IllegalOrderedRead) x s = remotes_at (trace h) v (with_receive u id (Some s.new)) s.is (remotes_half (trace h) u id s.new x)
-remotes-began h u v id ordered (Err readable_error.OutOfMemory) x (inl s) = remotes_at (trace h) v u s x
-remotes-began h u v id ordered (Err readable_error.OutOfMemory) x (inr s) = remotes_at (trace h) v (with_receive u id (Some s.new)) s.is (remotes_half (trace h) u id s.new x)
+remotes-began : (window : ℕ) (at_once b : Dir → ℕ) (h : List Event) (u v : World) (id : ℕ) (ordered : Bool) (answer : Result (Unit {0}) ReadableError) → AllRemotes at_once b (trace h) u → Begins u id ordered answer v
+    → AllRemotes at_once b (trace h) v
+remotes-began window at_once b h u v id ordered (Ok y) x s = remotes_at at_once b (trace h) v (with_receive u id (Some s.new)) s.is (remotes_half at_once b (trace h) u id s.new x)
+remotes-began window at_once b h u v id ordered (Err readable_error.ClosedStream) x s = remotes_at at_once b (trace h) v u s.1 x
+remotes-began window at_once b h u v id ordered (Err readable_error.IllegalOrderedRead) x s = remotes_at at_once b (trace h) v (with_receive u id (Some s.new)) s.is (remotes_half at_once b (trace h) u id s.new x)
+remotes-began window at_once b h u v id ordered (Err readable_error.OutOfMemory) x (inl s) = remotes_at at_once b (trace h) v u s x
+remotes-began window at_once b h u v id ordered (Err readable_error.OutOfMemory) x (inr s) = remotes_at at_once b (trace h) v (with_receive u id (Some s.new)) s.is (remotes_half at_once b (trace h) u id s.new x)
 
-module _ (h : List Event) (u : World) (id most : ℕ) (answer : Result (Option Chunk) ReadError) (old : Half) (f : Facts h u) (x : AllRemotes (trace h) u) (half : u.receive id ≡ Some old) where
+module _ (window : ℕ) (at_once b : Dir → ℕ) (h : List Event) (u : World) (id most : ℕ) (ordered : Bool) (answer : Result (Option Chunk) ReadError) (old : Half) (f : Facts window h u) (x : AllRemotes at_once b (trace h) u) (half : u.receive id ≡ Some old) where
   abbrev eg : Event
-  eg = Gave id most answer
+  eg = Gave id most ordered answer
 
   gave_known : id_refusal u id ≡ None
   gave_known = known-from (trace h) u id old f.streams half
@@ -252,28 +252,28 @@ module _ (h : List Event) (u : World) (id most : ℕ) (answer : Result (Option C
   gave_others : (q : ℕ) → eqb q id ≡ false → trace (eg ∷ h) q ≡ trace h q
   gave_others q n = rw n refl
 
-  gave_here : trace (eg ∷ h) id ≡ with_read answer (trace h id)
+  gave_here : trace (eg ∷ h) id ≡ with_read ordered answer (trace h id)
   gave_here = rw (itself id) refl
 
-  gave_put : (new : Half) → (with_read answer (trace h id)).gone ≡ (trace h id).gone → AllRemotes (trace (eg ∷ h)) (with_receive u id (Some new))
-  gave_put new e = idle h eg u f x (with_receive u id (Some new)) (gone_others (trace h) (trace (eg ∷ h)) id gave_others (ap (λ k. k.gone) gave_here ∙ e)) (remotes-put u id (Some new))
+  gave_put : (new : Half) → (with_read ordered answer (trace h id)).gone ≡ (trace h id).gone → AllRemotes at_once b (trace (eg ∷ h)) (with_receive u id (Some new))
+  gave_put new e = idle window at_once b h eg u f x (with_receive u id (Some new)) (gone_others (trace h) (trace (eg ∷ h)) id gave_others (ap (λ k. k.gone) gave_here ∙ e)) (remotes-put u id (Some new))
 
-  gave_freed : (with_read answer (trace h id)).gone ≡ true → AllRemotes (trace (eg ∷ h)) (with_freed u id)
-  gave_freed e = frees h eg u f x u id (same_remotes u) (λ q. refl) gave_known gave_others gave_was.there (ap (λ k. k.gone) gave_here ∙ e)
+  gave_freed : (with_read ordered answer (trace h id)).gone ≡ true → AllRemotes at_once b (trace (eg ∷ h)) (with_freed u id)
+  gave_freed e = frees window at_once b h eg u f x u id (same_remotes u) (λ q. refl) gave_known gave_others gave_was.there (ap (λ k. k.gone) gave_here ∙ e)
 
-remotes-gave : (h : List Event) (u v : World) (id most : ℕ) (answer : Result (Option Chunk) ReadError) → Facts h u → AllRemotes (trace h) u → ReadsHalf u id most answer v
-    → AllRemotes (trace (Gave id most answer ∷ h)) v
-remotes-gave h u v id most (Ok (Some chunk)) f x s = remotes_at (trace (Gave id most (Ok (Some chunk)) ∷ h)) v (with_receive u id (Some s.new)) s.is (gave_put h u id most (Ok (Some chunk)) s.old f x s.half s.new refl)
-remotes-gave h u v id most (Ok None) f x s = remotes_at (trace (Gave id most (Ok None) ∷ h)) v (with_freed u id) s.is (gave_freed h u id most (Ok None) s.old f x s.half refl)
-remotes-gave h u v id most (Err read_error.Blocked) f x s = remotes_at (trace (Gave id most (Err read_error.Blocked) ∷ h)) v (with_receive u id (Some s.new)) s.is (gave_put h u id most (Err read_error.Blocked) s.old f x s.half s.new refl)
-remotes-gave h u v id most (Err (read_error.Reset code)) f x s = remotes_at (trace (Gave id most (Err (read_error.Reset code)) ∷ h)) v (with_freed u id) s.is (gave_freed h u id most (Err (read_error.Reset code)) s.old f x s.half refl)
-remotes-gave h u v id most (Err read_error.OutOfMemory) f x s = remotes_at (trace (Gave id most (Err read_error.OutOfMemory) ∷ h)) v (with_receive u id (Some s.new)) s.is (gave_put h u id most (Err read_error.OutOfMemory) s.old f x s.half s.new refl)
+remotes-gave : (window : ℕ) (at_once b : Dir → ℕ) (h : List Event) (u v : World) (id most : ℕ) (ordered : Bool) (answer : Result (Option Chunk) ReadError) → Facts window h u → AllRemotes at_once b (trace h) u → ReadsHalf u id most ordered answer v
+    → AllRemotes at_once b (trace (Gave id most ordered answer ∷ h)) v
+remotes-gave window at_once b h u v id most ordered (Ok (Some chunk)) f x s = remotes_at at_once b (trace (Gave id most ordered (Ok (Some chunk)) ∷ h)) v (with_receive u id (Some s.new)) s.is (gave_put window at_once b h u id most ordered (Ok (Some chunk)) s.old f x s.half s.new refl)
+remotes-gave window at_once b h u v id most ordered (Ok None) f x s = remotes_at at_once b (trace (Gave id most ordered (Ok None) ∷ h)) v (with_freed u id) s.is (gave_freed window at_once b h u id most ordered (Ok None) s.old f x s.half refl)
+remotes-gave window at_once b h u v id most ordered (Err read_error.Blocked) f x s = remotes_at at_once b (trace (Gave id most ordered (Err read_error.Blocked) ∷ h)) v (with_receive u id (Some s.new)) s.is (gave_put window at_once b h u id most ordered (Err read_error.Blocked) s.old f x s.half s.new refl)
+remotes-gave window at_once b h u v id most ordered (Err (read_error.Reset code)) f x s = remotes_at at_once b (trace (Gave id most ordered (Err (read_error.Reset code)) ∷ h)) v (with_freed u id) s.is (gave_freed window at_once b h u id most ordered (Err (read_error.Reset code)) s.old f x s.half refl)
+remotes-gave window at_once b h u v id most ordered (Err read_error.OutOfMemory) f x s = remotes_at at_once b (trace (Gave id most ordered (Err read_error.OutOfMemory) ∷ h)) v (with_receive u id (Some s.new)) s.is (gave_put window at_once b h u id most ordered (Err read_error.OutOfMemory) s.old f x s.half s.new refl)
 
 -- ---- a stop, and the code of a reset
 
-remotes-stopped : (h : List Event) (u v : World) (id code : ℕ) (answer : Result (Unit {0}) HandleError) (p q : Pending) → Facts h u → AllRemotes (trace h) u
-    → Stops u id code p answer v q → AllRemotes (trace (Stopped id code answer ∷ h)) v
-remotes-stopped h u v id code (Ok y) p q f x s =
+remotes-stopped : (window : ℕ) (at_once b : Dir → ℕ) (h : List Event) (u v : World) (id code : ℕ) (answer : Result (Unit {0}) HandleError) (p q : Pending) → Facts window h u → AllRemotes at_once b (trace h) u
+    → Stops u id code p answer v q → AllRemotes at_once b (trace (Stopped id code answer ∷ h)) v
+remotes-stopped window at_once b h u v id code (Ok y) p q f x s =
     let e = Stopped id code (Ok y) in
     let g = trace (e ∷ h) in
     let old = s.0 in
@@ -283,19 +283,19 @@ remotes-stopped h u v id code (Ok y) p q f x s =
     let others = λ (k : ℕ) (n : eqb k id ≡ false). stop_others h id code k n in
     let here = stop_here h id code in
     let z = if is_some old.size then with_freed u id else with_receive u id (Some new) in
-    remotes_at g v (after_stop u id old new) s.6
-    (remotes_credit g z (stop_credit old)
-    (either g (with_freed u id) (with_receive u id (Some new)) (is_some old.size)
-    (λ k. frees h e u f x u id (same_remotes u) (λ j. refl) known others was.there (here ∙ sym was.sized ∙ k))
-    (λ k. idle h e u f x (with_receive u id (Some new)) (gone_others (trace h) g id others (here ∙ sym was.sized ∙ k ∙ sym was.there)) (remotes-put u id (Some new)))))
+    remotes_at at_once b g v (after_stop u id old new) s.6
+    (remotes_credit at_once b g z (stop_credit old)
+    (either at_once b g (with_freed u id) (with_receive u id (Some new)) (is_some old.size)
+    (λ k. frees window at_once b h e u f x u id (same_remotes u) (λ j. refl) known others was.there (here ∙ sym was.sized ∙ k))
+    (λ k. idle window at_once b h e u f x (with_receive u id (Some new)) (gone_others (trace h) g id others (here ∙ sym was.sized ∙ k ∙ sym was.there)) (remotes-put u id (Some new)))))
   where
     stop_others : (h : List Event) (id code k : ℕ) → eqb k id ≡ false → trace (Stopped id code (Ok tt) ∷ h) k ≡ trace h k
     stop_others h id code k n = rw n refl
 
     stop_here : (h : List Event) (id code : ℕ) → (trace (Stopped id code (Ok tt) ∷ h) id).gone ≡ (trace h id).sized
     stop_here h id code = rw (itself id) refl
-remotes-stopped h u v id code (Err handle_error.ClosedStream) p q f x s = remotes_at (trace (Stopped id code (Err handle_error.ClosedStream) ∷ h)) v u s.1 x
-remotes-stopped h u v id code (Err handle_error.OutOfMemory) p q f x s = remotes_at (trace (Stopped id code (Err handle_error.OutOfMemory) ∷ h)) v u s.0 x
+remotes-stopped window at_once b h u v id code (Err handle_error.ClosedStream) p q f x s = remotes_at at_once b (trace (Stopped id code (Err handle_error.ClosedStream) ∷ h)) v u s.1 x
+remotes-stopped window at_once b h u v id code (Err handle_error.OutOfMemory) p q f x s = remotes_at at_once b (trace (Stopped id code (Err handle_error.OutOfMemory) ∷ h)) v u s.0 x
 
 told_others : (h : List Event) (id code k : ℕ) → eqb k id ≡ false → trace (ToldReset id (Ok (Some code)) ∷ h) k ≡ trace h k
 told_others h id code k n = rw n refl
@@ -303,26 +303,23 @@ told_others h id code k n = rw n refl
 told_here : (h : List Event) (id code : ℕ) → (trace (ToldReset id (Ok (Some code)) ∷ h) id).gone ≡ true
 told_here h id code = rw (itself id) refl
 
-told_none : (h : List Event) (id k : ℕ) → (trace (ToldReset id (Ok None) ∷ h) k).gone ≡ (trace h k).gone
-told_none h id k = by_cases (eqb k id) (λ e. rw e refl) (λ e. rw e refl)
-
-remotes-told : (h : List Event) (u v : World) (id : ℕ) (answer : Result (Option ℕ) HandleError) (p q : Pending) → Facts h u → AllRemotes (trace h) u
-    → TellsReset u id p answer v q → AllRemotes (trace (ToldReset id answer ∷ h)) v
-remotes-told h u v id (Ok (Some code)) p q f x s =
+remotes-told : (window : ℕ) (at_once b : Dir → ℕ) (h : List Event) (u v : World) (id : ℕ) (answer : Result (Option ℕ) HandleError) (p q : Pending) → Facts window h u → AllRemotes at_once b (trace h) u
+    → TellsReset u id p answer v q → AllRemotes at_once b (trace (ToldReset id answer ∷ h)) v
+remotes-told window at_once b h u v id (Ok (Some code)) p q f x s =
     let known = known-from (trace h) u id s.0 f.streams s.1 in
     let was = half-from (trace h) u id s.0 f.streams known s.1 in
-    remotes_at (trace (ToldReset id (Ok (Some code)) ∷ h)) v (with_freed u id) s.4
-    (frees h (ToldReset id (Ok (Some code))) u f x u id (same_remotes u) (λ j. refl) known (λ k n. told_others h id code k n) was.there (told_here h id code))
-remotes-told h u v id (Ok None) p q f x s = remotes_at (trace (ToldReset id (Ok None) ∷ h)) v u s.4 (idle h (ToldReset id (Ok None)) u f x u (told_none h id) (same_remotes u))
-remotes-told h u v id (Err handle_error.ClosedStream) p q f x s = remotes_at (trace (ToldReset id (Err handle_error.ClosedStream) ∷ h)) v u s.1 x
-remotes-told h u v id (Err handle_error.OutOfMemory) p q f x s = remotes_at (trace (ToldReset id (Err handle_error.OutOfMemory) ∷ h)) v u s.3 x
+    remotes_at at_once b (trace (ToldReset id (Ok (Some code)) ∷ h)) v (with_freed u id) s.4
+    (frees window at_once b h (ToldReset id (Ok (Some code))) u f x u id (same_remotes u) (λ j. refl) known (λ k n. told_others h id code k n) was.there (told_here h id code))
+remotes-told window at_once b h u v id (Ok None) p q f x s = remotes_at at_once b (trace (ToldReset id (Ok None) ∷ h)) v u s.4 x
+remotes-told window at_once b h u v id (Err handle_error.ClosedStream) p q f x s = remotes_at at_once b (trace (ToldReset id (Err handle_error.ClosedStream) ∷ h)) v u s.1 x
+remotes-told window at_once b h u v id (Err handle_error.OutOfMemory) p q f x s = remotes_at at_once b (trace (ToldReset id (Err handle_error.OutOfMemory) ∷ h)) v u s.3 x
 
-pub kept-remotes : (h : List Event) (u : World) (e : Event) (v : World) → Facts h u → AllRemotes (trace h) u → Step u e v → AllRemotes (trace (e ∷ h)) v
-kept-remotes h u (Received id offset bytes fin answer) v f x s = remotes-received h u v id offset bytes fin answer f x s
-kept-remotes h u (ReceivedReset id code final answer) v f x s = remotes-reset h u v id code final answer f x s
-kept-remotes h u (AddedCredits count answer) v f x s = remotes_at (trace h) v (with_credit u count) s.0 (remotes_credit (trace h) u count x)
-kept-remotes h u (Began id ordered answer) v f x s = remotes-began h u v id ordered answer x s
-kept-remotes h u (Gave id most answer) v f x s = remotes-gave h u v id most answer f x s
-kept-remotes h u (Ended id count) v f x s = remotes_at (trace h) v (with_credit u count) s (remotes_credit (trace h) u count x)
-kept-remotes h u (Stopped id code answer) v f x s = remotes-stopped h u v id code answer s.0 s.1 f x s.2
-kept-remotes h u (ToldReset id answer) v f x s = remotes-told h u v id answer s.0 s.1 f x s.2
+pub kept-remotes : (window : ℕ) (at_once b : Dir → ℕ) (h : List Event) (u : World) (e : Event) (v : World) → Facts window h u → AllRemotes at_once b (trace h) u → Step u e v → AllRemotes at_once b (trace (e ∷ h)) v
+kept-remotes window at_once b h u (Received id offset bytes fin answer) v f x s = remotes-received window at_once b h u v id offset bytes fin answer f x s
+kept-remotes window at_once b h u (ReceivedReset id code final answer) v f x s = remotes-reset window at_once b h u v id code final answer f x s
+kept-remotes window at_once b h u (AddedCredits count answer) v f x s = remotes_at at_once b (trace h) v (with_credit u count) s.0 (remotes_credit at_once b (trace h) u count x)
+kept-remotes window at_once b h u (Began id ordered answer) v f x s = remotes-began window at_once b h u v id ordered answer x s
+kept-remotes window at_once b h u (Gave id most ordered answer) v f x s = remotes-gave window at_once b h u v id most ordered answer f x s
+kept-remotes window at_once b h u (Ended id count) v f x s = remotes_at at_once b (trace h) v (with_credit u count) s (remotes_credit at_once b (trace h) u count x)
+kept-remotes window at_once b h u (Stopped id code answer) v f x s = remotes-stopped window at_once b h u v id code answer s.0 s.1 f x s.2
+kept-remotes window at_once b h u (ToldReset id answer) v f x s = remotes-told window at_once b h u v id answer s.0 s.1 f x s.2

@@ -1,6 +1,6 @@
 -- How many streams the peer may open, over histories.
 use Rattle.std.proofs.Common.{◌≡◌, ◌⊎◌, ℕ, zero, suc, add-one, Bool, true, false, ◌&&◌, not, eqb, Option, Some, None, refl, sym, ap, ◌∙◌, inl, inr, arith, ◌+◌, ◌-◌, ◌/◌, ◌%◌, ◌≤◌, ◌<◌}
-use Rattle.std.specs.Prelude.{◌==◌, ◌^◌, nat_le, nat_lt, if◌then◌else◌}
+use Rattle.std.specs.Prelude.{max, min, ◌==◌, ◌^◌, nat_le, nat_lt, if◌then◌else◌}
 use Rattle.std.proofs.lemmas.Bool.{cases_lt}
 use Rattle.std.proofs.lemmas.Bool.Decides.{nat_tests}
 use Rattle.quic_values.specs.declared.ids.Side.{Side}
@@ -57,49 +57,58 @@ pub record SameLimits (r r' : Remote) : Type 0 where
   pub allocated : r'.allocated ≡ r.allocated
   pub concurrent : r'.max_concurrent ≡ r.max_concurrent
 
-pub remote-same : (f g : ℕ → Bool) (r r' : Remote) → SameLimits r r' → ((i : ℕ) → i < r.max_remote → g i ≡ f i) → RemoteFrom f r → RemoteFrom g r'
-remote-same f g r r' s e x =
+pub remote-same : (at_once before : ℕ) (f g : ℕ → Bool) (r r' : Remote) → SameLimits r r' → ((i : ℕ) → i < r.max_remote → g i ≡ f i) → RemoteFrom at_once before f r → RemoteFrom at_once before g r'
+remote-same at_once before f g r r' s e x =
     let n = number_same r.max_remote f g e in
     let a = s.max in
     let b = s.allocated in
     let c = s.concurrent in
     let d = x.allocated in
-    let m = x.permitted in
+    let m : r.max_remote ≡ max before (min (r.max_concurrent + number f r.max_remote) (2 ^ 60)) = x.permitted in
+    let p : r.max_remote ≡ max before (min (r.max_concurrent + number g r.max_remote) (2 ^ 60)) = omega arith in
     record {
+      concurrent = s.concurrent ∙ x.concurrent;
       allocated = rw (s.max, s.allocated) (omega arith);
-      permitted = rw (s.max, s.concurrent) (omega arith);
+      permitted = rw (s.max, s.concurrent) p;
     }
 
 next_number : (n : ℕ) (g : ℕ → Bool) → g n ≡ false → number g (n + 1) ≡ number g n
 unfolding number
 next_number n g e = rw (add-one, e) (omega arith)
 
-after_replaced : (f g : ℕ → Bool) (r : Remote) (i : ℕ) (b : Bool) → remote.lacks_streams (remote.freed r) ≡ b → i < r.max_remote → f i ≡ false → g i ≡ true
-    → ((k : ℕ) → eqb k i ≡ false → g k ≡ f k) → g r.max_remote ≡ false → RemoteFrom f r → RemoteFrom g (if b then remote.one_permitted (remote.freed r) else remote.freed r)
-after_replaced f g r i true lacks l before after e last x =
+after_replaced : (at_once before' : ℕ) (f g : ℕ → Bool) (r : Remote) (i : ℕ) (b : Bool) → remote.lacks_streams (remote.freed r) ≡ b → i < r.max_remote → f i ≡ false → g i ≡ true
+    → ((k : ℕ) → eqb k i ≡ false → g k ≡ f k) → g r.max_remote ≡ false → RemoteFrom at_once before' f r → RemoteFrom at_once before' g (if b then remote.one_permitted (remote.freed r) else remote.freed r)
+after_replaced at_once before' f g r i true lacks l before after e last x =
     let one = number_one r.max_remote i f g l before after e in
     let less = number_less r.max_remote i f l before in
     let d = x.allocated in
-    let m = x.permitted in
+    let m : r.max_remote ≡ max before' (min (r.max_concurrent + number f r.max_remote) (2 ^ 60)) = x.permitted in
+    let lacking : r.allocated - 1 < r.max_concurrent = and_first r.allocated r.max_concurrent (nat_lt r.max_remote (2 ^ 60)) lacks in
     let room : r.max_remote < 2 ^ 60 = and_lt (nat_lt (r.allocated - 1) r.max_concurrent) r.max_remote lacks in
     let more : number g (r.max_remote + 1) ≡ number g r.max_remote = next_number r.max_remote g last in
+    let rises : r.max_remote + 1 ≡ max before' (min (r.max_concurrent + number g (r.max_remote + 1)) (2 ^ 60)) = omega arith in
     record {
+      concurrent = x.concurrent;
       allocated = omega arith;
-      permitted = omega arith;
+      permitted = rises;
     }
   where
+    and_first : (a c : ℕ) (b : Bool) → (nat_lt (a - 1) c && b) ≡ true → a - 1 < c
+    and_first a c true e = grind (arith, nat_tests)
+    and_first a c false e = grind (arith, nat_tests)
+
     and_lt : (b : Bool) (m : ℕ) → (b && nat_lt m (2 ^ 60)) ≡ true → m < 2 ^ 60
     and_lt true m e = grind (arith, nat_tests)
     and_lt false m e = cc
-after_replaced f g r i false lacks l before after e last x =
+after_replaced at_once before' f g r i false lacks l before after e last x =
     let one = number_one r.max_remote i f g l before after e in
     let less = number_less r.max_remote i f l before in
     let d = x.allocated in
-    let m = x.permitted in
+    let m : r.max_remote ≡ max before' (min (r.max_concurrent + number f r.max_remote) (2 ^ 60)) = x.permitted in
     let full : (r.max_concurrent ≤ r.allocated - 1) ⊎ (2 ^ 60 ≤ r.max_remote) = not_both (r.allocated - 1) r.max_concurrent r.max_remote lacks in
     elim full [
-      | inl k ↦ record { allocated = omega arith; permitted = omega arith }
-      | inr k ↦ record { allocated = omega arith; permitted = omega arith }
+      | inl k ↦ (let stays : r.max_remote ≡ max before' (min (r.max_concurrent + number g r.max_remote) (2 ^ 60)) = omega arith in record { concurrent = x.concurrent; allocated = omega arith; permitted = stays })
+      | inr k ↦ (let stays : r.max_remote ≡ max before' (min (r.max_concurrent + number g r.max_remote) (2 ^ 60)) = omega arith in record { concurrent = x.concurrent; allocated = omega arith; permitted = stays })
     ]
   where
     not_both : (a c m : ℕ) → (nat_lt a c && nat_lt m (2 ^ 60)) ≡ false → (c ≤ a) ⊎ (2 ^ 60 ≤ m)
@@ -108,15 +117,20 @@ after_replaced f g r i false lacks l before after e last x =
       | inr k ↦ inl k
     ]
 
--- one more is wholly with_freed, and the next is not
-pub remote-replaced : (f g : ℕ → Bool) (r : Remote) (i : ℕ) → i < r.max_remote → f i ≡ false → g i ≡ true
-    → ((k : ℕ) → eqb k i ≡ false → g k ≡ f k) → g r.max_remote ≡ false → RemoteFrom f r → RemoteFrom g (remote.replaced r)
-remote-replaced f g r i l before after e last x = after_replaced f g r i (remote.lacks_streams (remote.freed r)) refl l before after e last x
+-- what might be opened is what there is room for, or what might be before
+pub rebased : (at_once before : ℕ) (f : ℕ → Bool) (r : Remote) → RemoteFrom at_once before f r → RemoteFrom at_once r.max_remote f r
+rebased at_once before f r x = let m : r.max_remote ≡ max before (min (r.max_concurrent + number f r.max_remote) (2 ^ 60)) = x.permitted in
+    let p : r.max_remote ≡ max r.max_remote (min (r.max_concurrent + number f r.max_remote) (2 ^ 60)) = omega arith in record { concurrent = x.concurrent; allocated = x.allocated; permitted = p }
+
+-- one more is wholly freed, and the next is not
+pub remote-replaced : (at_once before : ℕ) (f g : ℕ → Bool) (r : Remote) (i : ℕ) → i < r.max_remote → f i ≡ false → g i ≡ true
+    → ((k : ℕ) → eqb k i ≡ false → g k ≡ f k) → g r.max_remote ≡ false → RemoteFrom at_once before f r → RemoteFrom at_once before g (remote.replaced r)
+remote-replaced at_once before f g r i l was after e last x = after_replaced at_once before f g r i (remote.lacks_streams (remote.freed r)) refl l was after e last x
 
 -- ---- both directions
 
-abbrev pub AllRemotes : (ℕ → Trace) → World → Type 0
-AllRemotes f w = (d : Dir) → RemoteFrom (is_freed f w.side w.sends d) (remote_of w d)
+abbrev pub AllRemotes : (Dir → ℕ) → (Dir → ℕ) → (ℕ → Trace) → World → Type 0
+AllRemotes at_once b f w = (d : Dir) → RemoteFrom (at_once d) (b d) (is_freed f w.side w.sends d) (remote_of w d)
 
 -- what does not count is the same
 pub record SameRemotes (u v : World) : Type 0 where
@@ -178,9 +192,9 @@ freed_same f g s sends Uni i e = e
 freed_same f g s sends Bi i e = ap (λ b. b && not (sends (stream_id (other_side s) Bi i))) e
 
 -- a call that frees no half
-pub remotes-idle : (f g : ℕ → Trace) (u v : World) → ((q : ℕ) → (g q).gone ≡ (f q).gone) → SameRemotes u v → AllRemotes f u → AllRemotes g v
-remotes-idle f g u v gone s x d =
-    rw (s.side, s.sends) (remote-same (is_freed f u.side u.sends d) (is_freed g u.side u.sends d) (remote_of u d) (remote_of v d) (s.limits d)
+pub remotes-idle : (at_once b : Dir → ℕ) (f g : ℕ → Trace) (u v : World) → ((q : ℕ) → (g q).gone ≡ (f q).gone) → SameRemotes u v → AllRemotes at_once b f u → AllRemotes at_once b g v
+remotes-idle at_once b f g u v gone s x d =
+    rw (s.side, s.sends) (remote-same (at_once d) (b d) (is_freed f u.side u.sends d) (is_freed g u.side u.sends d) (remote_of u d) (remote_of v d) (s.limits d)
     (λ i l. freed_same f g u.side u.sends d i (gone (stream_id (other_side u.side) d i))) (x d))
 
 -- ---- a half is with_freed
@@ -225,29 +239,29 @@ is_replaced Bi w id = bi_if w id (remote.lacks_streams (remote.freed w.bi)) (rem
 and_not : (b c : Bool) → b ≡ false → (b && c) ≡ false
 and_not b c e = rw e refl
 
-module _ (f g : ℕ → Trace) (w : World) (id : ℕ) (was : (f id).gone ≡ false) (is : (g id).gone ≡ true) (others : (q : ℕ) → eqb q id ≡ false → g q ≡ f q)
-    (next : (d : Dir) → (g (stream_id (other_side w.side) d (remote_of w d).max_remote)).gone ≡ false) (x : AllRemotes f w) where
+module _ (at_once b : Dir → ℕ) (f g : ℕ → Trace) (w : World) (id : ℕ) (was : (f id).gone ≡ false) (is : (g id).gone ≡ true) (others : (q : ℕ) → eqb q id ≡ false → g q ≡ f q)
+    (next : (d : Dir) → (g (stream_id (other_side w.side) d (remote_of w d).max_remote)).gone ≡ false) (x : AllRemotes at_once b f w) where
   abbrev o : Side
   o = other_side w.side
 
   -- the other direction
-  uni_stays : (j : ℕ) → id ≡ stream_id o Bi j → RemoteFrom (is_freed g w.side w.sends Uni) w.uni
-  uni_stays j e = remote-same (is_freed f w.side w.sends Uni) (is_freed g w.side w.sends Uni) w.uni w.uni (limits-refl w.uni)
+  uni_stays : (j : ℕ) → id ≡ stream_id o Bi j → RemoteFrom (at_once Uni) (b Uni) (is_freed g w.side w.sends Uni) w.uni
+  uni_stays j e = remote-same (at_once Uni) (b Uni) (is_freed f w.side w.sends Uni) (is_freed g w.side w.sends Uni) w.uni w.uni (limits-refl w.uni)
       (λ i l. ap (λ t. t.gone) (others (stream_id o Uni i) (rw e (uni_not_bi o i j)))) (x Uni)
 
-  bi_stays : (j : ℕ) → id ≡ stream_id o Uni j → RemoteFrom (is_freed g w.side w.sends Bi) w.bi
-  bi_stays j e = remote-same (is_freed f w.side w.sends Bi) (is_freed g w.side w.sends Bi) w.bi w.bi (limits-refl w.bi)
+  bi_stays : (j : ℕ) → id ≡ stream_id o Uni j → RemoteFrom (at_once Bi) (b Bi) (is_freed g w.side w.sends Bi) w.bi
+  bi_stays j e = remote-same (at_once Bi) (b Bi) (is_freed f w.side w.sends Bi) (is_freed g w.side w.sends Bi) w.bi w.bi (limits-refl w.bi)
       (λ i l. ap (λ t. t.gone && not (w.sends (stream_id o Bi i))) (others (stream_id o Bi i) (rw e (bi_not_uni o i j)))) (x Bi)
 
-  uni_replaced : (v : World) (j : ℕ) → id ≡ stream_id o Uni j → j < w.uni.max_remote → IsReplaced Uni w v → AllRemotes g v
+  uni_replaced : (v : World) (j : ℕ) → id ≡ stream_id o Uni j → j < w.uni.max_remote → IsReplaced Uni w v → AllRemotes at_once b g v
   uni_replaced v j e l r Uni = rw (r.0, r.2, r.3)
-      (remote-replaced (is_freed f w.side w.sends Uni) (is_freed g w.side w.sends Uni) w.uni j l (ap (λ k. (f k).gone) (sym e) ∙ was) (ap (λ k. (g k).gone) (sym e) ∙ is)
+      (remote-replaced (at_once Uni) (b Uni) (is_freed f w.side w.sends Uni) (is_freed g w.side w.sends Uni) w.uni j l (ap (λ k. (f k).gone) (sym e) ∙ was) (ap (λ k. (g k).gone) (sym e) ∙ is)
       (λ i n. ap (λ t. t.gone) (others (stream_id o Uni i) (rw e (other_place o Uni i j n)))) (next Uni) (x Uni))
   uni_replaced v j e l r Bi = rw (r.0, r.1, r.3) (bi_stays j e)
 
   -- a bidirectional stream whose send half is held is not wholly with_freed
-  bi_held : (j : ℕ) → id ≡ stream_id o Bi j → w.sends id ≡ true → RemoteFrom (is_freed g w.side w.sends Bi) w.bi
-  bi_held j e held = remote-same (is_freed f w.side w.sends Bi) (is_freed g w.side w.sends Bi) w.bi w.bi (limits-refl w.bi)
+  bi_held : (j : ℕ) → id ≡ stream_id o Bi j → w.sends id ≡ true → RemoteFrom (at_once Bi) (b Bi) (is_freed g w.side w.sends Bi) w.bi
+  bi_held j e held = remote-same (at_once Bi) (b Bi) (is_freed f w.side w.sends Bi) (is_freed g w.side w.sends Bi) w.bi w.bi (limits-refl w.bi)
       (λ i l. by_cases (eqb i j)
       (λ t. let at : w.sends (stream_id o Bi i) ≡ true = ap (λ k. w.sends (stream_id o Bi k)) (same i j t) ∙ ap w.sends (sym e) ∙ held in
       rw at (both_none (g (stream_id o Bi i)).gone (f (stream_id o Bi i)).gone))
@@ -271,7 +285,7 @@ module _ (f g : ℕ → Trace) (w : World) (id : ℕ) (was : (f id).gone ≡ fal
       rw (b, c) refl)
       (λ m. rw (k, s (stream_id o Bi i) (other_place o Bi i w.bi.max_remote m)) refl)
 
-  bi_replaced : (v : World) (j : ℕ) → id ≡ stream_id o Bi j → j < w.bi.max_remote → w.sends id ≡ false → IsReplaced Bi w v → AllRemotes g v
+  bi_replaced : (v : World) (j : ℕ) → id ≡ stream_id o Bi j → j < w.bi.max_remote → w.sends id ≡ false → IsReplaced Bi w v → AllRemotes at_once b g v
   bi_replaced v j e l free r Uni = rw (r.0, r.2) (uni_stays j e)
   bi_replaced v j e l free r Bi =
       let here : eqb (stream_id o Bi j) (stream_id o Bi w.bi.max_remote) ≡ false = other_place o Bi j w.bi.max_remote (let a : j < w.bi.max_remote = l in grind (arith, nat_tests)) in
@@ -279,16 +293,16 @@ module _ (f g : ℕ → Trace) (w : World) (id : ℕ) (was : (f id).gone ≡ fal
       let gone : (g (stream_id o Bi j)).gone ≡ true = ap (λ k. (g k).gone) (sym e) ∙ is in
       let last : is_freed g w.side v.sends Bi w.bi.max_remote ≡ false = and_not (g (stream_id o Bi w.bi.max_remote)).gone (not (v.sends (stream_id o Bi w.bi.max_remote))) (next Bi) in
       rw (r.0, r.1)
-      (remote-replaced (is_freed f w.side w.sends Bi) (is_freed g w.side v.sends Bi) w.bi j l
+      (remote-replaced (at_once Bi) (b Bi) (is_freed f w.side w.sends Bi) (is_freed g w.side v.sends Bi) w.bi j l
       (and_not (f (stream_id o Bi j)).gone (not (w.sends (stream_id o Bi j))) (ap (λ k. (f k).gone) (sym e) ∙ was)) (rw (gone, sends) refl)
       (λ i n. sends_after v j r.3 i n e) last (x Bi))
 
-  same_world : (v : World) → SameRemotes w v → RemoteFrom (is_freed g w.side w.sends Bi) w.bi → RemoteFrom (is_freed g w.side w.sends Uni) w.uni → AllRemotes g v
-  same_world v s b u Bi = rw (s.side, s.sends) (remote-same (is_freed g w.side w.sends Bi) (is_freed g w.side w.sends Bi) w.bi v.bi (s.limits Bi) (λ i l. refl) b)
-  same_world v s b u Uni = rw (s.side, s.sends) (remote-same (is_freed g w.side w.sends Uni) (is_freed g w.side w.sends Uni) w.uni v.uni (s.limits Uni) (λ i l. refl) u)
+  same_world : (v : World) → SameRemotes w v → RemoteFrom (at_once Bi) (b Bi) (is_freed g w.side w.sends Bi) w.bi → RemoteFrom (at_once Uni) (b Uni) (is_freed g w.side w.sends Uni) w.uni → AllRemotes at_once b g v
+  same_world v s x' u Bi = rw (s.side, s.sends) (remote-same (at_once Bi) (b Bi) (is_freed g w.side w.sends Bi) (is_freed g w.side w.sends Bi) w.bi v.bi (s.limits Bi) (λ i l. refl) x')
+  same_world v s x' u Uni = rw (s.side, s.sends) (remote-same (at_once Uni) (b Uni) (is_freed g w.side w.sends Uni) (is_freed g w.side w.sends Uni) w.uni v.uni (s.limits Uni) (λ i l. refl) u)
 
-  bi_if_held : (b : Bool) (j : ℕ) → w.sends id ≡ b → id ≡ stream_id o Bi j → j < w.bi.max_remote
-      → AllRemotes g (if b then with_receive w id None else replaced_in (with_receive w id None) Bi)
+  bi_if_held : (c : Bool) (j : ℕ) → w.sends id ≡ c → id ≡ stream_id o Bi j → j < w.bi.max_remote
+      → AllRemotes at_once b g (if c then with_receive w id None else replaced_in (with_receive w id None) Bi)
   bi_if_held true j s e l = same_world (with_receive w id None) (remotes-put w id None) (bi_held j e s) (uni_stays j e)
   bi_if_held false j s e l = bi_replaced (replaced_in (with_receive w id None) Bi) j e l s (is_replaced Bi w id)
 
@@ -296,7 +310,7 @@ module _ (f g : ℕ → Trace) (w : World) (id : ℕ) (was : (f id).gone ≡ fal
   unfolding with_receive
   sends_put = refl
 
-  of_dir : (d : Dir) (j : ℕ) → id ≡ stream_id o d j → j < (remote_of w d).max_remote → AllRemotes g (released (with_receive w id None) d id)
+  of_dir : (d : Dir) (j : ℕ) → id ≡ stream_id o d j → j < (remote_of w d).max_remote → AllRemotes at_once b g (released (with_receive w id None) d id)
   of_dir Uni j e l = uni_replaced (replaced_in (with_receive w id None) Uni) j e l (is_replaced Uni w id)
   of_dir Bi j e l = bi_if_held ((with_receive w id None).sends id) j (sym sends_put) e l
 
@@ -319,31 +333,31 @@ index_if false o error most index e k = within (nat_le most index) refl k
     within true t k = cc
     within false t k = grind (arith, nat_tests)
 
-freed_if : (g : ℕ → Trace) (u v : World) (own : Bool) → (own ≡ true → AllRemotes g u) → (own ≡ false → AllRemotes g v) → AllRemotes g (if own then u else v)
-freed_if g u v true s t = s refl
-freed_if g u v false s t = t refl
+freed_if : (at_once b : Dir → ℕ) (g : ℕ → Trace) (u v : World) (own : Bool) → (own ≡ true → AllRemotes at_once b g u) → (own ≡ false → AllRemotes at_once b g v) → AllRemotes at_once b g (if own then u else v)
+freed_if at_once b g u v true s t = s refl
+freed_if at_once b g u v false s t = t refl
 
 own_put : (w : World) (id : ℕ) → is_own (with_receive w id None) id ≡ is_own w id
 unfolding with_receive
 own_put w id = refl
 
 -- a half is with_freed, and no other
-pub remotes-freed : (f g : ℕ → Trace) (w : World) (id : ℕ) → id_refusal w id ≡ None → (f id).gone ≡ false → (g id).gone ≡ true → ((q : ℕ) → eqb q id ≡ false → g q ≡ f q)
-    → ((d : Dir) → (g (stream_id (other_side w.side) d (remote_of w d).max_remote)).gone ≡ false) → AllRemotes f w → AllRemotes g (with_freed w id)
-remotes-freed f g w id known was is others next x =
+pub remotes-freed : (at_once b : Dir → ℕ) (f g : ℕ → Trace) (w : World) (id : ℕ) → id_refusal w id ≡ None → (f id).gone ≡ false → (g id).gone ≡ true → ((q : ℕ) → eqb q id ≡ false → g q ≡ f q)
+    → ((d : Dir) → (g (stream_id (other_side w.side) d (remote_of w d).max_remote)).gone ≡ false) → AllRemotes at_once b f w → AllRemotes at_once b g (with_freed w id)
+remotes-freed at_once b f g w id known was is others next x =
     let u = with_receive w id None in
-    freed_if g u (released u (dir_of id) id) (is_own u id)
+    freed_if at_once b g u (released u (dir_of id) id) (is_own u id)
     (λ own.
     let mine : is_own w id ≡ true = sym (own_put w id) ∙ own in
     let apart = λ (d : Dir) (i : ℕ). not_mine w id d i mine in
-    same_world f g w id was is others next x u (remotes-put w id None)
-    (remote-same (is_freed f w.side w.sends Bi) (is_freed g w.side w.sends Bi) w.bi w.bi (limits-refl w.bi)
+    same_world at_once b f g w id was is others next x u (remotes-put w id None)
+    (remote-same (at_once Bi) (b Bi) (is_freed f w.side w.sends Bi) (is_freed g w.side w.sends Bi) w.bi w.bi (limits-refl w.bi)
     (λ i l. freed_same f g w.side w.sends Bi i (ap (λ t. t.gone) (others (stream_id (other_side w.side) Bi i) (apart Bi i)))) (x Bi))
-    (remote-same (is_freed f w.side w.sends Uni) (is_freed g w.side w.sends Uni) w.uni w.uni (limits-refl w.uni)
+    (remote-same (at_once Uni) (b Uni) (is_freed f w.side w.sends Uni) (is_freed g w.side w.sends Uni) w.uni w.uni (limits-refl w.uni)
     (λ i l. freed_same f g w.side w.sends Uni i (ap (λ t. t.gone) (others (stream_id (other_side w.side) Uni i) (apart Uni i)))) (x Uni)))
     (λ own.
     let peers : is_own w id ≡ false = sym (own_put w id) ∙ own in
-    of_dir f g w id was is others next x (dir_of id) (index_of id) (spelled w.side (id % 2 == 0) (id / 2 % 2 == 0) id refl refl peers)
+    of_dir at_once b f g w id was is others next x (dir_of id) (index_of id) (spelled w.side (id % 2 == 0) (id / 2 % 2 == 0) id refl refl peers)
     (index_if (is_own w id) (own_refusal w (dir_of id) (index_of id)) STREAM_LIMIT_ERROR (remote_of w (dir_of id)).max_remote (index_of id) peers known))
   where
     not_mine : (w : World) (id : ℕ) (d : Dir) (i : ℕ) → is_own w id ≡ true → eqb (stream_id (other_side w.side) d i) id ≡ false

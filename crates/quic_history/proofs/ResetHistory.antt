@@ -13,7 +13,7 @@ use Rattle.quic_history.specs.History.{Event, ReceivedReset, Trace, HalfFrom, Cr
 use Rattle.quic_history.proofs.WorldSteps.{credit-with_receive, refusal-advanced}
 use Rattle.quic_history.proofs.Totals.{by_cases, same}
 use Rattle.quic_history.proofs.Credits.{credit-counted, credit-credited, credit-same}
-use Rattle.quic_history.proofs.Traces.{itself, received-change}
+use Rattle.quic_history.proofs.Traces.{itself, received-change, received-kept}
 use Rattle.quic_history.proofs.StreamSteps.{AllFrom, AllBut, all-told, half-from, gone-from, but-from, but-put, but-noticed, all-put, all-freed, all-noticed, refusal-noticed, credit-noticed, credit-freed}
 use Rattle.quic_history.proofs.FrameHistory.{not_beyond, open-trace, when, facts-at}
 
@@ -38,17 +38,17 @@ passes old final had most v =
     record { fit = tests.0; fits = not_beyond old.end old.sent_max final had most tests.1 }
 
 -- what gives no credit yet gives it, if it is some
-rest_if : (b : Bool) (n used owed came : ℕ) (w : World) → (n == 0) ≡ b → CreditFrom used owed came w.credit
-    → CreditFrom (used + n) (owed - n) came (if b then w else with_credit w n).credit
-rest_if true n used owed came w e c = let z : n ≡ 0 = grind (arith, nat_tests) in credit-same used owed came (used + n) (owed - n) came w.credit (omega arith) (omega arith) refl c
-rest_if false n used owed came w e c = credit-credited used owed came n w.credit c
+rest_if : (window : ℕ) (b : Bool) (n used owed came : ℕ) (w : World) → (n == 0) ≡ b → CreditFrom window used owed came w.credit
+    → CreditFrom window (used + n) (owed - n) came (if b then w else with_credit w n).credit
+rest_if window true n used owed came w e c = let z : n ≡ 0 = grind (arith, nat_tests) in credit-same window used owed came (used + n) (owed - n) came w.credit (omega arith) (omega arith) refl c
+rest_if window false n used owed came w e c = credit-credited window used owed came n w.credit c
 
 all_rest : (g : ℕ → Trace) (n : ℕ) (w : World) → AllFrom g w → AllFrom g (with_rest w n)
 all_rest g n w s = when g w (with_credit w n) (n == 0) (λ _. s) (λ _. s)
 
 -- ---- the first reset that is taken, on a half that is there
 
-module _ (h : List Event) (u : World) (id code final : ℕ) (transmit : ShouldTransmit) (old new : Half) (f : Facts h u)
+module _ (window : ℕ) (h : List Event) (u : World) (id code final : ℕ) (transmit : ShouldTransmit) (old new : Half) (f : Facts window h u)
     (known : id_refusal u id ≡ None) (half : u.receive id ≡ Some old) (running : old.reset ≡ None) (passed : Passes old final u.credit.data_recvd u.credit.local_max_data)
     (clears : Clears old.buffer new.buffer) (is : new ≡ record old { buffer = new.buffer; size = Some final; reset = Some code; end = final }) where
   abbrev e : Event
@@ -69,7 +69,7 @@ module _ (h : List Event) (u : World) (id code final : ℕ) (transmit : ShouldTr
   others : (q : ℕ) → eqb q id ≡ false → g q ≡ trace h q
   others q n = rw n refl
 
-  here : g id ≡ record t { high = final; sized = true; reset = true; gone = t.stopped }
+  here : g id ≡ record t { high = final; sized = true; reset = Some code; gone = t.stopped }
   here = rw (itself id, open-trace t old was running) refl
 
   but : AllBut id g w
@@ -89,9 +89,9 @@ module _ (h : List Event) (u : World) (id code final : ℕ) (transmit : ShouldTr
       let c = low in
       omega arith
 
-  counted-credit : CreditFrom (consumed h) (debt h) (received (e ∷ h)) w.credit
+  counted-credit : CreditFrom window (consumed h) (debt h) (received (e ∷ h)) w.credit
   counted-credit = rw (credit-with_receive u id (Some new))
-      (credit-counted (consumed h) (debt h) (received h) (new.end - old.end) (received (e ∷ h)) u.credit f.credit came (let b = end_is in let fits = passed.fits in omega arith))
+      (credit-counted window (consumed h) (debt h) (received h) (new.end - old.end) (received (e ∷ h)) u.credit f.credit came (let b = end_is in let fits = passed.fits in omega arith))
 
   half_reset : t.stopped ≡ false → HalfFrom (g id) new
   half_reset s = record {
@@ -99,11 +99,11 @@ module _ (h : List Event) (u : World) (id code final : ℕ) (transmit : ShouldTr
     read = clears.bytes_read ∙ was.read ∙ sym (ap (λ k. k.read) here);
     sized = ap (λ x. is_some x.size) is ∙ sym (ap (λ k. k.sized) here);
     stopped = ap (λ x. x.stopped) is ∙ was.stopped ∙ sym (ap (λ k. k.stopped) here);
-    reset = ap (λ x. is_some x.reset) is ∙ sym (ap (λ k. k.reset) here);
+    reset = ap (λ x. x.reset) is ∙ sym (ap (λ k. k.reset) here);
     there = ap (λ k. k.gone) here ∙ s;
     final = λ size k. end_is ∙ (let m : Some final ≡ Some size = sym (ap (λ x. x.size) is) ∙ k in cc);
     within = omega (arith, end_is, low, clears.highest, was.within);
-    holds = λ s r. let k : true ≡ false = sym (ap (λ k. k.reset) here) ∙ r in cc;
+    holds = λ s r. let k : Some code ≡ None = sym (ap (λ k. k.reset) here) ∙ r in cc;
   }
 
   credited_is : (b c : Bool) → c ≡ b → final - (if b then t.high else t.read) ≡ new.end - (if c then old.end else old.buffer.bytes_read)
@@ -120,15 +120,15 @@ module _ (h : List Event) (u : World) (id code final : ℕ) (transmit : ShouldTr
   credit_freed true = credit-freed x id ∙ credit-noticed w id (not old.stopped)
   credit_freed false = credit-noticed w id (not old.stopped)
 
-  facts_reset : Facts (e ∷ h) (after_reset u id old new)
+  facts_reset : Facts window (e ∷ h) (after_reset u id old new)
   facts_reset =
       let n : ℕ = new.end - credited_to old in
       let y = if old.stopped then with_freed x id else x in
-      let base : CreditFrom (consumed h) (debt h) (received (e ∷ h)) y.credit = rw (credit_freed old.stopped) counted-credit in
+      let base : CreditFrom window (consumed h) (debt h) (received (e ∷ h)) y.credit = rw (credit_freed old.stopped) counted-credit in
       let some = used in
       record {
-        credit = credit-same (consumed h + n) (debt h - n) (received (e ∷ h)) (consumed (e ∷ h)) (debt (e ∷ h)) (received (e ∷ h)) (with_rest y n).credit
-            (omega arith) (omega arith) refl (rest_if (n == 0) n (consumed h) (debt h) (received (e ∷ h)) y refl base);
+        credit = credit-same window (consumed h + n) (debt h - n) (received (e ∷ h)) (consumed (e ∷ h)) (debt (e ∷ h)) (received (e ∷ h)) (with_rest y n).credit
+            (omega arith) (omega arith) refl (rest_if window (n == 0) n (consumed h) (debt h) (received (e ∷ h)) y refl base);
         streams = all_rest g n y (when g (with_freed x id) x old.stopped
             (λ s. all-freed g x id (but-noticed g w id id (not old.stopped) but) (refusal-noticed w id (not old.stopped) id ∙ refusal-advanced u id id old new ∙ known)
             (ap (λ k. k.gone) here ∙ sym was.stopped ∙ s))
@@ -137,33 +137,33 @@ module _ (h : List Event) (u : World) (id code final : ℕ) (transmit : ShouldTr
 
 -- ---- a reset that changes nothing
 
-module _ (h : List Event) (u : World) (id code final : ℕ) (answer : Result ShouldTransmit ReceiveError) (f : Facts h u)
-    (untold : (q : ℕ) → trace (ReceivedReset id code final answer ∷ h) q ≡ trace h q) (unused : consumed_by h (ReceivedReset id code final answer) ≡ 0) where
+module _ (window : ℕ) (h : List Event) (u : World) (id code final : ℕ) (answer : Result ShouldTransmit ReceiveError) (f : Facts window h u)
+    (untold : (q : ℕ) → trace (ReceivedReset id code final answer ∷ h) q ≡ trace h q) (unused : consumed_by h (ReceivedReset id code final answer) ≡ 0)
+    (came : received (ReceivedReset id code final answer ∷ h) ≡ received h) where
   abbrev e0 : Event
   e0 = ReceivedReset id code final answer
 
   abbrev g0 : ℕ → Trace
   g0 = trace (e0 ∷ h)
 
-  facts_unchanged : Facts (e0 ∷ h) u
+  facts_unchanged : Facts window (e0 ∷ h) u
   facts_unchanged =
-      let change = received-change h g0 id (λ q n. untold q) in
-      let high : (g0 id).high ≡ (trace h id).high = ap (λ k. k.high) (untold id) in
       let none = unused in
       record {
-        credit = credit-same (consumed h) (debt h) (received h) (consumed (e0 ∷ h)) (debt (e0 ∷ h)) (received (e0 ∷ h)) u.credit (omega arith) (omega arith) (omega arith) f.credit;
+        credit = credit-same window (consumed h) (debt h) (received h) (consumed (e0 ∷ h)) (debt (e0 ∷ h)) (received (e0 ∷ h)) u.credit (omega arith) (omega arith) came f.credit;
         streams = all-told (trace h) g0 u untold f.streams;
       }
 
 -- on a stream that is closed
-module _ (h : List Event) (u : World) (id code final : ℕ) (transmit : ShouldTransmit) (f : Facts h u) (closed : is_closed (trace h id) ≡ true) where
+module _ (window : ℕ) (h : List Event) (u : World) (id code final : ℕ) (transmit : ShouldTransmit) (f : Facts window h u) (closed : is_closed (trace h id) ≡ true) where
   pub untold-closed : (q : ℕ) → trace (ReceivedReset id code final (Ok transmit) ∷ h) q ≡ trace h q
   untold-closed q = by_cases (eqb q id)
       (λ t. let c : is_closed (trace h q) ≡ true = ap (λ x. is_closed (trace h x)) (same q id t) ∙ closed in rw (t, c) refl)
       (λ n. rw n refl)
 
-  facts_closed : Facts (ReceivedReset id code final (Ok transmit) ∷ h) u
-  facts_closed = facts_unchanged h u id code final (Ok transmit) f untold-closed (rw closed refl)
+  facts_closed : Facts window (ReceivedReset id code final (Ok transmit) ∷ h) u
+  facts_closed = facts_unchanged window h u id code final (Ok transmit) f untold-closed (rw closed refl)
+      (received-kept h (trace (ReceivedReset id code final (Ok transmit) ∷ h)) id (λ q n. untold-closed q) (ap (λ k. k.high) (untold-closed id)))
 
 pub or-second : (b c : Bool) → c ≡ true → (b || c) ≡ true
 or-second true c e = refl
@@ -174,18 +174,18 @@ or-first b c e = rw e refl
 
 -- ---- every answer
 
-pub kept-reset : (h : List Event) (u v : World) (id code final : ℕ) (answer : Result ShouldTransmit ReceiveError)
-    → Facts h u → ReceivesReset u id code final answer v → Facts (ReceivedReset id code final answer ∷ h) v
-kept-reset h u v id code final (Ok transmit) f (inl s) =
-    facts-at _ v u s.3 (facts_closed h u id code final transmit f (or-second (trace h id).reset (trace h id).gone (gone-from (trace h) u id f.streams s.0 s.1)))
-kept-reset h u v id code final (Ok transmit) f (inr (inl s)) =
+pub kept-reset : (window : ℕ) (h : List Event) (u v : World) (id code final : ℕ) (answer : Result ShouldTransmit ReceiveError)
+    → Facts window h u → ReceivesReset u id code final answer v → Facts window (ReceivedReset id code final answer ∷ h) v
+kept-reset window h u v id code final (Ok transmit) f (inl s) =
+    facts-at window _ v u s.3 (facts_closed window h u id code final transmit f (or-second (is_some (trace h id).reset) (trace h id).gone (gone-from (trace h) u id f.streams s.0 s.1)))
+kept-reset window h u v id code final (Ok transmit) f (inr (inl s)) =
     let x = half-from (trace h) u id s.0 f.streams s.2.known s.2.half in
-    facts-at _ v u s.4 (facts_closed h u id code final transmit f (or-first (trace h id).reset (trace h id).gone (sym x.reset ∙ s.2.resets.1)))
-kept-reset h u v id code final (Ok transmit) f (inr (inr s)) =
+    facts-at window _ v u s.4 (facts_closed window h u id code final transmit f (or-first (is_some (trace h id).reset) (trace h id).gone (ap is_some (sym x.reset) ∙ s.2.resets.1)))
+kept-reset window h u v id code final (Ok transmit) f (inr (inr s)) =
     let r = s.2 in
-    facts-at _ v _ s.4 (facts_reset h u id code final transmit s.0 s.1 f r.known r.half r.resets.1
+    facts-at window _ v _ s.4 (facts_reset window h u id code final transmit s.0 s.1 f r.known r.half r.resets.1
     (passes s.0 final u.credit.data_recvd u.credit.local_max_data r.resets.0) r.resets.2 r.resets.3)
-kept-reset h u v id code final (Err (receive_error.Transport error)) f (inl s) = facts-at _ v u s.1 (facts_unchanged h u id code final (Err (receive_error.Transport error)) f (λ q. refl) refl)
-kept-reset h u v id code final (Err (receive_error.Transport error)) f (inr s) = facts-at _ v u s.3 (facts_unchanged h u id code final (Err (receive_error.Transport error)) f (λ q. refl) refl)
-kept-reset h u v id code final (Err receive_error.CompactionMemory) f s = absurd s
-kept-reset h u v id code final (Err receive_error.OutOfMemory) f s = facts-at _ v u s (facts_unchanged h u id code final (Err receive_error.OutOfMemory) f (λ q. refl) refl)
+kept-reset window h u v id code final (Err (receive_error.Transport error)) f (inl s) = facts-at window _ v u s.1 (facts_unchanged window h u id code final (Err (receive_error.Transport error)) f (λ q. refl) refl refl)
+kept-reset window h u v id code final (Err (receive_error.Transport error)) f (inr s) = facts-at window _ v u s.3 (facts_unchanged window h u id code final (Err (receive_error.Transport error)) f (λ q. refl) refl refl)
+kept-reset window h u v id code final (Err receive_error.CompactionMemory) f s = absurd s
+kept-reset window h u v id code final (Err receive_error.OutOfMemory) f s = facts-at window _ v u s (facts_unchanged window h u id code final (Err receive_error.OutOfMemory) f (λ q. refl) refl refl)

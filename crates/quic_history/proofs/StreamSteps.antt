@@ -1,7 +1,9 @@
 -- What is told of each stream stays true at each step.
 use Rattle.std.proofs.Common.{◌≡◌, ℕ, Bool, true, false, cond, eqb, Option, Some, None, refl, sym, ap, ◌∙◌, subst, arith, ◌+◌}
 use Rattle.std.specs.Prelude.{nat_le, if◌then◌else◌}
+use Rattle.quic_values.specs.declared.ids.Side.{Side}
 use Rattle.quic_values.specs.declared.ids.Dir.{Dir}
+use Rattle.quic_limits.specs.Credit.{Credit}
 use Rattle.quic_values.specs.declared.ids.Dir.TheVariants.{Bi, Uni}
 use Rattle.quic_values.specs.Ids.{stream_id, other_side, dir_of, index_of}
 use Rattle.quic_limits.specs.Remote as remote
@@ -206,41 +208,62 @@ all-noticed g w id b s q = moved (g q) (id_refusal w q) _ (w.receive q) _ (refus
 pub but-noticed : (g : ℕ → Trace) (w : World) (id k : ℕ) (b : Bool) → AllBut k g w → AllBut k g (noticed w id b)
 but-noticed g w id k b s q n = moved (g q) (id_refusal w q) _ (w.receive q) _ (refusal-noticed w id b q) (receive-noticed w id b q) (s q n)
 
--- nor of the credit
-credit_readable : (w : World) (id : ℕ) (b : Bool) → (told_readable w id b).credit ≡ w.credit
-credit_readable w id true = refl
-credit_readable w id false = refl
+-- ---- what few calls change
 
-credit_remote : (w : World) (d : Dir) (r : Remote) → (with_remote w d r).credit ≡ w.credit
-credit_remote w Bi r = refl
-credit_remote w Uni r = refl
+-- which end it is, the windows, and the credit
+pub record Steady : Type 0 where
+  pub side : Side
+  pub window : ℕ
+  pub credit : Credit
 
-pub credit-noticed : (w : World) (id : ℕ) (b : Bool) → (noticed w id b).credit ≡ w.credit
-credit-noticed w id b =
-    let P : World → Type 0 = λ x. x.credit ≡ w.credit in
-    noticed-any P w id b (credit_readable w id b) (credit_remote w (dir_of id) _)
+abbrev pub steady : World → Steady
+steady w = record { side = w.side; window = w.window; credit = w.credit }
 
-credit_permitted : (w : World) (d : Dir) (index : ℕ) → (with_permitted w d index).credit ≡ w.credit
+pub steady-put : (w : World) (id : ℕ) (o : Option Half) → steady (with_receive w id o) ≡ steady w
 unfolding with_receive
-credit_permitted w Bi index = refl
-credit_permitted w Uni index = refl
+steady-put w id o = refl
 
-credit_permitted_if : (w : World) (d : Dir) (o : Option ℕ) → (permitted_if w d o).credit ≡ w.credit
-credit_permitted_if w d None = refl
-credit_permitted_if w d (Some index) = credit_permitted w d index
+steady_readable : (w : World) (id : ℕ) (b : Bool) → steady (told_readable w id b) ≡ steady w
+steady_readable w id true = refl
+steady_readable w id false = refl
 
-credit_replaced : (w : World) (d : Dir) → (replaced_in w d).credit ≡ w.credit
-credit_replaced w d = credit_permitted_if (with_remote w d (remote.replaced (remote_of w d))) d (remote.replacement (remote_of w d)) ∙ credit_remote w d _
+steady_remote : (w : World) (d : Dir) (r : Remote) → steady (with_remote w d r) ≡ steady w
+steady_remote w Bi r = refl
+steady_remote w Uni r = refl
 
-credit_released : (w : World) (d : Dir) (id : ℕ) → (released w d id).credit ≡ w.credit
-credit_released w Uni id = credit_replaced w Uni
-credit_released w Bi id =
-    let P : World → Type 0 = λ x. x.credit ≡ w.credit in
-    if_any P w (replaced_in w Bi) (w.sends id) refl (credit_replaced w Bi)
+pub steady-noticed : (w : World) (id : ℕ) (b : Bool) → steady (noticed w id b) ≡ steady w
+steady-noticed w id b =
+    let P : World → Type 0 = λ x. steady x ≡ steady w in
+    noticed-any P w id b (steady_readable w id b) (steady_remote w (dir_of id) _)
+
+steady_permitted : (w : World) (d : Dir) (index : ℕ) → steady (with_permitted w d index) ≡ steady w
+unfolding with_receive
+steady_permitted w Bi index = refl
+steady_permitted w Uni index = refl
+
+steady_permitted_if : (w : World) (d : Dir) (o : Option ℕ) → steady (permitted_if w d o) ≡ steady w
+steady_permitted_if w d None = refl
+steady_permitted_if w d (Some index) = steady_permitted w d index
+
+steady_replaced : (w : World) (d : Dir) → steady (replaced_in w d) ≡ steady w
+steady_replaced w d = steady_permitted_if (with_remote w d (remote.replaced (remote_of w d))) d (remote.replacement (remote_of w d)) ∙ steady_remote w d _
+
+steady_released : (w : World) (d : Dir) (id : ℕ) → steady (released w d id) ≡ steady w
+steady_released w Uni id = steady_replaced w Uni
+steady_released w Bi id =
+    let P : World → Type 0 = λ x. steady x ≡ steady w in
+    if_any P w (replaced_in w Bi) (w.sends id) refl (steady_replaced w Bi)
 
 -- a half that is with_freed changes nothing of the credit
-pub credit-freed : (w : World) (id : ℕ) → (with_freed w id).credit ≡ w.credit
-credit-freed w id =
+pub steady-freed : (w : World) (id : ℕ) → steady (with_freed w id) ≡ steady w
+steady-freed w id =
     let u = with_receive w id None in
-    let P : World → Type 0 = λ x. x.credit ≡ w.credit in
-    if_any P u (released u (dir_of id) id) (is_own u id) (credit-with_receive w id None) (credit_released u (dir_of id) id ∙ credit-with_receive w id None)
+    let P : World → Type 0 = λ x. steady x ≡ steady w in
+    if_any P u (released u (dir_of id) id) (is_own u id) (steady-put w id None) (steady_released u (dir_of id) id ∙ steady-put w id None)
+
+-- nor of the credit
+pub credit-noticed : (w : World) (id : ℕ) (b : Bool) → (noticed w id b).credit ≡ w.credit
+credit-noticed w id b = ap (λ s. s.credit) (steady-noticed w id b)
+
+pub credit-freed : (w : World) (id : ℕ) → (with_freed w id).credit ≡ w.credit
+credit-freed w id = ap (λ s. s.credit) (steady-freed w id)

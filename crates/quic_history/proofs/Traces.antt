@@ -6,42 +6,20 @@ use Rattle.std.proofs.lemmas.Bool.Decides.{nat_tests}
 use Rattle.quic_assembler.specs.declared.chunk.Chunk.{Chunk}
 use Rattle.quic_receiving.specs.declared.errors.ReadError.{ReadError}
 use Rattle.quic_receiving.specs.declared.errors.ReadError.TheVariants as read_error
-use Rattle.quic_history.specs.History.{Event, Received, ReceivedReset, AddedCredits, Began, Gave, Ended, Stopped, ToldReset, Trace, trace, with_event, with_read, with_stop, with_told, with_stream, streams, received, total_over}
+use Rattle.quic_history.specs.History.{Event, Move, Trace, trace, untouched, move_of, moved, with_stream, with_streams, streams, received, total_over, with_read}
 use Rattle.quic_history.proofs.Totals.{IsOnce, once_with, total_with, total_same, same, by_cases}
 
 pub itself : (k : ℕ) → eqb k k ≡ true
 itself k = grind (arith, nat_tests)
 
+once_moved : (m : Option (ℕ × Move)) (ids : List ℕ) → IsOnce ids → IsOnce (with_streams m ids)
+once_moved None ids o = o
+once_moved (Some m) ids o = once_with m.0 ids o
+
 -- the streams of a history stand once each
 pub streams-once : (h : List Event) → IsOnce (streams h)
 streams-once [] = tt
-streams-once (Received id offset bytes fin answer ∷ h) = once_with id (streams h) (streams-once h)
-streams-once (ReceivedReset id code final answer ∷ h) = once_with id (streams h) (streams-once h)
-streams-once (AddedCredits count answer ∷ h) = streams-once h
-streams-once (Began id ordered answer ∷ h) = streams-once h
-streams-once (Gave id most answer ∷ h) = streams-once h
-streams-once (Ended id count ∷ h) = streams-once h
-streams-once (Stopped id code answer ∷ h) = streams-once h
-streams-once (ToldReset id answer ∷ h) = streams-once h
-
-pub high-read : (r : Result (Option Chunk) ReadError) (t : Trace) → (with_read r t).high ≡ t.high
-high-read (Ok (Some chunk)) t = refl
-high-read (Ok None) t = refl
-high-read (Err read_error.Blocked) t = refl
-high-read (Err (read_error.Reset code)) t = refl
-high-read (Err read_error.OutOfMemory) t = refl
-
-pub high-told : (o : Option ℕ) (t : Trace) → (with_told o t).high ≡ t.high
-high-told None t = refl
-high-told (Some code) t = refl
-
-high_if : (b : Bool) (t u : Trace) → t.high ≡ u.high → (if b then t else u).high ≡ u.high
-high_if true t u e = e
-high_if false t u e = refl
-
--- a read, a stop, and a code that is told leave the highest offset
-pub high-gave : (q id most : ℕ) (r : Result (Option Chunk) ReadError) (t : Trace) → (with_event q (Gave id most r) t).high ≡ t.high
-high-gave q id most r t = high_if (eqb q id) (with_read r t) t (high-read r t)
+streams-once (e ∷ h) = once_moved (move_of e) (streams h) (streams-once h)
 
 or_parts : (b c : Bool) → (b || c) ≡ false → (b ≡ false) × (c ≡ false)
 or_parts true c h = absurd (cc)
@@ -56,27 +34,31 @@ absent_if false q id ids e a = or_parts (eqb q id) (list_any (nat_eq q) ids) a
 absent : (q id : ℕ) (ids : List ℕ) → list_any (nat_eq q) (with_stream id ids) ≡ false → (eqb q id ≡ false) × (list_any (nat_eq q) ids ≡ false)
 absent q id ids a = absent_if (list_any (nat_eq id) ids) q id ids refl a
 
--- of a stream on which no frame came, nothing was received
-pub quiet : (h : List Event) (q : ℕ) → list_any (nat_eq q) (streams h) ≡ false → (trace h q).high ≡ 0
+quiet_moved : (m : Option (ℕ × Move)) (q : ℕ) (ids : List ℕ) (t : Trace) → list_any (nat_eq q) (with_streams m ids) ≡ false
+    → (list_any (nat_eq q) ids ≡ false → t ≡ untouched) → moved m q t ≡ untouched
+quiet_moved None q ids t a was = was a
+quiet_moved (Some m) q ids t a was = let k = absent q m.0 ids a in let n : eqb q m.0 ≡ false = k.0 in rw n (was k.1)
+
+-- a stream that no call touched is as at first
+pub quiet : (h : List Event) (q : ℕ) → list_any (nat_eq q) (streams h) ≡ false → trace h q ≡ untouched
 quiet [] q a = refl
-quiet (Received id offset bytes fin answer ∷ h) q a = let k = absent q id (streams h) a in let n : eqb q id ≡ false = k.0 in rw n (quiet h q k.1)
-quiet (ReceivedReset id code final (Ok transmit) ∷ h) q a = let k = absent q id (streams h) a in let n : eqb q id ≡ false = k.0 in rw n (quiet h q k.1)
-quiet (ReceivedReset id code final (Err error) ∷ h) q a = quiet h q (absent q id (streams h) a).1
-quiet (AddedCredits count answer ∷ h) q a = quiet h q a
-quiet (Began id ordered answer ∷ h) q a = quiet h q a
-quiet (Gave id most answer ∷ h) q a = high-gave q id most answer (trace h q) ∙ quiet h q a
-quiet (Ended id count ∷ h) q a = quiet h q a
-quiet (Stopped id code (Ok u) ∷ h) q a = high_if (eqb q id) (with_stop (trace h q)) (trace h q) refl ∙ quiet h q a
-quiet (Stopped id code (Err error) ∷ h) q a = quiet h q a
-quiet (ToldReset id (Ok code) ∷ h) q a = high_if (eqb q id) (with_told code (trace h q)) (trace h q) (high-told code (trace h q)) ∙ quiet h q a
-quiet (ToldReset id (Err error) ∷ h) q a = quiet h q a
+quiet (e ∷ h) q a = quiet_moved (move_of e) q (streams h) (trace h q) a (quiet h q)
 
 -- a frame changes the sum of the highest offsets by what it changes that of its stream
 pub received-change : (h : List Event) (g : ℕ → Trace) (id : ℕ) → ((q : ℕ) → eqb q id ≡ false → g q ≡ trace h q)
     → total_over (λ q. (g q).high) (with_stream id (streams h)) + (trace h id).high ≡ received h + (g id).high
 received-change h g id others =
-    total_with (λ q. (trace h q).high) (λ q. (g q).high) id (streams h) (streams-once h) (quiet h id) (λ q n. ap (λ t. t.high) (others q n))
+    total_with (λ q. (trace h q).high) (λ q. (g q).high) id (streams h) (streams-once h) (λ a. ap (λ t. t.high) (quiet h id a)) (λ q n. ap (λ t. t.high) (others q n))
 
--- a call that leaves the highest offsets leaves their sum
-pub received-same : (h : List Event) (g : ℕ → Trace) → ((q : ℕ) → (g q).high ≡ (trace h q).high) → total_over (λ q. (g q).high) (streams h) ≡ received h
-received-same h g e = total_same (λ q. (trace h q).high) (λ q. (g q).high) (streams h) e
+-- a call that leaves the highest offset of its stream leaves their sum
+pub received-kept : (h : List Event) (g : ℕ → Trace) (id : ℕ) → ((q : ℕ) → eqb q id ≡ false → g q ≡ trace h q) → (g id).high ≡ (trace h id).high
+    → total_over (λ q. (g q).high) (with_stream id (streams h)) ≡ received h
+received-kept h g id others here = let change = received-change h g id others in omega arith
+
+-- a read leaves the highest offset
+pub high-read : (ordered : Bool) (r : Result (Option Chunk) ReadError) (t : Trace) → (with_read ordered r t).high ≡ t.high
+high-read ordered (Ok (Some chunk)) t = refl
+high-read ordered (Ok None) t = refl
+high-read ordered (Err read_error.Blocked) t = refl
+high-read ordered (Err (read_error.Reset code)) t = refl
+high-read ordered (Err read_error.OutOfMemory) t = refl

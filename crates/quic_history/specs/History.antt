@@ -13,7 +13,8 @@ use Rattle.quic_wire.specs.declared.error.ReceiveError.{ReceiveError}
 use Rattle.quic_wire.specs.declared.error.ReceiveError.TheVariants as receive_error
 use Rattle.quic_wire.specs.declared.error.TheConstants.TransportError.{INTERNAL_ERROR}
 use Rattle.quic_limits.specs.Credit.{Credit, is_max_data_due}
-use Rattle.quic_receiving.specs.Data.{Slice, IsData, IsAllGiven}
+use Rattle.quic_assembler.specs.Piece.{lies}
+use Rattle.quic_receiving.specs.Data.{Slice, Carries, is_in_slices, IsData, IsAllGiven}
 use Rattle.quic_receiving.specs.Half.{Half}
 use Rattle.quic_receiving.specs.declared.transmit.ShouldTransmit.{ShouldTransmit}
 use Rattle.quic_receiving.specs.declared.errors.ReadError.{ReadError}
@@ -23,7 +24,7 @@ use Rattle.quic_receiving.specs.declared.errors.HandleError.{HandleError}
 use Rattle.quic_history.specs.declared.progress.Progress.{Progress}
 use Rattle.quic_history.specs.declared.progress.Progress.TheVariants as progress
 use Rattle.quic_retransmits.specs.Pending.{Pending}
-use Rattle.quic_history.specs.World.{World, start, id_refusal, remote_of, with_credit}
+use Rattle.quic_history.specs.World.{World, Made, count_of, start, id_refusal, remote_of, with_credit}
 use Rattle.quic_history.specs.Receiving.{Receives, ReceivesReset}
 use Rattle.quic_history.specs.Reading.{Begins, ReadsHalf, Stops, TellsReset}
 
@@ -37,8 +38,8 @@ pub data Event : Type 0 where
   AddedCredits : (count : ℕ) → (answer : ShouldTransmit) → Event
   -- a reader was asked for
   Began : (id : ℕ) → (ordered : Bool) → (answer : Result (Unit {0}) ReadableError) → Event
-  -- a reader that may go on was asked for at most so many bytes
-  Gave : (id most : ℕ) → (answer : Result (Option Chunk) ReadError) → Event
+  -- a reader that may go on, in order or not, was asked for at most so many bytes
+  Gave : (id most : ℕ) → (ordered : Bool) → (answer : Result (Option Chunk) ReadError) → Event
   -- a reader that gave so many bytes was ended
   Ended : (id count : ℕ) → Event
   -- a stream was stopped
@@ -47,10 +48,10 @@ pub data Event : Type 0 where
   ToldReset : (id : ℕ) → (answer : Result (Option ℕ) HandleError) → Event
 
 -- an answer of a reader that may go on is a call; what it told at the end it tells again, and that is none
-abbrev pub with_next : Progress → ℕ → ℕ → Result (Option Chunk) ReadError → List Event → List Event
-with_next progress.Readable id most answer h = Gave id most answer ∷ h
-with_next (progress.Reset code) id most answer h = h
-with_next progress.Finished id most answer h = h
+abbrev pub with_next : Progress → ℕ → ℕ → Bool → Result (Option Chunk) ReadError → List Event → List Event
+with_next progress.Readable id most ordered answer h = Gave id most ordered answer ∷ h
+with_next (progress.Reset code) id most ordered answer h = h
+with_next progress.Finished id most ordered answer h = h
 
 -- what one call may do
 abbrev pub Step : World → Event → World → Type 0
@@ -58,7 +59,7 @@ Step u (Received id offset bytes fin answer) v = Receives u id offset bytes fin 
 Step u (ReceivedReset id code final answer) v = ReceivesReset u id code final answer v
 Step u (AddedCredits count answer) v = (v ≡ with_credit u count) × (answer.0 ≡ is_max_data_due v.credit)
 Step u (Began id ordered answer) v = Begins u id ordered answer v
-Step u (Gave id most answer) v = ReadsHalf u id most answer v
+Step u (Gave id most ordered answer) v = ReadsHalf u id most ordered answer v
 Step u (Ended id count) v = v ≡ with_credit u count
 Step u (Stopped id code answer) v = (p : Pending) × (q : Pending) × Stops u id code p answer v q
 Step u (ToldReset id answer) v = (p : Pending) × (q : Pending) × TellsReset u id p answer v q
@@ -66,7 +67,7 @@ Step u (ToldReset id answer) v = (p : Pending) × (q : Pending) × TellsReset u 
 -- how many bytes the reader gave that was opened last, and is not ended
 abbrev pub with_given : Event → ℕ → ℕ
 with_given (Began id ordered answer) n = 0
-with_given (Gave id most (Ok (Some chunk))) n = n + length chunk.bytes
+with_given (Gave id most ordered (Ok (Some chunk))) n = n + length chunk.bytes
 with_given (Ended id count) n = 0
 with_given _ n = n
 
@@ -79,23 +80,34 @@ abbrev pub Fits : List Event → Event → Type 0
 Fits h (Ended id count) = count ≡ given h
 Fits h _ = Unit {0}
 
--- how an end begins: the counts of streams that the peer may open, the windows of sending, of receiving, and of receiving on one stream
-pub record IsStart (v : World) : Type 0 where
-  pub side : Side
-  pub uni : ℕ
-  pub bi : ℕ
-  pub send_window : ℕ
-  pub receive_window : ℕ
-  pub window : ℕ
-  pub few_uni : uni ≤ 2 ^ 60
-  pub few_bi : bi ≤ 2 ^ 60
-  pub small : receive_window < 2 ^ 62
-  pub is : v ≡ start side uni bi send_window receive_window window
+-- how an end begins
+pub record IsStart (m : Made) (v : World) : Type 0 where
+  pub few_uni : m.uni ≤ 2 ^ 60
+  pub few_bi : m.bi ≤ 2 ^ 60
+  pub small : m.receive_window < 2 ^ 62
+  pub is : v ≡ start m
+
+-- what every call leaves: which end it is, the windows, and that the limit of the connection does not fall
+pub record Goes (u v : World) : Type 0 where
+  pub side : v.side ≡ u.side
+  pub window : v.window ≡ u.window
+  pub receive_window : v.credit.receive_window ≡ u.credit.receive_window
+  pub limit : u.credit.local_max_data ≤ v.credit.local_max_data
 
 -- the calls, one after another, may lead there
-abbrev pub IsRun : List Event → World → Type 0
-IsRun [] v = IsStart v
-IsRun (e ∷ h) v = (u : World) × IsRun h u × Fits h e × Step u e v
+abbrev pub IsRun : Made → List Event → World → Type 0
+IsRun m [] v = IsStart m v
+IsRun m (e ∷ h) v = (u : World) × IsRun m h u × Fits h e × Step u e v × Goes u v
+
+-- bytes that a read gave, and whether in order
+pub record ReadChunk : Type 0 where
+  pub offset : ℕ
+  pub bytes : List ℕ
+  pub ordered : Bool
+
+abbrev pub slices : List ReadChunk → List Slice
+slices [] = []
+slices (c ∷ cs) = record { offset = c.offset; bytes = c.bytes } ∷ slices cs
 
 -- what the calls tell of one stream
 pub record Trace : Type 0 where
@@ -107,8 +119,8 @@ pub record Trace : Type 0 where
   pub sized : Bool
   -- whether the application stopped it
   pub stopped : Bool
-  -- whether the peer reset it
-  pub reset : Bool
+  -- the code with which the peer reset it
+  pub reset : Option ℕ
   -- whether its receive half was freed
   pub gone : Bool
   -- whether a read told the end
@@ -116,14 +128,14 @@ pub record Trace : Type 0 where
   -- the frames that were kept, the last first
   pub kept : List Slice
   -- the chunks that reads gave, the last first
-  pub given : List Slice
+  pub given : List ReadChunk
 
 abbrev pub untouched : Trace
-untouched = record { high = 0; read = 0; sized = false; stopped = false; reset = false; gone = false; ended = false; kept = []; given = [] }
+untouched = record { high = 0; read = 0; sized = false; stopped = false; reset = None; gone = false; ended = false; kept = []; given = [] }
 
 -- whether frames on a stream are dropped
 abbrev pub is_closed : Trace → Bool
-is_closed t = t.reset || t.gone
+is_closed t = is_some t.reset || t.gone
 
 -- whether a frame was kept: it was taken, or there were too many pieces, or no memory to compact them
 abbrev pub is_kept : Result ShouldTransmit ReceiveError → Bool
@@ -141,51 +153,71 @@ with_kept_frame offset bytes fin t = if is_closed t then t else record t {
   kept = record { offset = offset; bytes = bytes } ∷ t.kept;
 }
 
--- a RESET_STREAM with a final size was taken. That of a stopped stream frees it
-abbrev pub with_reset : ℕ → Trace → Trace
-with_reset final t = if is_closed t then t else record t { high = final; sized = true; reset = true; gone = t.stopped }
+-- a RESET_STREAM with a code and a final size was taken. That of a stopped stream frees it
+abbrev pub with_reset : ℕ → ℕ → Trace → Trace
+with_reset code final t = if is_closed t then t else record t { high = final; sized = true; reset = Some code; gone = t.stopped }
 
 -- a read answered so. The end and a reset free the stream
-abbrev pub with_read : Result (Option Chunk) ReadError → Trace → Trace
-with_read (Ok (Some chunk)) t = record t { read = t.read + length chunk.bytes; given = record { offset = chunk.offset; bytes = chunk.bytes } ∷ t.given }
-with_read (Ok None) t = record t { gone = true; ended = true }
-with_read (Err read_error.Blocked) t = t
-with_read (Err (read_error.Reset code)) t = record t { gone = true }
-with_read (Err read_error.OutOfMemory) t = t
+abbrev pub with_read : Bool → Result (Option Chunk) ReadError → Trace → Trace
+with_read ordered (Ok (Some chunk)) t =
+    record t { read = t.read + length chunk.bytes; given = record { offset = chunk.offset; bytes = chunk.bytes; ordered = ordered } ∷ t.given }
+with_read ordered (Ok None) t = record t { gone = true; ended = true }
+with_read ordered (Err read_error.Blocked) t = t
+with_read ordered (Err (read_error.Reset code)) t = record t { gone = true }
+with_read ordered (Err read_error.OutOfMemory) t = t
 
 -- a stop frees a stream of which the final size is known
 abbrev pub with_stop : Trace → Trace
 with_stop t = record t { stopped = true; gone = t.sized }
 
--- a code that is told frees the stream
-abbrev pub with_told : Option ℕ → Trace → Trace
-with_told None t = t
-with_told (Some code) t = record t { gone = true }
+-- what a call did to one stream
+pub data Move : Type 0 where
+  -- a STREAM frame was handed in, and answered so
+  Framed : (offset : ℕ) → (bytes : List ℕ) → (fin : Bool) → (answer : Result ShouldTransmit ReceiveError) → Move
+  -- a RESET_STREAM was taken
+  WasReset : (code final : ℕ) → Move
+  -- a read was answered so
+  WasRead : (ordered : Bool) → (answer : Result (Option Chunk) ReadError) → Move
+  -- it was stopped
+  WasStopped : Move
+  -- the code of its reset was told, which frees it
+  WasTold : Move
 
-abbrev pub with_event : ℕ → Event → Trace → Trace
-with_event q (Received id offset bytes fin answer) t = if q == id && is_kept answer then with_kept_frame offset bytes fin t else t
-with_event q (ReceivedReset id code final (Ok transmit)) t = if q == id then with_reset final t else t
-with_event q (Gave id most answer) t = if q == id then with_read answer t else t
-with_event q (Stopped id code (Ok u)) t = if q == id then with_stop t else t
-with_event q (ToldReset id (Ok code)) t = if q == id then with_told code t else t
-with_event q _ t = t
+abbrev pub with_move : Move → Trace → Trace
+with_move (Framed offset bytes fin answer) t = if is_kept answer then with_kept_frame offset bytes fin t else t
+with_move (WasReset code final) t = with_reset code final t
+with_move (WasRead ordered answer) t = with_read ordered answer t
+with_move WasStopped t = with_stop t
+with_move WasTold t = record t { gone = true }
+
+-- the stream that a call touched, and what it did to it. Other calls, and those that were refused, touch none
+abbrev pub move_of : Event → Option (ℕ × Move)
+move_of (Received id offset bytes fin answer) = Some (id, Framed offset bytes fin answer)
+move_of (ReceivedReset id code final (Ok transmit)) = Some (id, WasReset code final)
+move_of (Gave id most ordered answer) = Some (id, WasRead ordered answer)
+move_of (Stopped id code (Ok u)) = Some (id, WasStopped)
+move_of (ToldReset id (Ok (Some code))) = Some (id, WasTold)
+move_of _ = None
+
+abbrev pub moved : Option (ℕ × Move) → ℕ → Trace → Trace
+moved None q t = t
+moved (Some m) q t = if q == m.0 then with_move m.1 t else t
 
 abbrev pub trace : List Event → ℕ → Trace
 trace [] q = untouched
-trace (e ∷ h) q = with_event q e (trace h q)
+trace (e ∷ h) q = moved (move_of e) q (trace h q)
 
--- the streams of which frames came, each once
+-- the streams that calls touched, each once
 abbrev pub with_stream : ℕ → List ℕ → List ℕ
 with_stream id ids = if list_any (nat_eq id) ids then ids else id ∷ ids
 
-abbrev pub with_streams : Event → List ℕ → List ℕ
-with_streams (Received id offset bytes fin answer) ids = with_stream id ids
-with_streams (ReceivedReset id code final answer) ids = with_stream id ids
-with_streams _ ids = ids
+abbrev pub with_streams : Option (ℕ × Move) → List ℕ → List ℕ
+with_streams None ids = ids
+with_streams (Some m) ids = with_stream m.0 ids
 
 abbrev pub streams : List Event → List ℕ
 streams [] = []
-streams (e ∷ h) = with_streams e (streams h)
+streams (e ∷ h) = with_streams (move_of e) (streams h)
 
 -- the sum of a function over a list
 abbrev pub total_over : (ℕ → ℕ) → List ℕ → ℕ
@@ -206,16 +238,29 @@ reset_credit t final = if is_closed t then 0 else final - (if t.stopped then t.h
 
 -- how many bytes a stop gives credit for: those that were not read, and none after a reset, which gave it
 abbrev pub stop_gives : Trace → ℕ
-stop_gives t = if t.reset then 0 else t.high - t.read
+stop_gives t = if is_some t.reset then 0 else t.high - t.read
 
--- how many bytes a call gives credit for
+-- how many bytes what was done to a stream gives credit for
+abbrev pub move_gives : Move → Trace → ℕ
+move_gives (Framed offset bytes fin answer) t = if is_kept answer then frame_credit t (offset + length bytes) else 0
+move_gives (WasReset code final) t = reset_credit t final
+move_gives (WasRead ordered answer) t = 0
+move_gives WasStopped t = stop_gives t
+move_gives WasTold t = 0
+
+-- how many bytes that were consumed a call hands in
+abbrev pub handed_in : Event → ℕ
+handed_in (AddedCredits count answer) = count
+handed_in (Ended id count) = count
+handed_in _ = 0
+
+abbrev pub given_back : Option (ℕ × Move) → (ℕ → Trace) → ℕ → ℕ
+given_back None f n = n
+given_back (Some m) f n = move_gives m.1 (f m.0)
+
+-- how many bytes a call gives credit for: what it did to a stream, or else what was handed in
 abbrev pub consumed_by : List Event → Event → ℕ
-consumed_by h (Received id offset bytes fin answer) = if is_kept answer then frame_credit (trace h id) (offset + length bytes) else 0
-consumed_by h (ReceivedReset id code final (Ok transmit)) = reset_credit (trace h id) final
-consumed_by h (AddedCredits count answer) = count
-consumed_by h (Ended id count) = count
-consumed_by h (Stopped id code (Ok u)) = stop_gives (trace h id)
-consumed_by h _ = 0
+consumed_by h e = given_back (move_of e) (trace h) (handed_in e)
 
 -- the bytes whose credit was given back, each once
 abbrev pub consumed : List Event → ℕ
@@ -227,18 +272,19 @@ abbrev pub debt : List Event → ℕ
 debt [] = 0
 debt (e ∷ h) = debt h - consumed_by h e
 
--- the credit of a connection of which so many bytes were consumed, with such a debt, and so many came
-pub record CreditFrom (used owed came : ℕ) (c : Credit) : Type 0 where
+-- the credit of a connection with such a window, of which so many bytes were consumed, with such a debt, and so many came
+pub record CreditFrom (window used owed came : ℕ) (c : Credit) : Type 0 where
+  pub receive_window : c.receive_window ≡ window
   pub debt : c.shrink_debt ≡ owed
   -- the limit is the window, what was consumed and the debt, as long as these stay below 2^64
-  pub limit : c.receive_window + used + owed < 2 ^ 64 → c.local_max_data ≡ c.receive_window + used + owed
+  pub limit : window + used + owed < 2 ^ 64 → c.local_max_data ≡ window + used + owed
   -- and it is never more
-  pub limit_most : c.local_max_data ≤ c.receive_window + used + owed
+  pub limit_most : c.local_max_data ≤ window + used + owed
   pub limit_fits : c.local_max_data < 2 ^ 64
   pub received : c.data_recvd ≡ came
   pub permitted : came ≤ c.local_max_data
   -- what was received and not consumed is at most the window and the debt
-  pub unread : came - used ≤ c.receive_window + owed
+  pub unread : came - used ≤ window + owed
 
 -- a receive half is as the calls tell of its stream
 pub record HalfFrom (t : Trace) (h : Half) : Type 0 where
@@ -246,14 +292,14 @@ pub record HalfFrom (t : Trace) (h : Half) : Type 0 where
   pub read : h.buffer.bytes_read ≡ t.read
   pub sized : is_some h.size ≡ t.sized
   pub stopped : h.stopped ≡ t.stopped
-  pub reset : is_some h.reset ≡ t.reset
+  pub reset : h.reset ≡ t.reset
   pub there : t.gone ≡ false
   -- a final size that is known is the highest offset
   pub final : (size : ℕ) → h.size ≡ Some size → h.end ≡ size
   -- what is held lies below the highest offset
   pub within : h.buffer.highest ≤ h.end
   -- while it is neither stopped nor reset, it holds what came in kept frames and was not given
-  pub holds : t.stopped ≡ false → t.reset ≡ false → IsData t.kept t.given h.buffer
+  pub holds : t.stopped ≡ false → t.reset ≡ None → IsData t.kept (slices t.given) h.buffer
 
 -- a stream whose frames are refused has no receive half, and nothing was told of it. Another has one until it is freed
 abbrev pub StreamFrom : Trace → Option ℕ → Option Half → Type 0
@@ -267,37 +313,56 @@ abbrev pub is_freed : (ℕ → Trace) → Side → (ℕ → Bool) → Dir → �
 is_freed f side sends Uni index = (f (stream_id (other_side side) Uni index)).gone
 is_freed f side sends Bi index = (f (stream_id (other_side side) Bi index)).gone && not (sends (stream_id (other_side side) Bi index))
 
--- the streams of the peer of one direction, of which these indices are wholly freed (RFC 9000 section 4.6)
-pub record RemoteFrom (over : ℕ → Bool) (r : Remote) : Type 0 where
+-- as many streams as the peer is to be able to use at a time, and one more for each that is wholly freed, up to 2^60
+abbrev pub room_for : (ℕ → Bool) → Remote → ℕ
+room_for over r = min (r.max_concurrent + number over r.max_remote) (2 ^ 60)
+
+-- the streams of the peer of one direction, of which these indices are wholly freed (RFC 9000 section 4.6). It is to be
+-- able to use so many at a time, and might open so many before the last call
+pub record RemoteFrom (at_once before : ℕ) (over : ℕ → Bool) (r : Remote) : Type 0 where
+  pub concurrent : r.max_concurrent ≡ at_once
   -- the peer may use those that are not
   pub allocated : r.allocated + number over r.max_remote ≡ r.max_remote
-  -- it may open as many as it is to be able to use at a time, and one more for each that is, up to 2^60
-  pub permitted : r.max_remote ≡ min (r.max_concurrent + number over r.max_remote) (2 ^ 60)
+  -- it may open as many as there was ever room for: what it might before is never taken back
+  pub permitted : r.max_remote ≡ max before (room_for over r)
 
--- where a read told the end, the half was freed, and each byte below the final size was given
-abbrev pub EndsSo : Trace → Type 0
-EndsSo t = t.ended ≡ true → (t.gone ≡ true) × IsAllGiven t.given t.high
+-- what was given came, and each byte of it once
+abbrev pub EachOnce : List Slice → Type 0
+EachOnce [] = Unit {0}
+EachOnce (s ∷ ss) = ((at : ℕ) → lies s.offset (s.offset + length s.bytes) at ≡ true → is_in_slices ss at ≡ false) × EachOnce ss
+
+pub record GivenSo (t : Trace) : Type 0 where
+  pub came : (at byte : ℕ) → Carries (slices t.given) at byte → Carries t.kept at byte
+  pub once : EachOnce (slices t.given)
+
+-- where a read told the end, the half was freed, the final size was known, and each byte below it was given
+pub record EndsSo (t : Trace) : Type 0 where
+  pub freed : t.ended ≡ true → t.gone ≡ true
+  pub sized : t.ended ≡ true → t.sized ≡ true
+  pub all : t.ended ≡ true → IsAllGiven (slices t.given) t.high
 
 -- what a history says of the end that it led to
-pub record Facts (h : List Event) (v : World) : Type 0 where
-  pub credit : CreditFrom (consumed h) (debt h) (received h) v.credit
+pub record Facts (window : ℕ) (h : List Event) (v : World) : Type 0 where
+  pub credit : CreditFrom window (consumed h) (debt h) (received h) v.credit
   pub streams : (q : ℕ) → StreamFrom (trace h q) (id_refusal v q) (v.receive q)
 
 -- of a stream that is neither stopped nor reset, as many bytes were read as a known final size tells, where reads tell the end, exactly where each byte below it was given
 abbrev pub TellsEnds : List Event → World → Type 0
 TellsEnds h v = (q : ℕ) (half : Half) → v.receive q ≡ Some half → half.stopped ≡ false → half.reset ≡ None → (size : ℕ) → half.size ≡ Some size
-    → (half.buffer.bytes_read ≡ size) ↔ IsAllGiven (trace h q).given size
+    → (half.buffer.bytes_read ≡ size) ↔ IsAllGiven (slices (trace h q).given) size
 
--- no call made the limit of the connection lower
-abbrev pub NeverFalls : (h : List Event) (v : World) → IsRun h v → Type 0
-NeverFalls [] v run = Unit {0}
-NeverFalls (e ∷ h) v run = (run.0.credit.local_max_data ≤ v.credit.local_max_data) × NeverFalls h run.0 run.1
+-- how many streams the peer might open before the last call
+abbrev pub before : (m : Made) (h : List Event) (v : World) → IsRun m h v → Dir → ℕ
+before m [] v run d = 0
+before m (e ∷ h) v run d = (remote_of run.0 d).max_remote
 
--- an end may come from a history
-pub record From (h : List Event) (v : World) : Type 0 where
-  pub run : IsRun h v
-  pub limit : NeverFalls h v run
-  pub facts : Facts h v
+-- an end may come from what it was made with, and from a history
+pub record From (m : Made) (h : List Event) (v : World) : Type 0 where
+  pub run : IsRun m h v
+  pub side : v.side ≡ m.side
+  pub window : v.window ≡ m.window
+  pub facts : Facts m.receive_window h v
+  pub given : (q : ℕ) → GivenSo (trace h q)
   pub ends : (q : ℕ) → EndsSo (trace h q)
   pub tells : TellsEnds h v
-  pub remotes : (d : Dir) → RemoteFrom (is_freed (trace h) v.side v.sends d) (remote_of v d)
+  pub remotes : (d : Dir) → RemoteFrom (count_of m d) (before m h v run d) (is_freed (trace h) v.side v.sends d) (remote_of v d)

@@ -18,6 +18,7 @@ use Rattle.quic_history.specs.declared.progress.Progress.{Progress}
 use Rattle.quic_history.specs.declared.progress.Progress.TheVariants as progress
 use Rattle.quic_history.specs.Halves.{is_due_in}
 use Rattle.quic_retransmits.specs.Pending.{Pending}
+use Rattle.quic_retransmits.specs.Queueing.{with_id, with_stop_sending}
 use Rattle.quic_history.specs.Receiving.{with_max_streams}
 use Rattle.quic_history.specs.World.{World, with_freed, with_credit, with_receive}
 
@@ -67,11 +68,12 @@ after_read w id h (Err read_error.Blocked) = with_receive w id (Some h)
 after_read w id h (Err (read_error.Reset code)) = with_freed w id
 after_read w id h (Err read_error.OutOfMemory) = with_receive w id (Some h)
 
--- a half was read
-pub record ReadsHalf (w : World) (id most : ℕ) (result : Result (Option Chunk) ReadError) (v : World) : Type 0 where
+-- a half was read, in its mode
+pub record ReadsHalf (w : World) (id most : ℕ) (ordered : Bool) (result : Result (Option Chunk) ReadError) (v : World) : Type 0 where
   pub old : Half
   pub new : Half
   pub half : w.receive id ≡ Some old
+  pub mode : old.buffer.ordered ≡ ordered
   pub running : old.stopped ≡ false
   pub reads : Reads old most result new
   pub is : v ≡ after_read w id new result
@@ -103,10 +105,10 @@ IsLastAnswer (progress.Reset code) result = result ≡ Err (read_error.Reset cod
 IsLastAnswer progress.Finished result = result ≡ Ok None
 
 -- a reader gave its next answer. What it told at the end it tells again
-abbrev pub Nexts : Progress → World → ℕ → ℕ → Result (Option Chunk) ReadError → World → Type 0
-Nexts progress.Readable w id most result v = ReadsHalf w id most result v
-Nexts (progress.Reset code) w id most result v = (result ≡ Err (read_error.Reset code)) × (v ≡ w)
-Nexts progress.Finished w id most result v = (result ≡ Ok None) × (v ≡ w)
+abbrev pub Nexts : Progress → World → ℕ → ℕ → Bool → Result (Option Chunk) ReadError → World → Type 0
+Nexts progress.Readable w id most ordered result v = ReadsHalf w id most ordered result v
+Nexts (progress.Reset code) w id most ordered result v = (result ≡ Err (read_error.Reset code)) × (v ≡ w)
+Nexts progress.Finished w id most ordered result v = (result ≡ Ok None) × (v ≡ w)
 
 -- MAX_STREAM_DATA is queued at the end of a reader
 abbrev pub is_window_queued : Progress → World → Option Half → Bool

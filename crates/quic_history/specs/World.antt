@@ -35,20 +35,35 @@ pub record World : Type 0 where
   pub window : ℕ
   pub events : List StreamEvent
 
+-- what an end is made with: which end it is, how many streams of each direction the peer may open, and the windows of
+-- sending, of receiving, and of receiving on one stream
+pub record Made : Type 0 where
+  pub side : Side
+  pub uni : ℕ
+  pub bi : ℕ
+  pub send_window : ℕ
+  pub receive_window : ℕ
+  pub window : ℕ
+
 -- how an end begins: the streams that the peer may open have new halves
-abbrev pub start : Side → ℕ → ℕ → ℕ → ℕ → ℕ → World
-start side uni bi send_window receive_window window = record {
-  side = side;
-  credit = new_credit receive_window;
-  bi = new_remote bi;
-  uni = new_remote uni;
+abbrev pub start : Made → World
+start m = record {
+  side = m.side;
+  credit = new_credit m.receive_window;
+  bi = new_remote m.bi;
+  uni = new_remote m.uni;
   opened_bi = 0;
-  send_window = send_window;
-  receive = with_first (with_first (λ id. None) (other_side side) Bi bi (Some (new_half window))) (other_side side) Uni uni (Some (new_half window));
-  sends = with_first_sends (λ id. false) (other_side side) Bi bi;
-  window = window;
+  send_window = m.send_window;
+  receive = with_first (with_first (λ id. None) (other_side m.side) Bi m.bi (Some (new_half m.window))) (other_side m.side) Uni m.uni (Some (new_half m.window));
+  sends = with_first_sends (λ id. false) (other_side m.side) Bi m.bi;
+  window = m.window;
   events = [];
 }
+
+-- how many streams of a direction the peer is to be able to use at a time
+abbrev pub count_of : Made → Dir → ℕ
+count_of m Bi = m.bi
+count_of m Uni = m.uni
 
 -- whether two ends are one
 abbrev pub is_same_side : Side → Side → Bool
