@@ -1,5 +1,5 @@
 -- Each call keeps what a history says.
-use Rattle.std.proofs.Common.{◌≡◌, ℕ, false, Bool, refl, ◌∙◌, List, ◌∷◌, Option, Result}
+use Rattle.std.proofs.Common.{◌≡◌, ℕ, false, true, Bool, refl, ◌∙◌, List, ◌∷◌, Option, Result}
 use Rattle.quic_assembler.specs.declared.chunk.Chunk.{Chunk}
 use Rattle.quic_receiving.specs.declared.errors.ReadError.{ReadError}
 use Rattle.quic_history.specs.declared.progress.Progress.{Progress}
@@ -54,3 +54,10 @@ pub next-answer : (m : Made) (h : List Event) (p : Progress) (u v : World) (id m
 next-answer m h progress.Readable u v id most ordered r e f s = next m h u (Gave id most ordered r) v tt f s
 next-answer m h (progress.Reset code) u v id most ordered r e f s = cc
 next-answer m h progress.Finished u v id most ordered r e f s = cc
+
+-- and for one that tells again what it told at the end
+pub next-told : (m : Made) (h : List Event) (p : Progress) (u : World) (id most : ℕ) (ordered : Bool) (r : Result (Option Chunk) ReadError) → is_ended p ≡ true → From m h u
+    → From m (with_next p id most ordered r h) u
+next-told m h progress.Readable u id most ordered r e f = cc
+next-told m h (progress.Reset code) u id most ordered r e f = f
+next-told m h progress.Finished u id most ordered r e f = f

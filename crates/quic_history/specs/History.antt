@@ -23,10 +23,12 @@ use Rattle.quic_receiving.specs.declared.errors.ReadableError.{ReadableError}
 use Rattle.quic_receiving.specs.declared.errors.HandleError.{HandleError}
 use Rattle.quic_history.specs.declared.progress.Progress.{Progress}
 use Rattle.quic_history.specs.declared.progress.Progress.TheVariants as progress
+use Rattle.quic_history.specs.declared.progress.LastAnswer.{LastAnswer}
+use Rattle.quic_history.specs.declared.progress.LastAnswer.TheVariants as last_answer
 use Rattle.quic_retransmits.specs.Pending.{Pending}
 use Rattle.quic_history.specs.World.{World, Made, count_of, start, id_refusal, remote_of, with_credit}
 use Rattle.quic_history.specs.Receiving.{Receives, ReceivesReset}
-use Rattle.quic_history.specs.Reading.{Begins, ReadsHalf, Stops, TellsReset}
+use Rattle.quic_history.specs.Reading.{Begins, ReadsHalf, Stops, TellsReset, bytes_in}
 
 -- a call and its answer
 pub data Event : Type 0 where
@@ -52,6 +54,24 @@ abbrev pub with_next : Progress → ℕ → ℕ → Bool → Result (Option Chun
 with_next progress.Readable id most ordered answer h = Gave id most ordered answer ∷ h
 with_next (progress.Reset code) id most ordered answer h = h
 with_next progress.Finished id most ordered answer h = h
+
+-- reads that gave these chunks, one after another
+abbrev pub with_chunks : ℕ → ℕ → Bool → List Chunk → List Event → List Event
+with_chunks id most ordered [] h = h
+with_chunks id most ordered (c ∷ cs) h = with_chunks id most ordered cs (Gave id most ordered (Ok (Some c)) ∷ h)
+
+-- and the one that gave none, if one more was asked for
+abbrev pub with_last : ℕ → ℕ → Bool → LastAnswer → List Event → List Event
+with_last id most ordered last_answer.Blocked h = Gave id most ordered (Err read_error.Blocked) ∷ h
+with_last id most ordered last_answer.Ended h = Gave id most ordered (Ok None) ∷ h
+with_last id most ordered (last_answer.Reset code) h = Gave id most ordered (Err (read_error.Reset code)) ∷ h
+with_last id most ordered last_answer.Memory h = Gave id most ordered (Err read_error.OutOfMemory) ∷ h
+with_last id most ordered last_answer.More h = h
+
+-- a reader was opened, gave these chunks, and was ended
+abbrev pub with_reads : ℕ → ℕ → Bool → List Chunk → LastAnswer → List Event → List Event
+with_reads id most ordered chunks last h =
+    Ended id (bytes_in chunks) ∷ with_last id most ordered last (with_chunks id most ordered chunks (Began id ordered (Ok tt) ∷ h))
 
 -- what one call may do
 abbrev pub Step : World → Event → World → Type 0

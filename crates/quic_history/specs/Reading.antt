@@ -1,5 +1,5 @@
 -- What reads of a stream do.
-use Rattle.std.specs.Prelude.{ℕ, Bool, true, false, not, ◌≡◌, ◌==◌, ◌&&◌, ◌||◌, ◌⊎◌, nat_le, if◌then◌else◌, length, List, [], ◌∷◌, ◌++◌, Option, Some, None, is_none, is_some, Result, Ok, Err}
+use Rattle.std.specs.Prelude.{◌+◌, ◌<◌, ℕ, Bool, true, false, not, ◌≡◌, ◌==◌, ◌&&◌, ◌||◌, ◌⊎◌, nat_le, if◌then◌else◌, length, List, [], ◌∷◌, ◌++◌, Option, Some, None, is_none, is_some, Result, Ok, Err}
 use Rattle.quic_assembler.specs.declared.chunk.Chunk.{Chunk}
 use Rattle.quic_assembler.specs.declared.errors.EnsureError.{EnsureError}
 use Rattle.quic_assembler.specs.declared.errors.EnsureError.TheVariants as ensure_error
@@ -16,6 +16,8 @@ use Rattle.quic_receiving.specs.declared.errors.HandleError.{HandleError}
 use Rattle.quic_receiving.specs.declared.errors.HandleError.TheVariants as handle_error
 use Rattle.quic_history.specs.declared.progress.Progress.{Progress}
 use Rattle.quic_history.specs.declared.progress.Progress.TheVariants as progress
+use Rattle.quic_history.specs.declared.progress.LastAnswer.{LastAnswer}
+use Rattle.quic_history.specs.declared.progress.LastAnswer.TheVariants as last_answer
 use Rattle.quic_history.specs.Halves.{is_due_in}
 use Rattle.quic_retransmits.specs.Pending.{Pending}
 use Rattle.quic_retransmits.specs.Queueing.{with_id, with_stop_sending}
@@ -110,6 +112,48 @@ Nexts progress.Readable w id most ordered result v = ReadsHalf w id most ordered
 Nexts (progress.Reset code) w id most ordered result v = (result ≡ Err (read_error.Reset code)) × (v ≡ w)
 Nexts progress.Finished w id most ordered result v = (result ≡ Ok None) × (v ≡ w)
 
+-- where a reader is after several reads
+abbrev pub progress_of : LastAnswer → Progress
+progress_of last_answer.Blocked = progress.Readable
+progress_of last_answer.Ended = progress.Finished
+progress_of (last_answer.Reset code) = progress.Reset code
+progress_of last_answer.Memory = progress.Readable
+progress_of last_answer.More = progress.Readable
+
+-- an answer without a chunk ends several reads so
+abbrev pub IsLastOf : Result (Option Chunk) ReadError → LastAnswer → Type 0
+IsLastOf (Ok (Some chunk)) last = ⊥
+IsLastOf (Ok None) last = last ≡ last_answer.Ended
+IsLastOf (Err read_error.Blocked) last = last ≡ last_answer.Blocked
+IsLastOf (Err (read_error.Reset code)) last = last ≡ last_answer.Reset code
+IsLastOf (Err read_error.OutOfMemory) last = last ≡ last_answer.Memory
+
+-- reads of a half, one after another, gave these chunks
+abbrev pub GivesChunks : World → ℕ → ℕ → Bool → List Chunk → World → Type 0
+GivesChunks w id most ordered [] v = v ≡ w
+GivesChunks w id most ordered (c ∷ cs) v = (u : World) × ReadsHalf w id most ordered (Ok (Some c)) u × GivesChunks u id most ordered cs v
+
+-- and the next, if one more was asked for, gave none
+abbrev pub LastReads : World → ℕ → ℕ → Bool → LastAnswer → World → Type 0
+LastReads w id most ordered last_answer.Blocked v = ReadsHalf w id most ordered (Err read_error.Blocked) v
+LastReads w id most ordered last_answer.Ended v = ReadsHalf w id most ordered (Ok None) v
+LastReads w id most ordered (last_answer.Reset code) v = ReadsHalf w id most ordered (Err (read_error.Reset code)) v
+LastReads w id most ordered last_answer.Memory v = ReadsHalf w id most ordered (Err read_error.OutOfMemory) v
+LastReads w id most ordered last_answer.More v = v ≡ w
+
+-- how many chunks there are where so many were asked for
+abbrev pub IsCountOf : ℕ → LastAnswer → ℕ → Type 0
+IsCountOf times last_answer.Blocked n = n < times
+IsCountOf times last_answer.Ended n = n < times
+IsCountOf times (last_answer.Reset code) n = n < times
+IsCountOf times last_answer.Memory n = n < times
+IsCountOf times last_answer.More n = n ≡ times
+
+-- how many bytes there are in all
+abbrev pub bytes_in : List Chunk → ℕ
+bytes_in [] = 0
+bytes_in (c ∷ cs) = length c.bytes + bytes_in cs
+
 -- MAX_STREAM_DATA is queued at the end of a reader
 abbrev pub is_window_queued : Progress → World → Option Half → Bool
 is_window_queued progress.Readable w o = is_due_in w.window o
@@ -127,6 +171,19 @@ pending_after progress w id read p = record (with_max_streams w p) {
 abbrev pub is_transmit_due : Progress → World → ℕ → ℕ → Bool
 is_transmit_due progress w id read = (is_max_streams_due w.bi || is_max_streams_due w.uni)
     || (is_window_queued progress w (w.receive id) || is_max_data_due (credited w.credit read))
+
+-- a stream was opened for reads, gave chunks, at most so many, and its reader was ended
+pub record ReadsSome (w : World) (id most times : ℕ) (ordered : Bool) (p : Pending) (chunks : List Chunk) (last : LastAnswer) (transmit : Bool) (v : World) (q : Pending) : Type 0 where
+  pub opened : World
+  pub read : World
+  pub ended : World
+  pub begins : Begins w id ordered (Ok tt) opened
+  pub gives : GivesChunks opened id most ordered chunks read
+  pub last_reads : LastReads read id most ordered last ended
+  pub count : IsCountOf times last (length chunks)
+  pub is : v ≡ with_credit ended (bytes_in chunks)
+  pub pending : q ≡ pending_after (progress_of last) ended id (bytes_in chunks) p
+  pub transmits : transmit ≡ is_transmit_due (progress_of last) ended id (bytes_in chunks)
 
 -- a stream was stopped: STOP_SENDING is queued unless it was reset, and MAX_DATA where it is due
 abbrev pub pending_stopped : World → Half → ℕ → ℕ → Pending → Pending

@@ -45,6 +45,10 @@ pub record Made : Type 0 where
   pub receive_window : ℕ
   pub window : ℕ
 
+abbrev pub made_with : Side → ℕ → ℕ → ℕ → ℕ → ℕ → Made
+made_with side uni bi send_window receive_window window =
+    record { side = side; uni = uni; bi = bi; send_window = send_window; receive_window = receive_window; window = window }
+
 -- how an end begins: the streams that the peer may open have new halves
 abbrev pub start : Made → World
 start m = record {

@@ -15,7 +15,7 @@ use std::collections::HashMap;
 /// memory of its own.
 #[derive(Drop)]
 pub struct ReceiveHalves {
-    alloc: Global,
+    pub(crate) alloc: Global,
     // The first limit of each stream.
     window: VarInt,
     // `None` is a half to which nothing came.

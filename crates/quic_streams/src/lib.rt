@@ -1,6 +1,7 @@
 //! The streams of a connection.
 #![tactic(auto)]
 
+pub mod batches;
 pub mod halves;
 pub mod reading;
 mod receiving;

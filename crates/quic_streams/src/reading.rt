@@ -2,7 +2,7 @@
 
 ghost use Rattle.std.specs.Prelude.{◌≡◌, ◌+◌, ◌<◌, ◌≤◌, ◌^◌, true, is_some, Some, Err, OnOk, List, ◌∷◌};
 ghost use Rattle.quic_streams.specs.Shown.{shown};
-ghost use Rattle.quic_history.specs.World.{with_credit, with_receive};
+ghost use Rattle.quic_history.specs.World.{Made, with_credit, with_receive};
 ghost use Rattle.quic_retransmits.specs.Pending.{shown_pending as listed};
 ghost use Rattle.quic_history.specs.Reading.{Begins, Nexts, ReadsHalf, is_reading, needed, pending_after, is_transmit_due, is_window_queued, progress_after, given_by};
 ghost use Rattle.quic_history.specs.History.{Event, Ended, From, given, with_next};
@@ -72,11 +72,11 @@ impl<'a> Chunks<'a> {
         ensures pending { self.new.pending.now ≡ self.old.pending.now }
         ensures id { self.new.id ≡ self.old.id }
         ensures ordered { self.new.ordered ≡ self.old.ordered }
-        ensures next { Nexts self.old.progress (shown self.old.streams.now) self.old.id max_length result (shown self.new.streams.now) }
+        ensures next { Nexts self.old.progress (shown self.old.streams.now) self.old.id max_length self.old.ordered result (shown self.new.streams.now) }
         ensures progress { self.new.progress ≡ progress_after result }
         ensures read { self.new.read ≡ self.old.read + given_by result }
-        ensures from { (h : List Event) → From h (shown self.old.streams.now)
-            → From (with_next self.old.progress self.old.id max_length result h) (shown self.new.streams.now) }
+        ensures from { (m : Made) (h : List Event) → From m h (shown self.old.streams.now)
+            → From m (with_next self.old.progress self.old.id max_length self.old.ordered result h) (shown self.new.streams.now) }
     {
         if self.progress.is_ended() {
             return self.progress.last_answer();
@@ -95,8 +95,8 @@ impl<'a> Chunks<'a> {
         ensures streams { shown self.exit.0.now ≡ with_credit (shown self.entry.streams.now) self.entry.read }
         ensures pending { listed self.exit.1.0.now ≡ pending_after self.entry.progress (shown self.entry.streams.now) self.entry.id self.entry.read (listed self.entry.pending.now) }
         ensures transmit { result.0 ≡ is_transmit_due self.entry.progress (shown self.entry.streams.now) self.entry.id self.entry.read }
-        ensures from { (h : List Event) → From h (shown self.entry.streams.now) → self.entry.read ≡ given h
-            → From (Ended self.entry.id self.entry.read ∷ h) (shown self.exit.0.now) }
+        ensures from { (m : Made) (h : List Event) → From m h (shown self.entry.streams.now) → self.entry.read ≡ given h
+            → From m (Ended self.entry.id self.entry.read ∷ h) (shown self.exit.0.now) }
     {
         let Chunks {
             streams,
@@ -114,8 +114,8 @@ impl Drop for Chunks<'_> {
     fn drop(self)
         ensures streams { shown self.exit.0.now ≡ with_credit (shown self.entry.streams.now) self.entry.read }
         ensures pending { listed self.exit.1.0.now ≡ pending_after self.entry.progress (shown self.entry.streams.now) self.entry.id self.entry.read (listed self.entry.pending.now) }
-        ensures from { (h : List Event) → From h (shown self.entry.streams.now) → self.entry.read ≡ given h
-            → From (Ended self.entry.id self.entry.read ∷ h) (shown self.exit.0.now) }
+        ensures from { (m : Made) (h : List Event) → From m h (shown self.entry.streams.now) → self.entry.read ≡ given h
+            → From m (Ended self.entry.id self.entry.read ∷ h) (shown self.exit.0.now) }
     {
         let Chunks {
             streams,
@@ -163,7 +163,7 @@ fn progress_after_error(error: ReadError) -> Progress
 }
 
 // A reader ended.
-fn finish(
+pub(crate) fn finish(
     streams: &mut StreamsState,
     pending: &mut Retransmits,
     id: StreamId,
@@ -247,7 +247,7 @@ impl StreamsState {
 
     // Reads the half of a stream that was opened for a reader which read so many bytes. It is freed at its end and
     // after a reset.
-    fn read_half(
+    pub(crate) fn read_half(
         &mut self,
         id: StreamId,
         max_length: usize,
@@ -256,20 +256,21 @@ impl StreamsState {
     ) -> Result<Option<Chunk>, ReadError>
         requires reading { is_reading Progress.Readable ((shown self.old).receive id) ordered read ≡ true }
         requires rooms { 1 ≤ rooms self.old }
-        ensures reads { ReadsHalf (shown self.old) id max_length result (shown self.new) }
+        ensures reads { ReadsHalf (shown self.old) id max_length ordered result (shown self.new) }
         ensures reading { is_reading (progress_after result) ((shown self.new).receive id) ordered (read + given_by result) ≡ true }
         ensures rooms { needed (progress_after result) ≤ rooms self.new }
         ensures bound { read + given_by result < 2 ^ 64 }
     {
         match self.take_half(id) {
-            Err(_) => Err(ReadError::OutOfMemory),
+            // Nothing came on a half that was not made yet.
+            Err(_) => Err(ReadError::Blocked),
             Ok(None) => unreachable!(),
             Ok(Some(half)) => self.read_from(id, half, max_length, ordered, read),
         }
     }
 
     // Reads a half that was taken out.
-    #[tactic(auto, using(quic_history::proofs::WorldSteps::world_steps, quic_history::proofs::ReadingSteps::reader_runs))]
+    #[tactic(auto, using(quic_history::proofs::WorldSteps::world_steps, quic_history::proofs::ReadingSteps::reader_runs, quic_history::proofs::ReadingSteps::reader_mode))]
     fn read_from(
         &mut self,
         id: StreamId,
@@ -281,7 +282,7 @@ impl StreamsState {
         requires there { is_some ((shown self.old).receive id) ≡ true }
         requires reading { is_reading Progress.Readable (Some half.value) ordered read ≡ true }
         requires rooms { 1 ≤ rooms self.old }
-        ensures reads { ReadsHalf (with_receive (shown self.old) id (Some half.value)) id max_length result (shown self.new) }
+        ensures reads { ReadsHalf (with_receive (shown self.old) id (Some half.value)) id max_length ordered result (shown self.new) }
         ensures reading { is_reading (progress_after result) ((shown self.new).receive id) ordered (read + given_by result) ≡ true }
         ensures rooms { needed (progress_after result) ≤ rooms self.new }
         ensures bound { read + given_by result < 2 ^ 64 }

@@ -6,7 +6,7 @@ ghost use Rattle.quic_limits.specs.Remote.{is_max_streams_due};
 ghost use Rattle.quic_streams.specs.Room.{rooms, HasEventRoom};
 ghost use Rattle.quic_retransmits.specs.Queueing.{window_rooms};
 ghost use Rattle.quic_streams.specs.Shown.{shown};
-ghost use Rattle.quic_history.specs.World.{id_refusal, with_freed, with_credit, with_receive};
+ghost use Rattle.quic_history.specs.World.{Made, id_refusal, with_freed, with_credit, with_receive};
 ghost use Rattle.quic_history.specs.History.{Event, Received, ReceivedReset, AddedCredits, From};
 ghost use Rattle.quic_retransmits.specs.Pending.{shown_pending as listed};
 ghost use Rattle.quic_history.specs.Receiving.{Receives, ReceivesReset, with_max_streams, with_rest};
@@ -31,8 +31,8 @@ impl StreamsState {
     ) -> Result<ShouldTransmit, ReceiveError>
         requires { length frame.bytes ≤ payload_len }
         ensures receives { Receives (shown self.old) frame.id frame.offset frame.bytes frame.fin result (shown self.new) }
-        ensures from { (h : List Event) → From h (shown self.old)
-            → From (Received frame.id frame.offset frame.bytes frame.fin result ∷ h) (shown self.new) }
+        ensures from { (m : Made) (h : List Event) → From m h (shown self.old)
+            → From m (Received frame.id frame.offset frame.bytes frame.fin result ∷ h) (shown self.new) }
     {
         self.receive_frame(frame, payload_len)
     }
@@ -124,8 +124,8 @@ impl StreamsState {
         frame: frame::ResetStream,
     ) -> Result<ShouldTransmit, ReceiveError>
         ensures receives { ReceivesReset (shown self.old) frame.id frame.error_code frame.final_offset result (shown self.new) }
-        ensures from { (h : List Event) → From h (shown self.old)
-            → From (ReceivedReset frame.id frame.error_code frame.final_offset result ∷ h) (shown self.new) }
+        ensures from { (m : Made) (h : List Event) → From m h (shown self.old)
+            → From m (ReceivedReset frame.id frame.error_code frame.final_offset result ∷ h) (shown self.new) }
     {
         self.receive_reset(frame)
     }
@@ -205,7 +205,7 @@ impl StreamsState {
         ensures credit { shown self.new ≡ with_credit (shown self.old) credits }
         ensures due { result.0 ≡ is_max_data_due (shown self.new).credit }
         ensures rooms { rooms self.new ≡ rooms self.old }
-        ensures from { (h : List Event) → From h (shown self.old) → From (AddedCredits credits result ∷ h) (shown self.new) }
+        ensures from { (m : Made) (h : List Event) → From m h (shown self.old) → From m (AddedCredits credits result ∷ h) (shown self.new) }
     {
         ShouldTransmit(self.credit.add(credits))
     }

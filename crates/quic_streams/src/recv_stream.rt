@@ -2,7 +2,7 @@
 
 ghost use Rattle.std.specs.Prelude.{◌≡◌, ◌≤◌, is_some, IfOk, IfErr, Ok, Err, Some, true, List, ◌∷◌};
 ghost use Rattle.quic_history.specs.History.{Event, Began, Stopped, ToldReset, From};
-ghost use Rattle.quic_history.specs.World.{World, with_receive};
+ghost use Rattle.quic_history.specs.World.{Made, World, with_receive};
 ghost use Rattle.quic_streams.specs.Shown.{shown};
 ghost use Rattle.quic_retransmits.specs.Pending.{shown_pending as listed};
 ghost use Rattle.quic_history.specs.Reading.{Begins, Stops, TellsReset};
@@ -19,9 +19,9 @@ use quic_values::{StreamId, VarInt};
 /// The receive half of a stream.
 #[derive(Drop)]
 pub struct RecvStream<'a> {
-    id: StreamId,
-    state: &'a mut StreamsState,
-    pending: &'a mut Retransmits,
+    pub(crate) id: StreamId,
+    pub(crate) state: &'a mut StreamsState,
+    pub(crate) pending: &'a mut Retransmits,
 }
 
 impl<'a> RecvStream<'a> {
@@ -49,8 +49,8 @@ impl<'a> RecvStream<'a> {
         ensures ordered { IfOk result (λ chunks. chunks.ordered ≡ ordered) }
         ensures progress { IfOk result (λ chunks. chunks.progress ≡ Progress.Readable) }
         ensures read { IfOk result (λ chunks. chunks.read ≡ 0) }
-        ensures from { IfOk result (λ chunks. (h : List Event) → From h (shown self.old.state.now)
-            → From (Began self.old.id ordered (Ok tt) ∷ h) (shown chunks.streams.now)) }
+        ensures from { IfOk result (λ chunks. (m : Made) (h : List Event) → From m h (shown self.old.state.now)
+            → From m (Began self.old.id ordered (Ok tt) ∷ h) (shown chunks.streams.now)) }
     {
         self.state.begin(self.pending, self.id, ordered)?;
         let RecvStream { id, state, pending } = self;
@@ -64,7 +64,7 @@ impl<'a> RecvStream<'a> {
         ensures same_pending { self.new.pending.ghost_name ≡ self.old.pending.ghost_name }
         ensures id { self.new.id ≡ self.old.id }
         ensures stops { Stops (shown self.old.state.now) self.old.id error_code (listed self.old.pending.now) result (shown self.new.state.now) (listed self.new.pending.now) }
-        ensures from { (h : List Event) → From h (shown self.old.state.now) → From (Stopped self.old.id error_code result ∷ h) (shown self.new.state.now) }
+        ensures from { (m : Made) (h : List Event) → From m h (shown self.old.state.now) → From m (Stopped self.old.id error_code result ∷ h) (shown self.new.state.now) }
     {
         self.state.stop(self.pending, self.id, error_code)
     }
@@ -75,7 +75,7 @@ impl<'a> RecvStream<'a> {
         ensures same_pending { self.new.pending.ghost_name ≡ self.old.pending.ghost_name }
         ensures id { self.new.id ≡ self.old.id }
         ensures tells { TellsReset (shown self.old.state.now) self.old.id (listed self.old.pending.now) result (shown self.new.state.now) (listed self.new.pending.now) }
-        ensures from { (h : List Event) → From h (shown self.old.state.now) → From (ToldReset self.old.id result ∷ h) (shown self.new.state.now) }
+        ensures from { (m : Made) (h : List Event) → From m h (shown self.old.state.now) → From m (ToldReset self.old.id result ∷ h) (shown self.new.state.now) }
     {
         self.state.tell_reset(self.pending, self.id)
     }

@@ -8,7 +8,7 @@ ghost use Rattle.quic_history.specs.Halves.{is_due_in, TellsCode};
 ghost use Rattle.quic_streams.specs.Held.{send_room};
 ghost use Rattle.quic_streams.specs.Room.{rooms, HasEventRoom};
 ghost use Rattle.quic_history.specs.History.{From};
-ghost use Rattle.quic_history.specs.World.{World, start, id_refusal, is_own, is_same_side, own_refusal, with_permitted, replaced_in, released, with_freed, told_readable, noticed, with_receive, with_counted};
+ghost use Rattle.quic_history.specs.World.{made_with, World, start, id_refusal, is_own, is_same_side, own_refusal, with_permitted, replaced_in, released, with_freed, told_readable, noticed, with_receive, with_counted};
 ghost use Rattle.quic_streams.specs.Shown.{shown};
 
 use crate::halves::ReceiveHalves;
@@ -53,8 +53,8 @@ impl StreamsState {
     ) -> Result<Self, OutOfMemory>
         requires uni { max_remote_uni ≤ 2 ^ 60 }
         requires bi { max_remote_bi ≤ 2 ^ 60 }
-        ensures start { IfOk result (λ state. shown state ≡ start side max_remote_uni max_remote_bi send_window receive_window stream_window) }
-        ensures from { IfOk result (λ state. From [] (shown state)) }
+        ensures start { IfOk result (λ state. shown state ≡ start (made_with side max_remote_uni max_remote_bi send_window receive_window stream_window)) }
+        ensures from { IfOk result (λ state. From (made_with side max_remote_uni max_remote_bi send_window receive_window stream_window) [] (shown state)) }
     {
         let (uni, bi) = (max_remote_uni.into_inner(), max_remote_bi.into_inner());
         let mut receive = ReceiveHalves::new(alloc, stream_window);

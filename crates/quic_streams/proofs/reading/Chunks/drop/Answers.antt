@@ -4,5 +4,5 @@ use Rattle.quic_history.proofs.Histories.{next}
 use Rattle.quic_streams.proofs.reading.Chunks.drop.Goals as goal
 
 pub returns-clause-from : goal.returns-clause-from
-returns-clause-from c = λ h f fits.
-    next h (shown c.args.self.streams.now) (Ended c.args.self.id c.args.self.read) (shown c.finish.new.streams) fits f c.finish.ensures.streams
+returns-clause-from c = λ m h f fits.
+    next m h (shown c.args.self.streams.now) (Ended c.args.self.id c.args.self.read) (shown c.finish.new.streams) fits f c.finish.ensures.streams

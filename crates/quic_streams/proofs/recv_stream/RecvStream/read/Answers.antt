@@ -5,5 +5,5 @@ use Rattle.quic_history.proofs.Histories.{next}
 use Rattle.quic_streams.proofs.recv_stream.RecvStream.read.Goals as goal
 
 pub returns-clause-from : goal.returns-clause-from
-returns-clause-from c = λ h f.
-    next h (shown c.args.self.now.state.now) (Began c.args.self.now.id c.args.ordered (Ok tt)) (shown c.new.result.streams.now) tt f (search rules)
+returns-clause-from c = λ m h f.
+    next m h (shown c.args.self.now.state.now) (Began c.args.self.now.id c.args.ordered (Ok tt)) (shown c.new.result.streams.now) tt f (search rules)

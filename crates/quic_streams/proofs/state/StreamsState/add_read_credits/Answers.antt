@@ -6,8 +6,8 @@ use Rattle.quic_streams.proofs.state.StreamsState.add_read_credits.Goals as goal
 
 pub returns-clause-from : goal.returns-clause-from
 unfolding shown
-returns-clause-from c = λ h f.
+returns-clause-from c = λ m h f.
     let u = shown c.args.self.now in
     let v = record u { credit = c.add.new.self } in
     let e = AddedCredits c.args.credits (record { 0 = c.add.result }) in
-    next h u e v tt f (ap (λ k. record u { credit = k }) c.add.ensures.credit, c.add.ensures.due)
+    next m h u e v tt f (ap (λ k. record u { credit = k }) c.add.ensures.credit, c.add.ensures.due)

@@ -1,5 +1,5 @@
 use Rattle.std.proofs.Common.{rules, ◌≡◌, ◌<◌, ◌^◌}
-use Rattle.quic_history.specs.World.{World, start}
+use Rattle.quic_history.specs.World.{World, start, made_with}
 use Rattle.quic_streams.specs.Shown.{shown}
 use Rattle.quic_history.proofs.Beginnings.{begins}
 use Rattle.quic_streams.proofs.state.StreamsState.new.Goals as goal
@@ -8,7 +8,8 @@ pub returns-clause-from : goal.returns-clause-from
 unfolding shown
 returns-clause-from c =
     let v : World = shown (record { side = c.args.side; credit = c.new.result; bi = c.new-2.result; uni = c.new-3.result; opened_bi = 0; send_window = c.args.send_window; receive = c.permit_first-2.new.self; send = c.permit_first-3.new.self; events = c.new-4.result }) in
-    let w : World = start c.args.side c.args.max_remote_uni c.args.max_remote_bi c.args.send_window c.args.receive_window c.args.stream_window in
+    let m = made_with c.args.side c.args.max_remote_uni c.args.max_remote_bi c.args.send_window c.args.receive_window c.args.stream_window in
+    let w : World = start m in
     let is : v ≡ w = search rules in
     let small : c.args.receive_window < 2 ^ 62 = search rules in
-    begins c.args.side c.args.max_remote_uni c.args.max_remote_bi c.args.send_window c.args.receive_window c.args.stream_window v c.requires.uni c.requires.bi small is
+    begins m v c.requires.uni c.requires.bi small is

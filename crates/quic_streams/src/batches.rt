@@ -1,0 +1,121 @@
+//! Several reads of a stream in one call.
+
+ghost use Rattle.std.specs.Prelude.{ℕ, List, [], ◌∷◌, ◌≡◌, ◌≤◌, ◌<◌, ◌+◌, true, length, vec_len, Ok, Err, Some, IfOk, IfErr};
+ghost use Rattle.std.specs.Vec.{vec_capacity};
+ghost use Rattle.quic_history.specs.World.{World, Made};
+ghost use Rattle.quic_history.specs.History.{Event, Began, From, with_reads};
+ghost use Rattle.quic_history.specs.Reading.{Begins, GivesChunks, LastReads, IsCountOf, ReadsSome, bytes_in, is_reading, needed, progress_of};
+ghost use Rattle.quic_retransmits.specs.Pending.{shown_pending as listed};
+ghost use Rattle.quic_streams.specs.Room.{rooms};
+ghost use Rattle.quic_streams.specs.Shown.{shown};
+
+use crate::reading::finish;
+use crate::recv_stream::RecvStream;
+use crate::state::StreamsState;
+use quic_assembler::Chunk;
+use quic_history::progress::{LastAnswer, Progress};
+use quic_receiving::{ReadError, ReadableError, ShouldTransmit};
+use quic_retransmits::Retransmits;
+use quic_values::StreamId;
+use std::alloc::Global;
+
+/// What several reads of a stream gave.
+#[derive(Debug, Drop)]
+pub struct ReadSome {
+    /// The chunks, one after another.
+    pub chunks: Vec<Chunk>,
+    /// Why they are no more.
+    pub last: LastAnswer,
+    /// Whether a frame was queued that tells the peer what it may send.
+    pub transmit: ShouldTransmit,
+}
+
+impl RecvStream<'_> {
+    /// Opens the stream for reads, in order or as bytes come, asks at most `times` times for a chunk of at most
+    /// `max_length` bytes, and ends the reader, which gives the peer credit for what was read (RFC 9000 section 4.2).
+    ///
+    /// This is [`RecvStream::read`], then calls of `next`, then `finalize`, with room for all chunks made first. A
+    /// refusal changes nothing.
+    pub fn read_some(
+        &mut self,
+        ordered: bool,
+        max_length: usize,
+        times: u16,
+    ) -> Result<ReadSome, ReadableError>
+        ensures same_state { self.new.state.ghost_name ≡ self.old.state.ghost_name }
+        ensures same_pending { self.new.pending.ghost_name ≡ self.old.pending.ghost_name }
+        ensures id { self.new.id ≡ self.old.id }
+        ensures reads { IfOk result (λ r. ReadsSome (shown self.old.state.now) self.old.id max_length times ordered (listed self.old.pending.now) r.chunks.items r.last r.transmit.0 (shown self.new.state.now) (listed self.new.pending.now)) }
+        ensures refused { IfErr result (λ error. Begins (shown self.old.state.now) self.old.id ordered (Err error) (shown self.new.state.now)) }
+        ensures refused_pending { IfErr result (λ error. listed self.new.pending.now ≡ listed self.old.pending.now) }
+        ensures from { IfOk result (λ r. (m : Made) (h : List Event) → From m h (shown self.old.state.now)
+            → From m (with_reads self.old.id max_length ordered r.chunks.items r.last h) (shown self.new.state.now)) }
+        ensures from_refused { IfErr result (λ error. (m : Made) (h : List Event) → From m h (shown self.old.state.now)
+            → From m (Began self.old.id ordered (Err error) ∷ h) (shown self.new.state.now)) }
+    {
+        self.state
+            .read_some(self.pending, self.id, ordered, max_length, times)
+    }
+}
+
+impl StreamsState {
+    // The same, on the state.
+    fn read_some(
+        &mut self,
+        pending: &mut Retransmits,
+        id: StreamId,
+        ordered: bool,
+        max_length: usize,
+        times: u16,
+    ) -> Result<ReadSome, ReadableError>
+        ensures reads { IfOk result (λ r. ReadsSome (shown self.old) id max_length times ordered (listed pending.old) r.chunks.items r.last r.transmit.0 (shown self.new) (listed pending.new)) }
+        ensures refused { IfErr result (λ error. Begins (shown self.old) id ordered (Err error) (shown self.new)) }
+        ensures refused_pending { IfErr result (λ error. listed pending.new ≡ listed pending.old) }
+    {
+        let mut chunks = match Vec::with_capacity(self.receive.alloc, times as usize) {
+            Ok(chunks) => chunks,
+            Err(_) => return Err(ReadableError::OutOfMemory),
+        };
+        self.begin(pending, id, ordered)?;
+        let (last, read) = self.read_chunks(id, ordered, max_length, times, &mut chunks);
+        let transmit = finish(self, pending, id, last.progress(), read);
+        Ok(ReadSome {
+            chunks,
+            last,
+            transmit,
+        })
+    }
+
+    // Reads a stream that was opened, until nothing more comes or so many chunks were given. Answers how many bytes
+    // they have.
+    fn read_chunks(
+        &mut self,
+        id: StreamId,
+        ordered: bool,
+        max_length: usize,
+        times: u16,
+        chunks: &mut Vec<Chunk>,
+    ) -> (LastAnswer, u64)
+        requires reading { is_reading Progress.Readable ((shown self.old).receive id) ordered 0 ≡ true }
+        requires rooms { 1 ≤ rooms self.old }
+        requires empty { chunks.old.items ≡ [] }
+        requires places { times ≤ vec_capacity chunks.old }
+        ensures reads { (read : World) × GivesChunks (shown self.old) id max_length ordered chunks.new.items read × LastReads read id max_length ordered result.0 (shown self.new) }
+        ensures count { IsCountOf times result.0 (length chunks.new.items) }
+        ensures bytes { result.1 ≡ bytes_in chunks.new.items }
+        ensures rooms { needed (progress_of result.0) ≤ rooms self.new }
+    {
+        let mut read: u64 = 0;
+        for _index in 0..times {
+            match self.read_half(id, max_length, ordered, read) {
+                Ok(Some(chunk)) => {
+                    read += chunk.bytes.len() as u64;
+                    chunks.push_reserved(chunk);
+                }
+                Ok(None) => return (LastAnswer::Ended, read),
+                Err(error) => return (LastAnswer::of_error(error), read),
+            }
+        }
+        (LastAnswer::More, read)
+    }
+}
