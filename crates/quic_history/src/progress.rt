@@ -60,10 +60,10 @@ pub enum LastAnswer {
 
 impl LastAnswer {
     /// Where the reader is then.
-    pub fn progress(self) -> Progress
-        ensures { result ≡ progress_of self }
+    pub fn progress(&self) -> Progress
+        ensures { result ≡ progress_of self.now }
     {
-        match self {
+        match *self {
             LastAnswer::Blocked => Progress::Readable,
             LastAnswer::Ended => Progress::Finished,
             LastAnswer::Reset(code) => Progress::Reset(code),

@@ -1,2 +1,3 @@
 pub mod HeldMaps
+pub mod Results
 pub mod SendMaps

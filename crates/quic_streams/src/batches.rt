@@ -72,12 +72,12 @@ impl StreamsState {
         ensures refused { IfErr result (λ error. Begins (shown self.old) id ordered (Err error) (shown self.new)) }
         ensures refused_pending { IfErr result (λ error. listed pending.new ≡ listed pending.old) }
     {
-        let mut chunks = match Vec::with_capacity(self.receive.alloc, times as usize) {
-            Ok(chunks) => chunks,
+        let room = match Vec::with_capacity(self.receive.alloc, times as usize) {
+            Ok(room) => room,
             Err(_) => return Err(ReadableError::OutOfMemory),
         };
         self.begin(pending, id, ordered)?;
-        let (last, read) = self.read_chunks(id, ordered, max_length, times, &mut chunks);
+        let (chunks, last, read) = self.read_chunks(id, ordered, max_length, times, room);
         let transmit = finish(self, pending, id, last.progress(), read);
         Ok(ReadSome {
             chunks,
@@ -86,25 +86,26 @@ impl StreamsState {
         })
     }
 
-    // Reads a stream that was opened, until nothing more comes or so many chunks were given. Answers how many bytes
-    // they have.
+    // Reads a stream that was opened, until nothing more comes or so many chunks were given, for which there is room.
+    // Answers them, why they are no more, and how many bytes they have.
     fn read_chunks(
         &mut self,
         id: StreamId,
         ordered: bool,
         max_length: usize,
         times: u16,
-        chunks: &mut Vec<Chunk>,
-    ) -> (LastAnswer, u64)
+        room: Vec<Chunk>,
+    ) -> (Vec<Chunk>, LastAnswer, u64)
         requires reading { is_reading Progress.Readable ((shown self.old).receive id) ordered 0 ≡ true }
         requires rooms { 1 ≤ rooms self.old }
-        requires empty { chunks.old.items ≡ [] }
-        requires places { times ≤ vec_capacity chunks.old }
-        ensures reads { (read : World) × GivesChunks (shown self.old) id max_length ordered chunks.new.items read × LastReads read id max_length ordered result.0 (shown self.new) }
-        ensures count { IsCountOf times result.0 (length chunks.new.items) }
-        ensures bytes { result.1 ≡ bytes_in chunks.new.items }
-        ensures rooms { needed (progress_of result.0) ≤ rooms self.new }
+        requires empty { room.items ≡ [] }
+        requires places { times ≤ vec_capacity room }
+        ensures reads { (read : World) × GivesChunks (shown self.old) id max_length ordered result.0.items read × LastReads read id max_length ordered result.1 (shown self.new) }
+        ensures count { IsCountOf times result.1 (length result.0.items) }
+        ensures bytes { result.2 ≡ bytes_in result.0.items }
+        ensures rooms { needed (progress_of result.1) ≤ rooms self.new }
     {
+        let mut chunks = room;
         let mut read: u64 = 0;
         for _index in 0..times {
             match self.read_half(id, max_length, ordered, read) {
@@ -112,10 +113,10 @@ impl StreamsState {
                     read += chunk.bytes.len() as u64;
                     chunks.push_reserved(chunk);
                 }
-                Ok(None) => return (LastAnswer::Ended, read),
-                Err(error) => return (LastAnswer::of_error(error), read),
+                Ok(None) => return (chunks, LastAnswer::Ended, read),
+                Err(error) => return (chunks, LastAnswer::of_error(error), read),
             }
         }
-        (LastAnswer::More, read)
+        (chunks, LastAnswer::More, read)
     }
 }
