@@ -288,3 +288,49 @@ fn fifty_ids_wait_at_most(rt: HostRuntime) -> Result<(), Fail> {
     }
     Ok(())
 }
+
+// Numbers from one on, so many.
+fn numbers(alloc: Global, first: u32, count: u32) -> Result<Vec<u32>, OutOfMemory> {
+    let mut numbers = Vec::with_capacity(alloc, count as usize)?;
+    for place in 0..count {
+        numbers.push(first.wrapping_add(place))?;
+    }
+    Ok(numbers)
+}
+
+fn merge(set: &mut Retransmits, other: Retransmits) -> Result<(), OutOfMemory> {
+    set.merge(other).map_err(|_| OutOfMemory)
+}
+
+fn copy(set: &Retransmits) -> Result<Retransmits, OutOfMemory> {
+    set.clone()
+}
+
+// A set of three and one of so many are merged both ways, and copied.
+fn pass(rt: &impl Abort, alloc: Global, count: u32) -> Result<(), OutOfMemory> {
+    let few = numbers(alloc, 0, 3)?;
+    let many = numbers(alloc, 3, count)?;
+    let mut set = filled(alloc, few.as_slice())?;
+    merge(&mut set, filled(alloc, many.as_slice())?)?;
+    assert_eq!(rt; set.new_tokens.len(), count as usize + 3, "{count} behind 3");
+    assert_eq!(rt; set.max_stream_data.len(), count as usize + 3, "{count} behind 3");
+    let mut set = filled(alloc, many.as_slice())?;
+    merge(&mut set, filled(alloc, few.as_slice())?)?;
+    let set = copy(&set)?;
+    assert_eq!(rt; set.new_tokens.len(), count as usize + 3, "3 behind {count}");
+    assert_eq!(rt; set.new_tokens.last().copied(), Some(address(2)), "3 behind {count}");
+    assert_eq!(rt; set.crypto.front().map(|frame| frame.offset), Some(0), "3 before {count}");
+    Ok(())
+}
+
+// With ample memory no number of things is refused.
+#[test]
+fn any_number_is_merged_and_copied(rt: HostRuntime) -> Result<(), Fail> {
+    for power in 0..17u32 {
+        let count = 1u32 << power;
+        for count in [count - 1, count, count + 1] {
+            pass(&rt, rt.alloc(), count)?;
+        }
+    }
+    Ok(())
+}

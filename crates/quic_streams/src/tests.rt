@@ -2,8 +2,11 @@
 
 mod reading;
 mod receiving;
+mod sizes;
 
 use crate::Retransmits;
+use crate::batches::ReadSome;
+use crate::progress::LastAnswer;
 use crate::reading::Chunks;
 use crate::recv_stream::RecvStream;
 use crate::state::StreamsState;
@@ -107,6 +110,8 @@ struct Subject {
     pub state: StreamsState,
     pub pending: Retransmits,
     pub window: u64,
+    // Whether reads are one call.
+    pub in_one: bool,
 }
 
 // A client that permits so many streams of each direction.
@@ -129,6 +134,7 @@ fn client(
         state,
         pending: Retransmits::new(alloc),
         window: u64::from(window),
+        in_one: false,
     })
 }
 
@@ -269,7 +275,7 @@ fn refusal_of(error: ReadableError) -> Last {
 }
 
 // Reads and finalizes. The subject is passed on, since no promise of `read` tells what becomes of what it borrows.
-fn read_once(
+fn read_by_reader(
     rt: &impl Abort,
     alloc: Global,
     subject: Subject,
@@ -281,6 +287,7 @@ fn read_once(
         mut state,
         mut pending,
         window,
+        in_one,
     } = subject;
     let given = match RecvStream::new(id(stream), &mut state, &mut pending).read(ordered) {
         Ok(mut chunks) => {
@@ -293,8 +300,72 @@ fn read_once(
         state,
         pending,
         window,
+        in_one,
     };
     Ok((subject, given))
+}
+
+fn read_some(
+    subject: &mut Subject,
+    stream: u32,
+    ordered: bool,
+    most: usize,
+    times: u16,
+) -> Result<ReadSome, ReadableError> {
+    RecvStream::new(id(stream), &mut subject.state, &mut subject.pending)
+        .read_some(ordered, most, times)
+}
+
+fn last_in_one(last: LastAnswer) -> Last {
+    match last {
+        LastAnswer::Blocked => Last::Blocked,
+        LastAnswer::Ended => Last::Ended,
+        LastAnswer::Reset(code) => Last::Reset(code.into_inner()),
+        LastAnswer::Memory => Last::NoMemory,
+        LastAnswer::More => Last::Asked,
+    }
+}
+
+// The same in one call.
+fn read_in_one(
+    rt: &impl Abort,
+    alloc: Global,
+    subject: Subject,
+    stream: u32,
+    ordered: bool,
+    reads: Reads,
+) -> Result<(Subject, Given), OutOfMemory> {
+    let mut subject = subject;
+    let Reads(most, times) = reads;
+    let times = u16::try_from(times).unwrap_or(u16::MAX);
+    let given = match read_some(&mut subject, stream, ordered, most, times) {
+        Ok(read) => {
+            let mut bytes = 0usize;
+            for chunk in &read.chunks {
+                let expected = pattern(alloc, chunk.offset, chunk.bytes.len())?;
+                assert_eq!(rt; chunk.bytes.as_slice(), expected.as_slice());
+                bytes = bytes.saturating_add(chunk.bytes.len());
+            }
+            Given(bytes, last_in_one(read.last), read.transmit.should_transmit())
+        }
+        Err(error) => Given(0, refusal_of(error), false),
+    };
+    Ok((subject, given))
+}
+
+// Reads and finalizes, in one way or the other.
+fn read_once(
+    rt: &impl Abort,
+    alloc: Global,
+    subject: Subject,
+    stream: u32,
+    ordered: bool,
+    reads: Reads,
+) -> Result<(Subject, Given), OutOfMemory> {
+    if subject.in_one {
+        return read_in_one(rt, alloc, subject, stream, ordered, reads);
+    }
+    read_by_reader(rt, alloc, subject, stream, ordered, reads)
 }
 
 // Reads and finalizes, and goes on where memory was wanting.
@@ -489,6 +560,10 @@ fn run(
 
 // Takes steps on a client that permits 128 streams of each direction, with windows of 2^20 bytes.
 fn run_on_client(rt: &impl Abort, alloc: Global, steps: &[Step]) -> Result<(), OutOfMemory> {
-    let _after = run(rt, alloc, client(alloc, 128, WINDOW, WINDOW)?, steps)?;
+    for in_one in [false, true] {
+        let mut subject = client(alloc, 128, WINDOW, WINDOW)?;
+        subject.in_one = in_one;
+        let _ = run(rt, alloc, subject, steps)?;
+    }
     Ok(())
 }

@@ -167,6 +167,7 @@ fn a_reader_that_is_finalized_gives_credit(rt: HostRuntime) -> Result<(), Fail> 
         mut state,
         mut pending,
         window,
+        in_one,
     } = one_byte_came(&rt, rt.alloc())?;
     let mut stream = RecvStream::new(id(3), &mut state, &mut pending);
     let mut chunks = stream.read(true)?;
@@ -179,6 +180,7 @@ fn a_reader_that_is_finalized_gives_credit(rt: HostRuntime) -> Result<(), Fail> 
             state,
             pending,
             window,
+            in_one,
         },
         &ONE_BYTE_READ,
     )?;
@@ -191,6 +193,7 @@ fn a_reader_that_is_dropped_gives_credit(rt: HostRuntime) -> Result<(), Fail> {
         mut state,
         mut pending,
         window,
+        in_one,
     } = one_byte_came(&rt, rt.alloc())?;
     let mut stream = RecvStream::new(id(3), &mut state, &mut pending);
     let mut chunks = stream.read(true)?;
@@ -203,6 +206,7 @@ fn a_reader_that_is_dropped_gives_credit(rt: HostRuntime) -> Result<(), Fail> {
             state,
             pending,
             window,
+            in_one,
         },
         &ONE_BYTE_READ,
     )?;
@@ -226,6 +230,7 @@ fn a_reader_that_is_leaked_leaves_the_stream(rt: HostRuntime) -> Result<(), Fail
         mut state,
         mut pending,
         window,
+        in_one,
     } = one_byte_came(&rt, rt.alloc())?;
     let mut stream = RecvStream::new(id(3), &mut state, &mut pending);
     let mut chunks = stream.read(true)?;
@@ -238,6 +243,7 @@ fn a_reader_that_is_leaked_leaves_the_stream(rt: HostRuntime) -> Result<(), Fail
             state,
             pending,
             window,
+            in_one,
         },
         &LEAKED,
     )?;
