@@ -197,7 +197,7 @@ remotes-idle at_once b f g u v gone s x d =
     rw (s.side, s.sends) (remote-same (at_once d) (b d) (is_freed f u.side u.sends d) (is_freed g u.side u.sends d) (remote_of u d) (remote_of v d) (s.limits d)
     (λ i l. freed_same f g u.side u.sends d i (gone (stream_id (other_side u.side) d i))) (x d))
 
--- ---- a half is with_freed
+-- ---- a half is freed
 
 other_place : (s : Side) (d : Dir) (i j : ℕ) → eqb i j ≡ false → eqb (stream_id s d i) (stream_id s d j) ≡ false
 other_place Client Bi i j e = grind (arith, nat_tests)
@@ -259,7 +259,7 @@ module _ (at_once b : Dir → ℕ) (f g : ℕ → Trace) (w : World) (id : ℕ) 
       (λ i n. ap (λ t. t.gone) (others (stream_id o Uni i) (rw e (other_place o Uni i j n)))) (next Uni) (x Uni))
   uni_replaced v j e l r Bi = rw (r.0, r.1, r.3) (bi_stays j e)
 
-  -- a bidirectional stream whose send half is held is not wholly with_freed
+  -- a bidirectional stream whose send half is held is not wholly freed
   bi_held : (j : ℕ) → id ≡ stream_id o Bi j → w.sends id ≡ true → RemoteFrom (at_once Bi) (b Bi) (is_freed g w.side w.sends Bi) w.bi
   bi_held j e held = remote-same (at_once Bi) (b Bi) (is_freed f w.side w.sends Bi) (is_freed g w.side w.sends Bi) w.bi w.bi (limits-refl w.bi)
       (λ i l. by_cases (eqb i j)
@@ -341,7 +341,7 @@ own_put : (w : World) (id : ℕ) → is_own (with_receive w id None) id ≡ is_o
 unfolding with_receive
 own_put w id = refl
 
--- a half is with_freed, and no other
+-- a half is freed, and no other
 pub remotes-freed : (at_once b : Dir → ℕ) (f g : ℕ → Trace) (w : World) (id : ℕ) → id_refusal w id ≡ None → (f id).gone ≡ false → (g id).gone ≡ true → ((q : ℕ) → eqb q id ≡ false → g q ≡ f q)
     → ((d : Dir) → (g (stream_id (other_side w.side) d (remote_of w d).max_remote)).gone ≡ false) → AllRemotes at_once b f w → AllRemotes at_once b g (with_freed w id)
 remotes-freed at_once b f g w id known was is others next x =

@@ -110,7 +110,7 @@ new-half-from window = record {
   holds = λ s r. data-fresh;
 }
 
--- the next stream of the peer is with_permitted
+-- the next stream of the peer is permitted
 raised_all : (f : ℕ → Trace) (d : Dir) (u v : World) (window : ℕ) → v.side ≡ u.side → v.opened_bi ≡ u.opened_bi → IsRaised d u v
     → v.receive ≡ with_half u.receive (stream_id (other_side u.side) d (remote_of u d).max_remote) (Some (new_half window)) → AllFrom f u → AllFrom f v
 unfolding with_half
@@ -154,7 +154,7 @@ all-released : (f : ℕ → Trace) (d : Dir) (u : World) (id : ℕ) → AllFrom 
 all-released f Uni u id s = all-replaced f Uni u s
 all-released f Bi u id s = either f u (replaced_in u Bi) (u.sends id) s (all-replaced f Bi u s)
 
--- a half is with_freed, as is told of its stream
+-- a half is freed, as is told of its stream
 pub all-freed : (g : ℕ → Trace) (w : World) (id : ℕ) → AllBut id g w → id_refusal w id ≡ None → (g id).gone ≡ true → AllFrom g (with_freed w id)
 all-freed g w id s known is =
     let u = with_receive w id None in
@@ -254,7 +254,7 @@ steady_released w Bi id =
     let P : World → Type 0 = λ x. steady x ≡ steady w in
     if_any P w (replaced_in w Bi) (w.sends id) refl (steady_replaced w Bi)
 
--- a half that is with_freed changes nothing of the credit
+-- a half that is freed changes nothing of the credit
 pub steady-freed : (w : World) (id : ℕ) → steady (with_freed w id) ≡ steady w
 steady-freed w id =
     let u = with_receive w id None in

@@ -88,7 +88,7 @@ progress_after (Err read_error.Blocked) = progress.Readable
 progress_after (Err (read_error.Reset code)) = progress.Reset code
 progress_after (Err read_error.OutOfMemory) = progress.Readable
 
--- whether nothing more comes, and the half is with_freed
+-- whether nothing more comes, and the half is freed
 abbrev pub is_ended : Progress → Bool
 is_ended progress.Readable = false
 is_ended (progress.Reset code) = true

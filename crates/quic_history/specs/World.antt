@@ -102,7 +102,7 @@ abbrev pub id_refusal : World → ℕ → Option ℕ
 id_refusal w id = if is_own w id then own_refusal w (dir_of id) (index_of id)
     else (if nat_le (remote_of w (dir_of id)).max_remote (index_of id) then Some STREAM_LIMIT_ERROR else None)
 
--- a stream of the peer is with_permitted: its halves are new
+-- a stream of the peer is permitted: its halves are new
 abbrev pub with_permitted : World → Dir → ℕ → World
 with_permitted w Uni index = with_receive w (stream_id (other_side w.side) Uni index) (Some (new_half w.window))
 with_permitted w Bi index = let id = stream_id (other_side w.side) Bi index in
@@ -112,16 +112,16 @@ abbrev pub permitted_if : World → Dir → Option ℕ → World
 permitted_if w dir None = w
 permitted_if w dir (Some index) = with_permitted w dir index
 
--- a stream of the peer was wholly with_freed, and another may take its place
+-- a stream of the peer was wholly freed, and another may take its place
 abbrev pub replaced_in : World → Dir → World
 replaced_in w dir = permitted_if (with_remote w dir (replaced (remote_of w dir))) dir (replacement (remote_of w dir))
 
--- a stream of the peer lost its receive half: it is wholly with_freed, unless its send half is held
+-- a stream of the peer lost its receive half: it is wholly freed, unless its send half is held
 abbrev pub released : World → Dir → ℕ → World
 released w Uni id = replaced_in w Uni
 released w Bi id = if w.sends id then w else replaced_in w Bi
 
--- the receive half of a stream is with_freed
+-- the receive half of a stream is freed
 abbrev pub with_freed : World → ℕ → World
 with_freed w id = let u = with_receive w id None in
     if is_own u id then u else released u (dir_of id) id

@@ -3,7 +3,7 @@ use Rattle.std.specs.Prelude.{ℕ, Bool, true, false, ◌+◌, ◌-◌, ◌/◌,
 
 -- max_remote: how many it may open in all
 -- sent_max_remote: the last count that was announced
--- allocated: how many it may use now: those one_permitted that are not wholly freed
+-- allocated: how many it may use now: those permitted that are not wholly freed
 -- max_concurrent: how many it is to be able to use at a time
 -- next_remote: the lowest index that it did not open
 -- next_reported: the lowest index that the application did not accept
@@ -24,7 +24,7 @@ new_remote count = record { max_remote = count; sent_max_remote = count; allocat
 abbrev pub lacks_streams : Remote → Bool
 lacks_streams r = nat_lt r.allocated r.max_concurrent && nat_lt r.max_remote (2 ^ 60)
 
--- one more is one_permitted
+-- one more is permitted
 abbrev pub one_permitted : Remote → Remote
 one_permitted r = record r { max_remote = r.max_remote + 1; allocated = r.allocated + 1 }
 

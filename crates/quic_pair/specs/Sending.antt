@@ -67,7 +67,7 @@ Opens old (Ok Nothing) new = (old.opened ≡ false) × (old.max_streams ≡ 0) �
 Opens old (Err UnknownId) new = (old.opened ≡ true) × (new ≡ old)
 Opens old _ new = ⊥
 
--- so many bytes are taken: exactly what is takeable
+-- so many bytes are taken: exactly what is permitted
 pub record TakesBytes (old : Sending) (bytes : List ℕ) (count : ℕ) (new : Sending) : Type 0 where
   pub held : old.freed ≡ false
   pub unfinished : old.finished ≡ false
