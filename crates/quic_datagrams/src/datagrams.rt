@@ -1,6 +1,6 @@
 //! Queues of datagrams (RFC 9221), each under a bound.
 
-ghost use Rattle.std.specs.Prelude.{◌≡◌, ◌+◌, ◌-◌, ◌<◌, ◌≤◌, ◌^◌, ◌++◌, ◌==◌, ◌&&◌, [], ◌∷◌, List, true, false, not, length, nat_lt, nat_le, MatchOption, IfOk, IfErr, OnOk, OnErr, IsSomeAnd, None};
+ghost use Rattle.std.specs.Prelude.{◌≡◌, ◌+◌, ◌-◌, ◌<◌, ◌≤◌, ◌^◌, ◌++◌, ◌==◌, ◌&&◌, [], ◌∷◌, List, true, false, not, length, nat_lt, nat_le, MatchOption, IfOk, IfErr, OnOk, OnErr, IsSomeAnd, None, vec_len, vec_capacity};
 ghost use Rattle.std.specs.VecDeque.{deque_len, deque_capacity};
 ghost use Rattle.quic_datagrams.specs.Sending.{send_refusal, IsSendRefusal, after_refusal};
 ghost use Rattle.quic_datagrams.specs.Queue.{cost, total_cost, newest_within, with_newest, no_longer_than, fits_in, oldest_fits_in, ends_within, IsWritten, IsReceiveRefusal, JoinsWithin};
@@ -149,6 +149,7 @@ impl DatagramBuffer {
     fn write_front(&mut self, buf: &mut Vec<u8>, max_size: usize) -> Result<bool, OutOfMemory>
         ensures ok { IfOk result (λ wrote. IsWritten max_size self.old self.new buf.old.items buf.new.items wrote) }
         ensures err { OnErr result ((self.new ≡ self.old) × (buf.new.items ≡ buf.old.items)) }
+        ensures full { OnErr result (oldest_fits_in self.old (vec_capacity buf.old - vec_len buf.old) ≡ false) }
     {
         let Some(room) = max_size.checked_sub(buf.len()) else {
             return Ok(false);
@@ -269,6 +270,9 @@ impl DatagramState {
         ensures ok { IfOk result (λ wrote. IsWritten max_size self.old.outgoing self.new.outgoing buf.old.items buf.new.items wrote) }
         ensures same { self.new ≡ record self.old { outgoing = self.new.outgoing } }
         ensures err { OnErr result ((self.new ≡ self.old) × (buf.new.items ≡ buf.old.items)) }
+
+        // It is refused only where the buffer has no room for it.
+        ensures full { OnErr result (oldest_fits_in self.old.outgoing (vec_capacity buf.old - vec_len buf.old) ≡ false) }
     {
         self.outgoing.write_front(buf, max_size)
     }

@@ -3,7 +3,8 @@
 use crate::{DatagramLimits, DatagramState, Datagrams, FrameStats, SendDatagramError};
 use quic_wire::frame::{Crypto, Datagram, ResetStream, StopSending, Stream};
 use quic_wire::{
-    Bytes, Dir, Frame, OutOfMemory, ReceiveError, Side, StreamId, TransportError, VarInt, decode,
+    Bytes, DecodeError, Dir, Frame, OutOfMemory, ReceiveError, Side, StreamId, TransportError,
+    VarInt, decode,
 };
 use std::alloc::Global;
 use std::process::Abort;
@@ -13,6 +14,13 @@ const LIMITS: DatagramLimits = DatagramLimits {
     receive: Some(100),
     send: 64,
     max: Some(40),
+};
+
+// More than is ever wanted here.
+const AMPLE: DatagramLimits = DatagramLimits {
+    receive: Some(1 << 40),
+    send: 1 << 40,
+    max: Some(1 << 40),
 };
 
 // So many bytes, each with the same value.
@@ -45,10 +53,39 @@ fn space(state: &mut DatagramState, limits: DatagramLimits) -> usize {
     Datagrams::new(state, limits).send_buffer_space()
 }
 
+fn receive(
+    state: &mut DatagramState,
+    datagram: Datagram,
+    window: Option<usize>,
+) -> Result<bool, ReceiveError> {
+    state.received(datagram, &window)
+}
+
+fn recv(state: &mut DatagramState) -> Option<Bytes> {
+    state.recv()
+}
+
+fn write(
+    state: &mut DatagramState,
+    buf: &mut Vec<u8>,
+    max_size: usize,
+) -> Result<bool, OutOfMemory> {
+    state.write(buf, max_size)
+}
+
+fn drop_oversized(state: &mut DatagramState, limits: DatagramLimits) -> bool {
+    Datagrams::new(state, limits).drop_oversized()
+}
+
+// What those received and those that wait to be sent count.
+fn used(state: &DatagramState) -> (usize, usize) {
+    (state.incoming.memory_used(), state.outgoing.memory_used())
+}
+
 // The first byte and the length of each received datagram, the oldest first.
 fn shows_received(rt: &impl Abort, state: &mut DatagramState, wanted: &[(u8, usize)]) {
     for (value, len) in wanted {
-        let oldest = state.recv();
+        let oldest = recv(state);
         assert_eq!(rt; oldest.as_ref().map(|bytes| bytes.len()), Some(*len));
         assert_eq!(rt;
             oldest.and_then(|bytes| bytes.as_slice().first().copied()),
@@ -70,11 +107,14 @@ fn oldest_received_go_first(rt: HostRuntime) -> Result<(), Fail> {
     let alloc = rt.alloc();
     let mut state = DatagramState::new(alloc);
     let window = Some(64);
-    let long = state.received(datagram(alloc, 33, 1)?, &window);
+    let long = receive(&mut state, datagram(alloc, 33, 1)?, window);
     assert_eq!(rt; code_of(long), Some(TransportError::PROTOCOL_VIOLATION));
-    assert_eq!(rt; state.received(datagram(alloc, 10, 2)?, &window)?, true);
-    assert_eq!(rt; state.received(datagram(alloc, 10, 3)?, &window)?, false);
-    assert_eq!(rt; state.incoming.memory_used(), 42);
+    assert_eq!(rt; receive(&mut state, datagram(alloc, 10, 2)?, window)?, true);
+    assert_eq!(rt;
+        receive(&mut state, datagram(alloc, 10, 3)?, window)?,
+        false
+    );
+    assert_eq!(rt; used(&state).0, 42);
     shows_received(&rt, &mut state, &[(3, 10)]);
     Ok(())
 }
@@ -85,24 +125,30 @@ fn received_at_the_edge_of_the_window(rt: HostRuntime) -> Result<(), Fail> {
     let violation = Some(TransportError::PROTOCOL_VIOLATION);
     let mut state = DatagramState::new(alloc);
     assert_eq!(rt;
-        code_of(state.received(datagram(alloc, 0, 0)?, &Some(31))),
+        code_of(receive(&mut state, datagram(alloc, 0, 0)?, Some(31))),
         violation
     );
     assert_eq!(rt;
-        code_of(state.received(datagram(alloc, 0, 0)?, &None)),
+        code_of(receive(&mut state, datagram(alloc, 0, 0)?, None)),
         violation
     );
     assert!(rt; state.incoming.is_empty());
-    assert_eq!(rt; state.received(datagram(alloc, 0, 0)?, &Some(32))?, true);
-    assert_eq!(rt; state.received(datagram(alloc, 0, 0)?, &Some(32))?, false);
-    assert_eq!(rt; state.incoming.memory_used(), 32);
+    assert_eq!(rt;
+        receive(&mut state, datagram(alloc, 0, 0)?, Some(32))?,
+        true
+    );
+    assert_eq!(rt;
+        receive(&mut state, datagram(alloc, 0, 0)?, Some(32))?,
+        false
+    );
+    assert_eq!(rt; used(&state).0, 32);
     assert_eq!(rt;
         Datagrams::new(&mut state, LIMITS)
             .recv()
             .map(|bytes| bytes.len()),
         Some(0)
     );
-    assert_eq!(rt; state.recv(), None);
+    assert_eq!(rt; recv(&mut state), None);
     Ok(())
 }
 
@@ -123,9 +169,9 @@ fn send_under_limits(rt: HostRuntime) -> Result<(), Fail> {
     );
     assert!(rt; state.send_blocked);
     assert_eq!(rt; send(&mut state, LIMITS, bytes(alloc, 1, 4)?, true), None);
-    assert_eq!(rt; state.outgoing.memory_used(), 33);
+    assert_eq!(rt; used(&state).1, 33);
     let mut buf = Vec::new(alloc);
-    assert!(rt; state.write(&mut buf, 100)?);
+    assert!(rt; write(&mut state, &mut buf, 100)?);
     assert_eq!(rt; buf.as_slice(), [0x31, 1, 4].as_slice());
     Ok(())
 }
@@ -170,11 +216,11 @@ fn make_space_for_accounts_for_new_datagram(rt: HostRuntime) -> Result<(), Fail>
     let limits = DatagramLimits { send: 74, ..LIMITS };
     assert_eq!(rt; send(&mut state, limits, bytes(alloc, 7, 1)?, false), None);
     assert_eq!(rt; send(&mut state, limits, bytes(alloc, 2, 2)?, false), None);
-    assert_eq!(rt; state.outgoing.memory_used(), 73);
+    assert_eq!(rt; used(&state).1, 73);
     assert_eq!(rt; send(&mut state, limits, bytes(alloc, 4, 3)?, true), None);
-    assert_eq!(rt; state.outgoing.memory_used(), 70);
+    assert_eq!(rt; used(&state).1, 70);
     let mut buf = Vec::new(alloc);
-    assert!(rt; state.write(&mut buf, 100)? && state.write(&mut buf, 100)?);
+    assert!(rt; write(&mut state, &mut buf, 100)? && write(&mut state, &mut buf, 100)?);
     assert_eq!(rt;
         buf.as_slice(),
         [0x31, 2, 2, 2, 0x31, 4, 3, 3, 3, 3].as_slice()
@@ -194,7 +240,7 @@ fn make_space_for_accounts_for_empty_datagram_metadata(rt: HostRuntime) -> Resul
         Some(SendDatagramError::Blocked(Bytes::new(alloc)))
     );
     assert_eq!(rt; send(&mut state, LIMITS, Bytes::new(alloc), true), None);
-    assert_eq!(rt; state.outgoing.memory_used(), 64);
+    assert_eq!(rt; used(&state).1, 64);
     Ok(())
 }
 
@@ -206,7 +252,7 @@ fn drop_oversized_keeps_datagrams_at_limit(rt: HostRuntime) -> Result<(), Fail> 
     assert_eq!(rt; send(&mut state, wide, bytes(alloc, 10, 1)?, false), None);
     assert_eq!(rt; send(&mut state, wide, bytes(alloc, 11, 2)?, false), None);
     assert!(rt; state.drop_oversized(10));
-    assert_eq!(rt; state.outgoing.memory_used(), 42);
+    assert_eq!(rt; used(&state).1, 42);
     assert!(rt; !state.drop_oversized(10));
     Ok(())
 }
@@ -230,12 +276,12 @@ fn drop_oversized_wakes_a_blocked_sender(rt: HostRuntime) -> Result<(), Fail> {
         blocked,
         Some(SendDatagramError::Blocked(bytes(alloc, 1, 2)?))
     );
-    assert!(rt; !Datagrams::new(&mut state, off).drop_oversized());
+    assert!(rt; !drop_oversized(&mut state, off));
     assert!(rt; state.send_blocked);
-    assert!(rt; Datagrams::new(&mut state, narrow).drop_oversized());
+    assert!(rt; drop_oversized(&mut state, narrow));
     assert!(rt; !state.send_blocked && state.outgoing.is_empty());
     assert_eq!(rt; send(&mut state, LIMITS, bytes(alloc, 11, 3)?, false), None);
-    assert!(rt; !Datagrams::new(&mut state, narrow).drop_oversized());
+    assert!(rt; !drop_oversized(&mut state, narrow));
     assert!(rt; state.outgoing.is_empty());
     Ok(())
 }
@@ -249,11 +295,11 @@ fn write_needs_the_room(rt: HostRuntime) -> Result<(), Fail> {
     assert_eq!(rt; send(&mut state, LIMITS, hi, false), None);
     assert!(rt; !state.outgoing.can_send_1rtt(3) && state.outgoing.can_send_1rtt(4));
     let mut buf = Vec::new(alloc);
-    assert!(rt; !state.write(&mut buf, 3)?);
+    assert!(rt; !write(&mut state, &mut buf, 3)?);
     assert!(rt; buf.is_empty() && !state.outgoing.is_empty());
-    assert!(rt; state.write(&mut buf, 4)?);
+    assert!(rt; write(&mut state, &mut buf, 4)?);
     assert_eq!(rt; buf.as_slice(), b"\x31\x02hi".as_slice());
-    assert!(rt; !state.write(&mut buf, 100)?);
+    assert!(rt; !write(&mut state, &mut buf, 100)?);
     assert_eq!(rt; decode(alloc, buf.as_slice())?.len(), 1);
     Ok(())
 }
@@ -277,14 +323,14 @@ fn refused_send_drops_nothing(rt: HostRuntime) -> Result<(), Fail> {
     match Datagrams::new(&mut state, limits).send(fifth, true) {
         Err(SendDatagramError::OutOfMemory(back)) => {
             assert_eq!(rt; back.as_slice(), [5].as_slice());
-            assert_eq!(rt; state.outgoing.memory_used(), 4 * 33);
+            assert_eq!(rt; used(&state).1, 4 * 33);
             assert_eq!(rt; send(&mut state, limits, back, true), None);
         }
         outcome => assert_eq!(rt; outcome.err(), None),
     }
     let mut buf = Vec::with_capacity(alloc, 12)?;
     for _ in 0..4 {
-        assert!(rt; state.write(&mut buf, 12)?);
+        assert!(rt; write(&mut state, &mut buf, 12)?);
     }
     assert_eq!(rt;
         buf.as_slice(),
@@ -300,13 +346,16 @@ fn refused_received_drops_nothing(rt: HostRuntime) -> Result<(), Fail> {
     let window = Some(4 * 33);
     for value in 1..5 {
         let first = state.incoming.is_empty();
-        if state.received(datagram(alloc, 1, value)?, &window) != Ok(first) {
-            assert_eq!(rt; state.received(datagram(alloc, 1, value)?, &window)?, first);
+        if receive(&mut state, datagram(alloc, 1, value)?, window) != Ok(first) {
+            assert_eq!(rt;
+                receive(&mut state, datagram(alloc, 1, value)?, window)?,
+                first
+            );
         }
     }
-    if state.received(datagram(alloc, 1, 5)?, &window) == Err(ReceiveError::OutOfMemory) {
-        assert_eq!(rt; state.incoming.memory_used(), 4 * 33);
-        assert_eq!(rt; state.received(datagram(alloc, 1, 5)?, &window)?, false);
+    if receive(&mut state, datagram(alloc, 1, 5)?, window) == Err(ReceiveError::OutOfMemory) {
+        assert_eq!(rt; used(&state).0, 4 * 33);
+        assert_eq!(rt; receive(&mut state, datagram(alloc, 1, 5)?, window)?, false);
     }
     shows_received(&rt, &mut state, &[(2, 1), (3, 1), (4, 1), (5, 1)]);
     Ok(())
@@ -319,16 +368,85 @@ fn refused_write_keeps_the_datagram(rt: HostRuntime) -> Result<(), Fail> {
     assert_eq!(rt; send(&mut state, LIMITS, bytes(alloc, 30, 1)?, false), None);
     let mut buf = Vec::with_capacity(alloc, 1)?;
     buf.push(0x30)?;
-    match state.write(&mut buf, 33) {
+    match write(&mut state, &mut buf, 33) {
         Ok(wrote) => assert!(rt; wrote),
         Err(OutOfMemory) => {
             assert_eq!(rt; buf.as_slice(), [0x30].as_slice());
-            assert_eq!(rt; state.outgoing.memory_used(), 62);
-            assert!(rt; state.write(&mut buf, 33)?);
+            assert_eq!(rt; used(&state).1, 62);
+            assert!(rt; write(&mut state, &mut buf, 33)?);
         }
     }
     assert_eq!(rt; buf.len(), 33);
     assert!(rt; state.outgoing.is_empty());
+    Ok(())
+}
+
+// So many bytes that a seed gives.
+fn seeded(alloc: Global, len: usize) -> Result<Vec<u8>, OutOfMemory> {
+    let mut bytes = Vec::new(alloc);
+    let mut seed = 0x9e37_79b9_7f4a_7c15u64;
+    for _ in 0..len {
+        seed = seed
+            .wrapping_mul(0x5851_f42d_4c95_7f2d)
+            .wrapping_add(0x1405_7b7e_f767_814f);
+        bytes.push((seed >> 56) as u8)?;
+    }
+    Ok(bytes)
+}
+
+// The same content sent, written and decoded, and received and read.
+fn pass(
+    alloc: Global,
+    state: &mut DatagramState,
+    content: &[u8],
+) -> Result<(Vec<Frame>, Option<Bytes>), DecodeError> {
+    let sent = send(state, AMPLE, Bytes::copy_from_slice(alloc, content)?, false);
+    let mut buf = Vec::new(alloc);
+    write(state, &mut buf, 1 << 20)?;
+    let bytes = Bytes::copy_from_slice(alloc, content)?;
+    let received = receive(state, Datagram { bytes }, AMPLE.receive);
+    if sent.is_some() || received.is_err() {
+        return Err(DecodeError::OutOfMemory);
+    }
+    Ok((decode(alloc, &buf)?, recv(state)))
+}
+
+#[test]
+fn no_size_up_to_65537_is_refused(rt: HostRuntime) -> Result<(), Fail> {
+    let alloc = rt.alloc();
+    let mut state = DatagramState::new(alloc);
+    for power in 0..17u32 {
+        let middle = 1usize << power;
+        for len in [middle.saturating_sub(1), middle, middle.saturating_add(1)] {
+            let content = seeded(alloc, len)?;
+            let bytes = Bytes::copy_from_slice(alloc, &content)?;
+            let (frames, received) = pass(alloc, &mut state, &content)?;
+            assert!(rt; received.as_ref() == Some(&bytes), "{len} bytes");
+            let wanted = [Frame::Datagram(Datagram { bytes })];
+            assert!(rt; frames.as_slice() == wanted.as_slice(), "{len} bytes");
+        }
+    }
+    Ok(())
+}
+
+#[test]
+fn no_number_up_to_65537_is_refused(rt: HostRuntime) -> Result<(), Fail> {
+    let alloc = rt.alloc();
+    let mut state = DatagramState::new(alloc);
+    for number in 0..65_537u64 {
+        let bytes = Bytes::copy_from_slice(alloc, &number.to_be_bytes())?;
+        assert_eq!(rt; send(&mut state, AMPLE, bytes.try_clone()?, false), None);
+        let was_empty = receive(&mut state, Datagram { bytes }, AMPLE.receive)?;
+        assert_eq!(rt; was_empty, number == 0);
+    }
+    assert_eq!(rt; used(&state), (65_537 * 40, 65_537 * 40));
+    for number in 0..65_537u64 {
+        let oldest = recv(&mut state);
+        assert!(rt;
+            oldest.is_some_and(|bytes| bytes.as_slice() == number.to_be_bytes().as_slice())
+        );
+    }
+    assert!(rt; state.incoming.is_empty());
     Ok(())
 }
 

@@ -1,5 +1,5 @@
 -- The credit of a connection for the data that it receives (RFC 9000 sections 4.1 and 4.2).
-use Rattle.std.specs.Prelude.{ℕ, Bool, true, false, ◌+◌, ◌-◌, ◌/◌, ◌^◌, ◌&&◌, min, max, nat_le, nat_lt, if◌then◌else◌}
+use Rattle.std.specs.Prelude.{ℕ, Bool, ◌+◌, ◌-◌, ◌/◌, ◌^◌, ◌&&◌, min, max, nat_le, nat_lt, if◌then◌else◌}
 
 -- receive_window: how many bytes may be received and not consumed
 -- local_max_data: how many bytes the peer may send in all

@@ -1,2 +1,4 @@
 pub mod Credit
+pub mod Own
 pub mod Remote
+pub mod SendingCredit

@@ -1,5 +1,5 @@
 -- The streams of one direction that the peer may open (RFC 9000 section 4.6).
-use Rattle.std.specs.Prelude.{ℕ, Bool, true, false, ◌+◌, ◌-◌, ◌/◌, ◌^◌, ◌&&◌, ◌≤◌, ◌<◌, ◌≡◌, nat_le, nat_lt, if◌then◌else◌, Option, Some, None}
+use Rattle.std.specs.Prelude.{ℕ, Bool, true, false, ◌+◌, ◌-◌, ◌/◌, ◌^◌, ◌&&◌, ◌≤◌, ◌≡◌, nat_le, nat_lt, if◌then◌else◌, Option, Some, None}
 
 -- max_remote: how many it may open in all
 -- sent_max_remote: the last count that was announced

@@ -1,6 +1,6 @@
 //! Worked numbers.
 
-use crate::{ReceiveCredit, RemoteStreams};
+use crate::{OwnStreams, ReceiveCredit, RemoteStreams, SendCredit};
 use quic_values::VarInt;
 use std::process::Abort;
 use std::rt::HostRuntime;
@@ -60,4 +60,79 @@ fn no_stream_above_the_greatest_count(rt: HostRuntime) {
     assert_eq!(rt; streams.replace(), None);
     assert_eq!(rt; streams.allocated(), (1 << 60) - 1);
     assert_eq!(rt; streams.max_remote(), 1 << 60);
+}
+
+// Writes what is permitted of so many bytes, where the stream permits so many.
+fn write(credit: &mut SendCredit, offered: u64, stream_limit: u64) -> u64 {
+    let written = offered.min(stream_limit).min(credit.write_limit());
+    credit.sent(written);
+    written
+}
+
+#[test]
+fn writes_stop_at_the_limit_and_report_it_once(rt: HostRuntime) {
+    let mut credit = SendCredit::new(100);
+    assert_eq!(rt; write(&mut credit, 6, 10), 0);
+    assert!(rt; credit.raise(VarInt::new(4)));
+    assert!(rt; !credit.note_blocked());
+    assert_eq!(rt; write(&mut credit, 6, 10), 4);
+    assert!(rt; credit.note_blocked());
+    assert!(rt; !credit.note_blocked());
+    assert!(rt; credit.is_blocked());
+    assert!(rt; !credit.raise(VarInt::new(4)));
+    assert!(rt; credit.raise(VarInt::new(9)));
+    assert!(rt; !credit.is_blocked());
+    assert_eq!(rt; write(&mut credit, 6, 10), 5);
+    assert!(rt; credit.note_blocked());
+    assert_eq!(rt;
+        (
+            credit.max_data(),
+            credit.data_sent(),
+            credit.buffered_data()
+        ),
+        (9, 9, 9)
+    );
+}
+
+#[test]
+fn writes_stop_at_the_window(rt: HostRuntime) {
+    let mut credit = SendCredit::new(3);
+    assert!(rt; credit.raise(VarInt::new(50)));
+    assert_eq!(rt; write(&mut credit, 7, 20), 3);
+    assert!(rt; !credit.note_blocked());
+    credit.release(2);
+    credit.set_send_window(5);
+    assert_eq!(rt; credit.write_limit(), 4);
+    credit.release(9);
+    credit.set_send_window(0);
+    assert_eq!(rt;
+        (
+            credit.write_limit(),
+            credit.buffered_data(),
+            credit.send_window()
+        ),
+        (0, 0, 0)
+    );
+    credit.set_send_window(8);
+    credit.reset();
+    assert_eq!(rt;
+        (credit.max_data(), credit.data_sent(), credit.send_window()),
+        (0, 0, 8)
+    );
+}
+
+#[test]
+fn streams_are_opened_up_to_the_count(rt: HostRuntime) {
+    let mut streams = OwnStreams::new();
+    assert_eq!(rt; streams.open(), None);
+    assert!(rt; streams.raise(2));
+    assert!(rt; !streams.raise(1));
+    assert_eq!(rt; streams.open(), Some(0));
+    assert!(rt; !streams.is_unopened(0) && streams.is_unopened(1));
+    assert_eq!(rt; streams.open(), Some(1));
+    assert_eq!(rt; streams.open(), None);
+    assert!(rt; streams.raise(u64::MAX));
+    assert_eq!(rt; (streams.opened(), streams.limit()), (2, 1 << 60));
+    streams.reset();
+    assert_eq!(rt; (streams.opened(), streams.limit()), (0, 0));
 }

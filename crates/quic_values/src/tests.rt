@@ -144,3 +144,92 @@ fn bytes_keep_what_was_not_let_go(rt: HostRuntime) -> Result<(), Fail> {
     assert!(rt; Bytes::new(rt.alloc()).is_empty());
     Ok(())
 }
+
+fn insert(set: &mut RangeSet, start: u64) -> Result<bool, OutOfMemory> {
+    set.insert(start..start.saturating_add(3))
+}
+
+fn cut(set: &mut RangeSet, start: u64) -> Result<bool, OutOfMemory> {
+    set.remove(start.saturating_add(1)..start.saturating_add(2))
+}
+
+// Where the run of an index begins. The runs of the indices below 65537, a prime, begin apart, and in no order.
+fn start_of(index: u64) -> u64 {
+    index % 65_537 * 40_503 % 65_537 * 4
+}
+
+// Whether a set has exactly so many runs, each of so many numbers. It is then empty.
+fn has_runs(set: &mut RangeSet, count: u64, len: u64) -> bool {
+    for _ in 0..count {
+        match set.pop_min() {
+            Some(run) if run.end.wrapping_sub(run.start) == len => {}
+            _ => return false,
+        }
+    }
+    set.is_empty()
+}
+
+#[test]
+fn no_number_of_runs_is_refused(rt: HostRuntime) -> Result<(), Fail> {
+    let mut set = RangeSet::new(rt.alloc());
+    let mut count = 0u64;
+    for power in 0..17u32 {
+        let middle = 1u64 << power;
+        for wanted in [middle.saturating_sub(1), middle, middle.saturating_add(1)] {
+            for index in count..wanted {
+                assert!(rt; insert(&mut set, start_of(index))?);
+            }
+            count = wanted.max(count);
+            let mut copy = set.try_clone()?;
+            assert!(rt;
+                copy.contains(0) == (count > 0) && !copy.contains(3),
+                "{count} runs"
+            );
+            assert_eq!(rt; cut(&mut copy, 0)?, count > 0);
+        }
+    }
+    for index in 0..count {
+        assert!(rt; cut(&mut set, start_of(index))?);
+    }
+    assert!(rt; has_runs(&mut set, 131_074, 1));
+    Ok(())
+}
+
+// So many bytes that a seed gives.
+fn seeded(alloc: Global, len: usize) -> Result<Vec<u8>, OutOfMemory> {
+    let mut bytes = Vec::new(alloc);
+    let mut state = 0x9e37_79b9_7f4a_7c15u64;
+    for _ in 0..len {
+        state = state
+            .wrapping_mul(0x5851_f42d_4c95_7f2d)
+            .wrapping_add(0x1405_7b7e_f767_814f);
+        bytes.push((state >> 56) as u8)?;
+    }
+    Ok(bytes)
+}
+
+// Two copies of a slice behind each other, and the first of them taken out.
+fn doubled(alloc: Global, content: &[u8]) -> Result<(Bytes, Bytes), OutOfMemory> {
+    let mut bytes = Bytes::copy_from_slice(alloc, content)?.try_clone()?;
+    bytes.extend_from_slice(content)?;
+    let len = content.len().min(bytes.len());
+    let front = bytes.split_to(len)?;
+    Ok((front, bytes))
+}
+
+#[test]
+fn no_number_of_bytes_is_refused(rt: HostRuntime) -> Result<(), Fail> {
+    for power in 0..17u32 {
+        let middle = 1usize << power;
+        for len in [middle.saturating_sub(1), middle, middle.saturating_add(1)] {
+            let content = seeded(rt.alloc(), len)?;
+            let (front, back) = doubled(rt.alloc(), &content)?;
+            assert!(rt; front.as_slice() == content.as_slice(), "{len} bytes");
+            assert!(rt;
+                back.into_vec().as_slice() == content.as_slice(),
+                "{len} bytes"
+            );
+        }
+    }
+    Ok(())
+}

@@ -1,4 +1,4 @@
-ghost use Rattle.std.specs.Prelude.{◌≡◌, ◌<◌, ◌^◌, ◌++◌, OnOk, OnErr, SomeIff};
+ghost use Rattle.std.specs.Prelude.{◌≡◌, ◌<◌, ◌≤◌, ◌^◌, ◌+◌, ◌++◌, OnOk, OnErr, SomeIff, length, vec_len, vec_capacity};
 ghost use Rattle.quic_values.specs.Numbers.{shortest, size_of};
 
 use crate::memory::OutOfMemory;
@@ -75,6 +75,11 @@ impl VarInt {
     pub fn encode(self, out: &mut Vec<u8>) -> Result<(), OutOfMemory>
         ensures ok { OnOk result (out.new.items ≡ out.old.items ++ shortest self) }
         ensures err { OnErr result (out.new.items ≡ out.old.items) }
+
+        // It is refused only where the room is too small.
+        ensures len { OnOk result (vec_len out.new ≡ vec_len out.old + length (shortest self)) }
+        ensures capacity { vec_capacity out.old ≤ vec_capacity out.new }
+        ensures full { OnErr result (vec_capacity out.old < vec_len out.old + length (shortest self)) }
     {
         let number = self.0;
         if number < 1 << 6 {

@@ -13,7 +13,7 @@ use Rattle.quic_wire.specs.declared.frame.Datagram.{Datagram}
 use Rattle.quic_wire.specs.declared.frame.Frame.{Frame}
 use Rattle.quic_wire.specs.declared.frame.Frame.TheVariants as frames
 use Rattle.quic_wire.specs.Frames.{has_bit, BeginsTwo, BeginsOffset, BeginsContent, BeginsWith, BeginsFrames}
-use Rattle.quic_wire.specs.Text.{HasSpelling, asked, text, stream_text, stream_head, stream_kind, meta_text, stream_of, offset_text, length_text, datagram_text, size_bound}
+use Rattle.quic_wire.specs.Text.{HasLongNumbers, HasSpelling, asked, text, stream_text, stream_head, stream_kind, meta_text, stream_of, offset_text, length_text, datagram_text, size_bound}
 use Rattle.quic_wire.proofs.Numbers.{shortest_spells}
 
 number_written : (n : ℕ) (bytes rest : List ℕ) → n < 2 ^ 62 → bytes ≡ shortest n ++ rest → BeginsNumber bytes n rest
@@ -181,6 +181,46 @@ frame_size (frames.DataBlocked n) = omega (arith, shortest_size n)
 frame_size (frames.StreamDataBlocked id n) = two_size 21 (shortest id) (shortest n) (shortest_size id) (shortest_size n)
 frame_size (frames.Datagram d) = datagram_size d true
 frame_size _ = omega arith
+
+-- a number of 2^30 or more has eight bytes
+long_size : (n : ℕ) → 2 ^ 30 ≤ n → length (shortest n) ≡ 8
+long_size n le =
+    let two : 2 ^ 14 ≤ n = omega (arith, le) in
+    let one : 2 ^ 6 ≤ n = omega (arith, le) in
+    rw (shortest_length n, le-ltb n (2 ^ 6) one, le-ltb n (2 ^ 14) two, le-ltb n (2 ^ 30) le) refl
+
+long_offset : (offset : ℕ) → 2 ^ 30 ≤ offset → length (offset_text offset) ≡ 8
+long_offset offset le = by (eqb offset 0) refl
+  where
+    by : (t : Bool) → eqb offset 0 ≡ t → length (cond t [] (shortest offset)) ≡ 8
+    by true e = absurd (omega (arith, le, eqb-true offset 0 e))
+    by false e = long_size offset le
+
+two_long : (kind a b : ℕ) → 2 ^ 30 ≤ a → 2 ^ 30 ≤ b → length (kind ∷ (shortest a ++ shortest b)) ≡ 17
+two_long kind a b le-a le-b = omega (arith, length-append (shortest a) (shortest b), long_size a le-a, long_size b le-b)
+
+three_long : (kind : ℕ) (a b c : List ℕ) → length a ≡ 8 → length b ≡ 8 → length c ≡ 8 → length (kind ∷ (a ++ b ++ c)) ≡ 25
+three_long kind a b c ha hb hc = omega (arith, length-append (a ++ b) c, length-append a b)
+
+stream_long : (s : Stream) → 2 ^ 30 ≤ s.id → 2 ^ 30 ≤ s.offset → 2 ^ 30 ≤ length s.bytes → length (stream_text s true) ≡ 25 + length s.bytes
+stream_long s id offset len =
+    let head = three_long (stream_kind s.offset s.fin (Some (length s.bytes))) (shortest s.id) (offset_text s.offset) (shortest (length s.bytes)) (long_size s.id id) (long_offset s.offset offset) (long_size (length s.bytes) len) in
+    omega (arith, length-append (stream_head s.id s.offset s.fin (Some (length s.bytes))) s.bytes, head)
+
+datagram_long : (d : Datagram) → 2 ^ 30 ≤ length d.bytes → length (datagram_text d true) ≡ 9 + length d.bytes
+datagram_long d len = omega (arith, length-append (shortest (length d.bytes)) d.bytes, long_size (length d.bytes) len)
+
+pub frame_long : (f : Frame) → HasLongNumbers f → length (text f) ≡ size_bound f
+frame_long (frames.ResetStream f) long = three_long 4 (shortest f.id) (shortest f.error_code) (shortest f.final_offset) (long_size f.id long.0) (long_size f.error_code long.1) (long_size f.final_offset long.2)
+frame_long (frames.StopSending f) long = two_long 5 f.id f.error_code long.0 long.1
+frame_long (frames.Stream s) long = stream_long s long.0 long.1 long.2
+frame_long (frames.MaxData n) long = omega (arith, long_size n long)
+frame_long (frames.MaxStreamData id n) long = two_long 17 id n long.0 long.1
+frame_long (frames.MaxStreams dir n) long = omega (arith, long_size n long)
+frame_long (frames.DataBlocked n) long = omega (arith, long_size n long)
+frame_long (frames.StreamDataBlocked id n) long = two_long 21 id n long.0 long.1
+frame_long (frames.Datagram d) long = datagram_long d long
+frame_long _ long = absurd long
 
 pub datagram_length : (d : Datagram) (number : ℕ) → number ≡ size_of (length d.bytes) → length (datagram_text d true) ≡ 1 + number + length d.bytes
 datagram_length d number is = omega (arith, is, shortest_length (length d.bytes), length-append (shortest (length d.bytes)) d.bytes)

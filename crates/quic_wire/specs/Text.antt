@@ -1,5 +1,5 @@
 -- What is written for a frame: the shortest numbers, and an offset only where it is not 0.
-use Rattle.std.specs.Prelude.{◌≡◌, ℕ, ◌+◌, ◌-◌, ◌^◌, ◌<◌, Bool, true, Option, Some, None, List, [], ◌∷◌, ◌++◌, length, take, ◌==◌, if◌then◌else◌}
+use Rattle.std.specs.Prelude.{◌≡◌, ℕ, ◌+◌, ◌-◌, ◌^◌, ◌<◌, ◌≤◌, Bool, true, Option, Some, None, List, [], ◌∷◌, ◌++◌, length, take, ◌==◌, if◌then◌else◌}
 use Rattle.quic_values.specs.Numbers.{shortest}
 use Rattle.quic_values.specs.Ids.{dir_bit}
 use Rattle.quic_wire.specs.declared.frame.Stream.{Stream}
@@ -9,6 +9,11 @@ use Rattle.quic_wire.specs.declared.frame.StopSending.{StopSending}
 use Rattle.quic_wire.specs.declared.frame.Datagram.{Datagram}
 use Rattle.quic_wire.specs.declared.frame.Frame.{Frame}
 use Rattle.quic_wire.specs.declared.frame.Frame.TheVariants as frames
+use Rattle.quic_wire.specs.declared.frame.TheConstants.Stream as stream
+use Rattle.quic_wire.specs.declared.frame.TheConstants.ResetStream as reset_stream
+use Rattle.quic_wire.specs.declared.frame.TheConstants.StopSending as stop_sending
+use Rattle.quic_wire.specs.declared.frame.TheConstants.Datagram as datagram
+use Rattle.quic_wire.specs.declared.frame.TheConstants.Frame as frame
 
 -- a length, where it is to be written
 abbrev pub asked : Bool → ℕ → Option ℕ
@@ -93,16 +98,29 @@ HasSpelling _ = ⊥
 
 -- how many bytes are written at most
 abbrev pub size_bound : Frame → ℕ
-size_bound (frames.ResetStream f) = 25
-size_bound (frames.StopSending f) = 17
-size_bound (frames.Stream s) = 25 + length s.bytes
-size_bound (frames.MaxData n) = 9
-size_bound (frames.MaxStreamData id offset) = 17
-size_bound (frames.MaxStreams dir count) = 9
-size_bound (frames.DataBlocked offset) = 9
-size_bound (frames.StreamDataBlocked id offset) = 17
-size_bound (frames.Datagram d) = 9 + length d.bytes
+size_bound (frames.ResetStream f) = reset_stream.SIZE_BOUND
+size_bound (frames.StopSending f) = stop_sending.SIZE_BOUND
+size_bound (frames.Stream s) = stream.SIZE_BOUND + length s.bytes
+size_bound (frames.MaxData n) = frame.MAX_DATA_SIZE_BOUND
+size_bound (frames.MaxStreamData id offset) = frame.MAX_STREAM_DATA_SIZE_BOUND
+size_bound (frames.MaxStreams dir count) = frame.MAX_STREAMS_SIZE_BOUND
+size_bound (frames.DataBlocked offset) = frame.DATA_BLOCKED_SIZE_BOUND
+size_bound (frames.StreamDataBlocked id offset) = frame.STREAM_DATA_BLOCKED_SIZE_BOUND
+size_bound (frames.Datagram d) = datagram.SIZE_BOUND + length d.bytes
 size_bound _ = 0
+
+-- numbers of 2^30 or more, which take eight bytes each
+abbrev pub HasLongNumbers : Frame → Type 0
+HasLongNumbers (frames.ResetStream f) = (2 ^ 30 ≤ f.id) × (2 ^ 30 ≤ f.error_code) × (2 ^ 30 ≤ f.final_offset)
+HasLongNumbers (frames.StopSending f) = (2 ^ 30 ≤ f.id) × (2 ^ 30 ≤ f.error_code)
+HasLongNumbers (frames.Stream s) = (2 ^ 30 ≤ s.id) × (2 ^ 30 ≤ s.offset) × (2 ^ 30 ≤ length s.bytes)
+HasLongNumbers (frames.MaxData n) = 2 ^ 30 ≤ n
+HasLongNumbers (frames.MaxStreamData id offset) = (2 ^ 30 ≤ id) × (2 ^ 30 ≤ offset)
+HasLongNumbers (frames.MaxStreams dir count) = 2 ^ 30 ≤ count
+HasLongNumbers (frames.DataBlocked offset) = 2 ^ 30 ≤ offset
+HasLongNumbers (frames.StreamDataBlocked id offset) = (2 ^ 30 ≤ id) × (2 ^ 30 ≤ offset)
+HasLongNumbers (frames.Datagram d) = 2 ^ 30 ≤ length d.bytes
+HasLongNumbers _ = ⊥
 
 -- new begins with old
 abbrev pub KeepsFront : List ℕ → List ℕ → Type 0

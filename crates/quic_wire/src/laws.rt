@@ -1,8 +1,8 @@
-ghost use Rattle.std.specs.Prelude.{◌≡◌, ◌++◌, All, List, ℕ, flat_map, length};
+ghost use Rattle.std.specs.Prelude.{◌≡◌, ◌++◌, ◌≤◌, All, List, ℕ, flat_map, length};
 ghost use Rattle.quic_values.specs.Numbers.{shortest, size_of};
 ghost use Rattle.quic_wire.specs.declared.frame.Frame.{Frame as FrameValue};
 ghost use Rattle.quic_wire.specs.Frames.{AreFrames, BeginsWith, BeginsFrames};
-ghost use Rattle.quic_wire.specs.Text.{HasSpelling, text};
+ghost use Rattle.quic_wire.specs.Text.{HasLongNumbers, HasSpelling, size_bound, text};
 
 /// What is written for a frame is spelled so, whatever follows.
 pub fn spelled_so()
@@ -27,4 +27,10 @@ pub fn same_frames()
 /// The size of a number is how many bytes are written for it.
 pub fn number_sizes()
     ensures { (n : ℕ) → length (shortest n) ≡ size_of n }
+{}
+
+/// What is written for a frame is never longer than its bound, and as long where each number takes eight bytes.
+pub fn size_bounds()
+    ensures kept { (f : FrameValue) → length (text f) ≤ size_bound f }
+    ensures reached { (f : FrameValue) → HasLongNumbers f → length (text f) ≡ size_bound f }
 {}

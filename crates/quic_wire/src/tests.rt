@@ -363,3 +363,69 @@ fn what_is_made_or_copied_is_there(rt: HostRuntime) -> Result<(), Fail> {
     assert_eq!(rt; buf.as_slice(), b"\x31\x03abc".as_slice());
     Ok(())
 }
+
+// So many bytes that a seed gives.
+fn seeded(alloc: Global, len: usize) -> Result<Vec<u8>, OutOfMemory> {
+    let mut bytes = Vec::new(alloc);
+    let mut state = 0x9e37_79b9_7f4a_7c15u64;
+    for _ in 0..len {
+        state = state
+            .wrapping_mul(0x5851_f42d_4c95_7f2d)
+            .wrapping_add(0x1405_7b7e_f767_814f);
+        bytes.push((state >> 56) as u8)?;
+    }
+    Ok(bytes)
+}
+
+// A STREAM frame with FIN, an offset and a length in eight bytes.
+fn spelled(alloc: Global, content: &[u8]) -> Result<Vec<u8>, OutOfMemory> {
+    let length = 0xc000_0000_0000_0000u64.wrapping_add(content.len() as u64);
+    let mut payload = Vec::from_slice(alloc, &[0x0f, 8, 5])?;
+    payload.extend_from_slice(&length.to_be_bytes())?;
+    payload.extend_from_slice(content)?;
+    Ok(payload)
+}
+
+fn encoded(alloc: Global, content: &[u8]) -> Result<Vec<u8>, OutOfMemory> {
+    let frame = Stream {
+        id: id(2),
+        offset: 5,
+        fin: true,
+        bytes: Bytes::copy_from_slice(alloc, content)?,
+    };
+    let mut buf = Vec::new(alloc);
+    frame.encode(false, &mut buf)?;
+    Ok(buf)
+}
+
+fn limits(alloc: Global, count: usize) -> Result<Vec<u8>, OutOfMemory> {
+    let mut payload = Vec::new(alloc);
+    for _ in 0..count {
+        payload.extend_from_slice(&[0x10, 33])?;
+    }
+    Ok(payload)
+}
+
+fn decoded(alloc: Global, payload: &[u8]) -> Result<Vec<Frame>, DecodeError> {
+    decode(alloc, payload)
+}
+
+#[test]
+fn no_size_up_to_65537_is_refused(rt: HostRuntime) -> Result<(), Fail> {
+    for power in 0..17u32 {
+        let middle = 1usize << power;
+        for size in [middle.saturating_sub(1), middle, middle.saturating_add(1)] {
+            let content = seeded(rt.alloc(), size)?;
+            let wanted = [stream(rt.alloc(), 5, true, &content)?];
+            let frames = decoded(rt.alloc(), &spelled(rt.alloc(), &content)?)?;
+            assert!(rt; frames.as_slice() == wanted.as_slice(), "{size} bytes");
+            let written = encoded(rt.alloc(), &content)?;
+            assert!(rt; written.starts_with(&[0x0d, 8, 5]), "{size} bytes");
+            assert!(rt; written.ends_with(&content), "{size} bytes");
+            assert_eq!(rt; written.len(), content.len().saturating_add(3));
+            let many = decoded(rt.alloc(), &limits(rt.alloc(), size)?)?;
+            assert_eq!(rt; many.len(), size);
+        }
+    }
+    Ok(())
+}

@@ -1,4 +1,4 @@
-ghost use Rattle.std.specs.Prelude.{◌≡◌, ◌<◌, ◌≤◌, ◌-◌, ◌^◌, ◌+◌, ◌++◌, [], ◌∷◌, List, ℕ, true, false, length, take, OnOk, OnErr, IfSome};
+ghost use Rattle.std.specs.Prelude.{◌≡◌, ◌<◌, ◌≤◌, ◌-◌, ◌^◌, ◌+◌, ◌++◌, [], ◌∷◌, List, ℕ, true, false, length, take, vec_len, vec_capacity, OnOk, OnErr, IfSome};
 ghost use Rattle.quic_values.specs.Numbers.{shortest};
 ghost use Rattle.quic_wire.specs.declared.frame.Frame.{Frame as FrameValue};
 ghost use Rattle.quic_wire.specs.declared.frame.Frame.TheVariants as FrameValues;
@@ -12,6 +12,9 @@ fn put_number(number: u64, buf: &mut Vec<u8>) -> Result<(), OutOfMemory>
     requires { number < 2 ^ 62 }
     ensures ok { OnOk result (buf.new.items ≡ buf.old.items ++ shortest number) }
     ensures err { OnErr result (buf.new.items ≡ buf.old.items) }
+    ensures len { OnOk result (vec_len buf.new ≡ vec_len buf.old + length (shortest number)) }
+    ensures capacity { vec_capacity buf.old ≤ vec_capacity buf.new }
+    ensures full { OnErr result (vec_capacity buf.old < vec_len buf.old + length (shortest number)) }
 {
     VarInt::new(number).encode(buf)
 }
@@ -20,6 +23,9 @@ fn put_offset(offset: u64, buf: &mut Vec<u8>) -> Result<(), OutOfMemory>
     requires { offset < 2 ^ 62 }
     ensures ok { OnOk result (buf.new.items ≡ buf.old.items ++ offset_text offset) }
     ensures err { OnErr result (buf.new.items ≡ buf.old.items) }
+    ensures len { OnOk result (vec_len buf.new ≡ vec_len buf.old + length (offset_text offset)) }
+    ensures capacity { vec_capacity buf.old ≤ vec_capacity buf.new }
+    ensures full { OnErr result (vec_capacity buf.old < vec_len buf.old + length (offset_text offset)) }
 {
     if offset == 0 {
         return Ok(());
@@ -27,12 +33,15 @@ fn put_offset(offset: u64, buf: &mut Vec<u8>) -> Result<(), OutOfMemory>
     put_number(offset, buf)
 }
 
-fn put_length(length: Option<u64>, buf: &mut Vec<u8>) -> Result<(), OutOfMemory>
-    requires { IfSome length (λ n. n < 2 ^ 62) }
-    ensures ok { OnOk result (buf.new.items ≡ buf.old.items ++ length_text length) }
+fn put_length(data_length: Option<u64>, buf: &mut Vec<u8>) -> Result<(), OutOfMemory>
+    requires { IfSome data_length (λ n. n < 2 ^ 62) }
+    ensures ok { OnOk result (buf.new.items ≡ buf.old.items ++ length_text data_length) }
     ensures err { OnErr result (buf.new.items ≡ buf.old.items) }
+    ensures len { OnOk result (vec_len buf.new ≡ vec_len buf.old + length (length_text data_length)) }
+    ensures capacity { vec_capacity buf.old ≤ vec_capacity buf.new }
+    ensures full { OnErr result (vec_capacity buf.old < vec_len buf.old + length (length_text data_length)) }
 {
-    match length {
+    match data_length {
         Some(length) => put_number(length, buf),
         None => Ok(()),
     }
@@ -59,19 +68,22 @@ fn put_head(
     id: u64,
     offset: u64,
     fin: bool,
-    length: Option<u64>,
+    data_length: Option<u64>,
     buf: &mut Vec<u8>,
 ) -> Result<(), OutOfMemory>
     requires id { id < 2 ^ 62 }
     requires offset { offset < 2 ^ 62 }
-    requires length { IfSome length (λ n. n < 2 ^ 62) }
-    ensures ok { OnOk result (buf.new.items ≡ buf.old.items ++ stream_head id offset fin length) }
+    requires len { IfSome data_length (λ n. n < 2 ^ 62) }
+    ensures ok { OnOk result (buf.new.items ≡ buf.old.items ++ stream_head id offset fin data_length) }
     ensures err { OnErr result (KeepsFront buf.old.items buf.new.items) }
+    ensures len { OnOk result (vec_len buf.new ≡ vec_len buf.old + length (stream_head id offset fin data_length)) }
+    ensures capacity { vec_capacity buf.old ≤ vec_capacity buf.new }
+    ensures full { OnErr result (vec_capacity buf.old < vec_len buf.old + length (stream_head id offset fin data_length)) }
 {
-    buf.push(stream_kind(offset, fin, length))?;
+    buf.push(stream_kind(offset, fin, data_length))?;
     put_number(id, buf)?;
     put_offset(offset, buf)?;
-    put_length(length, buf)?;
+    put_length(data_length, buf)?;
     Ok(())
 }
 
@@ -88,6 +100,8 @@ fn put_three(
     requires third { third < 2 ^ 62 }
     ensures ok { OnOk result (buf.new.items ≡ buf.old.items ++ kind ∷ (shortest first ++ shortest second ++ shortest third)) }
     ensures err { OnErr result (KeepsFront buf.old.items buf.new.items) }
+    ensures capacity { vec_capacity buf.old ≤ vec_capacity buf.new }
+    ensures full { OnErr result (vec_capacity buf.old < vec_len buf.old + length (kind ∷ (shortest first ++ shortest second ++ shortest third))) }
 {
     buf.push(kind)?;
     put_number(first, buf)?;
@@ -102,6 +116,8 @@ fn put_two(kind: u8, first: u64, second: u64, buf: &mut Vec<u8>) -> Result<(), O
     requires second { second < 2 ^ 62 }
     ensures ok { OnOk result (buf.new.items ≡ buf.old.items ++ kind ∷ (shortest first ++ shortest second)) }
     ensures err { OnErr result (KeepsFront buf.old.items buf.new.items) }
+    ensures capacity { vec_capacity buf.old ≤ vec_capacity buf.new }
+    ensures full { OnErr result (vec_capacity buf.old < vec_len buf.old + length (kind ∷ (shortest first ++ shortest second))) }
 {
     buf.push(kind)?;
     put_number(first, buf)?;
@@ -114,6 +130,8 @@ fn put_one(kind: u8, number: u64, buf: &mut Vec<u8>) -> Result<(), OutOfMemory>
     requires { number < 2 ^ 62 }
     ensures ok { OnOk result (buf.new.items ≡ buf.old.items ++ kind ∷ shortest number) }
     ensures err { OnErr result (KeepsFront buf.old.items buf.new.items) }
+    ensures capacity { vec_capacity buf.old ≤ vec_capacity buf.new }
+    ensures full { OnErr result (vec_capacity buf.old < vec_len buf.old + length (kind ∷ shortest number)) }
 {
     buf.push(kind)?;
     put_number(number, buf)?;
@@ -129,6 +147,7 @@ fn take_back(
     ensures same { result ≡ done }
     ensures ok { OnOk result (buf.new.items ≡ buf.old.items) }
     ensures err { OnErr result (buf.new.items ≡ take len buf.old.items) }
+    ensures capacity { vec_capacity buf.new ≡ vec_capacity buf.old }
 {
     if done.is_err() {
         buf.truncate(len);
@@ -145,6 +164,10 @@ impl StreamMeta {
         requires len { with_length ≡ true → self.now.offsets.end - self.now.offsets.start < 2 ^ 62 }
         ensures ok { OnOk result (buf.new.items ≡ buf.old.items ++ meta_text self.now with_length) }
         ensures err { OnErr result (buf.new.items ≡ buf.old.items) }
+
+        // It is refused only where the buffer has no room for it.
+        ensures capacity { vec_capacity buf.old ≤ vec_capacity buf.new }
+        ensures full { OnErr result (vec_capacity buf.old < vec_len buf.old + length (meta_text self.now with_length)) }
 
         // With the data behind it, it is the frame.
         ensures spelled { (content rest : List ℕ) → length content ≡ self.now.offsets.end - self.now.offsets.start → (with_length ≡ false → rest ≡ []) → BeginsWith (meta_text self.now with_length ++ content ++ rest) (stream_of self.now content) rest }
@@ -168,6 +191,8 @@ impl Stream {
         requires len { with_length ≡ true → length self.now.bytes < 2 ^ 62 }
         ensures ok { OnOk result (buf.new.items ≡ buf.old.items ++ stream_text self.now with_length) }
         ensures err { OnErr result (KeepsFront buf.old.items buf.new.items) }
+        ensures capacity { vec_capacity buf.old ≤ vec_capacity buf.new }
+        ensures full { OnErr result (vec_capacity buf.old < vec_len buf.old + length (stream_text self.now with_length)) }
         ensures small { self.now.id < 2 ^ 62 }
     {
         let id = id_number(self.id);
@@ -189,6 +214,10 @@ impl Stream {
         ensures ok { OnOk result (buf.new.items ≡ buf.old.items ++ stream_text self.now with_length) }
         ensures err { OnErr result (buf.new.items ≡ buf.old.items) }
 
+        // It is refused only where the buffer has no room for it.
+        ensures capacity { vec_capacity buf.old ≤ vec_capacity buf.new }
+        ensures full { OnErr result (vec_capacity buf.old < vec_len buf.old + length (stream_text self.now with_length)) }
+
         // What is appended is the frame.
         ensures spelled { (rest : List ℕ) → (with_length ≡ false → rest ≡ []) → BeginsWith (stream_text self.now with_length ++ rest) (FrameValues.Stream self.now) rest }
         ensures bound { length (stream_text self.now with_length) ≤ Stream.SIZE_BOUND + length self.now.bytes }
@@ -203,6 +232,8 @@ impl ResetStream {
     fn put(&self, buf: &mut Vec<u8>) -> Result<(), OutOfMemory>
         ensures ok { OnOk result (buf.new.items ≡ buf.old.items ++ reset_text self.now) }
         ensures err { OnErr result (KeepsFront buf.old.items buf.new.items) }
+        ensures capacity { vec_capacity buf.old ≤ vec_capacity buf.new }
+        ensures full { OnErr result (vec_capacity buf.old < vec_len buf.old + length (reset_text self.now)) }
         ensures spelling { HasSpelling (FrameValues.ResetStream self.now) }
     {
         let id = id_number(self.id);
@@ -215,6 +246,10 @@ impl ResetStream {
     pub fn encode(&self, buf: &mut Vec<u8>) -> Result<(), OutOfMemory>
         ensures ok { OnOk result (buf.new.items ≡ buf.old.items ++ reset_text self.now) }
         ensures err { OnErr result (buf.new.items ≡ buf.old.items) }
+
+        // It is refused only where the buffer has no room for it.
+        ensures capacity { vec_capacity buf.old ≤ vec_capacity buf.new }
+        ensures full { OnErr result (vec_capacity buf.old < vec_len buf.old + length (reset_text self.now)) }
 
         // What is appended is the frame.
         ensures spelled { (rest : List ℕ) → BeginsWith (reset_text self.now ++ rest) (FrameValues.ResetStream self.now) rest }
@@ -230,6 +265,8 @@ impl StopSending {
     fn put(&self, buf: &mut Vec<u8>) -> Result<(), OutOfMemory>
         ensures ok { OnOk result (buf.new.items ≡ buf.old.items ++ stop_text self.now) }
         ensures err { OnErr result (KeepsFront buf.old.items buf.new.items) }
+        ensures capacity { vec_capacity buf.old ≤ vec_capacity buf.new }
+        ensures full { OnErr result (vec_capacity buf.old < vec_len buf.old + length (stop_text self.now)) }
         ensures spelling { HasSpelling (FrameValues.StopSending self.now) }
     {
         let id = id_number(self.id);
@@ -241,6 +278,10 @@ impl StopSending {
     pub fn encode(&self, buf: &mut Vec<u8>) -> Result<(), OutOfMemory>
         ensures ok { OnOk result (buf.new.items ≡ buf.old.items ++ stop_text self.now) }
         ensures err { OnErr result (buf.new.items ≡ buf.old.items) }
+
+        // It is refused only where the buffer has no room for it.
+        ensures capacity { vec_capacity buf.old ≤ vec_capacity buf.new }
+        ensures full { OnErr result (vec_capacity buf.old < vec_len buf.old + length (stop_text self.now)) }
 
         // What is appended is the frame.
         ensures spelled { (rest : List ℕ) → BeginsWith (stop_text self.now ++ rest) (FrameValues.StopSending self.now) rest }
@@ -270,6 +311,8 @@ impl Datagram {
         requires { with_length ≡ true → length self.now.bytes < 2 ^ 62 }
         ensures ok { OnOk result (buf.new.items ≡ buf.old.items ++ datagram_text self.now with_length) }
         ensures err { OnErr result (KeepsFront buf.old.items buf.new.items) }
+        ensures capacity { vec_capacity buf.old ≤ vec_capacity buf.new }
+        ensures full { OnErr result (vec_capacity buf.old < vec_len buf.old + length (datagram_text self.now with_length)) }
     {
         if with_length {
             buf.push(0x31)?;
@@ -288,6 +331,10 @@ impl Datagram {
         ensures ok { OnOk result (buf.new.items ≡ buf.old.items ++ datagram_text self.now with_length) }
         ensures err { OnErr result (buf.new.items ≡ buf.old.items) }
 
+        // It is refused only where the buffer has no room for it.
+        ensures capacity { vec_capacity buf.old ≤ vec_capacity buf.new }
+        ensures full { OnErr result (vec_capacity buf.old < vec_len buf.old + length (datagram_text self.now with_length)) }
+
         // What is appended is the frame.
         ensures spelled { (rest : List ℕ) → (with_length ≡ false → rest ≡ []) → BeginsWith (datagram_text self.now with_length ++ rest) (FrameValues.Datagram self.now) rest }
         ensures bound { length (datagram_text self.now with_length) ≤ Self.SIZE_BOUND + length self.now.bytes }
@@ -303,6 +350,8 @@ impl Frame {
         requires { CanEncode self.now }
         ensures ok { OnOk result (buf.new.items ≡ buf.old.items ++ text self.now) }
         ensures err { OnErr result (KeepsFront buf.old.items buf.new.items) }
+        ensures capacity { vec_capacity buf.old ≤ vec_capacity buf.new }
+        ensures full { OnErr result (vec_capacity buf.old < vec_len buf.old + length (text self.now)) }
         ensures spelling { HasSpelling self.now }
     {
         match self {
@@ -332,6 +381,10 @@ impl Frame {
         requires { CanEncode self.now }
         ensures ok { OnOk result (buf.new.items ≡ buf.old.items ++ text self.now) }
         ensures err { OnErr result (buf.new.items ≡ buf.old.items) }
+
+        // It is refused only where the buffer has no room for it.
+        ensures capacity { vec_capacity buf.old ≤ vec_capacity buf.new }
+        ensures full { OnErr result (vec_capacity buf.old < vec_len buf.old + length (text self.now)) }
 
         // What is appended is the frame.
         ensures spelled { (rest : List ℕ) → BeginsWith (text self.now ++ rest) self.now rest }
