@@ -1,6 +1,7 @@
 //! Sending on one stream: written bytes until they are acknowledged.
 #![tactic(auto)]
 
+mod outcomes;
 mod piece_queue;
 pub mod send;
 pub mod send_buffer;

@@ -1,6 +1,6 @@
 use Rattle.std.proofs.Common.{arith}
 use Rattle.quic_sending.proofs.Sets.{Joins-step}
-use Rattle.quic_sending.proofs.send_buffer.join_prefix.Goals as goal
+use Rattle.quic_sending.proofs.outcomes.join_prefix.Goals as goal
 
 pub loop-start-preserved : goal.loop-start-preserved
 loop-start-preserved c =

@@ -1,6 +1,6 @@
 use Rattle.std.proofs.Common.{◌≡◌, ℕ, ◌-◌, ◌^◌, ◌<◌, ◌||◌, max, nat_lt, true, false}
 use Rattle.quic_values.specs.Runs.{contains}
-use Rattle.quic_sending.proofs.send_buffer.join_prefix.Given as goal
+use Rattle.quic_sending.proofs.outcomes.join_prefix.Given as goal
 
 abbrev pub invariant-loop-start : goal.invariant-loop-start
 invariant-loop-start l =
