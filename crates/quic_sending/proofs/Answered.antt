@@ -1,12 +1,12 @@
 -- Lemmas on acknowledged and lost offsets.
-use Rattle.std.proofs.Common.{◌≡◌, ℕ, ◌<◌, ◌≤◌, ◌⊎◌, inl, inr, true, false, ◌||◌, ◌&&◌, not, List, [], ◌∷◌, ◌++◌, max, min, refl, arith, Option, Some, None}
+use Rattle.std.proofs.Common.{◌≡◌, ◌∙◌, ℕ, ◌<◌, ◌≤◌, ◌⊎◌, inl, inr, true, false, ◌||◌, ◌&&◌, not, List, [], ◌∷◌, ◌++◌, max, min, refl, arith, Option, Some, None}
 use Rattle.std.proofs.lemmas.Bool.{cases_lt, both_ways}
 use Rattle.std.specs.Option.{IfSome, IfNone}
 use Rattle.std.proofs.lemmas.Bool.Decides.{nat_tests}
 use Rattle.std.specs.declared.ops.Range.{Range}
 use Rattle.quic_values.specs.Runs.{Run, contains, lies_in, is_in, IsRunOf}
 use Rattle.quic_sending.specs.Ranges.{IsLowestRun}
-use Rattle.quic_sending.specs.Outcomes.{run_of, minus_run, minus, is_answered, IsLowest, IsGap}
+use Rattle.quic_sending.specs.Outcomes.{run_of, minus_run, minus, is_answered, IsLowestOrNone, IsGap}
 
 contains-append : (xs ys : List Run) (n : ℕ) → contains (xs ++ ys) n ≡ (contains xs n || contains ys n)
 contains-append [] ys n = refl
@@ -41,7 +41,7 @@ pub is_lost-at : (called later : List Run) (prefix n : ℕ) → contains (minus 
 is_lost-at called later prefix n = let e = contains-minus called ((0, prefix) ∷ later) n in grind (arith, nat_tests)
 
 -- the lowest part of the lowest run that is not acknowledged
-pub IsLowest-gap : (called later : List Run) (prefix : ℕ) (run range gap : Range ℕ) → IsRunOf called run → ((n : ℕ) → n < run.start → contains called n ≡ false) → range.start ≡ max run.start prefix → range.end ≡ run.end → IsGap later range gap → gap.start < gap.end → IsLowest (minus called ((0, prefix) ∷ later)) gap
+pub IsLowest-gap : (called later : List Run) (prefix : ℕ) (run range gap : Range ℕ) → IsRunOf called run → ((n : ℕ) → n < run.start → contains called n ≡ false) → range.start ≡ max run.start prefix → range.end ≡ run.end → IsGap later range gap → gap.start < gap.end → IsLowestOrNone (minus called ((0, prefix) ∷ later)) gap
 IsLowest-gap called later prefix run range gap is lowest from to in_gap some =
     record {
       run = λ s. record {
@@ -132,7 +132,7 @@ minus-pop called rest later prefix run popped range gap is lowest one first othe
         grind (arith, nat_tests)
 
 -- where nothing was called lost, nothing is
-pub IsLowest-none : (called later : List Run) (prefix reached : ℕ) → ((n : ℕ) → n < reached → contains called n ≡ false) → ((n : ℕ) → reached ≤ n → contains called n ≡ false) → IsLowest (minus called ((0, prefix) ∷ later)) (record { start = 0; end = 0 })
+pub IsLowest-none : (called later : List Run) (prefix reached : ℕ) → ((n : ℕ) → n < reached → contains called n ≡ false) → ((n : ℕ) → reached ≤ n → contains called n ≡ false) → IsLowestOrNone (minus called ((0, prefix) ∷ later)) (record { start = 0; end = 0 })
 IsLowest-none called later prefix reached below above = record { run = λ s. absurd (omega arith); none = λ e n. at n }
   where
     at : (n : ℕ) → contains (minus called ((0, prefix) ∷ later)) n ≡ false
@@ -147,7 +147,7 @@ IsLowest-none called later prefix reached below above = record { run = λ s. abs
         by (inr g) = let is = is_lost-at called later prefix n in let e = above n g in grind (arith, nat_tests)
 
 -- the lowest run stays where the numbers that go are not of it
-pub IsLowest-kept : (s s' : List Run) (run range : Range ℕ) → IsLowest s run → ((n : ℕ) → contains s' n ≡ (contains s n && not (lies_in range n))) → (run.end ≤ range.start) ⊎ (range.end ≤ run.start) → IsLowest s' run
+pub IsLowest-kept : (s s' : List Run) (run range : Range ℕ) → IsLowestOrNone s run → ((n : ℕ) → contains s' n ≡ (contains s n && not (lies_in range n))) → (run.end ≤ range.start) ⊎ (range.end ≤ run.start) → IsLowestOrNone s' run
 IsLowest-kept s s' run range is new apart =
     record {
       run = λ some. record {
@@ -204,3 +204,31 @@ minus-nothing (q ∷ qs) = minus-nothing qs
 pub minus-pop_min : (o : Option (Range ℕ)) (called rest later : List Run) (prefix : ℕ) (run range gap : Range ℕ) → IsRunOf called run → ((n : ℕ) → n < run.start → contains called n ≡ false) → IfSome o (λ popped. IsRunOf called popped) → IfSome o (λ popped. (n : ℕ) → n < popped.start → contains called n ≡ false) → IfSome o (λ popped. (n : ℕ) → contains rest n ≡ (contains called n && not (lies_in popped n))) → IfNone o ((n : ℕ) → contains called n ≡ false) → range.start ≡ max run.start prefix → range.end ≡ run.end → IsGap later range gap → gap.end ≤ gap.start → ((n : ℕ) → n < run.end → contains rest n ≡ false) × ((n : ℕ) → contains (minus rest ((0, prefix) ∷ later)) n ≡ contains (minus called ((0, prefix) ∷ later)) n)
 minus-pop_min None called rest later prefix run range gap is lowest one first others none from to in_gap empty = absurd (both_ways _ (none run.start) (is.inside run.start (omega arith) is.some))
 minus-pop_min (Some popped) called rest later prefix run range gap is lowest one first others none from to in_gap empty = minus-pop called rest later prefix run popped range gap is lowest one first others from to in_gap empty
+
+-- the lowest run stays where the numbers that come lie behind its end
+pub IsLowest-grown : (s s' : List Run) (run : Range ℕ) (start : ℕ) → IsLowestOrNone s run → run.start < run.end → run.end < start → ((n : ℕ) → n < start → contains s' n ≡ contains s n) → IsLowestOrNone s' run
+IsLowest-grown s s' run start is some behind same =
+    record {
+      run = λ _. record {
+        run = record { some = some; inside = λ n l h. inside n l h; end = end };
+        lowest = λ n l. low n l;
+      };
+      none = λ none. absurd (omega arith);
+    }
+  where
+    inside : (n : ℕ) → run.start ≤ n → n < run.end → contains s' n ≡ true
+    inside n l h = same n (omega arith) ∙ (is.run some).run.inside n l h
+
+    end : contains s' run.end ≡ false
+    end = same run.end behind ∙ (is.run some).run.end
+
+    low : (n : ℕ) → n < run.start → contains s' n ≡ false
+    low n l = same n (omega arith) ∙ (is.run some).lowest n l
+
+-- what is called lost from `start` on changes nothing below
+pub minus-same : (called called' later : List Run) (prefix start end : ℕ) → ((n : ℕ) → contains called' n ≡ (contains called n || is_in (start, end) n)) → (n : ℕ) → n < start → contains (minus called' ((0, prefix) ∷ later)) n ≡ contains (minus called ((0, prefix) ∷ later)) n
+minus-same called called' later prefix start end lost n l =
+    let old = is_lost-at called later prefix n in
+    let new = is_lost-at called' later prefix n in
+    let at = lost n in
+    grind (arith, nat_tests)

@@ -32,7 +32,7 @@ abbrev pub is_answered : ℕ → List Run → ℕ → Bool
 is_answered prefix later n = nat_lt n prefix || contains later n
 
 -- a range is the lowest run of a set, or is empty where the set is
-pub record IsLowest (s : List Run) (range : Range ℕ) : Type 0 where
+pub record IsLowestOrNone (s : List Run) (range : Range ℕ) : Type 0 where
   pub run : range.start < range.end → IsLowestRun s range.start range.end
   pub none : range.end ≤ range.start → IsNothing s
 
@@ -45,3 +45,9 @@ pub record IsGap (s : List Run) (range gap : Range ℕ) : Type 0 where
   pub outside : (n : ℕ) → gap.start ≤ n → n < gap.end → contains s n ≡ false
   pub ends : gap.start < gap.end → gap.end < range.end → contains s gap.end ≡ true
   pub full : gap.end ≤ gap.start → range.end ≤ gap.start
+
+-- a set without the runs that touch the numbers below a: with them there is no gap up to e
+pub record Joins (a e : ℕ) (later later' : List Run) : Type 0 where
+  pub same : (n : ℕ) → (nat_lt n e || contains later' n) ≡ (nat_lt n a || contains later n)
+  pub above : (n : ℕ) → contains later' n ≡ true → e < n
+  pub grows : a ≤ e

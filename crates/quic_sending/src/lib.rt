@@ -3,6 +3,7 @@
 
 mod outcomes;
 mod piece_queue;
+mod recent_set;
 pub mod send;
 pub mod send_buffer;
 pub mod source;

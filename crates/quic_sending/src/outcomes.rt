@@ -1,9 +1,9 @@
 ghost use Rattle.std.specs.Prelude.{◌≡◌, ◌+◌, ◌<◌, ◌≤◌, ℕ, [], ◌∷◌, ◌&&◌, ◌||◌, not, true, IfOk, OnOk, OnErr, nat_lt, List};
 ghost use Rattle.quic_values.specs.Runs.{Run, contains, lies_in};
 ghost use Rattle.quic_sending.specs.Ranges.{IsLowestRun};
-ghost use Rattle.quic_sending.specs.Outcomes.{Answered, is_answered, minus, IsLowest, IsGap};
-ghost use Rattle.quic_sending.specs.Buffer.{Joins};
+ghost use Rattle.quic_sending.specs.Outcomes.{Answered, is_answered, minus, IsLowestOrNone};
 
+use crate::recent_set::RecentSet;
 use quic_values::{OutOfMemory, RangeSet};
 use std::alloc::Global;
 use std::marker::Model;
@@ -16,7 +16,7 @@ pub(crate) struct Outcomes {
     // All offsets below this one are acknowledged, and this one is not.
     prefix: u64,
     // The acknowledged offsets above the prefix.
-    later: RangeSet,
+    later: RecentSet,
     // The offsets that were lost and not sent again, also such as were acknowledged since.
     called_lost: RangeSet,
     // The lowest lost range, or an empty one.
@@ -26,7 +26,7 @@ pub(crate) struct Outcomes {
 impl Model for Outcomes {
     ghost use Rattle.std.specs.Prelude.{◌≡◌, ◌<◌, ℕ, ◌∷◌, true};
     ghost use Rattle.quic_values.specs.Runs.{contains};
-    ghost use Rattle.quic_sending.specs.Outcomes.{Answered, minus, IsLowest};
+    ghost use Rattle.quic_sending.specs.Outcomes.{Answered, minus, IsLowestOrNone};
 
     ghost Value = { Answered };
 
@@ -36,7 +36,7 @@ impl Model for Outcomes {
       lost = minus s.called_lost ((0, s.prefix) ∷ s.later);
     } };
 
-    ghost invariant = { λ s. ((n : ℕ) → contains s.later n ≡ true → s.prefix < n) × IsLowest (minus s.called_lost ((0, s.prefix) ∷ s.later)) s.next_lost };
+    ghost invariant = { λ s. ((n : ℕ) → contains s.later n ≡ true → s.prefix < n) × IsLowestOrNone (minus s.called_lost ((0, s.prefix) ∷ s.later)) s.next_lost };
 }
 
 impl Outcomes {
@@ -46,7 +46,7 @@ impl Outcomes {
     {
         Outcomes {
             prefix,
-            later: RangeSet::new(alloc),
+            later: RecentSet::new(alloc),
             called_lost: RangeSet::new(alloc),
             next_lost: 0..0,
         }
@@ -63,7 +63,7 @@ impl Outcomes {
     /// The lowest lost range, or an empty one where nothing is lost.
     #[inline]
     pub(crate) fn next_lost(&self) -> Range<u64>
-        ensures { IsLowest self.now.lost result }
+        ensures { IsLowestOrNone self.now.lost result }
     {
         self.next_lost.start..self.next_lost.end
     }
@@ -81,6 +81,9 @@ impl Outcomes {
             return Ok(());
         }
         self.called_lost.insert(start..range.end)?;
+        if self.next_lost.start < self.next_lost.end && self.next_lost.end < start {
+            return Ok(());
+        }
         self.next_lost = first_lost(&mut self.called_lost, &self.later, self.prefix);
         Ok(())
     }
@@ -129,15 +132,15 @@ impl Outcomes {
 
 // The lowest range of offsets that were called lost and are not acknowledged, or an empty one. The runs before it are
 // let go.
-fn first_lost(called_lost: &mut RangeSet, later: &RangeSet, prefix: u64) -> Range<u64>
+fn first_lost(called_lost: &mut RangeSet, later: &RecentSet, prefix: u64) -> Range<u64>
     ensures same { (n : ℕ) →
         contains (minus called_lost.new ((0, prefix) ∷ later.now)) n
         ≡ contains (minus called_lost.old ((0, prefix) ∷ later.now)) n }
-    ensures lowest { IsLowest (minus called_lost.new ((0, prefix) ∷ later.now)) result }
+    ensures lowest { IsLowestOrNone (minus called_lost.new ((0, prefix) ∷ later.now)) result }
 {
     let mut reached = 0;
     while let Some(run) = called_lost.run_from(reached) {
-        let gap = first_gap(later, run.start.max(prefix)..run.end);
+        let gap = later.first_gap(run.start.max(prefix)..run.end);
         if gap.start < gap.end {
             return gap;
         }
@@ -147,27 +150,9 @@ fn first_lost(called_lost: &mut RangeSet, later: &RangeSet, prefix: u64) -> Rang
     0..0
 }
 
-// The lowest part of a range that is not in a set, or an empty range.
-fn first_gap(set: &RangeSet, range: Range<u64>) -> Range<u64>
-    ensures { IsGap set.now range result }
-{
-    let mut start = range.start;
-    let mut next = set.run_from(start);
-    if let Some(run) = &next
-        && run.start == start
-    {
-        start = run.end;
-        next = set.run_from(start);
-    }
-    match next {
-        Some(run) => start..run.start.min(range.end),
-        None => start..range.end,
-    }
-}
-
 // The offsets of a range behind the acknowledged prefix are acknowledged. The answer is where the prefix then ends.
 #[inline]
-fn acknowledge(later: &mut RangeSet, prefix: u64, range: Range<u64>) -> Result<u64, OutOfMemory>
+fn acknowledge(later: &mut RecentSet, prefix: u64, range: Range<u64>) -> Result<u64, OutOfMemory>
     requires above { (n : ℕ) → contains later.old n ≡ true → prefix < n }
     requires behind { prefix ≤ range.start }
     requires some { range.start < range.end }
@@ -181,24 +166,5 @@ fn acknowledge(later: &mut RangeSet, prefix: u64, range: Range<u64>) -> Result<u
         later.insert(range)?;
         return Ok(prefix);
     }
-    Ok(join_prefix(later, range.end))
-}
-
-// Takes out the runs that touch the acknowledged prefix, which ends at `prefix`. The answer is
-// where it ends with them.
-#[inline]
-fn join_prefix(later: &mut RangeSet, prefix: u64) -> u64
-    ensures { Joins prefix result later.old later.new }
-{
-    let mut reached = 0;
-    while let Some(start) = later.min() {
-        if start > prefix.max(reached) {
-            break;
-        }
-        let Some(run) = later.pop_min() else {
-            break;
-        };
-        reached = run.end;
-    }
-    prefix.max(reached)
+    Ok(later.join(range.end))
 }
