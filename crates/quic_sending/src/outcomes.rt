@@ -122,7 +122,7 @@ impl Outcomes {
             return Ok(());
         }
         self.prefix = acknowledge(&mut self.later, self.prefix, start..range.end)?;
-        if range.end <= self.next_lost.start || self.next_lost.end <= start {
+        if self.next_lost.end <= start || range.end <= self.next_lost.start {
             return Ok(());
         }
         self.next_lost = first_lost(&mut self.called_lost, &self.later, self.prefix);

@@ -121,6 +121,7 @@ impl SendBuffer {
     #[inline]
     pub fn reserve(&mut self, pieces: usize) -> Result<(), OutOfMemory>
         ensures ok { OnOk result (pieces ≤ self.new.room) }
+        ensures roomy { pieces ≤ self.old.room → IsOk result }
         ensures same { self.new ≡ record self.old { room = self.new.room } }
         ensures room { self.old.room ≤ self.new.room }
         ensures sound { IsSound self.new }
@@ -253,7 +254,7 @@ impl SendBuffer {
         ensures none { result ≡ false → (n : ℕ) → is_due self.now n ≡ false }
     {
         let lost = self.outcomes.next_lost();
-        lost.start < lost.end || self.unsent != self.offset()
+        self.unsent != self.offset() || lost.start < lost.end
     }
 
     // The lowest lost range, or else the range that was never sent.
