@@ -4,5 +4,6 @@ pub mod Sets
 pub mod Answered
 pub mod Cuts
 pub mod Sound
+pub mod Fronts
 pub mod Sources
 pub mod Chunks
