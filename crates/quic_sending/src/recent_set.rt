@@ -11,19 +11,22 @@ use std::ops::Range;
 /// memory to make it longer.
 #[derive(Drop)]
 pub(crate) struct RecentSet {
-    // The run that grew last. It may touch others.
+    // The run that grew last. It may touch others. It has no numbers only where the set has none.
     recent: Range<u64>,
     others: RangeSet,
 }
 
 impl Model for RecentSet {
-    ghost use Rattle.std.specs.Prelude.{List, ◌++◌};
+    ghost use Rattle.std.specs.Prelude.{List, ◌++◌, ◌≤◌};
+    ghost use Rattle.quic_sending.specs.Ranges.{IsNothing};
     ghost use Rattle.quic_values.specs.Runs.{Run};
     ghost use Rattle.quic_sending.specs.Outcomes.{run_of};
 
     ghost Value = { List Run };
 
     ghost view = { λ s. run_of s.recent.start s.recent.end ++ s.others };
+
+    ghost invariant = { λ s. s.recent.end ≤ s.recent.start → IsNothing s.others };
 }
 
 impl RecentSet {
@@ -59,13 +62,17 @@ impl RecentSet {
     pub(crate) fn join(&mut self, low: u64) -> u64
         ensures { Joins low result self.old self.new }
     {
-        let reached = join_runs(&mut self.others, low);
         let (start, end) = (self.recent.start, self.recent.end);
-        if start >= end || start > reached {
+        if start >= end {
+            return low;
+        }
+        let reached = join_runs(&mut self.others, low);
+        if start > reached {
             return reached;
         }
-        self.recent = 0..0;
-        join_runs(&mut self.others, reached.max(end))
+        let reached = join_runs(&mut self.others, reached.max(end));
+        self.recent = self.others.pop_min().unwrap_or(0..0);
+        reached
     }
 
     /// The lowest part of a range that is not in the set, or an empty range.
