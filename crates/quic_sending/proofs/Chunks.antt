@@ -4,7 +4,8 @@ use Rattle.std.proofs.lemmas.Bool.{cases_lt}
 use Rattle.std.proofs.lemmas.Bool.Decides.{nat_tests}
 use Rattle.std.proofs.lemmas.List.{drop_more, drop_all, drop-set-lt, get_or-set_same, take_all, append-nil}
 use Rattle.quic_sending.specs.Buffer.{cut_of}
-use Rattle.quic_sending.specs.Source.{pieces_of, popped, after_pop, cut_piece, drop_empty}
+use Rattle.quic_sending.specs.Source.{popped, after_pop, cut_piece, drop_empty}
+use Rattle.quic_sending.proofs.Fronts.{pieces_of, pieces_of-zero}
 
 -- the chunks from a place on, by the one that is there
 pub chunks-at : (cs : List (List ℕ)) (i : ℕ) (p : List ℕ) → i < length cs → p ≡ get_or cs i p → drop i cs ≡ p ∷ drop (i + 1) cs
@@ -43,11 +44,6 @@ pub cut_piece-zero : (ps : List (List ℕ)) → cut_piece 0 ps ≡ []
 cut_piece-zero [] = refl
 cut_piece-zero ([] ∷ ps) = cut_piece-zero ps
 cut_piece-zero ((b ∷ bs) ∷ ps) = cut_piece-part 0 (b ∷ bs) ps (omega arith)
-
-pieces_of-zero : (n : ℕ) (ps : List (List ℕ)) → n ≡ 0 → pieces_of n ps ≡ []
-pieces_of-zero n [] e = refl
-pieces_of-zero n ([] ∷ ps) e = pieces_of-zero n ps e
-pieces_of-zero n ((b ∷ bs) ∷ ps) e = rw e (pieces_of-zero (0 - length (b ∷ bs)) ps (omega arith))
 
 -- a chunk of which a part is taken
 pub pieces_of-part : (n : ℕ) (p : List ℕ) (ps : List (List ℕ)) → n < length p → pieces_of n (p ∷ ps) ≡ cut_of (take n p)

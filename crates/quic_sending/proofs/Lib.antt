@@ -1,7 +1,9 @@
 pub mod Pieces
 pub mod Laid
 pub mod Sets
+pub mod Answered
 pub mod Cuts
 pub mod Sound
+pub mod Fronts
 pub mod Sources
 pub mod Chunks

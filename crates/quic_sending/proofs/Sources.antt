@@ -4,7 +4,8 @@ use Rattle.std.proofs.lemmas.Bool.{cases_lt}
 use Rattle.std.proofs.lemmas.Bool.Decides.{nat_tests}
 use Rattle.std.proofs.lemmas.List.{take_all, append_assoc}
 use Rattle.quic_sending.specs.Buffer.{Buffered, cut_of, total_length}
-use Rattle.quic_sending.specs.Source.{pieces_of, rest_of, popped, after_pop}
+use Rattle.quic_sending.specs.Source.{rest_of, popped, after_pop}
+use Rattle.quic_sending.proofs.Fronts.{pieces_of, pieces_of-zero}
 
 cut-filled : (xs : List ℕ) → 0 < length xs → cut_of xs ≡ xs ∷ []
 cut-filled [] h = absurd (omega arith)
@@ -21,11 +22,6 @@ rest_of-whole n b bs ps h = grind (arith, nat_tests)
 
 rest_of-part : (n b : ℕ) (bs : List ℕ) (ps : List (List ℕ)) → n < length (b ∷ bs) → rest_of n ((b ∷ bs) ∷ ps) ≡ drop n (b ∷ bs) ∷ ps
 rest_of-part n b bs ps h = grind (arith, nat_tests)
-
-pieces_of-zero : (n : ℕ) (ps : List (List ℕ)) → n ≡ 0 → pieces_of n ps ≡ []
-pieces_of-zero n [] e = refl
-pieces_of-zero n ([] ∷ ps) e = pieces_of-zero n ps e
-pieces_of-zero n ((b ∷ bs) ∷ ps) e = rw e (pieces_of-zero (0 - length (b ∷ bs)) ps (omega arith))
 
 rest_of-zero : (n : ℕ) (p : List ℕ) (ps : List (List ℕ)) → n ≡ 0 → 0 < length p → rest_of n (p ∷ ps) ≡ p ∷ ps
 rest_of-zero n [] ps e h = absurd (omega arith)

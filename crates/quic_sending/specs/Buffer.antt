@@ -117,13 +117,6 @@ pub record IsSound (v : Buffered) : Type 0 where
   pub later_in : (n : ℕ) → contains v.later n ≡ true → (v.prefix < n) × (n < v.unsent)
   pub lost_in : (n : ℕ) → contains v.lost n ≡ true → (v.prefix ≤ n) × (n < v.unsent) × (contains v.later n ≡ false)
 
--- the later acknowledged offsets once those that touch the prefix a are part of it, which then ends at e
-pub record Joins (a e : ℕ) (later later' : List Run) : Type 0 where
-  pub same : (n : ℕ) → (nat_lt n e || contains later' n) ≡ (nat_lt n a || contains later n)
-  pub above : (n : ℕ) → contains later' n ≡ true → e < n
-  pub grows : a ≤ e
-  pub last : a < e → contains later (e - 1) ≡ true
-
 -- the room in a frame of this size for data that starts at an offset, if no length is written
 abbrev pub data_room : ℕ → ℕ → ℕ
 data_room start max_len = if nat_lt 0 start then max_len - size_of start else max_len

@@ -1,4 +1,5 @@
 pub mod Ranges
+pub mod Outcomes
 pub mod Buffer
 pub mod Pieces
 pub mod Source

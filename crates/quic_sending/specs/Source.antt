@@ -1,12 +1,32 @@
 -- A source of bytes, as the lists of bytes that are left of it.
-use Rattle.std.specs.Prelude.{ℕ, ◌-◌, nat_lt, if◌then◌else◌, List, [], ◌∷◌, ◌++◌, length, take, drop}
-use Rattle.quic_sending.specs.Buffer.{cut_of}
+use Rattle.std.specs.Prelude.{◌≡◌, ℕ, ◌+◌, ◌-◌, ◌<◌, min, nat_lt, if◌then◌else◌, List, [], ◌∷◌, ◌++◌, length, take, drop}
+use Rattle.std.specs.List.{concat}
+use Rattle.quic_sending.specs.Buffer.{Buffered, HasCuts, cut_of, total_length}
 
--- the first n bytes, as one piece for each list of which they have some
-abbrev pub pieces_of : ℕ → List (List ℕ) → List (List ℕ)
-pieces_of n [] = []
-pieces_of n ([] ∷ ps) = pieces_of n ps
-pieces_of n ((b ∷ bs) ∷ ps) = cut_of (take n (b ∷ bs)) ++ pieces_of (n - length (b ∷ bs)) ps
+-- the lists that have bytes
+abbrev pub filled_of : List (List ℕ) → List (List ℕ)
+filled_of [] = []
+filled_of (p ∷ ps) = cut_of p ++ filled_of ps
+
+-- the pieces are the first of the lists, but that of the last one of these there may be a front alone
+abbrev pub AreCutAs : List (List ℕ) → List (List ℕ) → Type 0
+AreCutAs [] ls = Unit {0}
+AreCutAs (p ∷ ps) [] = ⊥
+AreCutAs (p ∷ []) (l ∷ ls) = (0 < length p) × (p ≡ take (length p) l)
+AreCutAs (p ∷ (q ∷ ps)) (l ∷ ls) = (p ≡ l) × AreCutAs (q ∷ ps) ls
+
+-- the pieces are the first n bytes of the lists, or all where there are fewer: one piece for each list of which there
+-- are some
+pub record AreFrontOf (n : ℕ) (lists pieces : List (List ℕ)) : Type 0 where
+  pub bytes : concat pieces ≡ take n (concat lists)
+  pub cut : AreCutAs pieces (filled_of lists)
+
+-- those pieces were appended to what a buffer holds, unsent, and nothing else changed but room
+pub record Appends (n : ℕ) (lists : List (List ℕ)) (old new : Buffered) : Type 0 where
+  pub pieces : List (List ℕ)
+  pub front : AreFrontOf n lists pieces
+  pub buffer : new ≡ record old { offset = old.offset + min n (total_length lists); held = old.held ++ pieces; room = new.room }
+  pub cuts : (cuts : List (List ℕ)) → HasCuts cuts old → HasCuts (cuts ++ pieces) new
 
 -- the lists without their first n bytes, and without those in front of which nothing is left
 abbrev pub rest_of : ℕ → List (List ℕ) → List (List ℕ)

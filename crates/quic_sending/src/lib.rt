@@ -1,7 +1,9 @@
 //! Sending on one stream: written bytes until they are acknowledged.
 #![tactic(auto)]
 
+mod outcomes;
 mod piece_queue;
+mod recent_set;
 pub mod send;
 pub mod send_buffer;
 pub mod source;

@@ -76,6 +76,7 @@ impl PieceQueue {
     #[inline]
     pub(crate) fn reserve(&mut self, pieces: usize) -> Result<(), OutOfMemory>
         ensures ok { OnOk result (pieces ≤ self.new.room) }
+        ensures roomy { pieces ≤ self.old.room → IsOk result }
         ensures same { self.new ≡ record self.old { room = self.new.room } }
         ensures room { self.old.room ≤ self.new.room }
     {

@@ -1,7 +1,7 @@
 ghost use Rattle.std.specs.Prelude.{◌≡◌, ◌+◌, ◌-◌, ◌<◌, ◌≤◌, ◌^◌, ◌↔◌, ◌==◌, ℕ, List, [], ◌++◌, ◌&&◌, ◌||◌, not, IsTrue, IfOk, OnOk, OnErr, IfErr, length, min, true, false, if◌then◌else◌, Some, None, Option, is_none, unwrap_or, ◌⊎◌, pos};
 ghost use Rattle.quic_values.specs.Runs.{lies_in};
 ghost use Rattle.quic_sending.specs.Buffer.{HasCuts, IsSound, HasDue, HasNoneDue, is_acked, is_lost, total_length, uncovered};
-ghost use Rattle.quic_sending.specs.Source.{pieces_of, rest_of};
+ghost use Rattle.quic_sending.specs.Source.{Appends, rest_of};
 
 use crate::send_buffer::SendBuffer;
 use crate::source::BytesSource;
@@ -206,13 +206,8 @@ impl Send {
     ) -> Result<Written, WriteError>
         ensures ok { OnOk result (write_refusal self.old ≡ None) }
         ensures err { IfErr result (λ e. IsWriteRefusal self.old e) }
-        ensures written { OnOk result (self.new ≡ record self.old {
-          pending = record self.old.pending {
-            offset = self.old.pending.offset + min (permitted self.old limit) (total_length (S.lists source.old));
-            held = self.old.pending.held ++ pieces_of (permitted self.old limit) (S.lists source.old);
-            room = self.new.pending.room;
-          };
-        }) }
+        ensures written { OnOk result (Appends (permitted self.old limit) (S.lists source.old) self.old.pending self.new.pending) }
+        ensures others { OnOk result (self.new ≡ record self.old { pending = self.new.pending }) }
         ensures bytes { IfOk result (λ w. w.bytes ≡ min (permitted self.old limit) (total_length (S.lists source.old))) }
         ensures chunks { IfOk result (λ w. w.chunks + length (S.lists source.new) ≡ length (S.lists source.old)) }
         ensures left { OnOk result (S.lists source.new ≡ rest_of (permitted self.old limit) (S.lists source.old)) }
@@ -220,9 +215,6 @@ impl Send {
         ensures same { OnErr result (self.new ≡ record self.old {
           pending = record self.old.pending { room = self.new.pending.room };
         }) }
-        ensures cuts { OnOk result ((cuts : List (List ℕ)) →
-            HasCuts cuts self.old.pending →
-            HasCuts (cuts ++ pieces_of (permitted self.old limit) (S.lists source.old)) self.new.pending) }
         ensures sound { OnOk result (IsSound self.new.pending) }
     {
         if !self.is_writable() {
@@ -365,18 +357,12 @@ fn write_source<S: BytesSource>(
     limit: usize,
 ) -> Result<Written, OutOfMemory>
     requires { buffer.old.offset + limit < 2 ^ 62 }
-    ensures written { OnOk result (buffer.new ≡ record buffer.old {
-      offset = buffer.old.offset + min limit (total_length (S.lists source.old));
-      held = buffer.old.held ++ pieces_of limit (S.lists source.old);
-      room = buffer.new.room;
-    }) }
+    ensures written { OnOk result (Appends limit (S.lists source.old) buffer.old buffer.new) }
     ensures bytes { IfOk result (λ w. w.bytes ≡ min limit (total_length (S.lists source.old))) }
     ensures chunks { IfOk result (λ w. w.chunks + length (S.lists source.new) ≡ length (S.lists source.old)) }
     ensures left { OnOk result (S.lists source.new ≡ rest_of limit (S.lists source.old)) }
     ensures err { OnErr result ((S.lists source.new ≡ S.lists source.old) × (buffer.new
         ≡ record buffer.old { room = buffer.new.room })) }
-    ensures cuts { OnOk result ((cuts : List (List ℕ)) → HasCuts cuts buffer.old →
-        HasCuts (cuts ++ pieces_of limit (S.lists source.old)) buffer.new) }
     ensures sound { OnOk result (IsSound buffer.new) }
 {
     let count = source.prepare(limit)?;

@@ -1,10 +1,11 @@
 ghost use Rattle.std.specs.Prelude.{◌≡◌, ◌+◌, ◌-◌, ◌<◌, ◌≤◌, ◌^◌, ◌↔◌, ℕ, [], ◌++◌, ◌&&◌, ◌||◌, not, IsTrue, IsOk, OnOk, OnErr, length, nat_lt, true, false, IfOk, max, List, take, drop, vec_len, vec_capacity};
 ghost use Rattle.std.specs.List.{concat};
 ghost use Rattle.quic_values.specs.Runs.{contains, lies_in};
-ghost use Rattle.quic_sending.specs.Buffer.{HasCuts, IsFrontAt, is_due, IsNextRange, IsFrontOfNext, frame_end, has_length, cut_of, total_length, is_acked, is_lost, piece_part, uncovered, IsSound, Joins};
+ghost use Rattle.quic_sending.specs.Buffer.{HasCuts, IsFrontAt, is_due, IsNextRange, IsFrontOfNext, frame_end, has_length, cut_of, total_length, is_acked, is_lost, piece_part, uncovered, IsSound};
 
+use crate::outcomes::Outcomes;
 use crate::piece_queue::PieceQueue;
-use quic_values::{Bytes, OutOfMemory, RangeSet, VarInt};
+use quic_values::{Bytes, OutOfMemory, VarInt};
 use std::alloc::Global;
 use std::marker::Model;
 use std::ops::Range;
@@ -14,14 +15,10 @@ use std::ops::Range;
 #[derive(Drop)]
 pub struct SendBuffer {
     pieces: PieceQueue,
-    // All offsets below this one are acknowledged, and this one is not.
-    prefix: u64,
     // The first offset that was never sent.
     unsent: u64,
-    // The acknowledged offsets above the prefix.
-    later: RangeSet,
-    // The offsets to be sent again. None of them is acknowledged.
-    lost: RangeSet,
+    // Which of the offsets before it are acknowledged, and which are lost.
+    outcomes: Outcomes,
     alloc: Global,
 }
 
@@ -33,9 +30,9 @@ impl Model for SendBuffer {
     ghost view = { λ s. record {
       offset = s.pieces.end;
       unsent = s.unsent;
-      prefix = s.prefix;
-      later = s.later;
-      lost = s.lost;
+      prefix = s.outcomes.prefix;
+      later = s.outcomes.later;
+      lost = s.outcomes.lost;
       held = s.pieces.held;
       gone = s.pieces.gone;
       room = s.pieces.room;
@@ -44,9 +41,9 @@ impl Model for SendBuffer {
     ghost invariant = { λ s. IsSound (record {
       offset = s.pieces.end;
       unsent = s.unsent;
-      prefix = s.prefix;
-      later = s.later;
-      lost = s.lost;
+      prefix = s.outcomes.prefix;
+      later = s.outcomes.later;
+      lost = s.outcomes.lost;
       held = s.pieces.held;
       gone = s.pieces.gone;
       room = s.pieces.room;
@@ -71,10 +68,8 @@ impl SendBuffer {
     {
         SendBuffer {
             pieces: PieceQueue::new(alloc),
-            prefix: 0,
             unsent: 0,
-            later: RangeSet::new(alloc),
-            lost: RangeSet::new(alloc),
+            outcomes: Outcomes::up_to(alloc, 0),
             alloc,
         }
     }
@@ -100,7 +95,7 @@ impl SendBuffer {
     pub fn acked_prefix(&self) -> u64
         ensures { result ≡ self.now.prefix }
     {
-        self.prefix
+        self.outcomes.prefix()
     }
 
     /// Whether all that was written is acknowledged.
@@ -108,7 +103,7 @@ impl SendBuffer {
     pub fn is_fully_acked(&self) -> bool
         ensures { IsTrue result ↔ (self.now.prefix ≡ self.now.offset) }
     {
-        self.prefix == self.offset()
+        self.acked_prefix() == self.offset()
     }
 
     /// How many bytes are retained: those of the written pieces that the acknowledged prefix does
@@ -126,6 +121,7 @@ impl SendBuffer {
     #[inline]
     pub fn reserve(&mut self, pieces: usize) -> Result<(), OutOfMemory>
         ensures ok { OnOk result (pieces ≤ self.new.room) }
+        ensures roomy { pieces ≤ self.old.room → IsOk result }
         ensures same { self.new ≡ record self.old { room = self.new.room } }
         ensures room { self.old.room ≤ self.new.room }
         ensures sound { IsSound self.new }
@@ -184,19 +180,8 @@ impl SendBuffer {
         ensures err { OnErr result (self.new ≡ self.old) }
         ensures sound { IsSound self.new }
     {
-        let start = range.start.max(self.prefix);
-        if start >= range.end {
-            return Ok(());
-        }
-        match self.later.run_from(start) {
-            Some(run) if run.start < range.end => {
-                self.lost = with_gaps(&self.lost, &self.later, start..range.end)?;
-            }
-            _ => {
-                self.lost.insert(start..range.end)?;
-            }
-        }
-        Ok(())
+        let _ = &self.unsent;
+        self.outcomes.lose(range)
     }
 
     /// Sent offsets of this range are acknowledged. They are never sent again.
@@ -212,48 +197,8 @@ impl SendBuffer {
         ensures cuts { (cuts : List (List ℕ)) → HasCuts cuts self.old → HasCuts cuts self.new }
         ensures sound { IsSound self.new }
     {
-        let start = range.start.max(self.prefix);
-        if start >= range.end {
-            return Ok(());
-        }
-        if start > self.prefix {
-            return self.ack_later(start..range.end);
-        }
-        if !self.lost.is_empty() {
-            self.lost.remove(start..range.end)?;
-        }
-        self.prefix = join_prefix(&mut self.later, range.end);
-        self.pieces.drop_covered(self.prefix);
-        Ok(())
-    }
-
-    // Sent offsets of a range above the prefix are acknowledged.
-    fn ack_later(&mut self, range: Range<u64>) -> Result<(), OutOfMemory>
-        requires above { self.old.prefix < range.start }
-        requires sent { range.end ≤ self.old.unsent }
-        ensures later { OnOk result ((n : ℕ) →
-            contains self.new.later n ≡ (contains self.old.later n || lies_in range n)) }
-        ensures lost { OnOk result ((n : ℕ) →
-            is_lost self.new n ≡ (is_lost self.old n && not (lies_in range n))) }
-        ensures same { self.new ≡ record self.old { later = self.new.later; lost = self.new.lost } }
-        ensures err { OnErr result (self.new ≡ self.old) }
-        ensures sound { IsSound self.new }
-    {
-        if self.lost.is_empty() {
-            self.later.insert(range)?;
-            return Ok(());
-        }
-        match self.lost.run_from(range.start) {
-            Some(run) if run.start < range.end => {
-                let mut lost = self.lost.try_clone()?;
-                lost.remove(range.start..range.end)?;
-                self.later.insert(range)?;
-                self.lost = lost;
-            }
-            _ => {
-                self.later.insert(range)?;
-            }
-        }
+        self.outcomes.ack(range)?;
+        self.pieces.drop_covered(self.outcomes.prefix());
         Ok(())
     }
 
@@ -271,7 +216,7 @@ impl SendBuffer {
         ensures bytes { (cuts : List (List ℕ)) → HasCuts cuts self.now → self.now.prefix ≤ range.start →
             IsFrontAt (concat cuts) range.start (range.end - range.start) result.now }
     {
-        if range.start < self.prefix {
+        if range.start < self.acked_prefix() {
             return &[];
         }
         let most = range.end.saturating_sub(range.start);
@@ -308,7 +253,8 @@ impl SendBuffer {
         ensures some { result ≡ true → ((n : ℕ) × (is_due self.now n ≡ true)) }
         ensures none { result ≡ false → (n : ℕ) → is_due self.now n ≡ false }
     {
-        self.unsent != self.offset() || !self.lost.is_empty()
+        let lost = self.outcomes.next_lost();
+        self.unsent != self.offset() || lost.start < lost.end
     }
 
     // The lowest lost range, or else the range that was never sent.
@@ -318,14 +264,11 @@ impl SendBuffer {
         ensures ordered { result.start ≤ result.end }
         ensures small { result.end < 2 ^ 62 }
     {
-        let unsent = self.unsent..self.offset();
-        if self.lost.is_empty() {
-            return unsent;
+        let lost = self.outcomes.next_lost();
+        if lost.start < lost.end {
+            return lost;
         }
-        match self.lost.run_from(0) {
-            Some(run) => run,
-            None => unsent,
-        }
+        self.unsent..self.offset()
     }
 
     /// The range to be sent next in a frame whose offset, length and data may take `max_len` bytes,
@@ -348,7 +291,7 @@ impl SendBuffer {
         let next = self.next_range();
         let (end, has_length) = cut_to_frame(next.start, next.end, max_len);
         if next.start < self.unsent {
-            self.lost.remove(next.start..end)?;
+            self.outcomes.resend(next.start..end)?;
         } else {
             self.pieces.seek(next.start);
             self.unsent = end;
@@ -382,11 +325,11 @@ impl SendBuffer {
         ensures sound { IsSound self.new }
     {
         if range.start < self.unsent {
-            self.lost.remove(range.start..range.end)?;
-        } else {
-            self.pieces.seek(range.start);
-            self.unsent = range.end;
+            self.outcomes.resend(range)?;
+            return Ok(());
         }
+        self.pieces.seek(range.start);
+        self.unsent = range.end;
         Ok(())
     }
 
@@ -396,7 +339,7 @@ impl SendBuffer {
         ensures same { self.new ≡ record self.old { lost = []; unsent = 0 } }
         ensures sound { IsSound self.new }
     {
-        self.lost = RangeSet::new(self.alloc);
+        self.outcomes.lose_nothing(self.alloc);
         self.unsent = 0;
     }
 
@@ -418,9 +361,7 @@ impl SendBuffer {
     {
         let offset = self.offset();
         self.pieces.clear();
-        self.later = RangeSet::new(self.alloc);
-        self.lost = RangeSet::new(self.alloc);
-        self.prefix = offset;
+        self.outcomes = Outcomes::up_to(self.alloc, offset);
         self.unsent = offset;
     }
 }
@@ -458,41 +399,4 @@ fn append(out: &mut Vec<u8>, bytes: &[u8])
         Ok(()) => {}
         Err(_) => unreachable!(),
     }
-}
-
-// A copy of the lost offsets, with those of a range that are not acknowledged.
-fn with_gaps(lost: &RangeSet, acked: &RangeSet, range: Range<u64>) -> Result<RangeSet, OutOfMemory>
-    ensures { IfOk result (λ s. (n : ℕ) →
-        contains s n ≡ (contains lost.now n || (lies_in range n && not (contains acked.now n)))) }
-{
-    let mut copy = lost.try_clone()?;
-    let mut at = range.start;
-    while let Some(run) = acked.run_from(at) {
-        if run.start >= range.end {
-            break;
-        }
-        copy.insert(at..run.start)?;
-        at = run.end;
-    }
-    copy.insert(at..range.end)?;
-    Ok(copy)
-}
-
-// Takes out the runs that touch the acknowledged prefix, which ends at `prefix`. The answer is
-// where it ends with them.
-#[inline]
-fn join_prefix(later: &mut RangeSet, prefix: u64) -> u64
-    ensures { Joins prefix result later.old later.new }
-{
-    let mut reached = 0;
-    while let Some(start) = later.min() {
-        if start > prefix.max(reached) {
-            break;
-        }
-        let Some(run) = later.pop_min() else {
-            break;
-        };
-        reached = run.end;
-    }
-    prefix.max(reached)
 }

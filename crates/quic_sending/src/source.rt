@@ -1,5 +1,5 @@
-ghost use Rattle.std.specs.Prelude.{◌≡◌, ◌+◌, ◌-◌, ◌≤◌, ◌<◌, ◌^◌, ℕ, List, [], ◌∷◌, length, take, drop, IfOk, OnOk, vec_len};
-ghost use Rattle.quic_sending.specs.Source.{pieces_of, popped, after_pop, cut_piece, drop_empty, slice_lists};
+ghost use Rattle.std.specs.Prelude.{◌≡◌, ◌+◌, ◌-◌, ◌≤◌, ◌<◌, ◌^◌, ℕ, List, [], ◌∷◌, length, take, drop, IfOk, OnOk, OnErr, vec_len};
+ghost use Rattle.quic_sending.specs.Source.{AreFrontOf, popped, after_pop, cut_piece, drop_empty, slice_lists};
 
 use quic_values::{Bytes, OutOfMemory};
 use std::alloc::Global;
@@ -15,12 +15,14 @@ pub trait BytesSource {
     ghost ready: { Self → ℕ };
 
     /// Makes room to take out the first `limit` bytes. Answers a bound on their pieces. Nothing is
-    /// taken out, also where memory is refused.
+    /// taken out. Where memory is refused, what was prepared before is prepared as before.
     fn prepare(&mut self, limit: usize) -> Result<usize, OutOfMemory>
         ensures same { lists self.new ≡ lists self.old }
         ensures few { length (lists self.old) < 2 ^ 64 }
-        ensures count { IfOk result (λ k. length (pieces_of limit (lists self.old)) ≤ k) }
-        ensures ready { OnOk result (ready self.new ≡ limit) };
+        ensures count { IfOk result (λ k. (pieces : List (List ℕ)) →
+            AreFrontOf limit (lists self.old) pieces → length pieces ≤ k) }
+        ensures ready { OnOk result (ready self.new ≡ limit) }
+        ensures err { OnErr result (ready self.new ≡ ready self.old) };
 
     /// Takes out the first piece, of at most `limit` bytes: what is left of the number that was
     /// prepared. It is empty only where that is 0 or nothing is left. Answers with it how many
@@ -171,7 +173,8 @@ fn prepare_chunks(
     limit: usize,
 ) -> Result<(usize, Bytes), OutOfMemory>
     requires { from ≤ length chunks.now }
-    ensures count { IfOk result (λ r. r.0 ≡ length (pieces_of limit (drop from chunks.now))) }
+    ensures count { IfOk result (λ r. (pieces : List (List ℕ)) →
+        AreFrontOf limit (drop from chunks.now) pieces → r.0 ≡ length pieces) }
     ensures part { IfOk result (λ r. r.1 ≡ cut_piece limit (drop from chunks.now)) }
 {
     let mut count = 0;

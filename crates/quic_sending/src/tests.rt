@@ -1,3 +1,4 @@
 mod buffer;
 mod half;
+mod sizes;
 mod sources;

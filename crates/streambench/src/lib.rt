@@ -20,5 +20,7 @@ pub use reassembly::{
     streambench_case_d,
 };
 pub use refused::REFUSED;
-pub use sending::{streambench_case_e, streambench_case_e2, streambench_case_f};
+pub use sending::{
+    streambench_case_e, streambench_case_e2, streambench_case_f, streambench_case_j,
+};
 pub use yardstick::streambench_case_z;

@@ -48,6 +48,20 @@ pub extern "C" fn streambench_case_f(alloc: Global, size: usize, src: &[u8], per
     }
 }
 
+/// All is written and sent. Then every other frame is lost, from the first on, and every frame is acknowledged, the last
+/// one first.
+#[unsafe(no_mangle)]
+pub extern "C" fn streambench_case_j(alloc: Global, size: usize, src: &[u8], _perm: &[u32]) -> u64
+    ensures refused { ¬ CanRun size (length src.now) → result ≡ REFUSED }
+    ensures nothing { CanRun size (length src.now) → size ≡ 0 → result ≡ 0 }
+{
+    match Content::for_size(size, src) {
+        Some(_) if size == 0 => 0,
+        Some(content) => acknowledge_late(alloc, size as u64, content).unwrap_or(REFUSED),
+        None => REFUSED,
+    }
+}
+
 // What was sent since the last acknowledgements.
 #[derive(Drop)]
 struct Frames {
@@ -105,6 +119,23 @@ fn send_with_losses(
         sum = sum.wrapping_add(sent).wrapping_add(buffer.buffered());
     }
     Ok(sum)
+}
+
+// Every other frame is lost, and then all are acknowledged, from the last to the first.
+fn acknowledge_late(alloc: Global, size: u64, content: Content) -> Result<u64, Refused>
+    requires { size < 2 ^ 60 }
+{
+    let mut buffer = SendBuffer::new(alloc);
+    let mut frames = Frames::new(alloc);
+    fill(alloc, &mut buffer, content, size)?;
+    let sum = drain(&mut buffer, &mut frames)?;
+    for range in frames.ranges.iter().step_by(2) {
+        lose(&mut buffer, range)?;
+    }
+    for range in frames.ranges.iter().rev() {
+        acknowledge(&mut buffer, range)?;
+    }
+    Ok(sum.wrapping_add(buffer.buffered()))
 }
 
 // Sends what is to be sent, and again what is lost of it.

@@ -1,7 +1,7 @@
 use crate::{
     REFUSED, streambench_case_a, streambench_case_b, streambench_case_c, streambench_case_c2,
     streambench_case_d, streambench_case_e, streambench_case_e2, streambench_case_f,
-    streambench_case_z,
+    streambench_case_j, streambench_case_z,
 };
 use std::alloc::{AllocError, Global};
 use std::test::Fail;
@@ -56,6 +56,7 @@ fn frames_are_sent_until_all_is_acknowledged(rt: HostRuntime) -> Result<(), Fail
     let sum = 40 * 41 / 2 + 10_000 + 1;
     assert_eq!(rt; streambench_case_e(alloc, 10_000, &src, &perm), sum);
     assert_eq!(rt; streambench_case_e2(alloc, 10_000, &src, &perm), sum);
+    assert_eq!(rt; streambench_case_j(alloc, 10_000, &src, &perm), sum);
     // Of 11 frames the tenth is sent twice: the 1,198 bytes from 10,784 on, with the offsets 43 * 256 to 46 * 256.
     let twice = 51 * 52 / 2 + 13_000 + 1 + (44 + 45 + 46 + 47) + 1198;
     assert_eq!(rt; streambench_case_f(alloc, 13_000, &src, &perm), twice);

@@ -8,10 +8,34 @@ use std::ops::Range;
 use std::process::Abort;
 use std::test::Fail;
 
+fn half(alloc: Global, limit: u32) -> Send {
+    Send::new(alloc, VarInt::from(limit))
+}
+
+fn write(send: &mut Send, source: &mut ByteSlice, limit: u64) -> Result<Written, WriteError> {
+    send.write(source, limit)
+}
+
+fn finish(send: &mut Send) -> Result<(), FinishError> {
+    send.finish()
+}
+
+fn raise(send: &mut Send, limit: u64) -> bool {
+    send.increase_max_data(limit)
+}
+
+fn stop(send: &mut Send, code: u32) -> bool {
+    send.try_stop(VarInt::from(code))
+}
+
+fn get(send: &Send, range: Range<u64>) -> &[u8] {
+    send.pending.get(range)
+}
+
 // A half to which a text was written and sent.
 fn sent(rt: &impl Abort, alloc: Global, text: &[u8]) -> Result<Send, WriteError> {
-    let mut send = Send::new(alloc, VarInt::from(100));
-    let written = send.write(&mut ByteSlice::from_slice(alloc, text), 100)?;
+    let mut send = half(alloc, 100);
+    let written = write(&mut send, &mut ByteSlice::from_slice(alloc, text), 100)?;
     assert_eq!(rt; written.bytes, text.len());
     let (range, _) = send.pending.poll_transmit(50)?;
     assert_eq!(rt; range.end, send.offset());
@@ -52,7 +76,7 @@ fn shows_write(
             .push(Bytes::copy_from_slice(alloc, text)?)
             .map_err(OutOfMemory::from)?;
     }
-    let mut send = Send::new(alloc, VarInt::from(limit));
+    let mut send = half(alloc, limit);
     assert_eq!(rt;
         write_chunks(alloc, &mut send, chunks.as_mut_slice(), 1000)?,
         written
@@ -125,7 +149,7 @@ fn refused_memory_changes_no_source(rt: HostRuntime) -> Result<(), Fail> {
             return Ok(());
         }
     }
-    let mut send = Send::new(rt.alloc(), VarInt::from(100));
+    let mut send = half(rt.alloc(), 100);
     let mut source = BytesArray::from_chunks(rt.alloc(), chunks.as_mut_slice());
     assert_eq!(rt;
         write_again(&rt, &mut send, &mut source, 7)?,
@@ -142,39 +166,39 @@ fn refused_memory_changes_no_source(rt: HostRuntime) -> Result<(), Fail> {
             chunks: 0
         }
     );
-    assert_eq!(rt; send.pending.get(0..10), b"Hello ".as_slice());
-    assert_eq!(rt; send.pending.get(6..10), b"W".as_slice());
-    assert_eq!(rt; send.pending.get(7..10), b"rld".as_slice());
+    assert_eq!(rt; get(&send, 0..10), b"Hello ".as_slice());
+    assert_eq!(rt; get(&send, 6..10), b"W".as_slice());
+    assert_eq!(rt; get(&send, 7..10), b"rld".as_slice());
     Ok(())
 }
 
 #[test]
 fn write_takes_at_most_the_limit_handed_in(rt: HostRuntime) -> Result<(), Fail> {
-    let mut send = Send::new(rt.alloc(), VarInt::from(100));
+    let mut send = half(rt.alloc(), 100);
     let mut source = ByteSlice::from_slice(rt.alloc(), b"Hello, world!");
     assert_eq!(rt;
-        send.write(&mut source, 5)?,
+        write(&mut send, &mut source, 5)?,
         Written {
             bytes: 5,
             chunks: 0
         }
     );
     assert_eq!(rt;
-        send.write(&mut source, 100)?,
+        write(&mut send, &mut source, 100)?,
         Written {
             bytes: 8,
             chunks: 1
         }
     );
     assert_eq!(rt;
-        send.write(&mut source, 100)?,
+        write(&mut send, &mut source, 100)?,
         Written {
             bytes: 0,
             chunks: 0
         }
     );
-    assert_eq!(rt; send.pending.get(0..13), b"Hello".as_slice());
-    assert_eq!(rt; send.pending.get(5..13), b", world!".as_slice());
+    assert_eq!(rt; get(&send, 0..13), b"Hello".as_slice());
+    assert_eq!(rt; get(&send, 5..13), b", world!".as_slice());
     Ok(())
 }
 
@@ -183,7 +207,7 @@ fn write_takes_at_most_the_limit_handed_in(rt: HostRuntime) -> Result<(), Fail> 
 fn complete_needs_every_byte(rt: HostRuntime) -> Result<(), Fail> {
     let mut send = sent(&rt, rt.alloc(), b"abc")?;
     assert_eq!(rt; send.is_pending(), false);
-    send.finish()?;
+    finish(&mut send)?;
     assert_eq!(rt; send.is_pending(), true);
     assert_eq!(rt; ack(&rt, &mut send, 3..3, true)?, false);
     assert_eq!(rt; ack(&rt, &mut send, 0..3, false)?, true);
@@ -196,48 +220,51 @@ fn nothing_is_complete_after_a_reset(rt: HostRuntime) -> Result<(), Fail> {
     send.reset();
     assert!(rt; send.is_reset() && !send.is_pending());
     assert_eq!(rt; ack(&rt, &mut send, 0..3, true)?, false);
-    assert_eq!(rt; send.finish(), Err(FinishError::ClosedStream));
+    assert_eq!(rt; finish(&mut send), Err(FinishError::ClosedStream));
     assert_eq!(rt; send.offset(), 3);
     Ok(())
 }
 
 #[test]
 fn the_first_stop_counts(rt: HostRuntime) -> Result<(), Fail> {
-    let mut send = Send::new(rt.alloc(), VarInt::from(0));
-    assert!(rt; send.try_stop(VarInt::from(7)));
-    assert!(rt; !send.try_stop(VarInt::from(8)));
+    let mut send = half(rt.alloc(), 0);
+    assert!(rt; stop(&mut send, 7));
+    assert!(rt; !stop(&mut send, 8));
     let mut source = ByteSlice::from_slice(rt.alloc(), b"abc");
     assert_eq!(rt;
-        send.write(&mut source, 3),
+        write(&mut send, &mut source, 3),
         Err(WriteError::Stopped(VarInt::from(7)))
     );
-    assert_eq!(rt; send.finish(), Err(FinishError::Stopped(VarInt::from(7))));
+    assert_eq!(rt;
+        finish(&mut send),
+        Err(FinishError::Stopped(VarInt::from(7)))
+    );
     Ok(())
 }
 
 #[test]
 fn a_larger_limit_unblocks(rt: HostRuntime) -> Result<(), Fail> {
-    let mut send = Send::new(rt.alloc(), VarInt::from(3));
-    assert_eq!(rt; send.increase_max_data(5), false);
+    let mut send = half(rt.alloc(), 3);
+    assert_eq!(rt; raise(&mut send, 5), false);
     let mut source = ByteSlice::from_slice(rt.alloc(), b"abcdefgh");
     assert_eq!(rt;
-        send.write(&mut source, 100)?,
+        write(&mut send, &mut source, 100)?,
         Written {
             bytes: 5,
             chunks: 0
         }
     );
-    assert_eq!(rt; send.increase_max_data(5), false);
-    assert_eq!(rt; send.increase_max_data(u64::MAX), true);
+    assert_eq!(rt; raise(&mut send, 5), false);
+    assert_eq!(rt; raise(&mut send, u64::MAX), true);
     assert_eq!(rt; send.max_data, VarInt::MAX);
     assert_eq!(rt;
-        send.write(&mut source, 100)?,
+        write(&mut send, &mut source, 100)?,
         Written {
             bytes: 3,
             chunks: 1
         }
     );
-    send.finish()?;
+    finish(&mut send)?;
     assert_eq!(rt; send.is_writable(), false);
     Ok(())
 }

@@ -1,7 +1,8 @@
-use Rattle.std.proofs.Common.{◌≡◌, ℕ, ◌+◌, ◌-◌, ◌<◌, List, ◌++◌, length, refl, sym, ap, ◌∙◌, arith}
+use Rattle.std.proofs.Common.{◌≡◌, ℕ, ◌+◌, ◌-◌, ◌<◌, List, [], ◌++◌, length, refl, sym, ap, ◌∙◌, arith}
 use Rattle.std.proofs.lemmas.List.{append-nil, append_assoc}
 use Rattle.quic_sending.specs.Buffer.{Buffered, HasCuts, cut_of, total_length}
-use Rattle.quic_sending.specs.Source.{pieces_of, rest_of, popped, after_pop}
+use Rattle.quic_sending.specs.Source.{rest_of, popped, after_pop}
+use Rattle.quic_sending.proofs.Fronts.{pieces_of, AreFrontOf-pieces_of}
 use Rattle.quic_sending.proofs.Cuts.{HasCuts-reserve}
 use Rattle.quic_sending.proofs.Sources.{pieces_of-step, pieces_of-none, rest_of-step, rest_of-none, min-total-step, min-total-none, same_others, same_others-step, held-step}
 use Rattle.quic_sending.proofs.send.write_source.Goals as goal
@@ -34,22 +35,39 @@ returns-then-len-eq0-clause-written g c =
     let offset = ap (λ (v : Buffered). v.offset) c.reserve.ensures.same in
     let held = ap (λ (v : Buffered). v.held) c.reserve.ensures.same in
     let all = c.loop-chunk.invariant.held in
-    same_others
-    c.args.buffer.now c.reserve.new.self c.loop-chunk.buffer _ _ c.reserve.ensures.same c.loop-chunk.invariant.other
-    (omega arith)
-    (sym (append-nil _) ∙ (ap (λ (x : List (List ℕ)). c.loop-chunk.buffer.held ++ x) (sym gone) ∙ (all ∙ (cc))))
+    record {
+      pieces = pieces_of c.args.limit (g.S.BytesSource.lists c.args.source.now);
+      front = AreFrontOf-pieces_of c.args.limit (g.S.BytesSource.lists c.args.source.now);
+      buffer = same_others
+          c.args.buffer.now c.reserve.new.self c.loop-chunk.buffer _ _ c.reserve.ensures.same c.loop-chunk.invariant.other
+          (omega arith)
+          (sym (append-nil _) ∙ (ap (λ (x : List (List ℕ)). c.loop-chunk.buffer.held ++ x) (sym gone) ∙ (all ∙ (cc))));
+      cuts = λ cuts h.
+          let before : HasCuts cuts c.reserve.new.self = rw c.reserve.ensures.same (HasCuts-reserve c.args.buffer.now cuts _ h) in
+          let done = c.loop-chunk.invariant.cuts cuts before in
+          let all : done.0 ≡ pieces_of c.args.limit (g.S.BytesSource.lists c.args.source.now) =
+          sym (append-nil done.0) ∙ (ap (λ (x : List (List ℕ)). done.0 ++ x) (sym gone) ∙ (done.2 ∙ pieces)) in
+          rw (← all) done.1;
+    }
 
-pub returns-then-len-eq0-clause-cuts : goal.returns-then-len-eq0-clause-cuts
-returns-then-len-eq0-clause-cuts g c = λ cuts h.
-    let left = g.S.BytesSource.lists c.loop-chunk.source in
-    let size = ap length c.pop_chunk-chunk.ensures.piece in
-    let none : length (popped c.loop-chunk.left left) ≡ 0 = omega arith in
-    let gone = pieces_of-none c.loop-chunk.left left none in
-    let before : HasCuts cuts c.reserve.new.self = rw c.reserve.ensures.same (HasCuts-reserve c.args.buffer.now cuts _ h) in
-    let done = c.loop-chunk.invariant.cuts cuts before in
-    let all : done.0 ≡ pieces_of c.args.limit (g.S.BytesSource.lists c.args.source.now) =
-    sym (append-nil done.0) ∙ (ap (λ (x : List (List ℕ)). done.0 ++ x) (sym gone) ∙ (done.2 ∙ ap (pieces_of c.args.limit) c.prepare.ensures.same)) in
-    rw (← all) done.1
+pub loop-chunk-init : goal.loop-chunk-init
+loop-chunk-init g c =
+    let lists = g.S.BytesSource.lists c.args.source.now in
+    let few = c.in_ok-count.ensures.count (pieces_of c.args.limit lists) (AreFrontOf-pieces_of c.args.limit lists) in
+    let same = ap (λ (ls : List (List ℕ)). length (pieces_of c.args.limit ls)) c.prepare.ensures.same in
+    record {
+      ready = sym c.in_ok-count.ensures.ready;
+      held = refl;
+      rest = refl;
+      offset = refl;
+      bytes = omega arith;
+      below = omega arith;
+      chunks = omega arith;
+      room = omega (arith, c.in_ok-reserve.ensures.ok);
+      other = refl;
+      cuts = λ cuts h. ([], rw append-nil h, refl);
+      sound = c.reserve.ensures.sound;
+    }
 
 pub write_reserved-requires-clause-room : goal.write_reserved-requires-clause-room
 write_reserved-requires-clause-room g c =

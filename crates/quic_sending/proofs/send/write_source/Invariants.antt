@@ -1,6 +1,7 @@
 use Rattle.std.proofs.Common.{◌≡◌, ℕ, ◌+◌, ◌-◌, ◌≤◌, List, ◌++◌, length, min}
 use Rattle.quic_sending.specs.Buffer.{HasCuts, total_length, IsSound}
-use Rattle.quic_sending.specs.Source.{pieces_of, rest_of}
+use Rattle.quic_sending.specs.Source.{rest_of}
+use Rattle.quic_sending.proofs.Fronts.{pieces_of}
 use Rattle.quic_sending.proofs.send.write_source.Given as goal
 
 abbrev pub invariant-loop-chunk : goal.invariant-loop-chunk

@@ -1,5 +1,6 @@
 use Rattle.std.proofs.Common.{◌≡◌, ◌+◌, ◌-◌, ◌≤◌, length, drop}
-use Rattle.quic_sending.specs.Source.{cut_piece, pieces_of}
+use Rattle.quic_sending.specs.Source.{cut_piece}
+use Rattle.quic_sending.proofs.Fronts.{pieces_of}
 use Rattle.quic_sending.proofs.source.prepare_chunks.Given as goal
 
 abbrev pub invariant-loop-at : goal.invariant-loop-at

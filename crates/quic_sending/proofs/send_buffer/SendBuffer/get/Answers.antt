@@ -21,6 +21,8 @@ pub returns-clause-some : goal.returns-clause-some
 returns-clause-some c = λ h w n.
     let lengths = c.self.invariant.lengths in
     let offset : c.self.inside.pieces.end ≡ c.args.self.now.offset = ap (λ (v : Buffered). v.offset) c.self.view_is in
+    let prefix : c.self.inside.outcomes.prefix ≡ c.args.self.now.prefix = ap (λ (v : Buffered). v.prefix) c.self.view_is in
+    let gone = c.self.invariant.gone_acked in
     let len = length-concat c.self.inside.pieces.held in
     let within : c.args.range.start - c.self.inside.pieces.gone < length (concat c.self.inside.pieces.held) = omega arith in
     let long : 0 < c.saturating_sub-most.result = omega arith in
