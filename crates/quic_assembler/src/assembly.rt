@@ -309,6 +309,7 @@ impl Assembler {
         ensures refused { (result ≡ Err EnsureError.IllegalOrderedRead) ↔ ((ordered ≡ true) × (self.old.ordered ≡ false)) }
         ensures ok { OnOk result (self.new.ordered ≡ ordered) }
         ensures same { OnOk result (ordered ≡ self.old.ordered → self.new ≡ self.old) }
+        ensures same_ok { ordered ≡ self.old.ordered → result ≡ Ok tt }
         ensures done { OnOk result (ordered ≡ false → self.old.ordered ≡ true → (at : ℕ) → IsDone self.new at ↔ ((at < self.old.bytes_read) ⊎ IsHeld (Holds self.old) at)) }
         ensures held { KeepsOffsets (Holds self.old) (Holds self.new) }
         ensures err { OnErr result (SameHeld (Holds self.old) (Holds self.new)) }
@@ -345,7 +346,9 @@ impl Assembler {
 }
 
 impl Reassemble for Assembler {
-    ghost use Rattle.quic_assembler.specs.Reassembly.{Holds, is_done, piece_count};
+    ghost use Rattle.std.specs.Prelude.{length, OnErr};
+    ghost use Rattle.quic_assembler.specs.Piece.{TakesOff};
+    ghost use Rattle.quic_assembler.specs.Reassembly.{Holds, is_done, piece_count, sums, Accounts, IfGiven, IsSameButHeld};
     ghost use Rattle.quic_assembler.specs.Laws.{done_below, held_above, held_or_not};
 
     ghost holds = { Holds };
@@ -359,6 +362,12 @@ impl Reassemble for Assembler {
     ghost highest = { λ a. a.highest };
 
     ghost piece_count = { piece_count };
+
+    ghost inserts = { Accounts };
+
+    ghost reads = { λ a most result b. IfGiven result (λ chunk. TakesOff (length chunk.bytes) (sums a) (sums b)) };
+
+    ghost orders = { λ a ordered result b. OnErr result (IsSameButHeld a b) };
 
     ghost done_below = { done_below };
 

@@ -1,14 +1,14 @@
 use Rattle.std.proofs.Common.{arith, refl, sym, ◌++◌, option_to_list, append_assoc, []}
 use Rattle.std.proofs.lemmas.List.{append-nil}
 use Rattle.std.proofs.lemmas.Result.{err_from_is_err_and}
-use Rattle.quic_assembler.specs.Steps.{state_of}
+use Rattle.quic_assembler.specs.Steps.{body_of}
 use Rattle.quic_assembler.proofs.Replays.{replays_push, known_step, known_start, replay_end, replay_refused, refused_memory, take_next}
 use Rattle.quic_assembler.proofs.steps.replay.Goals as goal
 
 pub returns-then-is_err : goal.returns-then-is_err
 returns-then-is_err g c =
     let inv = c.loop-op.invariant in
-    replay_refused _ _ _ _ _ _ _ _ inv.given c.op-item.result _ c.loop-op-test.true c.op-item.is (rw c.reserve.ensures.items inv.added) inv.steps inv.known c.requires.ordered c.requires.fresh (refused_memory c.op-item.result _)
+    replay_refused _ _ _ _ _ _ _ _ inv.given c.op-item.result _ c.loop-op-test.true c.op-item.is (rw c.reserve.ensures.items inv.added) inv.steps inv.known c.requires.ordered c.requires.fresh (refused_memory (body_of g.R.Reassemble.holds g.R.Reassemble.is_done g.R.Reassemble.read_count g.R.Reassemble.is_ordered g.R.Reassemble.highest g.R.Reassemble.piece_count g.R.Reassemble.inserts g.R.Reassemble.reads g.R.Reassemble.orders) c.op-item.result _)
 
 pub returns-in_err-chunk : goal.returns-in_err-chunk
 returns-in_err-chunk g c =
@@ -32,8 +32,8 @@ loop-op-preserved g c =
     record {
       given = inv.given ++ option_to_list c.in_ok-chunk.chunk;
       added = rw (c.keep.ensures, c.reserve.ensures.items, inv.added, append_assoc) refl;
-      steps = rw next (replays_push (state_of g.R.Reassemble.holds g.R.Reassemble.is_done g.R.Reassemble.read_count g.R.Reassemble.is_ordered g.R.Reassemble.highest g.R.Reassemble.piece_count) _ c.op-item.result _ _ _ _ _ inv.steps c.in_ok-chunk.ensures.ok);
-      known = rw next (known_step (state_of g.R.Reassemble.holds g.R.Reassemble.is_done g.R.Reassemble.read_count g.R.Reassemble.is_ordered g.R.Reassemble.highest g.R.Reassemble.piece_count) g.met.R.Reassemble.done_below _ c.op-item.result _ _ c.loop-op.r c.take_step.new.r inv.known c.in_ok-chunk.ensures.ok);
+      steps = rw next (replays_push (body_of g.R.Reassemble.holds g.R.Reassemble.is_done g.R.Reassemble.read_count g.R.Reassemble.is_ordered g.R.Reassemble.highest g.R.Reassemble.piece_count g.R.Reassemble.inserts g.R.Reassemble.reads g.R.Reassemble.orders) _ c.op-item.result _ _ _ _ _ inv.steps c.in_ok-chunk.ensures.ok);
+      known = rw next (known_step (body_of g.R.Reassemble.holds g.R.Reassemble.is_done g.R.Reassemble.read_count g.R.Reassemble.is_ordered g.R.Reassemble.highest g.R.Reassemble.piece_count g.R.Reassemble.inserts g.R.Reassemble.reads g.R.Reassemble.orders) g.met.R.Reassemble.done_below _ c.op-item.result _ _ c.loop-op.r c.take_step.new.r inv.known c.in_ok-chunk.ensures.ok);
       mode = c.in_ok-chunk.ensures.mode;
     }
 
