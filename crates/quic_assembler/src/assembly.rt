@@ -118,7 +118,7 @@ impl Assembler {
     /// much more memory alive than they have bytes.
     ///
     /// With `TooManyChunks` and `CompactionMemory` the bytes are kept all the same; with `OutOfMemory` nothing
-    /// changes.
+    /// changes. In ordered mode bytes that are empty or were read before want no memory.
     pub fn insert(
         &mut self,
         offset: u64,
@@ -131,6 +131,7 @@ impl Assembler {
         ensures highest { MatchInsert result (self.new.highest ≡ max self.old.highest (offset + length bytes)) (self.new.highest ≡ self.old.highest) }
         ensures done { (at : ℕ) → self.old.ordered ≡ false → MatchInsert result (is_done self.new at ≡ (is_done self.old at || lies offset (offset + length bytes) at)) (is_done self.new at ≡ is_done self.old at) }
 
+        ensures unneeded { self.old.ordered ≡ true → offset + length bytes ≤ max offset self.old.bytes_read → result ≡ Err InsertError.OutOfMemory → ⊥ }
         ensures many { result ≡ Err InsertError.TooManyChunks → 1024 < piece_count self.new }
         ensures few { OnOk result (IsStale self.old offset bytes ⊎ (piece_count self.new ≤ 2048)) }
         ensures stale { IsStale self.old offset bytes → piece_count self.new ≡ piece_count self.old }
@@ -157,6 +158,7 @@ impl Assembler {
         requires { offset + length bytes < 2 ^ 62 }
         ensures ok { OnOk result (Keeps self.old self.new offset bytes allocation_size) }
         ensures err { OnErr result (self.new ≡ self.old) }
+        ensures unneeded { OnErr result (self.old.ordered ≡ true → offset + length bytes ≤ max offset self.old.bytes_read → ⊥) }
     {
         if self.ordered {
             return self.hold_unread(offset, bytes, allocation_size);
@@ -180,6 +182,7 @@ impl Assembler {
         requires mode { self.old.ordered ≡ true }
         ensures ok { OnOk result (Keeps self.old self.new offset bytes allocation_size) }
         ensures err { OnErr result (self.new ≡ self.old) }
+        ensures unneeded { OnErr result (offset + length bytes ≤ max offset self.old.bytes_read → ⊥) }
     {
         let end = offset + bytes.len() as u64;
         if end <= offset.max(self.bytes_read) {

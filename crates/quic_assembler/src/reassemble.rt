@@ -47,6 +47,7 @@ pub trait Reassemble {
         ensures kept { MatchInsert result (Takes (holds self.old) (holds self.new) (λ at. is_done self.old at ≡ true) offset bytes) (self.new ≡ self.old) }
         ensures top { MatchInsert result (highest self.new ≡ max (highest self.old) (offset + length bytes)) (highest self.new ≡ highest self.old) }
         ensures done { (at : ℕ) → is_ordered self.old ≡ false → MatchInsert result (is_done self.new at ≡ (is_done self.old at || lies offset (offset + length bytes) at)) (is_done self.new at ≡ is_done self.old at) }
+        ensures unneeded { is_ordered self.old ≡ true → offset + length bytes ≤ max offset (read_count self.old) → result ≡ Err InsertError.OutOfMemory → ⊥ }
         ensures many { result ≡ Err InsertError.TooManyChunks → 1024 < piece_count self.new }
         ensures few { OnOk result (IsBehind (is_ordered self.old) (read_count self.old) offset bytes ⊎ (piece_count self.new ≤ 2048)) }
         ensures stale { IsBehind (is_ordered self.old) (read_count self.old) offset bytes → piece_count self.new ≡ piece_count self.old }
