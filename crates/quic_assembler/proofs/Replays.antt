@@ -8,8 +8,10 @@ use Rattle.std.proofs.lemmas.Bool.{cases_lt}
 use Rattle.quic_assembler.specs.declared.steps.Op.{Op}
 use Rattle.quic_assembler.specs.declared.steps.Op.TheVariants.{Insert, Read, Unordered}
 use Rattle.quic_assembler.specs.declared.steps.ReplayError.{ReplayError}
-use Rattle.quic_assembler.specs.declared.steps.ReplayError.TheVariants.{OutOfMemory}
-use Rattle.std.proofs.Common.{Ok, Err}
+use Rattle.quic_assembler.specs.declared.steps.ReplayError.TheVariants.{TooManyChunks, CompactionMemory, OutOfMemory, BadPiece}
+use Rattle.std.proofs.Common.{Result, Ok, Err, OnErr}
+use Rattle.std.specs.Result.{is_err}
+use Rattle.std.proofs.lemmas.Bool.{false≢true}
 use Rattle.std.proofs.lemmas.List.{take_more}
 use Rattle.quic_assembler.specs.declared.chunk.Chunk.{Chunk}
 use Rattle.quic_assembler.specs.Reassembly.{IsHeld, IsWithin, HoldsNothing}
@@ -168,8 +170,8 @@ carried_whole : (ops : List Op) (i : ℕ) (given : List Chunk) → All (IsCarrie
 carried_whole ops i given h = All-weaker (IsCarriedBy (take i ops)) (IsCarriedBy ops) (λ c w at byte p. Any-take (StepCarries at byte) ops i (w at byte p)) given h
 
 -- after the last step, or a refusal
-pub replay_end : {S : Type 0} (body : Body S) (ops : List Op) (i : ℕ) (a b : S) (out next given : List Chunk) → length ops ≤ i → i ≤ length ops → next ≡ out ++ given → Replays body (take i ops) a given b → Known (take i ops) given (body.state b) → (body.state a).ordered ≡ true → (body.state a).read ≡ 0 → IsReplay body ops a b out next (Ok tt)
-replay_end body ops i a b out next given l m e r k o z = record {
+pub replay_end : {S : Type 0} (body : Body S) (ops : List Op) (i : ℕ) (a b : S) (room : ℕ) (out next given : List Chunk) → length ops ≤ i → i ≤ length ops → next ≡ out ++ given → Replays body (take i ops) a given b → Known (take i ops) given (body.state b) → (body.state a).ordered ≡ true → (body.state a).read ≡ 0 → IsReplay body ops a b room out next (Ok tt)
+replay_end body ops i a b room out next given l m e r k o z = record {
   taken = i;
   mid = b;
   given = given;
@@ -181,8 +183,8 @@ replay_end body ops i a b out next given l m e r k o z = record {
   gapless = gapless body (take i ops) a b given r o z;
 }
 
-pub replay_refused : {S : Type 0} (body : Body S) (ops : List Op) (i : ℕ) (a m b : S) (out next given : List Chunk) (op : Op) (error : ReplayError) → i < length ops → op ≡ get_or ops i op → next ≡ out ++ given → Replays body (take i ops) a given m → Known (take i ops) given (body.state m) → (body.state a).ordered ≡ true → (body.state a).read ≡ 0 → RefusesStep body op error m b → IsReplay body ops a b out next (Err error)
-replay_refused body ops i a m b out next given op error l p e r k o z f = record {
+pub replay_refused : {S : Type 0} (body : Body S) (ops : List Op) (i : ℕ) (a m b : S) (room : ℕ) (out next given : List Chunk) (op : Op) (error : ReplayError) → i < length ops → op ≡ get_or ops i op → next ≡ out ++ given → Replays body (take i ops) a given m → Known (take i ops) given (body.state m) → (body.state a).ordered ≡ true → (body.state a).read ≡ 0 → RefusesStep body (room ≤ length next) op error m b → IsReplay body ops a b room out next (Err error)
+replay_refused body ops i a m b room out next given op error l p e r k o z f = record {
   taken = i;
   mid = m;
   given = given;
@@ -194,7 +196,23 @@ replay_refused body ops i a m b out next given op error l p e r k o z f = record
   gapless = gapless body (take i ops) a m given r o z;
 }
 
-pub refused_memory : {S : Type 0} (body : Body S) (op : Op) (s : S) → RefusesStep body op OutOfMemory s s
-refused_memory body (Insert offset bytes size) s = refl
-refused_memory body (Read most) s = inl refl
-refused_memory body Unordered s = inl refl
+pub refused_memory : {S : Type 0} (body : Body S) (full : Type 0) (op : Op) (s : S) → full → RefusesStep body full op OutOfMemory s s
+refused_memory body full (Insert offset bytes size) s f = refl
+refused_memory body full (Read most) s f = inl (f, refl)
+refused_memory body full Unordered s f = inl (f, refl)
+
+-- what a call refused
+pub refused_by_call : {S : Type 0} (body : Body S) (full : Type 0) (op : Op) (e : ReplayError) (a b : S) → RefusesStep body ⊥ op e a b → RefusesStep body full op e a b
+refused_by_call body full (Insert offset bytes size) TooManyChunks a b h = h
+refused_by_call body full (Insert offset bytes size) CompactionMemory a b h = h
+refused_by_call body full (Insert offset bytes size) OutOfMemory a b h = h
+refused_by_call body full (Insert offset bytes size) BadPiece a b h = h
+refused_by_call body full (Read most) OutOfMemory a b h = elim h [ inl n ↦ absurd n.0 | inr c ↦ inr c ]
+refused_by_call body full (Read most) e a b h = absurd h
+refused_by_call body full Unordered OutOfMemory a b h = elim h [ inl n ↦ absurd n.0 | inr c ↦ inr c ]
+refused_by_call body full Unordered e a b h = absurd h
+
+-- what a call that failed ensures
+pub at_err : {T E P : Type 0} (r : Result T E) → true ≡ is_err r → OnErr r P → P
+at_err (Ok x) e h = absurd (false≢true (sym e))
+at_err (Err x) e h = h

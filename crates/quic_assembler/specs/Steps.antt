@@ -123,24 +123,24 @@ TakesOp body (Read most) a (Some chunk) b = ReadsChunk (body.state a) (body.stat
 TakesOp body Unordered a o b =
     (o ≡ None) × LeavesMode (body.state a) (body.state b) × ((body.state a).ordered ≡ false → b ≡ a) × body.orders a false (Ok tt) b
 
--- why a step was refused, and what it left: its call refused it for that reason, or it was not taken
-abbrev pub RefusesStep : {S : Type 0} → Body S → Op → ReplayError → S → S → Type 0
-RefusesStep body (Insert offset bytes size) TooManyChunks a b =
+-- why a step was refused, and what it left: its call refused it for that reason, or it was not taken: for want of room for a chunk (`full`), or, of an insert, of memory for the copy
+abbrev pub RefusesStep : {S : Type 0} → Body S → Type 0 → Op → ReplayError → S → S → Type 0
+RefusesStep body full (Insert offset bytes size) TooManyChunks a b =
     Inserts (body.state a) (body.state b) offset bytes × (1024 < (body.state b).pieces)
     × (IsBehind (body.state a).ordered (body.state a).read offset bytes → ⊥)
     × IsFit offset bytes size × body.inserts a offset bytes size (Err insert_error.TooManyChunks) b
-RefusesStep body (Insert offset bytes size) CompactionMemory a b =
+RefusesStep body full (Insert offset bytes size) CompactionMemory a b =
     Inserts (body.state a) (body.state b) offset bytes
     × (IsBehind (body.state a).ordered (body.state a).read offset bytes → ⊥)
     × IsFit offset bytes size × body.inserts a offset bytes size (Err insert_error.CompactionMemory) b
-RefusesStep body (Insert offset bytes size) BadPiece a b = (b ≡ a) × ((2 ^ 62 ≤ offset + length bytes) ⊎ (size < length bytes))
-RefusesStep body (Insert offset bytes size) OutOfMemory a b = b ≡ a
-RefusesStep body (Read most) OutOfMemory a b =
-    (b ≡ a) ⊎ (ReadsShort (body.state a) (body.state b) most × ((error : Refusal) × body.reads a most (Err error) b))
-RefusesStep body (Read most) e a b = ⊥
-RefusesStep body Unordered OutOfMemory a b =
-    (b ≡ a) ⊎ (Stays (body.state a) (body.state b) × ((body.state a).ordered ≡ true) × body.orders a false (Err ensure_error.OutOfMemory) b)
-RefusesStep body Unordered e a b = ⊥
+RefusesStep body full (Insert offset bytes size) BadPiece a b = (b ≡ a) × ((2 ^ 62 ≤ offset + length bytes) ⊎ (size < length bytes))
+RefusesStep body full (Insert offset bytes size) OutOfMemory a b = b ≡ a
+RefusesStep body full (Read most) OutOfMemory a b =
+    (full × (b ≡ a)) ⊎ (ReadsShort (body.state a) (body.state b) most × ((error : Refusal) × body.reads a most (Err error) b))
+RefusesStep body full (Read most) e a b = ⊥
+RefusesStep body full Unordered OutOfMemory a b =
+    (full × (b ≡ a)) ⊎ (Stays (body.state a) (body.state b) × ((body.state a).ordered ≡ true) × body.orders a false (Err ensure_error.OutOfMemory) b)
+RefusesStep body full Unordered e a b = ⊥
 
 -- the steps lead from a to b, one after the other, and gave the chunks
 abbrev pub Replays : {S : Type 0} → Body S → List Op → S → List Chunk → S → Type 0
@@ -190,14 +190,14 @@ pub record IsGapless {S : Type 0} (body : Body S) (ops : List Op) (a b : S) (giv
   pub after : Replays body (later_steps ops) mid later b
   pub follows : Follows 0 first ((body.state mid).read)
 
--- so many steps were taken, up to a refusal or all of them, and what they gave was put behind `out`
-pub record IsReplay {S : Type 0} (body : Body S) (ops : List Op) (a b : S) (out next : List Chunk) (r : Result (Unit {0}) ReplayError) : Type 0 where
+-- so many steps were taken, up to a refusal or all of them, and what they gave was put behind `out`, which had room for so many chunks
+pub record IsReplay {S : Type 0} (body : Body S) (ops : List Op) (a b : S) (room : ℕ) (out next : List Chunk) (r : Result (Unit {0}) ReplayError) : Type 0 where
   pub taken : ℕ
   pub mid : S
   pub given : List Chunk
   pub added : next ≡ out ++ given
   pub steps : Replays body (take taken ops) a given mid
-  pub end : MatchResult r (λ _. (taken ≡ length ops) × (b ≡ mid)) (λ e. (taken < length ops) × ((d : Op) → RefusesStep body (slice_index_or ops taken d) e mid b))
+  pub end : MatchResult r (λ _. (taken ≡ length ops) × (b ≡ mid)) (λ e. (taken < length ops) × ((d : Op) → RefusesStep body (room ≤ length next) (slice_index_or ops taken d) e mid b))
   pub carried : All (IsCarriedBy ops) given
   pub apart : AllPairs AreApart given
   pub gapless : IsGapless body (take taken ops) a mid given

@@ -78,7 +78,7 @@ fn insert_copy<R: Reassemble>(
     allocation_size: usize,
 ) -> Result<Option<Chunk>, ReplayError>
     ensures ok { IfOk result (λ chunk. TakesOp (body_of R.holds R.is_done R.read_count R.is_ordered R.highest R.piece_count R.inserts R.reads R.orders) (Op.Insert offset bytes.now allocation_size) r.old chunk r.new) }
-    ensures err { IfErr result (λ e. RefusesStep (body_of R.holds R.is_done R.read_count R.is_ordered R.highest R.piece_count R.inserts R.reads R.orders) (Op.Insert offset bytes.now allocation_size) e r.old r.new) }
+    ensures err { IfErr result (λ e. RefusesStep (body_of R.holds R.is_done R.read_count R.is_ordered R.highest R.piece_count R.inserts R.reads R.orders) ⊥ (Op.Insert offset bytes.now allocation_size) e r.old r.new) }
 {
     if !is_piece(offset, bytes.len(), allocation_size) {
         return Err(ReplayError::BadPiece);
@@ -100,7 +100,7 @@ fn read_next<R: Reassemble>(
 ) -> Result<Option<Chunk>, ReplayError>
     requires { ordered ≡ R.is_ordered r.old }
     ensures ok { IfOk result (λ chunk. TakesOp (body_of R.holds R.is_done R.read_count R.is_ordered R.highest R.piece_count R.inserts R.reads R.orders) (Op.Read max_length) r.old chunk r.new) }
-    ensures err { IfErr result (λ e. RefusesStep (body_of R.holds R.is_done R.read_count R.is_ordered R.highest R.piece_count R.inserts R.reads R.orders) (Op.Read max_length) e r.old r.new) }
+    ensures err { IfErr result (λ e. RefusesStep (body_of R.holds R.is_done R.read_count R.is_ordered R.highest R.piece_count R.inserts R.reads R.orders) ⊥ (Op.Read max_length) e r.old r.new) }
 {
     match r.read(max_length, ordered)? {
         None => Ok(None),
@@ -111,7 +111,7 @@ fn read_next<R: Reassemble>(
 // Goes to unordered mode.
 fn leave_order<R: Reassemble>(r: &mut R) -> Result<Option<Chunk>, ReplayError>
     ensures ok { IfOk result (λ chunk. TakesOp (body_of R.holds R.is_done R.read_count R.is_ordered R.highest R.piece_count R.inserts R.reads R.orders) Op.Unordered r.old chunk r.new) }
-    ensures err { IfErr result (λ e. RefusesStep (body_of R.holds R.is_done R.read_count R.is_ordered R.highest R.piece_count R.inserts R.reads R.orders) Op.Unordered e r.old r.new) }
+    ensures err { IfErr result (λ e. RefusesStep (body_of R.holds R.is_done R.read_count R.is_ordered R.highest R.piece_count R.inserts R.reads R.orders) ⊥ Op.Unordered e r.old r.new) }
 {
     match r.ensure_ordering(false) {
         Ok(()) => Ok(None),
@@ -128,7 +128,7 @@ fn take_step<R: Reassemble>(
 ) -> Result<Option<Chunk>, ReplayError>
     requires { ordered.old ≡ R.is_ordered r.old }
     ensures ok { IfOk result (λ chunk. TakesOp (body_of R.holds R.is_done R.read_count R.is_ordered R.highest R.piece_count R.inserts R.reads R.orders) op.now r.old chunk r.new) }
-    ensures err { IfErr result (λ e. RefusesStep (body_of R.holds R.is_done R.read_count R.is_ordered R.highest R.piece_count R.inserts R.reads R.orders) op.now e r.old r.new) }
+    ensures err { IfErr result (λ e. RefusesStep (body_of R.holds R.is_done R.read_count R.is_ordered R.highest R.piece_count R.inserts R.reads R.orders) ⊥ op.now e r.old r.new) }
     ensures mode { OnOk result (ordered.new ≡ R.is_ordered r.new) }
 {
     match op {
@@ -149,7 +149,8 @@ fn take_step<R: Reassemble>(
 // There is room.
 fn keep(out: &mut Vec<Chunk>, given: Option<Chunk>)
     requires { vec_len out.old < vec_capacity out.old }
-    ensures { out.new.items ≡ out.old.items ++ option_to_list given }
+    ensures kept { out.new.items ≡ out.old.items ++ option_to_list given }
+    ensures room { vec_capacity out.old ≤ vec_capacity out.new }
 {
     if let Some(chunk) = given {
         if out.push(chunk).is_err() {
@@ -160,12 +161,13 @@ fn keep(out: &mut Vec<Chunk>, given: Option<Chunk>)
 
 /// Takes the steps in order, on a reassembler that holds nothing, has read nothing and is in ordered mode. A chunk that
 /// a read gives goes behind `out`; a read that gives none adds nothing. It stops at the first refusal: the steps
-/// before it stand, in `r` and in `out`.
+/// before it stand, in `r` and in `out`. Where `out` has room for a chunk for each step, a read is refused only where
+/// its own call is.
 pub fn replay<R: Reassemble>(r: &mut R, ops: &[Op], out: &mut Vec<Chunk>) -> Result<(), ReplayError>
     requires ordered { R.is_ordered r.old ≡ true }
     requires fresh { R.read_count r.old ≡ 0 }
     requires empty { HoldsNothing (R.holds r.old) }
-    ensures { IsReplay (body_of R.holds R.is_done R.read_count R.is_ordered R.highest R.piece_count R.inserts R.reads R.orders) ops.now r.old r.new out.old.items out.new.items result }
+    ensures { IsReplay (body_of R.holds R.is_done R.read_count R.is_ordered R.highest R.piece_count R.inserts R.reads R.orders) ops.now r.old r.new (vec_capacity out.old) out.old.items out.new.items result }
 {
     let mut ordered = true;
     for op in ops {

@@ -1,4 +1,4 @@
-use Rattle.std.proofs.Common.{◌≡◌, ◌++◌, List, take}
+use Rattle.std.proofs.Common.{◌≡◌, ◌≤◌, ◌++◌, List, take, vec_capacity}
 use Rattle.quic_assembler.specs.declared.chunk.Chunk.{Chunk}
 use Rattle.quic_assembler.specs.Steps.{body_of, Replays}
 use Rattle.quic_assembler.proofs.Replays.{Known}
@@ -12,5 +12,6 @@ invariant-loop-op g l =
       added : l.out.items ≡ l.initial.out.items ++ given;
       steps : Replays body (take l.op-index l.ops) l.initial.r given l.r;
       known : Known (take l.op-index l.ops) given (body.state l.r);
+      room : vec_capacity l.initial.out ≤ vec_capacity l.out;
       mode : l.ordered ≡ g.R.Reassemble.is_ordered l.r;
     }
