@@ -8,19 +8,21 @@ use Rattle.std.proofs.lemmas.Bool.{cases_lt}
 use Rattle.quic_assembler.specs.declared.steps.Op.{Op}
 use Rattle.quic_assembler.specs.declared.steps.Op.TheVariants.{Insert, Read, Unordered}
 use Rattle.quic_assembler.specs.declared.steps.ReplayError.{ReplayError}
-use Rattle.quic_assembler.specs.declared.steps.ReplayError.TheVariants.{OutOfMemory}
-use Rattle.std.proofs.Common.{Ok, Err}
+use Rattle.quic_assembler.specs.declared.steps.ReplayError.TheVariants.{TooManyChunks, CompactionMemory, OutOfMemory, BadPiece}
+use Rattle.std.proofs.Common.{Result, Ok, Err, OnErr}
+use Rattle.std.specs.Result.{is_err}
+use Rattle.std.proofs.lemmas.Bool.{false≢true}
 use Rattle.std.proofs.lemmas.List.{take_more}
 use Rattle.quic_assembler.specs.declared.chunk.Chunk.{Chunk}
 use Rattle.quic_assembler.specs.Reassembly.{IsHeld, IsWithin, HoldsNothing}
-use Rattle.quic_assembler.specs.Steps.{State, IsDoneIn, ReadsChunk, Stays, LeavesMode, TakesOp, Replays, StepCarries, IsCarriedBy, AreApart, Follows, ordered_steps, later_steps, IsGapless, IsReplay, RefusesStep}
+use Rattle.quic_assembler.specs.Steps.{State, Body, IsDoneIn, ReadsChunk, LeavesMode, TakesOp, Replays, StepCarries, IsCarriedBy, AreApart, Follows, ordered_steps, later_steps, IsGapless, IsReplay, RefusesStep}
 use Rattle.quic_assembler.proofs.Counts.{Any-nil, Any-unpush}
 
 -- one more step
-pub replays_push : {S : Type 0} (value : S → State) (ops : List Op) (op : Op) (a m b : S) (given : List Chunk) (o : Option Chunk) → Replays value ops a given m → TakesOp op (value m) o (value b) → Replays value (ops ++ op ∷ []) a (given ++ option_to_list o) b
-replays_push value [] op a m b given o r s = (b, o, [], (rw r.0 at s), (refl, refl), (rw (r.1, append-nil) refl))
-replays_push value (p ∷ ops) op a m b given o (mid, chunk, rest, t, r, e) s =
-    (mid, chunk, rest ++ option_to_list o, t, replays_push value ops op mid m b rest o r s, (rw (e, append_assoc) refl))
+pub replays_push : {S : Type 0} (body : Body S) (ops : List Op) (op : Op) (a m b : S) (given : List Chunk) (o : Option Chunk) → Replays body ops a given m → TakesOp body op m o b → Replays body (ops ++ op ∷ []) a (given ++ option_to_list o) b
+replays_push body [] op a m b given o r s = (b, o, [], (rw r.0 at s), (refl, refl), (rw (r.1, append-nil) refl))
+replays_push body (p ∷ ops) op a m b given o (mid, chunk, rest, t, r, e) s =
+    (mid, chunk, rest ++ option_to_list o, t, replays_push body ops op mid m b rest o r s, (rw (e, append_assoc) refl))
 
 -- what is known after steps: what is held was brought, what was given was brought, given once, is done and is not held
 pub record Known (ops : List Op) (given : List Chunk) (s : State) : Type 0 where
@@ -86,66 +88,66 @@ or_true : (b t c : Bool) → b ≡ true → c ≡ (b || t) → c ≡ true
 or_true b t c e f = f ∙ rw e refl
 
 -- each step keeps what is known
-pub known_step : {S : Type 0} (value : S → State) (law : (x : S) (at : ℕ) → (value x).ordered ≡ true → IsDoneIn (value x) at ↔ (at < (value x).read)) (ops : List Op) (op : Op) (given : List Chunk) (o : Option Chunk) (a b : S) → Known ops given (value a) → TakesOp op (value a) o (value b) → Known (ops ++ op ∷ []) (given ++ option_to_list o) (value b)
-known_step value law ops (Insert offset bytes size) given o a b k (e, i, few) =
-    let d : (at : ℕ) → IsDoneIn (value a) at → IsDoneIn (value b) at = λ at. done_kept (value a) (value b) at (value a).ordered refl i.ordered (omega (arith, i.read)) (law a at) (law b at) (λ f h. or_true _ _ _ h (i.done at f)) in
-    rw e (known_none ops (Insert offset bytes size) given (value a) (value b) k
+pub known_step : {S : Type 0} (body : Body S) (law : (x : S) (at : ℕ) → (body.state x).ordered ≡ true → IsDoneIn (body.state x) at ↔ (at < (body.state x).read)) (ops : List Op) (op : Op) (given : List Chunk) (o : Option Chunk) (a b : S) → Known ops given (body.state a) → TakesOp body op a o b → Known (ops ++ op ∷ []) (given ++ option_to_list o) (body.state b)
+known_step body law ops (Insert offset bytes size) given o a b k (e, i, few, fit, call) =
+    let d : (at : ℕ) → IsDoneIn (body.state a) at → IsDoneIn (body.state b) at = λ at. done_kept (body.state a) (body.state b) at (body.state a).ordered refl i.ordered (omega (arith, i.read)) (law a at) (law b at) (λ f h. or_true _ _ _ h (i.done at f)) in
+    rw e (known_none ops (Insert offset bytes size) given (body.state a) (body.state b) k
     (λ at byte h. elim (i.held.origin at byte h) [
       | inl w ↦ Any-left (StepCarries at byte) ops (Insert offset bytes size) (k.held at byte w)
       | inr w ↦ Any-last (StepCarries at byte) ops (Insert offset bytes size) w
     ])
     d
     (λ at done none h. elim (i.held.fresh at h.0 h.1) [ inl w ↦ none (h.0, w) | inr w ↦ w done ]))
-known_step value law ops (Read most) given None a b k r =
-    known_none ops (Read most) given (value a) (value b) k
+known_step body law ops (Read most) given None a b k (r, call) =
+    known_none ops (Read most) given (body.state a) (body.state b) k
     (λ at byte h. Any-left (StepCarries at byte) ops (Read most) (k.held at byte (r.stays.held.origin at byte h)))
-    (λ at. done_kept (value a) (value b) at (value a).ordered refl r.stays.ordered (omega (arith, r.stays.read)) (law a at) (law b at) (λ f h. r.stays.done at f ∙ h))
+    (λ at. done_kept (body.state a) (body.state b) at (body.state a).ordered refl r.stays.ordered (omega (arith, r.stays.read)) (law a at) (law b at) (λ f h. r.stays.done at f ∙ h))
     (λ at done none h. none (h.0, r.stays.held.origin at h.0 h.1))
-known_step value law ops (Read most) given (Some chunk) a b k r =
-    known_chunk ops (Read most) given (value a) (value b) most chunk k r
-    (λ at. done_kept (value a) (value b) at (value a).ordered refl r.ordered (omega (arith, r.moves)) (law a at) (law b at) (λ f h. r.done at f ∙ h))
-known_step value law ops Unordered given o a b k (e, l) =
-    rw e (known_none ops Unordered given (value a) (value b) k
+known_step body law ops (Read most) given (Some chunk) a b k (r, call) =
+    known_chunk ops (Read most) given (body.state a) (body.state b) most chunk k r
+    (λ at. done_kept (body.state a) (body.state b) at (body.state a).ordered refl r.ordered (omega (arith, r.moves)) (law a at) (law b at) (λ f h. r.done at f ∙ h))
+known_step body law ops Unordered given o a b k (e, l, same, call) =
+    rw e (known_none ops Unordered given (body.state a) (body.state b) k
     (λ at byte h. Any-left (StepCarries at byte) ops Unordered (k.held at byte (l.held.origin at byte h)))
-    (λ at. done_left (value a) (value b) at (value a).ordered refl l (law a at))
+    (λ at. done_left (body.state a) (body.state b) at (body.state a).ordered refl l (law a at))
     (λ at done none h. none (h.0, l.held.origin at h.0 h.1)))
 
 -- the steps before the first change of mode, and the others
-pub record Splits {S : Type 0} (value : S → State) (ops : List Op) (a b : S) (given : List Chunk) : Type 0 where
+pub record Splits {S : Type 0} (body : Body S) (ops : List Op) (a b : S) (given : List Chunk) : Type 0 where
   pub mid : S
   pub first : List Chunk
   pub later : List Chunk
   pub given_is : given ≡ first ++ later
-  pub before : Replays value (ordered_steps ops) a first mid
-  pub after : Replays value (later_steps ops) mid later b
+  pub before : Replays body (ordered_steps ops) a first mid
+  pub after : Replays body (later_steps ops) mid later b
 
-splits : {S : Type 0} (value : S → State) (ops : List Op) (a b : S) (given : List Chunk) → Replays value ops a given b → Splits value ops a b given
-splits value [] a b given r = record { mid = a; first = []; later = []; given_is = r.1; before = (refl, refl); after = (r.0, refl) }
-splits value (Insert offset bytes size ∷ ops) a b given (m, o, rest, s, r, e) =
-    let q = splits value ops m b rest r in
+splits : {S : Type 0} (body : Body S) (ops : List Op) (a b : S) (given : List Chunk) → Replays body ops a given b → Splits body ops a b given
+splits body [] a b given r = record { mid = a; first = []; later = []; given_is = r.1; before = (refl, refl); after = (r.0, refl) }
+splits body (Insert offset bytes size ∷ ops) a b given (m, o, rest, s, r, e) =
+    let q = splits body ops m b rest r in
     record { mid = q.mid; first = option_to_list o ++ q.first; later = q.later; given_is = e ∙ (ap (λ (y : List Chunk). option_to_list o ++ y) q.given_is ∙ sym (append_assoc (option_to_list o) q.first q.later)); before = (m, o, q.first, s, q.before, refl); after = q.after }
-splits value (Read most ∷ ops) a b given (m, o, rest, s, r, e) =
-    let q = splits value ops m b rest r in
+splits body (Read most ∷ ops) a b given (m, o, rest, s, r, e) =
+    let q = splits body ops m b rest r in
     record { mid = q.mid; first = option_to_list o ++ q.first; later = q.later; given_is = e ∙ (ap (λ (y : List Chunk). option_to_list o ++ y) q.given_is ∙ sym (append_assoc (option_to_list o) q.first q.later)); before = (m, o, q.first, s, q.before, refl); after = q.after }
-splits value (Unordered ∷ ops) a b given r = record { mid = a; first = []; later = given; given_is = refl; before = (refl, refl); after = r }
+splits body (Unordered ∷ ops) a b given r = record { mid = a; first = []; later = given; given_is = refl; before = (refl, refl); after = r }
 
 follows_from : (n m e : ℕ) (cs : List Chunk) → Follows n cs e → n ≡ m → Follows m cs e
 follows_from n m e cs f h = rw (← h) f
 
-follows : {S : Type 0} (value : S → State) (ops : List Op) (a b : S) (given : List Chunk) → Replays value (ordered_steps ops) a given b → (value a).ordered ≡ true → Follows (value a).read given (value b).read
-follows value [] a b given r o = rw (r.1, r.0) refl
-follows value (Insert offset bytes size ∷ ops) a b given (m, c, rest, s, r, e) o =
-    rw (e, s.0) (follows_from _ _ _ _ (follows value ops m b rest r (s.1.ordered ∙ o)) s.1.read)
-follows value (Read most ∷ ops) a b given (m, None, rest, s, r, e) o =
-    rw e (follows_from _ _ _ _ (follows value ops m b rest r (s.stays.ordered ∙ o)) s.stays.read)
-follows value (Read most ∷ ops) a b given (m, Some c, rest, s, r, e) o =
-    rw e (s.start o, follows_from _ _ _ _ (follows value ops m b rest r (s.ordered ∙ o)) s.moves)
-follows value (Unordered ∷ ops) a b given r o = rw (r.1, r.0) refl
+follows : {S : Type 0} (body : Body S) (ops : List Op) (a b : S) (given : List Chunk) → Replays body (ordered_steps ops) a given b → (body.state a).ordered ≡ true → Follows (body.state a).read given (body.state b).read
+follows body [] a b given r o = rw (r.1, r.0) refl
+follows body (Insert offset bytes size ∷ ops) a b given (m, c, rest, s, r, e) o =
+    rw (e, s.0) (follows_from _ _ _ _ (follows body ops m b rest r (s.1.ordered ∙ o)) s.1.read)
+follows body (Read most ∷ ops) a b given (m, None, rest, s, r, e) o =
+    rw e (follows_from _ _ _ _ (follows body ops m b rest r (s.0.stays.ordered ∙ o)) s.0.stays.read)
+follows body (Read most ∷ ops) a b given (m, Some c, rest, s, r, e) o =
+    rw e (s.0.start o, follows_from _ _ _ _ (follows body ops m b rest r (s.0.ordered ∙ o)) s.0.moves)
+follows body (Unordered ∷ ops) a b given r o = rw (r.1, r.0) refl
 
-pub gapless : {S : Type 0} (value : S → State) (ops : List Op) (a b : S) (given : List Chunk) → Replays value ops a given b → (value a).ordered ≡ true → (value a).read ≡ 0 → IsGapless value ops a b given
-gapless value ops a b given r o z =
-    let q = splits value ops a b given r in
-    record { mid = q.mid; first = q.first; later = q.later; given_is = q.given_is; before = q.before; after = q.after; follows = follows_from _ _ _ _ (follows value ops a q.mid q.first q.before o) z }
+pub gapless : {S : Type 0} (body : Body S) (ops : List Op) (a b : S) (given : List Chunk) → Replays body ops a given b → (body.state a).ordered ≡ true → (body.state a).read ≡ 0 → IsGapless body ops a b given
+gapless body ops a b given r o z =
+    let q = splits body ops a b given r in
+    record { mid = q.mid; first = q.first; later = q.later; given_is = q.given_is; before = q.before; after = q.after; follows = follows_from _ _ _ _ (follows body ops a q.mid q.first q.before o) z }
 
 -- before the first step
 pub known_start : (s : State) → HoldsNothing s.held → Known [] [] s
@@ -168,8 +170,8 @@ carried_whole : (ops : List Op) (i : ℕ) (given : List Chunk) → All (IsCarrie
 carried_whole ops i given h = All-weaker (IsCarriedBy (take i ops)) (IsCarriedBy ops) (λ c w at byte p. Any-take (StepCarries at byte) ops i (w at byte p)) given h
 
 -- after the last step, or a refusal
-pub replay_end : {S : Type 0} (value : S → State) (ops : List Op) (i : ℕ) (a b : S) (out next given : List Chunk) → length ops ≤ i → i ≤ length ops → next ≡ out ++ given → Replays value (take i ops) a given b → Known (take i ops) given (value b) → (value a).ordered ≡ true → (value a).read ≡ 0 → IsReplay value ops a b out next (Ok tt)
-replay_end value ops i a b out next given l m e r k o z = record {
+pub replay_end : {S : Type 0} (body : Body S) (ops : List Op) (i : ℕ) (a b : S) (room : ℕ) (out next given : List Chunk) → length ops ≤ i → i ≤ length ops → next ≡ out ++ given → Replays body (take i ops) a given b → Known (take i ops) given (body.state b) → (body.state a).ordered ≡ true → (body.state a).read ≡ 0 → IsReplay body ops a b room out next (Ok tt)
+replay_end body ops i a b room out next given l m e r k o z = record {
   taken = i;
   mid = b;
   given = given;
@@ -178,11 +180,11 @@ replay_end value ops i a b out next given l m e r k o z = record {
   end = (omega arith, refl);
   carried = carried_whole ops i given k.carried;
   apart = k.apart;
-  gapless = gapless value (take i ops) a b given r o z;
+  gapless = gapless body (take i ops) a b given r o z;
 }
 
-pub replay_refused : {S : Type 0} (value : S → State) (ops : List Op) (i : ℕ) (a m b : S) (out next given : List Chunk) (op : Op) (error : ReplayError) → i < length ops → op ≡ get_or ops i op → next ≡ out ++ given → Replays value (take i ops) a given m → Known (take i ops) given (value m) → (value a).ordered ≡ true → (value a).read ≡ 0 → RefusesStep op error (value m) (value b) → IsReplay value ops a b out next (Err error)
-replay_refused value ops i a m b out next given op error l p e r k o z f = record {
+pub replay_refused : {S : Type 0} (body : Body S) (ops : List Op) (i : ℕ) (a m b : S) (room : ℕ) (out next given : List Chunk) (op : Op) (error : ReplayError) → i < length ops → op ≡ get_or ops i op → next ≡ out ++ given → Replays body (take i ops) a given m → Known (take i ops) given (body.state m) → (body.state a).ordered ≡ true → (body.state a).read ≡ 0 → RefusesStep body (room ≤ length next) op error m b → IsReplay body ops a b room out next (Err error)
+replay_refused body ops i a m b room out next given op error l p e r k o z f = record {
   taken = i;
   mid = m;
   given = given;
@@ -191,13 +193,26 @@ replay_refused value ops i a m b out next given op error l p e r k o z f = recor
   end = (l, (λ d. rw (get_or_default ops i d op l, ← p) f));
   carried = carried_whole ops i given k.carried;
   apart = k.apart;
-  gapless = gapless value (take i ops) a m given r o z;
+  gapless = gapless body (take i ops) a m given r o z;
 }
 
-stays_same : (s : State) → Stays s s
-stays_same s = record { held = record { keeps = λ at byte h. h; origin = λ at byte h. h }; done = λ at _. refl; read = refl; ordered = refl; highest = refl; pieces = omega arith }
+pub refused_memory : {S : Type 0} (body : Body S) (full : Type 0) (op : Op) (s : S) → full → RefusesStep body full op OutOfMemory s s
+refused_memory body full (Insert offset bytes size) s f = refl
+refused_memory body full (Read most) s f = inl (f, refl)
+refused_memory body full Unordered s f = inl (f, refl)
 
-pub refused_memory : (op : Op) (s : State) → RefusesStep op OutOfMemory s s
-refused_memory (Insert offset bytes size) s = stays_same s
-refused_memory (Read most) s = stays_same s
-refused_memory Unordered s = stays_same s
+-- what a call refused
+pub refused_by_call : {S : Type 0} (body : Body S) (full : Type 0) (op : Op) (e : ReplayError) (a b : S) → RefusesStep body ⊥ op e a b → RefusesStep body full op e a b
+refused_by_call body full (Insert offset bytes size) TooManyChunks a b h = h
+refused_by_call body full (Insert offset bytes size) CompactionMemory a b h = h
+refused_by_call body full (Insert offset bytes size) OutOfMemory a b h = h
+refused_by_call body full (Insert offset bytes size) BadPiece a b h = h
+refused_by_call body full (Read most) OutOfMemory a b h = elim h [ inl n ↦ absurd n.0 | inr c ↦ inr c ]
+refused_by_call body full (Read most) e a b h = absurd h
+refused_by_call body full Unordered OutOfMemory a b h = elim h [ inl n ↦ absurd n.0 | inr c ↦ inr c ]
+refused_by_call body full Unordered e a b h = absurd h
+
+-- what a call that failed ensures
+pub at_err : {T E P : Type 0} (r : Result T E) → true ≡ is_err r → OnErr r P → P
+at_err (Ok x) e h = absurd (false≢true (sym e))
+at_err (Err x) e h = h

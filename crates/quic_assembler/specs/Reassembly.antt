@@ -212,8 +212,11 @@ abbrev pub HoldsNothing : (ℕ → ℕ → Type 0) → Type 0
 HoldsNothing held = (at byte : ℕ) → held at byte → ⊥
 
 -- in ordered mode the bytes start below what was read, and end at or below it
+abbrev pub IsBehind : Bool → ℕ → ℕ → List ℕ → Type 0
+IsBehind ordered read offset bytes = (ordered ≡ true) × (offset < read) × (offset + length bytes ≤ read)
+
 abbrev pub IsStale : Reassembly → ℕ → List ℕ → Type 0
-IsStale a offset bytes = (a.ordered ≡ true) × (offset < a.bytes_read) × (offset + length bytes ≤ a.bytes_read)
+IsStale a offset bytes = IsBehind a.ordered a.bytes_read offset bytes
 
 -- all but what is held is the same
 pub record IsSameButHeld (a b : Reassembly) : Type 0 where

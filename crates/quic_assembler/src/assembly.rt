@@ -118,7 +118,7 @@ impl Assembler {
     /// much more memory alive than they have bytes.
     ///
     /// With `TooManyChunks` and `CompactionMemory` the bytes are kept all the same; with `OutOfMemory` nothing
-    /// changes.
+    /// changes. In ordered mode bytes that are empty or were read before want no memory.
     pub fn insert(
         &mut self,
         offset: u64,
@@ -131,6 +131,7 @@ impl Assembler {
         ensures highest { MatchInsert result (self.new.highest ≡ max self.old.highest (offset + length bytes)) (self.new.highest ≡ self.old.highest) }
         ensures done { (at : ℕ) → self.old.ordered ≡ false → MatchInsert result (is_done self.new at ≡ (is_done self.old at || lies offset (offset + length bytes) at)) (is_done self.new at ≡ is_done self.old at) }
 
+        ensures unneeded { self.old.ordered ≡ true → offset + length bytes ≤ max offset self.old.bytes_read → result ≡ Err InsertError.OutOfMemory → ⊥ }
         ensures many { result ≡ Err InsertError.TooManyChunks → 1024 < piece_count self.new }
         ensures few { OnOk result (IsStale self.old offset bytes ⊎ (piece_count self.new ≤ 2048)) }
         ensures stale { IsStale self.old offset bytes → piece_count self.new ≡ piece_count self.old }
@@ -157,6 +158,7 @@ impl Assembler {
         requires { offset + length bytes < 2 ^ 62 }
         ensures ok { OnOk result (Keeps self.old self.new offset bytes allocation_size) }
         ensures err { OnErr result (self.new ≡ self.old) }
+        ensures unneeded { OnErr result (self.old.ordered ≡ true → offset + length bytes ≤ max offset self.old.bytes_read → ⊥) }
     {
         if self.ordered {
             return self.hold_unread(offset, bytes, allocation_size);
@@ -180,6 +182,7 @@ impl Assembler {
         requires mode { self.old.ordered ≡ true }
         ensures ok { OnOk result (Keeps self.old self.new offset bytes allocation_size) }
         ensures err { OnErr result (self.new ≡ self.old) }
+        ensures unneeded { OnErr result (offset + length bytes ≤ max offset self.old.bytes_read → ⊥) }
     {
         let end = offset + bytes.len() as u64;
         if end <= offset.max(self.bytes_read) {
@@ -309,6 +312,7 @@ impl Assembler {
         ensures refused { (result ≡ Err EnsureError.IllegalOrderedRead) ↔ ((ordered ≡ true) × (self.old.ordered ≡ false)) }
         ensures ok { OnOk result (self.new.ordered ≡ ordered) }
         ensures same { OnOk result (ordered ≡ self.old.ordered → self.new ≡ self.old) }
+        ensures same_ok { ordered ≡ self.old.ordered → result ≡ Ok tt }
         ensures done { OnOk result (ordered ≡ false → self.old.ordered ≡ true → (at : ℕ) → IsDone self.new at ↔ ((at < self.old.bytes_read) ⊎ IsHeld (Holds self.old) at)) }
         ensures held { KeepsOffsets (Holds self.old) (Holds self.new) }
         ensures err { OnErr result (SameHeld (Holds self.old) (Holds self.new)) }
@@ -345,7 +349,9 @@ impl Assembler {
 }
 
 impl Reassemble for Assembler {
-    ghost use Rattle.quic_assembler.specs.Reassembly.{Holds, is_done, piece_count};
+    ghost use Rattle.std.specs.Prelude.{length, OnErr};
+    ghost use Rattle.quic_assembler.specs.Piece.{TakesOff};
+    ghost use Rattle.quic_assembler.specs.Reassembly.{Holds, is_done, piece_count, sums, Accounts, IfGiven, IsSameButHeld};
     ghost use Rattle.quic_assembler.specs.Laws.{done_below, held_above, held_or_not};
 
     ghost holds = { Holds };
@@ -359,6 +365,12 @@ impl Reassemble for Assembler {
     ghost highest = { λ a. a.highest };
 
     ghost piece_count = { piece_count };
+
+    ghost inserts = { Accounts };
+
+    ghost reads = { λ a most result b. IfGiven result (λ chunk. TakesOff (length chunk.bytes) (sums a) (sums b)) };
+
+    ghost orders = { λ a ordered result b. OnErr result (IsSameButHeld a b) };
 
     ghost done_below = { done_below };
 

@@ -1,7 +1,8 @@
 // What a reassembler does, however it keeps its pieces.
 ghost use Rattle.std.specs.Prelude.{◌≡◌, ℕ, ◌+◌, ◌^◌, ◌<◌, ◌≤◌, ◌↔◌, ◌⊎◌, ◌||◌, Bool, true, false, max, length, OnOk, OnErr, IsTrue, Ok, Err};
 ghost use Rattle.quic_assembler.specs.Piece.{lies};
-ghost use Rattle.quic_assembler.specs.Reassembly.{IsHeld, IsWithin, HoldsMore, Takes, Gives, SameHeld, KeepsOffsets, HoldsNothing, MatchInsert, IfGiven, OnNothing, run_count};
+ghost use Rattle.quic_assembler.specs.Reassembly.{IsHeld, IsWithin, HoldsMore, Takes, Gives, SameHeld, KeepsOffsets, HoldsNothing, IsBehind, MatchInsert, IfGiven, OnNothing, run_count};
+ghost use Rattle.quic_assembler.specs.Steps.{InsertCall, ReadCall, OrderCall};
 
 use crate::chunk::Chunk;
 use crate::errors::{EnsureError, InsertError};
@@ -26,6 +27,13 @@ pub trait Reassemble {
 
     ghost piece_count: { Self → ℕ };
 
+    // What each call with its answer leads from and to. A body may say here more than the clauses do.
+    ghost inserts: { InsertCall Self };
+
+    ghost reads: { ReadCall Self };
+
+    ghost orders: { OrderCall Self };
+
     /// Takes bytes that came at an offset.
     fn insert(
         &mut self,
@@ -35,20 +43,24 @@ pub trait Reassemble {
     ) -> Result<(), InsertError>
         requires fits { offset + length bytes < 2 ^ 62 }
         requires allocated { length bytes ≤ allocation_size }
-        ensures kept { MatchInsert result (Takes (holds self.old) (holds self.new) (λ at. is_done self.old at ≡ true) offset bytes) (SameHeld (holds self.old) (holds self.new)) }
+        ensures inserts { inserts self.old offset bytes allocation_size result self.new }
+        ensures kept { MatchInsert result (Takes (holds self.old) (holds self.new) (λ at. is_done self.old at ≡ true) offset bytes) (self.new ≡ self.old) }
         ensures top { MatchInsert result (highest self.new ≡ max (highest self.old) (offset + length bytes)) (highest self.new ≡ highest self.old) }
         ensures done { (at : ℕ) → is_ordered self.old ≡ false → MatchInsert result (is_done self.new at ≡ (is_done self.old at || lies offset (offset + length bytes) at)) (is_done self.new at ≡ is_done self.old at) }
+        ensures unneeded { is_ordered self.old ≡ true → offset + length bytes ≤ max offset (read_count self.old) → result ≡ Err InsertError.OutOfMemory → ⊥ }
         ensures many { result ≡ Err InsertError.TooManyChunks → 1024 < piece_count self.new }
-        ensures few { OnOk result (((is_ordered self.old ≡ true) × (offset < read_count self.old) × (offset + length bytes ≤ read_count self.old)) ⊎ (piece_count self.new ≤ 2048)) }
+        ensures few { OnOk result (IsBehind (is_ordered self.old) (read_count self.old) offset bytes ⊎ (piece_count self.new ≤ 2048)) }
+        ensures stale { IsBehind (is_ordered self.old) (read_count self.old) offset bytes → piece_count self.new ≡ piece_count self.old }
+        ensures stale_ok { IsBehind (is_ordered self.old) (read_count self.old) offset bytes → result ≡ Ok tt }
         ensures pieces { is_ordered self.old ≡ true → piece_count self.new ≤ piece_count self.old + 1 }
         ensures pieces_unordered { is_ordered self.old ≡ false → piece_count self.new ≤ piece_count self.old + run_count (is_done self.old) offset (length bytes) }
-        ensures pieces_stay { result ≡ Err InsertError.OutOfMemory → piece_count self.new ≡ piece_count self.old }
         ensures read_count { read_count self.new ≡ read_count self.old }
         ensures is_ordered { is_ordered self.new ≡ is_ordered self.old };
 
     /// Gives the next bytes, at most so many. `ordered` is the mode.
     fn read(&mut self, max_length: usize, ordered: bool) -> Result<Option<Chunk>, OutOfMemory>
         requires { ordered ≡ is_ordered self.old }
+        ensures reads { reads self.old max_length result self.new }
         ensures given { IfGiven result (λ chunk. Gives (holds self.old) (holds self.new) chunk.offset chunk.bytes) }
         ensures here { IfGiven result (λ chunk. IsHeld (holds self.old) chunk.offset) }
         ensures limit { IfGiven result (λ chunk. length chunk.bytes ≤ max_length) }
@@ -71,9 +83,11 @@ pub trait Reassemble {
 
     /// Asks for a mode.
     fn ensure_ordering(&mut self, ordered: bool) -> Result<(), EnsureError>
+        ensures orders { orders self.old ordered result self.new }
         ensures refused { (result ≡ Err EnsureError.IllegalOrderedRead) ↔ ((ordered ≡ true) × (is_ordered self.old ≡ false)) }
         ensures ok { OnOk result (is_ordered self.new ≡ ordered) }
         ensures same { OnOk result (ordered ≡ is_ordered self.old → self.new ≡ self.old) }
+        ensures same_ok { ordered ≡ is_ordered self.old → result ≡ Ok tt }
         ensures done { OnOk result (ordered ≡ false → is_ordered self.old ≡ true → (at : ℕ) → (is_done self.new at ≡ true) ↔ ((at < read_count self.old) ⊎ IsHeld (holds self.old) at)) }
         ensures held { KeepsOffsets (holds self.old) (holds self.new) }
         ensures err { OnErr result (SameHeld (holds self.old) (holds self.new)) }

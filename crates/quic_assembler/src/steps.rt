@@ -1,10 +1,10 @@
 // A list of steps on any reassembler.
 ghost use Rattle.std.specs.Prelude.{◌≡◌, ℕ, ◌+◌, ◌^◌, ◌<◌, ◌≤◌, ◌⊎◌, Bool, true, false, OnOk, OnErr, IfOk, IfErr, length, take, vec_len, vec_capacity, option_to_list, IsTrue, [], ◌∷◌, ◌++◌};
 ghost use Rattle.quic_assembler.specs.Reassembly.{HoldsNothing};
-ghost use Rattle.quic_assembler.specs.Steps.{state_of, TakesOp, RefusesStep, IsReplay};
+ghost use Rattle.quic_assembler.specs.Steps.{body_of, TakesOp, RefusesStep, IsReplay};
 
 use crate::chunk::Chunk;
-use crate::errors::InsertError;
+use crate::errors::{EnsureError, InsertError};
 use crate::reassemble::Reassemble;
 use quic_values::{Bytes, OutOfMemory};
 use thiserror::Error;
@@ -77,8 +77,8 @@ fn insert_copy<R: Reassemble>(
     bytes: &Bytes,
     allocation_size: usize,
 ) -> Result<Option<Chunk>, ReplayError>
-    ensures ok { IfOk result (λ chunk. TakesOp (Op.Insert offset bytes.now allocation_size) (state_of R.holds R.is_done R.read_count R.is_ordered R.highest R.piece_count r.old) chunk (state_of R.holds R.is_done R.read_count R.is_ordered R.highest R.piece_count r.new)) }
-    ensures err { IfErr result (λ e. RefusesStep (Op.Insert offset bytes.now allocation_size) e (state_of R.holds R.is_done R.read_count R.is_ordered R.highest R.piece_count r.old) (state_of R.holds R.is_done R.read_count R.is_ordered R.highest R.piece_count r.new)) }
+    ensures ok { IfOk result (λ chunk. TakesOp (body_of R.holds R.is_done R.read_count R.is_ordered R.highest R.piece_count R.inserts R.reads R.orders) (Op.Insert offset bytes.now allocation_size) r.old chunk r.new) }
+    ensures err { IfErr result (λ e. RefusesStep (body_of R.holds R.is_done R.read_count R.is_ordered R.highest R.piece_count R.inserts R.reads R.orders) ⊥ (Op.Insert offset bytes.now allocation_size) e r.old r.new) }
 {
     if !is_piece(offset, bytes.len(), allocation_size) {
         return Err(ReplayError::BadPiece);
@@ -99,8 +99,8 @@ fn read_next<R: Reassemble>(
     ordered: bool,
 ) -> Result<Option<Chunk>, ReplayError>
     requires { ordered ≡ R.is_ordered r.old }
-    ensures ok { IfOk result (λ chunk. TakesOp (Op.Read max_length) (state_of R.holds R.is_done R.read_count R.is_ordered R.highest R.piece_count r.old) chunk (state_of R.holds R.is_done R.read_count R.is_ordered R.highest R.piece_count r.new)) }
-    ensures err { IfErr result (λ e. RefusesStep (Op.Read max_length) e (state_of R.holds R.is_done R.read_count R.is_ordered R.highest R.piece_count r.old) (state_of R.holds R.is_done R.read_count R.is_ordered R.highest R.piece_count r.new)) }
+    ensures ok { IfOk result (λ chunk. TakesOp (body_of R.holds R.is_done R.read_count R.is_ordered R.highest R.piece_count R.inserts R.reads R.orders) (Op.Read max_length) r.old chunk r.new) }
+    ensures err { IfErr result (λ e. RefusesStep (body_of R.holds R.is_done R.read_count R.is_ordered R.highest R.piece_count R.inserts R.reads R.orders) ⊥ (Op.Read max_length) e r.old r.new) }
 {
     match r.read(max_length, ordered)? {
         None => Ok(None),
@@ -110,13 +110,14 @@ fn read_next<R: Reassemble>(
 
 // Goes to unordered mode.
 fn leave_order<R: Reassemble>(r: &mut R) -> Result<Option<Chunk>, ReplayError>
-    ensures ok { IfOk result (λ chunk. TakesOp Op.Unordered (state_of R.holds R.is_done R.read_count R.is_ordered R.highest R.piece_count r.old) chunk (state_of R.holds R.is_done R.read_count R.is_ordered R.highest R.piece_count r.new)) }
-    ensures err { IfErr result (λ e. RefusesStep Op.Unordered e (state_of R.holds R.is_done R.read_count R.is_ordered R.highest R.piece_count r.old) (state_of R.holds R.is_done R.read_count R.is_ordered R.highest R.piece_count r.new)) }
+    ensures ok { IfOk result (λ chunk. TakesOp (body_of R.holds R.is_done R.read_count R.is_ordered R.highest R.piece_count R.inserts R.reads R.orders) Op.Unordered r.old chunk r.new) }
+    ensures err { IfErr result (λ e. RefusesStep (body_of R.holds R.is_done R.read_count R.is_ordered R.highest R.piece_count R.inserts R.reads R.orders) ⊥ Op.Unordered e r.old r.new) }
 {
-    if r.ensure_ordering(false).is_err() {
-        return Err(ReplayError::OutOfMemory);
+    match r.ensure_ordering(false) {
+        Ok(()) => Ok(None),
+        Err(EnsureError::IllegalOrderedRead) => unreachable!(),
+        Err(EnsureError::OutOfMemory) => Err(ReplayError::OutOfMemory),
     }
-    Ok(None)
 }
 
 // Takes a step, and answers the chunk that it gave. `ordered` is the mode.
@@ -126,8 +127,8 @@ fn take_step<R: Reassemble>(
     ordered: &mut bool,
 ) -> Result<Option<Chunk>, ReplayError>
     requires { ordered.old ≡ R.is_ordered r.old }
-    ensures ok { IfOk result (λ chunk. TakesOp op.now (state_of R.holds R.is_done R.read_count R.is_ordered R.highest R.piece_count r.old) chunk (state_of R.holds R.is_done R.read_count R.is_ordered R.highest R.piece_count r.new)) }
-    ensures err { IfErr result (λ e. RefusesStep op.now e (state_of R.holds R.is_done R.read_count R.is_ordered R.highest R.piece_count r.old) (state_of R.holds R.is_done R.read_count R.is_ordered R.highest R.piece_count r.new)) }
+    ensures ok { IfOk result (λ chunk. TakesOp (body_of R.holds R.is_done R.read_count R.is_ordered R.highest R.piece_count R.inserts R.reads R.orders) op.now r.old chunk r.new) }
+    ensures err { IfErr result (λ e. RefusesStep (body_of R.holds R.is_done R.read_count R.is_ordered R.highest R.piece_count R.inserts R.reads R.orders) ⊥ op.now e r.old r.new) }
     ensures mode { OnOk result (ordered.new ≡ R.is_ordered r.new) }
 {
     match op {
@@ -148,7 +149,8 @@ fn take_step<R: Reassemble>(
 // There is room.
 fn keep(out: &mut Vec<Chunk>, given: Option<Chunk>)
     requires { vec_len out.old < vec_capacity out.old }
-    ensures { out.new.items ≡ out.old.items ++ option_to_list given }
+    ensures kept { out.new.items ≡ out.old.items ++ option_to_list given }
+    ensures room { vec_capacity out.old ≤ vec_capacity out.new }
 {
     if let Some(chunk) = given {
         if out.push(chunk).is_err() {
@@ -159,12 +161,13 @@ fn keep(out: &mut Vec<Chunk>, given: Option<Chunk>)
 
 /// Takes the steps in order, on a reassembler that holds nothing, has read nothing and is in ordered mode. A chunk that
 /// a read gives goes behind `out`; a read that gives none adds nothing. It stops at the first refusal: the steps
-/// before it stand, in `r` and in `out`.
+/// before it stand, in `r` and in `out`. Where `out` has room for a chunk for each step, a read is refused only where
+/// its own call is.
 pub fn replay<R: Reassemble>(r: &mut R, ops: &[Op], out: &mut Vec<Chunk>) -> Result<(), ReplayError>
     requires ordered { R.is_ordered r.old ≡ true }
     requires fresh { R.read_count r.old ≡ 0 }
     requires empty { HoldsNothing (R.holds r.old) }
-    ensures { IsReplay (state_of R.holds R.is_done R.read_count R.is_ordered R.highest R.piece_count) ops.now r.old r.new out.old.items out.new.items result }
+    ensures { IsReplay (body_of R.holds R.is_done R.read_count R.is_ordered R.highest R.piece_count R.inserts R.reads R.orders) ops.now r.old r.new (vec_capacity out.old) out.old.items out.new.items result }
 {
     let mut ordered = true;
     for op in ops {

@@ -1,6 +1,6 @@
 //! The receive half of a stream.
 
-ghost use Rattle.std.specs.Prelude.{◌≡◌, ◌+◌, ◌-◌, ◌<◌, ◌≤◌, ◌^◌, ◌&&◌, ◌||◌, ℕ, length, not, true, false, None, Some, is_none, is_some, max, nat_lt, if◌then◌else◌, SomeIff, IfOk, IfErr, OnOk};
+ghost use Rattle.std.specs.Prelude.{◌≡◌, ◌+◌, ◌-◌, ◌<◌, ◌≤◌, ◌^◌, ◌&&◌, ◌||◌, ℕ, length, not, true, false, None, Some, is_none, is_some, max, nat_lt, if◌then◌else◌, SomeIff, IfOk, IfErr, OnOk, Ok};
 ghost use Rattle.quic_receiving.specs.Half.{IsHalf, new_half, Refused, Taken, verdict, reset_verdict, is_unfit, is_beyond, is_open, is_all, window_end, is_window_due};
 ghost use Rattle.quic_values.specs.Offsets.{is_past};
 ghost use Rattle.quic_assembler.specs.Reassembly.{Accounts};
@@ -255,6 +255,7 @@ impl Recv {
     /// Asks for a mode of reading. There is no way back from unordered reads.
     pub fn ensure_ordering(&mut self, ordered: bool) -> Result<(), EnsureError>
         ensures orders { Orders self.old ordered result self.new }
+        ensures same { ordered ≡ self.old.buffer.ordered → result ≡ Ok tt }
         ensures mode { OnOk result (self.new.buffer.ordered ≡ ordered) }
     {
         self.assembler.ensure_ordering(ordered)
@@ -263,7 +264,8 @@ impl Recv {
     /// Gives the next bytes, at most `max_length`: in ordered mode those that follow what was read, in unordered mode
     /// those of the lowest offset. `None` where the stream ended and all was read. `ordered` is the mode.
     ///
-    /// Of a stream that was reset nothing is given (RFC 9000 section 3.2).
+    /// Of a stream that was reset nothing is given (RFC 9000 section 3.2). Memory is wanted only to cut a chunk, so only
+    /// where more than `max_length` bytes in a row are at hand.
     pub fn next(&mut self, max_length: usize, ordered: bool) -> Result<Option<Chunk>, ReadError>
         requires { ordered ≡ self.old.buffer.ordered }
         ensures reads { Reads self.old max_length result self.new }

@@ -1,5 +1,6 @@
 mod frames;
 mod reads;
+mod sizes;
 mod texts;
 
 use crate::{ClosedStream, ReadError, Recv, ShouldTransmit};
@@ -77,6 +78,7 @@ fn ingest(
     subject: &mut Subject,
     offset: u64,
     bytes: &[u8],
+    payload_len: usize,
     fin: bool,
 ) -> Result<Answer, OutOfMemory> {
     let frame = Stream {
@@ -85,10 +87,10 @@ fn ingest(
         fin,
         bytes: Bytes::copy_from_slice(alloc, bytes)?,
     };
-    let len = frame.bytes.len();
+    assert!(rt; frame.bytes.len() <= payload_len);
     assert!(rt; subject.half.reset_code().is_none());
     let (received, max_data) = (subject.received, subject.max_data);
-    match subject.half.ingest(frame, len, received, max_data) {
+    match subject.half.ingest(frame, payload_len, received, max_data) {
         Ok((count, false)) => Ok(Answer::New(count)),
         Ok((count, true)) => Ok(Answer::Closes(count)),
         Err(ReceiveError::Transport(error)) => Ok(Answer::Fails(error.code)),
@@ -163,14 +165,14 @@ fn take(
         }
         Step::Data(offset, bytes, answer) => {
             assert_eq!(rt;
-                ingest(rt, alloc, subject, offset, bytes, false)?,
+                ingest(rt, alloc, subject, offset, bytes, bytes.len(), false)?,
                 answer,
                 "at {offset}"
             );
         }
         Step::Last(offset, bytes, answer) => {
             assert_eq!(rt;
-                ingest(rt, alloc, subject, offset, bytes, true)?,
+                ingest(rt, alloc, subject, offset, bytes, bytes.len(), true)?,
                 answer,
                 "at {offset}"
             );

@@ -1,12 +1,12 @@
-use super::{Assembler, Bytes, Chunk, Fail, Op, ReplayError, bytes, replay};
-use std::alloc::{AllocError, Global};
+use super::{Assembler, Bytes, Chunk, Fail, Op, OutOfMemory, ReplayError, replay};
+use std::alloc::Global;
 use std::process::Abort;
 
-fn insert(alloc: Global, offset: u64, text: &str) -> Result<Op, AllocError> {
+fn insert(alloc: Global, offset: u64, text: &str, size: usize) -> Result<Op, OutOfMemory> {
     Ok(Op::Insert {
         offset,
-        bytes: bytes(alloc, text)?,
-        allocation_size: text.len(),
+        bytes: Bytes::copy_from_slice(alloc, text.as_bytes())?,
+        allocation_size: size,
     })
 }
 
@@ -35,21 +35,16 @@ fn assert_replay(
 fn replays_what_overlaps(rt: HostRuntime) -> Result<(), Fail> {
     let alloc = rt.alloc();
     let ops = vec![in alloc;
-        insert(alloc, 0, "123")?,
-        insert(alloc, 1, "234")?,
+        insert(alloc, 0, "123", 3)?,
+        insert(alloc, 1, "234", 3)?,
         Op::Read { max_length: READ },
         Op::Read { max_length: READ },
         Op::Read { max_length: READ },
     ]?;
-    assert_replay(&rt, alloc, &ops, Ok(()), &[(0, "123"), (3, "4")])
-}
-
-#[test]
-fn replays_a_change_of_mode(rt: HostRuntime) -> Result<(), Fail> {
-    let alloc = rt.alloc();
+    assert_replay(&rt, alloc, &ops, Ok(()), &[(0, "123"), (3, "4")])?;
     let ops = vec![in alloc;
-        insert(alloc, 0, "123")?,
-        insert(alloc, 1, "234")?,
+        insert(alloc, 0, "123", 3)?,
+        insert(alloc, 1, "234", 3)?,
         Op::Read { max_length: READ },
         Op::Unordered,
         Op::Unordered,
@@ -64,12 +59,12 @@ fn replays_unordered_reads(rt: HostRuntime) -> Result<(), Fail> {
     let alloc = rt.alloc();
     let ops = vec![in alloc;
         Op::Unordered,
-        insert(alloc, 3, "def")?,
+        insert(alloc, 3, "def", 3)?,
         Op::Read { max_length: READ },
-        Op::Read { max_length: READ },
-        insert(alloc, 0, "a")?,
-        insert(alloc, 0, "abcdefghi")?,
-        insert(alloc, 0, "abcd")?,
+        Op::Read { max_length: 0 },
+        insert(alloc, 0, "a", 1)?,
+        insert(alloc, 0, "abcdefghi", 9)?,
+        insert(alloc, 0, "abcd", 4)?,
         Op::Read { max_length: READ },
         Op::Read { max_length: READ },
         Op::Read { max_length: READ },
@@ -83,16 +78,12 @@ fn replays_unordered_reads(rt: HostRuntime) -> Result<(), Fail> {
 fn stops_at_a_bad_piece(rt: HostRuntime) -> Result<(), Fail> {
     let alloc = rt.alloc();
     let ops = vec![in alloc;
-        insert(alloc, 0, "ab")?,
+        insert(alloc, 0, "ab", 2)?,
         Op::Read { max_length: READ },
-        Op::Insert {
-            offset: 2,
-            bytes: bytes(alloc, "cd")?,
-            allocation_size: 1
-        },
+        insert(alloc, 2, "cd", 1)?,
         Op::Read { max_length: READ },
     ]?;
     assert_replay(&rt, alloc, &ops, Err(ReplayError::BadPiece), &[(0, "ab")])?;
-    let ops = vec![in alloc; insert(alloc, (1 << 62) - 2, "ab")?]?;
+    let ops = vec![in alloc; insert(alloc, (1 << 62) - 2, "ab", 2)?]?;
     assert_replay(&rt, alloc, &ops, Err(ReplayError::BadPiece), &[])
 }

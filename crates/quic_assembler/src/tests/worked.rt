@@ -1,174 +1,134 @@
-ghost use Rattle.std.specs.Prelude.{◌≡◌, length};
+use super::{Fail, InsertError, Step, run};
 
-use super::{
-    Assembler, Bytes, EnsureError, Fail, InsertError, assert_none, assert_read, bytes, chunk, fill,
-    leave_order, put,
-};
-use std::alloc::Global;
+const OVERLAP: [Step; 5] = [
+    Step::Put(0, "123"),
+    Step::Put(1, "234"),
+    Step::Next(0, "123"),
+    Step::Next(3, "4"),
+    Step::NoNext,
+];
 
-#[test]
-fn gives_what_overlaps_once(rt: HostRuntime) -> Result<(), Fail> {
-    let alloc = rt.alloc();
-    let mut a = Assembler::new(alloc);
-    put(&mut a, alloc, 0, "123")?;
-    put(&mut a, alloc, 1, "234")?;
-    assert_read(&rt, &mut a, alloc, true, 0, "123")?;
-    assert_read(&rt, &mut a, alloc, true, 3, "4")?;
-    assert_none(&rt, &mut a, true)
-}
+const OVERLAP_UNORDERED: [Step; 6] = [
+    Step::Put(0, "123"),
+    Step::Put(1, "234"),
+    Step::Next(0, "123"),
+    Step::Unordered,
+    Step::Any(3, "4"),
+    Step::NoAny,
+];
 
-#[test]
-fn goes_on_unordered_behind_what_was_read(rt: HostRuntime) -> Result<(), Fail> {
-    let alloc = rt.alloc();
-    let mut a = Assembler::new(alloc);
-    put(&mut a, alloc, 0, "123")?;
-    put(&mut a, alloc, 1, "234")?;
-    assert_read(&rt, &mut a, alloc, true, 0, "123")?;
-    leave_order(&mut a)?;
-    assert_read(&rt, &mut a, alloc, false, 3, "4")?;
-    assert_none(&rt, &mut a, false)
-}
+const NEW_ALONE: [Step; 11] = [
+    Step::Unordered,
+    Step::Put(3, "def"),
+    Step::Any(3, "def"),
+    Step::NoAny,
+    Step::Put(0, "a"),
+    Step::Put(0, "abcdefghi"),
+    Step::Put(0, "abcd"),
+    Step::Any(0, "a"),
+    Step::Any(1, "bc"),
+    Step::Any(6, "ghi"),
+    Step::NoAny,
+];
 
-#[test]
-fn keeps_only_what_is_new_unordered(rt: HostRuntime) -> Result<(), Fail> {
-    let alloc = rt.alloc();
-    let mut a = Assembler::new(alloc);
-    leave_order(&mut a)?;
-    put(&mut a, alloc, 3, "def")?;
-    assert_read(&rt, &mut a, alloc, false, 3, "def")?;
-    assert_none(&rt, &mut a, false)?;
-    put(&mut a, alloc, 0, "a")?;
-    put(&mut a, alloc, 0, "abcdefghi")?;
-    put(&mut a, alloc, 0, "abcd")?;
-    assert_read(&rt, &mut a, alloc, false, 0, "a")?;
-    assert_read(&rt, &mut a, alloc, false, 1, "bc")?;
-    assert_read(&rt, &mut a, alloc, false, 6, "ghi")?;
-    assert_none(&rt, &mut a, false)
-}
+const READ_WITH_THE_MODE: [Step; 7] = [
+    Step::Put(0, "abcdef"),
+    Step::Part(2, 0, "ab"),
+    Step::Unordered,
+    Step::Put(0, "abcdef"),
+    Step::Any(2, "cdef"),
+    Step::NoAny,
+    Step::OrderedAgain,
+];
 
 #[test]
-fn an_empty_read_takes_nothing(rt: HostRuntime) -> Result<(), Fail> {
-    let alloc = rt.alloc();
-    let mut a = Assembler::new(alloc);
-    put(&mut a, alloc, 0, "123")?;
-    assert_eq!(rt; a.read(0, true)?, chunk(alloc, 0, "")?);
-    assert_read(&rt, &mut a, alloc, true, 0, "123")
+fn gives_each_byte_once(rt: HostRuntime) -> Result<(), Fail> {
+    run(&rt, rt.alloc(), &OVERLAP)?;
+    run(&rt, rt.alloc(), &OVERLAP_UNORDERED)?;
+    run(&rt, rt.alloc(), &NEW_ALONE)?;
+    run(&rt, rt.alloc(), &READ_WITH_THE_MODE)
 }
+
+const NO_LENGTH: [Step; 3] = [
+    Step::Put(0, "123"),
+    Step::Part(0, 0, ""),
+    Step::Next(0, "123"),
+];
+
+const EMPTY_PIECE: [Step; 3] = [Step::Insert(7, "", 0, Ok(())), Step::Is(0, 0), Step::NoNext];
 
 #[test]
-fn refuses_too_many_pieces_with_gaps(rt: HostRuntime) -> Result<(), Fail> {
-    let alloc = rt.alloc();
-    let mut a = Assembler::new(alloc);
-    assert_eq!(rt; fill(&mut a, alloc, 1, 4, 2048, "gap", 3)?, Ok(()));
-    assert_eq!(rt; a.pieces(), 2048);
-    assert_eq!(rt;
-        fill(&mut a, alloc, 8193, 4, 1, "gap", 3)?,
-        Err(InsertError::TooManyChunks)
-    );
-    assert_eq!(rt; a.pieces(), 2049);
-    assert_eq!(rt;
-        a.insert(0, Bytes::new(alloc), 0),
-        Err(InsertError::TooManyChunks)
-    );
-    assert_eq!(rt; a.pieces(), 2049);
-    Ok(())
+fn nothing_is_taken_where_nothing_is_asked(rt: HostRuntime) -> Result<(), Fail> {
+    run(&rt, rt.alloc(), &NO_LENGTH)?;
+    run(&rt, rt.alloc(), &EMPTY_PIECE)
 }
+
+const GAPS: [Step; 6] = [
+    Step::Fill(1, 4, 2048, "gap", 3, Ok(())),
+    Step::Is(2048, 0),
+    Step::Insert(8193, "gap", 3, Err(InsertError::TooManyChunks)),
+    Step::Is(2049, 0),
+    Step::Insert(0, "", 0, Err(InsertError::TooManyChunks)),
+    Step::Is(2049, 0),
+];
+
+const LONG: &str =
+    "0123456789abcdef0123456789abcdef0123456789abcdef0123456789abcdef0123456789abcdef0123456789abcdef0123456789abcdef0123456789abcdef";
+
+// 128 bytes and then one, 1015 times, all touching; then single bytes with gaps.
+const NOT_JOINED: [Step; 6] = [
+    Step::Fill(1, 129, 1015, LONG, 128, Ok(())),
+    Step::Fill(129, 129, 1015, "x", 1, Ok(())),
+    Step::Fill(130_940, 2, 18, "x", 1, Ok(())),
+    Step::Is(2048, 0),
+    Step::Insert(130_976, "x", 1, Err(InsertError::TooManyChunks)),
+    Step::Is(2049, 0),
+];
+
+const REPEATS: [Step; 5] = [
+    Step::Fill(1, 4, 1024, "abc", 3, Ok(())),
+    Step::Fill(1, 0, 1024, "abc", 3, Ok(())),
+    Step::Is(2048, 0),
+    Step::Put(1, "abc"),
+    Step::Is(1024, 0),
+];
 
 #[test]
-fn joins_pieces_that_keep_too_much_memory(rt: HostRuntime) -> Result<(), Fail> {
-    let alloc = rt.alloc();
-    let mut a = Assembler::new(alloc);
-    a.insert(0, bytes(alloc, "abc")?, 4)?;
-    a.insert(3, bytes(alloc, "def")?, 4)?;
-    a.insert(9, bytes(alloc, "jkl")?, 4)?;
-    a.insert(12, bytes(alloc, "mno")?, 4)?;
-    a.defragment()?;
-    leave_order(&mut a)?;
-    assert_read(&rt, &mut a, alloc, false, 0, "abcdef")?;
-    assert_read(&rt, &mut a, alloc, false, 9, "jklmno")
+fn refuses_too_many_pieces(rt: HostRuntime) -> Result<(), Fail> {
+    run(&rt, rt.alloc(), &GAPS)?;
+    run(&rt, rt.alloc(), &NOT_JOINED)?;
+    run(&rt, rt.alloc(), &REPEATS)
 }
+
+const MEMORY: [Step; 4] = [
+    Step::Fill(0, 1, 32, "x", 1000, Ok(())),
+    Step::Is(32, 0),
+    Step::Insert(32, "x", 1000, Ok(())),
+    Step::Is(1, 0),
+];
+
+const LEAST_SIZE: [Step; 5] = [
+    Step::Fill(0, 128, 1024, LONG, 128, Ok(())),
+    Step::Put(131_072, "x"),
+    Step::Is(1025, 0),
+    Step::Compact,
+    Step::Is(1, 0),
+];
+
+const WASTE: [Step; 8] = [
+    Step::Insert(0, "abc", 4, Ok(())),
+    Step::Insert(3, "def", 4, Ok(())),
+    Step::Insert(9, "jkl", 4, Ok(())),
+    Step::Insert(12, "mno", 4, Ok(())),
+    Step::Compact,
+    Step::Unordered,
+    Step::Any(0, "abcdef"),
+    Step::Any(9, "jklmno"),
+];
 
 #[test]
-fn drops_what_was_read_with_the_mode(rt: HostRuntime) -> Result<(), Fail> {
-    let alloc = rt.alloc();
-    let mut a = Assembler::new(alloc);
-    put(&mut a, alloc, 0, "abcdef")?;
-    assert_eq!(rt; a.read(2, true)?, chunk(alloc, 0, "ab")?);
-    leave_order(&mut a)?;
-    put(&mut a, alloc, 0, "abcdef")?;
-    assert_read(&rt, &mut a, alloc, false, 2, "cdef")?;
-    assert_none(&rt, &mut a, false)?;
-    assert_eq!(rt;
-        a.ensure_ordering(true),
-        Err(EnsureError::IllegalOrderedRead)
-    );
-    Ok(())
-}
-
-#[test]
-fn compacts_where_too_much_memory_is_kept(rt: HostRuntime) -> Result<(), Fail> {
-    let alloc = rt.alloc();
-    let mut a = Assembler::new(alloc);
-    assert_eq!(rt; fill(&mut a, alloc, 0, 1, 32, "x", 1000)?, Ok(()));
-    assert_eq!(rt; a.pieces(), 32);
-    assert_eq!(rt; fill(&mut a, alloc, 32, 1, 1, "x", 1000)?, Ok(()));
-    assert_eq!(rt; a.pieces(), 1);
-    Ok(())
-}
-
-#[test]
-fn joins_pieces_below_the_least_size(rt: HostRuntime) -> Result<(), Fail> {
-    let alloc = rt.alloc();
-    let mut a = Assembler::new(alloc);
-    let long = "0123456789abcdef".repeat(alloc, 8)?;
-    assert_eq!(rt;
-        fill(&mut a, alloc, 0, 128, 1024, long.as_str(), 128)?,
-        Ok(())
-    );
-    assert_eq!(rt; fill(&mut a, alloc, 131_072, 1, 1, "x", 1)?, Ok(()));
-    assert_eq!(rt; a.pieces(), 1025);
-    a.defragment()?;
-    assert_eq!(rt; a.pieces(), 1);
-    Ok(())
-}
-
-#[test]
-fn takes_a_flood_of_repeats(rt: HostRuntime) -> Result<(), Fail> {
-    let alloc = rt.alloc();
-    let mut a = Assembler::new(alloc);
-    assert_eq!(rt; fill(&mut a, alloc, 1, 4, 1024, "abc", 3)?, Ok(()));
-    assert_eq!(rt; fill(&mut a, alloc, 1, 0, 1024, "abc", 3)?, Ok(()));
-    assert_eq!(rt; a.pieces(), 2048);
-    assert_eq!(rt; fill(&mut a, alloc, 1, 0, 1, "abc", 3)?, Ok(()));
-    assert_eq!(rt; a.pieces(), 1024);
-    Ok(())
-}
-
-// Inserts 128 bytes and then one byte, so many times, all touching.
-fn alternate(a: &mut Assembler, alloc: Global, long: &str) -> Result<(), Fail>
-    requires { length long.now ≡ 128 }
-    ensures { a.new.ordered ≡ a.old.ordered }
-{
-    for i in 0..1015u64 {
-        put(a, alloc, 1 + 129 * i, long)?;
-        put(a, alloc, 129 + 129 * i, "x")?;
-    }
-    Ok(())
-}
-
-#[test]
-fn refuses_pieces_that_cannot_be_joined(rt: HostRuntime) -> Result<(), Fail> {
-    let alloc = rt.alloc();
-    let mut a = Assembler::new(alloc);
-    let long = "0123456789abcdef".repeat(alloc, 8)?;
-    assert_eq!(rt; long.len(), 128);
-    alternate(&mut a, alloc, long.as_str())?;
-    assert_eq!(rt; fill(&mut a, alloc, 130_940, 2, 18, "x", 1)?, Ok(()));
-    assert_eq!(rt; a.pieces(), 2048);
-    assert_eq!(rt;
-        fill(&mut a, alloc, 130_976, 2, 1, "x", 1)?,
-        Err(InsertError::TooManyChunks)
-    );
-    assert_eq!(rt; a.pieces(), 2049);
-    Ok(())
+fn compacts_what_keeps_too_much_memory(rt: HostRuntime) -> Result<(), Fail> {
+    run(&rt, rt.alloc(), &MEMORY)?;
+    run(&rt, rt.alloc(), &LEAST_SIZE)?;
+    run(&rt, rt.alloc(), &WASTE)
 }

@@ -142,11 +142,36 @@ const CROWDED: [Step; 6] = [
 fn a_frame_beyond_the_pieces_is_kept_and_counted(rt: HostRuntime) -> Result<(), Fail> {
     let mut subject = run(&rt, rt.alloc(), 1 << 20, &[])?;
     for index in 0..2048 {
-        let answer = ingest(&rt, rt.alloc(), &mut subject, 1 + 4 * index, b"gap", false)?;
+        let answer = ingest(
+            &rt,
+            rt.alloc(),
+            &mut subject,
+            1 + 4 * index,
+            b"gap",
+            3,
+            false,
+        )?;
         assert!(rt; answer == Answer::New(4), "piece {index}");
     }
     for step in CROWDED {
         take(&rt, rt.alloc(), &mut subject, step)?;
+    }
+    Ok(())
+}
+
+// Of each payload of 1000 bytes one is kept, so that with each 33rd the waste is above 32768. The 32nd time more than 1024
+// pieces are left.
+#[test]
+fn data_keep_their_payload_alive(rt: HostRuntime) -> Result<(), Fail> {
+    let mut subject = run(&rt, rt.alloc(), 1 << 20, &[])?;
+    for index in 0..1056u64 {
+        let answer = ingest(&rt, rt.alloc(), &mut subject, 2 * index, b"x", 1000, false)?;
+        let wanted = match index {
+            0 => Answer::New(1),
+            1055 => INTERNAL,
+            _ => Answer::New(2),
+        };
+        assert_eq!(rt; answer, wanted, "piece {index}");
     }
     Ok(())
 }

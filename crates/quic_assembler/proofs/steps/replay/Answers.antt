@@ -1,20 +1,20 @@
 use Rattle.std.proofs.Common.{arith, refl, sym, ◌++◌, option_to_list, append_assoc, []}
 use Rattle.std.proofs.lemmas.List.{append-nil}
 use Rattle.std.proofs.lemmas.Result.{err_from_is_err_and}
-use Rattle.quic_assembler.specs.Steps.{state_of}
-use Rattle.quic_assembler.proofs.Replays.{replays_push, known_step, known_start, replay_end, replay_refused, refused_memory, take_next}
+use Rattle.quic_assembler.specs.Steps.{body_of}
+use Rattle.quic_assembler.proofs.Replays.{replays_push, known_step, known_start, replay_end, replay_refused, refused_memory, refused_by_call, at_err, take_next}
 use Rattle.quic_assembler.proofs.steps.replay.Goals as goal
 
 pub returns-then-is_err : goal.returns-then-is_err
 returns-then-is_err g c =
     let inv = c.loop-op.invariant in
-    replay_refused _ _ _ _ _ _ _ _ inv.given c.op-item.result _ c.loop-op-test.true c.op-item.is (rw c.reserve.ensures.items inv.added) inv.steps inv.known c.requires.ordered c.requires.fresh (refused_memory c.op-item.result _)
+    replay_refused _ _ _ _ _ _ _ _ _ inv.given c.op-item.result _ c.loop-op-test.true c.op-item.is (rw c.reserve.ensures.items inv.added) inv.steps inv.known c.requires.ordered c.requires.fresh (refused_memory (body_of g.R.Reassemble.holds g.R.Reassemble.is_done g.R.Reassemble.read_count g.R.Reassemble.is_ordered g.R.Reassemble.highest g.R.Reassemble.piece_count g.R.Reassemble.inserts g.R.Reassemble.reads g.R.Reassemble.orders) _ c.op-item.result _ (omega (arith, at_err c.reserve.result c.if-is_err.ensures.value c.reserve.ensures.full, c.reserve.ensures.len, c.reserve.new.self.ok, c.loop-op.out.ok, inv.room)))
 
 pub returns-in_err-chunk : goal.returns-in_err-chunk
 returns-in_err-chunk g c =
     let inv = c.loop-op.invariant in
     let p = err_from_is_err_and c.from_residual.result c.from_residual.ensures.1 in
-    rw (p.1, p.2) (replay_refused _ _ _ _ _ _ _ _ inv.given c.op-item.result _ c.loop-op-test.true c.op-item.is (rw c.reserve.ensures.items inv.added) inv.steps inv.known c.requires.ordered c.requires.fresh c.in_err-chunk.ensures.err)
+    rw (p.1, p.2) (replay_refused _ _ _ _ _ _ _ _ _ inv.given c.op-item.result _ c.loop-op-test.true c.op-item.is (rw c.reserve.ensures.items inv.added) inv.steps inv.known c.requires.ordered c.requires.fresh (refused_by_call (body_of g.R.Reassemble.holds g.R.Reassemble.is_done g.R.Reassemble.read_count g.R.Reassemble.is_ordered g.R.Reassemble.highest g.R.Reassemble.piece_count g.R.Reassemble.inserts g.R.Reassemble.reads g.R.Reassemble.orders) _ c.op-item.result _ _ _ c.in_err-chunk.ensures.err))
 
 pub loop-op-init : goal.loop-op-init
 loop-op-init g c = record {
@@ -22,6 +22,7 @@ loop-op-init g c = record {
   added = rw append-nil refl;
   steps = (refl, refl);
   known = known_start _ c.requires.empty;
+  room = omega arith;
   mode = sym c.requires.ordered;
 }
 
@@ -31,13 +32,14 @@ loop-op-preserved g c =
     let next = take_next c.args.ops.now c.loop-op.op-index c.op-item.result c.loop-op-test.true c.op-item.is in
     record {
       given = inv.given ++ option_to_list c.in_ok-chunk.chunk;
-      added = rw (c.keep.ensures, c.reserve.ensures.items, inv.added, append_assoc) refl;
-      steps = rw next (replays_push (state_of g.R.Reassemble.holds g.R.Reassemble.is_done g.R.Reassemble.read_count g.R.Reassemble.is_ordered g.R.Reassemble.highest g.R.Reassemble.piece_count) _ c.op-item.result _ _ _ _ _ inv.steps c.in_ok-chunk.ensures.ok);
-      known = rw next (known_step (state_of g.R.Reassemble.holds g.R.Reassemble.is_done g.R.Reassemble.read_count g.R.Reassemble.is_ordered g.R.Reassemble.highest g.R.Reassemble.piece_count) g.met.R.Reassemble.done_below _ c.op-item.result _ _ c.loop-op.r c.take_step.new.r inv.known c.in_ok-chunk.ensures.ok);
+      added = rw (c.keep.ensures.kept, c.reserve.ensures.items, inv.added, append_assoc) refl;
+      steps = rw next (replays_push (body_of g.R.Reassemble.holds g.R.Reassemble.is_done g.R.Reassemble.read_count g.R.Reassemble.is_ordered g.R.Reassemble.highest g.R.Reassemble.piece_count g.R.Reassemble.inserts g.R.Reassemble.reads g.R.Reassemble.orders) _ c.op-item.result _ _ _ _ _ inv.steps c.in_ok-chunk.ensures.ok);
+      known = rw next (known_step (body_of g.R.Reassemble.holds g.R.Reassemble.is_done g.R.Reassemble.read_count g.R.Reassemble.is_ordered g.R.Reassemble.highest g.R.Reassemble.piece_count g.R.Reassemble.inserts g.R.Reassemble.reads g.R.Reassemble.orders) g.met.R.Reassemble.done_below _ c.op-item.result _ _ c.loop-op.r c.take_step.new.r inv.known c.in_ok-chunk.ensures.ok);
+      room = omega (arith, c.keep.ensures.room, c.reserve.ensures.capacity, inv.room);
       mode = c.in_ok-chunk.ensures.mode;
     }
 
 pub returns : goal.returns
 returns g c =
     let inv = c.loop-op.invariant in
-    replay_end _ _ _ _ _ _ _ inv.given c.loop-op-test.false (omega arith) inv.added inv.steps inv.known c.requires.ordered c.requires.fresh
+    replay_end _ _ _ _ _ _ _ _ inv.given c.loop-op-test.false (omega arith) inv.added inv.steps inv.known c.requires.ordered c.requires.fresh
