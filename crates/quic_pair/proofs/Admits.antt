@@ -153,9 +153,9 @@ refused_more kept more codes h = All-weaker (IsTooMany kept) (IsTooMany (kept + 
 size_of_past : (p : Past) (v : World) → Fits p v → (e : ℕ) → v.receiving.final_size ≡ Some e → e ≡ length p.written
 size_of_past p v h e q = (h.receiver.size e q).1
 
-received_done : (b : Config) (p : Past) (old : World) (s : Stream) (new : Receiving) → Admits b p old → IsHonestFrame (length p.written) s → ReceivesFrame old.receiving s.offset s.bytes s.fin (Ok Done) new → Within b (length p.written) (p.kept + 1) new
-received_done b p old s new h honest (inl same) = rw same.1 (Within-more b (length p.written) p.kept 1 old.receiving h.within)
-received_done b p old s new h honest (inr kept) = Within-keeps b (length p.written) p.kept old.receiving s new h.within honest kept.0
+received_done : (b : Config) (p : Past) (old : World) (s : Stream) (size : ℕ) (new : Receiving) → Admits b p old → IsHonestFrame (length p.written) s → ReceivesFrame old.receiving s.offset s.bytes s.fin size (Ok Done) new → Within b (length p.written) (p.kept + 1) new
+received_done b p old s size new h honest (inl same) = rw same.1 (Within-more b (length p.written) p.kept 1 old.receiving h.within)
+received_done b p old s size new h honest (inr kept) = Within-keeps b (length p.written) p.kept old.receiving s new h.within honest kept.0
 
 -- a delivery that is refused
 pub record IsCounted (b : Config) (p : Past) (error : ReceiveError) (new : Receiving) : Type 0 where
@@ -175,15 +175,15 @@ fault_counted b p old s error new h honest code keeps many =
           (All-cons (IsTooMany (p.kept + 1)) error.code [] (code, omega (arith, many, within.pieces)) (All-nil (IsTooMany (p.kept + 1)))));
     }
 
-received_fault : (b : Config) (p : Past) (old : World) (s : Stream) (error : ReceiveError) (new : Receiving) → Admits b p old → Fits p old → IsHonestFrame (length p.written) s → ReceivesFrame old.receiving s.offset s.bytes s.fin (Ok (Fault error)) new → IsCounted b p error new
-received_fault b p old s (Transport error) new h fits honest (inl same) =
+received_fault : (b : Config) (p : Past) (old : World) (s : Stream) (size : ℕ) (error : ReceiveError) (new : Receiving) → Admits b p old → Fits p old → IsHonestFrame (length p.written) s → ReceivesFrame old.receiving s.offset s.bytes s.fin size (Ok (Fault error)) new → IsCounted b p error new
+received_fault b p old s size (Transport error) new h fits honest (inl same) =
     absurd (none-some error.code (sym (no_error b (length p.written) p.kept old.receiving s h.within (size_of_past p old fits) honest) ∙ same.1))
-received_fault b p old s (Transport error) new h fits honest (inr kept) = fault_counted b p old s error new h honest kept.0 kept.1 kept.3
-received_fault b p old s CompactionMemory new h fits honest kept = record {
+received_fault b p old s size (Transport error) new h fits honest (inr kept) = fault_counted b p old s error new h honest kept.0 kept.1 kept.3
+received_fault b p old s size CompactionMemory new h fits honest kept = record {
   within = Within-keeps b (length p.written) p.kept old.receiving s new h.within honest kept.0;
   refused = All-append (IsTooMany (p.kept + 1)) p.refused [] (refused_more p.kept 1 p.refused h.refused) (All-nil (IsTooMany (p.kept + 1)));
 }
-received_fault b p old s _ new h fits honest n = absurd n
+received_fault b p old s size _ new h fits honest n = absurd n
 
 -- with the end that reads as it is, and as many frames kept
 admits_same : (b : Config) (p : Past) (old new : World) → new.receiving ≡ old.receiving → Admits b p old → Admits b p new
@@ -191,11 +191,11 @@ admits_same b p old new is h = record { within = rw is h.within; refused = h.ref
 
 delivers : (b : Config) (p : Past) (old : World) (k i : ℕ) (answer : Answer) (new : World) → Fits p old → Admits b p old → Delivered old k i answer new → Admits b (after_deliver p k i answer) new
 delivers b p old k i (Ok Done) new f h n = record {
-  within = received_done b p old n.hands.frame new.receiving h (honest_frame p old k i n.hands.frame n.hands.has f) n.hands.receives;
+  within = received_done b p old n.hands.frame (length n.hands.has.whole.bytes) new.receiving h (honest_frame p old k i n.hands.frame n.hands.has f) n.hands.receives;
   refused = refused_more p.kept 1 p.refused h.refused;
 }
 delivers b p old k i (Ok (Fault error)) new f h n =
-    let z = received_fault b p old n.hands.frame error new.receiving h f (honest_frame p old k i n.hands.frame n.hands.has f) n.hands.receives in
+    let z = received_fault b p old n.hands.frame (length n.hands.has.whole.bytes) error new.receiving h f (honest_frame p old k i n.hands.frame n.hands.has f) n.hands.receives in
     record { within = z.within; refused = z.refused }
 delivers b p old k i (Err NoSuchPayload) new f h n = rw n.1 h
 delivers b p old k i (Err NoSuchFrame) new f h n = rw n.1 h
@@ -286,29 +286,29 @@ record SameTold (p q : Past) : Type 0 where
   pub kept : q.kept ≡ p.kept
   pub refused : q.refused ≡ p.refused
 
-past_open : (p : Past) (answer : Answer) → SameTold p (after_open p answer)
-past_open p (Ok (Id id)) = record { written = refl; kept = refl; refused = refl }
-past_open p _ = record { written = refl; kept = refl; refused = refl }
+open_same : (p : Past) (answer : Answer) → SameTold p (after_open p answer)
+open_same p (Ok (Id id)) = record { written = refl; kept = refl; refused = refl }
+open_same p _ = record { written = refl; kept = refl; refused = refl }
 
-past_accept : (p : Past) (answer : Answer) → SameTold p (after_accept p answer)
-past_accept p (Ok (Id id)) = record { written = refl; kept = refl; refused = refl }
-past_accept p _ = record { written = refl; kept = refl; refused = refl }
+accept_same : (p : Past) (answer : Answer) → SameTold p (after_accept p answer)
+accept_same p (Ok (Id id)) = record { written = refl; kept = refl; refused = refl }
+accept_same p _ = record { written = refl; kept = refl; refused = refl }
 
-past_finish : (p : Past) (answer : Answer) → SameTold p (after_finish p answer)
-past_finish p (Ok Done) = record { written = refl; kept = refl; refused = refl }
-past_finish p _ = record { written = refl; kept = refl; refused = refl }
+finish_same : (p : Past) (answer : Answer) → SameTold p (after_finish p answer)
+finish_same p (Ok Done) = record { written = refl; kept = refl; refused = refl }
+finish_same p _ = record { written = refl; kept = refl; refused = refl }
 
-past_event : (p : Past) (event : StreamEvent) → SameTold p (after_event p event)
-past_event p (Finished id) = record { written = refl; kept = refl; refused = refl }
-past_event p _ = record { written = refl; kept = refl; refused = refl }
+event_same : (p : Past) (event : StreamEvent) → SameTold p (after_event p event)
+event_same p (Finished id) = record { written = refl; kept = refl; refused = refl }
+event_same p _ = record { written = refl; kept = refl; refused = refl }
 
-past_poll : (p : Past) (answer : Answer) → SameTold p (after_poll p answer)
-past_poll p (Ok (Event event)) = past_event p event
-past_poll p _ = record { written = refl; kept = refl; refused = refl }
+poll_same : (p : Past) (answer : Answer) → SameTold p (after_poll p answer)
+poll_same p (Ok (Event event)) = event_same p event
+poll_same p _ = record { written = refl; kept = refl; refused = refl }
 
-past_ack : (p : Past) (k i : ℕ) (answer : Answer) → SameTold p (past_ack p k i answer)
-past_ack p k i (Ok Done) = record { written = refl; kept = refl; refused = refl }
-past_ack p k i _ = record { written = refl; kept = refl; refused = refl }
+ack_same : (p : Past) (k i : ℕ) (answer : Answer) → SameTold p (past_ack p k i answer)
+ack_same p k i (Ok Done) = record { written = refl; kept = refl; refused = refl }
+ack_same p k i _ = record { written = refl; kept = refl; refused = refl }
 
 -- a step that leaves the end that reads alone
 stays : (b : Config) (p q : Past) (old new : World) → SameTold p q → new.receiving ≡ old.receiving → Admits b p old → Admits b q new
@@ -352,23 +352,23 @@ told_same : (p : Past) → SameTold p p
 told_same p = record { written = refl; kept = refl; refused = refl }
 
 Admits-next : (a b : Config) (p : Past) (old : World) (step : Step) (answer : Answer) (new : World) → Fits p old → BoundsOf a b p old → Admits b p old → Next old step answer new → Admits b (after p step answer) new
-Admits-next a b p old (Open A Uni) answer new f bounds h n = stays b p _ old new (past_open p answer) (ap (λ (v : World). v.receiving) n.new_is) h
-Admits-next a b p old (Open who dir) answer new f bounds h n = refuses b p _ old answer new (past_open p answer) n h
+Admits-next a b p old (Open A Uni) answer new f bounds h n = stays b p _ old new (open_same p answer) (ap (λ (v : World). v.receiving) n.new_is) h
+Admits-next a b p old (Open who dir) answer new f bounds h n = refuses b p _ old answer new (open_same p answer) n h
 Admits-next a b p old (Accept B Uni) answer new f bounds h n = accepts b p old answer new h n
-Admits-next a b p old (Accept who dir) answer new f bounds h n = refuses b p _ old answer new (past_accept p answer) n h
+Admits-next a b p old (Accept who dir) answer new f bounds h n = refuses b p _ old answer new (accept_same p answer) n h
 Admits-next a b p old (Write A id bytes) answer new f bounds h n = writes a b p old id bytes answer new bounds h n
 Admits-next a b p old (Write who id bytes) answer new f bounds h n = rw (n.0, n.1) h
-Admits-next a b p old (Finish A id) answer new f bounds h n = stays b p _ old new (past_finish p answer) (on_stream Finishes old id answer new n) h
-Admits-next a b p old (Finish who id) answer new f bounds h n = refuses b p _ old answer new (past_finish p answer) n h
+Admits-next a b p old (Finish A id) answer new f bounds h n = stays b p _ old new (finish_same p answer) (on_stream Finishes old id answer new n) h
+Admits-next a b p old (Finish who id) answer new f bounds h n = refuses b p _ old answer new (finish_same p answer) n h
 Admits-next a b p old (ReadStep B id true max times) answer new f bounds h n = reads max times b p old id answer new h n
 Admits-next a b p old (ReadStep who id ordered max times) answer new f bounds h n = rw (n.0, n.1) h
-Admits-next a b p old (Poll A) answer new f bounds h n = stays b p _ old new (past_poll p answer) (ap (λ (v : World). v.receiving) n.new_is) h
-Admits-next a b p old (Poll who) answer new f bounds h n = refuses b p _ old answer new (past_poll p answer) n h
+Admits-next a b p old (Poll A) answer new f bounds h n = stays b p _ old new (poll_same p answer) (ap (λ (v : World). v.receiving) n.new_is) h
+Admits-next a b p old (Poll who) answer new f bounds h n = refuses b p _ old answer new (poll_same p answer) n h
 Admits-next a b p old (Emit A most fair) answer new f bounds h n = stays b p p old new (told_same p) (emitted old most answer new n) h
 Admits-next a b p old (Emit who most fair) answer new f bounds h n = refuses b p p old answer new (told_same p) n h
 Admits-next a b p old (Deliver payload index) answer new f bounds h n = delivers b p old payload index answer new f h n
 Admits-next a b p old (LoseStream payload index) answer new f bounds h n = stays b p p old new (told_same p) (loses old payload index answer new n) h
-Admits-next a b p old (AckStream payload index) answer new f bounds h n = stays b p _ old new (past_ack p payload index answer) (acks old payload index answer new n) h
+Admits-next a b p old (AckStream payload index) answer new f bounds h n = stays b p _ old new (ack_same p payload index answer) (acks old payload index answer new n) h
 Admits-next a b p old _ answer new f bounds h n = refuses b p p old answer new (told_same p) n h
 
 pub Admits-from : {a b : Config} {h : History} {v : World} → From a b h v → Admits b (past_of h) v

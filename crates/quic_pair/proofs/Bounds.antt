@@ -355,29 +355,29 @@ record SamePast (p q : Past) : Type 0 where
   pub written : q.written ≡ p.written
   pub acknowledged : q.acknowledged ≡ p.acknowledged
 
-past_open : (p : Past) (answer : Answer) → SamePast p (after_open p answer)
-past_open p (Ok (Id id)) = record { pieces = refl; written = refl; acknowledged = refl }
-past_open p _ = record { pieces = refl; written = refl; acknowledged = refl }
+open_same : (p : Past) (answer : Answer) → SamePast p (after_open p answer)
+open_same p (Ok (Id id)) = record { pieces = refl; written = refl; acknowledged = refl }
+open_same p _ = record { pieces = refl; written = refl; acknowledged = refl }
 
-past_accept : (p : Past) (answer : Answer) → SamePast p (after_accept p answer)
-past_accept p (Ok (Id id)) = record { pieces = refl; written = refl; acknowledged = refl }
-past_accept p _ = record { pieces = refl; written = refl; acknowledged = refl }
+accept_same : (p : Past) (answer : Answer) → SamePast p (after_accept p answer)
+accept_same p (Ok (Id id)) = record { pieces = refl; written = refl; acknowledged = refl }
+accept_same p _ = record { pieces = refl; written = refl; acknowledged = refl }
 
-past_finish : (p : Past) (answer : Answer) → SamePast p (after_finish p answer)
-past_finish p (Ok Done) = record { pieces = refl; written = refl; acknowledged = refl }
-past_finish p _ = record { pieces = refl; written = refl; acknowledged = refl }
+finish_same : (p : Past) (answer : Answer) → SamePast p (after_finish p answer)
+finish_same p (Ok Done) = record { pieces = refl; written = refl; acknowledged = refl }
+finish_same p _ = record { pieces = refl; written = refl; acknowledged = refl }
 
-past_read : (p : Past) (answer : Answer) → SamePast p (past_read p answer)
-past_read p (Ok (Read chunks last transmit)) = record { pieces = refl; written = refl; acknowledged = refl }
-past_read p _ = record { pieces = refl; written = refl; acknowledged = refl }
+read_same : (p : Past) (answer : Answer) → SamePast p (past_read p answer)
+read_same p (Ok (Read chunks last transmit)) = record { pieces = refl; written = refl; acknowledged = refl }
+read_same p _ = record { pieces = refl; written = refl; acknowledged = refl }
 
-past_event : (p : Past) (event : StreamEvent) → SamePast p (after_event p event)
-past_event p (Finished id) = record { pieces = refl; written = refl; acknowledged = refl }
-past_event p _ = record { pieces = refl; written = refl; acknowledged = refl }
+event_same : (p : Past) (event : StreamEvent) → SamePast p (after_event p event)
+event_same p (Finished id) = record { pieces = refl; written = refl; acknowledged = refl }
+event_same p _ = record { pieces = refl; written = refl; acknowledged = refl }
 
-past_poll : (p : Past) (answer : Answer) → SamePast p (after_poll p answer)
-past_poll p (Ok (Event event)) = past_event p event
-past_poll p _ = record { pieces = refl; written = refl; acknowledged = refl }
+poll_same : (p : Past) (answer : Answer) → SamePast p (after_poll p answer)
+poll_same p (Ok (Event event)) = event_same p event
+poll_same p _ = record { pieces = refl; written = refl; acknowledged = refl }
 
 past_deliver : (p : Past) (k i : ℕ) (answer : Answer) → SamePast p (after_deliver p k i answer)
 past_deliver p k i (Ok Done) = record { pieces = refl; written = refl; acknowledged = refl }
@@ -391,18 +391,18 @@ stays : (a b : Config) (p q : Past) (old : World) (answer : Answer) (new : World
 stays a b p q old answer new s h r = by_past a b p q old new s h (rw r.1 (Moves-same old))
 
 Bounds-next : (a b : Config) (p : Past) (old : World) (step : Step) (answer : Answer) (new : World) → Fits p old → BoundsOf a b p old → Next old step answer new → BoundsOf a b (after p step answer) new
-Bounds-next a b p old (Open A Uni) answer new f h n = by_past a b p _ old new (past_open p answer) h (opens old answer new n)
-Bounds-next a b p old (Open who dir) answer new f h n = stays a b p _ old answer new (past_open p answer) h n
-Bounds-next a b p old (Accept B Uni) answer new f h n = by_past a b p _ old new (past_accept p answer) h (accepts old answer new n)
-Bounds-next a b p old (Accept who dir) answer new f h n = stays a b p _ old answer new (past_accept p answer) h n
+Bounds-next a b p old (Open A Uni) answer new f h n = by_past a b p _ old new (open_same p answer) h (opens old answer new n)
+Bounds-next a b p old (Open who dir) answer new f h n = stays a b p _ old answer new (open_same p answer) h n
+Bounds-next a b p old (Accept B Uni) answer new f h n = by_past a b p _ old new (accept_same p answer) h (accepts old answer new n)
+Bounds-next a b p old (Accept who dir) answer new f h n = stays a b p _ old answer new (accept_same p answer) h n
 Bounds-next a b p old (Write A id bytes) answer new f h n = writes a b p old bytes id answer new h n
 Bounds-next a b p old (Write who id bytes) answer new f h n = rw (n.0, n.1) h
-Bounds-next a b p old (Finish A id) answer new f h n = by_past a b p _ old new (past_finish p answer) h (finishes old id answer new n)
-Bounds-next a b p old (Finish who id) answer new f h n = stays a b p _ old answer new (past_finish p answer) h n
-Bounds-next a b p old (ReadStep B id true max times) answer new f h n = by_past a b p _ old new (past_read p answer) h (reads max times old id answer new n)
-Bounds-next a b p old (ReadStep who id ordered max times) answer new f h n = stays a b p _ old answer new (past_read p answer) h n
-Bounds-next a b p old (Poll A) answer new f h n = by_past a b p _ old new (past_poll p answer) h (polls old answer new n)
-Bounds-next a b p old (Poll who) answer new f h n = stays a b p _ old answer new (past_poll p answer) h n
+Bounds-next a b p old (Finish A id) answer new f h n = by_past a b p _ old new (finish_same p answer) h (finishes old id answer new n)
+Bounds-next a b p old (Finish who id) answer new f h n = stays a b p _ old answer new (finish_same p answer) h n
+Bounds-next a b p old (ReadStep B id true max times) answer new f h n = by_past a b p _ old new (read_same p answer) h (reads max times old id answer new n)
+Bounds-next a b p old (ReadStep who id ordered max times) answer new f h n = stays a b p _ old answer new (read_same p answer) h n
+Bounds-next a b p old (Poll A) answer new f h n = by_past a b p _ old new (poll_same p answer) h (polls old answer new n)
+Bounds-next a b p old (Poll who) answer new f h n = stays a b p _ old answer new (poll_same p answer) h n
 Bounds-next a b p old (Emit A most fair) answer new f h n = Bounds-moved a b p.pieces p.written p.acknowledged old new h (emits old most answer new n)
 Bounds-next a b p old (Emit who most fair) answer new f h n = rw n.1 h
 Bounds-next a b p old (Deliver payload index) answer new f h n = by_past a b p _ old new (past_deliver p payload index answer) h (delivers old payload index answer new n)

@@ -150,7 +150,7 @@ kept_fits p old k i s has r h keeps =
     Fits-received p old r h (ap (λ (x : Receiving). x.taken) keeps.new_is)
     (keep_decoded (flow_of p) p.given old.receiving has.piece s r h.receiver (honest.pieces i has.piece has.at) e keeps)
 
-received_fits : (p : Past) (old : World) (k i : ℕ) (s : Stream) (has : HasStream old.sent k i s) (answer : Answer) (r : Receiving) → Fits p old → ReceivesFrame old.receiving s.offset s.bytes s.fin answer r → Fits p (record old { receiving = r })
+received_fits : (p : Past) (old : World) (k i : ℕ) (s : Stream) (has : HasStream old.sent k i s) (answer : Answer) (r : Receiving) → Fits p old → ReceivesFrame old.receiving s.offset s.bytes s.fin (length has.whole.bytes) answer r → Fits p (record old { receiving = r })
 received_fits p old k i s has (Ok Done) r h (inl same) = rw same.1 h
 received_fits p old k i s has (Ok Done) r h (inr kept) = kept_fits p old k i s has r h kept.0
 received_fits p old k i s has (Ok (Fault (Transport error))) r h (inl same) = rw same.2 h
