@@ -249,6 +249,7 @@ fn each_error_has_its_number_and_its_text(rt: HostRuntime) -> Result<(), Fail> {
 }
 
 // Numbers that a seed gives, one after the other.
+#[derive(Drop)]
 struct Seeded(u64);
 
 impl Seeded {

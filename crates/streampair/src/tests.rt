@@ -235,6 +235,7 @@ fn a_session_of_five_thousand_lines_is_served(rt: HostRuntime) -> Result<(), Fai
 }
 
 // Numbers that a seed gives, one after the other.
+#[derive(Drop)]
 struct Seeded(u64);
 
 impl Seeded {
