@@ -8,7 +8,6 @@ use Rattle.quic_pair.specs.Steps.{World, Next}
 use Rattle.quic_pair.specs.From.{From, next}
 use Rattle.quic_pair.specs.Runs.{StepByStep, none, more, TakesSteps, IsPermittedBehind, IsRefusedBehind}
 use Rattle.quic_pair.proofs.Bounds.{permitted_so}
-use Rattle.quic_pair.proofs.Histories.{Fits-from}
 use Rattle.quic_pair.proofs.Refused.{refused_so}
 
 -- one more step and one more reply
@@ -44,4 +43,4 @@ permitted-steps a b h taken old new f t =
 
 pub refused-steps : (a b : Config) (h taken : History) (old new : World) → From a b h old → TakesSteps old taken new → StepByStep (IsRefusedBehind h) old taken new
 refused-steps a b h taken old new f t =
-    along a b h (IsRefusedBehind h) (λ before between after step answer from n. refused_so _ between step answer after (Fits-from from) n) old taken new f t
+    along a b h (IsRefusedBehind h) (λ before between after step answer from n. refused_so step answer after from n) old taken new f t

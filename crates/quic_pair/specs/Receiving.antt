@@ -75,7 +75,7 @@ ReceivesFrame old offset bytes fin payload (Ok Done) new =
 ReceivesFrame old offset bytes fin payload (Ok (Fault (Transport error))) new =
     ((old.freed ≡ false) × (frame_verdict old offset (length bytes) fin ≡ Some error.code) × (new ≡ old))
     ⊎ ((error.code ≡ 1) × KeepsFrame old offset bytes fin new × (new.opened ≡ old.opened) × (1024 < piece_count new.held)
-      × SettlesPieces (Err inserted.TooManyChunks) old.held offset bytes payload new.held)
+    × SettlesPieces (Err inserted.TooManyChunks) old.held offset bytes payload new.held)
 ReceivesFrame old offset bytes fin payload (Ok (Fault CompactionMemory)) new =
     KeepsFrame old offset bytes fin new × (new.opened ≡ old.opened) × SettlesPieces (Err inserted.CompactionMemory) old.held offset bytes payload new.held
 ReceivesFrame old offset bytes fin payload (Err OutOfMemory) new = new ≡ old

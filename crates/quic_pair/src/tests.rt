@@ -318,7 +318,9 @@ fn read_to_end(pair: &mut Pair, alloc: Global) -> Result<Vec<u8>, Fail> {
 fn bytes_of_every_size_come_across(rt: HostRuntime) -> Result<(), Fail> {
     let alloc = rt.alloc();
     let mut seeded = Seeded(7);
-    for power in [1, 2, 4, 8, 16, 32, 64, 128, 256, 512, 1024, 2048, 4096, 8192, 16384, 32768, 65536] {
+    for power in [
+        1, 2, 4, 8, 16, 32, 64, 128, 256, 512, 1024, 2048, 4096, 8192, 16384, 32768, 65536,
+    ] {
         for size in [power - 1, power, power + 1] {
             let content = seeded_bytes(alloc, &mut seeded, size)?;
             let mut pair = finished_pair(alloc, content.as_slice())?;
@@ -326,7 +328,10 @@ fn bytes_of_every_size_come_across(rt: HostRuntime) -> Result<(), Fail> {
             let read = read_to_end(&mut pair, alloc)?;
             assert!(rt; read == content, "{size}");
             let told = answer(&mut pair, Step::Poll { who: End::A })?;
-            assert!(rt; told == Reply::Event(StreamEvent::Finished { id: stream() }), "{size}");
+            assert!(rt;
+                told == Reply::Event(StreamEvent::Finished { id: stream() }),
+                "{size}"
+            );
         }
     }
     Ok(())

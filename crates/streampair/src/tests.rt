@@ -289,9 +289,18 @@ fn push_round(
     } else {
         format!(in alloc; "0e02{start}{length}")?
     };
-    write!(lines, "write a 2 {field}\nemit a 100000 f\ndeliver {number} 0\n")?;
-    write!(replies, "wrote {size}\npayload {number} {head}{field}\nok\n")?;
-    write!(lines, "read b 2 o 100000 1\nack-stream {number} 0\npoll a\n")?;
+    write!(
+        lines,
+        "write a 2 {field}\nemit a 100000 f\ndeliver {number} 0\n"
+    )?;
+    write!(
+        replies,
+        "wrote {size}\npayload {number} {head}{field}\nok\n"
+    )?;
+    write!(
+        lines,
+        "read b 2 o 100000 1\nack-stream {number} 0\npoll a\n"
+    )?;
     write!(replies, "{offset}:{field} more quiet\nok\nnone\n")?;
     Ok(())
 }
@@ -314,11 +323,18 @@ fn a_session_of_a_thousand_lines_is_served(rt: HostRuntime) -> Result<(), Fail> 
     let mut offset: usize = 0;
     for round in 0..10 {
         for power in SIZES {
-            let size = power + round % 3 - 1;
+            let size = power.saturating_add(round % 3).saturating_sub(1);
             let field = seeded_field(alloc, &mut seeded, size.max(1))?;
-            push_round(alloc, &mut lines, &mut replies, number, offset, field.as_str())?;
-            number += 1;
-            offset += field.len() / 2;
+            push_round(
+                alloc,
+                &mut lines,
+                &mut replies,
+                number,
+                offset,
+                field.as_str(),
+            )?;
+            number = number.saturating_add(1);
+            offset = offset.saturating_add(field.len() / 2);
         }
     }
     let (output, status) = served(alloc, lines.as_str())?;
