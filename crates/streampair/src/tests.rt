@@ -21,6 +21,20 @@ fn served(alloc: Global, input: &str) -> Result<(Vec<u8>, u8), Fail> {
     Ok((output, status))
 }
 
+// Serves a text, and looks at what is written and at the status.
+fn input_gives(
+    rt: &impl Abort,
+    alloc: Global,
+    input: &str,
+    wanted: &str,
+    status: u8,
+) -> Result<(), Fail> {
+    let (output, ended) = served(alloc, input)?;
+    assert_eq!(rt; output.as_slice(), wanted.as_bytes(), "{input:?}");
+    assert_eq!(rt; ended, status, "{input:?}");
+    Ok(())
+}
+
 // Serves the two configs and then some lines, and looks at what comes behind the two `ok`.
 fn session_gives(
     rt: &impl Abort,
@@ -33,50 +47,34 @@ fn session_gives(
     input.push_str(lines)?;
     let mut wanted = String::from_str(alloc, "ok\nok\n")?;
     wanted.push_str(replies)?;
-    let (output, ended) = served(alloc, input.as_str())?;
-    assert_eq!(rt; output.as_slice(), wanted.as_str().as_bytes(), "{lines:?}");
-    assert_eq!(rt; ended, status, "{lines:?}");
-    Ok(())
-}
-
-#[test]
-fn no_input_has_no_reply(rt: HostRuntime) -> Result<(), Fail> {
-    let (output, status) = served(rt.alloc(), "")?;
-    assert!(rt; output.is_empty());
-    assert_eq!(rt; status, 0);
-    Ok(())
-}
-
-#[test]
-fn one_config_line_is_answered(rt: HostRuntime) -> Result<(), Fail> {
-    let (output, status) = served(rt.alloc(), "config a 4 4 1000 1000 1000\n")?;
-    assert_eq!(rt; output.as_slice(), b"ok\n".as_slice());
-    assert_eq!(rt; status, 0);
-    Ok(())
-}
-
-// Serves a text, and looks at what is written.
-fn input_gives(rt: &impl Abort, alloc: Global, input: &str, wanted: &str) -> Result<(), Fail> {
-    let (output, _status) = served(alloc, input)?;
-    assert_eq!(rt; output.as_slice(), wanted.as_bytes(), "{input:?}");
-    Ok(())
+    input_gives(rt, alloc, input.as_str(), wanted.as_str(), status)
 }
 
 #[test]
 fn the_first_line_is_the_config_of_a(rt: HostRuntime) -> Result<(), Fail> {
+    input_gives(&rt, rt.alloc(), "", "", 0)?;
+    input_gives(&rt, rt.alloc(), "config a 4 4 1000 1000 1000\n", "ok\n", 0)?;
     input_gives(
         &rt,
         rt.alloc(),
         "config b 4 4 1000 1000 1000\n",
         "malformed 1\n",
+        2,
     )?;
-    input_gives(&rt, rt.alloc(), "open a uni\n", "malformed 1\n")?;
-    input_gives(&rt, rt.alloc(), "config a 4 4 1000 1000\n", "malformed 1\n")?;
+    input_gives(&rt, rt.alloc(), "open a uni\n", "malformed 1\n", 2)?;
+    input_gives(
+        &rt,
+        rt.alloc(),
+        "config a 4 4 1000 1000\n",
+        "malformed 1\n",
+        2,
+    )?;
     input_gives(
         &rt,
         rt.alloc(),
         "config a 4 4 1 1 1\nconfig a 4 4 1 1 1\n",
         "ok\nmalformed 2\n",
+        2,
     )
 }
 
@@ -87,24 +85,28 @@ fn the_numbers_of_a_config_have_limits(rt: HostRuntime) -> Result<(), Fail> {
         rt.alloc(),
         "config a 1152921504606846977 4 1 1 1\n",
         "malformed 1\n",
+        2,
     )?;
     input_gives(
         &rt,
         rt.alloc(),
         "config a 4 4 1 4611686018427387904 1\n",
         "malformed 1\n",
+        2,
     )?;
     input_gives(
         &rt,
         rt.alloc(),
         "config a 4 4 1 1 4611686018427387904\n",
         "malformed 1\n",
+        2,
     )?;
     input_gives(
         &rt,
         rt.alloc(),
         "config a 1152921504606846976 4 18446744073709551615 4611686018427387903 1\n",
         "ok\n",
+        0,
     )
 }
 
