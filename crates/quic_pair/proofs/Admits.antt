@@ -19,7 +19,8 @@ use Rattle.quic_pair.specs.Sending.{Sending, TakesBytes, Finishes}
 use Rattle.quic_pair.specs.Receiving.{Receiving, ReceivesFrame, KeepsFrame, ReadsStream, ReadsAll, frame_verdict}
 use Rattle.quic_values.specs.Offsets.{is_past}
 use Rattle.quic_pair.specs.Steps.{World, Next, KnowsNoId, OnStream, OnReceiving, OnlyReceiving, Emits, Delivered, ReportsLoss, LosesFrame, ReportsAck, AcksFrame, WritesBytes, Unknown}
-use Rattle.quic_pair.specs.History.{Past, Answer, History, past_of, nothing_yet, after, after_open, after_accept, after_write, after_finish, past_read, after_poll, after_event, after_deliver, past_ack, codes_of, kept_by}
+use Rattle.quic_pair.specs.History.{Answer, History, past_of, codes_of}
+use Rattle.quic_pair.proofs.Told.{Told, told_of, told_nothing, told_after, told_open, told_accept, told_write, told_finish, told_read, told_poll, told_event, told_deliver, told_ack, told_kept}
 use Rattle.quic_pair.specs.From.{From, begin, next, IsNew}
 use Rattle.quic_pair.specs.declared.steps.Config.{Config}
 use Rattle.quic_pair.specs.declared.steps.End.TheVariants.{A, B}
@@ -28,8 +29,9 @@ use Rattle.quic_pair.specs.declared.steps.Step.TheVariants.{Open, Accept, Write,
 use Rattle.quic_pair.specs.declared.steps.Last.{Last}
 use Rattle.quic_pair.specs.declared.steps.Reply.TheVariants.{Done, Fault, Id, Nothing, Wrote, Blocked, Closed, Read, Event, Payload}
 use Rattle.quic_pair.specs.declared.steps.PairError.TheVariants.{NoSuchPayload, NoSuchFrame, NotAccepted, OutOfMemory}
-use Rattle.quic_pair.proofs.Invariant.{Fits, flow_of}
-use Rattle.quic_pair.proofs.Histories.{Fits-from, past_from-push}
+use Rattle.quic_pair.proofs.Invariant.{Fits, source_of}
+use Rattle.quic_pair.proofs.Histories.{Fits-from}
+use Rattle.quic_pair.proofs.Telling.{told_next}
 use Rattle.quic_pair.proofs.Bounds.{BoundsOf, Bounds-from, written_size}
 use Rattle.quic_pair.proofs.Delivers.{frame_is}
 use Rattle.quic_pair.proofs.Parts.{length-part}
@@ -49,12 +51,12 @@ pub record Within (b : Config) (written kept : ℕ) (r : Receiving) : Type 0 whe
 abbrev pub IsTooMany : ℕ → ℕ → Type 0
 IsTooMany kept code = (code ≡ 1) × (1024 < kept)
 
-pub record Admits (b : Config) (p : Past) (v : World) : Type 0 where
+pub record Admits (b : Config) (p : Told) (v : World) : Type 0 where
   pub within : Within b (length p.written) p.kept v.receiving
   pub refused : All (IsTooMany p.kept) p.refused
 
 -- a new end
-Admits-new : (a b : Config) (v : World) → IsNew a b v → Admits b nothing_yet v
+Admits-new : (a b : Config) (v : World) → IsNew a b v → Admits b told_nothing v
 Admits-new a b v n = record {
   within = record {
     high = omega (arith, n.receiving.end);
@@ -75,10 +77,10 @@ pub record IsHonestFrame (written : ℕ) (s : Stream) : Type 0 where
   pub ends : s.fin ≡ true → s.offset + length s.bytes ≡ written
 
 -- what is decoded of a payload that was sent is such a frame
-honest_frame : (p : Past) (v : World) (k i : ℕ) (s : Stream) (has : HasStream v.sent k i s) → Fits p v → IsHonestFrame (length p.written) s
+honest_frame : (p : Told) (v : World) (k i : ℕ) (s : Stream) (has : HasStream v.sent k i s) → Fits p v → IsHonestFrame (length p.written) s
 honest_frame p v k i s has h =
     let honest = h.frames k has.whole has.is in
-    let e = frame_is (flow_of p) has.whole i has.piece s honest has.at has.spells in
+    let e = frame_is (source_of p) has.whole i has.piece s honest has.at has.spells in
     let piece = honest.pieces i has.piece has.at in
     let size = length-part p.written has.piece.start has.piece.end piece.ordered piece.within in
     let end : has.piece.start + length (part p.written has.piece.start has.piece.end) ≡ has.piece.end = omega (arith, piece.ordered) in
@@ -150,22 +152,22 @@ refused_more : (kept more : ℕ) (codes : List ℕ) → All (IsTooMany kept) cod
 refused_more kept more codes h = All-weaker (IsTooMany kept) (IsTooMany (kept + more)) (λ code t. (t.0, omega (arith, t.1))) codes h
 
 -- a delivery
-size_of_past : (p : Past) (v : World) → Fits p v → (e : ℕ) → v.receiving.final_size ≡ Some e → e ≡ length p.written
+size_of_past : (p : Told) (v : World) → Fits p v → (e : ℕ) → v.receiving.final_size ≡ Some e → e ≡ length p.written
 size_of_past p v h e q = (h.receiver.size e q).1
 
-received_done : (b : Config) (p : Past) (old : World) (s : Stream) (new : Receiving) → Admits b p old → IsHonestFrame (length p.written) s → ReceivesFrame old.receiving s.offset s.bytes s.fin (Ok Done) new → Within b (length p.written) (p.kept + 1) new
-received_done b p old s new h honest (inl same) = rw same.1 (Within-more b (length p.written) p.kept 1 old.receiving h.within)
-received_done b p old s new h honest (inr kept) = Within-keeps b (length p.written) p.kept old.receiving s new h.within honest kept.0
+received_done : (b : Config) (p : Told) (old : World) (s : Stream) (size : ℕ) (new : Receiving) → Admits b p old → IsHonestFrame (length p.written) s → ReceivesFrame old.receiving s.offset s.bytes s.fin size (Ok Done) new → Within b (length p.written) (p.kept + 1) new
+received_done b p old s size new h honest (inl same) = rw same.1 (Within-more b (length p.written) p.kept 1 old.receiving h.within)
+received_done b p old s size new h honest (inr kept) = Within-keeps b (length p.written) p.kept old.receiving s new h.within honest kept.0
 
 -- a delivery that is refused
-pub record IsCounted (b : Config) (p : Past) (error : ReceiveError) (new : Receiving) : Type 0 where
-  pub within : Within b (length p.written) (p.kept + kept_by error) new
-  pub refused : All (IsTooMany (p.kept + kept_by error)) (p.refused ++ codes_of error)
+pub record IsCounted (b : Config) (p : Told) (error : ReceiveError) (new : Receiving) : Type 0 where
+  pub within : Within b (length p.written) (p.kept + told_kept error) new
+  pub refused : All (IsTooMany (p.kept + told_kept error)) (p.refused ++ codes_of error)
 
-one_kept : (error : TransportError) → error.code ≡ 1 → kept_by (Transport error) ≡ 1
+one_kept : (error : TransportError) → error.code ≡ 1 → told_kept (Transport error) ≡ 1
 one_kept error e = rw (eq-eqb error.code 1 e) refl
 
-fault_counted : (b : Config) (p : Past) (old : World) (s : Stream) (error : TransportError) (new : Receiving) → Admits b p old → IsHonestFrame (length p.written) s → error.code ≡ 1 → KeepsFrame old.receiving s.offset s.bytes s.fin new → 1024 < piece_count new.held → IsCounted b p (Transport error) new
+fault_counted : (b : Config) (p : Told) (old : World) (s : Stream) (error : TransportError) (new : Receiving) → Admits b p old → IsHonestFrame (length p.written) s → error.code ≡ 1 → KeepsFrame old.receiving s.offset s.bytes s.fin new → 1024 < piece_count new.held → IsCounted b p (Transport error) new
 fault_counted b p old s error new h honest code keeps many =
     let kept = one_kept error code in
     let within = Within-keeps b (length p.written) p.kept old.receiving s new h.within honest keeps in
@@ -175,27 +177,27 @@ fault_counted b p old s error new h honest code keeps many =
           (All-cons (IsTooMany (p.kept + 1)) error.code [] (code, omega (arith, many, within.pieces)) (All-nil (IsTooMany (p.kept + 1)))));
     }
 
-received_fault : (b : Config) (p : Past) (old : World) (s : Stream) (error : ReceiveError) (new : Receiving) → Admits b p old → Fits p old → IsHonestFrame (length p.written) s → ReceivesFrame old.receiving s.offset s.bytes s.fin (Ok (Fault error)) new → IsCounted b p error new
-received_fault b p old s (Transport error) new h fits honest (inl same) =
+received_fault : (b : Config) (p : Told) (old : World) (s : Stream) (size : ℕ) (error : ReceiveError) (new : Receiving) → Admits b p old → Fits p old → IsHonestFrame (length p.written) s → ReceivesFrame old.receiving s.offset s.bytes s.fin size (Ok (Fault error)) new → IsCounted b p error new
+received_fault b p old s size (Transport error) new h fits honest (inl same) =
     absurd (none-some error.code (sym (no_error b (length p.written) p.kept old.receiving s h.within (size_of_past p old fits) honest) ∙ same.1))
-received_fault b p old s (Transport error) new h fits honest (inr kept) = fault_counted b p old s error new h honest kept.0 kept.1 kept.3
-received_fault b p old s CompactionMemory new h fits honest kept = record {
+received_fault b p old s size (Transport error) new h fits honest (inr kept) = fault_counted b p old s error new h honest kept.0 kept.1 kept.3
+received_fault b p old s size CompactionMemory new h fits honest kept = record {
   within = Within-keeps b (length p.written) p.kept old.receiving s new h.within honest kept.0;
   refused = All-append (IsTooMany (p.kept + 1)) p.refused [] (refused_more p.kept 1 p.refused h.refused) (All-nil (IsTooMany (p.kept + 1)));
 }
-received_fault b p old s _ new h fits honest n = absurd n
+received_fault b p old s size _ new h fits honest n = absurd n
 
 -- with the end that reads as it is, and as many frames kept
-admits_same : (b : Config) (p : Past) (old new : World) → new.receiving ≡ old.receiving → Admits b p old → Admits b p new
+admits_same : (b : Config) (p : Told) (old new : World) → new.receiving ≡ old.receiving → Admits b p old → Admits b p new
 admits_same b p old new is h = record { within = rw is h.within; refused = h.refused }
 
-delivers : (b : Config) (p : Past) (old : World) (k i : ℕ) (answer : Answer) (new : World) → Fits p old → Admits b p old → Delivered old k i answer new → Admits b (after_deliver p k i answer) new
+delivers : (b : Config) (p : Told) (old : World) (k i : ℕ) (answer : Answer) (new : World) → Fits p old → Admits b p old → Delivered old k i answer new → Admits b (told_deliver p k i answer) new
 delivers b p old k i (Ok Done) new f h n = record {
-  within = received_done b p old n.hands.frame new.receiving h (honest_frame p old k i n.hands.frame n.hands.has f) n.hands.receives;
+  within = received_done b p old n.hands.frame (length n.hands.has.whole.bytes) new.receiving h (honest_frame p old k i n.hands.frame n.hands.has f) n.hands.receives;
   refused = refused_more p.kept 1 p.refused h.refused;
 }
 delivers b p old k i (Ok (Fault error)) new f h n =
-    let z = received_fault b p old n.hands.frame error new.receiving h f (honest_frame p old k i n.hands.frame n.hands.has f) n.hands.receives in
+    let z = received_fault b p old n.hands.frame (length n.hands.has.whole.bytes) error new.receiving h f (honest_frame p old k i n.hands.frame n.hands.has f) n.hands.receives in
     record { within = z.within; refused = z.refused }
 delivers b p old k i (Err NoSuchPayload) new f h n = rw n.1 h
 delivers b p old k i (Err NoSuchFrame) new f h n = rw n.1 h
@@ -203,7 +205,7 @@ delivers b p old k i (Err OutOfMemory) new f h n = rw n h
 delivers b p old k i _ new f h n = absurd n
 
 -- a read
-read_admits : (most times : ℕ) (b : Config) (p : Past) (old : World) (chunks : List Chunk) (last : Last) (transmit : Bool) (r : Receiving) → Admits b p old → ReadsAll most times old.receiving chunks last transmit r → Within b (length p.written) p.kept r
+read_admits : (most times : ℕ) (b : Config) (p : Told) (old : World) (chunks : List Chunk) (last : Last) (transmit : Bool) (r : Receiving) → Admits b p old → ReadsAll most times old.receiving chunks last transmit r → Within b (length p.written) p.kept r
 read_admits most times b p old chunks last transmit r h n =
     let end = ap (λ (x : Receiving). x.end) n.new_is in
     let received = ap (λ (x : Receiving). x.data_received) n.new_is in
@@ -219,18 +221,18 @@ read_admits most times b p old chunks last transmit r h n =
       pieces = omega (arith, h.within.pieces, n.gives.pieces);
     }
 
-reads_at : (most times : ℕ) (b : Config) (p : Past) (old : World) (answer : Answer) (new : World) → Admits b p old → ReadsStream most times old.receiving answer new.receiving → Admits b (past_read p answer) new
+reads_at : (most times : ℕ) (b : Config) (p : Told) (old : World) (answer : Answer) (new : World) → Admits b p old → ReadsStream most times old.receiving answer new.receiving → Admits b (told_read p answer) new
 reads_at most times b p old (Ok (Read chunks last transmit)) new h n = record { within = read_admits most times b p old chunks.items last transmit new.receiving h n; refused = h.refused }
 reads_at most times b p old (Ok Closed) new h n = admits_same b p old new n.1 h
 reads_at most times b p old (Err OutOfMemory) new h n = admits_same b p old new n h
 reads_at most times b p old _ new h n = absurd n
 
-reads : (most times : ℕ) (b : Config) (p : Past) (old : World) (id : ℕ) (answer : Answer) (new : World) → Admits b p old → (Unknown old.receiving.taken id × KnowsNoId old answer new) ⊎ OnReceiving most times old id answer new → Admits b (past_read p answer) new
+reads : (most times : ℕ) (b : Config) (p : Told) (old : World) (id : ℕ) (answer : Answer) (new : World) → Admits b p old → (Unknown old.receiving.taken id × KnowsNoId old answer new) ⊎ OnReceiving most times old id answer new → Admits b (told_read p answer) new
 reads most times b p old id answer new h (inl u) = rw (u.1.0, u.1.1) h
 reads most times b p old id answer new h (inr n) = reads_at most times b p old answer new h n.does
 
 -- the stream is given
-accepts_at : (b : Config) (p : Past) (old : World) (r : Receiving) → Admits b p old → r ≡ record old.receiving { taken = true } → Admits b (record p { taken = true }) (record old { receiving = r })
+accepts_at : (b : Config) (p : Told) (old : World) (r : Receiving) → Admits b p old → r ≡ record old.receiving { taken = true } → Admits b (record p { taken = true }) (record old { receiving = r })
 accepts_at b p old r h is = rw is (record {
   within = record {
     high = h.within.high;
@@ -245,18 +247,18 @@ accepts_at b p old r h is = rw is (record {
   refused = h.refused;
 })
 
-accepts : (b : Config) (p : Past) (old : World) (answer : Answer) (new : World) → Admits b p old → OnlyReceiving old answer new → Admits b (after_accept p answer) new
+accepts : (b : Config) (p : Told) (old : World) (answer : Answer) (new : World) → Admits b p old → OnlyReceiving old answer new → Admits b (told_accept p answer) new
 accepts b p old (Ok (Id id)) new h n = rw n.new_is (accepts_at b p old new.receiving h n.does.3)
 accepts b p old (Ok Nothing) new h n = admits_same b p old new n.does.1 h
 accepts b p old _ new h n = absurd n.does
 
 -- a write stays within what is permitted
-within_limits : (a b : Config) (p : Past) (old : World) (bytes : List ℕ) (count : ℕ) (s : Sending) → BoundsOf a b p old → TakesBytes old.sending bytes count s → (count ≤ b.receive_window - length p.written) × (count ≤ b.stream_receive_window - length p.written)
+within_limits : (a b : Config) (p : Told) (old : World) (bytes : List ℕ) (count : ℕ) (s : Sending) → BoundsOf a b p old → TakesBytes old.sending bytes count s → (count ≤ b.receive_window - length p.written) × (count ≤ b.stream_receive_window - length p.written)
 within_limits a b p old bytes count s bounds t =
     let size = written_size a b p old bounds in
     (omega (arith, t.count_is, size, bounds.max_data), omega (arith, t.count_is, size, bounds.max_stream_data))
 
-write_admits : (a b : Config) (p : Past) (old : World) (bytes : List ℕ) (count : ℕ) (s : Sending) → BoundsOf a b p old → Admits b p old → TakesBytes old.sending bytes count s → Within b (length (p.written ++ take count bytes)) p.kept old.receiving
+write_admits : (a b : Config) (p : Told) (old : World) (bytes : List ℕ) (count : ℕ) (s : Sending) → BoundsOf a b p old → Admits b p old → TakesBytes old.sending bytes count s → Within b (length (p.written ++ take count bytes)) p.kept old.receiving
 write_admits a b p old bytes count s bounds h t =
     let limits = within_limits a b p old bytes count s bounds t in
     let size : length (p.written ++ take count bytes) ≡ length p.written + length (take count bytes) = length-append p.written (take count bytes) in
@@ -272,7 +274,7 @@ write_admits a b p old bytes count s bounds h t =
       pieces = h.within.pieces;
     }
 
-writes : (a b : Config) (p : Past) (old : World) (id : ℕ) (bytes : List ℕ) (answer : Answer) (new : World) → BoundsOf a b p old → Admits b p old → OnStream (WritesBytes bytes) old id answer new → Admits b (after_write p bytes answer) new
+writes : (a b : Config) (p : Told) (old : World) (id : ℕ) (bytes : List ℕ) (answer : Answer) (new : World) → BoundsOf a b p old → Admits b p old → OnStream (WritesBytes bytes) old id answer new → Admits b (told_write p bytes answer) new
 writes a b p old id bytes answer new bounds h (inl u) = rw (u.1.0, u.1.1) h
 writes a b p old id bytes (Ok (Wrote count)) new bounds h (inr n) = rw n.new_is (record { within = write_admits a b p old bytes count new.sending bounds h n.does; refused = h.refused })
 writes a b p old id bytes (Ok Blocked) new bounds h (inr n) = rw n.new_is (record { within = h.within; refused = h.refused })
@@ -281,43 +283,43 @@ writes a b p old id bytes (Err OutOfMemory) new bounds h (inr n) = rw n.new_is (
 writes a b p old id bytes _ new bounds h (inr n) = absurd n.does
 
 -- a past that tells the same of frames and of what was written
-record SameTold (p q : Past) : Type 0 where
+record SameTold (p q : Told) : Type 0 where
   pub written : q.written ≡ p.written
   pub kept : q.kept ≡ p.kept
   pub refused : q.refused ≡ p.refused
 
-past_open : (p : Past) (answer : Answer) → SameTold p (after_open p answer)
-past_open p (Ok (Id id)) = record { written = refl; kept = refl; refused = refl }
-past_open p _ = record { written = refl; kept = refl; refused = refl }
+open_same : (p : Told) (answer : Answer) → SameTold p (told_open p answer)
+open_same p (Ok (Id id)) = record { written = refl; kept = refl; refused = refl }
+open_same p _ = record { written = refl; kept = refl; refused = refl }
 
-past_accept : (p : Past) (answer : Answer) → SameTold p (after_accept p answer)
-past_accept p (Ok (Id id)) = record { written = refl; kept = refl; refused = refl }
-past_accept p _ = record { written = refl; kept = refl; refused = refl }
+accept_same : (p : Told) (answer : Answer) → SameTold p (told_accept p answer)
+accept_same p (Ok (Id id)) = record { written = refl; kept = refl; refused = refl }
+accept_same p _ = record { written = refl; kept = refl; refused = refl }
 
-past_finish : (p : Past) (answer : Answer) → SameTold p (after_finish p answer)
-past_finish p (Ok Done) = record { written = refl; kept = refl; refused = refl }
-past_finish p _ = record { written = refl; kept = refl; refused = refl }
+finish_same : (p : Told) (answer : Answer) → SameTold p (told_finish p answer)
+finish_same p (Ok Done) = record { written = refl; kept = refl; refused = refl }
+finish_same p _ = record { written = refl; kept = refl; refused = refl }
 
-past_event : (p : Past) (event : StreamEvent) → SameTold p (after_event p event)
-past_event p (Finished id) = record { written = refl; kept = refl; refused = refl }
-past_event p _ = record { written = refl; kept = refl; refused = refl }
+event_same : (p : Told) (event : StreamEvent) → SameTold p (told_event p event)
+event_same p (Finished id) = record { written = refl; kept = refl; refused = refl }
+event_same p _ = record { written = refl; kept = refl; refused = refl }
 
-past_poll : (p : Past) (answer : Answer) → SameTold p (after_poll p answer)
-past_poll p (Ok (Event event)) = past_event p event
-past_poll p _ = record { written = refl; kept = refl; refused = refl }
+poll_same : (p : Told) (answer : Answer) → SameTold p (told_poll p answer)
+poll_same p (Ok (Event event)) = event_same p event
+poll_same p _ = record { written = refl; kept = refl; refused = refl }
 
-past_ack : (p : Past) (k i : ℕ) (answer : Answer) → SameTold p (past_ack p k i answer)
-past_ack p k i (Ok Done) = record { written = refl; kept = refl; refused = refl }
-past_ack p k i _ = record { written = refl; kept = refl; refused = refl }
+ack_same : (p : Told) (k i : ℕ) (answer : Answer) → SameTold p (told_ack p k i answer)
+ack_same p k i (Ok Done) = record { written = refl; kept = refl; refused = refl }
+ack_same p k i _ = record { written = refl; kept = refl; refused = refl }
 
 -- a step that leaves the end that reads alone
-stays : (b : Config) (p q : Past) (old new : World) → SameTold p q → new.receiving ≡ old.receiving → Admits b p old → Admits b q new
+stays : (b : Config) (p q : Told) (old new : World) → SameTold p q → new.receiving ≡ old.receiving → Admits b p old → Admits b q new
 stays b p q old new same is h = record {
   within = rw (same.written, same.kept, is) h.within;
   refused = rw (same.kept, same.refused) h.refused;
 }
 
-refuses : (b : Config) (p q : Past) (old : World) (answer : Answer) (new : World) → SameTold p q → KnowsNoId old answer new → Admits b p old → Admits b q new
+refuses : (b : Config) (p q : Told) (old : World) (answer : Answer) (new : World) → SameTold p q → KnowsNoId old answer new → Admits b p old → Admits b q new
 refuses b p q old answer new same r h = stays b p q old new same (ap (λ (v : World). v.receiving) r.1) h
 
 on_stream : (P : Sending → Answer → Sending → Type 0) (old : World) (id : ℕ) (answer : Answer) (new : World) → OnStream P old id answer new → new.receiving ≡ old.receiving
@@ -348,30 +350,30 @@ acks old k i (Err NotAccepted) new n = ap (λ (v : World). v.receiving) n.1
 acks old k i answer new n = acks_at old k i answer new n
 
 -- each step keeps it
-told_same : (p : Past) → SameTold p p
+told_same : (p : Told) → SameTold p p
 told_same p = record { written = refl; kept = refl; refused = refl }
 
-Admits-next : (a b : Config) (p : Past) (old : World) (step : Step) (answer : Answer) (new : World) → Fits p old → BoundsOf a b p old → Admits b p old → Next old step answer new → Admits b (after p step answer) new
-Admits-next a b p old (Open A Uni) answer new f bounds h n = stays b p _ old new (past_open p answer) (ap (λ (v : World). v.receiving) n.new_is) h
-Admits-next a b p old (Open who dir) answer new f bounds h n = refuses b p _ old answer new (past_open p answer) n h
+Admits-next : (a b : Config) (p : Told) (old : World) (step : Step) (answer : Answer) (new : World) → Fits p old → BoundsOf a b p old → Admits b p old → Next old step answer new → Admits b (told_after p step answer) new
+Admits-next a b p old (Open A Uni) answer new f bounds h n = stays b p _ old new (open_same p answer) (ap (λ (v : World). v.receiving) n.new_is) h
+Admits-next a b p old (Open who dir) answer new f bounds h n = refuses b p _ old answer new (open_same p answer) n h
 Admits-next a b p old (Accept B Uni) answer new f bounds h n = accepts b p old answer new h n
-Admits-next a b p old (Accept who dir) answer new f bounds h n = refuses b p _ old answer new (past_accept p answer) n h
+Admits-next a b p old (Accept who dir) answer new f bounds h n = refuses b p _ old answer new (accept_same p answer) n h
 Admits-next a b p old (Write A id bytes) answer new f bounds h n = writes a b p old id bytes answer new bounds h n
 Admits-next a b p old (Write who id bytes) answer new f bounds h n = rw (n.0, n.1) h
-Admits-next a b p old (Finish A id) answer new f bounds h n = stays b p _ old new (past_finish p answer) (on_stream Finishes old id answer new n) h
-Admits-next a b p old (Finish who id) answer new f bounds h n = refuses b p _ old answer new (past_finish p answer) n h
+Admits-next a b p old (Finish A id) answer new f bounds h n = stays b p _ old new (finish_same p answer) (on_stream Finishes old id answer new n) h
+Admits-next a b p old (Finish who id) answer new f bounds h n = refuses b p _ old answer new (finish_same p answer) n h
 Admits-next a b p old (ReadStep B id true max times) answer new f bounds h n = reads max times b p old id answer new h n
 Admits-next a b p old (ReadStep who id ordered max times) answer new f bounds h n = rw (n.0, n.1) h
-Admits-next a b p old (Poll A) answer new f bounds h n = stays b p _ old new (past_poll p answer) (ap (λ (v : World). v.receiving) n.new_is) h
-Admits-next a b p old (Poll who) answer new f bounds h n = refuses b p _ old answer new (past_poll p answer) n h
+Admits-next a b p old (Poll A) answer new f bounds h n = stays b p _ old new (poll_same p answer) (ap (λ (v : World). v.receiving) n.new_is) h
+Admits-next a b p old (Poll who) answer new f bounds h n = refuses b p _ old answer new (poll_same p answer) n h
 Admits-next a b p old (Emit A most fair) answer new f bounds h n = stays b p p old new (told_same p) (emitted old most answer new n) h
 Admits-next a b p old (Emit who most fair) answer new f bounds h n = refuses b p p old answer new (told_same p) n h
 Admits-next a b p old (Deliver payload index) answer new f bounds h n = delivers b p old payload index answer new f h n
 Admits-next a b p old (LoseStream payload index) answer new f bounds h n = stays b p p old new (told_same p) (loses old payload index answer new n) h
-Admits-next a b p old (AckStream payload index) answer new f bounds h n = stays b p _ old new (past_ack p payload index answer) (acks old payload index answer new n) h
+Admits-next a b p old (AckStream payload index) answer new f bounds h n = stays b p _ old new (ack_same p payload index answer) (acks old payload index answer new n) h
 Admits-next a b p old _ answer new f bounds h n = refuses b p p old answer new (told_same p) n h
 
-pub Admits-from : {a b : Config} {h : History} {v : World} → From a b h v → Admits b (past_of h) v
+pub Admits-from : {a b : Config} {h : History} {v : World} → From a b h v → Admits b (told_of (past_of h)) v
 Admits-from {a} {b} (begin {v} n) = Admits-new a b v n
 Admits-from {a} {b} (next {h} {old} {new} step answer f n) =
-    rw (past_from-push nothing_yet h (step, answer)) (Admits-next a b (past_of h) old step answer new (Fits-from f) (Bounds-from f) (Admits-from f) n)
+    subst (λ (p : Told). Admits b p new) (sym (told_next h old step answer new n)) (Admits-next a b (told_of (past_of h)) old step answer new (Fits-from f) (Bounds-from f) (Admits-from f) n)

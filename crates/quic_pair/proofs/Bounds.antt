@@ -11,12 +11,13 @@ use Rattle.quic_values.specs.declared.Dir.TheVariants.{Uni}
 use Rattle.quic_wire.specs.declared.StreamEvent.{StreamEvent}
 use Rattle.quic_wire.specs.declared.StreamEvent.TheVariants.{Finished}
 use Rattle.quic_sending.specs.Buffer.{Buffered, HasCuts, IsSound, is_acked, cut_of, total_length, uncovered}
-use Rattle.quic_pair.specs.Network.{Sent, Piece, HasPiece}
+use Rattle.quic_pair.specs.Network.{Sent, Piece, HasPiece, FramePlace, SomeFrame, CarriesOffset}
 use Rattle.quic_pair.specs.Sending.{Sending, Opens, TakesBytes, Finishes, Ends, Lost, Loses, Acked, Acks, Polls, write_limit, limit_room}
 use Rattle.quic_pair.specs.Steps.{World, Next, KnowsNoId, OnStream, OnReceiving, OnlySending, OnlyReceiving, Emitted, Emits, Delivers, Faults, Delivered, ReportsLoss, LosesFrame, ReportsAck, AcksFrame, WritesBytes, Unknown}
-use Rattle.quic_pair.specs.History.{Past, History, Answer, past_of, nothing_yet, after, after_open, after_accept, after_write, after_finish, past_read, after_poll, after_event, after_deliver, past_ack}
+use Rattle.quic_pair.specs.History.{Past, History, Answer, past_of}
+use Rattle.quic_pair.proofs.Told.{Told, told_of, told_nothing, told_after, told_open, told_accept, told_write, told_finish, told_read, told_poll, told_event, told_deliver, told_ack}
 use Rattle.quic_pair.specs.From.{From, begin, next, IsNew}
-use Rattle.quic_pair.specs.Permits.{IsReported, IsRetained, IsAnsweredSo, TakesWhatIsPermitted}
+use Rattle.quic_pair.specs.Permits.{IsRetained, IsAnsweredSo, TakesWhatIsPermitted}
 use Rattle.quic_pair.specs.declared.steps.Config.{Config}
 use Rattle.quic_pair.specs.declared.steps.End.TheVariants.{A, B}
 use Rattle.quic_pair.specs.declared.steps.Step.{Step}
@@ -24,9 +25,10 @@ use Rattle.quic_pair.specs.declared.steps.Step.TheVariants.{Open, Accept, Write,
 use Rattle.quic_pair.specs.declared.steps.Reply.TheVariants.{Done, DoneTransmit, Fault, Id, Nothing, Wrote, Blocked, Closed, Read, Event, Payload}
 use Rattle.quic_pair.specs.declared.steps.PairError.TheVariants.{NoSuchPayload, NoSuchFrame, NotAccepted, UnknownId, OutOfMemory}
 use Rattle.quic_pair.proofs.Invariant.{Fits}
-use Rattle.quic_pair.proofs.Histories.{Fits-from, past_from-push}
+use Rattle.quic_pair.proofs.Histories.{Fits-from}
+use Rattle.quic_pair.proofs.Telling.{told_next}
 use Rattle.quic_pair.proofs.Keeps.{concat_cut, HasPiece-left}
-use Rattle.quic_pair.proofs.Delivers.{HasPiece-stays, or_true, lies_bounds}
+use Rattle.quic_pair.proofs.Delivers.{HasPiece-stays, carries_range, or_true, lies_bounds}
 use Rattle.quic_pair.proofs.Lists.{slice_get-append_left, slice_get-push, slice_get-last}
 use Rattle.quic_pair.proofs.Refused.{same_piece}
 use Rattle.quic_pair.proofs.Spelled.{total-concat}
@@ -45,8 +47,8 @@ pub record Bounds (a b : Config) (pieces : List (List ℕ)) (written : List ℕ)
   pub sound : IsSound v.sending.buffer
   pub joined : concat pieces ≡ written
   pub there : AreThere acknowledged v.sent
-  pub told : (n : ℕ) → is_acked v.sending.buffer n ≡ true → IsReported acknowledged v.sent n
-  pub acked : (n : ℕ) → IsReported acknowledged v.sent n → is_acked v.sending.buffer n ≡ true
+  pub told : (n : ℕ) → is_acked v.sending.buffer n ≡ true → SomeFrame (CarriesOffset n) acknowledged v.sent
+  pub acked : (n : ℕ) → SomeFrame (CarriesOffset n) acknowledged v.sent → is_acked v.sending.buffer n ≡ true
 
 -- a frame from the same place to the same end
 record SameReach (sent : List Sent) (k i : ℕ) (x : Piece) : Type 0 where
@@ -80,15 +82,15 @@ Bounds-moved a b pieces written acknowledged old new h m = record {
   sound = m.sound h.sound;
   joined = h.joined;
   there = λ place k i e. let z = h.there place k i e in let r = m.reach k i z.0 z.1 in (r.piece, r.is);
-  told = λ n e. let z = h.told n (sym (m.acked n) ∙ e) in let r = m.reach z.payload z.index z.piece z.is in
-      record { place = z.place; payload = z.payload; index = z.index; piece = r.piece; told = z.told; is = r.is; low = omega (arith, z.low, r.start); high = omega (arith, z.high, r.end) };
+  told = λ n e. let z = h.told n (sym (m.acked n) ∙ e) in let r = m.reach z.payload z.index z.piece z.has in
+      record { place = z.place; payload = z.payload; index = z.index; piece = r.piece; told = z.told; has = r.is; is = (omega (arith, z.is.0, r.start), omega (arith, z.is.1, r.end)) };
   acked = λ n z. m.acked n ∙ (
       let was = h.there z.place z.payload z.index z.told in
       let r = m.reach z.payload z.index was.0 was.1 in
-      let same = same_piece new.sent z.payload z.index z.piece r.piece z.is r.is in
+      let same = same_piece new.sent z.payload z.index z.piece r.piece z.has r.is in
       let start = ap (λ (y : Piece). y.start) same in
       let end = ap (λ (y : Piece). y.end) same in
-      h.acked n (record { place = z.place; payload = z.payload; index = z.index; piece = was.0; told = z.told; is = was.1; low = omega (arith, z.low, start, r.start); high = omega (arith, z.high, end, r.end) }));
+      h.acked n (record { place = z.place; payload = z.payload; index = z.index; piece = was.0; told = z.told; has = was.1; is = (omega (arith, z.is.0, start, r.start), omega (arith, z.is.1, end, r.end)) }));
 }
 
 -- a step on the end that writes that leaves buffer and limits alone
@@ -216,7 +218,7 @@ reads most times old id answer new (inl u) = rw u.1.1 (Moves-same old)
 reads most times old id answer new (inr n) = rw n.new_is (record { max_data = refl; max_stream_data = refl; send_window = refl; cuts = λ cs h. h; sound = λ h. h; acked = λ m. refl; reach = same_reach old.sent })
 
 -- a write adds a piece
-Bounds-write : (a b : Config) (p : Past) (old : World) (bytes : List ℕ) (count : ℕ) (s : Sending) → Bounds a b p.pieces p.written p.acknowledged old → TakesBytes old.sending bytes count s →
+Bounds-write : (a b : Config) (p : Told) (old : World) (bytes : List ℕ) (count : ℕ) (s : Sending) → Bounds a b p.pieces p.written p.acknowledged old → TakesBytes old.sending bytes count s →
     Bounds a b (p.pieces ++ cut_of (take count bytes)) (p.written ++ take count bytes) p.acknowledged (record old { sending = s })
 Bounds-write a b p old bytes count s h t =
     let buffer = ap (λ (x : Sending). x.buffer) t.new_is in
@@ -232,8 +234,8 @@ Bounds-write a b p old bytes count s h t =
       acked = λ n z. rw buffer (h.acked n z);
     }
 
-writes : (a b : Config) (p : Past) (old : World) (bytes : List ℕ) (id : ℕ) (answer : Answer) (new : World) → Bounds a b p.pieces p.written p.acknowledged old → OnStream (WritesBytes bytes) old id answer new →
-    (let q = after_write p bytes answer in Bounds a b q.pieces q.written q.acknowledged new)
+writes : (a b : Config) (p : Told) (old : World) (bytes : List ℕ) (id : ℕ) (answer : Answer) (new : World) → Bounds a b p.pieces p.written p.acknowledged old → OnStream (WritesBytes bytes) old id answer new →
+    (let q = told_write p bytes answer in Bounds a b q.pieces q.written q.acknowledged new)
 writes a b p old bytes id answer new h (inl u) = rw (u.1.0, u.1.1) h
 writes a b p old bytes id (Ok (Wrote count)) new h (inr n) = rw n.new_is (Bounds-write a b p old bytes count new.sending h n.does)
 writes a b p old bytes id (Ok Blocked) new h (inr n) = rw (n.new_is, n.does.2) h
@@ -242,21 +244,19 @@ writes a b p old bytes id (Err OutOfMemory) new h (inr n) = rw (n.new_is, n.does
 writes a b p old bytes id _ new h (inr n) = absurd n.does
 
 -- a report adds a frame
-IsReported-more : (acknowledged : List (ℕ × ℕ)) (sent : List Sent) (k i n : ℕ) → IsReported acknowledged sent n → IsReported (acknowledged ++ (k, i) ∷ []) sent n
-IsReported-more acknowledged sent k i n z = record { place = z.place; payload = z.payload; index = z.index; piece = z.piece; told = slice_get-append_left acknowledged ((k, i) ∷ []) z.place (z.payload, z.index) z.told; is = z.is; low = z.low; high = z.high }
+SomeFrame-more : (Is : Piece → Type 0) (places : List FramePlace) (sent : List Sent) (k i : ℕ) → SomeFrame Is places sent → SomeFrame Is (places ++ (k, i) ∷ []) sent
+SomeFrame-more Is places sent k i z = record { place = z.place; payload = z.payload; index = z.index; piece = z.piece; told = slice_get-append_left places ((k, i) ∷ []) z.place (z.payload, z.index) z.told; has = z.has; is = z.is }
 
 -- whoever was reported was reported before, or is this frame
-reported_by : (acknowledged : List (ℕ × ℕ)) (sent : List Sent) (k i n : ℕ) (x : Piece) → HasPiece sent k i x → IsReported (acknowledged ++ (k, i) ∷ []) sent n → IsReported acknowledged sent n ⊎ ((x.start ≤ n) × (n < x.end))
-reported_by acknowledged sent k i n x has z = elim (slice_get-push acknowledged (k, i) z.place (z.payload, z.index) z.told) [
-  | inl was ↦ inl (record { place = z.place; payload = z.payload; index = z.index; piece = z.piece; told = was; is = z.is; low = z.low; high = z.high })
+reported_by : (places : List FramePlace) (sent : List Sent) (k i n : ℕ) (x : Piece) → HasPiece sent k i x → SomeFrame (CarriesOffset n) (places ++ (k, i) ∷ []) sent → SomeFrame (CarriesOffset n) places sent ⊎ ((x.start ≤ n) × (n < x.end))
+reported_by places sent k i n x has z = elim (slice_get-push places (k, i) z.place (z.payload, z.index) z.told) [
+  | inl was ↦ inl (record { place = z.place; payload = z.payload; index = z.index; piece = z.piece; told = was; has = z.has; is = z.is })
   | inr new ↦
       let first = ap (λ (y : ℕ × ℕ). y.0) new.1 in
       let second = ap (λ (y : ℕ × ℕ). y.1) new.1 in
-      let here : HasPiece sent k i z.piece = subst (λ (m : ℕ). HasPiece sent k m z.piece) second (subst (λ (m : ℕ). HasPiece sent m z.index z.piece) first z.is) in
+      let here : HasPiece sent k i z.piece = subst (λ (m : ℕ). HasPiece sent k m z.piece) second (subst (λ (m : ℕ). HasPiece sent m z.index z.piece) first z.has) in
       let same = same_piece sent k i x z.piece has here in
-      let start = ap (λ (y : Piece). y.start) same in
-      let end = ap (λ (y : Piece). y.end) same in
-      inr (omega (arith, start, z.low), omega (arith, end, z.high))
+      inr (carries_range n z.piece x (ap (λ (y : Piece). y.start) same) (ap (λ (y : Piece). y.end) same) (ap (λ (y : Piece). y.fin) same) z.is)
 ]
 
 lies_true : (a b n : ℕ) → a ≤ n → n < b → lies_in (record { start = a; end = b }) n ≡ true
@@ -282,7 +282,7 @@ there_more acknowledged sent k i x has h place k' i' e = elim (slice_get-push ac
       (x, subst (λ (m : ℕ). HasPiece sent k' m x) (sym second) (subst (λ (m : ℕ). HasPiece sent m i x) (sym first) has))
 ]
 
-Bounds-ack : (a b : Config) (p : Past) (old : World) (k i : ℕ) (x : Piece) (s : Sending) → Bounds a b p.pieces p.written p.acknowledged old → HasPiece old.sent k i x → Acks old.sending (record { start = x.start; end = x.end }) x.fin s →
+Bounds-ack : (a b : Config) (p : Told) (old : World) (k i : ℕ) (x : Piece) (s : Sending) → Bounds a b p.pieces p.written p.acknowledged old → HasPiece old.sent k i x → Acks old.sending (record { start = x.start; end = x.end }) x.fin s →
     Bounds a b p.pieces p.written (p.acknowledged ++ (k, i) ∷ []) (record old { sending = s })
 Bounds-ack a b p old k i x s h has t = record {
   max_data = ap (λ (y : Sending). y.max_data) t.new_is ∙ h.max_data;
@@ -293,8 +293,8 @@ Bounds-ack a b p old k i x s h has t = record {
   joined = h.joined;
   there = there_more p.acknowledged old.sent k i x has h.there;
   told = λ n e. elim (or_true _ _ (sym (t.acked n) ∙ e)) [
-    | inl was ↦ IsReported-more p.acknowledged old.sent k i n (h.told n was)
-    | inr here ↦ let z = lies_bounds x.start x.end n here in record { place = length p.acknowledged; payload = k; index = i; piece = x; told = slice_get-last p.acknowledged (k, i); is = has; low = z.0; high = z.1 }
+    | inl was ↦ SomeFrame-more (CarriesOffset n) p.acknowledged old.sent k i (h.told n was)
+    | inr here ↦ let z = lies_bounds x.start x.end n here in record { place = length p.acknowledged; payload = k; index = i; piece = x; told = slice_get-last p.acknowledged (k, i); has = has; is = (z.0, z.1) }
   ];
   acked = λ n z. t.acked n ∙ elim (reported_by p.acknowledged old.sent k i n x has z) [
     | inl was ↦ or_left _ _ (h.acked n was)
@@ -303,7 +303,7 @@ Bounds-ack a b p old k i x s h has t = record {
 }
 
 -- once all is acknowledged, a further report says nothing new
-Bounds-late : (a b : Config) (p : Past) (old : World) (k i : ℕ) (x : Piece) → Fits p old → Bounds a b p.pieces p.written p.acknowledged old → HasPiece old.sent k i x → old.sending.freed ≡ true →
+Bounds-late : (a b : Config) (p : Told) (old : World) (k i : ℕ) (x : Piece) → Fits p old → Bounds a b p.pieces p.written p.acknowledged old → HasPiece old.sent k i x → old.sending.freed ≡ true →
     Bounds a b p.pieces p.written (p.acknowledged ++ (k, i) ∷ []) old
 Bounds-late a b p old k i x f h has freed = record {
   max_data = h.max_data;
@@ -313,7 +313,7 @@ Bounds-late a b p old k i x f h has freed = record {
   sound = h.sound;
   joined = h.joined;
   there = there_more p.acknowledged old.sent k i x has h.there;
-  told = λ n e. IsReported-more p.acknowledged old.sent k i n (h.told n e);
+  told = λ n e. SomeFrame-more (CarriesOffset n) p.acknowledged old.sent k i (h.told n e);
   acked = λ n z. elim (reported_by p.acknowledged old.sent k i n x has z) [
     | inl was ↦ h.acked n was
     | inr here ↦
@@ -324,85 +324,85 @@ Bounds-late a b p old k i x f h has freed = record {
   ];
 }
 
-acked_at : (a b : Config) (p : Past) (old : World) (k i : ℕ) (x : Piece) (answer : Answer) (s : Sending) → Fits p old → Bounds a b p.pieces p.written p.acknowledged old → HasPiece old.sent k i x → Acked old.sending (record { start = x.start; end = x.end }) x.fin answer s →
-    (let q = past_ack p k i answer in Bounds a b q.pieces q.written q.acknowledged (record old { sending = s }))
+acked_at : (a b : Config) (p : Told) (old : World) (k i : ℕ) (x : Piece) (answer : Answer) (s : Sending) → Fits p old → Bounds a b p.pieces p.written p.acknowledged old → HasPiece old.sent k i x → Acked old.sending (record { start = x.start; end = x.end }) x.fin answer s →
+    (let q = told_ack p k i answer in Bounds a b q.pieces q.written q.acknowledged (record old { sending = s }))
 acked_at a b p old k i x (Ok Done) s f h has (inl e) = rw e.1 (Bounds-late a b p old k i x f h has e.0)
 acked_at a b p old k i x (Ok Done) s f h has (inr t) = Bounds-ack a b p old k i x s h has t
 acked_at a b p old k i x (Err OutOfMemory) s f h has t = rw t h
 acked_at a b p old k i x _ s f h has t = absurd t
 
-acks_at : (a b : Config) (p : Past) (old : World) (k i : ℕ) (answer : Answer) (new : World) → Fits p old → Bounds a b p.pieces p.written p.acknowledged old → ReportsAck old k i answer new →
-    (let q = past_ack p k i answer in Bounds a b q.pieces q.written q.acknowledged new)
+acks_at : (a b : Config) (p : Told) (old : World) (k i : ℕ) (answer : Answer) (new : World) → Fits p old → Bounds a b p.pieces p.written p.acknowledged old → ReportsAck old k i answer new →
+    (let q = told_ack p k i answer in Bounds a b q.pieces q.written q.acknowledged new)
 acks_at a b p old k i answer new f h n = rw n.new_is (acked_at a b p old k i n.piece answer new.sending f h n.has n.does)
 
-acks : (a b : Config) (p : Past) (old : World) (k i : ℕ) (answer : Answer) (new : World) → Fits p old → Bounds a b p.pieces p.written p.acknowledged old → AcksFrame old k i answer new →
-    (let q = past_ack p k i answer in Bounds a b q.pieces q.written q.acknowledged new)
+acks : (a b : Config) (p : Told) (old : World) (k i : ℕ) (answer : Answer) (new : World) → Fits p old → Bounds a b p.pieces p.written p.acknowledged old → AcksFrame old k i answer new →
+    (let q = told_ack p k i answer in Bounds a b q.pieces q.written q.acknowledged new)
 acks a b p old k i (Err NoSuchPayload) new f h n = rw n.1 h
 acks a b p old k i (Err NoSuchFrame) new f h n = rw n.1 h
 acks a b p old k i (Err NotAccepted) new f h n = rw n.1 h
 acks a b p old k i answer new f h n = acks_at a b p old k i answer new f h n
 
 -- each step keeps the bounds
-abbrev pub BoundsOf : Config → Config → Past → World → Type 0
+abbrev pub BoundsOf : Config → Config → Told → World → Type 0
 BoundsOf a b p v = Bounds a b p.pieces p.written p.acknowledged v
 
-moved : (a b : Config) (p q : Past) (old new : World) → q.pieces ≡ p.pieces → q.written ≡ p.written → q.acknowledged ≡ p.acknowledged → BoundsOf a b p old → Moves old new → BoundsOf a b q new
+moved : (a b : Config) (p q : Told) (old new : World) → q.pieces ≡ p.pieces → q.written ≡ p.written → q.acknowledged ≡ p.acknowledged → BoundsOf a b p old → Moves old new → BoundsOf a b q new
 moved a b p q old new pieces written acknowledged h m = rw (pieces, written, acknowledged) (Bounds-moved a b p.pieces p.written p.acknowledged old new h m)
 
 -- steps that add nothing to what was written and reported
-record SamePast (p q : Past) : Type 0 where
+record SamePast (p q : Told) : Type 0 where
   pub pieces : q.pieces ≡ p.pieces
   pub written : q.written ≡ p.written
   pub acknowledged : q.acknowledged ≡ p.acknowledged
 
-past_open : (p : Past) (answer : Answer) → SamePast p (after_open p answer)
-past_open p (Ok (Id id)) = record { pieces = refl; written = refl; acknowledged = refl }
-past_open p _ = record { pieces = refl; written = refl; acknowledged = refl }
+open_same : (p : Told) (answer : Answer) → SamePast p (told_open p answer)
+open_same p (Ok (Id id)) = record { pieces = refl; written = refl; acknowledged = refl }
+open_same p _ = record { pieces = refl; written = refl; acknowledged = refl }
 
-past_accept : (p : Past) (answer : Answer) → SamePast p (after_accept p answer)
-past_accept p (Ok (Id id)) = record { pieces = refl; written = refl; acknowledged = refl }
-past_accept p _ = record { pieces = refl; written = refl; acknowledged = refl }
+accept_same : (p : Told) (answer : Answer) → SamePast p (told_accept p answer)
+accept_same p (Ok (Id id)) = record { pieces = refl; written = refl; acknowledged = refl }
+accept_same p _ = record { pieces = refl; written = refl; acknowledged = refl }
 
-past_finish : (p : Past) (answer : Answer) → SamePast p (after_finish p answer)
-past_finish p (Ok Done) = record { pieces = refl; written = refl; acknowledged = refl }
-past_finish p _ = record { pieces = refl; written = refl; acknowledged = refl }
+finish_same : (p : Told) (answer : Answer) → SamePast p (told_finish p answer)
+finish_same p (Ok Done) = record { pieces = refl; written = refl; acknowledged = refl }
+finish_same p _ = record { pieces = refl; written = refl; acknowledged = refl }
 
-past_read : (p : Past) (answer : Answer) → SamePast p (past_read p answer)
-past_read p (Ok (Read chunks last transmit)) = record { pieces = refl; written = refl; acknowledged = refl }
-past_read p _ = record { pieces = refl; written = refl; acknowledged = refl }
+read_same : (p : Told) (answer : Answer) → SamePast p (told_read p answer)
+read_same p (Ok (Read chunks last transmit)) = record { pieces = refl; written = refl; acknowledged = refl }
+read_same p _ = record { pieces = refl; written = refl; acknowledged = refl }
 
-past_event : (p : Past) (event : StreamEvent) → SamePast p (after_event p event)
-past_event p (Finished id) = record { pieces = refl; written = refl; acknowledged = refl }
-past_event p _ = record { pieces = refl; written = refl; acknowledged = refl }
+event_same : (p : Told) (event : StreamEvent) → SamePast p (told_event p event)
+event_same p (Finished id) = record { pieces = refl; written = refl; acknowledged = refl }
+event_same p _ = record { pieces = refl; written = refl; acknowledged = refl }
 
-past_poll : (p : Past) (answer : Answer) → SamePast p (after_poll p answer)
-past_poll p (Ok (Event event)) = past_event p event
-past_poll p _ = record { pieces = refl; written = refl; acknowledged = refl }
+poll_same : (p : Told) (answer : Answer) → SamePast p (told_poll p answer)
+poll_same p (Ok (Event event)) = event_same p event
+poll_same p _ = record { pieces = refl; written = refl; acknowledged = refl }
 
-past_deliver : (p : Past) (k i : ℕ) (answer : Answer) → SamePast p (after_deliver p k i answer)
+past_deliver : (p : Told) (k i : ℕ) (answer : Answer) → SamePast p (told_deliver p k i answer)
 past_deliver p k i (Ok Done) = record { pieces = refl; written = refl; acknowledged = refl }
 past_deliver p k i (Ok DoneTransmit) = record { pieces = refl; written = refl; acknowledged = refl }
 past_deliver p k i _ = record { pieces = refl; written = refl; acknowledged = refl }
 
-by_past : (a b : Config) (p q : Past) (old new : World) → SamePast p q → BoundsOf a b p old → Moves old new → BoundsOf a b q new
+by_past : (a b : Config) (p q : Told) (old new : World) → SamePast p q → BoundsOf a b p old → Moves old new → BoundsOf a b q new
 by_past a b p q old new s h m = moved a b p q old new s.pieces s.written s.acknowledged h m
 
-stays : (a b : Config) (p q : Past) (old : World) (answer : Answer) (new : World) → SamePast p q → BoundsOf a b p old → KnowsNoId old answer new → BoundsOf a b q new
+stays : (a b : Config) (p q : Told) (old : World) (answer : Answer) (new : World) → SamePast p q → BoundsOf a b p old → KnowsNoId old answer new → BoundsOf a b q new
 stays a b p q old answer new s h r = by_past a b p q old new s h (rw r.1 (Moves-same old))
 
-Bounds-next : (a b : Config) (p : Past) (old : World) (step : Step) (answer : Answer) (new : World) → Fits p old → BoundsOf a b p old → Next old step answer new → BoundsOf a b (after p step answer) new
-Bounds-next a b p old (Open A Uni) answer new f h n = by_past a b p _ old new (past_open p answer) h (opens old answer new n)
-Bounds-next a b p old (Open who dir) answer new f h n = stays a b p _ old answer new (past_open p answer) h n
-Bounds-next a b p old (Accept B Uni) answer new f h n = by_past a b p _ old new (past_accept p answer) h (accepts old answer new n)
-Bounds-next a b p old (Accept who dir) answer new f h n = stays a b p _ old answer new (past_accept p answer) h n
+Bounds-next : (a b : Config) (p : Told) (old : World) (step : Step) (answer : Answer) (new : World) → Fits p old → BoundsOf a b p old → Next old step answer new → BoundsOf a b (told_after p step answer) new
+Bounds-next a b p old (Open A Uni) answer new f h n = by_past a b p _ old new (open_same p answer) h (opens old answer new n)
+Bounds-next a b p old (Open who dir) answer new f h n = stays a b p _ old answer new (open_same p answer) h n
+Bounds-next a b p old (Accept B Uni) answer new f h n = by_past a b p _ old new (accept_same p answer) h (accepts old answer new n)
+Bounds-next a b p old (Accept who dir) answer new f h n = stays a b p _ old answer new (accept_same p answer) h n
 Bounds-next a b p old (Write A id bytes) answer new f h n = writes a b p old bytes id answer new h n
 Bounds-next a b p old (Write who id bytes) answer new f h n = rw (n.0, n.1) h
-Bounds-next a b p old (Finish A id) answer new f h n = by_past a b p _ old new (past_finish p answer) h (finishes old id answer new n)
-Bounds-next a b p old (Finish who id) answer new f h n = stays a b p _ old answer new (past_finish p answer) h n
-Bounds-next a b p old (ReadStep B id true max times) answer new f h n = by_past a b p _ old new (past_read p answer) h (reads max times old id answer new n)
-Bounds-next a b p old (ReadStep who id ordered max times) answer new f h n = stays a b p _ old answer new (past_read p answer) h n
-Bounds-next a b p old (Poll A) answer new f h n = by_past a b p _ old new (past_poll p answer) h (polls old answer new n)
-Bounds-next a b p old (Poll who) answer new f h n = stays a b p _ old answer new (past_poll p answer) h n
+Bounds-next a b p old (Finish A id) answer new f h n = by_past a b p _ old new (finish_same p answer) h (finishes old id answer new n)
+Bounds-next a b p old (Finish who id) answer new f h n = stays a b p _ old answer new (finish_same p answer) h n
+Bounds-next a b p old (ReadStep B id true max times) answer new f h n = by_past a b p _ old new (read_same p answer) h (reads max times old id answer new n)
+Bounds-next a b p old (ReadStep who id ordered max times) answer new f h n = stays a b p _ old answer new (read_same p answer) h n
+Bounds-next a b p old (Poll A) answer new f h n = by_past a b p _ old new (poll_same p answer) h (polls old answer new n)
+Bounds-next a b p old (Poll who) answer new f h n = stays a b p _ old answer new (poll_same p answer) h n
 Bounds-next a b p old (Emit A most fair) answer new f h n = Bounds-moved a b p.pieces p.written p.acknowledged old new h (emits old most answer new n)
 Bounds-next a b p old (Emit who most fair) answer new f h n = rw n.1 h
 Bounds-next a b p old (Deliver payload index) answer new f h n = by_past a b p _ old new (past_deliver p payload index answer) h (delivers old payload index answer new n)
@@ -410,7 +410,7 @@ Bounds-next a b p old (LoseStream payload index) answer new f h n = Bounds-moved
 Bounds-next a b p old (AckStream payload index) answer new f h n = acks a b p old payload index answer new f h n
 Bounds-next a b p old _ answer new f h n = rw n.1 h
 
-Bounds-new : (a b : Config) (v : World) → IsNew a b v → BoundsOf a b nothing_yet v
+Bounds-new : (a b : Config) (v : World) → IsNew a b v → BoundsOf a b told_nothing v
 Bounds-new a b v n = record {
   max_data = n.sending.max_data;
   max_stream_data = n.sending.max_stream_data;
@@ -423,10 +423,10 @@ Bounds-new a b v n = record {
   acked = λ m z. absurd (none-some _ z.told);
 }
 
-pub Bounds-from : {a b : Config} {h : History} {v : World} → From a b h v → BoundsOf a b (past_of h) v
+pub Bounds-from : {a b : Config} {h : History} {v : World} → From a b h v → BoundsOf a b (told_of (past_of h)) v
 Bounds-from {a} {b} (begin {v} n) = Bounds-new a b v n
 Bounds-from {a} {b} (next {h} {old} {new} step answer f n) =
-    rw (past_from-push nothing_yet h (step, answer)) (Bounds-next a b (past_of h) old step answer new (Fits-from f) (Bounds-from f) n)
+    subst (λ (p : Told). BoundsOf a b p new) (sym (told_next h old step answer new n)) (Bounds-next a b (told_of (past_of h)) old step answer new (Fits-from f) (Bounds-from f) n)
 
 -- the bytes that are kept, by what was reported
 no_less : (n : ℕ) → nat_lt n n ≡ true → ⊥
@@ -438,7 +438,7 @@ past_prefix v s e = elim (or_true _ _ e) [
   | inr later ↦ let z = s.later_in v.prefix later in omega (arith, z.0)
 ]
 
-retained : (a b : Config) (p : Past) (v : World) → BoundsOf a b p v → IsRetained p v.sent (total_length v.sending.buffer.held)
+retained : (a b : Config) (p : Told) (v : World) → BoundsOf a b p v → IsRetained p.pieces p.acknowledged v.sent (total_length v.sending.buffer.held)
 retained a b p v h = record {
   prefix = v.sending.buffer.prefix;
   below = λ n low. h.told n (below_true n v.sending.buffer.prefix _ low);
@@ -446,10 +446,10 @@ retained a b p v h = record {
   is = ap total_length h.cuts.retained;
 }
 
-pub written_size : (a b : Config) (p : Past) (v : World) → BoundsOf a b p v → v.sending.buffer.offset ≡ length p.written
+pub written_size : (a b : Config) (p : Told) (v : World) → BoundsOf a b p v → v.sending.buffer.offset ≡ length p.written
 written_size a b p v h = h.cuts.written ∙ total-concat p.pieces ∙ ap length h.joined
 
-least : (a b : Config) (p : Past) (v : World) (h : BoundsOf a b p v) →
+least : (a b : Config) (p : Told) (v : World) (h : BoundsOf a b p v) →
     min (write_limit v.sending) (limit_room v.sending) ≡ min (min (b.receive_window - length p.written) (a.send_window - total_length v.sending.buffer.held)) (b.stream_receive_window - length p.written)
 least a b p v h = rw (h.max_data, h.max_stream_data, h.send_window, written_size a b p v h) refl
 
@@ -461,22 +461,22 @@ blocked_by : (s : Sending) → (write_limit s ≡ 0) ⊎ ((s.finished ≡ false)
 blocked_by s (inl e) = inl e
 blocked_by s (inr e) = inr e.1
 
-answered : (a b : Config) (p : Past) (old : World) (bytes : List ℕ) (answer : Answer) (new : Sending) → BoundsOf a b p old → WritesBytes bytes old.sending answer new → IsAnsweredSo a b p old.sent (length bytes) answer
+answered : (a b : Config) (p : Past) (old : World) (bytes : List ℕ) (answer : Answer) (new : Sending) → BoundsOf a b (told_of p) old → WritesBytes bytes old.sending answer new → IsAnsweredSo a b (p.flow A 2) p.acknowledged old.sent (length bytes) answer
 answered a b p old bytes (Ok (Wrote count)) new h t = record {
   retained = total_length old.sending.buffer.held;
-  is_retained = retained a b p old h;
-  count_is = t.count_is ∙ ap (λ n. min (length bytes) n) (least a b p old h);
+  is_retained = retained a b (told_of p) old h;
+  count_is = t.count_is ∙ ap (λ n. min (length bytes) n) (least a b (told_of p) old h);
 }
 answered a b p old bytes (Ok Blocked) new h t = record {
   retained = total_length old.sending.buffer.held;
-  is_retained = retained a b p old h;
-  none_left = sym (least a b p old h) ∙ blocked_least _ _ (blocked_by old.sending t.1);
+  is_retained = retained a b (told_of p) old h;
+  none_left = sym (least a b (told_of p) old h) ∙ blocked_least _ _ (blocked_by old.sending t.1);
 }
 answered a b p old bytes _ new h t = tt
 
-on_write : (a b : Config) (p : Past) (old : World) (id : ℕ) (bytes : List ℕ) (answer : Answer) (new : World) → BoundsOf a b p old → OnStream (WritesBytes bytes) old id answer new → IsAnsweredSo a b p old.sent (length bytes) answer
+on_write : (a b : Config) (p : Past) (old : World) (id : ℕ) (bytes : List ℕ) (answer : Answer) (new : World) → BoundsOf a b (told_of p) old → OnStream (WritesBytes bytes) old id answer new → IsAnsweredSo a b (p.flow A id) p.acknowledged old.sent (length bytes) answer
 on_write a b p old id bytes answer new h (inl u) = rw u.1.0 tt
-on_write a b p old id bytes answer new h (inr n) = answered a b p old bytes answer new.sending h n.does
+on_write a b p old id bytes answer new h (inr n) = rw n.known.0 (answered a b p old bytes answer new.sending h n.does)
 
 pub permitted_so : {a b : Config} {h : History} {old : World} (step : Step) (answer : Answer) (new : World) → From a b h old → Next old step answer new → TakesWhatIsPermitted a b (past_of h) old.sent step answer
 permitted_so {a} {b} {h} {old} (Write A id bytes) answer new f n = on_write a b (past_of h) old id bytes answer new (Bounds-from f) n

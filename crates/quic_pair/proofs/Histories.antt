@@ -1,5 +1,5 @@
 -- What holds at each moment holds after every history.
-use Rattle.std.proofs.Common.{◌≡◌, true, [], ◌∷◌, ◌++◌, refl, sym, ◌∙◌, arith}
+use Rattle.std.proofs.Common.{true, [], refl, sym, subst, ◌∙◌, arith}
 use Rattle.std.proofs.lemmas.Option.{none-some}
 use Rattle.quic_values.specs.declared.Dir.TheVariants.{Uni}
 use Rattle.quic_pair.specs.declared.steps.Config.{Config}
@@ -7,14 +7,16 @@ use Rattle.quic_pair.specs.declared.steps.End.TheVariants.{A, B}
 use Rattle.quic_pair.specs.declared.steps.Step.{Step}
 use Rattle.quic_pair.specs.declared.steps.Step.TheVariants.{Open, Accept, Write, Finish, Read as ReadStep, Poll, Emit, Deliver, LoseStream, AckStream}
 use Rattle.quic_pair.specs.Steps.{World, Next, KnowsNoId}
-use Rattle.quic_pair.specs.History.{Past, History, Answer, StepTaken, past_of, past_from, after, nothing_yet}
+use Rattle.quic_pair.specs.History.{History, Answer, past_of}
+use Rattle.quic_pair.proofs.Told.{Told, told_of, told_after, told_nothing}
+use Rattle.quic_pair.proofs.Telling.{told_next}
 use Rattle.quic_pair.specs.From.{From, begin, next, IsNew}
 use Rattle.quic_pair.proofs.Invariant.{Fits}
 use Rattle.quic_pair.proofs.Keeps.{opens, accepts, writes, finishes, polls, emits, loses}
 use Rattle.quic_pair.proofs.Delivers.{delivers, acks, reads}
 
 -- a new pair fits
-Fits-new : (a b : Config) (v : World) → IsNew a b v → Fits nothing_yet v
+Fits-new : (a b : Config) (v : World) → IsNew a b v → Fits told_nothing v
 Fits-new a b v n = record {
   opened = n.sending.opened;
   taken = n.receiving.taken;
@@ -36,11 +38,11 @@ Fits-new a b v n = record {
   complete = λ e. absurd cc;
 }
 
-refuses : (p : Past) (old : World) (answer : Answer) (new : World) → Fits p old → KnowsNoId old answer new → Fits p new
+refuses : (p : Told) (old : World) (answer : Answer) (new : World) → Fits p old → KnowsNoId old answer new → Fits p new
 refuses p old answer new h r = rw r.1 h
 
 -- each step keeps it
-Fits-next : (p : Past) (old : World) (step : Step) (answer : Answer) (new : World) → Fits p old → Next old step answer new → Fits (after p step answer) new
+Fits-next : (p : Told) (old : World) (step : Step) (answer : Answer) (new : World) → Fits p old → Next old step answer new → Fits (told_after p step answer) new
 Fits-next p old (Open A Uni) answer new h n = opens p old answer new h n
 Fits-next p old (Open who dir) answer new h n = rw (n.0, n.1) h
 Fits-next p old (Accept B Uni) answer new h n = accepts p old answer new h n
@@ -60,12 +62,7 @@ Fits-next p old (LoseStream payload index) answer new h n = loses p old payload 
 Fits-next p old (AckStream payload index) answer new h n = acks p old payload index answer new h n
 Fits-next p old _ answer new h n = rw n.1 h
 
--- the past after one more step
-pub past_from-push : (p : Past) (h : History) (e : StepTaken) → past_from p (h ++ e ∷ []) ≡ after (past_from p h) e.0 e.1
-past_from-push p [] e = refl
-past_from-push p (d ∷ h) e = past_from-push (after p d.0 d.1) h e
-
-pub Fits-from : {a b : Config} {h : History} {v : World} → From a b h v → Fits (past_of h) v
+pub Fits-from : {a b : Config} {h : History} {v : World} → From a b h v → Fits (told_of (past_of h)) v
 Fits-from {a} {b} (begin {v} n) = Fits-new a b v n
 Fits-from {a} {b} (next {h} {old} {new} step answer f n) =
-    rw (past_from-push nothing_yet h (step, answer)) (Fits-next (past_of h) old step answer new (Fits-from f) n)
+    subst (λ (p : Told). Fits p new) (sym (told_next h old step answer new n)) (Fits-next (told_of (past_of h)) old step answer new (Fits-from f) n)

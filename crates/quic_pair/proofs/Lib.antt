@@ -13,4 +13,6 @@ pub mod Refused
 pub mod Reports
 pub mod Runs
 pub mod Spelled
+pub mod Telling
+pub mod Told
 pub mod Turns

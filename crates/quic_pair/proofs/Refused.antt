@@ -1,5 +1,5 @@
 -- A step is refused exactly where `refusal` says.
-use Rattle.std.proofs.Common.{◌≡◌, ℕ, zero, suc, ◌≤◌, ◌<◌, ◌⊎◌, Bool, true, false, ◌&&◌, ◌||◌, List, [], ◌∷◌, Option, Some, None, Ok, Err, length, refl, sym, ap, ◌∙◌, inl, inr, arith}
+use Rattle.std.proofs.Common.{◌≡◌, ℕ, zero, suc, ◌≤◌, ◌<◌, ◌⊎◌, Bool, true, false, ◌&&◌, ◌||◌, List, [], ◌∷◌, Option, Some, None, Ok, Err, length, refl, sym, ap, subst, ◌∙◌, inl, inr, arith}
 use Rattle.std.specs.Prelude.{slice_get, nat_le, ◌==◌, if◌then◌else◌, map, option_map}
 use Rattle.std.proofs.lemmas.Option.{none-some, same_Some, slice_get-map, slice_get-get_or, slice_get_within}
 use Rattle.std.proofs.lemmas.Bool.{cases_lt, and_parts, eqb-true, eq-eqb}
@@ -9,8 +9,13 @@ use Rattle.quic_pair.specs.Network.{Sent, Piece, HasPiece, LacksStream, frame_of
 use Rattle.quic_pair.specs.Sending.{Sending, Opens, Finishes, Lost, Acked, Polls}
 use Rattle.quic_pair.specs.Receiving.{Receiving, ReadsStream}
 use Rattle.quic_pair.specs.Steps.{World, Next, KnowsNoId, Unknown, OnStream, OnReceiving, OnlySending, OnlyReceiving, WritesBytes, Emits, Delivered, LosesFrame, ReportsLoss, AcksFrame, ReportsAck}
-use Rattle.quic_pair.specs.History.{Past, Answer}
-use Rattle.quic_pair.specs.Refusals.{unless_known, unless_there, count_of_frames, is_listed, refusal, IsRefusedSo}
+use Rattle.quic_pair.specs.declared.steps.Config.{Config}
+use Rattle.quic_pair.specs.From.{From}
+use Rattle.quic_pair.specs.History.{Past, Flow, History, Answer, past_of, no_flow}
+use Rattle.quic_pair.proofs.Told.{Told, told_of, told_refusal, unless_known}
+use Rattle.quic_pair.proofs.Histories.{Fits-from}
+use Rattle.quic_pair.proofs.Telling.{AreUntouched, untouched-from}
+use Rattle.quic_pair.specs.Refusals.{unless_there, count_of_frames, is_listed, refusal, IsRefusedSo}
 use Rattle.quic_pair.specs.declared.steps.End.TheVariants.{A, B}
 use Rattle.quic_pair.specs.declared.steps.Step.{Step}
 use Rattle.quic_pair.specs.declared.steps.Step.TheVariants.{Open, Accept, Write, Finish, Read as ReadStep, Poll, Emit, Deliver, LoseStream, AckStream}
@@ -41,7 +46,7 @@ no_frame sent k i whole r is past =
     rw (le_false (length sent) k (slice_get_within sent k whole is), frames, le_true (length whole.frames) i past) refl
 
 -- the bytes of a payload that was sent spell a STREAM frame at each place that it has
-lacks_none : (p : Past) (v : World) (k i : ℕ) (r : Option PairError) → Fits p v → LacksStream v.sent k i → unless_there v.sent k i r ≡ Some NoSuchFrame
+lacks_none : (p : Told) (v : World) (k i : ℕ) (r : Option PairError) → Fits p v → LacksStream v.sent k i → unless_there v.sent k i r ≡ Some NoSuchFrame
 lacks_none p v k i r h n = elim (cases_lt i (length n.whole.frames)) [
   | inl inside ↦ absurd (
       let d : Piece = record { start = 0; end = 0; fin = false; accepted = false } in
@@ -84,7 +89,7 @@ same_piece sent k i x y h g =
     let whole = same_Some _ _ (sym h.is ∙ g.is) in
     same_Some _ _ (sym h.at ∙ ap (λ (s : Sent). slice_get s.frames i) whole ∙ g.at)
 
-not_among : (p : Past) (v : World) (k i : ℕ) (x : Piece) → Fits p v → HasPiece v.sent k i x → x.accepted ≡ false → (b : Bool) → is_listed p.accepted k i ≡ b → b ≡ false
+not_among : (p : Told) (v : World) (k i : ℕ) (x : Piece) → Fits p v → HasPiece v.sent k i x → x.accepted ≡ false → (b : Bool) → is_listed p.accepted k i ≡ b → b ≡ false
 not_among p v k i x h has refused false e = refl
 not_among p v k i x h has refused true e =
     let z = place_of p.accepted k i e in
@@ -110,7 +115,7 @@ known given told id e k = rw (k.0, sym e ∙ k.1) refl
 refused : (answer : Answer) (why : Option PairError) → answer ≡ Err UnknownId → why ≡ Some UnknownId → IsRefusedSo answer why
 refused answer why e w = rw e w
 
-opened : (p : Past) (old : World) (answer : Answer) (new : World) → Fits p old → OnlySending Opens old answer new → IsRefusedSo answer (if p.opened then Some UnknownId else None)
+opened : (p : Told) (old : World) (answer : Answer) (new : World) → Fits p old → OnlySending Opens old answer new → IsRefusedSo answer (if p.opened then Some UnknownId else None)
 opened p old (Ok (Id id)) new h n = rw (sym h.opened ∙ n.does.1) refl
 opened p old (Ok Nothing) new h n = rw (sym h.opened ∙ n.does.0) refl
 opened p old (Err UnknownId) new h n = rw (sym h.opened ∙ n.does.0) refl
@@ -149,7 +154,7 @@ emitted old most (Ok (Payload number bytes)) new n = refl
 emitted old most (Err OutOfMemory) new n = tt
 emitted old most _ new n = absurd n
 
-delivered : (p : Past) (old : World) (k i : ℕ) (answer : Answer) (new : World) → Fits p old → Delivered old k i answer new → IsRefusedSo answer (unless_there old.sent k i None)
+delivered : (p : Told) (old : World) (k i : ℕ) (answer : Answer) (new : World) → Fits p old → Delivered old k i answer new → IsRefusedSo answer (unless_there old.sent k i None)
 delivered p old k i (Ok Done) new h n = there old.sent k i n.hands.has.piece None (record { whole = n.hands.has.whole; is = n.hands.has.is; at = n.hands.has.at })
 delivered p old k i (Ok (Fault error)) new h n = there old.sent k i n.hands.has.piece None (record { whole = n.hands.has.whole; is = n.hands.has.is; at = n.hands.has.at })
 delivered p old k i (Err NoSuchPayload) new h n = no_payload old.sent k i None n.0
@@ -176,13 +181,13 @@ acked old (Ok Done) new x why n w = w
 acked old (Err OutOfMemory) new x why n w = tt
 acked old _ new x why n w = absurd n
 
-acks_at : (p : Past) (old : World) (k i : ℕ) (answer : Answer) (new : World) → Fits p old → ReportsAck old k i answer new → IsRefusedSo answer (unless_there old.sent k i (if is_listed p.accepted k i then None else Some NotAccepted))
+acks_at : (p : Told) (old : World) (k i : ℕ) (answer : Answer) (new : World) → Fits p old → ReportsAck old k i answer new → IsRefusedSo answer (unless_there old.sent k i (if is_listed p.accepted k i then None else Some NotAccepted))
 acks_at p old k i answer new h n =
     let told = h.delivered k i n.piece n.has n.accepted in
     let among = among_at p.accepted told.0 k i told.1 in
     acked old.sending answer new.sending n.piece _ n.does (there old.sent k i n.piece _ n.has ∙ rw among refl)
 
-acks : (p : Past) (old : World) (k i : ℕ) (answer : Answer) (new : World) → Fits p old → AcksFrame old k i answer new → IsRefusedSo answer (unless_there old.sent k i (if is_listed p.accepted k i then None else Some NotAccepted))
+acks : (p : Told) (old : World) (k i : ℕ) (answer : Answer) (new : World) → Fits p old → AcksFrame old k i answer new → IsRefusedSo answer (unless_there old.sent k i (if is_listed p.accepted k i then None else Some NotAccepted))
 acks p old k i (Err NoSuchPayload) new h n = no_payload old.sent k i _ n.0
 acks p old k i (Err NoSuchFrame) new h n = no_frame old.sent k i n.0.whole _ n.0.is n.0.past
 acks p old k i (Err NotAccepted) new h n =
@@ -190,23 +195,52 @@ acks p old k i (Err NotAccepted) new h n =
 acks p old k i answer new h n = acks_at p old k i answer new h n
 
 on_stream : (P : Sending → Answer → Sending → Type 0) → ((old : Sending) (answer : Answer) (new : Sending) (why : Option PairError) → P old answer new → why ≡ None → IsRefusedSo answer why) →
-    (p : Past) (old : World) (id : ℕ) (answer : Answer) (new : World) → Fits p old → OnStream P old id answer new → IsRefusedSo answer (unless_known p.opened id)
+    (p : Told) (old : World) (id : ℕ) (answer : Answer) (new : World) → Fits p old → OnStream P old id answer new → IsRefusedSo answer (unless_known p.opened id)
 on_stream P each p old id answer new h (inl u) = refused answer _ u.1.0 (unknown old.sending.opened p.opened id h.opened u.0)
 on_stream P each p old id answer new h (inr n) = each old.sending answer new.sending _ n.does (known old.sending.opened p.opened id h.opened n.known)
 
-reads : (most times : ℕ) (p : Past) (old : World) (id : ℕ) (answer : Answer) (new : World) → Fits p old → (Unknown old.receiving.taken id × KnowsNoId old answer new) ⊎ OnReceiving most times old id answer new → IsRefusedSo answer (unless_known p.taken id)
+reads : (most times : ℕ) (p : Told) (old : World) (id : ℕ) (answer : Answer) (new : World) → Fits p old → (Unknown old.receiving.taken id × KnowsNoId old answer new) ⊎ OnReceiving most times old id answer new → IsRefusedSo answer (unless_known p.taken id)
 reads most times p old id answer new h (inl u) = refused answer _ u.1.0 (unknown old.receiving.taken p.taken id h.taken u.0)
 reads most times p old id answer new h (inr n) = read most times old.receiving answer new.receiving _ n.does (known old.receiving.taken p.taken id h.taken n.known)
 
-pub refused_so : (p : Past) (old : World) (step : Step) (answer : Answer) (new : World) → Fits p old → Next old step answer new → IsRefusedSo answer (refusal p old.sent step)
-refused_so p old (Open A Uni) answer new h n = opened p old answer new h n
-refused_so p old (Accept B Uni) answer new h n = accepted old answer new n
-refused_so p old (Write A id bytes) answer new h n = on_stream (WritesBytes bytes) (wrote bytes) p old id answer new h n
-refused_so p old (Finish A id) answer new h n = on_stream Finishes finished p old id answer new h n
-refused_so p old (ReadStep B id true max times) answer new h n = reads max times p old id answer new h n
-refused_so p old (Poll A) answer new h n = polled old answer new n
-refused_so p old (Emit A most fair) answer new h n = emitted old most answer new n
-refused_so p old (Deliver payload index) answer new h n = delivered p old payload index answer new h n
-refused_so p old (LoseStream payload index) answer new h n = loses old payload index answer new n
-refused_so p old (AckStream payload index) answer new h n = acks p old payload index answer new h n
-refused_so p old _ answer new h n = refused answer _ n.0 refl
+told_refused : (p : Told) (old : World) (step : Step) (answer : Answer) (new : World) → Fits p old → Next old step answer new → IsRefusedSo answer (told_refusal p old.sent step)
+told_refused p old (Open A Uni) answer new h n = opened p old answer new h n
+told_refused p old (Accept B Uni) answer new h n = accepted old answer new n
+told_refused p old (Write A id bytes) answer new h n = on_stream (WritesBytes bytes) (wrote bytes) p old id answer new h n
+told_refused p old (Finish A id) answer new h n = on_stream Finishes finished p old id answer new h n
+told_refused p old (ReadStep B id true max times) answer new h n = reads max times p old id answer new h n
+told_refused p old (Poll A) answer new h n = polled old answer new n
+told_refused p old (Emit A most fair) answer new h n = emitted old most answer new n
+told_refused p old (Deliver payload index) answer new h n = delivered p old payload index answer new h n
+told_refused p old (LoseStream payload index) answer new h n = loses old payload index answer new n
+told_refused p old (AckStream payload index) answer new h n = acks p old payload index answer new h n
+told_refused p old _ answer new h n = refused answer _ n.0 refl
+
+-- what is known of the flow of an id is what is known of the one flow, where the id is its stream
+and_true : (x : Bool) → x ≡ (x && true)
+and_true true = refl
+and_true false = refl
+
+known_at : (p : Past) (f : Flow → Bool) → f no_flow ≡ false → AreUntouched p → (id : ℕ) (b : Bool) → (id == 2) ≡ b → f (p.flow A id) ≡ (f (p.flow A 2) && b)
+known_at p f none others id true e = rw (eqb-true id 2 e) (and_true (f (p.flow A 2)))
+known_at p f none others id false e = ap f (others A id e) ∙ none ∙ sym (and_false (f (p.flow A 2)))
+
+opened_at : (p : Past) → AreUntouched p → (id : ℕ) → (p.flow A id).opened ≡ ((p.flow A 2).opened && (id == 2))
+opened_at p others id = known_at p (λ f. f.opened) refl others id (id == 2) refl
+
+taken_at : (p : Past) → AreUntouched p → (id : ℕ) → (p.flow A id).taken ≡ ((p.flow A 2).taken && (id == 2))
+taken_at p others id = known_at p (λ f. f.taken) refl others id (id == 2) refl
+
+refusal_is : (p : Past) → AreUntouched p → (sent : List Sent) (step : Step) → refusal p sent step ≡ told_refusal (told_of p) sent step
+refusal_is p others sent (Open A Uni) = refl
+refusal_is p others sent (Accept B Uni) = refl
+refusal_is p others sent (Write A id bytes) = rw (opened_at p others id) refl
+refusal_is p others sent (Finish A id) = rw (opened_at p others id) refl
+refusal_is p others sent (ReadStep B id true max times) = rw (taken_at p others id) refl
+refusal_is p others sent (Poll A) = refl
+refusal_is p others sent (Emit A most fair) = refl
+refusal_is p others sent _ = refl
+
+pub refused_so : {a b : Config} {h : History} {old : World} (step : Step) (answer : Answer) (new : World) → From a b h old → Next old step answer new → IsRefusedSo answer (refusal (past_of h) old.sent step)
+refused_so {a} {b} {h} {old} step answer new f n =
+    subst (λ (why : Option PairError). IsRefusedSo answer why) (sym (refusal_is (past_of h) (untouched-from f) old.sent step)) (told_refused (told_of (past_of h)) old step answer new (Fits-from f) n)

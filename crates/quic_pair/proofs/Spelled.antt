@@ -14,7 +14,7 @@ use Rattle.quic_sending.specs.Buffer.{total_length, uncovered, frame_end, has_le
 use Rattle.quic_pair.specs.Network.{Piece, part, frame_of}
 use Rattle.quic_pair.specs.Sending.{Sending, Place, Turn, Turns, none, more, Sends, frame_room}
 use Rattle.quic_pair.specs.Headline.{IsHonestPiece, IsHonestPayload}
-use Rattle.quic_pair.proofs.Invariant.{Flow, SenderFits}
+use Rattle.quic_pair.proofs.Invariant.{Source, SenderFits}
 use Rattle.quic_pair.proofs.Lists.{slice_get-push}
 use Rattle.quic_pair.proofs.Parts.{length-part}
 
@@ -27,7 +27,7 @@ join a b c (f ∷ fs) gs h k = (h.0, h.1, join h.0 b c fs gs h.2 k)
 abbrev pub Spells : ℕ → List ℕ → List Frame → Type 0
 Spells most bytes fs = ((rest : List ℕ) → BeginsFrames (bytes ++ rest) fs rest) ⊎ (AreFrames bytes fs × (most ≤ length bytes + 25))
 
-pub record PlaceFits (most : ℕ) (f : Flow) (p : Place) : Type 0 where
+pub record PlaceFits (most : ℕ) (f : Source) (p : Place) : Type 0 where
   pub sender : SenderFits f p.end
   pub pieces : (index : ℕ) (q : Piece) → slice_get p.payload.frames index ≡ Some q → IsHonestPiece f.written f.finished q
   pub spelled : Spells most p.payload.bytes (map (frame_of f.written) p.payload.frames)
@@ -37,7 +37,7 @@ total-concat [] = refl
 total-concat (c ∷ cs) = rw (length-append c (concat cs), total-concat cs) refl
 
 -- how long what was written is
-pub written_length : (f : Flow) (s : Sending) → SenderFits f s → s.buffer.offset ≡ length f.written
+pub written_length : (f : Source) (s : Sending) → SenderFits f s → s.buffer.offset ≡ length f.written
 written_length f s h = h.has.written ∙ total-concat h.cuts ∙ ap length h.joined
 
 -- a frame without a length fills the payload
@@ -50,11 +50,11 @@ room_large start room = let small = size_small start in grind (arith, nat_tests)
 filled : (start limit stop room : ℕ) → has_length start limit room ≡ false → stop ≡ frame_end start limit room → room ≤ (stop - start) + 8
 filled start limit stop room lacks is = let large = room_large start room in grind (arith, nat_tests)
 
-content_of : (f : Flow) (s : Sending) → SenderFits f s → List ℕ
+content_of : (f : Source) (s : Sending) → SenderFits f s → List ℕ
 content_of f s h = concat h.cuts
 
 -- the frame of one turn is honest
-piece_fits : (most : ℕ) (f : Flow) (p q : Place) (h : PlaceFits most f p) (s : Sends most p q) → IsHonestPiece f.written f.finished (record { start = s.start; end = s.stop; fin = s.fin; accepted = false })
+piece_fits : (most : ℕ) (f : Source) (p q : Place) (h : PlaceFits most f p) (s : Sends most p q) → IsHonestPiece f.written f.finished (record { start = s.start; end = s.stop; fin = s.fin; accepted = false })
 piece_fits most f p q h s =
     let size = written_length f p.end h.sender in
     record {
@@ -64,7 +64,7 @@ piece_fits most f p q h s =
     }
 
 -- the bytes with one more frame
-text_fits : (most : ℕ) (f : Flow) (p q : Place) (h : PlaceFits most f p) (s : Sends most p q) →
+text_fits : (most : ℕ) (f : Source) (p q : Place) (h : PlaceFits most f p) (s : Sends most p q) →
     q.payload.bytes ≡ p.payload.bytes ++ meta_text (record { id = 2; offsets = record { start = s.start; end = s.stop }; fin = s.fin }) s.with_length ++ part f.written s.start s.stop
 text_fits most f p q h s = rw (← h.sender.joined) (s.text h.sender.cuts h.sender.has)
 
@@ -75,7 +75,7 @@ open_bytes most bytes fs (inr h) small = absurd (omega (arith, h.1))
 regroup : (a b c d : List ℕ) → (a ++ b ++ c) ++ d ≡ a ++ (b ++ c ++ d)
 regroup a b c d = simp append_assoc
 
-one_frame : (most : ℕ) (f : Flow) (p q : Place) (h : PlaceFits most f p) (s : Sends most p q) (rest : List ℕ) → length p.payload.bytes + 25 < most → (s.with_length ≡ false → rest ≡ []) →
+one_frame : (most : ℕ) (f : Source) (p q : Place) (h : PlaceFits most f p) (s : Sends most p q) (rest : List ℕ) → length p.payload.bytes + 25 < most → (s.with_length ≡ false → rest ≡ []) →
     BeginsFrames (q.payload.bytes ++ rest) (map (frame_of f.written) q.payload.frames) rest
 one_frame most f p q h s rest small ends =
     let piece : Piece = record { start = s.start; end = s.stop; fin = s.fin; accepted = false } in
@@ -90,7 +90,7 @@ one_frame most f p q h s rest small ends =
     rw (text_fits most f p q h s, frames, regroup p.payload.bytes head body rest) joined
 
 -- a frame without a length leaves no room for another
-full : (most : ℕ) (f : Flow) (p q : Place) (h : PlaceFits most f p) (s : Sends most p q) → length p.payload.bytes + 25 < most → s.with_length ≡ false → most ≤ length q.payload.bytes + 25
+full : (most : ℕ) (f : Source) (p q : Place) (h : PlaceFits most f p) (s : Sends most p q) → length p.payload.bytes + 25 < most → s.with_length ≡ false → most ≤ length q.payload.bytes + 25
 full most f p q h s small lacks =
     let honest = piece_fits most f p q h s in
     let head = meta_text (record { id = 2; offsets = record { start = s.start; end = s.stop }; fin = s.fin }) s.with_length in
@@ -101,7 +101,7 @@ full most f p q h s small lacks =
     let large = filled s.start s.limit s.stop (frame_room most p.payload.bytes) (sym s.length_is ∙ lacks) s.stop_is in
     omega arith
 
-pub sender_kept : (f : Flow) (s t : Sending) → SenderFits f s → t.buffer.offset ≡ s.buffer.offset → t.buffer.held ≡ s.buffer.held → t.buffer.prefix ≡ s.buffer.prefix → t.finished ≡ s.finished → SenderFits f t
+pub sender_kept : (f : Source) (s t : Sending) → SenderFits f s → t.buffer.offset ≡ s.buffer.offset → t.buffer.held ≡ s.buffer.held → t.buffer.prefix ≡ s.buffer.prefix → t.finished ≡ s.finished → SenderFits f t
 sender_kept f s t h offset held prefix finished = record {
   cuts = h.cuts;
   has = record { written = offset ∙ h.has.written; retained = held ∙ h.has.retained ∙ ap (λ n. uncovered n h.cuts) (sym prefix) };
@@ -109,13 +109,13 @@ sender_kept f s t h offset held prefix finished = record {
   finished = finished ∙ h.finished;
 }
 
-spelled_after : (most : ℕ) (f : Flow) (p q : Place) (h : PlaceFits most f p) (s : Sends most p q) (b : Bool) → s.with_length ≡ b → length p.payload.bytes + 25 < most → Spells most q.payload.bytes (map (frame_of f.written) q.payload.frames)
+spelled_after : (most : ℕ) (f : Source) (p q : Place) (h : PlaceFits most f p) (s : Sends most p q) (b : Bool) → s.with_length ≡ b → length p.payload.bytes + 25 < most → Spells most q.payload.bytes (map (frame_of f.written) q.payload.frames)
 spelled_after most f p q h s true is small = inl (λ rest. one_frame most f p q h s rest small (λ e. absurd (let x = sym is ∙ e in cc)))
 spelled_after most f p q h s false is small =
     let whole = one_frame most f p q h s [] small (λ e. refl) in
     inr (rw append-nil at whole, full most f p q h s small is)
 
-PlaceFits-turn : (most : ℕ) (f : Flow) (p q : Place) → PlaceFits most f p → length p.payload.bytes + 25 < most → Turn most p q → PlaceFits most f q
+PlaceFits-turn : (most : ℕ) (f : Source) (p q : Place) → PlaceFits most f p → length p.payload.bytes + 25 < most → Turn most p q → PlaceFits most f q
 PlaceFits-turn most f p q h small (inl t) =
     let payload : q.payload ≡ p.payload = ap (λ (x : Place). x.payload) t.2 in
     let end = ap (λ (x : Place). x.end) t.2 in
@@ -133,7 +133,7 @@ PlaceFits-turn most f p q h small (inr s) = record {
   spelled = spelled_after most f p q h s s.with_length refl small;
 }
 
-pub PlaceFits-turns : {most : ℕ} {p q : Place} (f : Flow) → Turns most p q → PlaceFits most f p → PlaceFits most f q
+pub PlaceFits-turns : {most : ℕ} {p q : Place} (f : Source) → Turns most p q → PlaceFits most f p → PlaceFits most f q
 PlaceFits-turns f none h = h
 PlaceFits-turns {most} f (more {p} {q} {r} ts small t) h = PlaceFits-turn most f q r (PlaceFits-turns f ts h) small t
 
@@ -142,11 +142,11 @@ are_frames : (most : ℕ) (bytes : List ℕ) (fs : List Frame) → Spells most b
 are_frames most bytes fs (inl h) = rw append-nil at (h [])
 are_frames most bytes fs (inr h) = h.0
 
-pub IsHonestPayload-turns : (most : ℕ) (f : Flow) (p : Place) → PlaceFits most f p → IsHonestPayload f.written f.finished p.payload
+pub IsHonestPayload-turns : (most : ℕ) (f : Source) (p : Place) → PlaceFits most f p → IsHonestPayload f.written f.finished p.payload
 IsHonestPayload-turns most f p h = record { spelled = are_frames most p.payload.bytes _ h.spelled; pieces = h.pieces }
 
 -- the queue is served from an empty payload on
-pub PlaceFits-start : (most : ℕ) (f : Flow) (s : Sending) → SenderFits f s → PlaceFits most f (record { end = s; payload = record { bytes = []; frames = [] } })
+pub PlaceFits-start : (most : ℕ) (f : Source) (s : Sending) → SenderFits f s → PlaceFits most f (record { end = s; payload = record { bytes = []; frames = [] } })
 PlaceFits-start most f s h = record {
   sender = h;
   pieces = λ index q e. absurd (none-some q e);

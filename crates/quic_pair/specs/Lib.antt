@@ -6,5 +6,6 @@ pub mod Network
 pub mod Permits
 pub mod Receiving
 pub mod Refusals
+pub mod Runs
 pub mod Sending
 pub mod Steps

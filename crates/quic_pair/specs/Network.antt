@@ -1,5 +1,5 @@
 -- What was sent: payloads, and the STREAM frames in them.
-use Rattle.std.specs.Prelude.{◌≡◌, ℕ, ◌-◌, ◌≤◌, Bool, true, List, Some, take, drop, length, slice_get, slice_set}
+use Rattle.std.specs.Prelude.{◌≡◌, ℕ, ◌-◌, ◌≤◌, ◌<◌, Bool, true, List, Some, take, drop, length, slice_get, slice_set}
 use Rattle.quic_wire.specs.declared.frame.Stream.{Stream}
 use Rattle.quic_wire.specs.declared.frame.Frame.{Frame}
 use Rattle.quic_wire.specs.declared.frame.Frame.TheVariants as frames
@@ -31,6 +31,28 @@ pub record HasPiece (sent : List Sent) (payload index : ℕ) (p : Piece) : Type 
   pub whole : Sent
   pub is : slice_get sent payload ≡ Some whole
   pub at : slice_get whole.frames index ≡ Some p
+
+-- a frame, by its payload and its place there
+abbrev pub FramePlace : Type 0
+FramePlace = ℕ × ℕ
+
+-- one of the frames at these places is such a one
+pub record SomeFrame (Is : Piece → Type 0) (places : List FramePlace) (sent : List Sent) : Type 0 where
+  pub place : ℕ
+  pub payload : ℕ
+  pub index : ℕ
+  pub piece : Piece
+  pub told : slice_get places place ≡ Some (payload, index)
+  pub has : HasPiece sent payload index piece
+  pub is : Is piece
+
+-- a frame carries the byte at this offset
+abbrev pub CarriesOffset : ℕ → Piece → Type 0
+CarriesOffset n p = (p.start ≤ n) × (n < p.end)
+
+-- the stream ends with a frame
+abbrev pub EndsStream : Piece → Type 0
+EndsStream p = p.fin ≡ true
 
 -- the payload is there, and has no such frame
 pub record LacksPiece (sent : List Sent) (payload index : ℕ) : Type 0 where

@@ -1,11 +1,13 @@
 -- The end that reads, and what each call on it may do.
-use Rattle.std.specs.Prelude.{◌≡◌, ℕ, ◌+◌, ◌-◌, ◌/◌, ◌^◌, ◌≤◌, ◌<◌, ◌⊎◌, Bool, true, false, not, ◌&&◌, ◌||◌, ◌==◌, nat_lt, nat_le, if◌then◌else◌, List, [], ◌∷◌, length, min, max, Option, Some, None, is_none, Ok, Err}
+use Rattle.std.specs.Prelude.{◌≡◌, ℕ, ◌+◌, ◌-◌, ◌/◌, ◌^◌, ◌≤◌, ◌<◌, ◌⊎◌, Bool, true, false, not, ◌&&◌, ◌||◌, ◌==◌, nat_lt, nat_le, if◌then◌else◌, List, [], ◌∷◌, length, min, max, Option, Some, None, is_none, Result, Ok, Err}
 use Rattle.std.specs.List.{flat_map}
 use Rattle.quic_wire.specs.declared.ReceiveError.TheVariants.{Transport, CompactionMemory}
-use Rattle.quic_assembler.specs.Reassembly.{Reassembly, Holds, IsDone, IsHeld, piece_count}
+use Rattle.quic_assembler.specs.Reassembly.{Reassembly, Holds, IsDone, IsHeld, IsStale, Settles, is_wasteful, with_piece, covered_with, sums, piece_count}
 use Rattle.quic_assembler.specs.Reassembly.{Takes as Inserts}
 use Rattle.quic_assembler.specs.Piece.{IsByteAt}
 use Rattle.quic_assembler.specs.declared.Chunk.{Chunk}
+use Rattle.quic_assembler.specs.declared.errors.InsertError.{InsertError}
+use Rattle.quic_assembler.specs.declared.errors.InsertError.TheVariants as inserted
 use Rattle.quic_pair.specs.History.{Answer, bytes_of}
 use Rattle.quic_pair.specs.declared.steps.Last.{Last}
 use Rattle.quic_pair.specs.declared.steps.Last.TheVariants.{Ended, Blocked as Waits, Memory, More}
@@ -58,15 +60,26 @@ pub record KeepsFrame (old : Receiving) (offset : ℕ) (bytes : List ℕ) (fin :
     data_received = old.data_received + (offset + length bytes - old.end);
   }
 
-abbrev pub ReceivesFrame : Receiving → ℕ → List ℕ → Bool → Answer → Receiving → Type 0
-ReceivesFrame old offset bytes fin (Ok Done) new =
-    ((old.freed ≡ true) × (new ≡ old)) ⊎ (KeepsFrame old offset bytes fin new × (new.opened ≡ true))
-ReceivesFrame old offset bytes fin (Ok (Fault (Transport error))) new =
+-- what was told of the pieces that are held once a frame was kept: they were compacted where that is due, and only there;
+-- a frame keeps the memory of its whole payload alive
+abbrev pub SettlesPieces : Result (Unit {0}) InsertError → Reassembly → ℕ → List ℕ → ℕ → Reassembly → Type 0
+SettlesPieces told old offset bytes payload new =
+    let with' = with_piece old offset bytes (max payload (length bytes)) in
+    Settles told (is_wasteful with' (max old.highest (offset + length bytes) - old.bytes_read)) with' (covered_with old offset bytes) (sums new)
+
+-- a frame comes with a payload of so many bytes; INTERNAL_ERROR is 1
+abbrev pub ReceivesFrame : Receiving → ℕ → List ℕ → Bool → ℕ → Answer → Receiving → Type 0
+ReceivesFrame old offset bytes fin payload (Ok Done) new =
+    ((old.freed ≡ true) × (new ≡ old))
+    ⊎ (KeepsFrame old offset bytes fin new × (new.opened ≡ true) × (IsStale old.held offset bytes ⊎ SettlesPieces (Ok tt) old.held offset bytes payload new.held))
+ReceivesFrame old offset bytes fin payload (Ok (Fault (Transport error))) new =
     ((old.freed ≡ false) × (frame_verdict old offset (length bytes) fin ≡ Some error.code) × (new ≡ old))
-    ⊎ ((error.code ≡ 1) × KeepsFrame old offset bytes fin new × (new.opened ≡ old.opened) × (1024 < piece_count new.held))
-ReceivesFrame old offset bytes fin (Ok (Fault CompactionMemory)) new = KeepsFrame old offset bytes fin new × (new.opened ≡ old.opened)
-ReceivesFrame old offset bytes fin (Err OutOfMemory) new = new ≡ old
-ReceivesFrame old offset bytes fin _ new = ⊥
+    ⊎ ((error.code ≡ 1) × KeepsFrame old offset bytes fin new × (new.opened ≡ old.opened) × (1024 < piece_count new.held)
+    × SettlesPieces (Err inserted.TooManyChunks) old.held offset bytes payload new.held)
+ReceivesFrame old offset bytes fin payload (Ok (Fault CompactionMemory)) new =
+    KeepsFrame old offset bytes fin new × (new.opened ≡ old.opened) × SettlesPieces (Err inserted.CompactionMemory) old.held offset bytes payload new.held
+ReceivesFrame old offset bytes fin payload (Err OutOfMemory) new = new ≡ old
+ReceivesFrame old offset bytes fin payload _ new = ⊥
 
 abbrev pub Accepts : Receiving → Answer → Receiving → Type 0
 Accepts old (Ok (Id id)) new = (id ≡ 2) × (old.opened ≡ true) × (old.taken ≡ false) × (new ≡ record old { taken = true })

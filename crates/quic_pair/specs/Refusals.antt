@@ -1,7 +1,7 @@
 -- When a step is refused, and why.
 use Rattle.std.specs.Prelude.{◌≡◌, ℕ, Bool, true, false, ◌&&◌, ◌||◌, ◌==◌, nat_le, if◌then◌else◌, List, [], ◌∷◌, Option, Some, None, Ok, Err, length, slice_get}
 use Rattle.quic_values.specs.declared.Dir.TheVariants.{Uni}
-use Rattle.quic_pair.specs.Network.{Sent}
+use Rattle.quic_pair.specs.Network.{Sent, FramePlace}
 use Rattle.quic_pair.specs.History.{Past, Answer}
 use Rattle.quic_pair.specs.declared.steps.End.TheVariants.{A, B}
 use Rattle.quic_pair.specs.declared.steps.Step.{Step}
@@ -9,12 +9,9 @@ use Rattle.quic_pair.specs.declared.steps.Step.TheVariants.{Open, Accept, Write,
 use Rattle.quic_pair.specs.declared.steps.PairError.{PairError}
 use Rattle.quic_pair.specs.declared.steps.PairError.TheVariants.{NoSuchPayload, NoSuchFrame, NotAccepted, UnknownId, OutOfMemory}
 
--- whether the end was given this id
-abbrev pub knows : Bool → ℕ → Bool
-knows given id = given && (id == 2)
-
-abbrev pub unless_known : Bool → ℕ → Option PairError
-unless_known given id = if knows given id then None else Some UnknownId
+-- the end was not given the stream
+abbrev pub unless_given : Bool → Option PairError
+unless_given given = if given then None else Some UnknownId
 
 abbrev pub count_of_frames : Option Sent → ℕ
 count_of_frames None = 0
@@ -28,17 +25,17 @@ unless_there sent payload index then' =
     else then'
 
 -- whether a frame is in the list
-abbrev pub is_listed : List (ℕ × ℕ) → ℕ → ℕ → Bool
+abbrev pub is_listed : List FramePlace → ℕ → ℕ → Bool
 is_listed [] payload index = false
 is_listed (x ∷ xs) payload index = (x.0 == payload && x.1 == index) || is_listed xs payload index
 
 -- why a step is refused, if it is: what is known of the past, and the payloads that were sent, decide it
 abbrev pub refusal : Past → List Sent → Step → Option PairError
-refusal p sent (Open A Uni) = if p.opened then Some UnknownId else None
+refusal p sent (Open A Uni) = if (p.flow A 2).opened then Some UnknownId else None
 refusal p sent (Accept B Uni) = None
-refusal p sent (Write A id bytes) = unless_known p.opened id
-refusal p sent (Finish A id) = unless_known p.opened id
-refusal p sent (ReadStep B id true max times) = unless_known p.taken id
+refusal p sent (Write A id bytes) = unless_given (p.flow A id).opened
+refusal p sent (Finish A id) = unless_given (p.flow A id).opened
+refusal p sent (ReadStep B id true max times) = unless_given (p.flow A id).taken
 refusal p sent (Poll A) = None
 refusal p sent (Emit A most fair) = None
 refusal p sent (Deliver payload index) = unless_there sent payload index None

@@ -1,5 +1,5 @@
 -- The end that writes, and what each call on it may do.
-use Rattle.std.specs.Prelude.{◌≡◌, ℕ, ◌+◌, ◌-◌, ◌^◌, ◌≤◌, ◌<◌, ◌⊎◌, Bool, true, false, not, ◌&&◌, ◌||◌, ◌==◌, if◌then◌else◌, List, [], ◌∷◌, ◌++◌, length, take, min, max, MatchBool, Ok, Err}
+use Rattle.std.specs.Prelude.{◌≡◌, ℕ, ◌+◌, ◌-◌, ◌≤◌, ◌<◌, ◌⊎◌, Bool, true, false, not, ◌&&◌, ◌||◌, ◌==◌, if◌then◌else◌, List, [], ◌∷◌, ◌++◌, length, take, min, max, MatchBool, Ok, Err}
 use Rattle.std.specs.List.{concat}
 use Rattle.std.specs.declared.ops.Range.{Range}
 use Rattle.quic_values.specs.Runs.{lies_in}

@@ -79,7 +79,7 @@ NoStream v payload index = LacksStream v.sent payload index
 pub record HandsOver (old : World) (payload index : ℕ) (answer : Answer) (new : World) : Type 0 where
   pub frame : Stream
   pub has : HasStream old.sent payload index frame
-  pub receives : ReceivesFrame old.receiving frame.offset frame.bytes frame.fin answer new.receiving
+  pub receives : ReceivesFrame old.receiving frame.offset frame.bytes frame.fin (length has.whole.bytes) answer new.receiving
   pub sending : new.sending ≡ old.sending
 
 pub record Delivers (old : World) (payload index : ℕ) (new : World) : Type 0 where

@@ -6,6 +6,7 @@ ghost use Rattle.quic_pair.specs.History.{History, past_of};
 ghost use Rattle.quic_pair.specs.Network.{Sent, Piece, HasPiece, LacksPiece, HasStream, LacksStream, SpellsStream, SpellsNoStream, accepted_at};
 ghost use Rattle.quic_pair.specs.Permits.{TakesWhatIsPermitted};
 ghost use Rattle.quic_pair.specs.Refusals.{IsRefusedSo, refusal};
+ghost use Rattle.quic_pair.specs.Runs.{TakesSteps, StepByStep, IsPermittedBehind, IsRefusedBehind};
 ghost use Rattle.quic_pair.specs.Steps.{Next};
 
 use crate::receiving::ReceivingEnd;
@@ -231,6 +232,7 @@ impl Pair {
 
     /// One step. A refused one changes nothing, but for what [`PairError::OutOfMemory`] says.
     pub fn step(&mut self, step: Step) -> Result<Reply, PairError>
+        ensures next { Next self.old step result self.new }
         ensures from { (a b : Config) (h : History) → From a b h self.old → From a b (h ++ (step, result) ∷ []) self.new }
         ensures headline { (a b : Config) (h : History) → From a b h self.old → Headline (past_of (h ++ (step, result) ∷ [])) self.new }
         ensures permitted { (a b : Config) (h : History) → From a b h self.old → TakesWhatIsPermitted a b (past_of h) self.old.sent step result }
@@ -242,8 +244,12 @@ impl Pair {
     /// Many steps, with the reply to each. Room for the replies is made first: if that is refused, no
     /// step was taken.
     pub fn run(&mut self, steps: Vec<Step>) -> Result<Vec<Result<Reply, PairError>>, OutOfMemory>
+        ensures count { IfOk result (λ replies. length replies.items ≡ length steps.items) }
+        ensures next { IfOk result (λ replies. TakesSteps self.old (zip steps.items replies.items) self.new) }
         ensures from { IfOk result (λ replies. (a b : Config) (h : History) → From a b h self.old → From a b (h ++ zip steps.items replies.items) self.new) }
         ensures headline { IfOk result (λ replies. (a b : Config) (h : History) → From a b h self.old → Headline (past_of (h ++ zip steps.items replies.items)) self.new) }
+        ensures permitted { IfOk result (λ replies. (a b : Config) (h : History) → From a b h self.old → StepByStep (IsPermittedBehind a b h) self.old (zip steps.items replies.items) self.new) }
+        ensures refused { IfOk result (λ replies. (a b : Config) (h : History) → From a b h self.old → StepByStep (IsRefusedBehind h) self.old (zip steps.items replies.items) self.new) }
         ensures err { OnErr result (self.new ≡ self.old) }
     {
         let mut replies = Vec::with_capacity(self.memory, steps.len())?;
@@ -281,7 +287,7 @@ fn stream_of(
     payload: usize,
     index: usize,
 ) -> Result<(Stream, usize), PairError>
-    ensures found { IfOk result (λ r. HasStream payloads.now payload index r.0) }
+    ensures found { IfOk result (λ r. (has : HasStream payloads.now payload index r.0) × (r.1 ≡ length has.whole.bytes)) }
     ensures no_payload { result ≡ Err PairError.NoSuchPayload → length payloads.now ≤ payload }
     ensures no_frame { result ≡ Err PairError.NoSuchFrame → LacksPiece payloads.now payload index ⊎ LacksStream payloads.now payload index }
     ensures only { IfErr result (λ e. (e ≡ PairError.NoSuchPayload) ⊎ ((e ≡ PairError.NoSuchFrame) ⊎ (e ≡ PairError.OutOfMemory))) }

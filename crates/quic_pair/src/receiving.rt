@@ -147,7 +147,7 @@ impl ReceivingEnd {
 
     /// Takes a frame in.
     pub(crate) fn receive(&mut self, frame: Stream, payload_len: usize) -> Result<Reply, PairError>
-        ensures { ReceivesFrame self.old frame.offset frame.bytes frame.fin result self.new }
+        ensures { ReceivesFrame self.old frame.offset frame.bytes frame.fin payload_len result self.new }
     {
         if self.is_freed {
             return Ok(Reply::Done);

@@ -5,14 +5,22 @@ use quic_wire::{Bytes, Dir, OutOfMemory, Side, StreamEvent, StreamId, VarInt};
 use std::alloc::Global;
 use std::test::Fail;
 
-fn config() -> Config {
+fn config(window: u32) -> Config {
     Config {
         max_remote_uni: VarInt::from(4),
         max_remote_bi: VarInt::from(4),
-        send_window: 1000,
-        receive_window: VarInt::from(1000),
-        stream_receive_window: VarInt::from(1000),
+        send_window: window as u64,
+        receive_window: VarInt::from(window),
+        stream_receive_window: VarInt::from(window),
     }
+}
+
+fn new_pair(alloc: Global, window: u32) -> Result<Pair, OutOfMemory> {
+    Pair::new(alloc, config(window), config(window))
+}
+
+fn answer(pair: &mut Pair, step: Step) -> Result<Reply, PairError> {
+    pair.step(step)
 }
 
 fn stream() -> StreamId {
@@ -49,23 +57,20 @@ const NUMBERS: [u8; 40] = [
 
 // A pair whose client opened its stream, wrote some bytes and finished.
 fn finished_pair(alloc: Global, content: &[u8]) -> Result<Pair, Fail> {
-    let mut pair = Pair::new(alloc, config(), config())?;
+    let mut pair = new_pair(alloc, 100_000)?;
     let who = End::A;
     let id = stream();
-    pair.step(Step::Open { who, dir: Dir::Uni })?;
-    pair.step(Step::Write {
-        who,
-        id,
-        bytes: bytes(alloc, content)?,
-    })?;
-    pair.step(Step::Finish { who, id })?;
+    answer(&mut pair, Step::Open { who, dir: Dir::Uni })?;
+    let bytes = bytes(alloc, content)?;
+    answer(&mut pair, Step::Write { who, id, bytes })?;
+    answer(&mut pair, Step::Finish { who, id })?;
     Ok(pair)
 }
 
 #[test]
 fn two_bytes_and_the_end_are_one_frame(rt: HostRuntime) -> Result<(), Fail> {
     let mut pair = finished_pair(rt.alloc(), b"hi")?;
-    pair.step(emit(100))?;
+    answer(&mut pair, emit(100))?;
     assert_eq!(rt; pair.payload(0), Some(b"\x0b\x02\x02\x68\x69".as_slice()));
     assert_eq!(rt; pair.payload(1), None);
     Ok(())
@@ -74,8 +79,8 @@ fn two_bytes_and_the_end_are_one_frame(rt: HostRuntime) -> Result<(), Fail> {
 #[test]
 fn forty_bytes_fill_a_payload_and_go_on_in_the_next(rt: HostRuntime) -> Result<(), Fail> {
     let mut pair = finished_pair(rt.alloc(), &NUMBERS)?;
-    pair.step(emit(30))?;
-    pair.step(emit(30))?;
+    answer(&mut pair, emit(30))?;
+    answer(&mut pair, emit(30))?;
     let Some(first) = pair.payload(0) else {
         return Err(Fail::from("no first payload"));
     };
@@ -198,10 +203,17 @@ fn replies_with_a_loss(alloc: Global) -> Result<Vec<Result<Reply, PairError>>, O
     Ok(replies)
 }
 
+fn replies_of(
+    pair: &mut Pair,
+    steps: Vec<Step>,
+) -> Result<Vec<Result<Reply, PairError>>, OutOfMemory> {
+    pair.run(steps)
+}
+
 #[test]
 fn a_lost_payload_is_sent_again_and_all_is_delivered(rt: HostRuntime) -> Result<(), Fail> {
-    let mut pair = Pair::new(rt.alloc(), config(), config())?;
-    let replies = pair.run(steps_with_a_loss(rt.alloc())?)?;
+    let mut pair = new_pair(rt.alloc(), 1000)?;
+    let replies = replies_of(&mut pair, steps_with_a_loss(rt.alloc())?)?;
     let wanted = replies_with_a_loss(rt.alloc())?;
     assert_eq!(rt; replies.len(), wanted.len());
     assert!(rt; replies == wanted, "{replies:?}");
@@ -210,11 +222,11 @@ fn a_lost_payload_is_sent_again_and_all_is_delivered(rt: HostRuntime) -> Result<
 
 #[test]
 fn each_step_alone_is_answered_as_in_a_run(rt: HostRuntime) -> Result<(), Fail> {
-    let mut pair = Pair::new(rt.alloc(), config(), config())?;
+    let mut pair = new_pair(rt.alloc(), 1000)?;
     let wanted = replies_with_a_loss(rt.alloc())?;
     let mut replies = Vec::new(rt.alloc());
     for step in steps_with_a_loss(rt.alloc())? {
-        replies.push(pair.step(step))?;
+        replies.push(answer(&mut pair, step))?;
     }
     assert!(rt; replies == wanted, "{replies:?}");
     Ok(())
@@ -232,6 +244,95 @@ fn each_error_has_its_number_and_its_text(rt: HostRuntime) -> Result<(), Fail> {
         let shown = format!(in rt.alloc(); "{error}")?;
         assert_eq!(rt; shown.as_str(), text);
         assert_eq!(rt; error.number(), number);
+    }
+    Ok(())
+}
+
+// Numbers that a seed gives, one after the other.
+#[derive(Drop)]
+struct Seeded(u64);
+
+impl Seeded {
+    fn next(&mut self) -> u64 {
+        self.0 = self
+            .0
+            .wrapping_mul(6364136223846793005)
+            .wrapping_add(1442695040888963407);
+        self.0 >> 33
+    }
+}
+
+fn seeded_bytes(alloc: Global, seeded: &mut Seeded, size: usize) -> Result<Vec<u8>, OutOfMemory> {
+    let mut content = Vec::with_capacity(alloc, size)?;
+    for _ in 0..size {
+        content.push((seeded.next() % 256) as u8)?;
+    }
+    Ok(content)
+}
+
+// Emits all that is left, and delivers and acknowledges each payload.
+fn carry(pair: &mut Pair, max_size: usize) -> Result<(), Fail> {
+    for number in 0..100_000 {
+        let Reply::Payload { bytes, .. } = answer(pair, emit(max_size))? else {
+            return Err(Fail::from("no payload"));
+        };
+        if bytes.is_empty() {
+            return Ok(());
+        }
+        let Reply::Done = answer(pair, deliver(number))? else {
+            return Err(Fail::from("not delivered"));
+        };
+        answer(pair, acknowledge(number))?;
+    }
+    Err(Fail::from("no end of payloads"))
+}
+
+// Reads all that is there, and the end.
+fn read_to_end(pair: &mut Pair, alloc: Global) -> Result<Vec<u8>, Fail> {
+    let who = End::B;
+    answer(pair, Step::Accept { who, dir: Dir::Uni })?;
+    let read = Step::Read {
+        who,
+        id: stream(),
+        ordered: true,
+        max: 1_000_000,
+        times: 1000,
+    };
+    let Reply::Read {
+        chunks,
+        last: Last::Ended,
+        ..
+    } = answer(pair, read)?
+    else {
+        return Err(Fail::from("no end of the stream"));
+    };
+    let mut content = Vec::new(alloc);
+    for chunk in &chunks {
+        content.extend_from_slice(chunk.bytes.as_slice())?;
+    }
+    Ok(content)
+}
+
+// With ample memory no size is refused: each power of two, and what lies beside it.
+#[test]
+fn bytes_of_every_size_come_across(rt: HostRuntime) -> Result<(), Fail> {
+    let alloc = rt.alloc();
+    let mut seeded = Seeded(7);
+    for power in [
+        1, 2, 4, 8, 16, 32, 64, 128, 256, 512, 1024, 2048, 4096, 8192, 16384, 32768, 65536,
+    ] {
+        for size in [power - 1, power, power + 1] {
+            let content = seeded_bytes(alloc, &mut seeded, size)?;
+            let mut pair = finished_pair(alloc, content.as_slice())?;
+            carry(&mut pair, 1200)?;
+            let read = read_to_end(&mut pair, alloc)?;
+            assert!(rt; read == content, "{size}");
+            let told = answer(&mut pair, Step::Poll { who: End::A })?;
+            assert!(rt;
+                told == Reply::Event(StreamEvent::Finished { id: stream() }),
+                "{size}"
+            );
+        }
     }
     Ok(())
 }

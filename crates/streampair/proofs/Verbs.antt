@@ -153,3 +153,26 @@ fifth f (p ∷ q ∷ []) z a b c d e h = cc
 fifth f (p ∷ q ∷ r ∷ []) z a b c d e h = cc
 fifth f (p ∷ q ∷ r ∷ s ∷ []) z a b c d e h = cc
 fifth f (p ∷ q ∷ r ∷ s ∷ t ∷ ts) z a b c d e h = cc
+
+-- no step has more than seven fields
+pub few_fields : (step : Step) → length (step_fields step) ≤ 7
+few_fields (steps.Open who dir) = omega arith
+few_fields (steps.Accept who dir) = omega arith
+few_fields (steps.Write who id bytes) = omega arith
+few_fields (steps.WriteChunks who id chunks) = omega arith
+few_fields (steps.Finish who id) = omega arith
+few_fields (steps.Reset who id code) = omega arith
+few_fields (steps.Stop who id code) = omega arith
+few_fields (steps.SetPriority who id priority) = omega arith
+few_fields (steps.Read who id ordered max times) = omega arith
+few_fields (steps.ReceivedReset who id) = omega arith
+few_fields (steps.SetSendWindow who window) = omega arith
+few_fields (steps.SetReceiveWindow who window) = omega arith
+few_fields (steps.SetMaxConcurrent who dir count) = omega arith
+few_fields (steps.Poll who) = omega arith
+few_fields (steps.Emit who max_size fair) = omega arith
+few_fields (steps.Deliver payload frame) = omega arith
+few_fields (steps.LoseStream payload index) = omega arith
+few_fields (steps.AckStream payload index) = omega arith
+few_fields (steps.LoseControl payload) = omega arith
+few_fields (steps.AckControl payload) = omega arith

@@ -1,13 +1,13 @@
 -- What a session answers to its lines, one line for each.
-use Rattle.std.specs.Prelude.{◌≡◌, ◌+◌, ◌<◌, ℕ, List, [], ◌∷◌, ◌++◌, length, Option, Ok, Err, codes}
+use Rattle.std.specs.Prelude.{◌≡◌, ◌+◌, ◌<◌, ℕ, List, [], ◌++◌, length, Option, Ok, Err, codes}
 use Rattle.std.specs.Fmt.{decimal}
 use Rattle.std.specs.Str.{IsAscii}
 use Rattle.std.specs.Io.BufRead.{first_piece, drop_through}
 use Rattle.std.specs.Io.KnownBytes.{Appends}
 use Rattle.quic_pair.specs.declared.steps.Config.{Config}
 use Rattle.quic_pair.specs.declared.steps.Step.{Step}
-use Rattle.quic_pair.specs.History.{History, Answer}
-use Rattle.quic_pair.specs.Steps.{World}
+use Rattle.quic_pair.specs.History.{Answer}
+use Rattle.quic_pair.specs.Steps.{World, Next}
 use Rattle.quic_pair.specs.From.{From}
 use Rattle.streampair.specs.declared.session.Session.{Session}
 use Rattle.streampair.specs.declared.session.Session.TheVariants.{Start, Configured, Running}
@@ -35,7 +35,7 @@ answer_line (Err error) = refusal_text error ++ codes "\n"
 -- the pair took a step, and this text is the reply to it
 pub record IsStep (old : World) (step : Step) (text : List ℕ) (new : World) : Type 0 where
   pub reply : Answer
-  pub goes_on : (a b : Config) (h : History) → From a b h old → From a b (h ++ (step, reply) ∷ []) new
+  pub next : Next old step reply new
   pub text_is : text ≡ answer_line reply
 
 -- that which the line means

@@ -1,4 +1,4 @@
-ghost use Rattle.std.specs.Prelude.{◌≡◌, ◌≤◌, ◌<◌, ◌^◌, ◌↔◌, ℕ, ℤ, Bool, FitsSigned, IsTrue, IfOk, IfErr, map, slice_index};
+ghost use Rattle.std.specs.Prelude.{◌≡◌, ◌≤◌, ◌<◌, ◌^◌, ◌↔◌, ℕ, ℤ, Bool, FitsSigned, IsTrue, IfOk, IfErr, length, map, slice_index};
 ghost use Rattle.std.specs.Int.{w32};
 ghost use Rattle.std.specs.Fmt.{decimal, signed_decimal};
 ghost use Rattle.std.specs.List.{join_with_byte};
@@ -52,9 +52,12 @@ impl<T: Drop> From<AllocFailed<T>> for LineError {
     }
 }
 
-// The fields of a line, which single spaces part.
+// A config has seven fields, and every step fewer.
+const MOST_FIELDS: usize = 7;
+
+// The fields of a line, which single spaces part. A line of more than any step has is not taken apart.
 pub fn fields_of<'a>(alloc: Global, line: &'a [u8]) -> Result<Vec<&'a str>, LineError>
-    ensures none { IfErr result (λ error. error ≡ LineError.Malformed → IsAscii line.now → ⊥) }
+    ensures none { IfErr result (λ error. error ≡ LineError.Malformed → IsAscii line.now → 7 < length (fields_of line.now)) }
     ensures ascii { IfOk result (λ fields. IsAscii line.now) }
     ensures fields { IfOk result (λ fields. map (λ field. field.now) fields.items ≡ fields_of line.now) }
 {
@@ -64,13 +67,21 @@ pub fn fields_of<'a>(alloc: Global, line: &'a [u8]) -> Result<Vec<&'a str>, Line
     let Ok(text) = str::from_utf8(line) else {
         return Err(LineError::Malformed);
     };
-    Ok(parts_of(alloc, text)?)
+    parts_of(alloc, text)
 }
 
-fn parts_of(alloc: Global, text: &str) -> Result<Vec<&str>, AllocError>
-    ensures { IfOk result (λ parts. map (λ part. part.now) parts.items ≡ fields_of text.now) }
+fn parts_of(alloc: Global, text: &str) -> Result<Vec<&str>, LineError>
+    ensures none { IfErr result (λ error. error ≡ LineError.Malformed → 7 < length (fields_of text.now)) }
+    ensures parts { IfOk result (λ parts. map (λ part. part.now) parts.items ≡ fields_of text.now) }
 {
-    text.split(' ').collect(alloc)
+    let mut parts = Vec::with_capacity(alloc, MOST_FIELDS)?;
+    for part in text.split(' ') {
+        if parts.len() == MOST_FIELDS {
+            return Err(LineError::Malformed);
+        }
+        parts.push(part)?;
+    }
+    Ok(parts)
 }
 
 fn begins_as_number(text: &[u8]) -> bool

@@ -1,5 +1,6 @@
 //! Whole sessions over memory.
 use crate::session::serve;
+use quic_wire::OutOfMemory;
 use std::alloc::Global;
 use std::io;
 use std::io::{Read, Write};
@@ -20,6 +21,20 @@ fn served(alloc: Global, input: &str) -> Result<(Vec<u8>, u8), Fail> {
     Ok((output, status))
 }
 
+// Serves a text, and looks at what is written and at the status.
+fn input_gives(
+    rt: &impl Abort,
+    alloc: Global,
+    input: &str,
+    wanted: &str,
+    status: u8,
+) -> Result<(), Fail> {
+    let (output, ended) = served(alloc, input)?;
+    assert_eq!(rt; output.as_slice(), wanted.as_bytes(), "{input:?}");
+    assert_eq!(rt; ended, status, "{input:?}");
+    Ok(())
+}
+
 // Serves the two configs and then some lines, and looks at what comes behind the two `ok`.
 fn session_gives(
     rt: &impl Abort,
@@ -32,50 +47,34 @@ fn session_gives(
     input.push_str(lines)?;
     let mut wanted = String::from_str(alloc, "ok\nok\n")?;
     wanted.push_str(replies)?;
-    let (output, ended) = served(alloc, input.as_str())?;
-    assert_eq!(rt; output.as_slice(), wanted.as_str().as_bytes(), "{lines:?}");
-    assert_eq!(rt; ended, status, "{lines:?}");
-    Ok(())
-}
-
-#[test]
-fn no_input_has_no_reply(rt: HostRuntime) -> Result<(), Fail> {
-    let (output, status) = served(rt.alloc(), "")?;
-    assert!(rt; output.is_empty());
-    assert_eq!(rt; status, 0);
-    Ok(())
-}
-
-#[test]
-fn one_config_line_is_answered(rt: HostRuntime) -> Result<(), Fail> {
-    let (output, status) = served(rt.alloc(), "config a 4 4 1000 1000 1000\n")?;
-    assert_eq!(rt; output.as_slice(), b"ok\n".as_slice());
-    assert_eq!(rt; status, 0);
-    Ok(())
-}
-
-// Serves a text, and looks at what is written.
-fn input_gives(rt: &impl Abort, alloc: Global, input: &str, wanted: &str) -> Result<(), Fail> {
-    let (output, _status) = served(alloc, input)?;
-    assert_eq!(rt; output.as_slice(), wanted.as_bytes(), "{input:?}");
-    Ok(())
+    input_gives(rt, alloc, input.as_str(), wanted.as_str(), status)
 }
 
 #[test]
 fn the_first_line_is_the_config_of_a(rt: HostRuntime) -> Result<(), Fail> {
+    input_gives(&rt, rt.alloc(), "", "", 0)?;
+    input_gives(&rt, rt.alloc(), "config a 4 4 1000 1000 1000\n", "ok\n", 0)?;
     input_gives(
         &rt,
         rt.alloc(),
         "config b 4 4 1000 1000 1000\n",
         "malformed 1\n",
+        2,
     )?;
-    input_gives(&rt, rt.alloc(), "open a uni\n", "malformed 1\n")?;
-    input_gives(&rt, rt.alloc(), "config a 4 4 1000 1000\n", "malformed 1\n")?;
+    input_gives(&rt, rt.alloc(), "open a uni\n", "malformed 1\n", 2)?;
+    input_gives(
+        &rt,
+        rt.alloc(),
+        "config a 4 4 1000 1000\n",
+        "malformed 1\n",
+        2,
+    )?;
     input_gives(
         &rt,
         rt.alloc(),
         "config a 4 4 1 1 1\nconfig a 4 4 1 1 1\n",
         "ok\nmalformed 2\n",
+        2,
     )
 }
 
@@ -86,24 +85,28 @@ fn the_numbers_of_a_config_have_limits(rt: HostRuntime) -> Result<(), Fail> {
         rt.alloc(),
         "config a 1152921504606846977 4 1 1 1\n",
         "malformed 1\n",
+        2,
     )?;
     input_gives(
         &rt,
         rt.alloc(),
         "config a 4 4 1 4611686018427387904 1\n",
         "malformed 1\n",
+        2,
     )?;
     input_gives(
         &rt,
         rt.alloc(),
         "config a 4 4 1 1 4611686018427387904\n",
         "malformed 1\n",
+        2,
     )?;
     input_gives(
         &rt,
         rt.alloc(),
         "config a 1152921504606846976 4 18446744073709551615 4611686018427387903 1\n",
         "ok\n",
+        0,
     )
 }
 
@@ -211,6 +214,137 @@ fn a_very_long_line_is_one_step(rt: HostRuntime) -> Result<(), Fail> {
     Ok(())
 }
 
+// A line of many fields is refused without room for each of them.
+#[test]
+fn a_line_of_a_million_spaces_is_malformed(rt: HostRuntime) -> Result<(), Fail> {
+    let mut line = String::with_capacity(rt.alloc(), 1_000_001)?;
+    for _ in 0..1_000_000 {
+        line.push_str(" ")?;
+    }
+    line.push_str("\n")?;
+    session_gives(&rt, rt.alloc(), line.as_str(), "malformed 3\n", 2)
+}
+
+#[test]
+fn a_session_of_five_thousand_lines_is_served(rt: HostRuntime) -> Result<(), Fail> {
+    let mut lines = String::new(rt.alloc());
+    let mut replies = String::new(rt.alloc());
+    for _ in 0..5000 {
+        lines.push_str("poll a\n")?;
+        replies.push_str("none\n")?;
+    }
+    session_gives(&rt, rt.alloc(), lines.as_str(), replies.as_str(), 0)
+}
+
+// Numbers that a seed gives, one after the other.
+#[derive(Drop)]
+struct Seeded(u64);
+
+impl Seeded {
+    fn next(&mut self) -> u64 {
+        self.0 = self
+            .0
+            .wrapping_mul(6364136223846793005)
+            .wrapping_add(1442695040888963407);
+        self.0 >> 33
+    }
+}
+
+fn seeded_field(alloc: Global, seeded: &mut Seeded, size: usize) -> Result<String, OutOfMemory> {
+    let mut field = String::new(alloc);
+    for _ in 0..size {
+        field.push_str(match seeded.next() % 4 {
+            0 => "00",
+            1 => "7f",
+            2 => "a5",
+            _ => "ff",
+        })?;
+    }
+    Ok(field)
+}
+
+// A number as a variable-length integer (RFC 9000 section 16), in hexadecimal.
+fn var_int_field(alloc: Global, number: usize) -> Result<String, OutOfMemory> {
+    if number < 64 {
+        return Ok(format!(in alloc; "{number:02x}")?);
+    }
+    if number < 16384 {
+        return Ok(format!(in alloc; "{:04x}", number + 0x4000)?);
+    }
+    Ok(format!(in alloc; "{:08x}", number % 0x4000_0000 + 0x8000_0000)?)
+}
+
+// One write goes across in one frame, is read and acknowledged.
+fn push_round(
+    alloc: Global,
+    lines: &mut String,
+    replies: &mut String,
+    number: usize,
+    offset: usize,
+    field: &str,
+) -> Result<(), OutOfMemory> {
+    let size = field.len() / 2;
+    let start = var_int_field(alloc, offset)?;
+    let length = var_int_field(alloc, size)?;
+    let head = if offset == 0 {
+        format!(in alloc; "0a02{length}")?
+    } else {
+        format!(in alloc; "0e02{start}{length}")?
+    };
+    write!(
+        lines,
+        "write a 2 {field}\nemit a 100000 f\ndeliver {number} 0\n"
+    )?;
+    write!(
+        replies,
+        "wrote {size}\npayload {number} {head}{field}\nok\n"
+    )?;
+    write!(
+        lines,
+        "read b 2 o 100000 1\nack-stream {number} 0\npoll a\n"
+    )?;
+    write!(replies, "{offset}:{field} more quiet\nok\nnone\n")?;
+    Ok(())
+}
+
+const SIZES: [usize; 17] = [
+    1, 2, 4, 8, 16, 32, 64, 128, 256, 512, 1024, 2048, 4096, 8192, 16384, 32768, 65536,
+];
+
+// With ample memory nothing is refused: each power of two, and what lies beside it.
+#[test]
+fn a_session_of_a_thousand_lines_is_served(rt: HostRuntime) -> Result<(), Fail> {
+    let alloc = rt.alloc();
+    let windows = "4 4 18446744073709551615 4611686018427387903 4611686018427387903";
+    let mut lines = format!(in alloc; "config a {windows}\nconfig b {windows}\nopen a uni\n")?;
+    let mut replies = String::from_str(alloc, "ok\nok\nid 2\n")?;
+    lines.push_str("write a 2 -\nemit a 100 f\ndeliver 0 0\naccept b uni\n")?;
+    replies.push_str("wrote 0\npayload 0 0a0200\nok\nid 2\n")?;
+    let mut seeded = Seeded(7);
+    let mut number: usize = 1;
+    let mut offset: usize = 0;
+    for round in 0..10 {
+        for power in SIZES {
+            let size = power.saturating_add(round % 3).saturating_sub(1);
+            let field = seeded_field(alloc, &mut seeded, size.max(1))?;
+            push_round(
+                alloc,
+                &mut lines,
+                &mut replies,
+                number,
+                offset,
+                field.as_str(),
+            )?;
+            number = number.saturating_add(1);
+            offset = offset.saturating_add(field.len() / 2);
+        }
+    }
+    let (output, status) = served(alloc, lines.as_str())?;
+    assert!(rt; output.as_slice() == replies.as_str().as_bytes());
+    assert_eq!(rt; status, 0);
+    Ok(())
+}
+
 #[test]
 fn limits_block_and_a_finished_stream_is_closed(rt: HostRuntime) -> Result<(), Fail> {
     let lines = "config a 1 0 1000 1 1\nconfig b 1 0 1 4 3\nopen a uni\nwrite a 2 0001020304\n\
@@ -263,6 +397,29 @@ impl Write for BrokenWriter {
     fn flush(&mut self) -> io::Result<()> {
         Ok(())
     }
+}
+
+// Takes every byte, and fails to hand them on.
+#[derive(Drop)]
+struct StuckWriter;
+
+impl Write for StuckWriter {
+    fn write(&mut self, buf: &[u8]) -> io::Result<usize> {
+        Ok(buf.len())
+    }
+
+    fn flush(&mut self) -> io::Result<()> {
+        Err(io::Error::from(io::ErrorKind::BrokenPipe))
+    }
+}
+
+#[test]
+fn a_flush_that_fails_is_no_success(rt: HostRuntime) -> Result<(), Fail> {
+    for input in ["", CONFIGS, "config a 4 4 1 1 1\n"] {
+        let status = status_of(rt.alloc(), input.as_bytes(), StuckWriter);
+        assert_eq!(rt; status, 1, "{input:?}");
+    }
+    Ok(())
 }
 
 #[test]

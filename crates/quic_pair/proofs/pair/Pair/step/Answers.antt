@@ -1,5 +1,4 @@
 use Rattle.quic_pair.specs.From.{next}
-use Rattle.quic_pair.proofs.Histories.{Fits-from}
 use Rattle.quic_pair.proofs.Headlines.{Headline-from}
 use Rattle.quic_pair.proofs.Refused.{refused_so}
 use Rattle.quic_pair.proofs.Bounds.{permitted_so}
@@ -12,7 +11,7 @@ pub returns-clause-headline : goal.returns-clause-headline
 returns-clause-headline c = λ a b h p. Headline-from _ _ (next c.args.step c.dispatch.result p c.dispatch.ensures)
 
 pub returns-clause-refused : goal.returns-clause-refused
-returns-clause-refused c = λ a b h p. refused_so _ _ c.args.step c.dispatch.result _ (Fits-from p) c.dispatch.ensures
+returns-clause-refused c = λ a b h p. refused_so c.args.step c.dispatch.result _ p c.dispatch.ensures
 
 pub returns-clause-permitted : goal.returns-clause-permitted
 returns-clause-permitted c = λ a b h p. permitted_so c.args.step c.dispatch.result _ p c.dispatch.ensures
