@@ -28,20 +28,6 @@ fn lose(buffer: &mut SendBuffer, start: u64, end: u64) -> Result<(), OutOfMemory
     Ok(())
 }
 
-// Sends all that is to be sent, and answers in how many ranges and bytes.
-fn send(buffer: &mut SendBuffer) -> Result<(u64, u64), OutOfMemory> {
-    let (mut ranges, mut bytes) = (0u64, 0u64);
-    for _ in 0..u64::MAX {
-        if !buffer.has_unsent_data() {
-            break;
-        }
-        let (range, _) = buffer.poll_transmit(1 << 20)?;
-        ranges = ranges.wrapping_add(1);
-        bytes = bytes.wrapping_add(range.end.wrapping_sub(range.start));
-    }
-    Ok((ranges, bytes))
-}
-
 // The first size that is no longer looked at: above 2^16.
 const SIZES: u64 = (1 << 16) + 2;
 
@@ -62,7 +48,7 @@ fn ample_memory_suffices_for_many_pieces(rt: HostRuntime) -> Result<(), Fail> {
 }
 
 // Of each two bytes the second is acknowledged and the first lost, in a mixed order, so that the sets pass through
-// every size. What is lost is sent again.
+// every size.
 fn exchange(rt: &impl Abort, buffer: &mut SendBuffer) -> Result<(), OutOfMemory> {
     let mask = SIZES.next_power_of_two().wrapping_sub(1);
     let mut place = SEED & mask;
@@ -75,7 +61,7 @@ fn exchange(rt: &impl Abort, buffer: &mut SendBuffer) -> Result<(), OutOfMemory>
         place = place.wrapping_add(SEED) & mask;
     }
     assert_eq!(rt; buffer.acked_prefix(), 0);
-    assert_eq!(rt; send(buffer)?, (SIZES, SIZES));
+    assert_eq!(rt; buffer.next_transmit(1 << 20), (0..1, true));
     ack(buffer, 0, SIZES.wrapping_mul(2))?;
     assert_eq!(rt; (buffer.is_fully_acked(), buffer.buffered()), (true, 0));
     Ok(())
@@ -87,7 +73,7 @@ fn ample_memory_suffices_for_many_ranges(rt: HostRuntime) -> Result<(), Fail> {
     let mut buffer = SendBuffer::new(rt.alloc());
     let bytes = vec![in rt.alloc(); 0u8; 2 * SIZES as usize]?;
     write(rt.alloc(), &mut buffer, &bytes)?;
-    assert_eq!(rt; send(&mut buffer)?, (1, 2 * SIZES));
+    assert_eq!(rt; buffer.poll_transmit(1 << 20)?, (0..2 * SIZES, true));
     exchange(&rt, &mut buffer)?;
     Ok(())
 }
