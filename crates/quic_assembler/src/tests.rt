@@ -1,3 +1,5 @@
+ghost use Rattle.std.specs.Prelude.{◌≡◌, IfOk};
+
 use crate::{Assembler, Chunk, EnsureError, InsertError, Op, ReplayError, replay};
 use quic_values::{Bytes, OutOfMemory};
 use std::alloc::Global;
@@ -37,6 +39,15 @@ enum Step {
     Is(usize, u64),
 }
 
+fn piece(alloc: Global, bytes: &[u8]) -> Result<Bytes, OutOfMemory>
+    ensures { IfOk result (λ piece. piece ≡ bytes.now) }
+{
+    match Bytes::copy_from_slice(alloc, bytes) {
+        Ok(piece) => Ok(piece),
+        Err(_) => Bytes::copy_from_slice(alloc, bytes),
+    }
+}
+
 // Inserts a text. With no memory nothing is changed, and it is inserted again; with none for compaction it is held.
 fn insert(
     rt: &impl Abort,
@@ -49,13 +60,13 @@ fn insert(
     assert!(rt; offset < 1 << 61 && bytes.len() < 1 << 61 && bytes.len() <= allocation_size);
     let pieces = a.pieces();
     let read = a.bytes_read();
-    let first = Bytes::copy_from_slice(alloc, bytes)?;
+    let first = piece(alloc, bytes)?;
     let answer = a.insert(offset, first, allocation_size);
     assert_eq!(rt; a.bytes_read(), read);
     match answer {
         Err(InsertError::OutOfMemory) => {
             assert_eq!(rt; a.pieces(), pieces);
-            let second = Bytes::copy_from_slice(alloc, bytes)?;
+            let second = piece(alloc, bytes)?;
             Ok(a.insert(offset, second, allocation_size))
         }
         Err(InsertError::CompactionMemory) => {
