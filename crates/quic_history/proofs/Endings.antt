@@ -100,10 +100,13 @@ given_read t ordered old new most (Ok (Some chunk)) x running s g =
     let d : IsData t.kept (slices t.given) old.buffer = x.holds (sym x.stopped ∙ running) (sym x.reset ∙ s.0) in
     record {
       came = λ at byte h. elim h [ inl k ↦ d.held at byte (s.1.gives.given at byte k) | inr k ↦ g.came at byte k ];
-      once = (λ at l. not_false (is_in_slices (slices t.given) at)
-          (λ k. let w = lies_within chunk.offset (length chunk.bytes) at l in
-          let byte : ℕ = slice_index chunk.bytes (at - chunk.offset) in
-          d.once at k (byte, s.1.gives.given at byte (w.0, w.1, refl))), g.once);
+      once = (
+        λ at l. not_false (is_in_slices (slices t.given) at)
+            (λ k. let w = lies_within chunk.offset (length chunk.bytes) at l in
+            let byte : ℕ = slice_index chunk.bytes (at - chunk.offset) in
+            d.once at k (byte, s.1.gives.given at byte (w.0, w.1, refl))),
+        g.once,
+      );
     }
 given_read t ordered old new most (Ok None) x running s g = record { came = g.came; once = g.once }
 given_read t ordered old new most (Err read_error.Blocked) x running s g = g

@@ -312,14 +312,34 @@ fn pass(rt: &impl Abort, alloc: Global, count: u32) -> Result<(), OutOfMemory> {
     let many = numbers(alloc, 3, count)?;
     let mut set = filled(alloc, few.as_slice())?;
     merge(&mut set, filled(alloc, many.as_slice())?)?;
-    assert_eq!(rt; set.new_tokens.len(), count as usize + 3, "{count} behind 3");
-    assert_eq!(rt; set.max_stream_data.len(), count as usize + 3, "{count} behind 3");
+    assert_eq!(rt;
+        set.new_tokens.len(),
+        count as usize + 3,
+        "{count} behind 3"
+    );
+    assert_eq!(rt;
+        set.max_stream_data.len(),
+        count as usize + 3,
+        "{count} behind 3"
+    );
     let mut set = filled(alloc, many.as_slice())?;
     merge(&mut set, filled(alloc, few.as_slice())?)?;
     let set = copy(&set)?;
-    assert_eq!(rt; set.new_tokens.len(), count as usize + 3, "3 behind {count}");
-    assert_eq!(rt; set.new_tokens.last().copied(), Some(address(2)), "3 behind {count}");
-    assert_eq!(rt; set.crypto.front().map(|frame| frame.offset), Some(0), "3 before {count}");
+    assert_eq!(rt;
+        set.new_tokens.len(),
+        count as usize + 3,
+        "3 behind {count}"
+    );
+    assert_eq!(rt;
+        set.new_tokens.last().copied(),
+        Some(address(2)),
+        "3 behind {count}"
+    );
+    assert_eq!(rt;
+        set.crypto.front().map(|frame| frame.offset),
+        Some(0),
+        "3 before {count}"
+    );
     Ok(())
 }
 

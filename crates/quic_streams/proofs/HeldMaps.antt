@@ -31,4 +31,3 @@ held-put w g f id v h = λ i. λ q. (ap (entry_half w) (h q) ∙ put-at w (id ==
 pub on_err : {T E P : Type 0} (r : Result T E) → P → OnErr r P
 on_err (Ok x) p = tt
 on_err (Err e) p = p
-

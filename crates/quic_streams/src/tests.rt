@@ -312,8 +312,9 @@ fn read_some(
     most: usize,
     times: u16,
 ) -> Result<ReadSome, ReadableError> {
-    RecvStream::new(id(stream), &mut subject.state, &mut subject.pending)
-        .read_some(ordered, most, times)
+    RecvStream::new(id(stream), &mut subject.state, &mut subject.pending).read_some(
+        ordered, most, times,
+    )
 }
 
 fn last_in_one(last: LastAnswer) -> Last {
@@ -346,7 +347,11 @@ fn read_in_one(
                 assert_eq!(rt; chunk.bytes.as_slice(), expected.as_slice());
                 bytes = bytes.saturating_add(chunk.bytes.len());
             }
-            Given(bytes, last_in_one(read.last), read.transmit.should_transmit())
+            Given(
+                bytes,
+                last_in_one(read.last),
+                read.transmit.should_transmit(),
+            )
         }
         Err(error) => Given(0, refusal_of(error), false),
     };
