@@ -1,12 +1,12 @@
 -- Each call keeps what a history says.
-use Rattle.std.proofs.Common.{◌≡◌, ℕ, false, true, Bool, refl, ◌∙◌, List, ◌∷◌, Option, Result}
+use Rattle.std.proofs.Common.{◌≡◌, ℕ, false, true, Bool, refl, ◌∙◌, List, [], ◌∷◌, Option, Result}
 use Rattle.quic_assembler.specs.declared.chunk.Chunk.{Chunk}
 use Rattle.quic_receiving.specs.declared.errors.ReadError.{ReadError}
 use Rattle.quic_history.specs.declared.progress.Progress.{Progress}
 use Rattle.quic_history.specs.declared.progress.Progress.TheVariants as progress
 use Rattle.quic_history.specs.Reading.{is_ended, ReadsHalf}
 use Rattle.quic_history.specs.World.{World, Made, count_of, remote_of}
-use Rattle.quic_history.specs.History.{Event, Received, ReceivedReset, AddedCredits, Began, Gave, Ended, Stopped, ToldReset, Step, Fits, Facts, From, with_next, before, is_freed, trace, consumed, debt, received}
+use Rattle.quic_history.specs.History.{Event, Received, ReceivedReset, AddedCredits, Began, Gave, Ended, Stopped, ToldReset, Step, Fits, Facts, From, IsRun, PermitsNow, EverPermits, with_next, before, is_freed, trace, consumed, debt, received}
 use Rattle.quic_history.proofs.Credits.{credit-credited}
 use Rattle.quic_history.proofs.Endings.{kept-told-of, tells-ends}
 use Rattle.quic_history.proofs.Remotes.{rebased}
@@ -29,6 +29,10 @@ kept window h u (Ended id count) v f s = kept-ended window h u v id count f s
 kept window h u (Stopped id code answer) v f s = kept-stopped window h u v id code answer s.0 s.1 f s.2
 kept window h u (ToldReset id answer) v f s = kept-told window h u v id answer s.0 s.1 f s.2
 
+permits-now : (m : Made) (h : List Event) (v : World) (run : IsRun m h v) → EverPermits m h v run → PermitsNow m h v run
+permits-now m [] v run p = p
+permits-now m (e ∷ h) v run p = p.0
+
 -- an end that may come from a history may come, after a call, from the history with that call
 pub next : (m : Made) (h : List Event) (u : World) (e : Event) (v : World) → Fits h e → From m h u → Step u e v → From m (e ∷ h) v
 next m h u e v fits f s =
@@ -44,8 +48,8 @@ next m h u e v fits f s =
       given = λ q. (told q).1;
       ends = λ q. (told q).0;
       tells = tells-ends window (e ∷ h) v facts;
-      remotes = kept-remotes window (count_of m) (λ d. (remote_of u d).max_remote) h u e v f.facts
-          (λ d. rebased (count_of m d) (before m h u f.run d) (is_freed (trace h) u.side u.sends d) (remote_of u d) (f.remotes d)) s;
+      remotes = (kept-remotes window (count_of m) (λ d. (remote_of u d).max_remote) h u e v f.facts
+          (λ d. rebased (count_of m d) (before m h u f.run d) (is_freed (trace h) u.side u.sends d) (remote_of u d) (permits-now m h u f.run f.remotes d)) s, f.remotes);
     }
 
 -- the same for an answer of a reader that may go on

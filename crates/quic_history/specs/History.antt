@@ -376,6 +376,15 @@ abbrev pub before : (m : Made) (h : List Event) (v : World) → IsRun m h v → 
 before m [] v run d = 0
 before m (e ∷ h) v run d = (remote_of run.0 d).max_remote
 
+-- how many streams the peer may open, now
+abbrev pub PermitsNow : (m : Made) (h : List Event) (v : World) → IsRun m h v → Type 0
+PermitsNow m h v run = (d : Dir) → RemoteFrom (count_of m d) (before m h v run d) (is_freed (trace h) v.side v.sends d) (remote_of v d)
+
+-- and so after each call
+abbrev pub EverPermits : (m : Made) (h : List Event) (v : World) → IsRun m h v → Type 0
+EverPermits m [] v run = PermitsNow m [] v run
+EverPermits m (e ∷ h) v run = PermitsNow m (e ∷ h) v run × EverPermits m h run.0 run.1
+
 -- an end may come from what it was made with, and from a history
 pub record From (m : Made) (h : List Event) (v : World) : Type 0 where
   pub run : IsRun m h v
@@ -385,4 +394,4 @@ pub record From (m : Made) (h : List Event) (v : World) : Type 0 where
   pub given : (q : ℕ) → GivenSo (trace h q)
   pub ends : (q : ℕ) → EndsSo (trace h q)
   pub tells : TellsEnds h v
-  pub remotes : (d : Dir) → RemoteFrom (count_of m d) (before m h v run d) (is_freed (trace h) v.side v.sends d) (remote_of v d)
+  pub remotes : EverPermits m h v run
