@@ -48,8 +48,11 @@ next m h u e v fits f s =
       given = λ q. (told q).1;
       ends = λ q. (told q).0;
       tells = tells-ends window (e ∷ h) v facts;
-      remotes = (kept-remotes window (count_of m) (λ d. (remote_of u d).max_remote) h u e v f.facts
-          (λ d. rebased (count_of m d) (before m h u f.run d) (is_freed (trace h) u.side u.sends d) (remote_of u d) (permits-now m h u f.run f.remotes d)) s, f.remotes);
+      remotes = (
+        kept-remotes window (count_of m) (λ d. (remote_of u d).max_remote) h u e v f.facts
+            (λ d. rebased (count_of m d) (before m h u f.run d) (is_freed (trace h) u.side u.sends d) (remote_of u d) (permits-now m h u f.run f.remotes d)) s,
+        f.remotes,
+      );
     }
 
 -- the same for an answer of a reader that may go on
