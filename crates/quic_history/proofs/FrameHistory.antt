@@ -13,7 +13,7 @@ use Rattle.quic_receiving.specs.declared.transmit.ShouldTransmit.{ShouldTransmit
 use Rattle.quic_values.specs.Ids.{index_of}
 use Rattle.quic_history.specs.World.{World, id_refusal, is_own, with_receive, with_credit, advanced, noticed, with_freed}
 use Rattle.quic_history.specs.Receiving.{IsDropped, Receives, after_data}
-use Rattle.quic_history.specs.History.{Event, Received, Trace, HalfFrom, StreamFrom, CreditFrom, Facts, slices, trace, is_closed, is_kept, consumed, consumed_by, debt, received}
+use Rattle.quic_history.specs.History.{Event, Received, Trace, HalfFrom, StreamFrom, CreditFrom, Facts, slices, trace, is_closed, is_kept, consumed, consumed_by, last_window, debt, received}
 use Rattle.quic_history.proofs.WorldSteps.{credit-with_receive, refusal-advanced, with_receive-back, with_counted-none}
 use Rattle.quic_history.proofs.Refusals.{refusal_by, refusal-is}
 use Rattle.quic_history.proofs.Totals.{by_cases, same}
@@ -189,9 +189,9 @@ module _ (window : ℕ) (h : List Event) (u : World) (id offset : ℕ) (bytes : 
       let b = grows.high in
       omega arith
 
-  counted-credit : CreditFrom window (consumed h) (debt h) (received (e ∷ h)) w.credit
+  counted-credit : CreditFrom (last_window window h) (consumed h) (debt window h) (received (e ∷ h)) w.credit
   counted-credit = rw (credit-with_receive u id (Some new))
-      (credit-counted window (consumed h) (debt h) (received h) (new.end - old.end) (received (e ∷ h)) u.credit f.credit came (let b = grows.high in let fits = passed.fits in omega arith))
+      (credit-counted (last_window window h) (consumed h) (debt window h) (received h) (new.end - old.end) (received (e ∷ h)) u.credit f.credit came (let b = grows.high in let fits = passed.fits in omega arith))
 
   used : (n : ℕ) → (if t.stopped then end - t.high else 0) ≡ n → consumed_by h e ≡ n
   used n is = rw (kept, open-trace t old was running) is
@@ -202,7 +202,7 @@ module _ (window : ℕ) (h : List Event) (u : World) (id offset : ℕ) (bytes : 
       let stopped : t.stopped ≡ false = sym was.stopped ∙ s in
       let none : consumed_by h e ≡ 0 = used 0 (rw stopped refl) in
       record {
-        credit = credit-same window (consumed h) (debt h) (received (e ∷ h)) (consumed (e ∷ h)) (debt (e ∷ h)) (received (e ∷ h)) w.credit (omega arith) (omega arith) refl counted-credit;
+        credit = credit-same (last_window window h) (consumed h) (debt window h) (received (e ∷ h)) (consumed (e ∷ h)) (debt window (e ∷ h)) (received (e ∷ h)) w.credit (omega arith) (omega arith) refl counted-credit;
         streams = put (ap (λ k. k.gone) here ∙ ap (λ b. b && fin) stopped);
       }
 
@@ -227,8 +227,8 @@ module _ (window : ℕ) (h : List Event) (u : World) (id offset : ℕ) (bytes : 
       let some : consumed_by h e ≡ count = used count (rw stopped (omega arith)) in
       let known_now : id_refusal w id ≡ None = refusal-advanced u id id old new ∙ known in
       record {
-        credit = rw (credit_freed fin) (credit-same window (consumed h + count) (debt h - count) (received (e ∷ h)) (consumed (e ∷ h)) (debt (e ∷ h)) (received (e ∷ h)) _
-            (omega arith) (omega arith) refl (credit-credited window (consumed h) (debt h) (received (e ∷ h)) count w.credit counted-credit));
+        credit = rw (credit_freed fin) (credit-same (last_window window h) (consumed h + count) (debt window h - count) (received (e ∷ h)) (consumed (e ∷ h)) (debt window (e ∷ h)) (received (e ∷ h)) _
+            (omega arith) (omega arith) refl (credit-credited (last_window window h) (consumed h) (debt window h) (received (e ∷ h)) count w.credit counted-credit));
         streams = when g (with_freed w id) w fin
             (λ c. all-freed g w id but known_now (ap (λ k. k.gone) here ∙ and_both t.stopped fin stopped c))
             (λ c. put (ap (λ k. k.gone) here ∙ and_none t.stopped fin c));
@@ -271,7 +271,7 @@ module _ (window : ℕ) (h : List Event) (u : World) (id offset : ℕ) (bytes : 
       let high : (g0 id).high ≡ (trace h id).high = ap (λ k. k.high) (untold id) in
       let none = unused in
       record {
-        credit = credit-same window (consumed h) (debt h) (received h) (consumed (e0 ∷ h)) (debt (e0 ∷ h)) (received (e0 ∷ h)) u.credit (omega arith) (omega arith) (omega arith) f.credit;
+        credit = credit-same (last_window window h) (consumed h) (debt window h) (received h) (consumed (e0 ∷ h)) (debt window (e0 ∷ h)) (received (e0 ∷ h)) u.credit (omega arith) (omega arith) (omega arith) f.credit;
         streams = all-told (trace h) g0 u untold f.streams;
       }
 

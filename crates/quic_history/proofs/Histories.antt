@@ -1,13 +1,16 @@
 -- Each call keeps what a history says.
-use Rattle.std.proofs.Common.{◌≡◌, ℕ, false, true, Bool, refl, ◌∙◌, List, [], ◌∷◌, Option, Result}
+use Rattle.std.proofs.Common.{◌≡◌, ℕ, false, true, Bool, refl, ◌∙◌, List, [], ◌∷◌, Option, Result, Ok, Err, arith, ◌+◌, ◌-◌, ◌^◌}
+use Rattle.std.specs.Prelude.{min}
 use Rattle.quic_assembler.specs.declared.chunk.Chunk.{Chunk}
 use Rattle.quic_receiving.specs.declared.errors.ReadError.{ReadError}
 use Rattle.quic_history.specs.declared.progress.Progress.{Progress}
 use Rattle.quic_history.specs.declared.progress.Progress.TheVariants as progress
 use Rattle.quic_history.specs.Reading.{is_ended, ReadsHalf}
 use Rattle.quic_history.specs.World.{World, Made, count_of, remote_of}
-use Rattle.quic_history.specs.History.{Event, Received, ReceivedReset, AddedCredits, Began, Gave, Ended, Stopped, ToldReset, Step, Fits, Facts, From, IsRun, PermitsNow, EverPermits, with_next, before, is_freed, trace, consumed, debt, received}
-use Rattle.quic_history.proofs.Credits.{credit-credited}
+use Rattle.quic_history.specs.History.{Event, Received, ReceivedReset, AddedCredits, Began, Gave, Ended, Stopped, ToldReset, Resized, SetConcurrent, Accepted, Step, Fits, Facts, From, IsRun, PermitsNow, EverPermits, with_next, before, counts, is_freed, trace, consumed, last_window, debt, received}
+use Rattle.quic_history.proofs.Credits.{credit-credited, credit-resized, credit-same, limit-fits}
+use Rattle.quic_history.proofs.Permits.{all-concurrent, all-accepted, credit-concurrent, credit-accepted}
+use Rattle.quic_limits.specs.Credit.{resized}
 use Rattle.quic_history.proofs.Endings.{kept-told-of, tells-ends}
 use Rattle.quic_history.proofs.Remotes.{rebased}
 use Rattle.quic_history.proofs.RemoteHistory.{kept-remotes}
@@ -20,7 +23,7 @@ kept : (window : ℕ) (h : List Event) (u : World) (e : Event) (v : World) → F
 kept window h u (Received id offset bytes fin answer) v f s = kept-received window h u v id offset bytes fin answer f s
 kept window h u (ReceivedReset id code final answer) v f s = kept-reset window h u v id code final answer f s
 kept window h u (AddedCredits count answer) v f s = rw s.0 (record {
-  credit = credit-credited window (consumed h) (debt h) (received h) count u.credit f.credit;
+  credit = credit-credited (last_window window h) (consumed h) (debt window h) (received h) count u.credit f.credit;
   streams = f.streams;
 })
 kept window h u (Began id ordered answer) v f s = kept-began window h u v id ordered answer f s
@@ -28,6 +31,23 @@ kept window h u (Gave id most ordered answer) v f s = kept-gave window h u v id 
 kept window h u (Ended id count) v f s = kept-ended window h u v id count f s
 kept window h u (Stopped id code answer) v f s = kept-stopped window h u v id code answer s.0 s.1 f s.2
 kept window h u (ToldReset id answer) v f s = kept-told window h u v id answer s.0 s.1 f s.2
+kept window h u (Resized size answer) v f s = rw s.0 (record {
+  credit = credit-same size (consumed h) (min (debt window h + (last_window window h - size)) (2 ^ 64 - 1)) (received h) _ _ _ (resized u.credit size) (omega arith) (omega arith) refl
+      (credit-resized (last_window window h) (consumed h) (debt window h) (received h) size u.credit f.credit);
+  streams = f.streams;
+})
+kept window h u (SetConcurrent dir count (Ok k)) v f s = rw s (record {
+  credit = rw (credit-concurrent u dir count) (credit-same (last_window window h) (consumed h) (debt window h) (received h) _ _ _ u.credit (omega arith) (omega arith) refl f.credit);
+  streams = all-concurrent (trace h) u dir count f.streams;
+})
+kept window h u (SetConcurrent dir count (Err k)) v f s = rw s (record {
+  credit = credit-same (last_window window h) (consumed h) (debt window h) (received h) _ _ _ u.credit (omega arith) (omega arith) refl f.credit;
+  streams = f.streams;
+})
+kept window h u (Accepted dir answer) v f s = rw s.0 (record {
+  credit = rw (credit-accepted u dir) (credit-same (last_window window h) (consumed h) (debt window h) (received h) _ _ _ u.credit (omega arith) (omega arith) refl f.credit);
+  streams = all-accepted (trace h) u dir f.streams;
+})
 
 permits-now : (m : Made) (h : List Event) (v : World) (run : IsRun m h v) → EverPermits m h v run → PermitsNow m h v run
 permits-now m [] v run p = p
@@ -37,7 +57,7 @@ permits-now m (e ∷ h) v run p = p.0
 pub next : (m : Made) (h : List Event) (u : World) (e : Event) (v : World) → Fits h e → From m h u → Step u e v → From m (e ∷ h) v
 next m h u e v fits f s =
     let window : ℕ = m.receive_window in
-    let went = goes h u e v f.facts.credit.limit_fits s in
+    let went = goes h u e v (limit-fits _ _ _ _ u.credit f.facts.credit) s in
     let facts = kept window h u e v f.facts s in
     let told = kept-told-of window h u e v f.facts s (λ q. (f.ends q, f.given q)) in
     record {
@@ -49,8 +69,8 @@ next m h u e v fits f s =
       ends = λ q. (told q).0;
       tells = tells-ends window (e ∷ h) v facts;
       remotes = (
-        kept-remotes window (count_of m) (λ d. (remote_of u d).max_remote) h u e v f.facts
-            (λ d. rebased (count_of m d) (before m h u f.run d) (is_freed (trace h) u.side u.sends d) (remote_of u d) (permits-now m h u f.run f.remotes d)) s,
+        kept-remotes window (counts (count_of m) h) h u e v f.facts
+            (λ d. rebased (counts (count_of m) h d) (before m h u f.run d) (is_freed (trace h) u.side u.sends d) (remote_of u d) (permits-now m h u f.run f.remotes d)) s,
         f.remotes,
       );
     }

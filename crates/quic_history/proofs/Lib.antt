@@ -8,6 +8,7 @@ pub mod FrameSteps
 pub mod HalfMaps
 pub mod Histories
 pub mod Limits
+pub mod Permits
 pub mod ReadHistory
 pub mod ReadingSteps
 pub mod Refusals

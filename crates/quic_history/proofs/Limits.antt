@@ -1,6 +1,6 @@
 -- What every call leaves, and that the limit of a connection does not fall.
 use Rattle.std.proofs.Common.{◌≡◌, ℕ, Bool, true, false, List, Option, Some, None, is_some, Result, Ok, Err, refl, sym, subst, ap, ◌∙◌, inl, inr, arith, ◌-◌, ◌≤◌, ◌<◌, ◌^◌}
-use Rattle.std.specs.Prelude.{not, if◌then◌else◌, ◌==◌}
+use Rattle.std.specs.Prelude.{not, min, nat_lt, ◌+◌, if◌then◌else◌, ◌==◌}
 use Rattle.quic_values.specs.declared.ids.Side.{Side}
 use Rattle.quic_assembler.specs.declared.chunk.Chunk.{Chunk}
 use Rattle.quic_wire.specs.declared.error.ReceiveError.{ReceiveError}
@@ -14,21 +14,25 @@ use Rattle.quic_receiving.specs.declared.errors.ReadableError.TheVariants as rea
 use Rattle.quic_receiving.specs.declared.errors.HandleError.{HandleError}
 use Rattle.quic_receiving.specs.declared.errors.HandleError.TheVariants as handle_error
 use Rattle.quic_retransmits.specs.Pending.{Pending}
-use Rattle.quic_history.specs.World.{World, with_receive, with_credit, advanced, noticed, with_freed}
+use Rattle.quic_history.specs.World.{World, with_receive, with_credit, with_receive_window, remote_of, advanced, noticed, with_freed}
 use Rattle.quic_history.specs.Receiving.{Receives, ReceivesReset, after_data, after_reset, credited_to}
 use Rattle.quic_history.specs.Reading.{Begins, Stops, TellsReset, after_read, after_stop}
-use Rattle.quic_history.specs.History.{Event, Received, ReceivedReset, AddedCredits, Began, Gave, Ended, Stopped, ToldReset, Step, Goes}
-use Rattle.quic_history.proofs.StreamSteps.{Steady, steady, steady-put, steady-noticed, steady-freed}
+use Rattle.quic_history.specs.History.{Event, Received, ReceivedReset, AddedCredits, Began, Gave, Ended, Stopped, ToldReset, Resized, SetConcurrent, Accepted, Step, Goes}
+use Rattle.quic_history.specs.Permitting.{after_concurrent, with_accepted}
+use Rattle.quic_history.proofs.Permits.{steady-concurrent}
+use Rattle.quic_limits.specs.Credit.{Credit, resized}
+use Rattle.quic_limits.specs.Remote.{one_accepted}
+use Rattle.std.proofs.lemmas.Bool.Decides.{nat_tests}
+use Rattle.quic_history.proofs.StreamSteps.{Steady, steady, steady-put, steady-noticed, steady-freed, steady-remote}
 
 -- what no call but credit changes
 record Firm : Type 0 where
   pub side : Side
   pub window : ℕ
-  pub receive_window : ℕ
   pub limit : ℕ
 
 abbrev firm_of : Steady → Firm
-firm_of s = record { side = s.side; window = s.window; receive_window = s.credit.receive_window; limit = s.credit.local_max_data }
+firm_of s = record { side = s.side; window = s.window; limit = s.credit.local_max_data }
 
 abbrev firm : World → Firm
 firm w = firm_of (steady w)
@@ -46,7 +50,6 @@ stays : (u v : World) → firm v ≡ firm u → Goes u v
 stays u v e = record {
   side = ap (λ s. s.side) e;
   window = ap (λ s. s.window) e;
-  receive_window = ap (λ s. s.receive_window) e;
   limit = omega (arith, ap (λ s. s.limit) e);
 }
 
@@ -57,7 +60,6 @@ credit_rises : (u v : World) (n : ℕ) → u.credit.local_max_data < 2 ^ 64 → 
 credit_rises u v n fits e = record {
   side = ap (λ s. s.side) e;
   window = ap (λ s. s.window) e;
-  receive_window = ap (λ s. s.receive_window) e;
   limit = omega (arith, ap (λ s. s.limit) e);
 }
 
@@ -133,6 +135,12 @@ rises-told u v id (Ok None) p q s = stays u v (ap firm s.4)
 rises-told u v id (Err handle_error.ClosedStream) p q s = stays u v (ap firm s.1)
 rises-told u v id (Err handle_error.OutOfMemory) p q s = stays u v (ap firm s.3)
 
+resized_rises : (c : Credit) (n : ℕ) (b : Bool) → c.local_max_data < 2 ^ 64 → c.local_max_data ≤ (if b
+    then record c { receive_window = n; local_max_data = min (c.local_max_data + (n - c.receive_window)) (2 ^ 64 - 1) }
+    else record c { receive_window = n; shrink_debt = min (c.shrink_debt + (c.receive_window - n)) (2 ^ 64 - 1) }).local_max_data
+resized_rises c n true fits = omega arith
+resized_rises c n false fits = omega arith
+
 pub goes : (h : List Event) (u : World) (e : Event) (v : World) → u.credit.local_max_data < 2 ^ 64 → Step u e v → Goes u v
 goes h u (Received id offset bytes fin answer) v fits s = rises-received u v id offset bytes fin answer fits s
 goes h u (ReceivedReset id code final answer) v fits s = rises-reset u v id code final answer fits s
@@ -142,3 +150,7 @@ goes h u (Gave id most ordered answer) v fits s = stays u v (ap firm s.is ∙ li
 goes h u (Ended id count) v fits s = rises_at u v (with_credit u count) s (credit_rises u u count fits refl)
 goes h u (Stopped id code answer) v fits s = rises-stopped u v id code answer s.0 s.1 fits s.2
 goes h u (ToldReset id answer) v fits s = rises-told u v id answer s.0 s.1 s.2
+goes h u (Resized size answer) v fits s = rises_at u v (with_receive_window u size) s.0 (record { side = refl; window = refl; limit = resized_rises u.credit size (nat_lt u.credit.receive_window size) fits })
+goes h u (SetConcurrent dir count (Ok k)) v fits s = stays u v (ap firm s ∙ ap firm_of (steady-concurrent u dir count))
+goes h u (SetConcurrent dir count (Err k)) v fits s = stays u v (ap firm s)
+goes h u (Accepted dir answer) v fits s = stays u v (ap firm s.0 ∙ ap firm_of (steady-remote u dir (one_accepted (remote_of u dir))))

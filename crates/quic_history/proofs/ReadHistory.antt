@@ -18,7 +18,7 @@ use Rattle.quic_receiving.specs.declared.errors.HandleError.TheVariants as handl
 use Rattle.quic_retransmits.specs.Pending.{Pending}
 use Rattle.quic_history.specs.World.{World, id_refusal, with_receive, with_credit, with_freed}
 use Rattle.quic_history.specs.Reading.{Begins, Asks, ReadsHalf, Stops, TellsReset, after_stop}
-use Rattle.quic_history.specs.History.{Event, Began, Gave, Ended, Stopped, ToldReset, Trace, HalfFrom, CreditFrom, Facts, slices, trace, with_read, consumed, consumed_by, debt, received}
+use Rattle.quic_history.specs.History.{Event, Began, Gave, Ended, Stopped, ToldReset, Trace, HalfFrom, CreditFrom, Facts, slices, trace, with_read, consumed, consumed_by, last_window, window_set, debt, received}
 use Rattle.quic_history.specs.History as history
 use Rattle.quic_history.proofs.WorldSteps.{credit-with_receive}
 use Rattle.quic_history.proofs.Totals.{by_cases}
@@ -29,13 +29,13 @@ use Rattle.quic_history.proofs.FrameHistory.{facts-at, when}
 
 -- ---- a call that receives nothing and gives no credit
 
-module _ (window : ℕ) (h : List Event) (e : Event) (u : World) (f : Facts window h u) (came : received (e ∷ h) ≡ received h) (unused : consumed_by h e ≡ 0) where
+module _ (window : ℕ) (h : List Event) (e : Event) (u : World) (f : Facts window h u) (unset : window_set e ≡ None) (came : received (e ∷ h) ≡ received h) (unused : consumed_by h e ≡ 0) where
   abbrev g : ℕ → Trace
   g = trace (e ∷ h)
 
-  credit_idle : CreditFrom window (consumed (e ∷ h)) (debt (e ∷ h)) (received (e ∷ h)) u.credit
+  credit_idle : CreditFrom (last_window window (e ∷ h)) (consumed (e ∷ h)) (debt window (e ∷ h)) (received (e ∷ h)) u.credit
   credit_idle = let none = unused in
-      credit-same window (consumed h) (debt h) (received h) (consumed (e ∷ h)) (debt (e ∷ h)) (received (e ∷ h)) u.credit (omega arith) (omega arith) came f.credit
+      rw unset (credit-same (last_window window h) (consumed h) (debt window h) (received h) (consumed (e ∷ h)) (debt window h - consumed_by h e) (received (e ∷ h)) u.credit (omega arith) (omega arith) came f.credit)
 
   -- it changes nothing
   facts_idle : ((q : ℕ) → g q ≡ trace h q) → Facts window (e ∷ h) u
@@ -86,11 +86,11 @@ facts_asks : (window : ℕ) (h : List Event) (u v : World) (id : ℕ) (ordered :
 facts_asks window h u v id ordered answer asked f a =
     let known = known-from (trace h) u id a.old f.streams a.half in
     facts-at window _ v (with_receive u id (Some a.new)) a.is
-    (facts_put window h (Began id ordered answer) u f refl refl id a.new (λ q n. refl) known
+    (facts_put window h (Began id ordered answer) u f refl refl refl id a.new (λ q n. refl) known
     (ordered_half (trace h id) a.old a.new ordered asked (half-from (trace h) u id a.old f.streams known a.half) a.orders))
 
 facts_asked_none : (window : ℕ) (h : List Event) (u v : World) (id : ℕ) (ordered : Bool) (answer : Result (Unit {0}) ReadableError) → Facts window h u → v ≡ u → Facts window (Began id ordered answer ∷ h) v
-facts_asked_none window h u v id ordered answer f is = facts-at window _ v u is (facts_idle window h (Began id ordered answer) u f refl refl (λ q. refl))
+facts_asked_none window h u v id ordered answer f is = facts-at window _ v u is (facts_idle window h (Began id ordered answer) u f refl refl refl (λ q. refl))
 
 pub kept-began : (window : ℕ) (h : List Event) (u v : World) (id : ℕ) (ordered : Bool) (answer : Result (Unit {0}) ReadableError) → Facts window h u → Begins u id ordered answer v → Facts window (Began id ordered answer ∷ h) v
 kept-began window h u v id ordered (Ok x) f s = facts_asks window h u v id ordered (Ok x) (Ok x) f s
@@ -121,10 +121,10 @@ module _ (window : ℕ) (h : List Event) (u : World) (id most : ℕ) (ordered : 
   came_read = received-kept h (trace (e ∷ h)) id others (ap (λ k. k.high) here ∙ high-read ordered answer (trace h id))
 
   facts_read : HalfFrom (with_read ordered answer (trace h id)) new → Facts window (e ∷ h) (with_receive u id (Some new))
-  facts_read is = facts_put window h e u f came_read refl id new others known (rw here is)
+  facts_read is = facts_put window h e u f refl came_read refl id new others known (rw here is)
 
   facts_ended : (with_read ordered answer (trace h id)).gone ≡ true → Facts window (e ∷ h) (with_freed u id)
-  facts_ended is = facts_freed window h e u f came_read refl id others known (ap (λ k. k.gone) here ∙ is)
+  facts_ended is = facts_freed window h e u f refl came_read refl id others known (ap (λ k. k.gone) here ∙ is)
 
 half_given : (t : Trace) (old new : Half) (most : ℕ) (ordered : Bool) (chunk : Chunk) → HalfFrom t old → new ≡ record old { buffer = new.buffer } → Given old.buffer most chunk new.buffer
     → HalfFrom (with_read ordered (Ok (Some chunk)) t) new
@@ -157,7 +157,7 @@ kept-gave window h u v id most ordered (Err read_error.OutOfMemory) f s =
 
 pub kept-ended : (window : ℕ) (h : List Event) (u v : World) (id count : ℕ) → Facts window h u → v ≡ with_credit u count → Facts window (Ended id count ∷ h) v
 kept-ended window h u v id count f is = rw is (record {
-  credit = credit-credited window (consumed h) (debt h) (received h) count u.credit f.credit;
+  credit = credit-credited (last_window window h) (consumed h) (debt window h) (received h) count u.credit f.credit;
   streams = f.streams;
 })
 
@@ -217,13 +217,13 @@ module _ (window : ℕ) (h : List Event) (u : World) (id code : ℕ) (old new : 
   facts_stopped =
       let n : ℕ = stop_credit old in
       let y = if is_some old.size then with_freed u id else with_receive u id (Some new) in
-      let base : CreditFrom window (consumed h) (debt h) (received h) y.credit = rw (credit_stop (is_some old.size)) f.credit in
+      let base : CreditFrom (last_window window h) (consumed h) (debt window h) (received h) y.credit = rw (credit_stop (is_some old.size)) f.credit in
       let some : consumed_by h es ≡ n = used_stop in
       let came = came_stop in
       let but = but-from (trace h) gs u id others_stop f.streams in
       record {
-        credit = credit-same window (consumed h + n) (debt h - n) (received h) (consumed (es ∷ h)) (debt (es ∷ h)) (received (es ∷ h)) (credited y.credit n)
-            (omega arith) (omega arith) came_stop (credit-credited window (consumed h) (debt h) (received h) n y.credit base);
+        credit = credit-same (last_window window h) (consumed h + n) (debt window h - n) (received h) (consumed (es ∷ h)) (debt window (es ∷ h)) (received (es ∷ h)) (credited y.credit n)
+            (omega arith) (omega arith) came_stop (credit-credited (last_window window h) (consumed h) (debt window h) (received h) n y.credit base);
         streams = when gs (with_freed u id) (with_receive u id (Some new)) (is_some old.size)
             (λ s. all-freed gs u id but known_stop (ap (λ k. k.gone) here_stop ∙ sym was_stop.sized ∙ s))
             (λ s. all-put gs u id new but known_stop (half_stopped (sym was_stop.sized ∙ s)));
@@ -233,9 +233,9 @@ pub kept-stopped : (window : ℕ) (h : List Event) (u v : World) (id code : ℕ)
     → Facts window (Stopped id code answer ∷ h) v
 kept-stopped window h u v id code (Ok x) p q f s = facts-at window _ v _ s.6 (facts_stopped window h u id code s.0 s.1 f s.2 s.5 s.4.bytes_read s.4.highest)
 kept-stopped window h u v id code (Err handle_error.ClosedStream) p q f s =
-    facts-at window _ v u s.1 (facts_idle window h (Stopped id code (Err handle_error.ClosedStream)) u f refl refl (λ k. refl))
+    facts-at window _ v u s.1 (facts_idle window h (Stopped id code (Err handle_error.ClosedStream)) u f refl refl refl (λ k. refl))
 kept-stopped window h u v id code (Err handle_error.OutOfMemory) p q f s =
-    facts-at window _ v u s.0 (facts_idle window h (Stopped id code (Err handle_error.OutOfMemory)) u f refl refl (λ k. refl))
+    facts-at window _ v u s.0 (facts_idle window h (Stopped id code (Err handle_error.OutOfMemory)) u f refl refl refl (λ k. refl))
 
 -- ---- the code of a reset is asked for
 
@@ -247,14 +247,14 @@ module _ (window : ℕ) (h : List Event) (u : World) (id code : ℕ) (f : Facts 
   came_told = received-kept h (trace (ToldReset id (Ok (Some code)) ∷ h)) id told_others (rw (itself id) refl)
 
   facts_told : id_refusal u id ≡ None → Facts window (ToldReset id (Ok (Some code)) ∷ h) (with_freed u id)
-  facts_told known = facts_freed window h (ToldReset id (Ok (Some code))) u f came_told refl id told_others known (rw (itself id) refl)
+  facts_told known = facts_freed window h (ToldReset id (Ok (Some code))) u f refl came_told refl id told_others known (rw (itself id) refl)
 
 pub kept-told : (window : ℕ) (h : List Event) (u v : World) (id : ℕ) (answer : Result (Option ℕ) HandleError) (p q : Pending) → Facts window h u → TellsReset u id p answer v q
     → Facts window (ToldReset id answer ∷ h) v
 kept-told window h u v id (Ok (Some code)) p q f s = facts-at window _ v _ s.4 (facts_told window h u id code f (known-from (trace h) u id s.0 f.streams s.1))
 kept-told window h u v id (Ok None) p q f s =
-    facts-at window _ v u s.4 (facts_idle window h (ToldReset id (Ok None)) u f refl refl (λ k. refl))
+    facts-at window _ v u s.4 (facts_idle window h (ToldReset id (Ok None)) u f refl refl refl (λ k. refl))
 kept-told window h u v id (Err handle_error.ClosedStream) p q f s =
-    facts-at window _ v u s.1 (facts_idle window h (ToldReset id (Err handle_error.ClosedStream)) u f refl refl (λ k. refl))
+    facts-at window _ v u s.1 (facts_idle window h (ToldReset id (Err handle_error.ClosedStream)) u f refl refl refl (λ k. refl))
 kept-told window h u v id (Err handle_error.OutOfMemory) p q f s =
-    facts-at window _ v u s.3 (facts_idle window h (ToldReset id (Err handle_error.OutOfMemory)) u f refl refl (λ k. refl))
+    facts-at window _ v u s.3 (facts_idle window h (ToldReset id (Err handle_error.OutOfMemory)) u f refl refl refl (λ k. refl))

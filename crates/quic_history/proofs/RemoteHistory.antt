@@ -17,10 +17,13 @@ use Rattle.quic_receiving.specs.declared.errors.ReadableError.TheVariants as rea
 use Rattle.quic_receiving.specs.declared.errors.HandleError.{HandleError}
 use Rattle.quic_receiving.specs.declared.errors.HandleError.TheVariants as handle_error
 use Rattle.quic_retransmits.specs.Pending.{Pending}
-use Rattle.quic_history.specs.World.{World, id_refusal, remote_of, with_receive, with_credit, advanced, noticed, with_freed}
+use Rattle.quic_history.specs.World.{World, id_refusal, remote_of, with_receive, with_credit, with_receive_window, advanced, noticed, with_freed}
 use Rattle.quic_history.specs.Receiving.{Receives, ReceivesReset, after_reset, credited_to}
 use Rattle.quic_history.specs.Reading.{Begins, ReadsHalf, Stops, TellsReset, after_stop}
-use Rattle.quic_history.specs.History.{Event, Received, ReceivedReset, AddedCredits, Began, Gave, Ended, Stopped, ToldReset, Step, Trace, HalfFrom, untouched, trace, is_closed, is_kept, with_read, Facts}
+use Rattle.quic_history.specs.History.{Event, Received, ReceivedReset, AddedCredits, Began, Gave, Ended, Stopped, ToldReset, Resized, SetConcurrent, Accepted, Step, Trace, HalfFrom, untouched, trace, is_closed, is_kept, with_read, with_count_set, Facts}
+use Rattle.quic_limits.specs.Remote.{one_accepted}
+use Rattle.quic_history.specs.Permitting.{after_concurrent, with_accepted, with_count_of}
+use Rattle.quic_history.proofs.Permits.{remotes-concurrent, one-accepted}
 use Rattle.quic_history.proofs.WorldSteps.{refusal-advanced}
 use Rattle.quic_history.proofs.Refusals.{refusal-next}
 use Rattle.quic_history.proofs.Totals.{by_cases, same}
@@ -28,7 +31,7 @@ use Rattle.quic_history.proofs.Traces.{itself}
 use Rattle.quic_history.proofs.StreamSteps.{half-from, gone-from, known-from, new-from, refusal-noticed}
 use Rattle.quic_history.proofs.FrameHistory.{open-trace, dropped-closed, refusal-code, refused-other, unmoved, after_data_stopped, after_data_running, untold}
 use Rattle.quic_history.proofs.ResetHistory.{untold-closed, or-second, or-first}
-use Rattle.quic_history.proofs.Remotes.{AllRemotes, SameLimits, SameRemotes, remotes-put, remotes-noticed, remotes-then, remotes-idle, remotes-freed}
+use Rattle.quic_history.proofs.Remotes.{AllRemotes, SameLimits, SameRemotes, remotes-put, remotes-noticed, remotes-then, remotes-idle, remotes-freed, remotes-remote}
 
 remotes_at : (at_once b : Dir → ℕ) (f : ℕ → Trace) (v w : World) → v ≡ w → AllRemotes at_once b f w → AllRemotes at_once b f v
 remotes_at at_once b f v w e s = let P : World → Type 0 = λ x. AllRemotes at_once b f x in subst P (sym e) s
@@ -37,6 +40,10 @@ remotes_at at_once b f v w e s = let P : World → Type 0 = λ x. AllRemotes at_
 remotes_credit : (at_once b : Dir → ℕ) (f : ℕ → Trace) (w : World) (n : ℕ) → AllRemotes at_once b f w → AllRemotes at_once b f (with_credit w n)
 remotes_credit at_once b f w n s Bi = s Bi
 remotes_credit at_once b f w n s Uni = s Uni
+
+remotes_resized : (at_once b : Dir → ℕ) (f : ℕ → Trace) (w : World) (n : ℕ) → AllRemotes at_once b f w → AllRemotes at_once b f (with_receive_window w n)
+remotes_resized at_once b f w n s Bi = s Bi
+remotes_resized at_once b f w n s Uni = s Uni
 
 remotes_advanced : (at_once b : Dir → ℕ) (f : ℕ → Trace) (u : World) (id : ℕ) (old new : Half) → AllRemotes at_once b f (with_receive u id (Some new)) → AllRemotes at_once b f (advanced u id old new)
 remotes_advanced at_once b f u id old new s Bi = s Bi
@@ -314,12 +321,20 @@ remotes-told window at_once b h u v id (Ok None) p q f x s = remotes_at at_once 
 remotes-told window at_once b h u v id (Err handle_error.ClosedStream) p q f x s = remotes_at at_once b (trace (ToldReset id (Err handle_error.ClosedStream) ∷ h)) v u s.1 x
 remotes-told window at_once b h u v id (Err handle_error.OutOfMemory) p q f x s = remotes_at at_once b (trace (ToldReset id (Err handle_error.OutOfMemory) ∷ h)) v u s.3 x
 
-pub kept-remotes : (window : ℕ) (at_once b : Dir → ℕ) (h : List Event) (u : World) (e : Event) (v : World) → Facts window h u → AllRemotes at_once b (trace h) u → Step u e v → AllRemotes at_once b (trace (e ∷ h)) v
-kept-remotes window at_once b h u (Received id offset bytes fin answer) v f x s = remotes-received window at_once b h u v id offset bytes fin answer f x s
-kept-remotes window at_once b h u (ReceivedReset id code final answer) v f x s = remotes-reset window at_once b h u v id code final answer f x s
-kept-remotes window at_once b h u (AddedCredits count answer) v f x s = remotes_at at_once b (trace h) v (with_credit u count) s.0 (remotes_credit at_once b (trace h) u count x)
-kept-remotes window at_once b h u (Began id ordered answer) v f x s = remotes-began window at_once b h u v id ordered answer x s
-kept-remotes window at_once b h u (Gave id most ordered answer) v f x s = remotes-gave window at_once b h u v id most ordered answer f x s
-kept-remotes window at_once b h u (Ended id count) v f x s = remotes_at at_once b (trace h) v (with_credit u count) s (remotes_credit at_once b (trace h) u count x)
-kept-remotes window at_once b h u (Stopped id code answer) v f x s = remotes-stopped window at_once b h u v id code answer s.0 s.1 f x s.2
-kept-remotes window at_once b h u (ToldReset id answer) v f x s = remotes-told window at_once b h u v id answer s.0 s.1 f x s.2
+pub kept-remotes : (window : ℕ) (at_once : Dir → ℕ) (h : List Event) (u : World) (e : Event) (v : World) → Facts window h u → AllRemotes at_once (λ d. (remote_of u d).max_remote) (trace h) u → Step u e v
+    → AllRemotes (with_count_set e at_once) (λ d. (remote_of u d).max_remote) (trace (e ∷ h)) v
+kept-remotes window at_once h u (Received id offset bytes fin answer) v f x s = remotes-received window at_once (λ d. (remote_of u d).max_remote) h u v id offset bytes fin answer f x s
+kept-remotes window at_once h u (ReceivedReset id code final answer) v f x s = remotes-reset window at_once (λ d. (remote_of u d).max_remote) h u v id code final answer f x s
+kept-remotes window at_once h u (AddedCredits count answer) v f x s = let b : Dir → ℕ = λ d. (remote_of u d).max_remote in remotes_at at_once b (trace h) v (with_credit u count) s.0 (remotes_credit at_once b (trace h) u count x)
+kept-remotes window at_once h u (Began id ordered answer) v f x s = remotes-began window at_once (λ d. (remote_of u d).max_remote) h u v id ordered answer x s
+kept-remotes window at_once h u (Gave id most ordered answer) v f x s = remotes-gave window at_once (λ d. (remote_of u d).max_remote) h u v id most ordered answer f x s
+kept-remotes window at_once h u (Ended id count) v f x s = let b : Dir → ℕ = λ d. (remote_of u d).max_remote in remotes_at at_once b (trace h) v (with_credit u count) s (remotes_credit at_once b (trace h) u count x)
+kept-remotes window at_once h u (Stopped id code answer) v f x s = remotes-stopped window at_once (λ d. (remote_of u d).max_remote) h u v id code answer s.0 s.1 f x s.2
+kept-remotes window at_once h u (ToldReset id answer) v f x s = remotes-told window at_once (λ d. (remote_of u d).max_remote) h u v id answer s.0 s.1 f x s.2
+kept-remotes window at_once h u (Resized size answer) v f x s = let b : Dir → ℕ = λ d. (remote_of u d).max_remote in remotes_at at_once b (trace h) v (with_receive_window u size) s.0 (remotes_resized at_once b (trace h) u size x)
+kept-remotes window at_once h u (SetConcurrent dir count (Ok k)) v f x s = let b : Dir → ℕ = λ d. (remote_of u d).max_remote in
+    remotes_at (with_count_of dir count at_once) b (trace h) v (after_concurrent u dir count) s (remotes-concurrent (trace h) u f.streams at_once dir count x)
+kept-remotes window at_once h u (SetConcurrent dir count (Err k)) v f x s = remotes_at at_once (λ d. (remote_of u d).max_remote) (trace h) v u s x
+kept-remotes window at_once h u (Accepted dir answer) v f x s = let b : Dir → ℕ = λ d. (remote_of u d).max_remote in
+    remotes_at at_once b (trace h) v (with_accepted u dir) s.0
+    (remotes-idle at_once b (trace h) (trace h) u (with_accepted u dir) (λ q. refl) (remotes-remote u dir (one_accepted (remote_of u dir)) (one-accepted (remote_of u dir))) x)

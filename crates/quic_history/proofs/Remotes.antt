@@ -24,10 +24,10 @@ use Rattle.quic_receiving.proofs.Data.{number-all}
 
 -- ---- counts
 
-number_same : (n : ℕ) (f g : ℕ → Bool) → ((i : ℕ) → i < n → g i ≡ f i) → number g n ≡ number f n
+pub number-same : (n : ℕ) (f g : ℕ → Bool) → ((i : ℕ) → i < n → g i ≡ f i) → number g n ≡ number f n
 unfolding number
-number_same zero f g e = refl
-number_same (suc n) f g e = let k = e n (omega arith) in rw k (omega (arith, number_same n f g (λ i l. e i (omega arith))))
+number-same zero f g e = refl
+number-same (suc n) f g e = let k = e n (omega arith) in rw k (omega (arith, number-same n f g (λ i l. e i (omega arith))))
 
 -- one more passes
 number_one : (n i : ℕ) (f g : ℕ → Bool) → i < n → f i ≡ false → g i ≡ true → ((k : ℕ) → eqb k i ≡ false → g k ≡ f k) → number g n ≡ number f n + 1
@@ -38,7 +38,7 @@ number_one (suc n) i f g l before after e = elim (cases_lt i n) [
   | inr k ↦ (let is : i ≡ n = omega arith in
       let before_n : f n ≡ false = sym (ap f is) ∙ before in
       let after_n : g n ≡ true = sym (ap g is) ∙ after in
-      rw (before_n, after_n) (omega (arith, number_same n f g (λ j m. e j (let a : j < i = omega arith in grind (arith, nat_tests))))))
+      rw (before_n, after_n) (omega (arith, number-same n f g (λ j m. e j (let a : j < i = omega arith in grind (arith, nat_tests))))))
 ]
 
 false_true : (b : Bool) {P : Type 0} → b ≡ false → b ≡ true → P
@@ -59,7 +59,7 @@ pub record SameLimits (r r' : Remote) : Type 0 where
 
 pub remote-same : (at_once before : ℕ) (f g : ℕ → Bool) (r r' : Remote) → SameLimits r r' → ((i : ℕ) → i < r.max_remote → g i ≡ f i) → RemoteFrom at_once before f r → RemoteFrom at_once before g r'
 remote-same at_once before f g r r' s e x =
-    let n = number_same r.max_remote f g e in
+    let n = number-same r.max_remote f g e in
     let a = s.max in
     let b = s.allocated in
     let c = s.concurrent in
@@ -72,9 +72,9 @@ remote-same at_once before f g r r' s e x =
       permitted = rw (s.max, s.concurrent) p;
     }
 
-next_number : (n : ℕ) (g : ℕ → Bool) → g n ≡ false → number g (n + 1) ≡ number g n
+pub next-number : (n : ℕ) (g : ℕ → Bool) → g n ≡ false → number g (n + 1) ≡ number g n
 unfolding number
-next_number n g e = rw (add-one, e) (omega arith)
+next-number n g e = rw (add-one, e) (omega arith)
 
 after_replaced : (at_once before' : ℕ) (f g : ℕ → Bool) (r : Remote) (i : ℕ) (b : Bool) → remote.lacks_streams (remote.freed r) ≡ b → i < r.max_remote → f i ≡ false → g i ≡ true
     → ((k : ℕ) → eqb k i ≡ false → g k ≡ f k) → g r.max_remote ≡ false → RemoteFrom at_once before' f r → RemoteFrom at_once before' g (if b then remote.one_permitted (remote.freed r) else remote.freed r)
@@ -85,7 +85,7 @@ after_replaced at_once before' f g r i true lacks l before after e last x =
     let m : r.max_remote ≡ max before' (min (r.max_concurrent + number f r.max_remote) (2 ^ 60)) = x.permitted in
     let lacking : r.allocated - 1 < r.max_concurrent = and_first r.allocated r.max_concurrent (nat_lt r.max_remote (2 ^ 60)) lacks in
     let room : r.max_remote < 2 ^ 60 = and_lt (nat_lt (r.allocated - 1) r.max_concurrent) r.max_remote lacks in
-    let more : number g (r.max_remote + 1) ≡ number g r.max_remote = next_number r.max_remote g last in
+    let more : number g (r.max_remote + 1) ≡ number g r.max_remote = next-number r.max_remote g last in
     let rises : r.max_remote + 1 ≡ max before' (min (r.max_concurrent + number g (r.max_remote + 1)) (2 ^ 60)) = omega arith in
     record {
       concurrent = x.concurrent;
@@ -157,13 +157,13 @@ remotes_told u id true = record { side = refl; sends = refl; limits = both }
     both Uni = limits-refl u.uni
 remotes_told u id false = record { side = refl; sends = refl; limits = λ d. limits-refl (remote_of u d) }
 
-remotes_remote : (u : World) (e : Dir) (r : Remote) → SameLimits (remote_of u e) r → SameRemotes u (with_remote u e r)
-remotes_remote u Bi r s = record { side = refl; sends = refl; limits = both }
+pub remotes-remote : (u : World) (e : Dir) (r : Remote) → SameLimits (remote_of u e) r → SameRemotes u (with_remote u e r)
+remotes-remote u Bi r s = record { side = refl; sends = refl; limits = both }
   where
     both : (d : Dir) → SameLimits (remote_of u d) (remote_of (with_remote u Bi r) d)
     both Bi = s
     both Uni = limits-refl u.uni
-remotes_remote u Uni r s = record { side = refl; sends = refl; limits = both }
+remotes-remote u Uni r s = record { side = refl; sends = refl; limits = both }
   where
     both : (d : Dir) → SameLimits (remote_of u d) (remote_of (with_remote u Uni r) d)
     both Bi = limits-refl u.bi
@@ -177,7 +177,7 @@ pub remotes-noticed : (u : World) (id : ℕ) (b : Bool) → SameRemotes u (notic
 remotes-noticed u id b =
     let P : World → Type 0 = λ x. SameRemotes u x in
     noticed-any P u id b (remotes_told u id b)
-    (remotes_remote u (dir_of id) _ (opened_limits (remote_of u (dir_of id)) (index_of id) (nat_le (remote_of u (dir_of id)).next_remote (index_of id))))
+    (remotes-remote u (dir_of id) _ (opened_limits (remote_of u (dir_of id)) (index_of id) (nat_le (remote_of u (dir_of id)).next_remote (index_of id))))
 
 pub remotes-then : (u v w : World) → SameRemotes u v → SameRemotes v w → SameRemotes u w
 remotes-then u v w s t = record {

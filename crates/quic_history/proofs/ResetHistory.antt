@@ -9,7 +9,7 @@ use Rattle.quic_receiving.specs.Calls.{Clears}
 use Rattle.quic_receiving.specs.declared.transmit.ShouldTransmit.{ShouldTransmit}
 use Rattle.quic_history.specs.World.{World, id_refusal, with_credit, advanced, noticed, with_freed}
 use Rattle.quic_history.specs.Receiving.{ReceivesReset, after_reset, with_rest, credited_to}
-use Rattle.quic_history.specs.History.{Event, ReceivedReset, Trace, HalfFrom, CreditFrom, Facts, trace, is_closed, consumed, consumed_by, debt, received}
+use Rattle.quic_history.specs.History.{Event, ReceivedReset, Trace, HalfFrom, CreditFrom, Facts, trace, is_closed, consumed, consumed_by, last_window, debt, received}
 use Rattle.quic_history.proofs.WorldSteps.{credit-with_receive, refusal-advanced}
 use Rattle.quic_history.proofs.Totals.{by_cases, same}
 use Rattle.quic_history.proofs.Credits.{credit-counted, credit-credited, credit-same}
@@ -89,9 +89,9 @@ module _ (window : ℕ) (h : List Event) (u : World) (id code final : ℕ) (tran
       let c = low in
       omega arith
 
-  counted-credit : CreditFrom window (consumed h) (debt h) (received (e ∷ h)) w.credit
+  counted-credit : CreditFrom (last_window window h) (consumed h) (debt window h) (received (e ∷ h)) w.credit
   counted-credit = rw (credit-with_receive u id (Some new))
-      (credit-counted window (consumed h) (debt h) (received h) (new.end - old.end) (received (e ∷ h)) u.credit f.credit came (let b = end_is in let fits = passed.fits in omega arith))
+      (credit-counted (last_window window h) (consumed h) (debt window h) (received h) (new.end - old.end) (received (e ∷ h)) u.credit f.credit came (let b = end_is in let fits = passed.fits in omega arith))
 
   half_reset : t.stopped ≡ false → HalfFrom (g id) new
   half_reset s = record {
@@ -124,11 +124,11 @@ module _ (window : ℕ) (h : List Event) (u : World) (id code final : ℕ) (tran
   facts_reset =
       let n : ℕ = new.end - credited_to old in
       let y = if old.stopped then with_freed x id else x in
-      let base : CreditFrom window (consumed h) (debt h) (received (e ∷ h)) y.credit = rw (credit_freed old.stopped) counted-credit in
+      let base : CreditFrom (last_window window h) (consumed h) (debt window h) (received (e ∷ h)) y.credit = rw (credit_freed old.stopped) counted-credit in
       let some = used in
       record {
-        credit = credit-same window (consumed h + n) (debt h - n) (received (e ∷ h)) (consumed (e ∷ h)) (debt (e ∷ h)) (received (e ∷ h)) (with_rest y n).credit
-            (omega arith) (omega arith) refl (rest_if window (n == 0) n (consumed h) (debt h) (received (e ∷ h)) y refl base);
+        credit = credit-same (last_window window h) (consumed h + n) (debt window h - n) (received (e ∷ h)) (consumed (e ∷ h)) (debt window (e ∷ h)) (received (e ∷ h)) (with_rest y n).credit
+            (omega arith) (omega arith) refl (rest_if (last_window window h) (n == 0) n (consumed h) (debt window h) (received (e ∷ h)) y refl base);
         streams = all_rest g n y (when g (with_freed x id) x old.stopped
             (λ s. all-freed g x id (but-noticed g w id id (not old.stopped) but) (refusal-noticed w id (not old.stopped) id ∙ refusal-advanced u id id old new ∙ known)
             (ap (λ k. k.gone) here ∙ sym was.stopped ∙ s))
@@ -150,7 +150,7 @@ module _ (window : ℕ) (h : List Event) (u : World) (id code final : ℕ) (answ
   facts_unchanged =
       let none = unused in
       record {
-        credit = credit-same window (consumed h) (debt h) (received h) (consumed (e0 ∷ h)) (debt (e0 ∷ h)) (received (e0 ∷ h)) u.credit (omega arith) (omega arith) came f.credit;
+        credit = credit-same (last_window window h) (consumed h) (debt window h) (received h) (consumed (e0 ∷ h)) (debt window (e0 ∷ h)) (received (e0 ∷ h)) u.credit (omega arith) (omega arith) came f.credit;
         streams = all-told (trace h) g0 u untold f.streams;
       }
 

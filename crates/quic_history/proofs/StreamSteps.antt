@@ -111,10 +111,10 @@ new-half-from window = record {
 }
 
 -- the next stream of the peer is permitted
-raised_all : (f : ℕ → Trace) (d : Dir) (u v : World) (window : ℕ) → v.side ≡ u.side → v.opened_bi ≡ u.opened_bi → IsRaised d u v
+pub raised-all : (f : ℕ → Trace) (d : Dir) (u v : World) (window : ℕ) → v.side ≡ u.side → v.opened_bi ≡ u.opened_bi → IsRaised d u v
     → v.receive ≡ with_half u.receive (stream_id (other_side u.side) d (remote_of u d).max_remote) (Some (new_half window)) → AllFrom f u → AllFrom f v
 unfolding with_half
-raised_all f d u v window side opened r halves s q =
+raised-all f d u v window side opened r halves s q =
     let id = stream_id (other_side u.side) d (remote_of u d).max_remote in
     let at : v.receive q ≡ cond (eqb q id) (Some (new_half window)) (u.receive q) = ap (λ k. k q) halves in
     by_cases (eqb q id)
@@ -131,10 +131,10 @@ with_next d u = with_permitted (with_remote u d (remote.one_permitted (remote.fr
 
 all-permitted : (f : ℕ → Trace) (d : Dir) (u : World) → AllFrom f u → AllFrom f (with_next d u)
 unfolding with_receive
-all-permitted f Bi u s = raised_all f Bi u (with_next Bi u) u.window refl refl (refl, refl) refl s
-all-permitted f Uni u s = raised_all f Uni u (with_next Uni u) u.window refl refl (refl, refl) refl s
+all-permitted f Bi u s = raised-all f Bi u (with_next Bi u) u.window refl refl (refl, refl) refl s
+all-permitted f Uni u s = raised-all f Uni u (with_next Uni u) u.window refl refl (refl, refl) refl s
 
-all-remote : (f : ℕ → Trace) (d : Dir) (u : World) (r : Remote) → r.max_remote ≡ (remote_of u d).max_remote → AllFrom f u → AllFrom f (with_remote u d r)
+pub all-remote : (f : ℕ → Trace) (d : Dir) (u : World) (r : Remote) → r.max_remote ≡ (remote_of u d).max_remote → AllFrom f u → AllFrom f (with_remote u d r)
 all-remote f Bi u r e s = all-same f u (with_remote u Bi r) (λ q. refusal-same (with_remote u Bi r) u q refl refl e refl) (λ q. refl) s
 all-remote f Uni u r e s = all-same f u (with_remote u Uni r) (λ q. refusal-same (with_remote u Uni r) u q refl refl refl e) (λ q. refl) s
 
@@ -227,14 +227,14 @@ steady_readable : (w : World) (id : ℕ) (b : Bool) → steady (told_readable w 
 steady_readable w id true = refl
 steady_readable w id false = refl
 
-steady_remote : (w : World) (d : Dir) (r : Remote) → steady (with_remote w d r) ≡ steady w
-steady_remote w Bi r = refl
-steady_remote w Uni r = refl
+pub steady-remote : (w : World) (d : Dir) (r : Remote) → steady (with_remote w d r) ≡ steady w
+steady-remote w Bi r = refl
+steady-remote w Uni r = refl
 
 pub steady-noticed : (w : World) (id : ℕ) (b : Bool) → steady (noticed w id b) ≡ steady w
 steady-noticed w id b =
     let P : World → Type 0 = λ x. steady x ≡ steady w in
-    noticed-any P w id b (steady_readable w id b) (steady_remote w (dir_of id) _)
+    noticed-any P w id b (steady_readable w id b) (steady-remote w (dir_of id) _)
 
 steady_permitted : (w : World) (d : Dir) (index : ℕ) → steady (with_permitted w d index) ≡ steady w
 unfolding with_receive
@@ -246,7 +246,7 @@ steady_permitted_if w d None = refl
 steady_permitted_if w d (Some index) = steady_permitted w d index
 
 steady_replaced : (w : World) (d : Dir) → steady (replaced_in w d) ≡ steady w
-steady_replaced w d = steady_permitted_if (with_remote w d (remote.replaced (remote_of w d))) d (remote.replacement (remote_of w d)) ∙ steady_remote w d _
+steady_replaced w d = steady_permitted_if (with_remote w d (remote.replaced (remote_of w d))) d (remote.replacement (remote_of w d)) ∙ steady-remote w d _
 
 steady_released : (w : World) (d : Dir) (id : ℕ) → steady (released w d id) ≡ steady w
 steady_released w Uni id = steady_replaced w Uni

@@ -1,5 +1,5 @@
 -- The receive halves of a connection, by the ids of their streams.
-use Rattle.std.specs.Prelude.{ℕ, Bool, false, ◌==◌, ◌≡◌, Option, Some, None, Result, Ok, Err, true, ◌&&◌, nat_lt, if◌then◌else◌}
+use Rattle.std.specs.Prelude.{ℕ, Bool, false, ◌==◌, ◌≡◌, Option, Some, None, Result, Ok, Err, true, ◌&&◌, ◌+◌, nat_le, nat_lt, if◌then◌else◌}
 use Rattle.std.specs.Option.{option_map}
 use Rattle.quic_values.specs.declared.ids.Side.{Side}
 use Rattle.quic_values.specs.declared.ids.Dir.{Dir}
@@ -41,3 +41,11 @@ is_among initiator dir count id = (id == stream_id initiator dir (index_of id)) 
 -- the same half at each of the first so many streams
 unfoldable pub with_first : Halves → Side → Dir → ℕ → Option Half → Halves
 with_first f initiator dir count o = λ id. if is_among initiator dir count id then o else f id
+
+-- whether an id is one of so many streams of an initiator and a direction, from an index on
+abbrev pub is_between : Side → Dir → ℕ → ℕ → ℕ → Bool
+is_between initiator dir first count id = (id == stream_id initiator dir (index_of id)) && (nat_le first (index_of id) && nat_lt (index_of id) (first + count))
+
+-- the same half at each of them
+unfoldable pub with_more : Halves → Side → Dir → ℕ → ℕ → Option Half → Halves
+with_more f initiator dir first count o = λ id. if is_between initiator dir first count id then o else f id

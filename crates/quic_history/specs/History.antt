@@ -1,6 +1,6 @@
 -- The history of one end of a connection: the calls on its streams with their answers, the newest first; and what it
 -- says of the end.
-use Rattle.std.specs.Prelude.{◌↔◌, ℕ, Bool, true, false, not, ◌≡◌, ◌+◌, ◌-◌, ◌^◌, ◌==◌, ◌≤◌, ◌<◌, ◌&&◌, ◌||◌, max, min, if◌then◌else◌, nat_eq, List, [], ◌∷◌, length, Option, Some, None, is_some, Result, Ok, Err}
+use Rattle.std.specs.Prelude.{◌↔◌, ℕ, Bool, true, false, not, ◌≡◌, ◌+◌, ◌-◌, ◌^◌, ◌==◌, ◌≤◌, ◌<◌, ◌&&◌, ◌||◌, max, min, if◌then◌else◌, nat_eq, nat_lt, List, [], ◌∷◌, length, Option, Some, None, is_some, unwrap_or, Result, Ok, Err}
 use Rattle.std.specs.List.{list_any}
 use Rattle.quic_values.specs.declared.ids.Side.{Side}
 use Rattle.quic_values.specs.declared.ids.Dir.{Dir}
@@ -26,7 +26,9 @@ use Rattle.quic_history.specs.declared.progress.Progress.TheVariants as progress
 use Rattle.quic_history.specs.declared.progress.LastAnswer.{LastAnswer}
 use Rattle.quic_history.specs.declared.progress.LastAnswer.TheVariants as last_answer
 use Rattle.quic_retransmits.specs.Pending.{Pending}
-use Rattle.quic_history.specs.World.{World, Made, count_of, start, id_refusal, remote_of, with_credit}
+use Rattle.quic_values.specs.declared.memory.OutOfMemory.{OutOfMemory}
+use Rattle.quic_history.specs.World.{World, Made, count_of, start, id_refusal, remote_of, with_credit, with_receive_window}
+use Rattle.quic_history.specs.Permitting.{SetsConcurrent, with_accepted, acceptable, with_count_of}
 use Rattle.quic_history.specs.Receiving.{Receives, ReceivesReset}
 use Rattle.quic_history.specs.Reading.{Begins, ReadsHalf, Stops, TellsReset, bytes_in}
 
@@ -48,6 +50,12 @@ pub data Event : Type 0 where
   Stopped : (id code : ℕ) → (answer : Result (Unit {0}) HandleError) → Event
   -- the code of a reset was asked for
   ToldReset : (id : ℕ) → (answer : Result (Option ℕ) HandleError) → Event
+  -- the receive window was set
+  Resized : (window : ℕ) → (answer : Bool) → Event
+  -- it was set how many streams of a direction the peer is to be able to use at a time
+  SetConcurrent : (dir : Dir) → (count : ℕ) → (answer : Result (Unit {0}) OutOfMemory) → Event
+  -- the next stream that the peer opened was asked for
+  Accepted : (dir : Dir) → (answer : Option ℕ) → Event
 
 -- an answer of a reader that may go on is a call; what it told at the end it tells again, and that is none
 abbrev pub with_next : Progress → ℕ → ℕ → Bool → Result (Option Chunk) ReadError → List Event → List Event
@@ -83,6 +91,9 @@ Step u (Gave id most ordered answer) v = ReadsHalf u id most ordered answer v
 Step u (Ended id count) v = v ≡ with_credit u count
 Step u (Stopped id code answer) v = (p : Pending) × (q : Pending) × Stops u id code p answer v q
 Step u (ToldReset id answer) v = (p : Pending) × (q : Pending) × TellsReset u id p answer v q
+Step u (Resized window answer) v = (v ≡ with_receive_window u window) × (answer ≡ nat_lt u.credit.receive_window window)
+Step u (SetConcurrent dir count answer) v = SetsConcurrent u dir count answer v
+Step u (Accepted dir answer) v = (v ≡ with_accepted u dir) × (answer ≡ acceptable u dir)
 
 -- how many bytes the reader gave that was opened last, and is not ended
 abbrev pub with_given : Event → ℕ → ℕ
@@ -107,11 +118,10 @@ pub record IsStart (m : Made) (v : World) : Type 0 where
   pub small : m.receive_window < 2 ^ 62
   pub is : v ≡ start m
 
--- what every call leaves: which end it is, the windows, and that the limit of the connection does not fall
+-- what every call leaves: which end it is, the first limit of a stream, and that the limit of the connection does not fall
 pub record Goes (u v : World) : Type 0 where
   pub side : v.side ≡ u.side
   pub window : v.window ≡ u.window
-  pub receive_window : v.credit.receive_window ≡ u.credit.receive_window
   pub limit : u.credit.local_max_data ≤ v.credit.local_max_data
 
 -- the calls, one after another, may lead there
@@ -287,20 +297,34 @@ abbrev pub consumed : List Event → ℕ
 consumed [] = 0
 consumed (e ∷ h) = consumed h + consumed_by h e
 
--- how many bytes that are consumed give no credit. There are none at first, and each that is consumed is one less
-abbrev pub debt : List Event → ℕ
-debt [] = 0
-debt (e ∷ h) = debt h - consumed_by h e
+-- the receive window that a call set
+abbrev pub window_set : Event → Option ℕ
+window_set (Resized window answer) = Some window
+window_set _ = None
+
+-- the receive window that was set last, if not the first
+abbrev pub last_window : ℕ → List Event → ℕ
+last_window w [] = w
+last_window w (e ∷ h) = unwrap_or (window_set e) (last_window w h)
+
+-- what is taken off a window is owed, up to the greatest number of 64 bits
+abbrev pub with_owed : Option ℕ → ℕ → ℕ → ℕ
+with_owed None w n = n
+with_owed (Some window) w n = min (n + (w - window)) (2 ^ 64 - 1)
+
+-- how many bytes that are consumed give no credit: as many as were taken off the window, and each that is consumed is one
+-- less
+abbrev pub debt : ℕ → List Event → ℕ
+debt w [] = 0
+debt w (e ∷ h) = with_owed (window_set e) (last_window w h) (debt w h - consumed_by h e)
 
 -- the credit of a connection with such a window, of which so many bytes were consumed, with such a debt, and so many came
 pub record CreditFrom (window used owed came : ℕ) (c : Credit) : Type 0 where
   pub receive_window : c.receive_window ≡ window
   pub debt : c.shrink_debt ≡ owed
-  -- the limit is the window, what was consumed and the debt, as long as these stay below 2^64
-  pub limit : window + used + owed < 2 ^ 64 → c.local_max_data ≡ window + used + owed
-  -- and it is never more
-  pub limit_most : c.local_max_data ≤ window + used + owed
-  pub limit_fits : c.local_max_data < 2 ^ 64
+  pub debt_fits : c.shrink_debt < 2 ^ 64
+  -- the limit is the window, what was consumed and the debt, up to the greatest number of 64 bits
+  pub limit : c.local_max_data ≡ min (window + used + owed) (2 ^ 64 - 1)
   pub received : c.data_recvd ≡ came
   pub permitted : came ≤ c.local_max_data
   -- what was received and not consumed is at most the window and the debt
@@ -363,13 +387,23 @@ pub record EndsSo (t : Trace) : Type 0 where
 
 -- what a history says of the end that it led to
 pub record Facts (window : ℕ) (h : List Event) (v : World) : Type 0 where
-  pub credit : CreditFrom window (consumed h) (debt h) (received h) v.credit
+  pub credit : CreditFrom (last_window window h) (consumed h) (debt window h) (received h) v.credit
   pub streams : (q : ℕ) → StreamFrom (trace h q) (id_refusal v q) (v.receive q)
 
 -- of a stream that is neither stopped nor reset, as many bytes were read as a known final size tells, where reads tell the end, exactly where each byte below it was given
 abbrev pub TellsEnds : List Event → World → Type 0
 TellsEnds h v = (q : ℕ) (half : Half) → v.receive q ≡ Some half → half.stopped ≡ false → half.reset ≡ None → (size : ℕ) → half.size ≡ Some size
     → (half.buffer.bytes_read ≡ size) ↔ IsAllGiven (slices (trace h q).given) size
+
+-- how many streams of each direction the peer is to be able to use at a time, once a call was made
+abbrev pub with_count_set : Event → (Dir → ℕ) → Dir → ℕ
+with_count_set (SetConcurrent dir count (Ok u)) f = with_count_of dir count f
+with_count_set _ f = f
+
+-- and after all calls
+abbrev pub counts : (Dir → ℕ) → List Event → Dir → ℕ
+counts f [] = f
+counts f (e ∷ h) = with_count_set e (counts f h)
 
 -- how many streams the peer might open before the last call
 abbrev pub before : (m : Made) (h : List Event) (v : World) → IsRun m h v → Dir → ℕ
@@ -378,7 +412,7 @@ before m (e ∷ h) v run d = (remote_of run.0 d).max_remote
 
 -- how many streams the peer may open, now
 abbrev pub PermitsNow : (m : Made) (h : List Event) (v : World) → IsRun m h v → Type 0
-PermitsNow m h v run = (d : Dir) → RemoteFrom (count_of m d) (before m h v run d) (is_freed (trace h) v.side v.sends d) (remote_of v d)
+PermitsNow m h v run = (d : Dir) → RemoteFrom (counts (count_of m) h d) (before m h v run d) (is_freed (trace h) v.side v.sends d) (remote_of v d)
 
 -- and so after each call
 abbrev pub EverPermits : (m : Made) (h : List Event) (v : World) → IsRun m h v → Type 0

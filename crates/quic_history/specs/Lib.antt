@@ -4,3 +4,4 @@ pub mod World
 pub mod Receiving
 pub mod Reading
 pub mod History
+pub mod Permitting

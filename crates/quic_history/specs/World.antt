@@ -8,7 +8,7 @@ use Rattle.quic_values.specs.Ids.{other_side, stream_id, initiator_of, dir_of, i
 use Rattle.quic_wire.specs.declared.event.StreamEvent.{StreamEvent}
 use Rattle.quic_wire.specs.declared.event.StreamEvent.TheVariants as stream_event
 use Rattle.quic_wire.specs.declared.error.TheConstants.TransportError.{STREAM_LIMIT_ERROR, STREAM_STATE_ERROR}
-use Rattle.quic_limits.specs.Credit.{Credit, new_credit, credited, counted}
+use Rattle.quic_limits.specs.Credit.{Credit, new_credit, credited, counted, resized}
 use Rattle.quic_limits.specs.Remote.{Remote, new_remote, replaced, replacement, opened_up_to}
 use Rattle.quic_receiving.specs.Half.{Half, new_half}
 use Rattle.quic_history.specs.Halves.{Halves, with_half, with_first}
@@ -142,6 +142,10 @@ noticed w id readable = if is_own w id then told_readable w id readable
 
 abbrev pub with_credit : World → ℕ → World
 with_credit w n = record w { credit = credited w.credit n }
+
+-- the receive window was set
+abbrev pub with_receive_window : World → ℕ → World
+with_receive_window w n = record w { credit = resized w.credit n }
 
 -- the highest offsets grew by n
 abbrev pub with_counted : World → ℕ → World

@@ -1,5 +1,5 @@
 -- The streams of one direction that the peer may open (RFC 9000 section 4.6).
-use Rattle.std.specs.Prelude.{ℕ, Bool, true, false, ◌+◌, ◌-◌, ◌/◌, ◌^◌, ◌&&◌, ◌≤◌, ◌≡◌, nat_le, nat_lt, if◌then◌else◌, Option, Some, None}
+use Rattle.std.specs.Prelude.{ℕ, Bool, true, false, ◌+◌, ◌-◌, ◌/◌, ◌^◌, ◌&&◌, ◌≤◌, ◌<◌, ◌≡◌, nat_le, nat_lt, min, if◌then◌else◌, Option, Some, None}
 
 -- max_remote: how many it may open in all
 -- sent_max_remote: the last count that was announced
@@ -51,10 +51,30 @@ is_max_streams_due r = nat_lt (r.max_concurrent / 8) (r.max_remote - r.sent_max_
 abbrev pub streams_announced : Remote → Remote
 streams_announced r = record r { sent_max_remote = r.max_remote }
 
+-- how many more are permitted once it is to be able to use so many at a time; there are 2^60 streams at most
+abbrev pub lacking : Remote → ℕ → ℕ
+lacking r count = min (count - r.allocated) (2 ^ 60 - r.max_remote)
+
+-- it is to be able to use so many at a time
+abbrev pub with_concurrent : Remote → ℕ → Remote
+with_concurrent r count = record r { max_concurrent = count; max_remote = r.max_remote + lacking r count; allocated = r.allocated + lacking r count }
+
+-- the lowest index that the application did not accept, if the peer opened it
+abbrev pub acceptable_index : Remote → Option ℕ
+acceptable_index r = if nat_lt r.next_reported r.next_remote then Some r.next_reported else None
+
+-- it was accepted
+abbrev pub one_accepted : Remote → Remote
+one_accepted r = if nat_lt r.next_reported r.next_remote then record r { next_reported = r.next_reported + 1 } else r
+
+-- how many of those that it opened are not wholly freed, as far as the counts tell
+abbrev pub open_now : Remote → ℕ
+open_now r = r.next_remote - (r.max_remote - r.allocated)
+
 -- what is true of all
 pub record IsRemote (r : Remote) : Type 0 where
   pub max_remote : r.max_remote ≤ 2 ^ 60
-  pub max_concurrent : r.max_concurrent ≤ 2 ^ 60
+  pub max_concurrent : r.max_concurrent < 2 ^ 62
   pub sent : r.sent_max_remote ≤ r.max_remote
   pub allocated : r.allocated ≤ r.max_remote
   pub enough : lacks_streams r ≡ false

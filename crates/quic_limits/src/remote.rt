@@ -1,9 +1,9 @@
 //! The streams of one direction that the peer may open (RFC 9000 section 4.6).
 
-ghost use Rattle.std.specs.Prelude.{◌≡◌, ◌<◌, ◌≤◌, ◌^◌, IfSome, nat_le};
-ghost use Rattle.quic_limits.specs.Remote.{Remote, IsRemote, new_remote, replaced, replacement, opened_up_to, is_max_streams_due, streams_announced};
+ghost use Rattle.std.specs.Prelude.{◌≡◌, ◌+◌, ◌<◌, ◌≤◌, ◌^◌, IfSome, nat_le};
+ghost use Rattle.quic_limits.specs.Remote.{Remote, IsRemote, new_remote, replaced, replacement, opened_up_to, is_max_streams_due, streams_announced, lacking, with_concurrent, acceptable_index, one_accepted, open_now};
 
-use quic_values::MAX_STREAM_COUNT;
+use quic_values::{MAX_STREAM_COUNT, VarInt};
 use std::marker::Model;
 
 /// How many streams of one direction the peer may open, and which it opened.
@@ -128,5 +128,49 @@ impl RemoteStreams {
         ensures { self.new ≡ streams_announced self.old }
     {
         self.sent_max_remote = self.max_remote;
+    }
+
+    /// How many more streams are permitted once the peer is to be able to use so many at a time.
+    pub fn lacking(&self, count: VarInt) -> u64
+        ensures lacking { result ≡ lacking self.now count }
+        ensures within { self.now.max_remote + result ≤ 2 ^ 60 }
+    {
+        let free = count.into_inner().saturating_sub(self.allocated);
+        free.min(MAX_STREAM_COUNT - self.max_remote)
+    }
+
+    /// Sets how many streams the peer is to be able to use at a time. Where it may use fewer, more are permitted, those
+    /// of the lowest indices that were not. A lower count takes nothing back.
+    pub fn set_max_concurrent(&mut self, count: VarInt)
+        ensures { self.new ≡ with_concurrent self.old count }
+    {
+        let more = self.lacking(count);
+        self.max_concurrent = count.into_inner();
+        self.max_remote += more;
+        self.allocated += more;
+    }
+
+    /// Accepts the stream of the lowest index that the peer opened and that was not accepted, and answers its index.
+    pub fn accept(&mut self) -> Option<u64>
+        ensures remote { self.new ≡ one_accepted self.old }
+        ensures index { result ≡ acceptable_index self.old }
+        ensures small { IfSome result (λ index. index < 2 ^ 60) }
+    {
+        if self.next_reported >= self.next_remote {
+            return None;
+        }
+        let index = self.next_reported;
+        self.next_reported += 1;
+        Some(index)
+    }
+
+    /// How many streams that the peer opened are not wholly freed. Streams that it may use and did not open count
+    /// against those that were freed, so the number may be less than that, and is 0 then.
+    #[inline]
+    pub fn open_now(&self) -> u64
+        ensures { result ≡ open_now self.now }
+    {
+        self.next_remote
+            .saturating_sub(self.max_remote - self.allocated)
     }
 }
