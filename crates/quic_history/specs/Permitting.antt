@@ -1,12 +1,12 @@
 -- How many streams the peer may open, and which the application accepts.
-use Rattle.std.specs.Prelude.{ℕ, ◌≡◌, Option, Some, None, Result, Ok, Err}
+use Rattle.std.specs.Prelude.{ℕ, Bool, false, not, ◌&&◌, ◌≡◌, Option, Some, None, is_none, Result, Ok, Err}
 use Rattle.std.specs.Option.{option_map}
 use Rattle.quic_values.specs.declared.memory.OutOfMemory.{OutOfMemory}
 use Rattle.quic_values.specs.declared.ids.Dir.{Dir}
 use Rattle.quic_values.specs.declared.ids.Dir.TheVariants.{Bi, Uni}
 use Rattle.quic_values.specs.Ids.{stream_id, other_side}
 use Rattle.quic_limits.specs.Remote.{Remote, lacking, with_concurrent, acceptable_index, one_accepted}
-use Rattle.quic_receiving.specs.Half.{new_half}
+use Rattle.quic_receiving.specs.Half.{Half, new_half}
 use Rattle.quic_history.specs.Halves.{with_more}
 use Rattle.quic_history.specs.Sends.{with_more_sends}
 use Rattle.quic_history.specs.World.{World, remote_of, with_remote}
@@ -43,3 +43,8 @@ acceptable w d = option_map (stream_id (other_side w.side) d) (acceptable_index 
 -- it was accepted, if there is one
 abbrev pub with_accepted : World → Dir → World
 with_accepted w d = with_remote w d (one_accepted (remote_of w d))
+
+-- whether MAX_STREAM_DATA is of use on a stream: its half is held and not stopped, and its final size is not known
+abbrev pub is_flow_controlled : Option Half → Bool
+is_flow_controlled None = false
+is_flow_controlled (Some h) = not h.stopped && is_none h.size

@@ -4,7 +4,8 @@ ghost use Rattle.std.specs.Prelude.{true, ◌≡◌, ◌+◌, ◌<◌, ◌≤◌
 ghost use Rattle.std.specs.Option.{option_map};
 ghost use Rattle.quic_receiving.specs.Half.{new_half};
 ghost use Rattle.quic_streams.specs.Held.{held, room};
-ghost use Rattle.quic_history.specs.Halves.{with_half, with_first, taken, is_due_in, TellsCode};
+ghost use Rattle.quic_history.specs.Halves.{with_half, with_first, with_more, taken, is_due_in, TellsCode};
+ghost use Rattle.quic_history.specs.Permitting.{is_flow_controlled};
 
 use quic_receiving::{ClosedStream, Recv};
 use quic_values::{Dir, OutOfMemory, Side, StreamId, VarInt};
@@ -73,6 +74,29 @@ impl ReceiveHalves {
             self.permit(StreamId::new(initiator, dir, index));
         }
         Ok(())
+    }
+
+    /// So many streams of an initiator and a direction are permitted, from an index on. There is room for them.
+    pub(crate) fn permit_more(&mut self, initiator: Side, dir: Dir, first: u64, count: u64)
+        requires room { count ≤ room self.old }
+        requires few { first + count ≤ 2 ^ 60 }
+        ensures held { held self.new ≡ with_more (held self.old) initiator dir first count (Some (new_half self.old.window)) }
+        ensures window { self.new.window ≡ self.old.window }
+    {
+        for offset in 0..count {
+            self.permit(StreamId::new(initiator, dir, first + offset));
+        }
+    }
+
+    /// Whether the half of a stream is held, is not stopped, and its final size is not known.
+    pub(crate) fn is_flow_controlled(&self, id: StreamId) -> bool
+        ensures { result ≡ is_flow_controlled (held self.now id) }
+    {
+        match self.entries.get(&id) {
+            None => false,
+            Some(None) => true,
+            Some(Some(half)) => !half.is_stopped() && half.final_offset_unknown(),
+        }
     }
 
     /// Takes a half out, to be put back or removed. It is made where nothing came yet.

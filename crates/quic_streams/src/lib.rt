@@ -3,11 +3,13 @@
 
 pub mod batches;
 pub mod halves;
+mod permits;
 pub mod reading;
 mod receiving;
 pub mod recv_stream;
 pub mod sends;
 pub mod state;
+pub mod streams;
 
 pub use quic_history::progress;
 pub use quic_pieces::{assembler, datagrams, send, send_buffer, source, stats};

@@ -2,7 +2,7 @@
 
 ghost use Rattle.std.specs.Prelude.{◌≡◌, ◌+◌, ◌<◌, ◌≤◌, ◌^◌, OnOk, false, true};
 ghost use Rattle.quic_streams.specs.Held.{sending, send_room};
-ghost use Rattle.quic_history.specs.Sends.{with_send, with_first_sends};
+ghost use Rattle.quic_history.specs.Sends.{with_send, with_first_sends, with_more_sends};
 
 use quic_sending::send::Send;
 use quic_values::{Dir, OutOfMemory, Side, StreamId};
@@ -61,6 +61,17 @@ impl SendHalves {
             self.permit(StreamId::new(initiator, dir, index));
         }
         Ok(())
+    }
+
+    /// So many streams of an initiator and a direction are permitted, from an index on. There is room for them.
+    pub(crate) fn permit_more(&mut self, initiator: Side, dir: Dir, first: u64, count: u64)
+        requires room { count ≤ send_room self.old }
+        requires few { first + count ≤ 2 ^ 60 }
+        ensures { sending self.new ≡ with_more_sends (sending self.old) initiator dir first count }
+    {
+        for offset in 0..count {
+            self.permit(StreamId::new(initiator, dir, first + offset));
+        }
     }
 
     /// Whether the half of a stream is held.

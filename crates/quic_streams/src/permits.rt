@@ -1,0 +1,96 @@
+//! How much the peer may send and open.
+
+ghost use Rattle.std.specs.Prelude.{ℕ, List, ◌∷◌, ◌≡◌, ◌+◌, ◌<◌, ◌≤◌, ◌^◌, OnOk, nat_lt};
+ghost use Rattle.quic_limits.specs.Remote.{open_now, with_concurrent};
+ghost use Rattle.quic_streams.specs.Held.{room, send_room};
+ghost use Rattle.quic_streams.specs.Shown.{shown};
+ghost use Rattle.quic_history.specs.World.{Made, remote_of, with_receive_window};
+ghost use Rattle.quic_history.specs.Permitting.{SetsConcurrent, is_flow_controlled};
+ghost use Rattle.quic_history.specs.History.{Event, Resized, SetConcurrent, From};
+
+use crate::state::StreamsState;
+use quic_values::{Dir, OutOfMemory, StreamId, VarInt};
+
+#[tactic(auto, unfolding(crate::specs::Shown::shown))]
+impl StreamsState {
+    /// Sets how many bytes of all streams may be received and not consumed (RFC 9000 section 4.1). A larger window
+    /// raises the limit of the connection by the gain, and the answer is true: MAX_DATA is to be sent. A smaller one
+    /// leaves the limit, and bytes that are consumed give no credit until the loss is made up.
+    pub fn set_receive_window(&mut self, receive_window: VarInt) -> bool
+        ensures window { shown self.new ≡ with_receive_window (shown self.old) receive_window }
+        ensures rises { result ≡ nat_lt (shown self.old).credit.receive_window receive_window }
+        ensures from { (m : Made) (h : List Event) → From m h (shown self.old) → From m (Resized receive_window result ∷ h) (shown self.new) }
+    {
+        self.credit.set_receive_window(receive_window)
+    }
+
+    /// Sets how many streams of a direction the peer is to be able to use at a time (RFC 9000 section 4.6). Where it may
+    /// use fewer, more are permitted at once; a lower count takes nothing back. [`StreamsState::queue_max_stream_id`]
+    /// then queues what tells the peer. A refusal changes nothing.
+    pub fn set_max_concurrent(&mut self, dir: Dir, count: VarInt) -> Result<(), OutOfMemory>
+        ensures sets { SetsConcurrent (shown self.old) dir count result (shown self.new) }
+        ensures from { (m : Made) (h : List Event) → From m h (shown self.old) → From m (SetConcurrent dir count result ∷ h) (shown self.new) }
+    {
+        self.set_concurrent(dir, count)
+    }
+
+    // The same, by direction.
+    fn set_concurrent(&mut self, dir: Dir, count: VarInt) -> Result<(), OutOfMemory>
+        ensures { SetsConcurrent (shown self.old) dir count result (shown self.new) }
+    {
+        match dir {
+            Dir::Bi => self.set_concurrent_bi(count),
+            Dir::Uni => self.set_concurrent_uni(count),
+        }
+    }
+
+    fn set_concurrent_bi(&mut self, count: VarInt) -> Result<(), OutOfMemory>
+        ensures { SetsConcurrent (shown self.old) Dir.Bi count result (shown self.new) }
+    {
+        let (first, more) = (self.bi.max_remote(), self.bi.lacking(count));
+        self.receive.reserve(more as usize)?;
+        self.send.reserve(more as usize)?;
+        self.receive.permit_more(!self.side, Dir::Bi, first, more);
+        self.send.permit_more(!self.side, Dir::Bi, first, more);
+        self.bi.set_max_concurrent(count);
+        Ok(())
+    }
+
+    fn set_concurrent_uni(&mut self, count: VarInt) -> Result<(), OutOfMemory>
+        ensures { SetsConcurrent (shown self.old) Dir.Uni count result (shown self.new) }
+    {
+        let (first, more) = (self.uni.max_remote(), self.uni.lacking(count));
+        self.receive.reserve(more as usize)?;
+        self.receive.permit_more(!self.side, Dir::Uni, first, more);
+        self.uni.set_max_concurrent(count);
+        Ok(())
+    }
+
+    /// How many streams of a direction the peer may use now: those that were permitted and are not wholly freed.
+    pub fn max_concurrent(&self, dir: Dir) -> u64
+        ensures { result ≡ (remote_of (shown self.now) dir).allocated }
+    {
+        match dir {
+            Dir::Bi => self.bi.allocated(),
+            Dir::Uni => self.uni.allocated(),
+        }
+    }
+
+    // How many streams of a direction the peer has open.
+    pub(crate) fn remote_open(&self, dir: Dir) -> u64
+        ensures { result ≡ open_now (remote_of (shown self.now) dir) }
+    {
+        match dir {
+            Dir::Bi => self.bi.open_now(),
+            Dir::Uni => self.uni.open_now(),
+        }
+    }
+
+    /// Whether MAX_STREAM_DATA would be of use to the peer on a stream: its receive half is held and not stopped, and the
+    /// final size is not known (RFC 9000 section 4.1).
+    pub fn can_send_flow_control(&self, id: StreamId) -> bool
+        ensures { result ≡ is_flow_controlled ((shown self.now).receive id) }
+    {
+        self.receive.is_flow_controlled(id)
+    }
+}

@@ -1,0 +1,83 @@
+//! The streams of a connection, for the application.
+
+ghost use Rattle.std.specs.Prelude.{ℕ, List, ◌∷◌, ◌≡◌, ◌<◌, ◌^◌, IfSome, Option};
+ghost use Rattle.std.specs.Option.{option_map};
+ghost use Rattle.quic_limits.specs.Remote.{open_now, one_accepted, acceptable_index};
+ghost use Rattle.quic_streams.specs.Shown.{shown};
+ghost use Rattle.quic_history.specs.World.{Made, remote_of};
+ghost use Rattle.quic_history.specs.Permitting.{with_accepted, acceptable};
+ghost use Rattle.quic_history.specs.History.{Event, Accepted, From};
+
+use crate::state::StreamsState;
+use quic_values::{Dir, StreamId};
+
+/// Whether a connection is open.
+#[derive(Clone, Copy, Debug, PartialEq, Eq)]
+pub enum ConnState {
+    /// Streams may be opened and written.
+    Open,
+    /// Nothing is sent any more.
+    Closed,
+}
+
+/// The streams of a connection.
+#[derive(Drop)]
+pub struct Streams<'a> {
+    pub(crate) state: &'a mut StreamsState,
+    pub(crate) conn: ConnState,
+}
+
+impl<'a> Streams<'a> {
+    /// The streams of a connection that is open or closed.
+    pub fn new(state: &'a mut StreamsState, conn: ConnState) -> Self
+        ensures same_state { result.state.ghost_name ≡ state.entry.ghost_name }
+        ensures state { result.state.now ≡ state.old }
+        ensures conn { result.conn ≡ conn }
+    {
+        Streams { state, conn }
+    }
+
+    /// Accepts the next stream of a direction that the peer opened, each once and in the order of their ids, also those
+    /// of which nothing came yet (RFC 9000 section 2.1).
+    pub fn accept(&mut self, dir: Dir) -> Option<StreamId>
+        ensures same_state { self.new.state.ghost_name ≡ self.old.state.ghost_name }
+        ensures conn { self.new.conn ≡ self.old.conn }
+        ensures id { result ≡ acceptable (shown self.old.state.now) dir }
+        ensures accepted { shown self.new.state.now ≡ with_accepted (shown self.old.state.now) dir }
+        ensures from { (m : Made) (h : List Event) → From m h (shown self.old.state.now) → From m (Accepted dir result ∷ h) (shown self.new.state.now) }
+    {
+        self.state.accept(dir)
+    }
+
+    /// The state of the streams.
+    pub fn state(&self) -> &StreamsState
+        ensures { result.now ≡ self.now.state.now }
+    {
+        self.state
+    }
+
+    /// How many streams of a direction the peer has open: those that it opened, less those that were wholly freed.
+    pub fn remote_open_streams(&self, dir: Dir) -> u64
+        ensures { result ≡ open_now (remote_of (shown self.now.state.now) dir) }
+    {
+        self.state.remote_open(dir)
+    }
+}
+
+#[tactic(auto, unfolding(crate::specs::Shown::shown))]
+impl StreamsState {
+    // Accepts the next stream of a direction.
+    pub(crate) fn accept(&mut self, dir: Dir) -> Option<StreamId>
+        ensures id { result ≡ acceptable (shown self.old) dir }
+        ensures accepted { shown self.new ≡ with_accepted (shown self.old) dir }
+    {
+        let index = match dir {
+            Dir::Bi => self.bi.accept(),
+            Dir::Uni => self.uni.accept(),
+        };
+        match index {
+            Some(index) => Some(StreamId::new(!self.side, dir, index)),
+            None => None,
+        }
+    }
+}
