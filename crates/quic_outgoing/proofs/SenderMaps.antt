@@ -1,5 +1,5 @@
 -- Lemmas on maps from ids to send halves.
-use Rattle.std.proofs.Common.{◌≡◌, ◌≤◌, ℕ, Bool, true, false, cond, eqb, Option, Some, None, max, refl, sym, ap, ◌∙◌, arith}
+use Rattle.std.proofs.Common.{◌≡◌, ◌≤◌, ℕ, Bool, true, false, cond, eqb, Option, Some, None, is_some, max, refl, sym, ap, ◌∙◌, arith}
 use Rattle.std.specs.Prelude.{◌==◌}
 use Rattle.std.proofs.lemmas.Bool.{eqb-true}
 use Rattle.std.proofs.lemmas.Grind.{common_steps}
@@ -85,3 +85,6 @@ raised-at side a b q None = refl
 raised-at side a b q (Some None) = ap (λ n. Some (new_sender n)) (first-joined (is_local side q) (dir_of q) a b)
 raised-at side a b q (Some (Some h)) = ap (λ n. Some (raised n (bare h.value))) (first-joined (is_local side q) (dir_of q) a b)
     ∙ ap Some (raised-raised (first_limit side a q) (first_limit side b q) (bare h.value))
+
+pub is-there : (f : SendersById) (id : ℕ) (s : Send) → is_some ((with_sender f id (Some s)) id) ≡ true
+is-there f id s = ap is_some (sender-there f id (Some s))

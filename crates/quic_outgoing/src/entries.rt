@@ -3,9 +3,10 @@
 ghost use Rattle.std.specs.Prelude.{◌≡◌, ◌+◌, ◌<◌, ◌≤◌, ◌^◌, Some, None, IfOk, IfSome, IfNone, OnOk, OnErr, is_some, true, false, max};
 ghost use Rattle.std.specs.Option.{option_map};
 ghost use Rattle.quic_outgoing.specs.Senders.{bare, new_sender, with_sender, with_first_of_peer, first_limit, first_for, is_same_end, is_local, no_limits, joined, raised_by};
+ghost use Rattle.quic_outgoing.specs.Calls.{told_of_half, blocked_limit};
 ghost use Rattle.quic_outgoing.specs.Seen.{senders, sender_room};
 
-use quic_sending::Send;
+use quic_sending::{ClosedStream, Send};
 use quic_values::{Dir, OutOfMemory, Side, StreamId, VarInt};
 use std::alloc::Global;
 use std::collections::HashMap;
@@ -150,6 +151,7 @@ impl SendEntries {
         ensures half { IfOk result (λ half. option_map (λ b. bare b.value) half ≡ senders self.old id) }
         ensures limit { IfOk result (λ half. IfSome half (λ b. first_limit self.old.side self.old.first id ≤ b.value.max_data)) }
         ensures halves { IfOk result (λ half. IfSome half (λ b. senders self.new ≡ with_sender (senders self.old) id (Some (new_sender (first_limit self.old.side self.old.first id))))) }
+        ensures there { IfOk result (λ half. IfSome half (λ _. is_some (senders self.new id) ≡ true)) }
         ensures none { IfOk result (λ half. IfNone half (senders self.new ≡ senders self.old)) }
         ensures err { OnErr result (senders self.new ≡ senders self.old) }
         ensures side { self.new.side ≡ self.old.side }
@@ -170,6 +172,50 @@ impl SendEntries {
             None => {
                 let half = Box::new(self.alloc, Send::new(self.alloc, limit))?;
                 Ok(Some(half))
+            }
+        }
+    }
+
+    /// The code of the first STOP_SENDING that came for a stream.
+    pub(crate) fn stopped(&self, id: StreamId) -> Result<Option<VarInt>, ClosedStream>
+        ensures { result ≡ told_of_half (λ s. s.stop_reason) (senders self.now id) }
+    {
+        match self.entries.get(&id) {
+            None => Err(ClosedStream),
+            Some(None) => Ok(None),
+            Some(Some(half)) => Ok(half.stop_reason),
+        }
+    }
+
+    /// The priority of a stream.
+    pub(crate) fn priority(&self, id: StreamId) -> Result<i32, ClosedStream>
+        ensures { result ≡ told_of_half (λ s. s.priority) (senders self.now id) }
+    {
+        match self.entries.get(&id) {
+            None => Err(ClosedStream),
+            Some(None) => Ok(0),
+            Some(Some(half)) => Ok(half.priority),
+        }
+    }
+
+    /// The limit of a stream that holds new data back, where STREAM_DATA_BLOCKED was queued for that very limit.
+    pub(crate) fn blocked_limit(&self, id: StreamId) -> Option<VarInt>
+        ensures { result ≡ blocked_limit (senders self.now id) }
+    {
+        match self.entries.get(&id) {
+            None => None,
+            Some(None) => None,
+            Some(Some(half)) => {
+                let limit = greater(half.max_data, self.first_limit(id));
+                let told = match half.data_blocked_limit {
+                    Some(at) => at == limit.into_inner(),
+                    None => false,
+                };
+                if half.is_writable() && half.stop_reason.is_none() && told {
+                    Some(limit)
+                } else {
+                    None
+                }
             }
         }
     }

@@ -1,7 +1,7 @@
-use Rattle.std.proofs.Common.{rules, sym, ap, ◌∙◌, Some}
+use Rattle.std.proofs.Common.{rules, sym, ap, ◌∙◌, Some, is_some}
 use Rattle.quic_outgoing.specs.Seen.{senders, sender_in}
-use Rattle.quic_outgoing.specs.Senders.{first_limit, with_sender}
-use Rattle.quic_outgoing.proofs.SenderMaps.{senders-put, entry_sender, with_sender-back}
+use Rattle.quic_outgoing.specs.Senders.{first_limit, with_sender, new_sender}
+use Rattle.quic_outgoing.proofs.SenderMaps.{senders-put, entry_sender, with_sender-back, is-there}
 use Rattle.quic_outgoing.proofs.Results.{on_err}
 use Rattle.quic_outgoing.proofs.entries.SendEntries.take.Goals as goal
 
@@ -27,3 +27,19 @@ returns-in_ok-half-in-None-used-clause-halves c =
     let w = first_limit c.args.self.now.side c.args.self.now.first in
     let moved = senders-put w _ _ c.args.id _ ((c.get_mut.follows.holds c.take-used.new.self).3 (search rules)).0 in
     moved ∙ ap (λ o. with_sender (senders c.args.self.now) c.args.id (entry_sender (w c.args.id) (Some o))) c.take-used.ensures.after
+
+pub returns-in-Some-used-clause-there : goal.returns-in-Some-used-clause-there
+unfolding senders
+returns-in-Some-used-clause-there c =
+    let w = first_limit c.args.self.now.side c.args.self.now.first in
+    let moved = senders-put w _ _ c.args.id _ ((c.get_mut.follows.holds c.take-used.new.self).3 (search rules)).0 in
+    ap (λ f. is_some (f c.args.id)) (moved ∙ ap (λ o. with_sender (senders c.args.self.now) c.args.id (entry_sender (w c.args.id) (Some o))) c.take-used.ensures.after)
+    ∙ is-there (senders c.args.self.now) c.args.id (new_sender (w c.args.id))
+
+pub returns-in_ok-half-in-None-used-clause-there : goal.returns-in_ok-half-in-None-used-clause-there
+unfolding senders
+returns-in_ok-half-in-None-used-clause-there c =
+    let w = first_limit c.args.self.now.side c.args.self.now.first in
+    let moved = senders-put w _ _ c.args.id _ ((c.get_mut.follows.holds c.take-used.new.self).3 (search rules)).0 in
+    ap (λ f. is_some (f c.args.id)) (moved ∙ ap (λ o. with_sender (senders c.args.self.now) c.args.id (entry_sender (w c.args.id) (Some o))) c.take-used.ensures.after)
+    ∙ is-there (senders c.args.self.now) c.args.id (new_sender (w c.args.id))
