@@ -21,3 +21,15 @@ window_rooms r id = if is_in_ids r.max_stream_data id then 1 else spare r.max_st
 -- how many more STOP_SENDING frames can be queued without new memory
 abbrev pub stop_rooms : Retransmits → ℕ
 stop_rooms r = vec_capacity r.stop_sending - vec_len r.stop_sending
+
+-- a list of RESET_STREAM frames, with one more
+abbrev pub with_reset_stream : List (ℕ × ℕ) → ℕ → ℕ → List (ℕ × ℕ)
+with_reset_stream frames id code = frames ++ (id, code) ∷ []
+
+-- how many places there are for an id to be queued for STREAM_DATA_BLOCKED
+abbrev pub blocked_rooms : Retransmits → ℕ → ℕ
+blocked_rooms r id = if is_in_ids r.stream_data_blocked id then 1 else spare r.stream_data_blocked
+
+-- how many more RESET_STREAM frames can be queued without new memory
+abbrev pub reset_rooms : Retransmits → ℕ
+reset_rooms r = vec_capacity r.reset_stream - vec_len r.reset_stream

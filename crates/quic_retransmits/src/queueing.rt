@@ -1,9 +1,9 @@
-//! What reads and stops queue to be sent.
+//! What reads, stops, writes and resets queue to be sent.
 
 ghost use Rattle.std.specs.Prelude.{◌≡◌, ◌≤◌, ◌||◌, ℕ, true, OnOk};
 ghost use Rattle.quic_retransmits.specs.Pending.{shown_pending};
-ghost use Rattle.quic_retransmits.specs.Queueing.{with_id, with_stop_sending};
-ghost use Rattle.quic_retransmits.specs.Queueing.{window_rooms, stop_rooms};
+ghost use Rattle.quic_retransmits.specs.Queueing.{with_id, with_stop_sending, with_reset_stream};
+ghost use Rattle.quic_retransmits.specs.Queueing.{window_rooms, stop_rooms, blocked_rooms, reset_rooms};
 
 use crate::retransmits::Retransmits;
 use quic_values::{OutOfMemory, StreamId, VarInt};
@@ -56,5 +56,48 @@ impl Retransmits {
             self.stop_sending
                 .push_reserved(StopSending { id, error_code });
         }
+    }
+
+    /// Queues DATA_BLOCKED where that is due.
+    pub fn queue_data_blocked(&mut self, due: bool)
+        ensures { shown_pending self.new ≡ record (shown_pending self.old) { data_blocked = (shown_pending self.old).data_blocked || due } }
+    {
+        self.data_blocked |= due;
+    }
+
+    /// Makes room to queue STREAM_DATA_BLOCKED for one more stream.
+    pub fn reserve_stream_blocked(&mut self, id: StreamId) -> Result<(), OutOfMemory>
+        ensures same { shown_pending self.new ≡ shown_pending self.old }
+        ensures ok { OnOk result (1 ≤ blocked_rooms self.new id) }
+    {
+        self.stream_data_blocked.reserve(1)?;
+        Ok(())
+    }
+
+    /// Queues STREAM_DATA_BLOCKED for a stream where that is due, in room that was made.
+    pub fn queue_stream_blocked(&mut self, id: StreamId, due: bool)
+        requires { due ≡ true → 1 ≤ blocked_rooms self.old id }
+        ensures { shown_pending self.new ≡ record (shown_pending self.old) { stream_data_blocked = with_id (shown_pending self.old).stream_data_blocked id due } }
+    {
+        if due {
+            let _ = self.stream_data_blocked.insert(id);
+        }
+    }
+
+    /// Makes room to queue one more RESET_STREAM.
+    pub fn reserve_reset(&mut self) -> Result<(), OutOfMemory>
+        ensures same { shown_pending self.new ≡ shown_pending self.old }
+        ensures ok { OnOk result (1 ≤ reset_rooms self.new) }
+    {
+        self.reset_stream.reserve(1)?;
+        Ok(())
+    }
+
+    /// Queues RESET_STREAM, in room that was made.
+    pub fn queue_reset(&mut self, id: StreamId, error_code: VarInt)
+        requires { 1 ≤ reset_rooms self.old }
+        ensures { shown_pending self.new ≡ record (shown_pending self.old) { reset_stream = with_reset_stream (shown_pending self.old).reset_stream id error_code } }
+    {
+        self.reset_stream.push_reserved((id, error_code));
     }
 }

@@ -1,0 +1,2 @@
+pub mod SenderMaps
+pub mod Results

@@ -1,0 +1,5 @@
+pub mod Senders
+pub mod Seen
+pub mod Outgoing
+pub mod Calls
+pub mod Shown

@@ -1,0 +1,102 @@
+//! The end of a stream, and its priority.
+
+ghost use Rattle.std.specs.Prelude.{◌≡◌, ◌≤◌, ◌<◌};
+ghost use Rattle.quic_retransmits.specs.Pending.{shown_pending};
+ghost use Rattle.quic_outgoing.specs.Calls.{QueuesAt, Finishes, Resets, SetsPriority, told_of_half};
+ghost use Rattle.quic_outgoing.specs.Shown.{view_of, permit_room};
+
+use crate::outgoing::OutgoingStreams;
+use quic_receiving::HandleError;
+use quic_retransmits::Retransmits;
+use quic_sending::{ClosedStream, FinishError, Send};
+use quic_values::{StreamId, VarInt};
+
+#[tactic(auto, unfolding(crate::specs::Shown::view_of, crate::specs::Shown::permit_room), using(crate::proofs::SenderMaps::sender_steps))]
+impl OutgoingStreams {
+    /// Ends a stream: its end is to be sent, and nothing more is written. Answers the priority at which it is to be
+    /// queued, where nothing was to be sent on it before. If refused, all is as it was.
+    pub fn finish(&mut self, id: StreamId) -> Result<Option<i32>, FinishError>
+        ensures { Finishes (view_of self.old) id result (view_of self.new) }
+    {
+        match self.halves.take(id) {
+            Err(_) => Err(FinishError::OutOfMemory),
+            Ok(None) => Err(FinishError::ClosedStream),
+            Ok(Some(half)) => {
+                let mut half = half;
+                let queue_at = queue_at(&half);
+                let answer = half.finish();
+                self.halves.put(id, half);
+                match answer {
+                    Err(error) => Err(error),
+                    Ok(()) => Ok(queue_at),
+                }
+            }
+        }
+    }
+
+    /// Gives a stream up: what is retained of it is let go, and RESET_STREAM is queued with this code (RFC 9000 section
+    /// 19.4). A stream that was reset is closed. If refused, all is as it was.
+    pub fn reset(
+        &mut self,
+        pending: &mut Retransmits,
+        id: StreamId,
+        error_code: VarInt,
+    ) -> Result<(), HandleError>
+        ensures { Resets (view_of self.old) id error_code (shown_pending pending.old) result (view_of self.new) (shown_pending pending.new) }
+    {
+        if pending.reserve_reset().is_err() {
+            return Err(HandleError::OutOfMemory);
+        }
+        match self.halves.take(id) {
+            Err(_) => Err(HandleError::OutOfMemory),
+            Ok(None) => Err(HandleError::ClosedStream),
+            Ok(Some(half)) => {
+                let mut half = half;
+                if half.is_reset() {
+                    self.halves.put(id, half);
+                    return Err(HandleError::ClosedStream);
+                }
+                let retained = half.pending.buffered();
+                half.reset();
+                self.halves.put(id, half);
+                self.budget.release(retained);
+                pending.queue_reset(id, error_code);
+                Ok(())
+            }
+        }
+    }
+
+    /// Sets the priority at which a stream is queued from now on: a higher one is sent first.
+    pub fn set_priority(&mut self, id: StreamId, priority: i32) -> Result<(), HandleError>
+        ensures { SetsPriority (view_of self.old) id priority result (view_of self.new) }
+    {
+        match self.halves.take(id) {
+            Err(_) => Err(HandleError::OutOfMemory),
+            Ok(None) => Err(HandleError::ClosedStream),
+            Ok(Some(half)) => {
+                let mut half = half;
+                half.priority = priority;
+                self.halves.put(id, half);
+                Ok(())
+            }
+        }
+    }
+
+    /// The priority of a stream: the one that was set last, at first 0.
+    pub fn priority(&self, id: StreamId) -> Result<i32, ClosedStream>
+        ensures { result ≡ told_of_half (λ s. s.priority) ((view_of self.now).halves id) }
+    {
+        self.halves.priority(id)
+    }
+}
+
+// The priority at which a stream is to be queued, where nothing was to be sent on it.
+pub(crate) fn queue_at(half: &Send) -> Option<i32>
+    ensures { QueuesAt half.now result }
+{
+    if half.is_pending() {
+        None
+    } else {
+        Some(half.priority)
+    }
+}

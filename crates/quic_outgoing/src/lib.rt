@@ -1,0 +1,15 @@
+//! The sending side of a connection's streams (RFC 9000 sections 2 to 4).
+#![tactic(auto)]
+
+mod closing;
+mod entries;
+mod limits;
+mod outgoing;
+mod peer;
+// mod polling;
+// mod writing;
+
+pub use entries::FirstLimits;
+pub use limits::PeerLimits;
+pub use outgoing::OutgoingStreams;
+// pub use writing::Wrote;

@@ -1,0 +1,195 @@
+//! The streams on which one end of a connection sends.
+
+ghost use Rattle.std.specs.Prelude.{◌≡◌, ◌+◌, ◌<◌, ◌≤◌, ◌^◌, ◌⊎◌, ◌↔◌, Some, None, OnOk, is_some, nat_le};
+ghost use Rattle.quic_limits.specs.SendingCredit.{writable, with_limit, with_window, is_blocked_reported};
+ghost use Rattle.quic_outgoing.specs.Senders.{with_sender, with_first_of_peer};
+ghost use Rattle.quic_values.specs.Ids.{dir_of, index_of};
+ghost use Rattle.quic_outgoing.specs.Outgoing.{no_streams, with_stream, fresh, own_of, with_params};
+ghost use Rattle.quic_outgoing.specs.Calls.{Opens, RaisesStreams, told_of_half, blocked_limit};
+ghost use Rattle.quic_outgoing.specs.Shown.{view_of, permit_room};
+
+use crate::entries::{FirstLimits, SendEntries};
+use crate::limits::PeerLimits;
+use quic_limits::{OwnStreams, SendCredit};
+use quic_sending::ClosedStream;
+use quic_values::{Dir, MAX_STREAM_COUNT, OutOfMemory, Side, StreamId, VarInt};
+use quic_wire::TransportError;
+use std::alloc::Global;
+
+/// The streams on which one end of a connection sends (RFC 9000 sections 2 to 4): those that it opened, and the
+/// bidirectional ones that the peer opened or may open.
+///
+/// It keeps no queue of streams with data to send and no list of events: each call answers what its caller is to queue.
+#[derive(Drop)]
+pub struct OutgoingStreams {
+    pub(crate) own_bi: OwnStreams,
+    pub(crate) own_uni: OwnStreams,
+    pub(crate) budget: SendCredit,
+    pub(crate) halves: SendEntries,
+    // The streams that wait until something may be written. The last one is told of first.
+    pub(crate) blocked: Vec<StreamId>,
+}
+
+#[tactic(auto, unfolding(crate::specs::Shown::view_of, crate::specs::Shown::permit_room), using(crate::proofs::SenderMaps::sender_steps))]
+impl OutgoingStreams {
+    /// No streams. Nothing may be sent until the peer gives limits. At most `send_window` written bytes are to be
+    /// retained. Takes no memory.
+    pub fn new(alloc: Global, side: Side, send_window: u64) -> Self
+        ensures { view_of result ≡ no_streams side send_window }
+    {
+        OutgoingStreams {
+            own_bi: OwnStreams::new(),
+            own_uni: OwnStreams::new(),
+            budget: SendCredit::new(send_window),
+            halves: SendEntries::new(alloc, side),
+            blocked: Vec::new(alloc),
+        }
+    }
+
+    /// Makes room to permit so many more streams.
+    pub fn reserve(&mut self, additional: usize) -> Result<(), OutOfMemory>
+        ensures same { view_of self.new ≡ view_of self.old }
+        ensures ok { OnOk result (additional ≤ permit_room self.new) }
+        ensures room { permit_room self.old ≤ permit_room self.new }
+    {
+        self.halves.reserve(additional)
+    }
+
+    /// The peer may open a stream, for which room was made. Its half takes no memory until it is used.
+    pub fn permit(&mut self, id: StreamId)
+        requires { 0 < permit_room self.old }
+        ensures permitted { view_of self.new ≡ with_stream (view_of self.old) id (Some (fresh (view_of self.old) id)) }
+        ensures room { permit_room self.old ≤ permit_room self.new + 1 }
+    {
+        self.halves.permit(id);
+    }
+
+    /// Whether the send half of a stream is held.
+    pub fn contains(&self, id: StreamId) -> bool
+        ensures { result ≡ is_some ((view_of self.now).halves id) }
+    {
+        self.halves.contains(id)
+    }
+
+    /// Lets the send half of a stream go: it is sent on no more.
+    pub fn remove(&mut self, id: StreamId)
+        ensures removed { view_of self.new ≡ with_stream (view_of self.old) id None }
+        ensures room { permit_room self.old ≤ permit_room self.new }
+    {
+        self.halves.remove(id);
+    }
+
+    /// The peer gave its transport parameters (RFC 9000 section 7.4). Each limit counts that is above the one that was
+    /// held: of both counts of streams, of the data of the connection, and of each stream, whether it is open, permitted
+    /// or comes later. However many streams are held, this takes the same time.
+    pub fn set_params(&mut self, params: &PeerLimits)
+        ensures { view_of self.new ≡ with_params (view_of self.old) params.now }
+    {
+        let _ = self
+            .own_bi
+            .raise(params.initial_max_streams_bidi.into_inner());
+        let _ = self
+            .own_uni
+            .raise(params.initial_max_streams_uni.into_inner());
+        let _ = self.budget.raise(params.initial_max_data);
+        self.halves.raise_first(FirstLimits {
+            uni: params.initial_max_stream_data_uni,
+            own_bi: params.initial_max_stream_data_bidi_remote,
+            peer_bi: params.initial_max_stream_data_bidi_local,
+        });
+    }
+
+    /// Opens the next stream of a direction. `None`: as many were opened as the peer permits (RFC 9000 section 4.6). If
+    /// refused, nothing is opened.
+    pub fn open(&mut self, dir: Dir) -> Result<Option<StreamId>, OutOfMemory>
+        ensures { Opens (view_of self.old) dir result (view_of self.new) }
+    {
+        if self.opened(dir) >= self.max_streams(dir) {
+            return Ok(None);
+        }
+        self.halves.reserve(1)?;
+        let opened = match dir {
+            Dir::Bi => self.own_bi.open(),
+            Dir::Uni => self.own_uni.open(),
+        };
+        match opened {
+            None => Ok(None),
+            Some(index) => {
+                let id = StreamId::new(self.halves.side(), dir, index);
+                self.halves.permit(id);
+                Ok(Some(id))
+            }
+        }
+    }
+
+    /// How many streams of a direction this end opened.
+    pub fn opened(&self, dir: Dir) -> u64
+        ensures { result ≡ (own_of (view_of self.now) dir).opened }
+    {
+        match dir {
+            Dir::Bi => self.own_bi.opened(),
+            Dir::Uni => self.own_uni.opened(),
+        }
+    }
+
+    /// How many streams of a direction this end may open in all.
+    pub fn max_streams(&self, dir: Dir) -> u64
+        ensures { result ≡ (own_of (view_of self.now) dir).limit }
+    {
+        match dir {
+            Dir::Bi => self.own_bi.limit(),
+            Dir::Uni => self.own_uni.limit(),
+        }
+    }
+
+    /// Whether the index of a stream is at least the number of streams of its direction that this end opened.
+    pub fn is_local_unopened(&self, id: StreamId) -> bool
+        ensures { result ≡ nat_le (own_of (view_of self.now) (dir_of id)).opened (index_of id) }
+    {
+        id.index() >= self.opened(id.dir())
+    }
+
+    /// The peer sent MAX_DATA (RFC 9000 section 19.9). A limit does not fall.
+    pub fn raise_data(&mut self, limit: VarInt)
+        ensures { view_of self.new ≡ record (view_of self.old) { budget = with_limit (view_of self.old).budget limit } }
+    {
+        let _ = self.budget.raise(limit);
+    }
+
+    /// The peer sent MAX_STREAMS (RFC 9000 section 19.11). Answers whether more streams may be opened than before. A
+    /// count above 2^60 is a FRAME_ENCODING_ERROR.
+    pub fn raise_streams(&mut self, dir: Dir, count: u64) -> Result<bool, TransportError>
+        ensures { RaisesStreams (view_of self.old) dir count result (view_of self.new) }
+    {
+        if count > MAX_STREAM_COUNT {
+            return Err(TransportError::frame_encoding_error("unrepresentable stream limit"));
+        }
+        match dir {
+            Dir::Bi => Ok(self.own_bi.raise(count)),
+            Dir::Uni => Ok(self.own_uni.raise(count)),
+        }
+    }
+
+    /// How many bytes may be written now on all streams together: the lesser of what the limit of the connection and
+    /// what the send window leave.
+    #[inline]
+    pub fn write_limit(&self) -> u64
+        ensures { result ≡ writable (view_of self.now).budget }
+    {
+        self.budget.write_limit()
+    }
+
+    /// Sets how many written bytes may be retained.
+    pub fn set_send_window(&mut self, send_window: u64)
+        ensures { view_of self.new ≡ record (view_of self.old) { budget = with_window (view_of self.old).budget send_window } }
+    {
+        self.budget.set_send_window(send_window);
+    }
+
+    /// Whether DATA_BLOCKED was queued for the limit that is held.
+    pub fn can_send_data_blocked(&self) -> bool
+        ensures { result ≡ is_blocked_reported (view_of self.now).budget }
+    {
+        self.budget.is_blocked()
+    }
+}

@@ -1,0 +1,86 @@
+//! What the peer says of streams on which this end sends.
+
+ghost use Rattle.std.specs.Prelude.{◌≡◌, ◌≤◌, ◌<◌, is_some, true, vec_len};
+ghost use Rattle.std.specs.Vec.{vec_capacity};
+ghost use Rattle.quic_outgoing.specs.Senders.{bare, first_limit};
+ghost use Rattle.quic_outgoing.specs.Outgoing.{with_stream, waiting};
+ghost use Rattle.quic_outgoing.specs.Calls.{RaisesStream, StopsSending, told_of_half, blocked_limit};
+ghost use Rattle.quic_outgoing.specs.Shown.{view_of, permit_room};
+
+use crate::outgoing::OutgoingStreams;
+use quic_sending::{ClosedStream, Send};
+use quic_values::{OutOfMemory, StreamId, VarInt};
+
+#[tactic(auto, unfolding(crate::specs::Shown::view_of, crate::specs::Shown::permit_room), using(crate::proofs::SenderMaps::sender_steps))]
+impl OutgoingStreams {
+    /// The peer sent STOP_SENDING (RFC 9000 section 19.5). Answers whether it is the first on a stream that is held, of
+    /// which the application is to be told.
+    pub fn stop(&mut self, id: StreamId, error_code: VarInt) -> Result<bool, OutOfMemory>
+        ensures { StopsSending (view_of self.old) id error_code result (view_of self.new) }
+    {
+        match self.halves.take(id) {
+            Err(_) => Err(OutOfMemory),
+            Ok(None) => Ok(false),
+            Ok(Some(half)) => {
+                let mut half = half;
+                let first = half.try_stop(error_code);
+                self.halves.put(id, half);
+                Ok(first)
+            }
+        }
+    }
+
+    /// The code of the first STOP_SENDING that came for a stream, if one did.
+    pub fn stopped(&self, id: StreamId) -> Result<Option<VarInt>, ClosedStream>
+        ensures { result ≡ told_of_half (λ s. s.stop_reason) ((view_of self.now).halves id) }
+    {
+        self.halves.stopped(id)
+    }
+
+    /// The limit of a stream that holds new data back, where STREAM_DATA_BLOCKED was queued for that very limit (RFC 9000
+    /// section 19.13).
+    pub fn stream_data_blocked_limit(&self, id: StreamId) -> Option<VarInt>
+        ensures { result ≡ blocked_limit ((view_of self.now).halves id) }
+    {
+        self.halves.blocked_limit(id)
+    }
+
+    /// The peer sent MAX_STREAM_DATA for a stream (RFC 9000 section 19.10). Answers whether the application is to be told
+    /// that it may write there: where the stream was written up to its limit, and the connection leaves room. Where it
+    /// leaves none, the stream waits for it.
+    pub fn raise_stream(&mut self, id: StreamId, offset: u64) -> Result<bool, OutOfMemory>
+        ensures { RaisesStream (view_of self.old) id offset result (view_of self.new) }
+    {
+        self.blocked.reserve(1)?;
+        match self.halves.take(id) {
+            Err(_) => Err(OutOfMemory),
+            Ok(None) => Ok(false),
+            Ok(Some(half)) => {
+                let mut half = half;
+                let woken = half.increase_max_data(offset);
+                let stuck = self.write_limit() == 0;
+                if woken && stuck {
+                    self.wait_with(id, half);
+                } else {
+                    self.halves.put(id, half);
+                }
+                Ok(woken && !stuck)
+            }
+        }
+    }
+
+    // Puts a half back, whose stream waits, for which there is room.
+    pub(crate) fn wait_with(&mut self, id: StreamId, half: Box<Send>)
+        requires there { is_some ((view_of self.old).halves id) ≡ true }
+        requires limit { first_limit (view_of self.old).side (view_of self.old).first id ≤ half.value.max_data }
+        requires room { vec_len self.old.blocked < vec_capacity self.old.blocked }
+        ensures { view_of self.new ≡ waiting (view_of self.old) id (bare half.value) }
+    {
+        let mut half = half;
+        if !half.connection_blocked {
+            half.connection_blocked = true;
+            self.blocked.push_reserved(id);
+        }
+        self.halves.put(id, half);
+    }
+}
