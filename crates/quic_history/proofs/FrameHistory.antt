@@ -298,7 +298,7 @@ refusal_by_code false false opened m n index code h = limit_if (nat_le n index) 
 
 -- a frame on a stream that the peer may not use is of another code than an internal error
 pub refusal-code : (w : World) (q code : ℕ) → id_refusal w q ≡ Some code → (code == 1) ≡ false
-refusal-code w q code e = refusal_by_code (is_own w q) (q / 2 % 2 == 0) w.opened_bi w.bi.max_remote w.uni.max_remote (index_of q) code (sym (refusal-is w q) ∙ e)
+refusal-code w q code e = refusal_by_code (is_own w q) (q / 2 % 2 == 0) w.out.own_bi.opened w.bi.max_remote w.uni.max_remote (index_of q) code (sym (refusal-is w q) ∙ e)
 
 not_kept : (b : Bool) {P : Type 0} → b ≡ false → b ≡ true → P
 not_kept b e k = absurd (cc)

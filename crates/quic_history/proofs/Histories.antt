@@ -1,12 +1,12 @@
 -- Each call keeps what a history says.
-use Rattle.std.proofs.Common.{◌≡◌, ℕ, false, true, Bool, refl, ◌∙◌, List, [], ◌∷◌, Option, Result, Ok, Err, arith, ◌+◌, ◌-◌, ◌^◌}
+use Rattle.std.proofs.Common.{◌≡◌, ℕ, false, true, Bool, refl, subst, ◌∙◌, List, [], ◌∷◌, Option, Result, Ok, Err, arith, ◌+◌, ◌-◌, ◌^◌}
 use Rattle.std.specs.Prelude.{min}
 use Rattle.quic_assembler.specs.declared.chunk.Chunk.{Chunk}
 use Rattle.quic_receiving.specs.declared.errors.ReadError.{ReadError}
 use Rattle.quic_history.specs.declared.progress.Progress.{Progress}
 use Rattle.quic_history.specs.declared.progress.Progress.TheVariants as progress
 use Rattle.quic_history.specs.Reading.{is_ended, ReadsHalf}
-use Rattle.quic_history.specs.World.{World, Made, count_of, remote_of}
+use Rattle.quic_history.specs.World.{World, sends, Made, count_of, remote_of}
 use Rattle.quic_history.specs.History.{Event, Received, ReceivedReset, AddedCredits, Began, Gave, Ended, Stopped, ToldReset, Resized, SetConcurrent, Accepted, Step, Fits, Facts, From, IsRun, PermitsNow, EverPermits, with_next, before, counts, is_freed, trace, consumed, last_window, debt, received}
 use Rattle.quic_history.proofs.Credits.{credit-credited, credit-resized, credit-same, limit-fits}
 use Rattle.quic_history.proofs.Permits.{all-concurrent, all-accepted, credit-concurrent, credit-accepted}
@@ -70,7 +70,7 @@ next m h u e v fits f s =
       tells = tells-ends window (e ∷ h) v facts;
       remotes = (
         kept-remotes window (counts (count_of m) h) h u e v f.facts
-            (λ d. rebased (counts (count_of m) h d) (before m h u f.run d) (is_freed (trace h) u.side u.sends d) (remote_of u d) (permits-now m h u f.run f.remotes d)) s,
+            (λ d. rebased (counts (count_of m) h d) (before m h u f.run d) (is_freed (trace h) u.out.side (sends u) d) (remote_of u d) (permits-now m h u f.run f.remotes d)) s,
         f.remotes,
       );
     }
@@ -82,9 +82,12 @@ next-answer m h progress.Readable u v id most ordered r e f s = next m h u (Gave
 next-answer m h (progress.Reset code) u v id most ordered r e f s = cc
 next-answer m h progress.Finished u v id most ordered r e f s = cc
 
+told_again : (p : Progress) (id most : ℕ) (ordered : Bool) (r : Result (Option Chunk) ReadError) (h : List Event) → is_ended p ≡ true → h ≡ with_next p id most ordered r h
+told_again progress.Readable id most ordered r h e = cc
+told_again (progress.Reset code) id most ordered r h e = refl
+told_again progress.Finished id most ordered r h e = refl
+
 -- and for one that tells again what it told at the end
 pub next-told : (m : Made) (h : List Event) (p : Progress) (u : World) (id most : ℕ) (ordered : Bool) (r : Result (Option Chunk) ReadError) → is_ended p ≡ true → From m h u
     → From m (with_next p id most ordered r h) u
-next-told m h progress.Readable u id most ordered r e f = cc
-next-told m h (progress.Reset code) u id most ordered r e f = f
-next-told m h progress.Finished u id most ordered r e f = f
+next-told m h p u id most ordered r e f = let P : List Event → Type 0 = λ k. From m k u in subst P (told_again p id most ordered r h e) f

@@ -1,5 +1,5 @@
 -- More streams are permitted at once.
-use Rattle.std.proofs.Common.{◌≡◌, ℕ, zero, suc, add-one, Bool, true, false, ◌&&◌, not, Option, Some, None, Result, Ok, Err, refl, sym, ap, ◌∙◌, subst, arith, ◌+◌, ◌-◌, ◌≤◌, ◌<◌}
+use Rattle.std.proofs.Common.{◌≡◌, ℕ, zero, suc, add-one, Bool, true, false, ◌&&◌, not, Option, Some, None, is_some, Result, Ok, Err, refl, sym, ap, ◌∙◌, subst, arith, ◌+◌, ◌-◌, ◌≤◌, ◌<◌}
 use Rattle.std.specs.Prelude.{max, min, ◌^◌, nat_le, nat_lt, if◌then◌else◌}
 use Rattle.std.proofs.lemmas.Bool.Decides.{nat_tests}
 use Rattle.quic_values.specs.declared.memory.OutOfMemory.{OutOfMemory}
@@ -12,10 +12,10 @@ use Rattle.quic_limits.specs.Remote.{Remote, lacking, with_concurrent, one_accep
 use Rattle.quic_receiving.specs.Counted.{number}
 use Rattle.quic_receiving.specs.Half.{Half, new_half}
 use Rattle.quic_history.specs.Halves.{with_more}
-use Rattle.quic_history.specs.World.{World, id_refusal, remote_of, with_remote}
+use Rattle.quic_history.specs.World.{World, sends, id_refusal, remote_of, with_remote}
 use Rattle.quic_history.specs.Permitting.{after_concurrent, with_accepted, with_count_of}
 use Rattle.quic_history.specs.History.{Trace, RemoteFrom, untouched, is_freed, room_for}
-use Rattle.quic_history.proofs.FirstStreams.{with_more-none, with_more-one, more_sends-below}
+use Rattle.quic_history.proofs.FirstStreams.{with_more-none, with_more-one, more-below}
 use Rattle.quic_history.proofs.Refusals.{refusal-same, refusal-peer}
 use Rattle.quic_history.proofs.Remotes.{AllRemotes, SameLimits, SameRemotes, number-same, next-number}
 use Rattle.quic_history.proofs.StreamSteps.{AllFrom, all-same, all-remote, raised-all, new-from, Steady, steady, steady-remote}
@@ -25,15 +25,15 @@ use Rattle.quic_history.proofs.StreamSteps.{AllFrom, all-same, all-remote, raise
 -- the largest count of a direction, and the halves, with so many more
 abbrev many : Dir → World → ℕ → World
 many d u n = let m : ℕ = (remote_of u d).max_remote in
-    record (with_remote u d (record (remote_of u d) { max_remote = m + n })) { receive = with_more u.receive (other_side u.side) d m n (Some (new_half u.window)) }
+    record (with_remote u d (record (remote_of u d) { max_remote = m + n })) { receive = with_more u.receive (other_side u.out.side) d m n (Some (new_half u.window)) }
 
 many_none : (f : ℕ → Trace) (d : Dir) (u : World) → AllFrom f u → AllFrom f (many d u 0)
-many_none f Bi u s = all-same f u (many Bi u 0) (λ q. refusal-same (many Bi u 0) u q refl refl (omega arith) refl) (λ q. ap (λ k. k q) (with_more-none u.receive (other_side u.side) Bi u.bi.max_remote (Some (new_half u.window)))) s
-many_none f Uni u s = all-same f u (many Uni u 0) (λ q. refusal-same (many Uni u 0) u q refl refl refl (omega arith)) (λ q. ap (λ k. k q) (with_more-none u.receive (other_side u.side) Uni u.uni.max_remote (Some (new_half u.window)))) s
+many_none f Bi u s = all-same f u (many Bi u 0) (λ q. refusal-same (many Bi u 0) u q refl refl (omega arith) refl) (λ q. ap (λ k. k q) (with_more-none u.receive (other_side u.out.side) Bi u.bi.max_remote (Some (new_half u.window)))) s
+many_none f Uni u s = all-same f u (many Uni u 0) (λ q. refusal-same (many Uni u 0) u q refl refl refl (omega arith)) (λ q. ap (λ k. k q) (with_more-none u.receive (other_side u.out.side) Uni u.uni.max_remote (Some (new_half u.window)))) s
 
 many_one : (f : ℕ → Trace) (d : Dir) (u : World) (n : ℕ) → AllFrom f (many d u n) → AllFrom f (many d u (n + 1))
-many_one f Bi u n s = raised-all f Bi (many Bi u n) (many Bi u (n + 1)) u.window refl refl (omega arith, refl) (sym (with_more-one u.receive (other_side u.side) Bi u.bi.max_remote n (Some (new_half u.window)))) s
-many_one f Uni u n s = raised-all f Uni (many Uni u n) (many Uni u (n + 1)) u.window refl refl (refl, omega arith) (sym (with_more-one u.receive (other_side u.side) Uni u.uni.max_remote n (Some (new_half u.window)))) s
+many_one f Bi u n s = raised-all f Bi (many Bi u n) (many Bi u (n + 1)) u.window refl refl (omega arith, refl) (sym (with_more-one u.receive (other_side u.out.side) Bi u.bi.max_remote n (Some (new_half u.window)))) s
+many_one f Uni u n s = raised-all f Uni (many Uni u n) (many Uni u (n + 1)) u.window refl refl (refl, omega arith) (sym (with_more-one u.receive (other_side u.out.side) Uni u.uni.max_remote n (Some (new_half u.window)))) s
 
 all_many : (f : ℕ → Trace) (d : Dir) (u : World) (n : ℕ) → AllFrom f u → AllFrom f (many d u n)
 all_many f d u zero s = many_none f d u s
@@ -79,21 +79,21 @@ ge_le m n l = grind (arith, nat_tests)
 
 module _ (f : ℕ → Trace) (u : World) (s : AllFrom f u) where
   -- nothing was told of a stream that was not permitted
-  later : (d : Dir) (i : ℕ) → (remote_of u d).max_remote ≤ i → (f (stream_id (other_side u.side) d i)).gone ≡ false
-  later Bi i l = let q : ℕ = stream_id (other_side u.side) Bi i in
-      ap (λ t. t.gone) (new-from (f q) (id_refusal u q) (u.receive q) STREAM_LIMIT_ERROR (refusal-peer u u.side Bi i refl ∙ rw (ge_le u.bi.max_remote i l) refl) (s q))
-  later Uni i l = let q : ℕ = stream_id (other_side u.side) Uni i in
-      ap (λ t. t.gone) (new-from (f q) (id_refusal u q) (u.receive q) STREAM_LIMIT_ERROR (refusal-peer u u.side Uni i refl ∙ rw (ge_le u.uni.max_remote i l) refl) (s q))
+  later : (d : Dir) (i : ℕ) → (remote_of u d).max_remote ≤ i → (f (stream_id (other_side u.out.side) d i)).gone ≡ false
+  later Bi i l = let q : ℕ = stream_id (other_side u.out.side) Bi i in
+      ap (λ t. t.gone) (new-from (f q) (id_refusal u q) (u.receive q) STREAM_LIMIT_ERROR (refusal-peer u u.out.side Bi i refl ∙ rw (ge_le u.bi.max_remote i l) refl) (s q))
+  later Uni i l = let q : ℕ = stream_id (other_side u.out.side) Uni i in
+      ap (λ t. t.gone) (new-from (f q) (id_refusal u q) (u.receive q) STREAM_LIMIT_ERROR (refusal-peer u u.out.side Uni i refl ∙ rw (ge_le u.uni.max_remote i l) refl) (s q))
 
   pub remotes-concurrent : (at_once : Dir → ℕ) (d : Dir) (count : ℕ) → AllRemotes at_once (λ e. (remote_of u e).max_remote) f u
       → AllRemotes (with_count_of d count at_once) (λ e. (remote_of u e).max_remote) f (after_concurrent u d count)
-  remotes-concurrent at_once Bi count x Bi = concurrent_from (at_once Bi) count (is_freed f u.side u.sends Bi) (is_freed f u.side (after_concurrent u Bi count).sends Bi) u.bi
-      (λ i l. ap (λ b. (f (stream_id (other_side u.side) Bi i)).gone && not b) (more_sends-below u.sends (other_side u.side) Bi u.bi.max_remote (lacking u.bi count) i l))
-      (λ i l. not_gone (f (stream_id (other_side u.side) Bi i)).gone _ (later Bi i l))
+  remotes-concurrent at_once Bi count x Bi = concurrent_from (at_once Bi) count (is_freed f u.out.side (sends u) Bi) (is_freed f u.out.side (sends (after_concurrent u Bi count)) Bi) u.bi
+      (λ i l. ap (λ o. (f (stream_id (other_side u.out.side) Bi i)).gone && not (is_some o)) (more-below u.out u.bi.max_remote (lacking u.bi count) i l))
+      (λ i l. not_gone (f (stream_id (other_side u.out.side) Bi i)).gone _ (later Bi i l))
       (x Bi)
   remotes-concurrent at_once Bi count x Uni = x Uni
   remotes-concurrent at_once Uni count x Bi = x Bi
-  remotes-concurrent at_once Uni count x Uni = concurrent_from (at_once Uni) count (is_freed f u.side u.sends Uni) (is_freed f u.side u.sends Uni) u.uni (λ i l. refl) (λ i l. later Uni i l) (x Uni)
+  remotes-concurrent at_once Uni count x Uni = concurrent_from (at_once Uni) count (is_freed f u.out.side (sends u) Uni) (is_freed f u.out.side (sends u) Uni) u.uni (λ i l. refl) (λ i l. later Uni i l) (x Uni)
 
 -- ---- what stays
 

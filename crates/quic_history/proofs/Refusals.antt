@@ -20,17 +20,17 @@ refusal_by false false opened bi uni index = if nat_le uni index then Some STREA
 by_parts : (w : World) (own bi : Bool) (index : ℕ)
     → (if own then own_refusal w (if bi then Bi else Uni) index
     else (if nat_le (remote_of w (if bi then Bi else Uni)).max_remote index then Some STREAM_LIMIT_ERROR else None))
-    ≡ refusal_by own bi w.opened_bi w.bi.max_remote w.uni.max_remote index
+    ≡ refusal_by own bi w.out.own_bi.opened w.bi.max_remote w.uni.max_remote index
 by_parts w true true index = refl
 by_parts w true false index = refl
 by_parts w false true index = refl
 by_parts w false false index = refl
 
-pub refusal-is : (w : World) (q : ℕ) → id_refusal w q ≡ refusal_by (is_own w q) (q / 2 % 2 == 0) w.opened_bi w.bi.max_remote w.uni.max_remote (index_of q)
+pub refusal-is : (w : World) (q : ℕ) → id_refusal w q ≡ refusal_by (is_own w q) (q / 2 % 2 == 0) w.out.own_bi.opened w.bi.max_remote w.uni.max_remote (index_of q)
 refusal-is w q = by_parts w (is_own w q) (q / 2 % 2 == 0) (index_of q)
 
 -- nothing else counts
-pub refusal-same : (v w : World) (q : ℕ) → v.side ≡ w.side → v.opened_bi ≡ w.opened_bi → v.bi.max_remote ≡ w.bi.max_remote → v.uni.max_remote ≡ w.uni.max_remote
+pub refusal-same : (v w : World) (q : ℕ) → v.out.side ≡ w.out.side → v.out.own_bi.opened ≡ w.out.own_bi.opened → v.bi.max_remote ≡ w.bi.max_remote → v.uni.max_remote ≡ w.uni.max_remote
     → id_refusal v q ≡ id_refusal w q
 refusal-same v w q side opened bi uni = refusal-is v q ∙ rw (side, opened, bi, uni) (sym (refusal-is w q))
 
@@ -65,8 +65,8 @@ pub own-other : (s : Side) (d : Dir) (n : ℕ) → is_same_side s (initiator_of 
 own-other s d n = ap (λ b. is_same_side s (if b then Client else Server)) (side-bit (other_side s) d n) ∙ other_not_same s
 
 -- the error of a frame on the peer's stream of a direction and an index
-pub refusal-peer : (w : World) (s : Side) (d : Dir) (n : ℕ) → w.side ≡ s
-    → id_refusal w (stream_id (other_side s) d n) ≡ refusal_by false (is_bi d) w.opened_bi w.bi.max_remote w.uni.max_remote n
+pub refusal-peer : (w : World) (s : Side) (d : Dir) (n : ℕ) → w.out.side ≡ s
+    → id_refusal w (stream_id (other_side s) d n) ≡ refusal_by false (is_bi d) w.out.own_bi.opened w.bi.max_remote w.uni.max_remote n
 refusal-peer w s d n e = refusal-is w (stream_id (other_side s) d n) ∙ rw (e, own-other s d n, dir-bit (other_side s) d n, index-id (other_side s) d n) refl
 
 -- a stream that is not the peer's of an index has another index, if it is of the peer and in the direction
@@ -105,13 +105,13 @@ abbrev pub IsRaised : Dir → World → World → Type 0
 IsRaised Bi w v = (v.bi.max_remote ≡ w.bi.max_remote + 1) × (v.uni.max_remote ≡ w.uni.max_remote)
 IsRaised Uni w v = (v.bi.max_remote ≡ w.bi.max_remote) × (v.uni.max_remote ≡ w.uni.max_remote + 1)
 
-pub refusal-raised : (d : Dir) (w v : World) (q : ℕ) → v.side ≡ w.side → v.opened_bi ≡ w.opened_bi → IsRaised d w v
-    → (q == stream_id (other_side w.side) d (remote_of w d).max_remote) ≡ false → id_refusal v q ≡ id_refusal w q
+pub refusal-raised : (d : Dir) (w v : World) (q : ℕ) → v.out.side ≡ w.out.side → v.out.own_bi.opened ≡ w.out.own_bi.opened → IsRaised d w v
+    → (q == stream_id (other_side w.out.side) d (remote_of w d).max_remote) ≡ false → id_refusal v q ≡ id_refusal w q
 refusal-raised Bi w v q side opened r apart =
-    refusal-is v q ∙ rw (side, opened, r.0, r.1) (raised_bi w.side q w.opened_bi w.bi.max_remote w.uni.max_remote (is_own w q) (q / 2 % 2 == 0) refl refl apart)
+    refusal-is v q ∙ rw (side, opened, r.0, r.1) (raised_bi w.out.side q w.out.own_bi.opened w.bi.max_remote w.uni.max_remote (is_own w q) (q / 2 % 2 == 0) refl refl apart)
     ∙ sym (refusal-is w q)
 refusal-raised Uni w v q side opened r apart =
-    refusal-is v q ∙ rw (side, opened, r.0, r.1) (raised_uni w.side q w.opened_bi w.bi.max_remote w.uni.max_remote (is_own w q) (q / 2 % 2 == 0) refl refl apart)
+    refusal-is v q ∙ rw (side, opened, r.0, r.1) (raised_uni w.out.side q w.out.own_bi.opened w.bi.max_remote w.uni.max_remote (is_own w q) (q / 2 % 2 == 0) refl refl apart)
     ∙ sym (refusal-is w q)
 
 here_no : (m : ℕ) → nat_le (m + 1) m ≡ false
@@ -121,10 +121,10 @@ here_yes : (m : ℕ) → nat_le m m ≡ true
 here_yes m = grind (arith, nat_tests)
 
 -- frames on the next stream are refused, and no more once it is permitted
-pub refusal-next : (d : Dir) (w : World) → id_refusal w (stream_id (other_side w.side) d (remote_of w d).max_remote) ≡ Some STREAM_LIMIT_ERROR
-refusal-next Bi w = refusal-peer w w.side Bi w.bi.max_remote refl ∙ rw (here_yes w.bi.max_remote) refl
-refusal-next Uni w = refusal-peer w w.side Uni w.uni.max_remote refl ∙ rw (here_yes w.uni.max_remote) refl
+pub refusal-next : (d : Dir) (w : World) → id_refusal w (stream_id (other_side w.out.side) d (remote_of w d).max_remote) ≡ Some STREAM_LIMIT_ERROR
+refusal-next Bi w = refusal-peer w w.out.side Bi w.bi.max_remote refl ∙ rw (here_yes w.bi.max_remote) refl
+refusal-next Uni w = refusal-peer w w.out.side Uni w.uni.max_remote refl ∙ rw (here_yes w.uni.max_remote) refl
 
-pub refusal-permitted : (d : Dir) (w v : World) → v.side ≡ w.side → IsRaised d w v → id_refusal v (stream_id (other_side w.side) d (remote_of w d).max_remote) ≡ None
-refusal-permitted Bi w v side r = refusal-peer v w.side Bi w.bi.max_remote side ∙ rw (r.0, here_no w.bi.max_remote) refl
-refusal-permitted Uni w v side r = refusal-peer v w.side Uni w.uni.max_remote side ∙ rw (r.1, here_no w.uni.max_remote) refl
+pub refusal-permitted : (d : Dir) (w v : World) → v.out.side ≡ w.out.side → IsRaised d w v → id_refusal v (stream_id (other_side w.out.side) d (remote_of w d).max_remote) ≡ None
+refusal-permitted Bi w v side r = refusal-peer v w.out.side Bi w.bi.max_remote side ∙ rw (r.0, here_no w.bi.max_remote) refl
+refusal-permitted Uni w v side r = refusal-peer v w.out.side Uni w.uni.max_remote side ∙ rw (r.1, here_no w.uni.max_remote) refl

@@ -62,9 +62,9 @@ module _ (window : ℕ) (at_once b : Dir → ℕ) (h : List Event) (e : Event) (
   idle v gone s = remotes-idle at_once b (trace h) g u v gone s x
 
   not_next : (v : World) (id : ℕ) → ((q : ℕ) → id_refusal v q ≡ id_refusal u q) → id_refusal u id ≡ None → ((q : ℕ) → eqb q id ≡ false → g q ≡ trace h q)
-      → (d : Dir) → (g (stream_id (other_side v.side) d (remote_of v d).max_remote)).gone ≡ false
+      → (d : Dir) → (g (stream_id (other_side v.out.side) d (remote_of v d).max_remote)).gone ≡ false
   not_next v id same_refusals known others d =
-      let k : ℕ = stream_id (other_side v.side) d (remote_of v d).max_remote in
+      let k : ℕ = stream_id (other_side v.out.side) d (remote_of v d).max_remote in
       let refused = sym (same_refusals k) ∙ refusal-next d v in
       let new : trace h k ≡ untouched = new-from (trace h k) (id_refusal u k) (u.receive k) _ refused (f.streams k) in
       by_cases (eqb k id)

@@ -13,8 +13,8 @@ use Rattle.quic_limits.specs.Remote as remote
 use Rattle.quic_limits.specs.Remote.{Remote}
 use Rattle.quic_receiving.specs.Counted.{number}
 use Rattle.quic_receiving.specs.Half.{Half}
-use Rattle.quic_history.specs.Sends.{with_send}
-use Rattle.quic_history.specs.World.{World, id_refusal, own_refusal, is_own, is_same_side, remote_of, with_remote, with_receive, permitted_if, replaced_in, released, with_freed, told_readable, noticed}
+use Rattle.quic_outgoing.specs.Senders.{with_sender}
+use Rattle.quic_history.specs.World.{World, sends, id_refusal, own_refusal, is_own, is_same_side, remote_of, with_remote, with_receive, permitted_if, replaced_in, released, with_freed, told_readable, noticed}
 use Rattle.quic_history.specs.History.{Trace, RemoteFrom, is_freed}
 use Rattle.quic_history.proofs.Totals.{by_cases, same}
 use Rattle.quic_history.proofs.Refusals.{own-other}
@@ -130,12 +130,12 @@ remote-replaced at_once before f g r i l was after e last x = after_replaced at_
 -- ---- both directions
 
 abbrev pub AllRemotes : (Dir → ℕ) → (Dir → ℕ) → (ℕ → Trace) → World → Type 0
-AllRemotes at_once b f w = (d : Dir) → RemoteFrom (at_once d) (b d) (is_freed f w.side w.sends d) (remote_of w d)
+AllRemotes at_once b f w = (d : Dir) → RemoteFrom (at_once d) (b d) (is_freed f w.out.side (sends w) d) (remote_of w d)
 
 -- what does not count is the same
 pub record SameRemotes (u v : World) : Type 0 where
-  pub side : v.side ≡ u.side
-  pub sends : v.sends ≡ u.sends
+  pub side : v.out.side ≡ u.out.side
+  pub sends : (sends v) ≡ (sends u)
   pub limits : (d : Dir) → SameLimits (remote_of u d) (remote_of v d)
 
 limits-refl : (r : Remote) → SameLimits r r
@@ -194,8 +194,8 @@ freed_same f g s sends Bi i e = ap (λ b. b && not (sends (stream_id (other_side
 -- a call that frees no half
 pub remotes-idle : (at_once b : Dir → ℕ) (f g : ℕ → Trace) (u v : World) → ((q : ℕ) → (g q).gone ≡ (f q).gone) → SameRemotes u v → AllRemotes at_once b f u → AllRemotes at_once b g v
 remotes-idle at_once b f g u v gone s x d =
-    rw (s.side, s.sends) (remote-same (at_once d) (b d) (is_freed f u.side u.sends d) (is_freed g u.side u.sends d) (remote_of u d) (remote_of v d) (s.limits d)
-    (λ i l. freed_same f g u.side u.sends d i (gone (stream_id (other_side u.side) d i))) (x d))
+    rw (s.side, s.sends) (remote-same (at_once d) (b d) (is_freed f u.out.side (sends u) d) (is_freed g u.out.side (sends u) d) (remote_of u d) (remote_of v d) (s.limits d)
+    (λ i l. freed_same f g u.out.side (sends u) d i (gone (stream_id (other_side u.out.side) d i))) (x d))
 
 -- ---- a half is freed
 
@@ -215,19 +215,19 @@ uni_not_bi Server i j = grind (arith, nat_tests)
 
 -- another stream took the place of one of a direction
 abbrev IsReplaced : Dir → World → World → Type 0
-IsReplaced Uni w v = (v.side ≡ w.side) × (v.bi ≡ w.bi) × (v.uni ≡ remote.replaced w.uni) × (v.sends ≡ w.sends)
-IsReplaced Bi w v = (v.side ≡ w.side) × (v.bi ≡ remote.replaced w.bi) × (v.uni ≡ w.uni)
-    × ((q : ℕ) → eqb q (stream_id (other_side w.side) Bi w.bi.max_remote) ≡ false → v.sends q ≡ w.sends q)
+IsReplaced Uni w v = (v.out.side ≡ w.out.side) × (v.bi ≡ w.bi) × (v.uni ≡ remote.replaced w.uni) × ((sends v) ≡ (sends w))
+IsReplaced Bi w v = (v.out.side ≡ w.out.side) × (v.bi ≡ remote.replaced w.bi) × (v.uni ≡ w.uni)
+    × ((q : ℕ) → eqb q (stream_id (other_side w.out.side) Bi w.bi.max_remote) ≡ false → (sends v) q ≡ (sends w) q)
 
 uni_if : (w : World) (id : ℕ) (b : Bool) (r : Remote) → let v = permitted_if (with_remote (with_receive w id None) Uni r) Uni (if b then Some w.uni.max_remote else None) in
-    (v.side ≡ w.side) × (v.bi ≡ w.bi) × (v.uni ≡ r) × (v.sends ≡ w.sends)
+    (v.out.side ≡ w.out.side) × (v.bi ≡ w.bi) × (v.uni ≡ r) × ((sends v) ≡ (sends w))
 unfolding with_receive
 uni_if w id true r = (refl, refl, refl, refl)
 uni_if w id false r = (refl, refl, refl, refl)
 
 bi_if : (w : World) (id : ℕ) (b : Bool) (r : Remote) → let v = permitted_if (with_remote (with_receive w id None) Bi r) Bi (if b then Some w.bi.max_remote else None) in
-    (v.side ≡ w.side) × (v.bi ≡ r) × (v.uni ≡ w.uni) × ((q : ℕ) → eqb q (stream_id (other_side w.side) Bi w.bi.max_remote) ≡ false → v.sends q ≡ w.sends q)
-unfolding with_receive with_send
+    (v.out.side ≡ w.out.side) × (v.bi ≡ r) × (v.uni ≡ w.uni) × ((q : ℕ) → eqb q (stream_id (other_side w.out.side) Bi w.bi.max_remote) ≡ false → (sends v) q ≡ (sends w) q)
+unfolding with_receive with_sender
 bi_if w id true r = (refl, refl, refl, λ q n. rw n refl)
 bi_if w id false r = (refl, refl, refl, λ q n. refl)
 
@@ -240,32 +240,32 @@ and_not : (b c : Bool) → b ≡ false → (b && c) ≡ false
 and_not b c e = rw e refl
 
 module _ (at_once b : Dir → ℕ) (f g : ℕ → Trace) (w : World) (id : ℕ) (was : (f id).gone ≡ false) (is : (g id).gone ≡ true) (others : (q : ℕ) → eqb q id ≡ false → g q ≡ f q)
-    (next : (d : Dir) → (g (stream_id (other_side w.side) d (remote_of w d).max_remote)).gone ≡ false) (x : AllRemotes at_once b f w) where
+    (next : (d : Dir) → (g (stream_id (other_side w.out.side) d (remote_of w d).max_remote)).gone ≡ false) (x : AllRemotes at_once b f w) where
   abbrev o : Side
-  o = other_side w.side
+  o = other_side w.out.side
 
   -- the other direction
-  uni_stays : (j : ℕ) → id ≡ stream_id o Bi j → RemoteFrom (at_once Uni) (b Uni) (is_freed g w.side w.sends Uni) w.uni
-  uni_stays j e = remote-same (at_once Uni) (b Uni) (is_freed f w.side w.sends Uni) (is_freed g w.side w.sends Uni) w.uni w.uni (limits-refl w.uni)
+  uni_stays : (j : ℕ) → id ≡ stream_id o Bi j → RemoteFrom (at_once Uni) (b Uni) (is_freed g w.out.side (sends w) Uni) w.uni
+  uni_stays j e = remote-same (at_once Uni) (b Uni) (is_freed f w.out.side (sends w) Uni) (is_freed g w.out.side (sends w) Uni) w.uni w.uni (limits-refl w.uni)
       (λ i l. ap (λ t. t.gone) (others (stream_id o Uni i) (rw e (uni_not_bi o i j)))) (x Uni)
 
-  bi_stays : (j : ℕ) → id ≡ stream_id o Uni j → RemoteFrom (at_once Bi) (b Bi) (is_freed g w.side w.sends Bi) w.bi
-  bi_stays j e = remote-same (at_once Bi) (b Bi) (is_freed f w.side w.sends Bi) (is_freed g w.side w.sends Bi) w.bi w.bi (limits-refl w.bi)
-      (λ i l. ap (λ t. t.gone && not (w.sends (stream_id o Bi i))) (others (stream_id o Bi i) (rw e (bi_not_uni o i j)))) (x Bi)
+  bi_stays : (j : ℕ) → id ≡ stream_id o Uni j → RemoteFrom (at_once Bi) (b Bi) (is_freed g w.out.side (sends w) Bi) w.bi
+  bi_stays j e = remote-same (at_once Bi) (b Bi) (is_freed f w.out.side (sends w) Bi) (is_freed g w.out.side (sends w) Bi) w.bi w.bi (limits-refl w.bi)
+      (λ i l. ap (λ t. t.gone && not ((sends w) (stream_id o Bi i))) (others (stream_id o Bi i) (rw e (bi_not_uni o i j)))) (x Bi)
 
   uni_replaced : (v : World) (j : ℕ) → id ≡ stream_id o Uni j → j < w.uni.max_remote → IsReplaced Uni w v → AllRemotes at_once b g v
   uni_replaced v j e l r Uni = rw (r.0, r.2, r.3)
-      (remote-replaced (at_once Uni) (b Uni) (is_freed f w.side w.sends Uni) (is_freed g w.side w.sends Uni) w.uni j l (ap (λ k. (f k).gone) (sym e) ∙ was) (ap (λ k. (g k).gone) (sym e) ∙ is)
+      (remote-replaced (at_once Uni) (b Uni) (is_freed f w.out.side (sends w) Uni) (is_freed g w.out.side (sends w) Uni) w.uni j l (ap (λ k. (f k).gone) (sym e) ∙ was) (ap (λ k. (g k).gone) (sym e) ∙ is)
       (λ i n. ap (λ t. t.gone) (others (stream_id o Uni i) (rw e (other_place o Uni i j n)))) (next Uni) (x Uni))
   uni_replaced v j e l r Bi = rw (r.0, r.1, r.3) (bi_stays j e)
 
   -- a bidirectional stream whose send half is held is not wholly freed
-  bi_held : (j : ℕ) → id ≡ stream_id o Bi j → w.sends id ≡ true → RemoteFrom (at_once Bi) (b Bi) (is_freed g w.side w.sends Bi) w.bi
-  bi_held j e held = remote-same (at_once Bi) (b Bi) (is_freed f w.side w.sends Bi) (is_freed g w.side w.sends Bi) w.bi w.bi (limits-refl w.bi)
+  bi_held : (j : ℕ) → id ≡ stream_id o Bi j → (sends w) id ≡ true → RemoteFrom (at_once Bi) (b Bi) (is_freed g w.out.side (sends w) Bi) w.bi
+  bi_held j e held = remote-same (at_once Bi) (b Bi) (is_freed f w.out.side (sends w) Bi) (is_freed g w.out.side (sends w) Bi) w.bi w.bi (limits-refl w.bi)
       (λ i l. by_cases (eqb i j)
-      (λ t. let at : w.sends (stream_id o Bi i) ≡ true = ap (λ k. w.sends (stream_id o Bi k)) (same i j t) ∙ ap w.sends (sym e) ∙ held in
+      (λ t. let at : (sends w) (stream_id o Bi i) ≡ true = ap (λ k. (sends w) (stream_id o Bi k)) (same i j t) ∙ ap (sends w) (sym e) ∙ held in
       rw at (both_none (g (stream_id o Bi i)).gone (f (stream_id o Bi i)).gone))
-      (λ n. ap (λ t. t.gone && not (w.sends (stream_id o Bi i))) (others (stream_id o Bi i) (rw e (other_place o Bi i j n))))) (x Bi)
+      (λ n. ap (λ t. t.gone && not ((sends w) (stream_id o Bi i))) (others (stream_id o Bi i) (rw e (other_place o Bi i j n))))) (x Bi)
     where
       none : (b : Bool) → (b && false) ≡ false
       none true = refl
@@ -274,8 +274,8 @@ module _ (at_once b : Dir → ℕ) (f g : ℕ → Trace) (w : World) (id : ℕ) 
       both_none : (b c : Bool) → (b && false) ≡ (c && false)
       both_none b c = none b ∙ sym (none c)
 
-  sends_after : (v : World) (j : ℕ) → ((q : ℕ) → eqb q (stream_id o Bi w.bi.max_remote) ≡ false → v.sends q ≡ w.sends q) → (i : ℕ) → eqb i j ≡ false → id ≡ stream_id o Bi j
-      → is_freed g w.side v.sends Bi i ≡ is_freed f w.side w.sends Bi i
+  sends_after : (v : World) (j : ℕ) → ((q : ℕ) → eqb q (stream_id o Bi w.bi.max_remote) ≡ false → (sends v) q ≡ (sends w) q) → (i : ℕ) → eqb i j ≡ false → id ≡ stream_id o Bi j
+      → is_freed g w.out.side (sends v) Bi i ≡ is_freed f w.out.side (sends w) Bi i
   sends_after v j s i n e =
       let k : g (stream_id o Bi i) ≡ f (stream_id o Bi i) = others (stream_id o Bi i) (rw e (other_place o Bi i j n)) in
       by_cases (eqb i w.bi.max_remote)
@@ -285,34 +285,34 @@ module _ (at_once b : Dir → ℕ) (f g : ℕ → Trace) (w : World) (id : ℕ) 
       rw (b, c) refl)
       (λ m. rw (k, s (stream_id o Bi i) (other_place o Bi i w.bi.max_remote m)) refl)
 
-  bi_replaced : (v : World) (j : ℕ) → id ≡ stream_id o Bi j → j < w.bi.max_remote → w.sends id ≡ false → IsReplaced Bi w v → AllRemotes at_once b g v
+  bi_replaced : (v : World) (j : ℕ) → id ≡ stream_id o Bi j → j < w.bi.max_remote → (sends w) id ≡ false → IsReplaced Bi w v → AllRemotes at_once b g v
   bi_replaced v j e l free r Uni = rw (r.0, r.2) (uni_stays j e)
   bi_replaced v j e l free r Bi =
       let here : eqb (stream_id o Bi j) (stream_id o Bi w.bi.max_remote) ≡ false = other_place o Bi j w.bi.max_remote (let a : j < w.bi.max_remote = l in grind (arith, nat_tests)) in
-      let sends : v.sends (stream_id o Bi j) ≡ false = r.3 (stream_id o Bi j) here ∙ ap w.sends (sym e) ∙ free in
+      let free_after : (sends v) (stream_id o Bi j) ≡ false = r.3 (stream_id o Bi j) here ∙ ap (sends w) (sym e) ∙ free in
       let gone : (g (stream_id o Bi j)).gone ≡ true = ap (λ k. (g k).gone) (sym e) ∙ is in
-      let last : is_freed g w.side v.sends Bi w.bi.max_remote ≡ false = and_not (g (stream_id o Bi w.bi.max_remote)).gone (not (v.sends (stream_id o Bi w.bi.max_remote))) (next Bi) in
+      let last : is_freed g w.out.side (sends v) Bi w.bi.max_remote ≡ false = and_not (g (stream_id o Bi w.bi.max_remote)).gone (not ((sends v) (stream_id o Bi w.bi.max_remote))) (next Bi) in
       rw (r.0, r.1)
-      (remote-replaced (at_once Bi) (b Bi) (is_freed f w.side w.sends Bi) (is_freed g w.side v.sends Bi) w.bi j l
-      (and_not (f (stream_id o Bi j)).gone (not (w.sends (stream_id o Bi j))) (ap (λ k. (f k).gone) (sym e) ∙ was)) (rw (gone, sends) refl)
+      (remote-replaced (at_once Bi) (b Bi) (is_freed f w.out.side (sends w) Bi) (is_freed g w.out.side (sends v) Bi) w.bi j l
+      (and_not (f (stream_id o Bi j)).gone (not ((sends w) (stream_id o Bi j))) (ap (λ k. (f k).gone) (sym e) ∙ was)) (rw (gone, free_after) refl)
       (λ i n. sends_after v j r.3 i n e) last (x Bi))
 
-  same_world : (v : World) → SameRemotes w v → RemoteFrom (at_once Bi) (b Bi) (is_freed g w.side w.sends Bi) w.bi → RemoteFrom (at_once Uni) (b Uni) (is_freed g w.side w.sends Uni) w.uni → AllRemotes at_once b g v
-  same_world v s x' u Bi = rw (s.side, s.sends) (remote-same (at_once Bi) (b Bi) (is_freed g w.side w.sends Bi) (is_freed g w.side w.sends Bi) w.bi v.bi (s.limits Bi) (λ i l. refl) x')
-  same_world v s x' u Uni = rw (s.side, s.sends) (remote-same (at_once Uni) (b Uni) (is_freed g w.side w.sends Uni) (is_freed g w.side w.sends Uni) w.uni v.uni (s.limits Uni) (λ i l. refl) u)
+  same_world : (v : World) → SameRemotes w v → RemoteFrom (at_once Bi) (b Bi) (is_freed g w.out.side (sends w) Bi) w.bi → RemoteFrom (at_once Uni) (b Uni) (is_freed g w.out.side (sends w) Uni) w.uni → AllRemotes at_once b g v
+  same_world v s x' u Bi = rw (s.side, s.sends) (remote-same (at_once Bi) (b Bi) (is_freed g w.out.side (sends w) Bi) (is_freed g w.out.side (sends w) Bi) w.bi v.bi (s.limits Bi) (λ i l. refl) x')
+  same_world v s x' u Uni = rw (s.side, s.sends) (remote-same (at_once Uni) (b Uni) (is_freed g w.out.side (sends w) Uni) (is_freed g w.out.side (sends w) Uni) w.uni v.uni (s.limits Uni) (λ i l. refl) u)
 
-  bi_if_held : (c : Bool) (j : ℕ) → w.sends id ≡ c → id ≡ stream_id o Bi j → j < w.bi.max_remote
+  bi_if_held : (c : Bool) (j : ℕ) → (sends w) id ≡ c → id ≡ stream_id o Bi j → j < w.bi.max_remote
       → AllRemotes at_once b g (if c then with_receive w id None else replaced_in (with_receive w id None) Bi)
   bi_if_held true j s e l = same_world (with_receive w id None) (remotes-put w id None) (bi_held j e s) (uni_stays j e)
   bi_if_held false j s e l = bi_replaced (replaced_in (with_receive w id None) Bi) j e l s (is_replaced Bi w id)
 
-  sends_put : (with_receive w id None).sends id ≡ w.sends id
+  sends_put : (sends (with_receive w id None)) id ≡ (sends w) id
   unfolding with_receive
   sends_put = refl
 
   of_dir : (d : Dir) (j : ℕ) → id ≡ stream_id o d j → j < (remote_of w d).max_remote → AllRemotes at_once b g (released (with_receive w id None) d id)
   of_dir Uni j e l = uni_replaced (replaced_in (with_receive w id None) Uni) j e l (is_replaced Uni w id)
-  of_dir Bi j e l = bi_if_held ((with_receive w id None).sends id) j (sym sends_put) e l
+  of_dir Bi j e l = bi_if_held ((sends (with_receive w id None)) id) j (sym sends_put) e l
 
 spelled : (s : Side) (b c : Bool) (q : ℕ) → (q % 2 == 0) ≡ b → (q / 2 % 2 == 0) ≡ c → is_same_side s (if b then Client else Server) ≡ false
     → q ≡ stream_id (other_side s) (if c then Bi else Uni) (q / 4)
@@ -343,7 +343,7 @@ own_put w id = refl
 
 -- a half is freed, and no other
 pub remotes-freed : (at_once b : Dir → ℕ) (f g : ℕ → Trace) (w : World) (id : ℕ) → id_refusal w id ≡ None → (f id).gone ≡ false → (g id).gone ≡ true → ((q : ℕ) → eqb q id ≡ false → g q ≡ f q)
-    → ((d : Dir) → (g (stream_id (other_side w.side) d (remote_of w d).max_remote)).gone ≡ false) → AllRemotes at_once b f w → AllRemotes at_once b g (with_freed w id)
+    → ((d : Dir) → (g (stream_id (other_side w.out.side) d (remote_of w d).max_remote)).gone ≡ false) → AllRemotes at_once b f w → AllRemotes at_once b g (with_freed w id)
 remotes-freed at_once b f g w id known was is others next x =
     let u = with_receive w id None in
     freed_if at_once b g u (released u (dir_of id) id) (is_own u id)
@@ -351,16 +351,16 @@ remotes-freed at_once b f g w id known was is others next x =
     let mine : is_own w id ≡ true = sym (own_put w id) ∙ own in
     let apart = λ (d : Dir) (i : ℕ). not_mine w id d i mine in
     same_world at_once b f g w id was is others next x u (remotes-put w id None)
-    (remote-same (at_once Bi) (b Bi) (is_freed f w.side w.sends Bi) (is_freed g w.side w.sends Bi) w.bi w.bi (limits-refl w.bi)
-    (λ i l. freed_same f g w.side w.sends Bi i (ap (λ t. t.gone) (others (stream_id (other_side w.side) Bi i) (apart Bi i)))) (x Bi))
-    (remote-same (at_once Uni) (b Uni) (is_freed f w.side w.sends Uni) (is_freed g w.side w.sends Uni) w.uni w.uni (limits-refl w.uni)
-    (λ i l. freed_same f g w.side w.sends Uni i (ap (λ t. t.gone) (others (stream_id (other_side w.side) Uni i) (apart Uni i)))) (x Uni)))
+    (remote-same (at_once Bi) (b Bi) (is_freed f w.out.side (sends w) Bi) (is_freed g w.out.side (sends w) Bi) w.bi w.bi (limits-refl w.bi)
+    (λ i l. freed_same f g w.out.side (sends w) Bi i (ap (λ t. t.gone) (others (stream_id (other_side w.out.side) Bi i) (apart Bi i)))) (x Bi))
+    (remote-same (at_once Uni) (b Uni) (is_freed f w.out.side (sends w) Uni) (is_freed g w.out.side (sends w) Uni) w.uni w.uni (limits-refl w.uni)
+    (λ i l. freed_same f g w.out.side (sends w) Uni i (ap (λ t. t.gone) (others (stream_id (other_side w.out.side) Uni i) (apart Uni i)))) (x Uni)))
     (λ own.
     let peers : is_own w id ≡ false = sym (own_put w id) ∙ own in
-    of_dir at_once b f g w id was is others next x (dir_of id) (index_of id) (spelled w.side (id % 2 == 0) (id / 2 % 2 == 0) id refl refl peers)
+    of_dir at_once b f g w id was is others next x (dir_of id) (index_of id) (spelled w.out.side (id % 2 == 0) (id / 2 % 2 == 0) id refl refl peers)
     (index_if (is_own w id) (own_refusal w (dir_of id) (index_of id)) STREAM_LIMIT_ERROR (remote_of w (dir_of id)).max_remote (index_of id) peers known))
   where
-    not_mine : (w : World) (id : ℕ) (d : Dir) (i : ℕ) → is_own w id ≡ true → eqb (stream_id (other_side w.side) d i) id ≡ false
-    not_mine w id d i mine = by_cases (eqb (stream_id (other_side w.side) d i) id)
-        (λ t. let k : is_own w id ≡ false = ap (is_own w) (sym (same (stream_id (other_side w.side) d i) id t)) ∙ own-other w.side d i in false_true (is_own w id) k mine)
+    not_mine : (w : World) (id : ℕ) (d : Dir) (i : ℕ) → is_own w id ≡ true → eqb (stream_id (other_side w.out.side) d i) id ≡ false
+    not_mine w id d i mine = by_cases (eqb (stream_id (other_side w.out.side) d i) id)
+        (λ t. let k : is_own w id ≡ false = ap (is_own w) (sym (same (stream_id (other_side w.out.side) d i) id t)) ∙ own-other w.out.side d i in false_true (is_own w id) k mine)
         (λ n. n)

@@ -10,7 +10,7 @@ use Rattle.quic_limits.specs.Remote as remote
 use Rattle.quic_limits.specs.Remote.{Remote}
 use Rattle.quic_receiving.specs.Half.{Half, new_half}
 use Rattle.quic_history.specs.Halves.{with_half}
-use Rattle.quic_history.specs.World.{World, id_refusal, is_own, remote_of, with_remote, with_receive, with_permitted, permitted_if, replaced_in, released, with_freed, told_readable, noticed}
+use Rattle.quic_history.specs.World.{World, sends, id_refusal, is_own, remote_of, with_remote, with_receive, with_permitted, permitted_if, replaced_in, released, with_freed, told_readable, noticed}
 use Rattle.quic_receiving.proofs.Data.{data-fresh}
 use Rattle.quic_history.specs.History.{Trace, untouched, HalfFrom, StreamFrom}
 use Rattle.quic_history.proofs.WorldSteps.{receive-there, refusal-with_receive, credit-with_receive}
@@ -111,11 +111,11 @@ new-half-from window = record {
 }
 
 -- the next stream of the peer is permitted
-pub raised-all : (f : ℕ → Trace) (d : Dir) (u v : World) (window : ℕ) → v.side ≡ u.side → v.opened_bi ≡ u.opened_bi → IsRaised d u v
-    → v.receive ≡ with_half u.receive (stream_id (other_side u.side) d (remote_of u d).max_remote) (Some (new_half window)) → AllFrom f u → AllFrom f v
+pub raised-all : (f : ℕ → Trace) (d : Dir) (u v : World) (window : ℕ) → v.out.side ≡ u.out.side → v.out.own_bi.opened ≡ u.out.own_bi.opened → IsRaised d u v
+    → v.receive ≡ with_half u.receive (stream_id (other_side u.out.side) d (remote_of u d).max_remote) (Some (new_half window)) → AllFrom f u → AllFrom f v
 unfolding with_half
 raised-all f d u v window side opened r halves s q =
-    let id = stream_id (other_side u.side) d (remote_of u d).max_remote in
+    let id = stream_id (other_side u.out.side) d (remote_of u d).max_remote in
     let at : v.receive q ≡ cond (eqb q id) (Some (new_half window)) (u.receive q) = ap (λ k. k q) halves in
     by_cases (eqb q id)
     (λ t.
@@ -152,7 +152,7 @@ either f u v false s t = t
 
 all-released : (f : ℕ → Trace) (d : Dir) (u : World) (id : ℕ) → AllFrom f u → AllFrom f (released u d id)
 all-released f Uni u id s = all-replaced f Uni u s
-all-released f Bi u id s = either f u (replaced_in u Bi) (u.sends id) s (all-replaced f Bi u s)
+all-released f Bi u id s = either f u (replaced_in u Bi) ((sends u) id) s (all-replaced f Bi u s)
 
 -- a half is freed, as is told of its stream
 pub all-freed : (g : ℕ → Trace) (w : World) (id : ℕ) → AllBut id g w → id_refusal w id ≡ None → (g id).gone ≡ true → AllFrom g (with_freed w id)
@@ -217,7 +217,7 @@ pub record Steady : Type 0 where
   pub credit : Credit
 
 abbrev pub steady : World → Steady
-steady w = record { side = w.side; window = w.window; credit = w.credit }
+steady w = record { side = w.out.side; window = w.window; credit = w.credit }
 
 pub steady-put : (w : World) (id : ℕ) (o : Option Half) → steady (with_receive w id o) ≡ steady w
 unfolding with_receive
@@ -252,7 +252,7 @@ steady_released : (w : World) (d : Dir) (id : ℕ) → steady (released w d id) 
 steady_released w Uni id = steady_replaced w Uni
 steady_released w Bi id =
     let P : World → Type 0 = λ x. steady x ≡ steady w in
-    if_any P w (replaced_in w Bi) (w.sends id) refl (steady_replaced w Bi)
+    if_any P w (replaced_in w Bi) ((sends w) id) refl (steady_replaced w Bi)
 
 -- a half that is freed changes nothing of the credit
 pub steady-freed : (w : World) (id : ℕ) → steady (with_freed w id) ≡ steady w

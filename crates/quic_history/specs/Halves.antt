@@ -5,6 +5,7 @@ use Rattle.quic_values.specs.declared.ids.Side.{Side}
 use Rattle.quic_values.specs.declared.ids.Dir.{Dir}
 use Rattle.quic_values.specs.Ids.{stream_id, index_of}
 use Rattle.std.specs.HashMap.{get, spare}
+use Rattle.quic_outgoing.specs.Senders.{is_between}
 use Rattle.std.specs.Global.{Box}
 use Rattle.quic_sending.specs.declared.send.ClosedStream.{ClosedStream}
 use Rattle.quic_receiving.specs.Half.{Half, new_half, is_window_due}
@@ -42,10 +43,6 @@ is_among initiator dir count id = (id == stream_id initiator dir (index_of id)) 
 unfoldable pub with_first : Halves → Side → Dir → ℕ → Option Half → Halves
 with_first f initiator dir count o = λ id. if is_among initiator dir count id then o else f id
 
--- whether an id is one of so many streams of an initiator and a direction, from an index on
-abbrev pub is_between : Side → Dir → ℕ → ℕ → ℕ → Bool
-is_between initiator dir first count id = (id == stream_id initiator dir (index_of id)) && (nat_le first (index_of id) && nat_lt (index_of id) (first + count))
-
--- the same half at each of them
+-- the same half at each of so many streams of an initiator and a direction, from an index on
 unfoldable pub with_more : Halves → Side → Dir → ℕ → ℕ → Option Half → Halves
 with_more f initiator dir first count o = λ id. if is_between initiator dir first count id then o else f id

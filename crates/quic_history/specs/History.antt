@@ -27,7 +27,7 @@ use Rattle.quic_history.specs.declared.progress.LastAnswer.{LastAnswer}
 use Rattle.quic_history.specs.declared.progress.LastAnswer.TheVariants as last_answer
 use Rattle.quic_retransmits.specs.Pending.{Pending}
 use Rattle.quic_values.specs.declared.memory.OutOfMemory.{OutOfMemory}
-use Rattle.quic_history.specs.World.{World, Made, count_of, start, id_refusal, remote_of, with_credit, with_receive_window}
+use Rattle.quic_history.specs.World.{World, Made, count_of, start, id_refusal, remote_of, sends, with_credit, with_receive_window}
 use Rattle.quic_history.specs.Permitting.{SetsConcurrent, with_accepted, acceptable, with_count_of}
 use Rattle.quic_history.specs.Receiving.{Receives, ReceivesReset}
 use Rattle.quic_history.specs.Reading.{Begins, ReadsHalf, Stops, TellsReset, bytes_in}
@@ -120,7 +120,7 @@ pub record IsStart (m : Made) (v : World) : Type 0 where
 
 -- what every call leaves: which end it is, the first limit of a stream, and that the limit of the connection does not fall
 pub record Goes (u v : World) : Type 0 where
-  pub side : v.side ≡ u.side
+  pub side : v.out.side ≡ u.out.side
   pub window : v.window ≡ u.window
   pub limit : u.credit.local_max_data ≤ v.credit.local_max_data
 
@@ -412,7 +412,7 @@ before m (e ∷ h) v run d = (remote_of run.0 d).max_remote
 
 -- how many streams the peer may open, now
 abbrev pub PermitsNow : (m : Made) (h : List Event) (v : World) → IsRun m h v → Type 0
-PermitsNow m h v run = (d : Dir) → RemoteFrom (counts (count_of m) h d) (before m h v run d) (is_freed (trace h) v.side v.sends d) (remote_of v d)
+PermitsNow m h v run = (d : Dir) → RemoteFrom (counts (count_of m) h d) (before m h v run d) (is_freed (trace h) v.out.side (sends v) d) (remote_of v d)
 
 -- and so after each call
 abbrev pub EverPermits : (m : Made) (h : List Event) (v : World) → IsRun m h v → Type 0
@@ -422,7 +422,7 @@ EverPermits m (e ∷ h) v run = PermitsNow m (e ∷ h) v run × EverPermits m h 
 -- an end may come from what it was made with, and from a history
 pub record From (m : Made) (h : List Event) (v : World) : Type 0 where
   pub run : IsRun m h v
-  pub side : v.side ≡ m.side
+  pub side : v.out.side ≡ m.side
   pub window : v.window ≡ m.window
   pub facts : Facts m.receive_window h v
   pub given : (q : ℕ) → GivenSo (trace h q)

@@ -1,5 +1,4 @@
 pub mod Halves
-pub mod Sends
 pub mod World
 pub mod Receiving
 pub mod Reading

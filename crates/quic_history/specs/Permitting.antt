@@ -8,15 +8,15 @@ use Rattle.quic_values.specs.Ids.{stream_id, other_side}
 use Rattle.quic_limits.specs.Remote.{Remote, lacking, with_concurrent, acceptable_index, one_accepted}
 use Rattle.quic_receiving.specs.Half.{Half, new_half}
 use Rattle.quic_history.specs.Halves.{with_more}
-use Rattle.quic_history.specs.Sends.{with_more_sends}
+use Rattle.quic_outgoing.specs.Outgoing.{with_more_streams}
 use Rattle.quic_history.specs.World.{World, remote_of, with_remote}
 
 -- so many more streams of the peer are permitted, from an index on: their halves are new
 abbrev pub with_more_permitted : World → Dir → ℕ → ℕ → World
-with_more_permitted w Uni first n = record w { receive = with_more w.receive (other_side w.side) Uni first n (Some (new_half w.window)) }
+with_more_permitted w Uni first n = record w { receive = with_more w.receive (other_side w.out.side) Uni first n (Some (new_half w.window)) }
 with_more_permitted w Bi first n = record w {
-  receive = with_more w.receive (other_side w.side) Bi first n (Some (new_half w.window));
-  sends = with_more_sends w.sends (other_side w.side) Bi first n;
+  receive = with_more w.receive (other_side w.out.side) Bi first n (Some (new_half w.window));
+  out = with_more_streams w.out first n;
 }
 
 -- the peer is to be able to use so many streams of a direction at a time: where it may use fewer, more are permitted
@@ -38,7 +38,7 @@ with_count_of Uni count f Uni = count
 
 -- the stream that is accepted next: the one of the lowest index that the peer opened and the application did not accept
 abbrev pub acceptable : World → Dir → Option ℕ
-acceptable w d = option_map (stream_id (other_side w.side) d) (acceptable_index (remote_of w d))
+acceptable w d = option_map (stream_id (other_side w.out.side) d) (acceptable_index (remote_of w d))
 
 -- it was accepted, if there is one
 abbrev pub with_accepted : World → Dir → World

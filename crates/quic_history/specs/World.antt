@@ -1,5 +1,5 @@
 -- The streams of one end of a connection, as contracts see them.
-use Rattle.std.specs.Prelude.{ℕ, Bool, true, false, ◌-◌, nat_le, if◌then◌else◌, List, [], ◌∷◌, ◌++◌, Option, Some, None}
+use Rattle.std.specs.Prelude.{ℕ, Bool, true, false, ◌-◌, nat_le, if◌then◌else◌, List, [], ◌∷◌, ◌++◌, Option, Some, None, is_some}
 use Rattle.quic_values.specs.declared.ids.Side.{Side}
 use Rattle.quic_values.specs.declared.ids.Side.TheVariants.{Client, Server}
 use Rattle.quic_values.specs.declared.ids.Dir.{Dir}
@@ -12,26 +12,20 @@ use Rattle.quic_limits.specs.Credit.{Credit, new_credit, credited, counted, resi
 use Rattle.quic_limits.specs.Remote.{Remote, new_remote, replaced, replacement, opened_up_to}
 use Rattle.quic_receiving.specs.Half.{Half, new_half}
 use Rattle.quic_history.specs.Halves.{Halves, with_half, with_first}
-use Rattle.quic_history.specs.Sends.{with_send, with_first_sends}
+use Rattle.quic_outgoing.specs.Outgoing.{Outgoing, no_streams, with_stream, with_more_streams, fresh}
 
--- side: which end this is
 -- credit: for the data of all streams together
 -- bi, uni: the streams that the peer may open
--- opened_bi: how many bidirectional streams this end opened
--- send_window: how many bytes may be sent and not acknowledged
+-- out: which end this is, and its sending side: the streams that it opened, the send halves, and how much may be sent
 -- receive: the receive half of a stream, if one is held
--- sends: whether the send half of a stream is held
 -- window: the first limit of each stream
 -- events: what the application was not told yet
 pub record World : Type 0 where
-  pub side : Side
   pub credit : Credit
   pub bi : Remote
   pub uni : Remote
-  pub opened_bi : ℕ
-  pub send_window : ℕ
+  pub out : Outgoing
   pub receive : Halves
-  pub sends : ℕ → Bool
   pub window : ℕ
   pub events : List StreamEvent
 
@@ -52,17 +46,18 @@ made_with side uni bi send_window receive_window window =
 -- how an end begins: the streams that the peer may open have new halves
 abbrev pub start : Made → World
 start m = record {
-  side = m.side;
   credit = new_credit m.receive_window;
   bi = new_remote m.bi;
   uni = new_remote m.uni;
-  opened_bi = 0;
-  send_window = m.send_window;
+  out = with_more_streams (no_streams m.side m.send_window) 0 m.bi;
   receive = with_first (with_first (λ id. None) (other_side m.side) Bi m.bi (Some (new_half m.window))) (other_side m.side) Uni m.uni (Some (new_half m.window));
-  sends = with_first_sends (λ id. false) (other_side m.side) Bi m.bi;
   window = m.window;
   events = [];
 }
+
+-- whether the send half of a stream is held
+abbrev pub sends : World → ℕ → Bool
+sends w = λ q. is_some (w.out.halves q)
 
 -- how many streams of a direction the peer is to be able to use at a time
 abbrev pub count_of : Made → Dir → ℕ
@@ -78,7 +73,7 @@ is_same_side Server Server = true
 
 -- whether this end opened the stream, or is to open it
 abbrev pub is_own : World → ℕ → Bool
-is_own w id = is_same_side w.side (initiator_of id)
+is_own w id = is_same_side w.out.side (initiator_of id)
 
 -- the peer's streams of a direction
 abbrev pub remote_of : World → Dir → Remote
@@ -96,7 +91,7 @@ with_receive w id h = record w { receive = with_half w.receive id h }
 -- the error of a frame on a stream that the peer may not send on, or may not open (RFC 9000 sections 4.6 and 19.8)
 abbrev pub own_refusal : World → Dir → ℕ → Option ℕ
 own_refusal w Uni index = Some STREAM_STATE_ERROR
-own_refusal w Bi index = if nat_le w.opened_bi index then Some STREAM_STATE_ERROR else None
+own_refusal w Bi index = if nat_le w.out.own_bi.opened index then Some STREAM_STATE_ERROR else None
 
 abbrev pub id_refusal : World → ℕ → Option ℕ
 id_refusal w id = if is_own w id then own_refusal w (dir_of id) (index_of id)
@@ -104,9 +99,9 @@ id_refusal w id = if is_own w id then own_refusal w (dir_of id) (index_of id)
 
 -- a stream of the peer is permitted: its halves are new
 abbrev pub with_permitted : World → Dir → ℕ → World
-with_permitted w Uni index = with_receive w (stream_id (other_side w.side) Uni index) (Some (new_half w.window))
-with_permitted w Bi index = let id = stream_id (other_side w.side) Bi index in
-    record (with_receive w id (Some (new_half w.window))) { sends = with_send w.sends id true }
+with_permitted w Uni index = with_receive w (stream_id (other_side w.out.side) Uni index) (Some (new_half w.window))
+with_permitted w Bi index = let id = stream_id (other_side w.out.side) Bi index in
+    record (with_receive w id (Some (new_half w.window))) { out = with_stream w.out id (Some (fresh w.out id)) }
 
 abbrev pub permitted_if : World → Dir → Option ℕ → World
 permitted_if w dir None = w
@@ -119,7 +114,7 @@ replaced_in w dir = permitted_if (with_remote w dir (replaced (remote_of w dir))
 -- a stream of the peer lost its receive half: it is wholly freed, unless its send half is held
 abbrev pub released : World → Dir → ℕ → World
 released w Uni id = replaced_in w Uni
-released w Bi id = if w.sends id then w else replaced_in w Bi
+released w Bi id = if sends w id then w else replaced_in w Bi
 
 -- the receive half of a stream is freed
 abbrev pub with_freed : World → ℕ → World

@@ -1,2 +1,3 @@
 pub mod SenderMaps
 pub mod Results
+pub mod PeerStreams

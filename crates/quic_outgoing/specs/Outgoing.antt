@@ -9,7 +9,7 @@ use Rattle.quic_sending.specs.declared.send.Send.{Send}
 use Rattle.quic_sending.specs.Sending.{is_ready}
 use Rattle.quic_outgoing.specs.declared.entries.FirstLimits.{FirstLimits}
 use Rattle.quic_outgoing.specs.declared.limits.PeerLimits.{PeerLimits}
-use Rattle.quic_outgoing.specs.Senders.{SendersById, with_sender, new_sender, first_limit, no_limits, joined, raised_by}
+use Rattle.quic_outgoing.specs.Senders.{SendersById, with_sender, new_sender, first_limit, no_limits, joined, raised_by, with_more_of_peer}
 
 -- side: which end this is
 -- own_bi, own_uni: the streams that it may open itself
@@ -84,3 +84,7 @@ marked b s = record s { connection_blocked = b }
 -- a stream waits with this half, unless it does already
 abbrev pub waiting : Outgoing → ℕ → Send → Outgoing
 waiting u id s = if s.connection_blocked then with_stream u id (Some s) else record (with_stream u id (Some (marked true s))) { blocked = u.blocked ++ id ∷ [] }
+
+-- so many more bidirectional streams of the peer are permitted, from an index on
+abbrev pub with_more_streams : Outgoing → ℕ → ℕ → Outgoing
+with_more_streams u first count = record u { halves = with_more_of_peer u.halves u.side u.first first count }

@@ -1,5 +1,5 @@
 -- The send halves of a connection's streams, by the ids of their streams.
-use Rattle.std.specs.Prelude.{◌≡◌, ℕ, ◌==◌, ◌&&◌, Bool, true, false, [], max, nat_lt, pos, if◌then◌else◌, Option, Some, None}
+use Rattle.std.specs.Prelude.{nat_le, ◌+◌, ◌≡◌, ℕ, ◌==◌, ◌&&◌, Bool, true, false, [], max, nat_lt, pos, if◌then◌else◌, Option, Some, None}
 use Rattle.std.specs.Option.{option_map}
 use Rattle.quic_values.specs.declared.ids.Side.{Side}
 use Rattle.quic_values.specs.declared.ids.Side.TheVariants.{Client, Server}
@@ -79,3 +79,11 @@ is_first_of_peer side count id = (id == stream_id (other_side side) Bi (index_of
 -- the same half at each of those
 unfoldable pub with_first_of_peer : SendersById → Side → ℕ → Send → SendersById
 with_first_of_peer f side count s = λ q. if is_first_of_peer side count q then Some s else f q
+
+-- whether an id is one of so many streams of an initiator and a direction, from an index on
+abbrev pub is_between : Side → Dir → ℕ → ℕ → ℕ → Bool
+is_between initiator dir first count id = (id == stream_id initiator dir (index_of id)) && (nat_le first (index_of id) && nat_lt (index_of id) (first + count))
+
+-- new halves at so many bidirectional streams of the peer, from an index on
+unfoldable pub with_more_of_peer : SendersById → Side → FirstLimits → ℕ → ℕ → SendersById
+with_more_of_peer f side l first count = λ q. if is_between (other_side side) Bi first count q then Some (new_sender (first_limit side l q)) else f q

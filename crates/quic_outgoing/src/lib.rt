@@ -6,6 +6,7 @@ mod entries;
 mod limits;
 mod outgoing;
 mod peer;
+mod permits;
 // mod polling;
 // mod writing;
 
