@@ -5,10 +5,18 @@ ghost use Rattle.quic_outgoing.specs.Outgoing.{with_more_streams};
 ghost use Rattle.quic_outgoing.specs.Shown.{view_of, permit_room};
 
 use crate::outgoing::OutgoingStreams;
-use quic_values::{Dir, StreamId};
+use quic_values::{Dir, Side, StreamId};
 
 #[tactic(auto, unfolding(crate::specs::Shown::view_of))]
 impl OutgoingStreams {
+    /// Which end this is.
+    #[inline]
+    pub fn side(&self) -> Side
+        ensures { result ≡ (view_of self.now).side }
+    {
+        self.halves.side()
+    }
+
     /// The peer may open so many more bidirectional streams, from an index on, for which room was made. Their halves
     /// take no memory until they are used.
     pub fn permit_more(&mut self, first: u64, count: u64)

@@ -1,3 +1,2 @@
 pub mod HeldMaps
 pub mod Results
-pub mod SendMaps

@@ -1,12 +1,11 @@
 -- The halves that an end holds, by the ids of their streams.
-use Rattle.std.specs.Prelude.{ℕ, Bool, ◌==◌, Option, Some, None, is_some}
+use Rattle.std.specs.Prelude.{ℕ, ◌==◌, Option, Some, None}
 use Rattle.std.specs.Option.{option_map}
 use Rattle.std.specs.HashMap.{get, spare}
 use Rattle.std.specs.Global.{Box}
 use Rattle.quic_receiving.specs.Half.{Half, new_half}
 use Rattle.quic_history.specs.Halves.{Halves}
 use Rattle.quic_streams.specs.declared.halves.ReceiveHalves.{ReceiveHalves}
-use Rattle.quic_streams.specs.declared.sends.SendHalves.{SendHalves}
 
 -- a half that was not used is a new one
 abbrev pub half_in : ℕ → Option (Box Half) → Half
@@ -20,11 +19,3 @@ held h = λ q. option_map (half_in h.window) (get ◌==◌ h.entries q)
 -- how many more halves can be held without new memory
 abbrev pub room : ReceiveHalves → ℕ
 room h = spare h.entries
-
--- whether the send half of a stream is held
-unfoldable pub sending : SendHalves → ℕ → Bool
-sending s = λ q. is_some (get ◌==◌ s.entries q)
-
--- how many more halves can be held without new memory
-abbrev pub send_room : SendHalves → ℕ
-send_room s = spare s.entries

@@ -7,11 +7,11 @@ use Rattle.quic_streams.specs.declared.state.StreamsState.{StreamsState}
 use Rattle.quic_retransmits.specs.declared.retransmits.Retransmits.{Retransmits}
 use Rattle.quic_streams.specs.Held.{room}
 use Rattle.quic_retransmits.specs.Pending.{is_in_ids}
-use Rattle.quic_streams.specs.Held.{send_room}
+use Rattle.quic_outgoing.specs.Shown.{permit_room}
 
 -- how many streams can be permitted without new memory
 unfoldable pub rooms : StreamsState → ℕ
-rooms s = min (room s.receive) (send_room s.send)
+rooms s = min (room s.receive) (permit_room s.outgoing)
 
 -- there is room for one more event
 unfoldable pub HasEventRoom : StreamsState → Type 0

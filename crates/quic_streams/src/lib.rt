@@ -7,11 +7,11 @@ mod permits;
 pub mod reading;
 mod receiving;
 pub mod recv_stream;
-pub mod sends;
 pub mod state;
 pub mod streams;
 
 pub use quic_history::progress;
+pub use quic_outgoing::PeerLimits;
 pub use quic_pieces::{assembler, datagrams, send, send_buffer, source, stats};
 pub use quic_retransmits::{IssuedCid, Retransmits, ThinRetransmits};
 

@@ -2,7 +2,7 @@
 
 ghost use Rattle.std.specs.Prelude.{ℕ, List, ◌∷◌, ◌≡◌, ◌+◌, ◌<◌, ◌≤◌, ◌^◌, OnOk, nat_lt};
 ghost use Rattle.quic_limits.specs.Remote.{open_now, with_concurrent};
-ghost use Rattle.quic_streams.specs.Held.{room, send_room};
+ghost use Rattle.quic_streams.specs.Held.{room};
 ghost use Rattle.quic_streams.specs.Shown.{shown};
 ghost use Rattle.quic_history.specs.World.{Made, remote_of, with_receive_window};
 ghost use Rattle.quic_history.specs.Permitting.{SetsConcurrent, is_flow_controlled};
@@ -49,9 +49,10 @@ impl StreamsState {
     {
         let (first, more) = (self.bi.max_remote(), self.bi.lacking(count));
         self.receive.reserve(more as usize)?;
-        self.send.reserve(more as usize)?;
-        self.receive.permit_more(!self.side, Dir::Bi, first, more);
-        self.send.permit_more(!self.side, Dir::Bi, first, more);
+        self.outgoing.reserve(more as usize)?;
+        self.receive
+            .permit_more(!self.outgoing.side(), Dir::Bi, first, more);
+        self.outgoing.permit_more(first, more);
         self.bi.set_max_concurrent(count);
         Ok(())
     }
@@ -61,7 +62,8 @@ impl StreamsState {
     {
         let (first, more) = (self.uni.max_remote(), self.uni.lacking(count));
         self.receive.reserve(more as usize)?;
-        self.receive.permit_more(!self.side, Dir::Uni, first, more);
+        self.receive
+            .permit_more(!self.outgoing.side(), Dir::Uni, first, more);
         self.uni.set_max_concurrent(count);
         Ok(())
     }

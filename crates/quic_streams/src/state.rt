@@ -5,15 +5,15 @@ ghost use Rattle.std.specs.Option.{option_map};
 ghost use Rattle.quic_receiving.specs.Half.{new_half};
 ghost use Rattle.quic_streams.specs.Held.{room};
 ghost use Rattle.quic_history.specs.Halves.{is_due_in, TellsCode};
-ghost use Rattle.quic_streams.specs.Held.{send_room};
+ghost use Rattle.quic_outgoing.specs.Shown.{view_of, permit_room};
 ghost use Rattle.quic_streams.specs.Room.{rooms, HasEventRoom};
 ghost use Rattle.quic_history.specs.History.{From};
 ghost use Rattle.quic_history.specs.World.{made_with, World, start, id_refusal, is_own, is_same_side, own_refusal, with_permitted, replaced_in, released, with_freed, told_readable, noticed, with_receive, with_counted};
 ghost use Rattle.quic_streams.specs.Shown.{shown};
 
 use crate::halves::ReceiveHalves;
-use crate::sends::SendHalves;
 use quic_limits::{ReceiveCredit, RemoteStreams};
+use quic_outgoing::OutgoingStreams;
 use quic_receiving::{ClosedStream, Recv};
 use quic_values::{Dir, OutOfMemory, Side, StreamId, VarInt};
 use quic_wire::{StreamEvent, TransportError};
@@ -23,17 +23,13 @@ use std::collections::VecDeque;
 /// The streams of one end of a connection (RFC 9000 sections 2 to 4).
 #[derive(Drop)]
 pub struct StreamsState {
-    pub(crate) side: Side,
     pub(crate) credit: ReceiveCredit,
     // The streams that the peer may open.
     pub(crate) bi: RemoteStreams,
     pub(crate) uni: RemoteStreams,
-    // How many bidirectional streams this end opened.
-    pub(crate) opened_bi: u64,
-    // How many bytes may be sent and not acknowledged.
-    pub(crate) send_window: u64,
     pub(crate) receive: ReceiveHalves,
-    pub(crate) send: SendHalves,
+    // Which end this is, and what it sends.
+    pub(crate) outgoing: OutgoingStreams,
     pub(crate) events: VecDeque<StreamEvent>,
 }
 
@@ -58,19 +54,17 @@ impl StreamsState {
     {
         let (uni, bi) = (max_remote_uni.into_inner(), max_remote_bi.into_inner());
         let mut receive = ReceiveHalves::new(alloc, stream_window);
-        let mut send = SendHalves::new(alloc);
+        let mut outgoing = OutgoingStreams::new(alloc, side, send_window);
         receive.permit_first(!side, Dir::Bi, bi)?;
         receive.permit_first(!side, Dir::Uni, uni)?;
-        send.permit_first(!side, Dir::Bi, bi)?;
+        outgoing.reserve(bi as usize)?;
+        outgoing.permit_more(0, bi);
         Ok(StreamsState {
-            side,
             credit: ReceiveCredit::new(receive_window),
             bi: RemoteStreams::new(bi),
             uni: RemoteStreams::new(uni),
-            opened_bi: 0,
-            send_window,
             receive,
-            send,
+            outgoing,
             events: VecDeque::new(alloc),
         })
     }
@@ -79,7 +73,7 @@ impl StreamsState {
     pub(crate) fn is_own(&self, id: StreamId) -> bool
         ensures { result ≡ is_own (shown self.now) id }
     {
-        is_same_side(self.side, id.initiator())
+        is_same_side(self.outgoing.side(), id.initiator())
     }
 
     // The error of a frame on a stream that the peer may not send on, or may not open.
@@ -110,7 +104,7 @@ impl StreamsState {
                 "illegal operation on send-only stream",
             )),
             Dir::Bi => {
-                if index >= self.opened_bi {
+                if index >= self.outgoing.opened(Dir::Bi) {
                     return Err(TransportError::stream_state_error("operation on unopened stream"));
                 }
                 Ok(())
@@ -124,7 +118,7 @@ impl StreamsState {
         ensures rooms { OnOk result (1 ≤ rooms self.new) }
     {
         self.receive.reserve(1)?;
-        self.send.reserve(1)?;
+        self.outgoing.reserve(1)?;
         Ok(())
     }
 
@@ -201,18 +195,18 @@ impl StreamsState {
         ensures { shown self.new ≡ with_permitted (shown self.old) Dir.Uni index }
     {
         self.receive
-            .permit(StreamId::new(!self.side, Dir::Uni, index));
+            .permit(StreamId::new(!self.outgoing.side(), Dir::Uni, index));
     }
 
     fn permit_bi(&mut self, index: u64)
         requires room { 0 < room self.old.receive }
-        requires send_room { 0 < send_room self.old.send }
+        requires send_room { 0 < permit_room self.old.outgoing }
         requires index { index < 2 ^ 60 }
         ensures { shown self.new ≡ with_permitted (shown self.old) Dir.Bi index }
     {
-        let id = StreamId::new(!self.side, Dir::Bi, index);
+        let id = StreamId::new(!self.outgoing.side(), Dir::Bi, index);
         self.receive.permit(id);
-        self.send.permit(id);
+        self.outgoing.permit(id);
     }
 
     // A stream of the peer was wholly freed, and another may take its place.
@@ -227,7 +221,7 @@ impl StreamsState {
 
     fn replace_bi(&mut self)
         requires room { 0 < room self.old.receive }
-        requires send_room { 0 < send_room self.old.send }
+        requires send_room { 0 < permit_room self.old.outgoing }
         ensures { shown self.new ≡ replaced_in (shown self.old) Dir.Bi }
     {
         if let Some(index) = self.bi.replace() {
@@ -247,7 +241,7 @@ impl StreamsState {
         match id.dir() {
             Dir::Uni => self.replace_uni(),
             Dir::Bi => {
-                if !self.send.contains(id) {
+                if !self.outgoing.contains(id) {
                     self.replace_bi();
                 }
             }

@@ -76,7 +76,7 @@ impl StreamsState {
             Dir::Uni => self.uni.accept(),
         };
         match index {
-            Some(index) => Some(StreamId::new(!self.side, dir, index)),
+            Some(index) => Some(StreamId::new(!self.outgoing.side(), dir, index)),
             None => None,
         }
     }
