@@ -1,2 +1,4 @@
 pub mod SenderMaps
 pub mod Results
+pub mod Marks
+pub mod WriteSteps

@@ -152,6 +152,10 @@ abbrev pub can_take : Option Send → Bool
 can_take None = false
 can_take (Some s) = is_ready s.state && nat_lt s.pending.offset s.max_data
 
+-- a stream waits no more
+unfoldable pub unmarked : SendersById → ℕ → SendersById
+unmarked f id = λ q. if q == id then option_map (marked false) (f q) else f q
+
 -- these streams wait no more
 unfoldable pub without_marks : SendersById → List ℕ → SendersById
 without_marks f ids = λ q. if list_any (λ id. q == id) ids then option_map (marked false) (f q) else f q

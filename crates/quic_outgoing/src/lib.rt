@@ -6,10 +6,10 @@ mod entries;
 mod limits;
 mod outgoing;
 mod peer;
-// mod polling;
-// mod writing;
+mod polling;
+mod writing;
 
 pub use entries::FirstLimits;
 pub use limits::PeerLimits;
 pub use outgoing::OutgoingStreams;
-// pub use writing::Wrote;
+pub use writing::Wrote;
