@@ -1,6 +1,6 @@
 -- Streams that wait no more.
-use Rattle.std.proofs.Common.{◌≡◌, ◌⊎◌, inl, inr, ℕ, Bool, true, false, cond, eqb, Option, Some, None, refl, sym, ap, ◌∙◌, List, [], ◌∷◌, ◌||◌}
-use Rattle.std.specs.Prelude.{◌==◌}
+use Rattle.std.proofs.Common.{◌≡◌, ◌⊎◌, inl, inr, ℕ, Bool, true, false, cond, eqb, Option, Some, None, refl, sym, ap, ◌∙◌, List, [], ◌∷◌, ◌||◌, length, slice_index_or, ◌<◌, zero, suc, arith}
+use Rattle.std.specs.Prelude.{◌==◌, All}
 use Rattle.std.specs.List.{list_any}
 use Rattle.std.specs.Option.{option_map}
 use Rattle.std.proofs.lemmas.Bool.{eqb-true}
@@ -57,3 +57,6 @@ can-take-at false o = refl
 pub can_take-marks : (f : SendersById) (ids : List ℕ) (q : ℕ) → can_take ((without_marks f ids) q) ≡ can_take (f q)
 unfolding without_marks
 can_take-marks f ids q = can-take-at (list_any (λ n. q == n) ids) (f q)
+
+pub all-none : (P : ℕ → Type 0) → All P []
+all-none P = λ k d h. absurd (omega arith)
