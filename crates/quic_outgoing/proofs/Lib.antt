@@ -2,3 +2,4 @@ pub mod SenderMaps
 pub mod Results
 pub mod Marks
 pub mod WriteSteps
+pub mod FirstOfPeer

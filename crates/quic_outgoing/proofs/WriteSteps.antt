@@ -1,8 +1,8 @@
 -- A write that takes bytes.
-use Rattle.std.proofs.Common.{◌≡◌, ◌≤◌, ◌+◌, ℕ, Bool, true, false, Option, Some, None, refl, sym, ap, ◌∙◌, List, length, min, arith}
+use Rattle.std.proofs.Common.{◌≡◌, ◌≤◌, ◌+◌, ℕ, false, Some, None, sym, ap, ◌∙◌, List, length, min, arith}
 use Rattle.quic_limits.specs.SendingCredit.{writable, with_written}
 use Rattle.quic_sending.specs.declared.send.Send.{Send}
-use Rattle.quic_sending.specs.Buffer.{Buffered, HasCuts, total_length}
+use Rattle.quic_sending.specs.Buffer.{Buffered, total_length}
 use Rattle.quic_sending.specs.Sending.{write_refusal, permitted}
 use Rattle.quic_sending.specs.Source.{Appends, rest_of}
 use Rattle.quic_outgoing.specs.declared.writing.Wrote.{Wrote}

@@ -1,6 +1,6 @@
 -- Writes on a stream.
-use Rattle.std.specs.Prelude.{◌≡◌, ℕ, ℤ, ◌-◌, ◌<◌, Bool, true, false, ◌==◌, ◌&&◌, ◌||◌, not, min, List, [], ◌∷◌, ◌++◌, length, ◌+◌, Option, Some, None, Result, Ok, Err, if◌then◌else◌}
-use Rattle.quic_limits.specs.SendingCredit.{SendingCredit, writable, with_written, with_blocked, is_blocked_due, is_limit}
+use Rattle.std.specs.Prelude.{◌≡◌, ℕ, Bool, ◌||◌, not, min, List, length, ◌+◌, Option, Some, None, Result, Ok, Err, if◌then◌else◌}
+use Rattle.quic_limits.specs.SendingCredit.{writable, with_written, with_blocked, is_blocked_due, is_limit}
 use Rattle.quic_sending.specs.declared.send.Send.{Send}
 use Rattle.quic_sending.specs.declared.send.WriteError.{WriteError}
 use Rattle.quic_sending.specs.declared.send.WriteError.TheVariants as write_error

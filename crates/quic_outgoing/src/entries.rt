@@ -132,6 +132,21 @@ impl SendEntries {
         let _ = self.entries.insert(id, None);
     }
 
+    /// The peer may open its first so many bidirectional streams. If refused, none of them is permitted.
+    pub(crate) fn permit_first(&mut self, count: u64) -> Result<(), OutOfMemory>
+        requires { count ≤ 2 ^ 60 }
+        ensures halves { OnOk result (senders self.new ≡ with_first_of_peer (senders self.old) self.old.side count (new_sender self.old.first.peer_bi)) }
+        ensures err { OnErr result (senders self.new ≡ senders self.old) }
+        ensures side { self.new.side ≡ self.old.side }
+        ensures first { self.new.first ≡ self.old.first }
+    {
+        self.reserve(count as usize)?;
+        for index in 0..count {
+            self.permit(StreamId::new(!self.side, Dir::Bi, index));
+        }
+        Ok(())
+    }
+
     /// Whether the half of a stream is held.
     pub(crate) fn contains(&self, id: StreamId) -> bool
         ensures { result ≡ is_some (senders self.now id) }

@@ -1,4 +1,4 @@
-use Rattle.std.proofs.Common.{rules, ◌≡◌, sym, ap, ◌∙◌, Some}
+use Rattle.std.proofs.Common.{rules, sym, ap, ◌∙◌, Some}
 use Rattle.quic_outgoing.specs.Seen.{senders, sender_in}
 use Rattle.quic_outgoing.specs.Senders.{first_limit, with_sender}
 use Rattle.quic_outgoing.proofs.SenderMaps.{senders-put, entry_sender, with_sender-back}

@@ -1,6 +1,6 @@
-use Rattle.std.proofs.Common.{rules, ◌≡◌, sym, ap, ◌∙◌, Some, is_some, false}
+use Rattle.std.proofs.Common.{rules, ◌≡◌, ap, ◌∙◌, Some, is_some, false}
 use Rattle.quic_outgoing.specs.Seen.{senders}
-use Rattle.quic_outgoing.specs.Senders.{first_limit, with_sender, new_sender, raised, bare}
+use Rattle.quic_outgoing.specs.Senders.{first_limit, with_sender, raised, bare}
 use Rattle.quic_outgoing.specs.Outgoing.{marked}
 use Rattle.quic_outgoing.proofs.SenderMaps.{with_sender-twice, is-there}
 use Rattle.quic_outgoing.proofs.Marks.{unmarked-some, unmarked-unused}

@@ -1,10 +1,9 @@
-use Rattle.std.proofs.Common.{rules, ◌≡◌, ℕ, refl, sym, ap, ◌∙◌, Some, [], ◌∷◌, ◌++◌, List, false, true}
+use Rattle.std.proofs.Common.{rules, ◌≡◌, refl, sym, ap, ◌∙◌, [], ◌∷◌, ◌++◌, false}
 use Rattle.std.proofs.lemmas.List.{append-nil, append_assoc}
 use Rattle.std.proofs.lemmas.List.Elements.{All-cons}
 use Rattle.quic_outgoing.specs.Shown.{view_of}
 use Rattle.quic_outgoing.specs.Seen.{senders}
-use Rattle.quic_outgoing.specs.Outgoing.{is_stuck}
-use Rattle.quic_outgoing.specs.Calls.{can_take, unmarked, without_marks}
+use Rattle.quic_outgoing.specs.Calls.{can_take, unmarked}
 use Rattle.quic_outgoing.proofs.Marks.{marks-none, marks-more, can_take-marks, all-none}
 use Rattle.quic_outgoing.proofs.outgoing.OutgoingStreams.poll_writable.Goals as goal
 

@@ -1,5 +1,4 @@
-use Rattle.std.proofs.Common.{rules, ◌≡◌, ap, ◌∙◌, Some}
-use Rattle.quic_limits.specs.SendingCredit.{with_written}
+use Rattle.std.proofs.Common.{rules, ◌≡◌, Some}
 use Rattle.quic_retransmits.specs.Pending.{shown_pending}
 use Rattle.quic_outgoing.specs.Shown.{view_of}
 use Rattle.quic_outgoing.specs.Seen.{senders}
