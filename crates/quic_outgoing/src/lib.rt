@@ -13,3 +13,6 @@ pub use entries::FirstLimits;
 pub use limits::PeerLimits;
 pub use outgoing::OutgoingStreams;
 pub use writing::Wrote;
+
+#[cfg(test)]
+mod tests;

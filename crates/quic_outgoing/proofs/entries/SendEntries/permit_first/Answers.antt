@@ -21,7 +21,7 @@ loop-index-preserved c =
     let id = stream_id (other_side side) Bi c.loop-index.index in
     let s = new_sender c.args.self.now.first.peer_bi in
     let limit : first_limit c.loop-index.self.side c.loop-index.self.first c.new.result ≡ c.args.self.now.first.peer_bi =
-        first-of-peer c.loop-index.self.side c.loop-index.self.first c.new.result (c.new.ensures.initiator ∙ c.not.ensures) c.new.ensures.dir ∙ ap (λ l. l.peer_bi) i.first in
+    first-of-peer c.loop-index.self.side c.loop-index.self.first c.new.result (c.new.ensures.initiator ∙ c.not.ensures) c.new.ensures.dir ∙ ap (λ l. l.peer_bi) i.first in
     record {
       halves = c.permit.ensures.halves
           ∙ ap (λ n. with_sender (senders c.loop-index.self) c.new.result (Some (new_sender n))) limit
