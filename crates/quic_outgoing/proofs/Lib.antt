@@ -1,3 +1,6 @@
 pub mod SenderMaps
 pub mod Results
 pub mod PeerStreams
+pub mod Marks
+pub mod WriteSteps
+pub mod FirstOfPeer

@@ -1,14 +1,13 @@
 -- What each call on the sending side may do, and answer.
-use Rattle.std.specs.Prelude.{◌≡◌, ◌⊎◌, ℕ, ℤ, ◌-◌, ◌<◌, ◌≤◌, ◌^◌, Bool, true, false, ◌==◌, ◌&&◌, ◌||◌, not, min, nat_lt, List, [], ◌∷◌, ◌++◌, Option, Some, None, is_some, is_none, unwrap_or, Result, Ok, Err, if◌then◌else◌, All, MatchBool}
+use Rattle.std.specs.Prelude.{◌≡◌, ◌⊎◌, ℕ, ℤ, ◌-◌, ◌<◌, ◌≤◌, ◌^◌, Bool, true, false, ◌==◌, ◌&&◌, not, min, nat_lt, List, [], ◌∷◌, ◌++◌, Option, Some, None, is_none, unwrap_or, Result, Ok, Err, if◌then◌else◌, All, MatchBool}
 use Rattle.std.specs.Option.{option_map}
 use Rattle.std.specs.List.{list_any}
-use Rattle.quic_values.specs.declared.ids.Side.{Side}
 use Rattle.quic_values.specs.declared.ids.Dir.{Dir}
 use Rattle.quic_values.specs.declared.memory.OutOfMemory.{OutOfMemory}
 use Rattle.quic_values.specs.Ids.{stream_id}
 use Rattle.quic_wire.specs.declared.error.TransportError.{TransportError}
 use Rattle.quic_wire.specs.declared.error.TheConstants.TransportError.{FRAME_ENCODING_ERROR}
-use Rattle.quic_limits.specs.Own.{Own, with_next_own, with_count}
+use Rattle.quic_limits.specs.Own.{with_next_own, with_count}
 use Rattle.quic_limits.specs.SendingCredit.{is_limit, with_released}
 use Rattle.quic_sending.specs.declared.send.Send.{Send}
 use Rattle.quic_sending.specs.declared.send.SendState.TheVariants.{DataSent, ResetSent}
@@ -16,12 +15,12 @@ use Rattle.quic_sending.specs.declared.send.ClosedStream.{ClosedStream}
 use Rattle.quic_sending.specs.declared.send.FinishError.{FinishError}
 use Rattle.quic_sending.specs.declared.send.FinishError.TheVariants as finish_error
 use Rattle.quic_sending.specs.Buffer.{HasDue, HasNoneDue, total_length}
-use Rattle.quic_sending.specs.Sending.{is_ready, is_reset_sent, finish_refusal, stream_room}
+use Rattle.quic_sending.specs.Sending.{is_ready, is_reset_sent, finish_refusal}
 use Rattle.quic_receiving.specs.declared.errors.HandleError.{HandleError}
 use Rattle.quic_receiving.specs.declared.errors.HandleError.TheVariants as handle_error
 use Rattle.quic_retransmits.specs.Pending.{Pending}
 use Rattle.quic_retransmits.specs.Queueing.{with_reset_stream}
-use Rattle.quic_outgoing.specs.Senders.{SendersById, with_sender}
+use Rattle.quic_outgoing.specs.Senders.{SendersById}
 use Rattle.quic_outgoing.specs.Outgoing.{Outgoing, own_of, with_own, with_stream, fresh, waiting, is_stuck, marked}
 
 -- a stream is opened where one more may be. For want of memory nothing is
@@ -151,6 +150,10 @@ SetsPriority u id priority (Err handle_error.OutOfMemory) v = v ≡ u
 abbrev pub can_take : Option Send → Bool
 can_take None = false
 can_take (Some s) = is_ready s.state && nat_lt s.pending.offset s.max_data
+
+-- a stream waits no more
+unfoldable pub unmarked : SendersById → ℕ → SendersById
+unmarked f id = λ q. if q == id then option_map (marked false) (f q) else f q
 
 -- these streams wait no more
 unfoldable pub without_marks : SendersById → List ℕ → SendersById

@@ -2,4 +2,5 @@ pub mod Senders
 pub mod Seen
 pub mod Outgoing
 pub mod Calls
+pub mod Writing
 pub mod Shown

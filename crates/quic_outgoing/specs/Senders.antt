@@ -1,5 +1,5 @@
 -- The send halves of a connection's streams, by the ids of their streams.
-use Rattle.std.specs.Prelude.{nat_le, ◌+◌, ◌≡◌, ℕ, ◌==◌, ◌&&◌, Bool, true, false, [], max, nat_lt, pos, if◌then◌else◌, Option, Some, None}
+use Rattle.std.specs.Prelude.{nat_le, ◌+◌, ℕ, ◌==◌, ◌&&◌, Bool, true, false, [], max, nat_lt, pos, if◌then◌else◌, Option, Some, None}
 use Rattle.std.specs.Option.{option_map}
 use Rattle.quic_values.specs.declared.ids.Side.{Side}
 use Rattle.quic_values.specs.declared.ids.Side.TheVariants.{Client, Server}

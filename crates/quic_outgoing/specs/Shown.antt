@@ -1,6 +1,5 @@
 -- The sending side as contracts see it, and the room in it.
-use Rattle.std.specs.Prelude.{ℕ, ◌<◌, vec_len}
-use Rattle.std.specs.Vec.{vec_capacity}
+use Rattle.std.specs.Prelude.{ℕ}
 use Rattle.quic_outgoing.specs.Outgoing.{Outgoing}
 use Rattle.quic_outgoing.specs.Seen.{senders, sender_room}
 use Rattle.quic_outgoing.specs.declared.outgoing.OutgoingStreams.{OutgoingStreams}

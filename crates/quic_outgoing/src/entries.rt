@@ -1,9 +1,9 @@
 //! The send halves of a connection's streams.
 
-ghost use Rattle.std.specs.Prelude.{◌≡◌, ◌+◌, ◌<◌, ◌≤◌, ◌^◌, Some, None, IfOk, IfSome, IfNone, OnOk, OnErr, is_some, true, false, max};
+ghost use Rattle.std.specs.Prelude.{◌≡◌, ◌⊎◌, ◌+◌, ◌<◌, ◌≤◌, ◌^◌, Some, None, IfOk, IfSome, IfNone, OnSome, OnOk, OnErr, is_some, true, false, max};
 ghost use Rattle.std.specs.Option.{option_map};
-ghost use Rattle.quic_outgoing.specs.Senders.{bare, new_sender, with_sender, with_first_of_peer, first_limit, first_for, is_same_end, is_local, no_limits, joined, raised_by};
-ghost use Rattle.quic_outgoing.specs.Calls.{told_of_half, blocked_limit};
+ghost use Rattle.quic_outgoing.specs.Senders.{bare, raised, new_sender, with_sender, with_first_of_peer, first_limit, first_for, is_same_end, is_local, no_limits, joined, raised_by};
+ghost use Rattle.quic_outgoing.specs.Calls.{told_of_half, blocked_limit, can_take, unmarked};
 ghost use Rattle.quic_outgoing.specs.Seen.{senders, sender_room};
 
 use quic_sending::{ClosedStream, Send};
@@ -132,6 +132,21 @@ impl SendEntries {
         let _ = self.entries.insert(id, None);
     }
 
+    /// The peer may open its first so many bidirectional streams. If refused, none of them is permitted.
+    pub(crate) fn permit_first(&mut self, count: u64) -> Result<(), OutOfMemory>
+        requires { count ≤ 2 ^ 60 }
+        ensures halves { OnOk result (senders self.new ≡ with_first_of_peer (senders self.old) self.old.side count (new_sender self.old.first.peer_bi)) }
+        ensures err { OnErr result (senders self.new ≡ senders self.old) }
+        ensures side { self.new.side ≡ self.old.side }
+        ensures first { self.new.first ≡ self.old.first }
+    {
+        self.reserve(count as usize)?;
+        for index in 0..count {
+            self.permit(StreamId::new(!self.side, Dir::Bi, index));
+        }
+        Ok(())
+    }
+
     /// Whether the half of a stream is held.
     pub(crate) fn contains(&self, id: StreamId) -> bool
         ensures { result ≡ is_some (senders self.now id) }
@@ -216,6 +231,54 @@ impl SendEntries {
                 } else {
                     None
                 }
+            }
+        }
+    }
+
+    /// Whether new data may be written on a stream, as far as it knows itself.
+    pub(crate) fn can_take(&self, id: StreamId) -> bool
+        ensures { result ≡ can_take (senders self.now id) }
+    {
+        let limit = self.first_limit(id);
+        match self.entries.get(&id) {
+            None => false,
+            Some(None) => 0 < limit.into_inner(),
+            Some(Some(half)) => {
+                half.is_writable() && half.offset() < greater(half.max_data, limit).into_inner()
+            }
+        }
+    }
+
+    // Takes a half out to be put back, where something was written.
+    fn take_used(&mut self, id: StreamId) -> Option<Box<Send>>
+        ensures half { IfSome result (λ b. senders self.old id ≡ Some (raised (first_limit self.old.side self.old.first id) (bare b.value))) }
+        ensures halves { OnSome result (senders self.new ≡ with_sender (senders self.old) id (Some (new_sender (first_limit self.old.side self.old.first id)))) }
+        ensures none { IfNone result (senders self.new ≡ senders self.old) }
+        ensures unused { IfNone result ((senders self.old id ≡ None) ⊎ (senders self.old id ≡ Some (new_sender (first_limit self.old.side self.old.first id)))) }
+        ensures side { self.new.side ≡ self.old.side }
+        ensures first { self.new.first ≡ self.old.first }
+        ensures room { sender_room self.new ≡ sender_room self.old }
+    {
+        match self.entries.get_mut(&id) {
+            None => None,
+            Some(entry) => entry.take(),
+        }
+    }
+
+    /// A stream waits no more.
+    pub(crate) fn unmark(&mut self, id: StreamId)
+        ensures halves { senders self.new ≡ unmarked (senders self.old) id }
+        ensures side { self.new.side ≡ self.old.side }
+        ensures first { self.new.first ≡ self.old.first }
+        ensures room { sender_room self.new ≡ sender_room self.old }
+    {
+        match self.take_used(id) {
+            None => {}
+            Some(half) => {
+                let mut half = half;
+                half.max_data = greater(half.max_data, self.first_limit(id));
+                half.connection_blocked = false;
+                self.put(id, half);
             }
         }
     }

@@ -7,10 +7,13 @@ mod limits;
 mod outgoing;
 mod peer;
 mod permits;
-// mod polling;
-// mod writing;
+mod polling;
+mod writing;
 
 pub use entries::FirstLimits;
 pub use limits::PeerLimits;
 pub use outgoing::OutgoingStreams;
-// pub use writing::Wrote;
+pub use writing::Wrote;
+
+#[cfg(test)]
+mod tests;
