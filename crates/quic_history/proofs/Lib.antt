@@ -15,6 +15,7 @@ pub mod Refusals
 pub mod RemoteHistory
 pub mod Remotes
 pub mod ResetHistory
+pub mod SendSteps
 pub mod StreamSteps
 pub mod Totals
 pub mod Traces

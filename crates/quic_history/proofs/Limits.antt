@@ -17,8 +17,9 @@ use Rattle.quic_retransmits.specs.Pending.{Pending}
 use Rattle.quic_history.specs.World.{World, with_receive, with_credit, with_receive_window, remote_of, advanced, noticed, with_freed}
 use Rattle.quic_history.specs.Receiving.{Receives, ReceivesReset, after_data, after_reset, credited_to}
 use Rattle.quic_history.specs.Reading.{Begins, Stops, TellsReset, after_read, after_stop}
-use Rattle.quic_history.specs.History.{Event, Received, ReceivedReset, AddedCredits, Began, Gave, Ended, Stopped, ToldReset, Resized, SetConcurrent, Accepted, Step, Goes}
+use Rattle.quic_history.specs.History.{Event, Received, ReceivedReset, AddedCredits, Began, Gave, Ended, Stopped, ToldReset, Resized, SetConcurrent, Accepted, Sending, Step, Goes}
 use Rattle.quic_history.specs.Permitting.{after_concurrent, with_accepted}
+use Rattle.quic_history.proofs.SendSteps.{goes-sending}
 use Rattle.quic_history.proofs.Permits.{steady-concurrent}
 use Rattle.quic_limits.specs.Credit.{Credit, resized}
 use Rattle.quic_limits.specs.Remote.{one_accepted}
@@ -154,3 +155,4 @@ goes h u (Resized size answer) v fits s = rises_at u v (with_receive_window u si
 goes h u (SetConcurrent dir count (Ok k)) v fits s = stays u v (ap firm s ∙ ap firm_of (steady-concurrent u dir count))
 goes h u (SetConcurrent dir count (Err k)) v fits s = stays u v (ap firm s)
 goes h u (Accepted dir answer) v fits s = stays u v (ap firm s.0 ∙ ap firm_of (steady-remote u dir (one_accepted (remote_of u dir))))
+goes h u (Sending e) v fits s = goes-sending u e v s

@@ -128,3 +128,39 @@ refusal-next Uni w = refusal-peer w w.out.side Uni w.uni.max_remote refl ∙ rw 
 pub refusal-permitted : (d : Dir) (w v : World) → v.out.side ≡ w.out.side → IsRaised d w v → id_refusal v (stream_id (other_side w.out.side) d (remote_of w d).max_remote) ≡ None
 refusal-permitted Bi w v side r = refusal-peer v w.out.side Bi w.bi.max_remote side ∙ rw (r.0, here_no w.bi.max_remote) refl
 refusal-permitted Uni w v side r = refusal-peer v w.out.side Uni w.uni.max_remote side ∙ rw (r.1, here_no w.uni.max_remote) refl
+
+this_same : (s : Side) → is_same_side s (if is_client_side s then Client else Server) ≡ true
+this_same Client = refl
+this_same Server = refl
+
+-- a stream of this end
+pub own-id : (s : Side) (d : Dir) (n : ℕ) → is_same_side s (initiator_of (stream_id s d n)) ≡ true
+own-id s d n = ap (λ b. is_same_side s (if b then Client else Server)) (side-bit s d n) ∙ this_same s
+
+-- the error of a frame on this end's bidirectional stream of an index
+pub refusal-own : (w : World) (s : Side) (n : ℕ) → w.out.side ≡ s → id_refusal w (stream_id s Bi n) ≡ (if nat_le w.out.own_bi.opened n then Some STREAM_STATE_ERROR else None)
+refusal-own w s n e = refusal-is w (stream_id s Bi n) ∙ rw (e, own-id s Bi n, dir-bit s Bi n, index-id s Bi n) refl
+
+own_index : (s : Side) (q m : ℕ) → (q % 2 == 0) ≡ is_client_side s → (q / 2 % 2 == 0) ≡ true → (q == stream_id s Bi m) ≡ false → nat_le (m + 1) (q / 4) ≡ nat_le m (q / 4)
+own_index Client q m side dir apart = grind (arith, nat_tests)
+own_index Server q m side dir apart = grind (arith, nat_tests)
+
+own_side : (s : Side) (b : Bool) → is_same_side s (if b then Client else Server) ≡ true → b ≡ is_client_side s
+own_side Client true e = refl
+own_side Client false e = cc
+own_side Server true e = cc
+own_side Server false e = refl
+
+opened_more : (s : Side) (q m bi uni : ℕ) (own is : Bool) → is_same_side s (initiator_of q) ≡ own → (q / 2 % 2 == 0) ≡ is → (q == stream_id s Bi m) ≡ false
+    → refusal_by own is (m + 1) bi uni (index_of q) ≡ refusal_by own is m bi uni (index_of q)
+opened_more s q m bi uni true true e f apart = ap (λ b. if b then Some STREAM_STATE_ERROR else None) (own_index s q m (own_side s (q % 2 == 0) e) f apart)
+opened_more s q m bi uni true false e f apart = refl
+opened_more s q m bi uni false true e f apart = refl
+opened_more s q m bi uni false false e f apart = refl
+
+-- one more bidirectional stream of this end is open: frames on the others are refused as before
+pub refusal-own-next : (w v : World) (q : ℕ) → v.out.side ≡ w.out.side → v.out.own_bi.opened ≡ w.out.own_bi.opened + 1 → v.bi.max_remote ≡ w.bi.max_remote → v.uni.max_remote ≡ w.uni.max_remote
+    → (q == stream_id w.out.side Bi w.out.own_bi.opened) ≡ false → id_refusal v q ≡ id_refusal w q
+refusal-own-next w v q side opened bi uni apart =
+    refusal-is v q ∙ rw (side, opened, bi, uni) (opened_more w.out.side q w.out.own_bi.opened w.bi.max_remote w.uni.max_remote (is_own w q) (q / 2 % 2 == 0) refl refl apart)
+    ∙ sym (refusal-is w q)

@@ -138,7 +138,7 @@ pub record SameRemotes (u v : World) : Type 0 where
   pub sends : (sends v) ≡ (sends u)
   pub limits : (d : Dir) → SameLimits (remote_of u d) (remote_of v d)
 
-limits-refl : (r : Remote) → SameLimits r r
+pub limits-refl : (r : Remote) → SameLimits r r
 limits-refl r = record { max = refl; allocated = refl; concurrent = refl }
 
 pub remotes-put : (u : World) (id : ℕ) (o : Option Half) → SameRemotes u (with_receive u id o)
@@ -169,15 +169,15 @@ remotes-remote u Uni r s = record { side = refl; sends = refl; limits = both }
     both Bi = limits-refl u.bi
     both Uni = s
 
-opened_limits : (r : Remote) (index : ℕ) (b : Bool) → SameLimits r (if b then record r { next_remote = index + 1; opened = true } else r)
-opened_limits r index true = record { max = refl; allocated = refl; concurrent = refl }
-opened_limits r index false = limits-refl r
+pub opened-limits : (r : Remote) (index : ℕ) (b : Bool) → SameLimits r (if b then record r { next_remote = index + 1; opened = true } else r)
+opened-limits r index true = record { max = refl; allocated = refl; concurrent = refl }
+opened-limits r index false = limits-refl r
 
 pub remotes-noticed : (u : World) (id : ℕ) (b : Bool) → SameRemotes u (noticed u id b)
 remotes-noticed u id b =
     let P : World → Type 0 = λ x. SameRemotes u x in
     noticed-any P u id b (remotes_told u id b)
-    (remotes-remote u (dir_of id) _ (opened_limits (remote_of u (dir_of id)) (index_of id) (nat_le (remote_of u (dir_of id)).next_remote (index_of id))))
+    (remotes-remote u (dir_of id) _ (opened-limits (remote_of u (dir_of id)) (index_of id) (nat_le (remote_of u (dir_of id)).next_remote (index_of id))))
 
 pub remotes-then : (u v w : World) → SameRemotes u v → SameRemotes v w → SameRemotes u w
 remotes-then u v w s t = record {

@@ -125,6 +125,20 @@ raised-all f d u v window side opened r halves s q =
     (set_half untouched (id_refusal v q) (v.receive q) (new_half window) (ap (id_refusal v) is ∙ refusal-permitted d u v side r) (at ∙ rw t refl) (new-half-from window)))
     (λ n. moved (f q) (id_refusal u q) (id_refusal v q) (u.receive q) (v.receive q) (refusal-raised d u v q side opened r n) (at ∙ rw n refl) (s q))
 
+-- one stream of which nothing was told is opened
+pub all-one : (f : ℕ → Trace) (u v : World) (id window error : ℕ) → v.receive ≡ with_half u.receive id (Some (new_half window)) → id_refusal u id ≡ Some error → id_refusal v id ≡ None
+    → ((q : ℕ) → eqb q id ≡ false → id_refusal v q ≡ id_refusal u q) → AllFrom f u → AllFrom f v
+unfolding with_half
+all-one f u v id window error halves before after others s q =
+    let at : v.receive q ≡ cond (eqb q id) (Some (new_half window)) (u.receive q) = ap (λ k. k q) halves in
+    by_cases (eqb q id)
+    (λ t.
+    let is : q ≡ id = same q id t in
+    let told : f q ≡ untouched = new-from (f q) (id_refusal u q) (u.receive q) error (ap (id_refusal u) is ∙ before) (s q) in
+    retold untouched (f q) (id_refusal v q) (v.receive q) told
+    (set_half untouched (id_refusal v q) (v.receive q) (new_half window) (ap (id_refusal v) is ∙ after) (at ∙ rw t refl) (new-half-from window)))
+    (λ n. moved (f q) (id_refusal u q) (id_refusal v q) (u.receive q) (v.receive q) (others q n) (at ∙ rw n refl) (s q))
+
 -- the world with it
 abbrev with_next : Dir → World → World
 with_next d u = with_permitted (with_remote u d (remote.one_permitted (remote.freed (remote_of u d)))) d (remote_of u d).max_remote

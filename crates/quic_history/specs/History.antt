@@ -28,6 +28,7 @@ use Rattle.quic_history.specs.declared.progress.LastAnswer.TheVariants as last_a
 use Rattle.quic_retransmits.specs.Pending.{Pending}
 use Rattle.quic_values.specs.declared.memory.OutOfMemory.{OutOfMemory}
 use Rattle.quic_history.specs.World.{World, Made, count_of, start, id_refusal, remote_of, sends, with_credit, with_receive_window}
+use Rattle.quic_history.specs.Sends.{SendEvent, SendStep}
 use Rattle.quic_history.specs.Permitting.{SetsConcurrent, with_accepted, acceptable, with_count_of}
 use Rattle.quic_history.specs.Receiving.{Receives, ReceivesReset}
 use Rattle.quic_history.specs.Reading.{Begins, ReadsHalf, Stops, TellsReset, bytes_in}
@@ -56,6 +57,8 @@ pub data Event : Type 0 where
   SetConcurrent : (dir : Dir) → (count : ℕ) → (answer : Result (Unit {0}) OutOfMemory) → Event
   -- the next stream that the peer opened was asked for
   Accepted : (dir : Dir) → (answer : Option ℕ) → Event
+  -- a call on the sending side
+  Sending : SendEvent → Event
 
 -- an answer of a reader that may go on is a call; what it told at the end it tells again, and that is none
 abbrev pub with_next : Progress → ℕ → ℕ → Bool → Result (Option Chunk) ReadError → List Event → List Event
@@ -94,6 +97,7 @@ Step u (ToldReset id answer) v = (p : Pending) × (q : Pending) × TellsReset u 
 Step u (Resized window answer) v = (v ≡ with_receive_window u window) × (answer ≡ nat_lt u.credit.receive_window window)
 Step u (SetConcurrent dir count answer) v = SetsConcurrent u dir count answer v
 Step u (Accepted dir answer) v = (v ≡ with_accepted u dir) × (answer ≡ acceptable u dir)
+Step u (Sending e) v = SendStep u e v
 
 -- how many bytes the reader gave that was opened last, and is not ended
 abbrev pub with_given : Event → ℕ → ℕ

@@ -3,4 +3,5 @@ pub mod World
 pub mod Receiving
 pub mod Reading
 pub mod History
+pub mod Sends
 pub mod Permitting

@@ -67,6 +67,10 @@ acceptable_index r = if nat_lt r.next_reported r.next_remote then Some r.next_re
 abbrev pub one_accepted : Remote → Remote
 one_accepted r = if nat_lt r.next_reported r.next_remote then record r { next_reported = r.next_reported + 1 } else r
 
+-- the application was told that it opened some
+abbrev pub opening_told : Remote → Remote
+opening_told r = record r { opened = false }
+
 -- how many of those that it opened are not wholly freed, as far as the counts tell
 abbrev pub open_now : Remote → ℕ
 open_now r = r.next_remote - (r.max_remote - r.allocated)

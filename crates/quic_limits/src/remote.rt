@@ -1,7 +1,7 @@
 //! The streams of one direction that the peer may open (RFC 9000 section 4.6).
 
 ghost use Rattle.std.specs.Prelude.{◌≡◌, ◌+◌, ◌<◌, ◌≤◌, ◌^◌, IfSome, nat_le};
-ghost use Rattle.quic_limits.specs.Remote.{Remote, IsRemote, new_remote, replaced, replacement, opened_up_to, is_max_streams_due, streams_announced, lacking, with_concurrent, acceptable_index, one_accepted, open_now};
+ghost use Rattle.quic_limits.specs.Remote.{Remote, IsRemote, new_remote, replaced, replacement, opened_up_to, is_max_streams_due, streams_announced, lacking, with_concurrent, acceptable_index, one_accepted, open_now, opening_told};
 
 use quic_values::{MAX_STREAM_COUNT, VarInt};
 use std::marker::Model;
@@ -162,6 +162,16 @@ impl RemoteStreams {
         let index = self.next_reported;
         self.next_reported += 1;
         Some(index)
+    }
+
+    /// Whether the peer opened streams of which the application was not told. It is told now.
+    pub fn tell_opened(&mut self) -> bool
+        ensures remote { self.new ≡ opening_told self.old }
+        ensures opened { result ≡ self.old.opened }
+    {
+        let opened = self.opened;
+        self.opened = false;
+        opened
     }
 
     /// How many streams that the peer opened are not wholly freed. Streams that it may use and did not open count

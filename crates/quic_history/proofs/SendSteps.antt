@@ -1,0 +1,358 @@
+-- What the calls on the sending side leave of the receiving side.
+use Rattle.std.proofs.Common.{◌≡◌, ◌⊎◌, ℕ, Bool, true, false, cond, eqb, List, ◌∷◌, Option, Some, None, is_some, Result, Ok, Err, refl, sym, ap, ◌∙◌, subst, inl, inr, arith, ◌+◌, ◌<◌, ◌≤◌}
+use Rattle.std.specs.Prelude.{◌==◌, ◌&&◌, not, nat_lt, nat_le, if◌then◌else◌, MatchBool, ◌++◌, []}
+use Rattle.std.specs.Option.{option_map}
+use Rattle.std.specs.List.{list_any}
+use Rattle.std.proofs.lemmas.Bool.Decides.{nat_tests}
+use Rattle.quic_values.specs.declared.memory.OutOfMemory.{OutOfMemory}
+use Rattle.quic_values.specs.declared.ids.Side.{Side}
+use Rattle.quic_values.specs.declared.ids.Side.TheVariants.{Client, Server}
+use Rattle.quic_values.specs.declared.ids.Dir.{Dir}
+use Rattle.quic_values.specs.declared.ids.Dir.TheVariants.{Bi, Uni}
+use Rattle.quic_values.specs.Ids.{stream_id, other_side, dir_of, index_of}
+use Rattle.quic_wire.specs.declared.event.StreamEvent.{StreamEvent}
+use Rattle.quic_wire.specs.declared.event.StreamEvent.TheVariants as stream_event
+use Rattle.quic_wire.specs.declared.error.ReceiveError.{ReceiveError}
+use Rattle.quic_wire.specs.declared.error.ReceiveError.TheVariants as receive_error
+use Rattle.quic_wire.specs.declared.error.TheConstants.TransportError.{STREAM_STATE_ERROR}
+use Rattle.quic_limits.specs.Credit.{Credit}
+use Rattle.quic_limits.specs.Own.{Own, with_next_own}
+use Rattle.quic_limits.specs.Remote.{Remote, opening_told}
+use Rattle.quic_sending.specs.declared.send.Send.{Send}
+use Rattle.quic_receiving.specs.Half.{Half, new_half}
+use Rattle.quic_outgoing.specs.Senders.{SendersById, with_sender, raised_by, raised, first_limit}
+use Rattle.quic_outgoing.specs.Outgoing.{Outgoing, own_of, with_own, with_stream, with_params, waiting, marked, is_stuck, fresh, first_of}
+use Rattle.quic_outgoing.specs.Calls.{Opens, RaisesStream, StopsSending, PollsWritable, after_rise, with_rise, is_woken, without_marks}
+use Rattle.quic_outgoing.specs.Calls as calls
+use Rattle.quic_history.specs.Halves.{Halves, with_half}
+use Rattle.quic_history.specs.World.{World, sends, id_refusal, is_own, remote_of, with_remote, with_receive, told, told_readable, noticed}
+use Rattle.quic_history.specs.Sends.{SendEvent, SendStep, GaveLimits, OpenedOwn, RaisedData, RaisedCount, RaisedLimit, StoppedOwn, SetWindow, Polled, with_out, with_opened, with_own_count, told_writable, after_first_stop, is_permitted, PollsQueue, RaisesLimit, RaisesCount, StopsOwn, Polls}
+use Rattle.quic_history.specs.History.{Event, Sending, Goes, Trace, Facts, untouched, trace, consumed, last_window, debt, received}
+use Rattle.quic_history.proofs.Credits.{credit-same}
+use Rattle.quic_history.proofs.Refusals.{refusal-same, refusal-own, refusal-own-next, own-id}
+use Rattle.quic_history.proofs.Remotes.{AllRemotes, SameLimits, remotes-idle, remote-same, limits-refl, opened-limits}
+use Rattle.quic_history.proofs.StreamSteps.{AllFrom, all-same, all-one, new-half-from, noticed-any}
+use Rattle.quic_history.proofs.Totals.{by_cases, same}
+
+-- a call that leaves the receiving side as it is
+pub record Spares (u v : World) : Type 0 where
+  pub side : v.out.side ≡ u.out.side
+  pub window : v.window ≡ u.window
+  pub credit : v.credit ≡ u.credit
+  pub receive : v.receive ≡ u.receive
+  pub opened : v.out.own_bi.opened ≡ u.out.own_bi.opened
+  pub limits : (d : Dir) → SameLimits (remote_of u d) (remote_of v d)
+  pub held : (q : ℕ) → is_some (v.out.halves q) ≡ is_some (u.out.halves q)
+
+spares_none : (u : World) → Spares u u
+spares_none u = record { side = refl; window = refl; credit = refl; receive = refl; opened = refl; limits = λ d. limits-refl (remote_of u d); held = λ q. refl }
+
+spares_then : (u v w : World) → Spares u v → Spares v w → Spares u w
+spares_then u v w s t = record {
+  side = t.side ∙ s.side;
+  window = t.window ∙ s.window;
+  credit = t.credit ∙ s.credit;
+  receive = t.receive ∙ s.receive;
+  opened = t.opened ∙ s.opened;
+  limits = λ d. let a = s.limits d in let b = t.limits d in record { max = b.max ∙ a.max; allocated = b.allocated ∙ a.allocated; concurrent = b.concurrent ∙ a.concurrent };
+  held = λ q. t.held q ∙ s.held q;
+}
+
+spares_at : (u v w : World) → v ≡ w → Spares u w → Spares u v
+spares_at u v w e s = let P : World → Type 0 = λ x. Spares u x in subst P (sym e) s
+
+spares_out : (u : World) (o : Outgoing) → o.side ≡ u.out.side → o.own_bi.opened ≡ u.out.own_bi.opened → ((q : ℕ) → is_some (o.halves q) ≡ is_some (u.out.halves q)) → Spares u (with_out u o)
+spares_out u o side opened held = record { side = side; window = refl; credit = refl; receive = refl; opened = opened; limits = both; held = held }
+  where
+    both : (d : Dir) → SameLimits (remote_of u d) (remote_of (with_out u o) d)
+    both Bi = limits-refl u.bi
+    both Uni = limits-refl u.uni
+
+spares_told : (u : World) (e : StreamEvent) → Spares u (told u e)
+spares_told u e = record { side = refl; window = refl; credit = refl; receive = refl; opened = refl; limits = both; held = λ q. refl }
+  where
+    both : (d : Dir) → SameLimits (remote_of u d) (remote_of (told u e) d)
+    both Bi = limits-refl u.bi
+    both Uni = limits-refl u.uni
+
+spares_events : (u : World) (es : List StreamEvent) → Spares u (record u { events = es })
+spares_events u es = record { side = refl; window = refl; credit = refl; receive = refl; opened = refl; limits = both; held = λ q. refl }
+  where
+    both : (d : Dir) → SameLimits (remote_of u d) (remote_of (record u { events = es }) d)
+    both Bi = limits-refl u.bi
+    both Uni = limits-refl u.uni
+
+spares_remote : (u : World) (e : Dir) (r : Remote) → SameLimits (remote_of u e) r → Spares u (with_remote u e r)
+spares_remote u Bi r s = record { side = refl; window = refl; credit = refl; receive = refl; opened = refl; limits = both; held = λ q. refl }
+  where
+    both : (d : Dir) → SameLimits (remote_of u d) (remote_of (with_remote u Bi r) d)
+    both Bi = s
+    both Uni = limits-refl u.uni
+spares_remote u Uni r s = record { side = refl; window = refl; credit = refl; receive = refl; opened = refl; limits = both; held = λ q. refl }
+  where
+    both : (d : Dir) → SameLimits (remote_of u d) (remote_of (with_remote u Uni r) d)
+    both Bi = limits-refl u.bi
+    both Uni = s
+
+spares_noticed : (u : World) (id : ℕ) → Spares u (noticed u id false)
+spares_noticed u id = let P : World → Type 0 = λ x. Spares u x in
+    noticed-any P u id false (spares_none u)
+    (spares_remote u (dir_of id) _ (opened-limits (remote_of u (dir_of id)) (index_of id) (nat_le (remote_of u (dir_of id)).next_remote (index_of id))))
+
+-- ---- the halves that are held
+
+held_put : (f : SendersById) (id : ℕ) (s t : Send) → f id ≡ Some s → (q : ℕ) → is_some ((with_sender f id (Some t)) q) ≡ is_some (f q)
+unfolding with_sender
+held_put f id s t e q = by_cases (eqb q id)
+    (λ k. let there : is_some (f q) ≡ true = ap (λ j. is_some (f j)) (same q id k) ∙ ap (λ (o : Option Send). is_some o) e in rw k (sym there))
+    (λ n. rw n refl)
+
+held_map : (g : Send → Send) (o : Option Send) → is_some (option_map g o) ≡ is_some o
+held_map g None = refl
+held_map g (Some s) = refl
+
+held_raised : (side : Side) (l : _) (f : SendersById) (q : ℕ) → is_some ((raised_by side l f) q) ≡ is_some (f q)
+unfolding raised_by
+held_raised side l f q = held_map (raised (first_limit side l q)) (f q)
+
+held_unmarked : (f : SendersById) (ids : List ℕ) (q : ℕ) → is_some ((without_marks f ids) q) ≡ is_some (f q)
+unfolding without_marks
+held_unmarked f ids q = by_test (list_any (λ id. q == id) ids)
+  where
+    by_test : (b : Bool) → is_some (if b then option_map (marked false) (f q) else f q) ≡ is_some (f q)
+    by_test true = held_map (marked false) (f q)
+    by_test false = refl
+
+-- a step of the sending side that opens and frees nothing
+record Steadies (a b : Outgoing) : Type 0 where
+  pub side : b.side ≡ a.side
+  pub opened : b.own_bi.opened ≡ a.own_bi.opened
+  pub held : (q : ℕ) → is_some (b.halves q) ≡ is_some (a.halves q)
+
+spares_step : (u : World) (o : Outgoing) → Steadies u.out o → Spares u (with_out u o)
+spares_step u o s = spares_out u o s.side s.opened s.held
+
+steadies_at : (a b c : Outgoing) → b ≡ c → Steadies a c → Steadies a b
+steadies_at a b c e s = let P : Outgoing → Type 0 = λ x. Steadies a x in subst P (sym e) s
+
+steadies_none : (a : Outgoing) → Steadies a a
+steadies_none a = record { side = refl; opened = refl; held = λ q. refl }
+
+steadies_put : (a : Outgoing) (id : ℕ) (s t : Send) → a.halves id ≡ Some s → Steadies a (with_stream a id (Some t))
+steadies_put a id s t e = record { side = refl; opened = refl; held = held_put a.halves id s t e }
+
+waits : (a : Outgoing) (id : ℕ) (s t : Send) → a.halves id ≡ Some s → Steadies a (waiting a id t)
+waits a id s t e = by_mark t.connection_blocked
+  where
+    by_mark : (b : Bool) → Steadies a (if b then with_stream a id (Some t) else record (with_stream a id (Some (marked true t))) { blocked = a.blocked ++ id ∷ [] })
+    by_mark true = steadies_put a id s t e
+    by_mark false = record { side = refl; opened = refl; held = held_put a.halves id s (marked true t) e }
+
+steadies_rise : (a : Outgoing) (id n : ℕ) (o : Option Send) → a.halves id ≡ o → Steadies a (after_rise a id n o)
+steadies_rise a id n None e = steadies_none a
+steadies_rise a id n (Some s) e = by_test (is_woken s n && is_stuck a)
+  where
+    by_test : (b : Bool) → Steadies a (if b then waiting a id (with_rise s n) else with_stream a id (Some (with_rise s n)))
+    by_test true = waits a id s (with_rise s n) e
+    by_test false = steadies_put a id s (with_rise s n) e
+
+steadies_stop : (a : Outgoing) (id code : ℕ) (o : Option Send) → a.halves id ≡ o → Steadies a (calls.with_stop a id code o)
+steadies_stop a id code None e = steadies_none a
+steadies_stop a id code (Some s) e = steadies_put a id s _ e
+
+steadies_polls : (a : Outgoing) (answer : Option ℕ) (b : Outgoing) → PollsWritable a answer b → Steadies a b
+steadies_polls a None b s = by_stuck (is_stuck a) refl
+  where
+    by_stuck : (k : Bool) → is_stuck a ≡ k → Steadies a b
+    by_stuck true k = let t = rw k at s in steadies_at a b a t (steadies_none a)
+    by_stuck false k = let t = rw k at s in steadies_at a b _ t.1 (record { side = refl; opened = refl; held = held_unmarked a.halves a.blocked })
+steadies_polls a (Some id) b s = steadies_at a b _ s.6 (record { side = refl; opened = refl; held = held_unmarked a.halves (id ∷ s.3) })
+
+own_count : (u : World) (d : Dir) (o : Own) → o.opened ≡ (own_of u.out d).opened → Spares u (with_out u (with_own u.out d o))
+own_count u Bi o e = spares_out u (with_own u.out Bi o) refl e (λ q. refl)
+own_count u Uni o e = spares_out u (with_own u.out Uni o) refl refl (λ q. refl)
+
+writable_told : (u : World) (id : ℕ) (b : Bool) → Spares u (told_writable u id b)
+writable_told u id true = spares_told u _
+writable_told u id false = spares_none u
+
+raised_count : (u : World) (d : Dir) (o : Own) (b : Bool) → o.opened ≡ (own_of u.out d).opened → Spares u (if b then told (with_out u (with_own u.out d o)) (stream_event.Available d) else with_out u (with_own u.out d o))
+raised_count u d o true e = spares_then u (with_out u (with_own u.out d o)) _ (own_count u d o e) (spares_told (with_out u (with_own u.out d o)) (stream_event.Available d))
+raised_count u d o false e = own_count u d o e
+
+first_stop : (u w : World) (id code : ℕ) (b : Bool) → Spares u w → Spares u (after_first_stop w id code b)
+first_stop u w id code true s = let t = told w (stream_event.Stopped id code) in spares_then u t _ (spares_then u w t s (spares_told w _)) (spares_noticed t id)
+first_stop u w id code false s = s
+
+told_limits : (r : Remote) → SameLimits r (opening_told r)
+told_limits r = record { max = refl; allocated = refl; concurrent = refl }
+
+polls_queue : (u w : World) (writable : Option ℕ) (answer : Option StreamEvent) (v : World) → Spares u w → PollsQueue w writable answer v → Spares u v
+polls_queue u w (Some id) answer v s p = spares_at u v w p.1 s
+polls_queue u w None answer v s p = spares_at u v _ p.2 (spares_then u w _ s (spares_events w p.0))
+
+either_way : (b : Bool) {P Q R : Type 0} → MatchBool b P Q → (P → R) → (Q → R) → R
+either_way true s f g = f s
+either_way false s f g = g s
+
+polls : (u : World) (answer : Option StreamEvent) (v : World) → Polls u answer v → Spares u v
+polls u answer v s = either_way u.bi.opened s
+    (λ t. spares_at u v _ t.1 (spares_remote u Bi (opening_told u.bi) (told_limits u.bi)))
+    (λ t. either_way u.uni.opened t
+        (λ r. spares_at u v _ r.1 (spares_remote u Uni (opening_told u.uni) (told_limits u.uni)))
+        (λ p. polls_queue u (with_out u p.1) p.0 answer v (spares_step u p.1 (steadies_polls u.out p.0 p.1 p.2)) p.3))
+
+raises_limit : (u : World) (id n : ℕ) (answer : Result (Unit {0}) ReceiveError) (v : World) → RaisesLimit u id n answer v → Spares u v
+raises_limit u id n (Ok x) v s =
+    let o = s.2 in
+    let w = with_out u o in
+    let t = told_writable w id s.1 in
+    spares_at u v _ s.4
+    (spares_then u t _ (spares_then u w t (spares_step u o (steadies_at u.out o _ s.3.1 (steadies_rise u.out id n (u.out.halves id) refl))) (writable_told w id s.1)) (spares_noticed t id))
+raises_limit u id n (Err (receive_error.Transport error)) v s = spares_at u v u s.1 (spares_none u)
+raises_limit u id n (Err receive_error.CompactionMemory) v s = absurd s
+raises_limit u id n (Err receive_error.OutOfMemory) v s = spares_at u v u s (spares_none u)
+
+raises_count : (u : World) (d : Dir) (n : ℕ) (answer : Result (Unit {0}) ReceiveError) (v : World) → RaisesCount u d n answer v → Spares u v
+raises_count u d n (Ok x) v s = spares_at u v _ s.1 (raised_count u d _ (nat_lt (own_of u.out d).limit n) refl)
+raises_count u d n (Err (receive_error.Transport error)) v s = spares_at u v u s.2 (spares_none u)
+raises_count u d n (Err receive_error.CompactionMemory) v s = absurd s
+raises_count u d n (Err receive_error.OutOfMemory) v s = spares_at u v u s.2 (spares_none u)
+
+stops_own : (u : World) (id code : ℕ) (answer : Result (Unit {0}) OutOfMemory) (v : World) → StopsOwn u id code answer v → Spares u v
+stops_own u id code (Ok x) v s = by_test (is_permitted u id) refl
+  where
+    by_test : (b : Bool) → is_permitted u id ≡ b → Spares u v
+    by_test true k = let t = rw k at s in
+        spares_at u v _ t.3 (first_stop u (with_out u t.1) id code t.0 (spares_step u t.1 (steadies_at u.out t.1 _ t.2.1 (steadies_stop u.out id code (u.out.halves id) refl))))
+    by_test false k = let t = rw k at s in spares_at u v u t (spares_none u)
+stops_own u id code (Err e) v s = spares_at u v u s (spares_none u)
+
+-- ---- what it leaves is true of the end as before
+
+pub facts-spared : (window : ℕ) (h : List Event) (u : World) (e : SendEvent) (v : World) → Facts window h u → Spares u v → Facts window (Sending e ∷ h) v
+facts-spared window h u e v f s = record {
+  credit = rw s.credit (credit-same (last_window window h) (consumed h) (debt window h) (received h) _ _ _ u.credit (omega arith) (omega arith) refl f.credit);
+  streams = let bi = s.limits Bi in let uni = s.limits Uni in
+      all-same (trace h) u v (λ q. refusal-same v u q s.side s.opened bi.max uni.max) (λ q. ap (λ (k : Halves). k q) s.receive) f.streams;
+}
+
+pub remotes-spared : (at_once b : Dir → ℕ) (f : ℕ → Trace) (u v : World) → Spares u v → AllRemotes at_once b f u → AllRemotes at_once b f v
+remotes-spared at_once b f u v s x = remotes-idle at_once b f f u v (λ q. refl) (record { side = s.side; sends = λ k. λ q. s.held q k; limits = s.limits }) x
+
+pub goes-spared : (u v : World) → Spares u v → Goes u v
+goes-spared u v s = record { side = s.side; window = s.window; limit = let e : v.credit.local_max_data ≡ u.credit.local_max_data = ap (λ c. c.local_max_data) s.credit in omega arith }
+
+-- ---- a stream is opened
+
+next_opened : (o : Own) (b : Bool) → nat_lt o.opened o.limit ≡ b → o.opened < o.limit → (if b then record o { opened = o.opened + 1 } else o).opened ≡ o.opened + 1
+next_opened o true e l = refl
+next_opened o false e l = absurd (not_less o.opened o.limit e l)
+  where
+    not_less : (a b : ℕ) → nat_lt a b ≡ false → a < b → ⊥
+    not_less a b e l = grind (arith, nat_tests)
+
+-- the sending side with one more stream open
+abbrev opening : World → Dir → ℕ → Outgoing
+opening u d id = with_stream (with_own u.out d (with_next_own (own_of u.out d))) id (Some (fresh u.out id))
+
+opened_all : (f : ℕ → Trace) (u : World) (d : Dir) → (own_of u.out d).opened < (own_of u.out d).limit → AllFrom f u
+    → AllFrom f (with_opened u d (stream_id u.out.side d (own_of u.out d).opened) (opening u d (stream_id u.out.side d (own_of u.out d).opened)))
+unfolding with_receive
+opened_all f u Bi l s = let id : ℕ = stream_id u.out.side Bi u.out.own_bi.opened in
+    let v = with_opened u Bi id (opening u Bi id) in
+    let more : v.out.own_bi.opened ≡ u.out.own_bi.opened + 1 = next_opened u.out.own_bi (nat_lt u.out.own_bi.opened u.out.own_bi.limit) refl l in
+    all-one f u v id u.window STREAM_STATE_ERROR refl (refusal-own u u.out.side u.out.own_bi.opened refl ∙ at_limit u.out.own_bi.opened) (refusal-own v u.out.side u.out.own_bi.opened refl ∙ rw more (below u.out.own_bi.opened))
+    (λ q n. refusal-own-next u v q refl more refl refl n) s
+  where
+    at_limit : (m : ℕ) → (if nat_le m m then Some STREAM_STATE_ERROR else None) ≡ Some STREAM_STATE_ERROR
+    at_limit m = let e : nat_le m m ≡ true = grind (arith, nat_tests) in rw e refl
+
+    below : (m : ℕ) → (if nat_le (m + 1) m then Some STREAM_STATE_ERROR else None) ≡ None
+    below m = let e : nat_le (m + 1) m ≡ false = grind (arith, nat_tests) in rw e refl
+opened_all f u Uni l s = let id : ℕ = stream_id u.out.side Uni u.out.own_uni.opened in
+    let v = with_opened u Uni id (opening u Uni id) in
+    all-same f u v (λ q. refusal-same v u q refl refl refl refl) (λ q. refl) s
+
+peer_apart : (s : Side) (d e : Dir) (i n : ℕ) → eqb (stream_id (other_side s) d i) (stream_id s e n) ≡ false
+peer_apart Client Bi Bi i n = grind (arith, nat_tests)
+peer_apart Client Bi Uni i n = grind (arith, nat_tests)
+peer_apart Client Uni Bi i n = grind (arith, nat_tests)
+peer_apart Client Uni Uni i n = grind (arith, nat_tests)
+peer_apart Server Bi Bi i n = grind (arith, nat_tests)
+peer_apart Server Bi Uni i n = grind (arith, nat_tests)
+peer_apart Server Uni Bi i n = grind (arith, nat_tests)
+peer_apart Server Uni Uni i n = grind (arith, nat_tests)
+
+peer_held : (u : World) (d : Dir) (n i : ℕ) (s : Send) → is_some ((with_sender u.out.halves (stream_id u.out.side d n) (Some s)) (stream_id (other_side u.out.side) Bi i)) ≡ sends u (stream_id (other_side u.out.side) Bi i)
+unfolding with_sender
+peer_held u d n i s = rw (peer_apart u.out.side Bi d i n) refl
+
+opened_remotes : (at_once b : Dir → ℕ) (f : ℕ → Trace) (u : World) (d : Dir) → AllRemotes at_once b f u
+    → AllRemotes at_once b f (with_opened u d (stream_id u.out.side d (own_of u.out d).opened) (opening u d (stream_id u.out.side d (own_of u.out d).opened)))
+unfolding with_receive
+opened_remotes at_once b f u Bi x Bi = remote-same (at_once Bi) (b Bi) _ _ u.bi u.bi (limits-refl u.bi)
+    (λ i l. ap (λ c. (f (stream_id (other_side u.out.side) Bi i)).gone && not c) (peer_held u Bi u.out.own_bi.opened i (fresh u.out (stream_id u.out.side Bi u.out.own_bi.opened)))) (x Bi)
+opened_remotes at_once b f u Bi x Uni = x Uni
+opened_remotes at_once b f u Uni x Bi = remote-same (at_once Bi) (b Bi) _ _ u.bi u.bi (limits-refl u.bi)
+    (λ i l. ap (λ c. (f (stream_id (other_side u.out.side) Bi i)).gone && not c) (peer_held u Uni u.out.own_uni.opened i (fresh u.out (stream_id u.out.side Uni u.out.own_uni.opened)))) (x Bi)
+opened_remotes at_once b f u Uni x Uni = x Uni
+
+opened_goes : (u : World) (d : Dir) (id : ℕ) → Goes u (with_opened u d id (opening u d id))
+unfolding with_receive
+opened_goes u Bi id = record { side = refl; window = refl; limit = omega arith }
+opened_goes u Uni id = record { side = refl; window = refl; limit = omega arith }
+
+opened_credit : (u : World) (d : Dir) (id : ℕ) (o : Outgoing) → (with_opened u d id o).credit ≡ u.credit
+unfolding with_receive
+opened_credit u Bi id o = refl
+opened_credit u Uni id o = refl
+
+-- the end that an opened stream led to
+opened_is : (u v : World) (d : Dir) (id : ℕ) (o : Outgoing) → Opens u.out d (Ok (Some id)) o → v ≡ with_opened u d id o
+    → v ≡ with_opened u d (stream_id u.out.side d (own_of u.out d).opened) (opening u d (stream_id u.out.side d (own_of u.out d).opened))
+opened_is u v d id o s e = e ∙ ap (λ k. with_opened u d id k) s.2 ∙ ap (λ j. with_opened u d j (opening u d j)) s.1
+
+-- ---- every call of the sending side
+
+-- a stream was opened
+record OpensOne (u v : World) : Type 0 where
+  pub dir : Dir
+  pub few : (own_of u.out dir).opened < (own_of u.out dir).limit
+  pub is : v ≡ with_opened u dir (stream_id u.out.side dir (own_of u.out dir).opened) (opening u dir (stream_id u.out.side dir (own_of u.out dir).opened))
+
+-- a call spares the receiving side, or opens a stream
+kind : (u : World) (e : SendEvent) (v : World) → SendStep u e v → Spares u v ⊎ OpensOne u v
+kind u (GaveLimits limits) v s = inl (spares_at u v _ s (spares_out u (with_params u.out limits) refl refl (held_raised u.out.side (first_of limits) u.out.halves)))
+kind u (OpenedOwn dir closed (Ok None)) v s = inl (spares_at u v u s.1 (spares_none u))
+kind u (OpenedOwn dir closed (Ok (Some id))) v s = inr (record { dir = dir; few = s.2.0; is = opened_is u v dir id s.1 s.2 s.3 })
+kind u (OpenedOwn dir closed (Err e)) v s = inl (spares_at u v u s (spares_none u))
+kind u (RaisedData limit) v s = inl (spares_at u v _ s (spares_out u _ refl refl (λ q. refl)))
+kind u (RaisedCount dir count answer) v s = inl (raises_count u dir count answer v s)
+kind u (RaisedLimit id limit answer) v s = inl (raises_limit u id limit answer v s)
+kind u (StoppedOwn id code answer) v s = inl (stops_own u id code answer v s)
+kind u (SetWindow size) v s = inl (spares_at u v _ s (spares_out u _ refl refl (λ q. refl)))
+kind u (Polled answer) v s = inl (polls u answer v s)
+
+pub facts-sending : (window : ℕ) (h : List Event) (u : World) (e : SendEvent) (v : World) → Facts window h u → SendStep u e v → Facts window (Sending e ∷ h) v
+facts-sending window h u e v f s = elim (kind u e v s) [
+  | inl k ↦ facts-spared window h u e v f k
+  | inr k ↦ (let P : World → Type 0 = λ w. Facts window (Sending e ∷ h) w in
+      let j : ℕ = stream_id u.out.side k.dir (own_of u.out k.dir).opened in
+      subst P (sym k.is) (record {
+        credit = rw (opened_credit u k.dir j (opening u k.dir j)) (credit-same (last_window window h) (consumed h) (debt window h) (received h) _ _ _ u.credit (omega arith) (omega arith) refl f.credit);
+        streams = opened_all (trace h) u k.dir k.few f.streams;
+      }))
+]
+
+pub remotes-sending : (at_once b : Dir → ℕ) (f : ℕ → Trace) (u : World) (e : SendEvent) (v : World) → AllRemotes at_once b f u → SendStep u e v → AllRemotes at_once b f v
+remotes-sending at_once b f u e v x s = elim (kind u e v s) [
+  | inl k ↦ remotes-spared at_once b f u v k x
+  | inr k ↦ (let P : World → Type 0 = λ w. AllRemotes at_once b f w in subst P (sym k.is) (opened_remotes at_once b f u k.dir x))
+]
+
+pub goes-sending : (u : World) (e : SendEvent) (v : World) → SendStep u e v → Goes u v
+goes-sending u e v s = elim (kind u e v s) [
+  | inl k ↦ goes-spared u v k
+  | inr k ↦ (let P : World → Type 0 = λ w. Goes u w in subst P (sym k.is) (opened_goes u k.dir (stream_id u.out.side k.dir (own_of u.out k.dir).opened)))
+]
