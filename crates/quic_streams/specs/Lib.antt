@@ -1,3 +1,4 @@
 pub mod Held
 pub mod Shown
 pub mod Room
+pub mod Connection

@@ -7,6 +7,7 @@ mod permits;
 pub mod reading;
 mod receiving;
 pub mod recv_stream;
+mod sending;
 pub mod state;
 pub mod streams;
 

@@ -1,6 +1,6 @@
 //! The streams of one end of a connection.
 
-ghost use Rattle.std.specs.Prelude.{[], ◌≡◌, ◌+◌, ◌-◌, ◌<◌, ◌≤◌, ◌^◌, IfOk, IfErr, IfSome, OnOk, OnErr, IfNone, Some, None, is_some, true};
+ghost use Rattle.std.specs.Prelude.{[], ◌≡◌, ◌+◌, ◌-◌, ◌<◌, ◌≤◌, ◌^◌, IfOk, IfErr, IfSome, OnOk, OnErr, IfNone, Some, None, is_some, true, false};
 ghost use Rattle.std.specs.Option.{option_map};
 ghost use Rattle.quic_receiving.specs.Half.{new_half};
 ghost use Rattle.quic_streams.specs.Held.{room};
@@ -9,6 +9,7 @@ ghost use Rattle.quic_outgoing.specs.Shown.{view_of, permit_room};
 ghost use Rattle.quic_streams.specs.Room.{rooms, HasEventRoom};
 ghost use Rattle.quic_history.specs.History.{From};
 ghost use Rattle.quic_history.specs.World.{made_with, World, start, id_refusal, is_own, is_same_side, own_refusal, with_permitted, replaced_in, released, with_freed, told_readable, noticed, with_receive, with_counted};
+ghost use Rattle.quic_history.specs.Sends.{is_permitted};
 ghost use Rattle.quic_streams.specs.Shown.{shown};
 
 use crate::halves::ReceiveHalves;
@@ -257,6 +258,20 @@ impl StreamsState {
         if readable {
             self.events.push_back_reserved(StreamEvent::Readable { id });
         }
+    }
+
+    // A frame that is not for the application came on a stream. It opens one of the peer that was not open.
+    pub(crate) fn notice_open(&mut self, id: StreamId)
+        requires { is_permitted (shown self.old) id ≡ true }
+        ensures { shown self.new ≡ noticed (shown self.old) id false }
+    {
+        if self.is_own(id) {
+            return;
+        }
+        let _ = match id.dir() {
+            Dir::Bi => self.bi.open_up_to(id.index()),
+            Dir::Uni => self.uni.open_up_to(id.index()),
+        };
     }
 
     // A frame came on a stream.

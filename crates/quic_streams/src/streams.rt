@@ -1,15 +1,17 @@
 //! The streams of a connection, for the application.
 
-ghost use Rattle.std.specs.Prelude.{ℕ, List, ◌∷◌, ◌≡◌, ◌<◌, ◌^◌, IfSome, Option};
+ghost use Rattle.std.specs.Prelude.{ℕ, List, ◌∷◌, ◌≡◌, ◌<◌, ◌^◌, IfSome, Option, false, true};
 ghost use Rattle.std.specs.Option.{option_map};
 ghost use Rattle.quic_limits.specs.Remote.{open_now, one_accepted, acceptable_index};
 ghost use Rattle.quic_streams.specs.Shown.{shown};
 ghost use Rattle.quic_history.specs.World.{Made, remote_of};
 ghost use Rattle.quic_history.specs.Permitting.{with_accepted, acceptable};
-ghost use Rattle.quic_history.specs.History.{Event, Accepted, From};
+ghost use Rattle.quic_history.specs.Sends.{OpenedOwn, OpensOwn};
+ghost use Rattle.quic_streams.specs.Connection.{is_shut};
+ghost use Rattle.quic_history.specs.History.{Event, Accepted, Sending, From};
 
 use crate::state::StreamsState;
-use quic_values::{Dir, StreamId};
+use quic_values::{Dir, OutOfMemory, StreamId};
 
 /// Whether a connection is open.
 #[derive(Clone, Copy, Debug, PartialEq, Eq)]
@@ -35,6 +37,17 @@ impl<'a> Streams<'a> {
         ensures conn { result.conn ≡ conn }
     {
         Streams { state, conn }
+    }
+
+    /// Opens the next stream of a direction (RFC 9000 section 2.1). `None`: the connection is closed, or as many were
+    /// opened as the peer permits. If refused, nothing is opened.
+    pub fn open(&mut self, dir: Dir) -> Result<Option<StreamId>, OutOfMemory>
+        ensures same_state { self.new.state.ghost_name ≡ self.old.state.ghost_name }
+        ensures conn { self.new.conn ≡ self.old.conn }
+        ensures opens { OpensOwn (shown self.old.state.now) dir (is_shut self.old.conn) result (shown self.new.state.now) }
+        ensures from { (m : Made) (h : List Event) → From m h (shown self.old.state.now) → From m (Sending (OpenedOwn dir (is_shut self.old.conn) result) ∷ h) (shown self.new.state.now) }
+    {
+        self.state.open(dir, self.conn)
     }
 
     /// Accepts the next stream of a direction that the peer opened, each once and in the order of their ids, also those
@@ -64,8 +77,35 @@ impl<'a> Streams<'a> {
     }
 }
 
-#[tactic(auto, unfolding(crate::specs::Shown::shown))]
+#[tactic(auto, unfolding(crate::specs::Shown::shown, quic_history::specs::World::with_receive))]
 impl StreamsState {
+    // Opens the next stream of a direction.
+    fn open(&mut self, dir: Dir, conn: ConnState) -> Result<Option<StreamId>, OutOfMemory>
+        ensures { OpensOwn (shown self.old) dir (is_shut conn) result (shown self.new) }
+    {
+        if matches!(conn, ConnState::Closed) {
+            return Ok(None);
+        }
+        match dir {
+            Dir::Bi => self.open_bi(),
+            Dir::Uni => Ok(self.outgoing.open(Dir::Uni)?),
+        }
+    }
+
+    // Opens the next bidirectional stream, with both halves.
+    fn open_bi(&mut self) -> Result<Option<StreamId>, OutOfMemory>
+        ensures { OpensOwn (shown self.old) Dir.Bi false result (shown self.new) }
+    {
+        self.receive.reserve(1)?;
+        match self.outgoing.open(Dir::Bi)? {
+            None => Ok(None),
+            Some(id) => {
+                self.receive.permit(id);
+                Ok(Some(id))
+            }
+        }
+    }
+
     // Accepts the next stream of a direction.
     pub(crate) fn accept(&mut self, dir: Dir) -> Option<StreamId>
         ensures id { result ≡ acceptable (shown self.old) dir }
