@@ -1,5 +1,5 @@
 -- What a change of the levels does to the entries that callers see.
-use Rattle.std.proofs.Common.{◌≡◌, ℕ, ℤ, ◌+◌, ◌<◌, zero, suc, Bool, true, false, cond, List, [], ◌∷◌, ◌++◌, map, drop, length, Some, None, refl, sym, ap, ◌∙◌, subst, arith}
+use Rattle.std.proofs.Common.{◌≡◌, ℕ, ℤ, ◌+◌, ◌<◌, zero, suc, Bool, true, false, ◌||◌, cond, List, [], ◌∷◌, ◌++◌, map, drop, length, Some, None, refl, sym, ap, ◌∙◌, subst, arith}
 use Rattle.std.specs.Prelude.{Option, int_lt, slice_get, IsSomeAnd}
 use Rattle.std.specs.declared.cmp.Ordering.{Ordering}
 use Rattle.std.specs.declared.cmp.Ordering.TheVariants.{Less, Equal, Greater}
@@ -7,11 +7,11 @@ use Rattle.std.specs.declared.cmp.Reverse.{Reverse}
 use Rattle.std.specs.Ordering.{is_eq, match_ordering}
 use Rattle.std.specs.BTreeMap.{is_at, insert_entry}
 use Rattle.std.specs.Map.{lookup, set_value, remove_entry, keys_of}
-use Rattle.std.specs.List.{AllByRecursion}
+use Rattle.std.specs.List.{AllByRecursion, list_any}
 use Rattle.std.specs.List.Sorted.{IsStrictlySortedBy}
 use Rattle.std.proofs.lemmas.List.{map-append, append_assoc}
 use Rattle.quic_queue.specs.declared.queue.Entry.{Entry}
-use Rattle.quic_queue.specs.Queue.{put}
+use Rattle.quic_queue.specs.Queue.{put, ids_of}
 use Rattle.quic_queue.specs.Levels.{Ids, falling, entries_at, entries_of, IsFirstPriority}
 use Rattle.quic_queue.proofs.Comparing.{by_test, at, at-is, at-itself, at-lower, lower, not_lower, not_below_itself}
 
@@ -194,3 +194,19 @@ first_has_ids es p v falls is found =
     let there = first_found es first.0 falls first.1 in
     let same : Some there.0 ≡ Some v = sym (rw first.2 at there.1) ∙ found in
     rw (ap (λ (i : Ids). i.items) (sym (some_is there.0 v same))) there.2
+
+-- ---- a test of each id
+
+any_first : (a b c d : Bool) → b ≡ (c || d) → (a || b) ≡ ((a || c) || d)
+any_first true b c d h = refl
+any_first false b c d h = h
+
+any-level : (p : ℕ → Bool) (k : ℤ) (ids : List ℕ) (l : List Entry) → list_any p (ids_of (map (λ id. record { priority = k; id = id }) ids ++ l)) ≡ (list_any p ids || list_any p (ids_of l))
+any-level p k [] l = refl
+any-level p k (id ∷ ids) l = any_first (p id) _ _ _ (any-level p k ids l)
+
+pub any_here : (p : ℕ → Bool) (e : Level) (es all : List Level) → es ≡ e ∷ all → list_any p e.1.items ≡ true → list_any p (ids_of (entries_of es)) ≡ true
+any_here p e es all is here = ap (λ l. list_any p (ids_of (entries_of l))) is ∙ any-level p e.0.0 e.1.items (entries_of all) ∙ rw here refl
+
+pub any_later : (p : ℕ → Bool) (e : Level) (es all : List Level) → es ≡ e ∷ all → list_any p e.1.items ≡ false → list_any p (ids_of (entries_of es)) ≡ list_any p (ids_of (entries_of all))
+any_later p e es all is here = ap (λ l. list_any p (ids_of (entries_of l))) is ∙ any-level p e.0.0 e.1.items (entries_of all) ∙ rw here refl

@@ -36,9 +36,9 @@ first q = slice_get (line q) 0
 abbrev pub without_first : Queue → Queue
 without_first q = record q { waiting = if is_some q.kept then q.waiting else drop 1 q.waiting; kept = None }
 
--- the ids of all entries
-abbrev pub ids_in : Queue → List ℕ
-ids_in q = map (λ e. e.id) (line q)
+-- the ids of some entries
+abbrev pub ids_of : List Entry → List ℕ
+ids_of es = map (λ e. e.id) es
 
 -- what becomes of an entry that was taken out, at the end of its turn
 abbrev pub settled : Queue → Entry → Next → Queue

@@ -2,7 +2,7 @@
 
 ghost use Rattle.std.specs.Prelude.{◌≡◌, ◌≢◌, ◌∷◌, ◌≤◌, ◌==◌, [], Some, None, Bool, IsSome, IsOk, OnOk, OnErr, IfSome, IsSomeAnd, length, slice_get, drop, ℕ};
 ghost use Rattle.std.specs.List.{list_any};
-ghost use Rattle.quic_queue.specs.Queue.{empty_queue, put, with_entry, line, first, without_first, settled, HasRoomFor, ids_in};
+ghost use Rattle.quic_queue.specs.Queue.{empty_queue, put, with_entry, line, first, without_first, settled, HasRoomFor, ids_of};
 ghost use Rattle.quic_queue.specs.Levels.{HasRoom, IsFilled, IsFirstPriority, KeepsOtherLevels, entries_of, ids_at};
 
 use quic_values::{OutOfMemory, StreamId};
@@ -132,6 +132,32 @@ fn pop_at(levels: &mut Levels, priority: i32)
     }
 }
 
+// Whether any of some ids passes a test.
+fn any_in<F: Fn(StreamId) -> bool>(ids: &VecDeque<StreamId>, test: &F) -> bool
+    requires { F.IsAlwaysCallable test.now }
+    ensures { (p : ℕ → Bool) → ((id : ℕ) (answer : Bool) → F.post test.now id answer → answer ≡ p id) → result ≡ list_any p ids.now.items }
+{
+    for id in ids {
+        if test(*id) {
+            return true;
+        }
+    }
+    false
+}
+
+// Whether any id of any priority passes a test.
+fn any_at<F: Fn(StreamId) -> bool>(levels: &Levels, test: &F) -> bool
+    requires { F.IsAlwaysCallable test.now }
+    ensures { (p : ℕ → Bool) → ((id : ℕ) (answer : Bool) → F.post test.now id answer → answer ≡ p id) → result ≡ list_any p (ids_of (entries_of levels.now.entries)) }
+{
+    for (_, ids) in levels {
+        if any_in(ids, test) {
+            return true;
+        }
+    }
+    false
+}
+
 impl SendQueue {
     /// An empty queue. Takes no memory.
     pub fn new(alloc: Global) -> Self
@@ -247,5 +273,18 @@ impl SendQueue {
         ensures { result ≡ (length (line self.now) == 0) }
     {
         self.first().is_none()
+    }
+
+    /// Whether the id of any stream passes a test, which is asked until one does.
+    pub fn any<F: Fn(StreamId) -> bool>(&self, test: F) -> bool
+        requires { F.IsAlwaysCallable test }
+        ensures { (p : ℕ → Bool) → ((id : ℕ) (answer : Bool) → F.post test id answer → answer ≡ p id) → result ≡ list_any p (ids_of (line self.now)) }
+    {
+        if let Some(entry) = self.kept {
+            if test(entry.id) {
+                return true;
+            }
+        }
+        any_at(&self.levels, &test)
     }
 }
