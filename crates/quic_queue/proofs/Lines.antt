@@ -11,7 +11,7 @@ use Rattle.std.specs.List.{AllByRecursion, list_any}
 use Rattle.std.specs.List.Sorted.{IsStrictlySortedBy}
 use Rattle.std.proofs.lemmas.List.{map-append, append_assoc}
 use Rattle.quic_queue.specs.declared.queue.Entry.{Entry}
-use Rattle.quic_queue.specs.Queue.{put, ids_of}
+use Rattle.quic_queue.specs.SendOrder.{put, ids_of}
 use Rattle.quic_queue.specs.Levels.{Ids, falling, entries_at, entries_of, IsFirstPriority}
 use Rattle.quic_queue.proofs.Comparing.{by_test, at, at-is, at-itself, at-lower, lower, not_lower, not_below_itself}
 

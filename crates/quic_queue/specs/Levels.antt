@@ -43,7 +43,7 @@ abbrev pub IsFilled : Levels → ℤ → Type 0
 IsFilled levels priority = IfSome (ids_at levels priority) (λ ids. 0 < deque_len ids)
 
 -- there is room at the reserved priority, and each other has ids
-pub record IsTidy (levels : Levels) (reserved : Option ℤ) : Type 0 where
+pub record AreLevels (levels : Levels) (reserved : Option ℤ) : Type 0 where
   pub room : (priority : ℤ) → reserved ≡ Some priority → HasRoom levels priority
   pub filled : (priority : ℤ) → reserved ≢ Some priority → IsFilled levels priority
 

@@ -2,7 +2,7 @@
 
 ghost use Rattle.std.specs.Prelude.{◌≡◌, ◌≢◌, ◌∷◌, ◌≤◌, ◌==◌, [], Some, None, Bool, IsSome, IsOk, OnOk, OnErr, IfSome, IsSomeAnd, length, slice_get, drop, ℕ};
 ghost use Rattle.std.specs.List.{list_any};
-ghost use Rattle.quic_queue.specs.Queue.{empty_queue, put, with_entry, line, first, without_first, settled, HasRoomFor, ids_of};
+ghost use Rattle.quic_queue.specs.SendOrder.{empty_queue, put, with_entry, line, first, without_first, settled, IsReserved, ids_of};
 ghost use Rattle.quic_queue.specs.Levels.{HasRoom, IsFilled, IsFirstPriority, KeepsOtherLevels, entries_of, ids_at};
 
 use quic_values::{OutOfMemory, StreamId};
@@ -46,15 +46,15 @@ pub struct SendQueue {
 }
 
 impl Model for SendQueue {
-    ghost use Rattle.quic_queue.specs.Queue.{Queue};
+    ghost use Rattle.quic_queue.specs.SendOrder.{SendOrder};
 
-    ghost Value = { Queue };
+    ghost Value = { SendOrder };
 
-    ghost use Rattle.quic_queue.specs.Levels.{entries_of, IsTidy};
+    ghost use Rattle.quic_queue.specs.Levels.{entries_of, AreLevels};
 
     ghost view = { λ a. record { waiting = entries_of a.levels.entries; kept = a.kept; reserved = a.reserved } };
 
-    ghost invariant = { λ a. IsTidy a.levels a.reserved };
+    ghost invariant = { λ a. AreLevels a.levels a.reserved };
 }
 
 // The first id of the highest priority that has one.
@@ -239,16 +239,14 @@ impl SendQueue {
         self.kept = Some(entry);
     }
 
-    /// Ends the turn of the first stream. Takes no memory: room to put it anew is made before its frame is begun. Room
+    /// Ends the turn of the next stream. Takes no memory: room to put it anew is made before its frame is begun. Room
     /// that was made and not used is let go.
-    pub fn end_turn(&mut self, next: Next)
-        requires some { IsSome (first self.old) }
-        requires room { HasRoomFor self.old next }
-        ensures { IfSome (first self.old) (λ entry. self.new ≡ settled (without_first self.old) entry next) }
+    pub fn end_turn(&mut self, entry: Entry, next: Next)
+        requires is_first { first self.old ≡ Some entry }
+        requires room { IsReserved self.old next }
+        ensures { self.new ≡ settled (without_first self.old) entry next }
     {
-        let Some(entry) = self.take_first() else {
-            unreachable!()
-        };
+        let _ = self.take_first();
         match next {
             Next::LetGo => self.release(),
             Next::PutAnew(priority) => self.put(entry.id, priority),

@@ -3,7 +3,7 @@ ghost use Rattle.std.specs.Prelude.{◌≡◌, ◌<◌, is_some};
 ghost use Rattle.std.specs.List.{list_any};
 ghost use Rattle.std.specs.Ordering.{nat_cmp};
 ghost use Rattle.std.specs.BTreeMap.{get};
-ghost use Rattle.quic_queue.specs.Queue.{line, ids_of};
+ghost use Rattle.quic_queue.specs.SendOrder.{line, ids_of};
 
 use crate::{Entry, Next, SendQueue};
 use quic_values::{Dir, OutOfMemory, Side, StreamId};
@@ -33,35 +33,35 @@ fn put(queue: &mut SendQueue, index: u32, priority: i32) -> Result<(), OutOfMemo
     Ok(())
 }
 
-// The turn of the first stream, which is put anew at a priority.
+// The turn of the next stream, which is put anew at a priority.
 fn put_anew(queue: &mut SendQueue, priority: i32) -> Result<Option<Entry>, OutOfMemory> {
-    let first = queue.first();
-    if first.is_none() {
+    let Some(entry) = queue.first() else {
         return Ok(None);
-    }
+    };
     if let Err(OutOfMemory) = queue.reserve(priority) {
         queue.reserve(priority)?;
     }
-    queue.end_turn(Next::PutAnew(priority));
-    Ok(first)
+    queue.end_turn(entry, Next::PutAnew(priority));
+    Ok(Some(entry))
 }
 
-// The turn of the first stream, which is kept back.
+// The turn of the next stream, which is kept back or has nothing more to send.
+fn end_turn(queue: &mut SendQueue, is_kept: bool) -> Option<Entry> {
+    let entry = queue.first()?;
+    if is_kept {
+        queue.end_turn(entry, Next::KeepBack);
+    } else {
+        queue.end_turn(entry, Next::LetGo);
+    }
+    Some(entry)
+}
+
 fn keep_back(queue: &mut SendQueue) -> Option<Entry> {
-    let first = queue.first();
-    if first.is_some() {
-        queue.end_turn(Next::KeepBack);
-    }
-    first
+    end_turn(queue, true)
 }
 
-// The turn of the first stream, which has nothing more to send.
 fn let_go(queue: &mut SendQueue) -> Option<Entry> {
-    let first = queue.first();
-    if first.is_some() {
-        queue.end_turn(Next::LetGo);
-    }
-    first
+    end_turn(queue, false)
 }
 
 fn has(queue: &SendQueue, id: StreamId) -> bool {

@@ -1,6 +1,6 @@
 use Rattle.std.proofs.Common.{◌≡◌, ℕ, Bool}
 use Rattle.std.specs.List.{list_any}
-use Rattle.quic_queue.specs.Queue.{ids_of}
+use Rattle.quic_queue.specs.SendOrder.{ids_of}
 use Rattle.quic_queue.specs.Levels.{entries_of}
 use Rattle.quic_queue.proofs.queue.any_at.Given as goal
 
