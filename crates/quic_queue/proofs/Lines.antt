@@ -1,6 +1,6 @@
 -- What a change of the levels does to the entries that callers see.
 use Rattle.std.proofs.Common.{◌≡◌, ℕ, ℤ, ◌+◌, ◌<◌, zero, suc, Bool, true, false, ◌||◌, cond, List, [], ◌∷◌, ◌++◌, map, drop, length, Some, None, refl, sym, ap, ◌∙◌, subst, arith}
-use Rattle.std.specs.Prelude.{Option, int_lt, slice_get, IsSomeAnd}
+use Rattle.std.specs.Prelude.{Option, int_lt, slice_get, IsSomeAnd, IfSome}
 use Rattle.std.specs.declared.cmp.Ordering.{Ordering}
 use Rattle.std.specs.declared.cmp.Ordering.TheVariants.{Less, Equal, Greater}
 use Rattle.std.specs.declared.cmp.Reverse.{Reverse}
@@ -10,8 +10,9 @@ use Rattle.std.specs.Map.{lookup, set_value, remove_entry, keys_of}
 use Rattle.std.specs.List.{AllByRecursion, list_any}
 use Rattle.std.specs.List.Sorted.{IsStrictlySortedBy}
 use Rattle.std.proofs.lemmas.List.{map-append, append_assoc}
+use Rattle.std.proofs.lemmas.List.Elements.{All-from_recursion}
 use Rattle.quic_queue.specs.declared.queue.Entry.{Entry}
-use Rattle.quic_queue.specs.SendOrder.{put, ids_of}
+use Rattle.quic_queue.specs.SendOrder.{put, ids_of, NoneIsHigher}
 use Rattle.quic_queue.specs.Levels.{Ids, falling, entries_at, entries_of, IsFirstPriority}
 use Rattle.quic_queue.proofs.Comparing.{by_test, at, at-is, at-itself, at-lower, lower, not_lower, not_below_itself}
 
@@ -210,3 +211,29 @@ any_here p e es all is here = ap (λ l. list_any p (ids_of (entries_of l))) is �
 
 pub any_later : (p : ℕ → Bool) (e : Level) (es all : List Level) → es ≡ e ∷ all → list_any p e.1.items ≡ false → list_any p (ids_of (entries_of es)) ≡ list_any p (ids_of (entries_of all))
 any_later p e es all is here = ap (λ l. list_any p (ids_of (entries_of l))) is ∙ any-level p e.0.0 e.1.items (entries_of all) ∙ rw here refl
+
+-- ---- the first entry is of the highest priority
+
+not_above : (k : ℤ) (l : List Entry) → AllByRecursion (λ (y : Entry). int_lt y.priority k ≡ true) l → AllByRecursion (λ (y : Entry). int_lt k y.priority ≡ false) l
+not_above k [] h = tt
+not_above k (y ∷ l) h = (not_lower y.priority k h.0, not_above k l h.1)
+
+level_not_above : (k : ℤ) (ids : List ℕ) (l : List Entry) → AllByRecursion (λ (y : Entry). int_lt k y.priority ≡ false) l → AllByRecursion (λ (y : Entry). int_lt k y.priority ≡ false) (map (λ id. record { priority = k; id = id }) ids ++ l)
+level_not_above k [] l h = h
+level_not_above k (id ∷ ids) l h = (not_below_itself k, level_not_above k ids l h)
+
+none_higher : (es : List Level) (x : Entry) → IsStrictlySortedBy falling (keys_of es) → slice_get (entries_of es) 0 ≡ Some x → AllByRecursion (λ (y : Entry). int_lt x.priority y.priority ≡ false) (entries_of es)
+none_higher [] x falls first = tt
+none_higher (e ∷ es) x falls first = at_items e.1.items refl (none_higher es x (tail_falls e es falls))
+  where
+    at_items : (ids : List ℕ) → e.1.items ≡ ids → (slice_get (entries_of es) 0 ≡ Some x → AllByRecursion (λ (y : Entry). int_lt x.priority y.priority ≡ false) (entries_of es)) → AllByRecursion (λ (y : Entry). int_lt x.priority y.priority ≡ false) (entries_at e ++ entries_of es)
+    at_items [] same more = let f : slice_get (entries_of es) 0 ≡ Some x = rw same at first in rw same (more f)
+    at_items (id ∷ ids) same more =
+        let f : Some (record { priority = e.0.0; id = id }) ≡ Some x = rw same at first in
+        let k : e.0.0 ≡ x.priority = ap (λ (y : Entry). y.priority) (some_is (record { priority = e.0.0; id = id }) x f) in
+        let P : ℤ → Type 0 = λ q. AllByRecursion (λ (y : Entry). int_lt q y.priority ≡ false) (entries_at e ++ entries_of es) in
+        subst P k (level_not_above e.0.0 e.1.items (entries_of es) (not_above e.0.0 (entries_of es) (entries_below e.0.0 es (head_above e es falls))))
+
+pub first_is_highest : (es : List Level) (o : Option Entry) → IsStrictlySortedBy falling (keys_of es) → o ≡ slice_get (entries_of es) 0 → IfSome o (λ e. NoneIsHigher e.priority (entries_of es))
+first_is_highest es None falls first = tt
+first_is_highest es (Some x) falls first = All-from_recursion (λ (y : Entry). int_lt x.priority y.priority ≡ false) (entries_of es) (none_higher es x falls (sym first))

@@ -1,5 +1,5 @@
 -- The streams that have something to send, as callers of the queue see them.
-use Rattle.std.specs.Prelude.{◌≡◌, ℕ, ℤ, Bool, List, [], ◌∷◌, map, drop, Option, Some, None, is_some, slice_get, if◌then◌else◌, int_lt}
+use Rattle.std.specs.Prelude.{◌≡◌, ℕ, ℤ, Bool, false, List, [], ◌∷◌, map, drop, Option, Some, None, is_some, slice_get, All, if◌then◌else◌, int_lt}
 use Rattle.quic_queue.specs.declared.queue.Entry.{Entry}
 use Rattle.quic_queue.specs.declared.queue.Next.{Next}
 use Rattle.quic_queue.specs.declared.queue.Next.TheVariants.{LetGo, PutAnew, KeepBack}
@@ -36,9 +36,17 @@ first q = slice_get (line q) 0
 abbrev pub without_first : SendOrder → SendOrder
 without_first q = record q { waiting = if is_some q.kept then q.waiting else drop 1 q.waiting; kept = None }
 
+-- no entry has a higher priority
+abbrev pub NoneIsHigher : ℤ → List Entry → Type 0
+NoneIsHigher priority es = All (λ e. int_lt priority e.priority ≡ false) es
+
 -- the ids of some entries
 abbrev pub ids_of : List Entry → List ℕ
 ids_of es = map (λ e. e.id) es
+
+-- each answer that may be given for an id is that of a function
+abbrev pub Tells : (ℕ → Bool → Type 0) → (ℕ → Bool) → Type 0
+Tells answers test = (id : ℕ) (answer : Bool) → answers id answer → answer ≡ test id
 
 -- what becomes of an entry that was taken out, at the end of its turn
 abbrev pub settled : SendOrder → Entry → Next → SendOrder

@@ -2,7 +2,7 @@
 
 ghost use Rattle.std.specs.Prelude.{◌≡◌, ◌≢◌, ◌∷◌, ◌≤◌, ◌==◌, [], Some, None, Bool, IsSome, IsOk, OnOk, OnErr, IfSome, IsSomeAnd, length, slice_get, drop, ℕ};
 ghost use Rattle.std.specs.List.{list_any};
-ghost use Rattle.quic_queue.specs.SendOrder.{empty_queue, put, with_entry, line, first, without_first, settled, IsReserved, ids_of};
+ghost use Rattle.quic_queue.specs.SendOrder.{empty_queue, put, with_entry, line, first, without_first, settled, IsReserved, NoneIsHigher, Tells, ids_of};
 ghost use Rattle.quic_queue.specs.Levels.{HasRoom, IsFilled, IsFirstPriority, KeepsOtherLevels, entries_of, ids_at};
 
 use quic_values::{OutOfMemory, StreamId};
@@ -59,7 +59,8 @@ impl Model for SendQueue {
 
 // The first id of the highest priority that has one.
 fn first_entry(levels: &Levels) -> Option<Entry>
-    ensures { result ≡ slice_get (entries_of levels.now.entries) 0 }
+    ensures first { result ≡ slice_get (entries_of levels.now.entries) 0 }
+    ensures highest { IfSome result (λ e. NoneIsHigher e.priority (entries_of levels.now.entries)) }
 {
     for (priority, ids) in levels {
         if let Some(id) = ids.front() {
@@ -135,7 +136,7 @@ fn pop_at(levels: &mut Levels, priority: i32)
 // Whether any of some ids passes a test.
 fn any_in<F: Fn(StreamId) -> bool>(ids: &VecDeque<StreamId>, test: &F) -> bool
     requires { F.IsAlwaysCallable test.now }
-    ensures { (p : ℕ → Bool) → ((id : ℕ) (answer : Bool) → F.post test.now id answer → answer ≡ p id) → result ≡ list_any p ids.now.items }
+    ensures { (p : ℕ → Bool) → Tells (F.post test.now) p → result ≡ list_any p ids.now.items }
 {
     for id in ids {
         if test(*id) {
@@ -148,7 +149,7 @@ fn any_in<F: Fn(StreamId) -> bool>(ids: &VecDeque<StreamId>, test: &F) -> bool
 // Whether any id of any priority passes a test.
 fn any_at<F: Fn(StreamId) -> bool>(levels: &Levels, test: &F) -> bool
     requires { F.IsAlwaysCallable test.now }
-    ensures { (p : ℕ → Bool) → ((id : ℕ) (answer : Bool) → F.post test.now id answer → answer ≡ p id) → result ≡ list_any p (ids_of (entries_of levels.now.entries)) }
+    ensures { (p : ℕ → Bool) → Tells (F.post test.now) p → result ≡ list_any p (ids_of (entries_of levels.now.entries)) }
 {
     for (_, ids) in levels {
         if any_in(ids, test) {
@@ -207,7 +208,8 @@ impl SendQueue {
 
     /// The next stream: the one that was kept back, or else the first of the highest priority.
     pub fn first(&self) -> Option<Entry>
-        ensures { result ≡ first self.now }
+        ensures first { result ≡ first self.now }
+        ensures highest { self.now.kept ≡ None → IfSome result (λ e. NoneIsHigher e.priority self.now.waiting) }
     {
         match self.kept {
             Some(entry) => Some(entry),
@@ -276,7 +278,7 @@ impl SendQueue {
     /// Whether the id of any stream passes a test, which is asked until one does.
     pub fn any<F: Fn(StreamId) -> bool>(&self, test: F) -> bool
         requires { F.IsAlwaysCallable test }
-        ensures { (p : ℕ → Bool) → ((id : ℕ) (answer : Bool) → F.post test id answer → answer ≡ p id) → result ≡ list_any p (ids_of (line self.now)) }
+        ensures { (p : ℕ → Bool) → Tells (F.post test) p → result ≡ list_any p (ids_of (line self.now)) }
     {
         if let Some(entry) = self.kept {
             if test(entry.id) {
