@@ -1,0 +1,2 @@
+pub mod SendOrder
+pub mod Levels

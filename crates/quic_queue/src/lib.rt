@@ -1,0 +1,9 @@
+//! The streams that have something to send, by priority.
+#![tactic(auto)]
+
+pub mod queue;
+
+pub use queue::{Entry, Next, SendQueue};
+
+#[cfg(test)]
+mod tests;

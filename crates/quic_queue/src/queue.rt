@@ -1,0 +1,290 @@
+//! The send queue: the streams that have something to send, the highest priority first.
+
+ghost use Rattle.std.specs.Prelude.{◌≡◌, ◌≢◌, ◌∷◌, ◌≤◌, ◌==◌, [], Some, None, Bool, IsSome, IsOk, OnOk, OnErr, IfSome, IsSomeAnd, length, slice_get, drop, ℕ};
+ghost use Rattle.std.specs.List.{list_any};
+ghost use Rattle.quic_queue.specs.SendOrder.{empty_queue, put, with_entry, line, first, without_first, settled, IsReserved, NoneIsHigher, Tells, ids_of};
+ghost use Rattle.quic_queue.specs.Levels.{HasRoom, IsFilled, IsFirstPriority, KeepsOtherLevels, entries_of, ids_at};
+
+use quic_values::{OutOfMemory, StreamId};
+use std::alloc::Global;
+use std::cmp::Reverse;
+use std::collections::{BTreeMap, VecDeque};
+use std::marker::Model;
+
+/// A stream in the queue.
+#[derive(Clone, Copy, Debug, PartialEq, Eq)]
+pub struct Entry {
+    /// The priority of the stream when it was put.
+    pub priority: i32,
+    pub id: StreamId,
+}
+
+/// What becomes of the first stream at the end of its turn.
+#[derive(Clone, Copy, Debug, PartialEq, Eq)]
+pub enum Next {
+    /// It has nothing more to send.
+    LetGo,
+    /// It is put anew, at this priority.
+    PutAnew(i32),
+    /// It comes before all others.
+    KeepBack,
+}
+
+type Levels = BTreeMap<Reverse<i32>, VecDeque<StreamId>>;
+
+/// The streams that have something to send. Those of a higher priority come first, and those of equal priority as they
+/// were put. A stream may stand in it more than once.
+#[derive(Drop)]
+pub struct SendQueue {
+    alloc: Global,
+    // The ids of each priority, the highest first. Only the reserved one may have none.
+    levels: Levels,
+    // Comes before all others.
+    kept: Option<Entry>,
+    // The priority for which there is room.
+    reserved: Option<i32>,
+}
+
+impl Model for SendQueue {
+    ghost use Rattle.quic_queue.specs.SendOrder.{SendOrder};
+
+    ghost Value = { SendOrder };
+
+    ghost use Rattle.quic_queue.specs.Levels.{entries_of, AreLevels};
+
+    ghost view = { λ a. record { waiting = entries_of a.levels.entries; kept = a.kept; reserved = a.reserved } };
+
+    ghost invariant = { λ a. AreLevels a.levels a.reserved };
+}
+
+// The first id of the highest priority that has one.
+fn first_entry(levels: &Levels) -> Option<Entry>
+    ensures first { result ≡ slice_get (entries_of levels.now.entries) 0 }
+    ensures highest { IfSome result (λ e. NoneIsHigher e.priority (entries_of levels.now.entries)) }
+{
+    for (priority, ids) in levels {
+        if let Some(id) = ids.front() {
+            return Some(Entry {
+                priority: priority.0,
+                id: *id,
+            });
+        }
+    }
+    None
+}
+
+// Makes room for one id more at a priority.
+fn make_room(levels: &mut Levels, alloc: Global, priority: i32) -> Result<(), OutOfMemory>
+    ensures shown { entries_of levels.new.entries ≡ entries_of levels.old.entries }
+    ensures others { KeepsOtherLevels levels.old priority levels.new }
+    ensures ok { OnOk result (HasRoom levels.new priority) }
+    ensures err { OnErr result (IsFilled levels.old priority → IsFilled levels.new priority) }
+    ensures unneeded { HasRoom levels.old priority → IsOk result }
+{
+    match levels.get_mut(&Reverse(priority)) {
+        Some(ids) => ids.reserve(1)?,
+        None => {
+            let ids = VecDeque::with_capacity(alloc, 1)?;
+            levels.insert(Reverse(priority), ids)?;
+        }
+    }
+    Ok(())
+}
+
+// Drops a priority that has no ids.
+fn drop_if_empty(levels: &mut Levels, priority: i32)
+    ensures shown { entries_of levels.new.entries ≡ entries_of levels.old.entries }
+    ensures others { KeepsOtherLevels levels.old priority levels.new }
+    ensures filled { IsFilled levels.new priority }
+{
+    let Some(ids) = levels.get(&Reverse(priority)) else {
+        return;
+    };
+    if ids.is_empty() {
+        levels.remove(&Reverse(priority));
+    }
+}
+
+// Puts an id behind the others of a priority.
+fn push_at(levels: &mut Levels, priority: i32, id: StreamId)
+    requires { HasRoom levels.old priority }
+    ensures shown { entries_of levels.new.entries ≡ put (entries_of levels.old.entries) (record { priority = priority; id = id }) }
+    ensures others { KeepsOtherLevels levels.old priority levels.new }
+    ensures filled { IsFilled levels.new priority }
+{
+    match levels.get_mut(&Reverse(priority)) {
+        Some(ids) => ids.push_back_reserved(id),
+        None => unreachable!(),
+    }
+}
+
+// Takes the first id of the highest priority out.
+fn pop_at(levels: &mut Levels, priority: i32)
+    requires { IsFirstPriority levels.old.entries priority }
+    ensures shown { entries_of levels.new.entries ≡ drop 1 (entries_of levels.old.entries) }
+    ensures others { KeepsOtherLevels levels.old priority levels.new }
+    ensures room { HasRoom levels.new priority }
+{
+    match levels.get_mut(&Reverse(priority)) {
+        Some(ids) => {
+            ids.pop_front();
+        }
+        None => unreachable!(),
+    }
+}
+
+// Whether any of some ids passes a test.
+fn any_in<F: Fn(StreamId) -> bool>(ids: &VecDeque<StreamId>, test: &F) -> bool
+    requires { F.IsAlwaysCallable test.now }
+    ensures { (p : ℕ → Bool) → Tells (F.post test.now) p → result ≡ list_any p ids.now.items }
+{
+    for id in ids {
+        if test(*id) {
+            return true;
+        }
+    }
+    false
+}
+
+// Whether any id of any priority passes a test.
+fn any_at<F: Fn(StreamId) -> bool>(levels: &Levels, test: &F) -> bool
+    requires { F.IsAlwaysCallable test.now }
+    ensures { (p : ℕ → Bool) → Tells (F.post test.now) p → result ≡ list_any p (ids_of (entries_of levels.now.entries)) }
+{
+    for (_, ids) in levels {
+        if any_in(ids, test) {
+            return true;
+        }
+    }
+    false
+}
+
+impl SendQueue {
+    /// An empty queue. Takes no memory.
+    pub fn new(alloc: Global) -> Self
+        ensures { result ≡ empty_queue }
+    {
+        SendQueue {
+            alloc,
+            levels: BTreeMap::new(alloc),
+            kept: None,
+            reserved: None,
+        }
+    }
+
+    /// Makes room for one stream of a priority, in place of the room that was there. Nothing changes if memory runs
+    /// out, and none is taken where there is room for this priority.
+    pub fn reserve(&mut self, priority: i32) -> Result<(), OutOfMemory>
+        ensures ok { OnOk result (self.new ≡ record self.old { reserved = Some priority }) }
+        ensures err { OnErr result (self.new ≡ self.old) }
+        ensures unneeded { self.old.reserved ≡ Some priority → IsOk result }
+    {
+        make_room(&mut self.levels, self.alloc, priority)?;
+        if let Some(former) = self.reserved.replace(priority) {
+            if former != priority {
+                drop_if_empty(&mut self.levels, former);
+            }
+        }
+        Ok(())
+    }
+
+    /// Lets the room go that was made and not used.
+    pub fn release(&mut self)
+        ensures { self.new ≡ record self.old { reserved = None } }
+    {
+        if let Some(former) = self.reserved.take() {
+            drop_if_empty(&mut self.levels, former);
+        }
+    }
+
+    /// Puts a stream behind those of its priority, for which there is room.
+    pub fn put(&mut self, id: StreamId, priority: i32)
+        requires { self.old.reserved ≡ Some priority }
+        ensures { self.new ≡ with_entry self.old (record { priority = priority; id = id }) }
+    {
+        push_at(&mut self.levels, priority, id);
+        self.reserved = None;
+    }
+
+    /// The next stream: the one that was kept back, or else the first of the highest priority.
+    pub fn first(&self) -> Option<Entry>
+        ensures first { result ≡ first self.now }
+        ensures highest { self.now.kept ≡ None → IfSome result (λ e. NoneIsHigher e.priority self.now.waiting) }
+    {
+        match self.kept {
+            Some(entry) => Some(entry),
+            None => first_entry(&self.levels),
+        }
+    }
+
+    /// Takes the next stream out. Room that was made stays.
+    pub fn take_first(&mut self) -> Option<Entry>
+        ensures entry { result ≡ first self.old }
+        ensures rest { self.new ≡ without_first self.old }
+    {
+        if let Some(entry) = self.kept.take() {
+            return Some(entry);
+        }
+        let entry = first_entry(&self.levels)?;
+        pop_at(&mut self.levels, entry.priority);
+        if self.reserved != Some(entry.priority) {
+            drop_if_empty(&mut self.levels, entry.priority);
+        }
+        Some(entry)
+    }
+
+    /// The stream comes before all others, where none is kept back. Takes no memory.
+    pub fn keep_back(&mut self, entry: Entry)
+        requires { self.old.kept ≡ None }
+        ensures { self.new ≡ record self.old { kept = Some entry } }
+    {
+        self.kept = Some(entry);
+    }
+
+    /// Ends the turn of the next stream. Takes no memory: room to put it anew is made before its frame is begun. Room
+    /// that was made and not used is let go.
+    pub fn end_turn(&mut self, entry: Entry, next: Next)
+        requires is_first { first self.old ≡ Some entry }
+        requires room { IsReserved self.old next }
+        ensures { self.new ≡ settled (without_first self.old) entry next }
+    {
+        let _ = self.take_first();
+        match next {
+            Next::LetGo => self.release(),
+            Next::PutAnew(priority) => self.put(entry.id, priority),
+            Next::KeepBack => {
+                self.release();
+                self.keep_back(entry);
+            }
+        }
+    }
+
+    /// Lets all streams go, and the room that was made.
+    pub fn clear(&mut self)
+        ensures { self.new ≡ empty_queue }
+    {
+        self.levels.clear();
+        self.kept = None;
+        self.reserved = None;
+    }
+
+    /// Whether no stream is in the queue.
+    pub fn is_empty(&self) -> bool
+        ensures { result ≡ (length (line self.now) == 0) }
+    {
+        self.first().is_none()
+    }
+
+    /// Whether the id of any stream passes a test, which is asked until one does.
+    pub fn any<F: Fn(StreamId) -> bool>(&self, test: F) -> bool
+        requires { F.IsAlwaysCallable test }
+        ensures { (p : ℕ → Bool) → Tells (F.post test) p → result ≡ list_any p (ids_of (line self.now)) }
+    {
+        if let Some(entry) = self.kept {
+            if test(entry.id) {
+                return true;
+            }
+        }
+        any_at(&self.levels, &test)
+    }
+}
