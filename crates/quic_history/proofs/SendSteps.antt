@@ -1,6 +1,6 @@
 -- What the calls on the sending side leave of the receiving side.
 use Rattle.std.proofs.Common.{◌≡◌, ◌⊎◌, ℕ, Bool, true, false, cond, eqb, List, ◌∷◌, Option, Some, None, is_some, Result, Ok, Err, refl, sym, ap, ◌∙◌, subst, inl, inr, arith, ◌+◌, ◌<◌, ◌≤◌}
-use Rattle.std.specs.Prelude.{◌==◌, ◌&&◌, not, nat_lt, nat_le, if◌then◌else◌, MatchBool, ◌++◌, []}
+use Rattle.std.specs.Prelude.{◌==◌, ◌&&◌, not, nat_lt, nat_le, if◌then◌else◌, ℤ, MatchBool, ◌++◌, []}
 use Rattle.std.specs.Option.{option_map}
 use Rattle.std.specs.List.{list_any}
 use Rattle.std.proofs.lemmas.Bool.Decides.{nat_tests}
@@ -18,15 +18,27 @@ use Rattle.quic_wire.specs.declared.error.TheConstants.TransportError.{STREAM_ST
 use Rattle.quic_limits.specs.Credit.{Credit}
 use Rattle.quic_limits.specs.Own.{Own, with_next_own}
 use Rattle.quic_limits.specs.Remote.{Remote, opening_told}
+use Rattle.quic_limits.specs.SendingCredit.{SendingCredit, with_blocked}
 use Rattle.quic_sending.specs.declared.send.Send.{Send}
+use Rattle.quic_sending.specs.declared.send.Written.{Written}
+use Rattle.quic_sending.specs.declared.send.WriteError.{WriteError}
+use Rattle.quic_sending.specs.declared.send.WriteError.TheVariants as write_error
+use Rattle.quic_sending.specs.declared.send.FinishError.{FinishError}
+use Rattle.quic_receiving.specs.declared.errors.HandleError.{HandleError}
+use Rattle.quic_receiving.specs.declared.errors.HandleError.TheVariants as handle_error
+use Rattle.quic_retransmits.specs.Pending.{Pending}
+use Rattle.quic_queue.specs.SendOrder.{SendOrder}
+use Rattle.quic_outgoing.specs.Writing.{RefusesWrite, after_blocked}
 use Rattle.quic_receiving.specs.Half.{Half, new_half}
 use Rattle.quic_outgoing.specs.Senders.{SendersById, with_sender, raised_by, raised, first_limit}
 use Rattle.quic_outgoing.specs.Outgoing.{Outgoing, own_of, with_own, with_stream, with_params, waiting, marked, is_stuck, fresh, first_of}
-use Rattle.quic_outgoing.specs.Calls.{Opens, RaisesStream, StopsSending, PollsWritable, after_rise, with_rise, is_woken, without_marks}
+use Rattle.quic_outgoing.specs.Calls.{Opens, RaisesStream, StopsSending, PollsWritable, Resets, SetsPriority, after_rise, with_rise, is_woken, without_marks}
 use Rattle.quic_outgoing.specs.Calls as calls
 use Rattle.quic_history.specs.Halves.{Halves, with_half}
 use Rattle.quic_history.specs.World.{World, sends, id_refusal, is_own, remote_of, with_remote, with_receive, told, told_readable, noticed}
-use Rattle.quic_history.specs.Sends.{SendEvent, SendStep, GaveLimits, OpenedOwn, RaisedData, RaisedCount, RaisedLimit, StoppedOwn, SetWindow, Polled, with_out, with_opened, with_own_count, told_writable, after_first_stop, is_permitted, PollsQueue, RaisesLimit, RaisesCount, StopsOwn, Polls}
+use Rattle.quic_history.specs.SendEvents.{SendEvent, SendStep, GaveLimits, OpenedOwn, RaisedData, RaisedCount, RaisedLimit, StoppedOwn, SetWindow, Polled, WroteOwn, FinishedOwn, ResetOwn, SetOwnPriority}
+use Rattle.quic_history.specs.Writes.{WritesOwn, FinishesOwn, ResetsOwn, SetsOwnPriority, with_queued}
+use Rattle.quic_history.specs.Sends.{with_out, with_opened, with_own_count, told_writable, after_first_stop, is_permitted, PollsQueue, RaisesLimit, RaisesCount, StopsOwn, Polls}
 use Rattle.quic_history.specs.History.{Event, Sending, Goes, Trace, Facts, untouched, trace, consumed, last_window, debt, received}
 use Rattle.quic_history.proofs.Credits.{credit-same}
 use Rattle.quic_history.proofs.Refusals.{refusal-same, refusal-own, refusal-own-next, own-id}
@@ -228,6 +240,59 @@ stops_own u id code (Ok x) v s = by_test (is_permitted u id) refl
     by_test false k = let t = rw k at s in spares_at u v u t (spares_none u)
 stops_own u id code (Err e) v s = spares_at u v u s (spares_none u)
 
+-- ---- writes, ends, resets and priorities
+
+queued : (u w : World) (id : ℕ) (o : Option ℤ) → Spares u w → Spares u (with_queued w id o)
+queued u w id None s = s
+queued u w id (Some priority) s = spares_then u w _ s (spares_queue w _)
+  where
+    spares_queue : (w : World) (q : SendOrder) → Spares w (record w { queue = q })
+    spares_queue w q = record { side = refl; window = refl; credit = refl; receive = refl; opened = refl; limits = both; held = λ k. refl }
+      where
+        both : (d : Dir) → SameLimits (remote_of w d) (remote_of (record w { queue = q }) d)
+        both Bi = limits-refl w.bi
+        both Uni = limits-refl w.uni
+
+steadies_budget : (a b : Outgoing) (c : SendingCredit) → Steadies a b → Steadies a (record b { budget = c })
+steadies_budget a b c s = record { side = s.side; opened = s.opened; held = s.held }
+
+steadies_blocked : (a : Outgoing) (id : ℕ) (o : Option Send) → a.halves id ≡ o → Steadies a (after_blocked a id o)
+steadies_blocked a id None e = steadies_none a
+steadies_blocked a id (Some s) e = by_stuck (is_stuck a)
+  where
+    by_stuck : (k : Bool) → Steadies a (if k then record (waiting a id s) { budget = with_blocked a.budget } else with_stream a id (Some (record s { data_blocked_limit = Some s.max_data })))
+    by_stuck true = steadies_budget a (waiting a id s) (with_blocked a.budget) (waits a id s s e)
+    by_stuck false = steadies_put a id s _ e
+
+steadies_refused : (a : Outgoing) (id : ℕ) (p : Pending) (e : WriteError) (b : Outgoing) (q : Pending) → RefusesWrite a id p e b q → Steadies a b
+steadies_refused a id p write_error.Blocked b q s = steadies_at a b _ s.1 (steadies_blocked a id (a.halves id) refl)
+steadies_refused a id p (write_error.Stopped code) b q s = steadies_at a b a s.1 (steadies_none a)
+steadies_refused a id p write_error.ClosedStream b q s = steadies_at a b a s.1 (steadies_none a)
+steadies_refused a id p write_error.OutOfMemory b q s = steadies_at a b a s.0 (steadies_none a)
+
+writes : (u : World) (id : ℕ) (lists : List (List ℕ)) (closed : Bool) (p : Pending) (answer : Result Written WriteError) (v : World) (left : List (List ℕ)) (q : Pending)
+    → WritesOwn u id lists closed p answer v left q → Spares u v
+writes u id lists closed p (Ok written) v left q s =
+    let t = s.3.0 in
+    spares_at u v _ s.5
+    (queued u (with_out u s.2) id s.1.queue_at (spares_step u s.2 (steadies_at u.out s.2 _ t.is (steadies_budget u.out _ _ (steadies_put u.out id t.half t.after t.is_held)))))
+writes u id lists closed p (Err e) v left q (inl s) = spares_at u v u s.2 (spares_none u)
+writes u id lists closed p (Err e) v left q (inr s) = spares_at u v _ s.3 (spares_step u s.1 (steadies_refused u.out id p e s.1 q s.2.1))
+
+finishes : (u : World) (id : ℕ) (answer : Result (Unit {0}) FinishError) (v : World) → FinishesOwn u id answer v → Spares u v
+finishes u id (Ok x) v s = spares_at u v _ s.3 (queued u (with_out u s.1) id s.0 (spares_step u s.1 (steadies_at u.out s.1 _ s.2.4 (steadies_put u.out id s.2.0 _ s.2.1))))
+finishes u id (Err e) v s = spares_at u v _ s.2 (spares_step u s.0 (steadies_at u.out s.0 u.out s.1.1 (steadies_none u.out)))
+
+steadies_reset : (a : Outgoing) (id code : ℕ) (p : Pending) (answer : Result (Unit {0}) HandleError) (b : Outgoing) (q : Pending) → Resets a id code p answer b q → Steadies a b
+steadies_reset a id code p (Ok x) b q s = steadies_at a b _ s.3 (steadies_budget a _ _ (steadies_put a id s.0 _ s.1))
+steadies_reset a id code p (Err handle_error.ClosedStream) b q s = steadies_at a b a s.1 (steadies_none a)
+steadies_reset a id code p (Err handle_error.OutOfMemory) b q s = steadies_at a b a s.0 (steadies_none a)
+
+steadies_priority : (a : Outgoing) (id : ℕ) (n : ℤ) (answer : Result (Unit {0}) HandleError) (b : Outgoing) → SetsPriority a id n answer b → Steadies a b
+steadies_priority a id n (Ok x) b s = steadies_at a b _ s.2 (steadies_put a id s.0 _ s.1)
+steadies_priority a id n (Err handle_error.ClosedStream) b s = steadies_at a b a s.1 (steadies_none a)
+steadies_priority a id n (Err handle_error.OutOfMemory) b s = steadies_at a b a s (steadies_none a)
+
 -- ---- what it leaves is true of the end as before
 
 pub facts-spared : (window : ℕ) (h : List Event) (u : World) (e : SendEvent) (v : World) → Facts window h u → Spares u v → Facts window (Sending e ∷ h) v
@@ -333,6 +398,10 @@ kind u (RaisedLimit id limit answer) v s = inl (raises_limit u id limit answer v
 kind u (StoppedOwn id code answer) v s = inl (stops_own u id code answer v s)
 kind u (SetWindow size) v s = inl (spares_at u v _ s (spares_out u _ refl refl (λ q. refl)))
 kind u (Polled answer) v s = inl (polls u answer v s)
+kind u (WroteOwn id lists closed answer) v s = inl (writes u id lists closed s.0 answer v s.2 s.1 s.3)
+kind u (FinishedOwn id answer) v s = inl (finishes u id answer v s)
+kind u (ResetOwn id code answer) v s = inl (spares_at u v _ s.2.2 (spares_step u s.2.0 (steadies_reset u.out id code s.0 answer s.2.0 s.1 s.2.1)))
+kind u (SetOwnPriority id priority answer) v s = inl (spares_at u v _ s.2 (spares_step u s.0 (steadies_priority u.out id priority answer s.0 s.1)))
 
 pub facts-sending : (window : ℕ) (h : List Event) (u : World) (e : SendEvent) (v : World) → Facts window h u → SendStep u e v → Facts window (Sending e ∷ h) v
 facts-sending window h u e v f s = elim (kind u e v s) [

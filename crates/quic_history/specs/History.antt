@@ -28,7 +28,7 @@ use Rattle.quic_history.specs.declared.progress.LastAnswer.TheVariants as last_a
 use Rattle.quic_retransmits.specs.Pending.{Pending}
 use Rattle.quic_values.specs.declared.memory.OutOfMemory.{OutOfMemory}
 use Rattle.quic_history.specs.World.{World, Made, count_of, start, id_refusal, remote_of, sends, with_credit, with_receive_window}
-use Rattle.quic_history.specs.Sends.{SendEvent, SendStep}
+use Rattle.quic_history.specs.SendEvents.{SendEvent, SendStep}
 use Rattle.quic_history.specs.Permitting.{SetsConcurrent, with_accepted, acceptable, with_count_of}
 use Rattle.quic_history.specs.Receiving.{Receives, ReceivesReset}
 use Rattle.quic_history.specs.Reading.{Begins, ReadsHalf, Stops, TellsReset, bytes_in}

@@ -4,4 +4,6 @@ pub mod Receiving
 pub mod Reading
 pub mod History
 pub mod Sends
+pub mod Writes
+pub mod SendEvents
 pub mod Permitting

@@ -103,33 +103,3 @@ Polls w answer v = MatchBool w.bi.opened
     (MatchBool w.uni.opened
     ((answer ≡ Some (stream_event.Opened Uni)) × (v ≡ with_remote w Uni (opening_told w.uni)))
     ((writable : Option ℕ) × (o : Outgoing) × PollsWritable w.out writable o × PollsQueue (with_out w o) writable answer v))
-
--- a call on the sending side and its answer
-pub data SendEvent : Type 0 where
-  -- the peer's transport parameters were handed in
-  GaveLimits : (limits : PeerLimits) → SendEvent
-  -- a stream was asked for, on a connection that was closed or not
-  OpenedOwn : (dir : Dir) → (closed : Bool) → (answer : Result (Option ℕ) OutOfMemory) → SendEvent
-  -- MAX_DATA was handed in
-  RaisedData : (limit : ℕ) → SendEvent
-  -- MAX_STREAMS was handed in
-  RaisedCount : (dir : Dir) → (count : ℕ) → (answer : Result (Unit {0}) ReceiveError) → SendEvent
-  -- MAX_STREAM_DATA was handed in
-  RaisedLimit : (id limit : ℕ) → (answer : Result (Unit {0}) ReceiveError) → SendEvent
-  -- STOP_SENDING was handed in
-  StoppedOwn : (id code : ℕ) → (answer : Result (Unit {0}) OutOfMemory) → SendEvent
-  -- the send window was set
-  SetWindow : (window : ℕ) → SendEvent
-  -- the application asked what it is to be told
-  Polled : (answer : Option StreamEvent) → SendEvent
-
--- what one of these calls may do
-abbrev pub SendStep : World → SendEvent → World → Type 0
-SendStep u (GaveLimits limits) v = v ≡ with_out u (with_params u.out limits)
-SendStep u (OpenedOwn dir closed answer) v = OpensOwn u dir closed answer v
-SendStep u (RaisedData limit) v = v ≡ with_out u (record u.out { budget = with_limit u.out.budget limit })
-SendStep u (RaisedCount dir count answer) v = RaisesCount u dir count answer v
-SendStep u (RaisedLimit id limit answer) v = RaisesLimit u id limit answer v
-SendStep u (StoppedOwn id code answer) v = StopsOwn u id code answer v
-SendStep u (SetWindow window) v = v ≡ with_out u (record u.out { budget = with_window u.out.budget window })
-SendStep u (Polled answer) v = Polls u answer v

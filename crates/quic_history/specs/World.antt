@@ -12,11 +12,13 @@ use Rattle.quic_limits.specs.Credit.{Credit, new_credit, credited, counted, resi
 use Rattle.quic_limits.specs.Remote.{Remote, new_remote, replaced, replacement, opened_up_to}
 use Rattle.quic_receiving.specs.Half.{Half, new_half}
 use Rattle.quic_history.specs.Halves.{Halves, with_half, with_first}
+use Rattle.quic_queue.specs.SendOrder.{SendOrder, empty_queue}
 use Rattle.quic_outgoing.specs.Outgoing.{Outgoing, no_streams, with_stream, with_more_streams, fresh}
 
 -- credit: for the data of all streams together
 -- bi, uni: the streams that the peer may open
 -- out: which end this is, and its sending side: the streams that it opened, the send halves, and how much may be sent
+-- queue: the streams on which something is to be sent
 -- receive: the receive half of a stream, if one is held
 -- window: the first limit of each stream
 -- events: what the application was not told yet
@@ -25,6 +27,7 @@ pub record World : Type 0 where
   pub bi : Remote
   pub uni : Remote
   pub out : Outgoing
+  pub queue : SendOrder
   pub receive : Halves
   pub window : ℕ
   pub events : List StreamEvent
@@ -50,6 +53,7 @@ start m = record {
   bi = new_remote m.bi;
   uni = new_remote m.uni;
   out = with_more_streams (no_streams m.side m.send_window) 0 m.bi;
+  queue = empty_queue;
   receive = with_first (with_first (λ id. None) (other_side m.side) Bi m.bi (Some (new_half m.window))) (other_side m.side) Uni m.uni (Some (new_half m.window));
   window = m.window;
   events = [];
