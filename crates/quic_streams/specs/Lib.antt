@@ -2,3 +2,4 @@ pub mod Held
 pub mod Shown
 pub mod Room
 pub mod Connection
+pub mod Writing

@@ -1,4 +1,5 @@
 -- An end as contracts see it.
+use Rattle.std.specs.Prelude.{None}
 use Rattle.quic_outgoing.specs.Shown.{view_of}
 use Rattle.quic_history.specs.World.{World}
 use Rattle.quic_streams.specs.Held.{held}
@@ -10,6 +11,7 @@ shown s = record {
   bi = s.bi;
   uni = s.uni;
   out = view_of s.outgoing;
+  queue = record s.queue { reserved = None };
   receive = held s.receive;
   window = s.receive.window;
   events = s.events.items;

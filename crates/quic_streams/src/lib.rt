@@ -7,9 +7,11 @@ mod permits;
 pub mod reading;
 mod receiving;
 pub mod recv_stream;
+pub mod send_stream;
 mod sending;
 pub mod state;
 pub mod streams;
+mod writing;
 
 pub use quic_history::progress;
 pub use quic_outgoing::PeerLimits;

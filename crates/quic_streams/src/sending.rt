@@ -8,7 +8,8 @@ ghost use Rattle.quic_outgoing.specs.Calls.{blocked_limit};
 ghost use Rattle.quic_streams.specs.Shown.{shown};
 ghost use Rattle.quic_streams.specs.Room.{HasEventRoom};
 ghost use Rattle.quic_history.specs.World.{Made, World, remote_of};
-ghost use Rattle.quic_history.specs.Sends.{GaveLimits, RaisedData, RaisedCount, RaisedLimit, StoppedOwn, SetWindow, Polled, OpensOwn, RaisesCount, RaisesLimit, StopsOwn, Polls, with_out, sending_refusal, is_permitted, told_writable};
+ghost use Rattle.quic_history.specs.SendEvents.{GaveLimits, RaisedData, RaisedCount, RaisedLimit, StoppedOwn, SetWindow, Polled};
+ghost use Rattle.quic_history.specs.Sends.{OpensOwn, RaisesCount, RaisesLimit, StopsOwn, Polls, with_out, sending_refusal, is_permitted, told_writable};
 ghost use Rattle.quic_history.specs.History.{Event, Sending, From};
 
 use crate::state::StreamsState;

@@ -15,6 +15,7 @@ ghost use Rattle.quic_streams.specs.Shown.{shown};
 use crate::halves::ReceiveHalves;
 use quic_limits::{ReceiveCredit, RemoteStreams};
 use quic_outgoing::OutgoingStreams;
+use quic_queue::SendQueue;
 use quic_receiving::{ClosedStream, Recv};
 use quic_values::{Dir, OutOfMemory, Side, StreamId, VarInt};
 use quic_wire::{StreamEvent, TransportError};
@@ -31,6 +32,8 @@ pub struct StreamsState {
     pub(crate) receive: ReceiveHalves,
     // Which end this is, and what it sends.
     pub(crate) outgoing: OutgoingStreams,
+    // The streams on which something is to be sent.
+    pub(crate) queue: SendQueue,
     pub(crate) events: VecDeque<StreamEvent>,
 }
 
@@ -66,6 +69,7 @@ impl StreamsState {
             uni: RemoteStreams::new(uni),
             receive,
             outgoing,
+            queue: SendQueue::new(alloc),
             events: VecDeque::new(alloc),
         })
     }

@@ -6,7 +6,8 @@ ghost use Rattle.quic_limits.specs.Remote.{open_now, one_accepted, acceptable_in
 ghost use Rattle.quic_streams.specs.Shown.{shown};
 ghost use Rattle.quic_history.specs.World.{Made, remote_of};
 ghost use Rattle.quic_history.specs.Permitting.{with_accepted, acceptable};
-ghost use Rattle.quic_history.specs.Sends.{OpenedOwn, OpensOwn};
+ghost use Rattle.quic_history.specs.SendEvents.{OpenedOwn};
+ghost use Rattle.quic_history.specs.Sends.{OpensOwn};
 ghost use Rattle.quic_streams.specs.Connection.{is_shut};
 ghost use Rattle.quic_history.specs.History.{Event, Accepted, Sending, From};
 

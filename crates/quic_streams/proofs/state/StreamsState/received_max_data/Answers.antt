@@ -2,7 +2,8 @@ use Rattle.std.proofs.Common.{ap}
 use Rattle.quic_outgoing.specs.Shown.{view_of}
 use Rattle.quic_streams.specs.Shown.{shown}
 use Rattle.quic_history.specs.History.{Sending}
-use Rattle.quic_history.specs.Sends.{RaisedData, with_out}
+use Rattle.quic_history.specs.SendEvents.{RaisedData}
+use Rattle.quic_history.specs.Sends.{with_out}
 use Rattle.quic_history.proofs.Histories.{next}
 use Rattle.quic_streams.proofs.state.StreamsState.received_max_data.Goals as goal
 

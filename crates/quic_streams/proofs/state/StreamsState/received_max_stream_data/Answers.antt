@@ -1,6 +1,6 @@
 use Rattle.quic_streams.specs.Shown.{shown}
 use Rattle.quic_history.specs.History.{Sending}
-use Rattle.quic_history.specs.Sends.{RaisedLimit}
+use Rattle.quic_history.specs.SendEvents.{RaisedLimit}
 use Rattle.quic_history.proofs.Histories.{next}
 use Rattle.quic_streams.proofs.state.StreamsState.received_max_stream_data.Goals as goal
 

@@ -1,6 +1,6 @@
 use Rattle.quic_streams.specs.Shown.{shown}
 use Rattle.quic_history.specs.History.{Sending}
-use Rattle.quic_history.specs.Sends.{StoppedOwn}
+use Rattle.quic_history.specs.SendEvents.{StoppedOwn}
 use Rattle.quic_history.proofs.Histories.{next}
 use Rattle.quic_streams.proofs.state.StreamsState.received_stop_sending.Goals as goal
 

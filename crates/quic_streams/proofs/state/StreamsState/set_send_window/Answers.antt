@@ -2,7 +2,8 @@ use Rattle.std.proofs.Common.{ap}
 use Rattle.quic_outgoing.specs.Shown.{view_of}
 use Rattle.quic_streams.specs.Shown.{shown}
 use Rattle.quic_history.specs.History.{Sending}
-use Rattle.quic_history.specs.Sends.{SetWindow, with_out}
+use Rattle.quic_history.specs.SendEvents.{SetWindow}
+use Rattle.quic_history.specs.Sends.{with_out}
 use Rattle.quic_history.proofs.Histories.{next}
 use Rattle.quic_streams.proofs.state.StreamsState.set_send_window.Goals as goal
 

@@ -1,7 +1,7 @@
 use Rattle.quic_streams.specs.Connection.{is_shut}
 use Rattle.quic_streams.specs.Shown.{shown}
 use Rattle.quic_history.specs.History.{Sending}
-use Rattle.quic_history.specs.Sends.{OpenedOwn}
+use Rattle.quic_history.specs.SendEvents.{OpenedOwn}
 use Rattle.quic_history.proofs.Histories.{next}
 use Rattle.quic_streams.proofs.streams.Streams.open.Goals as goal
 

@@ -1,0 +1,25 @@
+-- Writes on a stream, and the room to queue it.
+use Rattle.std.specs.Prelude.{◌≡◌, ℕ, ℤ, Option, Some, None, Result, Ok, Err}
+use Rattle.quic_sending.specs.declared.send.Send.{Send}
+use Rattle.quic_sending.specs.declared.send.Written.{Written}
+use Rattle.quic_sending.specs.declared.send.WriteError.{WriteError}
+use Rattle.quic_outgoing.specs.Shown.{view_of}
+use Rattle.quic_streams.specs.declared.state.StreamsState.{StreamsState}
+
+-- an answer that is the number of bytes of one that says more, of which this is true
+abbrev pub IsWrittenAs : Result ℕ WriteError → (Result Written WriteError → Type 0) → Type 0
+IsWrittenAs (Ok n) P = (written : Written) × (written.bytes ≡ n) × P (Ok written)
+IsWrittenAs (Err e) P = P (Err e)
+
+-- there is room in the queue at the priority of a half, if there is one
+abbrev pub IsPlaceOf : Option Send → Option ℤ → Type 0
+IsPlaceOf None reserved = Unit {0}
+IsPlaceOf (Some s) reserved = reserved ≡ Some s.priority
+
+abbrev pub HasPlace : StreamsState → ℕ → Type 0
+HasPlace s id = IsPlaceOf ((view_of s.outgoing).halves id) s.queue.reserved
+
+-- there is room in the queue where it is asked for
+abbrev pub HasPlaceAt : StreamsState → Option ℤ → Type 0
+HasPlaceAt s None = Unit {0}
+HasPlaceAt s (Some priority) = s.queue.reserved ≡ Some priority

@@ -1,0 +1,134 @@
+//! Writes, ends and resets of a stream, on the state.
+
+ghost use Rattle.std.specs.Prelude.{ℕ, ℤ, List, ◌∷◌, ◌≡◌, ◌≤◌, OnErr, OnOk, IfOk, None, Some, Ok};
+ghost use Rattle.quic_sending.specs.Source.{slice_lists};
+ghost use Rattle.quic_retransmits.specs.Pending.{shown_pending as listed};
+ghost use Rattle.quic_streams.specs.Connection.{is_shut};
+ghost use Rattle.quic_streams.specs.Shown.{shown};
+ghost use Rattle.quic_streams.specs.Writing.{IsWrittenAs, HasPlace, HasPlaceAt};
+ghost use Rattle.quic_history.specs.Writes.{WritesOwn, FinishesOwn, ResetsOwn, SetsOwnPriority, with_queued};
+
+use crate::state::StreamsState;
+use crate::streams::ConnState;
+use quic_receiving::HandleError;
+use quic_retransmits::Retransmits;
+use quic_sending::{ByteSlice, BytesArray, BytesSource, FinishError, WriteError, Written};
+use quic_values::{Bytes, OutOfMemory, StreamId, VarInt};
+
+#[tactic(auto, unfolding(crate::specs::Shown::shown))]
+impl StreamsState {
+    // Writes the first bytes of a slice.
+    pub(crate) fn write_bytes(
+        &mut self,
+        pending: &mut Retransmits,
+        id: StreamId,
+        bytes: &[u8],
+        conn: ConnState,
+    ) -> Result<usize, WriteError>
+        ensures { IsWrittenAs result (λ written. (left : List (List ℕ)) × WritesOwn (shown self.old) id (slice_lists bytes.now) (is_shut conn) (listed pending.old) written (shown self.new) left (listed pending.new)) }
+    {
+        let mut source = ByteSlice::from_slice(self.receive.alloc, bytes);
+        match self.write_source(pending, id, &mut source, conn) {
+            Ok(written) => Ok(written.bytes),
+            Err(error) => Err(error),
+        }
+    }
+
+    // Writes the first bytes of some chunks.
+    pub(crate) fn write_lists(
+        &mut self,
+        pending: &mut Retransmits,
+        id: StreamId,
+        chunks: &mut [Bytes],
+        conn: ConnState,
+    ) -> Result<Written, WriteError>
+        ensures { (left : List (List ℕ)) × WritesOwn (shown self.old) id chunks.old (is_shut conn) (listed pending.old) result (shown self.new) left (listed pending.new) }
+    {
+        let mut source = BytesArray::from_chunks(self.receive.alloc, chunks);
+        self.write_source(pending, id, &mut source, conn)
+    }
+
+    // Writes the first bytes of a source, and queues the stream where nothing was to be sent on it.
+    fn write_source<S: BytesSource>(
+        &mut self,
+        pending: &mut Retransmits,
+        id: StreamId,
+        source: &mut S,
+        conn: ConnState,
+    ) -> Result<Written, WriteError>
+        ensures { WritesOwn (shown self.old) id (S.lists source.old) (is_shut conn) (listed pending.old) result (shown self.new) (S.lists source.new) (listed pending.new) }
+    {
+        if matches!(conn, ConnState::Closed) {
+            return Err(WriteError::Blocked);
+        }
+        self.reserve_place(id)?;
+        match self.outgoing.write(pending, id, source) {
+            Err(error) => {
+                self.queue.release();
+                Err(error)
+            }
+            Ok(wrote) => {
+                self.queue_at(id, wrote.queue_at);
+                Ok(wrote.written)
+            }
+        }
+    }
+
+    // Makes the room to queue a stream at its priority. One that is not there has none.
+    fn reserve_place(&mut self, id: StreamId) -> Result<(), OutOfMemory>
+        ensures same { shown self.new ≡ shown self.old }
+        ensures ok { OnOk result (HasPlace self.new id) }
+    {
+        match self.outgoing.priority(id) {
+            Err(_) => Ok(()),
+            Ok(priority) => self.queue.reserve(priority),
+        }
+    }
+
+    // Queues a stream at its priority where that is asked for, in room that was made.
+    fn queue_at(&mut self, id: StreamId, priority: Option<i32>)
+        requires { HasPlaceAt self.old priority }
+        ensures { shown self.new ≡ with_queued (shown self.old) id priority }
+    {
+        match priority {
+            Some(priority) => self.queue.put(id, priority),
+            None => self.queue.release(),
+        }
+    }
+
+    // Ends a stream.
+    pub(crate) fn finish(&mut self, id: StreamId) -> Result<(), FinishError>
+        ensures { FinishesOwn (shown self.old) id result (shown self.new) }
+    {
+        self.reserve_place(id)?;
+        match self.outgoing.finish(id) {
+            Err(error) => {
+                self.queue.release();
+                Err(error)
+            }
+            Ok(queue_at) => {
+                self.queue_at(id, queue_at);
+                Ok(())
+            }
+        }
+    }
+
+    // Gives a stream up.
+    pub(crate) fn reset_sending(
+        &mut self,
+        pending: &mut Retransmits,
+        id: StreamId,
+        error_code: VarInt,
+    ) -> Result<(), HandleError>
+        ensures { ResetsOwn (shown self.old) id error_code (listed pending.old) result (shown self.new) (listed pending.new) }
+    {
+        self.outgoing.reset(pending, id, error_code)
+    }
+
+    // Gives a stream a priority.
+    pub(crate) fn set_priority(&mut self, id: StreamId, priority: i32) -> Result<(), HandleError>
+        ensures { SetsOwnPriority (shown self.old) id priority result (shown self.new) }
+    {
+        self.outgoing.set_priority(id, priority)
+    }
+}
