@@ -2,6 +2,7 @@
 
 mod reading;
 mod receiving;
+mod sending;
 mod sizes;
 
 use crate::Retransmits;
