@@ -35,33 +35,32 @@ fn put(queue: &mut SendQueue, index: u32, priority: i32) -> Result<(), OutOfMemo
 
 // The turn of the next stream, which is put anew at a priority.
 fn put_anew(queue: &mut SendQueue, priority: i32) -> Result<Option<Entry>, OutOfMemory> {
-    let Some(entry) = queue.first() else {
-        return Ok(None);
-    };
-    if let Err(OutOfMemory) = queue.reserve(priority) {
-        queue.reserve(priority)?;
+    let first = queue.first();
+    if let Some(entry) = queue.first() {
+        if let Err(OutOfMemory) = queue.reserve(priority) {
+            queue.reserve(priority)?;
+        }
+        queue.end_turn(entry, Next::PutAnew(priority));
     }
-    queue.end_turn(entry, Next::PutAnew(priority));
-    Ok(Some(entry))
+    Ok(first)
 }
 
-// The turn of the next stream, which is kept back or has nothing more to send.
-fn end_turn(queue: &mut SendQueue, is_kept: bool) -> Option<Entry> {
-    let entry = queue.first()?;
-    if is_kept {
+// The turn of the next stream, which is kept back.
+fn keep_back(queue: &mut SendQueue) -> Option<Entry> {
+    let first = queue.first();
+    if let Some(entry) = queue.first() {
         queue.end_turn(entry, Next::KeepBack);
-    } else {
+    }
+    first
+}
+
+// The turn of the next stream, which has nothing more to send.
+fn let_go(queue: &mut SendQueue) -> Option<Entry> {
+    let first = queue.first();
+    if let Some(entry) = queue.first() {
         queue.end_turn(entry, Next::LetGo);
     }
-    Some(entry)
-}
-
-fn keep_back(queue: &mut SendQueue) -> Option<Entry> {
-    end_turn(queue, true)
-}
-
-fn let_go(queue: &mut SendQueue) -> Option<Entry> {
-    end_turn(queue, false)
+    first
 }
 
 fn has(queue: &SendQueue, id: StreamId) -> bool {
