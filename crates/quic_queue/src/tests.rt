@@ -1,5 +1,5 @@
 //! The send queue. Where memory runs out, a call is asked once more, and all has to be as if it had not been.
-ghost use Rattle.std.specs.Prelude.{◌≡◌, ◌<◌, is_some};
+ghost use Rattle.std.specs.Prelude.{◌≡◌, is_some};
 ghost use Rattle.std.specs.List.{list_any};
 ghost use Rattle.std.specs.Ordering.{nat_cmp};
 ghost use Rattle.std.specs.BTreeMap.{get};
@@ -8,7 +8,6 @@ ghost use Rattle.quic_queue.specs.SendOrder.{line, ids_of};
 use crate::{Entry, Next, SendQueue};
 use quic_values::{Dir, OutOfMemory, Side, StreamId};
 use std::collections::BTreeMap;
-use std::process::Abort;
 use std::test::Fail;
 
 fn stream(index: u32) -> StreamId {
