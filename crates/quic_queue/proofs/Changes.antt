@@ -1,9 +1,8 @@
 -- What a change at one priority does to the levels.
-use Rattle.std.proofs.Common.{◌≡◌, ◌≢◌, ℕ, ℤ, ◌<◌, ◌≤◌, ◌-◌, true, false, List, [], ◌∷◌, Some, None, length, drop, refl, sym, ap, subst, ◌∙◌, arith, length-drop}
+use Rattle.std.proofs.Common.{◌≡◌, ◌≢◌, ℕ, ℤ, ◌<◌, ◌≤◌, ◌-◌, true, false, List, [], ◌∷◌, Some, None, length, drop, refl, sym, ap, ◌∙◌, arith, length-drop}
 use Rattle.std.specs.Prelude.{◌==◌}
 use Rattle.std.proofs.lemmas.Bool.Decides.{nat_tests}
-use Rattle.std.specs.Prelude.{Option, IsSome, is_some, IsSomeAnd, IfSome, Result, Ok, Err, OnErr}
-use Rattle.std.specs.declared.cmp.Reverse.{Reverse}
+use Rattle.std.specs.Prelude.{Option, IsSome, is_some, Result, Ok, Err, OnErr}
 use Rattle.std.specs.VecDeque.{deque_len, deque_capacity}
 use Rattle.std.specs.BTreeMap.{UpdatesBy}
 use Rattle.quic_queue.specs.Levels.{Ids, Levels, falling, ids_at, HasRoom, IsFilled, KeepsOtherLevels}

@@ -1,5 +1,5 @@
 -- The ids of each priority, and what the queue shows of them.
-use Rattle.std.specs.Prelude.{◌≡◌, ◌≢◌, ℕ, ℤ, ◌<◌, List, [], ◌∷◌, ◌++◌, map, Option, Some, None, IsSomeAnd, IfSome, slice_get}
+use Rattle.std.specs.Prelude.{◌≡◌, ◌≢◌, ℕ, ℤ, ◌<◌, List, [], ◌∷◌, ◌++◌, map, Option, Some, IsSomeAnd, IfSome, slice_get}
 use Rattle.std.specs.Global.{Global}
 use Rattle.std.specs.declared.cmp.Reverse.{Reverse}
 use Rattle.std.specs.declared.collections.VecDeque.{VecDeque}

@@ -21,6 +21,7 @@ abbrev pub put : List Entry → Entry → List Entry
 put [] e = e ∷ []
 put (x ∷ xs) e = if int_lt x.priority e.priority then e ∷ x ∷ xs else x ∷ put xs e
 
+-- one entry more, in the room that was there
 abbrev pub with_entry : SendOrder → Entry → SendOrder
 with_entry q e = record q { waiting = put q.waiting e; reserved = None }
 

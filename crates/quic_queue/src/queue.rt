@@ -1,6 +1,6 @@
 //! The send queue: the streams that have something to send, the highest priority first.
 
-ghost use Rattle.std.specs.Prelude.{◌≡◌, ◌≢◌, ◌∷◌, ◌≤◌, ◌==◌, [], Some, None, Bool, IsSome, IsOk, OnOk, OnErr, IfSome, IsSomeAnd, length, slice_get, drop, ℕ};
+ghost use Rattle.std.specs.Prelude.{◌≡◌, ◌==◌, Some, None, Bool, IsOk, OnOk, OnErr, IfSome, length, slice_get, drop, ℕ};
 ghost use Rattle.std.specs.List.{list_any};
 ghost use Rattle.quic_queue.specs.SendOrder.{empty_queue, put, with_entry, line, first, without_first, settled, IsReserved, NoneIsHigher, Tells, ids_of};
 ghost use Rattle.quic_queue.specs.Levels.{HasRoom, IsFilled, IsFirstPriority, KeepsOtherLevels, entries_of, ids_at};

@@ -1,5 +1,5 @@
 //! The send queue. Where memory runs out, a call is asked once more, and all has to be as if it had not been.
-ghost use Rattle.std.specs.Prelude.{◌≡◌, ◌<◌, is_some};
+ghost use Rattle.std.specs.Prelude.{◌≡◌, is_some};
 ghost use Rattle.std.specs.List.{list_any};
 ghost use Rattle.std.specs.Ordering.{nat_cmp};
 ghost use Rattle.std.specs.BTreeMap.{get};
@@ -8,7 +8,6 @@ ghost use Rattle.quic_queue.specs.SendOrder.{line, ids_of};
 use crate::{Entry, Next, SendQueue};
 use quic_values::{Dir, OutOfMemory, Side, StreamId};
 use std::collections::BTreeMap;
-use std::process::Abort;
 use std::test::Fail;
 
 fn stream(index: u32) -> StreamId {
@@ -35,33 +34,32 @@ fn put(queue: &mut SendQueue, index: u32, priority: i32) -> Result<(), OutOfMemo
 
 // The turn of the next stream, which is put anew at a priority.
 fn put_anew(queue: &mut SendQueue, priority: i32) -> Result<Option<Entry>, OutOfMemory> {
-    let Some(entry) = queue.first() else {
-        return Ok(None);
-    };
-    if let Err(OutOfMemory) = queue.reserve(priority) {
-        queue.reserve(priority)?;
+    let first = queue.first();
+    if let Some(entry) = queue.first() {
+        if let Err(OutOfMemory) = queue.reserve(priority) {
+            queue.reserve(priority)?;
+        }
+        queue.end_turn(entry, Next::PutAnew(priority));
     }
-    queue.end_turn(entry, Next::PutAnew(priority));
-    Ok(Some(entry))
+    Ok(first)
 }
 
-// The turn of the next stream, which is kept back or has nothing more to send.
-fn end_turn(queue: &mut SendQueue, is_kept: bool) -> Option<Entry> {
-    let entry = queue.first()?;
-    if is_kept {
+// The turn of the next stream, which is kept back.
+fn keep_back(queue: &mut SendQueue) -> Option<Entry> {
+    let first = queue.first();
+    if let Some(entry) = queue.first() {
         queue.end_turn(entry, Next::KeepBack);
-    } else {
+    }
+    first
+}
+
+// The turn of the next stream, which has nothing more to send.
+fn let_go(queue: &mut SendQueue) -> Option<Entry> {
+    let first = queue.first();
+    if let Some(entry) = queue.first() {
         queue.end_turn(entry, Next::LetGo);
     }
-    Some(entry)
-}
-
-fn keep_back(queue: &mut SendQueue) -> Option<Entry> {
-    end_turn(queue, true)
-}
-
-fn let_go(queue: &mut SendQueue) -> Option<Entry> {
-    end_turn(queue, false)
+    first
 }
 
 fn has(queue: &SendQueue, id: StreamId) -> bool {

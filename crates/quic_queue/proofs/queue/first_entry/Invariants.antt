@@ -1,4 +1,4 @@
-use Rattle.std.proofs.Common.{◌≡◌, ◌++◌, []}
+use Rattle.std.proofs.Common.{◌≡◌}
 use Rattle.quic_queue.specs.Levels.{entries_of}
 use Rattle.quic_queue.proofs.queue.first_entry.Given as goal
 

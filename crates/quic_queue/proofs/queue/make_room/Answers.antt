@@ -1,4 +1,4 @@
-use Rattle.std.proofs.Common.{rules, ◌≡◌, ◌≤◌, ◌<◌, length, arith, sym, ap, ◌∙◌, w32, refl, Some}
+use Rattle.std.proofs.Common.{arith, sym, ap, ◌∙◌, Some}
 use Rattle.std.specs.BTreeMap.{insert_entry}
 use Rattle.std.proofs.lemmas.Int.{to_z-of_z}
 use Rattle.quic_queue.specs.Levels.{Levels, falling, entries_of}
