@@ -3,3 +3,5 @@ pub mod Results
 pub mod Marks
 pub mod WriteSteps
 pub mod FirstOfPeer
+pub mod Keeping
+pub mod Histories

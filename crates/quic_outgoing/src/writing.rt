@@ -7,6 +7,7 @@ ghost use Rattle.quic_retransmits.specs.Pending.{shown_pending};
 ghost use Rattle.quic_outgoing.specs.Senders.{bare, first_limit};
 ghost use Rattle.quic_outgoing.specs.Outgoing.{is_stuck, with_stream};
 ghost use Rattle.quic_outgoing.specs.Writing.{Writes, RefusesWrite};
+ghost use Rattle.quic_outgoing.specs.History.{Writing, Continues};
 ghost use Rattle.quic_outgoing.specs.Shown.{view_of, permit_room};
 
 use crate::closing::queue_at;
@@ -35,6 +36,19 @@ impl OutgoingStreams {
     /// STREAM_DATA_BLOCKED is queued once for each limit (section 19.13). Other refusals change nothing: the stream is
     /// closed, or the peer stopped it, or memory lacks.
     pub fn write<S: BytesSource>(
+        &mut self,
+        pending: &mut Retransmits,
+        id: StreamId,
+        source: &mut S,
+    ) -> Result<Wrote, WriteError>
+        ensures writes { Writes (view_of self.old) id (S.lists source.old) (shown_pending pending.old) result (view_of self.new) (S.lists source.new) (shown_pending pending.new) }
+        ensures from { Continues (view_of self.old) (Writing id (S.lists source.old) result) (view_of self.new) }
+    {
+        self.write_source(pending, id, source)
+    }
+
+    // The same, each way out.
+    fn write_source<S: BytesSource>(
         &mut self,
         pending: &mut Retransmits,
         id: StreamId,
