@@ -13,14 +13,14 @@ use Rattle.quic_sending.specs.declared.send.Send.{Send}
 use Rattle.quic_outgoing.specs.declared.limits.PeerLimits.{PeerLimits}
 use Rattle.quic_outgoing.specs.declared.writing.Wrote.{Wrote}
 use Rattle.quic_outgoing.specs.Writing.{TakesBytesOf}
-use Rattle.quic_outgoing.specs.Outgoing.{Outgoing, no_streams, own_of, with_own, with_stream, with_params, fresh}
-use Rattle.quic_outgoing.specs.History.{Call, Permitted, PermittedFirst, Removed, GaveParams, Opened, GaveData, GaveStreams, GaveStream, WasStopped, Writing, Finished, Reset, SetPriority, Polled, SetWindow, DoesCall, bytes_of, data_limit_of, count_in, given_for, count_given_by, opened_by, TellsBudget, ComesFrom, Continues}
+use Rattle.quic_outgoing.specs.Outgoing.{Outgoing, no_streams, own_of, with_own, with_send_half, with_params, fresh_sender}
+use Rattle.quic_outgoing.specs.History.{Call, Permitted, PermittedFirst, Removed, GaveParams, Opened, GaveData, GaveStreams, GaveStream, WasStopped, Writing, Finished, Reset, SetPriority, Polled, SetWindow, DoesCall, bytes_by, data_limit_of, count_in, given_for, count_given_by, opened_by, TellsBudget, ComesFrom, Continues}
 use Rattle.quic_outgoing.proofs.Keeping.{Keeps, keeps-all, keeps-is, keeps-stream, keeps-rise, keeps-stop, keeps-blocked, keeps-polled}
 
 -- what a call adds to what was sent, to the limits, and to what was opened
 record Moves (u : Outgoing) (e : Call) (v : Outgoing) : Type 0 where
   side : v.side ≡ u.side
-  sent : v.budget.data_sent ≡ u.budget.data_sent + bytes_of e
+  sent : v.budget.data_sent ≡ u.budget.data_sent + bytes_by e
   limit : v.budget.max_data ≡ max u.budget.max_data (data_limit_of e)
   within : u.budget.data_sent ≤ u.budget.max_data → v.budget.data_sent ≤ v.budget.max_data
   opened : (dir : Dir) → (own_of v dir).opened ≡ (own_of u dir).opened + opened_by e dir
@@ -29,7 +29,7 @@ record Moves (u : Outgoing) (e : Call) (v : Outgoing) : Type 0 where
 
 -- a call that is none of those that count
 record IsIdle (e : Call) : Type 0 where
-  bytes : bytes_of e ≡ 0
+  bytes : bytes_by e ≡ 0
   limit : data_limit_of e ≡ 0
   opened : (dir : Dir) → opened_by e dir ≡ 0
   counted : (dir : Dir) → count_given_by e dir ≡ 0
@@ -59,10 +59,10 @@ idle u e v i k = record {
 goes-on : {side : Side} {h : List Call} {u : Outgoing} {e : Call} {v : Outgoing} → Moves u e v → TellsBudget side h u → TellsBudget side (e ∷ h) v
 goes-on {side} {h} {u} {e} {v} m t = record {
   is_side = m.side ∙ t.is_side;
-  written = m.sent ∙ ap (λ n. n + bytes_of e) t.written;
+  written = m.sent ∙ ap (λ n. n + bytes_by e) t.written;
   limit = m.limit ∙ ap (λ n. max n (data_limit_of e)) t.limit;
   within = let w = m.within (rw (t.written, t.limit) t.within) in
-      rw (← (m.sent ∙ ap (λ n. n + bytes_of e) t.written), ← (m.limit ∙ ap (λ n. max n (data_limit_of e)) t.limit)) w;
+      rw (← (m.sent ∙ ap (λ n. n + bytes_by e) t.written), ← (m.limit ∙ ap (λ n. max n (data_limit_of e)) t.limit)) w;
   opened = λ dir. m.opened dir ∙ ap (λ n. n + opened_by e dir) (t.opened dir);
   counted = λ dir. m.counted dir ∙ ap (λ n. max n (count_given_by e dir)) (t.counted dir);
   few = λ dir. let w = m.few dir (rw (t.opened dir, t.counted dir) (t.few dir)) in
@@ -134,7 +134,7 @@ data-moves u limit = record {
     few Uni h = h
 
 open-moves : (u : Outgoing) (d : Dir) (id : ℕ) (o : Option Send) → (own_of u d).opened < (own_of u d).limit
-    → Moves u (Opened d (Ok (Some id))) (with_stream (with_own u d (record (own_of u d) { opened = (own_of u d).opened + 1 })) id o)
+    → Moves u (Opened d (Ok (Some id))) (with_send_half (with_own u d (record (own_of u d) { opened = (own_of u d).opened + 1 })) id o)
 open-moves u Bi id o less = record {
   side = refl;
   sent = none-more _;
@@ -146,7 +146,7 @@ open-moves u Bi id o less = record {
 }
   where
     w : Outgoing
-    w = with_stream (with_own u Bi (record u.own_bi { opened = u.own_bi.opened + 1 })) id o
+    w = with_send_half (with_own u Bi (record u.own_bi { opened = u.own_bi.opened + 1 })) id o
 
     opened : (dir : Dir) → (own_of w dir).opened ≡ (own_of u dir).opened + given_for Bi dir 1
     opened Bi = refl
@@ -170,7 +170,7 @@ open-moves u Uni id o less = record {
 }
   where
     w : Outgoing
-    w = with_stream (with_own u Uni (record u.own_uni { opened = u.own_uni.opened + 1 })) id o
+    w = with_send_half (with_own u Uni (record u.own_uni { opened = u.own_uni.opened + 1 })) id o
 
     opened : (dir : Dir) → (own_of w dir).opened ≡ (own_of u dir).opened + given_for Uni dir 1
     opened Bi = none-more _
@@ -251,7 +251,7 @@ write-moves u id lists left wrote v t = moves-is t.is (record {
 })
   where
     w : Outgoing
-    w = record (with_stream u id (Some t.after)) { budget = with_written u.budget wrote.written.bytes }
+    w = record (with_send_half u id (Some t.after)) { budget = with_written u.budget wrote.written.bytes }
 
     opened : (dir : Dir) → (own_of w dir).opened ≡ (own_of u dir).opened + 0
     opened Bi = none-more _
@@ -277,7 +277,7 @@ moves u (Removed id) v h = idle u _ v (record { bytes = refl; limit = refl; open
 moves u (GaveParams params) v h = moves-is h (params-move u params)
 moves u (Opened dir (Ok None)) v h = idle u _ v (record { bytes = refl; limit = refl; opened = λ dir. refl; counted = λ dir. refl })
     (keeps-is h.1 (keeps-all u))
-moves u (Opened dir (Ok (Some id))) v h = moves-is (h.2 ∙ ap (λ (o : Own). with_stream (with_own u dir o) id (Some (fresh u id))) (one-opened (own_of u dir) h.0)) (open-moves u dir id _ h.0)
+moves u (Opened dir (Ok (Some id))) v h = moves-is (h.2 ∙ ap (λ (o : Own). with_send_half (with_own u dir o) id (Some (fresh_sender u id))) (one-opened (own_of u dir) h.0)) (open-moves u dir id _ h.0)
 moves u (Opened dir (Err e)) v h = idle u _ v (record { bytes = refl; limit = refl; opened = λ dir. refl; counted = λ dir. refl })
     (keeps-is h (keeps-all u))
 moves u (GaveData limit) v h = moves-is h (data-moves u limit)

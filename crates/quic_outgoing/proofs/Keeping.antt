@@ -3,8 +3,8 @@ use Rattle.std.proofs.Common.{◌≡◌, ℕ, Bool, true, false, cond, Option, S
 use Rattle.std.specs.Prelude.{MatchBool}
 use Rattle.quic_limits.specs.SendingCredit.{SendingCredit, with_blocked, is_blocked_due}
 use Rattle.quic_sending.specs.declared.send.Send.{Send}
-use Rattle.quic_outgoing.specs.Outgoing.{Outgoing, with_stream, waiting, is_stuck}
-use Rattle.quic_outgoing.specs.Calls.{after_rise, with_rise, is_woken, with_stop, PollsWritable}
+use Rattle.quic_outgoing.specs.Outgoing.{Outgoing, with_send_half, waiting, is_stuck}
+use Rattle.quic_outgoing.specs.Calls.{after_rise, with_rise, is_woken, with_stop_reason, PollsWritable}
 use Rattle.quic_outgoing.specs.Writing.{after_blocked}
 use Rattle.std.specs.Prelude.{◌&&◌}
 
@@ -28,7 +28,7 @@ keeps-is {u} {v} {w} e k = record {
   uni = ap (λ (x : Outgoing). x.own_uni) e ∙ k.uni;
 }
 
-pub keeps-stream : (u : Outgoing) (id : ℕ) (o : Option Send) → Keeps u (with_stream u id o)
+pub keeps-stream : (u : Outgoing) (id : ℕ) (o : Option Send) → Keeps u (with_send_half u id o)
 keeps-stream u id o = record { side = refl; sent = refl; limit = refl; bi = refl; uni = refl }
 
 keeps-choice : (b : Bool) (u v w : Outgoing) → Keeps u v → Keeps u w → Keeps u (cond b v w)
@@ -42,7 +42,7 @@ pub keeps-rise : (u : Outgoing) (id n : ℕ) (o : Option Send) → Keeps u (afte
 keeps-rise u id n None = keeps-all u
 keeps-rise u id n (Some s) = keeps-choice (is_woken s n && is_stuck u) u _ _ (keeps-waiting u id (with_rise s n)) (keeps-stream u id (Some (with_rise s n)))
 
-pub keeps-stop : (u : Outgoing) (id code : ℕ) (o : Option Send) → Keeps u (with_stop u id code o)
+pub keeps-stop : (u : Outgoing) (id code : ℕ) (o : Option Send) → Keeps u (with_stop_reason u id code o)
 keeps-stop u id code None = keeps-all u
 keeps-stop u id code (Some s) = keeps-stream u id _
 

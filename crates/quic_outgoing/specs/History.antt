@@ -14,9 +14,9 @@ use Rattle.quic_retransmits.specs.Pending.{Pending}
 use Rattle.quic_outgoing.specs.declared.limits.PeerLimits.{PeerLimits}
 use Rattle.quic_outgoing.specs.declared.writing.Wrote.{Wrote}
 use Rattle.quic_outgoing.specs.Senders.{with_first_of_peer, new_sender}
-use Rattle.quic_outgoing.specs.Outgoing.{Outgoing, no_streams, with_stream, fresh, own_of, with_params}
-use Rattle.quic_outgoing.specs.Calls.{Opens, RaisesStreams, RaisesStream, StopsSending, Finishes, Resets, SetsPriority, PollsWritable}
-use Rattle.quic_outgoing.specs.Writing.{Writes}
+use Rattle.quic_outgoing.specs.Outgoing.{Outgoing, no_streams, with_send_half, fresh_sender, own_of, with_params}
+use Rattle.quic_outgoing.specs.Calls.{OpensStream, RaisesStreams, RaisesStream, StopsSending, FinishesStream, ResetsStream, SetsPriority, PollsWritable}
+use Rattle.quic_outgoing.specs.Writing.{WritesOn}
 
 -- a call and its answer
 pub data Call : Type 0 where
@@ -43,18 +43,18 @@ PermitsFirst u count (Err e) v = v ≡ u
 
 -- what one call may do; a write and a reset also with what was to be sent before, and after
 abbrev pub DoesCall : Outgoing → Call → Outgoing → Type 0
-DoesCall u (Permitted id) v = v ≡ with_stream u id (Some (fresh u id))
+DoesCall u (Permitted id) v = v ≡ with_send_half u id (Some (fresh_sender u id))
 DoesCall u (PermittedFirst count answer) v = PermitsFirst u count answer v
-DoesCall u (Removed id) v = v ≡ with_stream u id None
+DoesCall u (Removed id) v = v ≡ with_send_half u id None
 DoesCall u (GaveParams params) v = v ≡ with_params u params
-DoesCall u (Opened dir answer) v = Opens u dir answer v
+DoesCall u (Opened dir answer) v = OpensStream u dir answer v
 DoesCall u (GaveData limit) v = v ≡ record u { budget = with_limit u.budget limit }
 DoesCall u (GaveStreams dir count answer) v = RaisesStreams u dir count answer v
 DoesCall u (GaveStream id limit answer) v = RaisesStream u id limit answer v
 DoesCall u (WasStopped id code answer) v = StopsSending u id code answer v
-DoesCall u (Writing id lists answer) v = (p : Pending) × (left : List (List ℕ)) × (q : Pending) × Writes u id lists p answer v left q
-DoesCall u (Finished id answer) v = Finishes u id answer v
-DoesCall u (Reset id code answer) v = (p : Pending) × (q : Pending) × Resets u id code p answer v q
+DoesCall u (Writing id lists answer) v = (p : Pending) × (left : List (List ℕ)) × (q : Pending) × WritesOn u id lists p answer v left q
+DoesCall u (Finished id answer) v = FinishesStream u id answer v
+DoesCall u (Reset id code answer) v = (p : Pending) × (q : Pending) × ResetsStream u id code p answer v q
 DoesCall u (SetPriority id priority answer) v = SetsPriority u id priority answer v
 DoesCall u (Polled answer) v = PollsWritable u answer v
 DoesCall u (SetWindow window) v = v ≡ record u { budget = with_window u.budget window }
@@ -65,13 +65,13 @@ AreCalls side window [] v = v ≡ no_streams side window
 AreCalls side window (e ∷ h) v = (u : Outgoing) × AreCalls side window h u × DoesCall u e v
 
 -- how many bytes writes took
-abbrev pub bytes_of : Call → ℕ
-bytes_of (Writing id lists (Ok wrote)) = wrote.written.bytes
-bytes_of _ = 0
+abbrev pub bytes_by : Call → ℕ
+bytes_by (Writing id lists (Ok wrote)) = wrote.written.bytes
+bytes_by _ = 0
 
 abbrev pub bytes_written : List Call → ℕ
 bytes_written [] = 0
-bytes_written (e ∷ h) = bytes_written h + bytes_of e
+bytes_written (e ∷ h) = bytes_written h + bytes_by e
 
 -- the limit of the connection that a call gave, 0 where it gave none
 abbrev pub data_limit_of : Call → ℕ

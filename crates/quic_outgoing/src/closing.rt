@@ -3,7 +3,7 @@
 ghost use Rattle.std.specs.Prelude.{◌≡◌, ◌≤◌, ◌<◌};
 ghost use Rattle.quic_outgoing.specs.History.{Finished, Reset, SetPriority, Continues};
 ghost use Rattle.quic_retransmits.specs.Pending.{shown_pending};
-ghost use Rattle.quic_outgoing.specs.Calls.{QueuesAt, Finishes, Resets, SetsPriority, told_of_half};
+ghost use Rattle.quic_outgoing.specs.Calls.{QueuesAt, FinishesStream, ResetsStream, SetsPriority, told_of_half};
 ghost use Rattle.quic_outgoing.specs.Shown.{view_of, permit_room};
 
 use crate::outgoing::OutgoingStreams;
@@ -17,7 +17,7 @@ impl OutgoingStreams {
     /// Ends a stream: its end is to be sent, and nothing more is written. Answers the priority at which it is to be
     /// queued, where nothing was to be sent on it before. If refused, all is as it was.
     pub fn finish(&mut self, id: StreamId) -> Result<Option<i32>, FinishError>
-        ensures finishes { Finishes (view_of self.old) id result (view_of self.new) }
+        ensures finishes { FinishesStream (view_of self.old) id result (view_of self.new) }
         ensures from { Continues (view_of self.old) (Finished id result) (view_of self.new) }
     {
         match self.halves.take(id) {
@@ -44,7 +44,7 @@ impl OutgoingStreams {
         id: StreamId,
         error_code: VarInt,
     ) -> Result<(), HandleError>
-        ensures resets { Resets (view_of self.old) id error_code (shown_pending pending.old) result (view_of self.new) (shown_pending pending.new) }
+        ensures resets { ResetsStream (view_of self.old) id error_code (shown_pending pending.old) result (view_of self.new) (shown_pending pending.new) }
         ensures from { Continues (view_of self.old) (Reset id error_code result) (view_of self.new) }
     {
         self.give_up(pending, id, error_code)
@@ -57,7 +57,7 @@ impl OutgoingStreams {
         id: StreamId,
         error_code: VarInt,
     ) -> Result<(), HandleError>
-        ensures { Resets (view_of self.old) id error_code (shown_pending pending.old) result (view_of self.new) (shown_pending pending.new) }
+        ensures { ResetsStream (view_of self.old) id error_code (shown_pending pending.old) result (view_of self.new) (shown_pending pending.new) }
     {
         if pending.reserve_reset().is_err() {
             return Err(HandleError::OutOfMemory);

@@ -4,8 +4,8 @@ ghost use Rattle.std.specs.Prelude.{[], ◌≡◌, ◌+◌, ◌<◌, ◌≤◌, 
 ghost use Rattle.quic_limits.specs.SendingCredit.{writable, with_limit, with_window, is_blocked_reported};
 ghost use Rattle.quic_outgoing.specs.Senders.{new_sender, with_first_of_peer};
 ghost use Rattle.quic_values.specs.Ids.{dir_of, index_of};
-ghost use Rattle.quic_outgoing.specs.Outgoing.{no_streams, with_stream, fresh, own_of, with_params};
-ghost use Rattle.quic_outgoing.specs.Calls.{Opens, RaisesStreams, told_of_half, blocked_limit};
+ghost use Rattle.quic_outgoing.specs.Outgoing.{no_streams, with_send_half, fresh_sender, own_of, with_params};
+ghost use Rattle.quic_outgoing.specs.Calls.{OpensStream, RaisesStreams, told_of_half, blocked_limit};
 ghost use Rattle.quic_outgoing.specs.History.{Permitted, PermittedFirst, Removed, GaveParams, Opened, GaveData, GaveStreams, SetWindow, ComesFrom, Continues};
 ghost use Rattle.quic_outgoing.specs.Shown.{view_of, permit_room};
 
@@ -60,7 +60,7 @@ impl OutgoingStreams {
     /// The peer may open a stream, for which room was made. Its half takes no memory until it is used.
     pub fn permit(&mut self, id: StreamId)
         requires { 0 < permit_room self.old }
-        ensures permitted { view_of self.new ≡ with_stream (view_of self.old) id (Some (fresh (view_of self.old) id)) }
+        ensures permitted { view_of self.new ≡ with_send_half (view_of self.old) id (Some (fresh_sender (view_of self.old) id)) }
         ensures room { permit_room self.old ≤ permit_room self.new + 1 }
         ensures from { Continues (view_of self.old) (Permitted id) (view_of self.new) }
     {
@@ -87,7 +87,7 @@ impl OutgoingStreams {
 
     /// Lets the send half of a stream go: it is sent on no more.
     pub fn remove(&mut self, id: StreamId)
-        ensures removed { view_of self.new ≡ with_stream (view_of self.old) id None }
+        ensures removed { view_of self.new ≡ with_send_half (view_of self.old) id None }
         ensures from { Continues (view_of self.old) (Removed id) (view_of self.new) }
         ensures room { permit_room self.old ≤ permit_room self.new }
     {
@@ -118,7 +118,7 @@ impl OutgoingStreams {
     /// Opens the next stream of a direction. `None`: as many were opened as the peer permits (RFC 9000 section 4.6). If
     /// refused, nothing is opened.
     pub fn open(&mut self, dir: Dir) -> Result<Option<StreamId>, OutOfMemory>
-        ensures opens { Opens (view_of self.old) dir result (view_of self.new) }
+        ensures opens { OpensStream (view_of self.old) dir result (view_of self.new) }
         ensures from { Continues (view_of self.old) (Opened dir result) (view_of self.new) }
     {
         if self.opened(dir) >= self.max_streams(dir) {

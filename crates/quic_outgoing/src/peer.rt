@@ -3,7 +3,7 @@
 ghost use Rattle.std.specs.Prelude.{◌≡◌, ◌≤◌, ◌<◌, is_some, true, vec_len};
 ghost use Rattle.std.specs.Vec.{vec_capacity};
 ghost use Rattle.quic_outgoing.specs.Senders.{bare, first_limit};
-ghost use Rattle.quic_outgoing.specs.Outgoing.{with_stream, waiting};
+ghost use Rattle.quic_outgoing.specs.Outgoing.{with_send_half, waiting};
 ghost use Rattle.quic_outgoing.specs.Calls.{RaisesStream, StopsSending, told_of_half, blocked_limit};
 ghost use Rattle.quic_outgoing.specs.History.{WasStopped, GaveStream, Continues};
 ghost use Rattle.quic_outgoing.specs.Shown.{view_of, permit_room};
