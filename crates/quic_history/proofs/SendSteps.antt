@@ -31,8 +31,8 @@ use Rattle.quic_queue.specs.SendOrder.{SendOrder}
 use Rattle.quic_outgoing.specs.Writing.{RefusesWrite, after_blocked}
 use Rattle.quic_receiving.specs.Half.{Half, new_half}
 use Rattle.quic_outgoing.specs.Senders.{SendersById, with_sender, raised_by, raised, first_limit}
-use Rattle.quic_outgoing.specs.Outgoing.{Outgoing, own_of, with_own, with_stream, with_params, waiting, marked, is_stuck, fresh, first_of}
-use Rattle.quic_outgoing.specs.Calls.{Opens, RaisesStream, StopsSending, PollsWritable, Resets, SetsPriority, after_rise, with_rise, is_woken, without_marks}
+use Rattle.quic_outgoing.specs.Outgoing.{Outgoing, own_of, with_own, with_send_half, with_params, waiting, marked, is_stuck, fresh_sender, first_of}
+use Rattle.quic_outgoing.specs.Calls.{OpensStream, RaisesStream, StopsSending, PollsWritable, ResetsStream, SetsPriority, after_rise, with_rise, is_woken, without_marks}
 use Rattle.quic_outgoing.specs.Calls as calls
 use Rattle.quic_history.specs.Halves.{Halves, with_half}
 use Rattle.quic_history.specs.World.{World, sends, id_refusal, is_own, remote_of, with_remote, with_receive, told, told_readable, noticed}
@@ -150,13 +150,13 @@ steadies_at a b c e s = let P : Outgoing → Type 0 = λ x. Steadies a x in subs
 steadies_none : (a : Outgoing) → Steadies a a
 steadies_none a = record { side = refl; opened = refl; held = λ q. refl }
 
-steadies_put : (a : Outgoing) (id : ℕ) (s t : Send) → a.halves id ≡ Some s → Steadies a (with_stream a id (Some t))
+steadies_put : (a : Outgoing) (id : ℕ) (s t : Send) → a.halves id ≡ Some s → Steadies a (with_send_half a id (Some t))
 steadies_put a id s t e = record { side = refl; opened = refl; held = held_put a.halves id s t e }
 
 waits : (a : Outgoing) (id : ℕ) (s t : Send) → a.halves id ≡ Some s → Steadies a (waiting a id t)
 waits a id s t e = by_mark t.connection_blocked
   where
-    by_mark : (b : Bool) → Steadies a (if b then with_stream a id (Some t) else record (with_stream a id (Some (marked true t))) { blocked = a.blocked ++ id ∷ [] })
+    by_mark : (b : Bool) → Steadies a (if b then with_send_half a id (Some t) else record (with_send_half a id (Some (marked true t))) { blocked = a.blocked ++ id ∷ [] })
     by_mark true = steadies_put a id s t e
     by_mark false = record { side = refl; opened = refl; held = held_put a.halves id s (marked true t) e }
 
@@ -164,11 +164,11 @@ steadies_rise : (a : Outgoing) (id n : ℕ) (o : Option Send) → a.halves id �
 steadies_rise a id n None e = steadies_none a
 steadies_rise a id n (Some s) e = by_test (is_woken s n && is_stuck a)
   where
-    by_test : (b : Bool) → Steadies a (if b then waiting a id (with_rise s n) else with_stream a id (Some (with_rise s n)))
+    by_test : (b : Bool) → Steadies a (if b then waiting a id (with_rise s n) else with_send_half a id (Some (with_rise s n)))
     by_test true = waits a id s (with_rise s n) e
     by_test false = steadies_put a id s (with_rise s n) e
 
-steadies_stop : (a : Outgoing) (id code : ℕ) (o : Option Send) → a.halves id ≡ o → Steadies a (calls.with_stop a id code o)
+steadies_stop : (a : Outgoing) (id code : ℕ) (o : Option Send) → a.halves id ≡ o → Steadies a (calls.with_stop_reason a id code o)
 steadies_stop a id code None e = steadies_none a
 steadies_stop a id code (Some s) e = steadies_put a id s _ e
 
@@ -260,7 +260,7 @@ steadies_blocked : (a : Outgoing) (id : ℕ) (o : Option Send) → a.halves id �
 steadies_blocked a id None e = steadies_none a
 steadies_blocked a id (Some s) e = by_stuck (is_stuck a)
   where
-    by_stuck : (k : Bool) → Steadies a (if k then record (waiting a id s) { budget = with_blocked a.budget } else with_stream a id (Some (record s { data_blocked_limit = Some s.max_data })))
+    by_stuck : (k : Bool) → Steadies a (if k then record (waiting a id s) { budget = with_blocked a.budget } else with_send_half a id (Some (record s { data_blocked_limit = Some s.max_data })))
     by_stuck true = steadies_budget a (waiting a id s) (with_blocked a.budget) (waits a id s s e)
     by_stuck false = steadies_put a id s _ e
 
@@ -283,7 +283,7 @@ finishes : (u : World) (id : ℕ) (answer : Result (Unit {0}) FinishError) (v : 
 finishes u id (Ok x) v s = spares_at u v _ s.3 (queued u (with_out u s.1) id s.0 (spares_step u s.1 (steadies_at u.out s.1 _ s.2.4 (steadies_put u.out id s.2.0 _ s.2.1))))
 finishes u id (Err e) v s = spares_at u v _ s.2 (spares_step u s.0 (steadies_at u.out s.0 u.out s.1.1 (steadies_none u.out)))
 
-steadies_reset : (a : Outgoing) (id code : ℕ) (p : Pending) (answer : Result (Unit {0}) HandleError) (b : Outgoing) (q : Pending) → Resets a id code p answer b q → Steadies a b
+steadies_reset : (a : Outgoing) (id code : ℕ) (p : Pending) (answer : Result (Unit {0}) HandleError) (b : Outgoing) (q : Pending) → ResetsStream a id code p answer b q → Steadies a b
 steadies_reset a id code p (Ok x) b q s = steadies_at a b _ s.3 (steadies_budget a _ _ (steadies_put a id s.0 _ s.1))
 steadies_reset a id code p (Err handle_error.ClosedStream) b q s = steadies_at a b a s.1 (steadies_none a)
 steadies_reset a id code p (Err handle_error.OutOfMemory) b q s = steadies_at a b a s.0 (steadies_none a)
@@ -319,7 +319,7 @@ next_opened o false e l = absurd (not_less o.opened o.limit e l)
 
 -- the sending side with one more stream open
 abbrev opening : World → Dir → ℕ → Outgoing
-opening u d id = with_stream (with_own u.out d (with_next_own (own_of u.out d))) id (Some (fresh u.out id))
+opening u d id = with_send_half (with_own u.out d (with_next_own (own_of u.out d))) id (Some (fresh_sender u.out id))
 
 opened_all : (f : ℕ → Trace) (u : World) (d : Dir) → (own_of u.out d).opened < (own_of u.out d).limit → AllFrom f u
     → AllFrom f (with_opened u d (stream_id u.out.side d (own_of u.out d).opened) (opening u d (stream_id u.out.side d (own_of u.out d).opened)))
@@ -357,10 +357,10 @@ opened_remotes : (at_once b : Dir → ℕ) (f : ℕ → Trace) (u : World) (d : 
     → AllRemotes at_once b f (with_opened u d (stream_id u.out.side d (own_of u.out d).opened) (opening u d (stream_id u.out.side d (own_of u.out d).opened)))
 unfolding with_receive
 opened_remotes at_once b f u Bi x Bi = remote-same (at_once Bi) (b Bi) _ _ u.bi u.bi (limits-refl u.bi)
-    (λ i l. ap (λ c. (f (stream_id (other_side u.out.side) Bi i)).gone && not c) (peer_held u Bi u.out.own_bi.opened i (fresh u.out (stream_id u.out.side Bi u.out.own_bi.opened)))) (x Bi)
+    (λ i l. ap (λ c. (f (stream_id (other_side u.out.side) Bi i)).gone && not c) (peer_held u Bi u.out.own_bi.opened i (fresh_sender u.out (stream_id u.out.side Bi u.out.own_bi.opened)))) (x Bi)
 opened_remotes at_once b f u Bi x Uni = x Uni
 opened_remotes at_once b f u Uni x Bi = remote-same (at_once Bi) (b Bi) _ _ u.bi u.bi (limits-refl u.bi)
-    (λ i l. ap (λ c. (f (stream_id (other_side u.out.side) Bi i)).gone && not c) (peer_held u Uni u.out.own_uni.opened i (fresh u.out (stream_id u.out.side Uni u.out.own_uni.opened)))) (x Bi)
+    (λ i l. ap (λ c. (f (stream_id (other_side u.out.side) Bi i)).gone && not c) (peer_held u Uni u.out.own_uni.opened i (fresh_sender u.out (stream_id u.out.side Uni u.out.own_uni.opened)))) (x Bi)
 opened_remotes at_once b f u Uni x Uni = x Uni
 
 opened_goes : (u : World) (d : Dir) (id : ℕ) → Goes u (with_opened u d id (opening u d id))
@@ -374,7 +374,7 @@ opened_credit u Bi id o = refl
 opened_credit u Uni id o = refl
 
 -- the end that an opened stream led to
-opened_is : (u v : World) (d : Dir) (id : ℕ) (o : Outgoing) → Opens u.out d (Ok (Some id)) o → v ≡ with_opened u d id o
+opened_is : (u v : World) (d : Dir) (id : ℕ) (o : Outgoing) → OpensStream u.out d (Ok (Some id)) o → v ≡ with_opened u d id o
     → v ≡ with_opened u d (stream_id u.out.side d (own_of u.out d).opened) (opening u d (stream_id u.out.side d (own_of u.out d).opened))
 opened_is u v d id o s e = e ∙ ap (λ k. with_opened u d id k) s.2 ∙ ap (λ j. with_opened u d j (opening u d j)) s.1
 

@@ -15,7 +15,7 @@ use Rattle.quic_limits.specs.SendingCredit.{with_limit, with_window}
 use Rattle.quic_receiving.specs.Half.{new_half}
 use Rattle.quic_outgoing.specs.declared.limits.PeerLimits.{PeerLimits}
 use Rattle.quic_outgoing.specs.Outgoing.{Outgoing, own_of, with_own, with_params}
-use Rattle.quic_outgoing.specs.Calls.{Opens, RaisesStream, StopsSending, PollsWritable}
+use Rattle.quic_outgoing.specs.Calls.{OpensStream, RaisesStream, StopsSending, PollsWritable}
 use Rattle.quic_history.specs.World.{World, is_own, remote_of, with_remote, with_receive, told, noticed}
 
 -- another sending side
@@ -31,7 +31,7 @@ with_opened w Bi id o = with_out (with_receive w id (Some (new_half w.window))) 
 -- as the peer permits
 abbrev pub OpensOwn : World → Dir → Bool → Result (Option ℕ) OutOfMemory → World → Type 0
 OpensOwn w d closed (Ok None) v = ((closed ≡ true) ⊎ ((own_of w.out d).limit ≤ (own_of w.out d).opened)) × (v ≡ w)
-OpensOwn w d closed (Ok (Some id)) v = (closed ≡ false) × (o : Outgoing) × Opens w.out d (Ok (Some id)) o × (v ≡ with_opened w d id o)
+OpensOwn w d closed (Ok (Some id)) v = (closed ≡ false) × (o : Outgoing) × OpensStream w.out d (Ok (Some id)) o × (v ≡ with_opened w d id o)
 OpensOwn w d closed (Err e) v = v ≡ w
 
 -- the error of a frame on the sending side of a stream: the peer may not open it, or only the peer sends on it, or it is

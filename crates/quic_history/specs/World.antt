@@ -13,7 +13,7 @@ use Rattle.quic_limits.specs.Remote.{Remote, new_remote, replaced, replacement, 
 use Rattle.quic_receiving.specs.Half.{Half, new_half}
 use Rattle.quic_history.specs.Halves.{Halves, with_half, with_first}
 use Rattle.quic_queue.specs.SendOrder.{SendOrder, empty_queue}
-use Rattle.quic_outgoing.specs.Outgoing.{Outgoing, no_streams, with_stream, with_more_streams, fresh}
+use Rattle.quic_outgoing.specs.Outgoing.{Outgoing, no_streams, with_send_half, with_more_streams, fresh_sender}
 
 -- credit: for the data of all streams together
 -- bi, uni: the streams that the peer may open
@@ -105,7 +105,7 @@ id_refusal w id = if is_own w id then own_refusal w (dir_of id) (index_of id)
 abbrev pub with_permitted : World → Dir → ℕ → World
 with_permitted w Uni index = with_receive w (stream_id (other_side w.out.side) Uni index) (Some (new_half w.window))
 with_permitted w Bi index = let id = stream_id (other_side w.out.side) Bi index in
-    record (with_receive w id (Some (new_half w.window))) { out = with_stream w.out id (Some (fresh w.out id)) }
+    record (with_receive w id (Some (new_half w.window))) { out = with_send_half w.out id (Some (fresh_sender w.out id)) }
 
 abbrev pub permitted_if : World → Dir → Option ℕ → World
 permitted_if w dir None = w

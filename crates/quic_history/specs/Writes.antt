@@ -8,8 +8,8 @@ use Rattle.quic_receiving.specs.declared.errors.HandleError.{HandleError}
 use Rattle.quic_retransmits.specs.Pending.{Pending}
 use Rattle.quic_outgoing.specs.declared.writing.Wrote.{Wrote}
 use Rattle.quic_outgoing.specs.Outgoing.{Outgoing}
-use Rattle.quic_outgoing.specs.Calls.{Finishes, Resets, SetsPriority}
-use Rattle.quic_outgoing.specs.Writing.{Writes}
+use Rattle.quic_outgoing.specs.Calls.{FinishesStream, ResetsStream, SetsPriority}
+use Rattle.quic_outgoing.specs.Writing.{WritesOn}
 use Rattle.quic_queue.specs.SendOrder.{with_entry}
 use Rattle.quic_history.specs.World.{World}
 use Rattle.quic_history.specs.Sends.{with_out}
@@ -21,19 +21,19 @@ with_queued w id (Some priority) = record w { queue = with_entry w.queue (record
 
 -- what came of a write of these lists: on a connection that is closed nothing is written
 abbrev pub WritesOwn : World → ℕ → List (List ℕ) → Bool → Pending → Result Written WriteError → World → List (List ℕ) → Pending → Type 0
-WritesOwn w id lists closed p (Ok written) v left q = (closed ≡ false) × (wrote : Wrote) × (o : Outgoing) × Writes w.out id lists p (Ok wrote) o left q
+WritesOwn w id lists closed p (Ok written) v left q = (closed ≡ false) × (wrote : Wrote) × (o : Outgoing) × WritesOn w.out id lists p (Ok wrote) o left q
     × (written ≡ wrote.written) × (v ≡ with_queued (with_out w o) id wrote.queue_at)
 WritesOwn w id lists closed p (Err e) v left q = ((closed ≡ true) × (e ≡ write_error.Blocked) × (v ≡ w) × (left ≡ lists) × (q ≡ p))
-    ⊎ ((closed ≡ false) × (o : Outgoing) × Writes w.out id lists p (Err e) o left q × (v ≡ with_out w o))
+    ⊎ ((closed ≡ false) × (o : Outgoing) × WritesOn w.out id lists p (Err e) o left q × (v ≡ with_out w o))
 
 -- what came of ending a stream
 abbrev pub FinishesOwn : World → ℕ → Result (Unit {0}) FinishError → World → Type 0
-FinishesOwn w id (Ok x) v = (queue : Option ℤ) × (o : Outgoing) × Finishes w.out id (Ok queue) o × (v ≡ with_queued (with_out w o) id queue)
-FinishesOwn w id (Err e) v = (o : Outgoing) × Finishes w.out id (Err e) o × (v ≡ with_out w o)
+FinishesOwn w id (Ok x) v = (queue : Option ℤ) × (o : Outgoing) × FinishesStream w.out id (Ok queue) o × (v ≡ with_queued (with_out w o) id queue)
+FinishesOwn w id (Err e) v = (o : Outgoing) × FinishesStream w.out id (Err e) o × (v ≡ with_out w o)
 
 -- what came of giving a stream up
 abbrev pub ResetsOwn : World → ℕ → ℕ → Pending → Result (Unit {0}) HandleError → World → Pending → Type 0
-ResetsOwn w id code p answer v q = (o : Outgoing) × Resets w.out id code p answer o q × (v ≡ with_out w o)
+ResetsOwn w id code p answer v q = (o : Outgoing) × ResetsStream w.out id code p answer o q × (v ≡ with_out w o)
 
 -- what came of giving a stream a priority
 abbrev pub SetsOwnPriority : World → ℕ → ℤ → Result (Unit {0}) HandleError → World → Type 0

@@ -8,7 +8,7 @@ use Rattle.quic_values.specs.declared.ids.Dir.TheVariants.{Bi}
 use Rattle.quic_values.specs.Ids.{stream_id, other_side, initiator_of, dir_of}
 use Rattle.quic_sending.specs.declared.send.Send.{Send}
 use Rattle.quic_outgoing.specs.declared.entries.FirstLimits.{FirstLimits}
-use Rattle.quic_outgoing.specs.Senders.{SendersById, with_sender, is_first_of_peer, with_first_of_peer, first_limit, first_for, is_same_end}
+use Rattle.quic_outgoing.specs.Senders.{SendersById, with_sender, is_first_of_peer, with_first_of_peer, first_limit, first_for, are_one_end}
 
 first-none : (side : Side) (q : ℕ) → is_first_of_peer side 0 q ≡ false
 first-none side q = grind (arith, nat_tests)
@@ -29,11 +29,11 @@ pub of_peer-more : (f : SendersById) (side : Side) (n : ℕ) (s : Send) → with
 unfolding with_first_of_peer with_sender
 of_peer-more f side n s = λ k. λ q. join (q == stream_id (other_side side) Bi n) (is_first_of_peer side n q) (is_first_of_peer side (n + 1) q) (Some s) (f q) (first-more side n q) k
 
-not-own : (side : Side) → is_same_end side (other_side side) ≡ false
+not-own : (side : Side) → are_one_end side (other_side side) ≡ false
 not-own Client = refl
 not-own Server = refl
 
 -- the limit of a bidirectional stream of the peer
 pub first-of-peer : (side : Side) (l : FirstLimits) (id : ℕ) → initiator_of id ≡ other_side side → dir_of id ≡ Bi → first_limit side l id ≡ l.peer_bi
-first-of-peer side l id i d = ap (λ x. first_for (is_same_end side x) (dir_of id) l) i ∙ ap (λ x. first_for (is_same_end side (other_side side)) x l) d
+first-of-peer side l id i d = ap (λ x. first_for (are_one_end side x) (dir_of id) l) i ∙ ap (λ x. first_for (are_one_end side (other_side side)) x l) d
     ∙ ap (λ b. first_for b Bi l) (not-own side)

@@ -4,3 +4,5 @@ pub mod PeerStreams
 pub mod Marks
 pub mod WriteSteps
 pub mod FirstOfPeer
+pub mod Keeping
+pub mod Histories

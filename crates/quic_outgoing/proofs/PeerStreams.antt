@@ -11,7 +11,7 @@ use Rattle.quic_values.specs.Ids.{stream_id, other_side}
 use Rattle.quic_sending.specs.declared.send.Send.{Send}
 use Rattle.quic_outgoing.specs.declared.entries.FirstLimits.{FirstLimits}
 use Rattle.quic_outgoing.specs.Senders.{SendersById, is_between, with_sender, with_more_of_peer, new_sender, first_limit}
-use Rattle.quic_outgoing.specs.Outgoing.{Outgoing, with_stream, with_more_streams, fresh}
+use Rattle.quic_outgoing.specs.Outgoing.{Outgoing, with_send_half, with_more_streams, fresh_sender}
 
 pub between-none : (i : Side) (d : Dir) (first q : ℕ) → is_between i d first 0 q ≡ false
 between-none i d first q = grind (arith, nat_tests)
@@ -41,5 +41,5 @@ pub more-none : (u : Outgoing) (first : ℕ) → with_more_streams u first 0 ≡
 more-none u first = ap (λ f. record u { halves = f }) (of_peer_none u.halves u.side u.first first)
 
 pub more-one : (u : Outgoing) (first n : ℕ) → let id = stream_id (other_side u.side) Bi (first + n) in
-    let w = with_more_streams u first n in with_stream w id (Some (fresh w id)) ≡ with_more_streams u first (n + 1)
+    let w = with_more_streams u first n in with_send_half w id (Some (fresh_sender w id)) ≡ with_more_streams u first (n + 1)
 more-one u first n = ap (λ f. record u { halves = f }) (of_peer_one u.halves u.side u.first first n)

@@ -7,7 +7,7 @@ use Rattle.quic_sending.specs.Sending.{write_refusal, permitted}
 use Rattle.quic_sending.specs.Source.{Appends, rest_of}
 use Rattle.quic_outgoing.specs.declared.writing.Wrote.{Wrote}
 use Rattle.quic_outgoing.specs.Senders.{bare}
-use Rattle.quic_outgoing.specs.Outgoing.{Outgoing, with_stream, is_stuck}
+use Rattle.quic_outgoing.specs.Outgoing.{Outgoing, with_send_half, is_stuck}
 use Rattle.quic_outgoing.specs.Calls.{QueuesAt}
 use Rattle.quic_outgoing.specs.Writing.{TakesBytesOf}
 use Rattle.quic_outgoing.proofs.SenderMaps.{sender-there, with_sender-twice}
@@ -26,8 +26,8 @@ pub took : (u v : Outgoing) (id : ℕ) (s t : Send) (limit : ℕ) (lists left : 
     → wrote.written.bytes ≡ min (permitted s limit) (total_length lists) → wrote.written.chunks + length left ≡ length lists
     → QueuesAt s wrote.queue_at → Appends (permitted s limit) lists s.pending t.pending → t ≡ record s { pending = t.pending }
     → left ≡ rest_of (permitted s limit) lists
-    → (wrote.written.bytes ≤ writable u.budget → v ≡ record (with_stream u id (Some (bare t))) { budget = with_written u.budget wrote.written.bytes })
-    → TakesBytesOf (with_stream u id (Some (bare s))) id lists wrote left v
+    → (wrote.written.bytes ≤ writable u.budget → v ≡ record (with_send_half u id (Some (bare t))) { budget = with_written u.budget wrote.written.bytes })
+    → TakesBytesOf (with_send_half u id (Some (bare s))) id lists wrote left v
 took u v id s t limit lists left wrote is some free bytes chunks queue appends others rest after = record {
   half = bare s;
   after = bare t;

@@ -21,14 +21,14 @@ use Rattle.quic_receiving.specs.declared.errors.HandleError.TheVariants as handl
 use Rattle.quic_retransmits.specs.Pending.{Pending}
 use Rattle.quic_retransmits.specs.Queueing.{with_reset_stream}
 use Rattle.quic_outgoing.specs.Senders.{SendersById}
-use Rattle.quic_outgoing.specs.Outgoing.{Outgoing, own_of, with_own, with_stream, fresh, waiting, is_stuck, marked}
+use Rattle.quic_outgoing.specs.Outgoing.{Outgoing, own_of, with_own, with_send_half, fresh_sender, waiting, is_stuck, marked}
 
 -- a stream is opened where one more may be. For want of memory nothing is
-abbrev pub Opens : Outgoing → Dir → Result (Option ℕ) OutOfMemory → Outgoing → Type 0
-Opens u dir (Ok None) v = ((own_of u dir).limit ≤ (own_of u dir).opened) × (v ≡ u)
-Opens u dir (Ok (Some id)) v = ((own_of u dir).opened < (own_of u dir).limit) × (id ≡ stream_id u.side dir (own_of u dir).opened)
-    × (v ≡ with_stream (with_own u dir (with_next_own (own_of u dir))) id (Some (fresh u id)))
-Opens u dir (Err e) v = v ≡ u
+abbrev pub OpensStream : Outgoing → Dir → Result (Option ℕ) OutOfMemory → Outgoing → Type 0
+OpensStream u dir (Ok None) v = ((own_of u dir).limit ≤ (own_of u dir).opened) × (v ≡ u)
+OpensStream u dir (Ok (Some id)) v = ((own_of u dir).opened < (own_of u dir).limit) × (id ≡ stream_id u.side dir (own_of u dir).opened)
+    × (v ≡ with_send_half (with_own u dir (with_next_own (own_of u dir))) id (Some (fresh_sender u id)))
+OpensStream u dir (Err e) v = v ≡ u
 
 -- the peer gave a count of streams: a number above 2^60 is no count
 abbrev pub RaisesStreams : Outgoing → Dir → ℕ → Result Bool TransportError → Outgoing → Type 0
@@ -53,7 +53,7 @@ is_woken s n = rises s n && (s.pending.offset == s.max_data)
 -- a stream whose half was given a limit; where nothing may be written, one that was woken waits
 abbrev pub after_rise : Outgoing → ℕ → ℕ → Option Send → Outgoing
 after_rise u id n None = u
-after_rise u id n (Some s) = if is_woken s n && is_stuck u then waiting u id (with_rise s n) else with_stream u id (Some (with_rise s n))
+after_rise u id n (Some s) = if is_woken s n && is_stuck u then waiting u id (with_rise s n) else with_send_half u id (Some (with_rise s n))
 
 -- whether the application is to be told that it may write
 abbrev pub tells_writable : Outgoing → ℕ → Option Send → Bool
@@ -71,12 +71,12 @@ is_first_stop None = false
 is_first_stop (Some s) = is_none s.stop_reason
 
 -- the peer stopped a stream: the first code stays
-abbrev pub with_stop : Outgoing → ℕ → ℕ → Option Send → Outgoing
-with_stop u id code None = u
-with_stop u id code (Some s) = with_stream u id (Some (record s { stop_reason = Some (unwrap_or s.stop_reason code) }))
+abbrev pub with_stop_reason : Outgoing → ℕ → ℕ → Option Send → Outgoing
+with_stop_reason u id code None = u
+with_stop_reason u id code (Some s) = with_send_half u id (Some (record s { stop_reason = Some (unwrap_or s.stop_reason code) }))
 
 abbrev pub StopsSending : Outgoing → ℕ → ℕ → Result Bool OutOfMemory → Outgoing → Type 0
-StopsSending u id code (Ok first) v = (first ≡ is_first_stop (u.halves id)) × (v ≡ with_stop u id code (u.halves id))
+StopsSending u id code (Ok first) v = (first ≡ is_first_stop (u.halves id)) × (v ≡ with_stop_reason u id code (u.halves id))
 StopsSending u id code (Err e) v = v ≡ u
 
 -- what is told of a half, and that the stream is closed where none is held
@@ -106,9 +106,9 @@ abbrev pub finished : Send → Send
 finished s = record s { state = DataSent false; fin_pending = true }
 
 -- a stream is finished, or refused; want of memory needs no other reason
-abbrev pub Finishes : Outgoing → ℕ → Result (Option ℤ) FinishError → Outgoing → Type 0
-Finishes u id (Ok queue) v = (s : Send) × (u.halves id ≡ Some s) × (finish_refusal s ≡ None) × QueuesAt s queue × (v ≡ with_stream u id (Some (finished s)))
-Finishes u id (Err e) v = ((end_refusal (u.halves id) ≡ Some e) ⊎ (e ≡ finish_error.OutOfMemory)) × (v ≡ u)
+abbrev pub FinishesStream : Outgoing → ℕ → Result (Option ℤ) FinishError → Outgoing → Type 0
+FinishesStream u id (Ok queue) v = (s : Send) × (u.halves id ≡ Some s) × (finish_refusal s ≡ None) × QueuesAt s queue × (v ≡ with_send_half u id (Some (finished s)))
+FinishesStream u id (Err e) v = ((end_refusal (u.halves id) ≡ Some e) ⊎ (e ≡ finish_error.OutOfMemory)) × (v ≡ u)
 
 -- a half of which nothing but the reset is sent: every offset counts as sent and acknowledged
 abbrev pub given_up : Send → Send
@@ -133,16 +133,16 @@ is_reset_or_gone None = true
 is_reset_or_gone (Some s) = is_reset_sent s.state
 
 -- a stream is given up: what was retained of it is released, and RESET_STREAM is queued
-abbrev pub Resets : Outgoing → ℕ → ℕ → Pending → Result (Unit {0}) HandleError → Outgoing → Pending → Type 0
-Resets u id code p (Ok done) v q = (s : Send) × (u.halves id ≡ Some s) × (is_reset_sent s.state ≡ false)
-    × (v ≡ record (with_stream u id (Some (given_up s))) { budget = with_released u.budget (total_length s.pending.held) })
+abbrev pub ResetsStream : Outgoing → ℕ → ℕ → Pending → Result (Unit {0}) HandleError → Outgoing → Pending → Type 0
+ResetsStream u id code p (Ok done) v q = (s : Send) × (u.halves id ≡ Some s) × (is_reset_sent s.state ≡ false)
+    × (v ≡ record (with_send_half u id (Some (given_up s))) { budget = with_released u.budget (total_length s.pending.held) })
     × (q ≡ record p { reset_stream = with_reset_stream p.reset_stream id code })
-Resets u id code p (Err handle_error.ClosedStream) v q = (is_reset_or_gone (u.halves id) ≡ true) × (v ≡ u) × (q ≡ p)
-Resets u id code p (Err handle_error.OutOfMemory) v q = (v ≡ u) × (q ≡ p)
+ResetsStream u id code p (Err handle_error.ClosedStream) v q = (is_reset_or_gone (u.halves id) ≡ true) × (v ≡ u) × (q ≡ p)
+ResetsStream u id code p (Err handle_error.OutOfMemory) v q = (v ≡ u) × (q ≡ p)
 
 -- a stream gets its place among those that are queued later
 abbrev pub SetsPriority : Outgoing → ℕ → ℤ → Result (Unit {0}) HandleError → Outgoing → Type 0
-SetsPriority u id priority (Ok done) v = (s : Send) × (u.halves id ≡ Some s) × (v ≡ with_stream u id (Some (record s { priority = priority })))
+SetsPriority u id priority (Ok done) v = (s : Send) × (u.halves id ≡ Some s) × (v ≡ with_send_half u id (Some (record s { priority = priority })))
 SetsPriority u id priority (Err handle_error.ClosedStream) v = (u.halves id ≡ None) × (v ≡ u)
 SetsPriority u id priority (Err handle_error.OutOfMemory) v = v ≡ u
 

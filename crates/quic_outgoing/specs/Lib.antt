@@ -4,3 +4,4 @@ pub mod Outgoing
 pub mod Calls
 pub mod Writing
 pub mod Shown
+pub mod History

@@ -38,12 +38,12 @@ no_streams side send_window = record {
 }
 
 -- another half, or none, of a stream
-abbrev pub with_stream : Outgoing → ℕ → Option Send → Outgoing
-with_stream u id o = record u { halves = with_sender u.halves id o }
+abbrev pub with_send_half : Outgoing → ℕ → Option Send → Outgoing
+with_send_half u id o = record u { halves = with_sender u.halves id o }
 
 -- the half of a stream that is permitted or opened now
-abbrev pub fresh : Outgoing → ℕ → Send
-fresh u id = new_sender (first_limit u.side u.first id)
+abbrev pub fresh_sender : Outgoing → ℕ → Send
+fresh_sender u id = new_sender (first_limit u.side u.first id)
 
 -- the streams of a direction that this end may open
 abbrev pub own_of : Outgoing → Dir → Own
@@ -82,7 +82,7 @@ marked b s = record s { connection_blocked = b }
 
 -- a stream waits with this half, unless it does already
 abbrev pub waiting : Outgoing → ℕ → Send → Outgoing
-waiting u id s = if s.connection_blocked then with_stream u id (Some s) else record (with_stream u id (Some (marked true s))) { blocked = u.blocked ++ id ∷ [] }
+waiting u id s = if s.connection_blocked then with_send_half u id (Some s) else record (with_send_half u id (Some (marked true s))) { blocked = u.blocked ++ id ∷ [] }
 
 -- so many more bidirectional streams of the peer are permitted, from an index on
 abbrev pub with_more_streams : Outgoing → ℕ → ℕ → Outgoing

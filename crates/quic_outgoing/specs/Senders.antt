@@ -40,15 +40,15 @@ unfoldable pub with_sender : SendersById → ℕ → Option Send → SendersById
 with_sender f id o = λ q. if q == id then o else f q
 
 -- whether two ends are one
-abbrev pub is_same_end : Side → Side → Bool
-is_same_end Client Client = true
-is_same_end Client Server = false
-is_same_end Server Client = false
-is_same_end Server Server = true
+abbrev pub are_one_end : Side → Side → Bool
+are_one_end Client Client = true
+are_one_end Client Server = false
+are_one_end Server Client = false
+are_one_end Server Server = true
 
 -- whether an end opens the stream with this id itself
 abbrev pub is_local : Side → ℕ → Bool
-is_local side id = is_same_end side (initiator_of id)
+is_local side id = are_one_end side (initiator_of id)
 
 -- the limit that streams of a direction begin with, those of this end or those of its peer
 abbrev pub first_for : Bool → Dir → FirstLimits → ℕ

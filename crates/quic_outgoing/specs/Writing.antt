@@ -10,7 +10,7 @@ use Rattle.quic_sending.specs.Source.{Appends, rest_of}
 use Rattle.quic_retransmits.specs.Pending.{Pending}
 use Rattle.quic_retransmits.specs.Queueing.{with_id}
 use Rattle.quic_outgoing.specs.declared.writing.Wrote.{Wrote}
-use Rattle.quic_outgoing.specs.Outgoing.{Outgoing, with_stream, waiting, is_stuck}
+use Rattle.quic_outgoing.specs.Outgoing.{Outgoing, with_send_half, waiting, is_stuck}
 use Rattle.quic_outgoing.specs.Calls.{QueuesAt}
 
 -- why a write on a stream is refused, if it is: there is no such stream, or nothing may be written on any, or the half
@@ -31,7 +31,7 @@ is_limit_news s = not (is_limit s.max_data s.data_blocked_limit)
 abbrev pub after_blocked : Outgoing → ℕ → Option Send → Outgoing
 after_blocked u id None = u
 after_blocked u id (Some s) = if is_stuck u then record (waiting u id s) { budget = with_blocked u.budget }
-    else with_stream u id (Some (record s { data_blocked_limit = Some s.max_data }))
+    else with_send_half u id (Some (record s { data_blocked_limit = Some s.max_data }))
 
 -- and what is queued to tell the peer: DATA_BLOCKED once for each limit of the connection, or STREAM_DATA_BLOCKED once
 -- for each limit of the stream
@@ -52,7 +52,7 @@ pub record TakesBytesOf (u : Outgoing) (id : ℕ) (lists : List (List ℕ)) (wro
   pub appends : Appends (permitted half (writable u.budget)) lists half.pending after.pending
   pub others : after ≡ record half { pending = after.pending }
   pub rest : left ≡ rest_of (permitted half (writable u.budget)) lists
-  pub is : v ≡ record (with_stream u id (Some after)) { budget = with_written u.budget wrote.written.bytes }
+  pub is : v ≡ record (with_send_half u id (Some after)) { budget = with_written u.budget wrote.written.bytes }
 
 -- a write took nothing: why, and what that leaves
 abbrev pub RefusesWrite : Outgoing → ℕ → Pending → WriteError → Outgoing → Pending → Type 0
@@ -63,6 +63,6 @@ RefusesWrite u id p write_error.ClosedStream v q = (refusal_of_write u (u.halves
 RefusesWrite u id p write_error.OutOfMemory v q = (v ≡ u) × (q ≡ p)
 
 -- a write on a stream
-abbrev pub Writes : Outgoing → ℕ → List (List ℕ) → Pending → Result Wrote WriteError → Outgoing → List (List ℕ) → Pending → Type 0
-Writes u id lists p (Ok wrote) v left q = TakesBytesOf u id lists wrote left v × (q ≡ p)
-Writes u id lists p (Err e) v left q = (left ≡ lists) × RefusesWrite u id p e v q
+abbrev pub WritesOn : Outgoing → ℕ → List (List ℕ) → Pending → Result Wrote WriteError → Outgoing → List (List ℕ) → Pending → Type 0
+WritesOn u id lists p (Ok wrote) v left q = TakesBytesOf u id lists wrote left v × (q ≡ p)
+WritesOn u id lists p (Err e) v left q = (left ≡ lists) × RefusesWrite u id p e v q

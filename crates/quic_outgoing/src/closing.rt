@@ -1,8 +1,9 @@
 //! The end of a stream, and its priority.
 
 ghost use Rattle.std.specs.Prelude.{◌≡◌, ◌≤◌, ◌<◌};
+ghost use Rattle.quic_outgoing.specs.History.{Finished, Reset, SetPriority, Continues};
 ghost use Rattle.quic_retransmits.specs.Pending.{shown_pending};
-ghost use Rattle.quic_outgoing.specs.Calls.{QueuesAt, Finishes, Resets, SetsPriority, told_of_half};
+ghost use Rattle.quic_outgoing.specs.Calls.{QueuesAt, FinishesStream, ResetsStream, SetsPriority, told_of_half};
 ghost use Rattle.quic_outgoing.specs.Shown.{view_of, permit_room};
 
 use crate::outgoing::OutgoingStreams;
@@ -11,12 +12,13 @@ use quic_retransmits::Retransmits;
 use quic_sending::{ClosedStream, FinishError, Send};
 use quic_values::{StreamId, VarInt};
 
-#[tactic(auto, unfolding(crate::specs::Shown::view_of, crate::specs::Shown::permit_room), using(crate::proofs::SenderMaps::sender_steps))]
+#[tactic(auto, unfolding(crate::specs::Shown::view_of, crate::specs::Shown::permit_room), using(crate::proofs::SenderMaps::sender_steps, crate::proofs::Histories::continues))]
 impl OutgoingStreams {
     /// Ends a stream: its end is to be sent, and nothing more is written. Answers the priority at which it is to be
     /// queued, where nothing was to be sent on it before. If refused, all is as it was.
     pub fn finish(&mut self, id: StreamId) -> Result<Option<i32>, FinishError>
-        ensures { Finishes (view_of self.old) id result (view_of self.new) }
+        ensures finishes { FinishesStream (view_of self.old) id result (view_of self.new) }
+        ensures from { Continues (view_of self.old) (Finished id result) (view_of self.new) }
     {
         match self.halves.take(id) {
             Err(_) => Err(FinishError::OutOfMemory),
@@ -42,7 +44,20 @@ impl OutgoingStreams {
         id: StreamId,
         error_code: VarInt,
     ) -> Result<(), HandleError>
-        ensures { Resets (view_of self.old) id error_code (shown_pending pending.old) result (view_of self.new) (shown_pending pending.new) }
+        ensures resets { ResetsStream (view_of self.old) id error_code (shown_pending pending.old) result (view_of self.new) (shown_pending pending.new) }
+        ensures from { Continues (view_of self.old) (Reset id error_code result) (view_of self.new) }
+    {
+        self.give_up(pending, id, error_code)
+    }
+
+    // The same, each way out.
+    fn give_up(
+        &mut self,
+        pending: &mut Retransmits,
+        id: StreamId,
+        error_code: VarInt,
+    ) -> Result<(), HandleError>
+        ensures { ResetsStream (view_of self.old) id error_code (shown_pending pending.old) result (view_of self.new) (shown_pending pending.new) }
     {
         if pending.reserve_reset().is_err() {
             return Err(HandleError::OutOfMemory);
@@ -68,7 +83,8 @@ impl OutgoingStreams {
 
     /// Sets the priority at which a stream is queued from now on: a higher one is sent first.
     pub fn set_priority(&mut self, id: StreamId, priority: i32) -> Result<(), HandleError>
-        ensures { SetsPriority (view_of self.old) id priority result (view_of self.new) }
+        ensures sets { SetsPriority (view_of self.old) id priority result (view_of self.new) }
+        ensures from { Continues (view_of self.old) (SetPriority id priority result) (view_of self.new) }
     {
         match self.halves.take(id) {
             Err(_) => Err(HandleError::OutOfMemory),

@@ -2,7 +2,7 @@
 
 ghost use Rattle.std.specs.Prelude.{◌≡◌, ◌⊎◌, ◌+◌, ◌<◌, ◌≤◌, ◌^◌, Some, None, IfOk, IfSome, IfNone, OnSome, OnOk, OnErr, is_some, true, false, max};
 ghost use Rattle.std.specs.Option.{option_map};
-ghost use Rattle.quic_outgoing.specs.Senders.{bare, raised, new_sender, with_sender, with_first_of_peer, first_limit, first_for, is_same_end, is_local, no_limits, joined, raised_by};
+ghost use Rattle.quic_outgoing.specs.Senders.{bare, raised, new_sender, with_sender, with_first_of_peer, first_limit, first_for, are_one_end, is_local, no_limits, joined, raised_by};
 ghost use Rattle.quic_outgoing.specs.Calls.{told_of_half, blocked_limit, can_take, unmarked};
 ghost use Rattle.quic_outgoing.specs.Seen.{senders, sender_room};
 
@@ -106,7 +106,7 @@ impl SendEntries {
     pub(crate) fn is_local(&self, id: StreamId) -> bool
         ensures { result ≡ is_local self.now.side id }
     {
-        is_same_end(self.side, id.initiator())
+        are_one_end(self.side, id.initiator())
     }
 
     /// Makes room for so many more.
@@ -320,8 +320,8 @@ impl SendEntries {
 }
 
 // Whether two ends are one.
-fn is_same_end(a: Side, b: Side) -> bool
-    ensures { result ≡ is_same_end a b }
+fn are_one_end(a: Side, b: Side) -> bool
+    ensures { result ≡ are_one_end a b }
 {
     match (a, b) {
         (Side::Client, Side::Client) => true,

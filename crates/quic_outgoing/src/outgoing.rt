@@ -1,11 +1,12 @@
 //! The streams on which one end of a connection sends.
 
-ghost use Rattle.std.specs.Prelude.{◌≡◌, ◌+◌, ◌<◌, ◌≤◌, ◌^◌, ◌⊎◌, ◌↔◌, Some, None, OnOk, OnErr, is_some, nat_le};
+ghost use Rattle.std.specs.Prelude.{[], ◌≡◌, ◌+◌, ◌<◌, ◌≤◌, ◌^◌, ◌⊎◌, ◌↔◌, Some, None, OnOk, OnErr, is_some, nat_le};
 ghost use Rattle.quic_limits.specs.SendingCredit.{writable, with_limit, with_window, is_blocked_reported};
 ghost use Rattle.quic_outgoing.specs.Senders.{new_sender, with_first_of_peer};
 ghost use Rattle.quic_values.specs.Ids.{dir_of, index_of};
-ghost use Rattle.quic_outgoing.specs.Outgoing.{no_streams, with_stream, fresh, own_of, with_params};
-ghost use Rattle.quic_outgoing.specs.Calls.{Opens, RaisesStreams, told_of_half, blocked_limit};
+ghost use Rattle.quic_outgoing.specs.Outgoing.{no_streams, with_send_half, fresh_sender, own_of, with_params};
+ghost use Rattle.quic_outgoing.specs.Calls.{OpensStream, RaisesStreams, told_of_half, blocked_limit};
+ghost use Rattle.quic_outgoing.specs.History.{Permitted, PermittedFirst, Removed, GaveParams, Opened, GaveData, GaveStreams, SetWindow, ComesFrom, Continues};
 ghost use Rattle.quic_outgoing.specs.Shown.{view_of, permit_room};
 
 use crate::entries::{FirstLimits, SendEntries};
@@ -30,12 +31,13 @@ pub struct OutgoingStreams {
     pub(crate) blocked: Vec<StreamId>,
 }
 
-#[tactic(auto, unfolding(crate::specs::Shown::view_of, crate::specs::Shown::permit_room), using(crate::proofs::SenderMaps::sender_steps))]
+#[tactic(auto, unfolding(crate::specs::Shown::view_of, crate::specs::Shown::permit_room), using(crate::proofs::SenderMaps::sender_steps, crate::proofs::Histories::continues, crate::proofs::Histories::starts))]
 impl OutgoingStreams {
     /// No streams. Nothing may be sent until the peer gives limits. At most `send_window` written bytes are to be
     /// retained. Takes no memory.
     pub fn new(alloc: Global, side: Side, send_window: u64) -> Self
-        ensures { view_of result ≡ no_streams side send_window }
+        ensures none { view_of result ≡ no_streams side send_window }
+        ensures from { ComesFrom side send_window [] (view_of result) }
     {
         OutgoingStreams {
             own_bi: OwnStreams::new(),
@@ -58,8 +60,9 @@ impl OutgoingStreams {
     /// The peer may open a stream, for which room was made. Its half takes no memory until it is used.
     pub fn permit(&mut self, id: StreamId)
         requires { 0 < permit_room self.old }
-        ensures permitted { view_of self.new ≡ with_stream (view_of self.old) id (Some (fresh (view_of self.old) id)) }
+        ensures permitted { view_of self.new ≡ with_send_half (view_of self.old) id (Some (fresh_sender (view_of self.old) id)) }
         ensures room { permit_room self.old ≤ permit_room self.new + 1 }
+        ensures from { Continues (view_of self.old) (Permitted id) (view_of self.new) }
     {
         self.halves.permit(id);
     }
@@ -70,6 +73,7 @@ impl OutgoingStreams {
         requires { count ≤ 2 ^ 60 }
         ensures ok { OnOk result (view_of self.new ≡ record (view_of self.old) { halves = with_first_of_peer (view_of self.old).halves (view_of self.old).side count (new_sender (view_of self.old).first.peer_bi) }) }
         ensures err { OnErr result (view_of self.new ≡ view_of self.old) }
+        ensures from { Continues (view_of self.old) (PermittedFirst count result) (view_of self.new) }
     {
         self.halves.permit_first(count)
     }
@@ -83,7 +87,8 @@ impl OutgoingStreams {
 
     /// Lets the send half of a stream go: it is sent on no more.
     pub fn remove(&mut self, id: StreamId)
-        ensures removed { view_of self.new ≡ with_stream (view_of self.old) id None }
+        ensures removed { view_of self.new ≡ with_send_half (view_of self.old) id None }
+        ensures from { Continues (view_of self.old) (Removed id) (view_of self.new) }
         ensures room { permit_room self.old ≤ permit_room self.new }
     {
         self.halves.remove(id);
@@ -93,7 +98,8 @@ impl OutgoingStreams {
     /// held: of both counts of streams, of the data of the connection, and of each stream, whether it is open, permitted
     /// or comes later. However many streams are held, this takes the same time.
     pub fn set_params(&mut self, params: &PeerLimits)
-        ensures { view_of self.new ≡ with_params (view_of self.old) params.now }
+        ensures params { view_of self.new ≡ with_params (view_of self.old) params.now }
+        ensures from { Continues (view_of self.old) (GaveParams params.now) (view_of self.new) }
     {
         let _ = self
             .own_bi
@@ -112,7 +118,8 @@ impl OutgoingStreams {
     /// Opens the next stream of a direction. `None`: as many were opened as the peer permits (RFC 9000 section 4.6). If
     /// refused, nothing is opened.
     pub fn open(&mut self, dir: Dir) -> Result<Option<StreamId>, OutOfMemory>
-        ensures { Opens (view_of self.old) dir result (view_of self.new) }
+        ensures opens { OpensStream (view_of self.old) dir result (view_of self.new) }
+        ensures from { Continues (view_of self.old) (Opened dir result) (view_of self.new) }
     {
         if self.opened(dir) >= self.max_streams(dir) {
             return Ok(None);
@@ -161,7 +168,8 @@ impl OutgoingStreams {
 
     /// The peer sent MAX_DATA (RFC 9000 section 19.9). A limit does not fall.
     pub fn raise_data(&mut self, limit: VarInt)
-        ensures { view_of self.new ≡ record (view_of self.old) { budget = with_limit (view_of self.old).budget limit } }
+        ensures limit { view_of self.new ≡ record (view_of self.old) { budget = with_limit (view_of self.old).budget limit } }
+        ensures from { Continues (view_of self.old) (GaveData limit) (view_of self.new) }
     {
         let _ = self.budget.raise(limit);
     }
@@ -169,7 +177,8 @@ impl OutgoingStreams {
     /// The peer sent MAX_STREAMS (RFC 9000 section 19.11). Answers whether more streams may be opened than before. A
     /// count above 2^60 is a FRAME_ENCODING_ERROR.
     pub fn raise_streams(&mut self, dir: Dir, count: u64) -> Result<bool, TransportError>
-        ensures { RaisesStreams (view_of self.old) dir count result (view_of self.new) }
+        ensures raises { RaisesStreams (view_of self.old) dir count result (view_of self.new) }
+        ensures from { Continues (view_of self.old) (GaveStreams dir count result) (view_of self.new) }
     {
         if count > MAX_STREAM_COUNT {
             return Err(TransportError::frame_encoding_error("unrepresentable stream limit"));
@@ -191,7 +200,8 @@ impl OutgoingStreams {
 
     /// Sets how many written bytes may be retained.
     pub fn set_send_window(&mut self, send_window: u64)
-        ensures { view_of self.new ≡ record (view_of self.old) { budget = with_window (view_of self.old).budget send_window } }
+        ensures window { view_of self.new ≡ record (view_of self.old) { budget = with_window (view_of self.old).budget send_window } }
+        ensures from { Continues (view_of self.old) (SetWindow send_window) (view_of self.new) }
     {
         self.budget.set_send_window(send_window);
     }

@@ -3,20 +3,22 @@
 ghost use Rattle.std.specs.Prelude.{◌≡◌, ◌≤◌, ◌<◌, is_some, true, vec_len};
 ghost use Rattle.std.specs.Vec.{vec_capacity};
 ghost use Rattle.quic_outgoing.specs.Senders.{bare, first_limit};
-ghost use Rattle.quic_outgoing.specs.Outgoing.{with_stream, waiting};
+ghost use Rattle.quic_outgoing.specs.Outgoing.{with_send_half, waiting};
 ghost use Rattle.quic_outgoing.specs.Calls.{RaisesStream, StopsSending, told_of_half, blocked_limit};
+ghost use Rattle.quic_outgoing.specs.History.{WasStopped, GaveStream, Continues};
 ghost use Rattle.quic_outgoing.specs.Shown.{view_of, permit_room};
 
 use crate::outgoing::OutgoingStreams;
 use quic_sending::{ClosedStream, Send};
 use quic_values::{OutOfMemory, StreamId, VarInt};
 
-#[tactic(auto, unfolding(crate::specs::Shown::view_of, crate::specs::Shown::permit_room), using(crate::proofs::SenderMaps::sender_steps))]
+#[tactic(auto, unfolding(crate::specs::Shown::view_of, crate::specs::Shown::permit_room), using(crate::proofs::SenderMaps::sender_steps, crate::proofs::Histories::continues))]
 impl OutgoingStreams {
     /// The peer sent STOP_SENDING (RFC 9000 section 19.5). Answers whether it is the first on a stream that is held, of
     /// which the application is to be told.
     pub fn stop(&mut self, id: StreamId, error_code: VarInt) -> Result<bool, OutOfMemory>
-        ensures { StopsSending (view_of self.old) id error_code result (view_of self.new) }
+        ensures stops { StopsSending (view_of self.old) id error_code result (view_of self.new) }
+        ensures from { Continues (view_of self.old) (WasStopped id error_code result) (view_of self.new) }
     {
         match self.halves.take(id) {
             Err(_) => Err(OutOfMemory),
@@ -49,6 +51,14 @@ impl OutgoingStreams {
     /// that it may write there: where the stream was written up to its limit, and the connection leaves room. Where it
     /// leaves none, the stream waits for it.
     pub fn raise_stream(&mut self, id: StreamId, offset: u64) -> Result<bool, OutOfMemory>
+        ensures raises { RaisesStream (view_of self.old) id offset result (view_of self.new) }
+        ensures from { Continues (view_of self.old) (GaveStream id offset result) (view_of self.new) }
+    {
+        self.give_limit(id, offset)
+    }
+
+    // The same, each way out.
+    fn give_limit(&mut self, id: StreamId, offset: u64) -> Result<bool, OutOfMemory>
         ensures { RaisesStream (view_of self.old) id offset result (view_of self.new) }
     {
         self.blocked.reserve(1)?;

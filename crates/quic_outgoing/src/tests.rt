@@ -7,8 +7,8 @@ mod worked;
 use crate::{OutgoingStreams, PeerLimits};
 use quic_receiving::HandleError;
 use quic_retransmits::Retransmits;
-use quic_sending::{ByteSlice, FinishError, WriteError};
-use quic_values::{Dir, Side, StreamId, VarInt};
+use quic_sending::{ByteSlice, BytesArray, FinishError, WriteError, Written};
+use quic_values::{Bytes, Dir, Side, StreamId, VarInt};
 use std::alloc::Global;
 use std::process::Abort;
 
@@ -107,12 +107,34 @@ fn write_bytes(alloc: Global, subject: &mut Subject, stream: StreamId, bytes: &[
     }
 }
 
+fn write_chunks(
+    alloc: Global,
+    subject: &mut Subject,
+    stream: StreamId,
+    chunks: &mut [Bytes],
+) -> Written {
+    let mut source = BytesArray::from_chunks(alloc, chunks);
+    match subject
+        .state
+        .write(&mut subject.pending, stream, &mut source)
+    {
+        Ok(wrote) => wrote.written,
+        Err(_) => Written::default(),
+    }
+}
+
 fn finish(subject: &mut Subject, stream: StreamId) -> Answer {
     match subject.state.finish(stream) {
         Ok(queue_at) => Answer::Done(queue_at.is_some()),
-        Err(FinishError::Stopped(code)) => Answer::Stopped(code.into_inner()),
-        Err(FinishError::ClosedStream) => Answer::Closed,
-        Err(FinishError::OutOfMemory) => Answer::NoMemory,
+        Err(error) => not_finished(error),
+    }
+}
+
+fn not_finished(error: FinishError) -> Answer {
+    match error {
+        FinishError::Stopped(code) => Answer::Stopped(code.into_inner()),
+        FinishError::ClosedStream => Answer::Closed,
+        FinishError::OutOfMemory => Answer::NoMemory,
     }
 }
 

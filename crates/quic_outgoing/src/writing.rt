@@ -5,8 +5,9 @@ ghost use Rattle.quic_limits.specs.SendingCredit.{writable};
 ghost use Rattle.quic_sending.specs.Sending.{write_refusal, IsWriteRefusal};
 ghost use Rattle.quic_retransmits.specs.Pending.{shown_pending};
 ghost use Rattle.quic_outgoing.specs.Senders.{bare, first_limit};
-ghost use Rattle.quic_outgoing.specs.Outgoing.{is_stuck, with_stream};
-ghost use Rattle.quic_outgoing.specs.Writing.{Writes, RefusesWrite};
+ghost use Rattle.quic_outgoing.specs.Outgoing.{is_stuck, with_send_half};
+ghost use Rattle.quic_outgoing.specs.Writing.{WritesOn, RefusesWrite};
+ghost use Rattle.quic_outgoing.specs.History.{Writing, Continues};
 ghost use Rattle.quic_outgoing.specs.Shown.{view_of, permit_room};
 
 use crate::closing::queue_at;
@@ -40,7 +41,20 @@ impl OutgoingStreams {
         id: StreamId,
         source: &mut S,
     ) -> Result<Wrote, WriteError>
-        ensures { Writes (view_of self.old) id (S.lists source.old) (shown_pending pending.old) result (view_of self.new) (S.lists source.new) (shown_pending pending.new) }
+        ensures writes { WritesOn (view_of self.old) id (S.lists source.old) (shown_pending pending.old) result (view_of self.new) (S.lists source.new) (shown_pending pending.new) }
+        ensures from { Continues (view_of self.old) (Writing id (S.lists source.old) result) (view_of self.new) }
+    {
+        self.write_source(pending, id, source)
+    }
+
+    // The same, each way out.
+    fn write_source<S: BytesSource>(
+        &mut self,
+        pending: &mut Retransmits,
+        id: StreamId,
+        source: &mut S,
+    ) -> Result<Wrote, WriteError>
+        ensures { WritesOn (view_of self.old) id (S.lists source.old) (shown_pending pending.old) result (view_of self.new) (S.lists source.new) (shown_pending pending.new) }
     {
         let limit = self.write_limit();
         if limit == 0 {
@@ -85,7 +99,7 @@ impl OutgoingStreams {
         requires held { first_limit (view_of self.old).side (view_of self.old).first id ≤ half.value.max_data }
         requires limit { limit ≡ writable (view_of self.old).budget }
         requires some { is_stuck (view_of self.old) ≡ false }
-        ensures { Writes (with_stream (view_of self.old) id (Some (bare half.value))) id (S.lists source.old) (shown_pending pending.old) result (view_of self.new) (S.lists source.new) (shown_pending pending.new) }
+        ensures { WritesOn (with_send_half (view_of self.old) id (Some (bare half.value))) id (S.lists source.old) (shown_pending pending.old) result (view_of self.new) (S.lists source.new) (shown_pending pending.new) }
     {
         let mut half = half;
         let queue_at = queue_at(&half);
@@ -111,7 +125,7 @@ impl OutgoingStreams {
         requires held { first_limit (view_of self.old).side (view_of self.old).first id ≤ half.value.max_data }
         requires some { is_stuck (view_of self.old) ≡ false }
         requires refused { IsWriteRefusal half.value error }
-        ensures { RefusesWrite (with_stream (view_of self.old) id (Some (bare half.value))) id (shown_pending pending.old) result (view_of self.new) (shown_pending pending.new) }
+        ensures { RefusesWrite (with_send_half (view_of self.old) id (Some (bare half.value))) id (shown_pending pending.old) result (view_of self.new) (shown_pending pending.new) }
     {
         if matches!(error, WriteError::Blocked) {
             return self.block(pending, id, half);
@@ -126,7 +140,7 @@ impl OutgoingStreams {
         requires held { first_limit (view_of self.old).side (view_of self.old).first id ≤ half.value.max_data }
         requires some { is_stuck (view_of self.old) ≡ false }
         requires blocked { write_refusal half.value ≡ Some WriteError.Blocked }
-        ensures { RefusesWrite (with_stream (view_of self.old) id (Some (bare half.value))) id (shown_pending pending.old) result (view_of self.new) (shown_pending pending.new) }
+        ensures { RefusesWrite (with_send_half (view_of self.old) id (Some (bare half.value))) id (shown_pending pending.old) result (view_of self.new) (shown_pending pending.new) }
     {
         let mut half = half;
         let limit = half.max_data.into_inner();

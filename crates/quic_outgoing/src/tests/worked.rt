@@ -1,7 +1,9 @@
 // Rows of calls with their answers.
-use super::{Answer, Step, end, run};
-use quic_values::{Dir, Side};
+use super::{Answer, Step, end, id, run, write_chunks};
+use quic_sending::Written;
+use quic_values::{Bytes, Dir, Side};
 use std::rt::HostRuntime;
+use std::test::Fail;
 
 #[test]
 fn streams_are_opened_up_to_the_count(rt: HostRuntime) {
@@ -199,4 +201,28 @@ fn ends_priorities_and_removed_streams(rt: HostRuntime) {
             Step::Reset(4, 1, Answer::Closed),
         ],
     );
+}
+
+#[test]
+fn chunks_are_taken_whole(rt: HostRuntime) -> Result<(), Fail> {
+    let alloc = rt.alloc();
+    let mut subject = end(alloc, Side::Client, 1, 100, 7);
+    run(&rt, alloc, &mut subject, &[Step::Open(Dir::Uni, Some(2))]);
+    let mut chunks = Vec::new(alloc);
+    for text in [b"".as_slice(), b"Hello ".as_slice(), b"Wo".as_slice()] {
+        chunks.push(Bytes::copy_from_slice(alloc, text)?)?;
+    }
+    let written = write_chunks(alloc, &mut subject, id(2), chunks.as_mut_slice());
+    let expected = Written {
+        bytes: 7,
+        chunks: 2,
+    };
+    assert_eq!(&rt; written, expected);
+    let mut left = Vec::new(alloc);
+    for chunk in &chunks {
+        left.extend_from_slice(chunk.as_slice())?;
+        left.push(b'/')?;
+    }
+    assert_eq!(&rt; left.as_slice(), b"//o/".as_slice());
+    Ok(())
 }

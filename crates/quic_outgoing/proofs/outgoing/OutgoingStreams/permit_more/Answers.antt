@@ -1,7 +1,7 @@
 use Rattle.std.proofs.Common.{◌≡◌, ℕ, sym, ap, ◌∙◌, arith, Some, ◌+◌}
 use Rattle.quic_values.specs.declared.ids.Dir.TheVariants.{Bi}
 use Rattle.quic_values.specs.Ids.{stream_id, other_side}
-use Rattle.quic_outgoing.specs.Outgoing.{Outgoing, with_stream, with_more_streams, fresh}
+use Rattle.quic_outgoing.specs.Outgoing.{Outgoing, with_send_half, with_more_streams, fresh_sender}
 use Rattle.quic_outgoing.specs.Shown.{view_of}
 use Rattle.quic_outgoing.proofs.PeerStreams.{more-none, more-one}
 use Rattle.quic_outgoing.proofs.outgoing.OutgoingStreams.permit_more.Goals as goal
@@ -21,7 +21,7 @@ loop-offset-preserved c =
     let u = view_of c.args.self.now in
     let n = c.loop-offset.offset in
     let id = stream_id (other_side u.side) Bi (c.args.first + n) in
-    let put : Outgoing → ℕ → Outgoing = λ w q. with_stream w q (Some (fresh w q)) in
+    let put : Outgoing → ℕ → Outgoing = λ w q. with_send_half w q (Some (fresh_sender w q)) in
     record {
       streams = c.permit.ensures.permitted ∙ ap (λ q. put (view_of c.loop-offset.self) q) (c.new.ensures.number ∙ ap (λ k. stream_id k Bi (c.args.first + n)) (initiator c))
           ∙ ap (λ w. put w id) c.loop-offset.invariant.streams ∙ more-one u c.args.first n;

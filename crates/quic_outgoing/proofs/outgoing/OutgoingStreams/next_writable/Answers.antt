@@ -5,7 +5,7 @@ use Rattle.quic_outgoing.specs.Shown.{view_of}
 use Rattle.quic_outgoing.specs.Seen.{senders}
 use Rattle.quic_outgoing.specs.Calls.{can_take, unmarked}
 use Rattle.quic_outgoing.proofs.Marks.{marks-none, marks-more, can_take-marks, all-none}
-use Rattle.quic_outgoing.proofs.outgoing.OutgoingStreams.poll_writable.Goals as goal
+use Rattle.quic_outgoing.proofs.outgoing.OutgoingStreams.next_writable.Goals as goal
 
 pub loop-id-init : goal.loop-id-init
 loop-id-init c = ([], sym (append-nil c.args.self.now.blocked.items), all-none _, marks-none (senders c.args.self.now.halves), refl, refl, refl, refl, refl)

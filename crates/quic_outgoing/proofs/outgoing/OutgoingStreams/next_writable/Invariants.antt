@@ -2,7 +2,7 @@ use Rattle.std.proofs.Common.{◌≡◌, ℕ, List, ◌++◌, false}
 use Rattle.std.specs.Prelude.{All}
 use Rattle.quic_outgoing.specs.Seen.{senders}
 use Rattle.quic_outgoing.specs.Calls.{can_take, without_marks}
-use Rattle.quic_outgoing.proofs.outgoing.OutgoingStreams.poll_writable.Given as goal
+use Rattle.quic_outgoing.proofs.outgoing.OutgoingStreams.next_writable.Given as goal
 
 abbrev pub invariant-loop-id : goal.invariant-loop-id
 invariant-loop-id l = (passed : List ℕ) × (l.fn.self.blocked.items ≡ l.self.blocked.items ++ passed)
