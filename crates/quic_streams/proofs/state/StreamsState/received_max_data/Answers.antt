@@ -12,4 +12,4 @@ unfolding shown
 returns-clause-from c = λ m h f.
     let u = shown c.args.self.now in
     let v = with_out u (view_of c.raise_data.new.self) in
-    next m h u (Sending (RaisedData c.args.limit)) v tt f (ap (with_out u) c.raise_data.ensures)
+    next m h u (Sending (RaisedData c.args.limit)) v tt f (ap (with_out u) c.raise_data.ensures.limit)

@@ -12,4 +12,4 @@ unfolding shown
 returns-clause-from c = λ m h f.
     let u = shown c.args.self.now in
     let v = with_out u (view_of c.set_params.new.self) in
-    next m h u (Sending (GaveLimits c.args.params.now)) v tt f (ap (with_out u) c.set_params.ensures)
+    next m h u (Sending (GaveLimits c.args.params.now)) v tt f (ap (with_out u) c.set_params.ensures.params)

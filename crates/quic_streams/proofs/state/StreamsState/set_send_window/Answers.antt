@@ -12,4 +12,4 @@ unfolding shown
 returns-clause-from c = λ m h f.
     let u = shown c.args.self.now in
     let v = with_out u (view_of c.set_send_window.new.self) in
-    next m h u (Sending (SetWindow c.args.send_window)) v tt f (ap (with_out u) c.set_send_window.ensures)
+    next m h u (Sending (SetWindow c.args.send_window)) v tt f (ap (with_out u) c.set_send_window.ensures.window)
