@@ -276,3 +276,35 @@ fn lists_of_the_same_bytes_differ_where_they_are_parted(rt: HostRuntime) -> Resu
     );
     Ok(())
 }
+
+// A list of so many chunks, of no, one and two bytes in turn, and the bytes of all of them.
+fn in_turn(alloc: Global, count: usize) -> Result<(ChunkList, Vec<u8>), OutOfMemory> {
+    let mut list = ChunkList::new(alloc);
+    let mut content = Vec::new(alloc);
+    for number in 0..count {
+        let chunk = seeded(alloc, number % 3)?;
+        list.push(&chunk)?;
+        content.extend_from_slice(&chunk)?;
+    }
+    Ok((list, content))
+}
+
+#[test]
+fn no_number_of_chunks_is_refused(rt: HostRuntime) -> Result<(), Fail> {
+    for power in 0..17u32 {
+        let middle = 1usize << power;
+        for count in [middle.saturating_sub(1), middle, middle.saturating_add(1)] {
+            let (list, content) = in_turn(rt.alloc(), count)?;
+            let mut joined = Vec::new(rt.alloc());
+            for index in 0..count {
+                match list.get(index) {
+                    Some(chunk) => joined.extend_from_slice(chunk)?,
+                    None => panic!(rt; "no chunk {index} of {count}"),
+                }
+            }
+            assert_eq!(rt; list.len(), count);
+            assert!(rt; joined.as_slice() == content.as_slice(), "{count} chunks");
+        }
+    }
+    Ok(())
+}
