@@ -77,11 +77,6 @@ fn drop_oversized(state: &mut DatagramState, limits: DatagramLimits) -> bool {
     Datagrams::new(state, limits).drop_oversized()
 }
 
-// What those received and those that wait to be sent count.
-fn used(state: &DatagramState) -> (usize, usize) {
-    (state.incoming.memory_used(), state.outgoing.memory_used())
-}
-
 // The first byte and the length of each received datagram, the oldest first.
 fn shows_received(rt: &impl Abort, state: &mut DatagramState, wanted: &[(u8, usize)]) {
     for (value, len) in wanted {
@@ -102,52 +97,124 @@ fn code_of(refused: Result<bool, ReceiveError>) -> Option<u64> {
     }
 }
 
+// Queues a datagram that no limit keeps out.
+fn is_queued(
+    rt: &impl Abort,
+    state: &mut DatagramState,
+    limits: DatagramLimits,
+    bytes: Bytes,
+    drop: bool,
+) {
+    assert_eq!(rt; send(state, limits, bytes, drop), None);
+}
+
+fn is_refused(
+    rt: &impl Abort,
+    state: &mut DatagramState,
+    limits: DatagramLimits,
+    bytes: Bytes,
+    drop: bool,
+    wanted: SendDatagramError,
+) {
+    assert_eq!(rt; send(state, limits, bytes, drop), Some(wanted));
+}
+
+// A datagram for which there is no room is given back.
+fn is_blocked(
+    rt: &impl Abort,
+    state: &mut DatagramState,
+    limits: DatagramLimits,
+    bytes: Bytes,
+) -> Result<(), OutOfMemory> {
+    let wanted = SendDatagramError::Blocked(bytes.try_clone()?);
+    is_refused(rt, state, limits, bytes, false, wanted);
+    assert!(rt; state.send_blocked);
+    Ok(())
+}
+
+fn has_space(rt: &impl Abort, state: &mut DatagramState, limits: DatagramLimits, wanted: usize) {
+    assert_eq!(rt; space(state, limits), wanted);
+}
+
+// What those received and those that wait to be sent count.
+fn holds(rt: &impl Abort, state: &DatagramState, incoming: usize, outgoing: usize) {
+    assert_eq!(rt; state.incoming.memory_used(), incoming);
+    assert_eq!(rt; state.outgoing.memory_used(), outgoing);
+}
+
+fn is_received(
+    rt: &impl Abort,
+    state: &mut DatagramState,
+    datagram: Datagram,
+    window: Option<usize>,
+    was_empty: bool,
+) {
+    assert_eq!(rt; receive(state, datagram, window), Ok(was_empty));
+}
+
+fn is_violation(
+    rt: &impl Abort,
+    state: &mut DatagramState,
+    datagram: Datagram,
+    window: Option<usize>,
+) {
+    let code = code_of(receive(state, datagram, window));
+    assert_eq!(rt; code, Some(TransportError::PROTOCOL_VIOLATION));
+}
+
+// Whether the oldest datagram is written, and all that was written with it.
+fn is_written(
+    rt: &impl Abort,
+    state: &mut DatagramState,
+    buf: &mut Vec<u8>,
+    max_size: usize,
+    wanted: &[u8],
+) -> Result<(), OutOfMemory> {
+    let wrote = write(state, buf, max_size)?;
+    assert_eq!(rt; wrote, !wanted.is_empty());
+    if wrote {
+        assert_eq!(rt; buf.as_slice(), wanted);
+    }
+    Ok(())
+}
+
+fn drops_oversized(
+    rt: &impl Abort,
+    state: &mut DatagramState,
+    limits: DatagramLimits,
+    wanted: bool,
+) {
+    assert_eq!(rt; drop_oversized(state, limits), wanted);
+}
+
 #[test]
 fn oldest_received_go_first(rt: HostRuntime) -> Result<(), Fail> {
     let alloc = rt.alloc();
     let mut state = DatagramState::new(alloc);
     let window = Some(64);
-    let long = receive(&mut state, datagram(alloc, 33, 1)?, window);
-    assert_eq!(rt; code_of(long), Some(TransportError::PROTOCOL_VIOLATION));
-    assert_eq!(rt; receive(&mut state, datagram(alloc, 10, 2)?, window)?, true);
-    assert_eq!(rt;
-        receive(&mut state, datagram(alloc, 10, 3)?, window)?,
-        false
-    );
-    assert_eq!(rt; used(&state).0, 42);
+    is_violation(&rt, &mut state, datagram(alloc, 33, 1)?, window);
+    is_received(&rt, &mut state, datagram(alloc, 10, 2)?, window, true);
+    is_received(&rt, &mut state, datagram(alloc, 10, 3)?, window, false);
+    holds(&rt, &state, 42, 0);
     shows_received(&rt, &mut state, &[(3, 10)]);
     Ok(())
 }
 
+// An empty datagram counts 32.
 #[test]
 fn received_at_the_edge_of_the_window(rt: HostRuntime) -> Result<(), Fail> {
-    let alloc = rt.alloc();
-    let violation = Some(TransportError::PROTOCOL_VIOLATION);
-    let mut state = DatagramState::new(alloc);
-    assert_eq!(rt;
-        code_of(receive(&mut state, datagram(alloc, 0, 0)?, Some(31))),
-        violation
-    );
-    assert_eq!(rt;
-        code_of(receive(&mut state, datagram(alloc, 0, 0)?, None)),
-        violation
-    );
+    let mut state = DatagramState::new(rt.alloc());
+    for window in [Some(31), None] {
+        is_violation(&rt, &mut state, datagram(rt.alloc(), 0, 0)?, window);
+    }
     assert!(rt; state.incoming.is_empty());
-    assert_eq!(rt;
-        receive(&mut state, datagram(alloc, 0, 0)?, Some(32))?,
-        true
-    );
-    assert_eq!(rt;
-        receive(&mut state, datagram(alloc, 0, 0)?, Some(32))?,
-        false
-    );
-    assert_eq!(rt; used(&state).0, 32);
-    assert_eq!(rt;
-        Datagrams::new(&mut state, LIMITS)
-            .recv()
-            .map(|bytes| bytes.len()),
-        Some(0)
-    );
+    for was_empty in [true, false] {
+        let empty = datagram(rt.alloc(), 0, 0)?;
+        is_received(&rt, &mut state, empty, Some(32), was_empty);
+    }
+    holds(&rt, &state, 32, 0);
+    let oldest = Datagrams::new(&mut state, LIMITS).recv();
+    assert_eq!(rt; oldest.map(|bytes| bytes.len()), Some(0));
     assert_eq!(rt; recv(&mut state), None);
     Ok(())
 }
@@ -157,29 +224,23 @@ fn send_under_limits(rt: HostRuntime) -> Result<(), Fail> {
     let alloc = rt.alloc();
     let mut state = DatagramState::new(alloc);
     assert_eq!(rt; Datagrams::new(&mut state, LIMITS).max_size(), Some(40));
-    assert_eq!(rt; space(&mut state, LIMITS), 32);
-    let too_large = send(&mut state, LIMITS, bytes(alloc, 33, 1)?, false);
-    assert_eq!(rt; too_large, Some(SendDatagramError::TooLarge));
-    assert_eq!(rt; send(&mut state, LIMITS, bytes(alloc, 32, 2)?, false), None);
-    assert_eq!(rt; space(&mut state, LIMITS), 0);
-    let blocked = send(&mut state, LIMITS, bytes(alloc, 1, 3)?, false);
-    assert_eq!(rt;
-        blocked,
-        Some(SendDatagramError::Blocked(bytes(alloc, 1, 3)?))
-    );
-    assert!(rt; state.send_blocked);
-    assert_eq!(rt; send(&mut state, LIMITS, bytes(alloc, 1, 4)?, true), None);
-    assert_eq!(rt; used(&state).1, 33);
-    let mut buf = Vec::new(alloc);
-    assert!(rt; write(&mut state, &mut buf, 100)?);
-    assert_eq!(rt; buf.as_slice(), [0x31, 1, 4].as_slice());
+    has_space(&rt, &mut state, LIMITS, 32);
+    let long = bytes(alloc, 33, 1)?;
+    let too_large = SendDatagramError::TooLarge;
+    is_refused(&rt, &mut state, LIMITS, long, false, too_large);
+    is_queued(&rt, &mut state, LIMITS, bytes(alloc, 32, 2)?, false);
+    has_space(&rt, &mut state, LIMITS, 0);
+    is_blocked(&rt, &mut state, LIMITS, bytes(alloc, 1, 3)?)?;
+    is_queued(&rt, &mut state, LIMITS, bytes(alloc, 1, 4)?, true);
+    holds(&rt, &state, 0, 33);
+    is_written(&rt, &mut state, &mut Vec::new(alloc), 100, &[0x31, 1, 4])?;
     Ok(())
 }
 
+// What keeps every datagram out, of no bytes too.
 #[test]
-fn send_at_the_edge_of_the_buffer(rt: HostRuntime) -> Result<(), Fail> {
-    let alloc = rt.alloc();
-    let mut state = DatagramState::new(alloc);
+fn limits_that_refuse_all(rt: HostRuntime) -> Result<(), Fail> {
+    let mut state = DatagramState::new(rt.alloc());
     let off = DatagramLimits {
         receive: None,
         max: None,
@@ -190,22 +251,25 @@ fn send_at_the_edge_of_the_buffer(rt: HostRuntime) -> Result<(), Fail> {
         ..LIMITS
     };
     let short = DatagramLimits { send: 31, ..LIMITS };
+    for (limits, wanted) in [
+        (off, SendDatagramError::Disabled),
+        (off_there, SendDatagramError::UnsupportedByPeer),
+        (short, SendDatagramError::TooLarge),
+    ] {
+        let empty = Bytes::new(rt.alloc());
+        is_refused(&rt, &mut state, limits, empty, true, wanted);
+    }
+    Ok(())
+}
+
+#[test]
+fn send_at_the_edge_of_the_buffer(rt: HostRuntime) -> Result<(), Fail> {
+    let mut state = DatagramState::new(rt.alloc());
     let enough = DatagramLimits { send: 32, ..LIMITS };
-    let disabled = send(&mut state, off, Bytes::new(alloc), true);
-    assert_eq!(rt; disabled, Some(SendDatagramError::Disabled));
-    let unsupported = send(&mut state, off_there, Bytes::new(alloc), true);
-    assert_eq!(rt; unsupported, Some(SendDatagramError::UnsupportedByPeer));
-    let too_large = send(&mut state, short, Bytes::new(alloc), true);
-    assert_eq!(rt; too_large, Some(SendDatagramError::TooLarge));
-    assert_eq!(rt; send(&mut state, enough, Bytes::new(alloc), false), None);
-    assert_eq!(rt; space(&mut state, enough), 0);
+    is_queued(&rt, &mut state, enough, Bytes::new(rt.alloc()), false);
+    has_space(&rt, &mut state, enough, 0);
     assert!(rt; !state.send_blocked);
-    let blocked = send(&mut state, enough, Bytes::new(alloc), false);
-    assert_eq!(rt;
-        blocked,
-        Some(SendDatagramError::Blocked(Bytes::new(alloc)))
-    );
-    assert!(rt; state.send_blocked);
+    is_blocked(&rt, &mut state, enough, Bytes::new(rt.alloc()))?;
     Ok(())
 }
 
@@ -214,33 +278,26 @@ fn make_space_for_accounts_for_new_datagram(rt: HostRuntime) -> Result<(), Fail>
     let alloc = rt.alloc();
     let mut state = DatagramState::new(alloc);
     let limits = DatagramLimits { send: 74, ..LIMITS };
-    assert_eq!(rt; send(&mut state, limits, bytes(alloc, 7, 1)?, false), None);
-    assert_eq!(rt; send(&mut state, limits, bytes(alloc, 2, 2)?, false), None);
-    assert_eq!(rt; used(&state).1, 73);
-    assert_eq!(rt; send(&mut state, limits, bytes(alloc, 4, 3)?, true), None);
-    assert_eq!(rt; used(&state).1, 70);
+    is_queued(&rt, &mut state, limits, bytes(alloc, 7, 1)?, false);
+    is_queued(&rt, &mut state, limits, bytes(alloc, 2, 2)?, false);
+    holds(&rt, &state, 0, 73);
+    is_queued(&rt, &mut state, limits, bytes(alloc, 4, 3)?, true);
+    holds(&rt, &state, 0, 70);
     let mut buf = Vec::new(alloc);
-    assert!(rt; write(&mut state, &mut buf, 100)? && write(&mut state, &mut buf, 100)?);
-    assert_eq!(rt;
-        buf.as_slice(),
-        [0x31, 2, 2, 2, 0x31, 4, 3, 3, 3, 3].as_slice()
-    );
+    let wanted = [0x31, 2, 2, 2, 0x31, 4, 3, 3, 3, 3];
+    is_written(&rt, &mut state, &mut buf, 100, &wanted[..4])?;
+    is_written(&rt, &mut state, &mut buf, 100, &wanted)?;
     Ok(())
 }
 
 #[test]
 fn make_space_for_accounts_for_empty_datagram_metadata(rt: HostRuntime) -> Result<(), Fail> {
-    let alloc = rt.alloc();
-    let mut state = DatagramState::new(alloc);
-    assert_eq!(rt; send(&mut state, LIMITS, Bytes::new(alloc), false), None);
-    assert_eq!(rt; send(&mut state, LIMITS, Bytes::new(alloc), false), None);
-    let blocked = send(&mut state, LIMITS, Bytes::new(alloc), false);
-    assert_eq!(rt;
-        blocked,
-        Some(SendDatagramError::Blocked(Bytes::new(alloc)))
-    );
-    assert_eq!(rt; send(&mut state, LIMITS, Bytes::new(alloc), true), None);
-    assert_eq!(rt; used(&state).1, 64);
+    let mut state = DatagramState::new(rt.alloc());
+    is_queued(&rt, &mut state, LIMITS, Bytes::new(rt.alloc()), false);
+    is_queued(&rt, &mut state, LIMITS, Bytes::new(rt.alloc()), false);
+    is_blocked(&rt, &mut state, LIMITS, Bytes::new(rt.alloc()))?;
+    is_queued(&rt, &mut state, LIMITS, Bytes::new(rt.alloc()), true);
+    holds(&rt, &state, 0, 64);
     Ok(())
 }
 
@@ -249,10 +306,10 @@ fn drop_oversized_keeps_datagrams_at_limit(rt: HostRuntime) -> Result<(), Fail> 
     let alloc = rt.alloc();
     let mut state = DatagramState::new(alloc);
     let wide = DatagramLimits { send: 85, ..LIMITS };
-    assert_eq!(rt; send(&mut state, wide, bytes(alloc, 10, 1)?, false), None);
-    assert_eq!(rt; send(&mut state, wide, bytes(alloc, 11, 2)?, false), None);
+    is_queued(&rt, &mut state, wide, bytes(alloc, 10, 1)?, false);
+    is_queued(&rt, &mut state, wide, bytes(alloc, 11, 2)?, false);
     assert!(rt; state.drop_oversized(10));
-    assert_eq!(rt; used(&state).1, 42);
+    holds(&rt, &state, 0, 42);
     assert!(rt; !state.drop_oversized(10));
     Ok(())
 }
@@ -270,36 +327,37 @@ fn drop_oversized_wakes_a_blocked_sender(rt: HostRuntime) -> Result<(), Fail> {
         max: None,
         ..LIMITS
     };
-    assert_eq!(rt; send(&mut state, LIMITS, bytes(alloc, 11, 1)?, false), None);
-    let blocked = send(&mut state, LIMITS, bytes(alloc, 1, 2)?, false);
-    assert_eq!(rt;
-        blocked,
-        Some(SendDatagramError::Blocked(bytes(alloc, 1, 2)?))
-    );
-    assert!(rt; !drop_oversized(&mut state, off));
+    is_queued(&rt, &mut state, LIMITS, bytes(alloc, 11, 1)?, false);
+    is_blocked(&rt, &mut state, LIMITS, bytes(alloc, 1, 2)?)?;
+    drops_oversized(&rt, &mut state, off, false);
     assert!(rt; state.send_blocked);
-    assert!(rt; drop_oversized(&mut state, narrow));
+    drops_oversized(&rt, &mut state, narrow, true);
     assert!(rt; !state.send_blocked && state.outgoing.is_empty());
-    assert_eq!(rt; send(&mut state, LIMITS, bytes(alloc, 11, 3)?, false), None);
-    assert!(rt; !drop_oversized(&mut state, narrow));
+    is_queued(&rt, &mut state, LIMITS, bytes(alloc, 11, 3)?, false);
+    drops_oversized(&rt, &mut state, narrow, false);
     assert!(rt; state.outgoing.is_empty());
     Ok(())
+}
+
+// Whether the oldest datagram fits so many bytes.
+fn fits(rt: &impl Abort, state: &DatagramState, max_size: usize, wanted: bool) {
+    assert_eq!(rt; state.outgoing.can_send_1rtt(max_size), wanted);
 }
 
 #[test]
 fn write_needs_the_room(rt: HostRuntime) -> Result<(), Fail> {
     let alloc = rt.alloc();
     let mut state = DatagramState::new(alloc);
+    fits(&rt, &state, 100, false);
     let hi = Bytes::copy_from_slice(alloc, b"hi")?;
-    assert!(rt; !state.outgoing.can_send_1rtt(100));
-    assert_eq!(rt; send(&mut state, LIMITS, hi, false), None);
-    assert!(rt; !state.outgoing.can_send_1rtt(3) && state.outgoing.can_send_1rtt(4));
+    is_queued(&rt, &mut state, LIMITS, hi, false);
+    fits(&rt, &state, 3, false);
+    fits(&rt, &state, 4, true);
     let mut buf = Vec::new(alloc);
-    assert!(rt; !write(&mut state, &mut buf, 3)?);
+    is_written(&rt, &mut state, &mut buf, 3, &[])?;
     assert!(rt; buf.is_empty() && !state.outgoing.is_empty());
-    assert!(rt; write(&mut state, &mut buf, 4)?);
-    assert_eq!(rt; buf.as_slice(), b"\x31\x02hi".as_slice());
-    assert!(rt; !write(&mut state, &mut buf, 100)?);
+    is_written(&rt, &mut state, &mut buf, 4, b"\x31\x02hi")?;
+    is_written(&rt, &mut state, &mut buf, 100, &[])?;
     assert_eq!(rt; decode(alloc, buf.as_slice())?.len(), 1);
     Ok(())
 }
@@ -314,17 +372,14 @@ fn refused_send_drops_nothing(rt: HostRuntime) -> Result<(), Fail> {
         ..LIMITS
     };
     for value in 1..5 {
-        assert_eq!(rt;
-            send(&mut state, limits, bytes(alloc, 1, value)?, false),
-            None
-        );
+        is_queued(&rt, &mut state, limits, bytes(alloc, 1, value)?, false);
     }
     let fifth = bytes(alloc, 1, 5)?;
     match Datagrams::new(&mut state, limits).send(fifth, true) {
         Err(SendDatagramError::OutOfMemory(back)) => {
             assert_eq!(rt; back.as_slice(), [5].as_slice());
-            assert_eq!(rt; used(&state).1, 4 * 33);
-            assert_eq!(rt; send(&mut state, limits, back, true), None);
+            holds(&rt, &state, 0, 4 * 33);
+            is_queued(&rt, &mut state, limits, back, true);
         }
         outcome => assert_eq!(rt; outcome.err(), None),
     }
@@ -347,15 +402,12 @@ fn refused_received_drops_nothing(rt: HostRuntime) -> Result<(), Fail> {
     for value in 1..5 {
         let first = state.incoming.is_empty();
         if receive(&mut state, datagram(alloc, 1, value)?, window) != Ok(first) {
-            assert_eq!(rt;
-                receive(&mut state, datagram(alloc, 1, value)?, window)?,
-                first
-            );
+            is_received(&rt, &mut state, datagram(alloc, 1, value)?, window, first);
         }
     }
     if receive(&mut state, datagram(alloc, 1, 5)?, window) == Err(ReceiveError::OutOfMemory) {
-        assert_eq!(rt; used(&state).0, 4 * 33);
-        assert_eq!(rt; receive(&mut state, datagram(alloc, 1, 5)?, window)?, false);
+        holds(&rt, &state, 4 * 33, 0);
+        is_received(&rt, &mut state, datagram(alloc, 1, 5)?, window, false);
     }
     shows_received(&rt, &mut state, &[(2, 1), (3, 1), (4, 1), (5, 1)]);
     Ok(())
@@ -365,14 +417,14 @@ fn refused_received_drops_nothing(rt: HostRuntime) -> Result<(), Fail> {
 fn refused_write_keeps_the_datagram(rt: HostRuntime) -> Result<(), Fail> {
     let alloc = rt.alloc();
     let mut state = DatagramState::new(alloc);
-    assert_eq!(rt; send(&mut state, LIMITS, bytes(alloc, 30, 1)?, false), None);
+    is_queued(&rt, &mut state, LIMITS, bytes(alloc, 30, 1)?, false);
     let mut buf = Vec::with_capacity(alloc, 1)?;
     buf.push(0x30)?;
     match write(&mut state, &mut buf, 33) {
         Ok(wrote) => assert!(rt; wrote),
         Err(OutOfMemory) => {
             assert_eq!(rt; buf.as_slice(), [0x30].as_slice());
-            assert_eq!(rt; used(&state).1, 62);
+            holds(&rt, &state, 0, 62);
             assert!(rt; write(&mut state, &mut buf, 33)?);
         }
     }
@@ -435,11 +487,11 @@ fn no_number_up_to_65537_is_refused(rt: HostRuntime) -> Result<(), Fail> {
     let mut state = DatagramState::new(alloc);
     for number in 0..65_537u64 {
         let bytes = Bytes::copy_from_slice(alloc, &number.to_be_bytes())?;
-        assert_eq!(rt; send(&mut state, AMPLE, bytes.try_clone()?, false), None);
-        let was_empty = receive(&mut state, Datagram { bytes }, AMPLE.receive)?;
-        assert_eq!(rt; was_empty, number == 0);
+        is_queued(&rt, &mut state, AMPLE, bytes.try_clone()?, false);
+        let datagram = Datagram { bytes };
+        is_received(&rt, &mut state, datagram, AMPLE.receive, number == 0);
     }
-    assert_eq!(rt; used(&state), (65_537 * 40, 65_537 * 40));
+    holds(&rt, &state, 65_537 * 40, 65_537 * 40);
     for number in 0..65_537u64 {
         let oldest = recv(&mut state);
         assert!(rt;

@@ -2,6 +2,7 @@ ghost use Rattle.std.specs.Prelude.{◌≡◌, ◌≤◌, ◌^◌};
 
 use quic_assembler::Chunk;
 use quic_sending::send::Written;
+use quic_values::ChunkList;
 use quic_wire::{Bytes, Dir, OutOfMemory, ReceiveError, StreamEvent, StreamId, VarInt};
 use std::alloc::{AllocError, AllocFailed};
 use thiserror::Error;
@@ -57,7 +58,7 @@ pub enum Step {
     WriteChunks {
         who: End,
         id: StreamId,
-        chunks: Vec<Bytes>,
+        chunks: ChunkList,
     },
     /// Ends the stream.
     Finish {

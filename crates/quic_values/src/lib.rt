@@ -1,7 +1,8 @@
-//! The values below all frames: numbers, stream ids, sets of offsets, and bytes with a start.
+//! The values below all frames: numbers, stream ids, sets of offsets, bytes with a start, and chunks.
 #![tactic(auto)]
 
 mod bytes;
+mod chunk_list;
 mod ids;
 mod memory;
 mod range_set;
@@ -10,6 +11,7 @@ mod tests;
 mod var_int;
 
 pub use bytes::Bytes;
+pub use chunk_list::ChunkList;
 pub use ids::{Dir, MAX_STREAM_COUNT, Side, StreamId};
 pub use memory::{Oom, OutOfMemory};
 pub use range_set::{RangeSet, same_set};

@@ -1,4 +1,6 @@
-use crate::{Bytes, Dir, MAX_STREAM_COUNT, OutOfMemory, RangeSet, Side, StreamId, VarInt};
+use crate::{
+    Bytes, ChunkList, Dir, MAX_STREAM_COUNT, OutOfMemory, RangeSet, Side, StreamId, VarInt,
+};
 use std::alloc::Global;
 use std::ops::Range;
 use std::process::Abort;
@@ -229,6 +231,82 @@ fn no_number_of_bytes_is_refused(rt: HostRuntime) -> Result<(), Fail> {
                 back.into_vec().as_slice() == content.as_slice(),
                 "{len} bytes"
             );
+        }
+    }
+    Ok(())
+}
+
+fn chunks_of(alloc: Global, chunks: &[&[u8]]) -> Result<ChunkList, OutOfMemory> {
+    let mut list = ChunkList::with_capacity(alloc, chunks.len(), 0)?;
+    for chunk in chunks {
+        list.push(chunk)?;
+    }
+    Ok(list)
+}
+
+fn has_chunks(rt: &impl Abort, list: &ChunkList, chunks: &[&[u8]]) {
+    assert_eq!(rt; list.len(), chunks.len());
+    for (index, chunk) in chunks.iter().enumerate() {
+        match list.get(index) {
+            Some(bytes) => assert_eq!(rt; bytes, *chunk),
+            None => panic!(rt; "no chunk {index}"),
+        }
+    }
+    assert!(rt; list.get(chunks.len()).is_none());
+}
+
+#[test]
+fn chunks_keep_where_they_are_parted(rt: HostRuntime) -> Result<(), Fail> {
+    let list = chunks_of(rt.alloc(), &[b"", b"ab", b"", b"c"])?;
+    has_chunks(&rt, &list, &[b"", b"ab", b"", b"c"]);
+    has_chunks(&rt, &ChunkList::new(rt.alloc()), &[]);
+    Ok(())
+}
+
+#[test]
+fn lists_of_the_same_bytes_differ_where_they_are_parted(rt: HostRuntime) -> Result<(), Fail> {
+    let list = chunks_of(rt.alloc(), &[b"ab", b"c"])?;
+    assert!(rt; list == chunks_of(rt.alloc(), &[b"ab", b"c"])?);
+    assert!(rt; list != chunks_of(rt.alloc(), &[b"a", b"bc"])?);
+    assert!(rt; list != chunks_of(rt.alloc(), &[b"ab", b"c", b""])?);
+    assert!(rt; !list.is_empty() && ChunkList::new(rt.alloc()).is_empty());
+    assert_eq!(rt;
+        format!(in rt.alloc(); "{list:?}")?.as_str(),
+        "[[97, 98], [99]]"
+    );
+    Ok(())
+}
+
+// A list of so many chunks, of no, one and two bytes in turn, and one of so many bytes, and the bytes of all of them.
+fn in_turn(alloc: Global, count: usize) -> Result<(ChunkList, Vec<u8>), OutOfMemory> {
+    let mut list = ChunkList::new(alloc);
+    let mut content = Vec::new(alloc);
+    for number in 0..count {
+        let chunk = seeded(alloc, number % 3)?;
+        list.push(&chunk)?;
+        content.extend_from_slice(&chunk)?;
+    }
+    let long = seeded(alloc, count)?;
+    list.push(&long)?;
+    content.extend_from_slice(&long)?;
+    Ok((list, content))
+}
+
+#[test]
+fn no_number_of_chunks_is_refused(rt: HostRuntime) -> Result<(), Fail> {
+    for power in 0..17u32 {
+        let middle = 1usize << power;
+        for count in [middle.saturating_sub(1), middle, middle.saturating_add(1)] {
+            let (list, content) = in_turn(rt.alloc(), count)?;
+            let mut joined = Vec::new(rt.alloc());
+            for index in 0..list.len() {
+                match list.get(index) {
+                    Some(chunk) => joined.extend_from_slice(chunk)?,
+                    None => panic!(rt; "no chunk {index} of {count}"),
+                }
+            }
+            assert!(rt; list.len().checked_sub(1) == Some(count));
+            assert!(rt; joined.as_slice() == content.as_slice(), "{count} chunks");
         }
     }
     Ok(())

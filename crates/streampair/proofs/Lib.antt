@@ -1,5 +1,1 @@
-pub mod Fields
-pub mod Numerals
 pub mod Serving
-pub mod Texts
-pub mod Verbs

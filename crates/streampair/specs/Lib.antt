@@ -1,5 +1,1 @@
-pub mod Arguments
-pub mod Field
-pub mod Grammar
-pub mod Line
 pub mod Session

@@ -13,11 +13,11 @@ use Rattle.streampair.specs.declared.session.Session.{Session}
 use Rattle.streampair.specs.declared.session.Session.TheVariants.{Start, Configured, Running}
 use Rattle.streampair.specs.declared.session.Stop.{Stop}
 use Rattle.streampair.specs.declared.session.Stop.TheVariants.{Malformed, NoPair, Failed}
-use Rattle.streampair.specs.declared.lines.LineError.{LineError}
-use Rattle.streampair.specs.declared.lines.LineError.TheVariants as lines
+use Rattle.quic_lines.specs.declared.lines.LineError.{LineError}
+use Rattle.quic_lines.specs.declared.lines.LineError.TheVariants as lines
 use Rattle.quic_pair.specs.declared.steps.End.TheVariants.{A, B}
-use Rattle.streampair.specs.Grammar.{MeansStep, MeansConfig, MeansNoStep, MeansNoConfig}
-use Rattle.streampair.specs.Line.{reply_text, refusal_text}
+use Rattle.quic_lines.specs.Grammar.{MeansStep, MeansConfig, MeansNoStep, MeansNoConfig}
+use Rattle.quic_lines.specs.Line.{reply_text, refusal_text}
 
 abbrev pub ok_line : List ℕ
 ok_line = codes "ok\n"

@@ -2,15 +2,11 @@
 //! a line each, and prints a reply to each.
 #![tactic(auto)]
 
-mod hexadecimal;
-mod lines;
-mod replies;
 mod session;
-mod steps;
 #[cfg(test)]
 mod tests;
 
-pub use hexadecimal::{hex_bytes, hex_field};
+pub use quic_lines::{hex_bytes, hex_field};
 pub use session::serve;
 use std::io;
 use std::process::ExitCode;

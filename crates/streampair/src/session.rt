@@ -2,9 +2,7 @@ ghost use Rattle.std.specs.Prelude.{◌≡◌, ◌≤◌, ◌++◌, IfOk, IfErr,
 ghost use Rattle.std.specs.Io.BufRead.{strip_last};
 ghost use Rattle.streampair.specs.Session.{answer_line, AnswersLine, IsStep, IsServed, IsMalformed, StopsAt, StopsWith, stop_of};
 
-use crate::lines::{LineError, parse_config};
-use crate::replies::{refusal_line, reply_line};
-use crate::steps::parse_step;
+use quic_lines::{LineError, parse_config, parse_step, refusal_line, reply_line};
 use quic_pair::{Config, End, Pair, PairError, Reply, Step};
 use quic_wire::OutOfMemory;
 use std::alloc::Global;

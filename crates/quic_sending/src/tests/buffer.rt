@@ -367,21 +367,57 @@ const CHANGES: [Step; 22] = [
     Step::Poll(16, 26, 29, true),
 ];
 
+// Room for so many pieces. Where it is refused, nothing changed.
+fn reserve_again(
+    rt: &impl Abort,
+    buffer: &mut SendBuffer,
+    pieces: usize,
+) -> Result<(), OutOfMemory> {
+    let before = see(buffer);
+    match buffer.reserve(pieces) {
+        Ok(()) => Ok(()),
+        Err(_) => {
+            assert_eq!(rt; see(buffer), before);
+            buffer.reserve(pieces)
+        }
+    }
+}
+
+fn append(
+    buffer: &SendBuffer,
+    start: u64,
+    end: u64,
+    text: &mut Vec<u8>,
+) -> Result<(), OutOfMemory> {
+    if buffer.acked_prefix() <= start && start <= end && end <= buffer.offset() {
+        buffer.append_range(start..end, text)?;
+    }
+    Ok(())
+}
+
+// The bytes from one offset up to another. Where memory is refused, nothing changed and nothing was copied.
+fn append_again(
+    rt: &impl Abort,
+    alloc: Global,
+    buffer: &SendBuffer,
+    start: u64,
+    end: u64,
+) -> Result<Vec<u8>, OutOfMemory> {
+    let before = see(buffer);
+    let mut text = Vec::new(alloc);
+    if append(buffer, start, end, &mut text).is_err() {
+        assert_eq!(rt; text.len(), 0);
+        assert_eq!(rt; see(buffer), before);
+        append(buffer, start, end, &mut text)?;
+    }
+    Ok(text)
+}
+
 #[test]
 fn each_refused_change_changes_nothing(rt: HostRuntime) -> Result<(), Fail> {
     let mut buffer = run_again(&rt, rt.alloc(), &CHANGES)?;
-    let before = see(&buffer);
-    if buffer.reserve(20).is_err() {
-        assert_eq!(rt; see(&buffer), before);
-        buffer.reserve(20)?;
-    }
-    let mut text = Vec::new(rt.alloc());
-    assert!(rt; buffer.acked_prefix() <= 18 && buffer.offset() >= 29);
-    if buffer.append_range(18..29, &mut text).is_err() {
-        assert_eq!(rt; text.len(), 0);
-        assert_eq!(rt; see(&buffer), before);
-        buffer.append_range(18..29, &mut text)?;
-    }
+    reserve_again(&rt, &mut buffer, 20)?;
+    let text = append_again(&rt, rt.alloc(), &buffer, 18, 29)?;
     assert_eq!(rt; text.as_slice(), b"extra data!".as_slice());
     assert_eq!(rt; buffer.has_unsent_data(), false);
     Ok(())

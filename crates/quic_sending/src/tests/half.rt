@@ -32,6 +32,47 @@ fn get(send: &Send, range: Range<u64>) -> &[u8] {
     send.pending.get(range)
 }
 
+// A write takes so many bytes, with which so many chunks end.
+fn takes(
+    rt: &impl Abort,
+    send: &mut Send,
+    source: &mut ByteSlice,
+    limit: u64,
+    wanted: Written,
+) -> Result<(), WriteError> {
+    assert_eq!(rt; write(send, source, limit)?, wanted);
+    Ok(())
+}
+
+fn written(bytes: usize, chunks: usize) -> Written {
+    Written { bytes, chunks }
+}
+
+// What is kept from an offset on, up to an end or to that of its piece.
+fn keeps(rt: &impl Abort, send: &Send, range: Range<u64>, wanted: &[u8]) {
+    assert_eq!(rt; get(send, range), wanted);
+}
+
+fn raises(rt: &impl Abort, send: &mut Send, limit: u64, wanted: bool) {
+    assert_eq!(rt; raise(send, limit), wanted);
+}
+
+fn finish_gives(rt: &impl Abort, send: &mut Send, wanted: Result<(), FinishError>) {
+    assert_eq!(rt; finish(send), wanted);
+}
+
+// An acknowledgement completes the stream, or not.
+fn completes(
+    rt: &impl Abort,
+    send: &mut Send,
+    offsets: Range<u64>,
+    fin: bool,
+    wanted: bool,
+) -> Result<(), OutOfMemory> {
+    assert_eq!(rt; ack(rt, send, offsets, fin)?, wanted);
+    Ok(())
+}
+
 // A half to which a text was written and sent.
 fn sent(rt: &impl Abort, alloc: Global, text: &[u8]) -> Result<Send, WriteError> {
     let mut send = half(alloc, 100);
@@ -61,6 +102,21 @@ fn write_chunks(
     send.write(&mut BytesArray::from_chunks(alloc, chunks), limit)
 }
 
+// Chunks of these texts.
+fn chunks_of(alloc: Global, texts: &[&[u8]]) -> Result<Vec<Bytes>, OutOfMemory> {
+    let mut chunks = Vec::new(alloc);
+    for text in texts {
+        chunks.push(Bytes::copy_from_slice(alloc, text)?)?;
+    }
+    Ok(chunks)
+}
+
+fn are_left(rt: &impl Abort, chunks: &[Bytes], texts: &[&[u8]]) {
+    for (chunk, text) in chunks.iter().zip(texts) {
+        assert_eq!(rt; chunk.as_slice(), *text);
+    }
+}
+
 // What a write of these chunks takes under a stream limit, and what is left of them.
 fn shows_write(
     rt: &impl Abort,
@@ -70,25 +126,14 @@ fn shows_write(
     written: Written,
     left: &[&[u8]],
 ) -> Result<(), WriteError> {
-    let mut chunks = Vec::new(alloc);
-    for text in texts {
-        chunks
-            .push(Bytes::copy_from_slice(alloc, text)?)
-            .map_err(OutOfMemory::from)?;
-    }
+    let mut chunks = chunks_of(alloc, texts)?;
     let mut send = half(alloc, limit);
-    assert_eq!(rt;
-        write_chunks(alloc, &mut send, chunks.as_mut_slice(), 1000)?,
-        written
-    );
+    let outcome = write_chunks(alloc, &mut send, chunks.as_mut_slice(), 1000);
+    assert_eq!(rt; outcome?, written);
     assert_eq!(rt; send.offset(), u64::from(limit));
-    for (chunk, text) in chunks.iter().zip(left) {
-        assert_eq!(rt; chunk.as_slice(), *text);
-    }
-    assert_eq!(rt;
-        write_chunks(alloc, &mut send, chunks.as_mut_slice(), 1000),
-        Err(WriteError::Blocked)
-    );
+    are_left(rt, &chunks, left);
+    let outcome = write_chunks(alloc, &mut send, chunks.as_mut_slice(), 1000);
+    assert_eq!(rt; outcome, Err(WriteError::Blocked));
     Ok(())
 }
 
@@ -99,10 +144,7 @@ fn write_takes_what_the_limit_leaves(rt: HostRuntime) -> Result<(), Fail> {
         rt.alloc(),
         7,
         &[b"", b"Hello ", b"Wo"],
-        Written {
-            bytes: 7,
-            chunks: 2,
-        },
+        written(7, 2),
         &[b"", b"", b"o"],
     )?;
     shows_write(
@@ -110,10 +152,7 @@ fn write_takes_what_the_limit_leaves(rt: HostRuntime) -> Result<(), Fail> {
         rt.alloc(),
         8,
         &[b"", b"Hello ", b"Wo", b"", b"r"],
-        Written {
-            bytes: 8,
-            chunks: 4,
-        },
+        written(8, 4),
         &[b"", b"", b"", b"", b"r"],
     )?;
     Ok(())
@@ -138,37 +177,30 @@ fn write_again<S: BytesSource>(
     }
 }
 
+fn takes_again<S: BytesSource>(
+    rt: &impl Abort,
+    send: &mut Send,
+    source: &mut S,
+    limit: u64,
+    wanted: Written,
+) -> Result<(), WriteError> {
+    assert_eq!(rt; write_again(rt, send, source, limit)?, wanted);
+    Ok(())
+}
+
 #[test]
 fn refused_memory_changes_no_source(rt: HostRuntime) -> Result<(), Fail> {
-    let mut chunks = Vec::new(rt.alloc());
-    for text in [b"".as_slice(), b"Hello ".as_slice(), b"Wo".as_slice()] {
-        let Ok(chunk) = Bytes::copy_from_slice(rt.alloc(), text) else {
-            return Ok(());
-        };
-        if chunks.push(chunk).is_err() {
-            return Ok(());
-        }
-    }
+    let Ok(mut chunks) = chunks_of(rt.alloc(), &[b"", b"Hello ", b"Wo"]) else {
+        return Ok(());
+    };
     let mut send = half(rt.alloc(), 100);
     let mut source = BytesArray::from_chunks(rt.alloc(), chunks.as_mut_slice());
-    assert_eq!(rt;
-        write_again(&rt, &mut send, &mut source, 7)?,
-        Written {
-            bytes: 7,
-            chunks: 2
-        }
-    );
+    takes_again(&rt, &mut send, &mut source, 7, written(7, 2))?;
     let mut source = ByteSlice::from_slice(rt.alloc(), b"rld!");
-    assert_eq!(rt;
-        write_again(&rt, &mut send, &mut source, 3)?,
-        Written {
-            bytes: 3,
-            chunks: 0
-        }
-    );
-    assert_eq!(rt; get(&send, 0..10), b"Hello ".as_slice());
-    assert_eq!(rt; get(&send, 6..10), b"W".as_slice());
-    assert_eq!(rt; get(&send, 7..10), b"rld".as_slice());
+    takes_again(&rt, &mut send, &mut source, 3, written(3, 0))?;
+    keeps(&rt, &send, 0..10, b"Hello ");
+    keeps(&rt, &send, 6..10, b"W");
+    keeps(&rt, &send, 7..10, b"rld");
     Ok(())
 }
 
@@ -176,29 +208,11 @@ fn refused_memory_changes_no_source(rt: HostRuntime) -> Result<(), Fail> {
 fn write_takes_at_most_the_limit_handed_in(rt: HostRuntime) -> Result<(), Fail> {
     let mut send = half(rt.alloc(), 100);
     let mut source = ByteSlice::from_slice(rt.alloc(), b"Hello, world!");
-    assert_eq!(rt;
-        write(&mut send, &mut source, 5)?,
-        Written {
-            bytes: 5,
-            chunks: 0
-        }
-    );
-    assert_eq!(rt;
-        write(&mut send, &mut source, 100)?,
-        Written {
-            bytes: 8,
-            chunks: 1
-        }
-    );
-    assert_eq!(rt;
-        write(&mut send, &mut source, 100)?,
-        Written {
-            bytes: 0,
-            chunks: 0
-        }
-    );
-    assert_eq!(rt; get(&send, 0..13), b"Hello".as_slice());
-    assert_eq!(rt; get(&send, 5..13), b", world!".as_slice());
+    takes(&rt, &mut send, &mut source, 5, written(5, 0))?;
+    takes(&rt, &mut send, &mut source, 100, written(8, 1))?;
+    takes(&rt, &mut send, &mut source, 100, written(0, 0))?;
+    keeps(&rt, &send, 0..13, b"Hello");
+    keeps(&rt, &send, 5..13, b", world!");
     Ok(())
 }
 
@@ -209,8 +223,8 @@ fn complete_needs_every_byte(rt: HostRuntime) -> Result<(), Fail> {
     assert_eq!(rt; send.is_pending(), false);
     finish(&mut send)?;
     assert_eq!(rt; send.is_pending(), true);
-    assert_eq!(rt; ack(&rt, &mut send, 3..3, true)?, false);
-    assert_eq!(rt; ack(&rt, &mut send, 0..3, false)?, true);
+    completes(&rt, &mut send, 3..3, true, false)?;
+    completes(&rt, &mut send, 0..3, false, true)?;
     Ok(())
 }
 
@@ -219,8 +233,8 @@ fn nothing_is_complete_after_a_reset(rt: HostRuntime) -> Result<(), Fail> {
     let mut send = sent(&rt, rt.alloc(), b"abc")?;
     send.reset();
     assert!(rt; send.is_reset() && !send.is_pending());
-    assert_eq!(rt; ack(&rt, &mut send, 0..3, true)?, false);
-    assert_eq!(rt; finish(&mut send), Err(FinishError::ClosedStream));
+    completes(&rt, &mut send, 0..3, true, false)?;
+    finish_gives(&rt, &mut send, Err(FinishError::ClosedStream));
     assert_eq!(rt; send.offset(), 3);
     Ok(())
 }
@@ -230,41 +244,25 @@ fn the_first_stop_counts(rt: HostRuntime) -> Result<(), Fail> {
     let mut send = half(rt.alloc(), 0);
     assert!(rt; stop(&mut send, 7));
     assert!(rt; !stop(&mut send, 8));
+    let code = VarInt::from(7);
     let mut source = ByteSlice::from_slice(rt.alloc(), b"abc");
-    assert_eq!(rt;
-        write(&mut send, &mut source, 3),
-        Err(WriteError::Stopped(VarInt::from(7)))
-    );
-    assert_eq!(rt;
-        finish(&mut send),
-        Err(FinishError::Stopped(VarInt::from(7)))
-    );
+    let outcome = write(&mut send, &mut source, 3);
+    assert_eq!(rt; outcome, Err(WriteError::Stopped(code)));
+    finish_gives(&rt, &mut send, Err(FinishError::Stopped(code)));
     Ok(())
 }
 
 #[test]
 fn a_larger_limit_unblocks(rt: HostRuntime) -> Result<(), Fail> {
     let mut send = half(rt.alloc(), 3);
-    assert_eq!(rt; raise(&mut send, 5), false);
+    raises(&rt, &mut send, 5, false);
     let mut source = ByteSlice::from_slice(rt.alloc(), b"abcdefgh");
-    assert_eq!(rt;
-        write(&mut send, &mut source, 100)?,
-        Written {
-            bytes: 5,
-            chunks: 0
-        }
-    );
-    assert_eq!(rt; raise(&mut send, 5), false);
-    assert_eq!(rt; raise(&mut send, u64::MAX), true);
+    takes(&rt, &mut send, &mut source, 100, written(5, 0))?;
+    raises(&rt, &mut send, 5, false);
+    raises(&rt, &mut send, u64::MAX, true);
     assert_eq!(rt; send.max_data, VarInt::MAX);
-    assert_eq!(rt;
-        write(&mut send, &mut source, 100)?,
-        Written {
-            bytes: 3,
-            chunks: 1
-        }
-    );
-    finish(&mut send)?;
+    takes(&rt, &mut send, &mut source, 100, written(3, 1))?;
+    finish_gives(&rt, &mut send, Ok(()));
     assert_eq!(rt; send.is_writable(), false);
     Ok(())
 }

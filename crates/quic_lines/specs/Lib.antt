@@ -1,0 +1,4 @@
+pub mod Arguments
+pub mod Field
+pub mod Grammar
+pub mod Line
