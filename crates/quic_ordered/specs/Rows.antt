@@ -1,0 +1,59 @@
+-- Pieces in the order of their offsets.
+use Rattle.std.specs.Prelude.{ℕ, ◌≡◌, ◌+◌, ◌≤◌, ◌<◌, ◌^◌, ◌⊎◌, List, [], ◌∷◌, ◌++◌, length, sum_by}
+use Rattle.std.specs.List.{Any, All}
+use Rattle.std.specs.Map.{keys_of, values_of}
+use Rattle.std.specs.Ordering.{nat_cmp}
+use Rattle.std.specs.List.Sorted.{IsStrictlySortedBy}
+use Rattle.quic_assembler.specs.Piece.{PieceView, RunHolds, run_end, run_length, run_allocation}
+use Rattle.quic_ordered.specs.Entries.{piece_at}
+
+-- pieces in a row, and how many there is room for
+pub record Row : Type 0 where
+  pub runs : List PieceView
+  pub room : ℕ
+
+-- its numbers fit
+pub record FitsWords (r : PieceView) : Type 0 where
+  pub below : run_end r < 2 ^ 62
+  pub allocation : r.allocation_size < 2 ^ 64
+
+-- the sums of the lengths and of the allocation sizes
+pub record AreSums (total allocated : ℕ) (runs : List PieceView) : Type 0 where
+  pub total_is : total ≡ sum_by run_length runs
+  pub allocated_is : allocated ≡ sum_by run_allocation runs
+  pub sound : All FitsWords runs
+
+-- the keys rise
+abbrev pub RiseByKey : List (ℕ × PieceView) → Type 0
+RiseByKey es = IsStrictlySortedBy nat_cmp (keys_of es)
+
+-- each piece stands at its offset
+abbrev pub AreKeyed : List (ℕ × PieceView) → Type 0
+AreKeyed [] = Unit {0}
+AreKeyed (e ∷ es) = (e.1.offset ≡ e.0) × AreKeyed es
+
+-- a map with its sums
+pub record IsSummedMap (total allocated : ℕ) (es : List (ℕ × PieceView)) : Type 0 where
+  pub rises : RiseByKey es
+  pub sums : AreSums total allocated (values_of es)
+
+-- pieces from low on, none of them empty, each ending by where the next begins
+abbrev pub LieInOrder : ℕ → List PieceView → Type 0
+LieInOrder low [] = Unit {0}
+LieInOrder low (r ∷ rs) = (low ≤ r.offset) × (0 < length r.bytes) × LieInOrder (run_end r) rs
+
+-- a byte of one of the pieces
+abbrev pub Hold : List PieceView → ℕ → ℕ → Type 0
+Hold rs at byte = Any (RunHolds at byte) rs
+
+-- the bytes of rs and of a piece are held; where both have a byte, that of rs
+pub record Merges (rs : List PieceView) (new : PieceView) (rs' : List PieceView) : Type 0 where
+  pub keeps : (at byte : ℕ) → Hold rs at byte → Hold rs' at byte
+  pub gains : (at byte : ℕ) → RunHolds at byte new → ((b : ℕ) → Hold rs at b → ⊥) → Hold rs' at byte
+  pub origin : (at byte : ℕ) → Hold rs' at byte → Hold rs at byte ⊎ RunHolds at byte new
+
+-- a map, and behind it a row
+pub record IsStore (es : List (ℕ × PieceView)) (rs : List PieceView) : Type 0 where
+  pub rises : RiseByKey es
+  pub keyed : AreKeyed es
+  pub order : LieInOrder 0 (values_of es ++ rs)
