@@ -5,3 +5,4 @@ pub mod Ends
 pub mod Order
 pub mod Firsts
 pub mod Stores
+pub mod Taking

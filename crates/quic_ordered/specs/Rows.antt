@@ -1,10 +1,10 @@
 -- Pieces in the order of their offsets.
-use Rattle.std.specs.Prelude.{ℕ, ◌≡◌, ◌+◌, ◌≤◌, ◌<◌, ◌^◌, ◌⊎◌, List, [], ◌∷◌, ◌++◌, length, sum_by}
+use Rattle.std.specs.Prelude.{ℕ, ◌≡◌, ◌+◌, ◌≤◌, ◌<◌, ◌^◌, ◌*◌, ◌/◌, ◌≢◌, ◌⊎◌, nat_le, List, [], ◌∷◌, ◌++◌, length, sum_by, cond, nat_lt}
 use Rattle.std.specs.List.{Any, All}
 use Rattle.std.specs.Map.{keys_of, values_of}
 use Rattle.std.specs.Ordering.{nat_cmp}
 use Rattle.std.specs.List.Sorted.{IsStrictlySortedBy}
-use Rattle.quic_assembler.specs.Piece.{PieceView, RunHolds, run_end, run_length, run_allocation}
+use Rattle.quic_assembler.specs.Piece.{PieceView, RunHolds, run_end, run_length, run_allocation, advance_by}
 use Rattle.quic_ordered.specs.Entries.{piece_at}
 
 -- pieces in a row, and how many there is room for
@@ -57,3 +57,34 @@ pub record IsStore (es : List (ℕ × PieceView)) (rs : List PieceView) : Type 0
   pub rises : RiseByKey es
   pub keyed : AreKeyed es
   pub order : LieInOrder 0 (values_of es ++ rs)
+
+-- what is left in a map of a piece of which the first bytes were given
+abbrev pub entry_left : ℕ → PieceView → List (ℕ × PieceView)
+entry_left most r = cond (nat_lt most (length r.bytes)) ((r.offset + most, advance_by most r) ∷ []) []
+
+-- a piece that keeps much more memory alive than it has bytes is copied
+abbrev pub tidied : PieceView → PieceView
+tidied r = cond (nat_le r.allocation_size (length r.bytes * 6 / 5)) r (record r { allocation_size = length r.bytes })
+
+-- a piece, and behind it one that begins where it ends, as one in memory of its own
+abbrev pub joined_with : PieceView → PieceView → PieceView
+joined_with r next = record r { bytes = r.bytes ++ next.bytes; allocation_size = length r.bytes + length next.bytes }
+
+-- pieces from low on, none of them empty, each ending before the next begins
+abbrev pub LieWithGaps : ℕ → List PieceView → Type 0
+LieWithGaps low [] = Unit {0}
+LieWithGaps low (r ∷ rs) = (low ≤ r.offset) × (0 < length r.bytes) × LieWithGaps (run_end r + 1) rs
+
+-- it keeps at most a fifth more memory alive than it has bytes
+abbrev pub IsTidy : PieceView → Type 0
+IsTidy r = r.allocation_size ≤ length r.bytes * 6 / 5
+
+-- the same bytes at the same offsets
+pub record HoldSame (rs rs' : List PieceView) : Type 0 where
+  pub keeps : (at byte : ℕ) → Hold rs at byte → Hold rs' at byte
+  pub origin : (at byte : ℕ) → Hold rs' at byte → Hold rs at byte
+
+-- a piece came behind others: it was joined with the last of them where that ends at its begin
+pub record JoinsLast (rs : List PieceView) (p : PieceView) (rs' : List PieceView) : Type 0 where
+  pub case : ((rs ≡ []) × (rs' ≡ tidied p ∷ [])) ⊎ ((others : List PieceView) × (last : PieceView) × (rs ≡ others ++ last ∷ [])
+      × (((run_end last ≡ p.offset) × (rs' ≡ others ++ joined_with last p ∷ [])) ⊎ ((run_end last ≢ p.offset) × (rs' ≡ rs ++ tidied p ∷ []))))

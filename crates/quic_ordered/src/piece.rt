@@ -2,6 +2,7 @@
 ghost use Rattle.std.specs.Prelude.{◌≡◌, ◌+◌, ◌-◌, ◌*◌, ◌/◌, ◌^◌, ◌<◌, ◌≤◌, ◌++◌, length, take, drop, vec_len, false, IfOk, OnOk, OnErr};
 ghost use Rattle.quic_assembler.specs.Piece.{PieceView, run_end, advance_by, cut_at};
 ghost use Rattle.quic_ordered.specs.Entries.{piece_of, WritesOver};
+ghost use Rattle.quic_ordered.specs.Rows.{joined_with, tidied};
 
 use quic_values::{Bytes, OutOfMemory};
 use std::alloc::Global;
@@ -155,5 +156,33 @@ impl Piece {
     {
         let start = self.start + (other.offset() - self.offset) as usize;
         write_at(&mut self.content, start, other.as_slice());
+    }
+
+    /// Appends the bytes of a piece that begins where this one ends. If refused, all is as it was.
+    pub(crate) fn append(&mut self, next: &Piece) -> Result<(), OutOfMemory>
+        requires { run_end self.old ≡ next.now.offset }
+        ensures ok { OnOk result (self.new ≡ joined_with self.old next.now) }
+        ensures err { OnErr result (self.new ≡ self.old) }
+    {
+        let _end = next.end();
+        self.content.extend_from_slice(next.as_slice())?;
+        self.allocation_size = self.content.len() - self.start;
+        Ok(())
+    }
+
+    /// Copies the bytes where they keep much more memory alive. If refused, all is as it was.
+    pub(crate) fn tidy(&mut self) -> Result<(), OutOfMemory>
+        ensures ok { OnOk result (self.new ≡ tidied self.old) }
+        ensures err { OnErr result (self.new ≡ self.old) }
+    {
+        let length = self.content.len() - self.start;
+        if self.allocation_size as u128 <= length as u128 * 6 / 5 {
+            return Ok(());
+        }
+        let alloc = *self.content.allocator();
+        self.content = Vec::from_slice(alloc, &self.content.as_slice()[self.start..])?;
+        self.start = 0;
+        self.allocation_size = length;
+        Ok(())
     }
 }

@@ -1,8 +1,8 @@
 // Pieces in a row, with their sums.
-ghost use Rattle.std.specs.Prelude.{◌≡◌, ℕ, ◌+◌, ◌-◌, ◌^◌, ◌<◌, ◌≤◌, [], ◌∷◌, ◌++◌, length, sum_by, option_to_list, IfOk, OnOk, OnErr, IfSome, IfNone, IsSome, Some, None};
+ghost use Rattle.std.specs.Prelude.{◌≡◌, ℕ, ◌+◌, ◌-◌, ◌^◌, ◌<◌, ◌≤◌, [], ◌∷◌, ◌++◌, length, sum_by, option_to_list, IfOk, OnOk, OnErr, IfSome, IfNone, IsSome, Some, None, IfErr};
 ghost use Rattle.std.specs.List.{All};
 ghost use Rattle.quic_assembler.specs.Piece.{PieceView, run_end, run_length, run_allocation};
-ghost use Rattle.quic_ordered.specs.Rows.{Row, FitsWords};
+ghost use Rattle.quic_ordered.specs.Rows.{Row, FitsWords, JoinsLast, tidied};
 
 use crate::piece::Piece;
 use quic_values::OutOfMemory;
@@ -57,6 +57,7 @@ impl PieceRow {
     pub(crate) fn len(&self) -> usize
         ensures len { result ≡ length self.now.runs }
         ensures fits { All FitsWords self.now.runs }
+        ensures room { length self.now.runs ≤ self.now.room }
     {
         let _total = self.total;
         self.pieces.len()
@@ -184,5 +185,44 @@ impl PieceRow {
             self.allocated -= piece.allocation_size() as u128;
         }
         last
+    }
+
+    // Puts a piece behind all others, in memory of its own where it keeps too much alive, or gives it back.
+    fn put_tidy(&mut self, mut piece: Piece) -> Result<(), Piece>
+        requires { length self.old.runs < self.old.room }
+        ensures put { OnOk result (self.new.runs ≡ self.old.runs ++ tidied piece ∷ []) }
+        ensures room { self.new.room ≡ self.old.room }
+        ensures back { IfErr result (λ given. given ≡ piece) }
+        ensures err { OnErr result (self.new.runs ≡ self.old.runs) }
+    {
+        if piece.tidy().is_err() {
+            return Err(piece);
+        }
+        self.put_back(piece);
+        Ok(())
+    }
+
+    /// Joins a piece that comes behind all others with the last one where they touch, else puts it there. There is
+    /// room. Without memory the piece is given back.
+    pub(crate) fn join_last(&mut self, piece: Piece) -> Result<(), Piece>
+        requires { length self.old.runs < self.old.room }
+        ensures joins { OnOk result (JoinsLast self.old.runs piece self.new.runs) }
+        ensures room { self.new.room ≡ self.old.room }
+        ensures back { IfErr result (λ given. given ≡ piece) }
+        ensures err { OnErr result (self.new.runs ≡ self.old.runs) }
+    {
+        let Some(mut last) = self.pop_back() else {
+            return self.put_tidy(piece);
+        };
+        if last.end() != piece.offset() {
+            self.put_back(last);
+            return self.put_tidy(piece);
+        }
+        let joined = last.append(&piece);
+        self.put_back(last);
+        match joined {
+            Ok(()) => Ok(()),
+            Err(_) => Err(piece),
+        }
     }
 }

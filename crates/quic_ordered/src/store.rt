@@ -1,15 +1,16 @@
 // All that is held of one stream.
-ghost use Rattle.std.specs.Prelude.{◌≡◌, ℕ, ◌+◌, ◌-◌, ◌^◌, ◌<◌, ◌≤◌, ◌⊎◌, [], ◌∷◌, ◌++◌, length, sum_by, IfOk, OnOk, OnErr, IfSome, IfNone, Some, None, true};
+ghost use Rattle.std.specs.Prelude.{◌≡◌, ℕ, ◌+◌, ◌-◌, ◌^◌, ◌<◌, ◌≤◌, ◌⊎◌, [], ◌∷◌, ◌++◌, length, sum_by, IfOk, OnOk, OnErr, IfSome, IfNone, Some, None, true, take, MatchOption};
 ghost use Rattle.std.specs.Map.{values_of, keys_of};
 ghost use Rattle.std.specs.List.{All};
-ghost use Rattle.quic_assembler.specs.Piece.{PieceView, run_end, run_length, run_allocation};
-ghost use Rattle.quic_ordered.specs.Rows.{IsStore, LieInOrder, Merges};
+ghost use Rattle.quic_assembler.specs.Piece.{PieceView, run_end, run_length, run_allocation, left_of, CoversMore, TakesNone, TakesSome};
+ghost use Rattle.quic_ordered.specs.Rows.{FitsWords, RiseByKey, IsStore, LieInOrder, Merges, entry_left};
+ghost use Rattle.quic_ordered.specs.Entries.{IsPieceMap};
 
 use crate::gaps::hold;
 use crate::map::PieceMap;
 use crate::piece::Piece;
 use crate::row::PieceRow;
-use quic_values::OutOfMemory;
+use quic_values::{Bytes, OutOfMemory};
 use std::alloc::Global;
 use std::marker::Model;
 
@@ -59,6 +60,56 @@ fn clear_way(gaps: &mut PieceMap, row: &mut PieceRow, end: u64) -> Result<(), Ou
     Ok(())
 }
 
+// Takes the first bytes of the first piece of the map.
+fn take_from_map(
+    gaps: &mut PieceMap,
+    available: usize,
+    max_length: usize,
+    alloc: Global,
+) -> Result<Bytes, OutOfMemory>
+    requires apart { IsPieceMap gaps.old }
+    requires first { (key : ℕ) × (first : PieceView) × (rest : _) × (gaps.old ≡ (key, first) ∷ rest) × (available ≡ length first.bytes) }
+    requires some { 0 < max_length }
+    ensures given { IfOk result (λ bytes. (key : ℕ) (first : PieceView) (rest : _) → gaps.old ≡ (key, first) ∷ rest → (bytes ≡ take max_length first.bytes) × (gaps.new ≡ entry_left max_length first ++ rest)) }
+    ensures rises { RiseByKey gaps.new }
+    ensures err { OnErr result (gaps.new ≡ gaps.old) }
+    ensures part { OnErr result (max_length < available) }
+{
+    if max_length < available {
+        let bytes = gaps.cut_first(max_length, alloc)?;
+        return Ok(bytes);
+    }
+    match gaps.pop_first() {
+        Some(piece) => Ok(piece.into_bytes()),
+        None => unreachable!(),
+    }
+}
+
+// Takes the first bytes of the first piece of the row.
+fn take_from_row(row: &mut PieceRow, max_length: usize) -> Result<Bytes, OutOfMemory>
+    requires { 0 < length row.old.runs }
+    ensures given { IfOk result (λ bytes. (first : PieceView) (rest : _) → row.old.runs ≡ first ∷ rest → (bytes ≡ take max_length first.bytes) × (row.new.runs ≡ left_of max_length first ++ rest)) }
+    ensures err { OnErr result (row.new.runs ≡ row.old.runs) }
+    ensures part { OnErr result ((first : PieceView) (rest : _) → row.old.runs ≡ first ∷ rest → max_length < length first.bytes) }
+{
+    let Some(mut piece) = row.pop_front() else {
+        unreachable!();
+    };
+    if piece.len() <= max_length {
+        return Ok(piece.into_bytes());
+    }
+    match piece.split_to(max_length) {
+        Ok(bytes) => {
+            row.put_front(piece);
+            Ok(bytes)
+        }
+        Err(refused) => {
+            row.put_front(piece);
+            Err(refused)
+        }
+    }
+}
+
 impl OrderedPieces {
     /// Holds nothing. Takes no memory.
     pub fn new(alloc: Global) -> Self
@@ -76,6 +127,7 @@ impl OrderedPieces {
     pub fn len(&self) -> usize
         ensures len { result ≡ length self.now }
         ensures small { result ≤ 2 ^ 62 }
+        ensures fits { All FitsWords self.now }
     {
         self.gaps.len() + self.row.len()
     }
@@ -134,5 +186,65 @@ impl OrderedPieces {
         clear_way(&mut self.gaps, &mut self.row, piece.end())?;
         hold(&mut self.gaps, piece, self.alloc)?;
         Ok(())
+    }
+
+    /// Where the first piece begins.
+    pub fn first_offset(&self) -> Option<u64>
+        ensures first { IfSome result (λ offset. (first : PieceView) × (rest : _) × (self.now ≡ first ∷ rest) × (offset ≡ first.offset)) }
+        ensures none { IfNone result (self.now ≡ []) }
+    {
+        match self.gaps.first() {
+            Some((offset, _)) => Some(offset),
+            None => self.row.first_offset(),
+        }
+    }
+
+    // Takes the first bytes of the first piece.
+    fn take_some(&mut self, max_length: usize) -> Result<Bytes, OutOfMemory>
+        requires some { 0 < max_length }
+        requires held { 0 < length self.old }
+        ensures given { IfOk result (λ bytes. (first : PieceView) (rest : _) → self.old ≡ first ∷ rest → (bytes ≡ take max_length first.bytes) × (self.new ≡ left_of max_length first ++ rest)) }
+        ensures err { OnErr result (self.new ≡ self.old) }
+        ensures part { OnErr result ((first : PieceView) (rest : _) → self.old ≡ first ∷ rest → max_length < length first.bytes) }
+    {
+        match self.gaps.first() {
+            Some((_, available)) => {
+                let bytes = take_from_map(&mut self.gaps, available, max_length, self.alloc)?;
+                Ok(bytes)
+            }
+            None => {
+                let bytes = take_from_row(&mut self.row, max_length)?;
+                Ok(bytes)
+            }
+        }
+    }
+
+    /// Gives the first `max_length` bytes of the first piece, or all of it where it has fewer, if it begins at `floor`.
+    /// A piece that is given whole is not copied. If refused, all is as it was.
+    pub fn take_first(
+        &mut self,
+        floor: u64,
+        max_length: usize,
+    ) -> Result<Option<Bytes>, OutOfMemory>
+        requires { LieInOrder floor self.old }
+        ensures ok { IfOk result (λ given. MatchOption given (TakesNone floor self.old self.new) (λ bytes. TakesSome floor max_length bytes self.old self.new)) }
+        ensures order { IfOk result (λ given. IfSome given (λ bytes. LieInOrder (floor + length bytes) self.new)) }
+        ensures none { IfOk result (λ given. IfNone given (self.new ≡ self.old)) }
+        ensures pieces { length self.new ≤ length self.old }
+        ensures err { OnErr result (self.new ≡ self.old) }
+        ensures err_more { OnErr result (CoversMore floor max_length self.old) }
+    {
+        let _count = self.len();
+        let Some(offset) = self.first_offset() else {
+            return Ok(None);
+        };
+        if floor < offset {
+            return Ok(None);
+        }
+        if max_length == 0 {
+            return Ok(Some(Bytes::new(self.alloc)));
+        }
+        let bytes = self.take_some(max_length)?;
+        Ok(Some(bytes))
     }
 }
