@@ -6,3 +6,4 @@ pub mod Order
 pub mod Firsts
 pub mod Stores
 pub mod Taking
+pub mod Compacting

@@ -60,3 +60,25 @@ held_merges es es' rs p s s' t = merges_map es es' rs p 0 0 s.keyed s.order s'.k
 
 pub map_of_store : (es : List (ℕ × PieceView)) (rs : List PieceView) → IsStore es rs → IsPieceMap es
 map_of_store es rs s = piece_map_of es rs 0 s.keyed s.order
+
+-- the last piece of the map goes to the front of the row
+pub gathered_same : (es es' : List (ℕ × PieceView)) (rs rs' : List PieceView) (key : ℕ) (p : PieceView) → es ≡ es' ++ (key, p) ∷ [] → rs' ≡ p ∷ rs → values_of es' ++ rs' ≡ values_of es ++ rs
+gathered_same es es' rs rs' key p e f =
+    ap (λ (xs : List PieceView). values_of es' ++ xs) f ∙ sym (values_push es' rs key p) ∙ ap (λ (xs : List (ℕ × PieceView)). values_of xs ++ rs) (sym e)
+
+keyed_front : (es : List (ℕ × PieceView)) (key : ℕ) (p : PieceView) → AreKeyed (es ++ (key, p) ∷ []) → AreKeyed es
+keyed_front [] key p k = tt
+keyed_front (e ∷ es) key p k = (k.0, keyed_front es key p k.1)
+
+pub gathered_store : (es es' : List (ℕ × PieceView)) (rs rs' : List PieceView) (key : ℕ) (p : PieceView) → IsStore es rs → es ≡ es' ++ (key, p) ∷ [] → rs' ≡ p ∷ rs → RiseByKey es' → IsStore es' rs'
+gathered_store es es' rs rs' key p s e f rises = record {
+    rises = rises;
+    keyed = keyed_front es' key p (subst AreKeyed e s.keyed);
+    order = subst (LieInOrder 0) (sym (gathered_same es es' rs rs' key p e f)) s.order;
+  }
+
+pub gathered_room : (es es' : List (ℕ × PieceView)) (rs rs' : List PieceView) (key : ℕ) (p : PieceView) (room room' : ℕ) → es ≡ es' ++ (key, p) ∷ [] → rs' ≡ p ∷ rs → length es + length rs ≤ room → room' ≡ room → length es' + length rs' ≤ room'
+gathered_room es es' rs rs' key p room room' e f le r =
+    let l = ap (λ (xs : List (ℕ × PieceView)). length xs) e in
+    let m = ap (λ (xs : List PieceView). length xs) f in
+    omega (arith, l, m, le, r, length-append es' ((key, p) ∷ []))

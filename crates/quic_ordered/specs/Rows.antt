@@ -88,3 +88,11 @@ pub record HoldSame (rs rs' : List PieceView) : Type 0 where
 pub record JoinsLast (rs : List PieceView) (p : PieceView) (rs' : List PieceView) : Type 0 where
   pub case : ((rs ≡ []) × (rs' ≡ tidied p ∷ [])) ⊎ ((others : List PieceView) × (last : PieceView) × (rs ≡ others ++ last ∷ [])
       × (((run_end last ≡ p.offset) × (rs' ≡ others ++ joined_with last p ∷ [])) ⊎ ((run_end last ≢ p.offset) × (rs' ≡ rs ++ tidied p ∷ []))))
+
+-- of all pieces some were moved to `out`, and joined there where they touch; the rest is left
+pub record IsGathered (all out rest : List PieceView) : Type 0 where
+  pub same : HoldSame all (out ++ rest)
+  pub order : LieInOrder 0 (out ++ rest)
+  pub apart : LieWithGaps 0 out
+  pub tidy : All IsTidy out
+  pub pieces : length out + length rest ≤ length all

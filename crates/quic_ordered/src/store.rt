@@ -3,7 +3,7 @@ ghost use Rattle.std.specs.Prelude.{◌≡◌, ℕ, ◌+◌, ◌-◌, ◌^◌, �
 ghost use Rattle.std.specs.Map.{values_of, keys_of};
 ghost use Rattle.std.specs.List.{All};
 ghost use Rattle.quic_assembler.specs.Piece.{PieceView, run_end, run_length, run_allocation, left_of, CoversMore, TakesNone, TakesSome};
-ghost use Rattle.quic_ordered.specs.Rows.{FitsWords, RiseByKey, IsStore, LieInOrder, Merges, entry_left};
+ghost use Rattle.quic_ordered.specs.Rows.{FitsWords, RiseByKey, IsStore, LieInOrder, Merges, HoldSame, LieWithGaps, IsTidy, IsGathered, entry_left};
 ghost use Rattle.quic_ordered.specs.Entries.{IsPieceMap};
 
 use crate::gaps::hold;
@@ -58,6 +58,48 @@ fn clear_way(gaps: &mut PieceMap, row: &mut PieceRow, end: u64) -> Result<(), Ou
         }
     }
     Ok(())
+}
+
+// Moves all pieces of the map into the row.
+fn gather(gaps: &mut PieceMap, row: &mut PieceRow) -> Result<(), OutOfMemory>
+    requires { IsStore gaps.old row.old.runs }
+    ensures store { IsStore gaps.new row.new.runs }
+    ensures same { values_of gaps.new ++ row.new.runs ≡ values_of gaps.old ++ row.old.runs }
+    ensures empty { OnOk result (gaps.new ≡ []) }
+{
+    row.reserve(gaps.len())?;
+    while let Some(piece) = gaps.pop_last() {
+        row.put_front(piece);
+    }
+    Ok(())
+}
+
+// Moves the pieces of a row to the end of another, and joins those that touch.
+fn join_touching(row: &mut PieceRow, out: &mut PieceRow) -> Result<(), OutOfMemory>
+    requires order { LieInOrder 0 row.old.runs }
+    requires empty { out.old.runs ≡ [] }
+    requires room { length row.old.runs ≤ out.old.room }
+    ensures gathered { IsGathered row.old.runs out.new.runs row.new.runs }
+    ensures all { OnOk result (row.new.runs ≡ []) }
+    ensures room { row.new.room ≡ row.old.room }
+{
+    while let Some(piece) = row.pop_front() {
+        if let Err(piece) = out.join_last(piece) {
+            row.put_front(piece);
+            return Err(OutOfMemory);
+        }
+    }
+    Ok(())
+}
+
+// Puts pieces before those of a row. There is room.
+fn put_in_front(row: &mut PieceRow, mut front: PieceRow)
+    requires { length front.runs + length row.old.runs ≤ row.old.room }
+    ensures { row.new.runs ≡ front.runs ++ row.old.runs }
+{
+    while let Some(piece) = front.pop_back() {
+        row.put_front(piece);
+    }
 }
 
 // Takes the first bytes of the first piece of the map.
@@ -246,5 +288,28 @@ impl OrderedPieces {
         }
         let bytes = self.take_some(max_length)?;
         Ok(Some(bytes))
+    }
+
+    /// Joins all pieces that touch, and copies each other one that keeps more than a fifth more memory alive than it
+    /// has bytes. If refused, the same bytes are held, in as many pieces or fewer.
+    pub fn compact(&mut self) -> Result<(), OutOfMemory>
+        ensures same { HoldSame self.old self.new }
+        ensures order { (low : ℕ) → LieInOrder low self.old → LieInOrder low self.new }
+        ensures pieces { length self.new ≤ length self.old }
+        ensures apart { OnOk result (LieWithGaps 0 self.new) }
+        ensures tidy { OnOk result (All IsTidy self.new) }
+    {
+        gather(&mut self.gaps, &mut self.row)?;
+        let mut out = PieceRow::with_capacity(self.alloc, self.row.len())?;
+        match join_touching(&mut self.row, &mut out) {
+            Ok(()) => {
+                self.row = out;
+                Ok(())
+            }
+            Err(refused) => {
+                put_in_front(&mut self.row, out);
+                Err(refused)
+            }
+        }
     }
 }
