@@ -7,3 +7,4 @@ pub mod Firsts
 pub mod Stores
 pub mod Taking
 pub mod Compacting
+pub mod Places

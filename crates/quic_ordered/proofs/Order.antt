@@ -32,7 +32,7 @@ key_of_test q k t =
       | inr ne ↦ absurd (let f = is_at-apart q k ne in cc)
     ]
 
-found_head : (e : ℕ × PieceView) (es : List (ℕ × PieceView)) (q : ℕ) (v : PieceView) → piece_at (e ∷ es) q ≡ Some v → ((q ≡ e.0) × (e.1 ≡ v)) ⊎ (piece_at es q ≡ Some v)
+pub found_head : (e : ℕ × PieceView) (es : List (ℕ × PieceView)) (q : ℕ) (v : PieceView) → piece_at (e ∷ es) q ≡ Some v → ((q ≡ e.0) × (e.1 ≡ v)) ⊎ (piece_at es q ≡ Some v)
 found_head e es q v found =
     elim (found_by (is_at (nat_cmp q) e.0) e.1 v (piece_at es q) found) [
       | inl h ↦ inl (key_of_test q e.0 h.0, h.1)

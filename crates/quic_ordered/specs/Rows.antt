@@ -96,3 +96,7 @@ pub record IsGathered (all out rest : List PieceView) : Type 0 where
   pub apart : LieWithGaps 0 out
   pub tidy : All IsTidy out
   pub pieces : length out + length rest ≤ length all
+
+-- all offsets from one up to another are the piece's
+abbrev pub Encloses : ℕ → ℕ → PieceView → Type 0
+Encloses offset end r = (r.offset ≤ offset) × (end ≤ run_end r)

@@ -1,8 +1,8 @@
 // Pieces in a row, with their sums.
-ghost use Rattle.std.specs.Prelude.{◌≡◌, ℕ, ◌+◌, ◌-◌, ◌^◌, ◌<◌, ◌≤◌, [], ◌∷◌, ◌++◌, length, sum_by, option_to_list, IfOk, OnOk, OnErr, IfSome, IfNone, IsSome, Some, None, IfErr};
-ghost use Rattle.std.specs.List.{All};
+ghost use Rattle.std.specs.Prelude.{◌≡◌, ℕ, ◌+◌, ◌-◌, ◌^◌, ◌<◌, ◌≤◌, [], ◌∷◌, ◌++◌, length, sum_by, option_to_list, IfOk, OnOk, OnErr, IfSome, IfNone, IsSome, Some, None, IfErr, slice_index_or, true, false};
+ghost use Rattle.std.specs.List.{All, Any};
 ghost use Rattle.quic_assembler.specs.Piece.{PieceView, run_end, run_length, run_allocation};
-ghost use Rattle.quic_ordered.specs.Rows.{Row, FitsWords, JoinsLast, tidied};
+ghost use Rattle.quic_ordered.specs.Rows.{Row, FitsWords, JoinsLast, LieInOrder, Encloses, tidied};
 
 use crate::piece::Piece;
 use quic_values::OutOfMemory;
@@ -115,6 +115,40 @@ impl PieceRow {
             Some(last) => Some(last.end()),
             None => None,
         }
+    }
+
+    // How many pieces begin at an offset or before it.
+    fn count_up_to(&self, offset: u64) -> usize
+        requires { LieInOrder 0 self.now.runs }
+        ensures fits { result ≤ length self.now.runs }
+        ensures below { (k : ℕ) (d : PieceView) → k < result → (slice_index_or self.now.runs k d).offset ≤ offset }
+        ensures above { (k : ℕ) (d : PieceView) → result ≤ k → k < length self.now.runs → offset < (slice_index_or self.now.runs k d).offset }
+    {
+        let mut low = 0;
+        let mut high = self.pieces.len();
+        while low < high {
+            let middle = low + (high - low) / 2;
+            if self.pieces[middle].offset() <= offset {
+                low = middle + 1;
+            } else {
+                high = middle;
+            }
+        }
+        low
+    }
+
+    /// Whether one of the pieces has all offsets from one up to another.
+    pub(crate) fn encloses(&self, offset: u64, end: u64) -> bool
+        requires order { LieInOrder 0 self.now.runs }
+        requires some { offset < end }
+        ensures yes { result ≡ true → Any (Encloses offset end) self.now.runs }
+        ensures no { result ≡ false → Any (Encloses offset end) self.now.runs → ⊥ }
+    {
+        let count = self.count_up_to(offset);
+        if count == 0 {
+            return false;
+        }
+        end <= self.pieces[count - 1].end()
     }
 
     #[inline]

@@ -1,12 +1,12 @@
 // All that is held of one stream.
-ghost use Rattle.std.specs.Prelude.{◌≡◌, ℕ, ◌+◌, ◌-◌, ◌^◌, ◌<◌, ◌≤◌, ◌⊎◌, [], ◌∷◌, ◌++◌, length, sum_by, IfOk, OnOk, OnErr, IfSome, IfNone, Some, None, true, take, MatchOption};
+ghost use Rattle.std.specs.Prelude.{◌≡◌, ℕ, ◌+◌, ◌-◌, ◌^◌, ◌<◌, ◌≤◌, ◌⊎◌, [], ◌∷◌, ◌++◌, length, sum_by, IfOk, OnOk, OnErr, IfSome, IfNone, Some, None, Ok, true, false, take, MatchOption};
 ghost use Rattle.std.specs.Map.{values_of, keys_of};
-ghost use Rattle.std.specs.List.{All};
+ghost use Rattle.std.specs.List.{All, Any};
 ghost use Rattle.quic_assembler.specs.Piece.{PieceView, run_end, run_length, run_allocation, left_of, CoversMore, TakesNone, TakesSome};
-ghost use Rattle.quic_ordered.specs.Rows.{FitsWords, RiseByKey, IsStore, LieInOrder, Merges, HoldSame, LieWithGaps, IsTidy, IsGathered, entry_left};
-ghost use Rattle.quic_ordered.specs.Entries.{IsPieceMap};
+ghost use Rattle.quic_ordered.specs.Rows.{FitsWords, RiseByKey, IsStore, LieInOrder, Merges, HoldSame, LieWithGaps, IsTidy, IsGathered, Encloses, entry_left};
+ghost use Rattle.quic_ordered.specs.Entries.{IsPieceMap, piece_of};
 
-use crate::gaps::hold;
+use crate::gaps;
 use crate::map::PieceMap;
 use crate::piece::Piece;
 use crate::row::PieceRow;
@@ -213,8 +213,49 @@ impl OrderedPieces {
         }
     }
 
-    /// Takes a piece. Where two bytes meet the held one stays.
-    pub(crate) fn insert(&mut self, piece: Piece) -> Result<(), OutOfMemory>
+    // Whether one of the pieces has all offsets from one up to another.
+    fn encloses(&self, offset: u64, end: u64) -> bool
+        requires { offset < end }
+        ensures yes { result ≡ true → Any (Encloses offset end) self.now }
+        ensures no { result ≡ false → Any (Encloses offset end) self.now → ⊥ }
+    {
+        if let Some((_, last_end)) = self.gaps.last_up_to(offset) {
+            if end <= last_end {
+                return true;
+            }
+        }
+        self.row.encloses(offset, end)
+    }
+
+    /// Takes bytes that came at an offset, and that keep so much memory alive. They are joined with all pieces that
+    /// they overlap; where two bytes meet the held one stays. Bytes that touch a piece and overlap none are a piece of
+    /// their own. Bytes that lie within one piece want no memory.
+    pub fn insert(
+        &mut self,
+        offset: u64,
+        bytes: Bytes,
+        allocation_size: usize,
+    ) -> Result<(), OutOfMemory>
+        requires { offset + length bytes < 2 ^ 62 }
+        ensures merges { OnOk result (Merges self.old (piece_of offset bytes allocation_size) self.new) }
+        ensures order { (low : ℕ) → low ≤ offset → LieInOrder low self.old → LieInOrder low self.new }
+        ensures pieces { length self.new ≤ length self.old + 1 }
+        ensures within { Any (Encloses offset (offset + length bytes)) self.old → (result ≡ Ok tt) × (self.new ≡ self.old) }
+        ensures empty { length bytes ≡ 0 → (result ≡ Ok tt) × (self.new ≡ self.old) }
+        ensures err { OnErr result (self.new ≡ self.old) }
+    {
+        let end = offset + bytes.len() as u64;
+        if end == offset {
+            return Ok(());
+        }
+        if self.encloses(offset, end) {
+            return Ok(());
+        }
+        self.hold(Piece::new(offset, bytes, allocation_size))
+    }
+
+    // Takes a piece.
+    fn hold(&mut self, piece: Piece) -> Result<(), OutOfMemory>
         requires { 0 < length piece.bytes }
         ensures merges { OnOk result (Merges self.old piece self.new) }
         ensures order { (low : ℕ) → low ≤ piece.offset → LieInOrder low self.old → LieInOrder low self.new }
@@ -226,7 +267,7 @@ impl OrderedPieces {
             return Ok(());
         }
         clear_way(&mut self.gaps, &mut self.row, piece.end())?;
-        hold(&mut self.gaps, piece, self.alloc)?;
+        gaps::hold(&mut self.gaps, piece, self.alloc)?;
         Ok(())
     }
 

@@ -1,0 +1,39 @@
+use Rattle.std.proofs.Common.{arith, ◌∙◌, sym, ◌≡◌, ◌≤◌, ap, subst, List, ◌++◌}
+use Rattle.std.specs.List.{All}
+use Rattle.std.specs.Map.{values_of}
+use Rattle.quic_assembler.specs.Piece.{PieceView, run_end}
+use Rattle.quic_ordered.specs.Rows.{LieInOrder, Merges}
+use Rattle.quic_ordered.proofs.Stores.{pushed, pushed_merges, order_pushed, held_store, held_merges, order_held, map_of_store}
+use Rattle.quic_ordered.proofs.store.OrderedPieces.hold.Goals as goal
+
+pub invariant_of-self-then-is_behind : goal.invariant_of-self-then-is_behind
+invariant_of-self-then-is_behind c =
+    let ends = rw (← c.self.view_is, c.offset.ensures.value) at (c.is_behind.ensures c.if-is_behind.true) in
+    pushed _ _ _ c.args.piece c.self.invariant ends c.requires c.in_ok-push_back.ensures.ok
+
+pub returns-then-is_behind-clause-merges : goal.returns-then-is_behind-clause-merges
+returns-then-is_behind-clause-merges c = rw (← c.self.view_is) (pushed_merges (values_of c.self.inside.gaps) _ _ c.args.piece c.in_ok-push_back.ensures.ok)
+
+pub returns-then-is_behind-clause-order : goal.returns-then-is_behind-clause-order
+returns-then-is_behind-clause-order c =
+    let ends = rw (← c.self.view_is, c.offset.ensures.value) at (c.is_behind.ensures c.if-is_behind.true) in
+    rw (← c.self.view_is) (λ low le h. order_pushed low (values_of c.self.inside.gaps) _ _ c.args.piece h ends le c.requires c.in_ok-push_back.ensures.ok)
+
+pub hold-requires-clause-apart : goal.hold-requires-clause-apart
+hold-requires-clause-apart c = map_of_store _ _ c.in_ok-clear_way.ensures.store
+
+pub invariant_of-self-2 : goal.invariant_of-self-2
+invariant_of-self-2 c =
+    held_store _ _ _ c.args.piece c.in_ok-clear_way.ensures.store (rw c.end.ensures.value at c.in_ok-clear_way.ensures.clear) c.in_ok-hold.ensures.takes c.in_ok-hold.ensures.apart c.in_ok-hold.ensures.rises
+
+pub returns-clause-merges : goal.returns-clause-merges
+returns-clause-merges c =
+    let s = c.in_ok-clear_way.ensures.store in
+    let t = held_store _ _ _ c.args.piece s (rw c.end.ensures.value at c.in_ok-clear_way.ensures.clear) c.in_ok-hold.ensures.takes c.in_ok-hold.ensures.apart c.in_ok-hold.ensures.rises in
+    rw (← c.self.view_is, ← c.in_ok-clear_way.ensures.same) (held_merges c.clear_way.new.gaps c.hold.new.pieces c.clear_way.new.row.runs c.args.piece s t c.in_ok-hold.ensures.takes)
+
+pub returns-clause-order : goal.returns-clause-order
+returns-clause-order c =
+    let s = c.in_ok-clear_way.ensures.store in
+    rw (← c.self.view_is, ← c.in_ok-clear_way.ensures.same)
+      (λ low le h. order_held low c.clear_way.new.gaps c.hold.new.pieces c.clear_way.new.row.runs c.args.piece s.keyed h le (rw c.end.ensures.value at c.in_ok-clear_way.ensures.clear) c.in_ok-hold.ensures.takes c.in_ok-hold.ensures.apart c.in_ok-hold.ensures.rises)
