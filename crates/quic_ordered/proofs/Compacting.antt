@@ -25,16 +25,16 @@ within xs ys ys' zs at byte f h =
     elim (Any-append (RunHolds at byte) xs (ys ++ zs) h) [
       | inl a ↦ hold_front xs (ys' ++ zs) at byte a
       | inr b ↦ elim (Any-append (RunHolds at byte) ys zs b) [
-          | inl c ↦ hold_behind xs (ys' ++ zs) at byte (hold_front ys' zs at byte (f c))
-          | inr d ↦ hold_behind xs (ys' ++ zs) at byte (hold_behind ys' zs at byte d)
-        ]
+        | inl c ↦ hold_behind xs (ys' ++ zs) at byte (hold_front ys' zs at byte (f c))
+        | inr d ↦ hold_behind xs (ys' ++ zs) at byte (hold_behind ys' zs at byte d)
+      ]
     ]
 
 same_within : (xs ys ys' zs : List PieceView) → HoldSame ys ys' → HoldSame (xs ++ (ys ++ zs)) (xs ++ (ys' ++ zs))
 same_within xs ys ys' zs s = record {
-    keeps = λ at byte h. within xs ys ys' zs at byte (s.keeps at byte) h;
-    origin = λ at byte h. within xs ys' ys zs at byte (s.origin at byte) h;
-  }
+  keeps = λ at byte h. within xs ys ys' zs at byte (s.keeps at byte) h;
+  origin = λ at byte h. within xs ys' ys zs at byte (s.origin at byte) h;
+}
 
 tidied_by : (b : Bool) (r : PieceView) → b ≡ nat_le r.allocation_size (length r.bytes * 6 / 5) → ((cond b r (record r { allocation_size = length r.bytes })).offset ≡ r.offset) × ((cond b r (record r { allocation_size = length r.bytes })).bytes ≡ r.bytes) × IsTidy (cond b r (record r { allocation_size = length r.bytes }))
 tidied_by true r t = (refl, refl, let u = sym t in grind (arith, nat_tests))
@@ -52,15 +52,15 @@ one_holds p r at byte o b h =
 
 same_one : (p r : PieceView) → r.offset ≡ p.offset → r.bytes ≡ p.bytes → HoldSame (p ∷ []) (r ∷ [])
 same_one p r o b = record {
-    keeps = λ at byte h. elim (Any-cons (RunHolds at byte) p [] h) [
-      | inl a ↦ Any-here (RunHolds at byte) r [] (one_holds p r at byte o b a)
-      | inr n ↦ absurd (Any-nil (RunHolds at byte) n)
-    ];
-    origin = λ at byte h. elim (Any-cons (RunHolds at byte) r [] h) [
-      | inl a ↦ Any-here (RunHolds at byte) p [] (one_holds r p at byte (sym o) (sym b) a)
-      | inr n ↦ absurd (Any-nil (RunHolds at byte) n)
-    ];
-  }
+  keeps = λ at byte h. elim (Any-cons (RunHolds at byte) p [] h) [
+    | inl a ↦ Any-here (RunHolds at byte) r [] (one_holds p r at byte o b a)
+    | inr n ↦ absurd (Any-nil (RunHolds at byte) n)
+  ];
+  origin = λ at byte h. elim (Any-cons (RunHolds at byte) r [] h) [
+    | inl a ↦ Any-here (RunHolds at byte) p [] (one_holds r p at byte (sym o) (sym b) a)
+    | inr n ↦ absurd (Any-nil (RunHolds at byte) n)
+  ];
+}
 
 joined_keeps : (last p : PieceView) (at byte : ℕ) → run_end last ≡ p.offset → RunHolds at byte last ⊎ RunHolds at byte p → RunHolds at byte (joined_with last p)
 joined_keeps last p at byte e (inl h) =
@@ -89,21 +89,21 @@ joined_origin last p at byte e h =
 
 same_joined : (last p : PieceView) → run_end last ≡ p.offset → HoldSame (last ∷ (p ∷ [])) (joined_with last p ∷ [])
 same_joined last p e = record {
-    keeps = λ at byte h. Any-here (RunHolds at byte) (joined_with last p) [] (elim (Any-cons (RunHolds at byte) last (p ∷ []) h) [
-      | inl a ↦ joined_keeps last p at byte e (inl a)
-      | inr b ↦ elim (Any-cons (RunHolds at byte) p [] b) [
-          | inl c ↦ joined_keeps last p at byte e (inr c)
-          | inr n ↦ absurd (Any-nil (RunHolds at byte) n)
-        ]
-    ]);
-    origin = λ at byte h. elim (Any-cons (RunHolds at byte) (joined_with last p) [] h) [
-      | inl a ↦ elim (joined_origin last p at byte e a) [
-          | inl b ↦ Any-here (RunHolds at byte) last (p ∷ []) b
-          | inr c ↦ Any-there (RunHolds at byte) last (p ∷ []) (Any-here (RunHolds at byte) p [] c)
-        ]
+  keeps = λ at byte h. Any-here (RunHolds at byte) (joined_with last p) [] (elim (Any-cons (RunHolds at byte) last (p ∷ []) h) [
+    | inl a ↦ joined_keeps last p at byte e (inl a)
+    | inr b ↦ elim (Any-cons (RunHolds at byte) p [] b) [
+      | inl c ↦ joined_keeps last p at byte e (inr c)
       | inr n ↦ absurd (Any-nil (RunHolds at byte) n)
-    ];
-  }
+    ]
+  ]);
+  origin = λ at byte h. elim (Any-cons (RunHolds at byte) (joined_with last p) [] h) [
+    | inl a ↦ elim (joined_origin last p at byte e a) [
+      | inl b ↦ Any-here (RunHolds at byte) last (p ∷ []) b
+      | inr c ↦ Any-there (RunHolds at byte) last (p ∷ []) (Any-here (RunHolds at byte) p [] c)
+    ]
+    | inr n ↦ absurd (Any-nil (RunHolds at byte) n)
+  ];
+}
 
 -- ---- in order
 
@@ -135,12 +135,12 @@ gaps_joined low (x ∷ xs) last p h = (h.0, h.1, gaps_joined (run_end x + 1) xs 
 
 pub gathered_none : (all out : List PieceView) → out ≡ [] → LieInOrder 0 all → IsGathered all out all
 gathered_none all out e h = rw e (record {
-    same = same_refl all;
-    order = h;
-    apart = tt;
-    tidy = All-nil IsTidy;
-    pieces = omega arith;
-  })
+  same = same_refl all;
+  order = h;
+  apart = tt;
+  tidy = All-nil IsTidy;
+  pieces = omega arith;
+})
 
 -- a piece is put behind all others
 step_put : (all out rest : List PieceView) (p : PieceView) → IsGathered all out (p ∷ rest) → LieWithGaps 0 (out ++ tidied p ∷ []) → IsGathered all (out ++ tidied p ∷ []) rest
@@ -162,7 +162,7 @@ step_join all others rest last p g e =
     let l = length-append last.bytes p.bytes in
     record {
       same = same_trans all ((others ++ last ∷ []) ++ (p ∷ rest)) ((others ++ joined_with last p ∷ []) ++ rest) g.same
-        (subst (HoldSame ((others ++ last ∷ []) ++ (p ∷ rest))) (sym b) (subst (λ (ys : List PieceView). HoldSame ys (others ++ (joined_with last p ∷ rest))) (sym a) (same_within others (last ∷ (p ∷ [])) (joined_with last p ∷ []) rest (same_joined last p e))));
+          (subst (HoldSame ((others ++ last ∷ []) ++ (p ∷ rest))) (sym b) (subst (λ (ys : List PieceView). HoldSame ys (others ++ (joined_with last p ∷ rest))) (sym a) (same_within others (last ∷ (p ∷ [])) (joined_with last p ∷ []) rest (same_joined last p e))));
       order = subst (LieInOrder 0) (sym b) (order_joined 0 others rest last p e (subst (LieInOrder 0) a g.order));
       apart = gaps_joined 0 others last p g.apart;
       tidy = All-push IsTidy others (joined_with last p) (All-pop IsTidy (others ++ last ∷ []) others (Some last) refl g.tidy).0 (omega (arith, l));

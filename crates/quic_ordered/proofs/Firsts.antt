@@ -106,7 +106,7 @@ cut_popped es one two at count hollow first c =
     let d = c.at_is in
     let s = c.some in
     let e = c.put ∙ ap (λ (xs : List (ℕ × PieceView)). insert_entry nat_cmp xs hollow.offset hollow) c.is
-      ∙ insert_second (c.key, c.piece) c.rest hollow.offset hollow (omega arith) (behind_key es one two at count hollow first c) in
+    ∙ insert_second (c.key, c.piece) c.rest hollow.offset hollow (omega arith) (behind_key es one two at count hollow first c) in
     let f = same_entry one c.first_key c.key first c.piece two ((hollow.offset, hollow) ∷ c.rest) c.popped e in
     (f.1, f.2)
 
@@ -119,4 +119,4 @@ cut_left es one two three at count hollow first left c l p =
     let b = c.hollow_at in
     let d = c.at_is in
     p ∙ ap (λ (xs : List (ℕ × PieceView)). insert_entry nat_cmp xs left.offset left) f.1 ∙ insert_same (hollow.offset, hollow) c.rest left.offset left (omega arith)
-      ∙ ap (λ (r : PieceView). (r.offset, r) ∷ c.rest) g
+    ∙ ap (λ (r : PieceView). (r.offset, r) ∷ c.rest) g

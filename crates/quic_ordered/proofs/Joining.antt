@@ -229,17 +229,17 @@ done_origin es ms ms' new base start end at byte d here (inr (inr out)) =
 
 pub takes : (es ms ms' : List (ℕ × PieceView)) (new base : PieceView) (start end : ℕ) → Done es ms ms' new base start end → MapTakes es new ms'
 takes es ms ms' new base start end d = record {
-    keeps = λ at byte h. done_keeps es ms ms' new base start end at byte d h;
-    gains = λ at byte h none. held ms' start at byte base d.mine (d.joins.fresh at byte h none);
-    origin = λ at byte h.
-        elim (cases_eq h.start start) [
-          | inl same ↦
-              let e = some_is (piece_at ms' start) h.run base (ap (piece_at ms') (sym same) ∙ h.found) d.mine in
-              let here = subst (RunHolds at byte) e h.here in
-              done_origin es ms ms' new base start end at byte d here (d.joins.origin at byte here)
-          | inr ne ↦ inl (held es h.start at byte h.run (was_there es ms ms' new base start end h.start h.run d ne h.found).0 h.here)
-        ];
-  }
+  keeps = λ at byte h. done_keeps es ms ms' new base start end at byte d h;
+  gains = λ at byte h none. held ms' start at byte base d.mine (d.joins.fresh at byte h none);
+  origin = λ at byte h.
+      elim (cases_eq h.start start) [
+        | inl same ↦
+            let e = some_is (piece_at ms' start) h.run base (ap (piece_at ms') (sym same) ∙ h.found) d.mine in
+            let here = subst (RunHolds at byte) e h.here in
+            done_origin es ms ms' new base start end at byte d here (d.joins.origin at byte here)
+        | inr ne ↦ inl (held es h.start at byte h.run (was_there es ms ms' new base start end h.start h.run d ne h.found).0 h.here)
+      ];
+}
 
 done_apart : (es ms ms' : List (ℕ × PieceView)) (new base : PieceView) (start end q r : ℕ) (v w : PieceView) → Done es ms ms' new base start end
     → piece_at ms' q ≡ Some v → piece_at ms' r ≡ Some w → q < r → run_end v ≤ r
@@ -271,18 +271,18 @@ stays_apart es ms ms' new base start end d =
     let sf = d.spans.from in
     let st = d.spans.to in
     record {
-    key = λ q v found.
-        elim (cases_eq q start) [
-          | inl same ↦ let e = some_is (piece_at ms' start) v base (ap (piece_at ms') (sym same) ∙ found) d.mine in ap (λ (x : PieceView). x.offset) e ∙ (d.joins.offset ∙ sym same)
-          | inr ne ↦ d.apart.key q v (was_there es ms ms' new base start end q v d ne found).0
-        ];
-    some = λ q v found.
-        elim (cases_eq q start) [
-          | inl same ↦ let e = ap (λ (x : PieceView). length x.bytes) (some_is (piece_at ms' start) v base (ap (piece_at ms') (sym same) ∙ found) d.mine) in omega arith
-          | inr ne ↦ d.apart.some q v (was_there es ms ms' new base start end q v d ne found).0
-        ];
-    apart = λ q r v w found other lt. done_apart es ms ms' new base start end q r v w d found other lt;
-  }
+      key = λ q v found.
+          elim (cases_eq q start) [
+            | inl same ↦ let e = some_is (piece_at ms' start) v base (ap (piece_at ms') (sym same) ∙ found) d.mine in ap (λ (x : PieceView). x.offset) e ∙ (d.joins.offset ∙ sym same)
+            | inr ne ↦ d.apart.key q v (was_there es ms ms' new base start end q v d ne found).0
+          ];
+      some = λ q v found.
+          elim (cases_eq q start) [
+            | inl same ↦ let e = ap (λ (x : PieceView). length x.bytes) (some_is (piece_at ms' start) v base (ap (piece_at ms') (sym same) ∙ found) d.mine) in omega arith
+            | inr ne ↦ d.apart.some q v (was_there es ms ms' new base start end q v d ne found).0
+          ];
+      apart = λ q r v w found other lt. done_apart es ms ms' new base start end q r v w d found other lt;
+    }
 
 -- ---- the new run overlaps none, or lies within one
 
@@ -337,14 +337,14 @@ not_new es new q v apart some free found same =
 pub put_takes : (es es' : List (ℕ × PieceView)) (new : PieceView) → IsPieceMap es → 0 < length new.bytes → Free es new → piece_at es' new.offset ≡ Some new
     → ((x : ℕ) → (x ≡ new.offset → ⊥) → piece_at es' x ≡ piece_at es x) → MapTakes es new es'
 put_takes es es' new apart some free mine others = record {
-    keeps = λ at byte h. held es' h.start at byte h.run (others h.start (not_new es new h.start h.run apart some free h.found) ∙ h.found) h.here;
-    gains = λ at byte h none. held es' new.offset at byte new mine h;
-    origin = λ at byte h.
-        elim (cases_eq h.start new.offset) [
-          | inl same ↦ inr (subst (RunHolds at byte) (some_is (piece_at es' new.offset) h.run new (ap (piece_at es') (sym same) ∙ h.found) mine) h.here)
-          | inr ne ↦ inl (held es h.start at byte h.run (sym (others h.start ne) ∙ h.found) h.here)
-        ];
-  }
+  keeps = λ at byte h. held es' h.start at byte h.run (others h.start (not_new es new h.start h.run apart some free h.found) ∙ h.found) h.here;
+  gains = λ at byte h none. held es' new.offset at byte new mine h;
+  origin = λ at byte h.
+      elim (cases_eq h.start new.offset) [
+        | inl same ↦ inr (subst (RunHolds at byte) (some_is (piece_at es' new.offset) h.run new (ap (piece_at es') (sym same) ∙ h.found) mine) h.here)
+        | inr ne ↦ inl (held es h.start at byte h.run (sym (others h.start ne) ∙ h.found) h.here)
+      ];
+}
 
 put_two : (es es' : List (ℕ × PieceView)) (new : PieceView) (q r : ℕ) (v w : PieceView) → IsPieceMap es → 0 < length new.bytes → Free es new → piece_at es' new.offset ≡ Some new
     → ((x : ℕ) → (x ≡ new.offset → ⊥) → piece_at es' x ≡ piece_at es x) → piece_at es' q ≡ Some v → piece_at es' r ≡ Some w → q < r → run_end v ≤ r
@@ -362,9 +362,9 @@ put_two es es' new q r v w apart some free mine others found other lt =
           let here : piece_at es q ≡ Some v = sym (others q ne) ∙ found in
           elim (cases_eq r new.offset) [
             | inl same ↦ elim (free q v here) [
-                | inl a ↦ omega arith
-                | inr b ↦ absurd (omega arith)
-              ]
+              | inl a ↦ omega arith
+              | inr b ↦ absurd (omega arith)
+            ]
             | inr ne' ↦ apart.apart q r v w here (sym (others r ne') ∙ other) lt
           ]
     ]
@@ -372,18 +372,18 @@ put_two es es' new q r v w apart some free mine others found other lt =
 pub put_apart : (es es' : List (ℕ × PieceView)) (new : PieceView) → IsPieceMap es → 0 < length new.bytes → Free es new → piece_at es' new.offset ≡ Some new
     → ((x : ℕ) → (x ≡ new.offset → ⊥) → piece_at es' x ≡ piece_at es x) → IsPieceMap es'
 put_apart es es' new apart some free mine others = record {
-    key = λ q v found.
-        elim (cases_eq q new.offset) [
-          | inl same ↦ ap (λ (x : PieceView). x.offset) (some_is (piece_at es' new.offset) v new (ap (piece_at es') (sym same) ∙ found) mine) ∙ sym same
-          | inr ne ↦ apart.key q v (sym (others q ne) ∙ found)
-        ];
-    some = λ q v found.
-        elim (cases_eq q new.offset) [
-          | inl same ↦ let e = ap (λ (x : PieceView). length x.bytes) (some_is (piece_at es' new.offset) v new (ap (piece_at es') (sym same) ∙ found) mine) in omega arith
-          | inr ne ↦ apart.some q v (sym (others q ne) ∙ found)
-        ];
-    apart = λ q r v w found other lt. put_two es es' new q r v w apart some free mine others found other lt;
-  }
+  key = λ q v found.
+      elim (cases_eq q new.offset) [
+        | inl same ↦ ap (λ (x : PieceView). x.offset) (some_is (piece_at es' new.offset) v new (ap (piece_at es') (sym same) ∙ found) mine) ∙ sym same
+        | inr ne ↦ apart.key q v (sym (others q ne) ∙ found)
+      ];
+  some = λ q v found.
+      elim (cases_eq q new.offset) [
+        | inl same ↦ let e = ap (λ (x : PieceView). length x.bytes) (some_is (piece_at es' new.offset) v new (ap (piece_at es') (sym same) ∙ found) mine) in omega arith
+        | inr ne ↦ apart.some q v (sym (others q ne) ∙ found)
+      ];
+  apart = λ q r v w found other lt. put_two es es' new q r v w apart some free mine others found other lt;
+}
 
 pub within_takes : (es : List (ℕ × PieceView)) (new : PieceView) (last last_end n : ℕ) → IsPieceMap es → IsLastPiece es last last_end n → last ≤ new.offset → run_end new ≤ last_end → MapTakes es new es
 within_takes es new last last_end n apart l low high =

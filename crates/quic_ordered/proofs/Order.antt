@@ -96,30 +96,30 @@ two_apart [] rs low q r v w k h found other lt = absurd (none_some None v refl f
 two_apart (e ∷ es) rs low q r v w k h found other lt =
     elim (found_head e es q v found) [
       | inl here ↦ elim (found_head e es r w other) [
-          | inl same ↦ absurd (let a = here.0 in let b = same.0 in omega arith)
-          | inr there ↦
-              let i = found_low es rs (run_end e.1) r w h.2 there in
-              let j = key_at es r w k.1 there in
-              let m = ap run_end here.1 in
-              omega (arith, i.0, j, m)
-        ]
+        | inl same ↦ absurd (let a = here.0 in let b = same.0 in omega arith)
+        | inr there ↦
+            let i = found_low es rs (run_end e.1) r w h.2 there in
+            let j = key_at es r w k.1 there in
+            let m = ap run_end here.1 in
+            omega (arith, i.0, j, m)
+      ]
       | inr there ↦ elim (found_head e es r w other) [
-          | inl same ↦
-              let i = found_low es rs (run_end e.1) q v h.2 there in
-              let j = key_at es q v k.1 there in
-              let a = same.0 in
-              let b = k.0 in
-              absurd (omega (arith, i.0, j))
-          | inr more ↦ two_apart es rs (run_end e.1) q r v w k.1 h.2 there more lt
-        ]
+        | inl same ↦
+            let i = found_low es rs (run_end e.1) q v h.2 there in
+            let j = key_at es q v k.1 there in
+            let a = same.0 in
+            let b = k.0 in
+            absurd (omega (arith, i.0, j))
+        | inr more ↦ two_apart es rs (run_end e.1) q r v w k.1 h.2 there more lt
+      ]
     ]
 
 pub piece_map_of : (es : List (ℕ × PieceView)) (rs : List PieceView) (low : ℕ) → AreKeyed es → LieInOrder low (values_of es ++ rs) → IsPieceMap es
 piece_map_of es rs low k h = record {
-    key = λ q v found. key_at es q v k found;
-    some = λ q v found. (found_low es rs low q v h found).1;
-    apart = λ q r v w found other lt. two_apart es rs low q r v w k h found other lt;
-  }
+  key = λ q v found. key_at es q v k found;
+  some = λ q v found. (found_low es rs low q v h found).1;
+  apart = λ q r v w found other lt. two_apart es rs low q r v w k h found other lt;
+}
 
 -- ---- what is held
 
@@ -165,21 +165,21 @@ hold_behind (x ∷ xs) ys at byte h = Any-there (RunHolds at byte) x (xs ++ ys) 
 pub merges_map : (es es' : List (ℕ × PieceView)) (rs : List PieceView) (new : PieceView) (low low' : ℕ) → AreKeyed es → LieInOrder low (values_of es ++ rs) → AreKeyed es' → LieInOrder low' (values_of es' ++ rs)
     → MapTakes es new es' → Merges (values_of es ++ rs) new (values_of es' ++ rs)
 merges_map es es' rs new low low' k h k' h' t = record {
-    keeps = λ at byte any.
-        elim (Any-append (RunHolds at byte) (values_of es) rs any) [
-          | inl a ↦ hold_front (values_of es') rs at byte (values_of_map es' at byte (t.keeps at byte (map_of_values es rs low at byte k h a)))
-          | inr b ↦ hold_behind (values_of es') rs at byte b
-        ];
-    gains = λ at byte here none. hold_front (values_of es') rs at byte (values_of_map es' at byte (t.gains at byte here (λ b m. none b (hold_front (values_of es) rs at b (values_of_map es at b m)))));
-    origin = λ at byte any.
-        elim (Any-append (RunHolds at byte) (values_of es') rs any) [
-          | inl a ↦ elim (t.origin at byte (map_of_values es' rs low' at byte k' h' a)) [
-              | inl old ↦ inl (hold_front (values_of es) rs at byte (values_of_map es at byte old))
-              | inr mine ↦ inr mine
-            ]
-          | inr b ↦ inl (hold_behind (values_of es) rs at byte b)
-        ];
-  }
+  keeps = λ at byte any.
+      elim (Any-append (RunHolds at byte) (values_of es) rs any) [
+        | inl a ↦ hold_front (values_of es') rs at byte (values_of_map es' at byte (t.keeps at byte (map_of_values es rs low at byte k h a)))
+        | inr b ↦ hold_behind (values_of es') rs at byte b
+      ];
+  gains = λ at byte here none. hold_front (values_of es') rs at byte (values_of_map es' at byte (t.gains at byte here (λ b m. none b (hold_front (values_of es) rs at b (values_of_map es at b m)))));
+  origin = λ at byte any.
+      elim (Any-append (RunHolds at byte) (values_of es') rs any) [
+        | inl a ↦ elim (t.origin at byte (map_of_values es' rs low' at byte k' h' a)) [
+          | inl old ↦ inl (hold_front (values_of es) rs at byte (values_of_map es at byte old))
+          | inr mine ↦ inr mine
+        ]
+        | inr b ↦ inl (hold_behind (values_of es) rs at byte b)
+      ];
+}
 
 -- ---- from a map to a list in order
 
@@ -202,10 +202,10 @@ tail_at e es q v rises found = at_tail e es q (λ same. let l = after_head e es 
 
 pub tail_map : (e : ℕ × PieceView) (es : List (ℕ × PieceView)) → RiseByKey (e ∷ es) → IsPieceMap (e ∷ es) → IsPieceMap es
 tail_map e es rises m = record {
-    key = λ q v found. m.key q v (tail_at e es q v rises found);
-    some = λ q v found. m.some q v (tail_at e es q v rises found);
-    apart = λ q r v w found other lt. m.apart q r v w (tail_at e es q v rises found) (tail_at e es r w rises other) lt;
-  }
+  key = λ q v found. m.key q v (tail_at e es q v rises found);
+  some = λ q v found. m.some q v (tail_at e es q v rises found);
+  apart = λ q r v w found other lt. m.apart q r v w (tail_at e es q v rises found) (tail_at e es r w rises other) lt;
+}
 
 pub keyed_of : (es : List (ℕ × PieceView)) → RiseByKey es → IsPieceMap es → AreKeyed es
 keyed_of [] rises m = tt
@@ -215,11 +215,13 @@ pub order_of : (es : List (ℕ × PieceView)) (rs : List PieceView) (low : ℕ) 
 order_of [] rs low rises m each rest = rest
 order_of (e ∷ es) rs low rises m each rest =
     let here = each e.0 e.1 (at_head e es) in
-    let k = m.key e.0 e.1 (at_head e es) in
-    (omega (arith, here.0), m.some e.0 e.1 (at_head e es),
+    let k = m.key e.0 e.1 (at_head e es) in (
+      omega (arith, here.0),
+      m.some e.0 e.1 (at_head e es),
       order_of es rs (run_end e.1) (sorted_tail nat_cmp e.0 (keys_of es) rises) (tail_map e es rises m)
-        (λ q v found. (m.apart e.0 q e.1 v (at_head e es) (tail_at e es q v rises found) (after_head e es q v rises found), (each q v (tail_at e es q v rises found)).1))
-        here.1)
+          (λ q v found. (m.apart e.0 q e.1 v (at_head e es) (tail_at e es q v rises found) (after_head e es q v rises found), (each q v (tail_at e es q v rises found)).1))
+          here.1,
+    )
 
 pub order_push_all : (low : ℕ) (xs : List PieceView) (p : PieceView) → LieInOrder low xs → All (λ (r : PieceView). run_end r ≤ p.offset) xs → low ≤ p.offset → 0 < length p.bytes → LieInOrder low (xs ++ p ∷ [])
 order_push_all low [] p h ends le some = (le, some, tt)
@@ -261,26 +263,27 @@ hold_each es es' rs new low q v k h m t le rest found =
     let key = m.key q v found in
     let some = m.some q v found in
     let first : MapHolds es' q (slice_index v.bytes (q - v.offset)) = held es' q q _ v found (omega (arith, key), omega (arith, key, some), refl) in
-    let last : MapHolds es' (run_end v - 1) (slice_index v.bytes (run_end v - 1 - v.offset)) = held es' q (run_end v - 1) _ v found (omega (arith, some), omega (arith, some), refl) in
-    (elim (t.origin q _ first) [
+    let last : MapHolds es' (run_end v - 1) (slice_index v.bytes (run_end v - 1 - v.offset)) = held es' q (run_end v - 1) _ v found (omega (arith, some), omega (arith, some), refl) in (
+      elim (t.origin q _ first) [
         | inl old ↦ let f = found_low es rs low old.start old.run h old.found in let here = old.here in omega (arith, f.0, here.0)
         | inr mine ↦ omega (arith, mine.0, le)
       ],
       elim (t.origin (run_end v - 1) _ last) [
         | inl old ↦ let here = old.here in lower (run_end v) (run_end old.run) rs (omega (arith, here.1)) (row_behind es rs low old.start old.run h old.found)
         | inr mine ↦ lower (run_end v) (run_end new) rs (omega (arith, mine.1)) rest
-      ])
+      ],
+    )
 
 pub merges_push : (rs : List PieceView) (p : PieceView) → Merges rs p (rs ++ p ∷ [])
 merges_push rs p = record {
-    keeps = λ at byte h. hold_front rs (p ∷ []) at byte h;
-    gains = λ at byte here none. hold_behind rs (p ∷ []) at byte (Any-here (RunHolds at byte) p [] here);
-    origin = λ at byte h.
-        elim (Any-append (RunHolds at byte) rs (p ∷ []) h) [
-          | inl old ↦ inl old
-          | inr mine ↦ elim (Any-cons (RunHolds at byte) p [] mine) [
-              | inl here ↦ inr here
-              | inr none ↦ absurd (Any-nil (RunHolds at byte) none)
-            ]
-        ];
-  }
+  keeps = λ at byte h. hold_front rs (p ∷ []) at byte h;
+  gains = λ at byte here none. hold_behind rs (p ∷ []) at byte (Any-here (RunHolds at byte) p [] here);
+  origin = λ at byte h.
+      elim (Any-append (RunHolds at byte) rs (p ∷ []) h) [
+        | inl old ↦ inl old
+        | inr mine ↦ elim (Any-cons (RunHolds at byte) p [] mine) [
+          | inl here ↦ inr here
+          | inr none ↦ absurd (Any-nil (RunHolds at byte) none)
+        ]
+      ];
+}

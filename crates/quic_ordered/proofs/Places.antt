@@ -56,11 +56,11 @@ none_encloses xs n offset end r h some lt e below above short (k, x, fits, is, (
           let g = ap run_end is in
           omega (arith, p, b, g, f, some)
       | inr ge ↦ elim (cases_eq k n) [
-          | inl same ↦
-              let g = ap run_end (sym is ∙ ap (λ (i : ℕ). slice_index_or xs i x) same ∙ same_at xs n x r lt ∙ sym e) in
-              omega (arith, g, f, short)
-          | inr ne ↦ let a = above k x (omega (arith, ge, ne)) fits in let g = ap (λ (y : PieceView). y.offset) is in omega (arith, a, g, o)
-        ]
+        | inl same ↦
+            let g = ap run_end (sym is ∙ ap (λ (i : ℕ). slice_index_or xs i x) same ∙ same_at xs n x r lt ∙ sym e) in
+            omega (arith, g, f, short)
+        | inr ne ↦ let a = above k x (omega (arith, ge, ne)) fits in let g = ap (λ (y : PieceView). y.offset) is in omega (arith, a, g, o)
+      ]
     ]
 
 -- ---- of a map
@@ -130,14 +130,14 @@ none_map es offset end q v none found le big = none_some (piece_at es q) v (none
 
 pub merges_enclosed : (xs : List PieceView) (p : PieceView) → Any (Encloses p.offset (run_end p)) xs → Merges xs p xs
 merges_enclosed xs p (k, x, fits, is, (o, f)) = record {
-    keeps = λ at byte h. h;
-    gains = λ at byte here none. absurd (none (slice_index_or x.bytes (at - x.offset) 0) (k, x, fits, is, (omega (arith, here.0, o), omega (arith, here.1, f), refl)));
-    origin = λ at byte h. inl h;
-  }
+  keeps = λ at byte h. h;
+  gains = λ at byte here none. absurd (none (slice_index_or x.bytes (at - x.offset) 0) (k, x, fits, is, (omega (arith, here.0, o), omega (arith, here.1, f), refl)));
+  origin = λ at byte h. inl h;
+}
 
 pub merges_empty : (xs : List PieceView) (p : PieceView) → length p.bytes ≡ 0 → Merges xs p xs
 merges_empty xs p e = record {
-    keeps = λ at byte h. h;
-    gains = λ at byte here none. absurd (omega (arith, here.0, here.1, e));
-    origin = λ at byte h. inl h;
-  }
+  keeps = λ at byte h. h;
+  gains = λ at byte here none. absurd (omega (arith, here.0, here.1, e));
+  origin = λ at byte h. inl h;
+}

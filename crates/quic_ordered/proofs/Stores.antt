@@ -26,10 +26,10 @@ moved_same es es' rs rs' p e f = ap (λ (xs : List (ℕ × PieceView)). values_o
 
 pub moved : (es es' : List (ℕ × PieceView)) (rs rs' : List PieceView) (p : PieceView) → IsStore es rs → rs ≡ p ∷ rs' → es' ≡ es ++ (p.offset, p) ∷ [] → RiseByKey es' → IsStore es' rs'
 moved es es' rs rs' p s e f rises = record {
-    rises = rises;
-    keyed = subst AreKeyed (sym f) (keyed_push es p s.keyed);
-    order = subst (LieInOrder 0) (sym (moved_same es es' rs rs' p e f)) s.order;
-  }
+  rises = rises;
+  keyed = subst AreKeyed (sym f) (keyed_push es p s.keyed);
+  order = subst (LieInOrder 0) (sym (moved_same es es' rs rs' p e f)) s.order;
+}
 
 pub same_store : (es : List (ℕ × PieceView)) (rs rs' : List PieceView) → rs' ≡ rs → IsStore es rs → IsStore es rs'
 same_store es rs rs' e s = subst (IsStore es) (sym e) s
@@ -72,10 +72,10 @@ keyed_front (e ∷ es) key p k = (k.0, keyed_front es key p k.1)
 
 pub gathered_store : (es es' : List (ℕ × PieceView)) (rs rs' : List PieceView) (key : ℕ) (p : PieceView) → IsStore es rs → es ≡ es' ++ (key, p) ∷ [] → rs' ≡ p ∷ rs → RiseByKey es' → IsStore es' rs'
 gathered_store es es' rs rs' key p s e f rises = record {
-    rises = rises;
-    keyed = keyed_front es' key p (subst AreKeyed e s.keyed);
-    order = subst (LieInOrder 0) (sym (gathered_same es es' rs rs' key p e f)) s.order;
-  }
+  rises = rises;
+  keyed = keyed_front es' key p (subst AreKeyed e s.keyed);
+  order = subst (LieInOrder 0) (sym (gathered_same es es' rs rs' key p e f)) s.order;
+}
 
 pub gathered_room : (es es' : List (ℕ × PieceView)) (rs rs' : List PieceView) (key : ℕ) (p : PieceView) (room room' : ℕ) → es ≡ es' ++ (key, p) ∷ [] → rs' ≡ p ∷ rs → length es + length rs ≤ room → room' ≡ room → length es' + length rs' ≤ room'
 gathered_room es es' rs rs' key p room room' e f le r =

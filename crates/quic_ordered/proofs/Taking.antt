@@ -10,28 +10,8 @@ use Rattle.std.proofs.lemmas.List.Elements.{All-head, All-tail, All-nil, All-con
 use Rattle.std.proofs.lemmas.List.Sorted.{IsPermutation-refl}
 use Rattle.quic_assembler.specs.Piece.{PieceView, run_end, RunHolds, left_of, cut_at, advance_by, TakesSome, TakesNone, CoversMore}
 use Rattle.quic_assembler.proofs.Runs.{TakesSome-front, CoversMore-front, KeepsFrom-refl, none_reaches}
-use Rattle.quic_ordered.specs.Rows.{RiseByKey, LieInOrder, AreKeyed, IsStore, FitsWords, entry_left}
+use Rattle.quic_ordered.specs.Rows.{RiseByKey, LieInOrder, AreKeyed, IsStore, FitsWords, GivesFirst, entry_left}
 use Rattle.quic_ordered.proofs.Order.{lower}
-
-all_above : (floor low : ℕ) (rs : List PieceView) → floor < low → LieInOrder low rs → All (λ (q : PieceView). floor < q.offset) rs
-all_above floor low [] lt h = All-nil (λ (q : PieceView). floor < q.offset)
-all_above floor low (r ∷ rs) lt h = let a = h.0 in All-cons (λ (q : PieceView). floor < q.offset) r rs (omega arith) (all_above floor (run_end r) rs (omega arith) h.2)
-
--- nothing begins at the floor
-pub takes_above : (floor : ℕ) (xs rest : List PieceView) (first : PieceView) → LieInOrder floor xs → xs ≡ first ∷ rest → floor < first.offset → TakesNone floor xs xs
-takes_above floor xs rest first h e lt =
-    let g = subst (LieInOrder floor) e h in
-    record {
-      none = none_reaches xs floor (subst (All (λ (q : PieceView). floor < q.offset)) (sym e)
-        (All-cons (λ (q : PieceView). floor < q.offset) first rest lt (all_above floor (run_end first) rest (omega arith) g.2)));
-      kept = KeepsFrom-refl floor xs;
-    }
-
-pub takes_nothing : (floor : ℕ) (xs : List PieceView) → xs ≡ [] → TakesNone floor xs xs
-takes_nothing floor xs e = record {
-    none = none_reaches xs floor (subst (All (λ (q : PieceView). floor < q.offset)) (sym e) (All-nil (λ (q : PieceView). floor < q.offset)));
-    kept = KeepsFrom-refl floor xs;
-  }
 
 whole_cut : (floor : ℕ) (r : PieceView) → r.offset ≡ floor → cut_at floor r ≡ r
 whole_cut floor r e =
@@ -68,28 +48,11 @@ takes_first floor most bytes xs rest new first h e le top given left =
     let cut = whole_cut floor first at in
     let len = ap (λ (r : PieceView). length r.bytes) cut in
     TakesSome-front floor most bytes xs xs rest new first (KeepsFrom-refl floor xs) (subst (λ (ys : List PieceView). IsPermutation xs ys) e (IsPermutation-refl xs)) le (omega (arith, s)) top
-      (given ∙ ap (λ (r : PieceView). take most r.bytes) (sym cut))
-      (λ lt. subst (λ (ys : List PieceView). IsPermutation (advance_by most (cut_at floor first) ∷ rest) ys)
-        (ap (λ (r : PieceView). advance_by most r ∷ rest) cut ∙ sym (left_part (nat_lt most (length first.bytes)) most first rest (test_lt most (length first.bytes) (omega (arith, lt, len)))) ∙ sym left)
-        (IsPermutation-refl (advance_by most (cut_at floor first) ∷ rest)))
-      (λ ge. left ∙ left_none (nat_lt most (length first.bytes)) most first rest (test_ge most (length first.bytes) (omega (arith, ge, len))))
-
-left_order_by : (b : Bool) (most floor low : ℕ) (bytes : List ℕ) (rest : List PieceView) (first : PieceView) → b ≡ nat_lt most (length first.bytes) → LieInOrder low (first ∷ rest) → low ≡ floor → first.offset ≡ floor → bytes ≡ take most first.bytes
-    → LieInOrder (floor + length bytes) (cond b (advance_by most first ∷ []) [] ++ rest)
-left_order_by true most floor low bytes rest first t h e f g =
-    let lt = lt_test most (length first.bytes) (sym t) in
-    let l : length bytes ≡ most = ap (λ (bs : List ℕ). length bs) g ∙ length-take most first.bytes ∙ omega (arith, lt) in
-    let d = length-drop most first.bytes in
-    (omega (arith, l, f), omega (arith, d, lt), lower (run_end (advance_by most first)) (run_end first) rest (omega (arith, d, lt)) h.2)
-left_order_by false most floor low bytes rest first t h e f g =
-    let ge = ge_test most (length first.bytes) (sym t) in
-    let l : length bytes ≡ length first.bytes = ap (λ (bs : List ℕ). length bs) g ∙ length-take most first.bytes ∙ omega (arith, ge) in
-    lower (floor + length bytes) (run_end first) rest (omega (arith, l, f)) h.2
-
-pub left_order : (floor most : ℕ) (bytes : List ℕ) (xs rest new : List PieceView) (first : PieceView) → LieInOrder floor xs → xs ≡ first ∷ rest → first.offset ≤ floor → bytes ≡ take most first.bytes → new ≡ left_of most first ++ rest → LieInOrder (floor + length bytes) new
-left_order floor most bytes xs rest new first h e le given left =
-    let g = subst (LieInOrder floor) e h in
-    subst (LieInOrder (floor + length bytes)) (sym left) (left_order_by (nat_lt most (length first.bytes)) most floor floor bytes rest first refl g refl (let a = g.0 in omega arith) given)
+    (given ∙ ap (λ (r : PieceView). take most r.bytes) (sym cut))
+    (λ lt. subst (λ (ys : List PieceView). IsPermutation (advance_by most (cut_at floor first) ∷ rest) ys)
+    (ap (λ (r : PieceView). advance_by most r ∷ rest) cut ∙ sym (left_part (nat_lt most (length first.bytes)) most first rest (test_lt most (length first.bytes) (omega (arith, lt, len)))) ∙ sym left)
+    (IsPermutation-refl (advance_by most (cut_at floor first) ∷ rest)))
+    (λ ge. left ∙ left_none (nat_lt most (length first.bytes)) most first rest (test_ge most (length first.bytes) (omega (arith, ge, len))))
 
 left_zero : (b : Bool) (most low : ℕ) (rest : List PieceView) (first : PieceView) → LieInOrder low (first ∷ rest) → b ≡ nat_lt most (length first.bytes) → LieInOrder low (cond b (advance_by most first ∷ []) [] ++ rest)
 left_zero true most low rest first h t =
@@ -98,13 +61,6 @@ left_zero true most low rest first h t =
     let a = h.0 in
     (omega arith, omega (arith, d, lt), lower (run_end (advance_by most first)) (run_end first) rest (omega (arith, d, lt)) h.2)
 left_zero false most low rest first h t = let a = h.0 in lower low (run_end first) rest (omega arith) h.2
-
-pub left_length : (most : ℕ) (first : PieceView) → length (left_of most first) ≤ 1
-left_length most first = left_length_by (nat_lt most (length first.bytes)) most first
-  where
-    left_length_by : (b : Bool) (most : ℕ) (first : PieceView) → length (cond b (advance_by most first ∷ []) []) ≤ 1
-    left_length_by true most first = omega arith
-    left_length_by false most first = omega arith
 
 -- ---- of a map
 
@@ -124,10 +80,10 @@ entry_keyed false most r rest k = k
 
 pub store_left : (es es' rest : List (ℕ × PieceView)) (rs : List PieceView) (key most : ℕ) (first : PieceView) → IsStore es rs → es ≡ (key, first) ∷ rest → es' ≡ entry_left most first ++ rest → RiseByKey es' → IsStore es' rs
 store_left es es' rest rs key most first s e f rises = record {
-    rises = rises;
-    keyed = subst AreKeyed (sym f) (entry_keyed (nat_lt most (length first.bytes)) most first rest (subst AreKeyed e s.keyed).1);
-    order = subst (LieInOrder 0) (sym (left_of_store es' rest rs most first f)) (left_zero (nat_lt most (length first.bytes)) most 0 (values_of rest ++ rs) first (subst (LieInOrder 0) (first_of_store es rest rs key first e) s.order) refl);
-  }
+  rises = rises;
+  keyed = subst AreKeyed (sym f) (entry_keyed (nat_lt most (length first.bytes)) most first rest (subst AreKeyed e s.keyed).1);
+  order = subst (LieInOrder 0) (sym (left_of_store es' rest rs most first f)) (left_zero (nat_lt most (length first.bytes)) most 0 (values_of rest ++ rs) first (subst (LieInOrder 0) (first_of_store es rest rs key first e) s.order) refl);
+}
 
 -- ---- of a row
 
@@ -136,21 +92,12 @@ row_first es rs rest first e f = ap (λ (xs : List (ℕ × PieceView)). values_o
 
 pub store_row_left : (es : List (ℕ × PieceView)) (rs rs' rest : List PieceView) (most : ℕ) (first : PieceView) → IsStore es rs → es ≡ [] → rs ≡ first ∷ rest → rs' ≡ left_of most first ++ rest → IsStore es rs'
 store_row_left es rs rs' rest most first s none e f = record {
-    rises = s.rises;
-    keyed = s.keyed;
-    order =
-        let h = subst (LieInOrder 0) (row_first es rs rest first none e) s.order in
-        subst (LieInOrder 0) (sym (ap (λ (xs : List (ℕ × PieceView)). values_of xs ++ rs') none ∙ f)) (left_zero (nat_lt most (length first.bytes)) most 0 rest first h refl);
-  }
-
-pub more_first : (floor most : ℕ) (xs rest : List PieceView) (first : PieceView) → LieInOrder floor xs → xs ≡ first ∷ rest → first.offset ≤ floor → most < length first.bytes → CoversMore floor most xs
-more_first floor most xs rest first h e le lt =
-    let g = subst (LieInOrder floor) e h in
-    let s = g.1 in
-    let at : first.offset ≡ floor = let a = g.0 in omega arith in
-    let cut = whole_cut floor first at in
-    let len = ap (λ (r : PieceView). length r.bytes) cut in
-    CoversMore-front floor most xs xs rest first (KeepsFrom-refl floor xs) (subst (λ (ys : List PieceView). IsPermutation xs ys) e (IsPermutation-refl xs)) le (omega (arith, s)) (omega (arith, lt, len))
+  rises = s.rises;
+  keyed = s.keyed;
+  order =
+      let h = subst (LieInOrder 0) (row_first es rs rest first none e) s.order in
+      subst (LieInOrder 0) (sym (ap (λ (xs : List (ℕ × PieceView)). values_of xs ++ rs') none ∙ f)) (left_zero (nat_lt most (length first.bytes)) most 0 rest first h refl);
+}
 
 entry_part_by : (b : Bool) (most : ℕ) (r : PieceView) (rest : List (ℕ × PieceView)) → b ≡ true → (r.offset + most, advance_by most r) ∷ rest ≡ cond b ((r.offset + most, advance_by most r) ∷ []) [] ++ rest
 entry_part_by true most r rest e = refl
@@ -162,12 +109,6 @@ entry_part most r rest lt = entry_part_by (nat_lt most (length r.bytes)) most r 
 pub same_head : (xs rest rest' : List PieceView) (first first' : PieceView) → xs ≡ first ∷ rest → xs ≡ first' ∷ rest' → (first ≡ first') × (rest ≡ rest')
 same_head xs rest rest' first first' e f = (cc, cc)
 
-pub left_fewer : (most : ℕ) (xs rest new : List PieceView) (first : PieceView) → xs ≡ first ∷ rest → new ≡ left_of most first ++ rest → length new ≤ length xs
-left_fewer most xs rest new first e f =
-    let l = ap (λ (ys : List PieceView). length ys) e in
-    let m = ap (λ (ys : List PieceView). length ys) f in
-    omega (arith, l, m, length-append (left_of most first) rest, left_length most first)
-
 pub some_first : (xs : List PieceView) → 0 < length xs → (first : PieceView) × (rest : List PieceView) × (xs ≡ first ∷ rest)
 some_first [] lt = absurd (omega arith)
 some_first (x ∷ xs) lt = (x, xs, refl)
@@ -177,13 +118,6 @@ zero_left r =
     let a : r.offset + 0 ≡ r.offset = omega arith in
     ap (λ (n : ℕ). record r { offset = n; bytes = drop 0 r.bytes }) a
 
-pub takes_zero : (floor most : ℕ) (bytes : List ℕ) (xs rest : List PieceView) (first : PieceView) → LieInOrder floor xs → xs ≡ first ∷ rest → first.offset ≤ floor → run_end first < 2 ^ 62 → most ≡ 0 → bytes ≡ [] → TakesSome floor most bytes xs xs
-takes_zero floor most bytes xs rest first h e le top zero none =
-    let s = (subst (LieInOrder floor) e h).1 in
-    let left : xs ≡ left_of most first ++ rest =
-      e ∙ ap (λ (r : PieceView). r ∷ rest) (sym (zero_left first)) ∙ ap (λ (n : ℕ). advance_by n first ∷ rest) (sym zero) ∙ sym (left_part (nat_lt most (length first.bytes)) most first rest (test_lt most (length first.bytes) (omega (arith, zero, s)))) in
-    takes_first floor most bytes xs rest xs first h e le top (none ∙ ap (λ (n : ℕ). take n first.bytes) (sym zero)) left
-
 pub given_at : (xs rest rest' new : List PieceView) (bytes : List ℕ) (most : ℕ) (first first' : PieceView) → xs ≡ first ∷ rest → xs ≡ first' ∷ rest' → bytes ≡ take most first'.bytes → new ≡ left_of most first' ++ rest'
     → (bytes ≡ take most first.bytes) × (new ≡ left_of most first ++ rest)
 given_at xs rest rest' new bytes most first first' e f g h =
@@ -192,3 +126,23 @@ given_at xs rest rest' new bytes most first first' e f g h =
 
 pub row_some : (es : List (ℕ × PieceView)) (rs : List PieceView) → es ≡ [] → 0 < length (values_of es ++ rs) → 0 < length rs
 row_some es rs e lt = let l = ap (λ (xs : List (ℕ × PieceView)). length (values_of xs ++ rs)) e in omega (arith, l)
+
+-- nothing was wanted
+pub gives_zero : (most offset : ℕ) (bytes : List ℕ) (xs rest : List PieceView) (first : PieceView) → LieInOrder 0 xs → xs ≡ first ∷ rest → offset ≡ first.offset → most ≡ 0 → bytes ≡ [] → GivesFirst most xs offset bytes xs
+gives_zero most offset bytes xs rest first h e o zero none =
+    let s = (subst (LieInOrder 0) e h).1 in
+    record {
+      first = first;
+      rest = rest;
+      is = e;
+      at = o;
+      given = none ∙ ap (λ (n : ℕ). take n first.bytes) (sym zero);
+      left = e ∙ ap (λ (r : PieceView). r ∷ rest) (sym (zero_left first)) ∙ ap (λ (n : ℕ). advance_by n first ∷ rest) (sym zero) ∙ sym (left_part (nat_lt most (length first.bytes)) most first rest (test_lt most (length first.bytes) (omega (arith, zero, s))));
+    }
+
+pub takes_given : (most offset : ℕ) (bytes : List ℕ) (xs new : List PieceView) → LieInOrder 0 xs → All FitsWords xs → GivesFirst most xs offset bytes new → TakesSome offset most bytes xs new
+takes_given most offset bytes xs new h all g =
+    let i = subst (LieInOrder 0) g.is h in
+    let f = All-head FitsWords g.first g.rest (subst (All FitsWords) g.is all) in
+    let a = g.at in
+    takes_first offset most bytes xs g.rest new g.first (subst (LieInOrder offset) (sym g.is) (omega arith, i.1, i.2)) g.is (omega arith) f.below g.given g.left

@@ -35,17 +35,17 @@ allocated_bound t a rs s = omega (arith, allocated_le rs s.sound, s.allocated_is
 
 pub sums_back : (t a t' a' : ℕ) (rs : List PieceView) (p : PieceView) → AreSums t a rs → FitsWords p → t' ≡ t + length p.bytes → a' ≡ a + p.allocation_size → AreSums t' a' (rs ++ p ∷ [])
 sums_back t a t' a' rs p s f e g = record {
-    total_is = omega (arith, sum_by-append run_length rs (p ∷ []), sum_by-cons run_length p [], s.total_is);
-    allocated_is = omega (arith, sum_by-append run_allocation rs (p ∷ []), sum_by-cons run_allocation p [], s.allocated_is);
-    sound = All-push FitsWords rs p s.sound f;
-  }
+  total_is = omega (arith, sum_by-append run_length rs (p ∷ []), sum_by-cons run_length p [], s.total_is);
+  allocated_is = omega (arith, sum_by-append run_allocation rs (p ∷ []), sum_by-cons run_allocation p [], s.allocated_is);
+  sound = All-push FitsWords rs p s.sound f;
+}
 
 pub sums_front : (t a t' a' : ℕ) (rs : List PieceView) (p : PieceView) → AreSums t a rs → FitsWords p → t' ≡ t + length p.bytes → a' ≡ a + p.allocation_size → AreSums t' a' (p ∷ rs)
 sums_front t a t' a' rs p s f e g = record {
-    total_is = omega (arith, sum_by-cons run_length p rs, s.total_is);
-    allocated_is = omega (arith, sum_by-cons run_allocation p rs, s.allocated_is);
-    sound = All-cons FitsWords p rs f s.sound;
-  }
+  total_is = omega (arith, sum_by-cons run_length p rs, s.total_is);
+  allocated_is = omega (arith, sum_by-cons run_allocation p rs, s.allocated_is);
+  sound = All-cons FitsWords p rs f s.sound;
+}
 
 pub left_back : (t a t' a' : ℕ) (rs ps : List PieceView) (p : PieceView) → AreSums t a rs → rs ≡ ps ++ p ∷ [] → t' ≡ t - length p.bytes → a' ≡ a - p.allocation_size → AreSums t' a' ps
 left_back t a t' a' rs ps p s e f g =
@@ -139,15 +139,15 @@ removed t a t' a' es es' k old s e o rises u v =
 
 pub map_left_front : (t a t' a' k : ℕ) (es es' : List (ℕ × PieceView)) (p : PieceView) → IsSummedMap t a es → es ≡ (k, p) ∷ es' → RiseByKey es' → t' ≡ t - length p.bytes → a' ≡ a - p.allocation_size → IsSummedMap t' a' es'
 map_left_front t a t' a' k es es' p s e rises u v = record {
-    rises = rises;
-    sums = left_front t a t' a' (values_of es) (values_of es') p s.sums (ap (λ (xs : List (ℕ × PieceView)). values_of xs) e) u v;
-  }
+  rises = rises;
+  sums = left_front t a t' a' (values_of es) (values_of es') p s.sums (ap (λ (xs : List (ℕ × PieceView)). values_of xs) e) u v;
+}
 
 pub map_left_back : (t a t' a' k : ℕ) (es es' : List (ℕ × PieceView)) (p : PieceView) → IsSummedMap t a es → es ≡ es' ++ (k, p) ∷ [] → RiseByKey es' → t' ≡ t - length p.bytes → a' ≡ a - p.allocation_size → IsSummedMap t' a' es'
 map_left_back t a t' a' k es es' p s e rises u v = record {
-    rises = rises;
-    sums = left_back t a t' a' (values_of es) (values_of es') p s.sums (ap (λ (xs : List (ℕ × PieceView)). values_of xs) e ∙ map-append (λ (e : ℕ × PieceView). e.1) es' ((k, p) ∷ [])) u v;
-  }
+  rises = rises;
+  sums = left_back t a t' a' (values_of es) (values_of es') p s.sums (ap (λ (xs : List (ℕ × PieceView)). values_of xs) e ∙ map-append (λ (e : ℕ × PieceView). e.1) es' ((k, p) ∷ [])) u v;
+}
 
 pub inserted_over : (t a t' a' : ℕ) (es es' : List (ℕ × PieceView)) (k : ℕ) (p old : PieceView) → IsSummedMap t a es → FitsWords p
     → es' ≡ insert_entry nat_cmp es k p → Some old ≡ lookup (is_at (nat_cmp k)) es → RiseByKey es'

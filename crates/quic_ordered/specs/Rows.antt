@@ -1,10 +1,10 @@
 -- Pieces in the order of their offsets.
-use Rattle.std.specs.Prelude.{ℕ, ◌≡◌, ◌+◌, ◌≤◌, ◌<◌, ◌^◌, ◌*◌, ◌/◌, ◌≢◌, ◌⊎◌, nat_le, List, [], ◌∷◌, ◌++◌, length, sum_by, cond, nat_lt}
+use Rattle.std.specs.Prelude.{ℕ, ◌≡◌, ◌+◌, ◌≤◌, ◌<◌, ◌^◌, ◌*◌, ◌/◌, ◌≢◌, ◌⊎◌, nat_le, List, [], ◌∷◌, ◌++◌, length, take, sum_by, cond, nat_lt}
 use Rattle.std.specs.List.{Any, All}
 use Rattle.std.specs.Map.{keys_of, values_of}
 use Rattle.std.specs.Ordering.{nat_cmp}
 use Rattle.std.specs.List.Sorted.{IsStrictlySortedBy}
-use Rattle.quic_assembler.specs.Piece.{PieceView, RunHolds, run_end, run_length, run_allocation, advance_by}
+use Rattle.quic_assembler.specs.Piece.{PieceView, RunHolds, run_end, run_length, run_allocation, advance_by, left_of}
 use Rattle.quic_ordered.specs.Entries.{piece_at}
 
 -- pieces in a row, and how many there is room for
@@ -100,3 +100,12 @@ pub record IsGathered (all out rest : List PieceView) : Type 0 where
 -- all offsets from one up to another are the piece's
 abbrev pub Encloses : ℕ → ℕ → PieceView → Type 0
 Encloses offset end r = (r.offset ≤ offset) × (end ≤ run_end r)
+
+-- the first bytes of the first piece, at most so many, were given, and the offset at which it begins; the rest is left
+pub record GivesFirst (most : ℕ) (rs : List PieceView) (offset : ℕ) (bytes : List ℕ) (rs' : List PieceView) : Type 0 where
+  pub first : PieceView
+  pub rest : List PieceView
+  pub is : rs ≡ first ∷ rest
+  pub at : offset ≡ first.offset
+  pub given : bytes ≡ take most first.bytes
+  pub left : rs' ≡ left_of most first ++ rest

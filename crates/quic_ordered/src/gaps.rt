@@ -95,11 +95,7 @@ fn join(
 }
 
 /// Takes a piece. Where two bytes meet the held one stays, and a piece that lies within a held one takes no memory.
-pub(crate) fn hold(
-    pieces: &mut PieceMap,
-    new: Piece,
-    alloc: Global,
-) -> Result<(), OutOfMemory>
+pub(crate) fn hold(pieces: &mut PieceMap, new: Piece, alloc: Global) -> Result<(), OutOfMemory>
     requires apart { IsPieceMap pieces.old }
     requires some { 0 < length new.bytes }
     requires rises { RiseByKey pieces.old }

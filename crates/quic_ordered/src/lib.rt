@@ -8,3 +8,6 @@ mod row;
 mod store;
 
 pub use store::OrderedPieces;
+
+#[cfg(test)]
+mod tests;

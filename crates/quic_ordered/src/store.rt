@@ -1,15 +1,17 @@
 // All that is held of one stream.
-ghost use Rattle.std.specs.Prelude.{◌≡◌, ℕ, ◌+◌, ◌-◌, ◌^◌, ◌<◌, ◌≤◌, ◌⊎◌, [], ◌∷◌, ◌++◌, length, sum_by, IfOk, OnOk, OnErr, IfSome, IfNone, Some, None, Ok, true, false, take, MatchOption};
+ghost use Rattle.std.specs.Prelude.{◌≡◌, ℕ, ◌+◌, ◌-◌, ◌^◌, ◌<◌, ◌≤◌, ◌⊎◌, [], ◌∷◌, ◌++◌, length, sum_by, IfOk, OnOk, OnErr, IfSome, IfNone, Some, None, Ok, true, false, take};
 ghost use Rattle.std.specs.Map.{values_of, keys_of};
 ghost use Rattle.std.specs.List.{All, Any};
-ghost use Rattle.quic_assembler.specs.Piece.{PieceView, run_end, run_length, run_allocation, left_of, CoversMore, TakesNone, TakesSome};
-ghost use Rattle.quic_ordered.specs.Rows.{FitsWords, RiseByKey, IsStore, LieInOrder, Merges, HoldSame, LieWithGaps, IsTidy, IsGathered, Encloses, entry_left};
+ghost use Rattle.quic_assembler.specs.Piece.{PieceView, run_end, run_length, run_allocation, left_of, TakesSome};
+ghost use Rattle.quic_assembler.specs.Reassembly.{IfGiven, OnNothing};
+ghost use Rattle.quic_ordered.specs.Rows.{FitsWords, RiseByKey, IsStore, LieInOrder, Merges, HoldSame, LieWithGaps, IsTidy, IsGathered, Encloses, GivesFirst, entry_left};
 ghost use Rattle.quic_ordered.specs.Entries.{IsPieceMap, piece_of};
 
 use crate::gaps;
 use crate::map::PieceMap;
 use crate::piece::Piece;
 use crate::row::PieceRow;
+use quic_assembler::Chunk;
 use quic_values::{Bytes, OutOfMemory};
 use std::alloc::Global;
 use std::marker::Model;
@@ -170,6 +172,7 @@ impl OrderedPieces {
         ensures len { result ≡ length self.now }
         ensures small { result ≤ 2 ^ 62 }
         ensures fits { All FitsWords self.now }
+        ensures order { LieInOrder 0 self.now }
     {
         self.gaps.len() + self.row.len()
     }
@@ -302,33 +305,25 @@ impl OrderedPieces {
         }
     }
 
-    /// Gives the first `max_length` bytes of the first piece, or all of it where it has fewer, if it begins at `floor`.
-    /// A piece that is given whole is not copied. If refused, all is as it was.
-    pub fn take_first(
-        &mut self,
-        floor: u64,
-        max_length: usize,
-    ) -> Result<Option<Bytes>, OutOfMemory>
-        requires { LieInOrder floor self.old }
-        ensures ok { IfOk result (λ given. MatchOption given (TakesNone floor self.old self.new) (λ bytes. TakesSome floor max_length bytes self.old self.new)) }
-        ensures order { IfOk result (λ given. IfSome given (λ bytes. LieInOrder (floor + length bytes) self.new)) }
-        ensures none { IfOk result (λ given. IfNone given (self.new ≡ self.old)) }
-        ensures pieces { length self.new ≤ length self.old }
+    /// Gives the first `max_length` bytes of the first piece, or all of it where it has fewer, and the offset at which
+    /// it begins. A piece that is given whole is not copied. If refused, all is as it was.
+    pub fn take_first(&mut self, max_length: usize) -> Result<Option<Chunk>, OutOfMemory>
+        ensures first { IfGiven result (λ chunk. GivesFirst max_length self.old chunk.offset chunk.bytes self.new) }
+        ensures takes { IfGiven result (λ chunk. TakesSome chunk.offset max_length chunk.bytes self.old self.new) }
+        ensures none { OnNothing result ((self.old ≡ []) × (self.new ≡ [])) }
         ensures err { OnErr result (self.new ≡ self.old) }
-        ensures err_more { OnErr result (CoversMore floor max_length self.old) }
+        ensures err_part { OnErr result ((first : PieceView) (rest : _) → self.old ≡ first ∷ rest → max_length < length first.bytes) }
     {
         let _count = self.len();
         let Some(offset) = self.first_offset() else {
             return Ok(None);
         };
-        if floor < offset {
-            return Ok(None);
-        }
         if max_length == 0 {
-            return Ok(Some(Bytes::new(self.alloc)));
+            let bytes = Bytes::new(self.alloc);
+            return Ok(Some(Chunk { offset, bytes }));
         }
         let bytes = self.take_some(max_length)?;
-        Ok(Some(bytes))
+        Ok(Some(Chunk { offset, bytes }))
     }
 
     /// Joins all pieces that touch, and copies each other one that keeps more than a fifth more memory alive than it

@@ -33,5 +33,5 @@ join-requires-clause-spans c =
     let m = c.max.ensures in
     let n = c.start_of-start.ensures.up_to in
     let spans = spans_of c.args.pieces.now c.args.new c.start_of-start.result c.in-Some.last c.in-Some.last_end _ c.requires.apart c.in-Some.ensures.found (omega arith) (omega arith)
-      c.start_of-start.ensures.below (λ at low high. c.start_of-start.ensures.left at low (omega arith)) in
+    c.start_of-start.ensures.below (λ at low high. c.start_of-start.ensures.left at low (omega arith)) in
     subst (SpansAll c.args.pieces.now c.args.new c.start_of-start.result) (omega arith) spans

@@ -19,11 +19,11 @@ overflow_sub-self-in-Some c =
 pub invariant_of-self-in-Some : goal.invariant_of-self-in-Some
 invariant_of-self-in-Some c =
     inserted_over _ _ _ _ _ _ c.offset-offset.result c.args.piece c.in-Some.first c.self.invariant (record { below = c.len-length.ensures.bound; allocation = c.allocation_size-allocated.ensures.bound })
-      c.in_ok-old.ensures.entries (sym c.in-Some.is ∙ c.in_ok-old.ensures.old) c.in_ok-old.ensures.ordered
-      (omega (arith, c.len-length.ensures.value, c.len.ensures.value)) (omega (arith, c.allocation_size-allocated.ensures.value, c.allocation_size.ensures.value))
+    c.in_ok-old.ensures.entries (sym c.in-Some.is ∙ c.in_ok-old.ensures.old) c.in_ok-old.ensures.ordered
+    (omega (arith, c.len-length.ensures.value, c.len.ensures.value)) (omega (arith, c.allocation_size-allocated.ensures.value, c.allocation_size.ensures.value))
 
 pub invariant_of-self-in_default : goal.invariant_of-self-in_default
 invariant_of-self-in_default c =
     inserted_new _ _ _ _ _ _ c.offset-offset.result c.args.piece c.self.invariant (record { below = c.len-length.ensures.bound; allocation = c.allocation_size-allocated.ensures.bound })
-      c.in_ok-old.ensures.entries (sym c.in_default.is ∙ c.in_ok-old.ensures.old) c.in_ok-old.ensures.ordered
-      (omega (arith, c.len-length.ensures.value)) (omega (arith, c.allocation_size-allocated.ensures.value))
+    c.in_ok-old.ensures.entries (sym c.in_default.is ∙ c.in_ok-old.ensures.old) c.in_ok-old.ensures.ordered
+    (omega (arith, c.len-length.ensures.value)) (omega (arith, c.allocation_size-allocated.ensures.value))

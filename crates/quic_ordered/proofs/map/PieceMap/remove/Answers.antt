@@ -13,4 +13,4 @@ overflow_sub-self-in-Some c =
 pub invariant_of-self : goal.invariant_of-self
 invariant_of-self c =
     removed _ _ _ _ _ _ c.args.offset c.in-Some.piece c.self.invariant c.remove-old.ensures.entries (sym c.in-Some.is ∙ c.remove-old.ensures.value) c.remove-old.ensures.ordered
-      (omega (arith, c.len.ensures.value)) (omega (arith, c.allocation_size.ensures.value))
+    (omega (arith, c.len.ensures.value)) (omega (arith, c.allocation_size.ensures.value))

@@ -15,4 +15,4 @@ returns-clause-no c = λ t.
     let above = rw (← c.self.view_is) at c.count_up_to-count.ensures.above in
     let short = gt_of_test c.args.end c.end.result t in
     rw (← c.self.view_is) (none_encloses c.self.inside.pieces.items (c.count_up_to-count.result - 1) c.args.offset c.args.end c.index.result.now h c.requires.some (omega arith) c.index.ensures
-      (λ k d lt. below k d (omega arith)) (λ k d more fits. above k d (omega arith) fits) (omega (arith, short, c.end.ensures.value)))
+    (λ k d lt. below k d (omega arith)) (λ k d more fits. above k d (omega arith) fits) (omega (arith, short, c.end.ensures.value)))

@@ -8,9 +8,9 @@ use Rattle.quic_ordered.proofs.store.OrderedPieces.compact.Goals as goal
 pub returns-in-Ok-clause-order : goal.returns-in-Ok-clause-order
 returns-in-Ok-clause-order c =
     rw (← c.self.view_is, ← c.in_ok-gather.ensures.same)
-      (λ low h. order_gathered_all low c.gather.new.gaps c.gather.new.row.runs c.join_touching.new.row.runs c.join_touching.new.out.runs h c.in_ok-gather.ensures.empty c.in-Ok.ensures.gathered c.in-Ok.ensures.all)
+    (λ low h. order_gathered_all low c.gather.new.gaps c.gather.new.row.runs c.join_touching.new.row.runs c.join_touching.new.out.runs h c.in_ok-gather.ensures.empty c.in-Ok.ensures.gathered c.in-Ok.ensures.all)
 
 pub returns-in-Err-clause-order : goal.returns-in-Err-clause-order
 returns-in-Err-clause-order c =
     rw (← c.self.view_is, ← c.in_ok-gather.ensures.same)
-      (λ low h. order_gathered_front low c.gather.new.gaps c.gather.new.row.runs c.join_touching.new.row.runs c.join_touching.new.out.runs c.put_in_front.new.row.runs h c.in_ok-gather.ensures.empty c.in-Err.ensures.gathered c.put_in_front.ensures)
+    (λ low h. order_gathered_front low c.gather.new.gaps c.gather.new.row.runs c.join_touching.new.row.runs c.join_touching.new.out.runs c.put_in_front.new.row.runs h c.in_ok-gather.ensures.empty c.in-Err.ensures.gathered c.put_in_front.ensures)

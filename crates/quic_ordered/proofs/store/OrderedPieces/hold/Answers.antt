@@ -36,4 +36,4 @@ pub returns-clause-order : goal.returns-clause-order
 returns-clause-order c =
     let s = c.in_ok-clear_way.ensures.store in
     rw (← c.self.view_is, ← c.in_ok-clear_way.ensures.same)
-      (λ low le h. order_held low c.clear_way.new.gaps c.hold.new.pieces c.clear_way.new.row.runs c.args.piece s.keyed h le (rw c.end.ensures.value at c.in_ok-clear_way.ensures.clear) c.in_ok-hold.ensures.takes c.in_ok-hold.ensures.apart c.in_ok-hold.ensures.rises)
+    (λ low le h. order_held low c.clear_way.new.gaps c.hold.new.pieces c.clear_way.new.row.runs c.args.piece s.keyed h le (rw c.end.ensures.value at c.in_ok-clear_way.ensures.clear) c.in_ok-hold.ensures.takes c.in_ok-hold.ensures.apart c.in_ok-hold.ensures.rises)
