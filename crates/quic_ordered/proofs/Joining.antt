@@ -3,7 +3,7 @@ use Rattle.std.proofs.Common.{◌≡◌, ℕ, ◌+◌, ◌-◌, ◌<◌, ◌≤�
 use Rattle.std.specs.Prelude.{max}
 use Rattle.std.proofs.lemmas.Bool.{cases_lt, cases_eq}
 use Rattle.quic_assembler.specs.Piece.{PieceView, run_end, RunHolds}
-use Rattle.quic_ordered.specs.Entries.{piece_at, MapHolds, MapHoldsNone, IsPieceMap, IsOutside, WritesOver, SpansAll, StillHolds, IsJoining, MapTakes, IsLastPiece}
+use Rattle.quic_ordered.specs.Entries.{piece_at, MapHolds, MapHoldsNone, IsPieceMap, IsOutside, WritesOver, SpansAll, StillHolds, IsJoining, MapTakes, MapStems, IsLastPiece}
 use Rattle.quic_ordered.proofs.Held.{some_is, none_some, place, one_byte, held_once, held, covered}
 
 -- ---- another run is taken out and written over the base
@@ -393,3 +393,21 @@ within_takes es new last last_end n apart l low high =
       gains = λ at byte h none. let c = covered es last at l.run apart l.found (omega (arith, h.0, low)) (omega (arith, h.1, high, e)) in absurd (none c.0 c.1);
       origin = λ at byte h. inl h;
     }
+
+-- ---- the memory of the pieces
+
+pub put_stems : (es es' : List (ℕ × PieceView)) (new : PieceView) → piece_at es' new.offset ≡ Some new → ((x : ℕ) → (x ≡ new.offset → ⊥) → piece_at es' x ≡ piece_at es x) → MapStems es new es'
+put_stems es es' new mine others = λ q v found.
+    elim (cases_eq q new.offset) [
+      | inl same ↦ inr (inl (some_is (piece_at es' new.offset) v new (ap (piece_at es') (sym same) ∙ found) mine))
+      | inr ne ↦ inl (sym (others q ne) ∙ found)
+    ]
+
+pub join_stems : (es ms ms' : List (ℕ × PieceView)) (new base : PieceView) (start end : ℕ) → Done es ms ms' new base start end → base.allocation_size ≡ length base.bytes → MapStems es new ms'
+join_stems es ms ms' new base start end d memory = λ q v found.
+    elim (cases_eq q start) [
+      | inl same ↦
+          let e = some_is (piece_at ms' start) v base (ap (piece_at ms') (sym same) ∙ found) d.mine in
+          inr (inr (ap (λ (r : PieceView). r.allocation_size) e ∙ memory ∙ sym (ap (λ (r : PieceView). length r.bytes) e)))
+      | inr ne ↦ inl (was_there es ms ms' new base start end q v d ne found).0
+    ]

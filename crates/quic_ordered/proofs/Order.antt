@@ -197,7 +197,7 @@ after_all k (e ∷ es) q v h found =
 pub after_head : (e : ℕ × PieceView) (es : List (ℕ × PieceView)) (q : ℕ) (v : PieceView) → RiseByKey (e ∷ es) → piece_at es q ≡ Some v → e.0 < q
 after_head e es q v rises found = after_all e.0 es q v (sorted_head nat_cmp e.0 (keys_of es) rises) found
 
-tail_at : (e : ℕ × PieceView) (es : List (ℕ × PieceView)) (q : ℕ) (v : PieceView) → RiseByKey (e ∷ es) → piece_at es q ≡ Some v → piece_at (e ∷ es) q ≡ Some v
+pub tail_at : (e : ℕ × PieceView) (es : List (ℕ × PieceView)) (q : ℕ) (v : PieceView) → RiseByKey (e ∷ es) → piece_at es q ≡ Some v → piece_at (e ∷ es) q ≡ Some v
 tail_at e es q v rises found = at_tail e es q (λ same. let l = after_head e es q v rises found in omega arith) ∙ found
 
 pub tail_map : (e : ℕ × PieceView) (es : List (ℕ × PieceView)) → RiseByKey (e ∷ es) → IsPieceMap (e ∷ es) → IsPieceMap es

@@ -1,13 +1,18 @@
 -- A map, and behind it a row.
-use Rattle.std.proofs.Common.{◌≡◌, ℕ, ◌+◌, ◌-◌, ◌≤◌, ◌<◌, refl, sym, ap, subst, ◌∙◌, List, [], ◌∷◌, ◌++◌, length, arith, append_assoc}
+use Rattle.std.proofs.Common.{◌⊎◌, inl, inr, Some, None, ◌≡◌, ℕ, ◌+◌, ◌-◌, ◌≤◌, ◌<◌, refl, sym, ap, subst, ◌∙◌, List, [], ◌∷◌, ◌++◌, length, arith, append_assoc}
 use Rattle.std.specs.List.{All}
-use Rattle.std.specs.Map.{values_of}
+use Rattle.std.specs.Map.{values_of, keys_of}
+use Rattle.std.specs.Ordering.{nat_cmp}
+use Rattle.std.proofs.lemmas.Map.Keys.{sorted_tail}
+use Rattle.std.proofs.lemmas.List.Elements.{All-nil, All-cons, All-append, All-push}
+use Rattle.quic_assembler.proofs.Counts.{Any-here, Any-there, Any-cons, Any-nil}
+use Rattle.quic_ordered.proofs.Held.{none_some}
 use Rattle.std.proofs.lemmas.List.{length-append}
 use Rattle.std.proofs.lemmas.Map.Entries.{length-values_of}
 use Rattle.quic_assembler.specs.Piece.{PieceView, run_end}
-use Rattle.quic_ordered.specs.Entries.{IsPieceMap, MapTakes}
-use Rattle.quic_ordered.specs.Rows.{RiseByKey, LieInOrder, AreKeyed, Merges, IsStore}
-use Rattle.quic_ordered.proofs.Order.{order_behind, order_push_all, ends_by_last, keyed_push, values_push, piece_map_of, merges_map, merges_push, hold_each, keyed_of, order_of, lower}
+use Rattle.quic_ordered.specs.Entries.{IsPieceMap, MapTakes, MapStems, piece_at}
+use Rattle.quic_ordered.specs.Rows.{RiseByKey, LieInOrder, AreKeyed, Merges, IsStore, IsAmong, StemsFrom}
+use Rattle.quic_ordered.proofs.Order.{order_behind, order_push_all, ends_by_last, keyed_push, values_push, piece_map_of, merges_map, merges_push, hold_each, keyed_of, order_of, lower, found_head, at_head, tail_at}
 
 -- all end by where the last piece of the row ends
 pub all_end_row : (vs rs others : List PieceView) (last : PieceView) (n : ℕ) → LieInOrder 0 (vs ++ rs) → rs ≡ others ++ last ∷ [] → run_end last ≤ n → All (λ (r : PieceView). run_end r ≤ n) (vs ++ rs)
@@ -82,3 +87,55 @@ gathered_room es es' rs rs' key p room room' e f le r =
     let l = ap (λ (xs : List (ℕ × PieceView)). length xs) e in
     let m = ap (λ (xs : List PieceView). length xs) f in
     omega (arith, l, m, le, r, length-append es' ((key, p) ∷ []))
+
+-- ---- the memory of the pieces
+
+among_front : (xs ys : List PieceView) (r : PieceView) → IsAmong xs r → IsAmong (xs ++ ys) r
+among_front [] ys r h = absurd (Any-nil (λ (s : PieceView). s ≡ r) h)
+among_front (x ∷ xs) ys r h =
+    elim (Any-cons (λ (s : PieceView). s ≡ r) x xs h) [
+      | inl here ↦ Any-here (λ (s : PieceView). s ≡ r) x (xs ++ ys) here
+      | inr there ↦ Any-there (λ (s : PieceView). s ≡ r) x (xs ++ ys) (among_front xs ys r there)
+    ]
+
+among_found : (es : List (ℕ × PieceView)) (q : ℕ) (v : PieceView) → piece_at es q ≡ Some v → IsAmong (values_of es) v
+among_found [] q v found = absurd (none_some None v refl found)
+among_found (e ∷ es) q v found =
+    elim (found_head e es q v found) [
+      | inl h ↦ Any-here (λ (s : PieceView). s ≡ v) e.1 (values_of es) h.1
+      | inr there ↦ Any-there (λ (s : PieceView). s ≡ v) e.1 (values_of es) (among_found es q v there)
+    ]
+
+stems_rest : (vs rs : List PieceView) (new : PieceView) → All (StemsFrom (vs ++ rs) new) rs
+stems_rest vs [] new = All-nil (StemsFrom (vs ++ []) new)
+stems_rest vs (r ∷ rs) new =
+    let here : IsAmong (vs ++ (r ∷ rs)) r = among_behind vs (r ∷ rs) r (Any-here (λ (s : PieceView). s ≡ r) r rs refl) in
+    let more = stems_rest (vs ++ r ∷ []) rs new in
+    All-cons (StemsFrom (vs ++ (r ∷ rs)) new) r rs (inl here) (subst (λ (xs : List PieceView). All (StemsFrom xs new) rs) (append_assoc vs (r ∷ []) rs) more)
+  where
+    among_behind : (xs ys : List PieceView) (r : PieceView) → IsAmong ys r → IsAmong (xs ++ ys) r
+    among_behind [] ys r h = h
+    among_behind (x ∷ xs) ys r h = Any-there (λ (s : PieceView). s ≡ r) x (xs ++ ys) (among_behind xs ys r h)
+
+stems_values : (old : List PieceView) (new : PieceView) (es es' : List (ℕ × PieceView)) → RiseByKey es' → ((q : ℕ) (v : PieceView) → piece_at es' q ≡ Some v → StemsFrom old new v) → All (StemsFrom old new) (values_of es')
+stems_values old new es [] rises each = All-nil (StemsFrom old new)
+stems_values old new es (e ∷ es') rises each =
+    All-cons (StemsFrom old new) e.1 (values_of es') (each e.0 e.1 (at_head e es'))
+      (stems_values old new es es' (sorted_tail nat_cmp e.0 (keys_of es') rises) (λ q v found. each q v (tail_at e es' q v rises found)))
+
+pub held_stems : (es es' : List (ℕ × PieceView)) (rs : List PieceView) (new : PieceView) → RiseByKey es' → MapStems es new es' → All (StemsFrom (values_of es ++ rs) new) (values_of es' ++ rs)
+held_stems es es' rs new rises stems =
+    All-append (StemsFrom (values_of es ++ rs) new) (values_of es') rs
+      (stems_values (values_of es ++ rs) new es es' rises (λ q v found. elim (stems q v found) [
+        | inl old ↦ inl (among_front (values_of es) rs v (among_found es q v old))
+        | inr other ↦ inr other
+      ]))
+      (stems_rest (values_of es) rs new)
+
+pub stems_all : (rs : List PieceView) (new : PieceView) → All (StemsFrom rs new) rs
+stems_all rs new = stems_rest [] rs new
+
+pub pushed_stems : (vs rs rs' : List PieceView) (p : PieceView) → rs' ≡ rs ++ p ∷ [] → All (StemsFrom (vs ++ rs) p) (vs ++ rs')
+pushed_stems vs rs rs' p e =
+    let f : vs ++ rs' ≡ (vs ++ rs) ++ p ∷ [] = ap (λ (xs : List PieceView). vs ++ xs) e ∙ sym (append_assoc vs rs (p ∷ [])) in
+    subst (All (StemsFrom (vs ++ rs) p)) (sym f) (All-push (StemsFrom (vs ++ rs) p) (vs ++ rs) p (stems_all (vs ++ rs) p) (inr (inl refl)))

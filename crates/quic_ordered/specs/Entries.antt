@@ -95,3 +95,7 @@ pub record IsJoining (es : List (ℕ × PieceView)) (new : PieceView) (start end
   pub written : (at byte : ℕ) → start ≤ at → at < end → MapHolds es at byte → RunHolds at byte base ⊎ StillHolds ms start at byte
   pub fresh : (at byte : ℕ) → RunHolds at byte new → MapHoldsNone es at → RunHolds at byte base
   pub origin : (at byte : ℕ) → RunHolds at byte base → MapHolds es at byte ⊎ (RunHolds at byte new ⊎ IsOutside new at)
+
+-- each piece of the map was there, or is the new one, or has memory of its own
+abbrev pub MapStems : List (ℕ × PieceView) → PieceView → List (ℕ × PieceView) → Type 0
+MapStems es new es' = (q : ℕ) (v : PieceView) → piece_at es' q ≡ Some v → (piece_at es q ≡ Some v) ⊎ ((v ≡ new) ⊎ (v.allocation_size ≡ length v.bytes))

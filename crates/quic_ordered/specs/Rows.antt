@@ -109,3 +109,11 @@ pub record GivesFirst (most : ℕ) (rs : List PieceView) (offset : ℕ) (bytes :
   pub at : offset ≡ first.offset
   pub given : bytes ≡ take most first.bytes
   pub left : rs' ≡ left_of most first ++ rest
+
+-- a piece is one of some others
+abbrev pub IsAmong : List PieceView → PieceView → Type 0
+IsAmong rs r = Any (λ s. s ≡ r) rs
+
+-- a piece was held before, or is the new one, or has memory of its own
+abbrev pub StemsFrom : List PieceView → PieceView → PieceView → Type 0
+StemsFrom rs new r = IsAmong rs r ⊎ ((r ≡ new) ⊎ (r.allocation_size ≡ length r.bytes))

@@ -1,7 +1,7 @@
 // A piece that is taken into a map of pieces.
 ghost use Rattle.std.specs.Prelude.{◌≡◌, ℕ, ◌+◌, ◌-◌, ◌^◌, ◌<◌, ◌≤◌, List, ◌⊎◌, [], length, IfOk, OnOk, OnErr, IfSome, IfNone, IsTrue, Some, None, Ok};
 ghost use Rattle.quic_assembler.specs.Piece.{PieceView, run_end, RunHolds};
-ghost use Rattle.quic_ordered.specs.Entries.{piece_at, NoPieceBegins, IsPieceMap, MapHolds, MapHoldsNone, IsLastPiece, IsFirstPiece, MapTakes, SpansAll, IsJoining};
+ghost use Rattle.quic_ordered.specs.Entries.{piece_at, NoPieceBegins, IsPieceMap, MapHolds, MapHoldsNone, IsLastPiece, IsFirstPiece, MapTakes, MapStems, SpansAll, IsJoining};
 ghost use Rattle.quic_ordered.specs.Rows.{RiseByKey};
 
 use crate::map::PieceMap;
@@ -28,6 +28,8 @@ fn absorb(pieces: &mut PieceMap, new: &Piece, start: u64, end: u64, base: &mut P
     requires bound { start < 2 ^ 62 }
     ensures joins { (es : List (ℕ × PieceView)) → IsPieceMap es → SpansAll es new.now start end → IsJoining es new.now start end pieces.old base.old → IsJoining es new.now start end pieces.new base.new }
     ensures none { (q : ℕ) → start < q → q < run_end new.now → piece_at pieces.new q ≡ None }
+    ensures memory { base.new.allocation_size ≡ base.old.allocation_size }
+    ensures len { length base.new.bytes ≡ length base.old.bytes }
     ensures pieces { length pieces.new ≤ length pieces.old }
 {
     while let Some(from) = pieces.first_from(start + 1) {
@@ -55,6 +57,7 @@ fn base_of(
     requires spans { SpansAll pieces.old new.now start end }
     requires bound { end < 2 ^ 62 }
     ensures joins { IfOk result (IsJoining pieces.old new.now start end pieces.new) }
+    ensures memory { IfOk result (λ base. base.allocation_size ≡ length base.bytes) }
     ensures pieces { length pieces.new ≤ length pieces.old + 1 }
     ensures err { OnErr result (pieces.new ≡ pieces.old) }
 {
@@ -82,6 +85,7 @@ fn join(
     requires rises { RiseByKey pieces.old }
     ensures rises { RiseByKey pieces.new }
     ensures takes { OnOk result (MapTakes pieces.old new.now pieces.new) }
+    ensures stems { OnOk result (MapStems pieces.old new.now pieces.new) }
     ensures apart { OnOk result (IsPieceMap pieces.new) }
     ensures pieces { length pieces.new ≤ length pieces.old + 1 }
     ensures err { OnErr result (pieces.new ≡ pieces.old) }
@@ -101,6 +105,7 @@ pub(crate) fn hold(pieces: &mut PieceMap, new: Piece, alloc: Global) -> Result<(
     requires rises { RiseByKey pieces.old }
     ensures rises { RiseByKey pieces.new }
     ensures takes { OnOk result (MapTakes pieces.old new pieces.new) }
+    ensures stems { OnOk result (MapStems pieces.old new pieces.new) }
     ensures apart { IsPieceMap pieces.new }
     ensures pieces { length pieces.new ≤ length pieces.old + 1 }
     ensures err { OnErr result (pieces.new ≡ pieces.old) }

@@ -4,7 +4,7 @@ ghost use Rattle.std.specs.Map.{values_of, keys_of};
 ghost use Rattle.std.specs.List.{All, Any};
 ghost use Rattle.quic_assembler.specs.Piece.{PieceView, run_end, run_length, run_allocation, left_of, TakesSome};
 ghost use Rattle.quic_assembler.specs.Reassembly.{IfGiven, OnNothing};
-ghost use Rattle.quic_ordered.specs.Rows.{FitsWords, RiseByKey, IsStore, LieInOrder, Merges, HoldSame, LieWithGaps, IsTidy, IsGathered, Encloses, GivesFirst, entry_left};
+ghost use Rattle.quic_ordered.specs.Rows.{FitsWords, RiseByKey, IsStore, LieInOrder, Merges, HoldSame, LieWithGaps, IsTidy, IsGathered, Encloses, GivesFirst, StemsFrom, entry_left};
 ghost use Rattle.quic_ordered.specs.Entries.{IsPieceMap, piece_of};
 
 use crate::gaps;
@@ -241,6 +241,7 @@ impl OrderedPieces {
     ) -> Result<(), OutOfMemory>
         requires { offset + length bytes < 2 ^ 62 }
         ensures merges { OnOk result (Merges self.old (piece_of offset bytes allocation_size) self.new) }
+        ensures stems { OnOk result (All (StemsFrom self.old (piece_of offset bytes allocation_size)) self.new) }
         ensures order { (low : ℕ) → low ≤ offset → LieInOrder low self.old → LieInOrder low self.new }
         ensures pieces { length self.new ≤ length self.old + 1 }
         ensures within { Any (Encloses offset (offset + length bytes)) self.old → (result ≡ Ok tt) × (self.new ≡ self.old) }
@@ -261,6 +262,7 @@ impl OrderedPieces {
     fn hold(&mut self, piece: Piece) -> Result<(), OutOfMemory>
         requires { 0 < length piece.bytes }
         ensures merges { OnOk result (Merges self.old piece self.new) }
+        ensures stems { OnOk result (All (StemsFrom self.old piece) self.new) }
         ensures order { (low : ℕ) → low ≤ piece.offset → LieInOrder low self.old → LieInOrder low self.new }
         ensures pieces { length self.new ≤ length self.old + 1 }
         ensures err { OnErr result (self.new ≡ self.old) }

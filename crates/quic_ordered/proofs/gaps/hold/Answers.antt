@@ -1,6 +1,6 @@
 use Rattle.std.proofs.Common.{sym, ap, subst, ◌∙◌, arith}
 use Rattle.quic_ordered.specs.Entries.{piece_at, SpansAll}
-use Rattle.quic_ordered.proofs.Joining.{spans_of, free_of, put_takes, put_apart, within_takes}
+use Rattle.quic_ordered.proofs.Joining.{spans_of, free_of, put_takes, put_apart, put_stems, within_takes}
 use Rattle.quic_ordered.proofs.gaps.hold.Goals as goal
 
 pub returns-then-last_end-offset-clause-takes : goal.returns-then-last_end-offset-clause-takes
@@ -35,3 +35,6 @@ join-requires-clause-spans c =
     let spans = spans_of c.args.pieces.now c.args.new c.start_of-start.result c.in-Some.last c.in-Some.last_end _ c.requires.apart c.in-Some.ensures.found (omega arith) (omega arith)
     c.start_of-start.ensures.below (λ at low high. c.start_of-start.ensures.left at low (omega arith)) in
     subst (SpansAll c.args.pieces.now c.args.new c.start_of-start.result) (omega arith) spans
+
+pub returns-then-last_end-offset-clause-stems : goal.returns-then-last_end-offset-clause-stems
+returns-then-last_end-offset-clause-stems c = put_stems _ _ c.args.new c.in_ok-insert-2.ensures.here c.in_ok-insert-2.ensures.others

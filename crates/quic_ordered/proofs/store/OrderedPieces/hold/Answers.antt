@@ -3,7 +3,7 @@ use Rattle.std.specs.List.{All}
 use Rattle.std.specs.Map.{values_of}
 use Rattle.quic_assembler.specs.Piece.{PieceView, run_end}
 use Rattle.quic_ordered.specs.Rows.{LieInOrder, Merges}
-use Rattle.quic_ordered.proofs.Stores.{pushed, pushed_merges, order_pushed, held_store, held_merges, order_held, map_of_store}
+use Rattle.quic_ordered.proofs.Stores.{pushed, pushed_merges, order_pushed, held_store, held_merges, order_held, map_of_store, pushed_stems, held_stems}
 use Rattle.quic_ordered.proofs.store.OrderedPieces.hold.Goals as goal
 
 pub invariant_of-self-then-is_behind : goal.invariant_of-self-then-is_behind
@@ -37,3 +37,10 @@ returns-clause-order c =
     let s = c.in_ok-clear_way.ensures.store in
     rw (← c.self.view_is, ← c.in_ok-clear_way.ensures.same)
     (λ low le h. order_held low c.clear_way.new.gaps c.hold.new.pieces c.clear_way.new.row.runs c.args.piece s.keyed h le (rw c.end.ensures.value at c.in_ok-clear_way.ensures.clear) c.in_ok-hold.ensures.takes c.in_ok-hold.ensures.apart c.in_ok-hold.ensures.rises)
+
+pub returns-then-is_behind-clause-stems : goal.returns-then-is_behind-clause-stems
+returns-then-is_behind-clause-stems c = rw (← c.self.view_is) (pushed_stems (values_of c.self.inside.gaps) _ _ c.args.piece c.in_ok-push_back.ensures.ok)
+
+pub returns-clause-stems : goal.returns-clause-stems
+returns-clause-stems c =
+    rw (← c.self.view_is, ← c.in_ok-clear_way.ensures.same) (held_stems c.clear_way.new.gaps c.hold.new.pieces c.clear_way.new.row.runs c.args.piece c.in_ok-hold.ensures.rises c.in_ok-hold.ensures.stems)
