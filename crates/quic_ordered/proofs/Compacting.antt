@@ -6,10 +6,10 @@ use Rattle.std.specs.Map.{values_of}
 use Rattle.std.proofs.lemmas.Bool.{cases_lt}
 use Rattle.std.proofs.lemmas.Bool.Decides.{nat_tests}
 use Rattle.std.proofs.lemmas.List.{append-nil, length-append, get_or_append_left, get_or-append-add}
-use Rattle.std.proofs.lemmas.List.Elements.{All-head, All-tail, All-nil, All-cons, All-push, All-pop}
+use Rattle.std.proofs.lemmas.List.Elements.{All-head, All-tail, All-nil, All-cons, All-push, All-pop, All-append, All-weaker}
 use Rattle.quic_assembler.specs.Piece.{PieceView, run_end, RunHolds}
 use Rattle.quic_assembler.proofs.Counts.{Any-here, Any-there, Any-cons, Any-nil, Any-append}
-use Rattle.quic_ordered.specs.Rows.{Hold, HoldSame, IsGathered, JoinsLast, LieInOrder, LieWithGaps, IsTidy, tidied, joined_with, IsStore, AreKeyed, RiseByKey}
+use Rattle.quic_ordered.specs.Rows.{Hold, HoldSame, IsGathered, IsAmong, IsKeptOrOwn, JoinsLast, LieInOrder, LieWithGaps, IsTidy, tidied, joined_with, IsStore, AreKeyed, RiseByKey}
 use Rattle.quic_ordered.proofs.Order.{hold_front, hold_behind, lower, order_behind}
 
 -- ---- the same is held
@@ -133,14 +133,31 @@ gaps_joined low (x ∷ xs) last p h = (h.0, h.1, gaps_joined (run_end x + 1) xs 
 
 -- ---- one step
 
+among_behind : (xs ys : List PieceView) (r : PieceView) → IsAmong ys r → IsAmong (xs ++ ys) r
+among_behind [] ys r h = h
+among_behind (x ∷ xs) ys r h = Any-there (λ (s : PieceView). s ≡ r) x (xs ++ ys) (among_behind xs ys r h)
+
+all_among : (xs ys : List PieceView) → All (IsAmong (xs ++ ys)) ys
+all_among xs [] = All-nil (IsAmong (xs ++ []))
+all_among xs (y ∷ ys) =
+    All-cons (IsAmong (xs ++ (y ∷ ys))) y ys (among_behind xs (y ∷ ys) y (Any-here (λ (s : PieceView). s ≡ y) y ys refl))
+      (subst (λ (zs : List PieceView). All (IsAmong zs) ys) (append_assoc xs (y ∷ []) ys) (all_among (xs ++ y ∷ []) ys))
+
+tidied_stems : (all : List PieceView) (r : PieceView) (b : Bool) → IsAmong all r → IsKeptOrOwn all (cond b r (record r { allocation_size = length r.bytes }))
+tidied_stems all r true h = inl h
+tidied_stems all r false h = inr refl
+
 pub gathered_none : (all out : List PieceView) → out ≡ [] → LieInOrder 0 all → IsGathered all out all
-gathered_none all out e h = rw e (record {
-  same = same_refl all;
-  order = h;
-  apart = tt;
-  tidy = All-nil IsTidy;
-  pieces = omega arith;
-})
+gathered_none all out e h =
+    rw e (record {
+      same = same_refl all;
+      order = h;
+      apart = tt;
+      tidy = All-nil IsTidy;
+      pieces = omega arith;
+      stems = All-nil (IsKeptOrOwn all);
+      left = all_among [] all;
+    })
 
 -- a piece is put behind all others
 step_put : (all out rest : List PieceView) (p : PieceView) → IsGathered all out (p ∷ rest) → LieWithGaps 0 (out ++ tidied p ∷ []) → IsGathered all (out ++ tidied p ∷ []) rest
@@ -153,6 +170,8 @@ step_put all out rest p g apart =
       apart = apart;
       tidy = All-push IsTidy out (tidied p) g.tidy t.2;
       pieces = let n = g.pieces in omega (arith, n, length-append out (tidied p ∷ []));
+      stems = All-push (IsKeptOrOwn all) out (tidied p) g.stems (tidied_stems all p (nat_le p.allocation_size (length p.bytes * 6 / 5)) (All-head (IsAmong all) p rest g.left));
+      left = All-tail (IsAmong all) p rest g.left;
     }
 
 step_join : (all others rest : List PieceView) (last p : PieceView) → IsGathered all (others ++ last ∷ []) (p ∷ rest) → run_end last ≡ p.offset → IsGathered all (others ++ joined_with last p ∷ []) rest
@@ -167,6 +186,8 @@ step_join all others rest last p g e =
       apart = gaps_joined 0 others last p g.apart;
       tidy = All-push IsTidy others (joined_with last p) (All-pop IsTidy (others ++ last ∷ []) others (Some last) refl g.tidy).0 (omega (arith, l));
       pieces = let n = g.pieces in omega (arith, n, length-append others (last ∷ []), length-append others (joined_with last p ∷ []));
+      stems = All-push (IsKeptOrOwn all) others (joined_with last p) (All-pop (IsKeptOrOwn all) (others ++ last ∷ []) others (Some last) refl g.stems).0 (inr (omega (arith, l)));
+      left = All-tail (IsAmong all) p rest g.left;
     }
 
 step_apart : (all others rest : List PieceView) (last p : PieceView) → IsGathered all (others ++ last ∷ []) (p ∷ rest) → run_end last ≢ p.offset → IsGathered all ((others ++ last ∷ []) ++ tidied p ∷ []) rest
@@ -223,3 +244,19 @@ order_gathered_front low es all rest out row h e g f =
 pub order_gathered_all : (low : ℕ) (es : List (ℕ × PieceView)) (all rest out : List PieceView) → LieInOrder low (values_of es ++ all) → es ≡ [] → IsGathered all out rest → rest ≡ [] → LieInOrder low (values_of es ++ out)
 order_gathered_all low es all rest out h e g f =
     order_gathered_front low es all rest out out h e g (sym (append-nil out) ∙ ap (λ (xs : List PieceView). out ++ xs) (sym f))
+
+kept_of_among : (all rest : List PieceView) → All (IsAmong all) rest → All (IsKeptOrOwn all) rest
+kept_of_among all rest h = All-weaker (IsAmong all) (IsKeptOrOwn all) (λ r a. inl a) rest h
+
+kept_at : (es : List (ℕ × PieceView)) (all row : List PieceView) → es ≡ [] → All (IsKeptOrOwn all) row → All (IsKeptOrOwn (values_of es ++ all)) (values_of es ++ row)
+kept_at es all row e h = subst (λ (xs : List PieceView). All (IsKeptOrOwn xs) (values_of es ++ row)) (sym (only_row es all e)) (subst (All (IsKeptOrOwn all)) (sym (only_row es row e)) h)
+
+pub kept_gathered_front : (es : List (ℕ × PieceView)) (all rest out row : List PieceView) → es ≡ [] → IsGathered all out rest → row ≡ out ++ rest → All (IsKeptOrOwn (values_of es ++ all)) (values_of es ++ row)
+kept_gathered_front es all rest out row e g f =
+    kept_at es all row e (subst (All (IsKeptOrOwn all)) (sym f) (All-append (IsKeptOrOwn all) out rest g.stems (kept_of_among all rest g.left)))
+
+pub kept_gathered_all : (es : List (ℕ × PieceView)) (all rest out : List PieceView) → es ≡ [] → IsGathered all out rest → All (IsKeptOrOwn (values_of es ++ all)) (values_of es ++ out)
+kept_gathered_all es all rest out e g = kept_at es all out e g.stems
+
+pub kept_all : (all : List PieceView) → All (IsKeptOrOwn all) all
+kept_all all = kept_of_among all all (all_among [] all)

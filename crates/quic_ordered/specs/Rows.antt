@@ -89,6 +89,14 @@ pub record JoinsLast (rs : List PieceView) (p : PieceView) (rs' : List PieceView
   pub case : ((rs ≡ []) × (rs' ≡ tidied p ∷ [])) ⊎ ((others : List PieceView) × (last : PieceView) × (rs ≡ others ++ last ∷ [])
       × (((run_end last ≡ p.offset) × (rs' ≡ others ++ joined_with last p ∷ [])) ⊎ ((run_end last ≢ p.offset) × (rs' ≡ rs ++ tidied p ∷ []))))
 
+-- a piece is one of some others
+abbrev pub IsAmong : List PieceView → PieceView → Type 0
+IsAmong rs r = Any (λ s. s ≡ r) rs
+
+-- a piece was held before, or has memory of its own
+abbrev pub IsKeptOrOwn : List PieceView → PieceView → Type 0
+IsKeptOrOwn rs r = IsAmong rs r ⊎ (r.allocation_size ≡ length r.bytes)
+
 -- of all pieces some were moved to `out`, and joined there where they touch; the rest is left
 pub record IsGathered (all out rest : List PieceView) : Type 0 where
   pub same : HoldSame all (out ++ rest)
@@ -96,6 +104,8 @@ pub record IsGathered (all out rest : List PieceView) : Type 0 where
   pub apart : LieWithGaps 0 out
   pub tidy : All IsTidy out
   pub pieces : length out + length rest ≤ length all
+  pub stems : All (IsKeptOrOwn all) out
+  pub left : All (IsAmong all) rest
 
 -- all offsets from one up to another are the piece's
 abbrev pub Encloses : ℕ → ℕ → PieceView → Type 0
@@ -109,10 +119,6 @@ pub record GivesFirst (most : ℕ) (rs : List PieceView) (offset : ℕ) (bytes :
   pub at : offset ≡ first.offset
   pub given : bytes ≡ take most first.bytes
   pub left : rs' ≡ left_of most first ++ rest
-
--- a piece is one of some others
-abbrev pub IsAmong : List PieceView → PieceView → Type 0
-IsAmong rs r = Any (λ s. s ≡ r) rs
 
 -- a piece was held before, or is the new one, or has memory of its own
 abbrev pub StemsFrom : List PieceView → PieceView → PieceView → Type 0

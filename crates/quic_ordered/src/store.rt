@@ -4,7 +4,7 @@ ghost use Rattle.std.specs.Map.{values_of, keys_of};
 ghost use Rattle.std.specs.List.{All, Any};
 ghost use Rattle.quic_assembler.specs.Piece.{PieceView, run_end, run_length, run_allocation, left_of, TakesSome};
 ghost use Rattle.quic_assembler.specs.Reassembly.{IfGiven, OnNothing};
-ghost use Rattle.quic_ordered.specs.Rows.{FitsWords, RiseByKey, IsStore, LieInOrder, Merges, HoldSame, LieWithGaps, IsTidy, IsGathered, Encloses, GivesFirst, StemsFrom, entry_left};
+ghost use Rattle.quic_ordered.specs.Rows.{FitsWords, RiseByKey, IsStore, LieInOrder, Merges, HoldSame, LieWithGaps, IsTidy, IsGathered, Encloses, GivesFirst, StemsFrom, IsKeptOrOwn, entry_left};
 ghost use Rattle.quic_ordered.specs.Entries.{IsPieceMap, piece_of};
 
 use crate::gaps;
@@ -336,6 +336,7 @@ impl OrderedPieces {
         ensures pieces { length self.new ≤ length self.old }
         ensures apart { OnOk result (LieWithGaps 0 self.new) }
         ensures tidy { OnOk result (All IsTidy self.new) }
+        ensures memory { All (IsKeptOrOwn self.old) self.new }
     {
         gather(&mut self.gaps, &mut self.row)?;
         let mut out = PieceRow::with_capacity(self.alloc, self.row.len())?;
