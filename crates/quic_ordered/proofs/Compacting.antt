@@ -1,7 +1,7 @@
 -- Pieces that touch are joined.
-use Rattle.std.proofs.Common.{◌≡◌, ℕ, ◌+◌, ◌-◌, ◌*◌, ◌/◌, ◌≤◌, ◌<◌, ◌⊎◌, refl, sym, ap, subst, ◌∙◌, inl, inr, List, [], ◌∷◌, ◌++◌, length, take, drop, arith, append_assoc, Bool, true, false, cond, Option, Some, None}
-use Rattle.std.specs.Prelude.{nat_le, ◌≢◌, slice_index, option_to_list}
-use Rattle.std.specs.List.{All, Any}
+use Rattle.std.proofs.Common.{◌≡◌, ℕ, ◌+◌, ◌-◌, ◌*◌, ◌/◌, ◌≤◌, ◌<◌, ◌⊎◌, refl, sym, ap, subst, ◌∙◌, inl, inr, List, [], ◌∷◌, ◌++◌, length, arith, append_assoc, Bool, true, false, cond, Some}
+use Rattle.std.specs.Prelude.{nat_le, ◌≢◌, slice_index}
+use Rattle.std.specs.List.{All}
 use Rattle.std.specs.Map.{values_of}
 use Rattle.std.proofs.lemmas.Bool.{cases_lt}
 use Rattle.std.proofs.lemmas.Bool.Decides.{nat_tests}
@@ -9,7 +9,7 @@ use Rattle.std.proofs.lemmas.List.{append-nil, length-append, get_or_append_left
 use Rattle.std.proofs.lemmas.List.Elements.{All-head, All-tail, All-nil, All-cons, All-push, All-pop, All-append, All-weaker}
 use Rattle.quic_assembler.specs.Piece.{PieceView, run_end, RunHolds}
 use Rattle.quic_assembler.proofs.Counts.{Any-here, Any-there, Any-cons, Any-nil, Any-append}
-use Rattle.quic_ordered.specs.Rows.{Hold, HoldSame, IsGathered, IsAmong, IsKeptOrOwn, JoinsLast, LieInOrder, LieWithGaps, IsTidy, tidied, joined_with, IsStore, AreKeyed, RiseByKey}
+use Rattle.quic_ordered.specs.Rows.{Hold, HoldSame, IsGathered, IsAmong, IsKeptOrOwn, JoinsLast, LieInOrder, LieWithGaps, IsTidy, tidied, joined_with}
 use Rattle.quic_ordered.proofs.Order.{hold_front, hold_behind, lower, order_behind}
 
 -- ---- the same is held
@@ -141,7 +141,7 @@ all_among : (xs ys : List PieceView) → All (IsAmong (xs ++ ys)) ys
 all_among xs [] = All-nil (IsAmong (xs ++ []))
 all_among xs (y ∷ ys) =
     All-cons (IsAmong (xs ++ (y ∷ ys))) y ys (among_behind xs (y ∷ ys) y (Any-here (λ (s : PieceView). s ≡ y) y ys refl))
-      (subst (λ (zs : List PieceView). All (IsAmong zs) ys) (append_assoc xs (y ∷ []) ys) (all_among (xs ++ y ∷ []) ys))
+    (subst (λ (zs : List PieceView). All (IsAmong zs) ys) (append_assoc xs (y ∷ []) ys) (all_among (xs ++ y ∷ []) ys))
 
 tidied_stems : (all : List PieceView) (r : PieceView) (b : Bool) → IsAmong all r → IsKeptOrOwn all (cond b r (record r { allocation_size = length r.bytes }))
 tidied_stems all r true h = inl h

@@ -1,6 +1,6 @@
 -- The first and the last of a list.
-use Rattle.std.proofs.Common.{◌≡◌, ℕ, ◌+◌, ◌-◌, ◌<◌, refl, sym, ap, ◌∙◌, List, [], ◌∷◌, ◌++◌, length, arith, zero, suc}
-use Rattle.std.specs.Prelude.{slice_index_or, slice_get, Option, Some, None}
+use Rattle.std.proofs.Common.{◌≡◌, ℕ, ◌+◌, ◌<◌, refl, ap, List, [], ◌∷◌, ◌++◌, length, arith, zero, suc}
+use Rattle.std.specs.Prelude.{slice_index_or, slice_get, Some, None}
 
 pub first_of : {X : Type 0} (xs : List X) (x : X) → 0 < length xs → x ≡ slice_index_or xs 0 x → (first : X) × (rest : List X) × (xs ≡ first ∷ rest) × (x ≡ first)
 first_of [] x lt e = absurd (omega arith)

@@ -1,15 +1,15 @@
 -- The last place of a map, and the first.
-use Rattle.std.proofs.Common.{◌≡◌, ℕ, ◌+◌, ◌-◌, ◌≤◌, ◌<◌, ◌⊎◌, refl, sym, ap, subst, ◌∙◌, inl, inr, List, [], ◌∷◌, ◌++◌, length, drop, arith, Bool, true, false, cond, Option, Some, None}
+use Rattle.std.proofs.Common.{◌≡◌, ℕ, ◌+◌, ◌-◌, ◌<◌, refl, sym, ap, subst, ◌∙◌, List, [], ◌∷◌, ◌++◌, length, drop, arith, Bool, cond, Some, None}
 use Rattle.std.specs.Prelude.{max}
 use Rattle.std.specs.List.{All}
-use Rattle.std.specs.Map.{values_of, keys_of}
-use Rattle.std.specs.BTreeMap.{is_at, insert_entry}
+use Rattle.std.specs.Map.{keys_of}
+use Rattle.std.specs.BTreeMap.{insert_entry}
 use Rattle.std.specs.Ordering.{nat_cmp, match_ordering}
 use Rattle.std.specs.Cmp.{nat_cmp_is}
 use Rattle.std.specs.declared.cmp.Ordering.{Ordering}
 use Rattle.std.specs.declared.cmp.Ordering.TheVariants.{Less, Equal, Greater}
 use Rattle.std.proofs.lemmas.List.Elements.{All-head, All-tail}
-use Rattle.quic_assembler.specs.Piece.{PieceView, run_end, cut_at, advance_by}
+use Rattle.quic_assembler.specs.Piece.{PieceView, cut_at, advance_by}
 use Rattle.quic_ordered.specs.Entries.{piece_at, IsPieceMap}
 use Rattle.quic_ordered.specs.Rows.{RiseByKey}
 use Rattle.quic_ordered.proofs.Held.{is_at-apart}

@@ -1,14 +1,13 @@
 -- Pieces in order, by their places.
-use Rattle.std.proofs.Common.{◌≡◌, ℕ, ◌+◌, ◌-◌, ◌≤◌, ◌<◌, ◌⊎◌, refl, sym, ap, subst, ◌∙◌, inl, inr, List, [], ◌∷◌, ◌++◌, length, arith, zero, suc, Bool, true, false, Some, None}
-use Rattle.std.specs.Prelude.{slice_index_or, nat_le}
-use Rattle.std.specs.List.{All, Any}
+use Rattle.std.proofs.Common.{◌≡◌, ℕ, ◌+◌, ◌-◌, ◌≤◌, ◌<◌, refl, sym, ap, subst, ◌∙◌, inl, inr, List, [], ◌∷◌, ◌++◌, length, arith, zero, suc, Some, None}
+use Rattle.std.specs.Prelude.{slice_index_or}
+use Rattle.std.specs.List.{Any}
 use Rattle.std.specs.Map.{values_of}
 use Rattle.std.proofs.lemmas.Bool.{cases_lt, cases_eq}
-use Rattle.std.proofs.lemmas.Bool.Decides.{nat_tests}
-use Rattle.quic_assembler.specs.Piece.{PieceView, run_end, RunHolds}
+use Rattle.quic_assembler.specs.Piece.{PieceView, run_end}
 use Rattle.quic_assembler.proofs.Counts.{Any-here, Any-there, Any-cons, Any-nil, Any-append}
 use Rattle.quic_ordered.specs.Entries.{piece_at, IsLastPiece, NoPieceBegins, IsPieceMap}
-use Rattle.quic_ordered.specs.Rows.{LieInOrder, AreKeyed, Encloses, IsStore, Hold, Merges}
+use Rattle.quic_ordered.specs.Rows.{LieInOrder, AreKeyed, Encloses, IsStore, Merges}
 use Rattle.quic_ordered.proofs.Held.{none_some}
 use Rattle.quic_ordered.proofs.Joining.{last_bounds}
 use Rattle.quic_ordered.proofs.Order.{found_head, found_low, key_at, at_head, at_tail}

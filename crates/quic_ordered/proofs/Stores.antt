@@ -1,5 +1,5 @@
 -- A map, and behind it a row.
-use Rattle.std.proofs.Common.{◌⊎◌, inl, inr, Some, None, ◌≡◌, ℕ, ◌+◌, ◌-◌, ◌≤◌, ◌<◌, refl, sym, ap, subst, ◌∙◌, List, [], ◌∷◌, ◌++◌, length, arith, append_assoc}
+use Rattle.std.proofs.Common.{inl, inr, Some, None, ◌≡◌, ℕ, ◌+◌, ◌≤◌, ◌<◌, refl, sym, ap, subst, ◌∙◌, List, [], ◌∷◌, ◌++◌, length, arith, append_assoc}
 use Rattle.std.specs.List.{All}
 use Rattle.std.specs.Map.{values_of, keys_of}
 use Rattle.std.specs.Ordering.{nat_cmp}
@@ -8,11 +8,10 @@ use Rattle.std.proofs.lemmas.List.Elements.{All-nil, All-cons, All-append, All-p
 use Rattle.quic_assembler.proofs.Counts.{Any-here, Any-there, Any-cons, Any-nil}
 use Rattle.quic_ordered.proofs.Held.{none_some}
 use Rattle.std.proofs.lemmas.List.{length-append}
-use Rattle.std.proofs.lemmas.Map.Entries.{length-values_of}
 use Rattle.quic_assembler.specs.Piece.{PieceView, run_end}
 use Rattle.quic_ordered.specs.Entries.{IsPieceMap, MapTakes, MapStems, piece_at}
 use Rattle.quic_ordered.specs.Rows.{RiseByKey, LieInOrder, AreKeyed, Merges, IsStore, IsAmong, StemsFrom}
-use Rattle.quic_ordered.proofs.Order.{order_behind, order_push_all, ends_by_last, keyed_push, values_push, piece_map_of, merges_map, merges_push, hold_each, keyed_of, order_of, lower, found_head, at_head, tail_at}
+use Rattle.quic_ordered.proofs.Order.{order_behind, order_push_all, ends_by_last, keyed_push, values_push, piece_map_of, merges_map, merges_push, hold_each, keyed_of, order_of, found_head, at_head, tail_at}
 
 -- all end by where the last piece of the row ends
 pub all_end_row : (vs rs others : List PieceView) (last : PieceView) (n : ℕ) → LieInOrder 0 (vs ++ rs) → rs ≡ others ++ last ∷ [] → run_end last ≤ n → All (λ (r : PieceView). run_end r ≤ n) (vs ++ rs)
@@ -121,16 +120,16 @@ stems_values : (old : List PieceView) (new : PieceView) (es es' : List (ℕ × P
 stems_values old new es [] rises each = All-nil (StemsFrom old new)
 stems_values old new es (e ∷ es') rises each =
     All-cons (StemsFrom old new) e.1 (values_of es') (each e.0 e.1 (at_head e es'))
-      (stems_values old new es es' (sorted_tail nat_cmp e.0 (keys_of es') rises) (λ q v found. each q v (tail_at e es' q v rises found)))
+    (stems_values old new es es' (sorted_tail nat_cmp e.0 (keys_of es') rises) (λ q v found. each q v (tail_at e es' q v rises found)))
 
 pub held_stems : (es es' : List (ℕ × PieceView)) (rs : List PieceView) (new : PieceView) → RiseByKey es' → MapStems es new es' → All (StemsFrom (values_of es ++ rs) new) (values_of es' ++ rs)
 held_stems es es' rs new rises stems =
     All-append (StemsFrom (values_of es ++ rs) new) (values_of es') rs
-      (stems_values (values_of es ++ rs) new es es' rises (λ q v found. elim (stems q v found) [
-        | inl old ↦ inl (among_front (values_of es) rs v (among_found es q v old))
-        | inr other ↦ inr other
-      ]))
-      (stems_rest (values_of es) rs new)
+    (stems_values (values_of es ++ rs) new es es' rises (λ q v found. elim (stems q v found) [
+      | inl old ↦ inl (among_front (values_of es) rs v (among_found es q v old))
+      | inr other ↦ inr other
+    ]))
+    (stems_rest (values_of es) rs new)
 
 pub stems_all : (rs : List PieceView) (new : PieceView) → All (StemsFrom rs new) rs
 stems_all rs new = stems_rest [] rs new

@@ -1,15 +1,15 @@
 -- The first bytes of the first piece are given.
-use Rattle.std.proofs.Common.{◌≡◌, ℕ, ◌+◌, ◌-◌, ◌^◌, ◌≤◌, ◌<◌, refl, sym, ap, subst, ◌∙◌, List, [], ◌∷◌, ◌++◌, length, take, drop, arith, append_assoc, Bool, true, false, cond}
+use Rattle.std.proofs.Common.{◌≡◌, ℕ, ◌+◌, ◌-◌, ◌^◌, ◌≤◌, ◌<◌, refl, sym, ap, subst, ◌∙◌, List, [], ◌∷◌, ◌++◌, length, take, drop, arith, Bool, true, false, cond}
 use Rattle.std.specs.Prelude.{nat_lt, max}
-use Rattle.std.specs.List.{All, Any}
+use Rattle.std.specs.List.{All}
 use Rattle.std.specs.List.Sorted.{IsPermutation}
 use Rattle.std.specs.Map.{values_of}
 use Rattle.std.proofs.lemmas.Bool.Decides.{nat_tests}
-use Rattle.std.proofs.lemmas.List.{length-append, length-take, length-drop}
-use Rattle.std.proofs.lemmas.List.Elements.{All-head, All-tail, All-nil, All-cons}
+use Rattle.std.proofs.lemmas.List.{length-drop}
+use Rattle.std.proofs.lemmas.List.Elements.{All-head}
 use Rattle.std.proofs.lemmas.List.Sorted.{IsPermutation-refl}
-use Rattle.quic_assembler.specs.Piece.{PieceView, run_end, RunHolds, left_of, cut_at, advance_by, TakesSome, TakesNone, CoversMore}
-use Rattle.quic_assembler.proofs.Runs.{TakesSome-front, CoversMore-front, KeepsFrom-refl, none_reaches}
+use Rattle.quic_assembler.specs.Piece.{PieceView, run_end, left_of, cut_at, advance_by, TakesSome}
+use Rattle.quic_assembler.proofs.Runs.{TakesSome-front, KeepsFrom-refl}
 use Rattle.quic_ordered.specs.Rows.{RiseByKey, LieInOrder, AreKeyed, IsStore, FitsWords, GivesFirst, entry_left}
 use Rattle.quic_ordered.proofs.Order.{lower}
 

@@ -1,5 +1,5 @@
-use Rattle.std.proofs.Common.{sym, ap, subst, ◌∙◌, arith}
-use Rattle.quic_ordered.specs.Entries.{piece_at, SpansAll}
+use Rattle.std.proofs.Common.{subst, arith}
+use Rattle.quic_ordered.specs.Entries.{SpansAll}
 use Rattle.quic_ordered.proofs.Joining.{spans_of, free_of, put_takes, put_apart, put_stems, within_takes}
 use Rattle.quic_ordered.proofs.gaps.hold.Goals as goal
 

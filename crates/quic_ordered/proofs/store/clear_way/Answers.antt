@@ -1,4 +1,4 @@
-use Rattle.std.proofs.Common.{arith, ◌∙◌, sym, ◌≡◌, ap, subst, List, ◌∷◌, ◌++◌}
+use Rattle.std.proofs.Common.{arith, ◌∙◌, subst, List, ◌∷◌, ◌++◌}
 use Rattle.std.specs.Map.{values_of}
 use Rattle.quic_assembler.specs.Piece.{PieceView}
 use Rattle.quic_ordered.specs.Rows.{LieInOrder}

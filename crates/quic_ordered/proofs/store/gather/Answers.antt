@@ -1,4 +1,4 @@
-use Rattle.std.proofs.Common.{arith, ◌∙◌, ◌≡◌, sym, ap, length}
+use Rattle.std.proofs.Common.{◌∙◌}
 use Rattle.quic_ordered.proofs.Stores.{gathered_store, gathered_same, gathered_room}
 use Rattle.quic_ordered.proofs.store.gather.Goals as goal
 

@@ -1,5 +1,4 @@
-use Rattle.std.proofs.Common.{◌∙◌, ◌≡◌, subst, List, refl}
-use Rattle.quic_assembler.specs.Piece.{PieceView}
+use Rattle.std.proofs.Common.{◌∙◌, subst, refl}
 use Rattle.quic_ordered.specs.Rows.{IsGathered}
 use Rattle.quic_ordered.proofs.Compacting.{gathered_none, gathered_step}
 use Rattle.quic_ordered.proofs.store.join_touching.Goals as goal

@@ -1,4 +1,4 @@
-use Rattle.std.proofs.Common.{◌≡◌, ◌+◌, ◌≤◌, length}
+use Rattle.std.proofs.Common.{◌≡◌, length}
 use Rattle.quic_ordered.specs.Rows.{IsGathered}
 use Rattle.quic_ordered.proofs.store.join_touching.Given as goal
 

@@ -1,4 +1,4 @@
-use Rattle.std.proofs.Common.{◌≡◌, List, ℕ, ◌<◌, ◌++◌, ◌∙◌, sym, ap, subst, length, arith}
+use Rattle.std.proofs.Common.{◌∙◌, ap, length, arith}
 use Rattle.quic_assembler.specs.Piece.{PieceView}
 use Rattle.quic_ordered.proofs.Firsts.{same_entry}
 use Rattle.quic_ordered.proofs.Taking.{entry_part}

@@ -1,9 +1,9 @@
-use Rattle.std.proofs.Common.{arith, sym, ap, subst, ◌∙◌, ◌≡◌, ℕ, List, Some, None, take, length, ◌<◌, refl}
+use Rattle.std.proofs.Common.{arith, sym, ap, subst, ◌∙◌, ◌≡◌, ℕ, List, Some, None, length, ◌<◌}
 use Rattle.quic_assembler.specs.Piece.{PieceView}
 use Rattle.quic_ordered.specs.Entries.{piece_at}
 use Rattle.quic_ordered.proofs.Held.{none_some}
 use Rattle.quic_ordered.proofs.Order.{at_head}
-use Rattle.quic_ordered.proofs.Firsts.{CutsFirst, cut_popped, cut_left, same_entry}
+use Rattle.quic_ordered.proofs.Firsts.{cut_popped, cut_left, same_entry}
 use Rattle.quic_ordered.proofs.map.PieceMap.cut_first.Goals as goal
 
 pub cut_below-requires : goal.cut_below-requires

@@ -1,4 +1,4 @@
-use Rattle.std.proofs.Common.{arith, sym, ◌∙◌, Some}
+use Rattle.std.proofs.Common.{arith, sym, ◌∙◌}
 use Rattle.quic_ordered.proofs.Totals.{map_total_bound, inserted_le, inserted_over, inserted_new}
 use Rattle.quic_ordered.proofs.map.PieceMap.insert.Goals as goal
 

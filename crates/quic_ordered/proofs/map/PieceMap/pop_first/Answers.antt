@@ -1,5 +1,5 @@
-use Rattle.std.proofs.Common.{arith, sym, ◌∙◌, Some}
-use Rattle.quic_ordered.proofs.Totals.{left_front, map_left_front}
+use Rattle.std.proofs.Common.{arith}
+use Rattle.quic_ordered.proofs.Totals.{map_left_front}
 use Rattle.quic_ordered.proofs.map.PieceMap.pop_first.Goals as goal
 
 pub invariant_of-self : goal.invariant_of-self

@@ -1,5 +1,5 @@
-use Rattle.std.proofs.Common.{arith, sym, ◌∙◌, Some}
-use Rattle.quic_ordered.proofs.Totals.{left_back, map_left_back}
+use Rattle.std.proofs.Common.{arith}
+use Rattle.quic_ordered.proofs.Totals.{map_left_back}
 use Rattle.quic_ordered.proofs.map.PieceMap.pop_last.Goals as goal
 
 pub invariant_of-self : goal.invariant_of-self

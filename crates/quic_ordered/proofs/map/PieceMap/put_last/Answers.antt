@@ -1,4 +1,4 @@
-use Rattle.std.proofs.Common.{arith, sym, ◌∙◌, Some, refl}
+use Rattle.std.proofs.Common.{arith, sym}
 use Rattle.quic_ordered.proofs.Totals.{map_total_bound, inserted_new}
 use Rattle.quic_ordered.proofs.Firsts.{insert_last, absent_last}
 use Rattle.quic_ordered.proofs.map.PieceMap.put_last.Goals as goal

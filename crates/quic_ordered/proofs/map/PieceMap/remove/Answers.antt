@@ -1,4 +1,4 @@
-use Rattle.std.proofs.Common.{arith, sym, ◌∙◌, Some}
+use Rattle.std.proofs.Common.{arith, sym, ◌∙◌}
 use Rattle.quic_ordered.proofs.Totals.{inserted_le, removed}
 use Rattle.quic_ordered.proofs.map.PieceMap.remove.Goals as goal
 

@@ -1,5 +1,5 @@
 use Rattle.std.proofs.Common.{arith, ap, ◌∙◌, ◌-◌, refl, deque_len}
-use Rattle.quic_assembler.specs.Piece.{PieceView, run_end}
+use Rattle.quic_assembler.specs.Piece.{run_end}
 use Rattle.quic_ordered.proofs.Ends.{last_at}
 use Rattle.quic_ordered.proofs.row.PieceRow.last_end.Goals as goal
 

@@ -1,4 +1,4 @@
-use Rattle.std.proofs.Common.{arith, sym, ◌∙◌, Some}
+use Rattle.std.proofs.Common.{arith}
 use Rattle.quic_ordered.proofs.Totals.{total_bound, allocated_bound, sums_back}
 use Rattle.quic_ordered.proofs.row.PieceRow.push_back.Goals as goal
 

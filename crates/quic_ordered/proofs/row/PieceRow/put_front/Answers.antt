@@ -1,4 +1,4 @@
-use Rattle.std.proofs.Common.{arith, sym, ◌∙◌, Some}
+use Rattle.std.proofs.Common.{arith}
 use Rattle.quic_ordered.proofs.Totals.{total_bound, allocated_bound, sums_front}
 use Rattle.quic_ordered.proofs.row.PieceRow.put_front.Goals as goal
 

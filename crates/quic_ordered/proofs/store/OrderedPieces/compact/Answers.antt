@@ -1,8 +1,4 @@
-use Rattle.std.proofs.Common.{◌∙◌, ◌≡◌, sym, ap, subst, List, [], ◌++◌}
-use Rattle.std.specs.Map.{values_of}
-use Rattle.quic_assembler.specs.Piece.{PieceView}
-use Rattle.quic_ordered.specs.Rows.{LieInOrder}
-use Rattle.quic_ordered.proofs.Compacting.{order_gathered_all, order_gathered_front, kept_gathered_all, kept_gathered_front, kept_all}
+use Rattle.quic_ordered.proofs.Compacting.{order_gathered_all, order_gathered_front, kept_gathered_all, kept_gathered_front}
 use Rattle.quic_ordered.proofs.store.OrderedPieces.compact.Goals as goal
 
 pub returns-in-Ok-clause-order : goal.returns-in-Ok-clause-order
@@ -18,9 +14,9 @@ returns-in-Err-clause-order c =
 pub returns-in-Ok-clause-memory : goal.returns-in-Ok-clause-memory
 returns-in-Ok-clause-memory c =
     rw (← c.self.view_is, ← c.in_ok-gather.ensures.same)
-      (kept_gathered_all c.gather.new.gaps c.gather.new.row.runs c.join_touching.new.row.runs c.join_touching.new.out.runs c.in_ok-gather.ensures.empty c.in-Ok.ensures.gathered)
+    (kept_gathered_all c.gather.new.gaps c.gather.new.row.runs c.join_touching.new.row.runs c.join_touching.new.out.runs c.in_ok-gather.ensures.empty c.in-Ok.ensures.gathered)
 
 pub returns-in-Err-clause-memory : goal.returns-in-Err-clause-memory
 returns-in-Err-clause-memory c =
     rw (← c.self.view_is, ← c.in_ok-gather.ensures.same)
-      (kept_gathered_front c.gather.new.gaps c.gather.new.row.runs c.join_touching.new.row.runs c.join_touching.new.out.runs c.put_in_front.new.row.runs c.in_ok-gather.ensures.empty c.in-Err.ensures.gathered c.put_in_front.ensures)
+    (kept_gathered_front c.gather.new.gaps c.gather.new.row.runs c.join_touching.new.row.runs c.join_touching.new.out.runs c.put_in_front.new.row.runs c.in_ok-gather.ensures.empty c.in-Err.ensures.gathered c.put_in_front.ensures)

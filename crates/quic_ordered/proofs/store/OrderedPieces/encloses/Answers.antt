@@ -1,4 +1,3 @@
-use Rattle.std.proofs.Common.{arith}
 use Rattle.std.specs.Map.{values_of}
 use Rattle.quic_ordered.proofs.Order.{order_behind}
 use Rattle.quic_ordered.proofs.Places.{encloses_map, encloses_row, encloses_none, short_map, none_map}

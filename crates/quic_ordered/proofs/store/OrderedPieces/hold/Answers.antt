@@ -1,8 +1,4 @@
-use Rattle.std.proofs.Common.{arith, ◌∙◌, sym, ◌≡◌, ◌≤◌, ap, subst, List, ◌++◌}
-use Rattle.std.specs.List.{All}
 use Rattle.std.specs.Map.{values_of}
-use Rattle.quic_assembler.specs.Piece.{PieceView, run_end}
-use Rattle.quic_ordered.specs.Rows.{LieInOrder, Merges}
 use Rattle.quic_ordered.proofs.Stores.{pushed, pushed_merges, order_pushed, held_store, held_merges, order_held, map_of_store, pushed_stems, held_stems}
 use Rattle.quic_ordered.proofs.store.OrderedPieces.hold.Goals as goal
 

@@ -1,4 +1,3 @@
-use Rattle.std.proofs.Common.{refl}
 use Rattle.quic_ordered.proofs.Places.{merges_enclosed}
 use Rattle.quic_ordered.proofs.Stores.{stems_all}
 use Rattle.quic_ordered.proofs.store.OrderedPieces.insert.Goals as goal

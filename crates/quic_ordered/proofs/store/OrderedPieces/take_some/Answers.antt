@@ -1,6 +1,6 @@
-use Rattle.std.proofs.Common.{◌≡◌, List, ℕ, ◌<◌, ◌++◌, ◌∷◌, ◌∙◌, sym, ap, subst, length, take, arith}
+use Rattle.std.proofs.Common.{List, ℕ, ◌++◌, ◌∙◌, ap}
 use Rattle.std.specs.Map.{values_of}
-use Rattle.quic_assembler.specs.Piece.{PieceView, left_of}
+use Rattle.quic_assembler.specs.Piece.{PieceView}
 use Rattle.quic_ordered.proofs.Stores.{map_of_store}
 use Rattle.quic_ordered.proofs.Taking.{store_left, store_row_left, first_of_store, left_of_store, row_first, given_at, row_some, some_first}
 use Rattle.quic_ordered.proofs.store.OrderedPieces.take_some.Goals as goal
