@@ -3,7 +3,7 @@ use Rattle.std.proofs.Common.{◌≡◌, ℕ, ◌+◌, ◌-◌, ◌<◌, ◌≤�
 use Rattle.std.specs.Prelude.{max}
 use Rattle.std.proofs.lemmas.Bool.{cases_lt, cases_eq}
 use Rattle.quic_assembler.specs.Piece.{PieceView, run_end, RunHolds}
-use Rattle.quic_ordered.specs.Entries.{piece_at, MapHolds, MapHoldsNone, IsPieceMap, IsOutside, WritesOver, SpansAll, StillHolds, IsJoining, MapTakes, MapStems, IsLastPiece}
+use Rattle.quic_ordered.specs.Entries.{piece_at, MapHolds, MapHoldsNone, IsPieceMap, IsOutside, WritesOver, SpansAll, StillHolds, IsJoining, MapTakes, MapStems, HasWhole, MapKeepsApart, IsLastPiece}
 use Rattle.quic_ordered.proofs.Held.{some_is, none_some, place, one_byte, held_once, held, covered}
 
 -- ---- another run is taken out and written over the base
@@ -300,8 +300,9 @@ last_bounds es last last_end n q v apart l found le =
 
 pub spans_of : (es : List (ℕ × PieceView)) (new : PieceView) (start last last_end n : ℕ) → IsPieceMap es → IsLastPiece es last last_end n → n + 1 ≡ run_end new → start ≤ new.offset
     → ((q : ℕ) (v : PieceView) → piece_at es q ≡ Some v → q < start → run_end v ≤ start)
-    → ((at : ℕ) → start ≤ at → at < new.offset → (byte : ℕ) × MapHolds es at byte) → SpansAll es new start (max (run_end new) last_end)
-spans_of es new start last last_end n apart l e from below left =
+    → ((at : ℕ) → start ≤ at → at < new.offset → (byte : ℕ) × MapHolds es at byte)
+    → ((q : ℕ) (v : PieceView) → piece_at es q ≡ Some v → start ≤ q → q < new.offset → new.offset < run_end v) → SpansAll es new start (max (run_end new) last_end)
+spans_of es new start last last_end n apart l e from below left tight =
     let ends = l.ends in
     let up_to = l.up_to in
     record {
@@ -311,6 +312,7 @@ spans_of es new start last last_end n apart l e from below left =
       inside = λ q v found lt. let b = last_bounds es last last_end n q v apart l found (omega arith) in omega arith;
       above = λ q v found ge. let a = apart.apart last q l.run v l.found found (omega arith) in omega arith;
       left = left;
+      tight = tight;
       right = λ at low high. covered es last at l.run apart l.found (omega arith) (omega arith);
     }
 
@@ -411,3 +413,40 @@ join_stems es ms ms' new base start end d memory = λ q v found.
           inr (inr (ap (λ (r : PieceView). r.allocation_size) e ∙ memory ∙ sym (ap (λ (r : PieceView). length r.bytes) e)))
       | inr ne ↦ inl (was_there es ms ms' new base start end q v d ne found).0
     ]
+
+-- ---- what a piece does not overlap stays, and one piece has all of it
+
+pub put_whole : (es' : List (ℕ × PieceView)) (new : PieceView) → piece_at es' new.offset ≡ Some new → HasWhole es' new
+put_whole es' new mine = record { start = new.offset; run = new; found = mine; from = omega arith; to = omega arith }
+
+apart_key : (es : List (ℕ × PieceView)) (new : PieceView) (q : ℕ) (v : PieceView) → IsPieceMap es → 0 < length new.bytes → piece_at es q ≡ Some v → (run_end v ≤ new.offset) ⊎ (run_end new ≤ v.offset) → q ≡ new.offset → ⊥
+apart_key es new q v m some found (inl a) same = let k = m.key q v found in let s = m.some q v found in omega arith
+apart_key es new q v m some found (inr a) same = let k = m.key q v found in let s = m.some q v found in omega arith
+
+pub put_keeps : (es es' : List (ℕ × PieceView)) (new : PieceView) → IsPieceMap es → 0 < length new.bytes → ((x : ℕ) → (x ≡ new.offset → ⊥) → piece_at es' x ≡ piece_at es x) → MapKeepsApart es new es'
+put_keeps es es' new m some others = λ q v found apart. others q (apart_key es new q v m some found apart) ∙ found
+
+pub join_whole : (es ms ms' : List (ℕ × PieceView)) (new base : PieceView) (start end : ℕ) → Done es ms ms' new base start end → HasWhole ms' new
+join_whole es ms ms' new base start end d =
+    let jo = d.joins.offset in
+    let je = d.joins.ends in
+    let sf = d.spans.from in
+    let st = d.spans.to in
+    record { start = start; run = base; found = d.mine; from = omega arith; to = omega arith }
+
+join_keeps_at : (es ms ms' : List (ℕ × PieceView)) (new base : PieceView) (start end q : ℕ) (v : PieceView) → Done es ms ms' new base start end → piece_at es q ≡ Some v → (run_end v ≤ new.offset) ⊎ (run_end new ≤ v.offset) → piece_at ms' q ≡ Some v
+join_keeps_at es ms ms' new base start end q v d found (inl a) =
+    let k = d.apart.key q v found in
+    let s = d.apart.some q v found in
+    elim (cases_lt q start) [
+      | inl lt ↦ d.others q (λ same. omega arith) ∙ (d.joins.outside q (inl lt) ∙ found)
+      | inr ge ↦ absurd (let t = d.spans.tight q v found ge (omega arith) in omega (arith, t, a))
+    ]
+join_keeps_at es ms ms' new base start end q v d found (inr a) =
+    let k = d.apart.key q v found in
+    let sf = d.spans.from in
+    let sm = d.some in
+    d.others q (λ same. omega arith) ∙ (d.joins.outside q (inr (omega arith)) ∙ found)
+
+pub join_keeps : (es ms ms' : List (ℕ × PieceView)) (new base : PieceView) (start end : ℕ) → Done es ms ms' new base start end → MapKeepsApart es new ms'
+join_keeps es ms ms' new base start end d = λ q v found apart. join_keeps_at es ms ms' new base start end q v d found apart

@@ -75,6 +75,7 @@ pub record SpansAll (es : List (ℕ × PieceView)) (new : PieceView) (start end 
   pub inside : (q : ℕ) (v : PieceView) → piece_at es q ≡ Some v → q < run_end new → run_end v ≤ end
   pub above : (q : ℕ) (v : PieceView) → piece_at es q ≡ Some v → run_end new ≤ q → end ≤ q
   pub left : (at : ℕ) → start ≤ at → at < new.offset → (byte : ℕ) × MapHolds es at byte
+  pub tight : (q : ℕ) (v : PieceView) → piece_at es q ≡ Some v → start ≤ q → q < new.offset → new.offset < run_end v
   pub right : (at : ℕ) → run_end new ≤ at → at < end → (byte : ℕ) × MapHolds es at byte
 
 -- a run behind start has the byte
@@ -99,3 +100,15 @@ pub record IsJoining (es : List (ℕ × PieceView)) (new : PieceView) (start end
 -- each piece of the map was there, or is the new one, or has memory of its own
 abbrev pub MapStems : List (ℕ × PieceView) → PieceView → List (ℕ × PieceView) → Type 0
 MapStems es new es' = (q : ℕ) (v : PieceView) → piece_at es' q ≡ Some v → (piece_at es q ≡ Some v) ⊎ ((v ≡ new) ⊎ (v.allocation_size ≡ length v.bytes))
+
+-- one piece of the map has all offsets of a run
+pub record HasWhole (es : List (ℕ × PieceView)) (new : PieceView) : Type 0 where
+  pub start : ℕ
+  pub run : PieceView
+  pub found : piece_at es start ≡ Some run
+  pub from : run.offset ≤ new.offset
+  pub to : run_end new ≤ run_end run
+
+-- each piece that a run does not overlap stays
+abbrev pub MapKeepsApart : List (ℕ × PieceView) → PieceView → List (ℕ × PieceView) → Type 0
+MapKeepsApart es new es' = (q : ℕ) (v : PieceView) → piece_at es q ≡ Some v → (run_end v ≤ new.offset) ⊎ (run_end new ≤ v.offset) → piece_at es' q ≡ Some v

@@ -122,3 +122,7 @@ pub record GivesFirst (most : ℕ) (rs : List PieceView) (offset : ℕ) (bytes :
 -- a piece was held before, or is the new one, or has memory of its own
 abbrev pub StemsFrom : List PieceView → PieceView → PieceView → Type 0
 StemsFrom rs new r = IsAmong rs r ⊎ ((r ≡ new) ⊎ (r.allocation_size ≡ length r.bytes))
+
+-- a piece stays, unless it overlaps the offsets from one up to another
+abbrev pub StaysApart : ℕ → ℕ → List PieceView → PieceView → Type 0
+StaysApart offset end rs r = (run_end r ≤ offset) ⊎ (end ≤ r.offset) → IsAmong rs r

@@ -1,7 +1,7 @@
 // A piece that is taken into a map of pieces.
 ghost use Rattle.std.specs.Prelude.{◌≡◌, ℕ, ◌+◌, ◌-◌, ◌^◌, ◌<◌, ◌≤◌, List, ◌⊎◌, [], length, IfOk, OnOk, OnErr, IfSome, IfNone, IsTrue, Some, None, Ok};
 ghost use Rattle.quic_assembler.specs.Piece.{PieceView, run_end, RunHolds};
-ghost use Rattle.quic_ordered.specs.Entries.{piece_at, NoPieceBegins, IsPieceMap, MapHolds, MapHoldsNone, IsLastPiece, IsFirstPiece, MapTakes, MapStems, SpansAll, IsJoining};
+ghost use Rattle.quic_ordered.specs.Entries.{piece_at, NoPieceBegins, IsPieceMap, MapHolds, MapHoldsNone, IsLastPiece, IsFirstPiece, MapTakes, MapStems, HasWhole, MapKeepsApart, SpansAll, IsJoining};
 ghost use Rattle.quic_ordered.specs.Rows.{RiseByKey};
 
 use crate::map::PieceMap;
@@ -15,6 +15,7 @@ fn start_of(pieces: &PieceMap, n: u64) -> u64
     ensures up_to { result ≤ n }
     ensures below { (q : ℕ) (v : PieceView) → piece_at pieces.now q ≡ Some v → q < result → run_end v ≤ result }
     ensures left { (at : ℕ) → result ≤ at → at < n → (byte : ℕ) × MapHolds pieces.now at byte }
+    ensures tight { (q : ℕ) (v : PieceView) → piece_at pieces.now q ≡ Some v → result ≤ q → q < n → n < run_end v }
 {
     match pieces.last_up_to(n) {
         Some((start, end)) if n < end => start,
@@ -86,6 +87,8 @@ fn join(
     ensures rises { RiseByKey pieces.new }
     ensures takes { OnOk result (MapTakes pieces.old new.now pieces.new) }
     ensures stems { OnOk result (MapStems pieces.old new.now pieces.new) }
+    ensures whole { OnOk result (HasWhole pieces.new new.now) }
+    ensures stays { OnOk result (MapKeepsApart pieces.old new.now pieces.new) }
     ensures apart { OnOk result (IsPieceMap pieces.new) }
     ensures pieces { length pieces.new ≤ length pieces.old + 1 }
     ensures err { OnErr result (pieces.new ≡ pieces.old) }
@@ -106,6 +109,8 @@ pub(crate) fn hold(pieces: &mut PieceMap, new: Piece, alloc: Global) -> Result<(
     ensures rises { RiseByKey pieces.new }
     ensures takes { OnOk result (MapTakes pieces.old new pieces.new) }
     ensures stems { OnOk result (MapStems pieces.old new pieces.new) }
+    ensures whole { OnOk result (HasWhole pieces.new new) }
+    ensures stays { OnOk result (MapKeepsApart pieces.old new pieces.new) }
     ensures apart { IsPieceMap pieces.new }
     ensures pieces { length pieces.new ≤ length pieces.old + 1 }
     ensures err { OnErr result (pieces.new ≡ pieces.old) }

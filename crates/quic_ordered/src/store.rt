@@ -4,7 +4,7 @@ ghost use Rattle.std.specs.Map.{values_of, keys_of};
 ghost use Rattle.std.specs.List.{All, Any};
 ghost use Rattle.quic_assembler.specs.Piece.{PieceView, run_end, run_length, run_allocation, left_of, TakesSome};
 ghost use Rattle.quic_assembler.specs.Reassembly.{IfGiven, OnNothing};
-ghost use Rattle.quic_ordered.specs.Rows.{FitsWords, RiseByKey, IsStore, LieInOrder, Merges, HoldSame, LieWithGaps, IsTidy, IsGathered, Encloses, GivesFirst, StemsFrom, IsKeptOrOwn, entry_left};
+ghost use Rattle.quic_ordered.specs.Rows.{FitsWords, RiseByKey, IsStore, LieInOrder, Merges, HoldSame, LieWithGaps, IsTidy, IsGathered, Encloses, GivesFirst, StemsFrom, StaysApart, IsKeptOrOwn, entry_left};
 ghost use Rattle.quic_ordered.specs.Entries.{IsPieceMap, piece_of};
 
 use crate::gaps;
@@ -242,6 +242,8 @@ impl OrderedPieces {
         requires { offset + length bytes < 2 ^ 62 }
         ensures merges { OnOk result (Merges self.old (piece_of offset bytes allocation_size) self.new) }
         ensures stems { OnOk result (All (StemsFrom self.old (piece_of offset bytes allocation_size)) self.new) }
+        ensures whole { OnOk result (0 < length bytes → Any (Encloses offset (offset + length bytes)) self.new) }
+        ensures stays { OnOk result (All (StaysApart offset (offset + length bytes) self.new) self.old) }
         ensures order { (low : ℕ) → low ≤ offset → LieInOrder low self.old → LieInOrder low self.new }
         ensures pieces { length self.new ≤ length self.old + 1 }
         ensures within { Any (Encloses offset (offset + length bytes)) self.old → (result ≡ Ok tt) × (self.new ≡ self.old) }
@@ -263,6 +265,8 @@ impl OrderedPieces {
         requires { 0 < length piece.bytes }
         ensures merges { OnOk result (Merges self.old piece self.new) }
         ensures stems { OnOk result (All (StemsFrom self.old piece) self.new) }
+        ensures whole { OnOk result (Any (Encloses piece.offset (run_end piece)) self.new) }
+        ensures stays { OnOk result (All (StaysApart piece.offset (run_end piece) self.new) self.old) }
         ensures order { (low : ℕ) → low ≤ piece.offset → LieInOrder low self.old → LieInOrder low self.new }
         ensures pieces { length self.new ≤ length self.old + 1 }
         ensures err { OnErr result (self.new ≡ self.old) }

@@ -1,5 +1,5 @@
 use Rattle.std.specs.Map.{values_of}
-use Rattle.quic_ordered.proofs.Stores.{pushed, pushed_merges, order_pushed, held_store, held_merges, order_held, map_of_store, pushed_stems, held_stems}
+use Rattle.quic_ordered.proofs.Stores.{pushed, pushed_merges, order_pushed, held_store, held_merges, order_held, map_of_store, pushed_stems, held_stems, pushed_whole, pushed_stay, held_whole, held_stay}
 use Rattle.quic_ordered.proofs.store.OrderedPieces.hold.Goals as goal
 
 pub invariant_of-self-then-is_behind : goal.invariant_of-self-then-is_behind
@@ -40,3 +40,16 @@ returns-then-is_behind-clause-stems c = rw (← c.self.view_is) (pushed_stems (v
 pub returns-clause-stems : goal.returns-clause-stems
 returns-clause-stems c =
     rw (← c.self.view_is, ← c.in_ok-clear_way.ensures.same) (held_stems c.clear_way.new.gaps c.hold.new.pieces c.clear_way.new.row.runs c.args.piece c.in_ok-hold.ensures.rises c.in_ok-hold.ensures.stems)
+
+pub returns-then-is_behind-clause-whole : goal.returns-then-is_behind-clause-whole
+returns-then-is_behind-clause-whole c = pushed_whole (values_of c.self.inside.gaps) _ _ c.args.piece c.in_ok-push_back.ensures.ok
+
+pub returns-then-is_behind-clause-stays : goal.returns-then-is_behind-clause-stays
+returns-then-is_behind-clause-stays c = rw (← c.self.view_is) (pushed_stay (values_of c.self.inside.gaps) _ _ c.args.piece c.in_ok-push_back.ensures.ok)
+
+pub returns-clause-whole : goal.returns-clause-whole
+returns-clause-whole c = held_whole c.hold.new.pieces c.clear_way.new.row.runs c.args.piece c.in_ok-hold.ensures.whole
+
+pub returns-clause-stays : goal.returns-clause-stays
+returns-clause-stays c =
+    rw (← c.self.view_is, ← c.in_ok-clear_way.ensures.same) (held_stay c.clear_way.new.gaps c.hold.new.pieces c.clear_way.new.row.runs c.args.piece c.in_ok-clear_way.ensures.store.rises c.in_ok-hold.ensures.stays)
