@@ -149,7 +149,7 @@ all_among : (xs ys : List PieceView) → All (IsAmong (xs ++ ys)) ys
 all_among xs [] = All-nil (IsAmong (xs ++ []))
 all_among xs (y ∷ ys) =
     All-cons (IsAmong (xs ++ (y ∷ ys))) y ys (among_behind xs (y ∷ ys) y (Any-here (λ (s : PieceView). s ≡ y) y ys refl))
-      (subst (λ (zs : List PieceView). All (IsAmong zs) ys) (append_assoc xs (y ∷ []) ys) (all_among (xs ++ y ∷ []) ys))
+    (subst (λ (zs : List PieceView). All (IsAmong zs) ys) (append_assoc xs (y ∷ []) ys) (all_among (xs ++ y ∷ []) ys))
 
 stay_of_among : (offset end : ℕ) (new rs : List PieceView) → All (IsAmong new) rs → All (StaysApart offset end new) rs
 stay_of_among offset end new rs h = All-weaker (IsAmong new) (StaysApart offset end new) (λ r a apart. a) rs h
@@ -165,8 +165,8 @@ stay_values P (e ∷ es) rises each =
 pub held_stay : (es es' : List (ℕ × PieceView)) (rs : List PieceView) (new : PieceView) → RiseByKey es → MapKeepsApart es new es' → All (StaysApart new.offset (run_end new) (values_of es' ++ rs)) (values_of es ++ rs)
 held_stay es es' rs new rises keeps =
     All-append (StaysApart new.offset (run_end new) (values_of es' ++ rs)) (values_of es) rs
-      (stay_values (StaysApart new.offset (run_end new) (values_of es' ++ rs)) es rises (λ q v found apart. among_front (values_of es') rs v (among_found es' q v (keeps q v found apart))))
-      (stay_of_among new.offset (run_end new) (values_of es' ++ rs) rs (all_among (values_of es') rs))
+    (stay_values (StaysApart new.offset (run_end new) (values_of es' ++ rs)) es rises (λ q v found apart. among_front (values_of es') rs v (among_found es' q v (keeps q v found apart))))
+    (stay_of_among new.offset (run_end new) (values_of es' ++ rs) rs (all_among (values_of es') rs))
 
 pub held_whole : (es : List (ℕ × PieceView)) (rs : List PieceView) (new : PieceView) → HasWhole es new → Any (Encloses new.offset (run_end new)) (values_of es ++ rs)
 held_whole es rs new w = whole_front (values_of es) rs (Encloses new.offset (run_end new)) (whole_found es w.start w.run (Encloses new.offset (run_end new)) w.found (w.from, w.to))
@@ -178,6 +178,7 @@ held_whole es rs new w = whole_front (values_of es) rs (Encloses new.offset (run
           | inl here ↦ Any-here P x (xs ++ ys) here
           | inr there ↦ Any-there P x (xs ++ ys) (whole_front xs ys P there)
         ]
+
     whole_found : (es : List (ℕ × PieceView)) (q : ℕ) (v : PieceView) (P : PieceView → Type 0) → piece_at es q ≡ Some v → P v → Any P (values_of es)
     whole_found [] q v P found here = absurd (none_some None v refl found)
     whole_found (e ∷ es) q v P found here =
@@ -199,5 +200,5 @@ pub pushed_stay : (vs rs rs' : List PieceView) (p : PieceView) → rs' ≡ rs ++
 pushed_stay vs rs rs' p e =
     let f : vs ++ rs' ≡ (vs ++ rs) ++ p ∷ [] = ap (λ (xs : List PieceView). vs ++ xs) e ∙ sym (append_assoc vs rs (p ∷ [])) in
     subst (λ (xs : List PieceView). All (StaysApart p.offset (run_end p) xs) (vs ++ rs)) (sym f)
-      (stay_of_among p.offset (run_end p) ((vs ++ rs) ++ p ∷ []) (vs ++ rs)
-        (All-weaker (IsAmong (vs ++ rs)) (IsAmong ((vs ++ rs) ++ p ∷ [])) (λ r a. among_front (vs ++ rs) (p ∷ []) r a) (vs ++ rs) (all_among [] (vs ++ rs))))
+    (stay_of_among p.offset (run_end p) ((vs ++ rs) ++ p ∷ []) (vs ++ rs)
+    (All-weaker (IsAmong (vs ++ rs)) (IsAmong ((vs ++ rs) ++ p ∷ [])) (λ r a. among_front (vs ++ rs) (p ∷ []) r a) (vs ++ rs) (all_among [] (vs ++ rs))))

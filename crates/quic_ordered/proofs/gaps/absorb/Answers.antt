@@ -21,7 +21,7 @@ write-requires-clause-from c =
     let j = c.requires.joins in
     let first = c.in-Some.ensures.found in
     let f = step_fits j.0 _ c.args.new.now c.in-Some-remove.piece c.loop-from.base c.args.start c.args.end c.in-Some.from j.1 j.2
-      (sym c.remove.ensures.value ∙ c.in-Some-remove.is) (let e = first.from in omega arith) (let e = c.end.ensures.value in omega arith) (c.loop-from.invariant.joins j.0 j.1 j.2 j.3) in
+    (sym c.remove.ensures.value ∙ c.in-Some-remove.is) (let e = first.from in omega arith) (let e = c.end.ensures.value in omega arith) (c.loop-from.invariant.joins j.0 j.1 j.2 j.3) in
     f.0
 
 pub write-requires-clause-to : goal.write-requires-clause-to
@@ -29,5 +29,5 @@ write-requires-clause-to c =
     let j = c.requires.joins in
     let first = c.in-Some.ensures.found in
     let f = step_fits j.0 _ c.args.new.now c.in-Some-remove.piece c.loop-from.base c.args.start c.args.end c.in-Some.from j.1 j.2
-      (sym c.remove.ensures.value ∙ c.in-Some-remove.is) (let e = first.from in omega arith) (let e = c.end.ensures.value in omega arith) (c.loop-from.invariant.joins j.0 j.1 j.2 j.3) in
+    (sym c.remove.ensures.value ∙ c.in-Some-remove.is) (let e = first.from in omega arith) (let e = c.end.ensures.value in omega arith) (c.loop-from.invariant.joins j.0 j.1 j.2 j.3) in
     f.1
