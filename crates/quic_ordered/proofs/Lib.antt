@@ -1,0 +1,10 @@
+pub mod Held
+pub mod Joining
+pub mod Totals
+pub mod Ends
+pub mod Order
+pub mod Firsts
+pub mod Stores
+pub mod Taking
+pub mod Compacting
+pub mod Places

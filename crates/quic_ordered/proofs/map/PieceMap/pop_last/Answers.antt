@@ -1,0 +1,7 @@
+use Rattle.std.proofs.Common.{arith}
+use Rattle.quic_ordered.proofs.Totals.{map_left_back}
+use Rattle.quic_ordered.proofs.map.PieceMap.pop_last.Goals as goal
+
+pub invariant_of-self : goal.invariant_of-self
+invariant_of-self c = map_left_back _ _ _ _ _ _ _ c.in-Some.piece c.self.invariant c.in-Some.ensures.removal c.in-Some.ensures.ordered
+    (omega (arith, c.len.ensures.value)) (omega (arith, c.allocation_size.ensures.value))

@@ -1,0 +1,16 @@
+use Rattle.std.proofs.Common.{arith, sym, ◌∙◌}
+use Rattle.quic_ordered.proofs.Totals.{inserted_le, removed}
+use Rattle.quic_ordered.proofs.map.PieceMap.remove.Goals as goal
+
+pub overflow_sub-self : goal.overflow_sub-self
+overflow_sub-self c =
+    let l = inserted_le _ _ _ c.args.offset c.in-Some.piece c.in-Some.piece c.self.invariant (sym c.in-Some.is ∙ c.remove-old.ensures.value) in omega (arith, l)
+
+pub overflow_sub-self-in-Some : goal.overflow_sub-self-in-Some
+overflow_sub-self-in-Some c =
+    let l = inserted_le _ _ _ c.args.offset c.in-Some.piece c.in-Some.piece c.self.invariant (sym c.in-Some.is ∙ c.remove-old.ensures.value) in omega (arith, l)
+
+pub invariant_of-self : goal.invariant_of-self
+invariant_of-self c =
+    removed _ _ _ _ _ _ c.args.offset c.in-Some.piece c.self.invariant c.remove-old.ensures.entries (sym c.in-Some.is ∙ c.remove-old.ensures.value) c.remove-old.ensures.ordered
+    (omega (arith, c.len.ensures.value)) (omega (arith, c.allocation_size.ensures.value))

@@ -1,0 +1,13 @@
+//! Holds the pieces of one stream, none of which overlaps another, in the order of their offsets (RFC 9000, section 2.2).
+#![tactic(auto)]
+
+mod gaps;
+mod map;
+mod piece;
+mod row;
+mod store;
+
+pub use store::OrderedPieces;
+
+#[cfg(test)]
+mod tests;

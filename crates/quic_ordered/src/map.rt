@@ -1,0 +1,264 @@
+// Pieces by the offsets at which they begin, with their sums.
+ghost use Rattle.std.specs.Prelude.{◌≡◌, ℕ, ◌+◌, ◌-◌, ◌^◌, ◌<◌, ◌≤◌, [], ◌∷◌, ◌++◌, length, sum_by, IfOk, OnOk, OnErr, IfSome, IfNone, IsSome, Some, None, is_some, if◌then◌else◌, take, IfErr};
+ghost use Rattle.std.specs.Map.{values_of, keys_of};
+ghost use Rattle.std.specs.List.{All};
+ghost use Rattle.std.specs.BTreeMap.{insert_entry};
+ghost use Rattle.std.specs.Ordering.{nat_cmp};
+ghost use Rattle.quic_assembler.specs.Piece.{PieceView, run_end, run_length, run_allocation, advance_by};
+ghost use Rattle.quic_ordered.specs.Entries.{piece_at, NoPieceBegins, IsLastPiece, IsFirstPiece, IsPieceMap};
+ghost use Rattle.quic_ordered.specs.Rows.{RiseByKey, FitsWords};
+
+use crate::piece::Piece;
+use quic_values::{Bytes, OutOfMemory};
+use std::alloc::Global;
+use std::collections::BTreeMap;
+use std::marker::Model;
+
+#[derive(Drop)]
+pub(crate) struct PieceMap {
+    pieces: BTreeMap<u64, Piece>,
+    // The sum of the lengths.
+    total: u128,
+    // The sum of the allocation sizes.
+    allocated: u128,
+}
+
+impl Model for PieceMap {
+    ghost use Rattle.std.specs.Prelude.{List, ℕ};
+    ghost use Rattle.quic_assembler.specs.Piece.{PieceView};
+    ghost use Rattle.quic_ordered.specs.Rows.{IsSummedMap};
+
+    ghost Value = { List (ℕ × PieceView) };
+
+    ghost view = { λ m. m.pieces.entries };
+
+    ghost invariant = { λ m. IsSummedMap m.total m.allocated m.pieces.entries };
+}
+
+impl PieceMap {
+    pub(crate) fn new(alloc: Global) -> Self
+        ensures empty { result ≡ [] }
+        ensures rises { RiseByKey result }
+    {
+        PieceMap {
+            pieces: BTreeMap::new(alloc),
+            total: 0,
+            allocated: 0,
+        }
+    }
+
+    #[inline]
+    pub(crate) fn len(&self) -> usize
+        ensures len { result ≡ length self.now }
+        ensures small { result < 2 ^ 63 }
+        ensures rises { RiseByKey self.now }
+        ensures fits { All FitsWords (values_of self.now) }
+    {
+        let _total = self.total;
+        self.pieces.len()
+    }
+
+    #[inline]
+    pub(crate) fn total(&self) -> u128
+        ensures { result ≡ sum_by run_length (values_of self.now) }
+    {
+        self.total
+    }
+
+    #[inline]
+    pub(crate) fn allocated(&self) -> u128
+        ensures { result ≡ sum_by run_allocation (values_of self.now) }
+    {
+        self.allocated
+    }
+
+    pub(crate) fn clear(&mut self)
+        ensures empty { self.new ≡ [] }
+        ensures rises { RiseByKey self.new }
+    {
+        self.pieces.clear();
+        self.total = 0;
+        self.allocated = 0;
+    }
+
+    /// The last piece that begins at `n` or before: where it begins and ends.
+    pub(crate) fn last_up_to(&self, n: u64) -> Option<(u64, u64)>
+        ensures found { IfSome result (λ r. IsLastPiece self.now r.0 r.1 n) }
+        ensures none { IfNone result (NoPieceBegins self.now 0 n) }
+        ensures bound { IfSome result (λ r. r.1 < 2 ^ 62) }
+    {
+        match self.pieces.range(..=n).next_back() {
+            Some((start, piece)) => Some((*start, piece.end())),
+            None => None,
+        }
+    }
+
+    /// Where the first piece begins that begins at `n` or behind it.
+    pub(crate) fn first_from(&self, n: u64) -> Option<u64>
+        ensures found { IfSome result (λ start. IsFirstPiece self.now start n) }
+        ensures none { IfNone result ((q : ℕ) → n ≤ q → piece_at self.now q ≡ None) }
+    {
+        match self.pieces.range(n..).next() {
+            Some((start, _)) => Some(*start),
+            None => None,
+        }
+    }
+
+    /// Puts a piece at its offset, and gives the one that stood there. Memory is wanted only where none did.
+    pub(crate) fn insert(&mut self, piece: Piece) -> Result<Option<Piece>, OutOfMemory>
+        ensures old { IfOk result (λ old. old ≡ piece_at self.old piece.offset) }
+        ensures here { OnOk result (piece_at self.new piece.offset ≡ Some piece) }
+        ensures others { OnOk result ((q : ℕ) → (q ≡ piece.offset → ⊥) → piece_at self.new q ≡ piece_at self.old q) }
+        ensures entries { OnOk result (self.new ≡ insert_entry nat_cmp self.old piece.offset piece) }
+        ensures absent { OnErr result (piece_at self.old piece.offset ≡ None) }
+        ensures err { OnErr result (self.new ≡ self.old) }
+        ensures len { IfOk result (λ old. length self.new ≡ length self.old + (if is_some old then 0 else 1)) }
+        ensures rises { RiseByKey self.new }
+    {
+        let offset = piece.offset();
+        let length = piece.len() as u128;
+        let allocated = piece.allocation_size() as u128;
+        let _count = self.pieces.len();
+        let old = self.pieces.insert(offset, piece)?;
+        self.total += length;
+        self.allocated += allocated;
+        if let Some(first) = &old {
+            self.total -= first.len() as u128;
+            self.allocated -= first.allocation_size() as u128;
+        }
+        Ok(old)
+    }
+
+    /// Takes the piece that begins at an offset out.
+    pub(crate) fn remove(&mut self, offset: u64) -> Option<Piece>
+        ensures value { result ≡ piece_at self.old offset }
+        ensures gone { piece_at self.new offset ≡ None }
+        ensures others { (q : ℕ) → (q ≡ offset → ⊥) → piece_at self.new q ≡ piece_at self.old q }
+        ensures len { length self.new + (if is_some result then 1 else 0) ≡ length self.old }
+        ensures rises { RiseByKey self.new }
+    {
+        let old = self.pieces.remove(&offset);
+        if let Some(piece) = &old {
+            self.total -= piece.len() as u128;
+            self.allocated -= piece.allocation_size() as u128;
+        }
+        old
+    }
+
+    /// Puts a piece behind all others, or gives it back.
+    pub(crate) fn put_last(&mut self, piece: Piece) -> Result<(), Piece>
+        requires { All (λ key. key < piece.offset) (keys_of self.old) }
+        ensures put { OnOk result (self.new ≡ self.old ++ (piece.offset, piece) ∷ []) }
+        ensures back { IfErr result (λ given. given ≡ piece) }
+        ensures err { OnErr result (self.new ≡ self.old) }
+        ensures rises { RiseByKey self.new }
+    {
+        let offset = piece.offset();
+        let length = piece.len() as u128;
+        let allocated = piece.allocation_size() as u128;
+        let _count = self.pieces.len();
+        match self.pieces.insert(offset, piece) {
+            Ok(_) => {
+                self.total += length;
+                self.allocated += allocated;
+                Ok(())
+            }
+            Err(failed) => Err(failed.value.1),
+        }
+    }
+
+    /// The first piece: where it begins, and how many bytes it has.
+    #[inline]
+    pub(crate) fn first(&self) -> Option<(u64, usize)>
+        ensures some { IfSome result (λ r. (key : ℕ) × (piece : PieceView) × (rest : _) × (self.now ≡ (key, piece) ∷ rest) × (r.0 ≡ piece.offset) × (r.1 ≡ length piece.bytes)) }
+        ensures none { IfNone result (self.now ≡ []) }
+        ensures bound { IfSome result (λ r. r.0 + r.1 < 2 ^ 62) }
+    {
+        match self.pieces.first_key_value() {
+            Some((_, piece)) => {
+                let _end = piece.end();
+                Some((piece.offset(), piece.len()))
+            }
+            None => None,
+        }
+    }
+
+    /// Where the last piece ends.
+    pub(crate) fn last_end(&self) -> Option<u64>
+        ensures some { IfSome result (λ end. (others : _) × (key : ℕ) × (last : PieceView) × (self.now ≡ others ++ (key, last) ∷ []) × (end ≡ run_end last)) }
+        ensures none { IfNone result (self.now ≡ []) }
+    {
+        match self.pieces.last_key_value() {
+            Some((_, piece)) => Some(piece.end()),
+            None => None,
+        }
+    }
+
+    // A copy of the first bytes of the first piece.
+    fn copy_first(&self, count: usize, alloc: Global) -> Result<Bytes, OutOfMemory>
+        requires { (key : ℕ) × (piece : PieceView) × (rest : _) × (self.now ≡ (key, piece) ∷ rest) × (count ≤ length piece.bytes) }
+        ensures { IfOk result (λ copy. (key : ℕ) (piece : PieceView) (rest : _) → self.now ≡ (key, piece) ∷ rest → copy ≡ take count piece.bytes) }
+    {
+        match self.pieces.first_key_value() {
+            Some((_, piece)) => Bytes::copy_from_slice(alloc, &piece.as_slice()[..count]),
+            None => unreachable!(),
+        }
+    }
+
+    /// Takes a copy of the first bytes of the first piece, which are then let go. If refused, all is as it was.
+    pub(crate) fn cut_first(&mut self, count: usize, alloc: Global) -> Result<Bytes, OutOfMemory>
+        requires apart { IsPieceMap self.old }
+        requires some { (key : ℕ) × (piece : PieceView) × (rest : _) × (self.old ≡ (key, piece) ∷ rest) × (0 < count) × (count < length piece.bytes) }
+        ensures cut { IfOk result (λ copy. (key : ℕ) (piece : PieceView) (rest : _) → self.old ≡ (key, piece) ∷ rest → (copy ≡ take count piece.bytes) × (self.new ≡ (piece.offset + count, advance_by count piece) ∷ rest)) }
+        ensures err { OnErr result (self.new ≡ self.old) }
+        ensures rises { RiseByKey self.new }
+    {
+        let _count = self.len();
+        let Some((offset, _)) = self.first() else {
+            unreachable!();
+        };
+        let copy = self.copy_first(count, alloc)?;
+        self.insert(Piece::new(offset + count as u64, Bytes::new(alloc), 0))?;
+        let Some(mut piece) = self.pop_first() else {
+            unreachable!();
+        };
+        piece.cut_below(offset + count as u64);
+        match self.insert(piece) {
+            Ok(_) => Ok(copy),
+            Err(_) => unreachable!(),
+        }
+    }
+
+    /// Takes the first piece out.
+    pub(crate) fn pop_first(&mut self) -> Option<Piece>
+        ensures some { IfSome result (λ piece. (key : ℕ) × (self.old ≡ (key, piece) ∷ self.new)) }
+        ensures none { IfNone result ((self.old ≡ []) × (self.new ≡ [])) }
+        ensures fits { IfSome result FitsWords }
+        ensures rises { RiseByKey self.new }
+    {
+        match self.pieces.pop_first() {
+            Some((_, piece)) => {
+                self.total -= piece.len() as u128;
+                self.allocated -= piece.allocation_size() as u128;
+                Some(piece)
+            }
+            None => None,
+        }
+    }
+
+    /// Takes the last piece out.
+    pub(crate) fn pop_last(&mut self) -> Option<Piece>
+        ensures some { IfSome result (λ piece. (key : ℕ) × (self.old ≡ self.new ++ (key, piece) ∷ [])) }
+        ensures none { IfNone result ((self.old ≡ []) × (self.new ≡ [])) }
+        ensures rises { RiseByKey self.new }
+    {
+        match self.pieces.pop_last() {
+            Some((_, piece)) => {
+                self.total -= piece.len() as u128;
+                self.allocated -= piece.allocation_size() as u128;
+                Some(piece)
+            }
+            None => None,
+        }
+    }
+}

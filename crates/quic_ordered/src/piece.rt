@@ -1,0 +1,188 @@
+// A piece of a stream that is held.
+ghost use Rattle.std.specs.Prelude.{◌≡◌, ◌+◌, ◌-◌, ◌*◌, ◌/◌, ◌^◌, ◌<◌, ◌≤◌, ◌++◌, length, take, drop, vec_len, false, IfOk, OnOk, OnErr};
+ghost use Rattle.quic_assembler.specs.Piece.{PieceView, run_end, advance_by, cut_at};
+ghost use Rattle.quic_ordered.specs.Entries.{piece_of, WritesOver};
+ghost use Rattle.quic_ordered.specs.Rows.{joined_with, tidied};
+
+use quic_values::{Bytes, OutOfMemory};
+use std::alloc::Global;
+use std::marker::Model;
+
+/// Bytes from an offset on that are held.
+#[derive(Drop)]
+pub(crate) struct Piece {
+    offset: u64,
+    content: Vec<u8>,
+    // The bytes below this index were let go.
+    start: usize,
+    allocation_size: usize,
+}
+
+impl Model for Piece {
+    ghost use Rattle.std.specs.Prelude.{◌+◌, ◌-◌, ◌≤◌, ◌^◌, ◌<◌, drop, vec_len};
+    ghost use Rattle.quic_assembler.specs.Piece.{PieceView};
+    ghost use Rattle.quic_ordered.specs.Entries.{piece_of};
+
+    ghost Value = { PieceView };
+
+    ghost view = { λ p. piece_of p.offset (drop p.start p.content.items) p.allocation_size };
+
+    ghost invariant = { λ p. (p.start ≤ vec_len p.content) × (p.offset + (vec_len p.content - p.start) < 2 ^ 62) };
+}
+
+// Writes bytes over those from an index on.
+fn write_at(content: &mut [u8], start: usize, bytes: &[u8])
+    requires { start + length bytes.now ≤ length content.old }
+    ensures { content.new ≡ take start content.old ++ (bytes.now ++ drop (start + length bytes.now) content.old) }
+{
+    content[start..start + bytes.len()].copy_from_slice(bytes);
+}
+
+impl Piece {
+    #[inline]
+    pub(crate) fn new(offset: u64, bytes: Bytes, allocation_size: usize) -> Self
+        requires { offset + length bytes < 2 ^ 62 }
+        ensures { result ≡ piece_of offset bytes allocation_size }
+    {
+        Piece {
+            offset,
+            content: bytes.into_vec(),
+            start: 0,
+            allocation_size,
+        }
+    }
+
+    #[inline]
+    pub(crate) fn offset(&self) -> u64
+        ensures value { result ≡ self.now.offset }
+        ensures bound { run_end self.now < 2 ^ 62 }
+    {
+        let _start = self.start;
+        self.offset
+    }
+
+    #[inline]
+    pub(crate) fn len(&self) -> usize
+        ensures value { result ≡ length self.now.bytes }
+        ensures bound { run_end self.now < 2 ^ 62 }
+    {
+        let _offset = self.offset;
+        self.content.len() - self.start
+    }
+
+    #[inline]
+    pub(crate) fn end(&self) -> u64
+        ensures value { result ≡ run_end self.now }
+        ensures bound { run_end self.now < 2 ^ 62 }
+    {
+        self.offset + (self.content.len() - self.start) as u64
+    }
+
+    #[inline]
+    pub(crate) fn allocation_size(&self) -> usize
+        ensures value { result ≡ self.now.allocation_size }
+        ensures bound { self.now.allocation_size < 2 ^ 64 }
+    {
+        self.allocation_size
+    }
+
+    #[inline]
+    pub(crate) fn as_slice(&self) -> &[u8]
+        ensures { result.now ≡ self.now.bytes }
+    {
+        &self.content.as_slice()[self.start..]
+    }
+
+    /// Drops what lies below `floor`.
+    #[inline]
+    pub(crate) fn cut_below(&mut self, floor: u64)
+        requires { floor ≤ run_end self.old }
+        ensures { self.new ≡ cut_at floor self.old }
+    {
+        if self.offset < floor {
+            self.start += (floor - self.offset) as usize;
+            self.offset = floor;
+        }
+    }
+
+    /// Takes a copy of the first `count` bytes, which are then let go. If refused, all is as it was.
+    pub(crate) fn split_to(&mut self, count: usize) -> Result<Bytes, OutOfMemory>
+        requires { count ≤ length self.old.bytes }
+        ensures front { IfOk result (λ front. front ≡ take count self.old.bytes) }
+        ensures rest { OnOk result (self.new ≡ advance_by count self.old) }
+        ensures err { OnErr result (self.new ≡ self.old) }
+    {
+        let alloc = *self.content.allocator();
+        let front = Bytes::copy_from_slice(alloc, &self.as_slice()[..count])?;
+        self.start += count;
+        self.offset += count as u64;
+        Ok(front)
+    }
+
+    /// The bytes, without taking memory.
+    #[inline]
+    pub(crate) fn into_bytes(self) -> Bytes
+        ensures { result ≡ self.bytes }
+    {
+        let Piece { content, start, .. } = self;
+        let mut bytes = Bytes::from(content);
+        bytes.advance(start);
+        bytes
+    }
+
+    /// So many bytes from `start` on, whatever they are, in memory of their own.
+    pub(crate) fn blank(start: u64, count: usize, alloc: Global) -> Result<Self, OutOfMemory>
+        requires { start + count < 2 ^ 62 }
+        ensures offset { IfOk result (λ p. p.offset ≡ start) }
+        ensures len { IfOk result (λ p. length p.bytes ≡ count) }
+        ensures memory { IfOk result (λ p. p.allocation_size ≡ count) }
+    {
+        let mut content = Vec::new(alloc);
+        content.resize(count, 0)?;
+        Ok(Piece {
+            offset: start,
+            content,
+            start: 0,
+            allocation_size: count,
+        })
+    }
+
+    /// Writes the bytes of another over its own.
+    pub(crate) fn write(&mut self, other: &Piece)
+        requires from { self.old.offset ≤ other.now.offset }
+        requires to { run_end other.now ≤ run_end self.old }
+        ensures memory { self.new.allocation_size ≡ self.old.allocation_size }
+        ensures written { WritesOver other.now self.old self.new }
+    {
+        let start = self.start + (other.offset() - self.offset) as usize;
+        write_at(&mut self.content, start, other.as_slice());
+    }
+
+    /// Appends the bytes of a piece that begins where this one ends. If refused, all is as it was.
+    pub(crate) fn append(&mut self, next: &Piece) -> Result<(), OutOfMemory>
+        requires { run_end self.old ≡ next.now.offset }
+        ensures ok { OnOk result (self.new ≡ joined_with self.old next.now) }
+        ensures err { OnErr result (self.new ≡ self.old) }
+    {
+        let _end = next.end();
+        self.content.extend_from_slice(next.as_slice())?;
+        self.allocation_size = self.content.len() - self.start;
+        Ok(())
+    }
+
+    /// Copies the bytes where they keep much more memory alive. If refused, all is as it was.
+    pub(crate) fn tidy(&mut self) -> Result<(), OutOfMemory>
+        ensures ok { OnOk result (self.new ≡ tidied self.old) }
+        ensures err { OnErr result (self.new ≡ self.old) }
+    {
+        let length = self.content.len() - self.start;
+        if self.allocation_size as u128 <= length as u128 * 6 / 5 {
+            return Ok(());
+        }
+        let alloc = *self.content.allocator();
+        self.content = Vec::from_slice(alloc, &self.content.as_slice()[self.start..])?;
+        self.start = 0;
+        self.allocation_size = length;
+        Ok(())
+    }
+}

@@ -1,0 +1,358 @@
+// All that is held of one stream.
+ghost use Rattle.std.specs.Prelude.{◌≡◌, ℕ, ◌+◌, ◌-◌, ◌^◌, ◌<◌, ◌≤◌, ◌⊎◌, [], ◌∷◌, ◌++◌, length, sum_by, IfOk, OnOk, OnErr, IfSome, IfNone, Some, None, Ok, true, false, take};
+ghost use Rattle.std.specs.Map.{values_of, keys_of};
+ghost use Rattle.std.specs.List.{All, Any};
+ghost use Rattle.quic_assembler.specs.Piece.{PieceView, run_end, run_length, run_allocation, left_of, TakesSome};
+ghost use Rattle.quic_assembler.specs.Reassembly.{IfGiven, OnNothing};
+ghost use Rattle.quic_ordered.specs.Rows.{FitsWords, RiseByKey, IsStore, LieInOrder, Merges, HoldSame, LieWithGaps, IsTidy, IsGathered, Encloses, GivesFirst, StemsFrom, StaysApart, IsKeptOrOwn, entry_left};
+ghost use Rattle.quic_ordered.specs.Entries.{IsPieceMap, piece_of};
+
+use crate::gaps;
+use crate::map::PieceMap;
+use crate::piece::Piece;
+use crate::row::PieceRow;
+use quic_assembler::Chunk;
+use quic_values::{Bytes, OutOfMemory};
+use std::alloc::Global;
+use std::marker::Model;
+
+/// Pieces of one stream, none of which overlaps another. Contracts see them by rising offset.
+///
+/// What comes behind all that is held goes to the end of a row. Where a piece comes before that, the pieces of the row
+/// that begin below its end go over to a map by offset, and it is joined with those that it overlaps.
+#[derive(Drop)]
+pub struct OrderedPieces {
+    // The first pieces, by their offsets.
+    gaps: PieceMap,
+    // The pieces behind them.
+    row: PieceRow,
+    alloc: Global,
+}
+
+impl Model for OrderedPieces {
+    ghost use Rattle.std.specs.Prelude.{List, ◌++◌};
+    ghost use Rattle.std.specs.Map.{values_of};
+    ghost use Rattle.quic_assembler.specs.Piece.{PieceView};
+    ghost use Rattle.quic_ordered.specs.Rows.{IsStore};
+
+    ghost Value = { List PieceView };
+
+    ghost view = { λ p. values_of p.gaps ++ p.row.runs };
+
+    ghost invariant = { λ p. IsStore p.gaps p.row.runs };
+}
+
+// Moves the pieces of the row that begin below `end` into the map.
+fn clear_way(gaps: &mut PieceMap, row: &mut PieceRow, end: u64) -> Result<(), OutOfMemory>
+    requires { IsStore gaps.old row.old.runs }
+    ensures store { IsStore gaps.new row.new.runs }
+    ensures same { values_of gaps.new ++ row.new.runs ≡ values_of gaps.old ++ row.old.runs }
+    ensures clear { OnOk result (LieInOrder end row.new.runs) }
+{
+    while let Some(piece) = row.pop_front() {
+        if piece.offset() >= end {
+            row.put_front(piece);
+            break;
+        }
+        if let Err(piece) = gaps.put_last(piece) {
+            row.put_front(piece);
+            return Err(OutOfMemory);
+        }
+    }
+    Ok(())
+}
+
+// Moves all pieces of the map into the row.
+fn gather(gaps: &mut PieceMap, row: &mut PieceRow) -> Result<(), OutOfMemory>
+    requires { IsStore gaps.old row.old.runs }
+    ensures store { IsStore gaps.new row.new.runs }
+    ensures same { values_of gaps.new ++ row.new.runs ≡ values_of gaps.old ++ row.old.runs }
+    ensures empty { OnOk result (gaps.new ≡ []) }
+{
+    row.reserve(gaps.len())?;
+    while let Some(piece) = gaps.pop_last() {
+        row.put_front(piece);
+    }
+    Ok(())
+}
+
+// Moves the pieces of a row to the end of another, and joins those that touch.
+fn join_touching(row: &mut PieceRow, out: &mut PieceRow) -> Result<(), OutOfMemory>
+    requires order { LieInOrder 0 row.old.runs }
+    requires empty { out.old.runs ≡ [] }
+    requires room { length row.old.runs ≤ out.old.room }
+    ensures gathered { IsGathered row.old.runs out.new.runs row.new.runs }
+    ensures all { OnOk result (row.new.runs ≡ []) }
+    ensures room { row.new.room ≡ row.old.room }
+{
+    while let Some(piece) = row.pop_front() {
+        if let Err(piece) = out.join_last(piece) {
+            row.put_front(piece);
+            return Err(OutOfMemory);
+        }
+    }
+    Ok(())
+}
+
+// Puts pieces before those of a row. There is room.
+fn put_in_front(row: &mut PieceRow, mut front: PieceRow)
+    requires { length front.runs + length row.old.runs ≤ row.old.room }
+    ensures { row.new.runs ≡ front.runs ++ row.old.runs }
+{
+    while let Some(piece) = front.pop_back() {
+        row.put_front(piece);
+    }
+}
+
+// Takes the first bytes of the first piece of the map.
+fn take_from_map(
+    gaps: &mut PieceMap,
+    available: usize,
+    max_length: usize,
+    alloc: Global,
+) -> Result<Bytes, OutOfMemory>
+    requires apart { IsPieceMap gaps.old }
+    requires first { (key : ℕ) × (first : PieceView) × (rest : _) × (gaps.old ≡ (key, first) ∷ rest) × (available ≡ length first.bytes) }
+    requires some { 0 < max_length }
+    ensures given { IfOk result (λ bytes. (key : ℕ) (first : PieceView) (rest : _) → gaps.old ≡ (key, first) ∷ rest → (bytes ≡ take max_length first.bytes) × (gaps.new ≡ entry_left max_length first ++ rest)) }
+    ensures rises { RiseByKey gaps.new }
+    ensures err { OnErr result (gaps.new ≡ gaps.old) }
+    ensures part { OnErr result (max_length < available) }
+{
+    if max_length < available {
+        let bytes = gaps.cut_first(max_length, alloc)?;
+        return Ok(bytes);
+    }
+    match gaps.pop_first() {
+        Some(piece) => Ok(piece.into_bytes()),
+        None => unreachable!(),
+    }
+}
+
+// Takes the first bytes of the first piece of the row.
+fn take_from_row(row: &mut PieceRow, max_length: usize) -> Result<Bytes, OutOfMemory>
+    requires { 0 < length row.old.runs }
+    ensures given { IfOk result (λ bytes. (first : PieceView) (rest : _) → row.old.runs ≡ first ∷ rest → (bytes ≡ take max_length first.bytes) × (row.new.runs ≡ left_of max_length first ++ rest)) }
+    ensures err { OnErr result (row.new.runs ≡ row.old.runs) }
+    ensures part { OnErr result ((first : PieceView) (rest : _) → row.old.runs ≡ first ∷ rest → max_length < length first.bytes) }
+{
+    let Some(mut piece) = row.pop_front() else {
+        unreachable!();
+    };
+    if piece.len() <= max_length {
+        return Ok(piece.into_bytes());
+    }
+    match piece.split_to(max_length) {
+        Ok(bytes) => {
+            row.put_front(piece);
+            Ok(bytes)
+        }
+        Err(refused) => {
+            row.put_front(piece);
+            Err(refused)
+        }
+    }
+}
+
+impl OrderedPieces {
+    /// Holds nothing. Takes no memory.
+    pub fn new(alloc: Global) -> Self
+        ensures { result ≡ [] }
+    {
+        OrderedPieces {
+            gaps: PieceMap::new(alloc),
+            row: PieceRow::new(alloc),
+            alloc,
+        }
+    }
+
+    /// How many pieces are held.
+    #[inline]
+    pub fn len(&self) -> usize
+        ensures len { result ≡ length self.now }
+        ensures small { result ≤ 2 ^ 62 }
+        ensures fits { All FitsWords self.now }
+        ensures order { LieInOrder 0 self.now }
+    {
+        self.gaps.len() + self.row.len()
+    }
+
+    /// The sum of the lengths.
+    #[inline]
+    pub fn total(&self) -> u128
+        ensures { result ≡ sum_by run_length self.now }
+    {
+        let _count = self.gaps.len() + self.row.len();
+        self.gaps.total() + self.row.total()
+    }
+
+    /// The sum of the allocation sizes.
+    #[inline]
+    pub fn allocated(&self) -> u128
+        ensures { result ≡ sum_by run_allocation self.now }
+    {
+        let _count = self.gaps.len() + self.row.len();
+        self.gaps.allocated() + self.row.allocated()
+    }
+
+    /// Lets go of all.
+    pub fn clear(&mut self)
+        ensures { self.new ≡ [] }
+    {
+        self.gaps.clear();
+        self.row.clear();
+    }
+
+    // Whether nothing is held at an offset or behind it.
+    fn is_behind(&self, offset: u64) -> bool
+        ensures { result ≡ true → All (λ r. run_end r ≤ offset) self.now }
+    {
+        match self.row.last_end() {
+            Some(end) => end <= offset,
+            None => match self.gaps.last_end() {
+                Some(end) => end <= offset,
+                None => true,
+            },
+        }
+    }
+
+    // Whether one of the pieces has all offsets from one up to another.
+    fn encloses(&self, offset: u64, end: u64) -> bool
+        requires { offset < end }
+        ensures yes { result ≡ true → Any (Encloses offset end) self.now }
+        ensures no { result ≡ false → Any (Encloses offset end) self.now → ⊥ }
+    {
+        if let Some((_, last_end)) = self.gaps.last_up_to(offset) {
+            if end <= last_end {
+                return true;
+            }
+        }
+        self.row.encloses(offset, end)
+    }
+
+    /// Takes bytes that came at an offset, and that keep so much memory alive. They are joined with all pieces that
+    /// they overlap; where two bytes meet the held one stays. Bytes that touch a piece and overlap none are a piece of
+    /// their own. Bytes that lie within one piece want no memory.
+    pub fn insert(
+        &mut self,
+        offset: u64,
+        bytes: Bytes,
+        allocation_size: usize,
+    ) -> Result<(), OutOfMemory>
+        requires { offset + length bytes < 2 ^ 62 }
+        ensures merges { OnOk result (Merges self.old (piece_of offset bytes allocation_size) self.new) }
+        ensures stems { OnOk result (All (StemsFrom self.old (piece_of offset bytes allocation_size)) self.new) }
+        ensures whole { OnOk result (0 < length bytes → Any (Encloses offset (offset + length bytes)) self.new) }
+        ensures stays { OnOk result (All (StaysApart offset (offset + length bytes) self.new) self.old) }
+        ensures order { (low : ℕ) → low ≤ offset → LieInOrder low self.old → LieInOrder low self.new }
+        ensures pieces { length self.new ≤ length self.old + 1 }
+        ensures within { Any (Encloses offset (offset + length bytes)) self.old → (result ≡ Ok tt) × (self.new ≡ self.old) }
+        ensures empty { length bytes ≡ 0 → (result ≡ Ok tt) × (self.new ≡ self.old) }
+        ensures err { OnErr result (self.new ≡ self.old) }
+    {
+        let end = offset + bytes.len() as u64;
+        if end == offset {
+            return Ok(());
+        }
+        if self.encloses(offset, end) {
+            return Ok(());
+        }
+        self.hold(Piece::new(offset, bytes, allocation_size))
+    }
+
+    // Takes a piece.
+    fn hold(&mut self, piece: Piece) -> Result<(), OutOfMemory>
+        requires { 0 < length piece.bytes }
+        ensures merges { OnOk result (Merges self.old piece self.new) }
+        ensures stems { OnOk result (All (StemsFrom self.old piece) self.new) }
+        ensures whole { OnOk result (Any (Encloses piece.offset (run_end piece)) self.new) }
+        ensures stays { OnOk result (All (StaysApart piece.offset (run_end piece) self.new) self.old) }
+        ensures order { (low : ℕ) → low ≤ piece.offset → LieInOrder low self.old → LieInOrder low self.new }
+        ensures pieces { length self.new ≤ length self.old + 1 }
+        ensures err { OnErr result (self.new ≡ self.old) }
+    {
+        if self.is_behind(piece.offset()) {
+            self.row.push_back(piece)?;
+            return Ok(());
+        }
+        clear_way(&mut self.gaps, &mut self.row, piece.end())?;
+        gaps::hold(&mut self.gaps, piece, self.alloc)?;
+        Ok(())
+    }
+
+    /// Where the first piece begins.
+    pub fn first_offset(&self) -> Option<u64>
+        ensures first { IfSome result (λ offset. (first : PieceView) × (rest : _) × (self.now ≡ first ∷ rest) × (offset ≡ first.offset)) }
+        ensures none { IfNone result (self.now ≡ []) }
+    {
+        match self.gaps.first() {
+            Some((offset, _)) => Some(offset),
+            None => self.row.first_offset(),
+        }
+    }
+
+    // Takes the first bytes of the first piece.
+    fn take_some(&mut self, max_length: usize) -> Result<Bytes, OutOfMemory>
+        requires some { 0 < max_length }
+        requires held { 0 < length self.old }
+        ensures given { IfOk result (λ bytes. (first : PieceView) (rest : _) → self.old ≡ first ∷ rest → (bytes ≡ take max_length first.bytes) × (self.new ≡ left_of max_length first ++ rest)) }
+        ensures err { OnErr result (self.new ≡ self.old) }
+        ensures part { OnErr result ((first : PieceView) (rest : _) → self.old ≡ first ∷ rest → max_length < length first.bytes) }
+    {
+        match self.gaps.first() {
+            Some((_, available)) => {
+                let bytes = take_from_map(&mut self.gaps, available, max_length, self.alloc)?;
+                Ok(bytes)
+            }
+            None => {
+                let bytes = take_from_row(&mut self.row, max_length)?;
+                Ok(bytes)
+            }
+        }
+    }
+
+    /// Gives the first `max_length` bytes of the first piece, or all of it where it has fewer, and the offset at which
+    /// it begins. A piece that is given whole is not copied. If refused, all is as it was.
+    pub fn take_first(&mut self, max_length: usize) -> Result<Option<Chunk>, OutOfMemory>
+        ensures first { IfGiven result (λ chunk. GivesFirst max_length self.old chunk.offset chunk.bytes self.new) }
+        ensures takes { IfGiven result (λ chunk. TakesSome chunk.offset max_length chunk.bytes self.old self.new) }
+        ensures none { OnNothing result ((self.old ≡ []) × (self.new ≡ [])) }
+        ensures err { OnErr result (self.new ≡ self.old) }
+        ensures err_part { OnErr result ((first : PieceView) (rest : _) → self.old ≡ first ∷ rest → max_length < length first.bytes) }
+    {
+        let _count = self.len();
+        let Some(offset) = self.first_offset() else {
+            return Ok(None);
+        };
+        if max_length == 0 {
+            let bytes = Bytes::new(self.alloc);
+            return Ok(Some(Chunk { offset, bytes }));
+        }
+        let bytes = self.take_some(max_length)?;
+        Ok(Some(Chunk { offset, bytes }))
+    }
+
+    /// Joins all pieces that touch, and copies each other one that keeps more than a fifth more memory alive than it
+    /// has bytes. If refused, the same bytes are held, in as many pieces or fewer.
+    pub fn compact(&mut self) -> Result<(), OutOfMemory>
+        ensures same { HoldSame self.old self.new }
+        ensures order { (low : ℕ) → LieInOrder low self.old → LieInOrder low self.new }
+        ensures pieces { length self.new ≤ length self.old }
+        ensures apart { OnOk result (LieWithGaps 0 self.new) }
+        ensures tidy { OnOk result (All IsTidy self.new) }
+        ensures memory { All (IsKeptOrOwn self.old) self.new }
+    {
+        gather(&mut self.gaps, &mut self.row)?;
+        let mut out = PieceRow::with_capacity(self.alloc, self.row.len())?;
+        match join_touching(&mut self.row, &mut out) {
+            Ok(()) => {
+                self.row = out;
+                Ok(())
+            }
+            Err(refused) => {
+                put_in_front(&mut self.row, out);
+                Err(refused)
+            }
+        }
+    }
+}
