@@ -38,7 +38,7 @@ use Rattle.quic_history.specs.Halves.{Halves, with_half}
 use Rattle.quic_history.specs.World.{World, sends, id_refusal, is_own, remote_of, with_remote, with_receive, told, told_readable, noticed}
 use Rattle.quic_history.specs.SendEvents.{SendEvent, SendStep, GaveLimits, OpenedOwn, RaisedData, RaisedCount, RaisedLimit, StoppedOwn, SetWindow, Polled, WroteOwn, FinishedOwn, ResetOwn, SetOwnPriority}
 use Rattle.quic_history.specs.Writes.{WritesOwn, FinishesOwn, ResetsOwn, SetsOwnPriority, with_queued}
-use Rattle.quic_history.specs.Sends.{with_out, with_opened, with_own_count, told_writable, after_first_stop, is_permitted, PollsQueue, RaisesLimit, RaisesCount, StopsOwn, Polls}
+use Rattle.quic_history.specs.Sends.{with_out, with_opened, with_own_count, told_writable, after_first_stop, is_permitted, PollsQueue, RaisesLimit, RaisesCount, StopsOwn, TellsNext}
 use Rattle.quic_history.specs.History.{Event, Sending, Goes, Trace, Facts, untouched, trace, consumed, last_window, debt, received}
 use Rattle.quic_history.proofs.Credits.{credit-same}
 use Rattle.quic_history.proofs.Refusals.{refusal-same, refusal-own, refusal-own-next, own-id}
@@ -207,7 +207,7 @@ either_way : (b : Bool) {P Q R : Type 0} → MatchBool b P Q → (P → R) → (
 either_way true s f g = f s
 either_way false s f g = g s
 
-polls : (u : World) (answer : Option StreamEvent) (v : World) → Polls u answer v → Spares u v
+polls : (u : World) (answer : Option StreamEvent) (v : World) → TellsNext u answer v → Spares u v
 polls u answer v s = either_way u.bi.opened s
     (λ t. spares_at u v _ t.1 (spares_remote u Bi (opening_told u.bi) (told_limits u.bi)))
     (λ t. either_way u.uni.opened t

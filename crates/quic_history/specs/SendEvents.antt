@@ -13,7 +13,7 @@ use Rattle.quic_retransmits.specs.Pending.{Pending}
 use Rattle.quic_outgoing.specs.declared.limits.PeerLimits.{PeerLimits}
 use Rattle.quic_outgoing.specs.Outgoing.{with_params}
 use Rattle.quic_history.specs.World.{World}
-use Rattle.quic_history.specs.Sends.{with_out, OpensOwn, RaisesCount, RaisesLimit, StopsOwn, Polls}
+use Rattle.quic_history.specs.Sends.{with_out, OpensOwn, RaisesCount, RaisesLimit, StopsOwn, TellsNext}
 use Rattle.quic_history.specs.Writes.{WritesOwn, FinishesOwn, ResetsOwn, SetsOwnPriority}
 
 -- a call on the sending side and its answer
@@ -52,7 +52,7 @@ SendStep u (RaisedCount dir count answer) v = RaisesCount u dir count answer v
 SendStep u (RaisedLimit id limit answer) v = RaisesLimit u id limit answer v
 SendStep u (StoppedOwn id code answer) v = StopsOwn u id code answer v
 SendStep u (SetWindow window) v = v ≡ with_out u (record u.out { budget = with_window u.out.budget window })
-SendStep u (Polled answer) v = Polls u answer v
+SendStep u (Polled answer) v = TellsNext u answer v
 SendStep u (WroteOwn id lists closed answer) v = (p : Pending) × (q : Pending) × (left : List (List ℕ)) × WritesOwn u id lists closed p answer v left q
 SendStep u (FinishedOwn id answer) v = FinishesOwn u id answer v
 SendStep u (ResetOwn id code answer) v = (p : Pending) × (q : Pending) × ResetsOwn u id code p answer v q

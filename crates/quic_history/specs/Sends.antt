@@ -97,8 +97,8 @@ PollsQueue w None answer v = (others : List StreamEvent) × TakesOldest w.events
 
 -- what the application is told next: that the peer opened streams, bidirectional ones first, then that a stream that
 -- waited may be written on, then what is queued
-abbrev pub Polls : World → Option StreamEvent → World → Type 0
-Polls w answer v = MatchBool w.bi.opened
+abbrev pub TellsNext : World → Option StreamEvent → World → Type 0
+TellsNext w answer v = MatchBool w.bi.opened
     ((answer ≡ Some (stream_event.Opened Bi)) × (v ≡ with_remote w Bi (opening_told w.bi)))
     (MatchBool w.uni.opened
     ((answer ≡ Some (stream_event.Opened Uni)) × (v ≡ with_remote w Uni (opening_told w.uni)))

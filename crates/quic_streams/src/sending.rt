@@ -9,7 +9,7 @@ ghost use Rattle.quic_streams.specs.Shown.{shown};
 ghost use Rattle.quic_streams.specs.Room.{HasEventRoom};
 ghost use Rattle.quic_history.specs.World.{Made, World, remote_of};
 ghost use Rattle.quic_history.specs.SendEvents.{GaveLimits, RaisedData, RaisedCount, RaisedLimit, StoppedOwn, SetWindow, Polled};
-ghost use Rattle.quic_history.specs.Sends.{OpensOwn, RaisesCount, RaisesLimit, StopsOwn, Polls, with_out, sending_refusal, is_permitted, told_writable};
+ghost use Rattle.quic_history.specs.Sends.{OpensOwn, RaisesCount, RaisesLimit, StopsOwn, TellsNext, with_out, sending_refusal, is_permitted, told_writable};
 ghost use Rattle.quic_history.specs.History.{Event, Sending, From};
 
 use crate::state::StreamsState;
@@ -218,7 +218,7 @@ impl StreamsState {
     /// What the application is to be told next, if there is something: that the peer opened streams, that a stream which
     /// waited may be written on, or what is queued, in the order in which it came.
     pub fn poll(&mut self) -> Option<StreamEvent>
-        ensures polls { Polls (shown self.old) result (shown self.new) }
+        ensures polls { TellsNext (shown self.old) result (shown self.new) }
         ensures from { (m : Made) (h : List Event) → From m h (shown self.old) → From m (Sending (Polled result) ∷ h) (shown self.new) }
     {
         self.poll_next()
@@ -226,7 +226,7 @@ impl StreamsState {
 
     // The same, each way out.
     fn poll_next(&mut self) -> Option<StreamEvent>
-        ensures { Polls (shown self.old) result (shown self.new) }
+        ensures { TellsNext (shown self.old) result (shown self.new) }
     {
         if self.bi.tell_opened() {
             return Some(StreamEvent::Opened { dir: Dir::Bi });
