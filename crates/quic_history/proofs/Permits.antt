@@ -68,7 +68,7 @@ concurrent_from at_once count f g r below above x =
     let over = number_more r.max_remote (min (count - r.allocated) (2 ^ 60 - r.max_remote)) f g below above in
     let a = x.allocated in
     let p : r.max_remote + min (count - r.allocated) (2 ^ 60 - r.max_remote)
-            ≡ max r.max_remote (min (count + number g (r.max_remote + min (count - r.allocated) (2 ^ 60 - r.max_remote))) (2 ^ 60)) = omega arith in
+    ≡ max r.max_remote (min (count + number g (r.max_remote + min (count - r.allocated) (2 ^ 60 - r.max_remote))) (2 ^ 60)) = omega arith in
     record { concurrent = refl; allocated = omega arith; permitted = p }
 
 not_gone : (b c : Bool) → b ≡ false → (b && c) ≡ false

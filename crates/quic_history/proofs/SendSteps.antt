@@ -211,8 +211,8 @@ polls : (u : World) (answer : Option StreamEvent) (v : World) → TellsNext u an
 polls u answer v s = either_way u.bi.opened s
     (λ t. spares_at u v _ t.1 (spares_remote u Bi (opening_told u.bi) (told_limits u.bi)))
     (λ t. either_way u.uni.opened t
-        (λ r. spares_at u v _ r.1 (spares_remote u Uni (opening_told u.uni) (told_limits u.uni)))
-        (λ p. polls_queue u (with_out u p.1) p.0 answer v (spares_step u p.1 (steadies_polls u.out p.0 p.1 p.2)) p.3))
+    (λ r. spares_at u v _ r.1 (spares_remote u Uni (opening_told u.uni) (told_limits u.uni)))
+    (λ p. polls_queue u (with_out u p.1) p.0 answer v (spares_step u p.1 (steadies_polls u.out p.0 p.1 p.2)) p.3))
 
 raises_limit : (u : World) (id n : ℕ) (answer : Result (Unit {0}) ReceiveError) (v : World) → RaisesLimit u id n answer v → Spares u v
 raises_limit u id n (Ok x) v s =

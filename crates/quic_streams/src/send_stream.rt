@@ -113,8 +113,7 @@ impl<'a> SendStream<'a> {
         ensures resets { ResetsOwn (shown self.old.state.now) self.old.id error_code (listed self.old.pending.now) result (shown self.new.state.now) (listed self.new.pending.now) }
         ensures from { (m : Made) (h : List Event) → From m h (shown self.old.state.now) → From m (Sending (ResetOwn self.old.id error_code result) ∷ h) (shown self.new.state.now) }
     {
-        self.state
-            .reset_sending(self.pending, self.id, error_code)
+        self.state.reset_sending(self.pending, self.id, error_code)
     }
 
     /// Sets the priority at which the stream is queued from now on: those of a higher number are sent on first. Where it

@@ -145,7 +145,9 @@ impl StreamsState {
     {
         if self.is_own(id) {
             if self.outgoing.is_local_unopened(id) {
-                return Err(TransportError::stream_state_error("MAX_STREAM_DATA on unopened stream"));
+                return Err(TransportError::stream_state_error(
+                    "MAX_STREAM_DATA on unopened stream",
+                ));
             }
             return Ok(());
         }

@@ -1,9 +1,8 @@
 use super::{Answer, STREAM_LIMIT, STREAM_STATE, Subject, WINDOW, client, id, receive};
-use crate::Retransmits;
-use crate::PeerLimits;
 use crate::send_stream::SendStream;
 use crate::state::StreamsState;
 use crate::streams::{ConnState, Streams};
+use crate::{PeerLimits, Retransmits};
 use quic_receiving::HandleError;
 use quic_sending::{FinishError, WriteError};
 use quic_values::{Bytes, Dir, OutOfMemory, Side, StreamId, VarInt};
@@ -302,7 +301,12 @@ fn ask(rt: &impl Abort, subject: &mut Subject, step: Step) {
 fn set(rt: &impl Abort, subject: &mut Subject, step: Step) {
     match step {
         Step::Concurrent(dir, count, uses) => {
-            assert!(rt; subject.state.set_max_concurrent(dir, VarInt::from(count)).is_ok());
+            assert!(rt;
+                subject
+                    .state
+                    .set_max_concurrent(dir, VarInt::from(count))
+                    .is_ok()
+            );
             assert_eq!(rt; subject.state.max_concurrent(dir), uses);
         }
         Step::Window(window, transmit) => {
@@ -329,11 +333,19 @@ fn hand_in(
     match step {
         Step::Stop(stream, code) => {
             let code = VarInt::from(code);
-            assert!(rt; subject.state.received_stop_sending(id(stream), code).is_ok());
+            assert!(rt;
+                subject
+                    .state
+                    .received_stop_sending(id(stream), code)
+                    .is_ok()
+            );
         }
         Step::MaxData(limit) => subject.state.received_max_data(VarInt::from(limit)),
         Step::MaxStreams(dir, count, answer) => {
-            assert_eq!(rt; taken(subject.state.received_max_streams(dir, count)), answer);
+            assert_eq!(rt;
+                taken(subject.state.received_max_streams(dir, count)),
+                answer
+            );
         }
         Step::MaxStreamData(stream, limit, answer) => {
             let was = subject.state.received_max_stream_data(id(stream), limit);
@@ -377,7 +389,11 @@ const COUNTS: [Step; 13] = [
     Step::Poll(Some(Event::Available(Dir::Uni))),
     Step::Open(Dir::Uni, Some(7)),
     Step::Poll(None),
-    Step::MaxStreams(Dir::Bi, (1 << 60) + 1, Answer::Refused(TransportError::FRAME_ENCODING_ERROR)),
+    Step::MaxStreams(
+        Dir::Bi,
+        (1 << 60) + 1,
+        Answer::Refused(TransportError::FRAME_ENCODING_ERROR),
+    ),
     Step::MaxStreams(Dir::Bi, 1 << 60, TAKEN),
     Step::Unopened(7, false),
     Step::Unopened(11, true),
@@ -441,7 +457,12 @@ const BOTH_LIMITS: [Step; 9] = [
 fn no_more_than_every_limit_is_written(rt: HostRuntime) -> Result<(), Fail> {
     let alloc = rt.alloc();
     run(&rt, alloc, end(alloc, Side::Client, 1, 4, 10)?, &LIMITS)?;
-    run(&rt, alloc, end(alloc, Side::Client, 1, 4, 2)?, &STREAM_LIMITS)?;
+    run(
+        &rt,
+        alloc,
+        end(alloc, Side::Client, 1, 4, 2)?,
+        &STREAM_LIMITS,
+    )?;
     run(&rt, alloc, end(alloc, Side::Client, 1, 2, 2)?, &BOTH_LIMITS)?;
     Ok(())
 }
@@ -471,7 +492,12 @@ const SEND_WINDOW: [Step; 9] = [
 fn a_blocked_connection_is_reported(rt: HostRuntime) -> Result<(), Fail> {
     let alloc = rt.alloc();
     run(&rt, alloc, end(alloc, Side::Client, 1, 2, 10)?, &REPORTS)?;
-    run(&rt, alloc, end(alloc, Side::Client, 1, 100, 100)?, &SEND_WINDOW)?;
+    run(
+        &rt,
+        alloc,
+        end(alloc, Side::Client, 1, 100, 100)?,
+        &SEND_WINDOW,
+    )?;
     Ok(())
 }
 
@@ -574,8 +600,18 @@ const STOPPED_BY_PEER: [Step; 7] = [
 #[test]
 fn frames_open_streams_of_the_peer(rt: HostRuntime) -> Result<(), Fail> {
     let alloc = rt.alloc();
-    run(&rt, alloc, end(alloc, Side::Client, 1, 42, 42)?, &OWN_BOTH_WAYS)?;
-    run(&rt, alloc, end(alloc, Side::Client, 1, 42, 42)?, &STOPPED_BY_PEER)?;
+    run(
+        &rt,
+        alloc,
+        end(alloc, Side::Client, 1, 42, 42)?,
+        &OWN_BOTH_WAYS,
+    )?;
+    run(
+        &rt,
+        alloc,
+        end(alloc, Side::Client, 1, 42, 42)?,
+        &STOPPED_BY_PEER,
+    )?;
     Ok(())
 }
 
@@ -625,7 +661,12 @@ const CLOSED: [Step; 6] = [
 #[test]
 fn streams_are_queued_by_priority(rt: HostRuntime) -> Result<(), Fail> {
     let alloc = rt.alloc();
-    run(&rt, alloc, end(alloc, Side::Client, 3, 42, 42)?, &PRIORITIES)?;
+    run(
+        &rt,
+        alloc,
+        end(alloc, Side::Client, 3, 42, 42)?,
+        &PRIORITIES,
+    )?;
     run(&rt, alloc, end(alloc, Side::Client, 3, 42, 42)?, &CLOSED)?;
     Ok(())
 }
@@ -652,6 +693,9 @@ fn chunks_are_taken_whole_or_cut(rt: HostRuntime) -> Result<(), Fail> {
     for chunk in &chunks {
         left.push(chunk.as_slice())?;
     }
-    assert_eq!(&rt; left.as_slice(), [b"".as_slice(), b"".as_slice(), b"o".as_slice()].as_slice());
+    assert_eq!(&rt;
+        left.as_slice(),
+        [b"".as_slice(), b"".as_slice(), b"o".as_slice()].as_slice()
+    );
     Ok(())
 }

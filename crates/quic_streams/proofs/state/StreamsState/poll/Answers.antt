@@ -6,5 +6,5 @@ use Rattle.quic_streams.proofs.state.StreamsState.poll.Goals as goal
 
 pub returns-clause-from : goal.returns-clause-from
 returns-clause-from c = λ m h f.
-    let e = Sending (Polled  c.poll_next.result) in
+    let e = Sending (Polled c.poll_next.result) in
     next m h (shown c.args.self.now) e (shown c.poll_next.new.self) tt f c.poll_next.ensures
