@@ -9,6 +9,7 @@ use Rattle.quic_history.specs.Reading.{is_ended, ReadsHalf}
 use Rattle.quic_history.specs.World.{World, sends, Made, count_of, remote_of}
 use Rattle.quic_history.specs.History.{Event, Received, ReceivedReset, AddedCredits, Began, Gave, Ended, Stopped, ToldReset, Resized, SetConcurrent, Accepted, Sending, Step, Fits, Facts, From, IsRun, PermitsNow, EverPermits, with_next, before, counts, is_freed, trace, consumed, last_window, debt, received}
 use Rattle.quic_history.proofs.Credits.{credit-credited, credit-resized, credit-same, limit-fits}
+use Rattle.quic_history.proofs.AccountHistory.{kept-sent}
 use Rattle.quic_history.proofs.SendSteps.{facts-sending}
 use Rattle.quic_history.proofs.Permits.{all-concurrent, all-accepted, credit-concurrent, credit-accepted}
 use Rattle.quic_limits.specs.Credit.{resized}
@@ -75,6 +76,7 @@ next m h u e v fits f s =
             (λ d. rebased (counts (count_of m) h d) (before m h u f.run d) (is_freed (trace h) u.out.side (sends u) d) (remote_of u d) (permits-now m h u f.run f.remotes d)) s,
         f.remotes,
       );
+      sent = kept-sent h u e v (limit-fits _ _ _ _ u.credit f.facts.credit) f.sent s;
     }
 
 -- the same for an answer of a reader that may go on

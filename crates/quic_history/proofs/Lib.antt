@@ -1,3 +1,4 @@
+pub mod AccountHistory
 pub mod Batches
 pub mod Beginnings
 pub mod Credits

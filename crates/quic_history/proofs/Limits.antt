@@ -19,6 +19,7 @@ use Rattle.quic_history.specs.Receiving.{Receives, ReceivesReset, after_data, af
 use Rattle.quic_history.specs.Reading.{Begins, Stops, TellsReset, after_read, after_stop}
 use Rattle.quic_history.specs.History.{Event, Received, ReceivedReset, AddedCredits, Began, Gave, Ended, Stopped, ToldReset, Resized, SetConcurrent, Accepted, Sending, Step, Goes}
 use Rattle.quic_history.specs.Permitting.{after_concurrent, with_accepted}
+use Rattle.quic_history.specs.Accounts.{Accounts, accounts}
 use Rattle.quic_history.proofs.SendSteps.{goes-sending}
 use Rattle.quic_history.proofs.Permits.{steady-concurrent}
 use Rattle.quic_limits.specs.Credit.{Credit, resized}
@@ -31,9 +32,10 @@ record Firm : Type 0 where
   pub side : Side
   pub window : ℕ
   pub limit : ℕ
+  pub accounts : Accounts
 
 abbrev firm_of : Steady → Firm
-firm_of s = record { side = s.side; window = s.window; limit = s.credit.local_max_data }
+firm_of s = record { side = s.side; window = s.window; limit = s.credit.local_max_data; accounts = s.accounts }
 
 abbrev firm : World → Firm
 firm w = firm_of (steady w)
@@ -47,24 +49,27 @@ firm-freed u id = ap firm_of (steady-freed u id)
 firm-noticed : (u : World) (id : ℕ) (b : Bool) → firm (noticed u id b) ≡ firm u
 firm-noticed u id b = ap firm_of (steady-noticed u id b)
 
-stays : (u v : World) → firm v ≡ firm u → Goes u v
+-- a call of the receiving side: what every call leaves, and the accounts of what is sent
+pub record Firmly (u v : World) : Type 0 where
+  pub goes : Goes u v
+  pub same : accounts v.out ≡ accounts u.out
+
+stays : (u v : World) → firm v ≡ firm u → Firmly u v
 stays u v e = record {
-  side = ap (λ s. s.side) e;
-  window = ap (λ s. s.window) e;
-  limit = omega (arith, ap (λ s. s.limit) e);
+  goes = record { side = ap (λ s. s.side) e; window = ap (λ s. s.window) e; limit = omega (arith, ap (λ s. s.limit) e) };
+  same = ap (λ s. s.accounts) e;
 }
 
-rises_at : (u v w : World) → v ≡ w → Goes u w → Goes u v
-rises_at u v w e r = let P : World → Type 0 = λ x. Goes u x in subst P (sym e) r
+rises_at : (u v w : World) → v ≡ w → Firmly u w → Firmly u v
+rises_at u v w e r = let P : World → Type 0 = λ x. Firmly u x in subst P (sym e) r
 
-credit_rises : (u v : World) (n : ℕ) → u.credit.local_max_data < 2 ^ 64 → firm v ≡ firm u → Goes u (with_credit v n)
+credit_rises : (u v : World) (n : ℕ) → u.credit.local_max_data < 2 ^ 64 → firm v ≡ firm u → Firmly u (with_credit v n)
 credit_rises u v n fits e = record {
-  side = ap (λ s. s.side) e;
-  window = ap (λ s. s.window) e;
-  limit = omega (arith, ap (λ s. s.limit) e);
+  goes = record { side = ap (λ s. s.side) e; window = ap (λ s. s.window) e; limit = omega (arith, ap (λ s. s.limit) e) };
+  same = ap (λ s. s.accounts) e;
 }
 
-rest_rises : (u v : World) (n : ℕ) (b : Bool) → u.credit.local_max_data < 2 ^ 64 → firm v ≡ firm u → Goes u (if b then v else with_credit v n)
+rest_rises : (u v : World) (n : ℕ) (b : Bool) → u.credit.local_max_data < 2 ^ 64 → firm v ≡ firm u → Firmly u (if b then v else with_credit v n)
 rest_rises u v n true fits e = stays u v e
 rest_rises u v n false fits e = credit_rises u v n fits e
 
@@ -73,7 +78,7 @@ limit-either u v w true e k = e
 limit-either u v w false e k = k
 
 rises-data : (u : World) (id : ℕ) (old new : Half) (fin stopped : Bool) → u.credit.local_max_data < 2 ^ 64
-    → Goes u (if stopped then with_credit (if fin then with_freed (advanced u id old new) id else advanced u id old new) (new.end - old.end) else noticed (advanced u id old new) id true)
+    → Firmly u (if stopped then with_credit (if fin then with_freed (advanced u id old new) id else advanced u id old new) (new.end - old.end) else noticed (advanced u id old new) id true)
 rises-data u id old new fin true fits =
     let w = advanced u id old new in
     let same = firm-put u id (Some new) in
@@ -83,7 +88,7 @@ rises-data u id old new fin false fits =
     stays u (noticed w id true) (firm-noticed w id true ∙ firm-put u id (Some new))
 
 rises-received : (u v : World) (id offset : ℕ) (bytes : List ℕ) (fin : Bool) (answer : Result ShouldTransmit ReceiveError) → u.credit.local_max_data < 2 ^ 64
-    → Receives u id offset bytes fin answer v → Goes u v
+    → Receives u id offset bytes fin answer v → Firmly u v
 rises-received u v id offset bytes fin (Ok transmit) fits (inl s) = stays u v (ap firm s.3)
 rises-received u v id offset bytes fin (Ok transmit) fits (inr s) = rises_at u v (after_data u id s.1 s.2 fin) s.5 (rises-data u id s.1 s.2 fin s.1.stopped fits)
 rises-received u v id offset bytes fin (Err (receive_error.Transport error)) fits (inl s) = stays u v (ap firm s.1)
@@ -91,7 +96,7 @@ rises-received u v id offset bytes fin (Err (receive_error.Transport error)) fit
 rises-received u v id offset bytes fin (Err receive_error.CompactionMemory) fits s = stays u v (ap firm s.3 ∙ firm-put u id (Some s.1))
 rises-received u v id offset bytes fin (Err receive_error.OutOfMemory) fits s = stays u v (ap firm s)
 
-rises-reset : (u v : World) (id code final : ℕ) (answer : Result ShouldTransmit ReceiveError) → u.credit.local_max_data < 2 ^ 64 → ReceivesReset u id code final answer v → Goes u v
+rises-reset : (u v : World) (id code final : ℕ) (answer : Result ShouldTransmit ReceiveError) → u.credit.local_max_data < 2 ^ 64 → ReceivesReset u id code final answer v → Firmly u v
 rises-reset u v id code final (Ok transmit) fits (inl s) = stays u v (ap firm s.3)
 rises-reset u v id code final (Ok transmit) fits (inr (inl s)) = stays u v (ap firm s.4)
 rises-reset u v id code final (Ok transmit) fits (inr (inr s)) =
@@ -108,7 +113,7 @@ rises-reset u v id code final (Err (receive_error.Transport error)) fits (inr s)
 rises-reset u v id code final (Err receive_error.CompactionMemory) fits s = absurd s
 rises-reset u v id code final (Err receive_error.OutOfMemory) fits s = stays u v (ap firm s)
 
-rises-began : (u v : World) (id : ℕ) (ordered : Bool) (answer : Result (Unit {0}) ReadableError) → Begins u id ordered answer v → Goes u v
+rises-began : (u v : World) (id : ℕ) (ordered : Bool) (answer : Result (Unit {0}) ReadableError) → Begins u id ordered answer v → Firmly u v
 rises-began u v id ordered (Ok x) s = stays u v (ap firm s.is ∙ firm-put u id (Some s.new))
 rises-began u v id ordered (Err readable_error.ClosedStream) s = stays u v (ap firm s.1)
 rises-began u v id ordered (Err readable_error.IllegalOrderedRead) s = stays u v (ap firm s.is ∙ firm-put u id (Some s.new))
@@ -122,7 +127,7 @@ limit-read u id new (Err read_error.Blocked) = firm-put u id (Some new)
 limit-read u id new (Err (read_error.Reset code)) = firm-freed u id
 limit-read u id new (Err read_error.OutOfMemory) = firm-put u id (Some new)
 
-rises-stopped : (u v : World) (id code : ℕ) (answer : Result (Unit {0}) HandleError) (p q : Pending) → u.credit.local_max_data < 2 ^ 64 → Stops u id code p answer v q → Goes u v
+rises-stopped : (u v : World) (id code : ℕ) (answer : Result (Unit {0}) HandleError) (p q : Pending) → u.credit.local_max_data < 2 ^ 64 → Stops u id code p answer v q → Firmly u v
 rises-stopped u v id code (Ok x) p q fits s =
     rises_at u v (after_stop u id s.0 s.1) s.6
     (credit_rises u (if is_some s.0.size then with_freed u id else with_receive u id (Some s.1)) (stop_credit s.0) fits
@@ -130,7 +135,7 @@ rises-stopped u v id code (Ok x) p q fits s =
 rises-stopped u v id code (Err handle_error.ClosedStream) p q fits s = stays u v (ap firm s.1)
 rises-stopped u v id code (Err handle_error.OutOfMemory) p q fits s = stays u v (ap firm s.0)
 
-rises-told : (u v : World) (id : ℕ) (answer : Result (Option ℕ) HandleError) (p q : Pending) → TellsReset u id p answer v q → Goes u v
+rises-told : (u v : World) (id : ℕ) (answer : Result (Option ℕ) HandleError) (p q : Pending) → TellsReset u id p answer v q → Firmly u v
 rises-told u v id (Ok (Some code)) p q s = stays u v (ap firm s.4 ∙ firm-freed u id)
 rises-told u v id (Ok None) p q s = stays u v (ap firm s.4)
 rises-told u v id (Err handle_error.ClosedStream) p q s = stays u v (ap firm s.1)
@@ -142,17 +147,37 @@ resized_rises : (c : Credit) (n : ℕ) (b : Bool) → c.local_max_data < 2 ^ 64 
 resized_rises c n true fits = omega arith
 resized_rises c n false fits = omega arith
 
+-- whether a call is one of the sending side
+abbrev pub is_of_sending : Event → Bool
+is_of_sending (Sending e) = true
+is_of_sending _ = false
+
+pub firmly : (h : List Event) (u : World) (e : Event) (v : World) → u.credit.local_max_data < 2 ^ 64 → is_of_sending e ≡ false → Step u e v → Firmly u v
+firmly h u (Received id offset bytes fin answer) v fits n s = rises-received u v id offset bytes fin answer fits s
+firmly h u (ReceivedReset id code final answer) v fits n s = rises-reset u v id code final answer fits s
+firmly h u (AddedCredits count answer) v fits n s = rises_at u v (with_credit u count) s.0 (credit_rises u u count fits refl)
+firmly h u (Began id ordered answer) v fits n s = rises-began u v id ordered answer s
+firmly h u (Gave id most ordered answer) v fits n s = stays u v (ap firm s.is ∙ limit-read u id s.new answer)
+firmly h u (Ended id count) v fits n s = rises_at u v (with_credit u count) s (credit_rises u u count fits refl)
+firmly h u (Stopped id code answer) v fits n s = rises-stopped u v id code answer s.0 s.1 fits s.2
+firmly h u (ToldReset id answer) v fits n s = rises-told u v id answer s.0 s.1 s.2
+firmly h u (Resized size answer) v fits n s = rises_at u v (with_receive_window u size) s.0 (record { goes = record { side = refl; window = refl; limit = resized_rises u.credit size (nat_lt u.credit.receive_window size) fits }; same = refl })
+firmly h u (SetConcurrent dir count (Ok k)) v fits n s = stays u v (ap firm s ∙ ap firm_of (steady-concurrent u dir count))
+firmly h u (SetConcurrent dir count (Err k)) v fits n s = stays u v (ap firm s)
+firmly h u (Accepted dir answer) v fits n s = stays u v (ap firm s.0 ∙ ap firm_of (steady-remote u dir (one_accepted (remote_of u dir))))
+firmly h u (Sending e) v fits n s = cc
+
 pub goes : (h : List Event) (u : World) (e : Event) (v : World) → u.credit.local_max_data < 2 ^ 64 → Step u e v → Goes u v
-goes h u (Received id offset bytes fin answer) v fits s = rises-received u v id offset bytes fin answer fits s
-goes h u (ReceivedReset id code final answer) v fits s = rises-reset u v id code final answer fits s
-goes h u (AddedCredits count answer) v fits s = rises_at u v (with_credit u count) s.0 (credit_rises u u count fits refl)
-goes h u (Began id ordered answer) v fits s = rises-began u v id ordered answer s
-goes h u (Gave id most ordered answer) v fits s = stays u v (ap firm s.is ∙ limit-read u id s.new answer)
-goes h u (Ended id count) v fits s = rises_at u v (with_credit u count) s (credit_rises u u count fits refl)
-goes h u (Stopped id code answer) v fits s = rises-stopped u v id code answer s.0 s.1 fits s.2
-goes h u (ToldReset id answer) v fits s = rises-told u v id answer s.0 s.1 s.2
-goes h u (Resized size answer) v fits s = rises_at u v (with_receive_window u size) s.0 (record { side = refl; window = refl; limit = resized_rises u.credit size (nat_lt u.credit.receive_window size) fits })
-goes h u (SetConcurrent dir count (Ok k)) v fits s = stays u v (ap firm s ∙ ap firm_of (steady-concurrent u dir count))
-goes h u (SetConcurrent dir count (Err k)) v fits s = stays u v (ap firm s)
-goes h u (Accepted dir answer) v fits s = stays u v (ap firm s.0 ∙ ap firm_of (steady-remote u dir (one_accepted (remote_of u dir))))
+goes h u (Received id offset bytes fin answer) v fits s = let f = firmly h u (Received id offset bytes fin answer) v fits refl s in f.goes
+goes h u (ReceivedReset id code final answer) v fits s = let f = firmly h u (ReceivedReset id code final answer) v fits refl s in f.goes
+goes h u (AddedCredits count answer) v fits s = let f = firmly h u (AddedCredits count answer) v fits refl s in f.goes
+goes h u (Began id ordered answer) v fits s = let f = firmly h u (Began id ordered answer) v fits refl s in f.goes
+goes h u (Gave id most ordered answer) v fits s = let f = firmly h u (Gave id most ordered answer) v fits refl s in f.goes
+goes h u (Ended id count) v fits s = let f = firmly h u (Ended id count) v fits refl s in f.goes
+goes h u (Stopped id code answer) v fits s = let f = firmly h u (Stopped id code answer) v fits refl s in f.goes
+goes h u (ToldReset id answer) v fits s = let f = firmly h u (ToldReset id answer) v fits refl s in f.goes
+goes h u (Resized size answer) v fits s = let f = firmly h u (Resized size answer) v fits refl s in f.goes
+goes h u (SetConcurrent dir count (Ok k)) v fits s = let f = firmly h u (SetConcurrent dir count (Ok k)) v fits refl s in f.goes
+goes h u (SetConcurrent dir count (Err k)) v fits s = let f = firmly h u (SetConcurrent dir count (Err k)) v fits refl s in f.goes
+goes h u (Accepted dir answer) v fits s = let f = firmly h u (Accepted dir answer) v fits refl s in f.goes
 goes h u (Sending e) v fits s = goes-sending u e v s

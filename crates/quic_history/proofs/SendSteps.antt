@@ -203,14 +203,14 @@ polls_queue : (u w : World) (writable : Option ℕ) (answer : Option StreamEvent
 polls_queue u w (Some id) answer v s p = spares_at u v w p.1 s
 polls_queue u w None answer v s p = spares_at u v _ p.2 (spares_then u w _ s (spares_events w p.0))
 
-either_way : (b : Bool) {P Q R : Type 0} → MatchBool b P Q → (P → R) → (Q → R) → R
-either_way true s f g = f s
-either_way false s f g = g s
+pub either-way : (b : Bool) {P Q R : Type 0} → MatchBool b P Q → (P → R) → (Q → R) → R
+either-way true s f g = f s
+either-way false s f g = g s
 
 polls : (u : World) (answer : Option StreamEvent) (v : World) → TellsNext u answer v → Spares u v
-polls u answer v s = either_way u.bi.opened s
+polls u answer v s = either-way u.bi.opened s
     (λ t. spares_at u v _ t.1 (spares_remote u Bi (opening_told u.bi) (told_limits u.bi)))
-    (λ t. either_way u.uni.opened t
+    (λ t. either-way u.uni.opened t
     (λ r. spares_at u v _ r.1 (spares_remote u Uni (opening_told u.uni) (told_limits u.uni)))
     (λ p. polls_queue u (with_out u p.1) p.0 answer v (spares_step u p.1 (steadies_polls u.out p.0 p.1 p.2)) p.3))
 

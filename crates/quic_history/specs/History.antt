@@ -28,7 +28,9 @@ use Rattle.quic_history.specs.declared.progress.LastAnswer.TheVariants as last_a
 use Rattle.quic_retransmits.specs.Pending.{Pending}
 use Rattle.quic_values.specs.declared.memory.OutOfMemory.{OutOfMemory}
 use Rattle.quic_history.specs.World.{World, Made, count_of, start, id_refusal, remote_of, sends, with_credit, with_receive_window}
-use Rattle.quic_history.specs.SendEvents.{SendEvent, SendStep}
+use Rattle.quic_outgoing.specs.History.{count_in, given_for}
+use Rattle.quic_history.specs.Accounts.{Accounts, accounts, account_of}
+use Rattle.quic_history.specs.SendEvents.{SendEvent, SendStep, GaveLimits, RaisedData, RaisedCount, OpenedOwn, WroteOwn}
 use Rattle.quic_history.specs.Permitting.{SetsConcurrent, with_accepted, acceptable, with_count_of}
 use Rattle.quic_history.specs.Receiving.{Receives, ReceivesReset}
 use Rattle.quic_history.specs.Reading.{Begins, ReadsHalf, Stops, TellsReset, bytes_in}
@@ -399,6 +401,58 @@ abbrev pub TellsEnds : List Event → World → Type 0
 TellsEnds h v = (q : ℕ) (half : Half) → v.receive q ≡ Some half → half.stopped ≡ false → half.reset ≡ None → (size : ℕ) → half.size ≡ Some size
     → (half.buffer.bytes_read ≡ size) ↔ IsAllGiven (slices (trace h q).given) size
 
+-- how many bytes a write took
+abbrev pub taken_by : Event → ℕ
+taken_by (Sending (WroteOwn id lists closed (Ok written))) = written.bytes
+taken_by _ = 0
+
+-- how many bytes all writes took
+abbrev pub taken_in_all : List Event → ℕ
+taken_in_all [] = 0
+taken_in_all (e ∷ h) = taken_in_all h + taken_by e
+
+-- the limit of the connection that a call gave, 0 where it gave none
+abbrev pub limit_by : Event → ℕ
+limit_by (Sending (GaveLimits limits)) = limits.initial_max_data
+limit_by (Sending (RaisedData limit)) = limit
+limit_by _ = 0
+
+-- the greatest limit of the connection that was given
+abbrev pub greatest_limit : List Event → ℕ
+greatest_limit [] = 0
+greatest_limit (e ∷ h) = max (greatest_limit h) (limit_by e)
+
+-- the count of streams of a direction that a call gave, 0 where it gave none; there are 2^60 streams at most
+abbrev pub count_by : Event → Dir → ℕ
+count_by (Sending (GaveLimits limits)) d = min (count_in limits d) (2 ^ 60)
+count_by (Sending (RaisedCount dir count (Ok x))) d = min (given_for dir d count) (2 ^ 60)
+count_by _ d = 0
+
+-- the greatest count of streams of a direction that was given
+abbrev pub greatest_count : List Event → Dir → ℕ
+greatest_count [] d = 0
+greatest_count (e ∷ h) d = max (greatest_count h d) (count_by e d)
+
+-- how many streams of a direction a call opened
+abbrev pub opens_by : Event → Dir → ℕ
+opens_by (Sending (OpenedOwn dir closed (Ok (Some id)))) d = given_for dir d 1
+opens_by _ d = 0
+
+-- how many streams of a direction were opened
+abbrev pub opened_in_all : List Event → Dir → ℕ
+opened_in_all [] d = 0
+opened_in_all (e ∷ h) d = opened_in_all h d + opens_by e d
+
+-- what an end sent and opened, and what it might: the bytes that writes took are counted, and are no more than the
+-- greatest limit that was given; so of the streams that it opened, of each direction
+pub record SentSo (h : List Event) (a : Accounts) : Type 0 where
+  pub taken : a.data_sent ≡ taken_in_all h
+  pub limit : a.max_data ≡ greatest_limit h
+  pub within : taken_in_all h ≤ greatest_limit h
+  pub opened : (d : Dir) → (account_of a d).opened ≡ opened_in_all h d
+  pub counted : (d : Dir) → (account_of a d).limit ≡ greatest_count h d
+  pub few : (d : Dir) → opened_in_all h d ≤ greatest_count h d
+
 -- how many streams of each direction the peer is to be able to use at a time, once a call was made
 abbrev pub with_count_set : Event → (Dir → ℕ) → Dir → ℕ
 with_count_set (SetConcurrent dir count (Ok u)) f = with_count_of dir count f
@@ -433,3 +487,4 @@ pub record From (m : Made) (h : List Event) (v : World) : Type 0 where
   pub ends : (q : ℕ) → EndsSo (trace h q)
   pub tells : TellsEnds h v
   pub remotes : EverPermits m h v run
+  pub sent : SentSo h (accounts v.out)

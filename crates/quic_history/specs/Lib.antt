@@ -1,5 +1,6 @@
 pub mod Halves
 pub mod World
+pub mod Accounts
 pub mod Receiving
 pub mod Reading
 pub mod History
