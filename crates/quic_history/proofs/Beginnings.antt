@@ -13,8 +13,8 @@ use Rattle.quic_receiving.specs.Half.{new_half}
 use Rattle.quic_history.specs.Halves.{is_among, with_first}
 use Rattle.quic_history.specs.World.{World, Made, count_of, start, is_same_side}
 use Rattle.quic_history.proofs.Endings.{tells-ends}
-use Rattle.quic_history.specs.Accounts.{accounts}
-use Rattle.quic_history.proofs.AccountHistory.{sent-start}
+use Rattle.quic_history.specs.SendTotals.{send_totals}
+use Rattle.quic_history.proofs.SentHistory.{sent-start}
 use Rattle.quic_history.proofs.Remotes.{AllRemotes}
 use Rattle.quic_history.specs.History.{StreamFrom, RemoteFrom, untouched, trace, Facts, From}
 use Rattle.quic_history.proofs.Refusals.{refusal_by, refusal-is}
@@ -121,5 +121,5 @@ begins m v few_uni few_bi small e =
       ends = λ q. record { freed = λ k. cc; sized = λ k. cc; all = λ k. cc };
       tells = tells-ends m.receive_window [] (start m) facts;
       remotes = remotes_start m few_uni few_bi;
-      sent = sent-start (accounts (start m).out) refl refl refl refl;
+      sent = sent-start (send_totals (start m).out) refl refl refl refl;
     })

@@ -9,7 +9,7 @@ use Rattle.quic_history.specs.Reading.{is_ended, ReadsHalf}
 use Rattle.quic_history.specs.World.{World, sends, Made, count_of, remote_of}
 use Rattle.quic_history.specs.History.{Event, Received, ReceivedReset, AddedCredits, Began, Gave, Ended, Stopped, ToldReset, Resized, SetConcurrent, Accepted, Sending, Step, Fits, Facts, From, IsRun, PermitsNow, EverPermits, with_next, before, counts, is_freed, trace, consumed, last_window, debt, received}
 use Rattle.quic_history.proofs.Credits.{credit-credited, credit-resized, credit-same, limit-fits}
-use Rattle.quic_history.proofs.AccountHistory.{kept-sent}
+use Rattle.quic_history.proofs.SentHistory.{kept-sent}
 use Rattle.quic_history.proofs.SendSteps.{facts-sending}
 use Rattle.quic_history.proofs.Permits.{all-concurrent, all-accepted, credit-concurrent, credit-accepted}
 use Rattle.quic_limits.specs.Credit.{resized}

@@ -1,4 +1,4 @@
-pub mod AccountHistory
+pub mod SentHistory
 pub mod Batches
 pub mod Beginnings
 pub mod Credits

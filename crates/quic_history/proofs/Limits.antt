@@ -19,7 +19,7 @@ use Rattle.quic_history.specs.Receiving.{Receives, ReceivesReset, after_data, af
 use Rattle.quic_history.specs.Reading.{Begins, Stops, TellsReset, after_read, after_stop}
 use Rattle.quic_history.specs.History.{Event, Received, ReceivedReset, AddedCredits, Began, Gave, Ended, Stopped, ToldReset, Resized, SetConcurrent, Accepted, Sending, Step, Goes}
 use Rattle.quic_history.specs.Permitting.{after_concurrent, with_accepted}
-use Rattle.quic_history.specs.Accounts.{Accounts, accounts}
+use Rattle.quic_history.specs.SendTotals.{SendTotals, send_totals}
 use Rattle.quic_history.proofs.SendSteps.{goes-sending}
 use Rattle.quic_history.proofs.Permits.{steady-concurrent}
 use Rattle.quic_limits.specs.Credit.{Credit, resized}
@@ -32,10 +32,10 @@ record Firm : Type 0 where
   pub side : Side
   pub window : ℕ
   pub limit : ℕ
-  pub accounts : Accounts
+  pub send_totals : SendTotals
 
 abbrev firm_of : Steady → Firm
-firm_of s = record { side = s.side; window = s.window; limit = s.credit.local_max_data; accounts = s.accounts }
+firm_of s = record { side = s.side; window = s.window; limit = s.credit.local_max_data; send_totals = s.send_totals }
 
 abbrev firm : World → Firm
 firm w = firm_of (steady w)
@@ -49,15 +49,15 @@ firm-freed u id = ap firm_of (steady-freed u id)
 firm-noticed : (u : World) (id : ℕ) (b : Bool) → firm (noticed u id b) ≡ firm u
 firm-noticed u id b = ap firm_of (steady-noticed u id b)
 
--- a call of the receiving side: what every call leaves, and the accounts of what is sent
+-- a call of the receiving side: what every call leaves, and the totals of what is sent
 pub record Firmly (u v : World) : Type 0 where
   pub goes : Goes u v
-  pub same : accounts v.out ≡ accounts u.out
+  pub same : send_totals v.out ≡ send_totals u.out
 
 stays : (u v : World) → firm v ≡ firm u → Firmly u v
 stays u v e = record {
   goes = record { side = ap (λ s. s.side) e; window = ap (λ s. s.window) e; limit = omega (arith, ap (λ s. s.limit) e) };
-  same = ap (λ s. s.accounts) e;
+  same = ap (λ s. s.send_totals) e;
 }
 
 rises_at : (u v w : World) → v ≡ w → Firmly u w → Firmly u v
@@ -66,7 +66,7 @@ rises_at u v w e r = let P : World → Type 0 = λ x. Firmly u x in subst P (sym
 credit_rises : (u v : World) (n : ℕ) → u.credit.local_max_data < 2 ^ 64 → firm v ≡ firm u → Firmly u (with_credit v n)
 credit_rises u v n fits e = record {
   goes = record { side = ap (λ s. s.side) e; window = ap (λ s. s.window) e; limit = omega (arith, ap (λ s. s.limit) e) };
-  same = ap (λ s. s.accounts) e;
+  same = ap (λ s. s.send_totals) e;
 }
 
 rest_rises : (u v : World) (n : ℕ) (b : Bool) → u.credit.local_max_data < 2 ^ 64 → firm v ≡ firm u → Firmly u (if b then v else with_credit v n)

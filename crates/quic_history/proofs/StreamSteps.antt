@@ -10,7 +10,7 @@ use Rattle.quic_limits.specs.Remote as remote
 use Rattle.quic_limits.specs.Remote.{Remote}
 use Rattle.quic_receiving.specs.Half.{Half, new_half}
 use Rattle.quic_history.specs.Halves.{with_half}
-use Rattle.quic_history.specs.Accounts.{Accounts, accounts}
+use Rattle.quic_history.specs.SendTotals.{SendTotals, send_totals}
 use Rattle.quic_history.specs.World.{World, sends, id_refusal, is_own, remote_of, with_remote, with_receive, with_permitted, permitted_if, replaced_in, released, with_freed, told_readable, noticed}
 use Rattle.quic_receiving.proofs.Data.{data-fresh}
 use Rattle.quic_history.specs.History.{Trace, untouched, HalfFrom, StreamFrom}
@@ -225,15 +225,15 @@ but-noticed g w id k b s q n = moved (g q) (id_refusal w q) _ (w.receive q) _ (r
 
 -- ---- what few calls change
 
--- which end it is, the windows, the credit, and the accounts of what is sent
+-- which end it is, the windows, the credit, and the totals of what is sent
 pub record Steady : Type 0 where
   pub side : Side
   pub window : ℕ
   pub credit : Credit
-  pub accounts : Accounts
+  pub send_totals : SendTotals
 
 abbrev pub steady : World → Steady
-steady w = record { side = w.out.side; window = w.window; credit = w.credit; accounts = accounts w.out }
+steady w = record { side = w.out.side; window = w.window; credit = w.credit; send_totals = send_totals w.out }
 
 pub steady-put : (w : World) (id : ℕ) (o : Option Half) → steady (with_receive w id o) ≡ steady w
 unfolding with_receive

@@ -29,7 +29,7 @@ use Rattle.quic_retransmits.specs.Pending.{Pending}
 use Rattle.quic_values.specs.declared.memory.OutOfMemory.{OutOfMemory}
 use Rattle.quic_history.specs.World.{World, Made, count_of, start, id_refusal, remote_of, sends, with_credit, with_receive_window}
 use Rattle.quic_outgoing.specs.History.{count_in, given_for}
-use Rattle.quic_history.specs.Accounts.{Accounts, accounts, account_of}
+use Rattle.quic_history.specs.SendTotals.{SendTotals, send_totals, own_total}
 use Rattle.quic_history.specs.SendEvents.{SendEvent, SendStep, GaveLimits, RaisedData, RaisedCount, OpenedOwn, WroteOwn}
 use Rattle.quic_history.specs.Permitting.{SetsConcurrent, with_accepted, acceptable, with_count_of}
 use Rattle.quic_history.specs.Receiving.{Receives, ReceivesReset}
@@ -445,12 +445,12 @@ opened_in_all (e ∷ h) d = opened_in_all h d + opens_by e d
 
 -- what an end sent and opened, and what it might: the bytes that writes took are counted, and are no more than the
 -- greatest limit that was given; so of the streams that it opened, of each direction
-pub record SentSo (h : List Event) (a : Accounts) : Type 0 where
+pub record SentSo (h : List Event) (a : SendTotals) : Type 0 where
   pub taken : a.data_sent ≡ taken_in_all h
   pub limit : a.max_data ≡ greatest_limit h
   pub within : taken_in_all h ≤ greatest_limit h
-  pub opened : (d : Dir) → (account_of a d).opened ≡ opened_in_all h d
-  pub counted : (d : Dir) → (account_of a d).limit ≡ greatest_count h d
+  pub opened : (d : Dir) → (own_total a d).opened ≡ opened_in_all h d
+  pub counted : (d : Dir) → (own_total a d).limit ≡ greatest_count h d
   pub few : (d : Dir) → opened_in_all h d ≤ greatest_count h d
 
 -- how many streams of each direction the peer is to be able to use at a time, once a call was made
@@ -487,4 +487,4 @@ pub record From (m : Made) (h : List Event) (v : World) : Type 0 where
   pub ends : (q : ℕ) → EndsSo (trace h q)
   pub tells : TellsEnds h v
   pub remotes : EverPermits m h v run
-  pub sent : SentSo h (accounts v.out)
+  pub sent : SentSo h (send_totals v.out)

@@ -1,6 +1,6 @@
 pub mod Halves
 pub mod World
-pub mod Accounts
+pub mod SendTotals
 pub mod Receiving
 pub mod Reading
 pub mod History

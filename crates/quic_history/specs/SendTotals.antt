@@ -8,16 +8,16 @@ use Rattle.quic_outgoing.specs.Outgoing.{Outgoing}
 -- data_sent: how many bytes were written
 -- max_data: how many may be
 -- own_bi, own_uni: how many streams were opened, and how many may be
-pub record Accounts : Type 0 where
+pub record SendTotals : Type 0 where
   pub data_sent : ℕ
   pub max_data : ℕ
   pub own_bi : Own
   pub own_uni : Own
 
-abbrev pub accounts : Outgoing → Accounts
-accounts o = record { data_sent = o.budget.data_sent; max_data = o.budget.max_data; own_bi = o.own_bi; own_uni = o.own_uni }
+abbrev pub send_totals : Outgoing → SendTotals
+send_totals o = record { data_sent = o.budget.data_sent; max_data = o.budget.max_data; own_bi = o.own_bi; own_uni = o.own_uni }
 
 -- that of the streams of a direction
-abbrev pub account_of : Accounts → Dir → Own
-account_of a Bi = a.own_bi
-account_of a Uni = a.own_uni
+abbrev pub own_total : SendTotals → Dir → Own
+own_total a Bi = a.own_bi
+own_total a Uni = a.own_uni

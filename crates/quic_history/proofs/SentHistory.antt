@@ -31,16 +31,16 @@ use Rattle.quic_history.specs.World.{World, told, noticed}
 use Rattle.quic_history.specs.Sends.{with_out, with_opened, told_writable, after_first_stop, is_permitted, RaisesCount, RaisesLimit, StopsOwn, TellsNext, PollsQueue}
 use Rattle.quic_history.specs.Writes.{WritesOwn, FinishesOwn, with_queued}
 use Rattle.quic_history.specs.SendEvents.{SendEvent, SendStep, GaveLimits, OpenedOwn, RaisedData, RaisedCount, RaisedLimit, StoppedOwn, SetWindow, Polled, WroteOwn, FinishedOwn, ResetOwn, SetOwnPriority}
-use Rattle.quic_history.specs.Accounts.{Accounts, accounts, account_of}
+use Rattle.quic_history.specs.SendTotals.{SendTotals, send_totals, own_total}
 use Rattle.quic_history.specs.History.{Event, Received, ReceivedReset, AddedCredits, Began, Gave, Ended, Stopped, ToldReset, Resized, SetConcurrent, Accepted, Sending, Step, SentSo, taken_in_all, greatest_limit, greatest_count, opened_in_all, taken_by, limit_by, count_by, opens_by}
 use Rattle.quic_history.proofs.Limits.{firmly}
 use Rattle.quic_history.proofs.SendSteps.{either-way}
 use Rattle.quic_history.proofs.StreamSteps.{steady-noticed}
 
--- ---- calls that leave the accounts
+-- ---- calls that leave the totals
 
 abbrev Keeps : Outgoing → Outgoing → Type 0
-Keeps a b = accounts b ≡ accounts a
+Keeps a b = send_totals b ≡ send_totals a
 
 waits : (a : Outgoing) (id : ℕ) (t : Send) → Keeps a (waiting a id t)
 waits a id t = by_mark t.connection_blocked
@@ -62,8 +62,8 @@ keeps_stop a id code None = refl
 keeps_stop a id code (Some s) = refl
 
 keeps_polls : (a : Outgoing) (answer : Option ℕ) (b : Outgoing) → PollsWritable a answer b → Keeps a b
-keeps_polls a None b s = either-way (is_stuck a) s (λ t. ap accounts t) (λ t. ap accounts t.1)
-keeps_polls a (Some id) b s = ap accounts s.6
+keeps_polls a None b s = either-way (is_stuck a) s (λ t. ap send_totals t) (λ t. ap send_totals t.1)
+keeps_polls a (Some id) b s = ap send_totals s.6
 
 blocked_sent : (c : SendingCredit) (b : Bool) → (if b then record c { blocked_at = Some c.max_data } else c).data_sent ≡ c.data_sent
 blocked_sent c true = refl
@@ -77,7 +77,7 @@ keeps_noted : (a b : Outgoing) → Keeps a b → Keeps a (record b { budget = wi
 keeps_noted a b k =
     ap (λ n. record { data_sent = n; max_data = (with_blocked a.budget).max_data; own_bi = b.own_bi; own_uni = b.own_uni }) (blocked_sent a.budget (is_blocked_due a.budget))
     ∙ ap (λ n. record { data_sent = a.budget.data_sent; max_data = n; own_bi = b.own_bi; own_uni = b.own_uni }) (blocked_max a.budget (is_blocked_due a.budget))
-    ∙ ap (λ (x : Accounts). record { data_sent = a.budget.data_sent; max_data = a.budget.max_data; own_bi = x.own_bi; own_uni = x.own_uni }) k
+    ∙ ap (λ (x : SendTotals). record { data_sent = a.budget.data_sent; max_data = a.budget.max_data; own_bi = x.own_bi; own_uni = x.own_uni }) k
 
 keeps_blocked : (a : Outgoing) (id : ℕ) (o : Option Send) → Keeps a (after_blocked a id o)
 keeps_blocked a id None = refl
@@ -85,30 +85,30 @@ keeps_blocked a id (Some s) = keeps_if a (record (waiting a id s) { budget = wit
     (keeps_noted a (waiting a id s) (waits a id s)) refl
 
 keeps_refused : (a : Outgoing) (id : ℕ) (p : Pending) (e : WriteError) (b : Outgoing) (q : Pending) → RefusesWrite a id p e b q → Keeps a b
-keeps_refused a id p write_error.Blocked b q s = ap accounts s.1 ∙ keeps_blocked a id (a.halves id)
-keeps_refused a id p (write_error.Stopped code) b q s = ap accounts s.1
-keeps_refused a id p write_error.ClosedStream b q s = ap accounts s.1
-keeps_refused a id p write_error.OutOfMemory b q s = ap accounts s.0
+keeps_refused a id p write_error.Blocked b q s = ap send_totals s.1 ∙ keeps_blocked a id (a.halves id)
+keeps_refused a id p (write_error.Stopped code) b q s = ap send_totals s.1
+keeps_refused a id p write_error.ClosedStream b q s = ap send_totals s.1
+keeps_refused a id p write_error.OutOfMemory b q s = ap send_totals s.0
 
 keeps_reset : (a : Outgoing) (id code : ℕ) (p : Pending) (answer : Result (Unit {0}) HandleError) (b : Outgoing) (q : Pending) → ResetsStream a id code p answer b q → Keeps a b
-keeps_reset a id code p (Ok x) b q s = ap accounts s.3
-keeps_reset a id code p (Err handle_error.ClosedStream) b q s = ap accounts s.1
-keeps_reset a id code p (Err handle_error.OutOfMemory) b q s = ap accounts s.0
+keeps_reset a id code p (Ok x) b q s = ap send_totals s.3
+keeps_reset a id code p (Err handle_error.ClosedStream) b q s = ap send_totals s.1
+keeps_reset a id code p (Err handle_error.OutOfMemory) b q s = ap send_totals s.0
 
 keeps_priority : (a : Outgoing) (id : ℕ) (n : ℤ) (answer : Result (Unit {0}) HandleError) (b : Outgoing) → SetsPriority a id n answer b → Keeps a b
-keeps_priority a id n (Ok x) b s = ap accounts s.2
-keeps_priority a id n (Err handle_error.ClosedStream) b s = ap accounts s.1
-keeps_priority a id n (Err handle_error.OutOfMemory) b s = ap accounts s
+keeps_priority a id n (Ok x) b s = ap send_totals s.2
+keeps_priority a id n (Err handle_error.ClosedStream) b s = ap send_totals s.1
+keeps_priority a id n (Err handle_error.OutOfMemory) b s = ap send_totals s
 
 -- the same of an end
 abbrev Same : World → World → Type 0
-Same u v = accounts v.out ≡ accounts u.out
+Same u v = send_totals v.out ≡ send_totals u.out
 
 same_at : (u v : World) → v ≡ u → Same u v
-same_at u v e = ap (λ w. accounts w.out) e
+same_at u v e = ap (λ w. send_totals w.out) e
 
 same_noticed : (u : World) (id : ℕ) → Same u (noticed u id false)
-same_noticed u id = ap (λ s. s.accounts) (steady-noticed u id false)
+same_noticed u id = ap (λ s. s.send_totals) (steady-noticed u id false)
 
 same_writable : (u : World) (id : ℕ) (b : Bool) → Same u (told_writable u id b)
 same_writable u id true = refl
@@ -122,7 +122,7 @@ same_limit : (u : World) (id n : ℕ) (answer : Result (Unit {0}) ReceiveError) 
 same_limit u id n (Ok x) v s =
     let w = with_out u s.2 in
     let t = told_writable w id s.1 in
-    same_at (noticed t id false) v s.4 ∙ same_noticed t id ∙ same_writable w id s.1 ∙ ap accounts s.3.1 ∙ keeps_rise u.out id n (u.out.halves id)
+    same_at (noticed t id false) v s.4 ∙ same_noticed t id ∙ same_writable w id s.1 ∙ ap send_totals s.3.1 ∙ keeps_rise u.out id n (u.out.halves id)
 same_limit u id n (Err (receive_error.Transport error)) v s = same_at u v s.1
 same_limit u id n (Err receive_error.CompactionMemory) v s = absurd s
 same_limit u id n (Err receive_error.OutOfMemory) v s = same_at u v s
@@ -133,36 +133,36 @@ same_first_stop u id code false = refl
 
 same_stop : (u : World) (id code : ℕ) (answer : Result (Unit {0}) OutOfMemory) (v : World) → StopsOwn u id code answer v → Same u v
 same_stop u id code (Ok x) v s = either-way (is_permitted u id) s
-    (λ t. same_at (after_first_stop (with_out u t.1) id code t.0) v t.3 ∙ same_first_stop (with_out u t.1) id code t.0 ∙ ap accounts t.2.1 ∙ keeps_stop u.out id code (u.out.halves id))
+    (λ t. same_at (after_first_stop (with_out u t.1) id code t.0) v t.3 ∙ same_first_stop (with_out u t.1) id code t.0 ∙ ap send_totals t.2.1 ∙ keeps_stop u.out id code (u.out.halves id))
     (λ t. same_at u v t)
 same_stop u id code (Err e) v s = same_at u v s
 
 same_queue : (u w : World) (writable : Option ℕ) (answer : Option StreamEvent) (v : World) → Same u w → PollsQueue w writable answer v → Same u v
 same_queue u w (Some id) answer v s p = same_at w v p.1 ∙ s
-same_queue u w None answer v s p = ap (λ x. accounts x.out) p.2 ∙ s
+same_queue u w None answer v s p = ap (λ x. send_totals x.out) p.2 ∙ s
 
 same_polls : (u : World) (answer : Option StreamEvent) (v : World) → TellsNext u answer v → Same u v
 same_polls u answer v s = either-way u.bi.opened s
-    (λ t. ap (λ x. accounts x.out) t.1)
+    (λ t. ap (λ x. send_totals x.out) t.1)
     (λ t. either-way u.uni.opened t
-    (λ r. ap (λ x. accounts x.out) r.1)
+    (λ r. ap (λ x. send_totals x.out) r.1)
     (λ p. same_queue u (with_out u p.1) p.0 answer v (keeps_polls u.out p.0 p.1 p.2) p.3))
 
 same_refused : (u : World) (id : ℕ) (lists : List (List ℕ)) (closed : Bool) (p : Pending) (e : WriteError) (v : World) (left : List (List ℕ)) (q : Pending) → WritesOwn u id lists closed p (Err e) v left q → Same u v
 same_refused u id lists closed p e v left q (inl s) = same_at u v s.2
-same_refused u id lists closed p e v left q (inr s) = ap (λ x. accounts x.out) s.3 ∙ keeps_refused u.out id p e s.1 q s.2.1
+same_refused u id lists closed p e v left q (inr s) = ap (λ x. send_totals x.out) s.3 ∙ keeps_refused u.out id p e s.1 q s.2.1
 
 same_finish : (u : World) (id : ℕ) (answer : Result (Unit {0}) FinishError) (v : World) → FinishesOwn u id answer v → Same u v
-same_finish u id (Ok x) v s = ap (λ x. accounts x.out) s.3 ∙ same_queued (with_out u s.1) id s.0 ∙ ap accounts s.2.4
-same_finish u id (Err e) v s = ap (λ x. accounts x.out) s.2 ∙ ap accounts s.1.1
+same_finish u id (Ok x) v s = ap (λ x. send_totals x.out) s.3 ∙ same_queued (with_out u s.1) id s.0 ∙ ap send_totals s.2.4
+same_finish u id (Err e) v s = ap (λ x. send_totals x.out) s.2 ∙ ap send_totals s.1.1
 
 -- ---- what a history says
 
-module _ (h : List Event) (a : Accounts) (s : SentSo h a) where
-  -- a call that leaves the accounts
-  sent_same : (e : Event) (b : Accounts) → b ≡ a → taken_by e ≡ 0 → limit_by e ≡ 0 → ((d : Dir) → count_by e d ≡ 0) → ((d : Dir) → opens_by e d ≡ 0) → SentSo (e ∷ h) b
+module _ (h : List Event) (a : SendTotals) (s : SentSo h a) where
+  -- a call that leaves the totals
+  sent_same : (e : Event) (b : SendTotals) → b ≡ a → taken_by e ≡ 0 → limit_by e ≡ 0 → ((d : Dir) → count_by e d ≡ 0) → ((d : Dir) → opens_by e d ≡ 0) → SentSo (e ∷ h) b
   sent_same e b is t l c o =
-      let P : Accounts → Type 0 = λ x. SentSo (e ∷ h) x in
+      let P : SendTotals → Type 0 = λ x. SentSo (e ∷ h) x in
       let taken = s.taken in
       let limit = s.limit in
       let within = s.within in
@@ -171,7 +171,7 @@ module _ (h : List Event) (a : Accounts) (s : SentSo h a) where
         limit = let k : a.max_data ≡ max (greatest_limit h) (limit_by e) = omega arith in k;
         within = let k : taken_in_all h + taken_by e ≤ max (greatest_limit h) (limit_by e) = omega arith in k;
         opened = λ d. let x = s.opened d in let y = o d in omega arith;
-        counted = λ d. let x = s.counted d in let y = c d in let k : (account_of a d).limit ≡ max (greatest_count h d) (count_by e d) = omega arith in k;
+        counted = λ d. let x = s.counted d in let y = c d in let k : (own_total a d).limit ≡ max (greatest_count h d) (count_by e d) = omega arith in k;
         few = λ d. let x = s.few d in let y = c d in let z = o d in let k : opened_in_all h d + opens_by e d ≤ max (greatest_count h d) (count_by e d) = omega arith in k;
       })
 
@@ -184,15 +184,15 @@ module _ (h : List Event) (a : Accounts) (s : SentSo h a) where
         limit = ap (λ n. max n limit) s.limit;
         within = let k : taken_in_all h + 0 ≤ max (greatest_limit h) limit = omega arith in k;
         opened = λ d. let x = s.opened d in omega arith;
-        counted = λ d. let x = s.counted d in let k : (account_of a d).limit ≡ max (greatest_count h d) 0 = omega arith in k;
+        counted = λ d. let x = s.counted d in let k : (own_total a d).limit ≡ max (greatest_count h d) 0 = omega arith in k;
         few = λ d. let x = s.few d in let k : opened_in_all h d + 0 ≤ max (greatest_count h d) 0 = omega arith in k;
       }
 
-abbrev with_account : Accounts → Dir → Own → Accounts
+abbrev with_account : SendTotals → Dir → Own → SendTotals
 with_account a Bi o = record a { own_bi = o }
 with_account a Uni o = record a { own_uni = o }
 
-abbrev with_limits : Accounts → PeerLimits → Accounts
+abbrev with_limits : SendTotals → PeerLimits → SendTotals
 with_limits a limits = record {
   data_sent = a.data_sent;
   max_data = max a.max_data limits.initial_max_data;
@@ -200,15 +200,15 @@ with_limits a limits = record {
   own_uni = with_count a.own_uni limits.initial_max_streams_uni;
 }
 
-limits_opened : (h : List Event) (a : Accounts) (s : SentSo h a) (limits : PeerLimits) (d : Dir) → (account_of (with_limits a limits) d).opened ≡ opened_in_all h d + 0
+limits_opened : (h : List Event) (a : SendTotals) (s : SentSo h a) (limits : PeerLimits) (d : Dir) → (own_total (with_limits a limits) d).opened ≡ opened_in_all h d + 0
 limits_opened h a s limits Bi = let x = s.opened Bi in omega arith
 limits_opened h a s limits Uni = let x = s.opened Uni in omega arith
 
-limits_counted : (h : List Event) (a : Accounts) (s : SentSo h a) (limits : PeerLimits) (d : Dir) → (account_of (with_limits a limits) d).limit ≡ max (greatest_count h d) (min (count_in limits d) (2 ^ 60))
+limits_counted : (h : List Event) (a : SendTotals) (s : SentSo h a) (limits : PeerLimits) (d : Dir) → (own_total (with_limits a limits) d).limit ≡ max (greatest_count h d) (min (count_in limits d) (2 ^ 60))
 limits_counted h a s limits Bi = ap (λ n. max n (min limits.initial_max_streams_bidi (2 ^ 60))) (s.counted Bi)
 limits_counted h a s limits Uni = ap (λ n. max n (min limits.initial_max_streams_uni (2 ^ 60))) (s.counted Uni)
 
-sent_limits : (h : List Event) (a : Accounts) (s : SentSo h a) (limits : PeerLimits) → SentSo (Sending (GaveLimits limits) ∷ h) (with_limits a limits)
+sent_limits : (h : List Event) (a : SendTotals) (s : SentSo h a) (limits : PeerLimits) → SentSo (Sending (GaveLimits limits) ∷ h) (with_limits a limits)
 sent_limits h a s limits =
     let within = s.within in
     record {
@@ -221,7 +221,7 @@ sent_limits h a s limits =
     }
 
 -- the peer gave a count of streams
-count_opened : (h : List Event) (a : Accounts) (s : SentSo h a) (dir : Dir) (count : ℕ) (d : Dir) → (account_of (with_account a dir (with_count (account_of a dir) count)) d).opened ≡ opened_in_all h d + 0
+count_opened : (h : List Event) (a : SendTotals) (s : SentSo h a) (dir : Dir) (count : ℕ) (d : Dir) → (own_total (with_account a dir (with_count (own_total a dir) count)) d).opened ≡ opened_in_all h d + 0
 count_opened h a s Bi count Bi = let x = s.opened Bi in omega arith
 count_opened h a s Bi count Uni = let x = s.opened Uni in omega arith
 count_opened h a s Uni count Bi = let x = s.opened Bi in omega arith
@@ -230,28 +230,28 @@ count_opened h a s Uni count Uni = let x = s.opened Uni in omega arith
 no_more : (n : ℕ) → n ≡ max n (min 0 (2 ^ 60))
 no_more n = omega arith
 
-count_counted : (h : List Event) (a : Accounts) (s : SentSo h a) (dir : Dir) (count : ℕ) (d : Dir) → (account_of (with_account a dir (with_count (account_of a dir) count)) d).limit ≡ max (greatest_count h d) (min (given_for dir d count) (2 ^ 60))
+count_counted : (h : List Event) (a : SendTotals) (s : SentSo h a) (dir : Dir) (count : ℕ) (d : Dir) → (own_total (with_account a dir (with_count (own_total a dir) count)) d).limit ≡ max (greatest_count h d) (min (given_for dir d count) (2 ^ 60))
 count_counted h a s Bi count Bi = ap (λ n. max n (min count (2 ^ 60))) (s.counted Bi)
 count_counted h a s Bi count Uni = s.counted Uni ∙ no_more (greatest_count h Uni)
 count_counted h a s Uni count Bi = s.counted Bi ∙ no_more (greatest_count h Bi)
 count_counted h a s Uni count Uni = ap (λ n. max n (min count (2 ^ 60))) (s.counted Uni)
 
-account_sent : (a : Accounts) (d : Dir) (o : Own) → (with_account a d o).data_sent ≡ a.data_sent
+account_sent : (a : SendTotals) (d : Dir) (o : Own) → (with_account a d o).data_sent ≡ a.data_sent
 account_sent a Bi o = refl
 account_sent a Uni o = refl
 
-account_max : (a : Accounts) (d : Dir) (o : Own) → (with_account a d o).max_data ≡ a.max_data
+account_max : (a : SendTotals) (d : Dir) (o : Own) → (with_account a d o).max_data ≡ a.max_data
 account_max a Bi o = refl
 account_max a Uni o = refl
 
-sent_count : (h : List Event) (a : Accounts) (s : SentSo h a) (dir : Dir) (count : ℕ) (x : Unit {0}) → SentSo (Sending (RaisedCount dir count (Ok x)) ∷ h) (with_account a dir (with_count (account_of a dir) count))
+sent_count : (h : List Event) (a : SendTotals) (s : SentSo h a) (dir : Dir) (count : ℕ) (x : Unit {0}) → SentSo (Sending (RaisedCount dir count (Ok x)) ∷ h) (with_account a dir (with_count (own_total a dir) count))
 sent_count h a s dir count x =
     let within = s.within in
-    let sent = account_sent a dir (with_count (account_of a dir) count) in
-    let most = account_max a dir (with_count (account_of a dir) count) in
+    let sent = account_sent a dir (with_count (own_total a dir) count) in
+    let most = account_max a dir (with_count (own_total a dir) count) in
     record {
       taken = let t = s.taken in omega arith;
-      limit = let l = s.limit in let k : (with_account a dir (with_count (account_of a dir) count)).max_data ≡ max (greatest_limit h) 0 = omega arith in k;
+      limit = let l = s.limit in let k : (with_account a dir (with_count (own_total a dir) count)).max_data ≡ max (greatest_limit h) 0 = omega arith in k;
       within = let k : taken_in_all h + 0 ≤ max (greatest_limit h) 0 = omega arith in k;
       opened = count_opened h a s dir count;
       counted = count_counted h a s dir count;
@@ -259,33 +259,33 @@ sent_count h a s dir count x =
     }
 
 -- a stream was opened
-abbrev one_opened : Accounts → Dir → Accounts
-one_opened a d = with_account a d (record (account_of a d) { opened = (account_of a d).opened + 1 })
+abbrev one_opened : SendTotals → Dir → SendTotals
+one_opened a d = with_account a d (record (own_total a d) { opened = (own_total a d).opened + 1 })
 
-one_more : (h : List Event) (a : Accounts) (s : SentSo h a) (dir d : Dir) → (account_of (one_opened a dir) d).opened ≡ opened_in_all h d + given_for dir d 1
+one_more : (h : List Event) (a : SendTotals) (s : SentSo h a) (dir d : Dir) → (own_total (one_opened a dir) d).opened ≡ opened_in_all h d + given_for dir d 1
 one_more h a s Bi Bi = let x = s.opened Bi in omega arith
 one_more h a s Bi Uni = let x = s.opened Uni in omega arith
 one_more h a s Uni Bi = let x = s.opened Bi in omega arith
 one_more h a s Uni Uni = let x = s.opened Uni in omega arith
 
-one_limit : (h : List Event) (a : Accounts) (s : SentSo h a) (dir d : Dir) → (account_of (one_opened a dir) d).limit ≡ max (greatest_count h d) 0
+one_limit : (h : List Event) (a : SendTotals) (s : SentSo h a) (dir d : Dir) → (own_total (one_opened a dir) d).limit ≡ max (greatest_count h d) 0
 one_limit h a s Bi Bi = let x = s.counted Bi in omega arith
 one_limit h a s Bi Uni = let x = s.counted Uni in omega arith
 one_limit h a s Uni Bi = let x = s.counted Bi in omega arith
 one_limit h a s Uni Uni = let x = s.counted Uni in omega arith
 
-one_few : (h : List Event) (a : Accounts) (s : SentSo h a) (dir d : Dir) → (account_of a dir).opened < (account_of a dir).limit → opened_in_all h d + given_for dir d 1 ≤ max (greatest_count h d) 0
+one_few : (h : List Event) (a : SendTotals) (s : SentSo h a) (dir d : Dir) → (own_total a dir).opened < (own_total a dir).limit → opened_in_all h d + given_for dir d 1 ≤ max (greatest_count h d) 0
 one_few h a s Bi Bi l = let x = s.opened Bi in let y = s.counted Bi in omega arith
 one_few h a s Bi Uni l = let x = s.few Uni in omega arith
 one_few h a s Uni Bi l = let x = s.few Bi in omega arith
 one_few h a s Uni Uni l = let x = s.opened Uni in let y = s.counted Uni in omega arith
 
-sent_opened : (h : List Event) (a : Accounts) (s : SentSo h a) (dir : Dir) (closed : Bool) (id : ℕ) → (account_of a dir).opened < (account_of a dir).limit
+sent_opened : (h : List Event) (a : SendTotals) (s : SentSo h a) (dir : Dir) (closed : Bool) (id : ℕ) → (own_total a dir).opened < (own_total a dir).limit
     → SentSo (Sending (OpenedOwn dir closed (Ok (Some id))) ∷ h) (one_opened a dir)
 sent_opened h a s dir closed id l =
     let within = s.within in
-    let sent = account_sent a dir (record (account_of a dir) { opened = (account_of a dir).opened + 1 }) in
-    let most = account_max a dir (record (account_of a dir) { opened = (account_of a dir).opened + 1 }) in
+    let sent = account_sent a dir (record (own_total a dir) { opened = (own_total a dir).opened + 1 }) in
+    let most = account_max a dir (record (own_total a dir) { opened = (own_total a dir).opened + 1 }) in
     record {
       taken = let t = s.taken in omega arith;
       limit = let m = s.limit in let k : (one_opened a dir).max_data ≡ max (greatest_limit h) 0 = omega arith in k;
@@ -296,7 +296,7 @@ sent_opened h a s dir closed id l =
     }
 
 -- bytes were written
-sent_wrote : (h : List Event) (a : Accounts) (s : SentSo h a) (id : ℕ) (lists : List (List ℕ)) (closed : Bool) (written : Written) → written.bytes ≤ a.max_data - a.data_sent
+sent_wrote : (h : List Event) (a : SendTotals) (s : SentSo h a) (id : ℕ) (lists : List (List ℕ)) (closed : Bool) (written : Written) → written.bytes ≤ a.max_data - a.data_sent
     → SentSo (Sending (WroteOwn id lists closed (Ok written)) ∷ h) (record a { data_sent = a.data_sent + written.bytes })
 sent_wrote h a s id lists closed written l =
     let within = s.within in
@@ -307,92 +307,92 @@ sent_wrote h a s id lists closed written l =
       limit = let k : a.max_data ≡ max (greatest_limit h) 0 = omega arith in k;
       within = let k : taken_in_all h + written.bytes ≤ max (greatest_limit h) 0 = omega arith in k;
       opened = λ d. let x = s.opened d in omega arith;
-      counted = λ d. let x = s.counted d in let k : (account_of a d).limit ≡ max (greatest_count h d) 0 = omega arith in k;
+      counted = λ d. let x = s.counted d in let k : (own_total a d).limit ≡ max (greatest_count h d) 0 = omega arith in k;
       few = λ d. let x = s.few d in let k : opened_in_all h d + 0 ≤ max (greatest_count h d) 0 = omega arith in k;
     }
 
 -- ---- every call
 
-sent_is : (h : List Event) (a b : Accounts) → b ≡ a → SentSo h a → SentSo h b
-sent_is h a b e s = let P : Accounts → Type 0 = λ x. SentSo h x in subst P (sym e) s
+sent_is : (h : List Event) (a b : SendTotals) → b ≡ a → SentSo h a → SentSo h b
+sent_is h a b e s = let P : SendTotals → Type 0 = λ x. SentSo h x in subst P (sym e) s
 
 next_is : (o : Own) → o.opened < o.limit → with_next_own o ≡ record o { opened = o.opened + 1 }
 next_is o l = let t : nat_lt o.opened o.limit ≡ true = grind (arith, nat_tests) in rw t refl
 
-accounts_opened : (u : World) (d : Dir) (id : ℕ) (o : Outgoing) → accounts (with_opened u d id o).out ≡ accounts o
+accounts_opened : (u : World) (d : Dir) (id : ℕ) (o : Outgoing) → send_totals (with_opened u d id o).out ≡ send_totals o
 accounts_opened u Bi id o = refl
 accounts_opened u Uni id o = refl
 
 opening_accounts : (a : Outgoing) (d : Dir) (id : ℕ) (f : Option Send) → (own_of a d).opened < (own_of a d).limit
-    → accounts (with_send_half (with_own a d (with_next_own (own_of a d))) id f) ≡ one_opened (accounts a) d
-opening_accounts a Bi id f l = ap (λ k. record (accounts a) { own_bi = k }) (next_is a.own_bi l)
-opening_accounts a Uni id f l = ap (λ k. record (accounts a) { own_uni = k }) (next_is a.own_uni l)
+    → send_totals (with_send_half (with_own a d (with_next_own (own_of a d))) id f) ≡ one_opened (send_totals a) d
+opening_accounts a Bi id f l = ap (λ k. record (send_totals a) { own_bi = k }) (next_is a.own_bi l)
+opening_accounts a Uni id f l = ap (λ k. record (send_totals a) { own_uni = k }) (next_is a.own_uni l)
 
-room_of : (a : Outgoing) (d : Dir) → (own_of a d).opened < (own_of a d).limit → (account_of (accounts a) d).opened < (account_of (accounts a) d).limit
+room_of : (a : Outgoing) (d : Dir) → (own_of a d).opened < (own_of a d).limit → (own_total (send_totals a) d).opened < (own_total (send_totals a) d).limit
 room_of a Bi l = l
 room_of a Uni l = l
 
-count_accounts : (a : Outgoing) (d : Dir) (n : ℕ) → accounts (with_own a d (with_count (own_of a d) n)) ≡ with_account (accounts a) d (with_count (account_of (accounts a) d) n)
+count_accounts : (a : Outgoing) (d : Dir) (n : ℕ) → send_totals (with_own a d (with_count (own_of a d) n)) ≡ with_account (send_totals a) d (with_count (own_total (send_totals a) d) n)
 count_accounts a Bi n = refl
 count_accounts a Uni n = refl
 
-told_accounts : (w : World) (e : StreamEvent) (b : Bool) → accounts (if b then told w e else w).out ≡ accounts w.out
+told_accounts : (w : World) (e : StreamEvent) (b : Bool) → send_totals (if b then told w e else w).out ≡ send_totals w.out
 told_accounts w e true = refl
 told_accounts w e false = refl
 
 least_room : (b m k r n : ℕ) → b ≡ min (min (min m k) r) n → b ≤ m
 least_room b m k r n e = omega arith
 
-pub sent-sending : (h : List Event) (u : World) (e : SendEvent) (v : World) → SentSo h (accounts u.out) → SendStep u e v → SentSo (Sending e ∷ h) (accounts v.out)
-sent-sending h u (GaveLimits limits) v f s = sent_is _ (with_limits (accounts u.out) limits) (accounts v.out) (ap (λ x. accounts x.out) s) (sent_limits h (accounts u.out) f limits)
-sent-sending h u (OpenedOwn dir closed (Ok None)) v f s = sent_same h (accounts u.out) f _ (accounts v.out) (same_at u v s.1) refl refl (λ d. refl) (λ d. refl)
+pub sent-sending : (h : List Event) (u : World) (e : SendEvent) (v : World) → SentSo h (send_totals u.out) → SendStep u e v → SentSo (Sending e ∷ h) (send_totals v.out)
+sent-sending h u (GaveLimits limits) v f s = sent_is _ (with_limits (send_totals u.out) limits) (send_totals v.out) (ap (λ x. send_totals x.out) s) (sent_limits h (send_totals u.out) f limits)
+sent-sending h u (OpenedOwn dir closed (Ok None)) v f s = sent_same h (send_totals u.out) f _ (send_totals v.out) (same_at u v s.1) refl refl (λ d. refl) (λ d. refl)
 sent-sending h u (OpenedOwn dir closed (Ok (Some id))) v f s =
-    sent_is _ (one_opened (accounts u.out) dir) (accounts v.out)
-    (ap (λ x. accounts x.out) s.3 ∙ accounts_opened u dir id s.1 ∙ ap accounts s.2.2 ∙ opening_accounts u.out dir id (Some (fresh_sender u.out id)) s.2.0)
-    (sent_opened h (accounts u.out) f dir closed id (room_of u.out dir s.2.0))
-sent-sending h u (OpenedOwn dir closed (Err e)) v f s = sent_same h (accounts u.out) f _ (accounts v.out) (same_at u v s) refl refl (λ d. refl) (λ d. refl)
-sent-sending h u (RaisedData limit) v f s = sent_is _ _ (accounts v.out) (ap (λ x. accounts x.out) s) (sent_limit h (accounts u.out) f limit)
+    sent_is _ (one_opened (send_totals u.out) dir) (send_totals v.out)
+    (ap (λ x. send_totals x.out) s.3 ∙ accounts_opened u dir id s.1 ∙ ap send_totals s.2.2 ∙ opening_accounts u.out dir id (Some (fresh_sender u.out id)) s.2.0)
+    (sent_opened h (send_totals u.out) f dir closed id (room_of u.out dir s.2.0))
+sent-sending h u (OpenedOwn dir closed (Err e)) v f s = sent_same h (send_totals u.out) f _ (send_totals v.out) (same_at u v s) refl refl (λ d. refl) (λ d. refl)
+sent-sending h u (RaisedData limit) v f s = sent_is _ _ (send_totals v.out) (ap (λ x. send_totals x.out) s) (sent_limit h (send_totals u.out) f limit)
 sent-sending h u (RaisedCount dir count (Ok x)) v f s =
-    sent_is _ (with_account (accounts u.out) dir (with_count (account_of (accounts u.out) dir) count)) (accounts v.out)
-    (ap (λ x. accounts x.out) s.1 ∙ told_accounts (with_out u (with_own u.out dir (with_count (own_of u.out dir) count))) (stream_event.Available dir) (nat_lt (own_of u.out dir).limit count) ∙ count_accounts u.out dir count)
-    (sent_count h (accounts u.out) f dir count x)
-sent-sending h u (RaisedCount dir count (Err (receive_error.Transport error))) v f s = sent_same h (accounts u.out) f _ (accounts v.out) (same_at u v s.2) refl refl (λ d. refl) (λ d. refl)
+    sent_is _ (with_account (send_totals u.out) dir (with_count (own_total (send_totals u.out) dir) count)) (send_totals v.out)
+    (ap (λ x. send_totals x.out) s.1 ∙ told_accounts (with_out u (with_own u.out dir (with_count (own_of u.out dir) count))) (stream_event.Available dir) (nat_lt (own_of u.out dir).limit count) ∙ count_accounts u.out dir count)
+    (sent_count h (send_totals u.out) f dir count x)
+sent-sending h u (RaisedCount dir count (Err (receive_error.Transport error))) v f s = sent_same h (send_totals u.out) f _ (send_totals v.out) (same_at u v s.2) refl refl (λ d. refl) (λ d. refl)
 sent-sending h u (RaisedCount dir count (Err receive_error.CompactionMemory)) v f s = absurd s
-sent-sending h u (RaisedCount dir count (Err receive_error.OutOfMemory)) v f s = sent_same h (accounts u.out) f _ (accounts v.out) (same_at u v s.2) refl refl (λ d. refl) (λ d. refl)
-sent-sending h u (RaisedLimit id limit answer) v f s = sent_same h (accounts u.out) f _ (accounts v.out) (same_limit u id limit answer v s) refl refl (λ d. refl) (λ d. refl)
-sent-sending h u (StoppedOwn id code answer) v f s = sent_same h (accounts u.out) f _ (accounts v.out) (same_stop u id code answer v s) refl refl (λ d. refl) (λ d. refl)
-sent-sending h u (SetWindow size) v f s = sent_same h (accounts u.out) f _ (accounts v.out) (ap (λ x. accounts x.out) s) refl refl (λ d. refl) (λ d. refl)
-sent-sending h u (Polled answer) v f s = sent_same h (accounts u.out) f _ (accounts v.out) (same_polls u answer v s) refl refl (λ d. refl) (λ d. refl)
+sent-sending h u (RaisedCount dir count (Err receive_error.OutOfMemory)) v f s = sent_same h (send_totals u.out) f _ (send_totals v.out) (same_at u v s.2) refl refl (λ d. refl) (λ d. refl)
+sent-sending h u (RaisedLimit id limit answer) v f s = sent_same h (send_totals u.out) f _ (send_totals v.out) (same_limit u id limit answer v s) refl refl (λ d. refl) (λ d. refl)
+sent-sending h u (StoppedOwn id code answer) v f s = sent_same h (send_totals u.out) f _ (send_totals v.out) (same_stop u id code answer v s) refl refl (λ d. refl) (λ d. refl)
+sent-sending h u (SetWindow size) v f s = sent_same h (send_totals u.out) f _ (send_totals v.out) (ap (λ x. send_totals x.out) s) refl refl (λ d. refl) (λ d. refl)
+sent-sending h u (Polled answer) v f s = sent_same h (send_totals u.out) f _ (send_totals v.out) (same_polls u answer v s) refl refl (λ d. refl) (λ d. refl)
 sent-sending h u (WroteOwn id lists closed (Ok written)) v f s =
     let t = s.3.3.0 in
     let bytes = ap (λ (w : Written). w.bytes) s.3.4 ∙ t.bytes in
-    sent_is _ _ (accounts v.out)
-    (ap (λ x. accounts x.out) s.3.5 ∙ same_queued (with_out u s.3.2) id s.3.1.queue_at ∙ ap accounts t.is
-    ∙ ap (λ (w : Written). record (accounts u.out) { data_sent = u.out.budget.data_sent + w.bytes }) (sym s.3.4))
-    (sent_wrote h (accounts u.out) f id lists closed written
+    sent_is _ _ (send_totals v.out)
+    (ap (λ x. send_totals x.out) s.3.5 ∙ same_queued (with_out u s.3.2) id s.3.1.queue_at ∙ ap send_totals t.is
+    ∙ ap (λ (w : Written). record (send_totals u.out) { data_sent = u.out.budget.data_sent + w.bytes }) (sym s.3.4))
+    (sent_wrote h (send_totals u.out) f id lists closed written
     (least_room written.bytes (u.out.budget.max_data - u.out.budget.data_sent) (u.out.budget.send_window - u.out.budget.buffered_data) (stream_room t.half) (total_length lists) bytes))
-sent-sending h u (WroteOwn id lists closed (Err e)) v f s = sent_same h (accounts u.out) f _ (accounts v.out) (same_refused u id lists closed s.0 e v s.2 s.1 s.3) refl refl (λ d. refl) (λ d. refl)
-sent-sending h u (FinishedOwn id answer) v f s = sent_same h (accounts u.out) f _ (accounts v.out) (same_finish u id answer v s) refl refl (λ d. refl) (λ d. refl)
-sent-sending h u (ResetOwn id code answer) v f s = sent_same h (accounts u.out) f _ (accounts v.out) (ap (λ x. accounts x.out) s.2.2 ∙ keeps_reset u.out id code s.0 answer s.2.0 s.1 s.2.1) refl refl (λ d. refl) (λ d. refl)
-sent-sending h u (SetOwnPriority id priority answer) v f s = sent_same h (accounts u.out) f _ (accounts v.out) (ap (λ x. accounts x.out) s.2 ∙ keeps_priority u.out id priority answer s.0 s.1) refl refl (λ d. refl) (λ d. refl)
+sent-sending h u (WroteOwn id lists closed (Err e)) v f s = sent_same h (send_totals u.out) f _ (send_totals v.out) (same_refused u id lists closed s.0 e v s.2 s.1 s.3) refl refl (λ d. refl) (λ d. refl)
+sent-sending h u (FinishedOwn id answer) v f s = sent_same h (send_totals u.out) f _ (send_totals v.out) (same_finish u id answer v s) refl refl (λ d. refl) (λ d. refl)
+sent-sending h u (ResetOwn id code answer) v f s = sent_same h (send_totals u.out) f _ (send_totals v.out) (ap (λ x. send_totals x.out) s.2.2 ∙ keeps_reset u.out id code s.0 answer s.2.0 s.1 s.2.1) refl refl (λ d. refl) (λ d. refl)
+sent-sending h u (SetOwnPriority id priority answer) v f s = sent_same h (send_totals u.out) f _ (send_totals v.out) (ap (λ x. send_totals x.out) s.2 ∙ keeps_priority u.out id priority answer s.0 s.1) refl refl (λ d. refl) (λ d. refl)
 
-pub kept-sent : (h : List Event) (u : World) (e : Event) (v : World) → u.credit.local_max_data < 2 ^ 64 → SentSo h (accounts u.out) → Step u e v → SentSo (e ∷ h) (accounts v.out)
-kept-sent h u (Received id offset bytes fin answer) v fits f s = let went = firmly h u (Received id offset bytes fin answer) v fits refl s in sent_same h (accounts u.out) f (Received id offset bytes fin answer) (accounts v.out) went.same refl refl (λ d. refl) (λ d. refl)
-kept-sent h u (ReceivedReset id code final answer) v fits f s = let went = firmly h u (ReceivedReset id code final answer) v fits refl s in sent_same h (accounts u.out) f (ReceivedReset id code final answer) (accounts v.out) went.same refl refl (λ d. refl) (λ d. refl)
-kept-sent h u (AddedCredits count answer) v fits f s = let went = firmly h u (AddedCredits count answer) v fits refl s in sent_same h (accounts u.out) f (AddedCredits count answer) (accounts v.out) went.same refl refl (λ d. refl) (λ d. refl)
-kept-sent h u (Began id ordered answer) v fits f s = let went = firmly h u (Began id ordered answer) v fits refl s in sent_same h (accounts u.out) f (Began id ordered answer) (accounts v.out) went.same refl refl (λ d. refl) (λ d. refl)
-kept-sent h u (Gave id most ordered answer) v fits f s = let went = firmly h u (Gave id most ordered answer) v fits refl s in sent_same h (accounts u.out) f (Gave id most ordered answer) (accounts v.out) went.same refl refl (λ d. refl) (λ d. refl)
-kept-sent h u (Ended id count) v fits f s = let went = firmly h u (Ended id count) v fits refl s in sent_same h (accounts u.out) f (Ended id count) (accounts v.out) went.same refl refl (λ d. refl) (λ d. refl)
-kept-sent h u (Stopped id code answer) v fits f s = let went = firmly h u (Stopped id code answer) v fits refl s in sent_same h (accounts u.out) f (Stopped id code answer) (accounts v.out) went.same refl refl (λ d. refl) (λ d. refl)
-kept-sent h u (ToldReset id answer) v fits f s = let went = firmly h u (ToldReset id answer) v fits refl s in sent_same h (accounts u.out) f (ToldReset id answer) (accounts v.out) went.same refl refl (λ d. refl) (λ d. refl)
-kept-sent h u (Resized size answer) v fits f s = let went = firmly h u (Resized size answer) v fits refl s in sent_same h (accounts u.out) f (Resized size answer) (accounts v.out) went.same refl refl (λ d. refl) (λ d. refl)
-kept-sent h u (SetConcurrent dir count (Ok k)) v fits f s = let went = firmly h u (SetConcurrent dir count (Ok k)) v fits refl s in sent_same h (accounts u.out) f (SetConcurrent dir count (Ok k)) (accounts v.out) went.same refl refl (λ d. refl) (λ d. refl)
-kept-sent h u (SetConcurrent dir count (Err k)) v fits f s = let went = firmly h u (SetConcurrent dir count (Err k)) v fits refl s in sent_same h (accounts u.out) f (SetConcurrent dir count (Err k)) (accounts v.out) went.same refl refl (λ d. refl) (λ d. refl)
-kept-sent h u (Accepted dir answer) v fits f s = let went = firmly h u (Accepted dir answer) v fits refl s in sent_same h (accounts u.out) f (Accepted dir answer) (accounts v.out) went.same refl refl (λ d. refl) (λ d. refl)
+pub kept-sent : (h : List Event) (u : World) (e : Event) (v : World) → u.credit.local_max_data < 2 ^ 64 → SentSo h (send_totals u.out) → Step u e v → SentSo (e ∷ h) (send_totals v.out)
+kept-sent h u (Received id offset bytes fin answer) v fits f s = let went = firmly h u (Received id offset bytes fin answer) v fits refl s in sent_same h (send_totals u.out) f (Received id offset bytes fin answer) (send_totals v.out) went.same refl refl (λ d. refl) (λ d. refl)
+kept-sent h u (ReceivedReset id code final answer) v fits f s = let went = firmly h u (ReceivedReset id code final answer) v fits refl s in sent_same h (send_totals u.out) f (ReceivedReset id code final answer) (send_totals v.out) went.same refl refl (λ d. refl) (λ d. refl)
+kept-sent h u (AddedCredits count answer) v fits f s = let went = firmly h u (AddedCredits count answer) v fits refl s in sent_same h (send_totals u.out) f (AddedCredits count answer) (send_totals v.out) went.same refl refl (λ d. refl) (λ d. refl)
+kept-sent h u (Began id ordered answer) v fits f s = let went = firmly h u (Began id ordered answer) v fits refl s in sent_same h (send_totals u.out) f (Began id ordered answer) (send_totals v.out) went.same refl refl (λ d. refl) (λ d. refl)
+kept-sent h u (Gave id most ordered answer) v fits f s = let went = firmly h u (Gave id most ordered answer) v fits refl s in sent_same h (send_totals u.out) f (Gave id most ordered answer) (send_totals v.out) went.same refl refl (λ d. refl) (λ d. refl)
+kept-sent h u (Ended id count) v fits f s = let went = firmly h u (Ended id count) v fits refl s in sent_same h (send_totals u.out) f (Ended id count) (send_totals v.out) went.same refl refl (λ d. refl) (λ d. refl)
+kept-sent h u (Stopped id code answer) v fits f s = let went = firmly h u (Stopped id code answer) v fits refl s in sent_same h (send_totals u.out) f (Stopped id code answer) (send_totals v.out) went.same refl refl (λ d. refl) (λ d. refl)
+kept-sent h u (ToldReset id answer) v fits f s = let went = firmly h u (ToldReset id answer) v fits refl s in sent_same h (send_totals u.out) f (ToldReset id answer) (send_totals v.out) went.same refl refl (λ d. refl) (λ d. refl)
+kept-sent h u (Resized size answer) v fits f s = let went = firmly h u (Resized size answer) v fits refl s in sent_same h (send_totals u.out) f (Resized size answer) (send_totals v.out) went.same refl refl (λ d. refl) (λ d. refl)
+kept-sent h u (SetConcurrent dir count (Ok k)) v fits f s = let went = firmly h u (SetConcurrent dir count (Ok k)) v fits refl s in sent_same h (send_totals u.out) f (SetConcurrent dir count (Ok k)) (send_totals v.out) went.same refl refl (λ d. refl) (λ d. refl)
+kept-sent h u (SetConcurrent dir count (Err k)) v fits f s = let went = firmly h u (SetConcurrent dir count (Err k)) v fits refl s in sent_same h (send_totals u.out) f (SetConcurrent dir count (Err k)) (send_totals v.out) went.same refl refl (λ d. refl) (λ d. refl)
+kept-sent h u (Accepted dir answer) v fits f s = let went = firmly h u (Accepted dir answer) v fits refl s in sent_same h (send_totals u.out) f (Accepted dir answer) (send_totals v.out) went.same refl refl (λ d. refl) (λ d. refl)
 kept-sent h u (Sending e) v fits f s = sent-sending h u e v f s
 
 -- nothing was sent and opened at first
-pub sent-start : (a : Accounts) → a.data_sent ≡ 0 → a.max_data ≡ 0 → a.own_bi ≡ no_own → a.own_uni ≡ no_own → SentSo [] a
+pub sent-start : (a : SendTotals) → a.data_sent ≡ 0 → a.max_data ≡ 0 → a.own_bi ≡ no_own → a.own_uni ≡ no_own → SentSo [] a
 sent-start a s m bi uni = record {
   taken = s;
   limit = m;
@@ -402,10 +402,10 @@ sent-start a s m bi uni = record {
   few = λ d. omega arith;
 }
   where
-    opened : (d : Dir) → (account_of a d).opened ≡ 0
+    opened : (d : Dir) → (own_total a d).opened ≡ 0
     opened Bi = ap (λ (o : Own). o.opened) bi
     opened Uni = ap (λ (o : Own). o.opened) uni
 
-    counted : (d : Dir) → (account_of a d).limit ≡ 0
+    counted : (d : Dir) → (own_total a d).limit ≡ 0
     counted Bi = ap (λ (o : Own). o.limit) bi
     counted Uni = ap (λ (o : Own). o.limit) uni
