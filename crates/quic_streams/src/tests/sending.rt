@@ -156,12 +156,18 @@ fn write(subject: &mut Subject, stream: u32, count: usize, conn: ConnState) -> D
     }
 }
 
+fn refused_finish(error: FinishError) -> Done {
+    match error {
+        FinishError::Stopped(code) => Done::Stopped(code.into_inner()),
+        FinishError::ClosedStream => Done::Closed,
+        FinishError::OutOfMemory => Done::NoMemory,
+    }
+}
+
 fn finish(subject: &mut Subject, stream: u32, conn: ConnState) -> Done {
     match sending(subject, stream, conn).finish() {
         Ok(()) => Done::Is,
-        Err(FinishError::Stopped(code)) => Done::Stopped(code.into_inner()),
-        Err(FinishError::ClosedStream) => Done::Closed,
-        Err(FinishError::OutOfMemory) => Done::NoMemory,
+        Err(error) => refused_finish(error),
     }
 }
 
