@@ -1,3 +1,4 @@
+pub mod Lasts
 pub mod Merging
 pub mod Numbers
 pub mod Sets

@@ -1,6 +1,6 @@
 -- Lemmas on sets of ids.
 use Rattle.std.proofs.Common.{◌≡◌, ℕ, Bool, true, false, cond, refl, arith, ap, ◌∙◌, ◌≤◌, ◌<◌}
-use Rattle.std.specs.Prelude.{◌||◌, ◌&&◌, ◌==◌, Result, Ok, Err, OnOk, OnErr, IsOk}
+use Rattle.std.specs.Prelude.{◌||◌, ◌&&◌, ◌==◌, not, Result, Ok, Err, OnOk, OnErr, IsOk}
 use Rattle.std.proofs.lemmas.Bool.Decides.{nat_tests}
 
 pub OnOk-here : {T E P : Type 0} (r : Result T E) → IsOk r → OnOk r P → P
@@ -50,3 +50,13 @@ with_one new old id h = λ i. λ q. (h q ∙ ap (λ b. cond b true (old q)) (==-
 
 pub with_none : (old : ℕ → Bool) (id : ℕ) → old ≡ (λ q. old q || (false && (q == id)))
 with_none old id = λ i. λ q. add-none (old q) (q == id) i
+
+take-one : (b o : Bool) → cond b false o ≡ (o && not b)
+take-one true true = refl
+take-one true false = refl
+take-one false true = refl
+take-one false false = refl
+
+-- a set without one id
+pub without_one : (new old : ℕ → Bool) (id : ℕ) → ((q : ℕ) → new q ≡ cond (id == q) false (old q)) → new ≡ (λ q. old q && not (q == id))
+without_one new old id h = λ i. λ q. (h q ∙ ap (λ b. cond b false (old q)) (==-comm id q) ∙ take-one (q == id) (old q)) i

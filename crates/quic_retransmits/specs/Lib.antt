@@ -1,3 +1,4 @@
 pub mod Pending
 pub mod Queueing
+pub mod Settling
 pub mod Lending

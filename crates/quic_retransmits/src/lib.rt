@@ -3,6 +3,7 @@
 
 mod queueing;
 pub mod retransmits;
+mod settling;
 
 pub use retransmits::{IssuedCid, Retransmits, ThinRetransmits};
 

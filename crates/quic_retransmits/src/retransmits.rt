@@ -313,8 +313,8 @@ fn clone_cids(alloc: Global, cids: &[IssuedCid]) -> Result<Vec<IssuedCid>, OutOf
 /// The same, without memory of its own until there is something to be sent.
 #[derive(Drop)]
 pub struct ThinRetransmits {
-    retransmits: Option<Box<Retransmits>>,
-    alloc: Global,
+    pub(crate) retransmits: Option<Box<Retransmits>>,
+    pub(crate) alloc: Global,
 }
 
 impl ThinRetransmits {

@@ -1,0 +1,7 @@
+use Rattle.std.proofs.Common.{ap}
+use Rattle.quic_retransmits.specs.Pending.{shown_pending}
+use Rattle.quic_retransmits.proofs.Sets.{without_one}
+use Rattle.quic_retransmits.proofs.retransmits.Retransmits.settle_window.Goals as goal
+
+pub returns : goal.returns
+returns c = record { settled = ap (λ ids. record (shown_pending c.args.self.now) { max_stream_data = ids }) (without_one _ _ c.args.id c.remove.ensures.updates.0) }

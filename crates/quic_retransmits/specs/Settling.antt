@@ -1,0 +1,38 @@
+-- What is written of what is to be sent: it leaves what is pending, and is noted as sent.
+use Rattle.std.specs.Prelude.{◌≡◌, ℕ, Bool, true, false, not, ◌==◌, ◌&&◌, ◌||◌, List, [], ◌∷◌, ◌++◌, Option, Some, None, unwrap_or}
+use Rattle.quic_values.specs.declared.ids.Dir.TheVariants.{Bi, Uni}
+use Rattle.quic_wire.specs.declared.frame.Frame.{Frame}
+use Rattle.quic_wire.specs.declared.frame.Frame.TheVariants as frames
+use Rattle.quic_retransmits.specs.declared.retransmits.ThinRetransmits.{ThinRetransmits}
+use Rattle.quic_retransmits.specs.Pending.{Pending, nothing, shown_if}
+use Rattle.quic_retransmits.specs.Queueing.{with_id}
+
+-- a frame was sent: what is to be sent again where it is lost. Frames of other kinds are noted elsewhere, or nowhere
+abbrev pub noted : Pending → Frame → Pending
+noted p (frames.ResetStream f) = record p { reset_stream = p.reset_stream ++ (f.id, f.error_code) ∷ [] }
+noted p (frames.StopSending f) = record p { stop_sending = p.stop_sending ++ f ∷ [] }
+noted p (frames.MaxData limit) = record p { max_data = true }
+noted p (frames.MaxStreamData id limit) = record p { max_stream_data = with_id p.max_stream_data id true }
+noted p (frames.MaxStreams Bi count) = record p { max_streams_bi = true }
+noted p (frames.MaxStreams Uni count) = record p { max_streams_uni = true }
+noted p (frames.DataBlocked limit) = record p { data_blocked = true }
+noted p (frames.StreamDataBlocked id limit) = record p { stream_data_blocked = with_id p.stream_data_blocked id true }
+noted p _ = p
+
+-- what was noted so far
+abbrev pub noted_in : ThinRetransmits → Pending
+noted_in t = unwrap_or (shown_if t) nothing
+
+-- a set without an id
+abbrev pub without_id : (ℕ → Bool) → ℕ → ℕ → Bool
+without_id ids id = λ q. ids q && not (q == id)
+
+-- the last of a list, if there is one
+abbrev pub IsLastOf : {T : Type 0} → List T → Option T → Type 0
+IsLastOf xs None = xs ≡ []
+IsLastOf {T} xs (Some x) = (front : List T) × (xs ≡ front ++ x ∷ [])
+
+-- some id of a set, if there is one
+abbrev pub IsSomeOf : (ℕ → Bool) → Option ℕ → Type 0
+IsSomeOf ids None = (q : ℕ) → ids q ≡ false
+IsSomeOf ids (Some id) = ids id ≡ true

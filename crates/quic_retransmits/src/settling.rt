@@ -1,0 +1,115 @@
+//! What leaves what is pending when it is written, and what is noted of it.
+
+ghost use Rattle.std.specs.Prelude.{◌≡◌, ◌∷◌, ◌++◌, [], ℕ, List, OnOk, OnErr};
+ghost use Rattle.quic_retransmits.specs.Pending.{shown_pending, shown_if};
+ghost use Rattle.quic_retransmits.specs.Settling.{noted, noted_in, without_id, IsLastOf, IsSomeOf};
+
+use crate::retransmits::{Retransmits, ThinRetransmits};
+use quic_values::{Dir, OutOfMemory, StreamId, VarInt};
+use quic_wire::Frame;
+use quic_wire::frame::StopSending;
+
+impl Retransmits {
+    // Notes a frame that is sent. A refusal changes nothing.
+    pub(crate) fn note(&mut self, frame: &Frame) -> Result<(), OutOfMemory>
+        ensures ok { OnOk result (shown_pending self.new ≡ noted (shown_pending self.old) frame.now) }
+        ensures err { OnErr result (shown_pending self.new ≡ shown_pending self.old) }
+    {
+        match frame {
+            Frame::ResetStream(frame) => {
+                self.reset_stream.push((frame.id, frame.error_code))?;
+            }
+            Frame::StopSending(frame) => self.stop_sending.push(*frame)?,
+            Frame::MaxData(_) => self.max_data = true,
+            Frame::MaxStreamData { id, .. } => {
+                self.reserve_window(*id)?;
+                self.queue_window(*id, true);
+            }
+            Frame::MaxStreams { dir: Dir::Bi, .. } => self.max_stream_id[0] = true,
+            Frame::MaxStreams { dir: Dir::Uni, .. } => self.max_stream_id[1] = true,
+            Frame::DataBlocked { .. } => self.data_blocked = true,
+            Frame::StreamDataBlocked { id, .. } => {
+                self.reserve_stream_blocked(*id)?;
+                self.queue_stream_blocked(*id, true);
+            }
+            _ => {}
+        }
+        Ok(())
+    }
+
+    /// The RESET_STREAM that is written next, the last one that was queued: the stream, and why it is given up.
+    pub fn next_reset(&self) -> Option<(StreamId, VarInt)>
+        ensures { IsLastOf (shown_pending self.now).reset_stream result }
+    {
+        match self.reset_stream.last() {
+            Some(last) => Some(*last),
+            None => None,
+        }
+    }
+
+    /// That RESET_STREAM leaves what is pending.
+    pub fn settle_reset(&mut self)
+        ensures settled { (id code : ℕ) (front : List (ℕ × ℕ)) → (shown_pending self.old).reset_stream ≡ front ++ (id, code) ∷ [] → shown_pending self.new ≡ record (shown_pending self.old) { reset_stream = front } }
+    {
+        let _ = self.reset_stream.pop();
+    }
+
+    /// The STOP_SENDING that is written next, the last one that was queued.
+    pub fn next_stop(&self) -> Option<StopSending>
+        ensures { IsLastOf (shown_pending self.now).stop_sending result }
+    {
+        self.stop_sending.last().copied()
+    }
+
+    /// That STOP_SENDING leaves what is pending.
+    pub fn settle_stop(&mut self)
+        ensures settled { (frame : StopSending) (front : List StopSending) → (shown_pending self.old).stop_sending ≡ front ++ frame ∷ [] → shown_pending self.new ≡ record (shown_pending self.old) { stop_sending = front } }
+    {
+        let _ = self.stop_sending.pop();
+    }
+
+    /// A stream for which MAX_STREAM_DATA is pending.
+    pub fn next_window(&self) -> Option<StreamId>
+        ensures { IsSomeOf (shown_pending self.now).max_stream_data result }
+    {
+        self.max_stream_data.iter().next().copied()
+    }
+
+    /// The MAX_STREAM_DATA of a stream leaves what is pending.
+    pub fn settle_window(&mut self, id: StreamId)
+        ensures settled { shown_pending self.new ≡ record (shown_pending self.old) { max_stream_data = without_id (shown_pending self.old).max_stream_data id } }
+    {
+        let _ = self.max_stream_data.remove(&id);
+    }
+
+    /// A stream for which STREAM_DATA_BLOCKED is pending.
+    pub fn next_stream_blocked(&self) -> Option<StreamId>
+        ensures { IsSomeOf (shown_pending self.now).stream_data_blocked result }
+    {
+        self.stream_data_blocked.iter().next().copied()
+    }
+
+    /// The STREAM_DATA_BLOCKED of a stream leaves what is pending.
+    pub fn settle_stream_blocked(&mut self, id: StreamId)
+        ensures settled { shown_pending self.new ≡ record (shown_pending self.old) { stream_data_blocked = without_id (shown_pending self.old).stream_data_blocked id } }
+    {
+        let _ = self.stream_data_blocked.remove(&id);
+    }
+}
+
+impl ThinRetransmits {
+    /// Notes a frame that is sent, so that it can be sent again where it is lost (RFC 9000 section 13.3). Takes memory
+    /// where nothing was noted before, and for a further stream. A refusal changes nothing.
+    pub fn note(&mut self, frame: &Frame) -> Result<(), OutOfMemory>
+        ensures ok { OnOk result (noted_in self.new ≡ noted (noted_in self.old) frame.now) }
+        ensures err { OnErr result (shown_if self.new ≡ shown_if self.old) }
+    {
+        if let Some(retransmits) = &mut self.retransmits {
+            return retransmits.note(frame);
+        }
+        let mut first = Retransmits::new(self.alloc);
+        first.note(frame)?;
+        self.retransmits = Some(Box::new(self.alloc, first)?);
+        Ok(())
+    }
+}
