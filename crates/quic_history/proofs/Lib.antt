@@ -1,6 +1,7 @@
 pub mod SentHistory
 pub mod Batches
 pub mod Beginnings
+pub mod ControlSteps
 pub mod Credits
 pub mod Endings
 pub mod FirstStreams

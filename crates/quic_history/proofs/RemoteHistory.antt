@@ -20,9 +20,10 @@ use Rattle.quic_retransmits.specs.Pending.{Pending}
 use Rattle.quic_history.specs.World.{World, id_refusal, remote_of, with_receive, with_credit, with_receive_window, advanced, noticed, with_freed}
 use Rattle.quic_history.specs.Receiving.{Receives, ReceivesReset, after_reset, credited_to}
 use Rattle.quic_history.specs.Reading.{Begins, ReadsHalf, Stops, TellsReset, after_stop}
-use Rattle.quic_history.specs.History.{Event, Received, ReceivedReset, AddedCredits, Began, Gave, Ended, Stopped, ToldReset, Resized, SetConcurrent, Accepted, Sending, Step, Trace, HalfFrom, untouched, trace, is_closed, is_kept, with_read, with_count_set, Facts}
+use Rattle.quic_history.specs.History.{Event, Received, ReceivedReset, AddedCredits, Began, Gave, Ended, Stopped, ToldReset, Resized, SetConcurrent, Accepted, Settled, Sending, Step, Trace, HalfFrom, untouched, trace, is_closed, is_kept, with_read, with_count_set, Facts}
 use Rattle.quic_limits.specs.Remote.{one_accepted}
 use Rattle.quic_history.specs.Permitting.{after_concurrent, with_accepted, with_count_of}
+use Rattle.quic_history.proofs.ControlSteps.{announces, remotes-settled}
 use Rattle.quic_history.proofs.SendSteps.{remotes-sending}
 use Rattle.quic_history.proofs.Permits.{remotes-concurrent, one-accepted}
 use Rattle.quic_history.proofs.WorldSteps.{refusal-advanced}
@@ -339,4 +340,5 @@ kept-remotes window at_once h u (SetConcurrent dir count (Err k)) v f x s = remo
 kept-remotes window at_once h u (Accepted dir answer) v f x s = let b : Dir → ℕ = λ d. (remote_of u d).max_remote in
     remotes_at at_once b (trace h) v (with_accepted u dir) s.0
     (remotes-idle at_once b (trace h) (trace h) u (with_accepted u dir) (λ q. refl) (remotes-remote u dir (one_accepted (remote_of u dir)) (one-accepted (remote_of u dir))) x)
+kept-remotes window at_once h u (Settled kind frame) v f x s = remotes-settled at_once (λ d. (remote_of u d).max_remote) (trace h) u v (announces kind u s.0 frame v s.1 s.2) x
 kept-remotes window at_once h u (Sending e) v f x s = remotes-sending at_once (λ d. (remote_of u d).max_remote) (trace h) u e v x s

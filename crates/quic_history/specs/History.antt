@@ -31,6 +31,8 @@ use Rattle.quic_history.specs.World.{World, Made, count_of, start, id_refusal, r
 use Rattle.quic_outgoing.specs.History.{count_in, given_for}
 use Rattle.quic_history.specs.SendTotals.{SendTotals, send_totals, own_total}
 use Rattle.quic_history.specs.SendEvents.{SendEvent, SendStep, GaveLimits, RaisedData, RaisedCount, OpenedOwn, WroteOwn}
+use Rattle.quic_history.specs.Control.{ControlKind, Settles}
+use Rattle.quic_wire.specs.declared.frame.Frame.{Frame}
 use Rattle.quic_history.specs.Permitting.{SetsConcurrent, with_accepted, acceptable, with_count_of}
 use Rattle.quic_history.specs.Receiving.{Receives, ReceivesReset}
 use Rattle.quic_history.specs.Reading.{Begins, ReadsHalf, Stops, TellsReset, bytes_in}
@@ -59,6 +61,8 @@ pub data Event : Type 0 where
   SetConcurrent : (dir : Dir) → (count : ℕ) → (answer : Result (Unit {0}) OutOfMemory) → Event
   -- the next stream that the peer opened was asked for
   Accepted : (dir : Dir) → (answer : Option ℕ) → Event
+  -- an entry of what is pending was written as a frame, or dropped
+  Settled : (kind : ControlKind) → (frame : Option Frame) → Event
   -- a call on the sending side
   Sending : SendEvent → Event
 
@@ -99,6 +103,7 @@ Step u (ToldReset id answer) v = (p : Pending) × (q : Pending) × TellsReset u 
 Step u (Resized window answer) v = (v ≡ with_receive_window u window) × (answer ≡ nat_lt u.credit.receive_window window)
 Step u (SetConcurrent dir count answer) v = SetsConcurrent u dir count answer v
 Step u (Accepted dir answer) v = (v ≡ with_accepted u dir) × (answer ≡ acceptable u dir)
+Step u (Settled kind frame) v = (p : Pending) × (q : Pending) × Settles kind u p frame v q
 Step u (Sending e) v = SendStep u e v
 
 -- how many bytes the reader gave that was opened last, and is not ended

@@ -1,5 +1,6 @@
 pub mod Halves
 pub mod World
+pub mod Control
 pub mod SendTotals
 pub mod Receiving
 pub mod Reading
