@@ -7,6 +7,9 @@ use Rattle.quic_values.specs.declared.ids.Dir.TheVariants.{Bi, Uni}
 use Rattle.quic_wire.specs.declared.frame.Frame.{Frame}
 use Rattle.quic_wire.specs.declared.frame.Frame.TheVariants as frames
 use Rattle.quic_wire.specs.declared.frame.StopSending.{StopSending}
+use Rattle.quic_wire.specs.declared.frame.TheConstants.ResetStream as reset_stream
+use Rattle.quic_wire.specs.declared.frame.TheConstants.StopSending as stop_sending
+use Rattle.quic_wire.specs.declared.frame.TheConstants.Frame as frame
 use Rattle.quic_limits.specs.Credit.{max_data_of, announced}
 use Rattle.quic_limits.specs.Remote.{streams_announced}
 use Rattle.quic_limits.specs.SendingCredit.{is_blocked_reported}
@@ -14,36 +17,28 @@ use Rattle.quic_sending.specs.declared.send.Send.{Send}
 use Rattle.quic_receiving.specs.Half.{Half, is_open, window_end}
 use Rattle.quic_outgoing.specs.Calls.{blocked_limit}
 use Rattle.quic_retransmits.specs.Pending.{Pending}
-use Rattle.quic_retransmits.specs.Settling.{without_id}
-use Rattle.quic_history.specs.World.{World, remote_of, with_remote, with_receive}
-
--- the kinds of pending frames, in the order in which they are written
-pub data ControlKind : Type 0 where
-  ResetKind : ControlKind
-  StopKind : ControlKind
-  MaxDataKind : ControlKind
-  WindowKind : ControlKind
-  MaxStreamsKind : (dir : Dir) → ControlKind
-  DataBlockedKind : ControlKind
-  StreamBlockedKind : ControlKind
+use Rattle.quic_retransmits.specs.Settling.{without_id, max_streams_in, without_max_streams}
+use Rattle.quic_history.specs.declared.control.ControlKind.{ControlKind}
+use Rattle.quic_history.specs.declared.control.ControlKind.TheVariants as kinds
+use Rattle.quic_history.specs.Halves.{Halves, with_half}
+use Rattle.quic_history.specs.World.{World, remote_of, with_remote}
 
 -- a stream that was given up ends at what was written; a half that was freed needs no frame
 abbrev pub reset_frame : ℕ → ℕ → Option Send → Option Frame
-reset_frame id code None = None
-reset_frame id code (Some s) = Some (frames.ResetStream (record { id = id; error_code = code; final_offset = s.pending.offset }))
+reset_frame id code o = option_map (λ (s : Send). frames.ResetStream (record { id = id; error_code = code; final_offset = s.pending.offset })) o
 
--- the limit of a stream is announced where more data may come and are wanted
+-- the limit of a stream that is announced, where more data may come and are wanted
+abbrev pub announced_end : ℕ → Option Half → Option ℕ
+announced_end window None = None
+announced_end window (Some h) = if is_open h then Some (window_end h window) else None
+
 abbrev pub window_frame : ℕ → ℕ → Option Half → Option Frame
-window_frame window id None = None
-window_frame window id (Some h) = if is_open h then Some (frames.MaxStreamData id (window_end h window)) else None
+window_frame window id o = option_map (frames.MaxStreamData id) (announced_end window o)
 
--- a half of which such a limit was announced
-abbrev pub with_announced_end : ℕ → Half → Half
-with_announced_end window h = if is_open h then record h { sent_max = max h.sent_max (window_end h window) } else h
-
-abbrev pub after_window_frame : World → ℕ → Option Half → World
-after_window_frame u id None = u
-after_window_frame u id (Some h) = with_receive u id (Some (with_announced_end u.window h))
+-- the halves once it was
+abbrev pub after_announced : Halves → ℕ → ℕ → Option Half → Halves
+after_announced f window id None = f
+after_announced f window id (Some h) = if is_open h then with_half f id (Some (record h { sent_max = max h.sent_max (window_end h window) })) else f
 
 -- DATA_BLOCKED is of use while the limit is held for which it was queued
 abbrev pub data_blocked_frame : World → Option Frame
@@ -85,16 +80,7 @@ pub record SettlesWindow (u : World) (p : Pending) (o : Option Frame) (v : World
   pub queued : p.max_stream_data id ≡ true
   pub left : q ≡ record p { max_stream_data = without_id p.max_stream_data id }
   pub frame : o ≡ window_frame u.window id (u.receive id)
-  pub end : v ≡ after_window_frame u id (u.receive id)
-
--- whether MAX_STREAMS of a direction is pending
-abbrev pub max_streams_in : Pending → Dir → Bool
-max_streams_in p Bi = p.max_streams_bi
-max_streams_in p Uni = p.max_streams_uni
-
-abbrev pub without_max_streams : Pending → Dir → Pending
-without_max_streams p Bi = record p { max_streams_bi = false }
-without_max_streams p Uni = record p { max_streams_uni = false }
+  pub end : v ≡ record u { receive = after_announced u.receive u.window id (u.receive id) }
 
 -- MAX_STREAMS of a direction does, with the count that is enforced, and that count was announced
 pub record SettlesMaxStreams (d : Dir) (u : World) (p : Pending) (o : Option Frame) (v : World) (q : Pending) : Type 0 where
@@ -118,22 +104,32 @@ pub record SettlesStreamBlocked (u : World) (p : Pending) (o : Option Frame) (v 
   pub frame : o ≡ stream_blocked_frame id (u.out.halves id)
   pub end : v ≡ u
 
+-- how many bytes a frame of a kind takes at most
+abbrev pub kind_bound : ControlKind → ℕ
+kind_bound kinds.ResetStream = reset_stream.SIZE_BOUND
+kind_bound kinds.StopSending = stop_sending.SIZE_BOUND
+kind_bound kinds.MaxData = frame.MAX_DATA_SIZE_BOUND
+kind_bound kinds.MaxStreamData = frame.MAX_STREAM_DATA_SIZE_BOUND
+kind_bound (kinds.MaxStreams d) = frame.MAX_STREAMS_SIZE_BOUND
+kind_bound kinds.DataBlocked = frame.DATA_BLOCKED_SIZE_BOUND
+kind_bound kinds.StreamDataBlocked = frame.STREAM_DATA_BLOCKED_SIZE_BOUND
+
 -- one entry of a kind leaves what is pending: it is written as a frame, or dropped where it is of no use
 abbrev pub Settles : ControlKind → World → Pending → Option Frame → World → Pending → Type 0
-Settles ResetKind u p o v q = SettlesReset u p o v q
-Settles StopKind u p o v q = SettlesStop u p o v q
-Settles MaxDataKind u p o v q = SettlesMaxData u p o v q
-Settles WindowKind u p o v q = SettlesWindow u p o v q
-Settles (MaxStreamsKind d) u p o v q = SettlesMaxStreams d u p o v q
-Settles DataBlockedKind u p o v q = SettlesDataBlocked u p o v q
-Settles StreamBlockedKind u p o v q = SettlesStreamBlocked u p o v q
+Settles kinds.ResetStream u p o v q = SettlesReset u p o v q
+Settles kinds.StopSending u p o v q = SettlesStop u p o v q
+Settles kinds.MaxData u p o v q = SettlesMaxData u p o v q
+Settles kinds.MaxStreamData u p o v q = SettlesWindow u p o v q
+Settles (kinds.MaxStreams d) u p o v q = SettlesMaxStreams d u p o v q
+Settles kinds.DataBlocked u p o v q = SettlesDataBlocked u p o v q
+Settles kinds.StreamDataBlocked u p o v q = SettlesStreamBlocked u p o v q
 
 -- nothing of a kind is pending
 abbrev pub HasNoneOf : ControlKind → Pending → Type 0
-HasNoneOf ResetKind p = p.reset_stream ≡ []
-HasNoneOf StopKind p = p.stop_sending ≡ []
-HasNoneOf MaxDataKind p = p.max_data ≡ false
-HasNoneOf WindowKind p = (id : ℕ) → p.max_stream_data id ≡ false
-HasNoneOf (MaxStreamsKind d) p = max_streams_in p d ≡ false
-HasNoneOf DataBlockedKind p = p.data_blocked ≡ false
-HasNoneOf StreamBlockedKind p = (id : ℕ) → p.stream_data_blocked id ≡ false
+HasNoneOf kinds.ResetStream p = p.reset_stream ≡ []
+HasNoneOf kinds.StopSending p = p.stop_sending ≡ []
+HasNoneOf kinds.MaxData p = p.max_data ≡ false
+HasNoneOf kinds.MaxStreamData p = (id : ℕ) → p.max_stream_data id ≡ false
+HasNoneOf (kinds.MaxStreams d) p = max_streams_in p d ≡ false
+HasNoneOf kinds.DataBlocked p = p.data_blocked ≡ false
+HasNoneOf kinds.StreamDataBlocked p = (id : ℕ) → p.stream_data_blocked id ≡ false

@@ -31,7 +31,8 @@ use Rattle.quic_history.specs.World.{World, Made, count_of, start, id_refusal, r
 use Rattle.quic_outgoing.specs.History.{count_in, given_for}
 use Rattle.quic_history.specs.SendTotals.{SendTotals, send_totals, own_total}
 use Rattle.quic_history.specs.SendEvents.{SendEvent, SendStep, GaveLimits, RaisedData, RaisedCount, OpenedOwn, WroteOwn}
-use Rattle.quic_history.specs.Control.{ControlKind, Settles}
+use Rattle.quic_history.specs.declared.control.ControlKind.{ControlKind}
+use Rattle.quic_history.specs.Control.{Settles}
 use Rattle.quic_wire.specs.declared.frame.Frame.{Frame}
 use Rattle.quic_history.specs.Permitting.{SetsConcurrent, with_accepted, acceptable, with_count_of}
 use Rattle.quic_history.specs.Receiving.{Receives, ReceivesReset}

@@ -235,6 +235,17 @@ impl SendEntries {
         }
     }
 
+    /// How many bytes were written on a stream, if its half is held.
+    pub(crate) fn final_size(&self, id: StreamId) -> Option<VarInt>
+        ensures { result ≡ option_map (λ (s : Send). s.pending.offset) (senders self.now id) }
+    {
+        match self.entries.get(&id) {
+            None => None,
+            Some(None) => Some(VarInt::from(0u32)),
+            Some(Some(half)) => Some(VarInt::new(half.offset())),
+        }
+    }
+
     /// Whether new data may be written on a stream, as far as it knows itself.
     pub(crate) fn can_take(&self, id: StreamId) -> bool
         ensures { result ≡ can_take (senders self.now id) }

@@ -212,4 +212,11 @@ impl OutgoingStreams {
     {
         self.budget.is_blocked()
     }
+
+    /// How many bytes the peer permits on all streams together.
+    pub fn max_data(&self) -> VarInt
+        ensures { result ≡ (view_of self.now).budget.max_data }
+    {
+        VarInt::new(self.budget.max_data())
+    }
 }

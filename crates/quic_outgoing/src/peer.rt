@@ -1,6 +1,7 @@
 //! What the peer says of streams on which this end sends.
 
 ghost use Rattle.std.specs.Prelude.{◌≡◌, ◌≤◌, ◌<◌, is_some, true, vec_len};
+ghost use Rattle.std.specs.Option.{option_map};
 ghost use Rattle.std.specs.Vec.{vec_capacity};
 ghost use Rattle.quic_outgoing.specs.Senders.{bare, first_limit};
 ghost use Rattle.quic_outgoing.specs.Outgoing.{with_send_half, waiting};
@@ -45,6 +46,14 @@ impl OutgoingStreams {
         ensures { result ≡ blocked_limit ((view_of self.now).halves id) }
     {
         self.halves.blocked_limit(id)
+    }
+
+    /// How many bytes were written on a stream, if its half is held: its final size once nothing more is written (RFC 9000
+    /// section 4.5).
+    pub fn final_size(&self, id: StreamId) -> Option<VarInt>
+        ensures { result ≡ option_map (λ (s : Send). s.pending.offset) ((view_of self.now).halves id) }
+    {
+        self.halves.final_size(id)
     }
 
     /// The peer sent MAX_STREAM_DATA for a stream (RFC 9000 section 19.10). Answers whether the application is to be told

@@ -1,8 +1,8 @@
 //! What leaves what is pending when it is written, and what is noted of it.
 
-ghost use Rattle.std.specs.Prelude.{◌≡◌, ◌∷◌, ◌++◌, [], ℕ, List, OnOk, OnErr};
+ghost use Rattle.std.specs.Prelude.{◌≡◌, ◌∷◌, ◌++◌, ◌<◌, [], ℕ, List, true, false, OnOk, OnErr};
 ghost use Rattle.quic_retransmits.specs.Pending.{shown_pending, shown_if};
-ghost use Rattle.quic_retransmits.specs.Settling.{noted, noted_in, without_id, IsLastOf, IsSomeOf};
+ghost use Rattle.quic_retransmits.specs.Settling.{noted, noted_in, without_id, IsLastOf, IsSomeOf, entry_count, max_streams_in, without_max_streams};
 
 use crate::retransmits::{Retransmits, ThinRetransmits};
 use quic_values::{Dir, OutOfMemory, StreamId, VarInt};
@@ -50,6 +50,7 @@ impl Retransmits {
     /// That RESET_STREAM leaves what is pending.
     pub fn settle_reset(&mut self)
         ensures settled { (id code : ℕ) (front : List (ℕ × ℕ)) → (shown_pending self.old).reset_stream ≡ front ++ (id, code) ∷ [] → shown_pending self.new ≡ record (shown_pending self.old) { reset_stream = front } }
+        ensures fewer { (id code : ℕ) (front : List (ℕ × ℕ)) → (shown_pending self.old).reset_stream ≡ front ++ (id, code) ∷ [] → entry_count self.new < entry_count self.old }
     {
         let _ = self.reset_stream.pop();
     }
@@ -64,6 +65,7 @@ impl Retransmits {
     /// That STOP_SENDING leaves what is pending.
     pub fn settle_stop(&mut self)
         ensures settled { (frame : StopSending) (front : List StopSending) → (shown_pending self.old).stop_sending ≡ front ++ frame ∷ [] → shown_pending self.new ≡ record (shown_pending self.old) { stop_sending = front } }
+        ensures fewer { (frame : StopSending) (front : List StopSending) → (shown_pending self.old).stop_sending ≡ front ++ frame ∷ [] → entry_count self.new < entry_count self.old }
     {
         let _ = self.stop_sending.pop();
     }
@@ -78,6 +80,7 @@ impl Retransmits {
     /// The MAX_STREAM_DATA of a stream leaves what is pending.
     pub fn settle_window(&mut self, id: StreamId)
         ensures settled { shown_pending self.new ≡ record (shown_pending self.old) { max_stream_data = without_id (shown_pending self.old).max_stream_data id } }
+        ensures fewer { (shown_pending self.old).max_stream_data id ≡ true → entry_count self.new < entry_count self.old }
     {
         let _ = self.max_stream_data.remove(&id);
     }
@@ -92,8 +95,46 @@ impl Retransmits {
     /// The STREAM_DATA_BLOCKED of a stream leaves what is pending.
     pub fn settle_stream_blocked(&mut self, id: StreamId)
         ensures settled { shown_pending self.new ≡ record (shown_pending self.old) { stream_data_blocked = without_id (shown_pending self.old).stream_data_blocked id } }
+        ensures fewer { (shown_pending self.old).stream_data_blocked id ≡ true → entry_count self.new < entry_count self.old }
     {
         let _ = self.stream_data_blocked.remove(&id);
+    }
+
+    /// MAX_DATA leaves what is pending.
+    pub fn settle_max_data(&mut self)
+        ensures settled { shown_pending self.new ≡ record (shown_pending self.old) { max_data = false } }
+        ensures fewer { (shown_pending self.old).max_data ≡ true → entry_count self.new < entry_count self.old }
+    {
+        self.max_data = false;
+    }
+
+    /// DATA_BLOCKED leaves what is pending.
+    pub fn settle_data_blocked(&mut self)
+        ensures settled { shown_pending self.new ≡ record (shown_pending self.old) { data_blocked = false } }
+        ensures fewer { (shown_pending self.old).data_blocked ≡ true → entry_count self.new < entry_count self.old }
+    {
+        self.data_blocked = false;
+    }
+
+    /// Whether MAX_STREAMS of a direction is pending.
+    pub fn has_max_streams(&self, dir: Dir) -> bool
+        ensures { result ≡ max_streams_in (shown_pending self.now) dir }
+    {
+        match dir {
+            Dir::Bi => self.max_stream_id[0],
+            Dir::Uni => self.max_stream_id[1],
+        }
+    }
+
+    /// MAX_STREAMS of a direction leaves what is pending.
+    pub fn settle_max_streams(&mut self, dir: Dir)
+        ensures settled { shown_pending self.new ≡ without_max_streams (shown_pending self.old) dir }
+        ensures fewer { max_streams_in (shown_pending self.old) dir ≡ true → entry_count self.new < entry_count self.old }
+    {
+        match dir {
+            Dir::Bi => self.max_stream_id[0] = false,
+            Dir::Uni => self.max_stream_id[1] = false,
+        }
     }
 }
 

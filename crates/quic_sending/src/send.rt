@@ -183,7 +183,8 @@ impl Send {
     /// The offset at which the next write begins.
     #[inline]
     pub fn offset(&self) -> u64
-        ensures { result ≡ self.now.pending.offset }
+        ensures offset { result ≡ self.now.pending.offset }
+        ensures small { result < 2 ^ 62 }
     {
         self.pending.offset()
     }

@@ -77,7 +77,8 @@ impl SendBuffer {
     /// The offset at which the next write begins.
     #[inline]
     pub fn offset(&self) -> u64
-        ensures { result ≡ self.now.offset }
+        ensures offset { result ≡ self.now.offset }
+        ensures small { result < 2 ^ 62 }
     {
         self.pieces.end()
     }
