@@ -13,7 +13,7 @@ use Rattle.quic_history.specs.World.{World, id_refusal, remote_of, with_remote, 
 use Rattle.quic_history.specs.History.{Event, Settled, Trace, HalfFrom, StreamFrom, CreditFrom, Facts, Goes, trace, consumed, last_window, debt, received}
 use Rattle.quic_history.specs.declared.control.ControlKind.{ControlKind}
 use Rattle.quic_history.specs.declared.control.ControlKind.TheVariants as kinds
-use Rattle.quic_history.specs.Control.{Settles, after_announced}
+use Rattle.quic_history.specs.Control.{Settles, after_announced, with_announced}
 use Rattle.quic_history.proofs.Credits.{credit-same}
 use Rattle.quic_history.proofs.Refusals.{refusal-same}
 use Rattle.quic_history.proofs.Remotes.{AllRemotes, SameLimits, remotes-idle, limits-refl}
@@ -68,25 +68,25 @@ announces_streams u Uni = record {
     both Bi = limits-refl u.bi
     both Uni = record { max = refl; allocated = refl; concurrent = refl }
 
--- a half of which a limit was announced
-abbrev told_end : ℕ → Half → Half
-told_end window h = record h { sent_max = max h.sent_max (window_end h window) }
+-- the facts of a half do not speak of what was announced
+half_announced : (t : Trace) (window : ℕ) (h : Half) → HalfFrom t h → HalfFrom t (with_announced window h)
+half_announced t window h k = by_test (is_open h)
+  where
+    by_test : (b : Bool) → HalfFrom t (if b then record h { sent_max = max h.sent_max (window_end h window) } else h)
+    by_test true = record { high = k.high; read = k.read; sized = k.sized; stopped = k.stopped; reset = k.reset; there = k.there; final = k.final; within = k.within; holds = k.holds }
+    by_test false = k
 
--- its facts do not speak of that
-half_announced : (t : Trace) (window : ℕ) (h : Half) → HalfFrom t h → HalfFrom t (told_end window h)
-half_announced t window h k = record { high = k.high; read = k.read; sized = k.sized; stopped = k.stopped; reset = k.reset; there = k.there; final = k.final; within = k.within; holds = k.holds }
-
-stream_announced : (t : Trace) (r : Option ℕ) (window : ℕ) (h : Half) → StreamFrom t r (Some h) → StreamFrom t r (Some (told_end window h))
+stream_announced : (t : Trace) (r : Option ℕ) (window : ℕ) (h : Half) → StreamFrom t r (Some h) → StreamFrom t r (Some (with_announced window h))
 stream_announced t None window h k = half_announced t window h k
 stream_announced t (Some error) window h k = absurd k
 
-announced_at : (t : Trace) (r r' : Option ℕ) (window : ℕ) (o o' : Option Half) (h : Half) → r' ≡ r → o ≡ Some h → o' ≡ Some (told_end window h) → StreamFrom t r o → StreamFrom t r' o'
+announced_at : (t : Trace) (r r' : Option ℕ) (window : ℕ) (o o' : Option Half) (h : Half) → r' ≡ r → o ≡ Some h → o' ≡ Some (with_announced window h) → StreamFrom t r o → StreamFrom t r' o'
 announced_at t r r' window o o' h e k l s = let there : StreamFrom t r (Some h) = rw k at s in rw (e, l) (stream_announced t r window h there)
 
 kept_at : (t : Trace) (r r' : Option ℕ) (o o' : Option Half) → r' ≡ r → o' ≡ o → StreamFrom t r o → StreamFrom t r' o'
 kept_at t r r' o o' e l s = rw (e, l) s
 
-announces_half : (u : World) (id : ℕ) (h : Half) → u.receive id ≡ Some h → Announces u (record u { receive = with_half u.receive id (Some (told_end u.window h)) })
+announces_half : (u : World) (id : ℕ) (h : Half) → u.receive id ≡ Some h → Announces u (record u { receive = with_half u.receive id (Some (with_announced u.window h)) })
 unfolding with_half
 announces_half u id h e = record {
   out = refl; window = refl; credit_window = refl; credit_limit = refl; credit_came = refl; credit_debt = refl;
@@ -97,7 +97,7 @@ announces_half u id h e = record {
 }
   where
     v : World
-    v = record u { receive = with_half u.receive id (Some (told_end u.window h)) }
+    v = record u { receive = with_half u.receive id (Some (with_announced u.window h)) }
 
     both : (d : Dir) → SameLimits (remote_of u d) (remote_of v d)
     both Bi = limits-refl u.bi
@@ -105,11 +105,7 @@ announces_half u id h e = record {
 
 announces_window : (u : World) (id : ℕ) (o : Option Half) → u.receive id ≡ o → Announces u (record u { receive = after_announced u.receive u.window id o })
 announces_window u id None e = announces_none u
-announces_window u id (Some h) e = by_test (is_open h)
-  where
-    by_test : (b : Bool) → Announces u (record u { receive = if b then with_half u.receive id (Some (told_end u.window h)) else u.receive })
-    by_test true = announces_half u id h e
-    by_test false = announces_none u
+announces_window u id (Some h) e = announces_half u id h e
 
 pub announces : (k : ControlKind) (u : World) (p : Pending) (o : Option Frame) (v : World) (q : Pending) → Settles k u p o v q → Announces u v
 announces kinds.ResetStream u p o v q s = announces_at u v u s.end (announces_none u)

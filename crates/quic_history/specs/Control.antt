@@ -7,6 +7,7 @@ use Rattle.quic_values.specs.declared.ids.Dir.TheVariants.{Bi, Uni}
 use Rattle.quic_wire.specs.declared.frame.Frame.{Frame}
 use Rattle.quic_wire.specs.declared.frame.Frame.TheVariants as frames
 use Rattle.quic_wire.specs.declared.frame.StopSending.{StopSending}
+use Rattle.quic_wire.specs.Text.{CanEncode, size_bound}
 use Rattle.quic_wire.specs.declared.frame.TheConstants.ResetStream as reset_stream
 use Rattle.quic_wire.specs.declared.frame.TheConstants.StopSending as stop_sending
 use Rattle.quic_wire.specs.declared.frame.TheConstants.Frame as frame
@@ -35,10 +36,13 @@ announced_end window (Some h) = if is_open h then Some (window_end h window) els
 abbrev pub window_frame : ℕ → ℕ → Option Half → Option Frame
 window_frame window id o = option_map (frames.MaxStreamData id) (announced_end window o)
 
--- the halves once it was
+-- a half once it was
+abbrev pub with_announced : ℕ → Half → Half
+with_announced window h = if is_open h then record h { sent_max = max h.sent_max (window_end h window) } else h
+
 abbrev pub after_announced : Halves → ℕ → ℕ → Option Half → Halves
 after_announced f window id None = f
-after_announced f window id (Some h) = if is_open h then with_half f id (Some (record h { sent_max = max h.sent_max (window_end h window) })) else f
+after_announced f window id (Some h) = with_half f id (Some (with_announced window h))
 
 -- DATA_BLOCKED is of use while the limit is held for which it was queued
 abbrev pub data_blocked_frame : World → Option Frame
@@ -113,6 +117,11 @@ kind_bound kinds.MaxStreamData = frame.MAX_STREAM_DATA_SIZE_BOUND
 kind_bound (kinds.MaxStreams d) = frame.MAX_STREAMS_SIZE_BOUND
 kind_bound kinds.DataBlocked = frame.DATA_BLOCKED_SIZE_BOUND
 kind_bound kinds.StreamDataBlocked = frame.STREAM_DATA_BLOCKED_SIZE_BOUND
+
+-- a frame that can be written, and takes no more than its kind
+pub record IsOfKind (k : ControlKind) (f : Frame) : Type 0 where
+  pub can : CanEncode f
+  pub bound : size_bound f ≡ kind_bound k
 
 -- one entry of a kind leaves what is pending: it is written as a frame, or dropped where it is of no use
 abbrev pub Settles : ControlKind → World → Pending → Option Frame → World → Pending → Type 0

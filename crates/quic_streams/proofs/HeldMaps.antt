@@ -6,6 +6,7 @@ use Rattle.std.specs.Option.{option_map}
 use Rattle.quic_receiving.specs.Half.{Half}
 use Rattle.quic_retransmits.proofs.Sets.{==-comm}
 use Rattle.quic_history.specs.Halves.{Halves, with_half}
+use Rattle.quic_history.specs.Control.{after_announced, with_announced}
 use Rattle.quic_streams.specs.Held.{half_in}
 
 -- entries as halves: an entry without one is a new half
@@ -31,3 +32,7 @@ held-put w g f id v h = λ i. λ q. (ap (entry_half w) (h q) ∙ put-at w (id ==
 pub on_err : {T E P : Type 0} (r : Result T E) → P → OnErr r P
 on_err (Ok x) p = tt
 on_err (Err e) p = p
+
+-- the limit of a half that is held is announced
+pub announced-some : (f : Halves) (id w : ℕ) (h : Half) → f id ≡ Some h → after_announced f w id (f id) ≡ with_half f id (Some (with_announced w h))
+announced-some f id w h e = rw e refl

@@ -1,11 +1,12 @@
 //! The receive halves of a connection's streams.
 
-ghost use Rattle.std.specs.Prelude.{true, ◌≡◌, ◌+◌, ◌<◌, ◌≤◌, ◌^◌, Some, None, IsSome, IfOk, OnOk, OnErr, is_some};
+ghost use Rattle.std.specs.Prelude.{true, ◌≡◌, ◌+◌, ◌<◌, ◌≤◌, ◌^◌, Some, None, IsSome, IfSome, IfOk, OnOk, OnErr, is_some};
 ghost use Rattle.std.specs.Option.{option_map};
 ghost use Rattle.quic_receiving.specs.Half.{new_half};
-ghost use Rattle.quic_streams.specs.Held.{held, room};
+ghost use Rattle.quic_streams.specs.Held.{held, half_in, room};
 ghost use Rattle.quic_history.specs.Halves.{with_half, with_first, with_more, taken, is_due_in, TellsCode};
 ghost use Rattle.quic_history.specs.Permitting.{is_flow_controlled};
+ghost use Rattle.quic_history.specs.Control.{announced_end, after_announced, with_announced};
 
 use quic_receiving::{ClosedStream, Recv};
 use quic_values::{Dir, OutOfMemory, Side, StreamId, VarInt};
@@ -136,6 +137,36 @@ impl ReceiveHalves {
         }
     }
 
+    /// The limit to announce for a stream, where more data may come and are wanted.
+    pub(crate) fn announced_end(&self, id: StreamId) -> Option<u64>
+        ensures limit { result ≡ announced_end self.now.window (held self.now id) }
+        ensures small { IfSome result (λ limit. limit < 2 ^ 62) }
+    {
+        match self.entries.get(&id) {
+            None => None,
+            Some(None) => Some(self.window.into_inner()),
+            Some(Some(half)) => {
+                if half.is_stopped() || !half.final_offset_unknown() {
+                    return None;
+                }
+                Some(half.max_stream_data(self.window.into_inner()).0)
+            }
+        }
+    }
+
+    /// The limit of [`ReceiveHalves::announced_end`], if there is one, was announced.
+    pub(crate) fn announce(&mut self, id: StreamId)
+        ensures held { held self.new ≡ after_announced (held self.old) self.old.window id (held self.old id) }
+        ensures window { self.new.window ≡ self.old.window }
+        ensures room { room self.new ≡ room self.old }
+    {
+        let window = self.window;
+        match self.entries.get_mut(&id) {
+            Some(entry) => announce_on(entry, window),
+            None => {}
+        }
+    }
+
     /// The code of the reset of a stream that is not stopped, if it was reset.
     pub(crate) fn reset_code(&self, id: StreamId) -> Result<Option<VarInt>, ClosedStream>
         ensures { TellsCode (held self.now id) result }
@@ -172,5 +203,19 @@ impl ReceiveHalves {
         ensures room { room self.old ≤ room self.new }
     {
         let _ = self.entries.remove(&id);
+    }
+}
+
+// The limit of a half is announced, where more data may come and are wanted. That of a new half was announced by the
+// transport parameters.
+fn announce_on(entry: &mut Option<Box<Recv>>, window: VarInt)
+    ensures { half_in window entry.new ≡ with_announced window (half_in window entry.old) }
+{
+    if let Some(half) = entry
+        && !half.is_stopped()
+        && half.final_offset_unknown()
+    {
+        let limit = half.max_stream_data(window.into_inner()).0;
+        half.record_sent_max_stream_data(limit);
     }
 }

@@ -2,7 +2,9 @@
 #![tactic(auto)]
 
 pub mod batches;
+mod control;
 pub mod halves;
+mod payload;
 mod permits;
 pub mod reading;
 mod receiving;

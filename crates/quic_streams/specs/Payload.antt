@@ -1,0 +1,83 @@
+-- A payload to which frames beside STREAM are written, and what writing them may do.
+use Rattle.std.specs.Prelude.{◌≡◌, ◌⊎◌, ℕ, ◌+◌, ◌<◌, ◌≤◌, Bool, true, false, List, [], ◌∷◌, ◌++◌, length, Option, Some, None, IfSome, IsErr, Result, Ok, Err}
+use Rattle.quic_values.specs.declared.memory.OutOfMemory.{OutOfMemory}
+use Rattle.quic_values.specs.declared.ids.Dir.TheVariants.{Bi, Uni}
+use Rattle.quic_wire.specs.declared.frame.Frame.{Frame}
+use Rattle.quic_wire.specs.Frames.{BeginsWith}
+use Rattle.quic_wire.specs.Text.{text}
+use Rattle.quic_datagrams.specs.declared.stats.FrameStats.{FrameStats}
+use Rattle.quic_datagrams.specs.Counting.{with_frame}
+use Rattle.quic_retransmits.specs.Pending.{Pending}
+use Rattle.quic_retransmits.specs.Settling.{noted, noted_in}
+use Rattle.quic_history.specs.World.{World}
+use Rattle.quic_history.specs.declared.control.ControlKind.{ControlKind}
+use Rattle.quic_history.specs.declared.control.ControlKind.TheVariants as kinds
+use Rattle.quic_history.specs.Control.{Settles, HasNoneOf, kind_bound}
+use Rattle.quic_streams.specs.declared.payload.ControlPayload.{ControlPayload}
+
+-- bytes: the payload so far
+-- sent: what was noted of its frames
+-- stats: how many frames of each type there were
+pub record Sheet : Type 0 where
+  pub bytes : List ℕ
+  pub sent : Pending
+  pub stats : FrameStats
+
+abbrev pub sheet_of : ControlPayload → Sheet
+sheet_of c = record { bytes = c.bytes.items; sent = noted_in c.sent; stats = c.stats }
+
+-- a frame more: its spelling behind what was there, noted as sent, and counted
+abbrev pub with_written : Sheet → Frame → Sheet
+with_written s f = record { bytes = s.bytes ++ text f; sent = noted s.sent f; stats = with_frame s.stats f }
+
+abbrev pub with_written_if : Sheet → Option Frame → Sheet
+with_written_if s None = s
+with_written_if s (Some f) = with_written s f
+
+-- an end, what it has to send beside STREAM, and a payload
+pub record Place : Type 0 where
+  pub end : World
+  pub pending : Pending
+  pub sheet : Sheet
+
+-- a frame is spelled so that it is read again, and takes no more than this
+pub record FitsIn (bound : ℕ) (f : Frame) : Type 0 where
+  pub spelled : (rest : List ℕ) → BeginsWith (text f ++ rest) f rest
+  pub short : length (text f) ≤ bound
+
+-- one entry of a kind leaves what is pending, and stands in the payload where it is of use
+pub record Turn (k : ControlKind) (a b : Place) : Type 0 where
+  pub frame : Option Frame
+  pub settles : Settles k a.end a.pending frame b.end b.pending
+  pub written : b.sheet ≡ with_written_if a.sheet frame
+  pub fits : IfSome frame (FitsIn (kind_bound k))
+
+-- one entry is tried: there was one, or none, or memory lacked
+abbrev pub Tries : ControlKind → Place → Result Bool OutOfMemory → Place → Type 0
+Tries k a (Ok true) b = Turn k a b
+Tries k a (Ok false) b = HasNoneOf k a.pending × (b ≡ a)
+Tries k a (Err e) b = b ≡ a
+
+-- entries of a kind leave, each where the longest frame of the kind still fits below the maximum
+pub data Turns (k : ControlKind) (most : ℕ) : Place → Place → Type 0 where
+  none : {p : Place} → Turns k most p p
+  more : {p q r : Place} → Turns k most p q → length q.sheet.bytes + kind_bound k < most → Turn k q r → Turns k most p r
+
+-- nothing of a kind is left, or the longest frame of it does not fit
+abbrev pub IsDone : ControlKind → ℕ → Place → Type 0
+IsDone k most p = HasNoneOf k p.pending ⊎ (most ≤ length p.sheet.bytes + kind_bound k)
+
+-- the kinds in the order in which they are written
+abbrev pub control_order : List ControlKind
+control_order = kinds.ResetStream ∷ kinds.StopSending ∷ kinds.MaxData ∷ kinds.MaxStreamData ∷ kinds.MaxStreams Bi ∷ kinds.MaxStreams Uni ∷ kinds.DataBlocked ∷ kinds.StreamDataBlocked ∷ []
+
+-- a kind is done, at a place between
+pub record Finishes (k : ControlKind) (most : ℕ) (a m : Place) : Type 0 where
+  pub turns : Turns k most a m
+  pub done : IsDone k most m
+
+-- the kinds are written one after another. For want of memory the last one may stop before it is done
+abbrev pub WritesKinds : ℕ → List ControlKind → Place → Result (Unit {0}) OutOfMemory → Place → Type 0
+WritesKinds most [] a (Ok x) b = b ≡ a
+WritesKinds most [] a (Err e) b = ⊥
+WritesKinds most (k ∷ ks) a r b = ((m : Place) × Finishes k most a m × WritesKinds most ks m r b) ⊎ (IsErr r × Turns k most a b)

@@ -1,0 +1,241 @@
+//! The frames beside STREAM that an end writes.
+
+ghost use Rattle.std.specs.Prelude.{◌≡◌, ◌<◌, ◌≤◌, ◌+◌, ◌^◌, ℕ, List, true, Ok, IfSome, IfOk, OnOk, length};
+ghost use Rattle.quic_retransmits.specs.Pending.{shown_pending as listed};
+ghost use Rattle.quic_retransmits.specs.Settling.{entry_count};
+ghost use Rattle.quic_limits.specs.Remote.{streams_announced};
+ghost use Rattle.quic_history.specs.World.{remote_of, with_remote};
+ghost use Rattle.quic_history.specs.Control.{kind_bound, IsOfKind, reset_frame, window_frame, data_blocked_frame, stream_blocked_frame};
+ghost use Rattle.quic_streams.specs.Shown.{shown};
+ghost use Rattle.quic_streams.specs.Payload.{sheet_of, Tries, Turns, IsDone, WritesKinds, control_order};
+
+use crate::payload::ControlPayload;
+use crate::state::StreamsState;
+use quic_history::control::ControlKind;
+use quic_retransmits::Retransmits;
+use quic_values::{Dir, OutOfMemory, StreamId, VarInt};
+use quic_wire::Frame;
+use quic_wire::frame::ResetStream;
+
+#[tactic(auto, unfolding(crate::specs::Shown::shown))]
+impl StreamsState {
+    // The RESET_STREAM of a stream whose half is held.
+    fn reset_frame(&self, id: StreamId, error_code: VarInt) -> Option<Frame>
+        ensures frame { result ≡ reset_frame id error_code ((shown self.now).out.halves id) }
+        ensures kind { IfSome result (IsOfKind ControlKind.ResetStream) }
+    {
+        match self.outgoing.final_size(id) {
+            None => None,
+            Some(final_offset) => Some(Frame::ResetStream(ResetStream {
+                id,
+                error_code,
+                final_offset,
+            })),
+        }
+    }
+
+    // The MAX_STREAM_DATA of a stream on which more data may come and are wanted.
+    fn window_frame(&self, id: StreamId) -> Option<Frame>
+        ensures frame { result ≡ window_frame (shown self.now).window id ((shown self.now).receive id) }
+        ensures kind { IfSome result (IsOfKind ControlKind.MaxStreamData) }
+    {
+        match self.receive.announced_end(id) {
+            None => None,
+            Some(offset) => Some(Frame::MaxStreamData { id, offset }),
+        }
+    }
+
+    // The DATA_BLOCKED for the limit that is held, if it was queued for that.
+    fn data_blocked_frame(&self) -> Option<Frame>
+        ensures frame { result ≡ data_blocked_frame (shown self.now) }
+        ensures kind { IfSome result (IsOfKind ControlKind.DataBlocked) }
+    {
+        if !self.outgoing.can_send_data_blocked() {
+            return None;
+        }
+        let offset = self.outgoing.max_data().into_inner();
+        Some(Frame::DataBlocked { offset })
+    }
+
+    // The STREAM_DATA_BLOCKED for the limit that a stream holds, if it was queued for that.
+    fn stream_blocked_frame(&self, id: StreamId) -> Option<Frame>
+        ensures frame { result ≡ stream_blocked_frame id ((shown self.now).out.halves id) }
+        ensures kind { IfSome result (IsOfKind ControlKind.StreamDataBlocked) }
+    {
+        match self.outgoing.stream_data_blocked_limit(id) {
+            None => None,
+            Some(limit) => Some(Frame::StreamDataBlocked {
+                id,
+                offset: limit.into_inner(),
+            }),
+        }
+    }
+
+    // How many streams of a direction the peer may open.
+    fn max_remote(&self, dir: Dir) -> u64
+        ensures count { result ≡ (remote_of (shown self.now) dir).max_remote }
+        ensures small { result ≤ 2 ^ 60 }
+    {
+        match dir {
+            Dir::Bi => self.bi.max_remote(),
+            Dir::Uni => self.uni.max_remote(),
+        }
+    }
+
+    // That count was announced.
+    fn announce_streams(&mut self, dir: Dir)
+        ensures { shown self.new ≡ with_remote (shown self.old) dir (streams_announced (remote_of (shown self.old) dir)) }
+    {
+        match dir {
+            Dir::Bi => self.bi.announce(),
+            Dir::Uni => self.uni.announce(),
+        }
+    }
+
+    // The RESET_STREAM that was queued last is written, or dropped where its half was freed.
+    fn settle_reset(
+        &mut self,
+        pending: &mut Retransmits,
+        payload: &mut ControlPayload,
+    ) -> Result<bool, OutOfMemory>
+        ensures tries { Tries ControlKind.ResetStream (record { end = shown self.old; pending = listed pending.old; sheet = sheet_of payload.old }) result (record { end = shown self.new; pending = listed pending.new; sheet = sheet_of payload.new }) }
+        ensures fewer { IfOk result (λ some. some ≡ true → entry_count pending.new < entry_count pending.old) }
+    {
+        let Some((id, error_code)) = pending.next_reset() else {
+            return Ok(false);
+        };
+        payload.append_if(&ControlKind::ResetStream, self.reset_frame(id, error_code))?;
+        pending.settle_reset();
+        Ok(true)
+    }
+
+    // The STOP_SENDING that was queued last is written.
+    fn settle_stop(
+        &mut self,
+        pending: &mut Retransmits,
+        payload: &mut ControlPayload,
+    ) -> Result<bool, OutOfMemory>
+        ensures tries { Tries ControlKind.StopSending (record { end = shown self.old; pending = listed pending.old; sheet = sheet_of payload.old }) result (record { end = shown self.new; pending = listed pending.new; sheet = sheet_of payload.new }) }
+        ensures fewer { IfOk result (λ some. some ≡ true → entry_count pending.new < entry_count pending.old) }
+    {
+        let Some(stop) = pending.next_stop() else {
+            return Ok(false);
+        };
+        payload.append_if(&ControlKind::StopSending, Some(Frame::StopSending(stop)))?;
+        pending.settle_stop();
+        Ok(true)
+    }
+
+    // MAX_DATA is written with the limit that is enforced.
+    fn settle_max_data(
+        &mut self,
+        pending: &mut Retransmits,
+        payload: &mut ControlPayload,
+    ) -> Result<bool, OutOfMemory>
+        ensures tries { Tries ControlKind.MaxData (record { end = shown self.old; pending = listed pending.old; sheet = sheet_of payload.old }) result (record { end = shown self.new; pending = listed pending.new; sheet = sheet_of payload.new }) }
+        ensures fewer { IfOk result (λ some. some ≡ true → entry_count pending.new < entry_count pending.old) }
+    {
+        if !pending.max_data {
+            return Ok(false);
+        }
+        let limit = self.credit.max_data();
+        payload.append_if(&ControlKind::MaxData, Some(Frame::MaxData(limit)))?;
+        self.credit.announce();
+        pending.settle_max_data();
+        Ok(true)
+    }
+
+    // The MAX_STREAM_DATA of a stream is written, or dropped where it is of no use.
+    fn settle_window(
+        &mut self,
+        pending: &mut Retransmits,
+        payload: &mut ControlPayload,
+    ) -> Result<bool, OutOfMemory>
+        ensures tries { Tries ControlKind.MaxStreamData (record { end = shown self.old; pending = listed pending.old; sheet = sheet_of payload.old }) result (record { end = shown self.new; pending = listed pending.new; sheet = sheet_of payload.new }) }
+        ensures fewer { IfOk result (λ some. some ≡ true → entry_count pending.new < entry_count pending.old) }
+    {
+        let Some(id) = pending.next_window() else {
+            return Ok(false);
+        };
+        payload.append_if(&ControlKind::MaxStreamData, self.window_frame(id))?;
+        self.receive.announce(id);
+        pending.settle_window(id);
+        Ok(true)
+    }
+
+    // MAX_STREAMS of a direction is written with the count that is enforced.
+    fn settle_max_streams(
+        &mut self,
+        pending: &mut Retransmits,
+        payload: &mut ControlPayload,
+        dir: Dir,
+    ) -> Result<bool, OutOfMemory>
+        ensures tries { Tries (ControlKind.MaxStreams dir) (record { end = shown self.old; pending = listed pending.old; sheet = sheet_of payload.old }) result (record { end = shown self.new; pending = listed pending.new; sheet = sheet_of payload.new }) }
+        ensures fewer { IfOk result (λ some. some ≡ true → entry_count pending.new < entry_count pending.old) }
+    {
+        if !pending.has_max_streams(dir) {
+            return Ok(false);
+        }
+        let count = self.max_remote(dir);
+        let frame = Frame::MaxStreams { dir, count };
+        payload.append_if(&ControlKind::MaxStreams(dir), Some(frame))?;
+        self.announce_streams(dir);
+        pending.settle_max_streams(dir);
+        Ok(true)
+    }
+
+    // DATA_BLOCKED is written, or dropped where the limit is not held any more.
+    fn settle_data_blocked(
+        &mut self,
+        pending: &mut Retransmits,
+        payload: &mut ControlPayload,
+    ) -> Result<bool, OutOfMemory>
+        ensures tries { Tries ControlKind.DataBlocked (record { end = shown self.old; pending = listed pending.old; sheet = sheet_of payload.old }) result (record { end = shown self.new; pending = listed pending.new; sheet = sheet_of payload.new }) }
+        ensures fewer { IfOk result (λ some. some ≡ true → entry_count pending.new < entry_count pending.old) }
+    {
+        if !pending.data_blocked {
+            return Ok(false);
+        }
+        payload.append_if(&ControlKind::DataBlocked, self.data_blocked_frame())?;
+        pending.settle_data_blocked();
+        Ok(true)
+    }
+
+    // The STREAM_DATA_BLOCKED of a stream is written, or dropped where its limit is not held any more.
+    fn settle_stream_blocked(
+        &mut self,
+        pending: &mut Retransmits,
+        payload: &mut ControlPayload,
+    ) -> Result<bool, OutOfMemory>
+        ensures tries { Tries ControlKind.StreamDataBlocked (record { end = shown self.old; pending = listed pending.old; sheet = sheet_of payload.old }) result (record { end = shown self.new; pending = listed pending.new; sheet = sheet_of payload.new }) }
+        ensures fewer { IfOk result (λ some. some ≡ true → entry_count pending.new < entry_count pending.old) }
+    {
+        let Some(id) = pending.next_stream_blocked() else {
+            return Ok(false);
+        };
+        payload.append_if(&ControlKind::StreamDataBlocked, self.stream_blocked_frame(id))?;
+        pending.settle_stream_blocked(id);
+        Ok(true)
+    }
+
+    // An entry of a kind leaves what is pending, if there is one.
+    fn settle(
+        &mut self,
+        kind: &ControlKind,
+        pending: &mut Retransmits,
+        payload: &mut ControlPayload,
+    ) -> Result<bool, OutOfMemory>
+        ensures tries { Tries kind.now (record { end = shown self.old; pending = listed pending.old; sheet = sheet_of payload.old }) result (record { end = shown self.new; pending = listed pending.new; sheet = sheet_of payload.new }) }
+        ensures fewer { IfOk result (λ some. some ≡ true → entry_count pending.new < entry_count pending.old) }
+    {
+        match kind {
+            ControlKind::ResetStream => self.settle_reset(pending, payload),
+            ControlKind::StopSending => self.settle_stop(pending, payload),
+            ControlKind::MaxData => self.settle_max_data(pending, payload),
+            ControlKind::MaxStreamData => self.settle_window(pending, payload),
+            ControlKind::MaxStreams(dir) => self.settle_max_streams(pending, payload, *dir),
+            ControlKind::DataBlocked => self.settle_data_blocked(pending, payload),
+            ControlKind::StreamDataBlocked => self.settle_stream_blocked(pending, payload),
+        }
+    }
+}

@@ -1,0 +1,58 @@
+//! A payload to which frames beside STREAM are written.
+
+ghost use Rattle.std.specs.Prelude.{◌≡◌, ◌≤◌, IfSome, OnOk, OnErr, ℕ};
+ghost use Rattle.quic_wire.specs.Text.{CanEncode, size_bound};
+ghost use Rattle.quic_history.specs.Control.{kind_bound, IsOfKind};
+ghost use Rattle.quic_streams.specs.Payload.{sheet_of, with_written, with_written_if, FitsIn};
+
+use quic_history::control::ControlKind;
+use quic_pieces::stats::FrameStats;
+use quic_retransmits::ThinRetransmits;
+use quic_values::OutOfMemory;
+use quic_wire::Frame;
+use quic_wire::frame::ResetStream;
+
+// A payload, what was noted of its frames, and how many there were.
+#[derive(Drop)]
+pub(crate) struct ControlPayload {
+    pub(crate) bytes: Vec<u8>,
+    pub(crate) sent: ThinRetransmits,
+    pub(crate) stats: FrameStats,
+}
+
+impl ControlPayload {
+    // Appends a frame. A refusal changes nothing.
+    pub(crate) fn append(&mut self, frame: &Frame) -> Result<(), OutOfMemory>
+        requires kind { CanEncode frame.now }
+        requires short { size_bound frame.now ≤ ResetStream.SIZE_BOUND }
+        ensures ok { OnOk result (sheet_of self.new ≡ with_written (sheet_of self.old) frame.now) }
+        ensures err { OnErr result (sheet_of self.new ≡ sheet_of self.old) }
+        ensures fits { OnOk result (FitsIn (size_bound frame.now) frame.now) }
+    {
+        self.bytes.reserve(ResetStream::SIZE_BOUND)?;
+        self.sent.note(frame)?;
+        match frame.encode(&mut self.bytes) {
+            Ok(()) => {}
+            Err(_) => unreachable!(),
+        }
+        self.stats.record(frame);
+        Ok(())
+    }
+
+    // Appends a frame of a kind, if there is one. A refusal changes nothing.
+    pub(crate) fn append_if(
+        &mut self,
+        kind: &ControlKind,
+        frame: Option<Frame>,
+    ) -> Result<(), OutOfMemory>
+        requires { IfSome frame (IsOfKind kind.now) }
+        ensures ok { OnOk result (sheet_of self.new ≡ with_written_if (sheet_of self.old) frame) }
+        ensures err { OnErr result (sheet_of self.new ≡ sheet_of self.old) }
+        ensures fits { OnOk result (IfSome frame (FitsIn (kind_bound kind.now))) }
+    {
+        match frame {
+            Some(frame) => self.append(&frame),
+            None => Ok(()),
+        }
+    }
+}
