@@ -238,4 +238,43 @@ impl StreamsState {
             ControlKind::StreamDataBlocked => self.settle_stream_blocked(pending, payload),
         }
     }
+
+    // Entries of a kind leave what is pending while the longest frame of the kind fits below the maximum.
+    fn write_kind(
+        &mut self,
+        kind: &ControlKind,
+        pending: &mut Retransmits,
+        payload: &mut ControlPayload,
+        max_size: usize,
+    ) -> Result<(), OutOfMemory>
+        ensures turns { Turns kind.now max_size (record { end = shown self.old; pending = listed pending.old; sheet = sheet_of payload.old }) (record { end = shown self.new; pending = listed pending.new; sheet = sheet_of payload.new }) }
+        ensures done { OnOk result (IsDone kind.now max_size (record { end = shown self.new; pending = listed pending.new; sheet = sheet_of payload.new })) }
+    {
+        while payload.bytes.len() + kind.size_bound() < max_size {
+            if !self.settle(kind, pending, payload)? {
+                break;
+            }
+        }
+        Ok(())
+    }
+
+    // All kinds, one after another.
+    fn write_kinds(
+        &mut self,
+        pending: &mut Retransmits,
+        payload: &mut ControlPayload,
+        max_size: usize,
+    ) -> Result<(), OutOfMemory>
+        ensures { WritesKinds max_size control_order (record { end = shown self.old; pending = listed pending.old; sheet = sheet_of payload.old }) result (record { end = shown self.new; pending = listed pending.new; sheet = sheet_of payload.new }) }
+    {
+        self.write_kind(&ControlKind::ResetStream, pending, payload, max_size)?;
+        self.write_kind(&ControlKind::StopSending, pending, payload, max_size)?;
+        self.write_kind(&ControlKind::MaxData, pending, payload, max_size)?;
+        self.write_kind(&ControlKind::MaxStreamData, pending, payload, max_size)?;
+        self.write_kind(&ControlKind::MaxStreams(Dir::Bi), pending, payload, max_size)?;
+        self.write_kind(&ControlKind::MaxStreams(Dir::Uni), pending, payload, max_size)?;
+        self.write_kind(&ControlKind::DataBlocked, pending, payload, max_size)?;
+        self.write_kind(&ControlKind::StreamDataBlocked, pending, payload, max_size)?;
+        Ok(())
+    }
 }
