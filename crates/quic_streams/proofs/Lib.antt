@@ -1,2 +1,3 @@
+pub mod ControlRuns
 pub mod HeldMaps
 pub mod Results

@@ -7,9 +7,15 @@ use Rattle.quic_wire.specs.Frames.{BeginsWith}
 use Rattle.quic_wire.specs.Text.{text}
 use Rattle.quic_datagrams.specs.declared.stats.FrameStats.{FrameStats}
 use Rattle.quic_datagrams.specs.Counting.{with_frame}
-use Rattle.quic_retransmits.specs.Pending.{Pending}
+use Rattle.std.specs.Global.{Vec}
+use Rattle.quic_retransmits.specs.declared.retransmits.Retransmits.{Retransmits}
+use Rattle.quic_retransmits.specs.declared.retransmits.ThinRetransmits.{ThinRetransmits}
+use Rattle.quic_retransmits.specs.Pending.{Pending, shown_pending}
+use Rattle.quic_streams.specs.declared.state.StreamsState.{StreamsState}
+use Rattle.quic_streams.specs.Shown.{shown}
 use Rattle.quic_retransmits.specs.Settling.{noted, noted_in}
-use Rattle.quic_history.specs.World.{World}
+use Rattle.quic_history.specs.World.{World, Made}
+use Rattle.quic_history.specs.History.{Event, Settled, From}
 use Rattle.quic_history.specs.declared.control.ControlKind.{ControlKind}
 use Rattle.quic_history.specs.declared.control.ControlKind.TheVariants as kinds
 use Rattle.quic_history.specs.Control.{Settles, HasNoneOf, kind_bound}
@@ -81,3 +87,28 @@ abbrev pub WritesKinds : ℕ → List ControlKind → Place → Result (Unit {0}
 WritesKinds most [] a (Ok x) b = b ≡ a
 WritesKinds most [] a (Err e) b = ⊥
 WritesKinds most (k ∷ ks) a r b = ((m : Place) × Finishes k most a m × WritesKinds most ks m r b) ⊎ (IsErr r × Turns k most a b)
+
+-- an entry that left what was pending: its kind, and the frame that was written for it, if one was
+pub record Entry : Type 0 where
+  pub kind : ControlKind
+  pub frame : Option Frame
+
+-- the frames of some entries, one after another
+abbrev pub sheet_with : Sheet → List Entry → Sheet
+sheet_with s [] = s
+sheet_with s (e ∷ es) = sheet_with (with_written_if s e.frame) es
+
+-- a history with them
+abbrev pub with_entries : List Entry → List Event → List Event
+with_entries [] h = h
+with_entries (e ∷ es) h = with_entries es (Settled e.kind e.frame ∷ h)
+
+-- entries left what was pending, and a payload has their frames; whatever history came before, it goes on with them
+pub record WritesEntries (a b : Sheet) (u v : World) : Type 0 where
+  pub entries : List Entry
+  pub sheet : b ≡ sheet_with a entries
+  pub from : (m : Made) (h : List Event) → From m h u → From m (with_entries entries h) v
+
+-- an end and a payload, as a call finds and leaves them
+abbrev pub place_of : StreamsState → Retransmits → Vec ℕ → ThinRetransmits → FrameStats → Place
+place_of s p buf sent stats = record { end = shown s; pending = shown_pending p; sheet = record { bytes = buf.items; sent = noted_in sent; stats = stats } }

@@ -7,18 +7,68 @@ ghost use Rattle.quic_limits.specs.Remote.{streams_announced};
 ghost use Rattle.quic_history.specs.World.{remote_of, with_remote};
 ghost use Rattle.quic_history.specs.Control.{kind_bound, IsOfKind, reset_frame, window_frame, data_blocked_frame, stream_blocked_frame};
 ghost use Rattle.quic_streams.specs.Shown.{shown};
-ghost use Rattle.quic_streams.specs.Payload.{sheet_of, Tries, Turns, IsDone, WritesKinds, control_order};
+ghost use Rattle.quic_streams.specs.Payload.{sheet_of, Tries, Turns, IsDone, WritesKinds, WritesEntries, control_order, place_of};
 
 use crate::payload::ControlPayload;
 use crate::state::StreamsState;
 use quic_history::control::ControlKind;
-use quic_retransmits::Retransmits;
+use quic_pieces::stats::FrameStats;
+use quic_retransmits::{Retransmits, ThinRetransmits};
 use quic_values::{Dir, OutOfMemory, StreamId, VarInt};
 use quic_wire::Frame;
 use quic_wire::frame::ResetStream;
+use std::mem;
 
 #[tactic(auto, unfolding(crate::specs::Shown::shown))]
 impl StreamsState {
+    /// Appends the frames of `pending` to a payload that is to have at most `max_size` bytes (RFC 9000 section 19):
+    /// RESET_STREAM, STOP_SENDING, MAX_DATA, MAX_STREAM_DATA, MAX_STREAMS of both directions, DATA_BLOCKED and
+    /// STREAM_DATA_BLOCKED, in this order, each kind while its longest frame ends below `max_size`. What is written is
+    /// noted in `retransmits` and counted in `stats`. Limits are those that are enforced now. What is of no use any more is
+    /// dropped: RESET_STREAM of a freed half, MAX_STREAM_DATA where no more data can come or are wanted, and the BLOCKED
+    /// frames of a limit that is not held any more.
+    ///
+    /// If refused, the frames that were written before stand in the payload and are noted, and the next one was not begun.
+    pub fn write_control_frames(
+        &mut self,
+        buf: &mut Vec<u8>,
+        pending: &mut Retransmits,
+        retransmits: &mut ThinRetransmits,
+        stats: &mut FrameStats,
+        max_size: usize,
+    ) -> Result<(), OutOfMemory>
+        ensures writes { WritesKinds max_size control_order (place_of self.old pending.old buf.old retransmits.old stats.old) result (place_of self.new pending.new buf.new retransmits.new stats.new) }
+        ensures full { OnOk result ((kind : ControlKind) → IsDone kind max_size (place_of self.new pending.new buf.new retransmits.new stats.new)) }
+        ensures within { length buf.old.items ≤ max_size → length buf.new.items ≤ max_size }
+        ensures from { WritesEntries (place_of self.old pending.old buf.old retransmits.old stats.old).sheet (place_of self.new pending.new buf.new retransmits.new stats.new).sheet (shown self.old) (shown self.new) }
+    {
+        self.write_control(buf, pending, retransmits, stats, max_size)
+    }
+
+    // The same, by its exact step.
+    fn write_control(
+        &mut self,
+        buf: &mut Vec<u8>,
+        pending: &mut Retransmits,
+        retransmits: &mut ThinRetransmits,
+        stats: &mut FrameStats,
+        max_size: usize,
+    ) -> Result<(), OutOfMemory>
+        ensures { WritesKinds max_size control_order (place_of self.old pending.old buf.old retransmits.old stats.old) result (place_of self.new pending.new buf.new retransmits.new stats.new) }
+    {
+        let alloc = self.receive.alloc;
+        let mut payload = ControlPayload {
+            bytes: mem::replace(buf, Vec::new(alloc)),
+            sent: mem::replace(retransmits, ThinRetransmits::new(alloc)),
+            stats: *stats,
+        };
+        let result = self.write_kinds(pending, &mut payload, max_size);
+        *buf = payload.bytes;
+        *retransmits = payload.sent;
+        *stats = payload.stats;
+        result
+    }
+
     // The RESET_STREAM of a stream whose half is held.
     fn reset_frame(&self, id: StreamId, error_code: VarInt) -> Option<Frame>
         ensures frame { result ≡ reset_frame id error_code ((shown self.now).out.halves id) }
