@@ -85,7 +85,7 @@ const TEXT: &[u8] = b"thirty two bytes of written text";
 const TAKEN: Answer = Answer::Taken(false);
 
 // An end that permits its peer one stream of each direction, with the limits that its peer gave.
-fn end(
+pub(super) fn end(
     alloc: Global,
     side: Side,
     streams: u32,
@@ -101,6 +101,17 @@ fn end(
         VarInt::from(WINDOW),
         VarInt::from(WINDOW),
     )?;
+    permit(&mut state, streams, data, stream_data);
+    Ok(Subject {
+        state,
+        pending: Retransmits::new(alloc),
+        window: u64::from(WINDOW),
+        in_one: false,
+    })
+}
+
+// The peer permits so many streams of each direction, bytes in all, and bytes on each stream.
+pub(super) fn permit(state: &mut StreamsState, streams: u32, data: u32, stream_data: u32) {
     let limit = VarInt::from(stream_data);
     state.set_params(&PeerLimits {
         initial_max_data: VarInt::from(data),
@@ -110,12 +121,6 @@ fn end(
         initial_max_stream_data_bidi_local: limit,
         initial_max_stream_data_bidi_remote: limit,
     });
-    Ok(Subject {
-        state,
-        pending: Retransmits::new(alloc),
-        window: u64::from(WINDOW),
-        in_one: false,
-    })
 }
 
 fn number(id: StreamId) -> u64 {
@@ -137,6 +142,23 @@ fn event_of(event: StreamEvent) -> Event {
 
 fn sending(subject: &mut Subject, stream: u32, conn: ConnState) -> SendStream<'_> {
     SendStream::new(id(stream), &mut subject.state, &mut subject.pending, conn)
+}
+
+// Opens a stream, which has to have this id.
+pub(super) fn open_one(subject: &mut Subject, dir: Dir, stream: u32) -> bool {
+    open(subject, dir, ConnState::Open) == Some(u64::from(stream))
+}
+
+// Writes so many bytes. Answers how many were taken, if any might be.
+pub(super) fn write_one(subject: &mut Subject, stream: u32, count: usize) -> Option<usize> {
+    match write(subject, stream, count, ConnState::Open) {
+        Done::Took(count) => Some(count),
+        _ => None,
+    }
+}
+
+pub(super) fn reset_one(subject: &mut Subject, stream: u32, code: u32) -> bool {
+    reset(subject, stream, code, ConnState::Open) == Done::Is
 }
 
 fn refused_write(error: WriteError) -> Done {
