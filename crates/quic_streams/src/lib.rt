@@ -1,6 +1,7 @@
 //! The streams of a connection.
 #![tactic(auto)]
 
+mod acknowledging;
 pub mod batches;
 pub mod halves;
 mod permits;
