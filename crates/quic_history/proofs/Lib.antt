@@ -17,6 +17,7 @@ pub mod Refusals
 pub mod RemoteHistory
 pub mod Remotes
 pub mod ResetHistory
+pub mod SendFreed
 pub mod SendSteps
 pub mod StreamSteps
 pub mod Totals

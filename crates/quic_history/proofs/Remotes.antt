@@ -199,15 +199,15 @@ remotes-idle at_once b f g u v gone s x d =
 
 -- ---- a half is freed
 
-other_place : (s : Side) (d : Dir) (i j : ℕ) → eqb i j ≡ false → eqb (stream_id s d i) (stream_id s d j) ≡ false
-other_place Client Bi i j e = grind (arith, nat_tests)
-other_place Client Uni i j e = grind (arith, nat_tests)
-other_place Server Bi i j e = grind (arith, nat_tests)
-other_place Server Uni i j e = grind (arith, nat_tests)
+pub other-place : (s : Side) (d : Dir) (i j : ℕ) → eqb i j ≡ false → eqb (stream_id s d i) (stream_id s d j) ≡ false
+other-place Client Bi i j e = grind (arith, nat_tests)
+other-place Client Uni i j e = grind (arith, nat_tests)
+other-place Server Bi i j e = grind (arith, nat_tests)
+other-place Server Uni i j e = grind (arith, nat_tests)
 
-bi_not_uni : (s : Side) (i j : ℕ) → eqb (stream_id s Bi i) (stream_id s Uni j) ≡ false
-bi_not_uni Client i j = grind (arith, nat_tests)
-bi_not_uni Server i j = grind (arith, nat_tests)
+pub bi-not-uni : (s : Side) (i j : ℕ) → eqb (stream_id s Bi i) (stream_id s Uni j) ≡ false
+bi-not-uni Client i j = grind (arith, nat_tests)
+bi-not-uni Server i j = grind (arith, nat_tests)
 
 uni_not_bi : (s : Side) (i j : ℕ) → eqb (stream_id s Uni i) (stream_id s Bi j) ≡ false
 uni_not_bi Client i j = grind (arith, nat_tests)
@@ -236,8 +236,8 @@ unfolding with_receive
 is_replaced Uni w id = uni_if w id (remote.lacks_streams (remote.freed w.uni)) (remote.replaced w.uni)
 is_replaced Bi w id = bi_if w id (remote.lacks_streams (remote.freed w.bi)) (remote.replaced w.bi)
 
-and_not : (b c : Bool) → b ≡ false → (b && c) ≡ false
-and_not b c e = rw e refl
+pub none-and : (b c : Bool) → b ≡ false → (b && c) ≡ false
+none-and b c e = rw e refl
 
 module _ (at_once b : Dir → ℕ) (f g : ℕ → Trace) (w : World) (id : ℕ) (was : (f id).gone ≡ false) (is : (g id).gone ≡ true) (others : (q : ℕ) → eqb q id ≡ false → g q ≡ f q)
     (next : (d : Dir) → (g (stream_id (other_side w.out.side) d (remote_of w d).max_remote)).gone ≡ false) (x : AllRemotes at_once b f w) where
@@ -251,12 +251,12 @@ module _ (at_once b : Dir → ℕ) (f g : ℕ → Trace) (w : World) (id : ℕ) 
 
   bi_stays : (j : ℕ) → id ≡ stream_id o Uni j → RemoteFrom (at_once Bi) (b Bi) (is_freed g w.out.side (sends w) Bi) w.bi
   bi_stays j e = remote-same (at_once Bi) (b Bi) (is_freed f w.out.side (sends w) Bi) (is_freed g w.out.side (sends w) Bi) w.bi w.bi (limits-refl w.bi)
-      (λ i l. ap (λ t. t.gone && not ((sends w) (stream_id o Bi i))) (others (stream_id o Bi i) (rw e (bi_not_uni o i j)))) (x Bi)
+      (λ i l. ap (λ t. t.gone && not ((sends w) (stream_id o Bi i))) (others (stream_id o Bi i) (rw e (bi-not-uni o i j)))) (x Bi)
 
   uni_replaced : (v : World) (j : ℕ) → id ≡ stream_id o Uni j → j < w.uni.max_remote → IsReplaced Uni w v → AllRemotes at_once b g v
   uni_replaced v j e l r Uni = rw (r.0, r.2, r.3)
       (remote-replaced (at_once Uni) (b Uni) (is_freed f w.out.side (sends w) Uni) (is_freed g w.out.side (sends w) Uni) w.uni j l (ap (λ k. (f k).gone) (sym e) ∙ was) (ap (λ k. (g k).gone) (sym e) ∙ is)
-      (λ i n. ap (λ t. t.gone) (others (stream_id o Uni i) (rw e (other_place o Uni i j n)))) (next Uni) (x Uni))
+      (λ i n. ap (λ t. t.gone) (others (stream_id o Uni i) (rw e (other-place o Uni i j n)))) (next Uni) (x Uni))
   uni_replaced v j e l r Bi = rw (r.0, r.1, r.3) (bi_stays j e)
 
   -- a bidirectional stream whose send half is held is not wholly freed
@@ -265,7 +265,7 @@ module _ (at_once b : Dir → ℕ) (f g : ℕ → Trace) (w : World) (id : ℕ) 
       (λ i l. by_cases (eqb i j)
       (λ t. let at : (sends w) (stream_id o Bi i) ≡ true = ap (λ k. (sends w) (stream_id o Bi k)) (same i j t) ∙ ap (sends w) (sym e) ∙ held in
       rw at (both_none (g (stream_id o Bi i)).gone (f (stream_id o Bi i)).gone))
-      (λ n. ap (λ t. t.gone && not ((sends w) (stream_id o Bi i))) (others (stream_id o Bi i) (rw e (other_place o Bi i j n))))) (x Bi)
+      (λ n. ap (λ t. t.gone && not ((sends w) (stream_id o Bi i))) (others (stream_id o Bi i) (rw e (other-place o Bi i j n))))) (x Bi)
     where
       none : (b : Bool) → (b && false) ≡ false
       none true = refl
@@ -277,24 +277,24 @@ module _ (at_once b : Dir → ℕ) (f g : ℕ → Trace) (w : World) (id : ℕ) 
   sends_after : (v : World) (j : ℕ) → ((q : ℕ) → eqb q (stream_id o Bi w.bi.max_remote) ≡ false → (sends v) q ≡ (sends w) q) → (i : ℕ) → eqb i j ≡ false → id ≡ stream_id o Bi j
       → is_freed g w.out.side (sends v) Bi i ≡ is_freed f w.out.side (sends w) Bi i
   sends_after v j s i n e =
-      let k : g (stream_id o Bi i) ≡ f (stream_id o Bi i) = others (stream_id o Bi i) (rw e (other_place o Bi i j n)) in
+      let k : g (stream_id o Bi i) ≡ f (stream_id o Bi i) = others (stream_id o Bi i) (rw e (other-place o Bi i j n)) in
       by_cases (eqb i w.bi.max_remote)
       (λ t. let a : i ≡ w.bi.max_remote = same i w.bi.max_remote t in
       let b : (g (stream_id o Bi i)).gone ≡ false = ap (λ m. (g (stream_id o Bi m)).gone) a ∙ next Bi in
       let c : (f (stream_id o Bi i)).gone ≡ false = sym (ap (λ t. t.gone) k) ∙ b in
       rw (b, c) refl)
-      (λ m. rw (k, s (stream_id o Bi i) (other_place o Bi i w.bi.max_remote m)) refl)
+      (λ m. rw (k, s (stream_id o Bi i) (other-place o Bi i w.bi.max_remote m)) refl)
 
   bi_replaced : (v : World) (j : ℕ) → id ≡ stream_id o Bi j → j < w.bi.max_remote → (sends w) id ≡ false → IsReplaced Bi w v → AllRemotes at_once b g v
   bi_replaced v j e l free r Uni = rw (r.0, r.2) (uni_stays j e)
   bi_replaced v j e l free r Bi =
-      let here : eqb (stream_id o Bi j) (stream_id o Bi w.bi.max_remote) ≡ false = other_place o Bi j w.bi.max_remote (let a : j < w.bi.max_remote = l in grind (arith, nat_tests)) in
+      let here : eqb (stream_id o Bi j) (stream_id o Bi w.bi.max_remote) ≡ false = other-place o Bi j w.bi.max_remote (let a : j < w.bi.max_remote = l in grind (arith, nat_tests)) in
       let free_after : (sends v) (stream_id o Bi j) ≡ false = r.3 (stream_id o Bi j) here ∙ ap (sends w) (sym e) ∙ free in
       let gone : (g (stream_id o Bi j)).gone ≡ true = ap (λ k. (g k).gone) (sym e) ∙ is in
-      let last : is_freed g w.out.side (sends v) Bi w.bi.max_remote ≡ false = and_not (g (stream_id o Bi w.bi.max_remote)).gone (not ((sends v) (stream_id o Bi w.bi.max_remote))) (next Bi) in
+      let last : is_freed g w.out.side (sends v) Bi w.bi.max_remote ≡ false = none-and (g (stream_id o Bi w.bi.max_remote)).gone (not ((sends v) (stream_id o Bi w.bi.max_remote))) (next Bi) in
       rw (r.0, r.1)
       (remote-replaced (at_once Bi) (b Bi) (is_freed f w.out.side (sends w) Bi) (is_freed g w.out.side (sends v) Bi) w.bi j l
-      (and_not (f (stream_id o Bi j)).gone (not ((sends w) (stream_id o Bi j))) (ap (λ k. (f k).gone) (sym e) ∙ was)) (rw (gone, free_after) refl)
+      (none-and (f (stream_id o Bi j)).gone (not ((sends w) (stream_id o Bi j))) (ap (λ k. (f k).gone) (sym e) ∙ was)) (rw (gone, free_after) refl)
       (λ i n. sends_after v j r.3 i n e) last (x Bi))
 
   same_world : (v : World) → SameRemotes w v → RemoteFrom (at_once Bi) (b Bi) (is_freed g w.out.side (sends w) Bi) w.bi → RemoteFrom (at_once Uni) (b Uni) (is_freed g w.out.side (sends w) Uni) w.uni → AllRemotes at_once b g v
@@ -314,7 +314,7 @@ module _ (at_once b : Dir → ℕ) (f g : ℕ → Trace) (w : World) (id : ℕ) 
   of_dir Uni j e l = uni_replaced (replaced_in (with_receive w id None) Uni) j e l (is_replaced Uni w id)
   of_dir Bi j e l = bi_if_held ((sends (with_receive w id None)) id) j (sym sends_put) e l
 
-spelled : (s : Side) (b c : Bool) (q : ℕ) → (q % 2 == 0) ≡ b → (q / 2 % 2 == 0) ≡ c → is_same_side s (if b then Client else Server) ≡ false
+pub spelled : (s : Side) (b c : Bool) (q : ℕ) → (q % 2 == 0) ≡ b → (q / 2 % 2 == 0) ≡ c → is_same_side s (if b then Client else Server) ≡ false
     → q ≡ stream_id (other_side s) (if c then Bi else Uni) (q / 4)
 spelled Client true true q e k n = cc
 spelled Client true false q e k n = cc

@@ -1,5 +1,6 @@
 -- What the calls on the sending side leave of the receiving side.
-use Rattle.std.proofs.Common.{◌≡◌, ◌⊎◌, ℕ, Bool, true, false, cond, eqb, List, ◌∷◌, Option, Some, None, is_some, Result, Ok, Err, refl, sym, ap, ◌∙◌, subst, inl, inr, arith, ◌+◌, ◌<◌, ◌≤◌}
+use Rattle.std.proofs.Common.{◌≡◌, ◌⊎◌, ℕ, Bool, true, false, cond, eqb, List, ◌∷◌, Option, Some, None, is_some, Result, Ok, Err, refl, sym, ap, ◌∙◌, subst, inl, inr, arith, ◌+◌, ◌-◌, ◌<◌, ◌≤◌}
+use Rattle.std.specs.declared.ops.Range.{Range}
 use Rattle.std.specs.Prelude.{◌==◌, ◌&&◌, not, nat_lt, nat_le, if◌then◌else◌, ℤ, MatchBool, ◌++◌, []}
 use Rattle.std.specs.Option.{option_map}
 use Rattle.std.specs.List.{list_any}
@@ -18,7 +19,8 @@ use Rattle.quic_wire.specs.declared.error.TheConstants.TransportError.{STREAM_ST
 use Rattle.quic_limits.specs.Credit.{Credit}
 use Rattle.quic_limits.specs.Own.{Own, with_next_own}
 use Rattle.quic_limits.specs.Remote.{Remote, opening_told}
-use Rattle.quic_limits.specs.SendingCredit.{SendingCredit, with_blocked}
+use Rattle.quic_limits.specs.SendingCredit.{SendingCredit, with_blocked, with_released}
+use Rattle.quic_sending.specs.Buffer.{total_length}
 use Rattle.quic_sending.specs.declared.send.Send.{Send}
 use Rattle.quic_sending.specs.declared.send.Written.{Written}
 use Rattle.quic_sending.specs.declared.send.WriteError.{WriteError}
@@ -34,9 +36,12 @@ use Rattle.quic_outgoing.specs.Senders.{SendersById, with_sender, raised_by, rai
 use Rattle.quic_outgoing.specs.Outgoing.{Outgoing, own_of, with_own, with_send_half, with_params, waiting, marked, is_stuck, fresh_sender, first_of}
 use Rattle.quic_outgoing.specs.Calls.{OpensStream, RaisesStream, StopsSending, PollsWritable, ResetsStream, SetsPriority, after_rise, with_rise, is_woken, without_marks}
 use Rattle.quic_outgoing.specs.Calls as calls
+use Rattle.quic_outgoing.specs.Acknowledging.{AcksHalf, LosesFrame, were_sent, is_given_up}
 use Rattle.quic_history.specs.Halves.{Halves, with_half}
 use Rattle.quic_history.specs.World.{World, sends, id_refusal, is_own, remote_of, with_remote, with_receive, told, told_readable, noticed}
-use Rattle.quic_history.specs.SendEvents.{SendEvent, SendStep, GaveLimits, OpenedOwn, RaisedData, RaisedCount, RaisedLimit, StoppedOwn, SetWindow, Polled, WroteOwn, FinishedOwn, ResetOwn, SetOwnPriority}
+use Rattle.quic_history.specs.SendEvents.{SendEvent, SendStep, GaveLimits, OpenedOwn, RaisedData, RaisedCount, RaisedLimit, StoppedOwn, SetWindow, Polled, WroteOwn, FinishedOwn, ResetOwn, SetOwnPriority, AckedOwn, LostOwn, ResetAckedOwn}
+use Rattle.quic_history.specs.Acknowledged.{AcksOwn, LosesOwn, AcksReset, with_send_freed, told_finished, frees_reset}
+use Rattle.quic_history.proofs.SendFreed.{without_half, steady-send-freed, all-send-freed, remotes-send-freed}
 use Rattle.quic_history.specs.Writes.{WritesOwn, FinishesOwn, ResetsOwn, SetsOwnPriority, with_queued}
 use Rattle.quic_history.specs.Sends.{with_out, with_opened, with_own_count, told_writable, after_first_stop, is_permitted, PollsQueue, RaisesLimit, RaisesCount, StopsOwn, TellsNext}
 use Rattle.quic_history.specs.History.{Event, Sending, Goes, Trace, Facts, untouched, trace, consumed, last_window, debt, received}
@@ -386,11 +391,79 @@ record OpensOne (u v : World) : Type 0 where
   pub few : (own_of u.out dir).opened < (own_of u.out dir).limit
   pub is : v ≡ with_opened u dir (stream_id u.out.side dir (own_of u.out dir).opened) (opening u dir (stream_id u.out.side dir (own_of u.out dir).opened))
 
--- a call spares the receiving side, or opens a stream
-kind : (u : World) (e : SendEvent) (v : World) → SendStep u e v → Spares u v ⊎ OpensOne u v
+-- the send half of a stream was let go
+record FreesOne (u v : World) : Type 0 where
+  pub id : ℕ
+  pub budget : SendingCredit
+  pub known : is_permitted u id ≡ true
+  pub held : sends u id ≡ true
+  pub rest : Spares (with_send_freed (without_half u id budget) id) v
+
+-- a frame was acknowledged
+acked_half : (u : World) (id : ℕ) (offsets : Range ℕ) (fin done : Bool) (o : Outgoing) (v : World) → is_permitted u id ≡ true → AcksHalf u.out id offsets fin done o → v ≡ told_finished (with_out u o) id done
+    → Spares u v ⊎ FreesOne u v
+acked_half u id offsets fin true o v known a e = inr (record {
+  id = id;
+  budget = with_released u.out.budget (total_length a.half.pending.held - total_length a.after.pending.held);
+  known = known;
+  held = ap (λ (k : Option Send). is_some k) a.is_held;
+  rest = let w = with_send_freed (without_half u id (with_released u.out.budget (total_length a.half.pending.held - total_length a.after.pending.held))) id in
+      spares_at w v (told w (stream_event.Finished id)) (e ∙ ap (λ k. told (with_send_freed (with_out u k) id) (stream_event.Finished id)) a.is) (spares_told w (stream_event.Finished id));
+})
+acked_half u id offsets fin false o v known a e = inl (spares_at u v (with_out u o) e (spares_step u o (steadies_at u.out o _ a.is (steadies_budget u.out _ _ (steadies_put u.out id a.half a.after a.is_held)))))
+
+acks : (u : World) (id : ℕ) (offsets : Range ℕ) (fin : Bool) (answer : Result (Unit {0}) OutOfMemory) (v : World) → AcksOwn u id offsets fin answer v → Spares u v ⊎ FreesOne u v
+acks u id offsets fin (Ok x) v s = by_test (is_permitted u id) refl
+  where
+    by_test : (b : Bool) → is_permitted u id ≡ b → Spares u v ⊎ FreesOne u v
+    by_test true k = let t = rw k at s in
+        either-way (were_sent (u.out.halves id) offsets) t.2
+        (λ a. acked_half u id offsets fin t.0 t.1 v k a t.3)
+        (λ n. inl (spares_at u v (with_out u t.1) (t.3 ∙ ap (told_finished (with_out u t.1) id) n.0) (spares_step u t.1 (steadies_at u.out t.1 u.out n.1 (steadies_none u.out)))))
+    by_test false k = let t = rw k at s in inl (spares_at u v u t (spares_none u))
+acks u id offsets fin (Err e) v s = inl (spares_at u v u s (spares_none u))
+
+steadies_lost : (a : Outgoing) (id : ℕ) (offsets : Range ℕ) (fin : Bool) (queue : Option ℤ) (b : Outgoing) → LosesFrame a id offsets fin (Ok queue) b → Steadies a b
+steadies_lost a id offsets fin queue b s = either-way (were_sent (a.halves id) offsets) s
+    (λ l. steadies_at a b _ l.is (steadies_put a id l.half l.after l.is_held))
+    (λ n. steadies_at a b a n.1 (steadies_none a))
+
+loses : (u : World) (id : ℕ) (offsets : Range ℕ) (fin : Bool) (answer : Result (Unit {0}) OutOfMemory) (v : World) → LosesOwn u id offsets fin answer v → Spares u v
+loses u id offsets fin (Ok x) v s = spares_at u v _ s.3 (queued u (with_out u s.1) id s.0 (spares_step u s.1 (steadies_lost u.out id offsets fin s.0 s.1 s.2)))
+loses u id offsets fin (Err e) v s = spares_at u v u s (spares_none u)
+
+given_up_held : (o : Option Send) → is_given_up o ≡ true → is_some o ≡ true
+given_up_held None e = cc
+given_up_held (Some s) e = refl
+
+both_true : (b c : Bool) → (b && c) ≡ true → (b ≡ true) × (c ≡ true)
+both_true true c e = (refl, e)
+both_true false c e = absurd (cc)
+
+acks_reset : (u : World) (id : ℕ) (answer : Result (Unit {0}) OutOfMemory) (v : World) → AcksReset u id answer v → Spares u v ⊎ FreesOne u v
+acks_reset u id (Ok x) v s = by_test (frees_reset u id) refl
+  where
+    by_test : (b : Bool) → frees_reset u id ≡ b → Spares u v ⊎ FreesOne u v
+    by_test true k = let t = rw k at s in let both = both_true (is_permitted u id) (is_given_up (u.out.halves id)) k in
+        inr (record {
+          id = id;
+          budget = u.out.budget;
+          known = both.0;
+          held = given_up_held (u.out.halves id) both.1;
+          rest = let w = with_send_freed (without_half u id u.out.budget) id in spares_at w v w t (spares_none w);
+        })
+    by_test false k = let t = rw k at s in inl (spares_at u v u t (spares_none u))
+acks_reset u id (Err e) v s = inl (spares_at u v u s.1 (spares_none u))
+
+or_frees : {u v : World} → Spares u v ⊎ FreesOne u v → Spares u v ⊎ (OpensOne u v ⊎ FreesOne u v)
+or_frees (inl k) = inl k
+or_frees (inr k) = inr (inr k)
+
+-- a call spares the receiving side, or opens a stream, or lets a send half go
+kind : (u : World) (e : SendEvent) (v : World) → SendStep u e v → Spares u v ⊎ (OpensOne u v ⊎ FreesOne u v)
 kind u (GaveLimits limits) v s = inl (spares_at u v _ s (spares_out u (with_params u.out limits) refl refl (held_raised u.out.side (first_of limits) u.out.halves)))
 kind u (OpenedOwn dir closed (Ok None)) v s = inl (spares_at u v u s.1 (spares_none u))
-kind u (OpenedOwn dir closed (Ok (Some id))) v s = inr (record { dir = dir; few = s.2.0; is = opened_is u v dir id s.1 s.2 s.3 })
+kind u (OpenedOwn dir closed (Ok (Some id))) v s = inr (inl (record { dir = dir; few = s.2.0; is = opened_is u v dir id s.1 s.2 s.3 }))
 kind u (OpenedOwn dir closed (Err e)) v s = inl (spares_at u v u s (spares_none u))
 kind u (RaisedData limit) v s = inl (spares_at u v _ s (spares_out u _ refl refl (λ q. refl)))
 kind u (RaisedCount dir count answer) v s = inl (raises_count u dir count answer v s)
@@ -402,26 +475,49 @@ kind u (WroteOwn id lists closed answer) v s = inl (writes u id lists closed s.0
 kind u (FinishedOwn id answer) v s = inl (finishes u id answer v s)
 kind u (ResetOwn id code answer) v s = inl (spares_at u v _ s.2.2 (spares_step u s.2.0 (steadies_reset u.out id code s.0 answer s.2.0 s.1 s.2.1)))
 kind u (SetOwnPriority id priority answer) v s = inl (spares_at u v _ s.2 (spares_step u s.0 (steadies_priority u.out id priority answer s.0 s.1)))
+kind u (AckedOwn id offsets fin answer) v s = or_frees (acks u id offsets fin answer v s)
+kind u (LostOwn id offsets fin answer) v s = inl (loses u id offsets fin answer v s)
+kind u (ResetAckedOwn id answer) v s = or_frees (acks_reset u id answer v s)
+
+facts_opened : (window : ℕ) (h : List Event) (u : World) (e : SendEvent) (v : World) → Facts window h u → OpensOne u v → Facts window (Sending e ∷ h) v
+facts_opened window h u e v f k = let P : World → Type 0 = λ w. Facts window (Sending e ∷ h) w in
+    let j : ℕ = stream_id u.out.side k.dir (own_of u.out k.dir).opened in
+    subst P (sym k.is) (record {
+      credit = rw (opened_credit u k.dir j (opening u k.dir j)) (credit-same (last_window window h) (consumed h) (debt window h) (received h) _ _ _ u.credit (omega arith) (omega arith) refl f.credit);
+      streams = opened_all (trace h) u k.dir k.few f.streams;
+    })
+
+-- a half that is let go leaves what is told of the streams
+facts_freed : (window : ℕ) (h : List Event) (u : World) (id : ℕ) (c : SendingCredit) → Facts window h u → Facts window h (with_send_freed (without_half u id c) id)
+facts_freed window h u id c f = record {
+  credit = rw (ap (λ k. k.credit) (steady-send-freed (without_half u id c) id)) f.credit;
+  streams = all-send-freed (trace h) u id c f.streams;
+}
+
+goes_freed : (u : World) (id : ℕ) (c : SendingCredit) → Goes u (with_send_freed (without_half u id c) id)
+goes_freed u id c = let e = steady-send-freed (without_half u id c) id in
+    record { side = ap (λ k. k.side) e; window = ap (λ k. k.window) e; limit = let l : (with_send_freed (without_half u id c) id).credit.local_max_data ≡ u.credit.local_max_data = ap (λ k. k.credit.local_max_data) e in omega arith }
+
+goes_then : (u w v : World) → Goes u w → Goes w v → Goes u v
+goes_then u w v a b = let l = a.limit in let m = b.limit in record { side = b.side ∙ a.side; window = b.window ∙ a.window; limit = omega arith }
 
 pub facts-sending : (window : ℕ) (h : List Event) (u : World) (e : SendEvent) (v : World) → Facts window h u → SendStep u e v → Facts window (Sending e ∷ h) v
 facts-sending window h u e v f s = elim (kind u e v s) [
   | inl k ↦ facts-spared window h u e v f k
-  | inr k ↦ (let P : World → Type 0 = λ w. Facts window (Sending e ∷ h) w in
-      let j : ℕ = stream_id u.out.side k.dir (own_of u.out k.dir).opened in
-      subst P (sym k.is) (record {
-        credit = rw (opened_credit u k.dir j (opening u k.dir j)) (credit-same (last_window window h) (consumed h) (debt window h) (received h) _ _ _ u.credit (omega arith) (omega arith) refl f.credit);
-        streams = opened_all (trace h) u k.dir k.few f.streams;
-      }))
+  | inr (inl k) ↦ facts_opened window h u e v f k
+  | inr (inr k) ↦ facts-spared window h (with_send_freed (without_half u k.id k.budget) k.id) e v (facts_freed window h u k.id k.budget f) k.rest
 ]
 
-pub remotes-sending : (at_once b : Dir → ℕ) (f : ℕ → Trace) (u : World) (e : SendEvent) (v : World) → AllRemotes at_once b f u → SendStep u e v → AllRemotes at_once b f v
-remotes-sending at_once b f u e v x s = elim (kind u e v s) [
+pub remotes-sending : (at_once b : Dir → ℕ) (f : ℕ → Trace) (u : World) (e : SendEvent) (v : World) → AllFrom f u → AllRemotes at_once b f u → SendStep u e v → AllRemotes at_once b f v
+remotes-sending at_once b f u e v streams x s = elim (kind u e v s) [
   | inl k ↦ remotes-spared at_once b f u v k x
-  | inr k ↦ (let P : World → Type 0 = λ w. AllRemotes at_once b f w in subst P (sym k.is) (opened_remotes at_once b f u k.dir x))
+  | inr (inl k) ↦ (let P : World → Type 0 = λ w. AllRemotes at_once b f w in subst P (sym k.is) (opened_remotes at_once b f u k.dir x))
+  | inr (inr k) ↦ remotes-spared at_once b f (with_send_freed (without_half u k.id k.budget) k.id) v k.rest (remotes-send-freed at_once b f u k.id k.budget k.held streams x k.known)
 ]
 
 pub goes-sending : (u : World) (e : SendEvent) (v : World) → SendStep u e v → Goes u v
 goes-sending u e v s = elim (kind u e v s) [
   | inl k ↦ goes-spared u v k
-  | inr k ↦ (let P : World → Type 0 = λ w. Goes u w in subst P (sym k.is) (opened_goes u k.dir (stream_id u.out.side k.dir (own_of u.out k.dir).opened)))
+  | inr (inl k) ↦ (let P : World → Type 0 = λ w. Goes u w in subst P (sym k.is) (opened_goes u k.dir (stream_id u.out.side k.dir (own_of u.out k.dir).opened)))
+  | inr (inr k) ↦ goes_then u (with_send_freed (without_half u k.id k.budget) k.id) v (goes_freed u k.id k.budget) (goes-spared (with_send_freed (without_half u k.id k.budget) k.id) v k.rest)
 ]

@@ -1,5 +1,6 @@
 -- What a history says of what an end sent and opened.
 use Rattle.std.proofs.Common.{◌≡◌, ℕ, Bool, true, false, List, [], ◌∷◌, Option, Some, None, Result, Ok, Err, refl, sym, ap, ◌∙◌, subst, inl, inr, arith, ◌+◌, ◌-◌, ◌<◌, ◌≤◌}
+use Rattle.std.specs.declared.ops.Range.{Range}
 use Rattle.std.specs.Prelude.{max, min, ◌^◌, ◌++◌, ℤ, ◌&&◌, nat_lt, nat_le, if◌then◌else◌, MatchBool}
 use Rattle.std.proofs.lemmas.Bool.Decides.{nat_tests}
 use Rattle.quic_values.specs.declared.memory.OutOfMemory.{OutOfMemory}
@@ -30,7 +31,10 @@ use Rattle.quic_outgoing.specs.Writing.{RefusesWrite, after_blocked}
 use Rattle.quic_history.specs.World.{World, told, noticed}
 use Rattle.quic_history.specs.Sends.{with_out, with_opened, told_writable, after_first_stop, is_permitted, RaisesCount, RaisesLimit, StopsOwn, TellsNext, PollsQueue}
 use Rattle.quic_history.specs.Writes.{WritesOwn, FinishesOwn, with_queued}
-use Rattle.quic_history.specs.SendEvents.{SendEvent, SendStep, GaveLimits, OpenedOwn, RaisedData, RaisedCount, RaisedLimit, StoppedOwn, SetWindow, Polled, WroteOwn, FinishedOwn, ResetOwn, SetOwnPriority}
+use Rattle.quic_history.specs.SendEvents.{SendEvent, SendStep, GaveLimits, OpenedOwn, RaisedData, RaisedCount, RaisedLimit, StoppedOwn, SetWindow, Polled, WroteOwn, FinishedOwn, ResetOwn, SetOwnPriority, AckedOwn, LostOwn, ResetAckedOwn}
+use Rattle.quic_outgoing.specs.Acknowledging.{were_sent}
+use Rattle.quic_history.specs.Acknowledged.{AcksOwn, LosesOwn, AcksReset, told_finished, with_send_freed, frees_reset}
+use Rattle.quic_history.proofs.SendFreed.{steady-send-freed}
 use Rattle.quic_history.specs.SendTotals.{SendTotals, send_totals, own_total}
 use Rattle.quic_history.specs.History.{Event, Received, ReceivedReset, AddedCredits, Began, Gave, Ended, Stopped, ToldReset, Resized, SetConcurrent, Accepted, Settled, Sending, Step, SentSo, taken_in_all, greatest_limit, greatest_count, opened_in_all, taken_by, limit_by, count_by, opens_by}
 use Rattle.quic_history.proofs.Limits.{firmly}
@@ -155,6 +159,31 @@ same_refused u id lists closed p e v left q (inr s) = ap (λ x. send_totals x.ou
 same_finish : (u : World) (id : ℕ) (answer : Result (Unit {0}) FinishError) (v : World) → FinishesOwn u id answer v → Same u v
 same_finish u id (Ok x) v s = ap (λ x. send_totals x.out) s.3 ∙ same_queued (with_out u s.1) id s.0 ∙ ap send_totals s.2.4
 same_finish u id (Err e) v s = ap (λ x. send_totals x.out) s.2 ∙ ap send_totals s.1.1
+
+same_freed : (u : World) (id : ℕ) → Same u (with_send_freed u id)
+same_freed u id = ap (λ s. s.send_totals) (steady-send-freed u id)
+
+same_finished : (u : World) (id : ℕ) (done : Bool) → Same u (told_finished u id done)
+same_finished u id true = same_freed u id
+same_finished u id false = refl
+
+same_ack : (u : World) (id : ℕ) (offsets : Range ℕ) (fin : Bool) (answer : Result (Unit {0}) OutOfMemory) (v : World) → AcksOwn u id offsets fin answer v → Same u v
+same_ack u id offsets fin (Ok x) v s = either-way (is_permitted u id) s
+    (λ t. same_at (told_finished (with_out u t.1) id t.0) v t.3 ∙ same_finished (with_out u t.1) id t.0
+    ∙ either-way (were_sent (u.out.halves id) offsets) t.2 (λ a. ap send_totals a.is) (λ n. ap send_totals n.1))
+    (λ t. same_at u v t)
+same_ack u id offsets fin (Err e) v s = same_at u v s
+
+same_loss : (u : World) (id : ℕ) (offsets : Range ℕ) (fin : Bool) (answer : Result (Unit {0}) OutOfMemory) (v : World) → LosesOwn u id offsets fin answer v → Same u v
+same_loss u id offsets fin (Ok x) v s = same_at (with_queued (with_out u s.1) id s.0) v s.3 ∙ same_queued (with_out u s.1) id s.0
+    ∙ either-way (were_sent (u.out.halves id) offsets) s.2 (λ l. ap send_totals l.is) (λ n. ap send_totals n.1)
+same_loss u id offsets fin (Err e) v s = same_at u v s
+
+same_reset : (u : World) (id : ℕ) (answer : Result (Unit {0}) OutOfMemory) (v : World) → AcksReset u id answer v → Same u v
+same_reset u id (Ok x) v s = either-way (frees_reset u id) s
+    (λ t. let w = with_out u (with_send_half u.out id None) in same_at (with_send_freed w id) v t ∙ same_freed w id)
+    (λ t. same_at u v t)
+same_reset u id (Err e) v s = same_at u v s.1
 
 -- ---- what a history says
 
@@ -375,6 +404,9 @@ sent-sending h u (WroteOwn id lists closed (Err e)) v f s = sent_same h (send_to
 sent-sending h u (FinishedOwn id answer) v f s = sent_same h (send_totals u.out) f _ (send_totals v.out) (same_finish u id answer v s) refl refl (λ d. refl) (λ d. refl)
 sent-sending h u (ResetOwn id code answer) v f s = sent_same h (send_totals u.out) f _ (send_totals v.out) (ap (λ x. send_totals x.out) s.2.2 ∙ keeps_reset u.out id code s.0 answer s.2.0 s.1 s.2.1) refl refl (λ d. refl) (λ d. refl)
 sent-sending h u (SetOwnPriority id priority answer) v f s = sent_same h (send_totals u.out) f _ (send_totals v.out) (ap (λ x. send_totals x.out) s.2 ∙ keeps_priority u.out id priority answer s.0 s.1) refl refl (λ d. refl) (λ d. refl)
+sent-sending h u (AckedOwn id offsets fin answer) v f s = sent_same h (send_totals u.out) f _ (send_totals v.out) (same_ack u id offsets fin answer v s) refl refl (λ d. refl) (λ d. refl)
+sent-sending h u (LostOwn id offsets fin answer) v f s = sent_same h (send_totals u.out) f _ (send_totals v.out) (same_loss u id offsets fin answer v s) refl refl (λ d. refl) (λ d. refl)
+sent-sending h u (ResetAckedOwn id answer) v f s = sent_same h (send_totals u.out) f _ (send_totals v.out) (same_reset u id answer v s) refl refl (λ d. refl) (λ d. refl)
 
 pub kept-sent : (h : List Event) (u : World) (e : Event) (v : World) → u.credit.local_max_data < 2 ^ 64 → SentSo h (send_totals u.out) → Step u e v → SentSo (e ∷ h) (send_totals v.out)
 kept-sent h u (Received id offset bytes fin answer) v fits f s = let went = firmly h u (Received id offset bytes fin answer) v fits refl s in sent_same h (send_totals u.out) f (Received id offset bytes fin answer) (send_totals v.out) went.same refl refl (λ d. refl) (λ d. refl)

@@ -261,14 +261,14 @@ steady_permitted_if : (w : World) (d : Dir) (o : Option ℕ) → steady (permitt
 steady_permitted_if w d None = refl
 steady_permitted_if w d (Some index) = steady_permitted w d index
 
-steady_replaced : (w : World) (d : Dir) → steady (replaced_in w d) ≡ steady w
-steady_replaced w d = steady_permitted_if (with_remote w d (remote.replaced (remote_of w d))) d (remote.replacement (remote_of w d)) ∙ steady-remote w d _
+pub steady-replaced : (w : World) (d : Dir) → steady (replaced_in w d) ≡ steady w
+steady-replaced w d = steady_permitted_if (with_remote w d (remote.replaced (remote_of w d))) d (remote.replacement (remote_of w d)) ∙ steady-remote w d _
 
 steady_released : (w : World) (d : Dir) (id : ℕ) → steady (released w d id) ≡ steady w
-steady_released w Uni id = steady_replaced w Uni
+steady_released w Uni id = steady-replaced w Uni
 steady_released w Bi id =
     let P : World → Type 0 = λ x. steady x ≡ steady w in
-    if_any P w (replaced_in w Bi) ((sends w) id) refl (steady_replaced w Bi)
+    if_any P w (replaced_in w Bi) ((sends w) id) refl (steady-replaced w Bi)
 
 -- a half that is freed changes nothing of the credit
 pub steady-freed : (w : World) (id : ℕ) → steady (with_freed w id) ≡ steady w

@@ -7,5 +7,6 @@ pub mod Reading
 pub mod History
 pub mod Sends
 pub mod Writes
+pub mod Acknowledged
 pub mod SendEvents
 pub mod Permitting

@@ -1,5 +1,6 @@
 -- The calls on the sending side of an end, and what each may do.
 use Rattle.std.specs.Prelude.{ℕ, ℤ, Bool, ◌≡◌, List, Option, Result}
+use Rattle.std.specs.declared.ops.Range.{Range}
 use Rattle.quic_values.specs.declared.memory.OutOfMemory.{OutOfMemory}
 use Rattle.quic_values.specs.declared.ids.Dir.{Dir}
 use Rattle.quic_wire.specs.declared.event.StreamEvent.{StreamEvent}
@@ -15,6 +16,7 @@ use Rattle.quic_outgoing.specs.Outgoing.{with_params}
 use Rattle.quic_history.specs.World.{World}
 use Rattle.quic_history.specs.Sends.{with_out, OpensOwn, RaisesCount, RaisesLimit, StopsOwn, TellsNext}
 use Rattle.quic_history.specs.Writes.{WritesOwn, FinishesOwn, ResetsOwn, SetsOwnPriority}
+use Rattle.quic_history.specs.Acknowledged.{AcksOwn, LosesOwn, AcksReset}
 
 -- a call on the sending side and its answer
 pub data SendEvent : Type 0 where
@@ -40,6 +42,12 @@ pub data SendEvent : Type 0 where
   ResetOwn : (id code : ℕ) → (answer : Result (Unit {0}) HandleError) → SendEvent
   -- a stream was given a priority
   SetOwnPriority : (id : ℕ) → (priority : ℤ) → (answer : Result (Unit {0}) HandleError) → SendEvent
+  -- it was reported that a STREAM frame with these offsets, and with the end or not, was acknowledged
+  AckedOwn : (id : ℕ) → (offsets : Range ℕ) → (fin : Bool) → (answer : Result (Unit {0}) OutOfMemory) → SendEvent
+  -- that such a frame was lost
+  LostOwn : (id : ℕ) → (offsets : Range ℕ) → (fin : Bool) → (answer : Result (Unit {0}) OutOfMemory) → SendEvent
+  -- that the RESET_STREAM of a stream was acknowledged
+  ResetAckedOwn : (id : ℕ) → (answer : Result (Unit {0}) OutOfMemory) → SendEvent
   -- the application asked what it is to be told
   Polled : (answer : Option StreamEvent) → SendEvent
 
@@ -57,3 +65,6 @@ SendStep u (WroteOwn id lists closed answer) v = (p : Pending) × (q : Pending) 
 SendStep u (FinishedOwn id answer) v = FinishesOwn u id answer v
 SendStep u (ResetOwn id code answer) v = (p : Pending) × (q : Pending) × ResetsOwn u id code p answer v q
 SendStep u (SetOwnPriority id priority answer) v = SetsOwnPriority u id priority answer v
+SendStep u (AckedOwn id offsets fin answer) v = AcksOwn u id offsets fin answer v
+SendStep u (LostOwn id offsets fin answer) v = LosesOwn u id offsets fin answer v
+SendStep u (ResetAckedOwn id answer) v = AcksReset u id answer v

@@ -14,8 +14,8 @@ use Rattle.quic_outgoing.specs.declared.limits.PeerLimits.{PeerLimits}
 use Rattle.quic_outgoing.specs.declared.writing.Wrote.{Wrote}
 use Rattle.quic_outgoing.specs.Writing.{TakesBytesOf}
 use Rattle.quic_outgoing.specs.Outgoing.{Outgoing, no_streams, own_of, with_own, with_send_half, with_params, fresh_sender}
-use Rattle.quic_outgoing.specs.History.{Call, Permitted, PermittedFirst, Removed, GaveParams, Opened, GaveData, GaveStreams, GaveStream, WasStopped, Writing, Finished, Reset, SetPriority, Polled, SetWindow, DoesCall, bytes_by, data_limit_of, count_in, given_for, count_given_by, opened_by, TellsBudget, ComesFrom, Continues}
-use Rattle.quic_outgoing.proofs.Keeping.{Keeps, keeps-all, keeps-is, keeps-stream, keeps-rise, keeps-stop, keeps-blocked, keeps-polled}
+use Rattle.quic_outgoing.specs.History.{Call, Permitted, PermittedMore, Removed, GaveParams, Opened, GaveData, GaveStreams, GaveStream, WasStopped, Writing, Finished, Reset, SetPriority, Polled, SetWindow, AckedFrame, LostFrame, ResetAcked, DoesCall, bytes_by, data_limit_of, count_in, given_for, count_given_by, opened_by, TellsBudget, ComesFrom, Continues}
+use Rattle.quic_outgoing.proofs.Keeping.{Keeps, keeps-all, keeps-is, keeps-stream, keeps-rise, keeps-stop, keeps-blocked, keeps-polled, keeps-acked, keeps-lost, keeps-given-up}
 
 -- what a call adds to what was sent, to the limits, and to what was opened
 record Moves (u : Outgoing) (e : Call) (v : Outgoing) : Type 0 where
@@ -268,10 +268,8 @@ write-moves u id lists left wrote v t = moves-is t.is (record {
 moves : (u : Outgoing) (e : Call) (v : Outgoing) → DoesCall u e v → Moves u e v
 moves u (Permitted id) v h = idle u _ v (record { bytes = refl; limit = refl; opened = λ dir. refl; counted = λ dir. refl })
     (keeps-is h (keeps-stream u id _))
-moves u (PermittedFirst count (Ok done)) v h = idle u _ v (record { bytes = refl; limit = refl; opened = λ dir. refl; counted = λ dir. refl })
+moves u (PermittedMore first count) v h = idle u _ v (record { bytes = refl; limit = refl; opened = λ dir. refl; counted = λ dir. refl })
     (keeps-is h (record { side = refl; sent = refl; limit = refl; bi = refl; uni = refl }))
-moves u (PermittedFirst count (Err e)) v h = idle u _ v (record { bytes = refl; limit = refl; opened = λ dir. refl; counted = λ dir. refl })
-    (keeps-is h (keeps-all u))
 moves u (Removed id) v h = idle u _ v (record { bytes = refl; limit = refl; opened = λ dir. refl; counted = λ dir. refl })
     (keeps-is h (keeps-stream u id None))
 moves u (GaveParams params) v h = moves-is h (params-move u params)
@@ -321,6 +319,16 @@ moves u (Polled answer) v h = idle u _ v (record { bytes = refl; limit = refl; o
     (keeps-polled u v answer h)
 moves u (SetWindow window) v h = idle u _ v (record { bytes = refl; limit = refl; opened = λ dir. refl; counted = λ dir. refl })
     (keeps-is h (record { side = refl; sent = refl; limit = refl; bi = refl; uni = refl }))
+moves u (AckedFrame id offsets fin (Ok done)) v h = idle u _ v (record { bytes = refl; limit = refl; opened = λ dir. refl; counted = λ dir. refl })
+    (keeps-acked u id offsets fin done v h)
+moves u (AckedFrame id offsets fin (Err e)) v h = idle u _ v (record { bytes = refl; limit = refl; opened = λ dir. refl; counted = λ dir. refl })
+    (keeps-is h (keeps-all u))
+moves u (LostFrame id offsets fin (Ok queue)) v h = idle u _ v (record { bytes = refl; limit = refl; opened = λ dir. refl; counted = λ dir. refl })
+    (keeps-lost u id offsets fin queue v h)
+moves u (LostFrame id offsets fin (Err e)) v h = idle u _ v (record { bytes = refl; limit = refl; opened = λ dir. refl; counted = λ dir. refl })
+    (keeps-is h (keeps-all u))
+moves u (ResetAcked id answer) v h = idle u _ v (record { bytes = refl; limit = refl; opened = λ dir. refl; counted = λ dir. refl })
+    (keeps-is h.1 (keeps-given-up u id))
 
 -- one more call
 pub next : (side : Side) (window : ℕ) (h : List Call) (u : Outgoing) (e : Call) (v : Outgoing) → ComesFrom side window h u → DoesCall u e v → ComesFrom side window (e ∷ h) v

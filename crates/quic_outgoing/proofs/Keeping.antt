@@ -1,11 +1,13 @@
 -- What a call leaves of the budget, and of the streams that were opened.
-use Rattle.std.proofs.Common.{◌≡◌, ℕ, Bool, true, false, cond, Option, Some, None, refl, ap, ◌∙◌}
+use Rattle.std.proofs.Common.{◌≡◌, ℕ, ℤ, Bool, true, false, cond, Option, Some, None, refl, ap, ◌∙◌}
 use Rattle.std.specs.Prelude.{MatchBool}
 use Rattle.quic_limits.specs.SendingCredit.{SendingCredit, with_blocked, is_blocked_due}
 use Rattle.quic_sending.specs.declared.send.Send.{Send}
 use Rattle.quic_outgoing.specs.Outgoing.{Outgoing, with_send_half, waiting, is_stuck}
 use Rattle.quic_outgoing.specs.Calls.{after_rise, with_rise, is_woken, with_stop_reason, PollsWritable}
 use Rattle.quic_outgoing.specs.Writing.{after_blocked}
+use Rattle.std.specs.declared.ops.Range.{Range}
+use Rattle.quic_outgoing.specs.Acknowledging.{AcksHalf, LosesOnHalf, were_sent, is_given_up, without_given_up}
 use Rattle.std.specs.Prelude.{◌&&◌}
 
 -- nothing more was sent, no limit rose, and nothing was opened
@@ -74,3 +76,20 @@ none-polled false P u v w k h = keeps-is h.1 k
 pub keeps-polled : (u v : Outgoing) (answer : Option ℕ) → PollsWritable u answer v → Keeps u v
 keeps-polled u v None h = none-polled (is_stuck u) _ u v _ (record { side = refl; sent = refl; limit = refl; bi = refl; uni = refl }) h
 keeps-polled u v (Some id) h = keeps-is h.6 (record { side = refl; sent = refl; limit = refl; bi = refl; uni = refl })
+
+keeps-either : (b : Bool) {P Q : Type 0} (u v : Outgoing) → (P → Keeps u v) → (Q → Keeps u v) → MatchBool b P Q → Keeps u v
+keeps-either true u v p q h = p h
+keeps-either false u v p q h = q h
+
+pub keeps-acked : (u : Outgoing) (id : ℕ) (offsets : Range ℕ) (fin done : Bool) (v : Outgoing)
+    → MatchBool (were_sent (u.halves id) offsets) (AcksHalf u id offsets fin done v) ((done ≡ false) × (v ≡ u)) → Keeps u v
+keeps-acked u id offsets fin done v h = keeps-either (were_sent (u.halves id) offsets) u v
+    (λ a. keeps-is a.is (record { side = refl; sent = refl; limit = refl; bi = refl; uni = refl })) (λ n. keeps-is n.1 (keeps-all u)) h
+
+pub keeps-lost : (u : Outgoing) (id : ℕ) (offsets : Range ℕ) (fin : Bool) (queue : Option ℤ) (v : Outgoing)
+    → MatchBool (were_sent (u.halves id) offsets) (LosesOnHalf u id offsets fin queue v) ((queue ≡ None) × (v ≡ u)) → Keeps u v
+keeps-lost u id offsets fin queue v h = keeps-either (were_sent (u.halves id) offsets) u v
+    (λ a. keeps-is a.is (keeps-stream u id (Some a.after))) (λ n. keeps-is n.1 (keeps-all u)) h
+
+pub keeps-given-up : (u : Outgoing) (id : ℕ) → Keeps u (without_given_up u id)
+keeps-given-up u id = keeps-choice (is_given_up (u.halves id)) u _ _ (keeps-stream u id None) (keeps-all u)

@@ -3,6 +3,6 @@ pub mod Results
 pub mod PeerStreams
 pub mod Marks
 pub mod WriteSteps
-pub mod FirstOfPeer
+pub mod AckSteps
 pub mod Keeping
 pub mod Histories

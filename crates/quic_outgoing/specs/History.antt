@@ -1,6 +1,7 @@
 -- The history of the sending side: the calls on it with their answers, the newest first, and what it says of what may be
 -- sent.
 use Rattle.std.specs.Prelude.{◌≡◌, ℕ, ℤ, ◌+◌, ◌≤◌, ◌^◌, Bool, max, min, List, [], ◌∷◌, Option, Some, None, Result, Ok, Err}
+use Rattle.std.specs.declared.ops.Range.{Range}
 use Rattle.quic_values.specs.declared.ids.Side.{Side}
 use Rattle.quic_values.specs.declared.ids.Dir.{Dir}
 use Rattle.quic_values.specs.declared.ids.Dir.TheVariants.{Bi, Uni}
@@ -13,15 +14,15 @@ use Rattle.quic_receiving.specs.declared.errors.HandleError.{HandleError}
 use Rattle.quic_retransmits.specs.Pending.{Pending}
 use Rattle.quic_outgoing.specs.declared.limits.PeerLimits.{PeerLimits}
 use Rattle.quic_outgoing.specs.declared.writing.Wrote.{Wrote}
-use Rattle.quic_outgoing.specs.Senders.{with_first_of_peer, new_sender}
-use Rattle.quic_outgoing.specs.Outgoing.{Outgoing, no_streams, with_send_half, fresh_sender, own_of, with_params}
+use Rattle.quic_outgoing.specs.Outgoing.{Outgoing, no_streams, with_send_half, fresh_sender, own_of, with_params, with_more_streams}
 use Rattle.quic_outgoing.specs.Calls.{OpensStream, RaisesStreams, RaisesStream, StopsSending, FinishesStream, ResetsStream, SetsPriority, PollsWritable}
 use Rattle.quic_outgoing.specs.Writing.{WritesOn}
+use Rattle.quic_outgoing.specs.Acknowledging.{AcksFrame, LosesFrame, is_given_up, without_given_up}
 
 -- a call and its answer
 pub data Call : Type 0 where
   Permitted : (id : ℕ) → Call
-  PermittedFirst : (count : ℕ) → (answer : Result (Unit {0}) OutOfMemory) → Call
+  PermittedMore : (first count : ℕ) → Call
   Removed : (id : ℕ) → Call
   GaveParams : (params : PeerLimits) → Call
   Opened : (dir : Dir) → (answer : Result (Option ℕ) OutOfMemory) → Call
@@ -35,16 +36,14 @@ pub data Call : Type 0 where
   SetPriority : (id : ℕ) → (priority : ℤ) → (answer : Result (Unit {0}) HandleError) → Call
   Polled : (answer : Option ℕ) → Call
   SetWindow : (window : ℕ) → Call
-
--- the peer's first streams are permitted, or none
-abbrev pub PermitsFirst : Outgoing → ℕ → Result (Unit {0}) OutOfMemory → Outgoing → Type 0
-PermitsFirst u count (Ok done) v = v ≡ record u { halves = with_first_of_peer u.halves u.side count (new_sender u.first.peer_bi) }
-PermitsFirst u count (Err e) v = v ≡ u
+  AckedFrame : (id : ℕ) → (offsets : Range ℕ) → (fin : Bool) → (answer : Result Bool OutOfMemory) → Call
+  LostFrame : (id : ℕ) → (offsets : Range ℕ) → (fin : Bool) → (answer : Result (Option ℤ) OutOfMemory) → Call
+  ResetAcked : (id : ℕ) → (answer : Bool) → Call
 
 -- what one call may do; a write and a reset also with what was to be sent before, and after
 abbrev pub DoesCall : Outgoing → Call → Outgoing → Type 0
 DoesCall u (Permitted id) v = v ≡ with_send_half u id (Some (fresh_sender u id))
-DoesCall u (PermittedFirst count answer) v = PermitsFirst u count answer v
+DoesCall u (PermittedMore first count) v = v ≡ with_more_streams u first count
 DoesCall u (Removed id) v = v ≡ with_send_half u id None
 DoesCall u (GaveParams params) v = v ≡ with_params u params
 DoesCall u (Opened dir answer) v = OpensStream u dir answer v
@@ -58,6 +57,9 @@ DoesCall u (Reset id code answer) v = (p : Pending) × (q : Pending) × ResetsSt
 DoesCall u (SetPriority id priority answer) v = SetsPriority u id priority answer v
 DoesCall u (Polled answer) v = PollsWritable u answer v
 DoesCall u (SetWindow window) v = v ≡ record u { budget = with_window u.budget window }
+DoesCall u (AckedFrame id offsets fin answer) v = AcksFrame u id offsets fin answer v
+DoesCall u (LostFrame id offsets fin answer) v = LosesFrame u id offsets fin answer v
+DoesCall u (ResetAcked id answer) v = (answer ≡ is_given_up (u.halves id)) × (v ≡ without_given_up u id)
 
 -- the calls, one after another from no streams on, may lead there
 abbrev pub AreCalls : Side → ℕ → List Call → Outgoing → Type 0

@@ -3,5 +3,6 @@ pub mod Seen
 pub mod Outgoing
 pub mod Calls
 pub mod Writing
+pub mod Acknowledging
 pub mod Shown
 pub mod History

@@ -72,14 +72,6 @@ joined a b = record { uni = max a.uni b.uni; own_bi = max a.own_bi b.own_bi; pee
 unfoldable pub raised_by : Side → FirstLimits → SendersById → SendersById
 raised_by side l f = λ q. option_map (raised (first_limit side l q)) (f q)
 
--- whether an id is one of the first so many bidirectional streams of the peer
-abbrev pub is_first_of_peer : Side → ℕ → ℕ → Bool
-is_first_of_peer side count id = (id == stream_id (other_side side) Bi (index_of id)) && nat_lt (index_of id) count
-
--- the same half at each of those
-unfoldable pub with_first_of_peer : SendersById → Side → ℕ → Send → SendersById
-with_first_of_peer f side count s = λ q. if is_first_of_peer side count q then Some s else f q
-
 -- whether an id is one of so many streams of an initiator and a direction, from an index on
 abbrev pub is_between : Side → Dir → ℕ → ℕ → ℕ → Bool
 is_between initiator dir first count id = (id == stream_id initiator dir (index_of id)) && (nat_le first (index_of id) && nat_lt (index_of id) (first + count))

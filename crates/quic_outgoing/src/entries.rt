@@ -1,9 +1,10 @@
 //! The send halves of a connection's streams.
 
-ghost use Rattle.std.specs.Prelude.{◌≡◌, ◌⊎◌, ◌+◌, ◌<◌, ◌≤◌, ◌^◌, Some, None, IfOk, IfSome, IfNone, OnSome, OnOk, OnErr, is_some, true, false, max};
+ghost use Rattle.std.specs.Prelude.{◌≡◌, ◌⊎◌, ◌+◌, ◌<◌, ◌≤◌, Some, None, IfOk, IfSome, IfNone, OnSome, OnOk, OnErr, is_some, true, false, max};
 ghost use Rattle.std.specs.Option.{option_map};
-ghost use Rattle.quic_outgoing.specs.Senders.{bare, raised, new_sender, with_sender, with_first_of_peer, first_limit, first_for, are_one_end, is_local, no_limits, joined, raised_by};
+ghost use Rattle.quic_outgoing.specs.Senders.{bare, raised, new_sender, with_sender, first_limit, first_for, are_one_end, is_local, no_limits, joined, raised_by};
 ghost use Rattle.quic_outgoing.specs.Calls.{told_of_half, blocked_limit, can_take, unmarked};
+ghost use Rattle.quic_outgoing.specs.Acknowledging.{is_given_up};
 ghost use Rattle.quic_outgoing.specs.Seen.{senders, sender_room};
 
 use quic_sending::{ClosedStream, Send};
@@ -132,21 +133,6 @@ impl SendEntries {
         let _ = self.entries.insert(id, None);
     }
 
-    /// The peer may open its first so many bidirectional streams. If refused, none of them is permitted.
-    pub(crate) fn permit_first(&mut self, count: u64) -> Result<(), OutOfMemory>
-        requires { count ≤ 2 ^ 60 }
-        ensures halves { OnOk result (senders self.new ≡ with_first_of_peer (senders self.old) self.old.side count (new_sender self.old.first.peer_bi)) }
-        ensures err { OnErr result (senders self.new ≡ senders self.old) }
-        ensures side { self.new.side ≡ self.old.side }
-        ensures first { self.new.first ≡ self.old.first }
-    {
-        self.reserve(count as usize)?;
-        for index in 0..count {
-            self.permit(StreamId::new(!self.side, Dir::Bi, index));
-        }
-        Ok(())
-    }
-
     /// Whether the half of a stream is held.
     pub(crate) fn contains(&self, id: StreamId) -> bool
         ensures { result ≡ is_some (senders self.now id) }
@@ -257,6 +243,17 @@ impl SendEntries {
             Some(Some(half)) => {
                 half.is_writable() && half.offset() < greater(half.max_data, limit).into_inner()
             }
+        }
+    }
+
+    /// Whether a stream was reset and its half is still held.
+    pub(crate) fn is_reset(&self, id: StreamId) -> bool
+        ensures { result ≡ is_given_up (senders self.now id) }
+    {
+        match self.entries.get(&id) {
+            None => false,
+            Some(None) => false,
+            Some(Some(half)) => half.is_reset(),
         }
     }
 

@@ -1,6 +1,7 @@
 //! The sending side of a connection's streams (RFC 9000 sections 2 to 4).
 #![tactic(auto)]
 
+mod acknowledging;
 mod closing;
 mod entries;
 mod limits;

@@ -1,12 +1,11 @@
 //! The streams on which one end of a connection sends.
 
-ghost use Rattle.std.specs.Prelude.{[], ◌≡◌, ◌+◌, ◌<◌, ◌≤◌, ◌^◌, ◌⊎◌, ◌↔◌, Some, None, OnOk, OnErr, is_some, nat_le};
+ghost use Rattle.std.specs.Prelude.{[], ◌≡◌, ◌+◌, ◌<◌, ◌≤◌, ◌⊎◌, ◌↔◌, Some, None, OnOk, OnErr, is_some, nat_le};
 ghost use Rattle.quic_limits.specs.SendingCredit.{writable, with_limit, with_window, is_blocked_reported};
-ghost use Rattle.quic_outgoing.specs.Senders.{new_sender, with_first_of_peer};
 ghost use Rattle.quic_values.specs.Ids.{dir_of, index_of};
 ghost use Rattle.quic_outgoing.specs.Outgoing.{no_streams, with_send_half, fresh_sender, own_of, with_params};
 ghost use Rattle.quic_outgoing.specs.Calls.{OpensStream, RaisesStreams, told_of_half, blocked_limit};
-ghost use Rattle.quic_outgoing.specs.History.{Permitted, PermittedFirst, Removed, GaveParams, Opened, GaveData, GaveStreams, SetWindow, ComesFrom, Continues};
+ghost use Rattle.quic_outgoing.specs.History.{Permitted, Removed, GaveParams, Opened, GaveData, GaveStreams, SetWindow, ComesFrom, Continues};
 ghost use Rattle.quic_outgoing.specs.Shown.{view_of, permit_room};
 
 use crate::entries::{FirstLimits, SendEntries};
@@ -65,17 +64,6 @@ impl OutgoingStreams {
         ensures from { Continues (view_of self.old) (Permitted id) (view_of self.new) }
     {
         self.halves.permit(id);
-    }
-
-    /// The peer may open its first so many bidirectional streams. If refused, none of them is permitted. Takes as long as
-    /// there are such streams.
-    pub fn permit_first(&mut self, count: u64) -> Result<(), OutOfMemory>
-        requires { count ≤ 2 ^ 60 }
-        ensures ok { OnOk result (view_of self.new ≡ record (view_of self.old) { halves = with_first_of_peer (view_of self.old).halves (view_of self.old).side count (new_sender (view_of self.old).first.peer_bi) }) }
-        ensures err { OnErr result (view_of self.new ≡ view_of self.old) }
-        ensures from { Continues (view_of self.old) (PermittedFirst count result) (view_of self.new) }
-    {
-        self.halves.permit_first(count)
     }
 
     /// Whether the send half of a stream is held.

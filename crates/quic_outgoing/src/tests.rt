@@ -1,5 +1,6 @@
 //! Steps on the sending side of one end, and what each has to answer.
 
+mod acknowledging;
 mod refusals;
 mod sizes;
 mod worked;

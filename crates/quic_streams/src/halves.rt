@@ -89,6 +89,13 @@ impl ReceiveHalves {
         }
     }
 
+    /// Whether the half of a stream is held.
+    pub(crate) fn contains(&self, id: StreamId) -> bool
+        ensures { result ≡ is_some (held self.now id) }
+    {
+        self.entries.contains_key(&id)
+    }
+
     /// Whether the half of a stream is held, is not stopped, and its final size is not known.
     pub(crate) fn is_flow_controlled(&self, id: StreamId) -> bool
         ensures { result ≡ is_flow_controlled (held self.now id) }

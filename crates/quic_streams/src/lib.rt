@@ -1,6 +1,7 @@
 //! The streams of a connection.
 #![tactic(auto)]
 
+mod acknowledging;
 pub mod batches;
 mod control;
 pub mod halves;

@@ -204,7 +204,7 @@ impl StreamsState {
     }
 
     // Whether a stream is this end's, or one that the peer may open.
-    fn is_permitted(&self, id: StreamId) -> bool
+    pub(crate) fn is_permitted(&self, id: StreamId) -> bool
         ensures { result ≡ is_permitted (shown self.now) id }
     {
         if self.is_own(id) {

@@ -207,7 +207,8 @@ impl StreamsState {
         requires room { 0 < room self.old.receive }
         requires send_room { 0 < permit_room self.old.outgoing }
         requires index { index < 2 ^ 60 }
-        ensures { shown self.new ≡ with_permitted (shown self.old) Dir.Bi index }
+        ensures permitted { shown self.new ≡ with_permitted (shown self.old) Dir.Bi index }
+        ensures events { HasEventRoom self.old → HasEventRoom self.new }
     {
         let id = StreamId::new(!self.outgoing.side(), Dir::Bi, index);
         self.receive.permit(id);
@@ -224,10 +225,11 @@ impl StreamsState {
         }
     }
 
-    fn replace_bi(&mut self)
+    pub(crate) fn replace_bi(&mut self)
         requires room { 0 < room self.old.receive }
         requires send_room { 0 < permit_room self.old.outgoing }
-        ensures { shown self.new ≡ replaced_in (shown self.old) Dir.Bi }
+        ensures replaced { shown self.new ≡ replaced_in (shown self.old) Dir.Bi }
+        ensures events { HasEventRoom self.old → HasEventRoom self.new }
     {
         if let Some(index) = self.bi.replace() {
             self.permit_bi(index);

@@ -1,5 +1,6 @@
 //! Steps on the receiving side of one end, and what each has to answer.
 
+mod acknowledging;
 mod control;
 mod reading;
 mod receiving;

@@ -75,7 +75,7 @@ impl StreamsState {
     }
 
     // Makes the room to queue a stream at its priority. One that is not there has none.
-    fn reserve_place(&mut self, id: StreamId) -> Result<(), OutOfMemory>
+    pub(crate) fn reserve_place(&mut self, id: StreamId) -> Result<(), OutOfMemory>
         ensures same { shown self.new ≡ shown self.old }
         ensures ok { OnOk result (HasPlace self.new id) }
     {
@@ -86,7 +86,7 @@ impl StreamsState {
     }
 
     // Queues a stream at its priority where that is asked for, in room that was made.
-    fn queue_at(&mut self, id: StreamId, priority: Option<i32>)
+    pub(crate) fn queue_at(&mut self, id: StreamId, priority: Option<i32>)
         requires { HasPlaceAt self.old priority }
         ensures { shown self.new ≡ with_queued (shown self.old) id priority }
     {

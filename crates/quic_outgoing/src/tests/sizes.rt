@@ -81,8 +81,8 @@ fn many_streams_wait_and_are_told(rt: HostRuntime) {
 fn streams_of_the_peer_are_permitted(rt: HostRuntime) -> Result<(), Fail> {
     let alloc = rt.alloc();
     let mut subject = end(alloc, Side::Server, 0, 100, 9);
-    subject.state.permit_first(3)?;
-    subject.state.reserve(1)?;
+    subject.state.reserve(4)?;
+    subject.state.permit_more(0, 3);
     subject.state.permit(id(12));
     take(
         &rt,

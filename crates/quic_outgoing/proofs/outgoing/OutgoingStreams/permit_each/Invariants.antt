@@ -1,7 +1,7 @@
 use Rattle.std.proofs.Common.{◌≡◌, ◌+◌, ◌≤◌}
 use Rattle.quic_outgoing.specs.Outgoing.{with_more_streams}
 use Rattle.quic_outgoing.specs.Shown.{view_of, permit_room}
-use Rattle.quic_outgoing.proofs.outgoing.OutgoingStreams.permit_more.Given as goal
+use Rattle.quic_outgoing.proofs.outgoing.OutgoingStreams.permit_each.Given as goal
 
 abbrev pub invariant-loop-offset : goal.invariant-loop-offset
 invariant-loop-offset l = record {

@@ -1,0 +1,146 @@
+// Acknowledgements and losses of frames.
+use super::{Answer, Step, Subject, end, id, run};
+use quic_values::{Dir, Side};
+use std::process::Abort;
+use std::rt::HostRuntime;
+use std::test::Fail;
+
+// Sends all that is due on a stream.
+fn send_all(rt: &impl Abort, subject: &mut Subject, stream: u32) {
+    match subject.state.halves.take(id(stream)) {
+        Ok(Some(half)) => {
+            let mut half = half;
+            assert!(rt; half.pending.poll_transmit(1200).is_ok());
+            half.fin_pending = false;
+            subject.state.halves.put(id(stream), half);
+        }
+        _ => assert!(rt; false, "no half"),
+    }
+}
+
+fn ack(subject: &mut Subject, stream: u32, start: u64, end: u64, fin: bool) -> Option<bool> {
+    subject.state.ack(id(stream), start..end, fin).ok()
+}
+
+fn lose(
+    subject: &mut Subject,
+    stream: u32,
+    start: u64,
+    end: u64,
+    fin: bool,
+) -> Option<Option<i32>> {
+    subject.state.lose(id(stream), start..end, fin).ok()
+}
+
+#[test]
+fn what_is_acknowledged_is_released(rt: HostRuntime) -> Result<(), Fail> {
+    let alloc = rt.alloc();
+    let mut subject = end(alloc, Side::Client, 1, 100, 100);
+    let steps = [
+        Step::Open(Dir::Uni, Some(2)),
+        Step::Window(8),
+        Step::Write(2, 4, Answer::Took(4, true)),
+        Step::Write(2, 4, Answer::Took(4, false)),
+        Step::Limit(0),
+    ];
+    run(&rt, alloc, &mut subject, &steps);
+    // Nothing was sent yet.
+    assert_eq!(&rt; ack(&mut subject, 2, 0, 4, false), Some(false));
+    run(&rt, alloc, &mut subject, &[Step::Limit(0)]);
+    send_all(&rt, &mut subject, 2);
+    assert_eq!(&rt; ack(&mut subject, 2, 4, 8, false), Some(false));
+    run(&rt, alloc, &mut subject, &[Step::Limit(0)]);
+    assert_eq!(&rt; ack(&mut subject, 2, 0, 9, false), Some(false));
+    run(&rt, alloc, &mut subject, &[Step::Limit(0)]);
+    assert_eq!(&rt; ack(&mut subject, 2, 0, 4, false), Some(false));
+    run(&rt, alloc, &mut subject, &[Step::Limit(8)]);
+    Ok(())
+}
+
+#[test]
+fn complete_streams_are_let_go(rt: HostRuntime) -> Result<(), Fail> {
+    let alloc = rt.alloc();
+    let mut subject = end(alloc, Side::Client, 1, 100, 100);
+    let steps = [
+        Step::Open(Dir::Uni, Some(2)),
+        Step::Write(2, 8, Answer::Took(8, true)),
+        Step::Finish(2, Answer::Done(false)),
+    ];
+    run(&rt, alloc, &mut subject, &steps);
+    send_all(&rt, &mut subject, 2);
+    // The end alone is not all.
+    assert_eq!(&rt; ack(&mut subject, 2, 8, 8, true), Some(false));
+    assert_eq!(&rt; ack(&mut subject, 2, 4, 8, false), Some(false));
+    run(&rt, alloc, &mut subject, &[Step::Holds(2, true)]);
+    assert_eq!(&rt; ack(&mut subject, 2, 0, 4, false), Some(true));
+    run(&rt, alloc, &mut subject, &[Step::Holds(2, false)]);
+    assert_eq!(&rt; ack(&mut subject, 2, 0, 4, false), Some(false));
+    assert_eq!(&rt; lose(&mut subject, 2, 0, 4, true), Some(None));
+    Ok(())
+}
+
+#[test]
+fn what_is_lost_is_due_again(rt: HostRuntime) -> Result<(), Fail> {
+    let alloc = rt.alloc();
+    let mut subject = end(alloc, Side::Client, 1, 100, 100);
+    let steps = [
+        Step::Open(Dir::Uni, Some(2)),
+        Step::Write(2, 8, Answer::Took(8, true)),
+        Step::SetPriority(2, 7),
+    ];
+    run(&rt, alloc, &mut subject, &steps);
+    // It is queued, since nothing was sent.
+    assert_eq!(&rt; lose(&mut subject, 2, 0, 0, false), Some(None));
+    send_all(&rt, &mut subject, 2);
+    assert_eq!(&rt; lose(&mut subject, 2, 0, 9, false), Some(None));
+    assert_eq!(&rt; lose(&mut subject, 2, 2, 4, false), Some(Some(7)));
+    assert_eq!(&rt; lose(&mut subject, 2, 0, 2, false), Some(None));
+    let half = subject.state.halves.take(id(2));
+    match half {
+        Ok(Some(half)) => {
+            assert_eq!(&rt; half.pending.next_transmit(1200).0, 0..4);
+            // The end of a stream that was not finished cannot be lost.
+            assert!(&rt; !half.fin_pending);
+            subject.state.halves.put(id(2), half);
+        }
+        _ => assert!(&rt; false, "no half"),
+    }
+    send_all(&rt, &mut subject, 2);
+    run(
+        &rt,
+        alloc,
+        &mut subject,
+        &[Step::Finish(2, Answer::Done(true))],
+    );
+    send_all(&rt, &mut subject, 2);
+    assert_eq!(&rt; lose(&mut subject, 2, 8, 8, true), Some(Some(7)));
+    assert_eq!(&rt; lose(&mut subject, 2, 8, 8, true), Some(None));
+    Ok(())
+}
+
+#[test]
+fn acknowledged_resets_let_go(rt: HostRuntime) -> Result<(), Fail> {
+    let alloc = rt.alloc();
+    let mut subject = end(alloc, Side::Client, 1, 100, 100);
+    let steps = [
+        Step::Open(Dir::Uni, Some(2)),
+        Step::Write(2, 8, Answer::Took(8, true)),
+    ];
+    run(&rt, alloc, &mut subject, &steps);
+    assert!(&rt; !subject.state.reset_acked(id(2)));
+    run(
+        &rt,
+        alloc,
+        &mut subject,
+        &[Step::Reset(2, 1, Answer::Done(false)), Step::Holds(2, true)],
+    );
+    assert!(&rt; subject.state.is_reset(id(2)));
+    assert_eq!(&rt; ack(&mut subject, 2, 0, 8, true), Some(false));
+    assert_eq!(&rt; lose(&mut subject, 2, 0, 8, true), Some(None));
+    run(&rt, alloc, &mut subject, &[Step::Holds(2, true)]);
+    assert!(&rt; subject.state.reset_acked(id(2)));
+    run(&rt, alloc, &mut subject, &[Step::Holds(2, false)]);
+    assert!(&rt; !subject.state.reset_acked(id(2)));
+    assert!(&rt; !subject.state.is_reset(id(2)));
+    Ok(())
+}

@@ -1,0 +1,119 @@
+//! Acknowledgements and losses of what this end sent.
+
+ghost use Rattle.std.specs.Prelude.{ℕ, List, ◌∷◌, ◌≡◌, ◌≤◌};
+ghost use Rattle.quic_streams.specs.Room.{rooms, HasEventRoom};
+ghost use Rattle.quic_streams.specs.Shown.{shown};
+ghost use Rattle.quic_history.specs.World.{Made};
+ghost use Rattle.quic_history.specs.Acknowledged.{AcksOwn, LosesOwn, AcksReset, with_send_freed};
+ghost use Rattle.quic_history.specs.SendEvents.{AckedOwn, LostOwn, ResetAckedOwn};
+ghost use Rattle.quic_history.specs.History.{Event, Sending, From};
+
+use crate::state::StreamsState;
+use quic_values::{Dir, OutOfMemory, StreamId};
+use quic_wire::{StreamEvent, frame};
+
+#[tactic(auto, unfolding(crate::specs::Shown::shown, crate::specs::Room::rooms, crate::specs::Room::HasEventRoom))]
+impl StreamsState {
+    /// A STREAM frame was acknowledged (RFC 9000 section 13.3): its data are not sent again, and count no more for the
+    /// send window. Where by this the end and every byte of a stream are acknowledged, its send half is freed, the
+    /// application is told that it is finished, and one of the peer that is wholly freed by it makes room for another.
+    ///
+    /// The report of a stream that is freed or was reset, or of data that were not sent, changes nothing. If refused, all
+    /// is as it was.
+    pub fn received_ack_of(&mut self, frame: frame::StreamMeta) -> Result<(), OutOfMemory>
+        ensures acks { AcksOwn (shown self.old) frame.id frame.offsets frame.fin result (shown self.new) }
+        ensures from { (m : Made) (h : List Event) → From m h (shown self.old)
+            → From m (Sending (AckedOwn frame.id frame.offsets frame.fin result) ∷ h) (shown self.new) }
+    {
+        self.take_ack(frame)
+    }
+
+    // The same, each way out.
+    fn take_ack(&mut self, frame: frame::StreamMeta) -> Result<(), OutOfMemory>
+        ensures { AcksOwn (shown self.old) frame.id frame.offsets frame.fin result (shown self.new) }
+    {
+        let id = frame.id;
+        if !self.is_permitted(id) {
+            return Ok(());
+        }
+        self.make_room()?;
+        if self.outgoing.ack(id, frame.offsets, frame.fin)? {
+            self.free_send(id);
+            self.events.push_back_reserved(StreamEvent::Finished { id });
+        }
+        Ok(())
+    }
+
+    /// A STREAM frame was lost (RFC 9000 section 13.3): those of its data that are not acknowledged are to be sent again,
+    /// and the end of the stream, if the frame had it. The stream is queued where nothing was to be sent on it before.
+    ///
+    /// The report of a stream that is freed or was reset, or of data that were not sent, changes nothing. If refused, all
+    /// is as it was.
+    pub fn retransmit(&mut self, frame: frame::StreamMeta) -> Result<(), OutOfMemory>
+        ensures loses { LosesOwn (shown self.old) frame.id frame.offsets frame.fin result (shown self.new) }
+        ensures from { (m : Made) (h : List Event) → From m h (shown self.old)
+            → From m (Sending (LostOwn frame.id frame.offsets frame.fin result) ∷ h) (shown self.new) }
+    {
+        self.take_loss(frame)
+    }
+
+    // The same, each way out.
+    fn take_loss(&mut self, frame: frame::StreamMeta) -> Result<(), OutOfMemory>
+        ensures { LosesOwn (shown self.old) frame.id frame.offsets frame.fin result (shown self.new) }
+    {
+        let id = frame.id;
+        self.reserve_place(id)?;
+        match self.outgoing.lose(id, frame.offsets, frame.fin) {
+            Err(error) => {
+                self.queue.release();
+                Err(error)
+            }
+            Ok(queue_at) => {
+                self.queue_at(id, queue_at);
+                Ok(())
+            }
+        }
+    }
+
+    /// The RESET_STREAM of a stream was acknowledged (RFC 9000 section 3.1): the send half of one that was reset is
+    /// freed, and one of the peer that is wholly freed by it makes room for another. If refused, all is as it was.
+    pub fn reset_acked(&mut self, id: StreamId) -> Result<(), OutOfMemory>
+        ensures acks { AcksReset (shown self.old) id result (shown self.new) }
+        ensures from { (m : Made) (h : List Event) → From m h (shown self.old) → From m (Sending (ResetAckedOwn id result) ∷ h) (shown self.new) }
+    {
+        self.take_reset_ack(id)
+    }
+
+    // The same, each way out.
+    fn take_reset_ack(&mut self, id: StreamId) -> Result<(), OutOfMemory>
+        ensures { AcksReset (shown self.old) id result (shown self.new) }
+    {
+        let frees = self.is_permitted(id) && self.outgoing.is_reset(id);
+        if !frees {
+            return Ok(());
+        }
+        self.make_stream_room()?;
+        let _ = self.outgoing.reset_acked(id);
+        self.free_send(id);
+        Ok(())
+    }
+
+    // The send half of a stream was let go. There is room for a stream in its place.
+    fn free_send(&mut self, id: StreamId)
+        requires { 1 ≤ rooms self.old }
+        ensures freed { shown self.new ≡ with_send_freed (shown self.old) id }
+        ensures events { HasEventRoom self.old → HasEventRoom self.new }
+    {
+        if self.is_own(id) {
+            return;
+        }
+        match id.dir() {
+            Dir::Uni => {}
+            Dir::Bi => {
+                if !self.receive.contains(id) {
+                    self.replace_bi();
+                }
+            }
+        }
+    }
+}

@@ -1,0 +1,178 @@
+// Acknowledgements and losses of what an end sent.
+use super::{Answer, Subject, client, id, receive};
+use crate::PeerLimits;
+use crate::recv_stream::RecvStream;
+use crate::send_stream::SendStream;
+use crate::streams::{ConnState, Streams};
+use quic_values::{Dir, OutOfMemory, StreamId, VarInt};
+use quic_wire::{StreamEvent, frame};
+use std::alloc::Global;
+use std::process::Abort;
+use std::rt::HostRuntime;
+use std::test::Fail;
+
+// A client that permits its peer one stream of each direction, and may itself open two.
+fn end(alloc: Global) -> Result<Subject, OutOfMemory> {
+    let mut subject = client(alloc, 1, 100, 100)?;
+    let limit = VarInt::from(100u32);
+    let streams = VarInt::from(2u32);
+    subject.state.set_params(&PeerLimits {
+        initial_max_data: limit,
+        initial_max_streams_bidi: streams,
+        initial_max_streams_uni: streams,
+        initial_max_stream_data_uni: limit,
+        initial_max_stream_data_bidi_local: limit,
+        initial_max_stream_data_bidi_remote: limit,
+    });
+    Ok(subject)
+}
+
+fn open(subject: &mut Subject) -> Option<StreamId> {
+    match Streams::new(&mut subject.state, ConnState::Open).open(Dir::Uni) {
+        Ok(opened) => opened,
+        Err(_) => None,
+    }
+}
+
+fn sending(subject: &mut Subject, stream: u32) -> SendStream<'_> {
+    SendStream::new(
+        id(stream),
+        &mut subject.state,
+        &mut subject.pending,
+        ConnState::Open,
+    )
+}
+
+fn is_open(subject: &mut Subject, stream: u32) -> bool {
+    sending(subject, stream).priority().is_ok()
+}
+
+fn meta(stream: u32, end: u64, fin: bool) -> frame::StreamMeta {
+    frame::StreamMeta {
+        id: id(stream),
+        offsets: 0..end,
+        fin,
+    }
+}
+
+fn ack(rt: &impl Abort, subject: &mut Subject, frame: frame::StreamMeta) {
+    assert!(rt; subject.state.received_ack_of(frame).is_ok());
+}
+
+fn lose(rt: &impl Abort, subject: &mut Subject, frame: frame::StreamMeta) {
+    assert!(rt; subject.state.retransmit(frame).is_ok());
+}
+
+fn stop(rt: &impl Abort, subject: &mut Subject, stream: u32) {
+    let stopped = RecvStream::new(id(stream), &mut subject.state, &mut subject.pending).stop(
+        VarInt::from(9u32),
+    );
+    assert!(rt; stopped.is_ok());
+}
+
+#[test]
+fn complete_streams_are_finished(rt: HostRuntime) -> Result<(), Fail> {
+    let alloc = rt.alloc();
+    let mut subject = end(alloc)?;
+    assert_eq!(&rt; open(&mut subject), Some(id(2)));
+    assert!(&rt; sending(&mut subject, 2).finish().is_ok());
+    // Of what was not sent a report does not count.
+    ack(&rt, &mut subject, meta(2, 9, true));
+    assert_eq!(&rt; subject.state.poll(), None);
+    ack(&rt, &mut subject, meta(2, 0, false));
+    assert_eq!(&rt; subject.state.poll(), None);
+    ack(&rt, &mut subject, meta(2, 0, true));
+    assert_eq!(&rt;
+        subject.state.poll(),
+        Some(StreamEvent::Finished { id: id(2) })
+    );
+    assert!(&rt; !is_open(&mut subject, 2));
+    ack(&rt, &mut subject, meta(2, 0, true));
+    assert_eq!(&rt; subject.state.poll(), None);
+    Ok(())
+}
+
+#[test]
+fn the_end_alone_is_not_all(rt: HostRuntime) -> Result<(), Fail> {
+    let alloc = rt.alloc();
+    let mut subject = end(alloc)?;
+    assert_eq!(&rt; open(&mut subject), Some(id(2)));
+    assert!(&rt; matches!(sending(&mut subject, 2).write(b"four"), Ok(4)));
+    assert!(&rt; sending(&mut subject, 2).finish().is_ok());
+    ack(&rt, &mut subject, meta(2, 0, true));
+    assert_eq!(&rt; subject.state.poll(), None);
+    assert!(&rt; is_open(&mut subject, 2));
+    // A stream that no end opened.
+    ack(&rt, &mut subject, meta(1001, 0, true));
+    assert_eq!(&rt; subject.state.poll(), None);
+    Ok(())
+}
+
+#[test]
+fn freed_streams_of_the_peer_make_room(rt: HostRuntime) -> Result<(), Fail> {
+    let alloc = rt.alloc();
+    let mut subject = end(alloc)?;
+    assert_eq!(&rt;
+        receive(alloc, &mut subject, 1, 0, 1, true)?,
+        Answer::Taken(false)
+    );
+    assert!(&rt; sending(&mut subject, 1).finish().is_ok());
+    ack(&rt, &mut subject, meta(1, 0, true));
+    assert_eq!(&rt; subject.state.bi.max_remote(), 1);
+    stop(&rt, &mut subject, 1);
+    assert_eq!(&rt; subject.state.bi.max_remote(), 2);
+    assert_eq!(&rt;
+        receive(alloc, &mut subject, 5, 0, 1, true)?,
+        Answer::Taken(false)
+    );
+    stop(&rt, &mut subject, 5);
+    assert_eq!(&rt; subject.state.bi.max_remote(), 2);
+    assert!(&rt; sending(&mut subject, 5).finish().is_ok());
+    ack(&rt, &mut subject, meta(5, 0, true));
+    assert_eq!(&rt; subject.state.bi.max_remote(), 3);
+    assert!(&rt; subject.state.queue_max_stream_id(&mut subject.pending));
+    assert!(&rt; is_open(&mut subject, 9));
+    Ok(())
+}
+
+#[test]
+fn acknowledged_resets_free(rt: HostRuntime) -> Result<(), Fail> {
+    let alloc = rt.alloc();
+    let mut subject = end(alloc)?;
+    assert_eq!(&rt; open(&mut subject), Some(id(2)));
+    assert!(&rt; subject.state.reset_acked(id(2)).is_ok());
+    assert!(&rt; is_open(&mut subject, 2));
+    assert!(&rt; sending(&mut subject, 2).reset(VarInt::from(3u32)).is_ok());
+    ack(&rt, &mut subject, meta(2, 0, true));
+    assert!(&rt; is_open(&mut subject, 2));
+    assert!(&rt; subject.state.reset_acked(id(2)).is_ok());
+    assert!(&rt; !is_open(&mut subject, 2));
+    assert_eq!(&rt; subject.state.poll(), None);
+    // A stream of the peer.
+    assert_eq!(&rt;
+        receive(alloc, &mut subject, 1, 0, 1, true)?,
+        Answer::Taken(false)
+    );
+    stop(&rt, &mut subject, 1);
+    assert!(&rt; sending(&mut subject, 1).reset(VarInt::from(3u32)).is_ok());
+    assert_eq!(&rt; subject.state.bi.max_remote(), 1);
+    assert!(&rt; subject.state.reset_acked(id(1)).is_ok());
+    assert_eq!(&rt; subject.state.bi.max_remote(), 2);
+    Ok(())
+}
+
+#[test]
+fn lost_frames_queue_once(rt: HostRuntime) -> Result<(), Fail> {
+    let alloc = rt.alloc();
+    let mut subject = end(alloc)?;
+    assert_eq!(&rt; open(&mut subject), Some(id(2)));
+    assert!(&rt; sending(&mut subject, 2).finish().is_ok());
+    // The end waits to be sent as it is.
+    lose(&rt, &mut subject, meta(2, 0, true));
+    lose(&rt, &mut subject, meta(2, 9, true));
+    lose(&rt, &mut subject, meta(1001, 0, true));
+    let first = subject.state.queue.take_first();
+    assert_eq!(&rt; first.map(|entry| entry.id), Some(id(2)));
+    assert!(&rt; subject.state.queue.is_empty());
+    Ok(())
+}
