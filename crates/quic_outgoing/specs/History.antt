@@ -17,6 +17,8 @@ use Rattle.quic_outgoing.specs.Senders.{with_first_of_peer, new_sender}
 use Rattle.quic_outgoing.specs.Outgoing.{Outgoing, no_streams, with_send_half, fresh_sender, own_of, with_params}
 use Rattle.quic_outgoing.specs.Calls.{OpensStream, RaisesStreams, RaisesStream, StopsSending, FinishesStream, ResetsStream, SetsPriority, PollsWritable}
 use Rattle.quic_outgoing.specs.Writing.{WritesOn}
+use Rattle.quic_outgoing.specs.declared.transmitting.WrittenFrame.{WrittenFrame}
+use Rattle.quic_outgoing.specs.Transmitting.{Transmits}
 
 -- a call and its answer
 pub data Call : Type 0 where
@@ -34,6 +36,7 @@ pub data Call : Type 0 where
   Reset : (id code : ℕ) → (answer : Result (Unit {0}) HandleError) → Call
   SetPriority : (id : ℕ) → (priority : ℤ) → (answer : Result (Unit {0}) HandleError) → Call
   Polled : (answer : Option ℕ) → Call
+  Transmitted : (id most : ℕ) → (answer : Result WrittenFrame OutOfMemory) → Call
   SetWindow : (window : ℕ) → Call
 
 -- the peer's first streams are permitted, or none
@@ -41,7 +44,8 @@ abbrev pub PermitsFirst : Outgoing → ℕ → Result (Unit {0}) OutOfMemory →
 PermitsFirst u count (Ok done) v = v ≡ record u { halves = with_first_of_peer u.halves u.side count (new_sender u.first.peer_bi) }
 PermitsFirst u count (Err e) v = v ≡ u
 
--- what one call may do; a write and a reset also with what was to be sent before, and after
+-- what one call may do; a write and a reset also with what was to be sent before, and after, and a frame with the bytes
+-- of the payload before, and after
 abbrev pub DoesCall : Outgoing → Call → Outgoing → Type 0
 DoesCall u (Permitted id) v = v ≡ with_send_half u id (Some (fresh_sender u id))
 DoesCall u (PermittedFirst count answer) v = PermitsFirst u count answer v
@@ -57,6 +61,7 @@ DoesCall u (Finished id answer) v = FinishesStream u id answer v
 DoesCall u (Reset id code answer) v = (p : Pending) × (q : Pending) × ResetsStream u id code p answer v q
 DoesCall u (SetPriority id priority answer) v = SetsPriority u id priority answer v
 DoesCall u (Polled answer) v = PollsWritable u answer v
+DoesCall u (Transmitted id most answer) v = (bytes : List ℕ) × (payload : List ℕ) × Transmits u id most bytes answer v payload
 DoesCall u (SetWindow window) v = v ≡ record u { budget = with_window u.budget window }
 
 -- the calls, one after another from no streams on, may lead there

@@ -5,3 +5,4 @@ pub mod Calls
 pub mod Writing
 pub mod Shown
 pub mod History
+pub mod Transmitting
