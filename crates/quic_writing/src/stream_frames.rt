@@ -4,6 +4,7 @@ ghost use Rattle.std.specs.Prelude.{◌≡◌, ◌+◌, ◌<◌, ◌≤◌, ◌�
 ghost use Rattle.quic_outgoing.specs.Shown.{view_of};
 ghost use Rattle.quic_outgoing.specs.Transmitting.{sending_priority};
 ghost use Rattle.quic_queue.specs.SendOrder.{first, line};
+ghost use Rattle.quic_writing.specs.Appended.{AreWritten, AppendsFrames};
 ghost use Rattle.quic_writing.specs.Writer.{writer, next_of, TakesTurn, TakesTurns, unreserved};
 
 use quic_outgoing::OutgoingStreams;
@@ -24,6 +25,22 @@ pub type StreamMetaVec = SmallVec<StreamMeta, 4>;
 ///
 /// If memory is refused, the frames that were appended before stay, and the next one was not begun.
 pub fn write_stream_frames(
+    streams: &mut OutgoingStreams,
+    queue: &mut SendQueue,
+    buf: &mut Vec<u8>,
+    sent: &mut StreamMetaVec,
+    max_size: usize,
+    fair: bool,
+) -> Result<(), OutOfMemory>
+    ensures turns { TakesTurns max_size fair (writer (view_of streams.old) queue.old buf.old.items sent.old.items) (writer (view_of streams.new) queue.new buf.new.items sent.new.items) }
+    ensures full { OnOk result ((line queue.new ≡ []) ⊎ (max_size ≤ length buf.new.items + 25)) }
+    ensures text { (written : ℕ → List ℕ) → AreWritten written (view_of streams.old) → AppendsFrames written max_size (writer (view_of streams.old) queue.old buf.old.items sent.old.items) (writer (view_of streams.new) queue.new buf.new.items sent.new.items) }
+{
+    take_turns(streams, queue, buf, sent, max_size, fair)
+}
+
+// The same, each way out.
+fn take_turns(
     streams: &mut OutgoingStreams,
     queue: &mut SendQueue,
     buf: &mut Vec<u8>,

@@ -2,7 +2,7 @@ use Rattle.std.proofs.Common.{◌+◌, ◌-◌, length}
 use Rattle.quic_outgoing.specs.Shown.{view_of}
 use Rattle.quic_queue.specs.SendOrder.{line}
 use Rattle.quic_writing.specs.Writer.{writer, TakesTurns}
-use Rattle.quic_writing.proofs.stream_frames.write_stream_frames.Given as goal
+use Rattle.quic_writing.proofs.stream_frames.take_turns.Given as goal
 
 abbrev pub invariant-loop-streams : goal.invariant-loop-streams
 invariant-loop-streams l =
