@@ -1,5 +1,7 @@
 //! Payloads of several streams, and what each has to be. Where memory runs out the writer is asked once more, and the
 //! payload has to be as if it had not been.
+ghost use Rattle.std.specs.Prelude.{◌<◌};
+
 use crate::{StreamMetaVec, write_stream_frames};
 use quic_outgoing::{OutgoingStreams, PeerLimits};
 use quic_queue::SendQueue;
@@ -101,7 +103,7 @@ fn again(session: &mut Session, max_size: usize, fair: bool) -> Result<(), OutOf
 // Whether a payload is these bytes, and then one byte so many times.
 fn is_filled(session: &Session, head: &[u8], byte: u8, count: usize) -> bool {
     let bytes = session.buf.as_slice();
-    bytes.len() == head.len() + count
+    bytes.len() == head.len().saturating_add(count)
         && bytes.starts_with(head)
         && bytes.iter().skip(head.len()).all(|b| *b == byte)
 }
@@ -228,8 +230,10 @@ fn no_frame_where_the_greatest_head_does_not_fit(rt: HostRuntime) -> Result<(), 
 const MANY: u32 = 1000;
 
 // The place of a stream among the priorities: each has its own.
-fn rank(index: u32) -> u32 {
-    index.wrapping_mul(7) % MANY
+fn rank(index: u64) -> u64
+    ensures { result < 1000 }
+{
+    index.wrapping_mul(7) % 1000
 }
 
 #[test]
@@ -237,17 +241,16 @@ fn a_thousand_priorities(rt: HostRuntime) -> Result<(), Fail> {
     let mut session = client(rt.alloc(), MANY)?;
     for index in 0..MANY {
         let stream = index.wrapping_mul(4).wrapping_add(2);
-        let priority = rank(index) as i32 - 500;
+        let priority = (rank(u64::from(index)) as i32).wrapping_sub(500);
         assert!(rt; session.streams.set_priority(id(stream), priority).is_ok());
         write(&mut session, stream, 1, 1)?;
     }
-    let mut left = MANY;
+    let mut left = u64::from(MANY);
     for _ in 0..MANY {
         fill(&mut session, 100, true)?;
         for meta in session.sent.as_slice() {
             left = left.wrapping_sub(1);
-            let index = meta.id.index() as u32;
-            assert_eq!(rt; rank(index), left);
+            assert_eq!(rt; rank(meta.id.index()), left);
         }
     }
     assert_eq!(rt; left, 0);
