@@ -14,7 +14,7 @@ use Rattle.quic_outgoing.specs.declared.limits.PeerLimits.{PeerLimits}
 use Rattle.quic_outgoing.specs.declared.writing.Wrote.{Wrote}
 use Rattle.quic_outgoing.specs.Writing.{TakesBytesOf}
 use Rattle.quic_outgoing.specs.Outgoing.{Outgoing, no_streams, own_of, with_own, with_send_half, with_params, fresh_sender}
-use Rattle.quic_outgoing.specs.History.{Call, Permitted, PermittedMore, Removed, GaveParams, Opened, GaveData, GaveStreams, GaveStream, WasStopped, Writing, Finished, Reset, SetPriority, Polled, SetWindow, AckedFrame, LostFrame, ResetAcked, DoesCall, bytes_by, data_limit_of, count_in, given_for, count_given_by, opened_by, TellsBudget, ComesFrom, Continues}
+use Rattle.quic_outgoing.specs.History.{Call, Permitted, PermittedMore, Removed, GaveParams, Opened, GaveData, GaveStreams, GaveStream, WasStopped, Writing, Finished, Reset, SetPriority, Polled, Transmitted, SetWindow, AckedFrame, LostFrame, ResetAcked, DoesCall, bytes_by, data_limit_of, count_in, given_for, count_given_by, opened_by, TellsBudget, ComesFrom, Continues}
 use Rattle.quic_outgoing.proofs.Keeping.{Keeps, keeps-all, keeps-is, keeps-stream, keeps-rise, keeps-stop, keeps-blocked, keeps-polled, keeps-acked, keeps-lost, keeps-given-up}
 
 -- what a call adds to what was sent, to the limits, and to what was opened
@@ -317,6 +317,10 @@ moves u (SetPriority id priority (Err handle_error.OutOfMemory)) v h = idle u _ 
     (keeps-is h (keeps-all u))
 moves u (Polled answer) v h = idle u _ v (record { bytes = refl; limit = refl; opened = λ dir. refl; counted = λ dir. refl })
     (keeps-polled u v answer h)
+moves u (Transmitted id most (Ok frame)) v h = idle u _ v (record { bytes = refl; limit = refl; opened = λ dir. refl; counted = λ dir. refl })
+    (keeps-is h.2.1 (record { side = refl; sent = refl; limit = refl; bi = refl; uni = refl }))
+moves u (Transmitted id most (Err e)) v h = idle u _ v (record { bytes = refl; limit = refl; opened = λ dir. refl; counted = λ dir. refl })
+    (keeps-is h.2.0 (keeps-all u))
 moves u (SetWindow window) v h = idle u _ v (record { bytes = refl; limit = refl; opened = λ dir. refl; counted = λ dir. refl })
     (keeps-is h (record { side = refl; sent = refl; limit = refl; bi = refl; uni = refl }))
 moves u (AckedFrame id offsets fin (Ok done)) v h = idle u _ v (record { bytes = refl; limit = refl; opened = λ dir. refl; counted = λ dir. refl })

@@ -6,3 +6,4 @@ pub mod WriteSteps
 pub mod AckSteps
 pub mod Keeping
 pub mod Histories
+pub mod Frames

@@ -18,6 +18,8 @@ use Rattle.quic_outgoing.specs.Outgoing.{Outgoing, no_streams, with_send_half, f
 use Rattle.quic_outgoing.specs.Calls.{OpensStream, RaisesStreams, RaisesStream, StopsSending, FinishesStream, ResetsStream, SetsPriority, PollsWritable}
 use Rattle.quic_outgoing.specs.Writing.{WritesOn}
 use Rattle.quic_outgoing.specs.Acknowledging.{AcksFrame, LosesFrame, is_given_up, without_given_up}
+use Rattle.quic_outgoing.specs.declared.transmitting.WrittenFrame.{WrittenFrame}
+use Rattle.quic_outgoing.specs.Transmitting.{Transmits}
 
 -- a call and its answer
 pub data Call : Type 0 where
@@ -35,12 +37,14 @@ pub data Call : Type 0 where
   Reset : (id code : ℕ) → (answer : Result (Unit {0}) HandleError) → Call
   SetPriority : (id : ℕ) → (priority : ℤ) → (answer : Result (Unit {0}) HandleError) → Call
   Polled : (answer : Option ℕ) → Call
+  Transmitted : (id most : ℕ) → (answer : Result WrittenFrame OutOfMemory) → Call
   SetWindow : (window : ℕ) → Call
   AckedFrame : (id : ℕ) → (offsets : Range ℕ) → (fin : Bool) → (answer : Result Bool OutOfMemory) → Call
   LostFrame : (id : ℕ) → (offsets : Range ℕ) → (fin : Bool) → (answer : Result (Option ℤ) OutOfMemory) → Call
   ResetAcked : (id : ℕ) → (answer : Bool) → Call
 
--- what one call may do; a write and a reset also with what was to be sent before, and after
+-- what one call may do; a write and a reset also with what was to be sent before, and after, and a frame with the bytes
+-- of the payload before, and after
 abbrev pub DoesCall : Outgoing → Call → Outgoing → Type 0
 DoesCall u (Permitted id) v = v ≡ with_send_half u id (Some (fresh_sender u id))
 DoesCall u (PermittedMore first count) v = v ≡ with_more_streams u first count
@@ -56,6 +60,7 @@ DoesCall u (Finished id answer) v = FinishesStream u id answer v
 DoesCall u (Reset id code answer) v = (p : Pending) × (q : Pending) × ResetsStream u id code p answer v q
 DoesCall u (SetPriority id priority answer) v = SetsPriority u id priority answer v
 DoesCall u (Polled answer) v = PollsWritable u answer v
+DoesCall u (Transmitted id most answer) v = (bytes : List ℕ) × (payload : List ℕ) × Transmits u id most bytes answer v payload
 DoesCall u (SetWindow window) v = v ≡ record u { budget = with_window u.budget window }
 DoesCall u (AckedFrame id offsets fin answer) v = AcksFrame u id offsets fin answer v
 DoesCall u (LostFrame id offsets fin answer) v = LosesFrame u id offsets fin answer v

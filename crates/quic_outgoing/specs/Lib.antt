@@ -6,3 +6,4 @@ pub mod Writing
 pub mod Acknowledging
 pub mod Shown
 pub mod History
+pub mod Transmitting

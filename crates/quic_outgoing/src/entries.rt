@@ -72,12 +72,12 @@ fn greater(a: VarInt, b: VarInt) -> VarInt
 /// memory of its own.
 #[derive(Drop)]
 pub struct SendEntries {
-    alloc: Global,
+    pub(crate) alloc: Global,
     side: Side,
     // The limits that streams begin with. Each half has at least its own.
     first: FirstLimits,
     // `None` is a half to which nothing was written.
-    entries: HashMap<StreamId, Option<Box<Send>>>,
+    pub(crate) entries: HashMap<StreamId, Option<Box<Send>>>,
 }
 
 #[tactic(auto, unfolding(crate::specs::Seen::senders, crate::specs::Senders::with_sender))]
@@ -141,7 +141,7 @@ impl SendEntries {
     }
 
     // The limit that a stream begins with.
-    fn first_limit(&self, id: StreamId) -> VarInt
+    pub(crate) fn first_limit(&self, id: StreamId) -> VarInt
         ensures { result ≡ first_limit self.now.side self.now.first id }
     {
         self.first.of(self.is_local(id), id.dir())

@@ -9,11 +9,13 @@ mod outgoing;
 mod peer;
 mod permits;
 mod polling;
+mod transmitting;
 mod writing;
 
 pub use entries::FirstLimits;
 pub use limits::PeerLimits;
 pub use outgoing::OutgoingStreams;
+pub use transmitting::WrittenFrame;
 pub use writing::Wrote;
 
 #[cfg(test)]

@@ -1,6 +1,6 @@
 //! The frames (RFC 9000 section 19, RFC 9221 section 4).
 
-ghost use Rattle.std.specs.Prelude.{◌≡◌, IfOk};
+ghost use Rattle.std.specs.Prelude.{◌≡◌, IfOk, false};
 ghost use Rattle.quic_wire.specs.declared.frame.DecodeError.TheVariants.{OutOfMemory as out_of_memory};
 
 use quic_values::{Bytes, Dir, OutOfMemory, StreamId, VarInt};
@@ -32,6 +32,19 @@ pub struct StreamMeta {
     pub offsets: Range<u64>,
     /// Whether the stream ends where the data end.
     pub fin: bool,
+}
+
+impl Default for StreamMeta {
+    /// No data, of the client's first bidirectional stream.
+    fn default() -> Self
+        ensures { result ≡ record { id = 0; offsets = record { start = 0; end = 0 }; fin = false } }
+    {
+        StreamMeta {
+            id: StreamId::from(VarInt::new(0)),
+            offsets: 0..0,
+            fin: false,
+        }
+    }
 }
 
 /// RESET_STREAM: the sender gives the stream up (RFC 9000 section 19.4).

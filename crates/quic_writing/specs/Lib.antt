@@ -1,0 +1,2 @@
+pub mod Writer
+pub mod Appended

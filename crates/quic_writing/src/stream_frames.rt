@@ -1,0 +1,115 @@
+//! STREAM frames of all streams, in the order of their priorities.
+
+ghost use Rattle.std.specs.Prelude.{◌≡◌, ◌+◌, ◌<◌, ◌≤◌, ◌⊎◌, ℕ, List, [], IfOk, OnOk, OnErr, Some, true, false, length};
+ghost use Rattle.quic_outgoing.specs.Shown.{view_of};
+ghost use Rattle.quic_outgoing.specs.Transmitting.{sending_priority};
+ghost use Rattle.quic_queue.specs.SendOrder.{first, line};
+ghost use Rattle.quic_writing.specs.Appended.{AreWritten, AppendsFrames};
+ghost use Rattle.quic_writing.specs.Writer.{writer, next_of, TakesTurn, TakesTurns, unreserved};
+
+use quic_outgoing::OutgoingStreams;
+use quic_queue::{Entry, Next, SendQueue};
+use quic_values::OutOfMemory;
+use quic_wire::frame::{Stream, StreamMeta};
+use smallvec::SmallVec;
+
+/// The STREAM frames of a payload, without their data.
+pub type StreamMetaVec = SmallVec<StreamMeta, 4>;
+
+/// Appends STREAM frames (RFC 9000 section 19.8) to a payload of at most `max_size` bytes, and to `sent` what each of
+/// them carries, as long as a stream is queued and a frame with the greatest head still fits.
+///
+/// Each turn is that of the first stream in the queue. It goes out of it or, where more is to be sent on it, is put anew
+/// at its present priority where `fair`, and else kept back before all others. A stream that is not held any more, or
+/// was reset, is let go. Only the last frame may lack a length, and then it ends the payload at `max_size`.
+///
+/// If memory is refused, the frames that were appended before stay, and the next one was not begun.
+pub fn write_stream_frames(
+    streams: &mut OutgoingStreams,
+    queue: &mut SendQueue,
+    buf: &mut Vec<u8>,
+    sent: &mut StreamMetaVec,
+    max_size: usize,
+    fair: bool,
+) -> Result<(), OutOfMemory>
+    ensures turns { TakesTurns max_size fair (writer (view_of streams.old) queue.old buf.old.items sent.old.items) (writer (view_of streams.new) queue.new buf.new.items sent.new.items) }
+    ensures full { OnOk result ((line queue.new ≡ []) ⊎ (max_size ≤ length buf.new.items + 25)) }
+    ensures text { (written : ℕ → List ℕ) → AreWritten written (view_of streams.old) → AppendsFrames written max_size (writer (view_of streams.old) queue.old buf.old.items sent.old.items) (writer (view_of streams.new) queue.new buf.new.items sent.new.items) }
+{
+    take_turns(streams, queue, buf, sent, max_size, fair)
+}
+
+// The same, each way out.
+fn take_turns(
+    streams: &mut OutgoingStreams,
+    queue: &mut SendQueue,
+    buf: &mut Vec<u8>,
+    sent: &mut StreamMetaVec,
+    max_size: usize,
+    fair: bool,
+) -> Result<(), OutOfMemory>
+    ensures turns { TakesTurns max_size fair (writer (view_of streams.old) queue.old buf.old.items sent.old.items) (writer (view_of streams.new) queue.new buf.new.items sent.new.items) }
+    ensures full { OnOk result ((line queue.new ≡ []) ⊎ (max_size ≤ length buf.new.items + 25)) }
+{
+    while buf.len() + Stream::SIZE_BOUND < max_size {
+        if !take_turn(streams, queue, buf, sent, max_size, fair)? {
+            break;
+        }
+    }
+    Ok(())
+}
+
+// Serves the first stream in the queue. Answers whether there was one.
+fn take_turn(
+    streams: &mut OutgoingStreams,
+    queue: &mut SendQueue,
+    buf: &mut Vec<u8>,
+    sent: &mut StreamMetaVec,
+    max_size: usize,
+    fair: bool,
+) -> Result<bool, OutOfMemory>
+    requires { length buf.old.items + 25 < max_size }
+    ensures turn { IfOk result (λ served. served ≡ true → TakesTurn max_size fair (writer (view_of streams.old) queue.old buf.old.items sent.old.items) (writer (view_of streams.new) queue.new buf.new.items sent.new.items)) }
+    ensures idle { IfOk result (λ served. served ≡ false → (line queue.old ≡ []) × (writer (view_of streams.new) queue.new buf.new.items sent.new.items ≡ writer (view_of streams.old) queue.old buf.old.items sent.old.items)) }
+    ensures err { OnErr result (writer (view_of streams.new) queue.new buf.new.items sent.new.items ≡ writer (view_of streams.old) queue.old buf.old.items sent.old.items) }
+{
+    let Some(entry) = queue.first() else {
+        return Ok(false);
+    };
+    let Some(priority) = streams.sending_priority(entry.id) else {
+        queue.end_turn(entry, Next::LetGo);
+        return Ok(true);
+    };
+    reserve_place(queue, fair, priority)?;
+    sent.reserve(1)?;
+    let frame = streams.write_frame(entry.id, max_size, buf)?;
+    let next = next_of(fair, priority, frame.has_more);
+    queue.end_turn(entry, next);
+    sent.push_reserved(frame.meta);
+    Ok(true)
+}
+
+// Makes the room to put a stream anew, where that may be.
+fn reserve_place(queue: &mut SendQueue, fair: bool, priority: i32) -> Result<(), OutOfMemory>
+    ensures same { unreserved queue.new ≡ unreserved queue.old }
+    ensures place { OnOk result (fair ≡ true → queue.new.reserved ≡ Some priority) }
+{
+    if fair {
+        queue.reserve(priority)?;
+    }
+    Ok(())
+}
+
+// What becomes of a stream at the end of its turn.
+fn next_of(fair: bool, priority: i32, has_more: bool) -> Next
+    ensures { result ≡ next_of fair priority has_more }
+{
+    if !has_more {
+        return Next::LetGo;
+    }
+    if fair {
+        Next::PutAnew(priority)
+    } else {
+        Next::KeepBack
+    }
+}
