@@ -61,6 +61,7 @@ fresh limit = record {
 fresh_offsets : (limit : ℕ) → OffsetsFrom (new_flow limit) (fresh limit).pending
 fresh_offsets limit = record {
   sent = λ n. none n;
+  unsent = refl;
   lost = λ n. refl;
   acked = λ n. none_acked n;
   first = none_acked 0;
@@ -156,7 +157,7 @@ flow-written t s b n lists f r a =
       end_due = f.end_due;
       offsets = λ e. let o = f.offsets e in
           let P : Buffered → Type 0 = λ v. OffsetsFrom (with_send_move (WasWritten (front_of n lists)) t) v in
-          subst P (sym a.buffer) (record { sent = o.sent; lost = o.lost; acked = o.acked; first = o.first });
+          subst P (sym a.buffer) (record { sent = o.sent; unsent = o.unsent; lost = o.lost; acked = o.acked; first = o.first });
       empty = λ e. absurd (let k : is_some t.reset ≡ false = ap (λ (o : Option ℕ). is_some o) none in cc);
     }
 
@@ -170,7 +171,7 @@ flow-finished t s f r = record {
   state = ap (λ o. state_told o true false) (sym (ready-none t s f (finishable-ready s r)));
   stopped = f.stopped;
   end_due = refl;
-  offsets = λ e. let o = f.offsets e in record { sent = o.sent; lost = o.lost; acked = o.acked; first = o.first };
+  offsets = λ e. let o = f.offsets e in record { sent = o.sent; unsent = o.unsent; lost = o.lost; acked = o.acked; first = o.first };
   empty = f.empty;
 }
 
@@ -215,7 +216,7 @@ flow-asked t s code f = record {
   state = f.state;
   stopped = ap (λ o. Some (unwrap_or o code)) f.stopped;
   end_due = f.end_due;
-  offsets = λ e. let o = f.offsets e in record { sent = o.sent; lost = o.lost; acked = o.acked; first = o.first };
+  offsets = λ e. let o = f.offsets e in record { sent = o.sent; unsent = o.unsent; lost = o.lost; acked = o.acked; first = o.first };
   empty = f.empty;
 }
 
@@ -229,7 +230,7 @@ limit_set t s limit n e f = record {
   state = f.state;
   stopped = f.stopped;
   end_due = f.end_due;
-  offsets = λ k. let o = f.offsets k in record { sent = o.sent; lost = o.lost; acked = o.acked; first = o.first };
+  offsets = λ k. let o = f.offsets k in record { sent = o.sent; unsent = o.unsent; lost = o.lost; acked = o.acked; first = o.first };
   empty = f.empty;
 }
 

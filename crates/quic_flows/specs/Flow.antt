@@ -1,5 +1,5 @@
 -- What calls did to the sending side of one stream, and what they tell of its half (RFC 9000 section 3.1).
-use Rattle.std.specs.Prelude.{ℕ, zero, suc, Bool, true, false, not, ◌≡◌, ◌==◌, ◌≤◌, ◌-◌, ◌^◌, ◌&&◌, ◌||◌, max, min, if◌then◌else◌, List, [], ◌∷◌, ◌++◌, length, take, Option, Some, None, is_none, is_some, unwrap_or}
+use Rattle.std.specs.Prelude.{ℕ, zero, suc, Bool, true, false, not, ◌≡◌, ◌==◌, ◌≤◌, ◌-◌, ◌^◌, ◌&&◌, ◌||◌, max, min, nat_le, if◌then◌else◌, List, [], ◌∷◌, ◌++◌, length, take, Option, Some, None, is_none, is_some, unwrap_or}
 use Rattle.quic_values.specs.Runs.{is_in}
 use Rattle.quic_sending.specs.declared.send.Send.{Send}
 use Rattle.quic_sending.specs.declared.send.SendState.{SendState}
@@ -43,6 +43,8 @@ pub record Flow : Type 0 where
   pub freed : Bool
   -- whether an offset was in a frame that was written
   pub carried : ℕ → Bool
+  -- the greatest offset up to which a frame was written
+  pub sent_up_to : ℕ
   -- whether it was in a frame that was lost, and in none that was written later
   pub missing : ℕ → Bool
   -- whether it was in a frame that was acknowledged
@@ -62,6 +64,7 @@ new_flow limit = record {
   stopped = None;
   freed = false;
   carried = λ n. false;
+  sent_up_to = 0;
   missing = λ n. false;
   acked = λ n. false;
   end_due = false;
@@ -77,19 +80,26 @@ takes_data (Some code) finished = false
 abbrev pub with_least_limit : ℕ → Flow → Flow
 with_least_limit limit t = record t { limit = max t.limit limit }
 
--- a frame was written, acknowledged or lost; nothing counts once the stream is given up
+-- a frame was written
 abbrev pub with_carried : ℕ → ℕ → Bool → Flow → Flow
 with_carried first behind fin t = record t {
   carried = λ n. t.carried n || is_in (first, behind) n;
+  sent_up_to = max t.sent_up_to behind;
   missing = λ n. t.missing n && not (is_in (first, behind) n);
   end_due = t.end_due && not fin;
 }
 
+-- it was acknowledged
 abbrev pub with_acked : ℕ → ℕ → Bool → Flow → Flow
 with_acked first behind fin t = record t { acked = λ n. t.acked n || is_in (first, behind) n; end_acked = t.end_acked || fin }
 
+-- it was lost
 abbrev pub with_lost : ℕ → ℕ → Bool → Flow → Flow
-with_lost first behind fin t = record t { missing = λ n. t.missing n || is_in (first, behind) n; end_due = t.end_due || fin }
+with_lost first behind fin t = record t { missing = λ n. t.missing n || is_in (first, behind) n; end_due = t.end_due || (fin && t.finished) }
+
+-- whether what is told of a frame with offsets up to this one counts: all of them were sent, and the stream is not given up
+abbrev pub counts_for : Option ℕ → ℕ → ℕ → Bool
+counts_for reset sent behind = is_none reset && nat_le behind sent
 
 -- what is told of a stream once this was done to it
 abbrev pub with_send_move : SendMove → Flow → Flow
@@ -99,8 +109,8 @@ with_send_move (WasGivenUp code) t = record t { reset = Some code; end_due = fal
 with_send_move (WasAskedToStop code) t = record t { stopped = Some (unwrap_or t.stopped code) }
 with_send_move (WasPermitted limit) t = if takes_data t.reset t.finished then with_least_limit (min limit (2 ^ 62 - 1)) t else t
 with_send_move (WasCarried first behind fin) t = if is_none t.reset then with_carried first behind fin t else t
-with_send_move (WasAcked first behind fin) t = if is_none t.reset then with_acked first behind fin t else t
-with_send_move (WasLost first behind fin) t = if is_none t.reset then with_lost first behind fin t else t
+with_send_move (WasAcked first behind fin) t = if counts_for t.reset t.sent_up_to behind then with_acked first behind fin t else t
+with_send_move (WasLost first behind fin) t = if counts_for t.reset t.sent_up_to behind then with_lost first behind fin t else t
 with_send_move WasFreed t = record t { freed = true }
 
 -- the first n bytes of some lists, as one piece for each list of which they have some
@@ -128,6 +138,7 @@ state_told (Some code) finished end_acked = ResetSent
 -- what was sent, is to be sent again, and is acknowledged
 pub record OffsetsFrom (t : Flow) (v : Buffered) : Type 0 where
   pub sent : (n : ℕ) → is_sent v n ≡ t.carried n
+  pub unsent : v.unsent ≡ t.sent_up_to
   pub lost : (n : ℕ) → is_lost v n ≡ (t.missing n && not (t.acked n))
   pub acked : (n : ℕ) → is_acked v n ≡ t.acked n
   -- the first offset that is not
