@@ -9,7 +9,7 @@ use Rattle.quic_sending.specs.Buffer.{Buffered, HasCuts, total_length, is_acked}
 use Rattle.quic_sending.specs.Source.{Appends}
 use Rattle.quic_sending.specs.Sending.{is_ready, is_reset_sent, write_refusal, finish_refusal}
 use Rattle.quic_sending.proofs.Cuts.{HasCuts-all}
-use Rattle.quic_flows.specs.Flow.{WasWritten, WasFinished, WasGivenUp, WasAskedToStop, WasPermitted, Flow, new_flow, takes_data, with_least_limit, with_send_move, front_of, passing, retained, state_told, OffsetsFrom, FlowFrom}
+use Rattle.quic_flows.specs.Flow.{WasWritten, WasFinished, WasGivenUp, WasAskedToStop, WasPermitted, SendFlow, new_flow, takes_data, with_least_limit, with_send_move, front_of, passing, retained, state_told, OffsetsFrom, FlowFrom}
 use Rattle.quic_flows.proofs.Fronts.{front-taken, passing-is}
 
 -- the parts of a half of which the calls tell
@@ -24,7 +24,7 @@ abbrev pub core : Send → Core
 core s = record { max_data = s.max_data; state = s.state; pending = s.pending; fin_pending = s.fin_pending; stop_reason = s.stop_reason }
 
 -- the same, of those parts alone
-record CoreFrom (t : Flow) (c : Core) : Type 0 where
+record CoreFrom (t : SendFlow) (c : Core) : Type 0 where
   pub there : t.freed ≡ false
   pub cuts : HasCuts t.cuts c.pending
   pub within : c.pending.prefix ≤ c.pending.offset
@@ -35,14 +35,14 @@ record CoreFrom (t : Flow) (c : Core) : Type 0 where
   pub offsets : t.reset ≡ None → OffsetsFrom t c.pending
   pub empty : is_some t.reset ≡ true → c.pending.held ≡ []
 
-core_from : (t : Flow) (s : Send) → FlowFrom t s → CoreFrom t (core s)
+core_from : (t : SendFlow) (s : Send) → FlowFrom t s → CoreFrom t (core s)
 core_from t s f = record { there = f.there; cuts = f.cuts; within = f.within; limit = f.limit; state = f.state; stopped = f.stopped; end_due = f.end_due; offsets = f.offsets; empty = f.empty }
 
-flow_from : (t : Flow) (s : Send) → CoreFrom t (core s) → FlowFrom t s
+flow_from : (t : SendFlow) (s : Send) → CoreFrom t (core s) → FlowFrom t s
 flow_from t s f = record { there = f.there; cuts = f.cuts; within = f.within; limit = f.limit; state = f.state; stopped = f.stopped; end_due = f.end_due; offsets = f.offsets; empty = f.empty }
 
 -- nothing else counts
-pub flow-core : (t : Flow) (s s' : Send) → core s' ≡ core s → FlowFrom t s → FlowFrom t s'
+pub flow-core : (t : SendFlow) (s s' : Send) → core s' ≡ core s → FlowFrom t s → FlowFrom t s'
 flow-core t s s' e f = let P : Core → Type 0 = λ c. CoreFrom t c in flow_from t s' (subst P (sym e) (core_from t s f))
 
 -- a new half
@@ -94,7 +94,7 @@ ready_by None true a = refl
 ready_by (Some code) f a = refl
 
 -- a half takes new data where the stream does
-pub ready-is : (t : Flow) (s : Send) → FlowFrom t s → is_ready s.state ≡ takes_data t.reset t.finished
+pub ready-is : (t : SendFlow) (s : Send) → FlowFrom t s → is_ready s.state ≡ takes_data t.reset t.finished
 ready-is t s f = ap is_ready f.state ∙ ready_by t.reset t.finished t.end_acked
 
 reset_by : (r : Option ℕ) (f a : Bool) → is_reset_sent (state_told r f a) ≡ is_some r
@@ -102,7 +102,7 @@ reset_by None false a = refl
 reset_by None true a = refl
 reset_by (Some code) f a = refl
 
-pub reset-is : (t : Flow) (s : Send) → FlowFrom t s → is_reset_sent s.state ≡ is_some t.reset
+pub reset-is : (t : SendFlow) (s : Send) → FlowFrom t s → is_reset_sent s.state ≡ is_some t.reset
 reset-is t s f = ap is_reset_sent f.state ∙ reset_by t.reset t.finished t.end_acked
 
 not_some : (r : Option ℕ) → is_some r ≡ false → r ≡ None
@@ -134,13 +134,13 @@ pub finishable-ready : (s : Send) → finish_refusal s ≡ None → is_ready s.s
 finishable-ready s r = finish_ready s s.stop_reason (is_ready s.state) refl refl r
 
 -- a half that takes new data was not given up
-pub ready-none : (t : Flow) (s : Send) → FlowFrom t s → is_ready s.state ≡ true → t.reset ≡ None
+pub ready-none : (t : SendFlow) (s : Send) → FlowFrom t s → is_ready s.state ≡ true → t.reset ≡ None
 ready-none t s f e = takes_none t.reset t.finished (sym (ready-is t s f) ∙ e)
 
 -- ---- what was done
 
 -- bytes were written
-pub flow-written : (t : Flow) (s : Send) (b : Buffered) (n : ℕ) (lists : List (List ℕ)) → FlowFrom t s → write_refusal s ≡ None → Appends n lists s.pending b
+pub flow-written : (t : SendFlow) (s : Send) (b : Buffered) (n : ℕ) (lists : List (List ℕ)) → FlowFrom t s → write_refusal s ≡ None → Appends n lists s.pending b
     → FlowFrom (with_send_move (WasWritten (front_of n lists)) t) (record s { pending = b })
 flow-written t s b n lists f r a =
     let none : t.reset ≡ None = ready-none t s f (writable-ready s r) in
@@ -162,7 +162,7 @@ flow-written t s b n lists f r a =
     }
 
 -- it was ended
-pub flow-finished : (t : Flow) (s : Send) → FlowFrom t s → finish_refusal s ≡ None → FlowFrom (with_send_move WasFinished t) (record s { state = DataSent false; fin_pending = true })
+pub flow-finished : (t : SendFlow) (s : Send) → FlowFrom t s → finish_refusal s ≡ None → FlowFrom (with_send_move WasFinished t) (record s { state = DataSent false; fin_pending = true })
 flow-finished t s f r = record {
   there = f.there;
   cuts = f.cuts;
@@ -193,7 +193,7 @@ dropped s = record s {
 }
 
 -- it was given up
-pub flow-given-up : (t : Flow) (s : Send) (code : ℕ) → FlowFrom t s → FlowFrom (with_send_move (WasGivenUp code) t) (dropped s)
+pub flow-given-up : (t : SendFlow) (s : Send) (code : ℕ) → FlowFrom t s → FlowFrom (with_send_move (WasGivenUp code) t) (dropped s)
 flow-given-up t s code f = record {
   there = f.there;
   cuts = let all = HasCuts-all s.pending (dropped s).pending t.cuts f.cuts refl refl refl in record { written = all.written; retained = all.retained };
@@ -207,7 +207,7 @@ flow-given-up t s code f = record {
 }
 
 -- the peer asked to send no more
-pub flow-asked : (t : Flow) (s : Send) (code : ℕ) → FlowFrom t s → FlowFrom (with_send_move (WasAskedToStop code) t) (record s { stop_reason = Some (unwrap_or s.stop_reason code) })
+pub flow-asked : (t : SendFlow) (s : Send) (code : ℕ) → FlowFrom t s → FlowFrom (with_send_move (WasAskedToStop code) t) (record s { stop_reason = Some (unwrap_or s.stop_reason code) })
 flow-asked t s code f = record {
   there = f.there;
   cuts = f.cuts;
@@ -221,7 +221,7 @@ flow-asked t s code f = record {
 }
 
 -- another limit
-limit_set : (t : Flow) (s : Send) (limit n : ℕ) → n ≡ max t.limit limit → FlowFrom t s → FlowFrom (with_least_limit limit t) (record s { max_data = n })
+limit_set : (t : SendFlow) (s : Send) (limit n : ℕ) → n ≡ max t.limit limit → FlowFrom t s → FlowFrom (with_least_limit limit t) (record s { max_data = n })
 limit_set t s limit n e f = record {
   there = f.there;
   cuts = f.cuts;
@@ -235,17 +235,17 @@ limit_set t s limit n e f = record {
 }
 
 -- the peer's limits were handed in
-pub flow-raised : (t : Flow) (s : Send) (limit : ℕ) → FlowFrom t s → FlowFrom (with_least_limit limit t) (record s { max_data = max s.max_data limit })
+pub flow-raised : (t : SendFlow) (s : Send) (limit : ℕ) → FlowFrom t s → FlowFrom (with_least_limit limit t) (record s { max_data = max s.max_data limit })
 flow-raised t s limit f = limit_set t s limit (max s.max_data limit) (ap (λ n. max n limit) f.limit) f
 
-limit_if : (t : Flow) (s : Send) (limit : ℕ) (b c : Bool) → nat_lt s.max_data limit ≡ c → FlowFrom t s
+limit_if : (t : SendFlow) (s : Send) (limit : ℕ) (b c : Bool) → nat_lt s.max_data limit ≡ c → FlowFrom t s
     → FlowFrom (if b then with_least_limit limit t else t) (if b && c then record s { max_data = limit } else s)
 limit_if t s limit true true e f = let l = f.limit in let k : s.max_data < limit = grind (arith, nat_tests) in limit_set t s limit limit (omega arith) f
 limit_if t s limit true false e f = let l = f.limit in let k : limit ≤ s.max_data = grind (arith, nat_tests) in limit_set t s limit s.max_data (omega arith) f
 limit_if t s limit false c e f = f
 
 -- the peer gave a limit for it
-pub flow-permitted : (t : Flow) (s : Send) (n : ℕ) → FlowFrom t s
+pub flow-permitted : (t : SendFlow) (s : Send) (n : ℕ) → FlowFrom t s
     → FlowFrom (with_send_move (WasPermitted n) t) (if is_ready s.state && nat_lt s.max_data (min n (2 ^ 62 - 1)) then record s { max_data = min n (2 ^ 62 - 1) } else s)
 flow-permitted t s n f =
     let limit : ℕ = min n (2 ^ 62 - 1) in
@@ -258,7 +258,7 @@ flow-permitted t s n f =
 below_prefix : (v : Buffered) (n : ℕ) → n < v.prefix → is_acked v n ≡ true
 below_prefix v n l = let k : nat_lt n v.prefix ≡ true = grind (arith, nat_tests) in rw k refl
 
-kept_prefix : (t : Flow) (s : Send) → FlowFrom t s → OffsetsFrom t s.pending → passing t.acked (total_length t.cuts) ≡ s.pending.prefix
+kept_prefix : (t : SendFlow) (s : Send) → FlowFrom t s → OffsetsFrom t s.pending → passing t.acked (total_length t.cuts) ≡ s.pending.prefix
 kept_prefix t s f o =
     let written = f.cuts.written in
     let within = f.within in
@@ -266,7 +266,7 @@ kept_prefix t s f o =
     omega arith
 
 -- what is held is what is retained
-pub flow-retained : (t : Flow) (s : Send) → FlowFrom t s → total_length s.pending.held ≡ retained t
+pub flow-retained : (t : SendFlow) (s : Send) → FlowFrom t s → total_length s.pending.held ≡ retained t
 flow-retained t s f = by_reset t.reset refl
   where
     by_reset : (r : Option ℕ) → t.reset ≡ r → total_length s.pending.held ≡ retained t

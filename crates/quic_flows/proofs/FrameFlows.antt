@@ -6,7 +6,7 @@ use Rattle.quic_values.specs.Runs.{contains, is_in}
 use Rattle.quic_sending.specs.declared.send.Send.{Send}
 use Rattle.quic_sending.specs.Buffer.{Buffered, HasCuts, IsSound, is_sent, is_lost, is_acked}
 use Rattle.quic_sending.specs.Sending.{is_ready, after_ack}
-use Rattle.quic_flows.specs.Flow.{Flow, WasCarried, WasAcked, WasLost, with_send_move, with_carried, with_acked, with_lost, counts_for, takes_data, state_told, FlowFrom}
+use Rattle.quic_flows.specs.Flow.{SendFlow, WasCarried, WasAcked, WasLost, with_send_move, with_carried, with_acked, with_lost, counts_for, takes_data, state_told, FlowFrom}
 use Rattle.quic_flows.proofs.FlowSteps.{ready-is}
 
 first_free : (v : Buffered) → IsSound v → is_acked v v.prefix ≡ false
@@ -57,7 +57,7 @@ acked_by None true a fin = refl
 acked_by (Some code) f a fin = refl
 
 -- a frame was acknowledged
-pub flow-acked : (t : Flow) (s s' : Send) (first behind : ℕ) (fin : Bool) → FlowFrom t s → t.reset ≡ None → behind ≤ s.pending.unsent → IsSound s'.pending
+pub flow-acked : (t : SendFlow) (s s' : Send) (first behind : ℕ) (fin : Bool) → FlowFrom t s → t.reset ≡ None → behind ≤ s.pending.unsent → IsSound s'.pending
     → ((cuts : List (List ℕ)) → HasCuts cuts s.pending → HasCuts cuts s'.pending) → s'.pending.unsent ≡ s.pending.unsent
     → ((n : ℕ) → is_acked s'.pending n ≡ (is_acked s.pending n || is_in (first, behind) n))
     → ((n : ℕ) → is_lost s'.pending n ≡ (is_lost s.pending n && not (is_in (first, behind) n)))
@@ -88,7 +88,7 @@ flow-acked t s s' first behind fin f none sent sound cuts unsent acked lost is =
     })
 
 -- a frame was lost
-pub flow-lost : (t : Flow) (s s' : Send) (first behind : ℕ) (fin : Bool) → FlowFrom t s → t.reset ≡ None → behind ≤ s.pending.unsent → s'.pending ≡ record s.pending { lost = s'.pending.lost }
+pub flow-lost : (t : SendFlow) (s s' : Send) (first behind : ℕ) (fin : Bool) → FlowFrom t s → t.reset ≡ None → behind ≤ s.pending.unsent → s'.pending ≡ record s.pending { lost = s'.pending.lost }
     → ((n : ℕ) → is_lost s'.pending n ≡ (is_lost s.pending n || (is_in (first, behind) n && not (is_acked s.pending n))))
     → s' ≡ record s { fin_pending = s.fin_pending || (fin && not (is_ready s.state)); pending = s'.pending }
     → FlowFrom (with_send_move (WasLost first behind fin) t) s'
@@ -127,7 +127,7 @@ sent_more n a b c l m k = by_size (nat_lt c b) refl
     by_size false e = let more : b ≤ c = grind (arith, nat_tests) in let most : max c b ≡ c = omega arith in rw most (grind (arith, nat_tests))
 
 -- a frame was written, with lost offsets or with those behind what was sent
-pub flow-carried : (t : Flow) (s s' : Send) (first behind : ℕ) (fin : Bool) → FlowFrom t s → t.reset ≡ None → first ≤ s.pending.unsent → (first < behind → s.pending.unsent < behind → first ≡ s.pending.unsent)
+pub flow-carried : (t : SendFlow) (s s' : Send) (first behind : ℕ) (fin : Bool) → FlowFrom t s → t.reset ≡ None → first ≤ s.pending.unsent → (first < behind → s.pending.unsent < behind → first ≡ s.pending.unsent)
     → s'.pending ≡ record s.pending { unsent = max s.pending.unsent behind; lost = s'.pending.lost }
     → ((n : ℕ) → is_lost s'.pending n ≡ (is_lost s.pending n && not (is_in (first, behind) n)))
     → s' ≡ record s { fin_pending = s.fin_pending && not fin; pending = s'.pending }

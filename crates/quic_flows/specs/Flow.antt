@@ -28,7 +28,7 @@ pub data SendMove : Type 0 where
   WasFreed : SendMove
 
 -- what the calls tell of the sending side of one stream
-pub record Flow : Type 0 where
+pub record SendFlow : Type 0 where
   -- the pieces that were written
   pub cuts : List (List ℕ)
   -- the limit that the peer gave
@@ -55,7 +55,7 @@ pub record Flow : Type 0 where
   pub end_acked : Bool
 
 -- nothing was done yet on a stream with such a limit
-abbrev pub new_flow : ℕ → Flow
+abbrev pub new_flow : ℕ → SendFlow
 new_flow limit = record {
   cuts = [];
   limit = limit;
@@ -77,11 +77,11 @@ takes_data None finished = not finished
 takes_data (Some code) finished = false
 
 -- the limit is at least this one
-abbrev pub with_least_limit : ℕ → Flow → Flow
+abbrev pub with_least_limit : ℕ → SendFlow → SendFlow
 with_least_limit limit t = record t { limit = max t.limit limit }
 
 -- a frame was written
-abbrev pub with_carried : ℕ → ℕ → Bool → Flow → Flow
+abbrev pub with_carried : ℕ → ℕ → Bool → SendFlow → SendFlow
 with_carried first behind fin t = record t {
   carried = λ n. t.carried n || is_in (first, behind) n;
   sent_up_to = max t.sent_up_to behind;
@@ -90,11 +90,11 @@ with_carried first behind fin t = record t {
 }
 
 -- it was acknowledged
-abbrev pub with_acked : ℕ → ℕ → Bool → Flow → Flow
+abbrev pub with_acked : ℕ → ℕ → Bool → SendFlow → SendFlow
 with_acked first behind fin t = record t { acked = λ n. t.acked n || is_in (first, behind) n; end_acked = t.end_acked || fin }
 
 -- it was lost
-abbrev pub with_lost : ℕ → ℕ → Bool → Flow → Flow
+abbrev pub with_lost : ℕ → ℕ → Bool → SendFlow → SendFlow
 with_lost first behind fin t = record t { missing = λ n. t.missing n || is_in (first, behind) n; end_due = t.end_due || (fin && t.finished) }
 
 -- whether what is told of a frame with offsets up to this one counts: all of them were sent, and the stream is not given up
@@ -102,7 +102,7 @@ abbrev pub counts_for : Option ℕ → ℕ → ℕ → Bool
 counts_for reset sent behind = is_none reset && nat_le behind sent
 
 -- what is told of a stream once this was done to it
-abbrev pub with_send_move : SendMove → Flow → Flow
+abbrev pub with_send_move : SendMove → SendFlow → SendFlow
 with_send_move (WasWritten pieces) t = record t { cuts = t.cuts ++ pieces }
 with_send_move WasFinished t = record t { finished = true; end_due = true; end_acked = false }
 with_send_move (WasGivenUp code) t = record t { reset = Some code; end_due = false }
@@ -126,7 +126,7 @@ passing f (suc n) = if (passing f n == n) && f n then suc n else passing f n
 
 -- how many of the written bytes are retained: those of the pieces that the acknowledged beginning does not wholly cover,
 -- and none of a stream that is given up, or freed
-abbrev pub retained : Flow → ℕ
+abbrev pub retained : SendFlow → ℕ
 retained t = if is_some t.reset || t.freed then 0 else total_length (uncovered (passing t.acked (total_length t.cuts)) t.cuts)
 
 -- the state of a half
@@ -136,7 +136,7 @@ state_told None true end_acked = DataSent end_acked
 state_told (Some code) finished end_acked = ResetSent
 
 -- what was sent, is to be sent again, and is acknowledged
-pub record OffsetsFrom (t : Flow) (v : Buffered) : Type 0 where
+pub record OffsetsFrom (t : SendFlow) (v : Buffered) : Type 0 where
   pub sent : (n : ℕ) → is_sent v n ≡ t.carried n
   pub unsent : v.unsent ≡ t.sent_up_to
   pub lost : (n : ℕ) → is_lost v n ≡ (t.missing n && not (t.acked n))
@@ -145,7 +145,7 @@ pub record OffsetsFrom (t : Flow) (v : Buffered) : Type 0 where
   pub first : is_acked v v.prefix ≡ false
 
 -- a send half is as the calls tell of its stream
-pub record FlowFrom (t : Flow) (s : Send) : Type 0 where
+pub record FlowFrom (t : SendFlow) (s : Send) : Type 0 where
   pub there : t.freed ≡ false
   pub cuts : HasCuts t.cuts s.pending
   pub within : s.pending.prefix ≤ s.pending.offset
@@ -159,7 +159,7 @@ pub record FlowFrom (t : Flow) (s : Send) : Type 0 where
   pub empty : is_some t.reset ≡ true → s.pending.held ≡ []
 
 -- an open stream is as its half; one that is not held was freed. On one that is not open nothing was done
-abbrev pub FlowAt : (first : ℕ) → Flow → Bool → Option Send → Type 0
+abbrev pub FlowAt : (first : ℕ) → SendFlow → Bool → Option Send → Type 0
 FlowAt first t true (Some s) = FlowFrom t s
 FlowAt first t true None = t.freed ≡ true
 FlowAt first t false (Some s) = ⊥

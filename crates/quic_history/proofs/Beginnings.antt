@@ -15,6 +15,7 @@ use Rattle.quic_history.specs.World.{World, Made, count_of, start, is_same_side}
 use Rattle.quic_history.proofs.Endings.{tells-ends}
 use Rattle.quic_history.specs.SendTotals.{send_totals}
 use Rattle.quic_history.proofs.SentHistory.{sent-start}
+use Rattle.quic_history.proofs.FlowHistory.{sends-start}
 use Rattle.quic_history.proofs.Remotes.{AllRemotes}
 use Rattle.quic_history.specs.History.{StreamFrom, RemoteFrom, untouched, trace, Facts, From}
 use Rattle.quic_history.proofs.Refusals.{refusal_by, refusal-is}
@@ -122,4 +123,5 @@ begins m v few_uni few_bi small e =
       tells = tells-ends m.receive_window [] (start m) facts;
       remotes = remotes_start m few_uni few_bi;
       sent = sent-start (send_totals (start m).out) refl refl refl refl;
+      sends = sends-start m;
     })

@@ -1,9 +1,13 @@
+pub mod SendSides
 pub mod SentHistory
 pub mod Batches
 pub mod Beginnings
 pub mod Credits
 pub mod Endings
 pub mod FirstStreams
+pub mod FlowLeaves
+pub mod FlowHistory
+pub mod FlowSteps
 pub mod FrameHistory
 pub mod FrameSteps
 pub mod HalfMaps

@@ -30,7 +30,12 @@ use Rattle.quic_values.specs.declared.memory.OutOfMemory.{OutOfMemory}
 use Rattle.quic_history.specs.World.{World, Made, count_of, start, id_refusal, remote_of, sends, with_credit, with_receive_window}
 use Rattle.quic_outgoing.specs.History.{count_in, given_for}
 use Rattle.quic_history.specs.SendTotals.{SendTotals, send_totals, own_total}
-use Rattle.quic_history.specs.SendEvents.{SendEvent, SendStep, GaveLimits, RaisedData, RaisedCount, OpenedOwn, WroteOwn}
+use Rattle.quic_history.specs.SendEvents.{SendEvent, SendStep, GaveLimits, RaisedData, RaisedCount, RaisedLimit, StoppedOwn, SetWindow, OpenedOwn, WroteOwn, FinishedOwn, ResetOwn}
+use Rattle.quic_flows.specs.Flow.{SendMove, WasWritten, WasFinished, WasGivenUp, WasAskedToStop, WasPermitted, SendFlow, new_flow, front_of, retained}
+use Rattle.quic_outgoing.specs.declared.limits.PeerLimits.{PeerLimits}
+use Rattle.quic_outgoing.specs.declared.entries.FirstLimits.{FirstLimits}
+use Rattle.quic_outgoing.specs.Senders.{no_limits}
+use Rattle.quic_history.specs.Flows.{SendTale, has_send_side, send_moved, with_first_limits, with_limits_in, AllFlows}
 use Rattle.quic_history.specs.Permitting.{SetsConcurrent, with_accepted, acceptable, with_count_of}
 use Rattle.quic_history.specs.Receiving.{Receives, ReceivesReset}
 use Rattle.quic_history.specs.Reading.{Begins, ReadsHalf, Stops, TellsReset, bytes_in}
@@ -477,6 +482,79 @@ abbrev pub EverPermits : (m : Made) (h : List Event) (v : World) → IsRun m h v
 EverPermits m [] v run = PermitsNow m [] v run
 EverPermits m (e ∷ h) v run = PermitsNow m (e ∷ h) v run × EverPermits m h run.0 run.1
 
+-- the stream on whose sending side a call did something, and what. Other calls, and those that were refused, did nothing
+abbrev pub send_move_of : Event → Option (ℕ × SendMove)
+send_move_of (Sending (RaisedLimit id limit (Ok x))) = Some (id, WasPermitted limit)
+send_move_of (Sending (StoppedOwn id code (Ok x))) = Some (id, WasAskedToStop code)
+send_move_of (Sending (WroteOwn id lists closed (Ok written))) = Some (id, WasWritten (front_of written.bytes lists))
+send_move_of (Sending (FinishedOwn id (Ok x))) = Some (id, WasFinished)
+send_move_of (Sending (ResetOwn id code (Ok x))) = Some (id, WasGivenUp code)
+send_move_of _ = None
+
+-- the peer's transport parameters that a call handed in
+abbrev pub limits_in : Event → Option PeerLimits
+limits_in (Sending (GaveLimits limits)) = Some limits
+limits_in _ = None
+
+-- the limits that streams begin with: of each the greatest that was handed in
+abbrev pub limits_given : List Event → FirstLimits
+limits_given [] = no_limits
+limits_given (e ∷ h) = with_limits_in (limits_in e) (limits_given h)
+
+-- the send window that a call set
+abbrev pub send_window_in : Event → Option ℕ
+send_window_in (Sending (SetWindow window)) = Some window
+send_window_in _ = None
+
+-- the send window that was set last, if not the first
+abbrev pub last_send_window : ℕ → List Event → ℕ
+last_send_window w [] = w
+last_send_window w (e ∷ h) = unwrap_or (send_window_in e) (last_send_window w h)
+
+-- what is told of the sending side of a stream once one more call was made
+abbrev pub flow_after : Side → Event → List Event → SendTale → ℕ → SendFlow
+flow_after side e h tale q = with_first_limits (limits_in e) side q (send_moved (send_move_of e) (has_send_side side (opened_in_all h) tale.may_open) q (tale.flow q))
+
+-- whether the bidirectional stream of the peer with an index is over on both sides
+abbrev pub is_over : Side → List Event → (ℕ → SendFlow) → ℕ → Bool
+is_over side h f index = (trace h (stream_id (other_side side) Bi index)).gone && (f (stream_id (other_side side) Bi index)).freed
+
+-- the peer may open as many bidirectional streams as it is to be able to use at a time, and one more for each that is over,
+-- up to 2^60, and is never to open fewer
+abbrev pub may_open_after : Made → Event → List Event → SendTale → ℕ
+may_open_after m e h tale = max tale.may_open (min (counts (count_of m) (e ∷ h) Bi + number (is_over m.side (e ∷ h) (flow_after m.side e h tale)) tale.may_open) (2 ^ 60))
+
+-- what the calls tell of the sending sides
+abbrev pub send_tale : Made → List Event → SendTale
+send_tale m [] = record { flow = λ q. new_flow 0; may_open = m.bi }
+send_tale m (e ∷ h) = record { flow = flow_after m.side e h (send_tale m h); may_open = may_open_after m e h (send_tale m h) }
+
+-- what they tell of that of one stream
+abbrev pub flow : Made → List Event → ℕ → SendFlow
+flow m h q = (send_tale m h).flow q
+
+-- the streams on whose sending side something was done, each once
+abbrev pub with_moved_stream : Option (ℕ × SendMove) → List ℕ → List ℕ
+with_moved_stream None ids = ids
+with_moved_stream (Some m) ids = with_stream m.0 ids
+
+abbrev pub moved_streams : List Event → List ℕ
+moved_streams [] = []
+moved_streams (e ∷ h) = with_moved_stream (send_move_of e) (moved_streams h)
+
+-- how many written bytes are retained, of all streams
+abbrev pub retained_in_all : Made → List Event → ℕ
+retained_in_all m h = total_over (λ q. retained (flow m h q)) (moved_streams h)
+
+-- what a history says of the sending sides
+pub record FlowsSo (m : Made) (h : List Event) (v : World) : Type 0 where
+  pub flows : AllFlows (flow m h) v.out v.bi.max_remote
+  pub first : v.out.first ≡ limits_given h
+  pub may_open : v.bi.max_remote ≡ (send_tale m h).may_open
+  pub send_window : v.out.budget.send_window ≡ last_send_window m.send_window h
+  -- what counts as retained is what is retained of all streams
+  pub retained : v.out.budget.buffered_data ≡ retained_in_all m h
+
 -- an end may come from what it was made with, and from a history
 pub record From (m : Made) (h : List Event) (v : World) : Type 0 where
   pub run : IsRun m h v
@@ -488,3 +566,4 @@ pub record From (m : Made) (h : List Event) (v : World) : Type 0 where
   pub tells : TellsEnds h v
   pub remotes : EverPermits m h v run
   pub sent : SentSo h (send_totals v.out)
+  pub sends : FlowsSo m h v
