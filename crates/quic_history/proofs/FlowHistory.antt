@@ -332,9 +332,9 @@ opened_is : (o : Outgoing) (d : Dir) (n : ℕ) → (own_total (send_totals o) d)
 opened_is o Bi n e = e
 opened_is o Uni n e = e
 
-known_by : (m : Made) (h : List Event) (u : World) → u.out.side ≡ m.side → u.bi.max_remote ≡ (send_tale m h).may_open → SentSo h (send_totals u.out) → (q : ℕ)
+pub known-by : (m : Made) (h : List Event) (u : World) → u.out.side ≡ m.side → u.bi.max_remote ≡ (send_tale m h).may_open → SentSo h (send_totals u.out) → (q : ℕ)
     → has_send_side m.side (opened_in_all h) (send_tale m h).may_open q ≡ has_side_in u.out u.bi.max_remote q
-known_by m h u side may s q =
+known-by m h u side may s q =
     ap (λ k. has_send_side k (opened_in_all h) (send_tale m h).may_open q) (sym side)
     ∙ ap (λ n. has_send_side u.out.side (opened_in_all h) n q) (sym may)
     ∙ ap (λ n. if is_local u.out.side q then nat_lt (index_of q) n else is_answered_on (dir_of q) u.bi.max_remote (index_of q)) (sym (opened_is u.out (dir_of q) (opened_in_all h (dir_of q)) (s.opened (dir_of q))))
@@ -343,7 +343,7 @@ pub kept-sends : (m : Made) (h : List Event) (u : World) (e : Event) (v : World)
     → RemoteFrom (counts (count_of m) (e ∷ h) Bi) u.bi.max_remote (is_freed (trace (e ∷ h)) v.out.side (sends v) Bi) v.bi → Step u e v → FlowsSo m (e ∷ h) v
 kept-sends m h u e v side after sent f r s =
     let there : ℕ → Bool = has_send_side m.side (opened_in_all h) (send_tale m h).may_open in
-    let known = known_by m h u side f.may_open sent in
+    let known = known-by m h u side f.may_open sent in
     let kept = f.retained in
     let step = step-any m.side there (flow m h) u known f.flows side (λ q. let k = few_retained m h q in omega arith) e v s in
     record {

@@ -25,3 +25,4 @@ pub mod StreamSteps
 pub mod Totals
 pub mod Traces
 pub mod WorldSteps
+pub mod WritesTold

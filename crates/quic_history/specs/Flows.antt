@@ -1,10 +1,13 @@
 -- The sending sides of the streams of an end, and what is told of each.
-use Rattle.std.specs.Prelude.{ℕ, Bool, false, ◌==◌, ◌&&◌, nat_lt, if◌then◌else◌, Option, Some, None}
+use Rattle.std.specs.Prelude.{ℕ, Bool, true, false, ◌-◌, ◌==◌, ◌&&◌, nat_lt, if◌then◌else◌, Option, Some, None}
 use Rattle.quic_values.specs.declared.ids.Side.{Side}
 use Rattle.quic_values.specs.declared.ids.Dir.{Dir}
 use Rattle.quic_values.specs.declared.ids.Dir.TheVariants.{Bi, Uni}
 use Rattle.quic_values.specs.Ids.{dir_of, index_of}
-use Rattle.quic_flows.specs.Flow.{SendMove, SendFlow, with_least_limit, with_send_move, FlowAt}
+use Rattle.quic_sending.specs.declared.send.WriteError.{WriteError}
+use Rattle.quic_sending.specs.declared.send.WriteError.TheVariants as write_error
+use Rattle.quic_sending.specs.Buffer.{total_length}
+use Rattle.quic_flows.specs.Flow.{takes_data, SendMove, SendFlow, with_least_limit, with_send_move, FlowAt}
 use Rattle.quic_outgoing.specs.declared.limits.PeerLimits.{PeerLimits}
 use Rattle.quic_outgoing.specs.declared.entries.FirstLimits.{FirstLimits}
 use Rattle.quic_outgoing.specs.Senders.{is_local, first_limit, joined}
@@ -48,3 +51,21 @@ pub record SendTale : Type 0 where
 -- each half is as is told of its stream
 abbrev pub AllFlows : (ℕ → SendFlow) → Outgoing → ℕ → Type 0
 AllFlows f o may_open = (q : ℕ) → FlowAt (first_limit o.side o.first q) (f q) (has_side_in o may_open q) (o.halves q)
+
+-- how many bytes the limit of a stream leaves
+abbrev pub room_on : SendFlow → ℕ
+room_on t = t.limit - total_length t.cuts
+
+-- why nothing is written on a stream that takes new data: the peer asked to send no more on it, or its limit leaves nothing
+abbrev pub refusal_where : Option ℕ → ℕ → Option WriteError
+refusal_where None room = if room == 0 then Some write_error.Blocked else None
+refusal_where (Some code) room = Some (write_error.Stopped code)
+
+-- why nothing is written on a stream that is open, where so many bytes may be written on all of them
+abbrev pub refusal_on : ℕ → SendFlow → Option WriteError
+refusal_on room t = if room == 0 then Some write_error.Blocked else (if takes_data t.reset t.finished then refusal_where t.stopped (room_on t) else Some write_error.ClosedStream)
+
+-- the same, of one that is open or not
+abbrev pub refusal_told : Bool → ℕ → SendFlow → Option WriteError
+refusal_told false room t = Some write_error.ClosedStream
+refusal_told true room t = refusal_on room t

@@ -1,6 +1,6 @@
 -- The history of one end of a connection: the calls on its streams with their answers, the newest first; and what it
 -- says of the end.
-use Rattle.std.specs.Prelude.{◌↔◌, ℕ, Bool, true, false, not, ◌≡◌, ◌+◌, ◌-◌, ◌^◌, ◌==◌, ◌≤◌, ◌<◌, ◌&&◌, ◌||◌, max, min, if◌then◌else◌, nat_eq, nat_lt, List, [], ◌∷◌, length, Option, Some, None, is_some, unwrap_or, Result, Ok, Err}
+use Rattle.std.specs.Prelude.{◌↔◌, ℕ, Bool, true, false, not, ◌≡◌, ◌+◌, ◌-◌, ◌^◌, ◌==◌, ◌≤◌, ◌<◌, ◌&&◌, ◌||◌, max, min, if◌then◌else◌, nat_eq, nat_lt, List, [], ◌∷◌, length, Option, Some, None, is_some, unwrap_or, Result, Ok, Err, ◌⊎◌}
 use Rattle.std.specs.List.{list_any}
 use Rattle.quic_values.specs.declared.ids.Side.{Side}
 use Rattle.quic_values.specs.declared.ids.Dir.{Dir}
@@ -35,7 +35,12 @@ use Rattle.quic_flows.specs.Flow.{SendMove, WasWritten, WasFinished, WasGivenUp,
 use Rattle.quic_outgoing.specs.declared.limits.PeerLimits.{PeerLimits}
 use Rattle.quic_outgoing.specs.declared.entries.FirstLimits.{FirstLimits}
 use Rattle.quic_outgoing.specs.Senders.{no_limits}
-use Rattle.quic_history.specs.Flows.{SendTale, has_send_side, send_moved, with_first_limits, with_limits_in, AllFlows}
+use Rattle.quic_history.specs.Flows.{SendTale, has_send_side, send_moved, with_first_limits, with_limits_in, AllFlows, room_on, refusal_told}
+use Rattle.quic_sending.specs.Buffer.{total_length}
+use Rattle.quic_sending.specs.declared.send.Written.{Written}
+use Rattle.quic_sending.specs.declared.send.WriteError.{WriteError}
+use Rattle.quic_sending.specs.declared.send.WriteError.TheVariants as write_error
+use Rattle.quic_history.specs.Writes.{WritesOwn}
 use Rattle.quic_history.specs.Permitting.{SetsConcurrent, with_accepted, acceptable, with_count_of}
 use Rattle.quic_history.specs.Receiving.{Receives, ReceivesReset}
 use Rattle.quic_history.specs.Reading.{Begins, ReadsHalf, Stops, TellsReset, bytes_in}
@@ -555,6 +560,40 @@ pub record FlowsSo (m : Made) (h : List Event) (v : World) : Type 0 where
   -- what counts as retained is what is retained of all streams
   pub retained : v.out.budget.buffered_data ≡ retained_in_all m h
 
+-- how many bytes the limit of the connection leaves
+abbrev pub connection_room : List Event → ℕ
+connection_room h = greatest_limit h - taken_in_all h
+
+-- how many the send window leaves
+abbrev pub window_room : Made → List Event → ℕ
+window_room m h = last_send_window m.send_window h - retained_in_all m h
+
+-- how many may be written on a stream, as far as the connection, the window and the stream go
+abbrev pub write_room : Made → List Event → ℕ → ℕ
+write_room m h id = min (min (connection_room h) (window_room m h)) (room_on (flow m h id))
+
+-- whether a stream is open on its sending side
+abbrev pub is_sent_on : Made → List Event → ℕ → Bool
+is_sent_on m h id = has_send_side m.side (opened_in_all h) (send_tale m h).may_open id && not (flow m h id).freed
+
+-- why nothing is written on a stream, if it is not for want of memory
+abbrev pub why_not : Made → List Event → ℕ → Option WriteError
+why_not m h id = refusal_told (is_sent_on m h id) (min (connection_room h) (window_room m h)) (flow m h id)
+
+-- what a write of these lists may answer: it takes the least of what is offered and of the three rooms, or gives its
+-- reason. On a connection that is closed it is blocked
+abbrev pub WritesSo : Made → List Event → ℕ → List (List ℕ) → Bool → Result Written WriteError → Type 0
+WritesSo m h id lists closed (Ok written) = (closed ≡ false) × (why_not m h id ≡ None) × (written.bytes ≡ min (total_length lists) (write_room m h id))
+WritesSo m h id lists closed (Err write_error.Blocked) = (closed ≡ true) ⊎ (why_not m h id ≡ Some write_error.Blocked)
+WritesSo m h id lists closed (Err (write_error.Stopped code)) = (closed ≡ false) × (why_not m h id ≡ Some (write_error.Stopped code))
+WritesSo m h id lists closed (Err write_error.ClosedStream) = (closed ≡ false) × (why_not m h id ≡ Some write_error.ClosedStream)
+WritesSo m h id lists closed (Err write_error.OutOfMemory) = closed ≡ false
+
+-- and so does the next one
+abbrev pub TellsWrites : Made → List Event → World → Type 0
+TellsWrites m h v = (id : ℕ) (lists : List (List ℕ)) (closed : Bool) (p : Pending) (answer : Result Written WriteError) (w : World) (left : List (List ℕ)) (q : Pending)
+    → WritesOwn v id lists closed p answer w left q → WritesSo m h id lists closed answer
+
 -- an end may come from what it was made with, and from a history
 pub record From (m : Made) (h : List Event) (v : World) : Type 0 where
   pub run : IsRun m h v
@@ -567,3 +606,4 @@ pub record From (m : Made) (h : List Event) (v : World) : Type 0 where
   pub remotes : EverPermits m h v run
   pub sent : SentSo h (send_totals v.out)
   pub sends : FlowsSo m h v
+  pub writes : TellsWrites m h v
