@@ -15,6 +15,8 @@ use Rattle.quic_history.specs.World.{World, Made, count_of, start, is_same_side}
 use Rattle.quic_history.proofs.Endings.{tells-ends}
 use Rattle.quic_history.specs.SendTotals.{send_totals}
 use Rattle.quic_history.proofs.SentHistory.{sent-start}
+use Rattle.quic_history.proofs.FlowHistory.{sends-start}
+use Rattle.quic_history.proofs.WritesTold.{writes-told}
 use Rattle.quic_history.proofs.Remotes.{AllRemotes}
 use Rattle.quic_history.specs.History.{StreamFrom, RemoteFrom, untouched, trace, Facts, From}
 use Rattle.quic_history.proofs.Refusals.{refusal_by, refusal-is}
@@ -112,6 +114,7 @@ pub begins : (m : Made) (v : World) → m.uni ≤ 2 ^ 60 → m.bi ≤ 2 ^ 60 →
 begins m v few_uni few_bi small e =
     let P : World → Type 0 = λ x. From m [] x in
     let facts = facts_start m small in
+    let sent = sent-start (send_totals (start m).out) refl refl refl refl in
     subst P (sym e) (record {
       run = record { few_uni = few_uni; few_bi = few_bi; small = small; is = refl };
       side = refl;
@@ -121,5 +124,7 @@ begins m v few_uni few_bi small e =
       ends = λ q. record { freed = λ k. cc; sized = λ k. cc; all = λ k. cc };
       tells = tells-ends m.receive_window [] (start m) facts;
       remotes = remotes_start m few_uni few_bi;
-      sent = sent-start (send_totals (start m).out) refl refl refl refl;
+      sent = sent;
+      sends = sends-start m;
+      writes = writes-told m [] (start m) refl sent (sends-start m);
     })

@@ -11,6 +11,9 @@ use Rattle.quic_history.specs.History.{Event, Received, ReceivedReset, AddedCred
 use Rattle.quic_history.proofs.Credits.{credit-credited, credit-resized, credit-same, limit-fits}
 use Rattle.quic_history.proofs.SentHistory.{kept-sent}
 use Rattle.quic_history.proofs.ControlSteps.{announces, facts-settled}
+use Rattle.quic_history.proofs.FlowHistory.{kept-sends}
+use Rattle.quic_history.proofs.WritesTold.{writes-told}
+use Rattle.quic_values.specs.declared.ids.Dir.TheVariants.{Bi}
 use Rattle.quic_history.proofs.SendSteps.{facts-sending}
 use Rattle.quic_history.proofs.Permits.{all-concurrent, all-accepted, credit-concurrent, credit-accepted}
 use Rattle.quic_limits.specs.Credit.{resized}
@@ -65,6 +68,10 @@ next m h u e v fits f s =
     let went = goes h u e v (limit-fits _ _ _ _ u.credit f.facts.credit) s in
     let facts = kept window h u e v f.facts s in
     let told = kept-told-of window h u e v f.facts s (λ q. (f.ends q, f.given q)) in
+    let permits = kept-remotes window (counts (count_of m) h) h u e v f.facts
+    (λ d. rebased (counts (count_of m) h d) (before m h u f.run d) (is_freed (trace h) u.out.side (sends u) d) (remote_of u d) (permits-now m h u f.run f.remotes d)) s in
+    let sent = kept-sent h u e v (limit-fits _ _ _ _ u.credit f.facts.credit) f.sent s in
+    let sends = kept-sends m h u e v f.side (went.side ∙ f.side) f.sent f.sends (permits Bi) s in
     record {
       run = (u, f.run, fits, s, went);
       side = went.side ∙ f.side;
@@ -73,12 +80,10 @@ next m h u e v fits f s =
       given = λ q. (told q).1;
       ends = λ q. (told q).0;
       tells = tells-ends window (e ∷ h) v facts;
-      remotes = (
-        kept-remotes window (counts (count_of m) h) h u e v f.facts
-            (λ d. rebased (counts (count_of m) h d) (before m h u f.run d) (is_freed (trace h) u.out.side (sends u) d) (remote_of u d) (permits-now m h u f.run f.remotes d)) s,
-        f.remotes,
-      );
-      sent = kept-sent h u e v (limit-fits _ _ _ _ u.credit f.facts.credit) f.sent s;
+      remotes = (permits, f.remotes);
+      sent = sent;
+      sends = sends;
+      writes = writes-told m (e ∷ h) v (went.side ∙ f.side) sent sends;
     }
 
 -- the same for an answer of a reader that may go on

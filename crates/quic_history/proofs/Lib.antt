@@ -1,3 +1,4 @@
+pub mod SendSides
 pub mod SentHistory
 pub mod Batches
 pub mod Beginnings
@@ -5,6 +6,9 @@ pub mod ControlSteps
 pub mod Credits
 pub mod Endings
 pub mod FirstStreams
+pub mod FlowLeaves
+pub mod FlowHistory
+pub mod FlowSteps
 pub mod FrameHistory
 pub mod FrameSteps
 pub mod HalfMaps
@@ -23,3 +27,4 @@ pub mod StreamSteps
 pub mod Totals
 pub mod Traces
 pub mod WorldSteps
+pub mod WritesTold

@@ -50,13 +50,13 @@ all-concurrent f u Uni count s = let n : ℕ = lacking u.uni count in
 
 -- ---- how many may be opened
 
-number_more : (n more : ℕ) (f g : ℕ → Bool) → ((i : ℕ) → i < n → g i ≡ f i) → ((i : ℕ) → n ≤ i → g i ≡ false) → number g (n + more) ≡ number f n
-number_more n zero f g below above = let P : ℕ → Type 0 = λ k. number g k ≡ number f n in subst P (plus_none n) (number-same n f g below)
+pub number-more : (n more : ℕ) (f g : ℕ → Bool) → ((i : ℕ) → i < n → g i ≡ f i) → ((i : ℕ) → n ≤ i → g i ≡ false) → number g (n + more) ≡ number f n
+number-more n zero f g below above = let P : ℕ → Type 0 = λ k. number g k ≡ number f n in subst P (plus_none n) (number-same n f g below)
   where
     plus_none : (n : ℕ) → n ≡ n + 0
     plus_none n = omega arith
-number_more n (suc more) f g below above = let P : ℕ → Type 0 = λ k. number g k ≡ number f n in
-    subst P (plus_suc n more) (next-number (n + more) g (above (n + more) (omega arith)) ∙ number_more n more f g below above)
+number-more n (suc more) f g below above = let P : ℕ → Type 0 = λ k. number g k ≡ number f n in
+    subst P (plus_suc n more) (next-number (n + more) g (above (n + more) (omega arith)) ∙ number-more n more f g below above)
   where
     plus_suc : (n m : ℕ) → (n + m) + 1 ≡ n + suc m
     plus_suc n m = omega arith
@@ -65,7 +65,7 @@ concurrent_from : (at_once count : ℕ) (f g : ℕ → Bool) (r : Remote) → ((
     → RemoteFrom at_once r.max_remote f r → RemoteFrom count r.max_remote g (with_concurrent r count)
 concurrent_from at_once count f g r below above x =
     let more : ℕ = lacking r count in
-    let over = number_more r.max_remote (min (count - r.allocated) (2 ^ 60 - r.max_remote)) f g below above in
+    let over = number-more r.max_remote (min (count - r.allocated) (2 ^ 60 - r.max_remote)) f g below above in
     let a = x.allocated in
     let p : r.max_remote + min (count - r.allocated) (2 ^ 60 - r.max_remote)
     ≡ max r.max_remote (min (count + number g (r.max_remote + min (count - r.allocated) (2 ^ 60 - r.max_remote))) (2 ^ 60)) = omega arith in

@@ -38,13 +38,13 @@ abbrev pub is_bi : Dir → Bool
 is_bi Bi = true
 is_bi Uni = false
 
-side-bit : (s : Side) (d : Dir) (n : ℕ) → (stream_id s d n % 2 == 0) ≡ is_client_side s
+pub side-bit : (s : Side) (d : Dir) (n : ℕ) → (stream_id s d n % 2 == 0) ≡ is_client_side s
 side-bit Client Bi n = grind (arith, nat_tests)
 side-bit Client Uni n = grind (arith, nat_tests)
 side-bit Server Bi n = grind (arith, nat_tests)
 side-bit Server Uni n = grind (arith, nat_tests)
 
-dir-bit : (s : Side) (d : Dir) (n : ℕ) → (stream_id s d n / 2 % 2 == 0) ≡ is_bi d
+pub dir-bit : (s : Side) (d : Dir) (n : ℕ) → (stream_id s d n / 2 % 2 == 0) ≡ is_bi d
 dir-bit Client Bi n = grind (arith, nat_tests)
 dir-bit Client Uni n = grind (arith, nat_tests)
 dir-bit Server Bi n = grind (arith, nat_tests)

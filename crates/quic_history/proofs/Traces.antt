@@ -31,7 +31,7 @@ absent_if true q id ids e a = (by_cases (eqb q id) (λ t. absurd (let k : q ≡ 
 absent_if false q id ids e a = or_parts (eqb q id) (list_any (nat_eq q) ids) a
 
 -- a stream that is not among those with one more is none of those, and not that one
-absent : (q id : ℕ) (ids : List ℕ) → list_any (nat_eq q) (with_stream id ids) ≡ false → (eqb q id ≡ false) × (list_any (nat_eq q) ids ≡ false)
+pub absent : (q id : ℕ) (ids : List ℕ) → list_any (nat_eq q) (with_stream id ids) ≡ false → (eqb q id ≡ false) × (list_any (nat_eq q) ids ≡ false)
 absent q id ids a = absent_if (list_any (nat_eq id) ids) q id ids refl a
 
 quiet_moved : (m : Option (ℕ × Move)) (q : ℕ) (ids : List ℕ) (t : Trace) → list_any (nat_eq q) (with_streams m ids) ≡ false

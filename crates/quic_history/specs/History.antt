@@ -1,6 +1,6 @@
 -- The history of one end of a connection: the calls on its streams with their answers, the newest first; and what it
 -- says of the end.
-use Rattle.std.specs.Prelude.{◌↔◌, ℕ, Bool, true, false, not, ◌≡◌, ◌+◌, ◌-◌, ◌^◌, ◌==◌, ◌≤◌, ◌<◌, ◌&&◌, ◌||◌, max, min, if◌then◌else◌, nat_eq, nat_lt, List, [], ◌∷◌, length, Option, Some, None, is_some, unwrap_or, Result, Ok, Err}
+use Rattle.std.specs.Prelude.{◌↔◌, ℕ, Bool, true, false, not, ◌≡◌, ◌+◌, ◌-◌, ◌^◌, ◌==◌, ◌≤◌, ◌<◌, ◌&&◌, ◌||◌, max, min, if◌then◌else◌, nat_eq, nat_lt, List, [], ◌∷◌, length, Option, Some, None, is_some, unwrap_or, Result, Ok, Err, ◌⊎◌}
 use Rattle.std.specs.List.{list_any}
 use Rattle.quic_values.specs.declared.ids.Side.{Side}
 use Rattle.quic_values.specs.declared.ids.Dir.{Dir}
@@ -30,10 +30,20 @@ use Rattle.quic_values.specs.declared.memory.OutOfMemory.{OutOfMemory}
 use Rattle.quic_history.specs.World.{World, Made, count_of, start, id_refusal, remote_of, sends, with_credit, with_receive_window}
 use Rattle.quic_outgoing.specs.History.{count_in, given_for}
 use Rattle.quic_history.specs.SendTotals.{SendTotals, send_totals, own_total}
-use Rattle.quic_history.specs.SendEvents.{SendEvent, SendStep, GaveLimits, RaisedData, RaisedCount, OpenedOwn, WroteOwn}
 use Rattle.quic_history.specs.declared.control.ControlKind.{ControlKind}
 use Rattle.quic_history.specs.Control.{Settles}
 use Rattle.quic_wire.specs.declared.frame.Frame.{Frame}
+use Rattle.quic_history.specs.SendEvents.{SendEvent, SendStep, GaveLimits, RaisedData, RaisedCount, RaisedLimit, StoppedOwn, SetWindow, OpenedOwn, WroteOwn, FinishedOwn, ResetOwn}
+use Rattle.quic_flows.specs.Flow.{SendMove, WasWritten, WasFinished, WasGivenUp, WasAskedToStop, WasPermitted, SendFlow, new_flow, front_of, retained}
+use Rattle.quic_outgoing.specs.declared.limits.PeerLimits.{PeerLimits}
+use Rattle.quic_outgoing.specs.declared.entries.FirstLimits.{FirstLimits}
+use Rattle.quic_outgoing.specs.Senders.{no_limits}
+use Rattle.quic_history.specs.Flows.{SendTale, has_send_side, send_moved, with_first_limits, with_limits_in, AllFlows, room_on, refusal_told}
+use Rattle.quic_sending.specs.Buffer.{total_length}
+use Rattle.quic_sending.specs.declared.send.Written.{Written}
+use Rattle.quic_sending.specs.declared.send.WriteError.{WriteError}
+use Rattle.quic_sending.specs.declared.send.WriteError.TheVariants as write_error
+use Rattle.quic_history.specs.Writes.{WritesOwn}
 use Rattle.quic_history.specs.Permitting.{SetsConcurrent, with_accepted, acceptable, with_count_of}
 use Rattle.quic_history.specs.Receiving.{Receives, ReceivesReset}
 use Rattle.quic_history.specs.Reading.{Begins, ReadsHalf, Stops, TellsReset, bytes_in}
@@ -483,6 +493,113 @@ abbrev pub EverPermits : (m : Made) (h : List Event) (v : World) → IsRun m h v
 EverPermits m [] v run = PermitsNow m [] v run
 EverPermits m (e ∷ h) v run = PermitsNow m (e ∷ h) v run × EverPermits m h run.0 run.1
 
+-- the stream on whose sending side a call did something, and what. Other calls, and those that were refused, did nothing
+abbrev pub send_move_of : Event → Option (ℕ × SendMove)
+send_move_of (Sending (RaisedLimit id limit (Ok x))) = Some (id, WasPermitted limit)
+send_move_of (Sending (StoppedOwn id code (Ok x))) = Some (id, WasAskedToStop code)
+send_move_of (Sending (WroteOwn id lists closed (Ok written))) = Some (id, WasWritten (front_of written.bytes lists))
+send_move_of (Sending (FinishedOwn id (Ok x))) = Some (id, WasFinished)
+send_move_of (Sending (ResetOwn id code (Ok x))) = Some (id, WasGivenUp code)
+send_move_of _ = None
+
+-- the peer's transport parameters that a call handed in
+abbrev pub limits_in : Event → Option PeerLimits
+limits_in (Sending (GaveLimits limits)) = Some limits
+limits_in _ = None
+
+-- the limits that streams begin with: of each the greatest that was handed in
+abbrev pub limits_given : List Event → FirstLimits
+limits_given [] = no_limits
+limits_given (e ∷ h) = with_limits_in (limits_in e) (limits_given h)
+
+-- the send window that a call set
+abbrev pub send_window_in : Event → Option ℕ
+send_window_in (Sending (SetWindow window)) = Some window
+send_window_in _ = None
+
+-- the send window that was set last, if not the first
+abbrev pub last_send_window : ℕ → List Event → ℕ
+last_send_window w [] = w
+last_send_window w (e ∷ h) = unwrap_or (send_window_in e) (last_send_window w h)
+
+-- what is told of the sending side of a stream once one more call was made
+abbrev pub flow_after : Side → Event → List Event → SendTale → ℕ → SendFlow
+flow_after side e h tale q = with_first_limits (limits_in e) side q (send_moved (send_move_of e) (has_send_side side (opened_in_all h) tale.may_open) q (tale.flow q))
+
+-- whether the bidirectional stream of the peer with an index is over on both sides
+abbrev pub is_over : Side → List Event → (ℕ → SendFlow) → ℕ → Bool
+is_over side h f index = (trace h (stream_id (other_side side) Bi index)).gone && (f (stream_id (other_side side) Bi index)).freed
+
+-- the peer may open as many bidirectional streams as it is to be able to use at a time, and one more for each that is over,
+-- up to 2^60, and is never to open fewer
+abbrev pub may_open_after : Made → Event → List Event → SendTale → ℕ
+may_open_after m e h tale = max tale.may_open (min (counts (count_of m) (e ∷ h) Bi + number (is_over m.side (e ∷ h) (flow_after m.side e h tale)) tale.may_open) (2 ^ 60))
+
+-- what the calls tell of the sending sides
+abbrev pub send_tale : Made → List Event → SendTale
+send_tale m [] = record { flow = λ q. new_flow 0; may_open = m.bi }
+send_tale m (e ∷ h) = record { flow = flow_after m.side e h (send_tale m h); may_open = may_open_after m e h (send_tale m h) }
+
+-- what they tell of that of one stream
+abbrev pub flow : Made → List Event → ℕ → SendFlow
+flow m h q = (send_tale m h).flow q
+
+-- the streams on whose sending side something was done, each once
+abbrev pub with_moved_stream : Option (ℕ × SendMove) → List ℕ → List ℕ
+with_moved_stream None ids = ids
+with_moved_stream (Some m) ids = with_stream m.0 ids
+
+abbrev pub moved_streams : List Event → List ℕ
+moved_streams [] = []
+moved_streams (e ∷ h) = with_moved_stream (send_move_of e) (moved_streams h)
+
+-- how many written bytes are retained, of all streams
+abbrev pub retained_in_all : Made → List Event → ℕ
+retained_in_all m h = total_over (λ q. retained (flow m h q)) (moved_streams h)
+
+-- what a history says of the sending sides
+pub record FlowsSo (m : Made) (h : List Event) (v : World) : Type 0 where
+  pub flows : AllFlows (flow m h) v.out v.bi.max_remote
+  pub first : v.out.first ≡ limits_given h
+  pub may_open : v.bi.max_remote ≡ (send_tale m h).may_open
+  pub send_window : v.out.budget.send_window ≡ last_send_window m.send_window h
+  -- what counts as retained is what is retained of all streams
+  pub retained : v.out.budget.buffered_data ≡ retained_in_all m h
+
+-- how many bytes the limit of the connection leaves
+abbrev pub connection_room : List Event → ℕ
+connection_room h = greatest_limit h - taken_in_all h
+
+-- how many the send window leaves
+abbrev pub window_room : Made → List Event → ℕ
+window_room m h = last_send_window m.send_window h - retained_in_all m h
+
+-- how many may be written on a stream, as far as the connection, the window and the stream go
+abbrev pub write_room : Made → List Event → ℕ → ℕ
+write_room m h id = min (min (connection_room h) (window_room m h)) (room_on (flow m h id))
+
+-- whether a stream is open on its sending side
+abbrev pub is_sent_on : Made → List Event → ℕ → Bool
+is_sent_on m h id = has_send_side m.side (opened_in_all h) (send_tale m h).may_open id && not (flow m h id).freed
+
+-- why nothing is written on a stream, if it is not for want of memory
+abbrev pub why_not : Made → List Event → ℕ → Option WriteError
+why_not m h id = refusal_told (is_sent_on m h id) (min (connection_room h) (window_room m h)) (flow m h id)
+
+-- what a write of these lists may answer: it takes the least of what is offered and of the three rooms, or gives its
+-- reason. On a connection that is closed it is blocked
+abbrev pub WritesSo : Made → List Event → ℕ → List (List ℕ) → Bool → Result Written WriteError → Type 0
+WritesSo m h id lists closed (Ok written) = (closed ≡ false) × (why_not m h id ≡ None) × (written.bytes ≡ min (total_length lists) (write_room m h id))
+WritesSo m h id lists closed (Err write_error.Blocked) = (closed ≡ true) ⊎ (why_not m h id ≡ Some write_error.Blocked)
+WritesSo m h id lists closed (Err (write_error.Stopped code)) = (closed ≡ false) × (why_not m h id ≡ Some (write_error.Stopped code))
+WritesSo m h id lists closed (Err write_error.ClosedStream) = (closed ≡ false) × (why_not m h id ≡ Some write_error.ClosedStream)
+WritesSo m h id lists closed (Err write_error.OutOfMemory) = closed ≡ false
+
+-- and so does the next one
+abbrev pub TellsWrites : Made → List Event → World → Type 0
+TellsWrites m h v = (id : ℕ) (lists : List (List ℕ)) (closed : Bool) (p : Pending) (answer : Result Written WriteError) (w : World) (left : List (List ℕ)) (q : Pending)
+    → WritesOwn v id lists closed p answer w left q → WritesSo m h id lists closed answer
+
 -- an end may come from what it was made with, and from a history
 pub record From (m : Made) (h : List Event) (v : World) : Type 0 where
   pub run : IsRun m h v
@@ -494,3 +611,5 @@ pub record From (m : Made) (h : List Event) (v : World) : Type 0 where
   pub tells : TellsEnds h v
   pub remotes : EverPermits m h v run
   pub sent : SentSo h (send_totals v.out)
+  pub sends : FlowsSo m h v
+  pub writes : TellsWrites m h v

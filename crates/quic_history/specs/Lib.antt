@@ -2,6 +2,7 @@ pub mod Halves
 pub mod World
 pub mod Control
 pub mod SendTotals
+pub mod Flows
 pub mod Receiving
 pub mod Reading
 pub mod History
