@@ -3,3 +3,4 @@ pub mod Shown
 pub mod Room
 pub mod Connection
 pub mod Writing
+pub mod Transmitting
