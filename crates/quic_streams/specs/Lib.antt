@@ -4,3 +4,4 @@ pub mod Room
 pub mod Connection
 pub mod Writing
 pub mod Payload
+pub mod Transmitting

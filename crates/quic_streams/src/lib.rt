@@ -14,12 +14,14 @@ pub mod send_stream;
 mod sending;
 pub mod state;
 pub mod streams;
+mod transmitting;
 mod writing;
 
 pub use quic_history::progress;
 pub use quic_outgoing::PeerLimits;
 pub use quic_pieces::{assembler, datagrams, send, send_buffer, source, stats};
 pub use quic_retransmits::{IssuedCid, Retransmits, ThinRetransmits};
+pub use quic_writing::StreamMetaVec;
 
 #[cfg(test)]
 mod tests;

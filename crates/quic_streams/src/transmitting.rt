@@ -1,0 +1,37 @@
+//! The frames that are written of the streams of one end.
+
+ghost use Rattle.std.specs.Prelude.{ℕ, List, [], ◌≡◌, ◌+◌, ◌≤◌, ◌⊎◌, OnOk, length};
+ghost use Rattle.quic_queue.specs.SendOrder.{line};
+ghost use Rattle.quic_writing.specs.Appended.{AreWritten, AppendsFrames};
+ghost use Rattle.quic_streams.specs.Shown.{shown};
+ghost use Rattle.quic_streams.specs.Transmitting.{end_writer, WritesStreamFrames};
+
+use crate::state::StreamsState;
+use quic_values::OutOfMemory;
+use quic_writing::{StreamMetaVec, write_stream_frames};
+
+#[tactic(auto, unfolding(crate::specs::Shown::shown))]
+impl StreamsState {
+    /// Appends STREAM frames (RFC 9000 section 19.8) to a payload of at most `max_buf_size` bytes, and to `sent` what
+    /// each of them carries, as long as a stream is queued and a frame with the greatest head still fits.
+    ///
+    /// Streams of a higher priority come first, and those of equal priority as they were queued. A stream on which more
+    /// is to be sent is queued anew behind those of its present priority where `fair`, and else comes before all others.
+    /// Only the last frame may lack a length, and then it ends the payload at `max_buf_size`.
+    ///
+    /// If memory is refused, the frames that were appended before stay, and the next one was not begun.
+    pub fn write_stream_frames(
+        &mut self,
+        buf: &mut Vec<u8>,
+        sent: &mut StreamMetaVec,
+        max_buf_size: usize,
+        fair: bool,
+    ) -> Result<(), OutOfMemory>
+        ensures writes { WritesStreamFrames max_buf_size fair (shown self.old) buf.old.items sent.old.items (shown self.new) buf.new.items sent.new.items }
+        ensures full { OnOk result ((line (shown self.new).queue ≡ []) ⊎ (max_buf_size ≤ length buf.new.items + 25)) }
+        ensures text { (written : ℕ → List ℕ) → AreWritten written (shown self.old).out → AppendsFrames written max_buf_size (end_writer (shown self.old) buf.old.items sent.old.items) (end_writer (shown self.new) buf.new.items sent.new.items) }
+    {
+        let (streams, queue) = (&mut self.outgoing, &mut self.queue);
+        write_stream_frames(streams, queue, buf, sent, max_buf_size, fair)
+    }
+}
