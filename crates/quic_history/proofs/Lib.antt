@@ -22,6 +22,7 @@ pub mod Remotes
 pub mod ResetHistory
 pub mod SendSteps
 pub mod StreamSteps
+pub mod ToldEvents
 pub mod Totals
 pub mod Traces
 pub mod WorldSteps
