@@ -127,4 +127,5 @@ begins m v few_uni few_bi small e =
       sent = sent;
       sends = sends-start m;
       writes = writes-told m [] (start m) refl sent (sends-start m);
+      queued = refl;
     })

@@ -174,7 +174,7 @@ module _ (side : Side) (there : ℕ → Bool) (f : ℕ → SendFlow) (u : World)
   none_by false false true i e k = k
   none_by false false false i e k = refl
 
-  unpermitted : (id : ℕ) → is_permitted u id ≡ false → u.out.halves id ≡ None
+  pub unpermitted : (id : ℕ) → is_permitted u id ≡ false → u.out.halves id ≡ None
   unpermitted id e = none-held _ (f id) (has_side_in u.out u.bi.max_remote id) (u.out.halves id)
       (side-is u.out u.bi.max_remote id ∙ none_by (is_own u id) (is_local u.out.side id) (id / 2 % 2 == 0) (index_of id) (same_end u.out.side (initiator_of id)) e) (all id)
 

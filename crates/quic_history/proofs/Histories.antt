@@ -13,6 +13,7 @@ use Rattle.quic_history.proofs.SentHistory.{kept-sent}
 use Rattle.quic_history.proofs.ControlSteps.{announces, facts-settled}
 use Rattle.quic_history.proofs.FlowHistory.{kept-sends}
 use Rattle.quic_history.proofs.WritesTold.{writes-told}
+use Rattle.quic_history.proofs.ToldEvents.{queues}
 use Rattle.quic_values.specs.declared.ids.Dir.TheVariants.{Bi}
 use Rattle.quic_history.proofs.SendSteps.{facts-sending}
 use Rattle.quic_history.proofs.Permits.{all-concurrent, all-accepted, credit-concurrent, credit-accepted}
@@ -84,6 +85,7 @@ next m h u e v fits f s =
       sent = sent;
       sends = sends;
       writes = writes-told m (e ∷ h) v (went.side ∙ f.side) sent sends;
+      queued = (u.events, f.queued, queues m h u f.side f.sent f.sends e v s);
     }
 
 -- the same for an answer of a reader that may go on

@@ -24,6 +24,7 @@ pub mod ResetHistory
 pub mod SendFreed
 pub mod SendSteps
 pub mod StreamSteps
+pub mod ToldEvents
 pub mod Totals
 pub mod Traces
 pub mod WorldSteps

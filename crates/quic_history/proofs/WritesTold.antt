@@ -51,8 +51,8 @@ refused_at o first room t false None e f = refl
 
 module _ (m : Made) (h : List Event) (u : World) (side : u.out.side ≡ m.side) (sent : SentSo h (send_totals u.out)) (f : FlowsSo m h u) where
   -- how many bytes may be written on all streams
-  all_room : writable u.out.budget ≡ min (connection_room h) (window_room m h)
-  all_room =
+  pub all-room : writable u.out.budget ≡ min (connection_room h) (window_room m h)
+  all-room =
       let taken = sent.taken in
       let limit = sent.limit in
       let window = f.send_window in
@@ -61,7 +61,7 @@ module _ (m : Made) (h : List Event) (u : World) (side : u.out.side ≡ m.side) 
 
   refused : (id : ℕ) → refusal_of_write u.out (u.out.halves id) ≡ why_not m h id
   refused id =
-      refused_at u.out _ (min (connection_room h) (window_room m h)) (flow m h id) (has_side_in u.out u.bi.max_remote id) (u.out.halves id) all_room (f.flows id)
+      refused_at u.out _ (min (connection_room h) (window_room m h)) (flow m h id) (has_side_in u.out u.bi.max_remote id) (u.out.halves id) all-room (f.flows id)
       ∙ ap (λ k. refusal_told (k && not (flow m h id).freed) (min (connection_room h) (window_room m h)) (flow m h id)) (sym (known-by m h u side f.may_open sent id))
 
   taken_so : (id n b : ℕ) (s : Send) → u.out.halves id ≡ Some s → b ≡ min (min (writable u.out.budget) (s.max_data - s.pending.offset)) n → b ≡ min n (write_room m h id)
@@ -69,7 +69,7 @@ module _ (m : Made) (h : List Event) (u : World) (side : u.out.side ≡ m.side) 
       let t = held-flow _ (flow m h id) (has_side_in u.out u.bi.max_remote id) s (u.out.halves id) e (f.flows id) in
       let limit = t.limit in
       let written = t.cuts.written in
-      let room = all_room in
+      let room = all-room in
       omega arith
 
   wrote_so : (id : ℕ) (lists : List (List ℕ)) (closed : Bool) (p : Pending) (written : Written) (w : World) (left : List (List ℕ)) (q : Pending) → WritesOwn u id lists closed p (Ok written) w left q

@@ -1,5 +1,7 @@
 -- The sending sides of the streams of an end, and what is told of each.
-use Rattle.std.specs.Prelude.{ℕ, Bool, true, false, ◌-◌, ◌==◌, ◌&&◌, nat_lt, if◌then◌else◌, Option, Some, None}
+use Rattle.std.specs.Prelude.{ℕ, Bool, true, false, ◌≡◌, ◌⊎◌, ◌-◌, ◌^◌, ◌==◌, ◌&&◌, min, nat_lt, if◌then◌else◌, List, [], ◌∷◌, Option, Some, None}
+use Rattle.quic_wire.specs.declared.event.StreamEvent.{StreamEvent}
+use Rattle.quic_wire.specs.declared.event.StreamEvent.TheVariants as stream_event
 use Rattle.quic_values.specs.declared.ids.Side.{Side}
 use Rattle.quic_values.specs.declared.ids.Dir.{Dir}
 use Rattle.quic_values.specs.declared.ids.Dir.TheVariants.{Bi, Uni}
@@ -69,3 +71,20 @@ refusal_on room t = if room == 0 then Some write_error.Blocked else (if takes_da
 abbrev pub refusal_told : Bool → ℕ → SendFlow → Option WriteError
 refusal_told false room t = Some write_error.ClosedStream
 refusal_told true room t = refusal_on room t
+
+-- whether a limit lets a stream be written on that was written up to its limit
+abbrev pub wakes : ℕ → SendFlow → Bool
+wakes limit t = (takes_data t.reset t.finished && nat_lt t.limit (min limit (2 ^ 62 - 1))) && (total_length t.cuts == t.limit)
+
+-- one event, or none
+abbrev pub told_if : Bool → StreamEvent → List StreamEvent
+told_if true e = e ∷ []
+told_if false e = []
+
+-- what is queued to be told, before and after the application was answered so: that the peer opened streams, and that a
+-- stream may be written on, need not have been queued
+abbrev pub TakesQueued : List StreamEvent → Option StreamEvent → List StreamEvent → Type 0
+TakesQueued before None after = (before ≡ []) × (after ≡ [])
+TakesQueued before (Some (stream_event.Opened dir)) after = (after ≡ before) ⊎ (before ≡ stream_event.Opened dir ∷ after)
+TakesQueued before (Some (stream_event.Writable id)) after = (after ≡ before) ⊎ (before ≡ stream_event.Writable id ∷ after)
+TakesQueued before (Some e) after = before ≡ e ∷ after

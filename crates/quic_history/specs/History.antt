@@ -1,6 +1,6 @@
 -- The history of one end of a connection: the calls on its streams with their answers, the newest first; and what it
 -- says of the end.
-use Rattle.std.specs.Prelude.{◌↔◌, ℕ, Bool, true, false, not, ◌≡◌, ◌+◌, ◌-◌, ◌^◌, ◌==◌, ◌≤◌, ◌<◌, ◌&&◌, ◌||◌, max, min, if◌then◌else◌, nat_eq, nat_lt, List, [], ◌∷◌, length, Option, Some, None, is_some, unwrap_or, Result, Ok, Err, ◌⊎◌}
+use Rattle.std.specs.Prelude.{◌↔◌, ℕ, Bool, true, false, not, ◌≡◌, ◌+◌, ◌-◌, ◌^◌, ◌==◌, ◌≤◌, ◌<◌, ◌&&◌, ◌||◌, max, min, if◌then◌else◌, nat_eq, nat_lt, List, [], ◌∷◌, length, Option, Some, None, is_some, unwrap_or, Result, Ok, Err, ◌⊎◌, ◌++◌, is_none}
 use Rattle.std.specs.List.{list_any}
 use Rattle.quic_values.specs.declared.ids.Side.{Side}
 use Rattle.quic_values.specs.declared.ids.Dir.{Dir}
@@ -33,12 +33,14 @@ use Rattle.quic_history.specs.SendTotals.{SendTotals, send_totals, own_total}
 use Rattle.quic_history.specs.declared.control.ControlKind.{ControlKind}
 use Rattle.quic_history.specs.Control.{Settles}
 use Rattle.quic_wire.specs.declared.frame.Frame.{Frame}
-use Rattle.quic_history.specs.SendEvents.{SendEvent, SendStep, GaveLimits, RaisedData, RaisedCount, RaisedLimit, StoppedOwn, SetWindow, OpenedOwn, WroteOwn, FinishedOwn, ResetOwn}
+use Rattle.quic_history.specs.SendEvents.{SendEvent, SendStep, GaveLimits, RaisedData, RaisedCount, RaisedLimit, StoppedOwn, SetWindow, OpenedOwn, WroteOwn, FinishedOwn, ResetOwn, Polled}
 use Rattle.quic_flows.specs.Flow.{SendMove, WasWritten, WasFinished, WasGivenUp, WasAskedToStop, WasPermitted, SendFlow, new_flow, front_of, retained}
 use Rattle.quic_outgoing.specs.declared.limits.PeerLimits.{PeerLimits}
 use Rattle.quic_outgoing.specs.declared.entries.FirstLimits.{FirstLimits}
 use Rattle.quic_outgoing.specs.Senders.{no_limits}
-use Rattle.quic_history.specs.Flows.{SendTale, has_send_side, send_moved, with_first_limits, with_limits_in, AllFlows, room_on, refusal_told}
+use Rattle.quic_history.specs.Flows.{SendTale, has_send_side, send_moved, with_first_limits, with_limits_in, AllFlows, room_on, refusal_told, wakes, told_if, TakesQueued}
+use Rattle.quic_wire.specs.declared.event.StreamEvent.{StreamEvent}
+use Rattle.quic_wire.specs.declared.event.StreamEvent.TheVariants as stream_event
 use Rattle.quic_sending.specs.Buffer.{total_length}
 use Rattle.quic_sending.specs.declared.send.Written.{Written}
 use Rattle.quic_sending.specs.declared.send.WriteError.{WriteError}
@@ -600,6 +602,26 @@ abbrev pub TellsWrites : Made → List Event → World → Type 0
 TellsWrites m h v = (id : ℕ) (lists : List (List ℕ)) (closed : Bool) (p : Pending) (answer : Result Written WriteError) (w : World) (left : List (List ℕ)) (q : Pending)
     → WritesOwn v id lists closed p answer w left q → WritesSo m h id lists closed answer
 
+-- what a call queues to be told: that more streams may be opened, that a stream was stopped, that it may be written on
+abbrev pub told_by : Made → List Event → Event → List StreamEvent
+told_by m h (Sending (RaisedCount dir count (Ok x))) = told_if (nat_lt (greatest_count h dir) count) (stream_event.Available dir)
+told_by m h (Sending (StoppedOwn id code (Ok x))) = told_if (is_sent_on m h id && is_none (flow m h id).stopped) (stream_event.Stopped id code)
+told_by m h (Sending (RaisedLimit id limit (Ok x))) =
+    told_if (is_sent_on m h id && (wakes limit (flow m h id) && not (min (connection_room h) (window_room m h) == 0))) (stream_event.Writable id)
+told_by m h _ = []
+
+-- what is queued to be told before and after a call; a frame of the peer may add that a stream may be read
+abbrev pub QueuesSo : Made → List Event → Event → List StreamEvent → List StreamEvent → Type 0
+QueuesSo m h (Sending (Polled answer)) before after = TakesQueued before answer after
+QueuesSo m h (Received id offset bytes fin (Ok transmit)) before after = (after ≡ before) ⊎ (after ≡ before ++ stream_event.Readable id ∷ [])
+QueuesSo m h (ReceivedReset id code final (Ok transmit)) before after = (after ≡ before) ⊎ (after ≡ before ++ stream_event.Readable id ∷ [])
+QueuesSo m h e before after = after ≡ before ++ told_by m h e
+
+-- what may be queued to be told after all calls
+abbrev pub AreQueued : Made → List Event → List StreamEvent → Type 0
+AreQueued m [] events = events ≡ []
+AreQueued m (e ∷ h) events = (before : List StreamEvent) × AreQueued m h before × QueuesSo m h e before events
+
 -- an end may come from what it was made with, and from a history
 pub record From (m : Made) (h : List Event) (v : World) : Type 0 where
   pub run : IsRun m h v
@@ -613,3 +635,4 @@ pub record From (m : Made) (h : List Event) (v : World) : Type 0 where
   pub sent : SentSo h (send_totals v.out)
   pub sends : FlowsSo m h v
   pub writes : TellsWrites m h v
+  pub queued : AreQueued m h v.events
