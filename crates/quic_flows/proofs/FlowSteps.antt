@@ -63,6 +63,7 @@ fresh_offsets limit = record {
   sent = λ n. none n;
   unsent = refl;
   lost = λ n. refl;
+  lost_sent = λ n e. cc;
   acked = λ n. none_acked n;
   first = none_acked 0;
 }
@@ -157,7 +158,7 @@ flow-written t s b n lists f r a =
       end_due = f.end_due;
       offsets = λ e. let o = f.offsets e in
           let P : Buffered → Type 0 = λ v. OffsetsFrom (with_send_move (WasWritten (front_of n lists)) t) v in
-          subst P (sym a.buffer) (record { sent = o.sent; unsent = o.unsent; lost = o.lost; acked = o.acked; first = o.first });
+          subst P (sym a.buffer) (record { sent = o.sent; unsent = o.unsent; lost = o.lost; lost_sent = o.lost_sent; acked = o.acked; first = o.first });
       empty = λ e. absurd (let k : is_some t.reset ≡ false = ap (λ (o : Option ℕ). is_some o) none in cc);
     }
 
@@ -171,7 +172,7 @@ flow-finished t s f r = record {
   state = ap (λ o. state_told o true false) (sym (ready-none t s f (finishable-ready s r)));
   stopped = f.stopped;
   end_due = refl;
-  offsets = λ e. let o = f.offsets e in record { sent = o.sent; unsent = o.unsent; lost = o.lost; acked = o.acked; first = o.first };
+  offsets = λ e. let o = f.offsets e in record { sent = o.sent; unsent = o.unsent; lost = o.lost; lost_sent = o.lost_sent; acked = o.acked; first = o.first };
   empty = f.empty;
 }
 
@@ -216,7 +217,7 @@ flow-asked t s code f = record {
   state = f.state;
   stopped = ap (λ o. Some (unwrap_or o code)) f.stopped;
   end_due = f.end_due;
-  offsets = λ e. let o = f.offsets e in record { sent = o.sent; unsent = o.unsent; lost = o.lost; acked = o.acked; first = o.first };
+  offsets = λ e. let o = f.offsets e in record { sent = o.sent; unsent = o.unsent; lost = o.lost; lost_sent = o.lost_sent; acked = o.acked; first = o.first };
   empty = f.empty;
 }
 
@@ -230,7 +231,7 @@ limit_set t s limit n e f = record {
   state = f.state;
   stopped = f.stopped;
   end_due = f.end_due;
-  offsets = λ k. let o = f.offsets k in record { sent = o.sent; unsent = o.unsent; lost = o.lost; acked = o.acked; first = o.first };
+  offsets = λ k. let o = f.offsets k in record { sent = o.sent; unsent = o.unsent; lost = o.lost; lost_sent = o.lost_sent; acked = o.acked; first = o.first };
   empty = f.empty;
 }
 
@@ -258,7 +259,7 @@ flow-permitted t s n f =
 below_prefix : (v : Buffered) (n : ℕ) → n < v.prefix → is_acked v n ≡ true
 below_prefix v n l = let k : nat_lt n v.prefix ≡ true = grind (arith, nat_tests) in rw k refl
 
-kept_prefix : (t : SendFlow) (s : Send) → FlowFrom t s → OffsetsFrom t s.pending → passing t.acked (total_length t.cuts) ≡ s.pending.prefix
+pub kept_prefix : (t : SendFlow) (s : Send) → FlowFrom t s → OffsetsFrom t s.pending → passing t.acked (total_length t.cuts) ≡ s.pending.prefix
 kept_prefix t s f o =
     let written = f.cuts.written in
     let within = f.within in

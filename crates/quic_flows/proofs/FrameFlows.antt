@@ -1,13 +1,13 @@
 -- What is told of a stream stays true where frames are written, acknowledged and lost.
-use Rattle.std.proofs.Common.{◌≡◌, ℕ, Bool, true, false, List, Option, Some, None, is_some, refl, sym, ap, ◌∙◌, subst, arith, ◌<◌, ◌≤◌}
-use Rattle.std.specs.Prelude.{◌&&◌, ◌||◌, not, max, nat_lt, nat_le, if◌then◌else◌}
+use Rattle.std.proofs.Common.{◌≡◌, ℕ, Bool, true, false, List, [], ◌∷◌, Option, Some, None, is_some, refl, sym, ap, ◌∙◌, subst, arith, ◌+◌, ◌-◌, ◌<◌, ◌≤◌}
+use Rattle.std.specs.Prelude.{◌==◌, ◌&&◌, ◌||◌, not, max, nat_lt, nat_le, if◌then◌else◌}
 use Rattle.std.proofs.lemmas.Bool.Decides.{nat_tests}
 use Rattle.quic_values.specs.Runs.{contains, is_in}
 use Rattle.quic_sending.specs.declared.send.Send.{Send}
-use Rattle.quic_sending.specs.Buffer.{Buffered, HasCuts, IsSound, is_sent, is_lost, is_acked}
-use Rattle.quic_sending.specs.Sending.{is_ready, after_ack}
-use Rattle.quic_flows.specs.Flow.{SendFlow, WasCarried, WasAcked, WasLost, with_send_move, with_carried, with_acked, with_lost, counts_for, takes_data, state_told, FlowFrom}
-use Rattle.quic_flows.proofs.FlowSteps.{ready-is}
+use Rattle.quic_sending.specs.Buffer.{Buffered, HasCuts, IsSound, IsInFirst, is_sent, is_lost, is_acked, total_length, uncovered}
+use Rattle.quic_sending.specs.Sending.{is_ready, is_finish_acked, after_ack}
+use Rattle.quic_flows.specs.Flow.{SendFlow, WasCarried, WasAcked, WasLost, with_send_move, with_carried, with_acked, with_lost, counts_for, takes_data, state_told, is_whole, freed_if_whole, passing, retained, FlowFrom}
+use Rattle.quic_flows.proofs.FlowSteps.{ready-is, kept_prefix, flow-retained}
 
 first_free : (v : Buffered) → IsSound v → is_acked v v.prefix ≡ false
 first_free v s =
@@ -26,6 +26,19 @@ not_ready : (r : Option ℕ) (f : Bool) → r ≡ None → not (takes_data r f) 
 not_ready None true e = refl
 not_ready None false e = refl
 not_ready (Some code) f e = cc
+
+-- what stays lost was lost
+was_lost : (b c : Bool) → (b && c) ≡ true → b ≡ true
+was_lost true c e = refl
+was_lost false c e = cc
+
+-- what is lost now was lost, or is in the frame
+lost_either : (n first behind unsent : ℕ) (b c : Bool) → (b || (is_in (first, behind) n && c)) ≡ true → (b ≡ true → n < unsent) → behind ≤ unsent → n < unsent
+lost_either n first behind unsent true c e was l = was refl
+lost_either n first behind unsent false c e was l = let k : is_in (first, behind) n ≡ true = was_lost (is_in (first, behind) n) c e in in_frame n first behind unsent k l
+  where
+    in_frame : (n first behind unsent : ℕ) → is_in (first, behind) n ≡ true → behind ≤ unsent → n < unsent
+    in_frame n first behind unsent k l = grind (arith, nat_tests)
 
 lost_acked : (m a i : Bool) → ((m && not a) && not i) ≡ (m && not (a || i))
 lost_acked true true i = refl
@@ -56,20 +69,17 @@ acked_by None false a fin = refl
 acked_by None true a fin = refl
 acked_by (Some code) f a fin = refl
 
--- a frame was acknowledged
-pub flow-acked : (t : SendFlow) (s s' : Send) (first behind : ℕ) (fin : Bool) → FlowFrom t s → t.reset ≡ None → behind ≤ s.pending.unsent → IsSound s'.pending
+acked_held : (t : SendFlow) (s s' : Send) (first behind : ℕ) (fin : Bool) → FlowFrom t s → t.reset ≡ None → behind ≤ s.pending.unsent → IsSound s'.pending
     → ((cuts : List (List ℕ)) → HasCuts cuts s.pending → HasCuts cuts s'.pending) → s'.pending.unsent ≡ s.pending.unsent
     → ((n : ℕ) → is_acked s'.pending n ≡ (is_acked s.pending n || is_in (first, behind) n))
     → ((n : ℕ) → is_lost s'.pending n ≡ (is_lost s.pending n && not (is_in (first, behind) n)))
     → s' ≡ record s { state = after_ack s.state fin; pending = s'.pending }
-    → FlowFrom (with_send_move (WasAcked first behind fin) t) s'
-flow-acked t s s' first behind fin f none sent sound cuts unsent acked lost is =
+    → FlowFrom (with_acked first behind fin t) s'
+acked_held t s s' first behind fin f none sent sound cuts unsent acked lost is =
     let o = f.offsets none in
     let within = sound.acked_sent in
     let written = sound.sent_written in
-    let up_to = o.unsent in
-    let P : Bool → Type 0 = λ b. FlowFrom (if b then with_acked first behind fin t else t) s' in
-    subst P (sym (counting t.reset t.sent_up_to behind none (omega arith))) (record {
+    record {
       there = f.there;
       cuts = cuts t.cuts f.cuts;
       within = omega arith;
@@ -81,11 +91,112 @@ flow-acked t s s' first behind fin f none sent sound cuts unsent acked lost is =
         sent = λ n. ap (λ k. nat_lt n k) unsent ∙ o.sent n;
         unsent = unsent ∙ o.unsent;
         lost = λ n. lost n ∙ ap (λ b. b && not (is_in (first, behind) n)) (o.lost n) ∙ lost_acked (t.missing n) (t.acked n) (is_in (first, behind) n);
+        lost_sent = λ n k. let l = o.lost_sent n (was_lost (is_lost s.pending n) (not (is_in (first, behind) n)) (sym (lost n) ∙ k)) in omega arith;
         acked = λ n. acked n ∙ ap (λ b. b || is_in (first, behind) n) (o.acked n);
         first = first_free s'.pending sound;
       };
       empty = λ e. absurd (let k : is_some t.reset ≡ false = ap (λ (r : Option ℕ). is_some r) none in cc);
-    })
+    }
+
+
+-- whether the end is acknowledged, by what is told
+end_told : (r : Option ℕ) (finished acked : Bool) → r ≡ None → is_finish_acked (state_told r finished acked) ≡ (finished && acked)
+end_told None true acked e = refl
+end_told None false acked e = refl
+end_told (Some code) finished acked e = cc
+
+same_number : (a b c d : ℕ) → a ≡ c → b ≡ d → (a == b) ≡ (c == d)
+same_number a b c d e k = rw (e, k) refl
+
+-- a half is done with where the end and every byte are acknowledged
+pub whole-is : (t : SendFlow) (s : Send) → FlowFrom t s → t.reset ≡ None → is_whole t ≡ (is_finish_acked s.state && (s.pending.prefix == s.pending.offset))
+whole-is t s f none =
+    let end : is_finish_acked s.state ≡ (t.finished && t.end_acked) = ap is_finish_acked f.state ∙ end_told t.reset t.finished t.end_acked none in
+    let all = same_number (passing t.acked (total_length t.cuts)) (total_length t.cuts) s.pending.prefix s.pending.offset (kept_prefix t s f (f.offsets none)) (sym f.cuts.written) in
+    ap (λ b. b && (passing t.acked (total_length t.cuts) == total_length t.cuts)) (sym end) ∙ ap (λ b. is_finish_acked s.state && b) all
+
+-- what an acknowledgement leaves of a half: none where it is done with
+pub record AfterAck (t : SendFlow) (s : Send) : Type 0 where
+  pub held : (is_finish_acked s.state && (s.pending.prefix == s.pending.offset)) ≡ false → FlowFrom t s
+  pub freed : (is_finish_acked s.state && (s.pending.prefix == s.pending.offset)) ≡ true → t.freed ≡ true
+  -- as much is retained
+  pub kept : total_length s.pending.held ≡ retained t
+
+-- nothing is held where every byte is acknowledged
+held_at : (pieces : List (List ℕ)) (gone prefix offset : ℕ) → gone + total_length pieces ≡ offset → gone ≤ prefix → IsInFirst (prefix - gone) pieces → prefix ≡ offset → total_length pieces ≡ 0
+held_at [] gone prefix offset l g f e = refl
+held_at (p ∷ ps) gone prefix offset l g f e = omega arith
+
+and_right : (a b : Bool) → (a && b) ≡ true → b ≡ true
+and_right true b e = e
+and_right false b e = cc
+
+equal_if : (a b : ℕ) → (a == b) ≡ true → a ≡ b
+equal_if a b e = grind (arith, nat_tests)
+
+or_none : (b : Bool) → (b || false) ≡ b
+or_none true = refl
+or_none false = refl
+
+or_all : (b : Bool) → (b || true) ≡ true
+or_all true = refl
+or_all false = refl
+
+none_of : (r : Option ℕ) (freed : Bool) (n : ℕ) → freed ≡ true → (if is_some r || freed then 0 else n) ≡ 0
+none_of None true n e = refl
+none_of None false n e = cc
+none_of (Some code) freed n e = refl
+
+whole_after : (t : SendFlow) (s : Send) → FlowFrom t s → t.reset ≡ None → IsSound s.pending → AfterAck (freed_if_whole t) s
+whole_after t s f none sound = by_test (is_whole t) refl
+  where
+    is : is_whole t ≡ (is_finish_acked s.state && (s.pending.prefix == s.pending.offset))
+    is = whole-is t s f none
+
+    kept_whole : is_whole t ≡ true → total_length s.pending.held ≡ retained (freed_if_whole t)
+    kept_whole e =
+        let same : s.pending.prefix ≡ s.pending.offset = equal_if s.pending.prefix s.pending.offset (and_right (is_finish_acked s.state) (s.pending.prefix == s.pending.offset) (sym is ∙ e)) in
+        let freed : (freed_if_whole t).freed ≡ true = ap (λ b. t.freed || b) e ∙ or_all t.freed in
+        held_at s.pending.held s.pending.gone s.pending.prefix s.pending.offset sound.lengths sound.gone_acked sound.first same
+        ∙ sym (none_of t.reset (freed_if_whole t).freed (total_length (uncovered (passing t.acked (total_length t.cuts)) t.cuts)) freed)
+
+    by_test : (b : Bool) → is_whole t ≡ b → AfterAck (freed_if_whole t) s
+    by_test true e = record {
+      held = λ n. absurd (let k : true ≡ false = sym e ∙ is ∙ n in cc);
+      freed = λ n. ap (λ b. t.freed || b) e ∙ or_all t.freed;
+      kept = kept_whole e;
+    }
+    by_test false e =
+        let same : freed_if_whole t ≡ t = λ i. record t { freed = (ap (λ b. t.freed || b) e ∙ or_none t.freed) i } in
+        let P : SendFlow → Type 0 = λ k. AfterAck k s in
+        subst P (sym same) (record { held = λ n. f; freed = λ n. absurd (let k : false ≡ true = sym e ∙ is ∙ n in cc); kept = flow-retained t s f })
+
+-- a frame was acknowledged
+pub flow-acked : (t : SendFlow) (s s' : Send) (first behind : ℕ) (fin : Bool) → FlowFrom t s → t.reset ≡ None → behind ≤ s.pending.unsent → IsSound s'.pending
+    → ((cuts : List (List ℕ)) → HasCuts cuts s.pending → HasCuts cuts s'.pending) → s'.pending.unsent ≡ s.pending.unsent
+    → ((n : ℕ) → is_acked s'.pending n ≡ (is_acked s.pending n || is_in (first, behind) n))
+    → ((n : ℕ) → is_lost s'.pending n ≡ (is_lost s.pending n && not (is_in (first, behind) n)))
+    → s' ≡ record s { state = after_ack s.state fin; pending = s'.pending }
+    → AfterAck (with_send_move (WasAcked first behind fin) t) s'
+flow-acked t s s' first behind fin f none sent sound cuts unsent acked lost is =
+    let o = f.offsets none in
+    let up_to = o.unsent in
+    let P : Bool → Type 0 = λ b. AfterAck (if b then freed_if_whole (with_acked first behind fin t) else t) s' in
+    subst P (sym (counting t.reset t.sent_up_to behind none (omega arith)))
+    (whole_after (with_acked first behind fin t) s' (acked_held t s s' first behind fin f none sent sound cuts unsent acked lost is) none sound)
+
+-- whether that is the last acknowledgement that the stream waits for
+pub ends-told : (t : SendFlow) (s s' : Send) (first behind : ℕ) (fin : Bool) → FlowFrom t s → t.reset ≡ None → behind ≤ s.pending.unsent → IsSound s'.pending
+    → ((cuts : List (List ℕ)) → HasCuts cuts s.pending → HasCuts cuts s'.pending) → s'.pending.unsent ≡ s.pending.unsent
+    → ((n : ℕ) → is_acked s'.pending n ≡ (is_acked s.pending n || is_in (first, behind) n))
+    → ((n : ℕ) → is_lost s'.pending n ≡ (is_lost s.pending n && not (is_in (first, behind) n)))
+    → s' ≡ record s { state = after_ack s.state fin; pending = s'.pending }
+    → (is_finish_acked s'.state && (s'.pending.prefix == s'.pending.offset)) ≡ (counts_for t.reset t.sent_up_to behind && is_whole (with_acked first behind fin t))
+ends-told t s s' first behind fin f none sent sound cuts unsent acked lost is =
+    let o = f.offsets none in
+    let up_to = o.unsent in
+    sym (whole-is (with_acked first behind fin t) s' (acked_held t s s' first behind fin f none sent sound cuts unsent acked lost is) none)
+    ∙ ap (λ b. b && is_whole (with_acked first behind fin t)) (sym (counting t.reset t.sent_up_to behind none (omega arith)))
 
 -- a frame was lost
 pub flow-lost : (t : SendFlow) (s s' : Send) (first behind : ℕ) (fin : Bool) → FlowFrom t s → t.reset ≡ None → behind ≤ s.pending.unsent → s'.pending ≡ record s.pending { lost = s'.pending.lost }
@@ -112,6 +223,8 @@ flow-lost t s s' first behind fin f none sent pending lost is =
         lost = λ n. lost n ∙ ap (λ b. b || (is_in (first, behind) n && not (is_acked s.pending n))) (o.lost n)
             ∙ ap (λ b. (t.missing n && not (t.acked n)) || (is_in (first, behind) n && not b)) (o.acked n)
             ∙ lost_again (t.missing n) (t.acked n) (is_in (first, behind) n);
+        lost_sent = λ n k. let u : s'.pending.unsent ≡ s.pending.unsent = ap (λ (v : Buffered). v.unsent) pending in
+            let l = lost_either n first behind s.pending.unsent (is_lost s.pending n) (not (is_acked s.pending n)) (sym (lost n) ∙ k) (o.lost_sent n) sent in omega arith;
         acked = λ n. ap (λ (v : Buffered). is_acked v n) pending ∙ o.acked n;
         first = ap (λ (v : Buffered). is_acked v v.prefix) pending ∙ o.first;
       };
@@ -150,6 +263,8 @@ flow-carried t s s' first behind fin f none below next pending lost is =
         sent = λ n. ap (λ (v : Buffered). is_sent v n) pending ∙ sent_more n first behind s.pending.unsent below (omega arith) next ∙ ap (λ b. b || is_in (first, behind) n) (o.sent n);
         unsent = ap (λ (v : Buffered). v.unsent) pending ∙ ap (λ k. max k behind) o.unsent;
         lost = λ n. lost n ∙ ap (λ b. b && not (is_in (first, behind) n)) (o.lost n) ∙ lost_carried (t.missing n) (t.acked n) (is_in (first, behind) n);
+        lost_sent = λ n k. let u : s'.pending.unsent ≡ max s.pending.unsent behind = ap (λ (v : Buffered). v.unsent) pending in
+            let l = o.lost_sent n (was_lost (is_lost s.pending n) (not (is_in (first, behind) n)) (sym (lost n) ∙ k)) in omega arith;
         acked = λ n. ap (λ (v : Buffered). is_acked v n) pending ∙ o.acked n;
         first = ap (λ (v : Buffered). is_acked v v.prefix) pending ∙ o.first;
       };

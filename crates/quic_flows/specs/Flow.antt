@@ -1,5 +1,5 @@
 -- What calls did to the sending side of one stream, and what they tell of its half (RFC 9000 section 3.1).
-use Rattle.std.specs.Prelude.{ℕ, zero, suc, Bool, true, false, not, ◌≡◌, ◌==◌, ◌≤◌, ◌-◌, ◌^◌, ◌&&◌, ◌||◌, max, min, nat_le, if◌then◌else◌, List, [], ◌∷◌, ◌++◌, length, take, Option, Some, None, is_none, is_some, unwrap_or}
+use Rattle.std.specs.Prelude.{ℕ, zero, suc, Bool, true, false, not, ◌≡◌, ◌==◌, ◌<◌, ◌≤◌, ◌-◌, ◌^◌, ◌&&◌, ◌||◌, max, min, nat_le, if◌then◌else◌, List, [], ◌∷◌, ◌++◌, length, take, Option, Some, None, is_none, is_some, unwrap_or}
 use Rattle.quic_values.specs.Runs.{is_in}
 use Rattle.quic_sending.specs.declared.send.Send.{Send}
 use Rattle.quic_sending.specs.declared.send.SendState.{SendState}
@@ -24,8 +24,8 @@ pub data SendMove : Type 0 where
   WasAcked : (first behind : ℕ) → (fin : Bool) → SendMove
   -- such a frame was lost
   WasLost : (first behind : ℕ) → (fin : Bool) → SendMove
-  -- its half was freed
-  WasFreed : SendMove
+  -- that it was given up was acknowledged
+  WasResetAcked : SendMove
 
 -- what the calls tell of the sending side of one stream
 pub record SendFlow : Type 0 where
@@ -101,6 +101,19 @@ with_lost first behind fin t = record t { missing = λ n. t.missing n || is_in (
 abbrev pub counts_for : Option ℕ → ℕ → ℕ → Bool
 counts_for reset sent behind = is_none reset && nat_le behind sent
 
+-- how many offsets, n at most, pass a test before the first that does not
+abbrev pub passing : (ℕ → Bool) → ℕ → ℕ
+passing f zero = 0
+passing f (suc n) = if (passing f n == n) && f n then suc n else passing f n
+
+-- whether the end and every byte are acknowledged
+abbrev pub is_whole : SendFlow → Bool
+is_whole t = (t.finished && t.end_acked) && (passing t.acked (total_length t.cuts) == total_length t.cuts)
+
+-- its half is freed by that
+abbrev pub freed_if_whole : SendFlow → SendFlow
+freed_if_whole t = record t { freed = t.freed || is_whole t }
+
 -- what is told of a stream once this was done to it
 abbrev pub with_send_move : SendMove → SendFlow → SendFlow
 with_send_move (WasWritten pieces) t = record t { cuts = t.cuts ++ pieces }
@@ -109,20 +122,15 @@ with_send_move (WasGivenUp code) t = record t { reset = Some code; end_due = fal
 with_send_move (WasAskedToStop code) t = record t { stopped = Some (unwrap_or t.stopped code) }
 with_send_move (WasPermitted limit) t = if takes_data t.reset t.finished then with_least_limit (min limit (2 ^ 62 - 1)) t else t
 with_send_move (WasCarried first behind fin) t = if is_none t.reset then with_carried first behind fin t else t
-with_send_move (WasAcked first behind fin) t = if counts_for t.reset t.sent_up_to behind then with_acked first behind fin t else t
+with_send_move (WasAcked first behind fin) t = if counts_for t.reset t.sent_up_to behind then freed_if_whole (with_acked first behind fin t) else t
 with_send_move (WasLost first behind fin) t = if counts_for t.reset t.sent_up_to behind then with_lost first behind fin t else t
-with_send_move WasFreed t = record t { freed = true }
+with_send_move WasResetAcked t = record t { freed = t.freed || is_some t.reset }
 
 -- the first n bytes of some lists, as one piece for each list of which they have some
 abbrev pub front_of : ℕ → List (List ℕ) → List (List ℕ)
 front_of n [] = []
 front_of n ([] ∷ ps) = front_of n ps
 front_of n ((b ∷ bs) ∷ ps) = cut_of (take n (b ∷ bs)) ++ front_of (n - length (b ∷ bs)) ps
-
--- how many offsets, n at most, pass a test before the first that does not
-abbrev pub passing : (ℕ → Bool) → ℕ → ℕ
-passing f zero = 0
-passing f (suc n) = if (passing f n == n) && f n then suc n else passing f n
 
 -- how many of the written bytes are retained: those of the pieces that the acknowledged beginning does not wholly cover,
 -- and none of a stream that is given up, or freed
@@ -140,6 +148,8 @@ pub record OffsetsFrom (t : SendFlow) (v : Buffered) : Type 0 where
   pub sent : (n : ℕ) → is_sent v n ≡ t.carried n
   pub unsent : v.unsent ≡ t.sent_up_to
   pub lost : (n : ℕ) → is_lost v n ≡ (t.missing n && not (t.acked n))
+  -- what is lost was sent
+  pub lost_sent : (n : ℕ) → is_lost v n ≡ true → n < v.unsent
   pub acked : (n : ℕ) → is_acked v n ≡ t.acked n
   -- the first offset that is not
   pub first : is_acked v v.prefix ≡ false

@@ -30,9 +30,10 @@ use Rattle.quic_history.specs.World.{World, Made, start, count_of, sends, remote
 use Rattle.quic_history.specs.Sends.{with_out, with_opened, with_own_count, TellsNext, PollsQueue}
 use Rattle.quic_history.specs.Writes.{WritesOwn}
 use Rattle.quic_history.specs.SendTotals.{send_totals, own_total}
-use Rattle.quic_history.specs.SendEvents.{SendEvent, SendStep, GaveLimits, OpenedOwn, RaisedData, RaisedCount, RaisedLimit, StoppedOwn, SetWindow, Polled, WroteOwn, FinishedOwn, ResetOwn, SetOwnPriority}
-use Rattle.quic_history.specs.History.{Event, Received, ReceivedReset, AddedCredits, Began, Gave, Ended, Stopped, ToldReset, Resized, SetConcurrent, Accepted, Sending, Step, SentSo, RemoteFrom, is_freed, trace, counts, opened_in_all, total_over, send_move_of, limits_in, send_window_in, flow_after, is_over, may_open_after, send_tale, flow, with_moved_stream, moved_streams, retained_in_all, FlowsSo}
+use Rattle.quic_history.specs.SendEvents.{SendEvent, SendStep, GaveLimits, OpenedOwn, RaisedData, RaisedCount, RaisedLimit, StoppedOwn, SetWindow, Polled, WroteOwn, FinishedOwn, ResetOwn, SetOwnPriority, AckedOwn, LostOwn, ResetAckedOwn, TookTurn}
+use Rattle.quic_history.specs.History.{Event, Received, ReceivedReset, AddedCredits, Began, Gave, Ended, Stopped, ToldReset, Resized, SetConcurrent, Accepted, Settled, Sending, Step, SentSo, RemoteFrom, is_freed, trace, counts, opened_in_all, total_over, send_move_of, limits_in, send_window_in, flow_after, is_over, may_open_after, send_tale, flow, with_moved_stream, moved_streams, retained_in_all, FlowsSo}
 use Rattle.quic_history.specs.Flows.{has_send_side, has_side_in, is_answered_on, send_moved, with_first_limits, with_limits_in, AllFlows}
+use Rattle.quic_history.proofs.FlowReports.{step-acked, step-lost, step-reset-acked, step-carried, leaves-passed, leaves-settled}
 use Rattle.quic_history.proofs.Totals.{by_cases, same, IsOnce, once_with, total_with, total_same}
 use Rattle.quic_history.proofs.Traces.{absent}
 use Rattle.quic_history.proofs.Refusals.{side-bit, dir-bit, index-id}
@@ -141,6 +142,14 @@ module _ (side : Side) (there : ℕ → Bool) (f : ℕ → SendFlow) (u : World)
   step_sending (ResetOwn id code (Ok x)) v s = step-at _ None None side there f u (with_out u s.2.0) v s.2.2 (step-given-up side there f u known all id code x s.0 s.1 s.2.0 (few id) s.2.1)
   step_sending (ResetOwn id code (Err handle_error.ClosedStream)) v s = left v (leaves_out u v s.2.0 s.2.2 (sides-at u.out s.2.0 u.out s.2.1.1 (sides-none u.out)))
   step_sending (ResetOwn id code (Err handle_error.OutOfMemory)) v s = left v (leaves_out u v s.2.0 s.2.2 (sides-at u.out s.2.0 u.out s.2.1.0 (sides-none u.out)))
+  step_sending (AckedOwn id offsets fin (Ok x)) v s = step-acked side there f u known all id offsets fin x v (few id) s
+  step_sending (AckedOwn id offsets fin (Err e)) v s = left v (leaves-same u v s)
+  step_sending (LostOwn id offsets fin (Ok x)) v s = step-lost side there f u known all id offsets fin x v s
+  step_sending (LostOwn id offsets fin (Err e)) v s = left v (leaves-same u v s)
+  step_sending (ResetAckedOwn id (Ok x)) v s = step-reset-acked side there f u known all id x v s
+  step_sending (ResetAckedOwn id (Err e)) v s = left v (leaves-same u v s.1)
+  step_sending (TookTurn most fair None) v s = left v (leaves-passed u most fair v s)
+  step_sending (TookTurn most fair (Some frame)) v s = step-carried side there f u known all most fair frame v s
   step_sending (SetOwnPriority id priority (Ok x)) v s = left v (leaves_out u v s.0 s.2 (sides-at u.out s.0 _ s.1.2 (sides-put u.out id s.1.0 _ s.1.1 refl)))
   step_sending (SetOwnPriority id priority (Err handle_error.ClosedStream)) v s = left v (leaves_out u v s.0 s.2 (sides-at u.out s.0 u.out s.1.1 (sides-none u.out)))
   step_sending (SetOwnPriority id priority (Err handle_error.OutOfMemory)) v s = left v (leaves_out u v s.0 s.2 (sides-at u.out s.0 u.out s.1 (sides-none u.out)))
@@ -162,6 +171,7 @@ module _ (side : Side) (there : ℕ → Bool) (f : ℕ → SendFlow) (u : World)
       accepted_max : (r : Remote) (b : Bool) → (if b then record r { next_reported = r.next_reported + 1 } else r).max_remote ≡ r.max_remote
       accepted_max r true = refl
       accepted_max r false = refl
+  step-any (Settled kind frame) v s = left v (leaves-settled u kind s.0 frame v s.1 s.2)
   step-any (Sending e) v s = step_sending e v s
 
 -- ---- what is retained

@@ -51,7 +51,7 @@ module _ (side : Side) (there : ℕ → Bool) (f : ℕ → SendFlow) (u v : Worl
   pub step-left : Leaves u v → FlowStep None None None side there f u v
   step-left s = record { flows = s.flows f all; first = s.first; window = s.window; buffered = s.buffered }
 
-step_then : (o : Option (ℕ × SendMove)) (l : Option PeerLimits) (w : Option ℕ) (side : Side) (there : ℕ → Bool) (f : ℕ → SendFlow) (u x v : World) → FlowStep o l w side there f u x → Leaves x v
+pub step_then : (o : Option (ℕ × SendMove)) (l : Option PeerLimits) (w : Option ℕ) (side : Side) (there : ℕ → Bool) (f : ℕ → SendFlow) (u x v : World) → FlowStep o l w side there f u x → Leaves x v
     → FlowStep o l w side there f u v
 step_then o l w side there f u x v s t = record {
   flows = t.flows (λ q. with_first_limits l side q (send_moved o there q (f q))) s.flows;
@@ -65,7 +65,7 @@ step-at o l w side there f u x v e s = let P : World → Type 0 = λ k. FlowStep
 
 -- ---- something was done to one stream
 
-moved_here : (id : ℕ) (m : SendMove) (there : ℕ → Bool) (t : SendFlow) (k : Bool) → there id ≡ k → send_moved (Some (id, m)) there id t ≡ (if k then with_send_move m t else t)
+pub moved_here : (id : ℕ) (m : SendMove) (there : ℕ → Bool) (t : SendFlow) (k : Bool) → there id ≡ k → send_moved (Some (id, m)) there id t ≡ (if k then with_send_move m t else t)
 moved_here id m there t k e = rw (itself id, e) refl
 
 moved_other : (id q : ℕ) (m : SendMove) (there : ℕ → Bool) (t : SendFlow) → eqb q id ≡ false → send_moved (Some (id, m)) there q t ≡ t
@@ -73,7 +73,7 @@ moved_other id q m there t e = rw e refl
 
 module _ (side : Side) (there : ℕ → Bool) (f : ℕ → SendFlow) (u : World) (known : (q : ℕ) → there q ≡ has_side_in u.out u.bi.max_remote q) (all : AllFlows f u.out u.bi.max_remote) where
   -- the sending side is another
-  step_moved : (o : Outgoing) (id : ℕ) (m : SendMove) → o.side ≡ u.out.side → o.first ≡ u.out.first → o.own_bi.opened ≡ u.out.own_bi.opened → o.own_uni.opened ≡ u.out.own_uni.opened
+  pub step_moved : (o : Outgoing) (id : ℕ) (m : SendMove) → o.side ≡ u.out.side → o.first ≡ u.out.first → o.own_bi.opened ≡ u.out.own_bi.opened → o.own_uni.opened ≡ u.out.own_uni.opened
       → ((q : ℕ) → eqb q id ≡ false → option_map core (o.halves q) ≡ option_map core (u.out.halves q)) → MovesHalf m (f id) (u.out.halves id) (o.halves id)
       → o.budget.send_window ≡ u.out.budget.send_window
       → o.budget.buffered_data + retained (f id) ≡ u.out.budget.buffered_data + retained (send_moved (Some (id, m)) there id (f id))
@@ -193,15 +193,15 @@ module _ (side : Side) (there : ℕ → Bool) (f : ℕ → SendFlow) (u : World)
 
   -- ---- writes, ends and resets
 
-  queued_leaves : (w : World) (id : ℕ) (o : Option ℤ) → Leaves w (with_queued w id o)
+  pub queued_leaves : (w : World) (id : ℕ) (o : Option ℤ) → Leaves w (with_queued w id o)
   queued_leaves w id None = leaves-none w
   queued_leaves w id (Some priority) = leaves-sides w (with_queued w id (Some priority)) (sides-none w.out) refl
 
   -- what a stream with a half becomes
-  moved_held : (id : ℕ) (m : SendMove) (s : Send) → u.out.halves id ≡ Some s → send_moved (Some (id, m)) there id (f id) ≡ with_send_move m (f id)
+  pub moved_held : (id : ℕ) (m : SendMove) (s : Send) → u.out.halves id ≡ Some s → send_moved (Some (id, m)) there id (f id) ≡ with_send_move m (f id)
   moved_held id m s e = moved_here id m there (f id) true (known id ∙ held-side _ (f id) (has_side_in u.out u.bi.max_remote id) s (u.out.halves id) e (all id))
 
-  flow_held : (id : ℕ) (s : Send) → u.out.halves id ≡ Some s → FlowFrom (f id) s
+  pub flow_held : (id : ℕ) (s : Send) → u.out.halves id ≡ Some s → FlowFrom (f id) s
   flow_held id s e = held-flow _ (f id) (has_side_in u.out u.bi.max_remote id) s (u.out.halves id) e (all id)
 
   write_free : (s : Send) (b : Bool) → is_stuck u.out ≡ b → refusal_of_write u.out (Some s) ≡ None → write_refusal s ≡ None

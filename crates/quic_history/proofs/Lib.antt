@@ -9,6 +9,7 @@ pub mod FirstStreams
 pub mod FlowLeaves
 pub mod FlowHistory
 pub mod FlowSteps
+pub mod FlowReports
 pub mod FrameHistory
 pub mod FrameSteps
 pub mod HalfMaps

@@ -1,6 +1,6 @@
 -- Which streams have a sending side, and what leaves all that is told of them.
-use Rattle.std.proofs.Common.{◌≡◌, ℕ, Bool, true, false, eqb, Option, Some, None, refl, sym, ap, ◌∙◌, subst, arith, ◌+◌, ◌/◌, ◌%◌, ◌<◌, List, [], ◌∷◌}
-use Rattle.std.specs.Prelude.{◌==◌, ◌++◌, nat_lt, if◌then◌else◌, unwrap_or, is_none, max}
+use Rattle.std.proofs.Common.{◌≡◌, ℕ, Bool, true, false, eqb, Option, Some, None, is_some, refl, sym, ap, ◌∙◌, subst, arith, ◌+◌, ◌/◌, ◌%◌, ◌<◌, List, [], ◌∷◌}
+use Rattle.std.specs.Prelude.{◌==◌, ◌||◌, ◌++◌, nat_lt, if◌then◌else◌, unwrap_or, is_none, max}
 use Rattle.std.specs.Option.{option_map}
 use Rattle.std.specs.List.{list_any}
 use Rattle.std.proofs.lemmas.Bool.Decides.{nat_tests}
@@ -12,7 +12,7 @@ use Rattle.quic_values.specs.Ids.{stream_id, other_side, is_client_side, dir_of,
 use Rattle.quic_sending.specs.declared.send.Send.{Send}
 use Rattle.quic_limits.specs.Own.{Own, with_next_own}
 use Rattle.quic_limits.specs.SendingCredit.{SendingCredit, with_blocked, is_blocked_due}
-use Rattle.quic_flows.specs.Flow.{SendMove, WasWritten, WasFinished, WasGivenUp, WasAskedToStop, WasPermitted, WasCarried, WasAcked, WasLost, WasFreed, SendFlow, new_flow, with_least_limit, with_send_move, takes_data, counts_for, FlowFrom, FlowAt}
+use Rattle.quic_flows.specs.Flow.{SendMove, WasWritten, WasFinished, WasGivenUp, WasAskedToStop, WasPermitted, WasCarried, WasAcked, WasLost, WasResetAcked, SendFlow, new_flow, with_least_limit, with_send_move, takes_data, counts_for, FlowFrom, FlowAt, is_whole, with_acked}
 use Rattle.quic_flows.proofs.FlowSteps.{Core, core, flow-core, flow-fresh, flow-raised}
 use Rattle.quic_outgoing.specs.Senders.{SendersById, with_sender, new_sender, is_local, are_one_end, first_limit, first_for, joined, raised, raised_by, is_between, with_more_of_peer}
 use Rattle.quic_outgoing.specs.Outgoing.{Outgoing, own_of, with_own, with_send_half, with_more_streams, fresh_sender, with_params, first_of, waiting, marked, is_stuck}
@@ -332,7 +332,7 @@ module _ (f : ℕ → SendFlow) (a b : Outgoing) (n id : ℕ) (side : b.side ≡
       (λ t. let P : ℕ → Type 0 = λ k. FlowAt (first_limit b.side b.first k) (f k) (has_side_in b n k) (b.halves k) in subst P (sym (same q id t)) at_one)
       (λ e. flow_at _ _ (f q) (f q) (has_side_in a n q) (has_side_in b n q) (a.halves q) (b.halves q) (same-limit a b q side first) refl (others q e) (rest q e) (all q))
 
-here_put : (g : SendersById) (id : ℕ) (o : Option Send) → (with_sender g id o) id ≡ o
+pub here_put : (g : SendersById) (id : ℕ) (o : Option Send) → (with_sender g id o) id ≡ o
 unfolding with_sender
 here_put g id o = rw (itself id) refl
 
@@ -362,29 +362,41 @@ flows-opened f a Uni n l all =
 
 -- ---- something was done to one stream
 
+-- what is left of a half that was held: it is as is told, or it was freed
+abbrev pub HalfAfter : SendFlow → Option Send → Type 0
+HalfAfter t None = t.freed ≡ true
+HalfAfter t (Some s) = FlowFrom t s
+
 -- what was done to a half is what the move says
 pub record MovesHalf (m : SendMove) (t : SendFlow) (o o' : Option Send) : Type 0 where
   pub none : o ≡ None → o' ≡ None
-  pub some : (s : Send) → o ≡ Some s → FlowFrom t s → (s' : Send) × (o' ≡ Some s') × FlowFrom (with_send_move m t) s'
+  pub some : (s : Send) → o ≡ Some s → FlowFrom t s → HalfAfter (with_send_move m t) o'
+
+half_after : (first : ℕ) (t : SendFlow) (o : Option Send) → HalfAfter t o → FlowAt first t true o
+half_after first t None h = h
+half_after first t (Some s) h = h
+
+pub after_at : (t : SendFlow) (o p : Option Send) → o ≡ p → HalfAfter t p → HalfAfter t o
+after_at t o p e h = let P : Option Send → Type 0 = λ x. HalfAfter t x in subst P (sym e) h
 
 freed_if : (b : Bool) (t u : SendFlow) → u.freed ≡ true → t.freed ≡ true → (if b then u else t).freed ≡ true
 freed_if true t u e d = e
 freed_if false t u e d = d
 
 -- a stream that was freed stays so
-freed_moved : (m : SendMove) (t : SendFlow) → t.freed ≡ true → (with_send_move m t).freed ≡ true
+pub freed_moved : (m : SendMove) (t : SendFlow) → t.freed ≡ true → (with_send_move m t).freed ≡ true
 freed_moved (WasWritten pieces) t e = e
 freed_moved WasFinished t e = e
 freed_moved (WasGivenUp code) t e = e
 freed_moved (WasAskedToStop code) t e = e
 freed_moved (WasPermitted limit) t e = freed_if (takes_data t.reset t.finished) t _ e e
 freed_moved (WasCarried start behind fin) t e = freed_if (is_none t.reset) t _ e e
-freed_moved (WasAcked start behind fin) t e = freed_if (counts_for t.reset t.sent_up_to behind) t _ e e
+freed_moved (WasAcked start behind fin) t e = freed_if (counts_for t.reset t.sent_up_to behind) t _ (ap (λ b. b || is_whole (with_acked start behind fin t)) e) e
 freed_moved (WasLost start behind fin) t e = freed_if (counts_for t.reset t.sent_up_to behind) t _ e e
-freed_moved WasFreed t e = refl
+freed_moved WasResetAcked t e = ap (λ b. b || is_some t.reset) e
 
 flow_at_moved : (first : ℕ) (t g : SendFlow) (m : SendMove) (k : Bool) (o o' : Option Send) → MovesHalf m t o o' → g ≡ (if k then with_send_move m t else t) → FlowAt first t k o → FlowAt first g k o'
-flow_at_moved first t g m true (Some s) o' h e f = let k = h.some s refl f in flow_at first first (with_send_move m t) g true true (Some k.0) o' refl e refl k.1 k.2
+flow_at_moved first t g m true (Some s) o' h e f = flow_at first first (with_send_move m t) g true true o' o' refl e refl refl (half_after first (with_send_move m t) o' (h.some s refl f))
 flow_at_moved first t g m true None o' h e f = flow_at first first (with_send_move m t) g true true None o' refl e refl (h.none refl) (freed_moved m t f)
 flow_at_moved first t g m false (Some s) o' h e f = absurd f
 flow_at_moved first t g m false None o' h e f = flow_at first first t g false false None o' refl e refl (h.none refl) f
@@ -406,7 +418,7 @@ moves-put m t g id s s' e k = record {
   none = λ n. absurd (none_some s (sym e ∙ n));
   some = λ x l f. let same : x ≡ s = ap (λ (o : Option Send). unwrap_or o s) (sym l ∙ e) in
       let P : Send → Type 0 = λ y. FlowFrom t y in
-      (s', here_put g id (Some s'), k (subst P same f));
+      after_at (with_send_move m t) ((with_sender g id (Some s')) id) (Some s') (here_put g id (Some s')) (k (subst P same f));
 }
   where
     none_some : (s : Send) → Some s ≡ None → ⊥

@@ -39,7 +39,10 @@ use Rattle.quic_outgoing.specs.Calls as calls
 use Rattle.quic_outgoing.specs.Acknowledging.{AcksHalf, LosesFrame, were_sent, is_given_up}
 use Rattle.quic_history.specs.Halves.{Halves, with_half}
 use Rattle.quic_history.specs.World.{World, sends, id_refusal, is_own, remote_of, with_remote, with_receive, told, told_readable, noticed}
-use Rattle.quic_history.specs.SendEvents.{SendEvent, SendStep, GaveLimits, OpenedOwn, RaisedData, RaisedCount, RaisedLimit, StoppedOwn, SetWindow, Polled, WroteOwn, FinishedOwn, ResetOwn, SetOwnPriority, AckedOwn, LostOwn, ResetAckedOwn}
+use Rattle.quic_history.specs.SendEvents.{SendEvent, SendStep, GaveLimits, OpenedOwn, RaisedData, RaisedCount, RaisedLimit, StoppedOwn, SetWindow, Polled, WroteOwn, FinishedOwn, ResetOwn, SetOwnPriority, AckedOwn, LostOwn, ResetAckedOwn, TookTurn}
+use Rattle.quic_wire.specs.declared.frame.StreamMeta.{StreamMeta}
+use Rattle.quic_writing.specs.Writer.{Writer, SkipsFirst, ServesFirst}
+use Rattle.quic_history.specs.Carrying.{TakesItsTurn, with_writer}
 use Rattle.quic_history.specs.Acknowledged.{AcksOwn, LosesOwn, AcksReset, with_send_freed, told_finished, frees_reset}
 use Rattle.quic_history.proofs.SendFreed.{without_half, steady-send-freed, all-send-freed, remotes-send-freed}
 use Rattle.quic_history.specs.Writes.{WritesOwn, FinishesOwn, ResetsOwn, SetsOwnPriority, with_queued}
@@ -455,6 +458,30 @@ acks_reset u id (Ok x) v s = by_test (frees_reset u id) refl
     by_test false k = let t = rw k at s in inl (spares_at u v u t (spares_none u))
 acks_reset u id (Err e) v s = inl (spares_at u v u s.1 (spares_none u))
 
+-- a turn of the send queue
+spares_writer : (u : World) (x : Writer) → Steadies u.out x.streams → Spares u (with_writer u x)
+spares_writer u x s = record { side = s.side; window = refl; credit = refl; receive = refl; opened = s.opened; limits = both; held = s.held }
+  where
+    both : (d : Dir) → SameLimits (remote_of u d) (remote_of (with_writer u x) d)
+    both Bi = limits-refl u.bi
+    both Uni = limits-refl u.uni
+
+-- the streams once a frame was written
+pub served-is : (most : ℕ) (fair : Bool) (a b : Writer) (t : ServesFirst most fair a b) → b.streams ≡ with_send_half a.streams t.entry.id (Some t.transmits.sent)
+served-is most fair a b t = t.others ∙ ap (λ f. record a.streams { halves = f }) t.transmits.is
+
+turns : (u : World) (most : ℕ) (fair : Bool) (frame : Option StreamMeta) (v : World) → TakesItsTurn most fair u frame v → Spares u v
+turns u most fair None v s =
+    let found : u.out ≡ s.before.streams = ap (λ (w : World). w.out) s.found in
+    let same : s.after.streams ≡ s.before.streams = ap (λ (x : Writer). x.streams) s.turn.is in
+    spares_at u v _ s.is (spares_writer u s.after (steadies_at u.out s.after.streams u.out (same ∙ sym found) (steadies_none u.out)))
+turns u most fair (Some frame) v s =
+    let found : u.out ≡ s.before.streams = ap (λ (w : World). w.out) s.found in
+    let t = s.turn in
+    let is = served-is most fair s.before s.after t ∙ ap (λ o. with_send_half o t.entry.id (Some t.transmits.sent)) (sym found) in
+    spares_at u v _ s.is (spares_writer u s.after
+    (steadies_at u.out s.after.streams _ is (steadies_put u.out t.entry.id t.transmits.half t.transmits.sent (ap (λ (o : Outgoing). o.halves t.entry.id) found ∙ t.transmits.is_held))))
+
 or_frees : {u v : World} → Spares u v ⊎ FreesOne u v → Spares u v ⊎ (OpensOne u v ⊎ FreesOne u v)
 or_frees (inl k) = inl k
 or_frees (inr k) = inr (inr k)
@@ -478,6 +505,7 @@ kind u (SetOwnPriority id priority answer) v s = inl (spares_at u v _ s.2 (spare
 kind u (AckedOwn id offsets fin answer) v s = or_frees (acks u id offsets fin answer v s)
 kind u (LostOwn id offsets fin answer) v s = inl (loses u id offsets fin answer v s)
 kind u (ResetAckedOwn id answer) v s = or_frees (acks_reset u id answer v s)
+kind u (TookTurn most fair frame) v s = inl (turns u most fair frame v s)
 
 facts_opened : (window : ℕ) (h : List Event) (u : World) (e : SendEvent) (v : World) → Facts window h u → OpensOne u v → Facts window (Sending e ∷ h) v
 facts_opened window h u e v f k = let P : World → Type 0 = λ w. Facts window (Sending e ∷ h) w in

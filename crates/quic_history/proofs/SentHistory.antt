@@ -31,7 +31,10 @@ use Rattle.quic_outgoing.specs.Writing.{RefusesWrite, after_blocked}
 use Rattle.quic_history.specs.World.{World, told, noticed}
 use Rattle.quic_history.specs.Sends.{with_out, with_opened, told_writable, after_first_stop, is_permitted, RaisesCount, RaisesLimit, StopsOwn, TellsNext, PollsQueue}
 use Rattle.quic_history.specs.Writes.{WritesOwn, FinishesOwn, with_queued}
-use Rattle.quic_history.specs.SendEvents.{SendEvent, SendStep, GaveLimits, OpenedOwn, RaisedData, RaisedCount, RaisedLimit, StoppedOwn, SetWindow, Polled, WroteOwn, FinishedOwn, ResetOwn, SetOwnPriority, AckedOwn, LostOwn, ResetAckedOwn}
+use Rattle.quic_history.specs.SendEvents.{SendEvent, SendStep, GaveLimits, OpenedOwn, RaisedData, RaisedCount, RaisedLimit, StoppedOwn, SetWindow, Polled, WroteOwn, FinishedOwn, ResetOwn, SetOwnPriority, AckedOwn, LostOwn, ResetAckedOwn, TookTurn}
+use Rattle.quic_wire.specs.declared.frame.StreamMeta.{StreamMeta}
+use Rattle.quic_writing.specs.Writer.{Writer}
+use Rattle.quic_history.specs.Carrying.{TakesItsTurn}
 use Rattle.quic_outgoing.specs.Acknowledging.{were_sent}
 use Rattle.quic_history.specs.Acknowledged.{AcksOwn, LosesOwn, AcksReset, told_finished, with_send_freed, frees_reset}
 use Rattle.quic_history.proofs.SendFreed.{steady-send-freed}
@@ -372,6 +375,16 @@ told_accounts w e false = refl
 least_room : (b m k r n : ℕ) → b ≡ min (min (min m k) r) n → b ≤ m
 least_room b m k r n e = omega arith
 
+-- a turn of the send queue sends nothing that was not written
+same_turn : (u : World) (most : ℕ) (fair : Bool) (frame : Option StreamMeta) (v : World) → TakesItsTurn most fair u frame v → send_totals v.out ≡ send_totals u.out
+same_turn u most fair None v s =
+    let found : u.out ≡ s.before.streams = ap (λ (w : World). w.out) s.found in
+    let same : s.after.streams ≡ s.before.streams = ap (λ (x : Writer). x.streams) s.turn.is in
+    ap (λ (w : World). send_totals w.out) s.is ∙ ap send_totals (same ∙ sym found)
+same_turn u most fair (Some frame) v s =
+    let found : u.out ≡ s.before.streams = ap (λ (w : World). w.out) s.found in
+    ap (λ (w : World). send_totals w.out) s.is ∙ ap send_totals s.turn.others ∙ ap send_totals (sym found)
+
 pub sent-sending : (h : List Event) (u : World) (e : SendEvent) (v : World) → SentSo h (send_totals u.out) → SendStep u e v → SentSo (Sending e ∷ h) (send_totals v.out)
 sent-sending h u (GaveLimits limits) v f s = sent_is _ (with_limits (send_totals u.out) limits) (send_totals v.out) (ap (λ x. send_totals x.out) s) (sent_limits h (send_totals u.out) f limits)
 sent-sending h u (OpenedOwn dir closed (Ok None)) v f s = sent_same h (send_totals u.out) f _ (send_totals v.out) (same_at u v s.1) refl refl (λ d. refl) (λ d. refl)
@@ -406,6 +419,7 @@ sent-sending h u (ResetOwn id code answer) v f s = sent_same h (send_totals u.ou
 sent-sending h u (SetOwnPriority id priority answer) v f s = sent_same h (send_totals u.out) f _ (send_totals v.out) (ap (λ x. send_totals x.out) s.2 ∙ keeps_priority u.out id priority answer s.0 s.1) refl refl (λ d. refl) (λ d. refl)
 sent-sending h u (AckedOwn id offsets fin answer) v f s = sent_same h (send_totals u.out) f _ (send_totals v.out) (same_ack u id offsets fin answer v s) refl refl (λ d. refl) (λ d. refl)
 sent-sending h u (LostOwn id offsets fin answer) v f s = sent_same h (send_totals u.out) f _ (send_totals v.out) (same_loss u id offsets fin answer v s) refl refl (λ d. refl) (λ d. refl)
+sent-sending h u (TookTurn most fair frame) v f s = sent_same h (send_totals u.out) f _ (send_totals v.out) (same_turn u most fair frame v s) refl refl (λ d. refl) (λ d. refl)
 sent-sending h u (ResetAckedOwn id answer) v f s = sent_same h (send_totals u.out) f _ (send_totals v.out) (same_reset u id answer v s) refl refl (λ d. refl) (λ d. refl)
 
 pub kept-sent : (h : List Event) (u : World) (e : Event) (v : World) → u.credit.local_max_data < 2 ^ 64 → SentSo h (send_totals u.out) → Step u e v → SentSo (e ∷ h) (send_totals v.out)

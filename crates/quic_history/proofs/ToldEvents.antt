@@ -35,9 +35,21 @@ use Rattle.quic_history.specs.Permitting.{after_concurrent}
 use Rattle.quic_history.specs.Sends.{with_out, with_opened, told_writable, after_first_stop, is_permitted, RaisesCount, RaisesLimit, StopsOwn, TellsNext, PollsQueue, TakesOldest}
 use Rattle.quic_history.specs.Writes.{WritesOwn, with_queued}
 use Rattle.quic_history.specs.SendTotals.{send_totals, own_total}
-use Rattle.quic_history.specs.SendEvents.{SendEvent, SendStep, GaveLimits, OpenedOwn, RaisedData, RaisedCount, RaisedLimit, StoppedOwn, SetWindow, Polled, WroteOwn, FinishedOwn, ResetOwn, SetOwnPriority}
-use Rattle.quic_history.specs.History.{Event, Received, ReceivedReset, AddedCredits, Began, Gave, Ended, Stopped, ToldReset, Resized, SetConcurrent, Accepted, Sending, Step, SentSo, FlowsSo, opened_in_all, greatest_count, send_tale, flow, is_sent_on, connection_room, window_room, QueuesSo}
-use Rattle.quic_history.specs.Flows.{has_send_side, has_side_in, wakes, told_if, TakesQueued}
+use Rattle.quic_history.specs.SendEvents.{SendEvent, SendStep, GaveLimits, OpenedOwn, RaisedData, RaisedCount, RaisedLimit, StoppedOwn, SetWindow, Polled, WroteOwn, FinishedOwn, ResetOwn, SetOwnPriority, AckedOwn, LostOwn, ResetAckedOwn, TookTurn}
+use Rattle.quic_history.specs.History.{Event, Received, ReceivedReset, AddedCredits, Began, Gave, Ended, Stopped, ToldReset, Resized, SetConcurrent, Accepted, Settled, Sending, Step, SentSo, FlowsSo, opened_in_all, greatest_count, send_tale, flow, is_sent_on, connection_room, window_room, QueuesSo}
+use Rattle.std.specs.declared.ops.Range.{Range}
+use Rattle.quic_wire.specs.declared.frame.Frame.{Frame}
+use Rattle.quic_flows.specs.Flow.{is_whole, with_acked}
+use Rattle.quic_flows.proofs.FrameFlows.{ends-told}
+use Rattle.quic_outgoing.specs.Outgoing.{with_send_half}
+use Rattle.quic_outgoing.specs.Acknowledging.{AcksFrame, were_sent}
+use Rattle.quic_history.specs.declared.control.ControlKind.{ControlKind}
+use Rattle.quic_history.specs.declared.control.ControlKind.TheVariants as kinds
+use Rattle.quic_history.specs.Control.{Settles}
+use Rattle.quic_history.specs.Acknowledged.{AcksOwn, frees_reset, told_finished, with_send_freed, send_released}
+use Rattle.quic_history.proofs.FlowReports.{uncounted, counted}
+use Rattle.quic_history.proofs.SendSides.{held-flow}
+use Rattle.quic_history.specs.Flows.{ends_by, has_send_side, has_side_in, wakes, told_if, TakesQueued}
 use Rattle.quic_history.proofs.SendSteps.{either-way}
 use Rattle.quic_history.proofs.StreamSteps.{noticed-any}
 use Rattle.quic_history.proofs.FlowHistory.{known-by}
@@ -238,6 +250,78 @@ stopped_by first t true None f = rw f refl
 stopped_by first t false (Some s) f = absurd f
 stopped_by first t false None f = refl
 
+-- ---- acknowledgements
+
+-- whether a half is held is told
+held_told : (first : ℕ) (t : SendFlow) (k : Bool) (o : Option Send) → FlowAt first t k o → is_some o ≡ (k && not t.freed)
+held_told first t true (Some s) f = let there = f.there in rw there refl
+held_told first t true None f = rw f refl
+held_told first t false (Some s) f = absurd f
+held_told first t false None f = refl
+
+-- what was acknowledged is the last that a stream waits for, as is told
+last_told : (u : Outgoing) (id : ℕ) (offsets : Range ℕ) (fin done : Bool) (o : Outgoing) (first : ℕ) (t : SendFlow) (k : Bool) → FlowAt first t k (u.halves id) → AcksFrame u id offsets fin (Ok done) o
+    → done ≡ ((k && not t.freed) && ends_by offsets.start offsets.end fin t)
+last_told u id offsets fin done o first t k f a = by_half (u.halves id) refl
+  where
+    uncounted_half : (s : Send) → u.halves id ≡ Some s → were_sent (Some s) offsets ≡ false → done ≡ false → done ≡ ((k && not t.freed) && ends_by offsets.start offsets.end fin t)
+    uncounted_half s e w d =
+        let flow = held-flow first t k s (u.halves id) e f in
+        let n = uncounted t s offsets.end flow w in
+        d ∙ sym (ap (λ b. (k && not t.freed) && (b && is_whole (with_acked offsets.start offsets.end fin t))) n ∙ none_then (k && not t.freed))
+      where
+        none_then : (b : Bool) → (b && false) ≡ false
+        none_then true = refl
+        none_then false = refl
+
+    by_sent : (s : Send) → u.halves id ≡ Some s → (b : Bool) → were_sent (Some s) offsets ≡ b → done ≡ ((k && not t.freed) && ends_by offsets.start offsets.end fin t)
+    by_sent s e false w =
+        let x = rw (e, w) at a in
+        uncounted_half s e w x.0
+    by_sent s e true w =
+        let x = rw (ap (λ (y : Option Send). were_sent y offsets) e ∙ w) at a in
+        let flow = held-flow first t k x.half (u.halves id) x.is_held f in
+        let y = x.acks in
+        let c = counted t x.half offsets.end flow (ap (λ (z : Option Send). were_sent z offsets) (sym x.is_held ∙ e) ∙ w) in
+        let held : (k && not t.freed) ≡ true = sym (held_told first t k (u.halves id) f) ∙ ap (λ (z : Option Send). is_some z) e in
+        x.done_is ∙ ends-told t x.half x.after offsets.start offsets.end fin flow c.kept c.sent y.sound y.cuts y.unsent y.acked y.lost y.others
+        ∙ sym (ap (λ b. b && ends_by offsets.start offsets.end fin t) held)
+
+    by_half : (h : Option Send) → u.halves id ≡ h → done ≡ ((k && not t.freed) && ends_by offsets.start offsets.end fin t)
+    by_half None e =
+        let x = rw e at a in
+        let none : (k && not t.freed) ≡ false = sym (held_told first t k (u.halves id) f) ∙ ap (λ (z : Option Send). is_some z) e in
+        x.0 ∙ sym (ap (λ b. b && ends_by offsets.start offsets.end fin t) none)
+    by_half (Some s) e = by_sent s e (were_sent (Some s) offsets) refl
+
+events_send_freed : (w : World) (id : ℕ) → (with_send_freed w id).events ≡ w.events
+events_send_freed w id = by_own (is_own w id)
+  where
+    by_held : (b : Bool) → (if b then w else replaced_in w Bi).events ≡ w.events
+    by_held true = refl
+    by_held false = events_replaced w Bi
+
+    by_dir : (d : Dir) → (send_released w d id).events ≡ w.events
+    by_dir Uni = refl
+    by_dir Bi = by_held (is_some (w.receive id))
+
+    by_own : (b : Bool) → (if b then w else send_released w (dir_of id) id).events ≡ w.events
+    by_own true = refl
+    by_own false = by_dir (dir_of id)
+
+events_finished : (w : World) (id : ℕ) (b : Bool) → (told_finished w id b).events ≡ w.events ++ told_if b (stream_event.Finished id)
+events_finished w id true = ap (λ es. es ++ stream_event.Finished id ∷ []) (events_send_freed w id)
+events_finished w id false = told_none w.events
+
+settled_so : (u : World) (k : ControlKind) (p : Pending) (o : Option Frame) (v : World) (q : Pending) → Settles k u p o v q → v.events ≡ u.events ++ []
+settled_so u kinds.ResetStream p o v q s = same_as u v s.end
+settled_so u kinds.StopSending p o v q s = same_as u v s.end
+settled_so u kinds.MaxData p o v q s = ap (λ (w : World). w.events) s.end ∙ told_none u.events
+settled_so u kinds.MaxStreamData p o v q s = ap (λ (w : World). w.events) s.end ∙ told_none u.events
+settled_so u (kinds.MaxStreams d) p o v q s = ap (λ (w : World). w.events) s.end ∙ events_remote u d _ ∙ told_none u.events
+settled_so u kinds.DataBlocked p o v q s = same_as u v s.end
+settled_so u kinds.StreamDataBlocked p o v q s = same_as u v s.end
+
 counted_is : (u : World) (d : Dir) (n : ℕ) → (own_total (send_totals u.out) d).limit ≡ n → (own_of u.out d).limit ≡ n
 counted_is u Bi n e = e
 counted_is u Uni n e = e
@@ -289,6 +373,23 @@ module _ (m : Made) (h : List Event) (u : World) (side : u.out.side ≡ m.side) 
       by_test false k = let t = rw k at s in
           same_as u v t ∙ ap (λ b. u.events ++ told_if b (stream_event.Stopped id code)) (sym (not_there id k) ∙ stop_told id)
 
+  acked_so : (id : ℕ) (offsets : Range ℕ) (fin : Bool) (x : Unit {0}) (v : World) → AcksOwn u id offsets fin (Ok x) v → QueuesSo m h (Sending (AckedOwn id offsets fin (Ok x))) u.events v.events
+  acked_so id offsets fin x v s = by_test (is_permitted u id) refl
+    where
+      held : is_some (u.out.halves id) ≡ is_sent_on m h id
+      held = held_told _ (flow m h id) (has_side_in u.out u.bi.max_remote id) (u.out.halves id) (f.flows id) ∙ ap (λ k. k && not (flow m h id).freed) (sent_on id)
+
+      by_test : (b : Bool) → is_permitted u id ≡ b → v.events ≡ u.events ++ told_if (is_sent_on m h id && ends_by offsets.start offsets.end fin (flow m h id)) (stream_event.Finished id)
+      by_test true k = let t = rw k at s in
+          ap (λ (w : World). w.events) t.3 ∙ events_finished (with_out u t.1) id t.0
+          ∙ ap (λ b. u.events ++ told_if b (stream_event.Finished id))
+          (last_told u.out id offsets fin t.0 t.1 _ (flow m h id) (has_side_in u.out u.bi.max_remote id) (f.flows id) t.2
+          ∙ ap (λ j. (j && not (flow m h id).freed) && ends_by offsets.start offsets.end fin (flow m h id)) (sent_on id))
+      by_test false k = let t = rw k at s in
+          let none = unpermitted m.side (has_send_side m.side (opened_in_all h) (send_tale m h).may_open) (flow m h) u (known-by m h u side f.may_open sent) f.flows id k in
+          let not_on : is_sent_on m h id ≡ false = sym held ∙ ap (λ (o : Option Send). is_some o) none in
+          same_as u v t ∙ ap (λ b. u.events ++ told_if (b && ends_by offsets.start offsets.end fin (flow m h id)) (stream_event.Finished id)) (sym not_on)
+
   limit_so : (id n : ℕ) (x : Unit {0}) (v : World) → RaisesLimit u id n (Ok x) v → QueuesSo m h (Sending (RaisedLimit id n (Ok x))) u.events v.events
   limit_so id n x v s =
       ap (λ (w : World). w.events) s.4 ∙ events_noticed (told_writable (with_out u s.2) id s.1) id ∙ events_writable (with_out u s.2) id s.1
@@ -326,6 +427,16 @@ module _ (m : Made) (h : List Event) (u : World) (side : u.out.side ≡ m.side) 
   queues_sending (FinishedOwn id (Ok x)) v s = ap (λ (w : World). w.events) s.3 ∙ events_queued (with_out u s.1) id s.0 ∙ told_none u.events
   queues_sending (FinishedOwn id (Err e)) v s = ap (λ (w : World). w.events) s.2 ∙ told_none u.events
   queues_sending (ResetOwn id code answer) v s = ap (λ (w : World). w.events) s.2.2 ∙ told_none u.events
+  queues_sending (AckedOwn id offsets fin (Ok x)) v s = acked_so id offsets fin x v s
+  queues_sending (AckedOwn id offsets fin (Err e)) v s = same_as u v s
+  queues_sending (LostOwn id offsets fin (Ok x)) v s = ap (λ (w : World). w.events) s.3 ∙ events_queued (with_out u s.1) id s.0 ∙ told_none u.events
+  queues_sending (LostOwn id offsets fin (Err e)) v s = same_as u v s
+  queues_sending (ResetAckedOwn id (Ok x)) v s = either-way (frees_reset u id) s
+      (λ t. ap (λ (w : World). w.events) t ∙ events_send_freed (with_out u (with_send_half u.out id None)) id ∙ told_none u.events)
+      (λ t. same_as u v t)
+  queues_sending (ResetAckedOwn id (Err e)) v s = same_as u v s.1
+  queues_sending (TookTurn most fair None) v s = ap (λ (w : World). w.events) s.is ∙ told_none u.events
+  queues_sending (TookTurn most fair (Some frame)) v s = ap (λ (w : World). w.events) s.is ∙ told_none u.events
   queues_sending (SetOwnPriority id priority answer) v s = ap (λ (w : World). w.events) s.2 ∙ told_none u.events
 
   -- each call queues what the calls before it tell
@@ -342,4 +453,5 @@ module _ (m : Made) (h : List Event) (u : World) (side : u.out.side ≡ m.side) 
   queues (SetConcurrent dir count (Ok k)) v s = ap (λ (w : World). w.events) s ∙ events_concurrent u dir count ∙ told_none u.events
   queues (SetConcurrent dir count (Err k)) v s = same_as u v s
   queues (Accepted dir answer) v s = ap (λ (w : World). w.events) s.0 ∙ events_remote u dir (one_accepted (remote_of u dir)) ∙ told_none u.events
+  queues (Settled kind frame) v s = settled_so u kind s.0 frame v s.1 s.2
   queues (Sending e) v s = queues_sending e v s

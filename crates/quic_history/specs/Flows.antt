@@ -9,7 +9,7 @@ use Rattle.quic_values.specs.Ids.{dir_of, index_of}
 use Rattle.quic_sending.specs.declared.send.WriteError.{WriteError}
 use Rattle.quic_sending.specs.declared.send.WriteError.TheVariants as write_error
 use Rattle.quic_sending.specs.Buffer.{total_length}
-use Rattle.quic_flows.specs.Flow.{takes_data, SendMove, SendFlow, with_least_limit, with_send_move, FlowAt}
+use Rattle.quic_flows.specs.Flow.{takes_data, SendMove, SendFlow, with_least_limit, with_send_move, FlowAt, counts_for, is_whole, with_acked}
 use Rattle.quic_outgoing.specs.declared.limits.PeerLimits.{PeerLimits}
 use Rattle.quic_outgoing.specs.declared.entries.FirstLimits.{FirstLimits}
 use Rattle.quic_outgoing.specs.Senders.{is_local, first_limit, joined}
@@ -75,6 +75,10 @@ refusal_told true room t = refusal_on room t
 -- whether a limit lets a stream be written on that was written up to its limit
 abbrev pub wakes : ℕ → SendFlow → Bool
 wakes limit t = (takes_data t.reset t.finished && nat_lt t.limit (min limit (2 ^ 62 - 1))) && (total_length t.cuts == t.limit)
+
+-- whether an acknowledgement of these offsets, and of the end or not, is the last that a stream waits for
+abbrev pub ends_by : ℕ → ℕ → Bool → SendFlow → Bool
+ends_by first behind fin t = counts_for t.reset t.sent_up_to behind && is_whole (with_acked first behind fin t)
 
 -- one event, or none
 abbrev pub told_if : Bool → StreamEvent → List StreamEvent

@@ -33,12 +33,12 @@ use Rattle.quic_history.specs.SendTotals.{SendTotals, send_totals, own_total}
 use Rattle.quic_history.specs.declared.control.ControlKind.{ControlKind}
 use Rattle.quic_history.specs.Control.{Settles}
 use Rattle.quic_wire.specs.declared.frame.Frame.{Frame}
-use Rattle.quic_history.specs.SendEvents.{SendEvent, SendStep, GaveLimits, RaisedData, RaisedCount, RaisedLimit, StoppedOwn, SetWindow, OpenedOwn, WroteOwn, FinishedOwn, ResetOwn, Polled}
-use Rattle.quic_flows.specs.Flow.{SendMove, WasWritten, WasFinished, WasGivenUp, WasAskedToStop, WasPermitted, SendFlow, new_flow, front_of, retained}
+use Rattle.quic_history.specs.SendEvents.{SendEvent, SendStep, GaveLimits, RaisedData, RaisedCount, RaisedLimit, StoppedOwn, SetWindow, OpenedOwn, WroteOwn, FinishedOwn, ResetOwn, Polled, AckedOwn, LostOwn, ResetAckedOwn, TookTurn}
+use Rattle.quic_flows.specs.Flow.{SendMove, WasWritten, WasFinished, WasGivenUp, WasAskedToStop, WasPermitted, SendFlow, new_flow, front_of, retained, WasCarried, WasAcked, WasLost, WasResetAcked, counts_for, is_whole, with_acked}
 use Rattle.quic_outgoing.specs.declared.limits.PeerLimits.{PeerLimits}
 use Rattle.quic_outgoing.specs.declared.entries.FirstLimits.{FirstLimits}
 use Rattle.quic_outgoing.specs.Senders.{no_limits}
-use Rattle.quic_history.specs.Flows.{SendTale, has_send_side, send_moved, with_first_limits, with_limits_in, AllFlows, room_on, refusal_told, wakes, told_if, TakesQueued}
+use Rattle.quic_history.specs.Flows.{SendTale, has_send_side, send_moved, with_first_limits, with_limits_in, AllFlows, room_on, refusal_told, wakes, told_if, TakesQueued, ends_by}
 use Rattle.quic_wire.specs.declared.event.StreamEvent.{StreamEvent}
 use Rattle.quic_wire.specs.declared.event.StreamEvent.TheVariants as stream_event
 use Rattle.quic_sending.specs.Buffer.{total_length}
@@ -502,6 +502,10 @@ send_move_of (Sending (StoppedOwn id code (Ok x))) = Some (id, WasAskedToStop co
 send_move_of (Sending (WroteOwn id lists closed (Ok written))) = Some (id, WasWritten (front_of written.bytes lists))
 send_move_of (Sending (FinishedOwn id (Ok x))) = Some (id, WasFinished)
 send_move_of (Sending (ResetOwn id code (Ok x))) = Some (id, WasGivenUp code)
+send_move_of (Sending (AckedOwn id offsets fin (Ok x))) = Some (id, WasAcked offsets.start offsets.end fin)
+send_move_of (Sending (LostOwn id offsets fin (Ok x))) = Some (id, WasLost offsets.start offsets.end fin)
+send_move_of (Sending (ResetAckedOwn id (Ok x))) = Some (id, WasResetAcked)
+send_move_of (Sending (TookTurn most fair (Some frame))) = Some (frame.id, WasCarried frame.offsets.start frame.offsets.end frame.fin)
 send_move_of _ = None
 
 -- the peer's transport parameters that a call handed in
@@ -602,12 +606,14 @@ abbrev pub TellsWrites : Made → List Event → World → Type 0
 TellsWrites m h v = (id : ℕ) (lists : List (List ℕ)) (closed : Bool) (p : Pending) (answer : Result Written WriteError) (w : World) (left : List (List ℕ)) (q : Pending)
     → WritesOwn v id lists closed p answer w left q → WritesSo m h id lists closed answer
 
--- what a call queues to be told: that more streams may be opened, that a stream was stopped, that it may be written on
+-- what a call queues to be told: that more streams may be opened, that a stream was stopped, that it may be written on,
+-- that it is finished
 abbrev pub told_by : Made → List Event → Event → List StreamEvent
 told_by m h (Sending (RaisedCount dir count (Ok x))) = told_if (nat_lt (greatest_count h dir) count) (stream_event.Available dir)
 told_by m h (Sending (StoppedOwn id code (Ok x))) = told_if (is_sent_on m h id && is_none (flow m h id).stopped) (stream_event.Stopped id code)
 told_by m h (Sending (RaisedLimit id limit (Ok x))) =
     told_if (is_sent_on m h id && (wakes limit (flow m h id) && not (min (connection_room h) (window_room m h) == 0))) (stream_event.Writable id)
+told_by m h (Sending (AckedOwn id offsets fin (Ok x))) = told_if (is_sent_on m h id && ends_by offsets.start offsets.end fin (flow m h id)) (stream_event.Finished id)
 told_by m h _ = []
 
 -- what is queued to be told before and after a call; a frame of the peer may add that a stream may be read

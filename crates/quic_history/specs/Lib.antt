@@ -1,6 +1,7 @@
 pub mod Halves
 pub mod World
 pub mod Control
+pub mod Carrying
 pub mod SendTotals
 pub mod Flows
 pub mod Receiving

@@ -16,6 +16,8 @@ use Rattle.quic_outgoing.specs.Outgoing.{with_params}
 use Rattle.quic_history.specs.World.{World}
 use Rattle.quic_history.specs.Sends.{with_out, OpensOwn, RaisesCount, RaisesLimit, StopsOwn, TellsNext}
 use Rattle.quic_history.specs.Writes.{WritesOwn, FinishesOwn, ResetsOwn, SetsOwnPriority}
+use Rattle.quic_wire.specs.declared.frame.StreamMeta.{StreamMeta}
+use Rattle.quic_history.specs.Carrying.{TakesItsTurn}
 use Rattle.quic_history.specs.Acknowledged.{AcksOwn, LosesOwn, AcksReset}
 
 -- a call on the sending side and its answer
@@ -48,6 +50,8 @@ pub data SendEvent : Type 0 where
   LostOwn : (id : ℕ) → (offsets : Range ℕ) → (fin : Bool) → (answer : Result (Unit {0}) OutOfMemory) → SendEvent
   -- that the RESET_STREAM of a stream was acknowledged
   ResetAckedOwn : (id : ℕ) → (answer : Result (Unit {0}) OutOfMemory) → SendEvent
+  -- the first stream in the send queue had its turn in a payload of at most so many bytes, with a frame or without one
+  TookTurn : (most : ℕ) → (fair : Bool) → (frame : Option StreamMeta) → SendEvent
   -- the application asked what it is to be told
   Polled : (answer : Option StreamEvent) → SendEvent
 
@@ -68,3 +72,4 @@ SendStep u (SetOwnPriority id priority answer) v = SetsOwnPriority u id priority
 SendStep u (AckedOwn id offsets fin answer) v = AcksOwn u id offsets fin answer v
 SendStep u (LostOwn id offsets fin answer) v = LosesOwn u id offsets fin answer v
 SendStep u (ResetAckedOwn id answer) v = AcksReset u id answer v
+SendStep u (TookTurn most fair frame) v = TakesItsTurn most fair u frame v
