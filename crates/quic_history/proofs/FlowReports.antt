@@ -23,7 +23,7 @@ use Rattle.quic_flows.proofs.FlowSteps.{core, flow-retained}
 use Rattle.quic_flows.proofs.FrameFlows.{AfterAck, flow-acked, flow-lost, flow-carried}
 use Rattle.quic_outgoing.specs.Senders.{with_sender}
 use Rattle.quic_outgoing.specs.Outgoing.{Outgoing, with_send_half}
-use Rattle.quic_outgoing.specs.Acknowledging.{AcksHalf, LosesOnHalf, AcksFrame, LosesFrame, were_sent, is_complete, is_given_up}
+use Rattle.quic_outgoing.specs.Acknowledging.{AcksHalf, LosesOnHalf, AcksStream, LosesOnStream, were_sent, is_complete, is_given_up}
 use Rattle.quic_writing.specs.Writer.{Writer}
 use Rattle.quic_history.specs.World.{World, is_own, remote_of, replaced_in, told}
 use Rattle.quic_history.specs.Sends.{with_out, is_permitted}
@@ -281,7 +281,7 @@ module _ (side : Side) (there : ℕ → Bool) (f : ℕ → SendFlow) (u : World)
       by_done false e k = k.held (sym e)
 
   ack_sent : (id : ℕ) (offsets : Range ℕ) (fin : Bool) → retained (f id) ≤ u.out.budget.buffered_data → (b : Bool) → were_sent (u.out.halves id) offsets ≡ b → (done : Bool) (o : Outgoing)
-      → AcksFrame u.out id offsets fin (Ok done) o → FlowStep (Some (id, WasAcked offsets.start offsets.end fin)) None None side there f u (with_out u o)
+      → AcksStream u.out id offsets fin (Ok done) o → FlowStep (Some (id, WasAcked offsets.start offsets.end fin)) None None side there f u (with_out u o)
   ack_sent id offsets fin few true w done o a = let t = rw w at a in step_acked_half id offsets fin done o few w t
   ack_sent id offsets fin few false w done o a = let t = rw w at a in
       step-at (Some (id, WasAcked offsets.start offsets.end fin)) None None side there f u u (with_out u o) (ap (with_out u) t.1)
@@ -325,7 +325,7 @@ module _ (side : Side) (there : ℕ → Bool) (f : ℕ → SendFlow) (u : World)
       (omega arith)
 
   loss_sent : (id : ℕ) (offsets : Range ℕ) (fin : Bool) (b : Bool) → were_sent (u.out.halves id) offsets ≡ b → (queue : Option ℤ) (o : Outgoing)
-      → LosesFrame u.out id offsets fin (Ok queue) o → FlowStep (Some (id, WasLost offsets.start offsets.end fin)) None None side there f u (with_out u o)
+      → LosesOnStream u.out id offsets fin (Ok queue) o → FlowStep (Some (id, WasLost offsets.start offsets.end fin)) None None side there f u (with_out u o)
   loss_sent id offsets fin true w queue o a = let t = rw w at a in step_lost_half id offsets fin queue o w t
   loss_sent id offsets fin false w queue o a = let t = rw w at a in
       step-at (Some (id, WasLost offsets.start offsets.end fin)) None None side there f u u (with_out u o) (ap (with_out u) t.1)

@@ -36,7 +36,7 @@ use Rattle.quic_outgoing.specs.Senders.{SendersById, with_sender, raised_by, rai
 use Rattle.quic_outgoing.specs.Outgoing.{Outgoing, own_of, with_own, with_send_half, with_params, waiting, marked, is_stuck, fresh_sender, first_of}
 use Rattle.quic_outgoing.specs.Calls.{OpensStream, RaisesStream, StopsSending, PollsWritable, ResetsStream, SetsPriority, after_rise, with_rise, is_woken, without_marks}
 use Rattle.quic_outgoing.specs.Calls as calls
-use Rattle.quic_outgoing.specs.Acknowledging.{AcksHalf, LosesFrame, were_sent, is_given_up}
+use Rattle.quic_outgoing.specs.Acknowledging.{AcksHalf, LosesOnStream, were_sent, is_given_up}
 use Rattle.quic_history.specs.Halves.{Halves, with_half}
 use Rattle.quic_history.specs.World.{World, sends, id_refusal, is_own, remote_of, with_remote, with_receive, told, told_readable, noticed}
 use Rattle.quic_history.specs.SendEvents.{SendEvent, SendStep, GaveLimits, OpenedOwn, RaisedData, RaisedCount, RaisedLimit, StoppedOwn, SetWindow, Polled, WroteOwn, FinishedOwn, ResetOwn, SetOwnPriority, AckedOwn, LostOwn, ResetAckedOwn, TookTurn}
@@ -426,7 +426,7 @@ acks u id offsets fin (Ok x) v s = by_test (is_permitted u id) refl
     by_test false k = let t = rw k at s in inl (spares_at u v u t (spares_none u))
 acks u id offsets fin (Err e) v s = inl (spares_at u v u s (spares_none u))
 
-steadies_lost : (a : Outgoing) (id : ℕ) (offsets : Range ℕ) (fin : Bool) (queue : Option ℤ) (b : Outgoing) → LosesFrame a id offsets fin (Ok queue) b → Steadies a b
+steadies_lost : (a : Outgoing) (id : ℕ) (offsets : Range ℕ) (fin : Bool) (queue : Option ℤ) (b : Outgoing) → LosesOnStream a id offsets fin (Ok queue) b → Steadies a b
 steadies_lost a id offsets fin queue b s = either-way (were_sent (a.halves id) offsets) s
     (λ l. steadies_at a b _ l.is (steadies_put a id l.half l.after l.is_held))
     (λ n. steadies_at a b a n.1 (steadies_none a))

@@ -42,7 +42,7 @@ use Rattle.quic_wire.specs.declared.frame.Frame.{Frame}
 use Rattle.quic_flows.specs.Flow.{is_whole, with_acked}
 use Rattle.quic_flows.proofs.FrameFlows.{ends-told}
 use Rattle.quic_outgoing.specs.Outgoing.{with_send_half}
-use Rattle.quic_outgoing.specs.Acknowledging.{AcksFrame, were_sent}
+use Rattle.quic_outgoing.specs.Acknowledging.{AcksStream, were_sent}
 use Rattle.quic_history.specs.declared.control.ControlKind.{ControlKind}
 use Rattle.quic_history.specs.declared.control.ControlKind.TheVariants as kinds
 use Rattle.quic_history.specs.Control.{Settles}
@@ -260,7 +260,7 @@ held_told first t false (Some s) f = absurd f
 held_told first t false None f = refl
 
 -- what was acknowledged is the last that a stream waits for, as is told
-last_told : (u : Outgoing) (id : ℕ) (offsets : Range ℕ) (fin done : Bool) (o : Outgoing) (first : ℕ) (t : SendFlow) (k : Bool) → FlowAt first t k (u.halves id) → AcksFrame u id offsets fin (Ok done) o
+last_told : (u : Outgoing) (id : ℕ) (offsets : Range ℕ) (fin done : Bool) (o : Outgoing) (first : ℕ) (t : SendFlow) (k : Bool) → FlowAt first t k (u.halves id) → AcksStream u id offsets fin (Ok done) o
     → done ≡ ((k && not t.freed) && ends_by offsets.start offsets.end fin t)
 last_told u id offsets fin done o first t k f a = by_half (u.halves id) refl
   where

@@ -7,7 +7,7 @@ use Rattle.quic_values.specs.declared.ids.Dir.TheVariants.{Bi, Uni}
 use Rattle.quic_values.specs.Ids.{dir_of}
 use Rattle.quic_wire.specs.declared.event.StreamEvent.TheVariants as stream_event
 use Rattle.quic_outgoing.specs.Outgoing.{Outgoing, with_send_half}
-use Rattle.quic_outgoing.specs.Acknowledging.{AcksFrame, LosesFrame, is_given_up}
+use Rattle.quic_outgoing.specs.Acknowledging.{AcksStream, LosesOnStream, is_given_up}
 use Rattle.quic_history.specs.World.{World, is_own, replaced_in, told}
 use Rattle.quic_history.specs.Sends.{with_out, is_permitted}
 use Rattle.quic_history.specs.Writes.{with_queued}
@@ -17,7 +17,7 @@ abbrev pub send_released : World → Dir → ℕ → World
 send_released w Uni id = w
 send_released w Bi id = if is_some (w.receive id) then w else replaced_in w Bi
 
--- and so of any stream
+-- the send half of a stream was let go: one of the peer may be wholly freed by that
 abbrev pub with_send_freed : World → ℕ → World
 with_send_freed w id = if is_own w id then w else send_released w (dir_of id) id
 
@@ -30,13 +30,13 @@ told_finished w id false = w
 -- what came of the report that a frame was acknowledged: one on a stream that is not there is dropped
 abbrev pub AcksOwn : World → ℕ → Range ℕ → Bool → Result (Unit {0}) OutOfMemory → World → Type 0
 AcksOwn w id offsets fin (Ok x) v = MatchBool (is_permitted w id)
-    ((done : Bool) × (o : Outgoing) × AcksFrame w.out id offsets fin (Ok done) o × (v ≡ told_finished (with_out w o) id done))
+    ((done : Bool) × (o : Outgoing) × AcksStream w.out id offsets fin (Ok done) o × (v ≡ told_finished (with_out w o) id done))
     (v ≡ w)
 AcksOwn w id offsets fin (Err e) v = v ≡ w
 
 -- what came of the report that a frame was lost: the stream is queued where nothing was to be sent on it before
 abbrev pub LosesOwn : World → ℕ → Range ℕ → Bool → Result (Unit {0}) OutOfMemory → World → Type 0
-LosesOwn w id offsets fin (Ok x) v = (queue : Option ℤ) × (o : Outgoing) × LosesFrame w.out id offsets fin (Ok queue) o × (v ≡ with_queued (with_out w o) id queue)
+LosesOwn w id offsets fin (Ok x) v = (queue : Option ℤ) × (o : Outgoing) × LosesOnStream w.out id offsets fin (Ok queue) o × (v ≡ with_queued (with_out w o) id queue)
 LosesOwn w id offsets fin (Err e) v = v ≡ w
 
 -- whether the acknowledgement of RESET_STREAM frees a send half: that of a stream which was reset

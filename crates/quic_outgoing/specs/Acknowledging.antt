@@ -43,9 +43,9 @@ pub record AcksHalf (u : Outgoing) (id : ℕ) (offsets : Range ℕ) (fin : Bool)
   pub is : v ≡ record (with_send_half u id (if done then None else Some after)) { budget = with_released u.budget (total_length half.pending.held - total_length after.pending.held) }
 
 -- what came of the report that a frame was acknowledged
-abbrev pub AcksFrame : Outgoing → ℕ → Range ℕ → Bool → Result Bool OutOfMemory → Outgoing → Type 0
-AcksFrame u id offsets fin (Ok done) v = MatchBool (were_sent (u.halves id) offsets) (AcksHalf u id offsets fin done v) ((done ≡ false) × (v ≡ u))
-AcksFrame u id offsets fin (Err e) v = v ≡ u
+abbrev pub AcksStream : Outgoing → ℕ → Range ℕ → Bool → Result Bool OutOfMemory → Outgoing → Type 0
+AcksStream u id offsets fin (Ok done) v = MatchBool (were_sent (u.halves id) offsets) (AcksHalf u id offsets fin done v) ((done ≡ false) × (v ≡ u))
+AcksStream u id offsets fin (Err e) v = v ≡ u
 
 -- a half once a frame of these offsets is lost: those that are not acknowledged are to be sent again, and so is the end
 -- of a finished stream, if the frame had it
@@ -64,9 +64,9 @@ pub record LosesOnHalf (u : Outgoing) (id : ℕ) (offsets : Range ℕ) (fin : Bo
   pub is : v ≡ with_send_half u id (Some after)
 
 -- what came of the report that a frame was lost
-abbrev pub LosesFrame : Outgoing → ℕ → Range ℕ → Bool → Result (Option ℤ) OutOfMemory → Outgoing → Type 0
-LosesFrame u id offsets fin (Ok queue) v = MatchBool (were_sent (u.halves id) offsets) (LosesOnHalf u id offsets fin queue v) ((queue ≡ None) × (v ≡ u))
-LosesFrame u id offsets fin (Err e) v = v ≡ u
+abbrev pub LosesOnStream : Outgoing → ℕ → Range ℕ → Bool → Result (Option ℤ) OutOfMemory → Outgoing → Type 0
+LosesOnStream u id offsets fin (Ok queue) v = MatchBool (were_sent (u.halves id) offsets) (LosesOnHalf u id offsets fin queue v) ((queue ≡ None) × (v ≡ u))
+LosesOnStream u id offsets fin (Err e) v = v ≡ u
 
 -- whether a stream was reset and its half is still held
 abbrev pub is_given_up : Option Send → Bool

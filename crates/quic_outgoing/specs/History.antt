@@ -17,9 +17,9 @@ use Rattle.quic_outgoing.specs.declared.writing.Wrote.{Wrote}
 use Rattle.quic_outgoing.specs.Outgoing.{Outgoing, no_streams, with_send_half, fresh_sender, own_of, with_params, with_more_streams}
 use Rattle.quic_outgoing.specs.Calls.{OpensStream, RaisesStreams, RaisesStream, StopsSending, FinishesStream, ResetsStream, SetsPriority, PollsWritable}
 use Rattle.quic_outgoing.specs.Writing.{WritesOn}
-use Rattle.quic_outgoing.specs.Acknowledging.{AcksFrame, LosesFrame, is_given_up, without_given_up}
 use Rattle.quic_outgoing.specs.declared.transmitting.WrittenFrame.{WrittenFrame}
 use Rattle.quic_outgoing.specs.Transmitting.{Transmits}
+use Rattle.quic_outgoing.specs.Acknowledging.{AcksStream, LosesOnStream, is_given_up, without_given_up}
 
 -- a call and its answer
 pub data Call : Type 0 where
@@ -62,8 +62,8 @@ DoesCall u (SetPriority id priority answer) v = SetsPriority u id priority answe
 DoesCall u (Polled answer) v = PollsWritable u answer v
 DoesCall u (Transmitted id most answer) v = (bytes : List ℕ) × (payload : List ℕ) × Transmits u id most bytes answer v payload
 DoesCall u (SetWindow window) v = v ≡ record u { budget = with_window u.budget window }
-DoesCall u (AckedFrame id offsets fin answer) v = AcksFrame u id offsets fin answer v
-DoesCall u (LostFrame id offsets fin answer) v = LosesFrame u id offsets fin answer v
+DoesCall u (AckedFrame id offsets fin answer) v = AcksStream u id offsets fin answer v
+DoesCall u (LostFrame id offsets fin answer) v = LosesOnStream u id offsets fin answer v
 DoesCall u (ResetAcked id answer) v = (answer ≡ is_given_up (u.halves id)) × (v ≡ without_given_up u id)
 
 -- the calls, one after another from no streams on, may lead there

@@ -4,7 +4,7 @@ ghost use Rattle.std.specs.Prelude.{◌≡◌, ◌≤◌, ◌&&◌, ◌||◌, no
 ghost use Rattle.quic_sending.specs.Sending.{is_ready};
 ghost use Rattle.quic_outgoing.specs.Senders.{bare, first_limit};
 ghost use Rattle.quic_outgoing.specs.Outgoing.{with_send_half};
-ghost use Rattle.quic_outgoing.specs.Acknowledging.{AcksFrame, LosesFrame, is_given_up, without_given_up};
+ghost use Rattle.quic_outgoing.specs.Acknowledging.{AcksStream, LosesOnStream, is_given_up, without_given_up};
 ghost use Rattle.quic_outgoing.specs.History.{AckedFrame, LostFrame, ResetAcked, Continues};
 ghost use Rattle.quic_outgoing.specs.Shown.{view_of, permit_room};
 
@@ -23,7 +23,7 @@ impl OutgoingStreams {
     /// The report of a stream that is closed or was reset, or of offsets that were not sent, changes nothing. If refused,
     /// all is as it was.
     pub fn ack(&mut self, id: StreamId, offsets: Range<u64>, fin: bool) -> Result<bool, OutOfMemory>
-        ensures acks { AcksFrame (view_of self.old) id offsets fin result (view_of self.new) }
+        ensures acks { AcksStream (view_of self.old) id offsets fin result (view_of self.new) }
         ensures from { Continues (view_of self.old) (AckedFrame id offsets fin result) (view_of self.new) }
         ensures room { permit_room self.old ≤ permit_room self.new }
     {
@@ -37,7 +37,7 @@ impl OutgoingStreams {
         offsets: Range<u64>,
         fin: bool,
     ) -> Result<bool, OutOfMemory>
-        ensures acks { AcksFrame (view_of self.old) id offsets fin result (view_of self.new) }
+        ensures acks { AcksStream (view_of self.old) id offsets fin result (view_of self.new) }
         ensures room { permit_room self.old ≤ permit_room self.new }
     {
         match self.halves.take(id) {
@@ -57,7 +57,7 @@ impl OutgoingStreams {
     ) -> Result<bool, OutOfMemory>
         requires there { is_some ((view_of self.old).halves id) ≡ true }
         requires held { first_limit (view_of self.old).side (view_of self.old).first id ≤ half.value.max_data }
-        ensures acks { AcksFrame (with_send_half (view_of self.old) id (Some (bare half.value))) id offsets fin result (view_of self.new) }
+        ensures acks { AcksStream (with_send_half (view_of self.old) id (Some (bare half.value))) id offsets fin result (view_of self.new) }
         ensures room { permit_room self.old ≤ permit_room self.new }
     {
         let mut half = half;
@@ -96,7 +96,7 @@ impl OutgoingStreams {
         offsets: Range<u64>,
         fin: bool,
     ) -> Result<Option<i32>, OutOfMemory>
-        ensures loses { LosesFrame (view_of self.old) id offsets fin result (view_of self.new) }
+        ensures loses { LosesOnStream (view_of self.old) id offsets fin result (view_of self.new) }
         ensures from { Continues (view_of self.old) (LostFrame id offsets fin result) (view_of self.new) }
     {
         self.take_loss(id, offsets, fin)
@@ -109,7 +109,7 @@ impl OutgoingStreams {
         offsets: Range<u64>,
         fin: bool,
     ) -> Result<Option<i32>, OutOfMemory>
-        ensures { LosesFrame (view_of self.old) id offsets fin result (view_of self.new) }
+        ensures { LosesOnStream (view_of self.old) id offsets fin result (view_of self.new) }
     {
         match self.halves.take(id) {
             Err(_) => Err(OutOfMemory),
@@ -128,7 +128,7 @@ impl OutgoingStreams {
     ) -> Result<Option<i32>, OutOfMemory>
         requires there { is_some ((view_of self.old).halves id) ≡ true }
         requires held { first_limit (view_of self.old).side (view_of self.old).first id ≤ half.value.max_data }
-        ensures { LosesFrame (with_send_half (view_of self.old) id (Some (bare half.value))) id offsets fin result (view_of self.new) }
+        ensures { LosesOnStream (with_send_half (view_of self.old) id (Some (bare half.value))) id offsets fin result (view_of self.new) }
     {
         let mut half = half;
         if half.is_reset() || offsets.end > half.pending.unsent() {

@@ -1,5 +1,5 @@
 // Acknowledgements and losses of what an end sent.
-use super::{Answer, Subject, client, id, receive};
+use super::{Answer, Subject, WINDOW, client, counts, id, receive};
 use crate::PeerLimits;
 use crate::recv_stream::RecvStream;
 use crate::send_stream::SendStream;
@@ -11,11 +11,11 @@ use std::process::Abort;
 use std::rt::HostRuntime;
 use std::test::Fail;
 
-// A client that permits its peer one stream of each direction, and may itself open two.
-fn end(alloc: Global) -> Result<Subject, OutOfMemory> {
-    let mut subject = client(alloc, 1, 100, 100)?;
+// A client that permits its peer one stream of each direction, and may itself open so many.
+fn end(alloc: Global, streams: u32) -> Result<Subject, OutOfMemory> {
+    let mut subject = client(alloc, 1, WINDOW, WINDOW)?;
     let limit = VarInt::from(100u32);
-    let streams = VarInt::from(2u32);
+    let streams = VarInt::from(streams);
     subject.state.set_params(&PeerLimits {
         initial_max_data: limit,
         initial_max_streams_bidi: streams,
@@ -55,12 +55,35 @@ fn meta(stream: u32, end: u64, fin: bool) -> frame::StreamMeta {
     }
 }
 
-fn ack(rt: &impl Abort, subject: &mut Subject, frame: frame::StreamMeta) {
-    assert!(rt; subject.state.received_ack_of(frame).is_ok());
+// Each report is made once more where memory was wanting, which has to leave all as it was.
+fn ack(rt: &impl Abort, subject: &mut Subject, stream: u32, end: u64, fin: bool) {
+    let before = counts(subject);
+    if subject
+        .state
+        .received_ack_of(meta(stream, end, fin))
+        .is_err()
+    {
+        assert_eq!(rt; counts(subject), before);
+        let answer = subject.state.received_ack_of(meta(stream, end, fin));
+        assert!(rt; answer.is_ok());
+    }
 }
 
-fn lose(rt: &impl Abort, subject: &mut Subject, frame: frame::StreamMeta) {
-    assert!(rt; subject.state.retransmit(frame).is_ok());
+fn lose(rt: &impl Abort, subject: &mut Subject, stream: u32, end: u64, fin: bool) {
+    let before = counts(subject);
+    if subject.state.retransmit(meta(stream, end, fin)).is_err() {
+        assert_eq!(rt; counts(subject), before);
+        assert!(rt; subject.state.retransmit(meta(stream, end, fin)).is_ok());
+    }
+}
+
+fn reset_acked(rt: &impl Abort, subject: &mut Subject, stream: u32) {
+    let before = counts(subject);
+    if subject.state.reset_acked(id(stream)).is_err() {
+        assert_eq!(rt; counts(subject), before);
+        assert!(rt; is_open(subject, stream));
+        assert!(rt; subject.state.reset_acked(id(stream)).is_ok());
+    }
 }
 
 fn stop(rt: &impl Abort, subject: &mut Subject, stream: u32) {
@@ -70,24 +93,39 @@ fn stop(rt: &impl Abort, subject: &mut Subject, stream: u32) {
     assert!(rt; stopped.is_ok());
 }
 
+// A stream of the peer comes with its end, and is stopped.
+fn stop_unread(
+    rt: &impl Abort,
+    alloc: Global,
+    subject: &mut Subject,
+    stream: u32,
+) -> Result<(), OutOfMemory> {
+    assert_eq!(rt;
+        receive(alloc, subject, stream, 0, 1, true)?,
+        Answer::Taken(false)
+    );
+    stop(rt, subject, stream);
+    Ok(())
+}
+
 #[test]
 fn complete_streams_are_finished(rt: HostRuntime) -> Result<(), Fail> {
     let alloc = rt.alloc();
-    let mut subject = end(alloc)?;
+    let mut subject = end(alloc, 2)?;
     assert_eq!(&rt; open(&mut subject), Some(id(2)));
     assert!(&rt; sending(&mut subject, 2).finish().is_ok());
     // Of what was not sent a report does not count.
-    ack(&rt, &mut subject, meta(2, 9, true));
+    ack(&rt, &mut subject, 2, 9, true);
     assert_eq!(&rt; subject.state.poll(), None);
-    ack(&rt, &mut subject, meta(2, 0, false));
+    ack(&rt, &mut subject, 2, 0, false);
     assert_eq!(&rt; subject.state.poll(), None);
-    ack(&rt, &mut subject, meta(2, 0, true));
+    ack(&rt, &mut subject, 2, 0, true);
     assert_eq!(&rt;
         subject.state.poll(),
         Some(StreamEvent::Finished { id: id(2) })
     );
     assert!(&rt; !is_open(&mut subject, 2));
-    ack(&rt, &mut subject, meta(2, 0, true));
+    ack(&rt, &mut subject, 2, 0, true);
     assert_eq!(&rt; subject.state.poll(), None);
     Ok(())
 }
@@ -95,15 +133,15 @@ fn complete_streams_are_finished(rt: HostRuntime) -> Result<(), Fail> {
 #[test]
 fn the_end_alone_is_not_all(rt: HostRuntime) -> Result<(), Fail> {
     let alloc = rt.alloc();
-    let mut subject = end(alloc)?;
+    let mut subject = end(alloc, 2)?;
     assert_eq!(&rt; open(&mut subject), Some(id(2)));
     assert!(&rt; matches!(sending(&mut subject, 2).write(b"four"), Ok(4)));
     assert!(&rt; sending(&mut subject, 2).finish().is_ok());
-    ack(&rt, &mut subject, meta(2, 0, true));
+    ack(&rt, &mut subject, 2, 0, true);
     assert_eq!(&rt; subject.state.poll(), None);
     assert!(&rt; is_open(&mut subject, 2));
     // A stream that no end opened.
-    ack(&rt, &mut subject, meta(1001, 0, true));
+    ack(&rt, &mut subject, 1001, 0, true);
     assert_eq!(&rt; subject.state.poll(), None);
     Ok(())
 }
@@ -111,13 +149,13 @@ fn the_end_alone_is_not_all(rt: HostRuntime) -> Result<(), Fail> {
 #[test]
 fn freed_streams_of_the_peer_make_room(rt: HostRuntime) -> Result<(), Fail> {
     let alloc = rt.alloc();
-    let mut subject = end(alloc)?;
+    let mut subject = end(alloc, 2)?;
     assert_eq!(&rt;
         receive(alloc, &mut subject, 1, 0, 1, true)?,
         Answer::Taken(false)
     );
     assert!(&rt; sending(&mut subject, 1).finish().is_ok());
-    ack(&rt, &mut subject, meta(1, 0, true));
+    ack(&rt, &mut subject, 1, 0, true);
     assert_eq!(&rt; subject.state.bi.max_remote(), 1);
     stop(&rt, &mut subject, 1);
     assert_eq!(&rt; subject.state.bi.max_remote(), 2);
@@ -128,7 +166,7 @@ fn freed_streams_of_the_peer_make_room(rt: HostRuntime) -> Result<(), Fail> {
     stop(&rt, &mut subject, 5);
     assert_eq!(&rt; subject.state.bi.max_remote(), 2);
     assert!(&rt; sending(&mut subject, 5).finish().is_ok());
-    ack(&rt, &mut subject, meta(5, 0, true));
+    ack(&rt, &mut subject, 5, 0, true);
     assert_eq!(&rt; subject.state.bi.max_remote(), 3);
     assert!(&rt; subject.state.queue_max_stream_id(&mut subject.pending));
     assert!(&rt; is_open(&mut subject, 9));
@@ -138,14 +176,14 @@ fn freed_streams_of_the_peer_make_room(rt: HostRuntime) -> Result<(), Fail> {
 #[test]
 fn acknowledged_resets_free(rt: HostRuntime) -> Result<(), Fail> {
     let alloc = rt.alloc();
-    let mut subject = end(alloc)?;
+    let mut subject = end(alloc, 2)?;
     assert_eq!(&rt; open(&mut subject), Some(id(2)));
-    assert!(&rt; subject.state.reset_acked(id(2)).is_ok());
+    reset_acked(&rt, &mut subject, 2);
     assert!(&rt; is_open(&mut subject, 2));
     assert!(&rt; sending(&mut subject, 2).reset(VarInt::from(3u32)).is_ok());
-    ack(&rt, &mut subject, meta(2, 0, true));
+    ack(&rt, &mut subject, 2, 0, true);
     assert!(&rt; is_open(&mut subject, 2));
-    assert!(&rt; subject.state.reset_acked(id(2)).is_ok());
+    reset_acked(&rt, &mut subject, 2);
     assert!(&rt; !is_open(&mut subject, 2));
     assert_eq!(&rt; subject.state.poll(), None);
     // A stream of the peer.
@@ -156,7 +194,7 @@ fn acknowledged_resets_free(rt: HostRuntime) -> Result<(), Fail> {
     stop(&rt, &mut subject, 1);
     assert!(&rt; sending(&mut subject, 1).reset(VarInt::from(3u32)).is_ok());
     assert_eq!(&rt; subject.state.bi.max_remote(), 1);
-    assert!(&rt; subject.state.reset_acked(id(1)).is_ok());
+    reset_acked(&rt, &mut subject, 1);
     assert_eq!(&rt; subject.state.bi.max_remote(), 2);
     Ok(())
 }
@@ -164,15 +202,63 @@ fn acknowledged_resets_free(rt: HostRuntime) -> Result<(), Fail> {
 #[test]
 fn lost_frames_queue_once(rt: HostRuntime) -> Result<(), Fail> {
     let alloc = rt.alloc();
-    let mut subject = end(alloc)?;
+    let mut subject = end(alloc, 2)?;
     assert_eq!(&rt; open(&mut subject), Some(id(2)));
     assert!(&rt; sending(&mut subject, 2).finish().is_ok());
     // The end waits to be sent as it is.
-    lose(&rt, &mut subject, meta(2, 0, true));
-    lose(&rt, &mut subject, meta(2, 9, true));
-    lose(&rt, &mut subject, meta(1001, 0, true));
+    lose(&rt, &mut subject, 2, 0, true);
+    lose(&rt, &mut subject, 2, 9, true);
+    lose(&rt, &mut subject, 1001, 0, true);
     let first = subject.state.queue.take_first();
     assert_eq!(&rt; first.map(|entry| entry.id), Some(id(2)));
     assert!(&rt; subject.state.queue.is_empty());
+    Ok(())
+}
+
+const MANY: u32 = 65_537;
+
+#[test]
+fn every_number_of_streams_is_finished(rt: HostRuntime) -> Result<(), Fail> {
+    let alloc = rt.alloc();
+    let mut subject = end(alloc, MANY)?;
+    for index in 0..MANY {
+        let stream = index.wrapping_mul(4).wrapping_add(2);
+        assert_eq!(&rt; open(&mut subject), Some(id(stream)));
+        assert!(&rt; subject.state.retransmit(meta(stream, 0, false)).is_ok());
+        assert!(&rt; sending(&mut subject, stream).finish().is_ok());
+    }
+    for index in 0..MANY {
+        let stream = index.wrapping_mul(4).wrapping_add(2);
+        assert!(&rt; subject.state.received_ack_of(meta(stream, 0, true)).is_ok());
+    }
+    for index in 0..MANY {
+        let stream = index.wrapping_mul(4).wrapping_add(2);
+        let finished = StreamEvent::Finished { id: id(stream) };
+        assert_eq!(&rt; subject.state.poll(), Some(finished));
+    }
+    assert_eq!(&rt; subject.state.poll(), None);
+    Ok(())
+}
+
+#[test]
+fn every_number_of_streams_is_replaced(rt: HostRuntime) -> Result<(), Fail> {
+    let alloc = rt.alloc();
+    let mut subject = end(alloc, 0)?;
+    for index in 0..MANY {
+        let stream = index.wrapping_mul(4).wrapping_add(1);
+        stop_unread(&rt, alloc, &mut subject, stream)?;
+        assert!(&rt;
+            sending(&mut subject, stream)
+                .reset(VarInt::from(3u32))
+                .is_ok()
+        );
+        assert!(&rt; subject.state.reset_acked(id(stream)).is_ok());
+        subject.pending.reset_stream.clear();
+    }
+    assert_eq!(&rt;
+        subject.state.bi.max_remote(),
+        u64::from(MANY).wrapping_add(1)
+    );
+    assert_eq!(&rt; subject.state.max_concurrent(Dir::Bi), 1);
     Ok(())
 }
