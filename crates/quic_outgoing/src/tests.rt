@@ -2,6 +2,7 @@
 
 mod refusals;
 mod sizes;
+mod transmitting;
 mod worked;
 
 use crate::{OutgoingStreams, PeerLimits};
