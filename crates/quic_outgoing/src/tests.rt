@@ -3,6 +3,7 @@
 mod acknowledging;
 mod refusals;
 mod sizes;
+mod transmitting;
 mod worked;
 
 use crate::{OutgoingStreams, PeerLimits};

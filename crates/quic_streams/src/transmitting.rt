@@ -1,6 +1,6 @@
 //! The frames that are written of the streams of one end.
 
-ghost use Rattle.std.specs.Prelude.{ℕ, List, [], ◌≡◌, ◌+◌, ◌≤◌, ◌⊎◌, OnOk, length};
+ghost use Rattle.std.specs.Prelude.{ℕ, List, [], ◌≡◌, ◌+◌, ◌<◌, ◌≤◌, ◌⊎◌, OnErr, OnOk, length};
 ghost use Rattle.quic_queue.specs.SendOrder.{line};
 ghost use Rattle.quic_writing.specs.Appended.{AreWritten, AppendsFrames};
 ghost use Rattle.quic_streams.specs.Shown.{shown};
@@ -29,6 +29,7 @@ impl StreamsState {
     ) -> Result<(), OutOfMemory>
         ensures writes { WritesStreamFrames max_buf_size fair (shown self.old) buf.old.items sent.old.items (shown self.new) buf.new.items sent.new.items }
         ensures full { OnOk result ((line (shown self.new).queue ≡ []) ⊎ (max_buf_size ≤ length buf.new.items + 25)) }
+        ensures refused { OnErr result ((0 < length (line (shown self.new).queue)) × (length buf.new.items + 25 < max_buf_size)) }
         ensures text { (written : ℕ → List ℕ) → AreWritten written (shown self.old).out → AppendsFrames written max_buf_size (end_writer (shown self.old) buf.old.items sent.old.items) (end_writer (shown self.new) buf.new.items sent.new.items) }
     {
         let (streams, queue) = (&mut self.outgoing, &mut self.queue);

@@ -34,6 +34,7 @@ pub fn write_stream_frames(
 ) -> Result<(), OutOfMemory>
     ensures turns { TakesTurns max_size fair (writer (view_of streams.old) queue.old buf.old.items sent.old.items) (writer (view_of streams.new) queue.new buf.new.items sent.new.items) }
     ensures full { OnOk result ((line queue.new ≡ []) ⊎ (max_size ≤ length buf.new.items + 25)) }
+    ensures refused { OnErr result ((0 < length (line queue.new)) × (length buf.new.items + 25 < max_size)) }
     ensures text { (written : ℕ → List ℕ) → AreWritten written (view_of streams.old) → AppendsFrames written max_size (writer (view_of streams.old) queue.old buf.old.items sent.old.items) (writer (view_of streams.new) queue.new buf.new.items sent.new.items) }
 {
     take_turns(streams, queue, buf, sent, max_size, fair)
@@ -50,6 +51,7 @@ fn take_turns(
 ) -> Result<(), OutOfMemory>
     ensures turns { TakesTurns max_size fair (writer (view_of streams.old) queue.old buf.old.items sent.old.items) (writer (view_of streams.new) queue.new buf.new.items sent.new.items) }
     ensures full { OnOk result ((line queue.new ≡ []) ⊎ (max_size ≤ length buf.new.items + 25)) }
+    ensures refused { OnErr result ((0 < length (line queue.new)) × (length buf.new.items + 25 < max_size)) }
 {
     while buf.len() + Stream::SIZE_BOUND < max_size {
         if !take_turn(streams, queue, buf, sent, max_size, fair)? {
@@ -71,6 +73,7 @@ fn take_turn(
     requires { length buf.old.items + 25 < max_size }
     ensures turn { IfOk result (λ served. served ≡ true → TakesTurn max_size fair (writer (view_of streams.old) queue.old buf.old.items sent.old.items) (writer (view_of streams.new) queue.new buf.new.items sent.new.items)) }
     ensures idle { IfOk result (λ served. served ≡ false → (line queue.old ≡ []) × (writer (view_of streams.new) queue.new buf.new.items sent.new.items ≡ writer (view_of streams.old) queue.old buf.old.items sent.old.items)) }
+    ensures some { OnErr result (0 < length (line queue.new)) }
     ensures err { OnErr result (writer (view_of streams.new) queue.new buf.new.items sent.new.items ≡ writer (view_of streams.old) queue.old buf.old.items sent.old.items) }
 {
     let Some(entry) = queue.first() else {
