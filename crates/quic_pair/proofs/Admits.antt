@@ -18,7 +18,7 @@ use Rattle.quic_pair.specs.Network.{HasStream, part}
 use Rattle.quic_pair.specs.Sending.{Sending, TakesBytes, Finishes}
 use Rattle.quic_pair.specs.Receiving.{Receiving, ReceivesFrame, KeepsFrame, ReadsStream, ReadsAll, frame_verdict}
 use Rattle.quic_values.specs.Offsets.{is_past}
-use Rattle.quic_pair.specs.Steps.{World, Next, KnowsNoId, OnStream, OnReceiving, OnlyReceiving, Emits, Delivered, ReportsLoss, LosesOnStream, ReportsAck, AcksStream, WritesBytes, Unknown}
+use Rattle.quic_pair.specs.Steps.{World, Next, KnowsNoId, OnStream, OnReceiving, OnlyReceiving, Emits, Delivered, ReportsLoss, LosesFrame, ReportsAck, AcksFrame, WritesBytes, Unknown}
 use Rattle.quic_pair.specs.History.{Answer, History, past_of, codes_of}
 use Rattle.quic_pair.proofs.Told.{Told, told_of, told_nothing, told_after, told_open, told_accept, told_write, told_finish, told_read, told_poll, told_event, told_deliver, told_ack, told_kept}
 use Rattle.quic_pair.specs.From.{From, begin, next, IsNew}
@@ -335,7 +335,7 @@ emitted old most _ new n = absurd n
 loses_at : (old : World) (k i : ℕ) (answer : Answer) (new : World) → ReportsLoss old k i answer new → new.receiving ≡ old.receiving
 loses_at old k i answer new n = ap (λ (v : World). v.receiving) n.new_is
 
-loses : (old : World) (k i : ℕ) (answer : Answer) (new : World) → LosesOnStream old k i answer new → new.receiving ≡ old.receiving
+loses : (old : World) (k i : ℕ) (answer : Answer) (new : World) → LosesFrame old k i answer new → new.receiving ≡ old.receiving
 loses old k i (Err NoSuchPayload) new n = ap (λ (v : World). v.receiving) n.1
 loses old k i (Err NoSuchFrame) new n = ap (λ (v : World). v.receiving) n.1
 loses old k i answer new n = loses_at old k i answer new n
@@ -343,7 +343,7 @@ loses old k i answer new n = loses_at old k i answer new n
 acks_at : (old : World) (k i : ℕ) (answer : Answer) (new : World) → ReportsAck old k i answer new → new.receiving ≡ old.receiving
 acks_at old k i answer new n = ap (λ (v : World). v.receiving) n.new_is
 
-acks : (old : World) (k i : ℕ) (answer : Answer) (new : World) → AcksStream old k i answer new → new.receiving ≡ old.receiving
+acks : (old : World) (k i : ℕ) (answer : Answer) (new : World) → AcksFrame old k i answer new → new.receiving ≡ old.receiving
 acks old k i (Err NoSuchPayload) new n = ap (λ (v : World). v.receiving) n.1
 acks old k i (Err NoSuchFrame) new n = ap (λ (v : World). v.receiving) n.1
 acks old k i (Err NotAccepted) new n = ap (λ (v : World). v.receiving) n.1

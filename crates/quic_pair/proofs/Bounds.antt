@@ -13,7 +13,7 @@ use Rattle.quic_wire.specs.declared.StreamEvent.TheVariants.{Finished}
 use Rattle.quic_sending.specs.Buffer.{Buffered, HasCuts, IsSound, is_acked, cut_of, total_length, uncovered}
 use Rattle.quic_pair.specs.Network.{Sent, Piece, HasPiece, FramePlace, SomeFrame, CarriesOffset}
 use Rattle.quic_pair.specs.Sending.{Sending, Opens, TakesBytes, Finishes, Ends, Lost, Loses, Acked, Acks, Polls, write_limit, limit_room}
-use Rattle.quic_pair.specs.Steps.{World, Next, KnowsNoId, OnStream, OnReceiving, OnlySending, OnlyReceiving, Emitted, Emits, Delivers, Faults, Delivered, ReportsLoss, LosesOnStream, ReportsAck, AcksStream, WritesBytes, Unknown}
+use Rattle.quic_pair.specs.Steps.{World, Next, KnowsNoId, OnStream, OnReceiving, OnlySending, OnlyReceiving, Emitted, Emits, Delivers, Faults, Delivered, ReportsLoss, LosesFrame, ReportsAck, AcksFrame, WritesBytes, Unknown}
 use Rattle.quic_pair.specs.History.{Past, History, Answer, past_of}
 use Rattle.quic_pair.proofs.Told.{Told, told_of, told_nothing, told_after, told_open, told_accept, told_write, told_finish, told_read, told_poll, told_event, told_deliver, told_ack}
 use Rattle.quic_pair.specs.From.{From, begin, next, IsNew}
@@ -175,7 +175,7 @@ lost_moves old range fin _ s t = absurd t
 loses_at : (old : World) (k i : ℕ) (answer : Answer) (new : World) → ReportsLoss old k i answer new → Moves old new
 loses_at old k i answer new n = rw n.new_is (lost_moves old _ n.piece.fin answer new.sending n.does)
 
-loses : (old : World) (k i : ℕ) (answer : Answer) (new : World) → LosesOnStream old k i answer new → Moves old new
+loses : (old : World) (k i : ℕ) (answer : Answer) (new : World) → LosesFrame old k i answer new → Moves old new
 loses old k i (Err NoSuchPayload) new n = rw n.1 (Moves-same old)
 loses old k i (Err NoSuchFrame) new n = rw n.1 (Moves-same old)
 loses old k i answer new n = loses_at old k i answer new n
@@ -335,7 +335,7 @@ acks_at : (a b : Config) (p : Told) (old : World) (k i : ℕ) (answer : Answer) 
     (let q = told_ack p k i answer in Bounds a b q.pieces q.written q.acknowledged new)
 acks_at a b p old k i answer new f h n = rw n.new_is (acked_at a b p old k i n.piece answer new.sending f h n.has n.does)
 
-acks : (a b : Config) (p : Told) (old : World) (k i : ℕ) (answer : Answer) (new : World) → Fits p old → Bounds a b p.pieces p.written p.acknowledged old → AcksStream old k i answer new →
+acks : (a b : Config) (p : Told) (old : World) (k i : ℕ) (answer : Answer) (new : World) → Fits p old → Bounds a b p.pieces p.written p.acknowledged old → AcksFrame old k i answer new →
     (let q = told_ack p k i answer in Bounds a b q.pieces q.written q.acknowledged new)
 acks a b p old k i (Err NoSuchPayload) new f h n = rw n.1 h
 acks a b p old k i (Err NoSuchFrame) new f h n = rw n.1 h

@@ -15,7 +15,7 @@ use Rattle.quic_assembler.specs.declared.Chunk.{Chunk}
 use Rattle.quic_pair.specs.Network.{Sent, Piece, HasPiece, FramePlace, SomeFrame, CarriesOffset, EndsStream, HasStream, SpellsStream, part, frame_of, accepted_at}
 use Rattle.quic_pair.specs.Sending.{Sending, Acked, Acks}
 use Rattle.quic_pair.specs.Receiving.{Receiving, ReceivesFrame, KeepsFrame, ReadsStream, ReadsAll, GivesInOrder, WhyStopped}
-use Rattle.quic_pair.specs.Steps.{World, OnReceiving, KnowsNoId, Unknown, Delivers, Faults, Delivered, ReportsAck, AcksStream}
+use Rattle.quic_pair.specs.Steps.{World, OnReceiving, KnowsNoId, Unknown, Delivers, Faults, Delivered, ReportsAck, AcksFrame}
 use Rattle.quic_pair.specs.History.{Answer, bytes_of, ended_by}
 use Rattle.quic_pair.proofs.Told.{Told, told_read, told_deliver, told_ack}
 use Rattle.quic_pair.specs.Headline.{IsHonestPiece, IsHonestPayload}
@@ -321,7 +321,7 @@ after_report p k i _ v h = h
 acks_at : (p : Told) (old : World) (k i : ℕ) (answer : Answer) (new : World) → Fits p old → ReportsAck old k i answer new → Fits (told_ack p k i answer) new
 acks_at p old k i answer new h n = after_report p k i answer new (rw n.new_is (acked_by p old k i n.piece answer new.sending h n.has n.accepted n.does))
 
-pub acks : (p : Told) (old : World) (k i : ℕ) (answer : Answer) (new : World) → Fits p old → AcksStream old k i answer new → Fits (told_ack p k i answer) new
+pub acks : (p : Told) (old : World) (k i : ℕ) (answer : Answer) (new : World) → Fits p old → AcksFrame old k i answer new → Fits (told_ack p k i answer) new
 acks p old k i (Err NoSuchPayload) new h n = rw n.1 h
 acks p old k i (Err NoSuchFrame) new h n = rw n.1 h
 acks p old k i (Err NotAccepted) new h n = rw n.1 h

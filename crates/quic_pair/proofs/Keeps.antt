@@ -9,7 +9,7 @@ use Rattle.quic_wire.specs.declared.StreamEvent.TheVariants.{Finished}
 use Rattle.quic_sending.specs.Buffer.{Buffered, is_acked, cut_of}
 use Rattle.quic_pair.specs.Network.{Sent, Piece, HasPiece, FramePlace, SomeFrame, CarriesOffset, EndsStream}
 use Rattle.quic_pair.specs.Sending.{Sending, Opens, TakesBytes, Finishes, Ends, Lost, Loses, Polls}
-use Rattle.quic_pair.specs.Steps.{World, OnStream, OnlySending, OnlyReceiving, Emitted, Emits, ReportsLoss, LosesOnStream, WritesBytes}
+use Rattle.quic_pair.specs.Steps.{World, OnStream, OnlySending, OnlyReceiving, Emitted, Emits, ReportsLoss, LosesFrame, WritesBytes}
 use Rattle.quic_pair.specs.History.{Answer}
 use Rattle.quic_pair.proofs.Told.{Told, told_open, told_accept, told_write, told_finish, told_poll}
 use Rattle.quic_pair.specs.declared.steps.Reply.TheVariants.{Done, Id, Nothing, Wrote, Blocked, Closed, Event, Payload}
@@ -255,7 +255,7 @@ lost_by p old range fin _ s h t = absurd t
 loses_at : (p : Told) (old : World) (k i : ℕ) (answer : Answer) (new : World) → Fits p old → ReportsLoss old k i answer new → Fits p new
 loses_at p old k i answer new h n = rw n.new_is (lost_by p old _ n.piece.fin answer new.sending h n.does)
 
-pub loses : (p : Told) (old : World) (k i : ℕ) (answer : Answer) (new : World) → Fits p old → LosesOnStream old k i answer new → Fits p new
+pub loses : (p : Told) (old : World) (k i : ℕ) (answer : Answer) (new : World) → Fits p old → LosesFrame old k i answer new → Fits p new
 loses p old k i (Err NoSuchPayload) new h n = rw n.1 h
 loses p old k i (Err NoSuchFrame) new h n = rw n.1 h
 loses p old k i answer new h n = loses_at p old k i answer new h n

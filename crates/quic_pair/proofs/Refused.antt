@@ -8,7 +8,7 @@ use Rattle.quic_values.specs.declared.Dir.TheVariants.{Uni}
 use Rattle.quic_pair.specs.Network.{Sent, Piece, HasPiece, LacksStream, frame_of}
 use Rattle.quic_pair.specs.Sending.{Sending, Opens, Finishes, Lost, Acked, Polls}
 use Rattle.quic_pair.specs.Receiving.{Receiving, ReadsStream}
-use Rattle.quic_pair.specs.Steps.{World, Next, KnowsNoId, Unknown, OnStream, OnReceiving, OnlySending, OnlyReceiving, WritesBytes, Emits, Delivered, LosesOnStream, ReportsLoss, AcksStream, ReportsAck}
+use Rattle.quic_pair.specs.Steps.{World, Next, KnowsNoId, Unknown, OnStream, OnReceiving, OnlySending, OnlyReceiving, WritesBytes, Emits, Delivered, LosesFrame, ReportsLoss, AcksFrame, ReportsAck}
 use Rattle.quic_pair.specs.declared.steps.Config.{Config}
 use Rattle.quic_pair.specs.From.{From}
 use Rattle.quic_pair.specs.History.{Past, Flow, History, Answer, past_of, no_flow}
@@ -171,7 +171,7 @@ lost old _ new x why n w = absurd n
 loses_at : (old : World) (k i : ℕ) (answer : Answer) (new : World) → ReportsLoss old k i answer new → IsRefusedSo answer (unless_there old.sent k i None)
 loses_at old k i answer new n = lost old.sending answer new.sending n.piece _ n.does (there old.sent k i n.piece None n.has)
 
-loses : (old : World) (k i : ℕ) (answer : Answer) (new : World) → LosesOnStream old k i answer new → IsRefusedSo answer (unless_there old.sent k i None)
+loses : (old : World) (k i : ℕ) (answer : Answer) (new : World) → LosesFrame old k i answer new → IsRefusedSo answer (unless_there old.sent k i None)
 loses old k i (Err NoSuchPayload) new n = no_payload old.sent k i None n.0
 loses old k i (Err NoSuchFrame) new n = no_frame old.sent k i n.0.whole None n.0.is n.0.past
 loses old k i answer new n = loses_at old k i answer new n
@@ -187,7 +187,7 @@ acks_at p old k i answer new h n =
     let among = among_at p.accepted told.0 k i told.1 in
     acked old.sending answer new.sending n.piece _ n.does (there old.sent k i n.piece _ n.has ∙ rw among refl)
 
-acks : (p : Told) (old : World) (k i : ℕ) (answer : Answer) (new : World) → Fits p old → AcksStream old k i answer new → IsRefusedSo answer (unless_there old.sent k i (if is_listed p.accepted k i then None else Some NotAccepted))
+acks : (p : Told) (old : World) (k i : ℕ) (answer : Answer) (new : World) → Fits p old → AcksFrame old k i answer new → IsRefusedSo answer (unless_there old.sent k i (if is_listed p.accepted k i then None else Some NotAccepted))
 acks p old k i (Err NoSuchPayload) new h n = no_payload old.sent k i _ n.0
 acks p old k i (Err NoSuchFrame) new h n = no_frame old.sent k i n.0.whole _ n.0.is n.0.past
 acks p old k i (Err NotAccepted) new h n =

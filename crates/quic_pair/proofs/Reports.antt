@@ -4,17 +4,17 @@ use Rattle.quic_pair.specs.History.{Answer}
 use Rattle.quic_wire.specs.declared.frame.Stream.{Stream}
 use Rattle.quic_pair.specs.Network.{HasStream}
 use Rattle.quic_pair.specs.Receiving.{Receiving, ReceivesFrame}
-use Rattle.quic_pair.specs.Steps.{World, ReportsLoss, LosesOnStream, ReportsAck, AcksStream, Delivered}
+use Rattle.quic_pair.specs.Steps.{World, ReportsLoss, LosesFrame, ReportsAck, AcksFrame, Delivered}
 use Rattle.quic_pair.specs.declared.steps.Reply.{Reply}
 use Rattle.quic_pair.specs.declared.steps.Reply.TheVariants.{Done, Fault}
 use Rattle.quic_pair.specs.declared.steps.PairError.TheVariants.{NoSuchPayload, NoSuchFrame, NotAccepted}
 
-pub loses-reported : (old : World) (payload index : ℕ) (answer : Answer) (new : World) → ReportsLoss old payload index answer new → LosesOnStream old payload index answer new
+pub loses-reported : (old : World) (payload index : ℕ) (answer : Answer) (new : World) → ReportsLoss old payload index answer new → LosesFrame old payload index answer new
 loses-reported old payload index (Err NoSuchPayload) new r = absurd r.does
 loses-reported old payload index (Err NoSuchFrame) new r = absurd r.does
 loses-reported old payload index _ new r = r
 
-pub acks-reported : (old : World) (payload index : ℕ) (answer : Answer) (new : World) → ReportsAck old payload index answer new → AcksStream old payload index answer new
+pub acks-reported : (old : World) (payload index : ℕ) (answer : Answer) (new : World) → ReportsAck old payload index answer new → AcksFrame old payload index answer new
 acks-reported old payload index (Err NoSuchPayload) new r = absurd r.does
 acks-reported old payload index (Err NoSuchFrame) new r = absurd r.does
 acks-reported old payload index (Err NotAccepted) new r = absurd r.does

@@ -105,10 +105,10 @@ pub record ReportsLoss (old : World) (payload index : ℕ) (answer : Answer) (ne
   pub does : Lost old.sending (record { start = piece.start; end = piece.end }) piece.fin answer new.sending
   pub new_is : new ≡ record old { sending = new.sending }
 
-abbrev pub LosesOnStream : World → ℕ → ℕ → Answer → World → Type 0
-LosesOnStream old payload index (Err NoSuchPayload) new = NoPayload old payload × (new ≡ old)
-LosesOnStream old payload index (Err NoSuchFrame) new = NoFrame old payload index × (new ≡ old)
-LosesOnStream old payload index answer new = ReportsLoss old payload index answer new
+abbrev pub LosesFrame : World → ℕ → ℕ → Answer → World → Type 0
+LosesFrame old payload index (Err NoSuchPayload) new = NoPayload old payload × (new ≡ old)
+LosesFrame old payload index (Err NoSuchFrame) new = NoFrame old payload index × (new ≡ old)
+LosesFrame old payload index answer new = ReportsLoss old payload index answer new
 
 -- a frame of a payload is reported acknowledged
 pub record ReportsAck (old : World) (payload index : ℕ) (answer : Answer) (new : World) : Type 0 where
@@ -123,11 +123,11 @@ pub record NotTaken (v : World) (payload index : ℕ) : Type 0 where
   pub has : HasPiece v.sent payload index piece
   pub refused : piece.accepted ≡ false
 
-abbrev pub AcksStream : World → ℕ → ℕ → Answer → World → Type 0
-AcksStream old payload index (Err NoSuchPayload) new = NoPayload old payload × (new ≡ old)
-AcksStream old payload index (Err NoSuchFrame) new = NoFrame old payload index × (new ≡ old)
-AcksStream old payload index (Err NotAccepted) new = NotTaken old payload index × (new ≡ old)
-AcksStream old payload index answer new = ReportsAck old payload index answer new
+abbrev pub AcksFrame : World → ℕ → ℕ → Answer → World → Type 0
+AcksFrame old payload index (Err NoSuchPayload) new = NoPayload old payload × (new ≡ old)
+AcksFrame old payload index (Err NoSuchFrame) new = NoFrame old payload index × (new ≡ old)
+AcksFrame old payload index (Err NotAccepted) new = NotTaken old payload index × (new ≡ old)
+AcksFrame old payload index answer new = ReportsAck old payload index answer new
 
 -- a step on one of the ends as a whole
 pub record OnlySending (P : Sending → Answer → Sending → Type 0) (old : World) (answer : Answer) (new : World) : Type 0 where
@@ -152,6 +152,6 @@ Next old (ReadStep B id true max times) answer new =
 Next old (Poll A) answer new = OnlySending Polls old answer new
 Next old (Emit A most fair) answer new = Emits old most answer new
 Next old (Deliver payload index) answer new = Delivered old payload index answer new
-Next old (LoseStream payload index) answer new = LosesOnStream old payload index answer new
-Next old (AckStream payload index) answer new = AcksStream old payload index answer new
+Next old (LoseStream payload index) answer new = LosesFrame old payload index answer new
+Next old (AckStream payload index) answer new = AcksFrame old payload index answer new
 Next old _ answer new = KnowsNoId old answer new
