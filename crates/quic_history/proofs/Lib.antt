@@ -7,6 +7,7 @@ pub mod Credits
 pub mod Endings
 pub mod FirstStreams
 pub mod FlowLeaves
+pub mod Example
 pub mod FlowHistory
 pub mod FlowSteps
 pub mod FlowReports

@@ -36,7 +36,7 @@ use Rattle.quic_history.specs.Sends.{with_out, with_opened, told_writable, after
 use Rattle.quic_history.specs.Writes.{WritesOwn, with_queued}
 use Rattle.quic_history.specs.SendTotals.{send_totals, own_total}
 use Rattle.quic_history.specs.SendEvents.{SendEvent, SendStep, GaveLimits, OpenedOwn, RaisedData, RaisedCount, RaisedLimit, StoppedOwn, SetWindow, Polled, WroteOwn, FinishedOwn, ResetOwn, SetOwnPriority, AckedOwn, LostOwn, ResetAckedOwn, TookTurn}
-use Rattle.quic_history.specs.History.{Event, Received, ReceivedReset, AddedCredits, Began, Gave, Ended, Stopped, ToldReset, Resized, SetConcurrent, Accepted, Settled, Sending, Step, SentSo, FlowsSo, opened_in_all, greatest_count, send_tale, flow, is_sent_on, connection_room, window_room, QueuesSo}
+use Rattle.quic_history.specs.History.{Event, Received, ReceivedReset, AddedCredits, Began, Gave, Ended, Stopped, ToldReset, Resized, SetConcurrent, Accepted, Settled, Sending, Step, SentSo, FlowsSo, opened_in_all, greatest_count, send_tale, flow, is_sent_on, room_in_connection, room_in_window, QueuesSo}
 use Rattle.std.specs.declared.ops.Range.{Range}
 use Rattle.quic_wire.specs.declared.frame.Frame.{Frame}
 use Rattle.quic_flows.specs.Flow.{is_whole, with_acked}
@@ -349,10 +349,10 @@ module _ (m : Made) (h : List Event) (u : World) (side : u.out.side ≡ m.side) 
   sent_on : (id : ℕ) → has_side_in u.out u.bi.max_remote id ≡ has_send_side m.side (opened_in_all h) (send_tale m h).may_open id
   sent_on id = sym (known-by m h u side f.may_open sent id)
 
-  limit_told : (id n : ℕ) → tells_writable u.out n (u.out.halves id) ≡ (is_sent_on m h id && (wakes n (flow m h id) && not (min (connection_room h) (window_room m h) == 0)))
+  limit_told : (id n : ℕ) → tells_writable u.out n (u.out.halves id) ≡ (is_sent_on m h id && (wakes n (flow m h id) && not (min (room_in_connection h) (room_in_window m h) == 0)))
   limit_told id n =
-      woken_by u.out _ (min (connection_room h) (window_room m h)) n (flow m h id) (has_side_in u.out u.bi.max_remote id) (u.out.halves id) (all-room m h u side sent f) (f.flows id)
-      ∙ ap (λ k. (k && not (flow m h id).freed) && (wakes n (flow m h id) && not (min (connection_room h) (window_room m h) == 0))) (sent_on id)
+      woken_by u.out _ (min (room_in_connection h) (room_in_window m h)) n (flow m h id) (has_side_in u.out u.bi.max_remote id) (u.out.halves id) (all-room m h u side sent f) (f.flows id)
+      ∙ ap (λ k. (k && not (flow m h id).freed) && (wakes n (flow m h id) && not (min (room_in_connection h) (room_in_window m h) == 0))) (sent_on id)
 
   stop_told : (id : ℕ) → is_first_stop (u.out.halves id) ≡ (is_sent_on m h id && is_none (flow m h id).stopped)
   stop_told id =

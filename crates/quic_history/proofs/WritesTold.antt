@@ -18,7 +18,7 @@ use Rattle.quic_history.specs.World.{World, Made}
 use Rattle.quic_history.specs.Writes.{WritesOwn}
 use Rattle.quic_history.specs.SendTotals.{send_totals}
 use Rattle.quic_history.specs.Flows.{has_side_in, room_on, refusal_where, refusal_told}
-use Rattle.quic_history.specs.History.{Event, SentSo, flow, FlowsSo, connection_room, window_room, write_room, why_not, WritesSo, TellsWrites}
+use Rattle.quic_history.specs.History.{Event, SentSo, flow, FlowsSo, room_in_connection, room_in_window, write_room, why_not, WritesSo, TellsWrites}
 use Rattle.quic_history.proofs.SendSides.{held-flow}
 use Rattle.quic_history.proofs.FlowHistory.{known-by}
 
@@ -51,7 +51,7 @@ refused_at o first room t false None e f = refl
 
 module _ (m : Made) (h : List Event) (u : World) (side : u.out.side ≡ m.side) (sent : SentSo h (send_totals u.out)) (f : FlowsSo m h u) where
   -- how many bytes may be written on all streams
-  pub all-room : writable u.out.budget ≡ min (connection_room h) (window_room m h)
+  pub all-room : writable u.out.budget ≡ min (room_in_connection h) (room_in_window m h)
   all-room =
       let taken = sent.taken in
       let limit = sent.limit in
@@ -61,8 +61,8 @@ module _ (m : Made) (h : List Event) (u : World) (side : u.out.side ≡ m.side) 
 
   refused : (id : ℕ) → refusal_of_write u.out (u.out.halves id) ≡ why_not m h id
   refused id =
-      refused_at u.out _ (min (connection_room h) (window_room m h)) (flow m h id) (has_side_in u.out u.bi.max_remote id) (u.out.halves id) all-room (f.flows id)
-      ∙ ap (λ k. refusal_told (k && not (flow m h id).freed) (min (connection_room h) (window_room m h)) (flow m h id)) (sym (known-by m h u side f.may_open sent id))
+      refused_at u.out _ (min (room_in_connection h) (room_in_window m h)) (flow m h id) (has_side_in u.out u.bi.max_remote id) (u.out.halves id) all-room (f.flows id)
+      ∙ ap (λ k. refusal_told (k && not (flow m h id).freed) (min (room_in_connection h) (room_in_window m h)) (flow m h id)) (sym (known-by m h u side f.may_open sent id))
 
   taken_so : (id n b : ℕ) (s : Send) → u.out.halves id ≡ Some s → b ≡ min (min (writable u.out.budget) (s.max_data - s.pending.offset)) n → b ≡ min n (write_room m h id)
   taken_so id n b s e k =

@@ -573,16 +573,16 @@ pub record FlowsSo (m : Made) (h : List Event) (v : World) : Type 0 where
   pub retained : v.out.budget.buffered_data ≡ retained_in_all m h
 
 -- how many bytes the limit of the connection leaves
-abbrev pub connection_room : List Event → ℕ
-connection_room h = greatest_limit h - taken_in_all h
+abbrev pub room_in_connection : List Event → ℕ
+room_in_connection h = greatest_limit h - taken_in_all h
 
 -- how many the send window leaves
-abbrev pub window_room : Made → List Event → ℕ
-window_room m h = last_send_window m.send_window h - retained_in_all m h
+abbrev pub room_in_window : Made → List Event → ℕ
+room_in_window m h = last_send_window m.send_window h - retained_in_all m h
 
 -- how many may be written on a stream, as far as the connection, the window and the stream go
 abbrev pub write_room : Made → List Event → ℕ → ℕ
-write_room m h id = min (min (connection_room h) (window_room m h)) (room_on (flow m h id))
+write_room m h id = min (min (room_in_connection h) (room_in_window m h)) (room_on (flow m h id))
 
 -- whether a stream is open on its sending side
 abbrev pub is_sent_on : Made → List Event → ℕ → Bool
@@ -590,7 +590,7 @@ is_sent_on m h id = has_send_side m.side (opened_in_all h) (send_tale m h).may_o
 
 -- why nothing is written on a stream, if it is not for want of memory
 abbrev pub why_not : Made → List Event → ℕ → Option WriteError
-why_not m h id = refusal_told (is_sent_on m h id) (min (connection_room h) (window_room m h)) (flow m h id)
+why_not m h id = refusal_told (is_sent_on m h id) (min (room_in_connection h) (room_in_window m h)) (flow m h id)
 
 -- what a write of these lists may answer: it takes the least of what is offered and of the three rooms, or gives its
 -- reason. On a connection that is closed it is blocked
@@ -612,7 +612,7 @@ abbrev pub told_by : Made → List Event → Event → List StreamEvent
 told_by m h (Sending (RaisedCount dir count (Ok x))) = told_if (nat_lt (greatest_count h dir) count) (stream_event.Available dir)
 told_by m h (Sending (StoppedOwn id code (Ok x))) = told_if (is_sent_on m h id && is_none (flow m h id).stopped) (stream_event.Stopped id code)
 told_by m h (Sending (RaisedLimit id limit (Ok x))) =
-    told_if (is_sent_on m h id && (wakes limit (flow m h id) && not (min (connection_room h) (window_room m h) == 0))) (stream_event.Writable id)
+    told_if (is_sent_on m h id && (wakes limit (flow m h id) && not (min (room_in_connection h) (room_in_window m h) == 0))) (stream_event.Writable id)
 told_by m h (Sending (AckedOwn id offsets fin (Ok x))) = told_if (is_sent_on m h id && ends_by offsets.start offsets.end fin (flow m h id)) (stream_event.Finished id)
 told_by m h _ = []
 
