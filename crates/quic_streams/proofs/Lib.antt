@@ -1,3 +1,4 @@
 pub mod ControlRuns
 pub mod HeldMaps
 pub mod Results
+pub mod TurnRuns

@@ -4,7 +4,7 @@ ghost use Rattle.std.specs.Prelude.{ℕ, List, [], ◌≡◌, ◌+◌, ◌<◌, 
 ghost use Rattle.quic_queue.specs.SendOrder.{line};
 ghost use Rattle.quic_writing.specs.Appended.{AreWritten, AppendsFrames};
 ghost use Rattle.quic_streams.specs.Shown.{shown};
-ghost use Rattle.quic_streams.specs.Transmitting.{end_writer, WritesStreamFrames};
+ghost use Rattle.quic_streams.specs.Transmitting.{end_writer, WritesStreamFrames, GoesOnWithTurns};
 
 use crate::state::StreamsState;
 use quic_values::OutOfMemory;
@@ -21,6 +21,23 @@ impl StreamsState {
     ///
     /// If memory is refused, the frames that were appended before stay, and the next one was not begun.
     pub fn write_stream_frames(
+        &mut self,
+        buf: &mut Vec<u8>,
+        sent: &mut StreamMetaVec,
+        max_buf_size: usize,
+        fair: bool,
+    ) -> Result<(), OutOfMemory>
+        ensures writes { WritesStreamFrames max_buf_size fair (shown self.old) buf.old.items sent.old.items (shown self.new) buf.new.items sent.new.items }
+        ensures full { OnOk result ((line (shown self.new).queue ≡ []) ⊎ (max_buf_size ≤ length buf.new.items + 25)) }
+        ensures refused { OnErr result ((0 < length (line (shown self.new).queue)) × (length buf.new.items + 25 < max_buf_size)) }
+        ensures from { GoesOnWithTurns max_buf_size fair sent.old.items sent.new.items (shown self.old) (shown self.new) }
+        ensures text { (written : ℕ → List ℕ) → AreWritten written (shown self.old).out → AppendsFrames written max_buf_size (end_writer (shown self.old) buf.old.items sent.old.items) (end_writer (shown self.new) buf.new.items sent.new.items) }
+    {
+        self.write_streams(buf, sent, max_buf_size, fair)
+    }
+
+    // The same, by its exact step.
+    fn write_streams(
         &mut self,
         buf: &mut Vec<u8>,
         sent: &mut StreamMetaVec,
