@@ -6,6 +6,7 @@ mod reading;
 mod receiving;
 mod sending;
 mod sizes;
+mod transmitting;
 
 use crate::Retransmits;
 use crate::batches::ReadSome;
