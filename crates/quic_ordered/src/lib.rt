@@ -4,8 +4,10 @@
 mod gaps;
 mod map;
 mod piece;
+mod placing;
 mod row;
 mod store;
+mod unreceived;
 
 pub use store::OrderedPieces;
 

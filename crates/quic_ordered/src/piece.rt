@@ -1,6 +1,6 @@
 // A piece of a stream that is held.
 ghost use Rattle.std.specs.Prelude.{◌≡◌, ◌+◌, ◌-◌, ◌*◌, ◌/◌, ◌^◌, ◌<◌, ◌≤◌, ◌++◌, length, take, drop, vec_len, false, IfOk, OnOk, OnErr};
-ghost use Rattle.quic_assembler.specs.Piece.{PieceView, run_end, advance_by, cut_at};
+ghost use Rattle.quic_assembler.specs.Piece.{PieceView, run_end, advance_by, cut_at, HoldsSame};
 ghost use Rattle.quic_ordered.specs.Entries.{piece_of, WritesOver};
 ghost use Rattle.quic_ordered.specs.Rows.{joined_with, tidied};
 
@@ -117,6 +117,21 @@ impl Piece {
         self.start += count;
         self.offset += count as u64;
         Ok(front)
+    }
+
+    /// Takes what lies before `end` off, as a piece of its own. If refused, all is as it was.
+    pub(crate) fn split_front(&mut self, end: u64) -> Result<Self, OutOfMemory>
+        requires from { self.old.offset ≤ end }
+        requires to { end ≤ run_end self.old }
+        ensures front { IfOk result (λ front. front ≡ piece_of self.old.offset (take (end - self.old.offset) self.old.bytes) self.old.allocation_size) }
+        ensures rest { OnOk result (HoldsSame (cut_at end self.old) self.new) }
+        ensures rest_memory { OnOk result (self.new.allocation_size ≡ self.old.allocation_size) }
+        ensures err { OnErr result (self.new ≡ self.old) }
+    {
+        let offset = self.offset;
+        let allocation_size = self.allocation_size;
+        let bytes = self.split_to((end - offset) as usize)?;
+        Ok(Piece::new(offset, bytes, allocation_size))
     }
 
     /// The bytes, without taking memory.

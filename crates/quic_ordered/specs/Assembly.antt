@@ -1,0 +1,60 @@
+-- What contracts see of an assembler over pieces that do not overlap.
+use Rattle.std.specs.Prelude.{ℕ, Bool, true, false, ◌≡◌, ◌+◌, ◌-◌, ◌≤◌, ◌<◌, ◌⊎◌, max, List, [], ◌∷◌, length, drop, Result, Ok, Err}
+use Rattle.std.specs.List.{All}
+use Rattle.std.specs.List.Sorted.{IsStrictlySortedBy}
+use Rattle.std.specs.Ordering.{nat_cmp}
+use Rattle.quic_values.specs.Runs.{Run as Range}
+use Rattle.quic_assembler.specs.declared.errors.InsertError.{InsertError}
+use Rattle.quic_assembler.specs.declared.errors.InsertError.TheVariants.{TooManyChunks, CompactionMemory, OutOfMemory}
+use Rattle.quic_assembler.specs.Piece.{PieceView, Sums, sums_of}
+use Rattle.quic_assembler.specs.Reassembly.{Reassembly, IsHeld, IsAssembler, is_wasteful, with_piece}
+use Rattle.quic_ordered.specs.Entries.{piece_of}
+use Rattle.quic_ordered.specs.Rows.{LieInOrder, LieWithGaps, IsTidy, HoldSame, Merges, StemsFrom, StaysApart}
+
+-- what is true of an assembler whose pieces do not overlap: in ordered mode they lie behind what was read
+pub record IsApartAssembler (runs : List PieceView) (received : List Range) (ordered : Bool) (bytes_read : ℕ) : Type 0 where
+  pub whole : IsAssembler runs received ordered bytes_read
+  pub order : LieInOrder 0 runs
+  pub above : ordered ≡ true → LieInOrder bytes_read runs
+
+-- the first bytes that lie below what was read were cut off
+abbrev pub unread : ℕ → ℕ → List ℕ → ℕ → PieceView
+unread read offset bytes size = piece_of (max offset read) (drop (read - offset) bytes) size
+
+-- in ordered mode the part of a piece behind what was read was joined with what it overlaps, and pieces that it does not overlap stay
+pub record JoinsUnread (old : Reassembly) (offset : ℕ) (bytes : List ℕ) (size : ℕ) (mid : List PieceView) : Type 0 where
+  pub merges : Merges old.runs (unread old.bytes_read offset bytes size) mid
+  pub stems : All (StemsFrom old.runs (unread old.bytes_read offset bytes size)) mid
+  pub stays : All (StaysApart offset (offset + length bytes) mid) old.runs
+  pub pieces : length mid ≤ length old.runs + 1
+
+-- what the pieces are once bytes came, before any compaction
+pub record Adds (old : Reassembly) (offset : ℕ) (bytes : List ℕ) (size : ℕ) (mid : List PieceView) : Type 0 where
+  pub joins : old.ordered ≡ true → JoinsUnread old offset bytes size mid
+  pub sums : old.ordered ≡ false → sums_of mid ≡ with_piece old offset bytes size
+
+-- pieces that touch were joined, and those that kept much more memory alive than they have bytes were copied
+pub record IsJoined (mid new : List PieceView) : Type 0 where
+  pub same : HoldSame mid new
+  pub apart : LieWithGaps 0 new
+  pub tidy : All IsTidy new
+
+-- pieces were compacted where that is due, and only there
+abbrev pub Relieves : Result (Unit {0}) InsertError → Bool → List PieceView → List PieceView → Type 0
+Relieves (Ok u) due mid new = ((due ≡ false) × (new ≡ mid)) ⊎ ((due ≡ true) × IsJoined mid new × (length new ≤ 1024))
+Relieves (Err TooManyChunks) due mid new = (due ≡ true) × IsJoined mid new × (1024 < length new)
+Relieves (Err CompactionMemory) due mid new = (due ≡ true) × HoldSame mid new × (length new ≤ length mid)
+Relieves (Err OutOfMemory) due mid new = Unit {0}
+
+-- what an insert does with the pieces: bytes that lie below what was read change none, and all others are added, and the pieces compacted where that is due
+pub record Settled (old : Reassembly) (offset : ℕ) (bytes : List ℕ) (size : ℕ) (r : Result (Unit {0}) InsertError) (new : Reassembly) : Type 0 where
+  pub mid : List PieceView
+  pub added : Adds old offset bytes size mid
+  pub relieved : Relieves r (is_wasteful (sums_of mid) (max old.highest (offset + length bytes) - old.bytes_read)) mid new.runs
+
+-- the held offsets form more than so many runs without neighbours
+pub record FormMoreRuns (n : ℕ) (held : ℕ → ℕ → Type 0) : Type 0 where
+  pub starts : List ℕ
+  pub rise : IsStrictlySortedBy nat_cmp starts
+  pub begin : All (λ at. IsHeld held at × ((at ≡ 0) ⊎ (IsHeld held (at - 1) → ⊥))) starts
+  pub many : n < length starts
