@@ -1,15 +1,14 @@
 -- What was not received of a piece is held.
-use Rattle.std.proofs.Common.{◌≡◌, ℕ, ◌+◌, ◌-◌, ◌≤◌, ◌<◌, refl, sym, ap, subst, ◌∙◌, List, [], ◌∷◌, ◌++◌, length, arith, Bool, true, false, cond, append_assoc}
+use Rattle.std.proofs.Common.{◌≡◌, ℕ, ◌+◌, ◌-◌, ◌≤◌, ◌<◌, refl, sym, subst, List, [], ◌∷◌, ◌++◌, length, arith, Bool, true, false, cond, append_assoc}
 use Rattle.std.specs.Prelude.{nat_lt, not, ◌&&◌}
 use Rattle.std.specs.List.{All}
 use Rattle.std.specs.List.Sorted.{IsPermutation}
 use Rattle.std.proofs.lemmas.Bool.Decides.{nat_tests}
 use Rattle.std.proofs.lemmas.List.{append-nil}
-use Rattle.std.proofs.lemmas.List.Elements.{All-head, All-tail, All-nil, All-cons, All-push}
-use Rattle.std.proofs.lemmas.List.Sorted.{IsPermutation-refl, IsPermutation-sym, IsPermutation-trans, IsPermutation-cons, IsPermutation-append_comm}
+use Rattle.std.proofs.lemmas.List.Elements.{All-head, All-tail, All-nil, All-cons}
+use Rattle.std.proofs.lemmas.List.Sorted.{IsPermutation-refl, IsPermutation-sym, IsPermutation-trans, IsPermutation-append_comm}
 use Rattle.quic_values.specs.Runs.{contains, Run as Range}
-use Rattle.quic_assembler.specs.Compact.{with_run}
-use Rattle.quic_assembler.specs.Piece.{PieceView, run_end, IsSome, cover_count, covers, lies, bit}
+use Rattle.quic_assembler.specs.Piece.{PieceView, run_end, IsSome, cover_count, lies, bit}
 use Rattle.quic_assembler.specs.Reassembly.{IsCut, NoneReceived, TakesFresh}
 use Rattle.quic_assembler.proofs.Counts.{lies_in, lies_of_bit, count-append, with_run_pushed}
 use Rattle.quic_assembler.proofs.Fresh.{takes_fresh, bit_of_fresh}

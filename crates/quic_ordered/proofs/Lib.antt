@@ -10,3 +10,4 @@ pub mod Compacting
 pub mod Places
 pub mod Placed
 pub mod Fresh
+pub mod Assembling

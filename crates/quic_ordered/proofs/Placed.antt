@@ -1,5 +1,5 @@
 -- Pieces that lie apart are put into a map.
-use Rattle.std.proofs.Common.{◌≡◌, ℕ, ◌+◌, ◌-◌, ◌≤◌, ◌<◌, ◌⊎◌, refl, sym, ap, subst, ◌∙◌, inl, inr, List, [], ◌∷◌, ◌++◌, length, arith, Option, Some, None, suc, get_or, drop, add-one, append_assoc}
+use Rattle.std.proofs.Common.{◌≡◌, ℕ, ◌+◌, ◌≤◌, ◌<◌, ◌⊎◌, refl, sym, ap, subst, ◌∙◌, inl, inr, List, [], ◌∷◌, ◌++◌, length, arith, Option, Some, None, get_or, drop, add-one, append_assoc}
 use Rattle.std.proofs.Math.Seq.{drop-cons}
 use Rattle.std.proofs.Math.ListN.{drop_of_length-le}
 use Rattle.std.specs.List.{All}
@@ -10,16 +10,16 @@ use Rattle.std.specs.Ordering.{nat_cmp, match_ordering}
 use Rattle.std.specs.declared.cmp.Ordering.{Ordering}
 use Rattle.std.proofs.lemmas.Bool.{cases_lt, cases_eq}
 use Rattle.std.proofs.lemmas.List.Elements.{All-head, All-tail, All-nil, All-cons, All-append, All-push}
-use Rattle.std.proofs.lemmas.List.Sorted.{IsPermutation-refl, IsPermutation-sym, IsPermutation-trans, IsPermutation-cons, IsPermutation-append_comm, All-permutation}
+use Rattle.std.proofs.lemmas.List.Sorted.{IsPermutation-refl, IsPermutation-trans, IsPermutation-cons, IsPermutation-append_comm, All-permutation}
 use Rattle.std.proofs.lemmas.Map.Keys.{sorted_tail}
-use Rattle.quic_assembler.specs.Piece.{PieceView, run_end, IsSome, cover_count, covers, lies, bit}
+use Rattle.quic_assembler.specs.Piece.{PieceView, run_end, IsSome, cover_count, covers}
 use Rattle.quic_assembler.proofs.Counts.{lies_in, count-append, count_permuted}
 use Rattle.quic_ordered.specs.Entries.{piece_at, IsPieceMap, IsPlaced}
 use Rattle.quic_ordered.specs.Rows.{RiseByKey, LieInOrder, IsStore}
 use Rattle.quic_ordered.proofs.Held.{none_some}
 use Rattle.quic_ordered.proofs.Order.{found_head, at_head, at_tail, after_head, lower, order_behind, order_of, keyed_of}
 use Rattle.quic_ordered.proofs.Firsts.{greater, less}
-use Rattle.quic_ordered.proofs.Joining.{Free, put_apart}
+use Rattle.quic_ordered.proofs.Joining.{Free}
 
 -- ---- two maps with the same pieces at the same offsets are one
 

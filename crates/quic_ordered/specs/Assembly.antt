@@ -1,25 +1,24 @@
 -- What contracts see of an assembler over pieces that do not overlap.
-use Rattle.std.specs.Prelude.{ℕ, Bool, true, false, ◌≡◌, ◌+◌, ◌-◌, ◌≤◌, ◌<◌, ◌⊎◌, max, List, [], ◌∷◌, length, drop, Result, Ok, Err}
+use Rattle.std.specs.Prelude.{ℕ, Bool, true, false, ◌≡◌, ◌+◌, ◌-◌, ◌≤◌, ◌<◌, ◌⊎◌, ◌||◌, max, List, length, Result, Ok, Err}
 use Rattle.std.specs.List.{All}
 use Rattle.std.specs.List.Sorted.{IsStrictlySortedBy}
 use Rattle.std.specs.Ordering.{nat_cmp}
 use Rattle.quic_values.specs.Runs.{Run as Range}
 use Rattle.quic_assembler.specs.declared.errors.InsertError.{InsertError}
 use Rattle.quic_assembler.specs.declared.errors.InsertError.TheVariants.{TooManyChunks, CompactionMemory, OutOfMemory}
-use Rattle.quic_assembler.specs.Piece.{PieceView, Sums, sums_of}
-use Rattle.quic_assembler.specs.Reassembly.{Reassembly, IsHeld, IsAssembler, is_wasteful, with_piece}
+use Rattle.quic_assembler.specs.Piece.{PieceView, sums_of, cut_at, lies}
+use Rattle.quic_assembler.specs.Reassembly.{Reassembly, Holds, IsDone, is_done, IsHeld, IsAssembler, IsStale, Takes, is_wasteful, with_piece, MatchInsert}
 use Rattle.quic_ordered.specs.Entries.{piece_of}
 use Rattle.quic_ordered.specs.Rows.{LieInOrder, LieWithGaps, IsTidy, HoldSame, Merges, StemsFrom, StaysApart}
 
 -- what is true of an assembler whose pieces do not overlap: in ordered mode they lie behind what was read
 pub record IsApartAssembler (runs : List PieceView) (received : List Range) (ordered : Bool) (bytes_read : ℕ) : Type 0 where
   pub whole : IsAssembler runs received ordered bytes_read
-  pub order : LieInOrder 0 runs
   pub above : ordered ≡ true → LieInOrder bytes_read runs
 
 -- the first bytes that lie below what was read were cut off
 abbrev pub unread : ℕ → ℕ → List ℕ → ℕ → PieceView
-unread read offset bytes size = piece_of (max offset read) (drop (read - offset) bytes) size
+unread read offset bytes size = cut_at read (piece_of offset bytes size)
 
 -- in ordered mode the part of a piece behind what was read was joined with what it overlaps, and pieces that it does not overlap stay
 pub record JoinsUnread (old : Reassembly) (offset : ℕ) (bytes : List ℕ) (size : ℕ) (mid : List PieceView) : Type 0 where
@@ -29,9 +28,18 @@ pub record JoinsUnread (old : Reassembly) (offset : ℕ) (bytes : List ℕ) (siz
   pub pieces : length mid ≤ length old.runs + 1
 
 -- what the pieces are once bytes came, before any compaction
-pub record Adds (old : Reassembly) (offset : ℕ) (bytes : List ℕ) (size : ℕ) (mid : List PieceView) : Type 0 where
+pub record AddsPiece (old : Reassembly) (offset : ℕ) (bytes : List ℕ) (size : ℕ) (mid : List PieceView) : Type 0 where
   pub joins : old.ordered ≡ true → JoinsUnread old offset bytes size mid
   pub sums : old.ordered ≡ false → sums_of mid ≡ with_piece old offset bytes size
+
+-- a piece was kept
+pub record KeepsPiece (old new : Reassembly) (offset : ℕ) (bytes : List ℕ) (size : ℕ) : Type 0 where
+  pub held : Takes (Holds old) (Holds new) (IsDone old) offset bytes
+  pub done : (at : ℕ) → old.ordered ≡ false → is_done new at ≡ (is_done old at || lies offset (offset + length bytes) at)
+  pub added : AddsPiece old offset bytes size new.runs
+  pub highest : new.highest ≡ max old.highest (offset + length bytes)
+  pub bytes_read : new.bytes_read ≡ old.bytes_read
+  pub ordered : new.ordered ≡ old.ordered
 
 -- pieces that touch were joined, and those that kept much more memory alive than they have bytes were copied
 pub record IsJoined (mid new : List PieceView) : Type 0 where
@@ -46,10 +54,10 @@ Relieves (Err TooManyChunks) due mid new = (due ≡ true) × IsJoined mid new ×
 Relieves (Err CompactionMemory) due mid new = (due ≡ true) × HoldSame mid new × (length new ≤ length mid)
 Relieves (Err OutOfMemory) due mid new = Unit {0}
 
--- what an insert does with the pieces: bytes that lie below what was read change none, and all others are added, and the pieces compacted where that is due
+-- bytes were added, and the pieces compacted where that is due
 pub record Settled (old : Reassembly) (offset : ℕ) (bytes : List ℕ) (size : ℕ) (r : Result (Unit {0}) InsertError) (new : Reassembly) : Type 0 where
   pub mid : List PieceView
-  pub added : Adds old offset bytes size mid
+  pub added : AddsPiece old offset bytes size mid
   pub relieved : Relieves r (is_wasteful (sums_of mid) (max old.highest (offset + length bytes) - old.bytes_read)) mid new.runs
 
 -- the held offsets form more than so many runs without neighbours
@@ -58,3 +66,9 @@ pub record FormMoreRuns (n : ℕ) (held : ℕ → ℕ → Type 0) : Type 0 where
   pub rise : IsStrictlySortedBy nat_cmp starts
   pub begin : All (λ at. IsHeld held at × ((at ≡ 0) ⊎ (IsHeld held (at - 1) → ⊥))) starts
   pub many : n < length starts
+
+-- what an insert does with the pieces: bytes that begin below what was read and end by there change none
+pub record TellsPieces (old : Reassembly) (offset : ℕ) (bytes : List ℕ) (size : ℕ) (r : Result (Unit {0}) InsertError) (new : Reassembly) : Type 0 where
+  pub stale : IsStale old offset bytes → new.runs ≡ old.runs
+  pub settled : MatchInsert r (IsStale old offset bytes ⊎ Settled old offset bytes size r new) (Unit {0})
+  pub many : r ≡ Err TooManyChunks → FormMoreRuns 1024 (Holds new)

@@ -1,6 +1,7 @@
 //! Holds the pieces of one stream, none of which overlaps another, in the order of their offsets (RFC 9000, section 2.2).
 #![tactic(auto)]
 
+mod assembly;
 mod gaps;
 mod map;
 mod piece;
@@ -9,6 +10,7 @@ mod row;
 mod store;
 mod unreceived;
 
+pub use assembly::OrderedAssembler;
 pub use store::OrderedPieces;
 
 #[cfg(test)]

@@ -26,11 +26,7 @@ pub(crate) fn take_out(pieces: &mut PieceMap, offsets: &[u64])
 }
 
 // Puts a piece in, and its offset behind the others.
-fn place(
-    pieces: &mut PieceMap,
-    piece: Piece,
-    offsets: &mut Vec<u64>,
-) -> Result<(), OutOfMemory>
+fn place(pieces: &mut PieceMap, piece: Piece, offsets: &mut Vec<u64>) -> Result<(), OutOfMemory>
     requires { RiseByKey pieces.old }
     ensures rises { RiseByKey pieces.new }
     ensures placed { (es : List (ℕ × PieceView)) → piece_at es piece.offset ≡ None → IsPlaced offsets.old.items es pieces.old → IsPlaced offsets.new.items es pieces.new }

@@ -1,5 +1,5 @@
 // All that is held of one stream.
-ghost use Rattle.std.specs.Prelude.{◌≡◌, ℕ, ◌+◌, ◌-◌, ◌^◌, ◌<◌, ◌≤◌, ◌⊎◌, ◌||◌, [], ◌∷◌, ◌++◌, length, sum_by, IfOk, OnOk, OnErr, IfSome, IfNone, Some, None, Ok, true, false, take};
+ghost use Rattle.std.specs.Prelude.{◌≡◌, ℕ, ◌+◌, ◌-◌, ◌^◌, ◌<◌, ◌≤◌, ◌⊎◌, ◌||◌, [], ◌∷◌, ◌++◌, length, sum_by, IfOk, OnOk, OnErr, IfSome, IfNone, Some, None, Ok, true, false, take, min, nat_lt};
 ghost use Rattle.std.specs.Map.{values_of, keys_of};
 ghost use Rattle.std.specs.List.{All, Any};
 ghost use Rattle.std.specs.List.Sorted.{IsPermutation};
@@ -12,10 +12,10 @@ ghost use Rattle.quic_ordered.specs.Entries.{IsPieceMap, piece_of};
 use crate::gaps;
 use crate::map::PieceMap;
 use crate::piece::Piece;
-use crate::row::PieceRow;
-use quic_assembler::Chunk;
 use crate::placing::{place_all, take_out};
+use crate::row::PieceRow;
 use crate::unreceived::cut_all;
+use quic_assembler::Chunk;
 use quic_values::{Bytes, OutOfMemory, RangeSet};
 use std::alloc::Global;
 use std::marker::Model;
@@ -411,6 +411,18 @@ impl OrderedPieces {
         }
         let bytes = self.take_some(max_length)?;
         Ok(Some(Chunk { offset, bytes }))
+    }
+
+    /// The offsets below a floor, and those of all pieces.
+    pub fn offsets(&mut self, floor: u64) -> Result<RangeSet, OutOfMemory>
+        ensures set { IfOk result (λ set. (at : ℕ) → bit (contains set at) ≡ min 1 (bit (nat_lt at floor) + cover_count at self.old)) }
+        ensures same { self.new ≡ self.old }
+    {
+        gather(&mut self.gaps, &mut self.row)?;
+        let mut set = RangeSet::new(self.alloc);
+        set.insert(0..floor)?;
+        self.row.add_offsets(&mut set)?;
+        Ok(set)
     }
 
     /// Joins all pieces that touch, and copies each other one that keeps more than a fifth more memory alive than it

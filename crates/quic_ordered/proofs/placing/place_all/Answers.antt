@@ -6,7 +6,7 @@ use Rattle.std.proofs.lemmas.List.Sorted.{IsPermutation-refl}
 use Rattle.quic_assembler.specs.Piece.{PieceView, IsSome, cover_count}
 use Rattle.quic_ordered.specs.Entries.{IsPlaced}
 use Rattle.quic_ordered.proofs.Joining.{put_apart}
-use Rattle.quic_ordered.proofs.Placed.{placed_none, placed_all, free_of_count, absent_of_free, moved_permutes, once_permuted, once_less, some_less}
+use Rattle.quic_ordered.proofs.Placed.{placed_none, free_of_count, absent_of_free, moved_permutes, once_permuted, once_less, some_less}
 use Rattle.quic_ordered.proofs.placing.place_all.Goals as goal
 
 pub loop-piece-init : goal.loop-piece-init
@@ -37,7 +37,7 @@ loop-piece-preserved c =
       some = some.0;
       once = λ at. once_less at ps (values_of c.args.pieces.now) p (first at);
       all = moved_permutes c.args.parts.items (values_of c.args.pieces.now) ps p c.loop-piece.pieces c.place.new.pieces
-      (subst (λ (xs : List PieceView). IsPermutation (c.args.parts.items ++ values_of c.args.pieces.now) (xs ++ values_of c.loop-piece.pieces)) e inv.all) (absent_of_free p _ inv.apart some.1 free) h.entries;
+          (subst (λ (xs : List PieceView). IsPermutation (c.args.parts.items ++ values_of c.args.pieces.now) (xs ++ values_of c.loop-piece.pieces)) e inv.all) (absent_of_free p _ inv.apart some.1 free) h.entries;
       placed = h.placed c.args.pieces.now (absent_of_free p _ c.requires.apart some.1 free_first) inv.placed;
     }
 

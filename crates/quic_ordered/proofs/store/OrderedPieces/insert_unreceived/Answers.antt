@@ -1,11 +1,8 @@
-use Rattle.std.proofs.Common.{arith, rules, ◌≡◌, ◌<◌, ◌++◌, ◌∷◌, [], length, subst, ◌∙◌}
-use Rattle.std.specs.List.{All}
-use Rattle.std.specs.List.Sorted.{IsPermutation}
+use Rattle.std.proofs.Common.{arith, rules, ◌≡◌, ◌<◌, [], length}
 use Rattle.std.specs.Prelude.{Result, Ok, Err, OnOk}
 use Rattle.std.proofs.lemmas.List.{nil_from_length}
 use Rattle.std.proofs.lemmas.List.Elements.{All-push}
-use Rattle.quic_assembler.specs.Piece.{PieceView, IsSome, run_end}
-use Rattle.quic_assembler.specs.Reassembly.{IsCut, TakesFresh}
+use Rattle.quic_assembler.specs.Piece.{IsSome}
 use Rattle.quic_ordered.specs.Entries.{piece_of}
 use Rattle.quic_ordered.proofs.Fresh.{fresh_all, fresh_pushed, fresh_behind, parts_all, parts_pushed, once_parts, ends_parts}
 use Rattle.quic_ordered.proofs.store.OrderedPieces.insert_unreceived.Goals as goal
