@@ -1,15 +1,15 @@
 -- What contracts see of an assembler over pieces that do not overlap.
 use Rattle.std.specs.Prelude.{ℕ, Bool, true, false, ◌≡◌, ◌+◌, ◌-◌, ◌≤◌, ◌<◌, ◌⊎◌, ◌||◌, max, List, length, Result, Ok, Err}
-use Rattle.std.specs.List.{All}
+use Rattle.std.specs.List.{All, Any}
 use Rattle.std.specs.List.Sorted.{IsStrictlySortedBy}
 use Rattle.std.specs.Ordering.{nat_cmp}
 use Rattle.quic_values.specs.Runs.{Run as Range}
 use Rattle.quic_assembler.specs.declared.errors.InsertError.{InsertError}
 use Rattle.quic_assembler.specs.declared.errors.InsertError.TheVariants.{TooManyChunks, CompactionMemory, OutOfMemory}
-use Rattle.quic_assembler.specs.Piece.{PieceView, sums_of, cut_at, lies}
+use Rattle.quic_assembler.specs.Piece.{PieceView, sums_of, cut_at, lies, run_end}
 use Rattle.quic_assembler.specs.Reassembly.{Reassembly, Holds, IsDone, is_done, IsHeld, IsAssembler, IsStale, Takes, is_wasteful, with_piece, MatchInsert}
 use Rattle.quic_ordered.specs.Entries.{piece_of}
-use Rattle.quic_ordered.specs.Rows.{LieInOrder, LieWithGaps, IsTidy, HoldSame, Merges, StemsFrom, StaysApart}
+use Rattle.quic_ordered.specs.Rows.{LieInOrder, LieWithGaps, IsTidy, HoldSame, Merges, StemsFrom, StaysApart, Encloses}
 
 -- what is true of an assembler whose pieces do not overlap: in ordered mode they lie behind what was read
 pub record IsApartAssembler (runs : List PieceView) (received : List Range) (ordered : Bool) (bytes_read : ℕ) : Type 0 where
@@ -20,11 +20,17 @@ pub record IsApartAssembler (runs : List PieceView) (received : List Range) (ord
 abbrev pub unread : ℕ → ℕ → List ℕ → ℕ → PieceView
 unread read offset bytes size = cut_at read (piece_of offset bytes size)
 
--- in ordered mode the part of a piece behind what was read was joined with what it overlaps, and pieces that it does not overlap stay
+-- a piece has all offsets of another
+abbrev pub EnclosesPiece : PieceView → PieceView → Type 0
+EnclosesPiece p r = Encloses p.offset (run_end p) r
+
+-- in ordered mode the part of a piece behind what was read was joined with all pieces that it overlaps into one; the others stay, and nothing changes where it lies within one
 pub record JoinsUnread (old : Reassembly) (offset : ℕ) (bytes : List ℕ) (size : ℕ) (mid : List PieceView) : Type 0 where
   pub merges : Merges old.runs (unread old.bytes_read offset bytes size) mid
   pub stems : All (StemsFrom old.runs (unread old.bytes_read offset bytes size)) mid
+  pub whole : 0 < length (unread old.bytes_read offset bytes size).bytes → Any (EnclosesPiece (unread old.bytes_read offset bytes size)) mid
   pub stays : All (StaysApart offset (offset + length bytes) mid) old.runs
+  pub within : Any (EnclosesPiece (unread old.bytes_read offset bytes size)) old.runs → mid ≡ old.runs
   pub pieces : length mid ≤ length old.runs + 1
 
 -- what the pieces are once bytes came, before any compaction

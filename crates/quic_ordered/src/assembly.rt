@@ -1,10 +1,10 @@
 // An assembler over pieces that do not overlap.
 ghost use Rattle.std.specs.Prelude.{◌≡◌, ℕ, ◌+◌, ◌-◌, ◌^◌, ◌<◌, ◌≤◌, ◌↔◌, ◌⊎◌, ◌||◌, true, false, [], ◌∷◌, length, max, OnOk, OnErr, IfOk, IsTrue, Ok, Err};
-ghost use Rattle.std.specs.List.{All};
+ghost use Rattle.std.specs.List.{All, Any};
 ghost use Rattle.quic_assembler.specs.Piece.{PieceView, lies, sums_of};
 ghost use Rattle.quic_assembler.specs.Reassembly.{Reassembly, fresh, Holds, IsDone, is_done, IsHeld, IsWithin, HoldsMore, Takes, Gives, SameHeld, IsSameButHeld, HoldsNothing, HoldsOnce, MatchInsert, IfGiven, OnNothing, IsStale, IsNext, run_count, piece_count, LeavesOrder, is_wasteful};
 ghost use Rattle.quic_ordered.specs.Assembly.{KeepsPiece, IsJoined, Relieves, Settled, FormMoreRuns};
-ghost use Rattle.quic_ordered.specs.Rows.{IsKeptOrOwn, GivesFirst, HoldSame};
+ghost use Rattle.quic_ordered.specs.Rows.{IsKeptOrOwn, GivesFirst, HoldSame, Encloses};
 
 use crate::store::OrderedPieces;
 use quic_assembler::{Chunk, EnsureError, InsertError, Reassemble};
@@ -109,8 +109,8 @@ impl OrderedAssembler {
     /// alive than they have bytes.
     ///
     /// With `TooManyChunks` and `CompactionMemory` the bytes are kept all the same; with `OutOfMemory` nothing
-    /// changes. In ordered mode bytes that are empty or were read before want no memory. `TooManyChunks` comes only
-    /// where the offsets that are held form more than 1024 runs without neighbours.
+    /// changes. In ordered mode bytes that are empty, were read before or lie within one held piece want no memory.
+    /// `TooManyChunks` comes only where the offsets that are held form more than 1024 runs without neighbours.
     pub fn insert(
         &mut self,
         offset: u64,
@@ -123,6 +123,7 @@ impl OrderedAssembler {
         ensures highest { MatchInsert result (self.new.highest ≡ max self.old.highest (offset + length bytes)) (self.new.highest ≡ self.old.highest) }
         ensures done { (at : ℕ) → self.old.ordered ≡ false → MatchInsert result (is_done self.new at ≡ (is_done self.old at || lies offset (offset + length bytes) at)) (is_done self.new at ≡ is_done self.old at) }
         ensures unneeded { self.old.ordered ≡ true → offset + length bytes ≤ max offset self.old.bytes_read → result ≡ Err InsertError.OutOfMemory → ⊥ }
+        ensures within { self.old.ordered ≡ true → Any (Encloses (max offset self.old.bytes_read) (offset + length bytes)) self.old.runs → result ≡ Err InsertError.OutOfMemory → ⊥ }
         ensures many { result ≡ Err InsertError.TooManyChunks → 1024 < piece_count self.new }
         ensures runs { result ≡ Err InsertError.TooManyChunks → FormMoreRuns 1024 (Holds self.new) }
         ensures few { OnOk result (IsStale self.old offset bytes ⊎ (piece_count self.new ≤ 2048)) }
@@ -149,6 +150,7 @@ impl OrderedAssembler {
         ensures ok { OnOk result (KeepsPiece self.old self.new offset bytes allocation_size) }
         ensures err { OnErr result (self.new ≡ self.old) }
         ensures unneeded { OnErr result (self.old.ordered ≡ true → offset + length bytes ≤ max offset self.old.bytes_read → ⊥) }
+        ensures within { OnErr result (self.old.ordered ≡ true → Any (Encloses (max offset self.old.bytes_read) (offset + length bytes)) self.old.runs → ⊥) }
     {
         if self.ordered {
             return self.hold_unread(offset, bytes, allocation_size);
@@ -172,6 +174,7 @@ impl OrderedAssembler {
         ensures ok { OnOk result (KeepsPiece self.old self.new offset bytes allocation_size) }
         ensures err { OnErr result (self.new ≡ self.old) }
         ensures unneeded { OnErr result (offset + length bytes ≤ max offset self.old.bytes_read → ⊥) }
+        ensures within { OnErr result (Any (Encloses (max offset self.old.bytes_read) (offset + length bytes)) self.old.runs → ⊥) }
     {
         let end = offset + bytes.len() as u64;
         let start = self.bytes_read.max(offset);
