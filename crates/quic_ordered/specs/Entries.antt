@@ -118,3 +118,9 @@ MapKeepsApart es new es' = (q : ℕ) (v : PieceView) → piece_at es q ≡ Some 
 pub record IsPlaced (offsets : List ℕ) (es es' : List (ℕ × PieceView)) : Type 0 where
   pub absent : All (λ (o : ℕ). piece_at es o ≡ None) offsets
   pub same : (q : ℕ) → All (λ (o : ℕ). q ≡ o → ⊥) offsets → piece_at es' q ≡ piece_at es q
+
+-- a run grew: its bytes stay at their offsets, and what the others are is left open
+pub record GrowsTo (start end : ℕ) (old new : PieceView) : Type 0 where
+  pub offset : new.offset ≡ start
+  pub ends : run_end new ≡ end
+  pub keeps : (at byte : ℕ) → RunHolds at byte old → RunHolds at byte new
