@@ -67,7 +67,7 @@ impl OrderedAssembler {
         ensures fresh { self.new ≡ fresh }
         ensures empty { HoldsNothing (Holds self.new) }
     {
-        self.clear();
+        self.pieces = OrderedPieces::new(self.alloc);
         self.received = RangeSet::new(self.alloc);
         self.ordered = true;
         self.bytes_read = 0;
