@@ -303,6 +303,7 @@ impl OrderedAssembler {
         ensures same_ok { ordered ≡ self.old.ordered → result ≡ Ok tt }
         ensures done { OnOk result (ordered ≡ false → self.old.ordered ≡ true → (at : ℕ) → IsDone self.new at ↔ ((at < self.old.bytes_read) ⊎ IsHeld (Holds self.old) at)) }
         ensures held { SameHeld (Holds self.old) (Holds self.new) }
+        ensures joined { OnOk result (ordered ≡ false → self.old.ordered ≡ true → IsJoined self.old.runs self.new.runs) }
         ensures err_others { OnErr result (IsSameButHeld self.old self.new) }
         ensures bytes_read { self.new.bytes_read ≡ self.old.bytes_read }
         ensures highest { self.new.highest ≡ self.old.highest }
@@ -322,6 +323,7 @@ impl OrderedAssembler {
     fn leave_order(&mut self) -> Result<(), OutOfMemory>
         requires { self.old.ordered ≡ true }
         ensures ok { OnOk result (LeavesOrder self.old self.new) }
+        ensures joined { OnOk result (IsJoined self.old.runs self.new.runs) }
         ensures held { SameHeld (Holds self.old) (Holds self.new) }
         ensures err_others { OnErr result (IsSameButHeld self.old self.new) }
         ensures pieces { piece_count self.new ≤ piece_count self.old }

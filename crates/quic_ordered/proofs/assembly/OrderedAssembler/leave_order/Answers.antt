@@ -37,3 +37,8 @@ returns-clause-held c =
     let mode = rw (← c.self.view_is) at c.requires in
     let same = rw c.in_ok-received.ensures.same at c.in_ok-compact.ensures.same in
     rw (← c.self.view_is) (holds_left _ _ mode refl (c.self.invariant.above mode) same)
+
+pub returns-clause-joined : goal.returns-clause-joined
+returns-clause-joined c =
+    let same = rw c.in_ok-received.ensures.same at c.in_ok-compact.ensures.same in
+    rw (← c.self.view_is) (record { same = same; apart = c.in_ok-compact.ensures.apart; tidy = c.in_ok-compact.ensures.tidy })
