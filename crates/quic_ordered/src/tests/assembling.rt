@@ -53,72 +53,119 @@ fn expect_none(rt: &impl Abort, a: &mut OrderedAssembler, ordered: bool) -> Resu
     Ok(())
 }
 
+// A call on an assembler, and what it has to come to.
+#[derive(Clone, Copy)]
+enum Step {
+    // A text at an offset, which keeps just its bytes alive.
+    Put(u64, &'static str),
+    // An ordered read of at most so many bytes: the offset and the text. One that gives nothing.
+    Next(usize, u64, &'static str),
+    NoNext,
+    // The same of unordered reads.
+    Any(usize, u64, &'static str),
+    NoAny,
+    // Ordered mode, which is refused.
+    OrderedAgain,
+    Clear,
+    Reinit,
+    // How many pieces are held, and how many bytes were read.
+    Is(usize, u64),
+}
+
+fn take(rt: &impl Abort, a: &mut OrderedAssembler, alloc: Global, step: Step) -> Result<(), Fail> {
+    match step {
+        Step::Put(offset, text) => hold(rt, a, alloc, offset, text.as_bytes())?,
+        Step::Next(most, offset, text) => expect(rt, a, most, true, offset, text.as_bytes())?,
+        Step::Any(most, offset, text) => expect(rt, a, most, false, offset, text.as_bytes())?,
+        Step::NoNext => expect_none(rt, a, true)?,
+        Step::NoAny => expect_none(rt, a, false)?,
+        Step::OrderedAgain => {
+            assert_eq!(rt;
+                a.ensure_ordering(true),
+                Err(EnsureError::IllegalOrderedRead)
+            );
+        }
+        Step::Clear => a.clear(),
+        Step::Reinit => a.reinit(),
+        Step::Is(pieces, bytes_read) => {
+            assert_eq!(rt; a.pieces(), pieces);
+            assert_eq!(rt; a.bytes_read(), bytes_read);
+        }
+    }
+    Ok(())
+}
+
+fn take_all(rt: &impl Abort, alloc: Global, steps: &[Step]) -> Result<(), Fail> {
+    let mut a = OrderedAssembler::new(alloc);
+    for step in steps {
+        take(rt, &mut a, alloc, *step)?;
+    }
+    Ok(())
+}
+
 #[test]
 fn where_two_bytes_meet_the_held_one_stays(rt: HostRuntime) -> Result<(), Fail> {
-    let alloc = rt.alloc();
-    let mut a = OrderedAssembler::new(alloc);
-    hold(&rt, &mut a, alloc, 0, b"aaa")?;
-    hold(&rt, &mut a, alloc, 1, b"bbb")?;
-    expect(&rt, &mut a, 10, true, 0, b"aaab")?;
-    a.reinit();
-    hold(&rt, &mut a, alloc, 1, b"bbb")?;
-    hold(&rt, &mut a, alloc, 0, b"aaa")?;
-    expect(&rt, &mut a, 10, true, 0, b"abbb")?;
-    assert_eq!(rt; a.bytes_read(), 4);
-    expect_none(&rt, &mut a, true)
+    let steps = [
+        Step::Put(0, "aaa"),
+        Step::Put(1, "bbb"),
+        Step::Next(10, 0, "aaab"),
+        Step::Reinit,
+        Step::Put(1, "bbb"),
+        Step::Put(0, "aaa"),
+        Step::Next(10, 0, "abbb"),
+        Step::Is(0, 4),
+        Step::NoNext,
+    ];
+    take_all(&rt, rt.alloc(), &steps)
 }
 
 #[test]
 fn overlapping_bytes_are_one_chunk(rt: HostRuntime) -> Result<(), Fail> {
-    let alloc = rt.alloc();
-    let mut a = OrderedAssembler::new(alloc);
-    hold(&rt, &mut a, alloc, 0, b"12")?;
-    hold(&rt, &mut a, alloc, 1, b"234")?;
-    assert_eq!(rt; a.pieces(), 1);
-    expect(&rt, &mut a, 10, true, 0, b"1234")?;
-    expect_none(&rt, &mut a, true)?;
-    hold(&rt, &mut a, alloc, 2, b"34")?;
-    hold(&rt, &mut a, alloc, 3, b"4567")?;
-    hold(&rt, &mut a, alloc, 9, b"z")?;
-    expect(&rt, &mut a, 2, true, 4, b"56")?;
-    expect(&rt, &mut a, 0, true, 6, b"")?;
-    expect(&rt, &mut a, 2, true, 6, b"7")?;
-    expect_none(&rt, &mut a, true)?;
-    assert_eq!(rt; a.pieces(), 1);
-    a.clear();
-    assert_eq!(rt; a.pieces(), 0);
-    assert_eq!(rt; a.bytes_read(), 7);
-    Ok(())
+    let steps = [
+        Step::Put(0, "12"),
+        Step::Put(1, "234"),
+        Step::Is(1, 0),
+        Step::Next(10, 0, "1234"),
+        Step::NoNext,
+        Step::Put(2, "34"),
+        Step::Put(3, "4567"),
+        Step::Put(9, "z"),
+        Step::Next(2, 4, "56"),
+        Step::Next(0, 6, ""),
+        Step::Next(2, 6, "7"),
+        Step::NoNext,
+        Step::Is(1, 7),
+        Step::Clear,
+        Step::Is(0, 7),
+    ];
+    take_all(&rt, rt.alloc(), &steps)
 }
 
 #[test]
 fn unordered_mode_gives_each_byte_once(rt: HostRuntime) -> Result<(), Fail> {
-    let alloc = rt.alloc();
-    let mut a = OrderedAssembler::new(alloc);
-    hold(&rt, &mut a, alloc, 0, b"abcdef")?;
-    expect(&rt, &mut a, 2, true, 0, b"ab")?;
-    a.ensure_ordering(false)?;
-    hold(&rt, &mut a, alloc, 0, b"abcdef")?;
-    expect(&rt, &mut a, 32, false, 2, b"cdef")?;
-    expect_none(&rt, &mut a, false)?;
-    assert_eq!(rt;
-        a.ensure_ordering(true),
-        Err(EnsureError::IllegalOrderedRead)
-    );
-    hold(&rt, &mut a, alloc, 10, b"kl")?;
-    hold(&rt, &mut a, alloc, 14, b"op")?;
-    hold(&rt, &mut a, alloc, 4, b"efghijKLmnOPqr")?;
-    assert_eq!(rt; a.pieces(), 5);
-    expect(&rt, &mut a, 32, false, 6, b"ghij")?;
-    expect(&rt, &mut a, 1, false, 10, b"k")?;
-    expect(&rt, &mut a, 32, false, 11, b"l")?;
-    hold(&rt, &mut a, alloc, 8, b"ijklmn")?;
-    expect(&rt, &mut a, 32, false, 12, b"mn")?;
-    expect(&rt, &mut a, 32, false, 14, b"op")?;
-    expect(&rt, &mut a, 32, false, 16, b"qr")?;
-    expect_none(&rt, &mut a, false)?;
-    assert_eq!(rt; a.bytes_read(), 18);
-    Ok(())
+    let steps = [
+        Step::Put(0, "abcdef"),
+        Step::Next(2, 0, "ab"),
+        Step::Any(0, 2, ""),
+        Step::Put(0, "abcdef"),
+        Step::Any(32, 2, "cdef"),
+        Step::NoAny,
+        Step::OrderedAgain,
+        Step::Put(10, "kl"),
+        Step::Put(14, "op"),
+        Step::Put(4, "efghijKLmnOPqr"),
+        Step::Is(5, 6),
+        Step::Any(32, 6, "ghij"),
+        Step::Any(1, 10, "k"),
+        Step::Any(32, 11, "l"),
+        Step::Put(8, "ijklmn"),
+        Step::Any(32, 12, "mn"),
+        Step::Any(32, 14, "op"),
+        Step::Any(32, 16, "qr"),
+        Step::NoAny,
+        Step::Is(0, 18),
+    ];
+    take_all(&rt, rt.alloc(), &steps)
 }
 
 #[test]
