@@ -13,7 +13,7 @@ use Rattle.quic_history.specs.World.{World, id_refusal, remote_of, with_remote, 
 use Rattle.quic_history.specs.History.{Event, Settled, Trace, HalfFrom, StreamFrom, CreditFrom, Facts, Goes, trace, consumed, last_window, debt, received}
 use Rattle.quic_history.specs.declared.control.ControlKind.{ControlKind}
 use Rattle.quic_history.specs.declared.control.ControlKind.TheVariants as kinds
-use Rattle.quic_history.specs.Control.{Settles, after_announced, with_announced}
+use Rattle.quic_history.specs.Control.{SettlesEntry, after_announced, with_announced}
 use Rattle.quic_history.proofs.Credits.{credit-same}
 use Rattle.quic_history.proofs.Refusals.{refusal-same}
 use Rattle.quic_history.proofs.Remotes.{AllRemotes, SameLimits, remotes-idle, limits-refl}
@@ -107,7 +107,7 @@ announces_window : (u : World) (id : ℕ) (o : Option Half) → u.receive id ≡
 announces_window u id None e = announces_none u
 announces_window u id (Some h) e = announces_half u id h e
 
-pub announces : (k : ControlKind) (u : World) (p : Pending) (o : Option Frame) (v : World) (q : Pending) → Settles k u p o v q → Announces u v
+pub announces : (k : ControlKind) (u : World) (p : Pending) (o : Option Frame) (v : World) (q : Pending) → SettlesEntry k u p o v q → Announces u v
 announces kinds.ResetStream u p o v q s = announces_at u v u s.end (announces_none u)
 announces kinds.StopSending u p o v q s = announces_at u v u s.end (announces_none u)
 announces kinds.MaxData u p o v q s = announces_at u v _ s.end (announces_credit u)

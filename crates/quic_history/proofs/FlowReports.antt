@@ -27,7 +27,7 @@ use Rattle.quic_outgoing.specs.Acknowledging.{AcksHalf, LosesOnHalf, AcksStream,
 use Rattle.quic_writing.specs.Writer.{Writer}
 use Rattle.quic_history.specs.World.{World, is_own, remote_of, replaced_in, told}
 use Rattle.quic_history.specs.Sends.{with_out, is_permitted}
-use Rattle.quic_history.specs.Control.{Settles}
+use Rattle.quic_history.specs.Control.{SettlesEntry}
 use Rattle.quic_history.specs.declared.control.ControlKind.{ControlKind}
 use Rattle.quic_history.specs.Carrying.{PassesOver, CarriesFrame, with_writer}
 use Rattle.quic_history.specs.Acknowledged.{AcksOwn, LosesOwn, AcksReset, frees_reset, told_finished, with_send_freed, send_released}
@@ -47,7 +47,7 @@ leaves-passed u most fair v s =
     let same : s.after.streams ≡ s.before.streams = ap (λ (x : Writer). x.streams) s.turn.is in
     leaves-at u v _ s.is (leaves-sides u (with_writer u s.after) (sides-at u.out s.after.streams u.out (same ∙ sym found) (sides-none u.out)) refl)
 
-pub leaves-settled : (u : World) (k : ControlKind) (p : Pending) (o : Option Frame) (v : World) (q : Pending) → Settles k u p o v q → Leaves u v
+pub leaves-settled : (u : World) (k : ControlKind) (p : Pending) (o : Option Frame) (v : World) (q : Pending) → SettlesEntry k u p o v q → Leaves u v
 leaves-settled u k p o v q s =
     let a = announces k u p o v q s in
     let bi = a.limits Bi in

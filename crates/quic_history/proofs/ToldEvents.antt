@@ -45,7 +45,7 @@ use Rattle.quic_outgoing.specs.Outgoing.{with_send_half}
 use Rattle.quic_outgoing.specs.Acknowledging.{AcksStream, were_sent}
 use Rattle.quic_history.specs.declared.control.ControlKind.{ControlKind}
 use Rattle.quic_history.specs.declared.control.ControlKind.TheVariants as kinds
-use Rattle.quic_history.specs.Control.{Settles}
+use Rattle.quic_history.specs.Control.{SettlesEntry}
 use Rattle.quic_history.specs.Acknowledged.{AcksOwn, frees_reset, told_finished, with_send_freed, send_released}
 use Rattle.quic_history.proofs.FlowReports.{uncounted, counted}
 use Rattle.quic_history.proofs.SendSides.{held-flow}
@@ -313,7 +313,7 @@ events_finished : (w : World) (id : ℕ) (b : Bool) → (told_finished w id b).e
 events_finished w id true = ap (λ es. es ++ stream_event.Finished id ∷ []) (events_send_freed w id)
 events_finished w id false = told_none w.events
 
-settled_so : (u : World) (k : ControlKind) (p : Pending) (o : Option Frame) (v : World) (q : Pending) → Settles k u p o v q → v.events ≡ u.events ++ []
+settled_so : (u : World) (k : ControlKind) (p : Pending) (o : Option Frame) (v : World) (q : Pending) → SettlesEntry k u p o v q → v.events ≡ u.events ++ []
 settled_so u kinds.ResetStream p o v q s = same_as u v s.end
 settled_so u kinds.StopSending p o v q s = same_as u v s.end
 settled_so u kinds.MaxData p o v q s = ap (λ (w : World). w.events) s.end ∙ told_none u.events

@@ -124,14 +124,14 @@ pub record IsOfKind (k : ControlKind) (f : Frame) : Type 0 where
   pub bound : size_bound f ≡ kind_bound k
 
 -- one entry of a kind leaves what is pending: it is written as a frame, or dropped where it is of no use
-abbrev pub Settles : ControlKind → World → Pending → Option Frame → World → Pending → Type 0
-Settles kinds.ResetStream u p o v q = SettlesReset u p o v q
-Settles kinds.StopSending u p o v q = SettlesStop u p o v q
-Settles kinds.MaxData u p o v q = SettlesMaxData u p o v q
-Settles kinds.MaxStreamData u p o v q = SettlesWindow u p o v q
-Settles (kinds.MaxStreams d) u p o v q = SettlesMaxStreams d u p o v q
-Settles kinds.DataBlocked u p o v q = SettlesDataBlocked u p o v q
-Settles kinds.StreamDataBlocked u p o v q = SettlesStreamBlocked u p o v q
+abbrev pub SettlesEntry : ControlKind → World → Pending → Option Frame → World → Pending → Type 0
+SettlesEntry kinds.ResetStream u p o v q = SettlesReset u p o v q
+SettlesEntry kinds.StopSending u p o v q = SettlesStop u p o v q
+SettlesEntry kinds.MaxData u p o v q = SettlesMaxData u p o v q
+SettlesEntry kinds.MaxStreamData u p o v q = SettlesWindow u p o v q
+SettlesEntry (kinds.MaxStreams d) u p o v q = SettlesMaxStreams d u p o v q
+SettlesEntry kinds.DataBlocked u p o v q = SettlesDataBlocked u p o v q
+SettlesEntry kinds.StreamDataBlocked u p o v q = SettlesStreamBlocked u p o v q
 
 -- nothing of a kind is pending
 abbrev pub HasNoneOf : ControlKind → Pending → Type 0

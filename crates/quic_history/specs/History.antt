@@ -31,7 +31,7 @@ use Rattle.quic_history.specs.World.{World, Made, count_of, start, id_refusal, r
 use Rattle.quic_outgoing.specs.History.{count_in, given_for}
 use Rattle.quic_history.specs.SendTotals.{SendTotals, send_totals, own_total}
 use Rattle.quic_history.specs.declared.control.ControlKind.{ControlKind}
-use Rattle.quic_history.specs.Control.{Settles}
+use Rattle.quic_history.specs.Control.{SettlesEntry}
 use Rattle.quic_wire.specs.declared.frame.Frame.{Frame}
 use Rattle.quic_history.specs.SendEvents.{SendEvent, SendStep, GaveLimits, RaisedData, RaisedCount, RaisedLimit, StoppedOwn, SetWindow, OpenedOwn, WroteOwn, FinishedOwn, ResetOwn, Polled, AckedOwn, LostOwn, ResetAckedOwn, TookTurn}
 use Rattle.quic_flows.specs.Flow.{SendMove, WasWritten, WasFinished, WasGivenUp, WasAskedToStop, WasPermitted, SendFlow, new_flow, front_of, retained, WasCarried, WasAcked, WasLost, WasResetAcked, counts_for, is_whole, with_acked}
@@ -116,7 +116,7 @@ Step u (ToldReset id answer) v = (p : Pending) × (q : Pending) × TellsReset u 
 Step u (Resized window answer) v = (v ≡ with_receive_window u window) × (answer ≡ nat_lt u.credit.receive_window window)
 Step u (SetConcurrent dir count answer) v = SetsConcurrent u dir count answer v
 Step u (Accepted dir answer) v = (v ≡ with_accepted u dir) × (answer ≡ acceptable u dir)
-Step u (Settled kind frame) v = (p : Pending) × (q : Pending) × Settles kind u p frame v q
+Step u (Settled kind frame) v = (p : Pending) × (q : Pending) × SettlesEntry kind u p frame v q
 Step u (Sending e) v = SendStep u e v
 
 -- how many bytes the reader gave that was opened last, and is not ended

@@ -15,10 +15,10 @@ use Rattle.quic_ordered.specs.Rows.{RiseByKey}
 use Rattle.quic_ordered.proofs.Held.{is_at-apart}
 use Rattle.quic_ordered.proofs.Order.{at_head, at_tail, after_head}
 
-greater : (a b : ℕ) → b < a → nat_cmp a b ≡ Greater
+pub greater : (a b : ℕ) → b < a → nat_cmp a b ≡ Greater
 greater a b lt = sym (nat_cmp_is a b Greater lt)
 
-less : (a b : ℕ) → a < b → nat_cmp a b ≡ Less
+pub less : (a b : ℕ) → a < b → nat_cmp a b ≡ Less
 less a b lt = sym (nat_cmp_is a b Less lt)
 
 pub insert_last : (es : List (ℕ × PieceView)) (k : ℕ) (v : PieceView) → All (λ (key : ℕ). key < k) (keys_of es) → insert_entry nat_cmp es k v ≡ es ++ (k, v) ∷ []

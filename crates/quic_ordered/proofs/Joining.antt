@@ -1,9 +1,12 @@
 -- A join of the runs that a new one overlaps.
-use Rattle.std.proofs.Common.{◌≡◌, ℕ, ◌+◌, ◌-◌, ◌<◌, ◌≤◌, ◌⊎◌, List, length, Option, Some, None, sym, ap, subst, ◌∙◌, inl, inr, arith}
-use Rattle.std.specs.Prelude.{max}
+use Rattle.std.proofs.Common.{◌≡◌, ℕ, ◌+◌, ◌-◌, ◌<◌, ◌≤◌, ◌⊎◌, List, length, Option, Some, None, sym, ap, subst, ◌∙◌, inl, inr, arith, refl}
+use Rattle.std.specs.Prelude.{max, take, drop, slice_index}
+use Rattle.std.proofs.lemmas.Grind.{common_steps}
+use Rattle.std.proofs.lemmas.List.{length-drop, length-take, get_or-take}
 use Rattle.std.proofs.lemmas.Bool.{cases_lt, cases_eq}
-use Rattle.quic_assembler.specs.Piece.{PieceView, run_end, RunHolds}
-use Rattle.quic_ordered.specs.Entries.{piece_at, MapHolds, MapHoldsNone, IsPieceMap, IsOutside, WritesOver, SpansAll, StillHolds, IsJoining, MapTakes, MapStems, HasWhole, MapKeepsApart, IsLastPiece}
+use Rattle.quic_assembler.specs.Piece.{PieceView, run_end, RunHolds, cut_at}
+use Rattle.quic_assembler.proofs.Runs.{RunHolds-cut, RunHolds-uncut}
+use Rattle.quic_ordered.specs.Entries.{piece_at, MapHolds, MapHoldsNone, IsPieceMap, IsOutside, WritesOver, SpansAll, StillHolds, IsJoining, MapTakes, MapStems, HasWhole, MapKeepsApart, IsLastPiece, GrowsTo, piece_of}
 use Rattle.quic_ordered.proofs.Held.{some_is, none_some, place, one_byte, held_once, held, covered}
 
 -- ---- another run is taken out and written over the base
@@ -450,3 +453,238 @@ join_keeps_at es ms ms' new base start end q v d found (inr a) =
 
 pub join_keeps : (es ms ms' : List (ℕ × PieceView)) (new base : PieceView) (start end : ℕ) → Done es ms ms' new base start end → MapKeepsApart es new ms'
 join_keeps es ms ms' new base start end d = λ q v found apart. join_keeps_at es ms ms' new base start end q v d found apart
+
+-- ---- a held run grows, and is the base
+
+not_below : (p : PieceView) (at start : ℕ) → p.offset ≡ start → start ≤ at → IsOutside p at → run_end p ≤ at
+not_below p at start e low (inl a) = absurd (omega arith)
+not_below p at start e low (inr a) = a
+
+not_behind : (v : PieceView) (at last : ℕ) → v.offset ≡ last → at < run_end v → IsOutside v at → at < last
+not_behind v at last e high (inl a) = omega arith
+not_behind v at last e high (inr a) = absurd (omega arith)
+
+behind_tail : (p new : PieceView) (start at end : ℕ) → end ≡ run_end new → p.offset ≡ start → start ≤ at → IsOutside p at → (at < run_end p) ⊎ (end ≤ at) → IsOutside new at
+behind_tail p new start at end e f low (inl a) o = absurd (omega arith)
+behind_tail p new start at end e f low (inr a) (inl b) = absurd (omega arith)
+behind_tail p new start at end e f low (inr a) (inr b) = inr (omega arith)
+
+before_head : (new : PieceView) (at last end : ℕ) → end ≡ last → at < last → (at < new.offset) ⊎ (end ≤ at) → IsOutside new at
+before_head new at last end e low (inl a) = inl a
+before_head new at last end e low (inr a) = absurd (omega arith)
+
+not_last : (start last n x : ℕ) → start < last → last < n → (x < start) ⊎ (n ≤ x) → x ≡ last → ⊥
+not_last start last n x lt to (inl a) e = omega arith
+not_last start last n x lt to (inr a) e = omega arith
+
+one_holds : (p r : PieceView) (at byte : ℕ) → r.offset ≡ p.offset → r.bytes ≡ p.bytes → RunHolds at byte p → RunHolds at byte r
+one_holds p r at byte o b h =
+    let l = ap (λ (bs : List ℕ). length bs) b in
+    let low = h.0 in
+    let high = h.1 in
+    (omega (arith, o, low), omega (arith, o, l, high), ap (λ (bs : List ℕ). slice_index bs (at - r.offset)) b ∙ ap (λ (n : ℕ). slice_index p.bytes (at - n)) o ∙ h.2)
+
+tail_end : (new : PieceView) (floor : ℕ) → new.offset ≤ floor → floor ≤ run_end new → floor + length (drop (floor - new.offset) new.bytes) ≡ run_end new
+tail_end new floor from to = simp length-drop (omega arith)
+
+head_end : (new : PieceView) (limit : ℕ) → new.offset ≤ limit → limit ≤ run_end new → new.offset + length (take (limit - new.offset) new.bytes) ≡ limit
+head_end new limit from to = simp length-take (omega arith)
+
+tail_holds : (new : PieceView) (floor at byte : ℕ) → new.offset ≤ floor → floor ≤ at → RunHolds at byte new → RunHolds at byte (piece_of floor (drop (floor - new.offset) new.bytes) 0)
+tail_holds new floor at byte from low h =
+    let r = RunHolds-cut floor at byte new low h in
+    one_holds (cut_at floor new) (piece_of floor (drop (floor - new.offset) new.bytes) 0) at byte (omega arith) refl r
+
+tail_held : (new : PieceView) (floor at byte : ℕ) → new.offset ≤ floor → RunHolds at byte (piece_of floor (drop (floor - new.offset) new.bytes) 0) → RunHolds at byte new
+tail_held new floor at byte from h = RunHolds-uncut floor at byte new (one_holds (piece_of floor (drop (floor - new.offset) new.bytes) 0) (cut_at floor new) at byte (omega arith) refl h)
+
+head_holds : (new : PieceView) (limit at byte : ℕ) → limit ≤ run_end new → at < limit → RunHolds at byte new → RunHolds at byte (piece_of new.offset (take (limit - new.offset) new.bytes) 0)
+head_holds new limit at byte to low h = grind (arith, common_steps, get_or-take, length-take)
+
+head_held : (new : PieceView) (limit at byte : ℕ) → limit ≤ run_end new → RunHolds at byte (piece_of new.offset (take (limit - new.offset) new.bytes) 0) → RunHolds at byte new
+head_held new limit at byte to h = grind (arith, common_steps, get_or-take, length-take)
+
+grown_is : (old new : PieceView) (start end at byte : ℕ) → GrowsTo start end old new → RunHolds at byte new → RunHolds at byte old ⊎ IsOutside old at
+grown_is old new start end at byte g h =
+    elim (place old at) [
+      | inl out ↦ inr out
+      | inr has ↦
+          let e = one_byte new at has.0 byte (g.keeps at has.0 has.1) h in
+          inl (subst (λ (b : ℕ). RunHolds at b old) e has.1)
+    ]
+
+pub begin_first : (es ms : List (ℕ × PieceView)) (new p grown base hollow : PieceView) (start end : ℕ) → SpansAll es new start end → 0 < length new.bytes → piece_at es start ≡ Some p → p.offset ≡ start
+    → new.offset ≤ run_end p → run_end p ≤ run_end new → piece_at ms start ≡ Some hollow → ((x : ℕ) → (x ≡ start → ⊥) → piece_at ms x ≡ piece_at es x) → GrowsTo start end p grown
+    → WritesOver (piece_of (run_end p) (drop (run_end p - new.offset) new.bytes) 0) grown base → IsJoining es new start end ms base
+begin_first es ms new p grown base hollow start end spans some found at_start from to slot others g w =
+    let wo = w.offset in
+    let wl = w.len in
+    let go = g.offset in
+    let ge = g.ends in
+    let sf = spans.from in
+    let te = tail_end new (run_end p) from to in
+    record {
+      offset = w.offset ∙ g.offset;
+      ends = omega arith;
+      slot = slot_stays _ hollow slot;
+      outside = λ x o. others x (not_start start (run_end new) x (omega arith) o);
+      rest = λ x v behind e. sym (others x (λ same. omega arith)) ∙ e;
+      written = λ at byte low high h.
+          elim (cases_eq h.start start) [
+            | inl same ↦
+                let e = some_is (piece_at es start) h.run p (ap (piece_at es) (sym same) ∙ h.found) found in
+                let here = subst (RunHolds at byte) e h.here in
+                inl (w.outside at byte (inl here.1) (g.keeps at byte here))
+            | inr ne ↦ inr (waits_behind es ms new start end at byte spans low others h ne)
+          ];
+      fresh = λ at byte h no.
+          elim (place p at) [
+            | inr has ↦ absurd (no has.0 (held es start at has.0 p found has.1))
+            | inl out ↦ w.within at byte (tail_holds new (run_end p) at byte from (not_below p at start at_start (let a = h.0 in omega arith) out) h)
+          ];
+      origin = λ at byte h.
+          elim (w.origin at byte h) [
+            | inl t ↦ inr (inl (tail_held new (run_end p) at byte from t))
+            | inr old ↦
+                elim (grown_is p grown start end at byte g old.0) [
+                  | inl mine ↦ inl (held es start at byte p found mine)
+                  | inr out ↦ inr (inr (behind_tail p new start at (run_end p + length (drop (run_end p - new.offset) new.bytes)) te at_start (let a = old.0.0 in omega arith) out old.1))
+                ]
+          ];
+    }
+
+-- the held run is the last one, and grows to the front
+pub record GrowsLast (es ms : List (ℕ × PieceView)) (new v grown base hollow : PieceView) (start end last : ℕ) : Type 0 where
+  pub apart : IsPieceMap es
+  pub spans : SpansAll es new start end
+  pub some : 0 < length new.bytes
+  pub order : start < last
+  pub found : piece_at es last ≡ Some v
+  pub ends : run_end v ≡ end
+  pub from : new.offset ≤ last
+  pub to : last < run_end new
+  pub slot : piece_at ms start ≡ Some hollow
+  pub gone : piece_at ms last ≡ None
+  pub others : (x : ℕ) → (x ≡ start → ⊥) → (x ≡ last → ⊥) → piece_at ms x ≡ piece_at es x
+  pub grows : GrowsTo start end v grown
+  pub writes : WritesOver (piece_of new.offset (take (last - new.offset) new.bytes) 0) grown base
+
+last_kept : (es ms : List (ℕ × PieceView)) (new v grown base hollow : PieceView) (start end last at byte : ℕ) → GrowsLast es ms new v grown base hollow start end last → RunHolds at byte v → RunHolds at byte base
+last_kept es ms new v grown base hollow start end last at byte s h =
+    let k = s.apart.key last v s.found in
+    let he = head_end new last s.from (let t = s.to in omega arith) in
+    s.writes.outside at byte (inr (let a = h.0 in omega arith)) (s.grows.keeps at byte h)
+
+last_waits : (es ms : List (ℕ × PieceView)) (new v grown base hollow : PieceView) (start end last at byte : ℕ) → GrowsLast es ms new v grown base hollow start end last → start ≤ at → (h : MapHolds es at byte) → (h.start ≡ start → ⊥) → (h.start ≡ last → ⊥) → StillHolds ms start at byte
+last_waits es ms new v grown base hollow start end last at byte s low h ne other =
+    let here = h.here in
+    let behind : start < h.start = elim (cases_lt h.start start) [
+      | inl lt ↦ let e = s.spans.below h.start h.run h.found lt in absurd (omega arith)
+      | inr ge ↦ omega arith
+    ] in
+    record { key = h.start; run = h.run; behind = behind; found = s.others h.start ne other ∙ h.found; here = h.here }
+
+last_written : (es ms : List (ℕ × PieceView)) (new v grown base hollow : PieceView) (start end last at byte : ℕ) → GrowsLast es ms new v grown base hollow start end last → start ≤ at → (h : MapHolds es at byte) → (h.start ≡ start → ⊥) → RunHolds at byte v ⊎ StillHolds ms start at byte
+last_written es ms new v grown base hollow start end last at byte s low h ne =
+    elim (cases_eq h.start last) [
+      | inl same ↦
+          let e = some_is (piece_at es last) h.run v (ap (piece_at es) (sym same) ∙ h.found) s.found in
+          inl (subst (RunHolds at byte) e h.here)
+      | inr other ↦ inr (last_waits es ms new v grown base hollow start end last at byte s low h ne other)
+    ]
+
+last_fresh : (es ms : List (ℕ × PieceView)) (new v grown base hollow : PieceView) (start end last at byte : ℕ) → GrowsLast es ms new v grown base hollow start end last → RunHolds at byte new → MapHoldsNone es at → RunHolds at byte base
+last_fresh es ms new v grown base hollow start end last at byte s h free =
+    let k = s.apart.key last v s.found in
+    let t = s.to in
+    let e = s.ends in
+    let st = s.spans.to in
+    let b = h.1 in
+    elim (place v at) [
+      | inr has ↦ absurd (free has.0 (held es last at has.0 v s.found has.1))
+      | inl out ↦ s.writes.within at byte (head_holds new last at byte (omega arith) (not_behind v at last k (omega arith) out) h)
+    ]
+
+last_origin : (es ms : List (ℕ × PieceView)) (new v grown base hollow : PieceView) (start end last at byte : ℕ) → GrowsLast es ms new v grown base hollow start end last → RunHolds at byte base → MapHolds es at byte ⊎ (RunHolds at byte new ⊎ IsOutside new at)
+last_origin es ms new v grown base hollow start end last at byte s h =
+    let k = s.apart.key last v s.found in
+    let t = s.to in
+    let e = s.ends in
+    let ge = s.grows.ends in
+    let he = head_end new last s.from (omega arith) in
+    elim (s.writes.origin at byte h) [
+      | inl a ↦ inr (inl (head_held new last at byte (omega arith) a))
+      | inr old ↦
+          elim (grown_is v grown start end at byte s.grows old.0) [
+            | inl mine ↦ inl (held es last at byte v s.found mine)
+            | inr out ↦ inr (inr (before_head new at last (new.offset + length (take (last - new.offset) new.bytes)) he (not_behind v at last k (let b = old.0.1 in omega arith) out) old.1))
+          ]
+    ]
+
+last_outside : (es ms : List (ℕ × PieceView)) (new v grown base hollow : PieceView) (start end last x : ℕ) → GrowsLast es ms new v grown base hollow start end last → (x < start) ⊎ (run_end new ≤ x) → piece_at ms x ≡ piece_at es x
+last_outside es ms new v grown base hollow start end last x s o =
+    let t = s.to in
+    let l = s.order in
+    s.others x (not_start start (run_end new) x (omega arith) o) (not_last start last (run_end new) x l t o)
+
+last_rest : (es ms : List (ℕ × PieceView)) (new v grown base hollow : PieceView) (start end last x : ℕ) (w : PieceView) → GrowsLast es ms new v grown base hollow start end last → start < x → piece_at ms x ≡ Some w → piece_at es x ≡ Some w
+last_rest es ms new v grown base hollow start end last x w s behind e =
+    elim (cases_eq x last) [
+      | inl same ↦ absurd (none_some (piece_at ms last) w s.gone (ap (piece_at ms) (sym same) ∙ e))
+      | inr ne ↦ sym (s.others x (λ same. omega arith) ne) ∙ e
+    ]
+
+pub begin_last : (es ms : List (ℕ × PieceView)) (new v grown base hollow : PieceView) (start end last : ℕ) → GrowsLast es ms new v grown base hollow start end last → piece_at es start ≡ None → IsJoining es new start end ms base
+begin_last es ms new v grown base hollow start end last s none =
+    let wo = s.writes.offset in
+    let wl = s.writes.len in
+    let go = s.grows.offset in
+    let ge = s.grows.ends in
+    record {
+      offset = s.writes.offset ∙ s.grows.offset;
+      ends = omega arith;
+      slot = slot_stays _ hollow s.slot;
+      outside = λ x o. last_outside es ms new v grown base hollow start end last x s o;
+      rest = λ x w behind e. last_rest es ms new v grown base hollow start end last x w s behind e;
+      written = λ at byte low high h. elim (last_written es ms new v grown base hollow start end last at byte s low h (λ same. none_some (piece_at es start) h.run none (ap (piece_at es) (sym same) ∙ h.found))) [
+        | inl mine ↦ inl (last_kept es ms new v grown base hollow start end last at byte s mine)
+        | inr waits ↦ inr waits
+      ];
+      fresh = λ at byte h no. last_fresh es ms new v grown base hollow start end last at byte s h no;
+      origin = λ at byte h. last_origin es ms new v grown base hollow start end last at byte s h;
+    }
+
+last_both : (es ms : List (ℕ × PieceView)) (new v p grown base base' hollow : PieceView) (start end last at byte : ℕ) → GrowsLast es ms new v grown base hollow start end last → piece_at es start ≡ Some p → WritesOver p base base' → start ≤ at → MapHolds es at byte → RunHolds at byte base' ⊎ StillHolds ms start at byte
+last_both es ms new v p grown base base' hollow start end last at byte s found w low h =
+    elim (cases_eq h.start start) [
+      | inl same ↦
+          let e = some_is (piece_at es start) h.run p (ap (piece_at es) (sym same) ∙ h.found) found in
+          inl (w.within at byte (subst (RunHolds at byte) e h.here))
+      | inr ne ↦
+          elim (last_written es ms new v grown base hollow start end last at byte s low h ne) [
+            | inl mine ↦
+                let k = s.apart.key last v s.found in
+                let d = s.apart.apart start last p v found s.found s.order in
+                inl (w.outside at byte (inr (let a = mine.0 in omega arith)) (last_kept es ms new v grown base hollow start end last at byte s mine))
+            | inr waits ↦ inr waits
+          ]
+    ]
+
+pub begin_last_with : (es ms : List (ℕ × PieceView)) (new v p grown base base' hollow : PieceView) (start end last : ℕ) → GrowsLast es ms new v grown base hollow start end last → piece_at es start ≡ Some p → WritesOver p base base' → IsJoining es new start end ms base'
+begin_last_with es ms new v p grown base base' hollow start end last s found w =
+    let wo = s.writes.offset in
+    let wl = s.writes.len in
+    let wo' = w.offset in
+    let wl' = w.len in
+    let go = s.grows.offset in
+    let ge = s.grows.ends in
+    record {
+      offset = w.offset ∙ (s.writes.offset ∙ s.grows.offset);
+      ends = omega arith;
+      slot = slot_stays _ hollow s.slot;
+      outside = λ x o. last_outside es ms new v grown base hollow start end last x s o;
+      rest = λ x r behind e. last_rest es ms new v grown base hollow start end last x r s behind e;
+      written = λ at byte low high h. last_both es ms new v p grown base base' hollow start end last at byte s found w low h;
+      fresh = λ at byte h no. step_fresh es p base base' start at byte found w no (last_fresh es ms new v grown base hollow start end last at byte s h no);
+      origin = λ at byte h. step_origin es new p base base' start at byte found w (last_origin es ms new v grown base hollow start end last at byte s) (w.origin at byte h);
+    }

@@ -8,3 +8,6 @@ pub mod Stores
 pub mod Taking
 pub mod Compacting
 pub mod Places
+pub mod Placed
+pub mod Fresh
+pub mod Assembling

@@ -1,5 +1,6 @@
 -- Pieces by their offsets, as the entries of a map.
 use Rattle.std.specs.Prelude.{ℕ, ◌≡◌, ◌+◌, ◌≤◌, ◌<◌, ◌⊎◌, List, length, false, Option, Some, None}
+use Rattle.std.specs.List.{All}
 use Rattle.std.specs.Map.{lookup}
 use Rattle.std.specs.BTreeMap.{is_at}
 use Rattle.std.specs.Ordering.{nat_cmp}
@@ -112,3 +113,14 @@ pub record HasWhole (es : List (ℕ × PieceView)) (new : PieceView) : Type 0 wh
 -- each piece that a run does not overlap stays
 abbrev pub MapKeepsApart : List (ℕ × PieceView) → PieceView → List (ℕ × PieceView) → Type 0
 MapKeepsApart es new es' = (q : ℕ) (v : PieceView) → piece_at es q ≡ Some v → (run_end v ≤ new.offset) ⊎ (run_end new ≤ v.offset) → piece_at es' q ≡ Some v
+
+-- the maps differ at most at some offsets, at which none of the first begins
+pub record IsPlaced (offsets : List ℕ) (es es' : List (ℕ × PieceView)) : Type 0 where
+  pub absent : All (λ (o : ℕ). piece_at es o ≡ None) offsets
+  pub same : (q : ℕ) → All (λ (o : ℕ). q ≡ o → ⊥) offsets → piece_at es' q ≡ piece_at es q
+
+-- a run grew: its bytes stay at their offsets, and what the others are is left open
+pub record GrowsTo (start end : ℕ) (old new : PieceView) : Type 0 where
+  pub offset : new.offset ≡ start
+  pub ends : run_end new ≡ end
+  pub keeps : (at byte : ℕ) → RunHolds at byte old → RunHolds at byte new

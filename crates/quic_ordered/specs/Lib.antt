@@ -1,2 +1,3 @@
+pub mod Assembly
 pub mod Entries
 pub mod Rows

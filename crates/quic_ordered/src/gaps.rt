@@ -71,6 +71,159 @@ fn base_of(
     Ok(base)
 }
 
+// Puts a piece back at an offset, at which an empty one kept its place, or takes that out.
+fn put_back(pieces: &mut PieceMap, offset: u64, piece: Option<Piece>)
+    requires slot { piece_at pieces.old offset ≡ None → ⊥ }
+    requires at { IfSome piece (λ p. p.offset ≡ offset) }
+    ensures here { piece_at pieces.new offset ≡ piece }
+    ensures others { (q : ℕ) → (q ≡ offset → ⊥) → piece_at pieces.new q ≡ piece_at pieces.old q }
+    ensures rises { RiseByKey pieces.new }
+{
+    match piece {
+        Some(piece) => match pieces.insert(piece) {
+            Ok(_) => {}
+            Err(_) => unreachable!(),
+        },
+        None => {
+            pieces.remove(offset);
+        }
+    }
+}
+
+// Takes out the piece that begins at an offset, and leaves an empty one there.
+fn lift(pieces: &mut PieceMap, offset: u64, alloc: Global) -> Piece
+    requires here { (v : PieceView) × (piece_at pieces.old offset ≡ Some v) }
+    requires bound { offset < 2 ^ 62 }
+    ensures value { piece_at pieces.old offset ≡ Some result }
+    ensures slot { (hollow : PieceView) × (piece_at pieces.new offset ≡ Some hollow) }
+    ensures others { (q : ℕ) → (q ≡ offset → ⊥) → piece_at pieces.new q ≡ piece_at pieces.old q }
+    ensures len { length pieces.new ≡ length pieces.old }
+    ensures rises { RiseByKey pieces.new }
+{
+    match pieces.insert(Piece::new(offset, Bytes::new(alloc), 0)) {
+        Ok(Some(piece)) => piece,
+        Ok(None) => unreachable!(),
+        Err(_) => unreachable!(),
+    }
+}
+
+// The piece that begins at `start`, grown up to `end`, with the bytes of the new one behind its own. In the map an
+// empty piece keeps its place.
+fn grow_first(
+    pieces: &mut PieceMap,
+    new: &Piece,
+    start: u64,
+    end: u64,
+    alloc: Global,
+) -> Result<Piece, OutOfMemory>
+    requires apart { IsPieceMap pieces.old }
+    requires some { 0 < length new.now.bytes }
+    requires spans { SpansAll pieces.old new.now start end }
+    requires bound { end < 2 ^ 62 }
+    requires rises { RiseByKey pieces.old }
+    requires first { (v : PieceView) × (piece_at pieces.old start ≡ Some v) × (new.now.offset ≤ run_end v) × (run_end v ≤ run_end new.now) }
+    ensures joins { IfOk result (IsJoining pieces.old new.now start end pieces.new) }
+    ensures memory { IfOk result (λ base. base.allocation_size ≡ length base.bytes) }
+    ensures pieces { length pieces.new ≤ length pieces.old + 1 }
+    ensures rises { RiseByKey pieces.new }
+    ensures err { OnErr result (pieces.new ≡ pieces.old) }
+{
+    let mut base = lift(pieces, start, alloc);
+    let floor = base.end();
+    if let Err(refused) = base.grow_end(end) {
+        put_back(pieces, start, Some(base));
+        return Err(refused);
+    }
+    let skipped = (floor - new.offset()) as usize;
+    base.write_bytes(floor, &new.as_slice()[skipped..]);
+    Ok(base)
+}
+
+// The piece that begins at `last` and ends at `end`, grown down to `start`, with the bytes of the new one before its
+// own, and over them those of the piece that begins at `start`, if there is one. In the map an empty piece keeps the
+// place.
+fn grow_last(
+    pieces: &mut PieceMap,
+    new: &Piece,
+    start: u64,
+    last: u64,
+    end: u64,
+    alloc: Global,
+) -> Result<Piece, OutOfMemory>
+    requires apart { IsPieceMap pieces.old }
+    requires some { 0 < length new.now.bytes }
+    requires spans { SpansAll pieces.old new.now start end }
+    requires bound { end < 2 ^ 62 }
+    requires rises { RiseByKey pieces.old }
+    requires last { (v : PieceView) × (piece_at pieces.old last ≡ Some v) × (run_end v ≡ end) }
+    requires order { (start < last) × (new.now.offset ≤ last) × (last < run_end new.now) }
+    ensures joins { IfOk result (IsJoining pieces.old new.now start end pieces.new) }
+    ensures memory { IfOk result (λ base. base.allocation_size ≡ length base.bytes) }
+    ensures pieces { length pieces.new ≤ length pieces.old + 1 }
+    ensures rises { RiseByKey pieces.new }
+    ensures err { OnErr result (pieces.new ≡ pieces.old) }
+{
+    let first = pieces.insert(Piece::new(start, Bytes::new(alloc), 0))?;
+    let mut base = lift(pieces, last, alloc);
+    if let Err(refused) = base.grow_front(start) {
+        put_back(pieces, last, Some(base));
+        put_back(pieces, start, first);
+        return Err(refused);
+    }
+    pieces.remove(last);
+    let count = (last - new.offset()) as usize;
+    base.write_bytes(new.offset(), &new.as_slice()[..count]);
+    if let Some(piece) = first {
+        base.write(&piece);
+    }
+    Ok(base)
+}
+
+// Where the piece ends that begins at an offset, if there is one.
+fn end_at(pieces: &PieceMap, start: u64) -> Option<u64>
+    ensures { IfSome result (λ end. (v : PieceView) × (piece_at pieces.now start ≡ Some v) × (end ≡ run_end v)) }
+{
+    match pieces.last_up_to(start) {
+        Some((from, end)) if from == start => Some(end),
+        _ => None,
+    }
+}
+
+// A piece from `start` up to `end` with the bytes of the new one, and those of the pieces that are not in the map any
+// more: of the first and the last piece that the new one overlaps the longer one grows, unless it lies within the new
+// one.
+fn longest_base(
+    pieces: &mut PieceMap,
+    new: &Piece,
+    start: u64,
+    end: u64,
+    alloc: Global,
+) -> Result<Piece, OutOfMemory>
+    requires apart { IsPieceMap pieces.old }
+    requires some { 0 < length new.now.bytes }
+    requires spans { SpansAll pieces.old new.now start end }
+    requires bound { end < 2 ^ 62 }
+    requires rises { RiseByKey pieces.old }
+    ensures joins { IfOk result (IsJoining pieces.old new.now start end pieces.new) }
+    ensures memory { IfOk result (λ base. base.allocation_size ≡ length base.bytes) }
+    ensures pieces { length pieces.new ≤ length pieces.old + 1 }
+    ensures err { OnErr result (pieces.new ≡ pieces.old) }
+{
+    let Some((last, last_end)) = pieces.last_up_to(end.saturating_sub(1)) else {
+        return base_of(pieces, new, start, end, alloc);
+    };
+    if let Some(first_end) = end_at(pieces, start) {
+        let is_longer = last_end.saturating_sub(last) <= first_end.saturating_sub(start);
+        if is_longer && new.offset() <= first_end && first_end <= new.end() {
+            return grow_first(pieces, new, start, end, alloc);
+        }
+    }
+    if start < last && new.offset() <= last && last < new.end() && last_end == end {
+        return grow_last(pieces, new, start, last, end, alloc);
+    }
+    base_of(pieces, new, start, end, alloc)
+}
+
 // Joins with a new piece all those that it overlaps. They begin from `start` on, and end by `end`.
 fn join(
     pieces: &mut PieceMap,
@@ -93,7 +246,7 @@ fn join(
     ensures pieces { length pieces.new ≤ length pieces.old + 1 }
     ensures err { OnErr result (pieces.new ≡ pieces.old) }
 {
-    let mut base = base_of(pieces, new, start, end, alloc)?;
+    let mut base = longest_base(pieces, new, start, end, alloc)?;
     absorb(pieces, new, start, end, &mut base);
     match pieces.insert(base) {
         Ok(_) => Ok(()),

@@ -1,12 +1,16 @@
 //! Holds the pieces of one stream, none of which overlaps another, in the order of their offsets (RFC 9000, section 2.2).
 #![tactic(auto)]
 
+mod assembly;
 mod gaps;
 mod map;
 mod piece;
+mod placing;
 mod row;
 mod store;
+mod unreceived;
 
+pub use assembly::OrderedAssembler;
 pub use store::OrderedPieces;
 
 #[cfg(test)]

@@ -1,7 +1,7 @@
 // A piece of a stream that is held.
 ghost use Rattle.std.specs.Prelude.{◌≡◌, ◌+◌, ◌-◌, ◌*◌, ◌/◌, ◌^◌, ◌<◌, ◌≤◌, ◌++◌, length, take, drop, vec_len, false, IfOk, OnOk, OnErr};
-ghost use Rattle.quic_assembler.specs.Piece.{PieceView, run_end, advance_by, cut_at};
-ghost use Rattle.quic_ordered.specs.Entries.{piece_of, WritesOver};
+ghost use Rattle.quic_assembler.specs.Piece.{PieceView, run_end, advance_by, cut_at, HoldsSame};
+ghost use Rattle.quic_ordered.specs.Entries.{piece_of, WritesOver, GrowsTo};
 ghost use Rattle.quic_ordered.specs.Rows.{joined_with, tidied};
 
 use quic_values::{Bytes, OutOfMemory};
@@ -36,6 +36,17 @@ fn write_at(content: &mut [u8], start: usize, bytes: &[u8])
     ensures { content.new ≡ take start content.old ++ (bytes.now ++ drop (start + length bytes.now) content.old) }
 {
     content[start..start + bytes.len()].copy_from_slice(bytes);
+}
+
+// A copy of bytes, behind so many others.
+fn copy_behind(room: usize, bytes: &[u8], alloc: Global) -> Result<Vec<u8>, OutOfMemory>
+    requires { room + length bytes.now < 2 ^ 64 }
+    ensures { IfOk result (λ v. (front : _) × (length front ≡ room) × (v.items ≡ front ++ bytes.now)) }
+{
+    let mut content = Vec::with_capacity(alloc, room + bytes.len())?;
+    content.resize(room, 0)?;
+    content.extend_from_slice(bytes)?;
+    Ok(content)
 }
 
 impl Piece {
@@ -119,6 +130,21 @@ impl Piece {
         Ok(front)
     }
 
+    /// Takes what lies before `end` off, as a piece of its own. If refused, all is as it was.
+    pub(crate) fn split_front(&mut self, end: u64) -> Result<Self, OutOfMemory>
+        requires from { self.old.offset ≤ end }
+        requires to { end ≤ run_end self.old }
+        ensures front { IfOk result (λ front. front ≡ piece_of self.old.offset (take (end - self.old.offset) self.old.bytes) self.old.allocation_size) }
+        ensures rest { OnOk result (HoldsSame (cut_at end self.old) self.new) }
+        ensures rest_memory { OnOk result (self.new.allocation_size ≡ self.old.allocation_size) }
+        ensures err { OnErr result (self.new ≡ self.old) }
+    {
+        let offset = self.offset;
+        let allocation_size = self.allocation_size;
+        let bytes = self.split_to((end - offset) as usize)?;
+        Ok(Piece::new(offset, bytes, allocation_size))
+    }
+
     /// The bytes, without taking memory.
     #[inline]
     pub(crate) fn into_bytes(self) -> Bytes
@@ -156,6 +182,54 @@ impl Piece {
     {
         let start = self.start + (other.offset() - self.offset) as usize;
         write_at(&mut self.content, start, other.as_slice());
+    }
+
+    /// Writes bytes over its own, from an offset on.
+    pub(crate) fn write_bytes(&mut self, offset: u64, bytes: &[u8])
+        requires from { self.old.offset ≤ offset }
+        requires to { offset + length bytes.now ≤ run_end self.old }
+        ensures memory { self.new.allocation_size ≡ self.old.allocation_size }
+        ensures written { WritesOver (piece_of offset bytes.now 0) self.old self.new }
+    {
+        let start = self.start + (offset - self.offset) as usize;
+        write_at(&mut self.content, start, bytes);
+    }
+
+    /// Takes up offsets behind its own up to `end`. Which bytes it has there is left open. If refused, all is as it was.
+    /// Its memory grows by a factor, so that so many steps up to a length copy that length a few times at most.
+    pub(crate) fn grow_end(&mut self, end: u64) -> Result<(), OutOfMemory>
+        requires from { run_end self.old ≤ end }
+        requires bound { end < 2 ^ 62 }
+        ensures grows { OnOk result (GrowsTo self.old.offset end self.old self.new) }
+        ensures memory { OnOk result (self.new.allocation_size ≡ length self.new.bytes) }
+        ensures err { OnErr result (self.new ≡ self.old) }
+    {
+        let count = (end - self.offset) as usize;
+        self.content.resize(self.start + count, 0)?;
+        self.allocation_size = count;
+        Ok(())
+    }
+
+    /// Takes up offsets before its own from `offset` on. Which bytes it has there is left open. If refused, all is as it
+    /// was. Where it is moved for that, half as much memory is left free before it as it then has bytes.
+    pub(crate) fn grow_front(&mut self, offset: u64) -> Result<(), OutOfMemory>
+        requires { offset ≤ self.old.offset }
+        ensures grows { OnOk result (GrowsTo offset (run_end self.old) self.old self.new) }
+        ensures memory { OnOk result (self.new.allocation_size ≡ length self.new.bytes) }
+        ensures err { OnErr result (self.new ≡ self.old) }
+    {
+        let more = (self.offset - offset) as usize;
+        let length = self.content.len() - self.start;
+        if self.start < more {
+            let alloc = *self.content.allocator();
+            let room = more + (more + length) / 2;
+            self.content = copy_behind(room, &self.content.as_slice()[self.start..], alloc)?;
+            self.start = room;
+        }
+        self.start -= more;
+        self.offset = offset;
+        self.allocation_size = more + length;
+        Ok(())
     }
 
     /// Appends the bytes of a piece that begins where this one ends. If refused, all is as it was.

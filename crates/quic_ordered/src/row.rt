@@ -1,11 +1,12 @@
 // Pieces in a row, with their sums.
-ghost use Rattle.std.specs.Prelude.{◌≡◌, ℕ, ◌+◌, ◌-◌, ◌^◌, ◌<◌, ◌≤◌, [], ◌∷◌, ◌++◌, length, sum_by, option_to_list, IfOk, OnOk, OnErr, IfSome, IfNone, IsSome, Some, None, IfErr, slice_index_or, true, false};
+ghost use Rattle.std.specs.Prelude.{◌≡◌, ℕ, ◌+◌, ◌-◌, ◌^◌, ◌<◌, ◌≤◌, [], ◌∷◌, ◌++◌, length, sum_by, option_to_list, IfOk, OnOk, OnErr, IfSome, IfNone, IsSome, Some, None, IfErr, slice_index_or, true, false, min};
 ghost use Rattle.std.specs.List.{All, Any};
-ghost use Rattle.quic_assembler.specs.Piece.{PieceView, run_end, run_length, run_allocation};
+ghost use Rattle.quic_assembler.specs.Piece.{PieceView, run_end, run_length, run_allocation, bit, cover_count};
+ghost use Rattle.quic_values.specs.Runs.{contains};
 ghost use Rattle.quic_ordered.specs.Rows.{Row, FitsWords, JoinsLast, LieInOrder, Encloses, tidied};
 
 use crate::piece::Piece;
-use quic_values::OutOfMemory;
+use quic_values::{OutOfMemory, RangeSet};
 use std::alloc::Global;
 use std::collections::VecDeque;
 use std::marker::Model;
@@ -219,6 +220,19 @@ impl PieceRow {
             self.allocated -= piece.allocation_size() as u128;
         }
         last
+    }
+
+    /// Puts the offsets of all pieces into a set.
+    pub(crate) fn add_offsets(&self, set: &mut RangeSet) -> Result<(), OutOfMemory>
+        ensures { OnOk result ((at : ℕ) → bit (contains set.new at) ≡ min 1 (bit (contains set.old at) + cover_count at self.now.runs)) }
+    {
+        let mut index = 0;
+        while index < self.pieces.len() {
+            let piece = &self.pieces[index];
+            set.insert(piece.offset()..piece.end())?;
+            index += 1;
+        }
+        Ok(())
     }
 
     // Puts a piece behind all others, in memory of its own where it keeps too much alive, or gives it back.

@@ -1,20 +1,25 @@
 // All that is held of one stream.
-ghost use Rattle.std.specs.Prelude.{◌≡◌, ℕ, ◌+◌, ◌-◌, ◌^◌, ◌<◌, ◌≤◌, ◌⊎◌, [], ◌∷◌, ◌++◌, length, sum_by, IfOk, OnOk, OnErr, IfSome, IfNone, Some, None, Ok, true, false, take};
+ghost use Rattle.std.specs.Prelude.{◌≡◌, ℕ, ◌+◌, ◌-◌, ◌^◌, ◌<◌, ◌≤◌, ◌⊎◌, ◌||◌, [], ◌∷◌, ◌++◌, length, sum_by, IfOk, OnOk, OnErr, IfSome, IfNone, Some, None, Ok, true, false, take, min, nat_lt};
 ghost use Rattle.std.specs.Map.{values_of, keys_of};
 ghost use Rattle.std.specs.List.{All, Any};
-ghost use Rattle.quic_assembler.specs.Piece.{PieceView, run_end, run_length, run_allocation, left_of, TakesSome};
-ghost use Rattle.quic_assembler.specs.Reassembly.{IfGiven, OnNothing};
+ghost use Rattle.std.specs.List.Sorted.{IsPermutation};
+ghost use Rattle.quic_values.specs.Runs.{contains, lies_in};
+ghost use Rattle.quic_assembler.specs.Piece.{PieceView, run_end, run_length, run_allocation, left_of, TakesSome, IsSome, cover_count, bit, lies};
+ghost use Rattle.quic_assembler.specs.Reassembly.{IfGiven, OnNothing, TakesFresh};
 ghost use Rattle.quic_ordered.specs.Rows.{FitsWords, RiseByKey, IsStore, LieInOrder, Merges, HoldSame, LieWithGaps, IsTidy, IsGathered, Encloses, GivesFirst, StemsFrom, StaysApart, IsKeptOrOwn, entry_left};
 ghost use Rattle.quic_ordered.specs.Entries.{IsPieceMap, piece_of};
 
 use crate::gaps;
 use crate::map::PieceMap;
 use crate::piece::Piece;
+use crate::placing::{place_all, take_out};
 use crate::row::PieceRow;
+use crate::unreceived::cut_all;
 use quic_assembler::Chunk;
-use quic_values::{Bytes, OutOfMemory};
+use quic_values::{Bytes, OutOfMemory, RangeSet};
 use std::alloc::Global;
 use std::marker::Model;
+use std::ops::Range;
 
 /// Pieces of one stream, none of which overlaps another. Contracts see them by rising offset.
 ///
@@ -280,6 +285,82 @@ impl OrderedPieces {
         Ok(())
     }
 
+    // Takes a piece that comes behind all that is held, and a range into a set, or neither.
+    fn hold_behind(
+        &mut self,
+        piece: Piece,
+        received: &mut RangeSet,
+        range: Range<u64>,
+    ) -> Result<(), OutOfMemory>
+        requires some { 0 < length piece.bytes }
+        requires behind { All (λ r. run_end r ≤ piece.offset) self.old }
+        ensures ok { OnOk result (self.new ≡ self.old ++ piece ∷ []) }
+        ensures received { OnOk result ((n : ℕ) → contains received.new n ≡ (contains received.old n || lies_in range n)) }
+        ensures err { OnErr result (self.new ≡ self.old) }
+        ensures err_received { OnErr result (received.new ≡ received.old) }
+    {
+        self.row.reserve(1)?;
+        received.insert(range)?;
+        self.row.put_back(piece);
+        Ok(())
+    }
+
+    // Takes pieces none of which overlaps another or one that is held, and a range into a set, or neither. They end by
+    // the end of the range.
+    fn hold_parts(
+        &mut self,
+        parts: Vec<Piece>,
+        received: &mut RangeSet,
+        range: Range<u64>,
+    ) -> Result<(), OutOfMemory>
+        requires some { All IsSome parts.items }
+        requires within { All (λ p. run_end p ≤ range.end) parts.items }
+        requires once { (at : ℕ) → cover_count at (parts.items ++ self.old) ≤ 1 }
+        ensures ok { OnOk result (IsPermutation (parts.items ++ self.old) self.new) }
+        ensures received { OnOk result ((n : ℕ) → contains received.new n ≡ (contains received.old n || lies_in range n)) }
+        ensures err { OnErr result (self.new ≡ self.old) }
+        ensures err_received { OnErr result (received.new ≡ received.old) }
+    {
+        clear_way(&mut self.gaps, &mut self.row, range.end)?;
+        let offsets = place_all(&mut self.gaps, parts, self.alloc)?;
+        if let Err(refused) = received.insert(range) {
+            take_out(&mut self.gaps, offsets.as_slice());
+            return Err(refused);
+        }
+        Ok(())
+    }
+
+    /// Takes of bytes that came at an offset, and that keep so much memory alive, what was not received, each longest
+    /// run of it as a piece, and counts all of them as received. What is held was received. If refused, all is as it
+    /// was.
+    pub fn insert_unreceived(
+        &mut self,
+        offset: u64,
+        bytes: Bytes,
+        allocation_size: usize,
+        received: &mut RangeSet,
+    ) -> Result<(), OutOfMemory>
+        requires fits { offset + length bytes < 2 ^ 62 }
+        requires once { (at : ℕ) → cover_count at self.old ≤ bit (contains received.old at) }
+        ensures fresh { OnOk result (TakesFresh received.old (piece_of offset bytes allocation_size) self.old self.new) }
+        ensures received { OnOk result ((n : ℕ) → contains received.new n ≡ (contains received.old n || lies offset (offset + length bytes) n)) }
+        ensures err { OnErr result (self.new ≡ self.old) }
+        ensures err_received { OnErr result (received.new ≡ received.old) }
+    {
+        let range = offset..offset + bytes.len() as u64;
+        let mut rest = Piece::new(offset, bytes, allocation_size);
+        let mut parts = Vec::new(self.alloc);
+        cut_all(received, &mut rest, &mut parts)?;
+        if rest.len() == 0 {
+            return self.hold_parts(parts, received, range);
+        }
+        if parts.is_empty() && self.is_behind(rest.offset()) {
+            return self.hold_behind(rest, received, range);
+        }
+        parts.push(rest)?;
+        self.hold_parts(parts, received, range)
+    }
+
     /// Where the first piece begins.
     pub fn first_offset(&self) -> Option<u64>
         ensures first { IfSome result (λ offset. (first : PieceView) × (rest : _) × (self.now ≡ first ∷ rest) × (offset ≡ first.offset)) }
@@ -330,6 +411,18 @@ impl OrderedPieces {
         }
         let bytes = self.take_some(max_length)?;
         Ok(Some(Chunk { offset, bytes }))
+    }
+
+    /// The offsets below a floor, and those of all pieces.
+    pub fn offsets(&mut self, floor: u64) -> Result<RangeSet, OutOfMemory>
+        ensures set { IfOk result (λ set. (at : ℕ) → bit (contains set at) ≡ min 1 (bit (nat_lt at floor) + cover_count at self.old)) }
+        ensures same { self.new ≡ self.old }
+    {
+        gather(&mut self.gaps, &mut self.row)?;
+        let mut set = RangeSet::new(self.alloc);
+        set.insert(0..floor)?;
+        self.row.add_offsets(&mut set)?;
+        Ok(set)
     }
 
     /// Joins all pieces that touch, and copies each other one that keeps more than a fifth more memory alive than it

@@ -4,6 +4,9 @@ use std::alloc::Global;
 use std::process::Abort;
 use std::test::Fail;
 
+mod assembling;
+mod replays;
+
 fn put(
     rt: &impl Abort,
     pieces: &mut OrderedPieces,

@@ -31,14 +31,14 @@ abbrev pub without_id : (ℕ → Bool) → ℕ → ℕ → Bool
 without_id ids id = λ q. ids q && not (q == id)
 
 -- the last of a list, if there is one
-abbrev pub IsLastOf : {T : Type 0} → List T → Option T → Type 0
-IsLastOf xs None = xs ≡ []
-IsLastOf {T} xs (Some x) = (front : List T) × (xs ≡ front ++ x ∷ [])
+abbrev pub IsLastIn : {T : Type 0} → List T → Option T → Type 0
+IsLastIn xs None = xs ≡ []
+IsLastIn {T} xs (Some x) = (front : List T) × (xs ≡ front ++ x ∷ [])
 
 -- some id of a set, if there is one
-abbrev pub IsSomeOf : (ℕ → Bool) → Option ℕ → Type 0
-IsSomeOf ids None = (q : ℕ) → ids q ≡ false
-IsSomeOf ids (Some id) = ids id ≡ true
+abbrev pub IsSomeIn : (ℕ → Bool) → Option ℕ → Type 0
+IsSomeIn ids None = (q : ℕ) → ids q ≡ false
+IsSomeIn ids (Some id) = ids id ≡ true
 
 -- 1 where a flag is set
 abbrev pub one_if : Bool → ℕ

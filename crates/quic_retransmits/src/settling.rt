@@ -2,7 +2,7 @@
 
 ghost use Rattle.std.specs.Prelude.{◌≡◌, ◌∷◌, ◌++◌, ◌<◌, [], ℕ, List, true, false, OnOk, OnErr};
 ghost use Rattle.quic_retransmits.specs.Pending.{shown_pending, shown_if};
-ghost use Rattle.quic_retransmits.specs.Settling.{noted, noted_in, without_id, IsLastOf, IsSomeOf, entry_count, max_streams_in, without_max_streams};
+ghost use Rattle.quic_retransmits.specs.Settling.{noted, noted_in, without_id, IsLastIn, IsSomeIn, entry_count, max_streams_in, without_max_streams};
 
 use crate::retransmits::{Retransmits, ThinRetransmits};
 use quic_values::{Dir, OutOfMemory, StreamId, VarInt};
@@ -39,7 +39,7 @@ impl Retransmits {
 
     /// The RESET_STREAM that is written next, the last one that was queued: the stream, and why it is given up.
     pub fn next_reset(&self) -> Option<(StreamId, VarInt)>
-        ensures { IsLastOf (shown_pending self.now).reset_stream result }
+        ensures { IsLastIn (shown_pending self.now).reset_stream result }
     {
         match self.reset_stream.last() {
             Some(last) => Some(*last),
@@ -57,7 +57,7 @@ impl Retransmits {
 
     /// The STOP_SENDING that is written next, the last one that was queued.
     pub fn next_stop(&self) -> Option<StopSending>
-        ensures { IsLastOf (shown_pending self.now).stop_sending result }
+        ensures { IsLastIn (shown_pending self.now).stop_sending result }
     {
         self.stop_sending.last().copied()
     }
@@ -72,7 +72,7 @@ impl Retransmits {
 
     /// A stream for which MAX_STREAM_DATA is pending.
     pub fn next_window(&self) -> Option<StreamId>
-        ensures { IsSomeOf (shown_pending self.now).max_stream_data result }
+        ensures { IsSomeIn (shown_pending self.now).max_stream_data result }
     {
         self.max_stream_data.iter().next().copied()
     }
@@ -87,7 +87,7 @@ impl Retransmits {
 
     /// A stream for which STREAM_DATA_BLOCKED is pending.
     pub fn next_stream_blocked(&self) -> Option<StreamId>
-        ensures { IsSomeOf (shown_pending self.now).stream_data_blocked result }
+        ensures { IsSomeIn (shown_pending self.now).stream_data_blocked result }
     {
         self.stream_data_blocked.iter().next().copied()
     }

@@ -18,7 +18,7 @@ use Rattle.quic_history.specs.World.{World, Made}
 use Rattle.quic_history.specs.History.{Event, Settled, From}
 use Rattle.quic_history.specs.declared.control.ControlKind.{ControlKind}
 use Rattle.quic_history.specs.declared.control.ControlKind.TheVariants as kinds
-use Rattle.quic_history.specs.Control.{Settles, HasNoneOf, kind_bound}
+use Rattle.quic_history.specs.Control.{SettlesEntry, HasNoneOf, kind_bound}
 use Rattle.quic_streams.specs.declared.payload.ControlPayload.{ControlPayload}
 
 -- bytes: the payload so far
@@ -33,15 +33,15 @@ abbrev pub sheet_of : ControlPayload → Sheet
 sheet_of c = record { bytes = c.bytes.items; sent = noted_in c.sent; stats = c.stats }
 
 -- a frame more: its spelling behind what was there, noted as sent, and counted
-abbrev pub with_written : Sheet → Frame → Sheet
-with_written s f = record { bytes = s.bytes ++ text f; sent = noted s.sent f; stats = with_frame s.stats f }
+abbrev pub with_frame_written : Sheet → Frame → Sheet
+with_frame_written s f = record { bytes = s.bytes ++ text f; sent = noted s.sent f; stats = with_frame s.stats f }
 
-abbrev pub with_written_if : Sheet → Option Frame → Sheet
-with_written_if s None = s
-with_written_if s (Some f) = with_written s f
+abbrev pub with_frame_written_if : Sheet → Option Frame → Sheet
+with_frame_written_if s None = s
+with_frame_written_if s (Some f) = with_frame_written s f
 
 -- an end, what it has to send beside STREAM, and a payload
-pub record Place : Type 0 where
+pub record PayloadPlace : Type 0 where
   pub end : World
   pub pending : Pending
   pub sheet : Sheet
@@ -52,41 +52,41 @@ pub record FitsIn (bound : ℕ) (f : Frame) : Type 0 where
   pub short : length (text f) ≤ bound
 
 -- one entry of a kind leaves what is pending, and stands in the payload where it is of use
-pub record Turn (k : ControlKind) (a b : Place) : Type 0 where
+pub record SettlesOne (k : ControlKind) (a b : PayloadPlace) : Type 0 where
   pub frame : Option Frame
-  pub settles : Settles k a.end a.pending frame b.end b.pending
-  pub written : b.sheet ≡ with_written_if a.sheet frame
+  pub settles : SettlesEntry k a.end a.pending frame b.end b.pending
+  pub written : b.sheet ≡ with_frame_written_if a.sheet frame
   pub fits : IfSome frame (FitsIn (kind_bound k))
 
 -- one entry is tried: there was one, or none, or memory lacked
-abbrev pub Tries : ControlKind → Place → Result Bool OutOfMemory → Place → Type 0
-Tries k a (Ok true) b = Turn k a b
+abbrev pub Tries : ControlKind → PayloadPlace → Result Bool OutOfMemory → PayloadPlace → Type 0
+Tries k a (Ok true) b = SettlesOne k a b
 Tries k a (Ok false) b = HasNoneOf k a.pending × (b ≡ a)
 Tries k a (Err e) b = b ≡ a
 
 -- entries of a kind leave, each where the longest frame of the kind still fits below the maximum
-pub data Turns (k : ControlKind) (most : ℕ) : Place → Place → Type 0 where
-  none : {p : Place} → Turns k most p p
-  more : {p q r : Place} → Turns k most p q → length q.sheet.bytes + kind_bound k < most → Turn k q r → Turns k most p r
+pub data SettlesSome (k : ControlKind) (most : ℕ) : PayloadPlace → PayloadPlace → Type 0 where
+  none : {p : PayloadPlace} → SettlesSome k most p p
+  more : {p q r : PayloadPlace} → SettlesSome k most p q → length q.sheet.bytes + kind_bound k < most → SettlesOne k q r → SettlesSome k most p r
 
 -- nothing of a kind is left, or the longest frame of it does not fit
-abbrev pub IsDone : ControlKind → ℕ → Place → Type 0
-IsDone k most p = HasNoneOf k p.pending ⊎ (most ≤ length p.sheet.bytes + kind_bound k)
+abbrev pub IsKindDone : ControlKind → ℕ → PayloadPlace → Type 0
+IsKindDone k most p = HasNoneOf k p.pending ⊎ (most ≤ length p.sheet.bytes + kind_bound k)
 
 -- the kinds in the order in which they are written
 abbrev pub control_order : List ControlKind
 control_order = kinds.ResetStream ∷ kinds.StopSending ∷ kinds.MaxData ∷ kinds.MaxStreamData ∷ kinds.MaxStreams Bi ∷ kinds.MaxStreams Uni ∷ kinds.DataBlocked ∷ kinds.StreamDataBlocked ∷ []
 
 -- a kind is done, at a place between
-pub record Finishes (k : ControlKind) (most : ℕ) (a m : Place) : Type 0 where
-  pub turns : Turns k most a m
-  pub done : IsDone k most m
+pub record FinishesKind (k : ControlKind) (most : ℕ) (a m : PayloadPlace) : Type 0 where
+  pub turns : SettlesSome k most a m
+  pub done : IsKindDone k most m
 
 -- the kinds are written one after another. For want of memory the last one may stop before it is done
-abbrev pub WritesKinds : ℕ → List ControlKind → Place → Result (Unit {0}) OutOfMemory → Place → Type 0
+abbrev pub WritesKinds : ℕ → List ControlKind → PayloadPlace → Result (Unit {0}) OutOfMemory → PayloadPlace → Type 0
 WritesKinds most [] a (Ok x) b = b ≡ a
 WritesKinds most [] a (Err e) b = ⊥
-WritesKinds most (k ∷ ks) a r b = ((m : Place) × Finishes k most a m × WritesKinds most ks m r b) ⊎ (IsErr r × Turns k most a b)
+WritesKinds most (k ∷ ks) a r b = ((m : PayloadPlace) × FinishesKind k most a m × WritesKinds most ks m r b) ⊎ (IsErr r × SettlesSome k most a b)
 
 -- an entry that left what was pending: its kind, and the frame that was written for it, if one was
 pub record Entry : Type 0 where
@@ -96,7 +96,7 @@ pub record Entry : Type 0 where
 -- the frames of some entries, one after another
 abbrev pub sheet_with : Sheet → List Entry → Sheet
 sheet_with s [] = s
-sheet_with s (e ∷ es) = sheet_with (with_written_if s e.frame) es
+sheet_with s (e ∷ es) = sheet_with (with_frame_written_if s e.frame) es
 
 -- a history with them
 abbrev pub with_entries : List Entry → List Event → List Event
@@ -110,5 +110,5 @@ pub record WritesEntries (a b : Sheet) (u v : World) : Type 0 where
   pub from : (m : Made) (h : List Event) → From m h u → From m (with_entries entries h) v
 
 -- an end and a payload, as a call finds and leaves them
-abbrev pub place_of : StreamsState → Retransmits → Vec ℕ → ThinRetransmits → FrameStats → Place
+abbrev pub place_of : StreamsState → Retransmits → Vec ℕ → ThinRetransmits → FrameStats → PayloadPlace
 place_of s p buf sent stats = record { end = shown s; pending = shown_pending p; sheet = record { bytes = buf.items; sent = noted_in sent; stats = stats } }

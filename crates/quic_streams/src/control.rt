@@ -7,7 +7,7 @@ ghost use Rattle.quic_limits.specs.Remote.{streams_announced};
 ghost use Rattle.quic_history.specs.World.{remote_of, with_remote};
 ghost use Rattle.quic_history.specs.Control.{kind_bound, IsOfKind, reset_frame, window_frame, data_blocked_frame, stream_blocked_frame};
 ghost use Rattle.quic_streams.specs.Shown.{shown};
-ghost use Rattle.quic_streams.specs.Payload.{sheet_of, Tries, Turns, IsDone, WritesKinds, WritesEntries, control_order, place_of};
+ghost use Rattle.quic_streams.specs.Payload.{sheet_of, Tries, SettlesSome, IsKindDone, WritesKinds, WritesEntries, control_order, place_of};
 
 use crate::payload::ControlPayload;
 use crate::state::StreamsState;
@@ -24,7 +24,7 @@ impl StreamsState {
     /// Appends the frames of `pending` to a payload that is to have at most `max_size` bytes (RFC 9000 section 19):
     /// RESET_STREAM, STOP_SENDING, MAX_DATA, MAX_STREAM_DATA, MAX_STREAMS of both directions, DATA_BLOCKED and
     /// STREAM_DATA_BLOCKED, in this order, each kind while its longest frame ends below `max_size`. What is written is
-    /// noted in `retransmits` and counted in `stats`. Limits are those that are enforced now. What is of no use any more is
+    /// noted in `sent` and counted in `counters`. Limits are those that are enforced now. What is of no use any more is
     /// dropped: RESET_STREAM of a freed half, MAX_STREAM_DATA where no more data can come or are wanted, and the BLOCKED
     /// frames of a limit that is not held any more.
     ///
@@ -33,16 +33,16 @@ impl StreamsState {
         &mut self,
         buf: &mut Vec<u8>,
         pending: &mut Retransmits,
-        retransmits: &mut ThinRetransmits,
-        stats: &mut FrameStats,
+        sent: &mut ThinRetransmits,
+        counters: &mut FrameStats,
         max_size: usize,
     ) -> Result<(), OutOfMemory>
-        ensures writes { WritesKinds max_size control_order (place_of self.old pending.old buf.old retransmits.old stats.old) result (place_of self.new pending.new buf.new retransmits.new stats.new) }
-        ensures full { OnOk result ((kind : ControlKind) → IsDone kind max_size (place_of self.new pending.new buf.new retransmits.new stats.new)) }
+        ensures writes { WritesKinds max_size control_order (place_of self.old pending.old buf.old sent.old counters.old) result (place_of self.new pending.new buf.new sent.new counters.new) }
+        ensures full { OnOk result ((kind : ControlKind) → IsKindDone kind max_size (place_of self.new pending.new buf.new sent.new counters.new)) }
         ensures within { length buf.old.items ≤ max_size → length buf.new.items ≤ max_size }
-        ensures from { WritesEntries (place_of self.old pending.old buf.old retransmits.old stats.old).sheet (place_of self.new pending.new buf.new retransmits.new stats.new).sheet (shown self.old) (shown self.new) }
+        ensures from { WritesEntries (place_of self.old pending.old buf.old sent.old counters.old).sheet (place_of self.new pending.new buf.new sent.new counters.new).sheet (shown self.old) (shown self.new) }
     {
-        self.write_control(buf, pending, retransmits, stats, max_size)
+        self.write_control(buf, pending, sent, counters, max_size)
     }
 
     // The same, by its exact step.
@@ -50,22 +50,22 @@ impl StreamsState {
         &mut self,
         buf: &mut Vec<u8>,
         pending: &mut Retransmits,
-        retransmits: &mut ThinRetransmits,
-        stats: &mut FrameStats,
+        sent: &mut ThinRetransmits,
+        counters: &mut FrameStats,
         max_size: usize,
     ) -> Result<(), OutOfMemory>
-        ensures { WritesKinds max_size control_order (place_of self.old pending.old buf.old retransmits.old stats.old) result (place_of self.new pending.new buf.new retransmits.new stats.new) }
+        ensures { WritesKinds max_size control_order (place_of self.old pending.old buf.old sent.old counters.old) result (place_of self.new pending.new buf.new sent.new counters.new) }
     {
         let alloc = self.receive.alloc;
         let mut payload = ControlPayload {
             bytes: mem::replace(buf, Vec::new(alloc)),
-            sent: mem::replace(retransmits, ThinRetransmits::new(alloc)),
-            stats: *stats,
+            sent: mem::replace(sent, ThinRetransmits::new(alloc)),
+            stats: *counters,
         };
         let result = self.write_kinds(pending, &mut payload, max_size);
         *buf = payload.bytes;
-        *retransmits = payload.sent;
-        *stats = payload.stats;
+        *sent = payload.sent;
+        *counters = payload.stats;
         result
     }
 
@@ -297,8 +297,8 @@ impl StreamsState {
         payload: &mut ControlPayload,
         max_size: usize,
     ) -> Result<(), OutOfMemory>
-        ensures turns { Turns kind.now max_size (record { end = shown self.old; pending = listed pending.old; sheet = sheet_of payload.old }) (record { end = shown self.new; pending = listed pending.new; sheet = sheet_of payload.new }) }
-        ensures done { OnOk result (IsDone kind.now max_size (record { end = shown self.new; pending = listed pending.new; sheet = sheet_of payload.new })) }
+        ensures turns { SettlesSome kind.now max_size (record { end = shown self.old; pending = listed pending.old; sheet = sheet_of payload.old }) (record { end = shown self.new; pending = listed pending.new; sheet = sheet_of payload.new }) }
+        ensures done { OnOk result (IsKindDone kind.now max_size (record { end = shown self.new; pending = listed pending.new; sheet = sheet_of payload.new })) }
     {
         while payload.bytes.len() + kind.size_bound() < max_size {
             if !self.settle(kind, pending, payload)? {

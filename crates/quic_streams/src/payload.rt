@@ -3,7 +3,7 @@
 ghost use Rattle.std.specs.Prelude.{◌≡◌, ◌≤◌, IfSome, OnOk, OnErr, ℕ};
 ghost use Rattle.quic_wire.specs.Text.{CanEncode, size_bound};
 ghost use Rattle.quic_history.specs.Control.{kind_bound, IsOfKind};
-ghost use Rattle.quic_streams.specs.Payload.{sheet_of, with_written, with_written_if, FitsIn};
+ghost use Rattle.quic_streams.specs.Payload.{sheet_of, with_frame_written, with_frame_written_if, FitsIn};
 
 use quic_history::control::ControlKind;
 use quic_pieces::stats::FrameStats;
@@ -25,7 +25,7 @@ impl ControlPayload {
     pub(crate) fn append(&mut self, frame: &Frame) -> Result<(), OutOfMemory>
         requires kind { CanEncode frame.now }
         requires short { size_bound frame.now ≤ ResetStream.SIZE_BOUND }
-        ensures ok { OnOk result (sheet_of self.new ≡ with_written (sheet_of self.old) frame.now) }
+        ensures ok { OnOk result (sheet_of self.new ≡ with_frame_written (sheet_of self.old) frame.now) }
         ensures err { OnErr result (sheet_of self.new ≡ sheet_of self.old) }
         ensures fits { OnOk result (FitsIn (size_bound frame.now) frame.now) }
     {
@@ -46,7 +46,7 @@ impl ControlPayload {
         frame: Option<Frame>,
     ) -> Result<(), OutOfMemory>
         requires { IfSome frame (IsOfKind kind.now) }
-        ensures ok { OnOk result (sheet_of self.new ≡ with_written_if (sheet_of self.old) frame) }
+        ensures ok { OnOk result (sheet_of self.new ≡ with_frame_written_if (sheet_of self.old) frame) }
         ensures err { OnErr result (sheet_of self.new ≡ sheet_of self.old) }
         ensures fits { OnOk result (IfSome frame (FitsIn (kind_bound kind.now))) }
     {
