@@ -6,9 +6,12 @@ use Rattle.quic_writing.specs.Writer.{Writer, TakesTurn, TakesTurns, none, more}
 use Rattle.quic_history.specs.World.{World, Made}
 use Rattle.quic_history.specs.Carrying.{with_writer}
 use Rattle.quic_history.specs.SendEvents.{TookTurn}
-use Rattle.quic_history.specs.History.{Event, Sending, From}
+use Rattle.quic_history.specs.History.{Event, Sending, From, flow}
+use Rattle.quic_history.specs.Flows.{has_side_in}
+use Rattle.quic_history.proofs.SendSides.{held-flow}
+use Rattle.quic_writing.specs.Appended.{AreWritten}
 use Rattle.quic_history.proofs.Histories.{next}
-use Rattle.quic_streams.specs.Transmitting.{frames_of, with_turns, GoesOnWithTurns}
+use Rattle.quic_streams.specs.Transmitting.{frames_of, with_turns, GoesOnWithTurns, told_bytes}
 
 frames_of-more : (ts us : List (Option StreamMeta)) → frames_of (ts ++ us) ≡ frames_of ts ++ frames_of us
 frames_of-more [] us = refl
@@ -47,3 +50,9 @@ pub turns-from : {most : ℕ} {fair : Bool} {a b : Writer} (w : World) → Takes
 turns-from {most} {fair} w (none {a}) = goes_none most fair a.sent (with_writer w a)
 turns-from {most} {fair} w (more {a} {b} {c} ts room t) =
     goes_then most fair a.sent b.sent c.sent (with_writer w a) (with_writer w b) (with_writer w c) (turns-from w ts) (goes_turn most fair w b c t)
+
+-- what the calls tell was written
+pub written-from : (m : Made) (h : List Event) (v : World) → From m h v → AreWritten (told_bytes m h) v.out
+written-from m h v f id s e =
+    let half = held-flow _ (flow m h id) (has_side_in v.out v.bi.max_remote id) s (v.out.halves id) e (f.sends.flows id) in
+    record { cuts = (flow m h id).cuts; has = half.cuts; joined = refl }

@@ -1,10 +1,11 @@
 -- The frames that are written of the streams of an end.
 use Rattle.std.specs.Prelude.{◌≡◌, ℕ, Bool, List, [], ◌∷◌, ◌++◌, Option, Some, None}
+use Rattle.std.specs.List.{concat}
 use Rattle.quic_wire.specs.declared.frame.StreamMeta.{StreamMeta}
 use Rattle.quic_writing.specs.Writer.{Writer, writer, TakesTurns}
 use Rattle.quic_history.specs.World.{World, Made}
 use Rattle.quic_history.specs.SendEvents.{TookTurn}
-use Rattle.quic_history.specs.History.{Event, Sending, From}
+use Rattle.quic_history.specs.History.{Event, Sending, From, flow}
 
 -- an end that writes STREAM frames to a payload
 abbrev pub end_writer : World → List ℕ → List StreamMeta → Writer
@@ -14,6 +15,10 @@ end_writer w bytes sent = writer w.out w.queue bytes sent
 pub record WritesStreamFrames (most : ℕ) (fair : Bool) (w : World) (bytes : List ℕ) (sent : List StreamMeta) (v : World) (payload : List ℕ) (frames : List StreamMeta) : Type 0 where
   pub turns : TakesTurns most fair (end_writer w bytes sent) (end_writer v payload frames)
   pub others : v ≡ record w { out = v.out; queue = v.queue }
+
+-- the bytes that were written on each stream, as the calls tell
+abbrev pub told_bytes : Made → List Event → ℕ → List ℕ
+told_bytes m h q = concat (flow m h q).cuts
 
 -- the frames of some turns, of which each has one or none
 abbrev pub frames_of : List (Option StreamMeta) → List StreamMeta

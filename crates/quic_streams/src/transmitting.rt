@@ -3,8 +3,10 @@
 ghost use Rattle.std.specs.Prelude.{ℕ, List, [], ◌≡◌, ◌+◌, ◌<◌, ◌≤◌, ◌⊎◌, OnErr, OnOk, length};
 ghost use Rattle.quic_queue.specs.SendOrder.{line};
 ghost use Rattle.quic_writing.specs.Appended.{AreWritten, AppendsFrames};
+ghost use Rattle.quic_history.specs.World.{Made};
+ghost use Rattle.quic_history.specs.History.{Event, From};
 ghost use Rattle.quic_streams.specs.Shown.{shown};
-ghost use Rattle.quic_streams.specs.Transmitting.{end_writer, WritesStreamFrames, GoesOnWithTurns};
+ghost use Rattle.quic_streams.specs.Transmitting.{end_writer, WritesStreamFrames, GoesOnWithTurns, told_bytes};
 
 use crate::state::StreamsState;
 use quic_values::OutOfMemory;
@@ -30,6 +32,7 @@ impl StreamsState {
         ensures writes { WritesStreamFrames max_buf_size fair (shown self.old) buf.old.items sent.old.items (shown self.new) buf.new.items sent.new.items }
         ensures full { OnOk result ((line (shown self.new).queue ≡ []) ⊎ (max_buf_size ≤ length buf.new.items + 25)) }
         ensures refused { OnErr result ((0 < length (line (shown self.new).queue)) × (length buf.new.items + 25 < max_buf_size)) }
+        ensures carries { (m : Made) (h : List Event) → From m h (shown self.old) → AppendsFrames (told_bytes m h) max_buf_size (end_writer (shown self.old) buf.old.items sent.old.items) (end_writer (shown self.new) buf.new.items sent.new.items) }
         ensures from { GoesOnWithTurns max_buf_size fair sent.old.items sent.new.items (shown self.old) (shown self.new) }
         ensures text { (written : ℕ → List ℕ) → AreWritten written (shown self.old).out → AppendsFrames written max_buf_size (end_writer (shown self.old) buf.old.items sent.old.items) (end_writer (shown self.new) buf.new.items sent.new.items) }
     {
