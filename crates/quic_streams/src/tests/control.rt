@@ -18,7 +18,7 @@ struct Payload {
     pub stats: FrameStats,
 }
 
-fn payload(alloc: Global) -> Payload {
+fn new_payload(alloc: Global) -> Payload {
     Payload {
         bytes: Vec::new(alloc),
         sent: ThinRetransmits::new(alloc),
@@ -39,7 +39,7 @@ fn write_control(subject: &mut Subject, payload: &mut Payload, max_size: usize) 
 
 // The frames of a new payload. They are asked for again where memory was wanting: none is lost, and none comes twice.
 fn control(alloc: Global, subject: &mut Subject, max_size: usize) -> Payload {
-    let mut written = payload(alloc);
+    let mut written = new_payload(alloc);
     if !write_control(subject, &mut written, max_size) {
         let _ = write_control(subject, &mut written, max_size);
     }
@@ -62,14 +62,17 @@ fn a_reset_ends_where_was_written_and_a_blocked_connection_is_told(
     assert_eq!(&rt; write_one(&mut subject, 2, 1), None);
     assert!(&rt; reset_one(&mut subject, 2, 7));
     let written = control(alloc, &mut subject, 100);
-    assert_eq!(&rt; written.bytes.as_slice(), &[4, 2, 7, 2, 0x14, 2]);
+    assert_eq!(&rt; written.bytes.as_slice(), [4, 2, 7, 2, 0x14, 2].as_slice());
     assert_eq!(&rt; written.stats.reset_stream, 1);
     assert_eq!(&rt; written.stats.data_blocked, 1);
     assert_eq!(&rt; written.stats.max_data, 0);
     let Some(sent) = written.sent.get() else {
         return Err(Fail::from("nothing was noted"));
     };
-    assert_eq!(&rt; sent.reset_stream.as_slice(), &[(id(2), VarInt::from(7u32))]);
+    assert_eq!(&rt;
+        sent.reset_stream.as_slice(),
+        [(id(2), VarInt::from(7u32))].as_slice()
+    );
     assert!(&rt; sent.data_blocked);
     assert!(&rt; !sent.max_data);
     writes(&rt, alloc, &mut subject, 100, &[]);
