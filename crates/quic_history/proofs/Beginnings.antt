@@ -12,6 +12,8 @@ use Rattle.quic_receiving.specs.Counted.{number}
 use Rattle.quic_receiving.specs.Half.{new_half}
 use Rattle.quic_history.specs.Halves.{is_among, with_first}
 use Rattle.quic_history.specs.World.{World, Made, count_of, start, is_same_side}
+use Rattle.quic_queue.specs.SendOrder.{empty_queue}
+use Rattle.quic_history.proofs.RestHistory.{rest-start}
 use Rattle.quic_history.proofs.Endings.{tells-ends}
 use Rattle.quic_history.specs.SendTotals.{send_totals}
 use Rattle.quic_history.proofs.SentHistory.{sent-start}
@@ -128,4 +130,5 @@ begins m v few_uni few_bi small e =
       sends = sends-start m;
       writes = writes-told m [] (start m) refl sent (sends-start m);
       queued = refl;
+      rest = rest-start m empty_queue;
     })

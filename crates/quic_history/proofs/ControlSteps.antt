@@ -24,6 +24,7 @@ use Rattle.quic_history.proofs.Totals.{by_cases, same}
 pub record Announces (u v : World) : Type 0 where
   pub out : v.out ≡ u.out
   pub window : v.window ≡ u.window
+  pub queue : v.queue ≡ u.queue
   pub credit_window : v.credit.receive_window ≡ u.credit.receive_window
   pub credit_limit : v.credit.local_max_data ≡ u.credit.local_max_data
   pub credit_came : v.credit.data_recvd ≡ u.credit.data_recvd
@@ -32,14 +33,14 @@ pub record Announces (u v : World) : Type 0 where
   pub streams : (f : ℕ → Trace) → AllFrom f u → AllFrom f v
 
 announces_none : (u : World) → Announces u u
-announces_none u = record { out = refl; window = refl; credit_window = refl; credit_limit = refl; credit_came = refl; credit_debt = refl; limits = λ d. limits-refl (remote_of u d); streams = λ f a. a }
+announces_none u = record { out = refl; window = refl; queue = refl; credit_window = refl; credit_limit = refl; credit_came = refl; credit_debt = refl; limits = λ d. limits-refl (remote_of u d); streams = λ f a. a }
 
 announces_at : (u v w : World) → v ≡ w → Announces u w → Announces u v
 announces_at u v w e s = let P : World → Type 0 = λ x. Announces u x in subst P (sym e) s
 
 announces_credit : (u : World) → Announces u (record u { credit = announced u.credit })
 announces_credit u = record {
-  out = refl; window = refl; credit_window = refl; credit_limit = refl; credit_came = refl; credit_debt = refl;
+  out = refl; window = refl; queue = refl; credit_window = refl; credit_limit = refl; credit_came = refl; credit_debt = refl;
   limits = both;
   streams = λ f a. all-same f u (record u { credit = announced u.credit }) (λ q. refusal-same (record u { credit = announced u.credit }) u q refl refl refl refl) (λ q. refl) a;
 }
@@ -50,7 +51,7 @@ announces_credit u = record {
 
 announces_streams : (u : World) (e : Dir) → Announces u (with_remote u e (streams_announced (remote_of u e)))
 announces_streams u Bi = record {
-  out = refl; window = refl; credit_window = refl; credit_limit = refl; credit_came = refl; credit_debt = refl;
+  out = refl; window = refl; queue = refl; credit_window = refl; credit_limit = refl; credit_came = refl; credit_debt = refl;
   limits = both;
   streams = λ f a. all-same f u (with_remote u Bi (streams_announced u.bi)) (λ q. refusal-same (with_remote u Bi (streams_announced u.bi)) u q refl refl refl refl) (λ q. refl) a;
 }
@@ -59,7 +60,7 @@ announces_streams u Bi = record {
     both Bi = record { max = refl; allocated = refl; concurrent = refl }
     both Uni = limits-refl u.uni
 announces_streams u Uni = record {
-  out = refl; window = refl; credit_window = refl; credit_limit = refl; credit_came = refl; credit_debt = refl;
+  out = refl; window = refl; queue = refl; credit_window = refl; credit_limit = refl; credit_came = refl; credit_debt = refl;
   limits = both;
   streams = λ f a. all-same f u (with_remote u Uni (streams_announced u.uni)) (λ q. refusal-same (with_remote u Uni (streams_announced u.uni)) u q refl refl refl refl) (λ q. refl) a;
 }
@@ -89,7 +90,7 @@ kept_at t r r' o o' e l s = rw (e, l) s
 announces_half : (u : World) (id : ℕ) (h : Half) → u.receive id ≡ Some h → Announces u (record u { receive = with_half u.receive id (Some (with_announced u.window h)) })
 unfolding with_half
 announces_half u id h e = record {
-  out = refl; window = refl; credit_window = refl; credit_limit = refl; credit_came = refl; credit_debt = refl;
+  out = refl; window = refl; queue = refl; credit_window = refl; credit_limit = refl; credit_came = refl; credit_debt = refl;
   limits = both;
   streams = λ f a q. by_cases (eqb q id)
       (λ t. announced_at (f q) (id_refusal u q) (id_refusal v q) u.window (u.receive q) (v.receive q) h (refusal-same v u q refl refl refl refl) (ap u.receive (same q id t) ∙ e) (rw t refl) (a q))

@@ -226,8 +226,8 @@ at_least g q (x ∷ xs) is = by_cases (eqb q x)
     (λ n. let k = at_least g q xs (or_true (eqb q x) (list_any (nat_eq q) xs) is n) in omega arith)
 
 -- what is retained of one stream is no more than of all
-few_retained : (m : Made) (h : List Event) (q : ℕ) → retained (flow m h q) ≤ retained_in_all m h
-few_retained m h q = by_cases (list_any (nat_eq q) (moved_streams h))
+pub few-retained : (m : Made) (h : List Event) (q : ℕ) → retained (flow m h q) ≤ retained_in_all m h
+few-retained m h q = by_cases (list_any (nat_eq q) (moved_streams h))
     (λ t. at_least (λ k. retained (flow m h k)) q (moved_streams h) t)
     (λ n. let e = none_retained (flow m h q) (unwritten m h q n) in omega arith)
 
@@ -355,7 +355,7 @@ kept-sends m h u e v side after sent f r s =
     let there : ℕ → Bool = has_send_side m.side (opened_in_all h) (send_tale m h).may_open in
     let known = known-by m h u side f.may_open sent in
     let kept = f.retained in
-    let step = step-any m.side there (flow m h) u known f.flows side (λ q. let k = few_retained m h q in omega arith) e v s in
+    let step = step-any m.side there (flow m h) u known f.flows side (λ q. let k = few-retained m h q in omega arith) e v s in
     record {
       flows = step.flows;
       first = step.first ∙ ap (λ l. with_limits_in (limits_in e) l) f.first;

@@ -82,10 +82,10 @@ none_retained (Some code) freed n e = refl
 freed_retained : (t : SendFlow) → t.freed ≡ true → retained t ≡ 0
 freed_retained t e = none_retained t.reset t.freed _ e
 
-freed_none : (first : ℕ) (t : SendFlow) (k : Bool) (o : Option Send) → k ≡ true → o ≡ None → FlowAt first t k o → t.freed ≡ true
-freed_none first t true None e n f = f
-freed_none first t true (Some s) e n f = cc
-freed_none first t false o e n f = cc
+pub told_freed : (first : ℕ) (t : SendFlow) (k : Bool) (o : Option Send) → k ≡ true → o ≡ None → FlowAt first t k o → t.freed ≡ true
+told_freed first t true None e n f = f
+told_freed first t true (Some s) e n f = cc
+told_freed first t false o e n f = cc
 
 open_state : (r : Option ℕ) (finished acked : Bool) → r ≡ None → is_reset_sent (state_told r finished acked) ≡ false
 open_state None true acked e = refl
@@ -172,8 +172,8 @@ reset_none t s f h = by_reset t.reset refl
     by_reset None e = refl
     by_reset (Some code) e = absurd (let k = sym h ∙ ap is_reset_sent f.state ∙ reset_state t.reset t.finished t.end_acked (ap (λ (r : Option ℕ). is_some r) e) in cc)
 
-reset_some : (t : SendFlow) (s : Send) → FlowFrom t s → is_reset_sent s.state ≡ true → is_some t.reset ≡ true
-reset_some t s f h = by_reset t.reset refl
+pub told_reset : (t : SendFlow) (s : Send) → FlowFrom t s → is_reset_sent s.state ≡ true → is_some t.reset ≡ true
+told_reset t s f h = by_reset t.reset refl
   where
     by_reset : (r : Option ℕ) → t.reset ≡ r → is_some r ≡ true
     by_reset None e = absurd (let k = sym h ∙ ap is_reset_sent f.state ∙ open_state t.reset t.finished t.end_acked e in cc)
@@ -229,7 +229,7 @@ module _ (side : Side) (there : ℕ → Bool) (f : ℕ → SendFlow) (u : World)
     where
       by_there : (b : Bool) → there id ≡ b → u.out.budget.buffered_data + retained (f id) ≡ u.out.budget.buffered_data + retained (send_moved (Some (id, m)) there id (f id))
       by_there true k =
-          let freed = freed_none _ (f id) (has_side_in u.out u.bi.max_remote id) (u.out.halves id) (sym (known id) ∙ k) e (all id) in
+          let freed = told_freed _ (f id) (has_side_in u.out u.bi.max_remote id) (u.out.halves id) (sym (known id) ∙ k) e (all id) in
           let after = ap retained (moved_here id m there (f id) true k) in
           let one = freed_retained (f id) freed in
           let two = freed_retained (with_send_move m (f id)) (freed_moved m (f id) freed) in
@@ -345,7 +345,7 @@ module _ (side : Side) (there : ℕ → Bool) (f : ℕ → SendFlow) (u : World)
   step_let_go : (id : ℕ) (s : Send) → u.out.halves id ≡ Some s → is_reset_sent s.state ≡ true → FlowStep (Some (id, WasResetAcked)) None None side there f u (with_out u (with_send_half u.out id None))
   step_let_go id s e r =
       let flow = flow_held side there f u known all id s e in
-      let reset = reset_some (f id) s flow r in
+      let reset = told_reset (f id) s flow r in
       let freed : (with_send_move WasResetAcked (f id)).freed ≡ true = or_all (f id).freed (is_some (f id).reset) reset in
       let two = freed_retained (with_send_move WasResetAcked (f id)) freed in
       let one : retained (f id) ≡ 0 = reset_retained (f id).reset (f id).freed _ reset in

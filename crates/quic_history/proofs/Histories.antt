@@ -12,6 +12,7 @@ use Rattle.quic_history.proofs.Credits.{credit-credited, credit-resized, credit-
 use Rattle.quic_history.proofs.SentHistory.{kept-sent}
 use Rattle.quic_history.proofs.ControlSteps.{announces, facts-settled}
 use Rattle.quic_history.proofs.FlowHistory.{kept-sends}
+use Rattle.quic_history.proofs.RestHistory.{kept-rest}
 use Rattle.quic_history.proofs.WritesTold.{writes-told}
 use Rattle.quic_history.proofs.ToldEvents.{queues}
 use Rattle.quic_values.specs.declared.ids.Dir.TheVariants.{Bi}
@@ -86,6 +87,7 @@ next m h u e v fits f s =
       sends = sends;
       writes = writes-told m (e ∷ h) v (went.side ∙ f.side) sent sends;
       queued = (u.events, f.queued, queues m h u f.side f.sent f.sends e v s);
+      rest = kept-rest m h u e v (limit-fits _ _ _ _ u.credit f.facts.credit) f.side f.sent f.sends f.rest s;
     }
 
 -- the same for an answer of a reader that may go on

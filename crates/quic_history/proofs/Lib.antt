@@ -23,6 +23,7 @@ pub mod Refusals
 pub mod RemoteHistory
 pub mod Remotes
 pub mod ResetHistory
+pub mod RestHistory
 pub mod SendFreed
 pub mod SendSteps
 pub mod StreamSteps

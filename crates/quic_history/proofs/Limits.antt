@@ -14,6 +14,7 @@ use Rattle.quic_receiving.specs.declared.errors.ReadableError.TheVariants as rea
 use Rattle.quic_receiving.specs.declared.errors.HandleError.{HandleError}
 use Rattle.quic_receiving.specs.declared.errors.HandleError.TheVariants as handle_error
 use Rattle.quic_retransmits.specs.Pending.{Pending}
+use Rattle.quic_queue.specs.SendOrder.{SendOrder}
 use Rattle.quic_history.specs.World.{World, with_receive, with_credit, with_receive_window, remote_of, advanced, noticed, with_freed}
 use Rattle.quic_history.specs.Receiving.{Receives, ReceivesReset, after_data, after_reset, credited_to}
 use Rattle.quic_history.specs.Reading.{Begins, Stops, TellsReset, after_read, after_stop}
@@ -34,9 +35,10 @@ record Firm : Type 0 where
   pub window : ℕ
   pub limit : ℕ
   pub send_totals : SendTotals
+  pub queue : SendOrder
 
 abbrev firm_of : Steady → Firm
-firm_of s = record { side = s.side; window = s.window; limit = s.credit.local_max_data; send_totals = s.send_totals }
+firm_of s = record { side = s.side; window = s.window; limit = s.credit.local_max_data; send_totals = s.send_totals; queue = s.queue }
 
 abbrev firm : World → Firm
 firm w = firm_of (steady w)
@@ -50,15 +52,17 @@ firm-freed u id = ap firm_of (steady-freed u id)
 firm-noticed : (u : World) (id : ℕ) (b : Bool) → firm (noticed u id b) ≡ firm u
 firm-noticed u id b = ap firm_of (steady-noticed u id b)
 
--- a call of the receiving side: what every call leaves, and the totals of what is sent
+-- a call of the receiving side: what every call leaves, the totals of what is sent, and the send queue
 pub record Firmly (u v : World) : Type 0 where
   pub goes : Goes u v
   pub same : send_totals v.out ≡ send_totals u.out
+  pub queue : v.queue ≡ u.queue
 
 stays : (u v : World) → firm v ≡ firm u → Firmly u v
 stays u v e = record {
   goes = record { side = ap (λ s. s.side) e; window = ap (λ s. s.window) e; limit = omega (arith, ap (λ s. s.limit) e) };
   same = ap (λ s. s.send_totals) e;
+  queue = ap (λ s. s.queue) e;
 }
 
 rises_at : (u v w : World) → v ≡ w → Firmly u w → Firmly u v
@@ -68,6 +72,7 @@ credit_rises : (u v : World) (n : ℕ) → u.credit.local_max_data < 2 ^ 64 → 
 credit_rises u v n fits e = record {
   goes = record { side = ap (λ s. s.side) e; window = ap (λ s. s.window) e; limit = omega (arith, ap (λ s. s.limit) e) };
   same = ap (λ s. s.send_totals) e;
+  queue = ap (λ s. s.queue) e;
 }
 
 rest_rises : (u v : World) (n : ℕ) (b : Bool) → u.credit.local_max_data < 2 ^ 64 → firm v ≡ firm u → Firmly u (if b then v else with_credit v n)
@@ -162,11 +167,11 @@ firmly h u (Gave id most ordered answer) v fits n s = stays u v (ap firm s.is �
 firmly h u (Ended id count) v fits n s = rises_at u v (with_credit u count) s (credit_rises u u count fits refl)
 firmly h u (Stopped id code answer) v fits n s = rises-stopped u v id code answer s.0 s.1 fits s.2
 firmly h u (ToldReset id answer) v fits n s = rises-told u v id answer s.0 s.1 s.2
-firmly h u (Resized size answer) v fits n s = rises_at u v (with_receive_window u size) s.0 (record { goes = record { side = refl; window = refl; limit = resized_rises u.credit size (nat_lt u.credit.receive_window size) fits }; same = refl })
+firmly h u (Resized size answer) v fits n s = rises_at u v (with_receive_window u size) s.0 (record { goes = record { side = refl; window = refl; limit = resized_rises u.credit size (nat_lt u.credit.receive_window size) fits }; same = refl; queue = refl })
 firmly h u (SetConcurrent dir count (Ok k)) v fits n s = stays u v (ap firm s ∙ ap firm_of (steady-concurrent u dir count))
 firmly h u (SetConcurrent dir count (Err k)) v fits n s = stays u v (ap firm s)
 firmly h u (Accepted dir answer) v fits n s = stays u v (ap firm s.0 ∙ ap firm_of (steady-remote u dir (one_accepted (remote_of u dir))))
-firmly h u (Settled kind frame) v fits n s = let t = announces kind u s.0 frame v s.1 s.2 in record { goes = goes-settled u v t; same = ap send_totals t.out }
+firmly h u (Settled kind frame) v fits n s = let t = announces kind u s.0 frame v s.1 s.2 in record { goes = goes-settled u v t; same = ap send_totals t.out; queue = t.queue }
 firmly h u (Sending e) v fits n s = cc
 
 pub goes : (h : List Event) (u : World) (e : Event) (v : World) → u.credit.local_max_data < 2 ^ 64 → Step u e v → Goes u v

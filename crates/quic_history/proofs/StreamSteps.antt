@@ -11,6 +11,7 @@ use Rattle.quic_limits.specs.Remote.{Remote}
 use Rattle.quic_receiving.specs.Half.{Half, new_half}
 use Rattle.quic_history.specs.Halves.{with_half}
 use Rattle.quic_history.specs.SendTotals.{SendTotals, send_totals}
+use Rattle.quic_queue.specs.SendOrder.{SendOrder}
 use Rattle.quic_history.specs.World.{World, sends, id_refusal, is_own, remote_of, with_remote, with_receive, with_permitted, permitted_if, replaced_in, released, with_freed, told_readable, noticed}
 use Rattle.quic_receiving.proofs.Data.{data-fresh}
 use Rattle.quic_history.specs.History.{Trace, untouched, HalfFrom, StreamFrom}
@@ -231,9 +232,10 @@ pub record Steady : Type 0 where
   pub window : ℕ
   pub credit : Credit
   pub send_totals : SendTotals
+  pub queue : SendOrder
 
 abbrev pub steady : World → Steady
-steady w = record { side = w.out.side; window = w.window; credit = w.credit; send_totals = send_totals w.out }
+steady w = record { side = w.out.side; window = w.window; credit = w.credit; send_totals = send_totals w.out; queue = w.queue }
 
 pub steady-put : (w : World) (id : ℕ) (o : Option Half) → steady (with_receive w id o) ≡ steady w
 unfolding with_receive

@@ -1,11 +1,13 @@
 -- The sending sides of the streams of an end, and what is told of each.
-use Rattle.std.specs.Prelude.{ℕ, Bool, true, false, ◌≡◌, ◌⊎◌, ◌-◌, ◌^◌, ◌==◌, ◌&&◌, min, nat_lt, if◌then◌else◌, List, [], ◌∷◌, Option, Some, None}
+use Rattle.std.specs.Prelude.{ℕ, ◌<◌, ◌||◌, Bool, true, false, ◌≡◌, ◌⊎◌, ◌-◌, ◌^◌, ◌==◌, ◌&&◌, min, nat_lt, if◌then◌else◌, List, [], ◌∷◌, Option, Some, None}
 use Rattle.quic_wire.specs.declared.event.StreamEvent.{StreamEvent}
 use Rattle.quic_wire.specs.declared.event.StreamEvent.TheVariants as stream_event
 use Rattle.quic_values.specs.declared.ids.Side.{Side}
 use Rattle.quic_values.specs.declared.ids.Dir.{Dir}
 use Rattle.quic_values.specs.declared.ids.Dir.TheVariants.{Bi, Uni}
 use Rattle.quic_values.specs.Ids.{dir_of, index_of}
+use Rattle.quic_queue.specs.declared.queue.Entry.{Entry}
+use Rattle.quic_queue.specs.SendOrder.{SendOrder, line}
 use Rattle.quic_sending.specs.declared.send.WriteError.{WriteError}
 use Rattle.quic_sending.specs.declared.send.WriteError.TheVariants as write_error
 use Rattle.quic_sending.specs.Buffer.{total_length}
@@ -92,3 +94,19 @@ TakesQueued before None after = (before ≡ []) × (after ≡ [])
 TakesQueued before (Some (stream_event.Opened dir)) after = (after ≡ before) ⊎ (before ≡ stream_event.Opened dir ∷ after)
 TakesQueued before (Some (stream_event.Writable id)) after = (after ≡ before) ⊎ (before ≡ stream_event.Writable id ∷ after)
 TakesQueued before (Some e) after = before ≡ e ∷ after
+
+-- whether a stream stands in a list of entries
+abbrev pub stands : ℕ → List Entry → Bool
+stands q [] = false
+stands q (e ∷ es) = (q == e.id) || stands q es
+
+-- something is left to be sent on a stream, neither given up nor freed: an offset that was in no frame; one that was
+-- lost, and since then neither in a frame nor acknowledged; or the end, which was in no frame since it was asked for, or
+-- since it was lost
+abbrev pub HasRest : SendFlow → Type 0
+HasRest t = (t.reset ≡ None) × (t.freed ≡ false)
+    × (((n : ℕ) × (n < total_length t.cuts) × (t.carried n ≡ false)) ⊎ (((n : ℕ) × (t.missing n ≡ true) × (t.acked n ≡ false)) ⊎ (t.end_due ≡ true)))
+
+-- each stream on which something is left to be sent stands in the send queue
+abbrev pub AreInQueue : (ℕ → SendFlow) → SendOrder → Type 0
+AreInQueue f q = (id : ℕ) → HasRest (f id) → stands id (line q) ≡ true

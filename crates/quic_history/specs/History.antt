@@ -38,7 +38,7 @@ use Rattle.quic_flows.specs.Flow.{SendMove, WasWritten, WasFinished, WasGivenUp,
 use Rattle.quic_outgoing.specs.declared.limits.PeerLimits.{PeerLimits}
 use Rattle.quic_outgoing.specs.declared.entries.FirstLimits.{FirstLimits}
 use Rattle.quic_outgoing.specs.Senders.{no_limits}
-use Rattle.quic_history.specs.Flows.{SendTale, has_send_side, send_moved, with_first_limits, with_limits_in, AllFlows, room_on, refusal_told, wakes, told_if, TakesQueued, ends_by}
+use Rattle.quic_history.specs.Flows.{SendTale, has_send_side, send_moved, with_first_limits, with_limits_in, AllFlows, room_on, refusal_told, wakes, told_if, TakesQueued, ends_by, AreInQueue}
 use Rattle.quic_wire.specs.declared.event.StreamEvent.{StreamEvent}
 use Rattle.quic_wire.specs.declared.event.StreamEvent.TheVariants as stream_event
 use Rattle.quic_sending.specs.Buffer.{total_length}
@@ -642,3 +642,4 @@ pub record From (m : Made) (h : List Event) (v : World) : Type 0 where
   pub sends : FlowsSo m h v
   pub writes : TellsWrites m h v
   pub queued : AreQueued m h v.events
+  pub rest : AreInQueue (flow m h) v.queue
