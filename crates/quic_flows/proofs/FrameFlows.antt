@@ -98,7 +98,6 @@ acked_held t s s' first behind fin f none sent sound cuts unsent acked lost is =
       empty = λ e. absurd (let k : is_some t.reset ≡ false = ap (λ (r : Option ℕ). is_some r) none in cc);
     }
 
-
 -- whether the end is acknowledged, by what is told
 end_told : (r : Option ℕ) (finished acked : Bool) → r ≡ None → is_finish_acked (state_told r finished acked) ≡ (finished && acked)
 end_told None true acked e = refl

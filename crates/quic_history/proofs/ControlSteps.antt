@@ -40,7 +40,13 @@ announces_at u v w e s = let P : World → Type 0 = λ x. Announces u x in subst
 
 announces_credit : (u : World) → Announces u (record u { credit = announced u.credit })
 announces_credit u = record {
-  out = refl; window = refl; queue = refl; credit_window = refl; credit_limit = refl; credit_came = refl; credit_debt = refl;
+  out = refl;
+  window = refl;
+  queue = refl;
+  credit_window = refl;
+  credit_limit = refl;
+  credit_came = refl;
+  credit_debt = refl;
   limits = both;
   streams = λ f a. all-same f u (record u { credit = announced u.credit }) (λ q. refusal-same (record u { credit = announced u.credit }) u q refl refl refl refl) (λ q. refl) a;
 }
@@ -51,7 +57,13 @@ announces_credit u = record {
 
 announces_streams : (u : World) (e : Dir) → Announces u (with_remote u e (streams_announced (remote_of u e)))
 announces_streams u Bi = record {
-  out = refl; window = refl; queue = refl; credit_window = refl; credit_limit = refl; credit_came = refl; credit_debt = refl;
+  out = refl;
+  window = refl;
+  queue = refl;
+  credit_window = refl;
+  credit_limit = refl;
+  credit_came = refl;
+  credit_debt = refl;
   limits = both;
   streams = λ f a. all-same f u (with_remote u Bi (streams_announced u.bi)) (λ q. refusal-same (with_remote u Bi (streams_announced u.bi)) u q refl refl refl refl) (λ q. refl) a;
 }
@@ -60,7 +72,13 @@ announces_streams u Bi = record {
     both Bi = record { max = refl; allocated = refl; concurrent = refl }
     both Uni = limits-refl u.uni
 announces_streams u Uni = record {
-  out = refl; window = refl; queue = refl; credit_window = refl; credit_limit = refl; credit_came = refl; credit_debt = refl;
+  out = refl;
+  window = refl;
+  queue = refl;
+  credit_window = refl;
+  credit_limit = refl;
+  credit_came = refl;
+  credit_debt = refl;
   limits = both;
   streams = λ f a. all-same f u (with_remote u Uni (streams_announced u.uni)) (λ q. refusal-same (with_remote u Uni (streams_announced u.uni)) u q refl refl refl refl) (λ q. refl) a;
 }
@@ -90,7 +108,13 @@ kept_at t r r' o o' e l s = rw (e, l) s
 announces_half : (u : World) (id : ℕ) (h : Half) → u.receive id ≡ Some h → Announces u (record u { receive = with_half u.receive id (Some (with_announced u.window h)) })
 unfolding with_half
 announces_half u id h e = record {
-  out = refl; window = refl; queue = refl; credit_window = refl; credit_limit = refl; credit_came = refl; credit_debt = refl;
+  out = refl;
+  window = refl;
+  queue = refl;
+  credit_window = refl;
+  credit_limit = refl;
+  credit_came = refl;
+  credit_debt = refl;
   limits = both;
   streams = λ f a q. by_cases (eqb q id)
       (λ t. announced_at (f q) (id_refusal u q) (id_refusal v q) u.window (u.receive q) (v.receive q) h (refusal-same v u q refl refl refl refl) (ap u.receive (same q id t) ∙ e) (rw t refl) (a q))

@@ -314,7 +314,7 @@ module _ (side : Side) (there : ℕ → Bool) (f : ℕ → SendFlow) (u : World)
       let c = counted (f id) a.half offsets.end flow (ap (λ (x : Option Send). were_sent x offsets) (sym a.is_held) ∙ w) in
       let pending : a.after.pending ≡ record a.half.pending { lost = a.after.pending.lost } = ap (λ (x : Send). x.pending) k.others in
       let others : a.after ≡ record a.half { fin_pending = a.half.fin_pending || (fin && not (is_ready a.half.state)); pending = a.after.pending } =
-          k.others ∙ ap (λ (y : Buffered). record a.half { fin_pending = a.half.fin_pending || (fin && not (is_ready a.half.state)); pending = y }) (sym pending) in
+      k.others ∙ ap (λ (y : Buffered). record a.half { fin_pending = a.half.fin_pending || (fin && not (is_ready a.half.state)); pending = y }) (sym pending) in
       let after : FlowFrom (with_send_move m (f id)) a.after = flow-lost (f id) a.half a.after offsets.start offsets.end fin flow c.kept c.sent pending k.lost others in
       let moved = ap retained (moved_held side there f u known all id m a.half a.is_held) ∙ lost_retained (f id) offsets.start offsets.end fin in
       let buffered = ap (λ (x : Outgoing). x.budget.buffered_data) a.is in
@@ -408,12 +408,12 @@ module _ (side : Side) (there : ℕ → Bool) (f : ℕ → SendFlow) (u : World)
       let o = flow.offsets kept in
       let pending : after.pending ≡ record half.pending { unsent = max half.pending.unsent meta.offsets.end; lost = after.pending.lost } = ap (λ (x : Send). x.pending) a.after in
       let others : after ≡ record half { fin_pending = half.fin_pending && not meta.fin; pending = after.pending } =
-          a.after ∙ ap (λ (y : Buffered). record half { fin_pending = half.fin_pending && not meta.fin; pending = y }) (sym pending) in
+      a.after ∙ ap (λ (y : Buffered). record half { fin_pending = half.fin_pending && not meta.fin; pending = y }) (sym pending) in
       let moved_flow : FlowFrom (with_send_move m (f id)) after =
-          flow-carried (f id) half after meta.offsets.start meta.offsets.end meta.fin flow kept
-          (begins_sent half.pending meta.offsets.start a.limit a.next o.lost_sent)
-          (λ l k. goes_on half.pending meta.offsets.start meta.offsets.end a.limit a.next o.lost_sent (front_of_next meta.offsets.start a.limit (room_behind_id most id s.before.bytes) meta.offsets.end a.end_is) l k)
-          pending a.lost others in
+      flow-carried (f id) half after meta.offsets.start meta.offsets.end meta.fin flow kept
+      (begins_sent half.pending meta.offsets.start a.limit a.next o.lost_sent)
+      (λ l k. goes_on half.pending meta.offsets.start meta.offsets.end a.limit a.next o.lost_sent (front_of_next meta.offsets.start a.limit (room_behind_id most id s.before.bytes) meta.offsets.end a.end_is) l k)
+      pending a.lost others in
       let w = with_out u s.after.streams in
       let moved = ap retained (moved_held side there f u known all id m half held) ∙ carried_retained (f id) meta.offsets.start meta.offsets.end meta.fin in
       let buffered = ap (λ (x : Outgoing). x.budget.buffered_data) is in

@@ -440,7 +440,7 @@ module _ (side : Side) (there : ℕ → Bool) (f : ℕ → SendFlow) (u : World)
       let g : ℕ → SendFlow = λ q. send_moved (Some (frame.id, m)) there q (f q) in
       let out : v.out ≡ s.after.streams = ap (λ (w : World). w.out) s.is in
       let held : v.out.halves frame.id ≡ Some t.transmits.sent = ap (λ (o : Outgoing). o.halves frame.id) (out ∙ served-is most fair s.before s.after t)
-          ∙ ap (with_send_half s.before.streams t.entry.id (Some t.transmits.sent)).halves same_id ∙ here_put s.before.streams.halves t.entry.id (Some t.transmits.sent) in
+      ∙ ap (with_send_half s.before.streams t.entry.id (Some t.transmits.sent)).halves same_id ∙ here_put s.before.streams.halves t.entry.id (Some t.transmits.sent) in
       let flow : FlowFrom (g frame.id) t.transmits.sent = held-flow _ (g frame.id) (has_side_in v.out v.bi.max_remote frame.id) t.transmits.sent (v.out.halves frame.id) held (step.flows frame.id) in
       moved_queue there f u v r frame.id m
       (λ q n h. ap (λ (x : SendOrder). stands q (line x)) after

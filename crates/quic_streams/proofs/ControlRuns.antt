@@ -64,14 +64,28 @@ settles_fewer kinds.StopSending u p o v q s = fewer_at p q _ s.left
 settles_fewer kinds.MaxData u p o v q s = fewer_at p q _ s.left
     (record { resets = λ k. k; stops = λ k. k; limit = λ k. refl; windows = λ id k. k; streams = same_streams p (record p { max_data = false }) refl refl; blocked = λ k. k; stream_blocked = λ id k. k })
 settles_fewer kinds.MaxStreamData u p o v q s = fewer_at p q _ s.left
-    (record { resets = λ k. k; stops = λ k. k; limit = λ k. k; windows = λ id k. taken_none (p.max_stream_data id) (not (id == s.id)) k;
-      streams = same_streams p (record p { max_stream_data = without_id p.max_stream_data s.id }) refl refl; blocked = λ k. k; stream_blocked = λ id k. k })
+    (record {
+      resets = λ k. k;
+      stops = λ k. k;
+      limit = λ k. k;
+      windows = λ id k. taken_none (p.max_stream_data id) (not (id == s.id)) k;
+      streams = same_streams p (record p { max_stream_data = without_id p.max_stream_data s.id }) refl refl;
+      blocked = λ k. k;
+      stream_blocked = λ id k. k;
+    })
 settles_fewer (kinds.MaxStreams d) u p o v q s = fewer_at p q _ s.left (fewer_streams d p)
 settles_fewer kinds.DataBlocked u p o v q s = fewer_at p q _ s.left
     (record { resets = λ k. k; stops = λ k. k; limit = λ k. k; windows = λ id k. k; streams = same_streams p (record p { data_blocked = false }) refl refl; blocked = λ k. refl; stream_blocked = λ id k. k })
 settles_fewer kinds.StreamDataBlocked u p o v q s = fewer_at p q _ s.left
-    (record { resets = λ k. k; stops = λ k. k; limit = λ k. k; windows = λ id k. k; streams = same_streams p (record p { stream_data_blocked = without_id p.stream_data_blocked s.id }) refl refl; blocked = λ k. k;
-      stream_blocked = λ id k. taken_none (p.stream_data_blocked id) (not (id == s.id)) k })
+    (record {
+      resets = λ k. k;
+      stops = λ k. k;
+      limit = λ k. k;
+      windows = λ id k. k;
+      streams = same_streams p (record p { stream_data_blocked = without_id p.stream_data_blocked s.id }) refl refl;
+      blocked = λ k. k;
+      stream_blocked = λ id k. taken_none (p.stream_data_blocked id) (not (id == s.id)) k;
+    })
 
 fewer_none : (k : ControlKind) (q p : Pending) → Fewer q p → HasNoneOf k p → HasNoneOf k q
 fewer_none kinds.ResetStream q p f n = f.resets n

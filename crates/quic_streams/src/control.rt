@@ -263,7 +263,10 @@ impl StreamsState {
         let Some(id) = pending.next_stream_blocked() else {
             return Ok(false);
         };
-        payload.append_if(&ControlKind::StreamDataBlocked, self.stream_blocked_frame(id))?;
+        payload.append_if(
+            &ControlKind::StreamDataBlocked,
+            self.stream_blocked_frame(id),
+        )?;
         pending.settle_stream_blocked(id);
         Ok(true)
     }
@@ -321,8 +324,18 @@ impl StreamsState {
         self.write_kind(&ControlKind::StopSending, pending, payload, max_size)?;
         self.write_kind(&ControlKind::MaxData, pending, payload, max_size)?;
         self.write_kind(&ControlKind::MaxStreamData, pending, payload, max_size)?;
-        self.write_kind(&ControlKind::MaxStreams(Dir::Bi), pending, payload, max_size)?;
-        self.write_kind(&ControlKind::MaxStreams(Dir::Uni), pending, payload, max_size)?;
+        self.write_kind(
+            &ControlKind::MaxStreams(Dir::Bi),
+            pending,
+            payload,
+            max_size,
+        )?;
+        self.write_kind(
+            &ControlKind::MaxStreams(Dir::Uni),
+            pending,
+            payload,
+            max_size,
+        )?;
         self.write_kind(&ControlKind::DataBlocked, pending, payload, max_size)?;
         self.write_kind(&ControlKind::StreamDataBlocked, pending, payload, max_size)?;
         Ok(())
