@@ -1,21 +1,20 @@
 -- What entries that leave what is pending leave behind, one after another.
-use Rattle.std.proofs.Common.{◌≡◌, ◌⊎◌, ℕ, ◌+◌, ◌<◌, ◌≤◌, Bool, true, false, List, [], ◌∷◌, ◌++◌, length, length-append, Option, Some, None, Result, Ok, Err, refl, sym, ap, ◌∙◌, subst, inl, inr, arith}
+use Rattle.std.proofs.Common.{◌≡◌, ℕ, ◌+◌, ◌<◌, ◌≤◌, Bool, false, List, [], ◌∷◌, ◌++◌, length, length-append, Option, Some, None, Result, Ok, Err, refl, sym, ap, ◌∙◌, subst, inl, inr, arith}
 use Rattle.std.specs.Prelude.{IfSome, IsErr, OnOk, not, ◌&&◌, ◌==◌}
 use Rattle.quic_values.specs.declared.memory.OutOfMemory.{OutOfMemory}
 use Rattle.quic_values.specs.declared.ids.Dir.{Dir}
 use Rattle.quic_values.specs.declared.ids.Dir.TheVariants.{Bi, Uni}
 use Rattle.quic_wire.specs.declared.frame.Frame.{Frame}
-use Rattle.quic_wire.specs.declared.frame.StopSending.{StopSending}
 use Rattle.quic_wire.specs.Text.{text}
 use Rattle.quic_retransmits.specs.Pending.{Pending}
 use Rattle.quic_retransmits.specs.Settling.{max_streams_in, without_max_streams, without_id}
-use Rattle.quic_history.specs.World.{World, Made}
+use Rattle.quic_history.specs.World.{World}
 use Rattle.quic_history.specs.History.{Event, Settled, From}
 use Rattle.quic_history.specs.declared.control.ControlKind.{ControlKind}
 use Rattle.quic_history.specs.declared.control.ControlKind.TheVariants as kinds
 use Rattle.quic_history.specs.Control.{SettlesEntry, HasNoneOf, kind_bound}
 use Rattle.quic_history.proofs.Histories.{next}
-use Rattle.quic_streams.specs.Payload.{Sheet, PayloadPlace, SettlesOne, SettlesSome, none, more, IsKindDone, FinishesKind, FitsIn, WritesKinds, control_order, with_frame_written_if, Entry, sheet_with, with_entries, WritesEntries}
+use Rattle.quic_streams.specs.Payload.{Sheet, PayloadPlace, SettlesOne, SettlesSome, none, more, IsKindDone, FitsIn, WritesKinds, control_order, with_frame_written_if, Entry, sheet_with, with_entries, WritesEntries}
 
 -- ---- nothing is added to what is pending
 

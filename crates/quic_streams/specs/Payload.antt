@@ -73,6 +73,11 @@ pub data SettlesSome (k : ControlKind) (most : ℕ) : PayloadPlace → PayloadPl
 abbrev pub IsKindDone : ControlKind → ℕ → PayloadPlace → Type 0
 IsKindDone k most p = HasNoneOf k p.pending ⊎ (most ≤ length p.sheet.bytes + kind_bound k)
 
+-- something of a kind is left, and the longest frame of the kind fits
+pub record LeavesKind (most : ℕ) (p : PayloadPlace) : Type 0 where
+  pub kind : ControlKind
+  pub left : IsKindDone kind most p → ⊥
+
 -- the kinds in the order in which they are written
 abbrev pub control_order : List ControlKind
 control_order = kinds.ResetStream ∷ kinds.StopSending ∷ kinds.MaxData ∷ kinds.MaxStreamData ∷ kinds.MaxStreams Bi ∷ kinds.MaxStreams Uni ∷ kinds.DataBlocked ∷ kinds.StreamDataBlocked ∷ []

@@ -1,12 +1,8 @@
 -- Room that was made before a call that takes no memory.
-use Rattle.std.specs.Prelude.{ℕ, ◌<◌, ◌-◌, vec_len, min, if◌then◌else◌}
-use Rattle.std.specs.HashSet.{spare}
-use Rattle.std.specs.Vec.{vec_capacity}
+use Rattle.std.specs.Prelude.{ℕ, ◌<◌, min}
 use Rattle.std.specs.VecDeque.{deque_len, deque_capacity}
 use Rattle.quic_streams.specs.declared.state.StreamsState.{StreamsState}
-use Rattle.quic_retransmits.specs.declared.retransmits.Retransmits.{Retransmits}
 use Rattle.quic_streams.specs.Held.{room}
-use Rattle.quic_retransmits.specs.Pending.{is_in_ids}
 use Rattle.quic_outgoing.specs.Shown.{permit_room}
 
 -- how many streams can be permitted without new memory

@@ -1,13 +1,13 @@
 //! The frames beside STREAM that an end writes.
 
-ghost use Rattle.std.specs.Prelude.{◌≡◌, ◌<◌, ◌≤◌, ◌+◌, ◌^◌, ℕ, List, true, Ok, IfSome, IfOk, OnOk, length};
+ghost use Rattle.std.specs.Prelude.{◌≡◌, ◌<◌, ◌≤◌, ◌+◌, ◌^◌, ℕ, List, true, Ok, IfSome, IfOk, OnOk, OnErr, length};
 ghost use Rattle.quic_retransmits.specs.Pending.{shown_pending as listed};
 ghost use Rattle.quic_retransmits.specs.Settling.{entry_count};
 ghost use Rattle.quic_limits.specs.Remote.{streams_announced};
 ghost use Rattle.quic_history.specs.World.{remote_of, with_remote};
-ghost use Rattle.quic_history.specs.Control.{kind_bound, IsOfKind, reset_frame, window_frame, data_blocked_frame, stream_blocked_frame};
+ghost use Rattle.quic_history.specs.Control.{kind_bound, HasNoneOf, IsOfKind, reset_frame, window_frame, data_blocked_frame, stream_blocked_frame};
 ghost use Rattle.quic_streams.specs.Shown.{shown};
-ghost use Rattle.quic_streams.specs.Payload.{sheet_of, Tries, SettlesSome, IsKindDone, WritesKinds, WritesEntries, control_order, place_of};
+ghost use Rattle.quic_streams.specs.Payload.{sheet_of, Tries, SettlesSome, IsKindDone, WritesKinds, WritesEntries, LeavesKind, control_order, place_of};
 
 use crate::payload::ControlPayload;
 use crate::state::StreamsState;
@@ -29,6 +29,7 @@ impl StreamsState {
     /// frames of a limit that is not held any more.
     ///
     /// If refused, the frames that were written before stand in the payload and are noted, and the next one was not begun.
+    /// It is refused only where something is left whose longest frame fits.
     pub fn write_control_frames(
         &mut self,
         buf: &mut Vec<u8>,
@@ -39,6 +40,7 @@ impl StreamsState {
     ) -> Result<(), OutOfMemory>
         ensures writes { WritesKinds max_size control_order (place_of self.old pending.old buf.old sent.old counters.old) result (place_of self.new pending.new buf.new sent.new counters.new) }
         ensures full { OnOk result ((kind : ControlKind) → IsKindDone kind max_size (place_of self.new pending.new buf.new sent.new counters.new)) }
+        ensures refused { OnErr result (LeavesKind max_size (place_of self.new pending.new buf.new sent.new counters.new)) }
         ensures within { length buf.old.items ≤ max_size → length buf.new.items ≤ max_size }
         ensures from { WritesEntries (place_of self.old pending.old buf.old sent.old counters.old).sheet (place_of self.new pending.new buf.new sent.new counters.new).sheet (shown self.old) (shown self.new) }
     {
@@ -54,7 +56,8 @@ impl StreamsState {
         counters: &mut FrameStats,
         max_size: usize,
     ) -> Result<(), OutOfMemory>
-        ensures { WritesKinds max_size control_order (place_of self.old pending.old buf.old sent.old counters.old) result (place_of self.new pending.new buf.new sent.new counters.new) }
+        ensures writes { WritesKinds max_size control_order (place_of self.old pending.old buf.old sent.old counters.old) result (place_of self.new pending.new buf.new sent.new counters.new) }
+        ensures refused { OnErr result (LeavesKind max_size (place_of self.new pending.new buf.new sent.new counters.new)) }
     {
         let alloc = self.receive.alloc;
         let mut payload = ControlPayload {
@@ -150,6 +153,7 @@ impl StreamsState {
     ) -> Result<bool, OutOfMemory>
         ensures tries { Tries ControlKind.ResetStream (record { end = shown self.old; pending = listed pending.old; sheet = sheet_of payload.old }) result (record { end = shown self.new; pending = listed pending.new; sheet = sheet_of payload.new }) }
         ensures fewer { IfOk result (λ some. some ≡ true → entry_count pending.new < entry_count pending.old) }
+        ensures wanted { OnErr result (HasNoneOf ControlKind.ResetStream (listed pending.old) → ⊥) }
     {
         let Some((id, error_code)) = pending.next_reset() else {
             return Ok(false);
@@ -167,6 +171,7 @@ impl StreamsState {
     ) -> Result<bool, OutOfMemory>
         ensures tries { Tries ControlKind.StopSending (record { end = shown self.old; pending = listed pending.old; sheet = sheet_of payload.old }) result (record { end = shown self.new; pending = listed pending.new; sheet = sheet_of payload.new }) }
         ensures fewer { IfOk result (λ some. some ≡ true → entry_count pending.new < entry_count pending.old) }
+        ensures wanted { OnErr result (HasNoneOf ControlKind.StopSending (listed pending.old) → ⊥) }
     {
         let Some(stop) = pending.next_stop() else {
             return Ok(false);
@@ -184,6 +189,7 @@ impl StreamsState {
     ) -> Result<bool, OutOfMemory>
         ensures tries { Tries ControlKind.MaxData (record { end = shown self.old; pending = listed pending.old; sheet = sheet_of payload.old }) result (record { end = shown self.new; pending = listed pending.new; sheet = sheet_of payload.new }) }
         ensures fewer { IfOk result (λ some. some ≡ true → entry_count pending.new < entry_count pending.old) }
+        ensures wanted { OnErr result (HasNoneOf ControlKind.MaxData (listed pending.old) → ⊥) }
     {
         if !pending.max_data {
             return Ok(false);
@@ -203,6 +209,7 @@ impl StreamsState {
     ) -> Result<bool, OutOfMemory>
         ensures tries { Tries ControlKind.MaxStreamData (record { end = shown self.old; pending = listed pending.old; sheet = sheet_of payload.old }) result (record { end = shown self.new; pending = listed pending.new; sheet = sheet_of payload.new }) }
         ensures fewer { IfOk result (λ some. some ≡ true → entry_count pending.new < entry_count pending.old) }
+        ensures wanted { OnErr result (HasNoneOf ControlKind.MaxStreamData (listed pending.old) → ⊥) }
     {
         let Some(id) = pending.next_window() else {
             return Ok(false);
@@ -222,6 +229,7 @@ impl StreamsState {
     ) -> Result<bool, OutOfMemory>
         ensures tries { Tries (ControlKind.MaxStreams dir) (record { end = shown self.old; pending = listed pending.old; sheet = sheet_of payload.old }) result (record { end = shown self.new; pending = listed pending.new; sheet = sheet_of payload.new }) }
         ensures fewer { IfOk result (λ some. some ≡ true → entry_count pending.new < entry_count pending.old) }
+        ensures wanted { OnErr result (HasNoneOf (ControlKind.MaxStreams dir) (listed pending.old) → ⊥) }
     {
         if !pending.has_max_streams(dir) {
             return Ok(false);
@@ -242,6 +250,7 @@ impl StreamsState {
     ) -> Result<bool, OutOfMemory>
         ensures tries { Tries ControlKind.DataBlocked (record { end = shown self.old; pending = listed pending.old; sheet = sheet_of payload.old }) result (record { end = shown self.new; pending = listed pending.new; sheet = sheet_of payload.new }) }
         ensures fewer { IfOk result (λ some. some ≡ true → entry_count pending.new < entry_count pending.old) }
+        ensures wanted { OnErr result (HasNoneOf ControlKind.DataBlocked (listed pending.old) → ⊥) }
     {
         if !pending.data_blocked {
             return Ok(false);
@@ -259,6 +268,7 @@ impl StreamsState {
     ) -> Result<bool, OutOfMemory>
         ensures tries { Tries ControlKind.StreamDataBlocked (record { end = shown self.old; pending = listed pending.old; sheet = sheet_of payload.old }) result (record { end = shown self.new; pending = listed pending.new; sheet = sheet_of payload.new }) }
         ensures fewer { IfOk result (λ some. some ≡ true → entry_count pending.new < entry_count pending.old) }
+        ensures wanted { OnErr result (HasNoneOf ControlKind.StreamDataBlocked (listed pending.old) → ⊥) }
     {
         let Some(id) = pending.next_stream_blocked() else {
             return Ok(false);
@@ -280,6 +290,7 @@ impl StreamsState {
     ) -> Result<bool, OutOfMemory>
         ensures tries { Tries kind.now (record { end = shown self.old; pending = listed pending.old; sheet = sheet_of payload.old }) result (record { end = shown self.new; pending = listed pending.new; sheet = sheet_of payload.new }) }
         ensures fewer { IfOk result (λ some. some ≡ true → entry_count pending.new < entry_count pending.old) }
+        ensures wanted { OnErr result (HasNoneOf kind.now (listed pending.old) → ⊥) }
     {
         match kind {
             ControlKind::ResetStream => self.settle_reset(pending, payload),
@@ -302,6 +313,7 @@ impl StreamsState {
     ) -> Result<(), OutOfMemory>
         ensures turns { SettlesSome kind.now max_size (record { end = shown self.old; pending = listed pending.old; sheet = sheet_of payload.old }) (record { end = shown self.new; pending = listed pending.new; sheet = sheet_of payload.new }) }
         ensures done { OnOk result (IsKindDone kind.now max_size (record { end = shown self.new; pending = listed pending.new; sheet = sheet_of payload.new })) }
+        ensures refused { OnErr result (IsKindDone kind.now max_size (record { end = shown self.new; pending = listed pending.new; sheet = sheet_of payload.new }) → ⊥) }
     {
         while payload.bytes.len() + kind.size_bound() < max_size {
             if !self.settle(kind, pending, payload)? {
@@ -318,7 +330,8 @@ impl StreamsState {
         payload: &mut ControlPayload,
         max_size: usize,
     ) -> Result<(), OutOfMemory>
-        ensures { WritesKinds max_size control_order (record { end = shown self.old; pending = listed pending.old; sheet = sheet_of payload.old }) result (record { end = shown self.new; pending = listed pending.new; sheet = sheet_of payload.new }) }
+        ensures writes { WritesKinds max_size control_order (record { end = shown self.old; pending = listed pending.old; sheet = sheet_of payload.old }) result (record { end = shown self.new; pending = listed pending.new; sheet = sheet_of payload.new }) }
+        ensures refused { OnErr result (LeavesKind max_size (record { end = shown self.new; pending = listed pending.new; sheet = sheet_of payload.new })) }
     {
         self.write_kind(&ControlKind::ResetStream, pending, payload, max_size)?;
         self.write_kind(&ControlKind::StopSending, pending, payload, max_size)?;

@@ -1,5 +1,5 @@
 use Rattle.std.proofs.Common.{rules, sym, ap, ◌∙◌, Some}
-use Rattle.quic_streams.specs.Held.{held, half_in}
+use Rattle.quic_streams.specs.Held.{held}
 use Rattle.quic_history.specs.Halves.{with_half}
 use Rattle.quic_streams.proofs.HeldMaps.{held-put, entry_half, announced-some}
 use Rattle.quic_streams.proofs.halves.ReceiveHalves.announce.Goals as goal

@@ -1,4 +1,4 @@
-use Rattle.std.proofs.Common.{Ok, Err, List, ◌∷◌}
+use Rattle.std.proofs.Common.{Err, List, ◌∷◌}
 use Rattle.quic_receiving.specs.declared.errors.ReadableError.{ReadableError}
 use Rattle.quic_retransmits.specs.Pending.{shown_pending as listed}
 use Rattle.quic_history.specs.World.{Made}

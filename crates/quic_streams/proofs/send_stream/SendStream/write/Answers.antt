@@ -3,7 +3,7 @@ use Rattle.quic_sending.specs.Source.{slice_lists}
 use Rattle.quic_retransmits.specs.Pending.{shown_pending as listed}
 use Rattle.quic_streams.specs.Connection.{is_shut}
 use Rattle.quic_streams.specs.Shown.{shown}
-use Rattle.quic_history.specs.World.{Made, World}
+use Rattle.quic_history.specs.World.{Made}
 use Rattle.quic_history.specs.Writes.{WritesOwn}
 use Rattle.quic_history.specs.SendEvents.{WroteOwn}
 use Rattle.quic_history.specs.History.{Event, Sending, From}

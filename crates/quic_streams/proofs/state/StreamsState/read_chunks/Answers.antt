@@ -1,8 +1,6 @@
-use Rattle.std.proofs.Common.{arith, ap, ◌∙◌, ◌≡◌, ◌≤◌, ◌+◌, ◌++◌, ◌∷◌, [], List, length, length-append, subst, sym}
-use Rattle.std.specs.Vec.{vec_capacity}
+use Rattle.std.proofs.Common.{arith, ◌≡◌, ◌+◌, ◌++◌, ◌∷◌, [], List, length, length-append}
 use Rattle.quic_assembler.specs.declared.chunk.Chunk.{Chunk}
-use Rattle.quic_history.specs.declared.progress.Progress.TheVariants as progress
-use Rattle.quic_history.specs.Reading.{GivesChunks, bytes_in, is_reading}
+use Rattle.quic_history.specs.Reading.{bytes_in}
 use Rattle.quic_history.proofs.Batches.{gives-more, bytes_in-more}
 use Rattle.quic_streams.specs.Shown.{shown}
 use Rattle.quic_streams.proofs.state.StreamsState.read_chunks.Goals as goal

@@ -1,4 +1,4 @@
-use Rattle.std.proofs.Common.{◌≡◌, ◌≤◌, ◌<◌, ℕ, true, length}
+use Rattle.std.proofs.Common.{◌≡◌, ◌≤◌, true, length}
 use Rattle.std.specs.Vec.{vec_capacity}
 use Rattle.quic_history.specs.declared.progress.Progress.TheVariants as progress
 use Rattle.quic_history.specs.Reading.{GivesChunks, bytes_in, is_reading}

@@ -1,4 +1,4 @@
-use Rattle.std.proofs.Common.{◌≡◌, length, arith}
+use Rattle.std.proofs.Common.{arith}
 use Rattle.quic_streams.specs.Payload.{none, more}
 use Rattle.quic_streams.proofs.state.StreamsState.write_kind.Goals as goal
 
