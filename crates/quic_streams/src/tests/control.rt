@@ -161,8 +161,8 @@ fn one_of_each(subject: &mut Subject) -> Result<(), OutOfMemory> {
     Ok(())
 }
 
-const EACH: [u8; 20] = [
-    4, 2, 9, 2, 5, 7, 9, 5, 3, 9, 0x10, 8, 0x11, 3, 8, 0x12, 1, 0x13, 1, 0x14,
+const EACH: [u8; 21] = [
+    4, 2, 9, 2, 5, 7, 9, 5, 3, 9, 0x10, 8, 0x11, 3, 8, 0x12, 1, 0x13, 1, 0x14, 2,
 ];
 
 #[test]
@@ -175,8 +175,7 @@ fn kinds_come_in_their_order_and_the_useless_is_dropped(rt: HostRuntime) -> Resu
     assert_eq!(&rt; write_one(&mut subject, 2, 1), None);
     one_of_each(&mut subject)?;
     let written = control(alloc, &mut subject, 1200);
-    assert_eq!(&rt; written.bytes.get(..20), Some(EACH.as_slice()));
-    assert_eq!(&rt; written.bytes.get(20..), Some([2u8].as_slice()));
+    assert_eq!(&rt; written.bytes.as_slice(), EACH.as_slice());
     assert_eq!(&rt; written.stats.stop_sending, 2);
     assert!(&rt; subject.pending.max_stream_data.is_empty());
     assert!(&rt; subject.pending.stream_data_blocked.is_empty());
