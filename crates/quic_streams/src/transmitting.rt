@@ -1,7 +1,9 @@
 //! The frames that are written of the streams of one end.
 
-ghost use Rattle.std.specs.Prelude.{ℕ, List, [], ◌≡◌, ◌+◌, ◌<◌, ◌≤◌, ◌⊎◌, OnErr, OnOk, length};
-ghost use Rattle.quic_queue.specs.SendOrder.{line};
+ghost use Rattle.std.specs.Prelude.{ℕ, List, [], ◌≡◌, ◌+◌, ◌<◌, ◌≤◌, ◌⊎◌, OnErr, OnOk, is_some, length};
+ghost use Rattle.std.specs.List.{list_any};
+ghost use Rattle.quic_queue.specs.SendOrder.{ids_of, line};
+ghost use Rattle.quic_outgoing.specs.Transmitting.{sending_priority};
 ghost use Rattle.quic_writing.specs.Appended.{AreWritten, AppendsFrames};
 ghost use Rattle.quic_history.specs.World.{Made};
 ghost use Rattle.quic_history.specs.History.{Event, From};
@@ -54,5 +56,14 @@ impl StreamsState {
     {
         let (streams, queue) = (&mut self.outgoing, &mut self.queue);
         write_stream_frames(streams, queue, buf, sent, max_buf_size, fair)
+    }
+
+    /// Whether a stream is queued on which data may be sent: one that is held and was not reset. A queued stream that was
+    /// reset or is gone takes its turn without a frame.
+    pub fn can_send_stream_data(&self) -> bool
+        ensures { result ≡ list_any (λ id. is_some (sending_priority ((shown self.now).out.halves id))) (ids_of (line (shown self.now).queue)) }
+    {
+        let streams = &self.outgoing;
+        self.queue.any(|id| streams.sending_priority(id).is_some())
     }
 }

@@ -1,5 +1,6 @@
 // STREAM frames of several streams.
 use super::id;
+use super::sending::{end, open_one, reset_one, write_one};
 use crate::send_stream::SendStream;
 use crate::state::StreamsState;
 use crate::streams::{ConnState, Streams};
@@ -38,5 +39,28 @@ fn higher_priorities_first(rt: HostRuntime) -> Result<(), Fail> {
     ];
     assert!(rt; buf.as_slice() == text);
     assert_eq!(rt; sent.as_slice().len(), 3);
+    Ok(())
+}
+
+#[test]
+fn data_can_be_sent_while_a_queued_stream_is_not_reset(rt: HostRuntime) -> Result<(), Fail> {
+    let alloc = rt.alloc();
+    let mut subject = end(alloc, Side::Client, 2, 10, 10)?;
+    assert!(rt; open_one(&mut subject, Dir::Uni, 2));
+    assert!(rt; !subject.state.can_send_stream_data());
+    assert_eq!(rt; write_one(&mut subject, 2, 3), Some(3));
+    assert!(rt; subject.state.can_send_stream_data());
+    assert!(rt; reset_one(&mut subject, 2, 7));
+    assert!(rt; !subject.state.can_send_stream_data());
+    assert!(rt; open_one(&mut subject, Dir::Uni, 6));
+    assert_eq!(rt; write_one(&mut subject, 6, 1), Some(1));
+    assert!(rt; subject.state.can_send_stream_data());
+    let mut buf = Vec::new(alloc);
+    let mut sent = StreamMetaVec::new(alloc);
+    subject
+        .state
+        .write_stream_frames(&mut buf, &mut sent, 60, true)?;
+    assert_eq!(rt; sent.as_slice().len(), 1);
+    assert!(rt; !subject.state.can_send_stream_data());
     Ok(())
 }
