@@ -192,13 +192,12 @@ fn entries_go_into_payload_after_payload(rt: HostRuntime) -> Result<(), Fail> {
         subject.pending.max_stream_data.insert(id(stream * 4 + 3))?;
     }
     let mut frames = 0u64;
-    let mut payloads = 0u64;
-    while !subject.pending.max_stream_data.is_empty() && payloads < 1000 {
+    for _ in 0..64u32 {
         let written = control(alloc, &mut subject, 30);
         assert!(&rt; written.bytes.len() <= 30);
         frames = frames.saturating_add(written.stats.max_stream_data);
-        payloads += 1;
     }
     assert_eq!(&rt; frames, 128);
+    assert!(&rt; subject.pending.max_stream_data.is_empty());
     Ok(())
 }
