@@ -1,20 +1,28 @@
 // Acknowledgements and losses of frames.
 use super::{Answer, Step, Subject, end, id, run};
 use quic_values::{Dir, Side};
+use std::alloc::Global;
+use std::ops::Range;
 use std::process::Abort;
 use std::rt::HostRuntime;
 use std::test::Fail;
 
-// Sends all that is due on a stream.
-fn send_all(rt: &impl Abort, subject: &mut Subject, stream: u32) {
-    match subject.state.halves.take(id(stream)) {
-        Ok(Some(half)) => {
-            let mut half = half;
-            assert!(rt; half.pending.poll_transmit(1200).is_ok());
-            half.fin_pending = false;
-            subject.state.halves.put(id(stream), half);
-        }
-        _ => assert!(rt; false, "no half"),
+// Whether the next frame of a stream carries this, and the end.
+fn sends(
+    alloc: Global,
+    subject: &mut Subject,
+    stream: u32,
+    offsets: Range<u64>,
+    fin: bool,
+) -> bool {
+    let stream = id(stream);
+    if !subject.state.contains(stream) {
+        return false;
+    }
+    let mut buf = Vec::new(alloc);
+    match subject.state.write_frame(stream, 1200, &mut buf) {
+        Ok(frame) => frame.meta.offsets == offsets && frame.meta.fin == fin,
+        Err(_) => false,
     }
 }
 
@@ -72,7 +80,7 @@ fn what_is_acknowledged_is_released(rt: HostRuntime) -> Result<(), Fail> {
     // Nothing was sent yet.
     assert_eq!(&rt; ack(&rt, &mut subject, 2, 0, 4, false), false);
     run(&rt, alloc, &mut subject, &[Step::Limit(0)]);
-    send_all(&rt, &mut subject, 2);
+    assert!(&rt; sends(alloc, &mut subject, 2, 0..8, false));
     assert_eq!(&rt; ack(&rt, &mut subject, 2, 4, 8, false), false);
     run(&rt, alloc, &mut subject, &[Step::Limit(0)]);
     assert_eq!(&rt; ack(&rt, &mut subject, 2, 0, 9, false), false);
@@ -92,7 +100,7 @@ fn complete_streams_are_let_go(rt: HostRuntime) -> Result<(), Fail> {
         Step::Finish(2, Answer::Done(false)),
     ];
     run(&rt, alloc, &mut subject, &steps);
-    send_all(&rt, &mut subject, 2);
+    assert!(&rt; sends(alloc, &mut subject, 2, 0..8, true));
     // The end alone is not all.
     assert_eq!(&rt; ack(&rt, &mut subject, 2, 8, 8, true), false);
     assert_eq!(&rt; ack(&rt, &mut subject, 2, 4, 8, false), false);
@@ -116,28 +124,18 @@ fn what_is_lost_is_due_again(rt: HostRuntime) -> Result<(), Fail> {
     run(&rt, alloc, &mut subject, &steps);
     // It is queued, since nothing was sent.
     assert_eq!(&rt; lose(&rt, &mut subject, 2, 0, 0, false), None);
-    send_all(&rt, &mut subject, 2);
+    assert!(&rt; sends(alloc, &mut subject, 2, 0..8, false));
     assert_eq!(&rt; lose(&rt, &mut subject, 2, 0, 9, false), None);
     assert_eq!(&rt; lose(&rt, &mut subject, 2, 2, 4, false), Some(7));
     assert_eq!(&rt; lose(&rt, &mut subject, 2, 0, 2, false), None);
-    let half = subject.state.halves.take(id(2));
-    match half {
-        Ok(Some(half)) => {
-            assert_eq!(&rt; half.pending.next_transmit(1200).0, 0..4);
-            // The end of a stream that was not finished cannot be lost.
-            assert!(&rt; !half.fin_pending);
-            subject.state.halves.put(id(2), half);
-        }
-        _ => assert!(&rt; false, "no half"),
-    }
-    send_all(&rt, &mut subject, 2);
+    assert!(&rt; sends(alloc, &mut subject, 2, 0..4, false));
     run(
         &rt,
         alloc,
         &mut subject,
         &[Step::Finish(2, Answer::Done(true))],
     );
-    send_all(&rt, &mut subject, 2);
+    assert!(&rt; sends(alloc, &mut subject, 2, 8..8, true));
     assert_eq!(&rt; lose(&rt, &mut subject, 2, 8, 8, true), Some(7));
     assert_eq!(&rt; lose(&rt, &mut subject, 2, 8, 8, true), None);
     Ok(())

@@ -83,6 +83,7 @@ fn streams_of_the_peer_are_permitted(rt: HostRuntime) -> Result<(), Fail> {
     let mut subject = end(alloc, Side::Server, 0, 100, 9);
     subject.state.reserve(4)?;
     subject.state.permit_more(0, 3);
+    subject.state.reserve(1)?;
     subject.state.permit(id(12));
     take(
         &rt,
