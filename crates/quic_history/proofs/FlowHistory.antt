@@ -143,9 +143,9 @@ module _ (side : Side) (there : ℕ → Bool) (f : ℕ → SendFlow) (u : World)
   step_sending (ResetOwn id code (Err handle_error.ClosedStream)) v s = left v (leaves_out u v s.2.0 s.2.2 (sides-at u.out s.2.0 u.out s.2.1.1 (sides-none u.out)))
   step_sending (ResetOwn id code (Err handle_error.OutOfMemory)) v s = left v (leaves_out u v s.2.0 s.2.2 (sides-at u.out s.2.0 u.out s.2.1.0 (sides-none u.out)))
   step_sending (AckedOwn id offsets fin (Ok x)) v s = step-acked side there f u known all id offsets fin x v (few id) s
-  step_sending (AckedOwn id offsets fin (Err e)) v s = left v (leaves-same u v s)
+  step_sending (AckedOwn id offsets fin (Err e)) v s = left v (leaves-same u v s.2)
   step_sending (LostOwn id offsets fin (Ok x)) v s = step-lost side there f u known all id offsets fin x v s
-  step_sending (LostOwn id offsets fin (Err e)) v s = left v (leaves-same u v s)
+  step_sending (LostOwn id offsets fin (Err e)) v s = left v (leaves-same u v s.1)
   step_sending (ResetAckedOwn id (Ok x)) v s = step-reset-acked side there f u known all id x v s
   step_sending (ResetAckedOwn id (Err e)) v s = left v (leaves-same u v s.1)
   step_sending (TookTurn most fair None) v s = left v (leaves-passed u most fair v s)

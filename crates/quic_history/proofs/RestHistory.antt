@@ -493,9 +493,9 @@ module _ (side : Side) (there : ℕ → Bool) (f : ℕ → SendFlow) (u : World)
   rest_sending (AckedOwn id offsets fin (Ok x)) v s = stay v (either-way (is_permitted u id) s
       (λ t. ap (λ (x : World). x.queue) t.3 ∙ queue_finished (with_out u t.1) id t.0)
       (λ t. ap (λ (x : World). x.queue) t)) id (WasAcked offsets.start offsets.end fin) (λ t. ack_rest (f id) offsets.start offsets.end fin)
-  rest_sending (AckedOwn id offsets fin (Err e)) v s = idle None v (ap (λ (x : World). x.queue) s)
+  rest_sending (AckedOwn id offsets fin (Err e)) v s = idle None v (ap (λ (x : World). x.queue) s.2)
   rest_sending (LostOwn id offsets fin (Ok x)) v s = lost_so id offsets fin s.0 s.1 v (were_sent (u.out.halves id) offsets) refl s.2 s.3
-  rest_sending (LostOwn id offsets fin (Err e)) v s = idle None v (ap (λ (x : World). x.queue) s)
+  rest_sending (LostOwn id offsets fin (Err e)) v s = idle None v (ap (λ (x : World). x.queue) s.1)
   rest_sending (ResetAckedOwn id (Ok x)) v s = stay v (either-way (frees_reset u id) s
       (λ t. ap (λ (x : World). x.queue) t ∙ queue_freed (with_out u (with_send_half u.out id None)) id)
       (λ t. ap (λ (x : World). x.queue) t)) id WasResetAcked (λ t. let_go_rest (f id))

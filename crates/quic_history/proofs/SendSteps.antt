@@ -424,7 +424,7 @@ acks u id offsets fin (Ok x) v s = by_test (is_permitted u id) refl
         (λ a. acked_half u id offsets fin t.0 t.1 v k a t.3)
         (λ n. inl (spares_at u v (with_out u t.1) (t.3 ∙ ap (told_finished (with_out u t.1) id) n.0) (spares_step u t.1 (steadies_at u.out t.1 u.out n.1 (steadies_none u.out)))))
     by_test false k = let t = rw k at s in inl (spares_at u v u t (spares_none u))
-acks u id offsets fin (Err e) v s = inl (spares_at u v u s (spares_none u))
+acks u id offsets fin (Err e) v s = inl (spares_at u v u s.2 (spares_none u))
 
 steadies_lost : (a : Outgoing) (id : ℕ) (offsets : Range ℕ) (fin : Bool) (queue : Option ℤ) (b : Outgoing) → LosesOnStream a id offsets fin (Ok queue) b → Steadies a b
 steadies_lost a id offsets fin queue b s = either-way (were_sent (a.halves id) offsets) s
@@ -433,7 +433,7 @@ steadies_lost a id offsets fin queue b s = either-way (were_sent (a.halves id) o
 
 loses : (u : World) (id : ℕ) (offsets : Range ℕ) (fin : Bool) (answer : Result (Unit {0}) OutOfMemory) (v : World) → LosesOwn u id offsets fin answer v → Spares u v
 loses u id offsets fin (Ok x) v s = spares_at u v _ s.3 (queued u (with_out u s.1) id s.0 (spares_step u s.1 (steadies_lost u.out id offsets fin s.0 s.1 s.2)))
-loses u id offsets fin (Err e) v s = spares_at u v u s (spares_none u)
+loses u id offsets fin (Err e) v s = spares_at u v u s.1 (spares_none u)
 
 given_up_held : (o : Option Send) → is_given_up o ≡ true → is_some o ≡ true
 given_up_held None e = cc

@@ -175,12 +175,12 @@ same_ack u id offsets fin (Ok x) v s = either-way (is_permitted u id) s
     (λ t. same_at (told_finished (with_out u t.1) id t.0) v t.3 ∙ same_finished (with_out u t.1) id t.0
     ∙ either-way (were_sent (u.out.halves id) offsets) t.2 (λ a. ap send_totals a.is) (λ n. ap send_totals n.1))
     (λ t. same_at u v t)
-same_ack u id offsets fin (Err e) v s = same_at u v s
+same_ack u id offsets fin (Err e) v s = same_at u v s.2
 
 same_loss : (u : World) (id : ℕ) (offsets : Range ℕ) (fin : Bool) (answer : Result (Unit {0}) OutOfMemory) (v : World) → LosesOwn u id offsets fin answer v → Same u v
 same_loss u id offsets fin (Ok x) v s = same_at (with_queued (with_out u s.1) id s.0) v s.3 ∙ same_queued (with_out u s.1) id s.0
     ∙ either-way (were_sent (u.out.halves id) offsets) s.2 (λ l. ap send_totals l.is) (λ n. ap send_totals n.1)
-same_loss u id offsets fin (Err e) v s = same_at u v s
+same_loss u id offsets fin (Err e) v s = same_at u v s.1
 
 same_reset : (u : World) (id : ℕ) (answer : Result (Unit {0}) OutOfMemory) (v : World) → AcksReset u id answer v → Same u v
 same_reset u id (Ok x) v s = either-way (frees_reset u id) s

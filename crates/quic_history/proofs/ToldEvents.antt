@@ -428,9 +428,9 @@ module _ (m : Made) (h : List Event) (u : World) (side : u.out.side ≡ m.side) 
   queues_sending (FinishedOwn id (Err e)) v s = ap (λ (w : World). w.events) s.2 ∙ told_none u.events
   queues_sending (ResetOwn id code answer) v s = ap (λ (w : World). w.events) s.2.2 ∙ told_none u.events
   queues_sending (AckedOwn id offsets fin (Ok x)) v s = acked_so id offsets fin x v s
-  queues_sending (AckedOwn id offsets fin (Err e)) v s = same_as u v s
+  queues_sending (AckedOwn id offsets fin (Err e)) v s = same_as u v s.2
   queues_sending (LostOwn id offsets fin (Ok x)) v s = ap (λ (w : World). w.events) s.3 ∙ events_queued (with_out u s.1) id s.0 ∙ told_none u.events
-  queues_sending (LostOwn id offsets fin (Err e)) v s = same_as u v s
+  queues_sending (LostOwn id offsets fin (Err e)) v s = same_as u v s.1
   queues_sending (ResetAckedOwn id (Ok x)) v s = either-way (frees_reset u id) s
       (λ t. ap (λ (w : World). w.events) t ∙ events_send_freed (with_out u (with_send_half u.out id None)) id ∙ told_none u.events)
       (λ t. same_as u v t)

@@ -27,17 +27,19 @@ abbrev pub told_finished : World → ℕ → Bool → World
 told_finished w id true = told (with_send_freed w id) (stream_event.Finished id)
 told_finished w id false = w
 
--- what came of the report that a frame was acknowledged: one on a stream that is not there is dropped
+-- what came of the report that a frame was acknowledged: one on a stream that is not there is dropped, and takes no
+-- memory
 abbrev pub AcksOwn : World → ℕ → Range ℕ → Bool → Result (Unit {0}) OutOfMemory → World → Type 0
 AcksOwn w id offsets fin (Ok x) v = MatchBool (is_permitted w id)
     ((done : Bool) × (o : Outgoing) × AcksStream w.out id offsets fin (Ok done) o × (v ≡ told_finished (with_out w o) id done))
     (v ≡ w)
-AcksOwn w id offsets fin (Err e) v = v ≡ w
+AcksOwn w id offsets fin (Err e) v = (is_permitted w id ≡ true) × (is_some (w.out.halves id) ≡ true) × (v ≡ w)
 
--- what came of the report that a frame was lost: the stream is queued where nothing was to be sent on it before
+-- what came of the report that a frame was lost: the stream is queued where nothing was to be sent on it before. One on
+-- a stream that is not there takes no memory
 abbrev pub LosesOwn : World → ℕ → Range ℕ → Bool → Result (Unit {0}) OutOfMemory → World → Type 0
 LosesOwn w id offsets fin (Ok x) v = (queue : Option ℤ) × (o : Outgoing) × LosesOnStream w.out id offsets fin (Ok queue) o × (v ≡ with_queued (with_out w o) id queue)
-LosesOwn w id offsets fin (Err e) v = v ≡ w
+LosesOwn w id offsets fin (Err e) v = (is_some (w.out.halves id) ≡ true) × (v ≡ w)
 
 -- whether the acknowledgement of RESET_STREAM frees a send half: that of a stream which was reset
 abbrev pub frees_reset : World → ℕ → Bool

@@ -326,11 +326,11 @@ moves u (SetWindow window) v h = idle u _ v (record { bytes = refl; limit = refl
 moves u (AckedFrame id offsets fin (Ok done)) v h = idle u _ v (record { bytes = refl; limit = refl; opened = λ dir. refl; counted = λ dir. refl })
     (keeps-acked u id offsets fin done v h)
 moves u (AckedFrame id offsets fin (Err e)) v h = idle u _ v (record { bytes = refl; limit = refl; opened = λ dir. refl; counted = λ dir. refl })
-    (keeps-is h (keeps-all u))
+    (keeps-is h.1 (keeps-all u))
 moves u (LostFrame id offsets fin (Ok queue)) v h = idle u _ v (record { bytes = refl; limit = refl; opened = λ dir. refl; counted = λ dir. refl })
     (keeps-lost u id offsets fin queue v h)
 moves u (LostFrame id offsets fin (Err e)) v h = idle u _ v (record { bytes = refl; limit = refl; opened = λ dir. refl; counted = λ dir. refl })
-    (keeps-is h (keeps-all u))
+    (keeps-is h.1 (keeps-all u))
 moves u (ResetAcked id answer) v h = idle u _ v (record { bytes = refl; limit = refl; opened = λ dir. refl; counted = λ dir. refl })
     (keeps-is h.1 (keeps-given-up u id))
 

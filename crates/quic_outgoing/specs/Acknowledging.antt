@@ -1,5 +1,5 @@
 -- What acknowledgements and losses of frames do to a stream.
-use Rattle.std.specs.Prelude.{◌≡◌, ℕ, ℤ, ◌-◌, Bool, true, false, not, ◌&&◌, ◌||◌, ◌==◌, nat_le, List, Option, Some, None, Result, Ok, Err, if◌then◌else◌, MatchBool}
+use Rattle.std.specs.Prelude.{◌≡◌, ℕ, ℤ, ◌-◌, Bool, true, false, not, ◌&&◌, ◌||◌, ◌==◌, nat_le, List, Option, Some, None, is_some, Result, Ok, Err, if◌then◌else◌, MatchBool}
 use Rattle.std.specs.declared.ops.Range.{Range}
 use Rattle.quic_values.specs.declared.memory.OutOfMemory.{OutOfMemory}
 use Rattle.quic_values.specs.Runs.{lies_in}
@@ -42,10 +42,10 @@ pub record AcksHalf (u : Outgoing) (id : ℕ) (offsets : Range ℕ) (fin : Bool)
   pub done_is : done ≡ is_complete after
   pub is : v ≡ record (with_send_half u id (if done then None else Some after)) { budget = with_released u.budget (total_length half.pending.held - total_length after.pending.held) }
 
--- what came of the report that a frame was acknowledged
+-- what came of the report that a frame was acknowledged. Want of memory is answered only where a half is held
 abbrev pub AcksStream : Outgoing → ℕ → Range ℕ → Bool → Result Bool OutOfMemory → Outgoing → Type 0
 AcksStream u id offsets fin (Ok done) v = MatchBool (were_sent (u.halves id) offsets) (AcksHalf u id offsets fin done v) ((done ≡ false) × (v ≡ u))
-AcksStream u id offsets fin (Err e) v = v ≡ u
+AcksStream u id offsets fin (Err e) v = (is_some (u.halves id) ≡ true) × (v ≡ u)
 
 -- a half once a frame of these offsets is lost: those that are not acknowledged are to be sent again, and so is the end
 -- of a finished stream, if the frame had it
@@ -63,10 +63,10 @@ pub record LosesOnHalf (u : Outgoing) (id : ℕ) (offsets : Range ℕ) (fin : Bo
   pub loses : LosesOffsets offsets fin half after
   pub is : v ≡ with_send_half u id (Some after)
 
--- what came of the report that a frame was lost
+-- what came of the report that a frame was lost. Want of memory is answered only where a half is held
 abbrev pub LosesOnStream : Outgoing → ℕ → Range ℕ → Bool → Result (Option ℤ) OutOfMemory → Outgoing → Type 0
 LosesOnStream u id offsets fin (Ok queue) v = MatchBool (were_sent (u.halves id) offsets) (LosesOnHalf u id offsets fin queue v) ((queue ≡ None) × (v ≡ u))
-LosesOnStream u id offsets fin (Err e) v = v ≡ u
+LosesOnStream u id offsets fin (Err e) v = (is_some (u.halves id) ≡ true) × (v ≡ u)
 
 -- whether a stream was reset and its half is still held
 abbrev pub is_given_up : Option Send → Bool

@@ -155,6 +155,7 @@ impl SendEntries {
         ensures there { IfOk result (λ half. IfSome half (λ _. is_some (senders self.new id) ≡ true)) }
         ensures none { IfOk result (λ half. IfNone half (senders self.new ≡ senders self.old)) }
         ensures err { OnErr result (senders self.new ≡ senders self.old) }
+        ensures held { OnErr result (is_some (senders self.old id) ≡ true) }
         ensures side { self.new.side ≡ self.old.side }
         ensures first { self.new.first ≡ self.old.first }
         ensures room { sender_room self.new ≡ sender_room self.old }

@@ -5,3 +5,4 @@ pub mod Connection
 pub mod Writing
 pub mod Payload
 pub mod Transmitting
+pub mod Waiting

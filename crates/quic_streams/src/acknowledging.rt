@@ -19,7 +19,7 @@ impl StreamsState {
     /// application is told that it is finished, and one of the peer that is wholly freed by it makes room for another.
     ///
     /// The report of a stream that is freed or was reset, or of data that were not sent, changes nothing. If refused, all
-    /// is as it was.
+    /// is as it was; of a stream that is freed none is.
     pub fn received_ack_of(&mut self, frame: frame::StreamMeta) -> Result<(), OutOfMemory>
         ensures acks { AcksOwn (shown self.old) frame.id frame.offsets frame.fin result (shown self.new) }
         ensures from { (m : Made) (h : List Event) → From m h (shown self.old)
@@ -36,6 +36,9 @@ impl StreamsState {
         if !self.is_permitted(id) {
             return Ok(());
         }
+        if !self.outgoing.contains(id) {
+            return Ok(());
+        }
         self.make_room()?;
         if self.outgoing.ack(id, frame.offsets, frame.fin)? {
             self.free_send(id);
@@ -48,7 +51,7 @@ impl StreamsState {
     /// and the end of the stream, if the frame had it. The stream is queued where nothing was to be sent on it before.
     ///
     /// The report of a stream that is freed or was reset, or of data that were not sent, changes nothing. If refused, all
-    /// is as it was.
+    /// is as it was; of a stream that is freed none is.
     pub fn retransmit(&mut self, frame: frame::StreamMeta) -> Result<(), OutOfMemory>
         ensures loses { LosesOwn (shown self.old) frame.id frame.offsets frame.fin result (shown self.new) }
         ensures from { (m : Made) (h : List Event) → From m h (shown self.old)

@@ -6,6 +6,7 @@ pub mod batches;
 mod control;
 pub mod halves;
 mod payload;
+pub mod pending;
 mod permits;
 pub mod reading;
 mod receiving;
@@ -17,6 +18,7 @@ pub mod streams;
 mod transmitting;
 mod writing;
 
+pub use pending::PendingFrames;
 pub use quic_history::progress;
 pub use quic_outgoing::PeerLimits;
 pub use quic_pieces::{assembler, datagrams, send, send_buffer, source, stats};

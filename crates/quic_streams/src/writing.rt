@@ -1,6 +1,6 @@
 //! Writes, ends and resets of a stream, on the state.
 
-ghost use Rattle.std.specs.Prelude.{ℕ, ℤ, List, ◌∷◌, ◌≡◌, ◌≤◌, OnErr, OnOk, IfOk, None, Some, Ok};
+ghost use Rattle.std.specs.Prelude.{ℕ, ℤ, List, ◌∷◌, ◌≡◌, ◌≤◌, OnErr, OnOk, IfOk, None, Some, Ok, is_some, true};
 ghost use Rattle.quic_sending.specs.Source.{slice_lists};
 ghost use Rattle.quic_retransmits.specs.Pending.{shown_pending as listed};
 ghost use Rattle.quic_streams.specs.Connection.{is_shut};
@@ -78,6 +78,7 @@ impl StreamsState {
     pub(crate) fn reserve_place(&mut self, id: StreamId) -> Result<(), OutOfMemory>
         ensures same { shown self.new ≡ shown self.old }
         ensures ok { OnOk result (HasPlace self.new id) }
+        ensures held { OnErr result (is_some ((shown self.old).out.halves id) ≡ true) }
     {
         match self.outgoing.priority(id) {
             Err(_) => Ok(()),

@@ -1,0 +1,8 @@
+use Rattle.std.proofs.Common.{rules}
+use Rattle.quic_streams.specs.Shown.{shown}
+use Rattle.quic_streams.specs.Waiting.{limit_counts}
+use Rattle.quic_streams.proofs.state.StreamsState.has_limit.Goals as goal
+
+pub returns : goal.returns
+unfolding shown
+returns c = c.any_id.ensures (limit_counts (shown c.args.self.now)) (λ id answer post. search rules)
