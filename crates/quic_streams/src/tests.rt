@@ -2,6 +2,7 @@
 
 mod acknowledging;
 mod control;
+mod pending;
 mod reading;
 mod receiving;
 mod sending;
