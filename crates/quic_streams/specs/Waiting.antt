@@ -11,10 +11,11 @@ abbrev pub TellsAny : (ℕ → Bool) → (ℕ → Bool) → Bool → Type 0
 TellsAny ids test true = (id : ℕ) × (ids id ≡ true) × (test id ≡ true)
 TellsAny ids test false = (id : ℕ) → ids id ≡ true → test id ≡ false
 
--- whether MAX_STREAM_DATA is of use on a stream, and STREAM_DATA_BLOCKED
+-- whether MAX_STREAM_DATA is of use on a stream
 abbrev pub window_counts : World → ℕ → Bool
 window_counts w id = is_flow_controlled (w.receive id)
 
+-- whether STREAM_DATA_BLOCKED is of use on a stream
 abbrev pub limit_counts : World → ℕ → Bool
 limit_counts w id = is_some (blocked_limit (w.out.halves id))
 
