@@ -1,24 +1,30 @@
 -- What the frames beside STREAM that an end writes leave as it was.
-use Rattle.std.proofs.Common.{◌≡◌, ℕ, Bool, true, false, eqb, Option, Some, None, refl, sym, ap, subst, arith, List, ◌∷◌, is_some, ◌∙◌}
-use Rattle.std.specs.Prelude.{max, if◌then◌else◌}
+use Rattle.std.proofs.Common.{◌≡◌, ℕ, Bool, true, false, eqb, Option, Some, None, refl, sym, ap, subst, arith, List, ◌∷◌, is_some, ◌∙◌, ◌+◌, ◌-◌, ◌≤◌}
+use Rattle.std.specs.Prelude.{max, ◌==◌, if◌then◌else◌}
+use Rattle.std.specs.Option.{option_map}
 use Rattle.quic_values.specs.declared.ids.Dir.{Dir}
 use Rattle.quic_values.specs.declared.ids.Dir.TheVariants.{Bi, Uni}
 use Rattle.quic_wire.specs.declared.frame.Frame.{Frame}
+use Rattle.quic_wire.specs.declared.frame.Frame.TheVariants as frames
+use Rattle.quic_sending.specs.declared.send.Send.{Send}
+use Rattle.quic_limits.specs.SendingCredit.{is_blocked_reported}
+use Rattle.quic_outgoing.specs.Calls.{blocked_limit}
 use Rattle.quic_limits.specs.Credit.{Credit, announced}
 use Rattle.quic_limits.specs.Remote.{Remote, streams_announced}
 use Rattle.quic_receiving.specs.Half.{Half, is_open, window_end}
 use Rattle.quic_retransmits.specs.Pending.{Pending}
 use Rattle.quic_history.specs.Halves.{with_half}
 use Rattle.quic_history.specs.World.{World, id_refusal, remote_of, with_remote, with_receive}
-use Rattle.quic_history.specs.History.{Event, Settled, Trace, HalfFrom, StreamFrom, CreditFrom, Facts, Goes, trace, consumed, last_window, debt, received}
+use Rattle.quic_history.specs.History.{Event, Settled, Trace, WasAnnounced, HalfFrom, StreamFrom, CreditFrom, Facts, Goes, trace, moved, consumed, last_window, debt, received}
 use Rattle.quic_history.specs.declared.control.ControlKind.{ControlKind}
 use Rattle.quic_history.specs.declared.control.ControlKind.TheVariants as kinds
-use Rattle.quic_history.specs.Control.{SettlesEntry, after_announced, with_announced}
+use Rattle.quic_history.specs.Control.{SettlesEntry, after_announced, with_announced, window_frame, reset_frame}
 use Rattle.quic_history.proofs.Credits.{credit-same}
 use Rattle.quic_history.proofs.Refusals.{refusal-same}
 use Rattle.quic_history.proofs.Remotes.{AllRemotes, SameLimits, remotes-idle, limits-refl}
 use Rattle.quic_history.proofs.StreamSteps.{AllFrom, all-same}
 use Rattle.quic_history.proofs.Totals.{by_cases, same}
+use Rattle.quic_history.proofs.Traces.{itself, received-kept}
 
 -- what was announced is all that changed
 pub record Announces (u v : World) : Type 0 where
@@ -92,7 +98,7 @@ half_announced : (t : Trace) (window : ℕ) (h : Half) → HalfFrom t h → Half
 half_announced t window h k = by_test (is_open h)
   where
     by_test : (b : Bool) → HalfFrom t (if b then record h { sent_max = max h.sent_max (window_end h window) } else h)
-    by_test true = record { high = k.high; read = k.read; sized = k.sized; stopped = k.stopped; reset = k.reset; there = k.there; final = k.final; within = k.within; holds = k.holds }
+    by_test true = record { high = k.high; read = k.read; sized = k.sized; stopped = k.stopped; reset = k.reset; there = k.there; final = k.final; within = k.within; announced = omega (arith, k.announced); holds = k.holds }
     by_test false = k
 
 stream_announced : (t : Trace) (r : Option ℕ) (window : ℕ) (h : Half) → StreamFrom t r (Some h) → StreamFrom t r (Some (with_announced window h))
@@ -155,14 +161,119 @@ credit_moved window used owed came c c' w l r d f = record {
 
 -- ---- what it leaves is true of the end as before
 
-pub facts-settled : (window : ℕ) (h : List Event) (k : ControlKind) (o : Option Frame) (u v : World) → Facts window h u → Announces u v → Facts window (Settled k o ∷ h) v
-facts-settled window h k o u v f s = record {
-  credit = credit-same (last_window window h) (consumed h) (debt window h) (received h) _ _ _ v.credit (omega arith) (omega arith) refl (credit_moved _ _ _ _ u.credit v.credit s.credit_window s.credit_limit s.credit_came s.credit_debt f.credit);
-  streams = s.streams (trace h) f.streams;
+-- a half whose limit is announced, and what is told of it
+half_told : (t : Trace) (limit : ℕ) (h : Half) → HalfFrom t h → HalfFrom (record t { announced = max t.announced limit }) (record h { sent_max = max h.sent_max limit })
+half_told t limit h k = record {
+  high = k.high;
+  read = k.read;
+  sized = k.sized;
+  stopped = k.stopped;
+  reset = k.reset;
+  there = k.there;
+  final = k.final;
+  within = k.within;
+  announced = let a : t.announced ≤ h.sent_max = k.announced in let b : max t.announced limit ≤ max h.sent_max limit = omega arith in b;
+  holds = k.holds;
 }
 
-pub remotes-settled : (at_once b : Dir → ℕ) (f : ℕ → Trace) (u v : World) → Announces u v → AllRemotes at_once b f u → AllRemotes at_once b f v
-remotes-settled at_once b f u v s x = remotes-idle at_once b f f u v (λ q. refl) (record { side = ap (λ o. o.side) s.out; sends = ap (λ o q. is_some (o.halves q)) s.out; limits = s.limits }) x
+stream_told : (t : Trace) (r : Option ℕ) (limit : ℕ) (h : Half) → StreamFrom t r (Some h) → StreamFrom (record t { announced = max t.announced limit }) r (Some (record h { sent_max = max h.sent_max limit }))
+stream_told t None limit h k = half_told t limit h k
+stream_told t (Some error) limit h k = absurd k
+
+-- MAX_STREAM_DATA of a stream was written: which half it announced a limit of
+record AnnouncesLimit (u : World) (id limit : ℕ) (v : World) : Type 0 where
+  pub half : Half
+  pub held : u.receive id ≡ Some half
+  pub is : v ≡ record u { receive = with_half u.receive id (Some (record half { sent_max = max half.sent_max limit })) }
+
+limit_of : (u : World) (k id limit : ℕ) (o : Option Half) (v : World) → u.receive k ≡ o → Some (frames.MaxStreamData id limit) ≡ window_frame u.window k o
+    → v ≡ record u { receive = after_announced u.receive u.window k o } → AnnouncesLimit u id limit v
+limit_of u k id limit None v e f is = cc
+limit_of u k id limit (Some half) v e f is = by_test (is_open half) refl f is
+  where
+    by_test : (b : Bool) → is_open half ≡ b → Some (frames.MaxStreamData id limit) ≡ option_map (frames.MaxStreamData k) (if b then Some (window_end half u.window) else None)
+        → v ≡ record u { receive = with_half u.receive k (Some (if b then record half { sent_max = max half.sent_max (window_end half u.window) } else half)) } → AnnouncesLimit u id limit v
+    by_test false t g is = cc
+    by_test true t g is =
+        let is_id : k ≡ id = cc in
+        let is_limit : window_end half u.window ≡ limit = cc in
+        record {
+          half = half;
+          held = ap u.receive (sym is_id) ∙ e;
+          is = is ∙ ap (λ n. record u { receive = with_half u.receive k (Some (record half { sent_max = max half.sent_max n })) }) is_limit
+              ∙ ap (λ n. record u { receive = with_half u.receive n (Some (record half { sent_max = max half.sent_max limit })) }) is_id;
+        }
+
+-- no other kind is written as MAX_STREAM_DATA
+not_reset : (i c id limit : ℕ) (o : Option Send) → Some (frames.MaxStreamData id limit) ≡ reset_frame i c o → ⊥
+not_reset i c id limit None e = cc
+not_reset i c id limit (Some s) e = cc
+
+not_if : (b : Bool) (n id limit : ℕ) → Some (frames.MaxStreamData id limit) ≡ (if b then Some (frames.DataBlocked n) else None) → ⊥
+not_if true n id limit e = cc
+not_if false n id limit e = cc
+
+not_blocked : (i id limit : ℕ) (o : Option ℕ) → Some (frames.MaxStreamData id limit) ≡ option_map (frames.StreamDataBlocked i) o → ⊥
+not_blocked i id limit None e = cc
+not_blocked i id limit (Some n) e = cc
+
+announces_limit : (k : ControlKind) (u : World) (p : Pending) (id limit : ℕ) (v : World) (q : Pending) → SettlesEntry k u p (Some (frames.MaxStreamData id limit)) v q → AnnouncesLimit u id limit v
+announces_limit kinds.ResetStream u p id limit v q s = absurd (not_reset s.id s.code id limit (u.out.halves s.id) s.frame)
+announces_limit kinds.StopSending u p id limit v q s = let e = s.frame in cc
+announces_limit kinds.MaxData u p id limit v q s = let e = s.frame in cc
+announces_limit kinds.MaxStreamData u p id limit v q s = limit_of u s.id id limit (u.receive s.id) v refl s.frame s.end
+announces_limit (kinds.MaxStreams d) u p id limit v q s = let e = s.frame in cc
+announces_limit kinds.DataBlocked u p id limit v q s = absurd (not_if (is_blocked_reported u.out.budget) u.out.budget.max_data id limit s.frame)
+announces_limit kinds.StreamDataBlocked u p id limit v q s = absurd (not_blocked s.id id limit (blocked_limit (u.out.halves s.id)) s.frame)
+
+told_limit : (f : ℕ → Trace) (u : World) (id limit : ℕ) (v : World) → AnnouncesLimit u id limit v → AllFrom f u → AllFrom (λ q. moved (Some (id, WasAnnounced limit)) q (f q)) v
+unfolding with_half
+told_limit f u id limit v s a =
+    let P : World → Type 0 = λ x. AllFrom (λ q. moved (Some (id, WasAnnounced limit)) q (f q)) x in
+    subst P (sym s.is) (λ q. by_cases (eqb q id) (here q) (there q))
+  where
+    w : World
+    w = record u { receive = with_half u.receive id (Some (record s.half { sent_max = max s.half.sent_max limit })) }
+
+    here : (q : ℕ) → eqb q id ≡ true → StreamFrom (moved (Some (id, WasAnnounced limit)) q (f q)) (id_refusal w q) (w.receive q)
+    here q t =
+        let at : StreamFrom (f q) (id_refusal u q) (Some s.half) = rw (ap u.receive (same q id t) ∙ s.held) at (a q) in
+        rw (t, refusal-same w u q refl refl refl refl) (stream_told (f q) (id_refusal u q) limit s.half at)
+
+    there : (q : ℕ) → eqb q id ≡ false → StreamFrom (moved (Some (id, WasAnnounced limit)) q (f q)) (id_refusal w q) (w.receive q)
+    there q n = rw n (kept_at (f q) (id_refusal u q) (id_refusal w q) (u.receive q) (u.receive q) (refusal-same w u q refl refl refl refl) refl (a q))
+
+credit_settled : (window : ℕ) (h : List Event) (u v : World) → Facts window h u → Announces u v → CreditFrom (last_window window h) (consumed h) (debt window h) (received h) v.credit
+credit_settled window h u v f s = credit_moved _ _ _ _ u.credit v.credit s.credit_window s.credit_limit s.credit_came s.credit_debt f.credit
+
+facts_idle : (window : ℕ) (h : List Event) (u v : World) → Facts window h u → Announces u v → (n : ℕ) → n ≡ received h → CreditFrom (last_window window h) (consumed h + 0) (debt window h - 0) n v.credit
+facts_idle window h u v f s n e = credit-same (last_window window h) (consumed h) (debt window h) (received h) _ _ _ v.credit (omega arith) (omega arith) e (credit_settled window h u v f s)
+
+pub facts-settled : (window : ℕ) (h : List Event) (k : ControlKind) (o : Option Frame) (u v : World) (p q : Pending) → Facts window h u → SettlesEntry k u p o v q → Facts window (Settled k o ∷ h) v
+facts-settled window h k (Some (frames.MaxStreamData id limit)) u v p q f s =
+    let limit_told = announces_limit k u p id limit v q s in
+    record {
+      credit = facts_idle window h u v f (announces k u p _ v q s) (received (Settled k (Some (frames.MaxStreamData id limit)) ∷ h))
+          (received-kept h (trace (Settled k (Some (frames.MaxStreamData id limit)) ∷ h)) id (λ j n. rw n refl) (rw (itself id) refl));
+      streams = told_limit (trace h) u id limit v limit_told f.streams;
+    }
+facts-settled window h k o u v p q f s = let a = announces k u p o v q s in record {
+  credit = facts_idle window h u v f a (received h) refl;
+  streams = a.streams (trace h) f.streams;
+}
+
+-- nothing is freed by it
+gone_settled : (h : List Event) (k : ControlKind) (o : Option Frame) (q : ℕ) → (trace (Settled k o ∷ h) q).gone ≡ (trace h q).gone
+gone_settled h k (Some (frames.MaxStreamData id limit)) q = by_test (q == id)
+  where
+    by_test : (b : Bool) → (if b then record (trace h q) { announced = max (trace h q).announced limit } else trace h q).gone ≡ (trace h q).gone
+    by_test true = refl
+    by_test false = refl
+gone_settled h k o q = refl
+
+pub remotes-settled : (at_once b : Dir → ℕ) (h : List Event) (k : ControlKind) (o : Option Frame) (u v : World) → Announces u v → AllRemotes at_once b (trace h) u → AllRemotes at_once b (trace (Settled k o ∷ h)) v
+remotes-settled at_once b h k o u v s x =
+    remotes-idle at_once b (trace h) (trace (Settled k o ∷ h)) u v (λ q. gone_settled h k o q) (record { side = ap (λ o. o.side) s.out; sends = ap (λ o q. is_some (o.halves q)) s.out; limits = s.limits }) x
 
 pub goes-settled : (u v : World) → Announces u v → Goes u v
 goes-settled u v s = record { side = ap (λ o. o.side) s.out; window = s.window; limit = omega (arith, s.credit_limit) }

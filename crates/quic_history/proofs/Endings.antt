@@ -1,10 +1,11 @@
 -- A reported end means that every byte was given, over every history.
 use Rattle.std.proofs.Common.{◌≡◌, ℕ, Bool, true, false, ◌||◌, ◌&&◌, List, ◌∷◌, length, Option, Some, None, is_some, Result, Ok, Err, refl, sym, ap, ◌∙◌, ◌↔◌, subst, inl, inr, arith, ◌+◌, ◌≤◌, ◌<◌}
-use Rattle.std.specs.Prelude.{if◌then◌else◌, ◌==◌, ◌-◌, slice_index}
+use Rattle.std.specs.Prelude.{if◌then◌else◌, ◌==◌, ◌-◌, max, slice_index}
 use Rattle.std.proofs.lemmas.Bool.Decides.{nat_tests}
 use Rattle.quic_assembler.specs.declared.chunk.Chunk.{Chunk}
 use Rattle.quic_assembler.specs.Piece.{lies}
 use Rattle.quic_wire.specs.declared.error.ReceiveError.{ReceiveError}
+use Rattle.quic_wire.specs.declared.frame.Frame.TheVariants as frames
 use Rattle.quic_receiving.specs.declared.transmit.ShouldTransmit.{ShouldTransmit}
 use Rattle.quic_receiving.specs.Data.{Slice, IsData, IsAllGiven, is_in_slices}
 use Rattle.quic_receiving.specs.Half.{Half, is_all}
@@ -13,7 +14,7 @@ use Rattle.quic_receiving.specs.declared.errors.ReadError.{ReadError}
 use Rattle.quic_receiving.specs.declared.errors.ReadError.TheVariants as read_error
 use Rattle.quic_receiving.proofs.Data.{all_given}
 use Rattle.quic_history.specs.World.{World}
-use Rattle.quic_history.specs.History.{Event, Received, ReceivedReset, Gave, Stopped, ToldReset, Step, Move, Framed, WasReset, WasRead, WasStopped, WasTold, Trace, HalfFrom, Facts, GivenSo, EndsSo, TellsEnds, slices, trace, moved, is_closed, is_kept, with_kept_frame, with_reset, with_read, with_stop, with_move}
+use Rattle.quic_history.specs.History.{Event, Received, ReceivedReset, Gave, Stopped, ToldReset, Step, Move, Framed, WasReset, WasRead, WasStopped, WasTold, WasAnnounced, Settled, Trace, HalfFrom, Facts, GivenSo, EndsSo, TellsEnds, slices, trace, moved, is_closed, is_kept, with_kept_frame, with_reset, with_read, with_stop, with_move}
 use Rattle.quic_history.proofs.Totals.{by_cases, same}
 use Rattle.quic_history.proofs.StreamSteps.{half-from, known-from}
 
@@ -131,6 +132,9 @@ told_stopped t h x p = (never_ended t _ p.0 x.there refl, record { came = p.1.ca
 told_code : (t : Trace) → IsTold t → IsTold (record t { gone = true })
 told_code t p = (record { freed = λ e. refl; sized = p.0.sized; all = p.0.all }, record { came = p.1.came; once = p.1.once })
 
+told_announced : (t : Trace) (limit : ℕ) → IsTold t → IsTold (record t { announced = max t.announced limit })
+told_announced t limit p = (record { freed = p.0.freed; sized = p.0.sized; all = p.0.all }, record { came = p.1.came; once = p.1.once })
+
 pub kept-told-of : (window : ℕ) (h : List Event) (u : World) (e : Event) (v : World) → Facts window h u → Step u e v → ((q : ℕ) → IsTold (trace h q)) → (q : ℕ) → IsTold (trace (e ∷ h) q)
 kept-told-of window h u (Received id offset bytes fin answer) v f s p q =
     told_moved h q id (Framed offset bytes fin answer) (λ t. told_frame (trace h id) offset bytes fin answer (p id)) (p q)
@@ -145,4 +149,6 @@ kept-told-of window h u (Stopped id code (Ok x)) v f s p q =
     let known = known-from (trace h) u id s.2.0 f.streams s.2.2 in
     told_moved h q id WasStopped (λ t. told_stopped (trace h id) s.2.0 (half-from (trace h) u id s.2.0 f.streams known s.2.2) (p id)) (p q)
 kept-told-of window h u (ToldReset id (Ok (Some code))) v f s p q = told_moved h q id WasTold (λ t. told_code (trace h id) (p id)) (p q)
+kept-told-of window h u (Settled kind (Some (frames.MaxStreamData id limit))) v f s p q =
+    told_moved h q id (WasAnnounced limit) (λ t. told_announced (trace h id) limit (p id)) (p q)
 kept-told-of window h u _ v f s p q = p q

@@ -27,6 +27,7 @@ pub record Grows (old new : Half) (offset : ℕ) (bytes : List ℕ) (fin : Bool)
   pub size : new.size ≡ (if fin then Some (offset + length bytes) else old.size)
   pub stopped : new.stopped ≡ old.stopped
   pub reset : new.reset ≡ old.reset
+  pub limit : new.sent_max ≡ old.sent_max
   pub read : new.buffer.bytes_read ≡ old.buffer.bytes_read
   pub highest : new.buffer.highest ≤ max old.buffer.highest (offset + length bytes)
   pub inserts : old.stopped ≡ false → Inserted old.buffer new.buffer offset bytes
@@ -43,6 +44,7 @@ grows-counted old new offset bytes fin stopped is = rw is (record {
   size = refl;
   stopped = refl;
   reset = refl;
+  limit = refl;
   read = refl;
   highest = omega arith;
   inserts = λ s. cc;
@@ -54,6 +56,7 @@ grows-keeps old new offset bytes fin k = record {
   size = ap (λ x. x.size) k.is;
   stopped = ap (λ x. x.stopped) k.is;
   reset = ap (λ x. x.reset) k.is;
+  limit = ap (λ x. x.sent_max) k.is;
   read = k.inserted.bytes_read;
   highest = omega (arith, k.inserted.highest);
   inserts = λ s. k.inserted;
@@ -130,6 +133,7 @@ half_grown t t' old new offset bytes fin had most x g p e there = record {
   there = there;
   final = λ size k. g.high ∙ size_after old.size old.end (offset + length bytes) fin x.final p.past p.low size (sym g.size ∙ k);
   within = omega (arith, g.high, g.highest, x.within);
+  announced = omega (arith, g.limit, ap (λ k. k.announced) e, x.announced);
   holds = subst HasData (sym e) (λ s r. data-inserted t.kept (slices t.given) old.buffer new.buffer offset bytes (g.inserts (x.stopped ∙ s)) (x.holds s r));
 }
   where

@@ -10,7 +10,7 @@ use Rattle.quic_history.specs.World.{World, sends, Made, count_of, remote_of}
 use Rattle.quic_history.specs.History.{Event, Received, ReceivedReset, AddedCredits, Began, Gave, Ended, Stopped, ToldReset, Resized, SetConcurrent, Accepted, Settled, Sending, Step, Fits, Facts, From, IsRun, PermitsNow, EverPermits, with_next, before, counts, is_freed, trace, consumed, last_window, debt, received}
 use Rattle.quic_history.proofs.Credits.{credit-credited, credit-resized, credit-same, limit-fits}
 use Rattle.quic_history.proofs.SentHistory.{kept-sent}
-use Rattle.quic_history.proofs.ControlSteps.{announces, facts-settled}
+use Rattle.quic_history.proofs.ControlSteps.{facts-settled}
 use Rattle.quic_history.proofs.FlowHistory.{kept-sends}
 use Rattle.quic_history.proofs.RestHistory.{kept-rest}
 use Rattle.quic_history.proofs.WritesTold.{writes-told}
@@ -56,7 +56,7 @@ kept window h u (Accepted dir answer) v f s = rw s.0 (record {
   credit = rw (credit-accepted u dir) (credit-same (last_window window h) (consumed h) (debt window h) (received h) _ _ _ u.credit (omega arith) (omega arith) refl f.credit);
   streams = all-accepted (trace h) u dir f.streams;
 })
-kept window h u (Settled kind frame) v f s = facts-settled window h kind frame u v f (announces kind u s.0 frame v s.1 s.2)
+kept window h u (Settled kind frame) v f s = facts-settled window h kind frame u v s.0 s.1 f s.2
 kept window h u (Sending e) v f s = facts-sending window h u e v f s
 
 permits-now : (m : Made) (h : List Event) (v : World) (run : IsRun m h v) → EverPermits m h v run → PermitsNow m h v run

@@ -67,6 +67,7 @@ half_same t old new x is read highest more = record {
   there = x.there;
   final = λ size k. ap (λ y. y.end) is ∙ x.final size (sym (ap (λ y. y.size) is) ∙ k);
   within = omega (arith, highest, ap (λ y. y.end) is, x.within);
+  announced = omega (arith, ap (λ y. y.sent_max) is, x.announced);
   holds = λ s r. more (x.holds s r);
 }
 
@@ -137,6 +138,7 @@ half_given t old new most ordered chunk x is gives = record {
   there = x.there;
   final = λ size k. ap (λ y. y.end) is ∙ x.final size (sym (ap (λ y. y.size) is) ∙ k);
   within = omega (arith, gives.highest, ap (λ y. y.end) is, x.within);
+  announced = omega (arith, ap (λ y. y.sent_max) is, x.announced);
   holds = λ s r. data-given t.kept (slices t.given) old.buffer new.buffer most chunk gives (x.holds s r);
 }
 
@@ -206,6 +208,7 @@ module _ (window : ℕ) (h : List Event) (u : World) (id code : ℕ) (old new : 
     there = ap (λ k. k.gone) here_stop ∙ s;
     final = λ size k. ap (λ y. y.end) is ∙ was_stop.final size (sym (ap (λ y. y.size) is) ∙ k);
     within = omega (arith, highest, ap (λ y. y.end) is, was_stop.within);
+    announced = omega (arith, ap (λ k. k.sent_max) is, ap (λ k. k.announced) here_stop, was_stop.announced);
     holds = λ k r. let e : true ≡ false = sym (ap (λ y. y.stopped) here_stop) ∙ k in cc;
   }
 

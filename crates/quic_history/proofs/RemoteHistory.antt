@@ -340,5 +340,5 @@ kept-remotes window at_once h u (SetConcurrent dir count (Err k)) v f x s = remo
 kept-remotes window at_once h u (Accepted dir answer) v f x s = let b : Dir → ℕ = λ d. (remote_of u d).max_remote in
     remotes_at at_once b (trace h) v (with_accepted u dir) s.0
     (remotes-idle at_once b (trace h) (trace h) u (with_accepted u dir) (λ q. refl) (remotes-remote u dir (one_accepted (remote_of u dir)) (one-accepted (remote_of u dir))) x)
-kept-remotes window at_once h u (Settled kind frame) v f x s = remotes-settled at_once (λ d. (remote_of u d).max_remote) (trace h) u v (announces kind u s.0 frame v s.1 s.2) x
+kept-remotes window at_once h u (Settled kind frame) v f x s = remotes-settled at_once (λ d. (remote_of u d).max_remote) h kind frame u v (announces kind u s.0 frame v s.1 s.2) x
 kept-remotes window at_once h u (Sending e) v f x s = remotes-sending at_once (λ d. (remote_of u d).max_remote) (trace h) u e v f.streams x s

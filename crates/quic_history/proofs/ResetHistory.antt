@@ -103,6 +103,7 @@ module _ (window : ℕ) (h : List Event) (u : World) (id code final : ℕ) (tran
     there = ap (λ k. k.gone) here ∙ s;
     final = λ size k. end_is ∙ (let m : Some final ≡ Some size = sym (ap (λ x. x.size) is) ∙ k in cc);
     within = omega (arith, end_is, low, clears.highest, was.within);
+    announced = omega (arith, ap (λ k. k.sent_max) is, ap (λ k. k.announced) here, was.announced);
     holds = λ s r. let k : Some code ≡ None = sym (ap (λ k. k.reset) here) ∙ r in cc;
   }
 

@@ -109,6 +109,7 @@ new-half-from window = record {
   there = refl;
   final = λ size e. cc;
   within = omega arith;
+  announced = omega arith;
   holds = λ s r. data-fresh;
 }
 

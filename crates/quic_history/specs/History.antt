@@ -33,6 +33,7 @@ use Rattle.quic_history.specs.SendTotals.{SendTotals, send_totals, own_total}
 use Rattle.quic_history.specs.declared.control.ControlKind.{ControlKind}
 use Rattle.quic_history.specs.Control.{SettlesEntry}
 use Rattle.quic_wire.specs.declared.frame.Frame.{Frame}
+use Rattle.quic_wire.specs.declared.frame.Frame.TheVariants as frames
 use Rattle.quic_history.specs.SendEvents.{SendEvent, SendStep, GaveLimits, RaisedData, RaisedCount, RaisedLimit, StoppedOwn, SetWindow, OpenedOwn, WroteOwn, FinishedOwn, ResetOwn, Polled, AckedOwn, LostOwn, ResetAckedOwn, TookTurn}
 use Rattle.quic_flows.specs.Flow.{SendMove, WasWritten, WasFinished, WasGivenUp, WasAskedToStop, WasPermitted, SendFlow, new_flow, front_of, retained, WasCarried, WasAcked, WasLost, WasResetAcked, counts_for, is_whole, with_acked}
 use Rattle.quic_outgoing.specs.declared.limits.PeerLimits.{PeerLimits}
@@ -179,13 +180,15 @@ pub record Trace : Type 0 where
   pub gone : Bool
   -- whether a read told the end
   pub ended : Bool
+  -- the greatest limit of it that MAX_STREAM_DATA announced, 0 where none did
+  pub announced : ℕ
   -- the frames that were kept, the last first
   pub kept : List Slice
   -- the chunks that reads gave, the last first
   pub given : List ReadChunk
 
 abbrev pub untouched : Trace
-untouched = record { high = 0; read = 0; sized = false; stopped = false; reset = None; gone = false; ended = false; kept = []; given = [] }
+untouched = record { high = 0; read = 0; sized = false; stopped = false; reset = None; gone = false; ended = false; announced = 0; kept = []; given = [] }
 
 -- whether frames on a stream are dropped
 abbrev pub is_closed : Trace → Bool
@@ -236,6 +239,8 @@ pub data Move : Type 0 where
   WasStopped : Move
   -- the code of its reset was told, which frees it
   WasTold : Move
+  -- MAX_STREAM_DATA announced a limit of it
+  WasAnnounced : (limit : ℕ) → Move
 
 abbrev pub with_move : Move → Trace → Trace
 with_move (Framed offset bytes fin answer) t = if is_kept answer then with_kept_frame offset bytes fin t else t
@@ -243,6 +248,7 @@ with_move (WasReset code final) t = with_reset code final t
 with_move (WasRead ordered answer) t = with_read ordered answer t
 with_move WasStopped t = with_stop t
 with_move WasTold t = record t { gone = true }
+with_move (WasAnnounced limit) t = record t { announced = max t.announced limit }
 
 -- the stream that a call touched, and what it did to it. Other calls, and those that were refused, touch none
 abbrev pub move_of : Event → Option (ℕ × Move)
@@ -251,6 +257,7 @@ move_of (ReceivedReset id code final (Ok transmit)) = Some (id, WasReset code fi
 move_of (Gave id most ordered answer) = Some (id, WasRead ordered answer)
 move_of (Stopped id code (Ok u)) = Some (id, WasStopped)
 move_of (ToldReset id (Ok (Some code))) = Some (id, WasTold)
+move_of (Settled kind (Some (frames.MaxStreamData id limit))) = Some (id, WasAnnounced limit)
 move_of _ = None
 
 abbrev pub moved : Option (ℕ × Move) → ℕ → Trace → Trace
@@ -301,6 +308,7 @@ move_gives (WasReset code final) t = reset_credit t final
 move_gives (WasRead ordered answer) t = 0
 move_gives WasStopped t = stop_gives t
 move_gives WasTold t = 0
+move_gives (WasAnnounced limit) t = 0
 
 -- how many bytes that were consumed a call hands in
 abbrev pub handed_in : Event → ℕ
@@ -366,6 +374,8 @@ pub record HalfFrom (t : Trace) (h : Half) : Type 0 where
   pub final : (size : ℕ) → h.size ≡ Some size → h.end ≡ size
   -- what is held lies below the highest offset
   pub within : h.buffer.highest ≤ h.end
+  -- no limit was announced that is not held to
+  pub announced : t.announced ≤ h.sent_max
   -- while it is neither stopped nor reset, it holds what came in kept frames and was not given
   pub holds : t.stopped ≡ false → t.reset ≡ None → IsData t.kept (slices t.given) h.buffer
 
