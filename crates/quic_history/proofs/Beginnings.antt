@@ -63,16 +63,16 @@ le_not_lt : (m n : ℕ) → nat_le m n ≡ not (nat_lt n m)
 le_not_lt m n = grind (arith, nat_tests)
 
 -- a stream of the peer, by whether it is among the first
-of_peer : (error window : ℕ) (first : Bool) → StreamFrom untouched (if not first then Some error else None) (cond first (Some (new_half window)) None)
+of_peer : (error window : ℕ) (first : Bool) → StreamFrom window untouched (if not first then Some error else None) (cond first (Some (new_half window)) None)
 of_peer error window true = new-half-from window
 of_peer error window false = refl
 
-by_limit : (error window count index : ℕ) → StreamFrom untouched (if nat_le count index then Some error else None) (cond (nat_lt index count) (Some (new_half window)) None)
+by_limit : (error window count index : ℕ) → StreamFrom window untouched (if nat_le count index then Some error else None) (cond (nat_lt index count) (Some (new_half window)) None)
 by_limit error window count index = rw (le_not_lt count index) (of_peer error window (nat_lt index count))
 
 -- a stream, by whose it is and by its direction
 by_bits : (s : Side) (b c : Bool) (uni bi window index : ℕ)
-    → StreamFrom untouched (refusal_by (is_same_side s (if b then Client else Server)) c 0 bi uni index)
+    → StreamFrom window untouched (refusal_by (is_same_side s (if b then Client else Server)) c 0 bi uni index)
     (cond ((has_side (other_side s) b && has_dir Uni c) && nat_lt index uni) (Some (new_half window))
     (cond ((has_side (other_side s) b && has_dir Bi c) && nat_lt index bi) (Some (new_half window)) None))
 by_bits Client true true uni bi window index = rw (least index) refl

@@ -22,7 +22,7 @@ use Rattle.quic_history.specs.Control.{SettlesEntry, after_announced, with_annou
 use Rattle.quic_history.proofs.Credits.{credit-same}
 use Rattle.quic_history.proofs.Refusals.{refusal-same}
 use Rattle.quic_history.proofs.Remotes.{AllRemotes, SameLimits, remotes-idle, limits-refl}
-use Rattle.quic_history.proofs.StreamSteps.{AllFrom, all-same}
+use Rattle.quic_history.proofs.StreamSteps.{AllFrom, all-same, all-remote}
 use Rattle.quic_history.proofs.Totals.{by_cases, same}
 use Rattle.quic_history.proofs.Traces.{itself, received-kept}
 
@@ -36,10 +36,9 @@ pub record Announces (u v : World) : Type 0 where
   pub credit_came : v.credit.data_recvd ≡ u.credit.data_recvd
   pub credit_debt : v.credit.shrink_debt ≡ u.credit.shrink_debt
   pub limits : (d : Dir) → SameLimits (remote_of u d) (remote_of v d)
-  pub streams : (f : ℕ → Trace) → AllFrom f u → AllFrom f v
 
 announces_none : (u : World) → Announces u u
-announces_none u = record { out = refl; window = refl; queue = refl; credit_window = refl; credit_limit = refl; credit_came = refl; credit_debt = refl; limits = λ d. limits-refl (remote_of u d); streams = λ f a. a }
+announces_none u = record { out = refl; window = refl; queue = refl; credit_window = refl; credit_limit = refl; credit_came = refl; credit_debt = refl; limits = λ d. limits-refl (remote_of u d) }
 
 announces_at : (u v w : World) → v ≡ w → Announces u w → Announces u v
 announces_at u v w e s = let P : World → Type 0 = λ x. Announces u x in subst P (sym e) s
@@ -54,7 +53,6 @@ announces_credit u = record {
   credit_came = refl;
   credit_debt = refl;
   limits = both;
-  streams = λ f a. all-same f u (record u { credit = announced u.credit }) (λ q. refusal-same (record u { credit = announced u.credit }) u q refl refl refl refl) (λ q. refl) a;
 }
   where
     both : (d : Dir) → SameLimits (remote_of u d) (remote_of (record u { credit = announced u.credit }) d)
@@ -71,7 +69,6 @@ announces_streams u Bi = record {
   credit_came = refl;
   credit_debt = refl;
   limits = both;
-  streams = λ f a. all-same f u (with_remote u Bi (streams_announced u.bi)) (λ q. refusal-same (with_remote u Bi (streams_announced u.bi)) u q refl refl refl refl) (λ q. refl) a;
 }
   where
     both : (d : Dir) → SameLimits (remote_of u d) (remote_of (with_remote u Bi (streams_announced u.bi)) d)
@@ -86,30 +83,14 @@ announces_streams u Uni = record {
   credit_came = refl;
   credit_debt = refl;
   limits = both;
-  streams = λ f a. all-same f u (with_remote u Uni (streams_announced u.uni)) (λ q. refusal-same (with_remote u Uni (streams_announced u.uni)) u q refl refl refl refl) (λ q. refl) a;
 }
   where
     both : (d : Dir) → SameLimits (remote_of u d) (remote_of (with_remote u Uni (streams_announced u.uni)) d)
     both Bi = limits-refl u.bi
     both Uni = record { max = refl; allocated = refl; concurrent = refl }
 
--- the facts of a half do not speak of what was announced
-half_announced : (t : Trace) (window : ℕ) (h : Half) → HalfFrom t h → HalfFrom t (with_announced window h)
-half_announced t window h k = by_test (is_open h)
-  where
-    by_test : (b : Bool) → HalfFrom t (if b then record h { sent_max = max h.sent_max (window_end h window) } else h)
-    by_test true = record { high = k.high; read = k.read; sized = k.sized; stopped = k.stopped; reset = k.reset; there = k.there; final = k.final; within = k.within; announced = omega (arith, k.announced); holds = k.holds }
-    by_test false = k
-
-stream_announced : (t : Trace) (r : Option ℕ) (window : ℕ) (h : Half) → StreamFrom t r (Some h) → StreamFrom t r (Some (with_announced window h))
-stream_announced t None window h k = half_announced t window h k
-stream_announced t (Some error) window h k = absurd k
-
-announced_at : (t : Trace) (r r' : Option ℕ) (window : ℕ) (o o' : Option Half) (h : Half) → r' ≡ r → o ≡ Some h → o' ≡ Some (with_announced window h) → StreamFrom t r o → StreamFrom t r' o'
-announced_at t r r' window o o' h e k l s = let there : StreamFrom t r (Some h) = rw k at s in rw (e, l) (stream_announced t r window h there)
-
-kept_at : (t : Trace) (r r' : Option ℕ) (o o' : Option Half) → r' ≡ r → o' ≡ o → StreamFrom t r o → StreamFrom t r' o'
-kept_at t r r' o o' e l s = rw (e, l) s
+kept_at : (n n' : ℕ) (t : Trace) (r r' : Option ℕ) (o o' : Option Half) → n' ≡ n → r' ≡ r → o' ≡ o → StreamFrom n t r o → StreamFrom n' t r' o'
+kept_at n n' t r r' o o' w e l s = rw (w, e, l) s
 
 announces_half : (u : World) (id : ℕ) (h : Half) → u.receive id ≡ Some h → Announces u (record u { receive = with_half u.receive id (Some (with_announced u.window h)) })
 unfolding with_half
@@ -122,15 +103,9 @@ announces_half u id h e = record {
   credit_came = refl;
   credit_debt = refl;
   limits = both;
-  streams = λ f a q. by_cases (eqb q id)
-      (λ t. announced_at (f q) (id_refusal u q) (id_refusal v q) u.window (u.receive q) (v.receive q) h (refusal-same v u q refl refl refl refl) (ap u.receive (same q id t) ∙ e) (rw t refl) (a q))
-      (λ n. kept_at (f q) (id_refusal u q) (id_refusal v q) (u.receive q) (v.receive q) (refusal-same v u q refl refl refl refl) (rw n refl) (a q));
 }
   where
-    v : World
-    v = record u { receive = with_half u.receive id (Some (with_announced u.window h)) }
-
-    both : (d : Dir) → SameLimits (remote_of u d) (remote_of v d)
+    both : (d : Dir) → SameLimits (remote_of u d) (remote_of (record u { receive = with_half u.receive id (Some (with_announced u.window h)) }) d)
     both Bi = limits-refl u.bi
     both Uni = limits-refl u.uni
 
@@ -162,8 +137,8 @@ credit_moved window used owed came c c' w l r d f = record {
 -- ---- what it leaves is true of the end as before
 
 -- a half whose limit is announced, and what is told of it
-half_told : (t : Trace) (limit : ℕ) (h : Half) → HalfFrom t h → HalfFrom (record t { announced = max t.announced limit }) (record h { sent_max = max h.sent_max limit })
-half_told t limit h k = record {
+half_told : (n : ℕ) (t : Trace) (limit : ℕ) (h : Half) → HalfFrom n t h → HalfFrom n (record t { announced = max t.announced limit }) (record h { sent_max = max h.sent_max limit })
+half_told n t limit h k = record {
   high = k.high;
   read = k.read;
   sized = k.sized;
@@ -172,13 +147,16 @@ half_told t limit h k = record {
   there = k.there;
   final = k.final;
   within = k.within;
-  announced = let a : t.announced ≤ h.sent_max = k.announced in let b : max t.announced limit ≤ max h.sent_max limit = omega arith in b;
+  limit = raised h.sent_max n t.announced limit k.limit;
   holds = k.holds;
 }
+  where
+    raised : (s n a limit : ℕ) → s ≡ max n a → max s limit ≡ max n (max a limit)
+    raised s n a limit e = omega arith
 
-stream_told : (t : Trace) (r : Option ℕ) (limit : ℕ) (h : Half) → StreamFrom t r (Some h) → StreamFrom (record t { announced = max t.announced limit }) r (Some (record h { sent_max = max h.sent_max limit }))
-stream_told t None limit h k = half_told t limit h k
-stream_told t (Some error) limit h k = absurd k
+stream_told : (n : ℕ) (t : Trace) (r : Option ℕ) (limit : ℕ) (h : Half) → StreamFrom n t r (Some h) → StreamFrom n (record t { announced = max t.announced limit }) r (Some (record h { sent_max = max h.sent_max limit }))
+stream_told n t None limit h k = half_told n t limit h k
+stream_told n t (Some error) limit h k = absurd k
 
 -- MAX_STREAM_DATA of a stream was written: which half it announced a limit of
 record AnnouncesLimit (u : World) (id limit : ℕ) (v : World) : Type 0 where
@@ -235,13 +213,56 @@ told_limit f u id limit v s a =
     w : World
     w = record u { receive = with_half u.receive id (Some (record s.half { sent_max = max s.half.sent_max limit })) }
 
-    here : (q : ℕ) → eqb q id ≡ true → StreamFrom (moved (Some (id, WasAnnounced limit)) q (f q)) (id_refusal w q) (w.receive q)
+    here : (q : ℕ) → eqb q id ≡ true → StreamFrom u.window (moved (Some (id, WasAnnounced limit)) q (f q)) (id_refusal w q) (w.receive q)
     here q t =
-        let at : StreamFrom (f q) (id_refusal u q) (Some s.half) = rw (ap u.receive (same q id t) ∙ s.held) at (a q) in
-        rw (t, refusal-same w u q refl refl refl refl) (stream_told (f q) (id_refusal u q) limit s.half at)
+        let at : StreamFrom u.window (f q) (id_refusal u q) (Some s.half) = rw (ap u.receive (same q id t) ∙ s.held) at (a q) in
+        rw (t, refusal-same w u q refl refl refl refl) (stream_told u.window (f q) (id_refusal u q) limit s.half at)
 
-    there : (q : ℕ) → eqb q id ≡ false → StreamFrom (moved (Some (id, WasAnnounced limit)) q (f q)) (id_refusal w q) (w.receive q)
-    there q n = rw n (kept_at (f q) (id_refusal u q) (id_refusal w q) (u.receive q) (u.receive q) (refusal-same w u q refl refl refl refl) refl (a q))
+    there : (q : ℕ) → eqb q id ≡ false → StreamFrom u.window (moved (Some (id, WasAnnounced limit)) q (f q)) (id_refusal w q) (w.receive q)
+    there q n = rw n (kept_at u.window u.window (f q) (id_refusal u q) (id_refusal w q) (u.receive q) (u.receive q) refl (refusal-same w u q refl refl refl refl) refl (a q))
+
+-- ---- any other frame, or none
+
+abbrev limit_in : Option Frame → Option (ℕ × ℕ)
+limit_in (Some (frames.MaxStreamData id limit)) = Some (id, limit)
+limit_in _ = None
+
+all_at : (f : ℕ → Trace) (u v : World) → v ≡ u → AllFrom f u → AllFrom f v
+all_at f u v e a = let P : World → Type 0 = λ x. AllFrom f x in subst P (sym e) a
+
+same_half : (f : ℕ → Trace) (u : World) (id : ℕ) (half : Half) → u.receive id ≡ Some half → AllFrom f u → AllFrom f (record u { receive = with_half u.receive id (Some half) })
+unfolding with_half
+same_half f u id half e a q = by_cases (eqb q id)
+    (λ t. rw t (kept_at u.window u.window (f q) (id_refusal u q) (id_refusal v q) (u.receive q) (Some half) refl (refusal-same v u q refl refl refl refl) (sym (ap u.receive (same q id t) ∙ e)) (a q)))
+    (λ n. rw n (kept_at u.window u.window (f q) (id_refusal u q) (id_refusal v q) (u.receive q) (u.receive q) refl (refusal-same v u q refl refl refl refl) refl (a q)))
+  where
+    v : World
+    v = record u { receive = with_half u.receive id (Some half) }
+
+kept_window : (f : ℕ → Trace) (u : World) (k : ℕ) (o : Option Half) (frame : Option Frame) (v : World) → u.receive k ≡ o → frame ≡ window_frame u.window k o
+    → v ≡ record u { receive = after_announced u.receive u.window k o } → limit_in frame ≡ None → AllFrom f u → AllFrom f v
+kept_window f u k None frame v e g is none a = all_at f u v is a
+kept_window f u k (Some half) frame v e g is none a = by_test (is_open half) g is
+  where
+    by_test : (b : Bool) → frame ≡ option_map (frames.MaxStreamData k) (if b then Some (window_end half u.window) else None)
+        → v ≡ record u { receive = with_half u.receive k (Some (if b then record half { sent_max = max half.sent_max (window_end half u.window) } else half)) } → AllFrom f v
+    by_test true g is = absurd (let there : limit_in frame ≡ Some (k, window_end half u.window) = ap limit_in g in cc)
+    by_test false g is = all_at f (record u { receive = with_half u.receive k (Some half) }) v is (same_half f u k half e a)
+
+all_credit : (f : ℕ → Trace) (u : World) → AllFrom f u → AllFrom f (record u { credit = announced u.credit })
+all_credit f u a = all-same f u (record u { credit = announced u.credit }) refl (λ q. refusal-same (record u { credit = announced u.credit }) u q refl refl refl refl) (λ q. refl) a
+
+all_streams : (f : ℕ → Trace) (u : World) (d : Dir) → AllFrom f u → AllFrom f (with_remote u d (streams_announced (remote_of u d)))
+all_streams f u d a = all-remote f d u (streams_announced (remote_of u d)) refl a
+
+streams_kept : (k : ControlKind) (u : World) (p : Pending) (o : Option Frame) (v : World) (q : Pending) → SettlesEntry k u p o v q → limit_in o ≡ None → (f : ℕ → Trace) → AllFrom f u → AllFrom f v
+streams_kept kinds.ResetStream u p o v q s none f a = all_at f u v s.end a
+streams_kept kinds.StopSending u p o v q s none f a = all_at f u v s.end a
+streams_kept kinds.MaxData u p o v q s none f a = all_at f _ v s.end (all_credit f u a)
+streams_kept kinds.MaxStreamData u p o v q s none f a = kept_window f u s.id (u.receive s.id) o v refl s.frame s.end none a
+streams_kept (kinds.MaxStreams d) u p o v q s none f a = all_at f _ v s.end (all_streams f u d a)
+streams_kept kinds.DataBlocked u p o v q s none f a = all_at f u v s.end a
+streams_kept kinds.StreamDataBlocked u p o v q s none f a = all_at f u v s.end a
 
 credit_settled : (window : ℕ) (h : List Event) (u v : World) → Facts window h u → Announces u v → CreditFrom (last_window window h) (consumed h) (debt window h) (received h) v.credit
 credit_settled window h u v f s = credit_moved _ _ _ _ u.credit v.credit s.credit_window s.credit_limit s.credit_came s.credit_debt f.credit
@@ -259,7 +280,7 @@ facts-settled window h k (Some (frames.MaxStreamData id limit)) u v p q f s =
     }
 facts-settled window h k o u v p q f s = let a = announces k u p o v q s in record {
   credit = facts_idle window h u v f a (received h) refl;
-  streams = a.streams (trace h) f.streams;
+  streams = streams_kept k u p o v q s refl (trace h) f.streams;
 }
 
 -- nothing is freed by it

@@ -50,34 +50,34 @@ all_of None count h = cc
 all_of (Some size) count h = (size, refl, grind (arith, nat_tests))
 
 -- as many bytes were read as a known final size tells exactly where every byte below it was given
-half_tells : (t : Trace) (h : Half) → HalfFrom t h → h.stopped ≡ false → h.reset ≡ None → (size : ℕ) → h.size ≡ Some size → (h.buffer.bytes_read ≡ size) ↔ IsAllGiven (slices t.given) size
-half_tells t h x running unreset size sized =
+half_tells : (n : ℕ) (t : Trace) (h : Half) → HalfFrom n t h → h.stopped ≡ false → h.reset ≡ None → (size : ℕ) → h.size ≡ Some size → (h.buffer.bytes_read ≡ size) ↔ IsAllGiven (slices t.given) size
+half_tells n t h x running unreset size sized =
     let end : h.end ≡ size = x.final size sized in
     let most : h.buffer.highest ≤ size = omega (arith, x.within, end) in
     all_given t.kept (slices t.given) h.buffer size most (x.holds (sym x.stopped ∙ running) (sym x.reset ∙ unreset))
 
 pub tells-ends : (window : ℕ) (h : List Event) (v : World) → Facts window h v → TellsEnds h v
 tells-ends window h v f q half there running unreset size sized =
-    half_tells (trace h q) half (half-from (trace h) v q half f.streams (known-from (trace h) v q half f.streams there) there) running unreset size sized
+    half_tells v.window (trace h q) half (half-from (trace h) v q half f.streams (known-from (trace h) v q half f.streams there) there) running unreset size sized
 
 -- the end is told where the final size is known and every byte was given
-ended_so : (t : Trace) (ordered : Bool) (h : Half) → HalfFrom t h → h.stopped ≡ false → h.reset ≡ None → is_all h.size h.buffer.bytes_read ≡ true → EndsSo (with_read ordered (Ok None) t)
-ended_so t ordered h x running unreset all =
+ended_so : (n : ℕ) (t : Trace) (ordered : Bool) (h : Half) → HalfFrom n t h → h.stopped ≡ false → h.reset ≡ None → is_all h.size h.buffer.bytes_read ≡ true → EndsSo (with_read ordered (Ok None) t)
+ended_so n t ordered h x running unreset all =
     let k = all_of h.size h.buffer.bytes_read all in
     let high : t.high ≡ k.0 = sym x.high ∙ x.final k.0 k.1 in
     record {
       freed = λ e. refl;
       sized = λ e. sym x.sized ∙ ap (λ (o : Option ℕ). is_some o) k.1;
-      all = λ e. rw high ((half_tells t h x running unreset k.0 k.1).0 k.2);
+      all = λ e. rw high ((half_tells n t h x running unreset k.0 k.1).0 k.2);
     }
 
-ends_read : (t : Trace) (ordered : Bool) (old new : Half) (most : ℕ) (answer : Result (Option Chunk) ReadError) → HalfFrom t old → old.stopped ≡ false → Reads old most answer new
+ends_read : (n : ℕ) (t : Trace) (ordered : Bool) (old new : Half) (most : ℕ) (answer : Result (Option Chunk) ReadError) → HalfFrom n t old → old.stopped ≡ false → Reads old most answer new
     → EndsSo t → EndsSo (with_read ordered answer t)
-ends_read t ordered old new most (Ok (Some chunk)) x running s p = never_ended t _ p x.there refl
-ends_read t ordered old new most (Ok None) x running s p = ended_so t ordered old x running s.2.running s.0
-ends_read t ordered old new most (Err read_error.Blocked) x running s p = p
-ends_read t ordered old new most (Err (read_error.Reset code)) x running s p = never_ended t _ p x.there refl
-ends_read t ordered old new most (Err read_error.OutOfMemory) x running s p = p
+ends_read n t ordered old new most (Ok (Some chunk)) x running s p = never_ended t _ p x.there refl
+ends_read n t ordered old new most (Ok None) x running s p = ended_so n t ordered old x running s.2.running s.0
+ends_read n t ordered old new most (Err read_error.Blocked) x running s p = p
+ends_read n t ordered old new most (Err (read_error.Reset code)) x running s p = never_ended t _ p x.there refl
+ends_read n t ordered old new most (Err read_error.OutOfMemory) x running s p = p
 
 -- ---- what was given
 
@@ -95,9 +95,9 @@ not_false false n = refl
 lies_within : (offset count at : ℕ) → lies offset (offset + count) at ≡ true → (offset ≤ at) × (at < offset + count)
 lies_within offset count at e = (grind (arith, nat_tests), grind (arith, nat_tests))
 
-given_read : (t : Trace) (ordered : Bool) (old new : Half) (most : ℕ) (answer : Result (Option Chunk) ReadError) → HalfFrom t old → old.stopped ≡ false → Reads old most answer new
+given_read : (n : ℕ) (t : Trace) (ordered : Bool) (old new : Half) (most : ℕ) (answer : Result (Option Chunk) ReadError) → HalfFrom n t old → old.stopped ≡ false → Reads old most answer new
     → GivenSo t → GivenSo (with_read ordered answer t)
-given_read t ordered old new most (Ok (Some chunk)) x running s g =
+given_read n t ordered old new most (Ok (Some chunk)) x running s g =
     let d : IsData t.kept (slices t.given) old.buffer = x.holds (sym x.stopped ∙ running) (sym x.reset ∙ s.0) in
     record {
       came = λ at byte h. elim h [ inl k ↦ d.held at byte (s.1.gives.given at byte k) | inr k ↦ g.came at byte k ];
@@ -109,10 +109,10 @@ given_read t ordered old new most (Ok (Some chunk)) x running s g =
         g.once,
       );
     }
-given_read t ordered old new most (Ok None) x running s g = record { came = g.came; once = g.once }
-given_read t ordered old new most (Err read_error.Blocked) x running s g = g
-given_read t ordered old new most (Err (read_error.Reset code)) x running s g = record { came = g.came; once = g.once }
-given_read t ordered old new most (Err read_error.OutOfMemory) x running s g = g
+given_read n t ordered old new most (Ok None) x running s g = record { came = g.came; once = g.once }
+given_read n t ordered old new most (Err read_error.Blocked) x running s g = g
+given_read n t ordered old new most (Err (read_error.Reset code)) x running s g = record { came = g.came; once = g.once }
+given_read n t ordered old new most (Err read_error.OutOfMemory) x running s g = g
 
 -- ---- every call keeps both
 
@@ -126,8 +126,8 @@ told_moved h q id m here p = if_moved IsTold (q == id) (with_move m (trace h q))
 told_frame : (t : Trace) (offset : ℕ) (bytes : List ℕ) (fin : Bool) (answer : Result ShouldTransmit ReceiveError) → IsTold t → IsTold (with_move (Framed offset bytes fin answer) t)
 told_frame t offset bytes fin answer p = if_moved IsTold (is_kept answer) (with_kept_frame offset bytes fin t) t (λ k. (ends_frame t offset bytes fin p.0, given_frame t offset bytes fin p.1)) p
 
-told_stopped : (t : Trace) (h : Half) → HalfFrom t h → IsTold t → IsTold (with_stop t)
-told_stopped t h x p = (never_ended t _ p.0 x.there refl, record { came = p.1.came; once = p.1.once })
+told_stopped : (n : ℕ) (t : Trace) (h : Half) → HalfFrom n t h → IsTold t → IsTold (with_stop t)
+told_stopped n t h x p = (never_ended t _ p.0 x.there refl, record { came = p.1.came; once = p.1.once })
 
 told_code : (t : Trace) → IsTold t → IsTold (record t { gone = true })
 told_code t p = (record { freed = λ e. refl; sized = p.0.sized; all = p.0.all }, record { came = p.1.came; once = p.1.once })
@@ -144,10 +144,10 @@ kept-told-of window h u (Gave id most ordered answer) v f s p q =
     let known = known-from (trace h) u id s.old f.streams s.half in
     let was = half-from (trace h) u id s.old f.streams known s.half in
     told_moved h q id (WasRead ordered answer)
-    (λ t. (ends_read (trace h id) ordered s.old s.new most answer was s.running s.reads (p id).0, given_read (trace h id) ordered s.old s.new most answer was s.running s.reads (p id).1)) (p q)
+    (λ t. (ends_read u.window (trace h id) ordered s.old s.new most answer was s.running s.reads (p id).0, given_read u.window (trace h id) ordered s.old s.new most answer was s.running s.reads (p id).1)) (p q)
 kept-told-of window h u (Stopped id code (Ok x)) v f s p q =
     let known = known-from (trace h) u id s.2.0 f.streams s.2.2 in
-    told_moved h q id WasStopped (λ t. told_stopped (trace h id) s.2.0 (half-from (trace h) u id s.2.0 f.streams known s.2.2) (p id)) (p q)
+    told_moved h q id WasStopped (λ t. told_stopped u.window (trace h id) s.2.0 (half-from (trace h) u id s.2.0 f.streams known s.2.2) (p id)) (p q)
 kept-told-of window h u (ToldReset id (Ok (Some code))) v f s p q = told_moved h q id WasTold (λ t. told_code (trace h id) (p id)) (p q)
 kept-told-of window h u (Settled kind (Some (frames.MaxStreamData id limit))) v f s p q =
     told_moved h q id (WasAnnounced limit) (λ t. told_announced (trace h id) limit (p id)) (p q)

@@ -117,14 +117,14 @@ closed_or : (b c : Bool) → b ≡ false → c ≡ false → (b || c) ≡ false
 closed_or b c e k = rw (e, k) refl
 
 -- a half that was not reset is of a stream that is not closed
-pub open-trace : (t : Trace) (h : Half) → HalfFrom t h → h.reset ≡ None → is_closed t ≡ false
+pub open-trace : {n : ℕ} (t : Trace) (h : Half) → HalfFrom n t h → h.reset ≡ None → is_closed t ≡ false
 open-trace t h x running = closed_or (is_some t.reset) t.gone (ap (λ (o : Option ℕ). is_some o) (sym x.reset ∙ running)) x.there
 
-half_grown : (t t' : Trace) (old new : Half) (offset : ℕ) (bytes : List ℕ) (fin : Bool) (had most : ℕ) → HalfFrom t old → Grows old new offset bytes fin
+half_grown : (n : ℕ) (t t' : Trace) (old new : Half) (offset : ℕ) (bytes : List ℕ) (fin : Bool) (had most : ℕ) → HalfFrom n t old → Grows old new offset bytes fin
     → Passes old (offset + length bytes) fin had most
     → t' ≡ record t { high = max t.high (offset + length bytes); sized = t.sized || fin; gone = t.stopped && fin; kept = record { offset = offset; bytes = bytes } ∷ t.kept }
-    → t'.gone ≡ false → HalfFrom t' new
-half_grown t t' old new offset bytes fin had most x g p e there = record {
+    → t'.gone ≡ false → HalfFrom n t' new
+half_grown n t t' old new offset bytes fin had most x g p e there = record {
   high = g.high ∙ ap (λ n. max n (offset + length bytes)) x.high ∙ sym (ap (λ k. k.high) e);
   read = g.read ∙ x.read ∙ sym (ap (λ k. k.read) e);
   sized = ap is_some g.size ∙ size_or old.size (offset + length bytes) fin ∙ ap (λ b. b || fin) x.sized ∙ sym (ap (λ k. k.sized) e);
@@ -133,7 +133,7 @@ half_grown t t' old new offset bytes fin had most x g p e there = record {
   there = there;
   final = λ size k. g.high ∙ size_after old.size old.end (offset + length bytes) fin x.final p.past p.low size (sym g.size ∙ k);
   within = omega (arith, g.high, g.highest, x.within);
-  announced = omega (arith, g.limit, ap (λ k. k.announced) e, x.announced);
+  limit = g.limit ∙ x.limit ∙ ap (λ k. max n k) (sym (ap (λ k. k.announced) e));
   holds = subst HasData (sym e) (λ s r. data-inserted t.kept (slices t.given) old.buffer new.buffer offset bytes (g.inserts (x.stopped ∙ s)) (x.holds s r));
 }
   where
@@ -171,7 +171,7 @@ module _ (window : ℕ) (h : List Event) (u : World) (id offset : ℕ) (bytes : 
   abbrev w : World
   w = advanced u id old new
 
-  was : HalfFrom t old
+  was : HalfFrom u.window t old
   was = half-from (trace h) u id old f.streams known half
 
   others : (q : ℕ) → eqb q id ≡ false → g q ≡ trace h q
@@ -184,7 +184,7 @@ module _ (window : ℕ) (h : List Event) (u : World) (id offset : ℕ) (bytes : 
   but = but-put g u id (Some new) (but-from (trace h) g u id others f.streams)
 
   put : (g id).gone ≡ false → AllFrom g w
-  put there = all-put g u id new (but-from (trace h) g u id others f.streams) known (half_grown t (g id) old new offset bytes fin u.credit.data_recvd u.credit.local_max_data was grows passed here there)
+  put there = all-put g u id new (but-from (trace h) g u id others f.streams) known (half_grown u.window t (g id) old new offset bytes fin u.credit.data_recvd u.credit.local_max_data was grows passed here there)
 
   came : received (e ∷ h) ≡ received h + (new.end - old.end)
   came = let change = received-change h g id others in
@@ -247,9 +247,9 @@ or_second false c e = e
 or_first : (b c : Bool) → b ≡ true → (b || c) ≡ true
 or_first b c e = rw e refl
 
-pub dropped-closed : (t : Trace) (r : Option ℕ) (o : Option Half) → r ≡ None → StreamFrom t r o → IsDropped o → is_closed t ≡ true
-dropped-closed t r None k s d = let gone : t.gone ≡ true = rw k at s in or_second (is_some t.reset) t.gone gone
-dropped-closed t r (Some half) k s d = let x : HalfFrom t half = rw k at s in or_first (is_some t.reset) t.gone (ap (λ (o : Option ℕ). is_some o) (sym x.reset) ∙ d)
+pub dropped-closed : (n : ℕ) (t : Trace) (r : Option ℕ) (o : Option Half) → r ≡ None → StreamFrom n t r o → IsDropped o → is_closed t ≡ true
+dropped-closed n t r None k s d = let gone : t.gone ≡ true = rw k at s in or_second (is_some t.reset) t.gone gone
+dropped-closed n t r (Some half) k s d = let x : HalfFrom n t half = rw k at s in or_first (is_some t.reset) t.gone (ap (λ (o : Option ℕ). is_some o) (sym x.reset) ∙ d)
 
 module _ (window : ℕ) (h : List Event) (u : World) (id offset : ℕ) (bytes : List ℕ) (fin : Bool) (answer : Result ShouldTransmit ReceiveError) (f : Facts window h u)
     (closed : is_kept answer ≡ true → is_closed (trace h id) ≡ true) where
@@ -323,7 +323,7 @@ after_data_running u id old new fin s = rw s refl
 pub kept-received : (window : ℕ) (h : List Event) (u v : World) (id offset : ℕ) (bytes : List ℕ) (fin : Bool) (answer : Result ShouldTransmit ReceiveError)
     → Facts window h u → Receives u id offset bytes fin answer v → Facts window (Received id offset bytes fin answer ∷ h) v
 kept-received window h u v id offset bytes fin (Ok transmit) f (inl s) =
-    facts-at window _ v u s.3 (facts_unchanged window h u id offset bytes fin (Ok transmit) f (λ k. dropped-closed (trace h id) (id_refusal u id) (u.receive id) s.0 (f.streams id) s.1))
+    facts-at window _ v u s.3 (facts_unchanged window h u id offset bytes fin (Ok transmit) f (λ k. dropped-closed u.window (trace h id) (id_refusal u id) (u.receive id) s.0 (f.streams id) s.1))
 kept-received window h u v id offset bytes fin (Ok transmit) f (inr s) =
     let old = s.1 in
     let new = s.2 in

@@ -28,12 +28,12 @@ many d u n = let m : ℕ = (remote_of u d).max_remote in
     record (with_remote u d (record (remote_of u d) { max_remote = m + n })) { receive = with_more u.receive (other_side u.out.side) d m n (Some (new_half u.window)) }
 
 many_none : (f : ℕ → Trace) (d : Dir) (u : World) → AllFrom f u → AllFrom f (many d u 0)
-many_none f Bi u s = all-same f u (many Bi u 0) (λ q. refusal-same (many Bi u 0) u q refl refl (omega arith) refl) (λ q. ap (λ k. k q) (with_more-none u.receive (other_side u.out.side) Bi u.bi.max_remote (Some (new_half u.window)))) s
-many_none f Uni u s = all-same f u (many Uni u 0) (λ q. refusal-same (many Uni u 0) u q refl refl refl (omega arith)) (λ q. ap (λ k. k q) (with_more-none u.receive (other_side u.out.side) Uni u.uni.max_remote (Some (new_half u.window)))) s
+many_none f Bi u s = all-same f u (many Bi u 0) refl (λ q. refusal-same (many Bi u 0) u q refl refl (omega arith) refl) (λ q. ap (λ k. k q) (with_more-none u.receive (other_side u.out.side) Bi u.bi.max_remote (Some (new_half u.window)))) s
+many_none f Uni u s = all-same f u (many Uni u 0) refl (λ q. refusal-same (many Uni u 0) u q refl refl refl (omega arith)) (λ q. ap (λ k. k q) (with_more-none u.receive (other_side u.out.side) Uni u.uni.max_remote (Some (new_half u.window)))) s
 
 many_one : (f : ℕ → Trace) (d : Dir) (u : World) (n : ℕ) → AllFrom f (many d u n) → AllFrom f (many d u (n + 1))
-many_one f Bi u n s = raised-all f Bi (many Bi u n) (many Bi u (n + 1)) u.window refl refl (omega arith, refl) (sym (with_more-one u.receive (other_side u.out.side) Bi u.bi.max_remote n (Some (new_half u.window)))) s
-many_one f Uni u n s = raised-all f Uni (many Uni u n) (many Uni u (n + 1)) u.window refl refl (refl, omega arith) (sym (with_more-one u.receive (other_side u.out.side) Uni u.uni.max_remote n (Some (new_half u.window)))) s
+many_one f Bi u n s = raised-all f Bi (many Bi u n) (many Bi u (n + 1)) refl refl refl (omega arith, refl) (sym (with_more-one u.receive (other_side u.out.side) Bi u.bi.max_remote n (Some (new_half u.window)))) s
+many_one f Uni u n s = raised-all f Uni (many Uni u n) (many Uni u (n + 1)) refl refl refl (refl, omega arith) (sym (with_more-one u.receive (other_side u.out.side) Uni u.uni.max_remote n (Some (new_half u.window)))) s
 
 all_many : (f : ℕ → Trace) (d : Dir) (u : World) (n : ℕ) → AllFrom f u → AllFrom f (many d u n)
 all_many f d u zero s = many_none f d u s
@@ -44,9 +44,9 @@ all_many f d u (suc n) s = let P : ℕ → Type 0 = λ k. AllFrom f (many d u k)
 
 pub all-concurrent : (f : ℕ → Trace) (u : World) (d : Dir) (count : ℕ) → AllFrom f u → AllFrom f (after_concurrent u d count)
 all-concurrent f u Bi count s = let n : ℕ = lacking u.bi count in
-    all-same f (many Bi u n) (after_concurrent u Bi count) (λ q. refusal-same (after_concurrent u Bi count) (many Bi u n) q refl refl refl refl) (λ q. refl) (all_many f Bi u n s)
+    all-same f (many Bi u n) (after_concurrent u Bi count) refl (λ q. refusal-same (after_concurrent u Bi count) (many Bi u n) q refl refl refl refl) (λ q. refl) (all_many f Bi u n s)
 all-concurrent f u Uni count s = let n : ℕ = lacking u.uni count in
-    all-same f (many Uni u n) (after_concurrent u Uni count) (λ q. refusal-same (after_concurrent u Uni count) (many Uni u n) q refl refl refl refl) (λ q. refl) (all_many f Uni u n s)
+    all-same f (many Uni u n) (after_concurrent u Uni count) refl (λ q. refusal-same (after_concurrent u Uni count) (many Uni u n) q refl refl refl refl) (λ q. refl) (all_many f Uni u n s)
 
 -- ---- how many may be opened
 
@@ -81,9 +81,9 @@ module _ (f : ℕ → Trace) (u : World) (s : AllFrom f u) where
   -- nothing was told of a stream that was not permitted
   later : (d : Dir) (i : ℕ) → (remote_of u d).max_remote ≤ i → (f (stream_id (other_side u.out.side) d i)).gone ≡ false
   later Bi i l = let q : ℕ = stream_id (other_side u.out.side) Bi i in
-      ap (λ t. t.gone) (new-from (f q) (id_refusal u q) (u.receive q) STREAM_LIMIT_ERROR (refusal-peer u u.out.side Bi i refl ∙ rw (ge_le u.bi.max_remote i l) refl) (s q))
+      ap (λ t. t.gone) (new-from u.window (f q) (id_refusal u q) (u.receive q) STREAM_LIMIT_ERROR (refusal-peer u u.out.side Bi i refl ∙ rw (ge_le u.bi.max_remote i l) refl) (s q))
   later Uni i l = let q : ℕ = stream_id (other_side u.out.side) Uni i in
-      ap (λ t. t.gone) (new-from (f q) (id_refusal u q) (u.receive q) STREAM_LIMIT_ERROR (refusal-peer u u.out.side Uni i refl ∙ rw (ge_le u.uni.max_remote i l) refl) (s q))
+      ap (λ t. t.gone) (new-from u.window (f q) (id_refusal u q) (u.receive q) STREAM_LIMIT_ERROR (refusal-peer u u.out.side Uni i refl ∙ rw (ge_le u.uni.max_remote i l) refl) (s q))
 
   pub remotes-concurrent : (at_once : Dir → ℕ) (d : Dir) (count : ℕ) → AllRemotes at_once (λ e. (remote_of u e).max_remote) f u
       → AllRemotes (with_count_of d count at_once) (λ e. (remote_of u e).max_remote) f (after_concurrent u d count)

@@ -1,6 +1,6 @@
 -- Reads, stops, and what is told of resets keep what a history says.
 use Rattle.std.proofs.Common.{◌≡◌, ℕ, Bool, true, false, eqb, List, length, ◌∷◌, Option, Some, None, is_some, is_none, Result, Ok, Err, refl, sym, ap, ◌∙◌, inl, inr, arith, ◌+◌, ◌-◌}
-use Rattle.std.specs.Prelude.{if◌then◌else◌}
+use Rattle.std.specs.Prelude.{max, if◌then◌else◌}
 use Rattle.quic_assembler.specs.declared.chunk.Chunk.{Chunk}
 use Rattle.quic_assembler.specs.declared.errors.EnsureError.{EnsureError}
 use Rattle.quic_assembler.specs.declared.errors.EnsureError.TheVariants as ensure_error
@@ -42,7 +42,7 @@ module _ (window : ℕ) (h : List Event) (e : Event) (u : World) (f : Facts wind
   facts_idle untold = record { credit = credit_idle; streams = all-told (trace h) g u untold f.streams }
 
   -- one half changes
-  facts_put : (id : ℕ) (new : Half) → ((q : ℕ) → eqb q id ≡ false → g q ≡ trace h q) → id_refusal u id ≡ None → HalfFrom (g id) new → Facts window (e ∷ h) (with_receive u id (Some new))
+  facts_put : (id : ℕ) (new : Half) → ((q : ℕ) → eqb q id ≡ false → g q ≡ trace h q) → id_refusal u id ≡ None → HalfFrom u.window (g id) new → Facts window (e ∷ h) (with_receive u id (Some new))
   facts_put id new others known is = record {
     credit = rw (credit-with_receive u id (Some new)) credit_idle;
     streams = all-put g u id new (but-from (trace h) g u id others f.streams) known is;
@@ -56,8 +56,8 @@ module _ (window : ℕ) (h : List Event) (e : Event) (u : World) (f : Facts wind
   }
 
 -- a half of which only the buffer changed, and not how much was read
-half_same : (t : Trace) (old new : Half) → HalfFrom t old → new ≡ record old { buffer = new.buffer } → new.buffer.bytes_read ≡ old.buffer.bytes_read
-    → new.buffer.highest ≡ old.buffer.highest → (IsData t.kept (slices t.given) old.buffer → IsData t.kept (slices t.given) new.buffer) → HalfFrom t new
+half_same : {n : ℕ} (t : Trace) (old new : Half) → HalfFrom n t old → new ≡ record old { buffer = new.buffer } → new.buffer.bytes_read ≡ old.buffer.bytes_read
+    → new.buffer.highest ≡ old.buffer.highest → (IsData t.kept (slices t.given) old.buffer → IsData t.kept (slices t.given) new.buffer) → HalfFrom n t new
 half_same t old new x is read highest more = record {
   high = ap (λ k. k.end) is ∙ x.high;
   read = read ∙ x.read;
@@ -67,16 +67,16 @@ half_same t old new x is read highest more = record {
   there = x.there;
   final = λ size k. ap (λ y. y.end) is ∙ x.final size (sym (ap (λ y. y.size) is) ∙ k);
   within = omega (arith, highest, ap (λ y. y.end) is, x.within);
-  announced = omega (arith, ap (λ y. y.sent_max) is, x.announced);
+  limit = ap (λ y. y.sent_max) is ∙ x.limit;
   holds = λ s r. more (x.holds s r);
 }
 
-half_rests : (t : Trace) (old new : Half) → HalfFrom t old → new ≡ record old { buffer = new.buffer } → Rests old.buffer new.buffer → HalfFrom t new
+half_rests : {n : ℕ} (t : Trace) (old new : Half) → HalfFrom n t old → new ≡ record old { buffer = new.buffer } → Rests old.buffer new.buffer → HalfFrom n t new
 half_rests t old new x is rests = half_same t old new x is rests.bytes_read rests.highest (data-rests t.kept (slices t.given) old.buffer new.buffer rests)
 
 -- ---- a reader is asked for
 
-ordered_half : (t : Trace) (old new : Half) (ordered : Bool) (answer : Result (Unit {0}) EnsureError) → HalfFrom t old → Orders old ordered answer new → HalfFrom t new
+ordered_half : {n : ℕ} (t : Trace) (old new : Half) (ordered : Bool) (answer : Result (Unit {0}) EnsureError) → HalfFrom n t old → Orders old ordered answer new → HalfFrom n t new
 ordered_half t old new ordered (Ok u) x (inl s) = rw s.1 x
 ordered_half t old new ordered (Ok u) x (inr s) = half_same t old new x s.2 s.1.leaves.bytes_read s.1.leaves.highest (data-leaves t.kept (slices t.given) old.buffer new.buffer s.1)
 ordered_half t old new ordered (Err ensure_error.IllegalOrderedRead) x s = half_rests t old new x s.3 s.2
@@ -109,7 +109,7 @@ module _ (window : ℕ) (h : List Event) (u : World) (id most : ℕ) (ordered : 
   known : id_refusal u id ≡ None
   known = known-from (trace h) u id old f.streams half
 
-  was : HalfFrom (trace h id) old
+  was : HalfFrom u.window (trace h id) old
   was = half-from (trace h) u id old f.streams known half
 
   others : (q : ℕ) → eqb q id ≡ false → trace (e ∷ h) q ≡ trace h q
@@ -121,14 +121,14 @@ module _ (window : ℕ) (h : List Event) (u : World) (id most : ℕ) (ordered : 
   came_read : received (e ∷ h) ≡ received h
   came_read = received-kept h (trace (e ∷ h)) id others (ap (λ k. k.high) here ∙ high-read ordered answer (trace h id))
 
-  facts_read : HalfFrom (with_read ordered answer (trace h id)) new → Facts window (e ∷ h) (with_receive u id (Some new))
+  facts_read : HalfFrom u.window (with_read ordered answer (trace h id)) new → Facts window (e ∷ h) (with_receive u id (Some new))
   facts_read is = facts_put window h e u f refl came_read refl id new others known (rw here is)
 
   facts_ended : (with_read ordered answer (trace h id)).gone ≡ true → Facts window (e ∷ h) (with_freed u id)
   facts_ended is = facts_freed window h e u f refl came_read refl id others known (ap (λ k. k.gone) here ∙ is)
 
-half_given : (t : Trace) (old new : Half) (most : ℕ) (ordered : Bool) (chunk : Chunk) → HalfFrom t old → new ≡ record old { buffer = new.buffer } → Given old.buffer most chunk new.buffer
-    → HalfFrom (with_read ordered (Ok (Some chunk)) t) new
+half_given : {n : ℕ} (t : Trace) (old new : Half) (most : ℕ) (ordered : Bool) (chunk : Chunk) → HalfFrom n t old → new ≡ record old { buffer = new.buffer } → Given old.buffer most chunk new.buffer
+    → HalfFrom n (with_read ordered (Ok (Some chunk)) t) new
 half_given t old new most ordered chunk x is gives = record {
   high = ap (λ k. k.end) is ∙ x.high;
   read = gives.bytes_read ∙ ap (λ n. n + length chunk.bytes) x.read;
@@ -138,7 +138,7 @@ half_given t old new most ordered chunk x is gives = record {
   there = x.there;
   final = λ size k. ap (λ y. y.end) is ∙ x.final size (sym (ap (λ y. y.size) is) ∙ k);
   within = omega (arith, gives.highest, ap (λ y. y.end) is, x.within);
-  announced = omega (arith, ap (λ y. y.sent_max) is, x.announced);
+  limit = ap (λ y. y.sent_max) is ∙ x.limit;
   holds = λ s r. data-given t.kept (slices t.given) old.buffer new.buffer most chunk gives (x.holds s r);
 }
 
@@ -179,7 +179,7 @@ module _ (window : ℕ) (h : List Event) (u : World) (id code : ℕ) (old new : 
   known_stop : id_refusal u id ≡ None
   known_stop = known-from (trace h) u id old f.streams half
 
-  was_stop : HalfFrom t old
+  was_stop : HalfFrom u.window t old
   was_stop = half-from (trace h) u id old f.streams known_stop half
 
   others_stop : (q : ℕ) → eqb q id ≡ false → gs q ≡ trace h q
@@ -198,7 +198,7 @@ module _ (window : ℕ) (h : List Event) (u : World) (id code : ℕ) (old new : 
   used_stop : history.stop_gives t ≡ stop_credit old
   used_stop = rw (was_stop.high, was_stop.read) (reset_is old.reset t.reset was_stop.reset t.high t.read)
 
-  half_stopped : t.sized ≡ false → HalfFrom (gs id) new
+  half_stopped : t.sized ≡ false → HalfFrom u.window (gs id) new
   half_stopped s = record {
     high = ap (λ k. k.end) is ∙ was_stop.high ∙ sym (ap (λ k. k.high) here_stop);
     read = read ∙ was_stop.read ∙ sym (ap (λ k. k.read) here_stop);
@@ -208,7 +208,7 @@ module _ (window : ℕ) (h : List Event) (u : World) (id code : ℕ) (old new : 
     there = ap (λ k. k.gone) here_stop ∙ s;
     final = λ size k. ap (λ y. y.end) is ∙ was_stop.final size (sym (ap (λ y. y.size) is) ∙ k);
     within = omega (arith, highest, ap (λ y. y.end) is, was_stop.within);
-    announced = omega (arith, ap (λ k. k.sent_max) is, ap (λ k. k.announced) here_stop, was_stop.announced);
+    limit = ap (λ k. k.sent_max) is ∙ was_stop.limit ∙ ap (λ k. max u.window k) (sym (ap (λ k. k.announced) here_stop));
     holds = λ k r. let e : true ≡ false = sym (ap (λ y. y.stopped) here_stop) ∙ k in cc;
   }
 

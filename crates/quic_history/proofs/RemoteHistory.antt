@@ -68,7 +68,7 @@ module _ (window : ℕ) (at_once b : Dir → ℕ) (h : List Event) (e : Event) (
   not_next v id same_refusals known others d =
       let k : ℕ = stream_id (other_side v.out.side) d (remote_of v d).max_remote in
       let refused = sym (same_refusals k) ∙ refusal-next d v in
-      let new : trace h k ≡ untouched = new-from (trace h k) (id_refusal u k) (u.receive k) _ refused (f.streams k) in
+      let new : trace h k ≡ untouched = new-from u.window (trace h k) (id_refusal u k) (u.receive k) _ refused (f.streams k) in
       by_cases (eqb k id)
       (λ t. absurd (let a : id_refusal u k ≡ None = ap (id_refusal u) (same k id t) ∙ known in cc))
       (λ n. ap (λ t. t.gone) (others k n ∙ new))
@@ -111,7 +111,7 @@ module _ (window : ℕ) (at_once b : Dir → ℕ) (h : List Event) (u : World) (
   frame_others q n = rw n refl
 
   module _ (old new : Half) (known : id_refusal u id ≡ None) (half : u.receive id ≡ Some old) (running : old.reset ≡ None) (kept : is_kept answer ≡ true) where
-    frame_was : HalfFrom t old
+    frame_was : HalfFrom u.window t old
     frame_was = half-from (trace h) u id old f.streams known half
 
     frame_here : (gf id).gone ≡ (t.stopped && fin)
@@ -146,7 +146,7 @@ module _ (window : ℕ) (at_once b : Dir → ℕ) (h : List Event) (u : World) (
 remotes-received : (window : ℕ) (at_once b : Dir → ℕ) (h : List Event) (u v : World) (id offset : ℕ) (bytes : List ℕ) (fin : Bool) (answer : Result ShouldTransmit ReceiveError)
     → Facts window h u → AllRemotes at_once b (trace h) u → Receives u id offset bytes fin answer v → AllRemotes at_once b (trace (Received id offset bytes fin answer ∷ h)) v
 remotes-received window at_once b h u v id offset bytes fin (Ok transmit) f x (inl s) =
-    remotes_at at_once b (trace (Received id offset bytes fin (Ok transmit) ∷ h)) v u s.3 (frame_none window at_once b h u id offset bytes fin (Ok transmit) f x (λ k. dropped-closed (trace h id) (id_refusal u id) (u.receive id) s.0 (f.streams id) s.1))
+    remotes_at at_once b (trace (Received id offset bytes fin (Ok transmit) ∷ h)) v u s.3 (frame_none window at_once b h u id offset bytes fin (Ok transmit) f x (λ k. dropped-closed u.window (trace h id) (id_refusal u id) (u.receive id) s.0 (f.streams id) s.1))
 remotes-received window at_once b h u v id offset bytes fin (Ok transmit) f x (inr s) =
     let r = s.3 in
     by_cases s.1.stopped
@@ -189,7 +189,7 @@ module _ (window : ℕ) (at_once b : Dir → ℕ) (h : List Event) (u : World) (
   reset_others q n = rw n refl
 
   module _ (old new : Half) (known : id_refusal u id ≡ None) (half : u.receive id ≡ Some old) (running : old.reset ≡ None) where
-    reset_was : HalfFrom (trace h id) old
+    reset_was : HalfFrom u.window (trace h id) old
     reset_was = half-from (trace h) u id old f.streams known half
 
     reset_here : (gr id).gone ≡ (trace h id).stopped
@@ -255,7 +255,7 @@ module _ (window : ℕ) (at_once b : Dir → ℕ) (h : List Event) (u : World) (
   gave_known : id_refusal u id ≡ None
   gave_known = known-from (trace h) u id old f.streams half
 
-  gave_was : HalfFrom (trace h id) old
+  gave_was : HalfFrom u.window (trace h id) old
   gave_was = half-from (trace h) u id old f.streams gave_known half
 
   gave_others : (q : ℕ) → eqb q id ≡ false → trace (eg ∷ h) q ≡ trace h q

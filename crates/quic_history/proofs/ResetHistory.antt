@@ -1,6 +1,6 @@
 -- A RESET_STREAM frame keeps what a history says.
 use Rattle.std.proofs.Common.{◌≡◌, ℕ, Bool, true, false, ◌||◌, eqb, List, ◌∷◌, Option, Some, None, is_some, Result, Ok, Err, refl, sym, ap, ◌∙◌, inl, inr, arith, ◌+◌, ◌-◌, ◌≤◌}
-use Rattle.std.specs.Prelude.{not, if◌then◌else◌, ◌==◌}
+use Rattle.std.specs.Prelude.{not, max, if◌then◌else◌, ◌==◌}
 use Rattle.std.proofs.lemmas.Bool.Decides.{nat_tests}
 use Rattle.quic_wire.specs.declared.error.ReceiveError.{ReceiveError}
 use Rattle.quic_wire.specs.declared.error.ReceiveError.TheVariants as receive_error
@@ -63,7 +63,7 @@ module _ (window : ℕ) (h : List Event) (u : World) (id code final : ℕ) (tran
   abbrev w : World
   w = advanced u id old new
 
-  was : HalfFrom t old
+  was : HalfFrom u.window t old
   was = half-from (trace h) u id old f.streams known half
 
   others : (q : ℕ) → eqb q id ≡ false → g q ≡ trace h q
@@ -93,7 +93,7 @@ module _ (window : ℕ) (h : List Event) (u : World) (id code final : ℕ) (tran
   counted-credit = rw (credit-with_receive u id (Some new))
       (credit-counted (last_window window h) (consumed h) (debt window h) (received h) (new.end - old.end) (received (e ∷ h)) u.credit f.credit came (let b = end_is in let fits = passed.fits in omega arith))
 
-  half_reset : t.stopped ≡ false → HalfFrom (g id) new
+  half_reset : t.stopped ≡ false → HalfFrom u.window (g id) new
   half_reset s = record {
     high = end_is ∙ sym (ap (λ k. k.high) here);
     read = clears.bytes_read ∙ was.read ∙ sym (ap (λ k. k.read) here);
@@ -103,7 +103,7 @@ module _ (window : ℕ) (h : List Event) (u : World) (id code final : ℕ) (tran
     there = ap (λ k. k.gone) here ∙ s;
     final = λ size k. end_is ∙ (let m : Some final ≡ Some size = sym (ap (λ x. x.size) is) ∙ k in cc);
     within = omega (arith, end_is, low, clears.highest, was.within);
-    announced = omega (arith, ap (λ k. k.sent_max) is, ap (λ k. k.announced) here, was.announced);
+    limit = ap (λ x. x.sent_max) is ∙ was.limit ∙ ap (λ k. max u.window k) (sym (ap (λ k. k.announced) here));
     holds = λ s r. let k : Some code ≡ None = sym (ap (λ k. k.reset) here) ∙ r in cc;
   }
 

@@ -46,7 +46,7 @@ steady-send-freed w id = send_freed (λ x. steady x ≡ steady w) w id refl (ste
 pub all-send-freed : (f : ℕ → Trace) (u : World) (id : ℕ) (c : SendingCredit) → AllFrom f u → AllFrom f (with_send_freed (without_half u id c) id)
 all-send-freed f u id c s =
     let w = without_half u id c in
-    let k : AllFrom f w = all-same f u w (λ q. refusal-same w u q refl refl refl refl) (λ q. refl) s in
+    let k : AllFrom f w = all-same f u w refl (λ q. refusal-same w u q refl refl refl refl) (λ q. refl) s in
     send_freed (AllFrom f) w id k (all-replaced f Bi w k)
 
 -- ---- how many streams the peer may open
@@ -113,7 +113,7 @@ module _ (at_once b : Dir → ℕ) (f : ℕ → Trace) (u : World) (id : ℕ) (c
   -- nothing was told of the next stream
   next_new : (f (stream_id peer Bi u.bi.max_remote)).gone ≡ false
   next_new = let q : ℕ = stream_id peer Bi u.bi.max_remote in
-      ap (λ t. t.gone) (new-from (f q) (id_refusal u q) (u.receive q) STREAM_LIMIT_ERROR (refusal-next Bi u) (s q))
+      ap (λ t. t.gone) (new-from u.window (f q) (id_refusal u q) (u.receive q) STREAM_LIMIT_ERROR (refusal-next Bi u) (s q))
 
   -- it is
   replaces : (j : ℕ) → id ≡ stream_id peer Bi j → j < u.bi.max_remote → (f id).gone ≡ true → (v : World) → Replaced w v → AllRemotes at_once b f v

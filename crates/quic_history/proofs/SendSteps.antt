@@ -307,7 +307,7 @@ pub facts-spared : (window : ℕ) (h : List Event) (u : World) (e : SendEvent) (
 facts-spared window h u e v f s = record {
   credit = rw s.credit (credit-same (last_window window h) (consumed h) (debt window h) (received h) _ _ _ u.credit (omega arith) (omega arith) refl f.credit);
   streams = let bi = s.limits Bi in let uni = s.limits Uni in
-      all-same (trace h) u v (λ q. refusal-same v u q s.side s.opened bi.max uni.max) (λ q. ap (λ (k : Halves). k q) s.receive) f.streams;
+      all-same (trace h) u v s.window (λ q. refusal-same v u q s.side s.opened bi.max uni.max) (λ q. ap (λ (k : Halves). k q) s.receive) f.streams;
 }
 
 pub remotes-spared : (at_once b : Dir → ℕ) (f : ℕ → Trace) (u v : World) → Spares u v → AllRemotes at_once b f u → AllRemotes at_once b f v
@@ -335,7 +335,7 @@ unfolding with_receive
 opened_all f u Bi l s = let id : ℕ = stream_id u.out.side Bi u.out.own_bi.opened in
     let v = with_opened u Bi id (opening u Bi id) in
     let more : v.out.own_bi.opened ≡ u.out.own_bi.opened + 1 = next_opened u.out.own_bi (nat_lt u.out.own_bi.opened u.out.own_bi.limit) refl l in
-    all-one f u v id u.window STREAM_STATE_ERROR refl (refusal-own u u.out.side u.out.own_bi.opened refl ∙ at_limit u.out.own_bi.opened) (refusal-own v u.out.side u.out.own_bi.opened refl ∙ rw more (below u.out.own_bi.opened))
+    all-one f u v id STREAM_STATE_ERROR refl refl (refusal-own u u.out.side u.out.own_bi.opened refl ∙ at_limit u.out.own_bi.opened) (refusal-own v u.out.side u.out.own_bi.opened refl ∙ rw more (below u.out.own_bi.opened))
     (λ q n. refusal-own-next u v q refl more refl refl n) s
   where
     at_limit : (m : ℕ) → (if nat_le m m then Some STREAM_STATE_ERROR else None) ≡ Some STREAM_STATE_ERROR
@@ -345,7 +345,7 @@ opened_all f u Bi l s = let id : ℕ = stream_id u.out.side Bi u.out.own_bi.open
     below m = let e : nat_le (m + 1) m ≡ false = grind (arith, nat_tests) in rw e refl
 opened_all f u Uni l s = let id : ℕ = stream_id u.out.side Uni u.out.own_uni.opened in
     let v = with_opened u Uni id (opening u Uni id) in
-    all-same f u v (λ q. refusal-same v u q refl refl refl refl) (λ q. refl) s
+    all-same f u v refl (λ q. refusal-same v u q refl refl refl refl) (λ q. refl) s
 
 peer_apart : (s : Side) (d e : Dir) (i n : ℕ) → eqb (stream_id (other_side s) d i) (stream_id s e n) ≡ false
 peer_apart Client Bi Bi i n = grind (arith, nat_tests)

@@ -362,8 +362,8 @@ pub record CreditFrom (window used owed came : ℕ) (c : Credit) : Type 0 where
   -- what was received and not consumed is at most the window and the debt
   pub unread : came - used ≤ window + owed
 
--- a receive half is as the calls tell of its stream
-pub record HalfFrom (t : Trace) (h : Half) : Type 0 where
+-- a receive half is as the calls tell of its stream, which began with a limit
+pub record HalfFrom (first : ℕ) (t : Trace) (h : Half) : Type 0 where
   pub high : h.end ≡ t.high
   pub read : h.buffer.bytes_read ≡ t.read
   pub sized : is_some h.size ≡ t.sized
@@ -374,17 +374,17 @@ pub record HalfFrom (t : Trace) (h : Half) : Type 0 where
   pub final : (size : ℕ) → h.size ≡ Some size → h.end ≡ size
   -- what is held lies below the highest offset
   pub within : h.buffer.highest ≤ h.end
-  -- no limit was announced that is not held to
-  pub announced : t.announced ≤ h.sent_max
+  -- its limit is the greatest that was announced, or the first
+  pub limit : h.sent_max ≡ max first t.announced
   -- while it is neither stopped nor reset, it holds what came in kept frames and was not given
   pub holds : t.stopped ≡ false → t.reset ≡ None → IsData t.kept (slices t.given) h.buffer
 
 -- a stream whose frames are refused has no receive half, and nothing was told of it. Another has one until it is freed
-abbrev pub StreamFrom : Trace → Option ℕ → Option Half → Type 0
-StreamFrom t None (Some h) = HalfFrom t h
-StreamFrom t None None = t.gone ≡ true
-StreamFrom t (Some error) (Some h) = ⊥
-StreamFrom t (Some error) None = t ≡ untouched
+abbrev pub StreamFrom : ℕ → Trace → Option ℕ → Option Half → Type 0
+StreamFrom first t None (Some h) = HalfFrom first t h
+StreamFrom first t None None = t.gone ≡ true
+StreamFrom first t (Some error) (Some h) = ⊥
+StreamFrom first t (Some error) None = t ≡ untouched
 
 -- whether a stream of the peer is wholly freed: its receive half is gone, and no send half is held
 abbrev pub is_freed : (ℕ → Trace) → Side → (ℕ → Bool) → Dir → ℕ → Bool
@@ -422,7 +422,7 @@ pub record EndsSo (t : Trace) : Type 0 where
 -- what a history says of the end that it led to
 pub record Facts (window : ℕ) (h : List Event) (v : World) : Type 0 where
   pub credit : CreditFrom (last_window window h) (consumed h) (debt window h) (received h) v.credit
-  pub streams : (q : ℕ) → StreamFrom (trace h q) (id_refusal v q) (v.receive q)
+  pub streams : (q : ℕ) → StreamFrom v.window (trace h q) (id_refusal v q) (v.receive q)
 
 -- of a stream that is neither stopped nor reset, as many bytes were read as a known final size tells, where reads tell the end, exactly where each byte below it was given
 abbrev pub TellsEnds : List Event → World → Type 0
