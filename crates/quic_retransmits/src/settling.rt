@@ -47,10 +47,11 @@ impl Retransmits {
         }
     }
 
-    /// That RESET_STREAM leaves what is pending.
+    /// That RESET_STREAM leaves what is pending. Nothing changes where there is none.
     pub fn settle_reset(&mut self)
         ensures settled { (id code : ℕ) (front : List (ℕ × ℕ)) → (shown_pending self.old).reset_stream ≡ front ++ (id, code) ∷ [] → shown_pending self.new ≡ record (shown_pending self.old) { reset_stream = front } }
         ensures fewer { (id code : ℕ) (front : List (ℕ × ℕ)) → (shown_pending self.old).reset_stream ≡ front ++ (id, code) ∷ [] → entry_count self.new < entry_count self.old }
+        ensures empty { (shown_pending self.old).reset_stream ≡ [] → shown_pending self.new ≡ shown_pending self.old }
     {
         let _ = self.reset_stream.pop();
     }
@@ -62,10 +63,11 @@ impl Retransmits {
         self.stop_sending.last().copied()
     }
 
-    /// That STOP_SENDING leaves what is pending.
+    /// That STOP_SENDING leaves what is pending. Nothing changes where there is none.
     pub fn settle_stop(&mut self)
         ensures settled { (frame : StopSending) (front : List StopSending) → (shown_pending self.old).stop_sending ≡ front ++ frame ∷ [] → shown_pending self.new ≡ record (shown_pending self.old) { stop_sending = front } }
         ensures fewer { (frame : StopSending) (front : List StopSending) → (shown_pending self.old).stop_sending ≡ front ++ frame ∷ [] → entry_count self.new < entry_count self.old }
+        ensures empty { (shown_pending self.old).stop_sending ≡ [] → shown_pending self.new ≡ shown_pending self.old }
     {
         let _ = self.stop_sending.pop();
     }

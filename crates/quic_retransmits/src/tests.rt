@@ -8,6 +8,8 @@ use std::net::{IpAddr, Ipv4Addr, SocketAddr};
 use std::process::Abort;
 use std::test::Fail;
 
+mod settling;
+
 const FIRST: [u32; 1] = [0];
 
 const OTHERS: [u32; 9] = [1, 2, 3, 4, 5, 6, 7, 8, 9];
