@@ -104,7 +104,7 @@ remote_start : (over : ℕ → Bool) (count : ℕ) → ((i : ℕ) → over i ≡
 remote_start over count none few =
     let e = none_over count over none in
     let p : count ≡ max 0 (min (count + number over count) (2 ^ 60)) = omega arith in
-    record { concurrent = refl; allocated = omega arith; permitted = p }
+    record { concurrent = refl; allocated = omega arith; permitted = p; opened = omega arith; accepted = omega arith }
 
 -- no stream was freed
 remotes_start : (m : Made) → m.uni ≤ 2 ^ 60 → m.bi ≤ 2 ^ 60 → AllRemotes (count_of m) (λ d. 0) (trace []) (start m)

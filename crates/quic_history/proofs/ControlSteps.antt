@@ -72,7 +72,7 @@ announces_streams u Bi = record {
 }
   where
     both : (d : Dir) → SameLimits (remote_of u d) (remote_of (with_remote u Bi (streams_announced u.bi)) d)
-    both Bi = record { max = refl; allocated = refl; concurrent = refl }
+    both Bi = record { max = refl; allocated = refl; concurrent = refl; opened = λ k. k; accepted = λ k. k }
     both Uni = limits-refl u.uni
 announces_streams u Uni = record {
   out = refl;
@@ -87,7 +87,7 @@ announces_streams u Uni = record {
   where
     both : (d : Dir) → SameLimits (remote_of u d) (remote_of (with_remote u Uni (streams_announced u.uni)) d)
     both Bi = limits-refl u.bi
-    both Uni = record { max = refl; allocated = refl; concurrent = refl }
+    both Uni = record { max = refl; allocated = refl; concurrent = refl; opened = λ k. k; accepted = λ k. k }
 
 kept_at : (n n' : ℕ) (t : Trace) (r r' : Option ℕ) (o o' : Option Half) → n' ≡ n → r' ≡ r → o' ≡ o → StreamFrom n t r o → StreamFrom n' t r' o'
 kept_at n n' t r r' o o' w e l s = rw (w, e, l) s

@@ -25,8 +25,7 @@ use Rattle.quic_history.specs.World.{World, sends, is_own, remote_of, with_remot
 use Rattle.quic_history.specs.Receiving.{Receives, ReceivesReset, after_data, after_reset, credited_to}
 use Rattle.quic_history.specs.Reading.{Begins, Stops, TellsReset, after_read, after_stop}
 use Rattle.quic_history.specs.Permitting.{after_concurrent}
-use Rattle.quic_history.proofs.Remotes.{opened-limits}
-use Rattle.quic_history.proofs.StreamSteps.{noticed-any}
+use Rattle.quic_history.proofs.StreamSteps.{noticed-any, opened-max}
 use Rattle.quic_history.proofs.SendSides.{SameSides, sides-none, flows-same, flows-next, flows-more}
 
 -- a call after which as much is true of the sending sides as before
@@ -85,8 +84,7 @@ pub leaves-noticed : (u : World) (id : ℕ) (b : Bool) → Leaves u (noticed u i
 leaves-noticed u id b =
     let P : World → Type 0 = λ x. Leaves u x in
     let r : Remote = remote_of u (dir_of id) in
-    let limits = opened-limits r (index_of id) (nat_le r.next_remote (index_of id)) in
-    noticed-any P u id b (leaves_readable u id b) (leaves-remote u (dir_of id) _ limits.max)
+    noticed-any P u id b (leaves_readable u id b) (leaves-remote u (dir_of id) _ (opened-max r (index_of id) (nat_le r.next_remote (index_of id))))
 
 leaves_credit : (u v : World) (n : ℕ) → Leaves u v → Leaves u (with_credit v n)
 leaves_credit u v n s = record { flows = s.flows; first = s.first; buffered = s.buffered; window = s.window }

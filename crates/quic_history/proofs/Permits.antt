@@ -69,7 +69,7 @@ concurrent_from at_once count f g r below above x =
     let a = x.allocated in
     let p : r.max_remote + min (count - r.allocated) (2 ^ 60 - r.max_remote)
     ≡ max r.max_remote (min (count + number g (r.max_remote + min (count - r.allocated) (2 ^ 60 - r.max_remote))) (2 ^ 60)) = omega arith in
-    record { concurrent = refl; allocated = omega arith; permitted = p }
+    record { concurrent = refl; allocated = omega arith; permitted = p; opened = let o : r.next_remote ≤ r.max_remote = x.opened in let m : r.next_remote ≤ r.max_remote + lacking r count = omega arith in m; accepted = x.accepted }
 
 not_gone : (b c : Bool) → b ≡ false → (b && c) ≡ false
 not_gone b c e = rw e refl
@@ -101,12 +101,15 @@ pub steady-concurrent : (u : World) (d : Dir) (count : ℕ) → steady (after_co
 steady-concurrent u Bi count = refl
 steady-concurrent u Uni count = refl
 
-accepted_limits : (r : Remote) (b : Bool) → SameLimits r (if b then record r { next_reported = r.next_reported + 1 } else r)
-accepted_limits r true = record { max = refl; allocated = refl; concurrent = refl }
-accepted_limits r false = record { max = refl; allocated = refl; concurrent = refl }
+accepted_limits : (r : Remote) (b : Bool) → nat_lt r.next_reported r.next_remote ≡ b → SameLimits r (if b then record r { next_reported = r.next_reported + 1 } else r)
+accepted_limits r true e = record { max = refl; allocated = refl; concurrent = refl; opened = λ k. k; accepted = λ k. one_more r.next_reported r.next_remote e }
+  where
+    one_more : (a n : ℕ) → nat_lt a n ≡ true → a + 1 ≤ n
+    one_more a n e = grind (arith, nat_tests)
+accepted_limits r false e = record { max = refl; allocated = refl; concurrent = refl; opened = λ k. k; accepted = λ k. k }
 
 pub one-accepted : (r : Remote) → SameLimits r (one_accepted r)
-one-accepted r = accepted_limits r (nat_lt r.next_reported r.next_remote)
+one-accepted r = accepted_limits r (nat_lt r.next_reported r.next_remote) refl
 
 pub all-accepted : (f : ℕ → Trace) (u : World) (d : Dir) → AllFrom f u → AllFrom f (with_accepted u d)
 all-accepted f u d s = let same = one-accepted (remote_of u d) in all-remote f d u (one_accepted (remote_of u d)) same.max s

@@ -33,7 +33,7 @@ use Rattle.quic_history.proofs.Traces.{itself}
 use Rattle.quic_history.proofs.StreamSteps.{half-from, gone-from, known-from, new-from, refusal-noticed}
 use Rattle.quic_history.proofs.FrameHistory.{open-trace, dropped-closed, refusal-code, refused-other, unmoved, after_data_stopped, after_data_running, untold}
 use Rattle.quic_history.proofs.ResetHistory.{untold-closed, or-second, or-first}
-use Rattle.quic_history.proofs.Remotes.{AllRemotes, SameLimits, SameRemotes, remotes-put, remotes-noticed, remotes-then, remotes-idle, remotes-freed, remotes-remote}
+use Rattle.quic_history.proofs.Remotes.{AllRemotes, SameLimits, SameRemotes, remotes-put, remotes-noticed, remotes-then, remotes-idle, remotes-freed, remotes-remote, known-index}
 
 remotes_at : (at_once b : Dir → ℕ) (f : ℕ → Trace) (v w : World) → v ≡ w → AllRemotes at_once b f w → AllRemotes at_once b f v
 remotes_at at_once b f v w e s = let P : World → Type 0 = λ x. AllRemotes at_once b f x in subst P (sym e) s
@@ -105,7 +105,7 @@ module _ (window : ℕ) (at_once b : Dir → ℕ) (h : List Event) (u : World) (
 
   -- that changes nothing
   frame_none : (is_kept answer ≡ true → is_closed t ≡ true) → AllRemotes at_once b gf u
-  frame_none closed = idle window at_once b h ef u f x u (λ q. ap (λ k. k.gone) (untold window h u id offset bytes fin answer f closed q)) (record { side = refl; sends = refl; limits = λ d. record { max = refl; allocated = refl; concurrent = refl } })
+  frame_none closed = idle window at_once b h ef u f x u (λ q. ap (λ k. k.gone) (untold window h u id offset bytes fin answer f closed q)) (record { side = refl; sends = refl; limits = λ d. record { max = refl; allocated = refl; concurrent = refl; opened = λ k. k; accepted = λ k. k } })
 
   frame_others : (q : ℕ) → eqb q id ≡ false → gf q ≡ trace h q
   frame_others q n = rw n refl
@@ -132,7 +132,7 @@ module _ (window : ℕ) (at_once b : Dir → ℕ) (h : List Event) (u : World) (
         limits_of s Uni = s.limits Uni
 
     frame_noticed : old.stopped ≡ false → AllRemotes at_once b gf (noticed (advanced u id old new) id true)
-    frame_noticed s = remotes-idle at_once b gf gf (advanced u id old new) (noticed (advanced u id old new) id true) (λ q. refl) (remotes-noticed (advanced u id old new) id true) (frame_running s)
+    frame_noticed s = remotes-idle at_once b gf gf (advanced u id old new) (noticed (advanced u id old new) id true) (λ q. refl) (remotes-noticed (advanced u id old new) id true (known-index (advanced u id old new) id (refusal-advanced u id id old new ∙ known))) (frame_running s)
 
     frame_stopped : old.stopped ≡ true → AllRemotes at_once b gf (with_credit (if fin then with_freed (advanced u id old new) id else advanced u id old new) (new.end - old.end))
     frame_stopped s =
@@ -173,7 +173,7 @@ remotes-received window at_once b h u v id offset bytes fin (Err receive_error.O
 -- ---- a RESET_STREAM frame
 
 same_remotes : (u : World) → SameRemotes u u
-same_remotes u = record { side = refl; sends = refl; limits = λ d. record { max = refl; allocated = refl; concurrent = refl } }
+same_remotes u = record { side = refl; sends = refl; limits = λ d. record { max = refl; allocated = refl; concurrent = refl; opened = λ k. k; accepted = λ k. k } }
 
 module _ (window : ℕ) (at_once b : Dir → ℕ) (h : List Event) (u : World) (id code final : ℕ) (transmit : ShouldTransmit) (f : Facts window h u) (x : AllRemotes at_once b (trace h) u) where
   abbrev er : Event
@@ -209,7 +209,7 @@ module _ (window : ℕ) (at_once b : Dir → ℕ) (h : List Event) (u : World) (
         limits_of s Uni = s.limits Uni
 
     reset_same : SameRemotes u xr
-    reset_same = remotes-then u wr xr reset_put (remotes-noticed wr id (not old.stopped))
+    reset_same = remotes-then u wr xr reset_put (remotes-noticed wr id (not old.stopped) (known-index wr id (refusal-advanced u id id old new ∙ known)))
 
     remotes_after : AllRemotes at_once b gr (after_reset u id old new)
     remotes_after =

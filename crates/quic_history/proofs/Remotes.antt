@@ -18,7 +18,6 @@ use Rattle.quic_history.specs.World.{World, sends, id_refusal, own_refusal, is_o
 use Rattle.quic_history.specs.History.{Trace, RemoteFrom, is_freed}
 use Rattle.quic_history.proofs.Totals.{by_cases, same}
 use Rattle.quic_history.proofs.Refusals.{own-other}
-use Rattle.quic_history.proofs.StreamSteps.{noticed-any}
 use Rattle.quic_receiving.proofs.Counted.{number-bound}
 use Rattle.quic_receiving.proofs.Data.{number-all}
 
@@ -56,6 +55,8 @@ pub record SameLimits (r r' : Remote) : Type 0 where
   pub max : r'.max_remote ≡ r.max_remote
   pub allocated : r'.allocated ≡ r.allocated
   pub concurrent : r'.max_concurrent ≡ r.max_concurrent
+  pub opened : r.next_remote ≤ r.max_remote → r'.next_remote ≤ r'.max_remote
+  pub accepted : r.next_reported ≤ r.next_remote → r'.next_reported ≤ r'.next_remote
 
 pub remote-same : (at_once before : ℕ) (f g : ℕ → Bool) (r r' : Remote) → SameLimits r r' → ((i : ℕ) → i < r.max_remote → g i ≡ f i) → RemoteFrom at_once before f r → RemoteFrom at_once before g r'
 remote-same at_once before f g r r' s e x =
@@ -70,6 +71,8 @@ remote-same at_once before f g r r' s e x =
       concurrent = s.concurrent ∙ x.concurrent;
       allocated = rw (s.max, s.allocated) (omega arith);
       permitted = rw (s.max, s.concurrent) p;
+      opened = s.opened x.opened;
+      accepted = s.accepted x.accepted;
     }
 
 pub next-number : (n : ℕ) (g : ℕ → Bool) → g n ≡ false → number g (n + 1) ≡ number g n
@@ -91,6 +94,8 @@ after_replaced at_once before' f g r i true lacks l before after e last x =
       concurrent = x.concurrent;
       allocated = omega arith;
       permitted = rises;
+      opened = let o : r.next_remote ≤ r.max_remote = x.opened in let m : r.next_remote ≤ r.max_remote + 1 = omega arith in m;
+      accepted = x.accepted;
     }
   where
     and_first : (a c : ℕ) (b : Bool) → (nat_lt (a - 1) c && b) ≡ true → a - 1 < c
@@ -107,8 +112,8 @@ after_replaced at_once before' f g r i false lacks l before after e last x =
     let m : r.max_remote ≡ max before' (min (r.max_concurrent + number f r.max_remote) (2 ^ 60)) = x.permitted in
     let full : (r.max_concurrent ≤ r.allocated - 1) ⊎ (2 ^ 60 ≤ r.max_remote) = not_both (r.allocated - 1) r.max_concurrent r.max_remote lacks in
     elim full [
-      | inl k ↦ (let stays : r.max_remote ≡ max before' (min (r.max_concurrent + number g r.max_remote) (2 ^ 60)) = omega arith in record { concurrent = x.concurrent; allocated = omega arith; permitted = stays })
-      | inr k ↦ (let stays : r.max_remote ≡ max before' (min (r.max_concurrent + number g r.max_remote) (2 ^ 60)) = omega arith in record { concurrent = x.concurrent; allocated = omega arith; permitted = stays })
+      | inl k ↦ (let stays : r.max_remote ≡ max before' (min (r.max_concurrent + number g r.max_remote) (2 ^ 60)) = omega arith in record { concurrent = x.concurrent; allocated = omega arith; permitted = stays; opened = x.opened; accepted = x.accepted })
+      | inr k ↦ (let stays : r.max_remote ≡ max before' (min (r.max_concurrent + number g r.max_remote) (2 ^ 60)) = omega arith in record { concurrent = x.concurrent; allocated = omega arith; permitted = stays; opened = x.opened; accepted = x.accepted })
     ]
   where
     not_both : (a c m : ℕ) → (nat_lt a c && nat_lt m (2 ^ 60)) ≡ false → (c ≤ a) ⊎ (2 ^ 60 ≤ m)
@@ -120,7 +125,7 @@ after_replaced at_once before' f g r i false lacks l before after e last x =
 -- what might be opened is what there is room for, or what might be before
 pub rebased : (at_once before : ℕ) (f : ℕ → Bool) (r : Remote) → RemoteFrom at_once before f r → RemoteFrom at_once r.max_remote f r
 rebased at_once before f r x = let m : r.max_remote ≡ max before (min (r.max_concurrent + number f r.max_remote) (2 ^ 60)) = x.permitted in
-    let p : r.max_remote ≡ max r.max_remote (min (r.max_concurrent + number f r.max_remote) (2 ^ 60)) = omega arith in record { concurrent = x.concurrent; allocated = x.allocated; permitted = p }
+    let p : r.max_remote ≡ max r.max_remote (min (r.max_concurrent + number f r.max_remote) (2 ^ 60)) = omega arith in record { concurrent = x.concurrent; allocated = x.allocated; permitted = p; opened = x.opened; accepted = x.accepted }
 
 -- one more is wholly freed, and the next is not
 pub remote-replaced : (at_once before : ℕ) (f g : ℕ → Bool) (r : Remote) (i : ℕ) → i < r.max_remote → f i ≡ false → g i ≡ true
@@ -139,7 +144,7 @@ pub record SameRemotes (u v : World) : Type 0 where
   pub limits : (d : Dir) → SameLimits (remote_of u d) (remote_of v d)
 
 pub limits-refl : (r : Remote) → SameLimits r r
-limits-refl r = record { max = refl; allocated = refl; concurrent = refl }
+limits-refl r = record { max = refl; allocated = refl; concurrent = refl; opened = λ k. k; accepted = λ k. k }
 
 pub remotes-put : (u : World) (id : ℕ) (o : Option Half) → SameRemotes u (with_receive u id o)
 unfolding with_receive
@@ -169,21 +174,44 @@ remotes-remote u Uni r s = record { side = refl; sends = refl; limits = both }
     both Bi = limits-refl u.bi
     both Uni = s
 
-pub opened-limits : (r : Remote) (index : ℕ) (b : Bool) → SameLimits r (if b then record r { next_remote = index + 1; opened = true } else r)
-opened-limits r index true = record { max = refl; allocated = refl; concurrent = refl }
-opened-limits r index false = limits-refl r
+pub opened-limits : (r : Remote) (index : ℕ) (b : Bool) → nat_le r.next_remote index ≡ b → index < r.max_remote → SameLimits r (if b then record r { next_remote = index + 1; opened = true } else r)
+opened-limits r index true e l = record { max = refl; allocated = refl; concurrent = refl; opened = λ k. above index r.max_remote l; accepted = λ k. below r.next_reported r.next_remote index k e }
+  where
+    above : (i m : ℕ) → i < m → i + 1 ≤ m
+    above i m l = omega arith
 
-pub remotes-noticed : (u : World) (id : ℕ) (b : Bool) → SameRemotes u (noticed u id b)
-remotes-noticed u id b =
+    below : (a n i : ℕ) → a ≤ n → nat_le n i ≡ true → a ≤ i + 1
+    below a n i k e = grind (arith, nat_tests)
+opened-limits r index false e l = limits-refl r
+
+-- what a notice may be, of a stream that the peer may open
+pub noticed-known : (P : World → Type 0) (w : World) (id : ℕ) (b : Bool) → (is_own w id ≡ false → index_of id < (remote_of w (dir_of id)).max_remote) → P (told_readable w id b)
+    → (index_of id < (remote_of w (dir_of id)).max_remote → P (with_remote w (dir_of id) (remote.opened_up_to (remote_of w (dir_of id)) (index_of id)))) → P (noticed w id b)
+noticed-known P w id b known told opened = by_own (is_own w id) refl
+  where
+    by_first : (c : Bool) → P (with_remote w (dir_of id) (remote.opened_up_to (remote_of w (dir_of id)) (index_of id)))
+        → P (if c then with_remote w (dir_of id) (remote.opened_up_to (remote_of w (dir_of id)) (index_of id)) else told_readable w id b)
+    by_first true p = p
+    by_first false p = told
+
+    by_own : (c : Bool) → is_own w id ≡ c
+        → P (if c then told_readable w id b else (if nat_le (remote_of w (dir_of id)).next_remote (index_of id)
+        then with_remote w (dir_of id) (remote.opened_up_to (remote_of w (dir_of id)) (index_of id))
+        else told_readable w id b))
+    by_own true e = told
+    by_own false e = by_first (nat_le (remote_of w (dir_of id)).next_remote (index_of id)) (opened (known e))
+
+pub remotes-noticed : (u : World) (id : ℕ) (b : Bool) → (is_own u id ≡ false → index_of id < (remote_of u (dir_of id)).max_remote) → SameRemotes u (noticed u id b)
+remotes-noticed u id b known =
     let P : World → Type 0 = λ x. SameRemotes u x in
-    noticed-any P u id b (remotes_told u id b)
-    (remotes-remote u (dir_of id) _ (opened-limits (remote_of u (dir_of id)) (index_of id) (nat_le (remote_of u (dir_of id)).next_remote (index_of id))))
+    noticed-known P u id b known (remotes_told u id b)
+    (λ l. remotes-remote u (dir_of id) _ (opened-limits (remote_of u (dir_of id)) (index_of id) (nat_le (remote_of u (dir_of id)).next_remote (index_of id)) refl l))
 
 pub remotes-then : (u v w : World) → SameRemotes u v → SameRemotes v w → SameRemotes u w
 remotes-then u v w s t = record {
   side = t.side ∙ s.side;
   sends = t.sends ∙ s.sends;
-  limits = λ d. let a = s.limits d in let b = t.limits d in record { max = b.max ∙ a.max; allocated = b.allocated ∙ a.allocated; concurrent = b.concurrent ∙ a.concurrent };
+  limits = λ d. let a = s.limits d in let b = t.limits d in record { max = b.max ∙ a.max; allocated = b.allocated ∙ a.allocated; concurrent = b.concurrent ∙ a.concurrent; opened = λ k. b.opened (a.opened k); accepted = λ k. b.accepted (a.accepted k) };
 }
 
 freed_same : (f g : ℕ → Trace) (s : Side) (sends : ℕ → Bool) (d : Dir) (i : ℕ) → (g (stream_id (other_side s) d i)).gone ≡ (f (stream_id (other_side s) d i)).gone
@@ -333,6 +361,10 @@ index_if false o error most index e k = within (nat_le most index) refl k
     within true t k = cc
     within false t k = grind (arith, nat_tests)
 
+-- a stream of which no frame is refused is this end's, or one that the peer may open
+pub known-index : (w : World) (id : ℕ) → id_refusal w id ≡ None → is_own w id ≡ false → index_of id < (remote_of w (dir_of id)).max_remote
+known-index w id known own = index_if (is_own w id) (own_refusal w (dir_of id) (index_of id)) STREAM_LIMIT_ERROR (remote_of w (dir_of id)).max_remote (index_of id) own known
+
 freed_if : (at_once b : Dir → ℕ) (g : ℕ → Trace) (u v : World) (own : Bool) → (own ≡ true → AllRemotes at_once b g u) → (own ≡ false → AllRemotes at_once b g v) → AllRemotes at_once b g (if own then u else v)
 freed_if at_once b g u v true s t = s refl
 freed_if at_once b g u v false s t = t refl
@@ -358,7 +390,7 @@ remotes-freed at_once b f g w id known was is others next x =
     (λ own.
     let peers : is_own w id ≡ false = sym (own_put w id) ∙ own in
     of_dir at_once b f g w id was is others next x (dir_of id) (index_of id) (spelled w.out.side (id % 2 == 0) (id / 2 % 2 == 0) id refl refl peers)
-    (index_if (is_own w id) (own_refusal w (dir_of id) (index_of id)) STREAM_LIMIT_ERROR (remote_of w (dir_of id)).max_remote (index_of id) peers known))
+    (known-index w id known peers))
   where
     not_mine : (w : World) (id : ℕ) (d : Dir) (i : ℕ) → is_own w id ≡ true → eqb (stream_id (other_side w.out.side) d i) id ≡ false
     not_mine w id d i mine = by_cases (eqb (stream_id (other_side w.out.side) d i) id)

@@ -10,12 +10,12 @@ use Rattle.quic_values.specs.declared.ids.Side.{Side}
 use Rattle.quic_values.specs.declared.ids.Side.TheVariants.{Client, Server}
 use Rattle.quic_values.specs.declared.ids.Dir.{Dir}
 use Rattle.quic_values.specs.declared.ids.Dir.TheVariants.{Bi, Uni}
-use Rattle.quic_values.specs.Ids.{stream_id, other_side, dir_of, index_of}
+use Rattle.quic_values.specs.Ids.{stream_id, other_side, initiator_of, dir_of, index_of}
 use Rattle.quic_wire.specs.declared.event.StreamEvent.{StreamEvent}
 use Rattle.quic_wire.specs.declared.event.StreamEvent.TheVariants as stream_event
 use Rattle.quic_wire.specs.declared.error.ReceiveError.{ReceiveError}
 use Rattle.quic_wire.specs.declared.error.ReceiveError.TheVariants as receive_error
-use Rattle.quic_wire.specs.declared.error.TheConstants.TransportError.{STREAM_STATE_ERROR}
+use Rattle.quic_wire.specs.declared.error.TheConstants.TransportError.{STREAM_STATE_ERROR, STREAM_LIMIT_ERROR}
 use Rattle.quic_limits.specs.Credit.{Credit}
 use Rattle.quic_limits.specs.Own.{Own, with_next_own}
 use Rattle.quic_limits.specs.Remote.{Remote, opening_told}
@@ -38,7 +38,7 @@ use Rattle.quic_outgoing.specs.Calls.{OpensStream, RaisesStream, StopsSending, P
 use Rattle.quic_outgoing.specs.Calls as calls
 use Rattle.quic_outgoing.specs.Acknowledging.{AcksHalf, LosesOnStream, were_sent, is_given_up}
 use Rattle.quic_history.specs.Halves.{Halves, with_half}
-use Rattle.quic_history.specs.World.{World, sends, id_refusal, is_own, remote_of, with_remote, with_receive, told, told_readable, noticed}
+use Rattle.quic_history.specs.World.{World, sends, id_refusal, is_own, is_same_side, remote_of, with_remote, with_receive, told, told_readable, noticed}
 use Rattle.quic_history.specs.SendEvents.{SendEvent, SendStep, GaveLimits, OpenedOwn, RaisedData, RaisedCount, RaisedLimit, StoppedOwn, SetWindow, Polled, WroteOwn, FinishedOwn, ResetOwn, SetOwnPriority, AckedOwn, LostOwn, ResetAckedOwn, TookTurn}
 use Rattle.quic_wire.specs.declared.frame.StreamMeta.{StreamMeta}
 use Rattle.quic_writing.specs.Writer.{Writer, SkipsFirst, ServesFirst}
@@ -46,12 +46,12 @@ use Rattle.quic_history.specs.Carrying.{TakesItsTurn, with_writer}
 use Rattle.quic_history.specs.Acknowledged.{AcksOwn, LosesOwn, AcksReset, with_send_freed, told_finished, frees_reset}
 use Rattle.quic_history.proofs.SendFreed.{without_half, steady-send-freed, all-send-freed, remotes-send-freed}
 use Rattle.quic_history.specs.Writes.{WritesOwn, FinishesOwn, ResetsOwn, SetsOwnPriority, with_queued}
-use Rattle.quic_history.specs.Sends.{with_out, with_opened, with_own_count, told_writable, after_first_stop, is_permitted, PollsQueue, RaisesLimit, RaisesCount, StopsOwn, TellsNext}
+use Rattle.quic_history.specs.Sends.{with_out, with_opened, sending_refusal, with_own_count, told_writable, after_first_stop, is_permitted, PollsQueue, RaisesLimit, RaisesCount, StopsOwn, TellsNext}
 use Rattle.quic_history.specs.History.{Event, Sending, Goes, Trace, Facts, untouched, trace, consumed, last_window, debt, received}
 use Rattle.quic_history.proofs.Credits.{credit-same}
 use Rattle.quic_history.proofs.Refusals.{refusal-same, refusal-own, refusal-own-next, own-id}
-use Rattle.quic_history.proofs.Remotes.{AllRemotes, SameLimits, remotes-idle, remote-same, limits-refl, opened-limits}
-use Rattle.quic_history.proofs.StreamSteps.{AllFrom, all-same, all-one, new-half-from, noticed-any}
+use Rattle.quic_history.proofs.Remotes.{AllRemotes, SameLimits, remotes-idle, remote-same, limits-refl, opened-limits, noticed-known}
+use Rattle.quic_history.proofs.StreamSteps.{AllFrom, all-same, all-one, new-half-from}
 use Rattle.quic_history.proofs.Totals.{by_cases, same}
 
 -- a call that leaves the receiving side as it is
@@ -74,7 +74,7 @@ spares_then u v w s t = record {
   credit = t.credit ∙ s.credit;
   receive = t.receive ∙ s.receive;
   opened = t.opened ∙ s.opened;
-  limits = λ d. let a = s.limits d in let b = t.limits d in record { max = b.max ∙ a.max; allocated = b.allocated ∙ a.allocated; concurrent = b.concurrent ∙ a.concurrent };
+  limits = λ d. let a = s.limits d in let b = t.limits d in record { max = b.max ∙ a.max; allocated = b.allocated ∙ a.allocated; concurrent = b.concurrent ∙ a.concurrent; opened = λ k. b.opened (a.opened k); accepted = λ k. b.accepted (a.accepted k) };
   held = λ q. t.held q ∙ s.held q;
 }
 
@@ -114,10 +114,28 @@ spares_remote u Uni r s = record { side = refl; window = refl; credit = refl; re
     both Bi = limits-refl u.bi
     both Uni = s
 
-spares_noticed : (u : World) (id : ℕ) → Spares u (noticed u id false)
-spares_noticed u id = let P : World → Type 0 = λ x. Spares u x in
-    noticed-any P u id false (spares_none u)
-    (spares_remote u (dir_of id) _ (opened-limits (remote_of u (dir_of id)) (index_of id) (nat_le (remote_of u (dir_of id)).next_remote (index_of id))))
+spares_noticed : (u : World) (id : ℕ) → (is_own u id ≡ false → index_of id < (remote_of u (dir_of id)).max_remote) → Spares u (noticed u id false)
+spares_noticed u id known = let P : World → Type 0 = λ x. Spares u x in
+    noticed-known P u id false known (spares_none u)
+    (λ l. spares_remote u (dir_of id) _ (opened-limits (remote_of u (dir_of id)) (index_of id) (nat_le (remote_of u (dir_of id)).next_remote (index_of id)) refl l))
+
+-- a stream whose limit the peer may raise, or that it may stop, is this end's or one that it may open
+within : (error most index : ℕ) (b : Bool) → nat_le most index ≡ b → (if b then Some error else None) ≡ None → index < most
+within error most index true t k = cc
+within error most index false t k = grind (arith, nat_tests)
+
+known_raised : (w : World) (id : ℕ) → sending_refusal w id ≡ None → is_own w id ≡ false → index_of id < (remote_of w (dir_of id)).max_remote
+known_raised w id k own = by_dir (dir_of id) refl
+  where
+    by_dir : (d : Dir) → dir_of id ≡ d → index_of id < (remote_of w (dir_of id)).max_remote
+    by_dir Bi e = let l = rw (own, e) at k in rw e (within STREAM_LIMIT_ERROR w.bi.max_remote (index_of id) (nat_le w.bi.max_remote (index_of id)) refl l)
+    by_dir Uni e = let l = rw (own, e) at k in cc
+
+known_stopped : (w : World) (id : ℕ) → is_permitted w id ≡ true → is_own w id ≡ false → index_of id < (remote_of w (dir_of id)).max_remote
+known_stopped w id k own = let l = rw own at k in below (index_of id) (remote_of w (dir_of id)).max_remote l
+  where
+    below : (i m : ℕ) → nat_lt i m ≡ true → i < m
+    below i m e = grind (arith, nat_tests)
 
 -- ---- the halves that are held
 
@@ -200,12 +218,19 @@ raised_count : (u : World) (d : Dir) (o : Own) (b : Bool) → o.opened ≡ (own_
 raised_count u d o true e = spares_then u (with_out u (with_own u.out d o)) _ (own_count u d o e) (spares_told (with_out u (with_own u.out d o)) (stream_event.Available d))
 raised_count u d o false e = own_count u d o e
 
-first_stop : (u w : World) (id code : ℕ) (b : Bool) → Spares u w → Spares u (after_first_stop w id code b)
-first_stop u w id code true s = let t = told w (stream_event.Stopped id code) in spares_then u t _ (spares_then u w t s (spares_told w _)) (spares_noticed t id)
-first_stop u w id code false s = s
+known_spared : (u t : World) (id : ℕ) → Spares u t → (is_own u id ≡ false → index_of id < (remote_of u (dir_of id)).max_remote) → is_own t id ≡ false → index_of id < (remote_of t (dir_of id)).max_remote
+known_spared u t id s known own =
+    let side : is_own t id ≡ is_own u id = ap (λ k. is_same_side k (initiator_of id)) s.side in
+    let most = s.limits (dir_of id) in
+    let l = known (sym side ∙ own) in
+    omega (arith, most.max)
+
+first_stop : (u w : World) (id code : ℕ) (b : Bool) → (is_own u id ≡ false → index_of id < (remote_of u (dir_of id)).max_remote) → Spares u w → Spares u (after_first_stop w id code b)
+first_stop u w id code true known s = let t = told w (stream_event.Stopped id code) in let k = spares_then u w t s (spares_told w _) in spares_then u t _ k (spares_noticed t id (known_spared u t id k known))
+first_stop u w id code false known s = s
 
 told_limits : (r : Remote) → SameLimits r (opening_told r)
-told_limits r = record { max = refl; allocated = refl; concurrent = refl }
+told_limits r = record { max = refl; allocated = refl; concurrent = refl; opened = λ k. k; accepted = λ k. k }
 
 polls_queue : (u w : World) (writable : Option ℕ) (answer : Option StreamEvent) (v : World) → Spares u w → PollsQueue w writable answer v → Spares u v
 polls_queue u w (Some id) answer v s p = spares_at u v w p.1 s
@@ -227,8 +252,8 @@ raises_limit u id n (Ok x) v s =
     let o = s.2 in
     let w = with_out u o in
     let t = told_writable w id s.1 in
-    spares_at u v _ s.4
-    (spares_then u t _ (spares_then u w t (spares_step u o (steadies_at u.out o _ s.3.1 (steadies_rise u.out id n (u.out.halves id) refl))) (writable_told w id s.1)) (spares_noticed t id))
+    let k = spares_then u w t (spares_step u o (steadies_at u.out o _ s.3.1 (steadies_rise u.out id n (u.out.halves id) refl))) (writable_told w id s.1) in
+    spares_at u v _ s.4 (spares_then u t _ k (spares_noticed t id (known_spared u t id k (known_raised u id s.0))))
 raises_limit u id n (Err (receive_error.Transport error)) v s = spares_at u v u s.1 (spares_none u)
 raises_limit u id n (Err receive_error.CompactionMemory) v s = absurd s
 raises_limit u id n (Err receive_error.OutOfMemory) v s = spares_at u v u s (spares_none u)
@@ -244,7 +269,7 @@ stops_own u id code (Ok x) v s = by_test (is_permitted u id) refl
   where
     by_test : (b : Bool) → is_permitted u id ≡ b → Spares u v
     by_test true k = let t = rw k at s in
-        spares_at u v _ t.3 (first_stop u (with_out u t.1) id code t.0 (spares_step u t.1 (steadies_at u.out t.1 _ t.2.1 (steadies_stop u.out id code (u.out.halves id) refl))))
+        spares_at u v _ t.3 (first_stop u (with_out u t.1) id code t.0 (known_stopped u id k) (spares_step u t.1 (steadies_at u.out t.1 _ t.2.1 (steadies_stop u.out id code (u.out.halves id) refl))))
     by_test false k = let t = rw k at s in spares_at u v u t (spares_none u)
 stops_own u id code (Err e) v s = spares_at u v u s (spares_none u)
 

@@ -194,9 +194,9 @@ pub noticed-any : (P : World → Type 0) (w : World) (id : ℕ) (b : Bool) → P
     → P (with_remote w (dir_of id) (remote.opened_up_to (remote_of w (dir_of id)) (index_of id))) → P (noticed w id b)
 noticed-any P w id b told opened = if_any P _ _ (is_own w id) told (if_any P _ _ (nat_le (remote_of w (dir_of id)).next_remote (index_of id)) opened told)
 
-opened_max : (r : Remote) (index : ℕ) (b : Bool) → (if b then record r { next_remote = index + 1; opened = true } else r).max_remote ≡ r.max_remote
-opened_max r index true = refl
-opened_max r index false = refl
+pub opened-max : (r : Remote) (index : ℕ) (b : Bool) → (if b then record r { next_remote = index + 1; opened = true } else r).max_remote ≡ r.max_remote
+opened-max r index true = refl
+opened-max r index false = refl
 
 refusal_readable : (w : World) (id : ℕ) (b : Bool) (q : ℕ) → id_refusal (told_readable w id b) q ≡ id_refusal w q
 refusal_readable w id true q = refl
@@ -210,7 +210,7 @@ refusal_remote w Uni r q e = refusal-same (with_remote w Uni r) w q refl refl re
 pub refusal-noticed : (w : World) (id : ℕ) (b : Bool) (q : ℕ) → id_refusal (noticed w id b) q ≡ id_refusal w q
 refusal-noticed w id b q =
     let P : World → Type 0 = λ x. id_refusal x q ≡ id_refusal w q in
-    noticed-any P w id b (refusal_readable w id b q) (refusal_remote w (dir_of id) _ q (opened_max (remote_of w (dir_of id)) (index_of id) _))
+    noticed-any P w id b (refusal_readable w id b q) (refusal_remote w (dir_of id) _ q (opened-max (remote_of w (dir_of id)) (index_of id) _))
 
 receive_readable : (w : World) (id : ℕ) (b : Bool) (q : ℕ) → (told_readable w id b).receive q ≡ w.receive q
 receive_readable w id true q = refl

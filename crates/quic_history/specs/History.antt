@@ -403,6 +403,10 @@ pub record RemoteFrom (at_once before : ℕ) (over : ℕ → Bool) (r : Remote) 
   pub allocated : r.allocated + number over r.max_remote ≡ r.max_remote
   -- it may open as many as there was ever room for: what it might before is never taken back
   pub permitted : r.max_remote ≡ max before (room_for over r)
+  -- it opened no more than it may
+  pub opened : r.next_remote ≤ r.max_remote
+  -- and the application accepted no more than that
+  pub accepted : r.next_reported ≤ r.next_remote
 
 -- what was given came, and each byte of it once
 abbrev pub EachOnce : List Slice → Type 0
