@@ -1,6 +1,7 @@
 //! Steps on the receiving side of one end, and what each has to answer.
 
 mod acknowledging;
+mod amounts;
 mod control;
 mod reading;
 mod receiving;
