@@ -5,6 +5,7 @@ mod amounts;
 mod control;
 mod reading;
 mod receiving;
+mod refusals;
 mod sending;
 mod sizes;
 mod transmitting;
