@@ -1,10 +1,12 @@
 //! Steps on the receiving side of one end, and what each has to answer.
 
 mod acknowledging;
+mod amounts;
 mod control;
 mod pending;
 mod reading;
 mod receiving;
+mod refusals;
 mod sending;
 mod sizes;
 mod transmitting;

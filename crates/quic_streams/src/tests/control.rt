@@ -12,13 +12,13 @@ use std::test::Fail;
 
 // A payload, what was noted of it, and how many frames there were.
 #[derive(Drop)]
-struct Payload {
+pub(super) struct Payload {
     pub bytes: Vec<u8>,
     pub sent: ThinRetransmits,
     pub stats: FrameStats,
 }
 
-fn new_payload(alloc: Global) -> Payload {
+pub(super) fn new_payload(alloc: Global) -> Payload {
     Payload {
         bytes: Vec::new(alloc),
         sent: ThinRetransmits::new(alloc),
@@ -26,7 +26,7 @@ fn new_payload(alloc: Global) -> Payload {
     }
 }
 
-fn write_control(subject: &mut Subject, payload: &mut Payload, max_size: usize) -> bool {
+pub(super) fn write_control(subject: &mut Subject, payload: &mut Payload, max_size: usize) -> bool {
     let answer = subject.state.write_control_frames(
         &mut payload.bytes,
         &mut subject.pending,

@@ -13,7 +13,7 @@ use std::test::Fail;
 
 // What the application is told.
 #[derive(Clone, Copy, Debug, PartialEq, Eq)]
-enum Event {
+pub(super) enum Event {
     Opened(Dir),
     Readable(u64),
     Writable(u64),
@@ -24,7 +24,7 @@ enum Event {
 
 // What a write, an end or a reset came to.
 #[derive(Clone, Copy, Debug, PartialEq, Eq)]
-enum Done {
+pub(super) enum Done {
     // So many bytes were taken.
     Took(usize),
     Is,
@@ -36,7 +36,7 @@ enum Done {
 
 // A call, mostly on the stream of an id, and what it has to answer.
 #[derive(Clone, Copy, Debug)]
-enum Step {
+pub(super) enum Step {
     Open(Dir, Option<u32>),
     Accept(Dir, Option<u32>),
     Poll(Option<Event>),
@@ -170,7 +170,7 @@ fn refused_write(error: WriteError) -> Done {
     }
 }
 
-fn write(subject: &mut Subject, stream: u32, count: usize, conn: ConnState) -> Done {
+pub(super) fn write(subject: &mut Subject, stream: u32, count: usize, conn: ConnState) -> Done {
     let bytes = TEXT.get(..count).unwrap_or(TEXT);
     match sending(subject, stream, conn).write(bytes) {
         Ok(count) => Done::Took(count),
@@ -186,7 +186,7 @@ fn refused_finish(error: FinishError) -> Done {
     }
 }
 
-fn finish(subject: &mut Subject, stream: u32, conn: ConnState) -> Done {
+pub(super) fn finish(subject: &mut Subject, stream: u32, conn: ConnState) -> Done {
     match sending(subject, stream, conn).finish() {
         Ok(()) => Done::Is,
         Err(error) => refused_finish(error),
@@ -201,11 +201,16 @@ fn handled(answer: Result<(), HandleError>) -> Done {
     }
 }
 
-fn reset(subject: &mut Subject, stream: u32, code: u32, conn: ConnState) -> Done {
+pub(super) fn reset(subject: &mut Subject, stream: u32, code: u32, conn: ConnState) -> Done {
     handled(sending(subject, stream, conn).reset(VarInt::from(code)))
 }
 
-fn set_priority(subject: &mut Subject, stream: u32, priority: i32, conn: ConnState) -> Done {
+pub(super) fn set_priority(
+    subject: &mut Subject,
+    stream: u32,
+    priority: i32,
+    conn: ConnState,
+) -> Done {
     handled(sending(subject, stream, conn).set_priority(priority))
 }
 
@@ -221,7 +226,7 @@ fn priority(subject: &mut Subject, stream: u32, conn: ConnState) -> Option<i32> 
     sending(subject, stream, conn).priority().ok()
 }
 
-fn taken(answer: Result<(), ReceiveError>) -> Answer {
+pub(super) fn taken(answer: Result<(), ReceiveError>) -> Answer {
     match answer {
         Ok(()) => TAKEN,
         Err(ReceiveError::Transport(error)) => Answer::Refused(error.code),
@@ -229,7 +234,7 @@ fn taken(answer: Result<(), ReceiveError>) -> Answer {
     }
 }
 
-fn open(subject: &mut Subject, dir: Dir, conn: ConnState) -> Option<u64> {
+pub(super) fn open(subject: &mut Subject, dir: Dir, conn: ConnState) -> Option<u64> {
     match Streams::new(&mut subject.state, conn).open(dir) {
         Ok(Some(id)) => Some(number(id)),
         Ok(None) => None,
@@ -262,7 +267,7 @@ fn limit_of(subject: &Subject, stream: u32) -> Option<u64> {
     }
 }
 
-fn expected(stream: Option<u32>) -> Option<u64> {
+pub(super) fn expected(stream: Option<u32>) -> Option<u64> {
     match stream {
         Some(stream) => Some(u64::from(stream)),
         None => None,
@@ -279,7 +284,7 @@ fn queued(rt: &impl Abort, subject: &mut Subject, streams: &[u32]) {
 }
 
 // What the application calls.
-fn call(rt: &impl Abort, subject: &mut Subject, conn: ConnState, step: Step) {
+pub(super) fn call(rt: &impl Abort, subject: &mut Subject, conn: ConnState, step: Step) {
     match step {
         Step::Open(dir, stream) => assert_eq!(rt; open(subject, dir, conn), expected(stream)),
         Step::Accept(dir, stream) => assert_eq!(rt; accept(subject, dir, conn), expected(stream)),
