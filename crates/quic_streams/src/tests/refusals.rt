@@ -275,15 +275,22 @@ fn take_report(rt: &impl Abort, subject: &mut Subject, report: Report) {
     }
 }
 
-const OPENED: [Step; 15] = [
-    Step::MaxStreams(Dir::Uni, 2, TAKEN),
+const OPENED: [Step; 21] = [
+    Step::MaxStreams(Dir::Uni, 4, TAKEN),
     Step::Poll(Some(Event::Available(Dir::Uni))),
-    Step::Open(Dir::Bi, Some(0)),
     Step::Open(Dir::Uni, Some(2)),
+    Step::Open(Dir::Bi, Some(0)),
     Step::Open(Dir::Uni, Some(6)),
+    Step::Open(Dir::Uni, Some(10)),
+    Step::Open(Dir::Uni, Some(14)),
     Step::Open(Dir::Uni, None),
-    Step::Unopened(6, false),
-    Step::Unopened(10, true),
+    Step::Unopened(14, false),
+    Step::Unopened(18, true),
+    // Halves that nothing touched yet.
+    Step::MaxStreamData(0, 4, TAKEN),
+    Step::Stop(10, 1),
+    Step::Poll(Some(Event::Stopped(10, 1))),
+    Step::Poll(None),
     Step::SetPriority(6, 5),
     Step::Priority(6, Some(5)),
     Step::Write(2, 6, Done::Took(4)),
@@ -307,10 +314,10 @@ const WRITTEN: [Step; 20] = [
     Step::Poll(Some(Event::Writable(2))),
     Step::StreamBlocked(2, None),
     Step::Finish(6, Done::Is),
-    Step::Concurrent(Dir::Uni, 4, 4),
-    Step::Uses(Dir::Uni, 4, 0),
-    Step::Concurrent(Dir::Bi, 3, 3),
-    Step::Uses(Dir::Bi, 3, 0),
+    Step::Concurrent(Dir::Uni, 40, 40),
+    Step::Uses(Dir::Uni, 40, 0),
+    Step::Concurrent(Dir::Bi, 30, 30),
+    Step::Uses(Dir::Bi, 30, 0),
     Step::Window(WINDOW + 8, true),
     Step::Credit(8, false, WINDOW as u64 + 16),
     Step::Flow(0, true),
@@ -318,7 +325,7 @@ const WRITTEN: [Step; 20] = [
 
 // A client that wrote on three streams.
 fn client_that_wrote(rt: &impl Abort, alloc: Global) -> Result<Subject, OutOfMemory> {
-    let mut subject = client(alloc, 2, WINDOW, WINDOW)?;
+    let mut subject = client(alloc, 0, WINDOW, WINDOW)?;
     permit(&mut subject.state, 1, 10, 4);
     run(rt, &mut subject, &OPENED);
     write_chunks(rt, alloc, &mut subject)?;
@@ -340,6 +347,7 @@ const STOPPED: [Step; 6] = [
 // The client's frames are sent, one is lost and sent again, and most is acknowledged.
 fn send_and_ack(rt: &impl Abort, alloc: Global, subject: &mut Subject) -> Result<(), OutOfMemory> {
     send(rt, alloc, subject, SENT, &[0, 7, 14, 19])?;
+    take_report(rt, subject, Report::Acked(14, 0, 0, false));
     take_report(rt, subject, Report::Lost(2, 0, 4));
     send(rt, alloc, subject, b"\x0a\x02\x04thir", &[0, 7])?;
     subject.state.set_send_window(10);
@@ -353,7 +361,7 @@ fn send_and_ack(rt: &impl Abort, alloc: Global, subject: &mut Subject) -> Result
     Ok(())
 }
 
-const CONTROL: &[u8] = &[4, 2, 7, 4, 0x11, 0, 0x80, 0x10, 0, 0, 0x12, 3, 0x13, 4];
+const CONTROL: &[u8] = &[4, 2, 7, 4, 0x11, 0, 0x80, 0x10, 0, 0, 0x12, 30, 0x13, 40];
 
 #[test]
 fn refused_calls_change_nothing_and_then_succeed(rt: HostRuntime) -> Result<(), Fail> {
