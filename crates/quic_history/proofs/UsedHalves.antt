@@ -96,7 +96,7 @@ module _ (f g : ℕ → Bool) (s : Side) (bi uni reported : ℕ) where
       → used_of f s bi uni reported ≡ used_of g s bi uni reported + 1
   used-less-peer j l was here others =
       let n = number-one reported j (λ i. g (stream_id (other_side s) Bi i)) (λ i. f (stream_id (other_side s) Bi i)) l here was
-          (λ k e. sym (others (stream_id (other_side s) Bi k) (other-place (other_side s) Bi k j e))) in
+      (λ k e. sym (others (stream_id (other_side s) Bi k) (other-place (other_side s) Bi k j e))) in
       let a = number-same bi (λ i. f (stream_id s Bi i)) (λ i. g (stream_id s Bi i)) (λ i k. others (stream_id s Bi i) (own-apart s Bi i j)) in
       let b = number-same uni (λ i. f (stream_id s Uni i)) (λ i. g (stream_id s Uni i)) (λ i k. others (stream_id s Uni i) (own-apart s Uni i j)) in
       omega arith

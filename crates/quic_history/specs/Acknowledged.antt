@@ -25,9 +25,13 @@ is_used w id = is_own w id || nat_lt (index_of id) (remote_of w (dir_of id)).nex
 abbrev pub without_sender : World → ℕ → World
 without_sender w id = with_send_streams w (if is_used w id then w.send_streams - 1 else w.send_streams)
 
--- the send half of a stream was let go: one of the peer may be wholly freed by that
+-- one of the peer may be wholly freed by that
+abbrev pub without_send_half : World → ℕ → World
+without_send_half w id = if is_own w id then w else send_released w (dir_of id) id
+
+-- the send half of a stream was let go
 abbrev pub with_send_freed : World → ℕ → World
-with_send_freed w id = let u = without_sender w id in if is_own u id then u else send_released u (dir_of id) id
+with_send_freed w id = without_send_half (without_sender w id) id
 
 -- where by a report the end and every byte of a stream are acknowledged, its send half is freed, and the application is
 -- told
