@@ -23,7 +23,7 @@ use Rattle.quic_history.specs.Sends.{with_opened}
 use Rattle.quic_history.specs.SendEvents.{SendEvent, SendStep, GaveLimits, RaisedCount}
 use Rattle.quic_history.specs.SendTotals.{SendTotals, send_totals, own_total}
 use Rattle.quic_history.specs.Permitting.{with_accepted, is_sent_as_well}
-use Rattle.quic_history.specs.Acknowledged.{is_used, without_sender, with_send_freed}
+use Rattle.quic_history.specs.Acknowledged.{without_sender, with_send_freed}
 use Rattle.quic_history.specs.Flows.{AllFlows, has_side_in}
 use Rattle.quic_history.specs.Used.{used_halves}
 use Rattle.quic_history.specs.History.{Event, Received, ReceivedReset, AddedCredits, Began, Gave, Ended, Stopped, ToldReset, Resized, SetConcurrent, Accepted, Settled, Sending, Step, SentSo, FlowsSo, count_by, greatest_count, opened_in_all, send_tale, may_open_after}
@@ -182,9 +182,10 @@ module _ (u : World) (id : ℕ) (c : SendingCredit) (held : sends u id ≡ true)
 
   counts_without : (own bi : Bool) → is_same_side s (initiator_of id) ≡ own → (id / 2 % 2 == 0) ≡ bi
       → side_by own bi u.out.own_bi.opened u.out.own_uni.opened u.bi.max_remote (index_of id) ≡ true
-      → (if own || nat_lt (index_of id) (remote_of w (if bi then Bi else Uni)).next_reported then u.send_streams - 1 else u.send_streams) ≡ used_halves w
-  counts_without true true o b l = own_bi (own_spelled s (id % 2 == 0) true id refl b o) (below (index_of id) u.out.own_bi.opened l)
-  counts_without true false o b l = own_uni (own_spelled s (id % 2 == 0) false id refl b o) (below (index_of id) u.out.own_uni.opened l)
+      → (if (if own then nat_lt (index_of id) (own_of w.out (if bi then Bi else Uni)).opened else nat_lt (index_of id) (remote_of w (if bi then Bi else Uni)).next_reported)
+      then u.send_streams - 1 else u.send_streams) ≡ used_halves w
+  counts_without true true o b l = rw l (own_bi (own_spelled s (id % 2 == 0) true id refl b o) (below (index_of id) u.out.own_bi.opened l))
+  counts_without true false o b l = rw l (own_uni (own_spelled s (id % 2 == 0) false id refl b o) (below (index_of id) u.out.own_uni.opened l))
   counts_without false true o b l = peer_bi (spelled s (id % 2 == 0) true id refl b o) (nat_lt (index_of id) u.bi.next_reported) refl
   counts_without false false o b l = cc
 

@@ -1,12 +1,12 @@
 -- What acknowledgements and losses of frames do to an end.
-use Rattle.std.specs.Prelude.{ℕ, ℤ, Bool, true, false, ◌≡◌, ◌-◌, ◌&&◌, ◌||◌, nat_lt, if◌then◌else◌, Option, Some, None, is_some, Result, Ok, Err, MatchBool}
+use Rattle.std.specs.Prelude.{ℕ, ℤ, Bool, true, false, ◌≡◌, ◌-◌, ◌&&◌, nat_lt, if◌then◌else◌, Option, Some, None, is_some, Result, Ok, Err, MatchBool}
 use Rattle.std.specs.declared.ops.Range.{Range}
 use Rattle.quic_values.specs.declared.memory.OutOfMemory.{OutOfMemory}
 use Rattle.quic_values.specs.declared.ids.Dir.{Dir}
 use Rattle.quic_values.specs.declared.ids.Dir.TheVariants.{Bi, Uni}
 use Rattle.quic_values.specs.Ids.{dir_of, index_of}
 use Rattle.quic_wire.specs.declared.event.StreamEvent.TheVariants as stream_event
-use Rattle.quic_outgoing.specs.Outgoing.{Outgoing, with_send_half}
+use Rattle.quic_outgoing.specs.Outgoing.{Outgoing, own_of, with_send_half}
 use Rattle.quic_outgoing.specs.Acknowledging.{AcksStream, LosesOnStream, is_given_up}
 use Rattle.quic_history.specs.World.{World, is_own, remote_of, replaced_in, told, with_send_streams}
 use Rattle.quic_history.specs.Sends.{with_out, is_permitted}
@@ -17,13 +17,13 @@ abbrev pub send_released : World → Dir → ℕ → World
 send_released w Uni id = w
 send_released w Bi id = if is_some (w.receive id) then w else replaced_in w Bi
 
--- whether this end opened a stream, or accepted it
-abbrev pub is_used : World → ℕ → Bool
-is_used w id = is_own w id || nat_lt (index_of id) (remote_of w (dir_of id)).next_reported
+-- whether the application was given a stream: this end opened it, or accepted it
+abbrev pub was_given : World → ℕ → Bool
+was_given w id = if is_own w id then nat_lt (index_of id) (own_of w.out (dir_of id)).opened else nat_lt (index_of id) (remote_of w (dir_of id)).next_reported
 
--- one send half less is held, of a stream that is used or not
+-- one send half less is held, of a stream that the application was given or not
 abbrev pub without_sender : World → ℕ → World
-without_sender w id = with_send_streams w (if is_used w id then w.send_streams - 1 else w.send_streams)
+without_sender w id = with_send_streams w (if was_given w id then w.send_streams - 1 else w.send_streams)
 
 -- one of the peer may be wholly freed by that
 abbrev pub without_send_half : World → ℕ → World

@@ -5,6 +5,7 @@ ghost use Rattle.std.specs.Option.{option_map};
 ghost use Rattle.quic_limits.specs.Remote.{open_now, one_accepted, acceptable_index};
 ghost use Rattle.quic_streams.specs.Shown.{shown};
 ghost use Rattle.quic_history.specs.Used.{used_halves};
+ghost use Rattle.quic_history.specs.Acknowledged.{was_given};
 ghost use Rattle.quic_history.specs.World.{Made, remote_of};
 ghost use Rattle.quic_history.specs.Permitting.{with_accepted, acceptable};
 ghost use Rattle.quic_history.specs.SendEvents.{OpenedOwn};
@@ -90,6 +91,19 @@ impl<'a> Streams<'a> {
 
 #[tactic(auto, unfolding(crate::specs::Shown::shown, quic_history::specs::World::with_receive))]
 impl StreamsState {
+    /// Whether the application was given a stream: it was opened by [`Streams::open`], or accepted by
+    /// [`Streams::accept`].
+    pub fn was_given(&self, id: StreamId) -> bool
+        ensures { result ≡ was_given (shown self.now) id }
+    {
+        let given = match (self.is_own(id), id.dir()) {
+            (true, dir) => self.outgoing.opened(dir),
+            (false, Dir::Bi) => self.bi.next_reported(),
+            (false, Dir::Uni) => self.uni.next_reported(),
+        };
+        id.index() < given
+    }
+
     // Opens the next stream of a direction.
     fn open(&mut self, dir: Dir, conn: ConnState) -> Result<Option<StreamId>, OutOfMemory>
         ensures { OpensOwn (shown self.old) dir (is_shut conn) result (shown self.new) }

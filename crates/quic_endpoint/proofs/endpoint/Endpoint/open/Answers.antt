@@ -1,0 +1,6 @@
+use Rattle.quic_endpoint.specs.Shown.{end_state}
+use Rattle.quic_endpoint.proofs.endpoint.Endpoint.open.Goals as goal
+
+pub returns-clause-from : goal.returns-clause-from
+unfolding end_state
+returns-clause-from c = rw (c.new.ensures.state, c.new.ensures.conn) at c.open.ensures.from

@@ -1,0 +1,4 @@
+pub mod Ends
+pub mod Receiving
+pub mod Reports
+pub mod Shown

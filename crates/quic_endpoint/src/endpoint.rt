@@ -1,0 +1,126 @@
+//! An end, and the calls of its application.
+
+ghost use Rattle.std.specs.Prelude.{ℕ, List, ◌∷◌, [], ◌≡◌, ◌≤◌, ◌^◌, IfOk, nat_lt};
+ghost use Rattle.quic_history.specs.World.{Made, made_with, start};
+ghost use Rattle.quic_history.specs.History.{Event, Sending, Resized, SetConcurrent, From};
+ghost use Rattle.quic_history.specs.SendEvents.{GaveLimits, SetWindow, Polled};
+ghost use Rattle.quic_history.specs.Sends.{with_out, TellsNext};
+ghost use Rattle.quic_limits.specs.SendingCredit.{with_window};
+ghost use Rattle.quic_outgoing.specs.Outgoing.{with_params};
+ghost use Rattle.quic_retransmits.specs.Pending.{nothing};
+ghost use Rattle.quic_streams.specs.Shown.{shown};
+ghost use Rattle.quic_endpoint.specs.Shown.{end_state};
+ghost use Rattle.quic_endpoint.specs.Ends.{with_streams, with_counts_told_if, with_window_set, SetsConcurrentAt};
+
+use quic_streams::state::StreamsState;
+use quic_streams::{PeerLimits, Retransmits};
+use quic_values::{Dir, OutOfMemory, Side, VarInt};
+use quic_wire::StreamEvent;
+use std::alloc::Global;
+
+/// One end of a connection: its streams, and what it has to send beside their data.
+#[derive(Drop)]
+pub struct Endpoint {
+    pub(crate) streams: StreamsState,
+    pub(crate) pending: Retransmits,
+    pub(crate) alloc: Global,
+}
+
+#[tactic(auto, unfolding(crate::specs::Shown::end_state))]
+impl Endpoint {
+    /// An end of which no stream is open, and that has nothing to send. The arguments are those of
+    /// [`StreamsState::new`].
+    pub fn new(
+        alloc: Global,
+        side: Side,
+        max_remote_uni: VarInt,
+        max_remote_bi: VarInt,
+        send_window: u64,
+        receive_window: VarInt,
+        stream_window: VarInt,
+    ) -> Result<Self, OutOfMemory>
+        requires uni { max_remote_uni ≤ 2 ^ 60 }
+        requires bi { max_remote_bi ≤ 2 ^ 60 }
+        ensures start { IfOk result (λ end. end_state end ≡ record { streams = start (made_with side max_remote_uni max_remote_bi send_window receive_window stream_window); pending = nothing }) }
+        ensures from { IfOk result (λ end. From (made_with side max_remote_uni max_remote_bi send_window receive_window stream_window) [] (end_state end).streams) }
+    {
+        let streams = StreamsState::new(
+            alloc,
+            side,
+            max_remote_uni,
+            max_remote_bi,
+            send_window,
+            receive_window,
+            stream_window,
+        )?;
+        Ok(Endpoint {
+            streams,
+            pending: Retransmits::new(alloc),
+            alloc,
+        })
+    }
+
+    /// Takes the limits of the peer's transport parameters (RFC 9000 section 7.4).
+    pub fn set_params(&mut self, params: &PeerLimits)
+        ensures params { end_state self.new ≡ with_streams (end_state self.old) (with_out (end_state self.old).streams (with_params (end_state self.old).streams.out params.now)) }
+        ensures from { (m : Made) (h : List Event) → From m h (end_state self.old).streams → From m (Sending (GaveLimits params.now) ∷ h) (end_state self.new).streams }
+    {
+        self.streams.set_params(params);
+    }
+
+    /// Sets how many bytes that were written are retained at most until they are acknowledged.
+    pub fn set_send_window(&mut self, window: u64)
+        ensures window { end_state self.new ≡ with_streams (end_state self.old) (with_out (end_state self.old).streams (record (end_state self.old).streams.out { budget = with_window (end_state self.old).streams.out.budget window })) }
+        ensures from { (m : Made) (h : List Event) → From m h (end_state self.old).streams → From m (Sending (SetWindow window) ∷ h) (end_state self.new).streams }
+    {
+        self.streams.set_send_window(window);
+    }
+
+    /// Sets how many bytes of all streams may be received and not consumed. Where that is more than before, the answer is
+    /// true, and MAX_DATA is queued.
+    pub fn set_receive_window(&mut self, window: VarInt) -> bool
+        ensures window { end_state self.new ≡ with_window_set (end_state self.old) window result }
+        ensures larger { result ≡ nat_lt (end_state self.old).streams.credit.receive_window window }
+        ensures from { (m : Made) (h : List Event) → From m h (end_state self.old).streams → From m (Resized window result ∷ h) (end_state self.new).streams }
+    {
+        let larger = self.streams.set_receive_window(window);
+        self.pending.queue_max_data(larger);
+        larger
+    }
+
+    /// Sets how many streams of a direction the peer is to be able to use at a time, and queues MAX_STREAMS where it is
+    /// due. A refusal changes nothing.
+    pub fn set_max_concurrent(&mut self, dir: Dir, count: VarInt) -> Result<(), OutOfMemory>
+        ensures sets { SetsConcurrentAt (end_state self.old) dir count result (end_state self.new) }
+        ensures from { (m : Made) (h : List Event) → From m h (end_state self.old).streams → From m (SetConcurrent dir count result ∷ h) (end_state self.new).streams }
+    {
+        let answer = self.streams.set_max_concurrent(dir, count);
+        self.tell_counts_if(answer.is_ok());
+        answer
+    }
+
+    /// What the application is to be told next, if there is something.
+    pub fn poll(&mut self) -> Option<StreamEvent>
+        ensures polls { TellsNext (end_state self.old).streams result (end_state self.new).streams }
+        ensures pending { (end_state self.new).pending ≡ (end_state self.old).pending }
+        ensures from { (m : Made) (h : List Event) → From m h (end_state self.old).streams → From m (Sending (Polled result) ∷ h) (end_state self.new).streams }
+    {
+        self.streams.poll()
+    }
+
+    /// The state of the streams.
+    pub fn streams(&self) -> &StreamsState
+        ensures { shown result.now ≡ (end_state self.now).streams }
+    {
+        &self.streams
+    }
+
+    // MAX_STREAMS is queued where it is due, if a call was not refused for want of memory.
+    pub(crate) fn tell_counts_if(&mut self, handled: bool)
+        ensures { end_state self.new ≡ with_counts_told_if handled (end_state self.old) }
+    {
+        if handled {
+            let _ = self.streams.queue_max_stream_id(&mut self.pending);
+        }
+    }
+}

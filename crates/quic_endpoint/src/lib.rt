@@ -1,0 +1,9 @@
+//! One end of a connection, with what stands beside the state of its streams.
+#![tactic(auto)]
+
+mod application;
+pub mod endpoint;
+mod frames;
+mod reports;
+
+pub use endpoint::Endpoint;
