@@ -26,8 +26,8 @@ pub record EndState : Type 0 where
   pub pending : Pending
 
 -- another state of the streams, and the same to be sent
-abbrev pub with_streams : EndState → World → EndState
-with_streams e w = record e { streams = w }
+abbrev pub with_world : EndState → World → EndState
+with_world e w = record e { streams = w }
 
 -- MAX_STREAMS is queued where it is due
 abbrev pub with_counts_told : EndState → EndState
@@ -80,7 +80,7 @@ abbrev pub SetsPriorityAt : EndState → ℕ → ℤ → Result (Unit {0}) Handl
 SetsPriorityAt e id priority answer f = SetsOwnPriority e.streams id priority answer f.streams × (f.pending ≡ e.pending)
 
 -- of stopping one, after which the counts of streams are told
-pub record StopsAt (e : EndState) (id code : ℕ) (answer : Result (Unit {0}) HandleError) (f : EndState) : Type 0 where
+pub record StopsReading (e : EndState) (id code : ℕ) (answer : Result (Unit {0}) HandleError) (f : EndState) : Type 0 where
   pub stopped : EndState
   pub stops : Stops e.streams id code e.pending answer stopped.streams stopped.pending
   pub is : f ≡ with_counts_told_if (is_handled answer) stopped
@@ -106,7 +106,7 @@ pub record RefusesRead (e : EndState) (id : ℕ) (ordered : Bool) (error : Reada
 
 -- of setting the receive window, after which MAX_DATA is queued where it is larger
 abbrev pub with_window_set : EndState → ℕ → Bool → EndState
-with_window_set e window larger = with_limit_told larger (with_streams e (with_receive_window e.streams window))
+with_window_set e window larger = with_limit_told larger (with_world e (with_receive_window e.streams window))
 
 -- of setting how many streams the peer is to be able to use at a time
 pub record SetsConcurrentAt (e : EndState) (dir : Dir) (count : ℕ) (answer : Result (Unit {0}) OutOfMemory) (f : EndState) : Type 0 where

@@ -1,4 +1,5 @@
 pub mod Ends
 pub mod Receiving
 pub mod Reports
+pub mod Emitting
 pub mod Shown

@@ -52,9 +52,9 @@ IsQuiet (Ok transmit) = transmit.0 ≡ false
 IsQuiet (Err error) = Unit {0}
 
 -- one without a refusal
-abbrev pub IsDone : Result ShouldTransmit ReceiveError → Type 0
-IsDone (Ok transmit) = transmit.0 ≡ false
-IsDone (Err error) = ⊥
+abbrev pub AnswersDone : Result ShouldTransmit ReceiveError → Type 0
+AnswersDone (Ok transmit) = transmit.0 ≡ false
+AnswersDone (Err error) = ⊥
 
 -- one without a refusal but for want of memory
 abbrev pub IsDoneIfRoom : Result ShouldTransmit ReceiveError → Type 0
@@ -69,7 +69,7 @@ MayAnswer (frames.ResetStream f) answer = Unit {0}
 MayAnswer (frames.StopSending f) answer = IsDoneIfRoom answer
 MayAnswer (frames.MaxStreamData id limit) answer = IsQuiet answer
 MayAnswer (frames.MaxStreams dir count) answer = IsQuiet answer
-MayAnswer _ answer = IsDone answer
+MayAnswer _ answer = AnswersDone answer
 
 -- what an answer asks for is queued: MAX_DATA, and MAX_STREAMS where it is due. A refusal for want of memory asks nothing
 abbrev pub with_answer_told : Result ShouldTransmit ReceiveError → EndState → EndState

@@ -9,7 +9,7 @@ ghost use Rattle.quic_history.specs.Reading.{Stops, TellsReset, ReadsSome, Begin
 ghost use Rattle.quic_sending.specs.Source.{slice_lists};
 ghost use Rattle.quic_streams.specs.Writing.{IsWrittenAs};
 ghost use Rattle.quic_endpoint.specs.Shown.{end_state};
-ghost use Rattle.quic_endpoint.specs.Ends.{with_streams, OpensAt, WritesAt, FinishesAt, ResetsAt, SetsPriorityAt, StopsAt, TellsResetAt, ReadsAt, RefusesRead, is_handled, is_opened};
+ghost use Rattle.quic_endpoint.specs.Ends.{with_world, OpensAt, WritesAt, FinishesAt, ResetsAt, SetsPriorityAt, StopsReading, TellsResetAt, ReadsAt, RefusesRead, is_handled, is_opened};
 
 use crate::endpoint::Endpoint;
 use quic_receiving::{HandleError, ReadableError};
@@ -33,7 +33,7 @@ impl Endpoint {
     /// Accepts the next stream of a direction, as [`Streams::accept`].
     pub fn accept(&mut self, dir: Dir) -> Option<StreamId>
         ensures id { result ≡ acceptable (end_state self.old).streams dir }
-        ensures accepted { end_state self.new ≡ with_streams (end_state self.old) (with_accepted (end_state self.old).streams dir) }
+        ensures accepted { end_state self.new ≡ with_world (end_state self.old) (with_accepted (end_state self.old).streams dir) }
         ensures from { (m : Made) (h : List Event) → From m h (end_state self.old).streams → From m (Accepted dir result ∷ h) (end_state self.new).streams }
     {
         Streams::new(&mut self.streams, ConnState::Open).accept(dir)
@@ -91,7 +91,7 @@ impl Endpoint {
 
     /// Stops a stream, as [`RecvStream::stop`], and queues MAX_STREAMS where it is due, unless memory was wanting.
     pub fn stop(&mut self, id: StreamId, error_code: VarInt) -> Result<(), HandleError>
-        ensures stops { StopsAt (end_state self.old) id error_code result (end_state self.new) }
+        ensures stops { StopsReading (end_state self.old) id error_code result (end_state self.new) }
         ensures from { (m : Made) (h : List Event) → From m h (end_state self.old).streams → From m (Stopped id error_code result ∷ h) (end_state self.new).streams }
     {
         let answer = self.stop_stream(id, error_code);

@@ -10,7 +10,7 @@ ghost use Rattle.quic_outgoing.specs.Outgoing.{with_params};
 ghost use Rattle.quic_retransmits.specs.Pending.{nothing};
 ghost use Rattle.quic_streams.specs.Shown.{shown};
 ghost use Rattle.quic_endpoint.specs.Shown.{end_state};
-ghost use Rattle.quic_endpoint.specs.Ends.{with_streams, with_counts_told_if, with_window_set, SetsConcurrentAt};
+ghost use Rattle.quic_endpoint.specs.Ends.{with_world, with_counts_told_if, with_window_set, SetsConcurrentAt};
 
 use quic_streams::state::StreamsState;
 use quic_streams::{PeerLimits, Retransmits};
@@ -62,7 +62,7 @@ impl Endpoint {
 
     /// Takes the limits of the peer's transport parameters (RFC 9000 section 7.4).
     pub fn set_params(&mut self, params: &PeerLimits)
-        ensures params { end_state self.new ≡ with_streams (end_state self.old) (with_out (end_state self.old).streams (with_params (end_state self.old).streams.out params.now)) }
+        ensures params { end_state self.new ≡ with_world (end_state self.old) (with_out (end_state self.old).streams (with_params (end_state self.old).streams.out params.now)) }
         ensures from { (m : Made) (h : List Event) → From m h (end_state self.old).streams → From m (Sending (GaveLimits params.now) ∷ h) (end_state self.new).streams }
     {
         self.streams.set_params(params);
@@ -70,7 +70,7 @@ impl Endpoint {
 
     /// Sets how many bytes that were written are retained at most until they are acknowledged.
     pub fn set_send_window(&mut self, window: u64)
-        ensures window { end_state self.new ≡ with_streams (end_state self.old) (with_out (end_state self.old).streams (record (end_state self.old).streams.out { budget = with_window (end_state self.old).streams.out.budget window })) }
+        ensures window { end_state self.new ≡ with_world (end_state self.old) (with_out (end_state self.old).streams (record (end_state self.old).streams.out { budget = with_window (end_state self.old).streams.out.budget window })) }
         ensures from { (m : Made) (h : List Event) → From m h (end_state self.old).streams → From m (Sending (SetWindow window) ∷ h) (end_state self.new).streams }
     {
         self.streams.set_send_window(window);

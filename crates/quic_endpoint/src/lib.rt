@@ -4,6 +4,11 @@
 mod application;
 pub mod endpoint;
 mod frames;
+pub mod payload;
 mod reports;
 
 pub use endpoint::Endpoint;
+pub use payload::Payload;
+
+#[cfg(test)]
+mod tests;

@@ -1,0 +1,65 @@
+use Rattle.std.proofs.Common.{◌≡◌, ℕ, List, [], length, ◌≤◌, Ok, Err, rules, arith, refl, ap, ◌∙◌, sym, subst}
+use Rattle.quic_wire.specs.declared.frame.StreamMeta.{StreamMeta}
+use Rattle.quic_retransmits.specs.Pending.{Pending, nothing, shown_pending}
+use Rattle.quic_retransmits.specs.Settling.{noted_in}
+use Rattle.quic_streams.specs.Shown.{shown}
+use Rattle.quic_streams.specs.Payload.{with_entries}
+use Rattle.quic_endpoint.specs.Shown.{end_state}
+use Rattle.quic_endpoint.specs.Ends.{EndState}
+use Rattle.quic_endpoint.specs.Emitting.{PayloadView, payload_view, EmitsControl, EmitsStreams, EmitsNoStream, EmitsAt, whole, cut}
+use Rattle.quic_endpoint.proofs.endpoint.Endpoint.emit.Goals as goal
+
+pub returns-in-Err-clause-emits : goal.returns-in-Err-clause-emits
+unfolding end_state
+returns-in-Err-clause-emits c =
+    let w = c.write_control_frames-written in
+    let bytes_none : c.new-payload.result.bytes.items ≡ [] = ap (λ (p : PayloadView). p.bytes) c.new-payload.ensures in
+    let noted_none : noted_in c.new-payload.result.control ≡ nothing = ap (λ (p : PayloadView). p.control) c.new-payload.ensures in
+    let streams_none : c.new-payload.result.streams.items ≡ [] = ap (λ (p : PayloadView). p.streams) c.new-payload.ensures in
+    let between : EndState = record { streams = shown w.new.self; pending = shown_pending w.new.pending } in
+    let control : EmitsControl c.args.max_size (end_state c.args.self.now) (Err c.in-Err.error) between w.new.buf.items (noted_in w.new.sent) = record {
+      before = c.new-counters.result;
+      after = w.new.counters;
+      writes = rw (bytes_none, noted_none, c.in-Err.is) at w.ensures.writes;
+      full = tt;
+      refused = rw c.in-Err.is at w.ensures.refused;
+      from = rw (bytes_none, noted_none) at w.ensures.from;
+    } in
+    cut between w.new.buf.items control (record { same = refl; bytes_are = refl; none = streams_none })
+
+pub returns-clause-emits : goal.returns-clause-emits
+unfolding end_state
+returns-clause-emits c =
+    let w = c.write_control_frames-written in
+    let v = c.write_stream_frames-answer in
+    let bytes_none : c.new-payload.result.bytes.items ≡ [] = ap (λ (p : PayloadView). p.bytes) c.new-payload.ensures in
+    let noted_none : noted_in c.new-payload.result.control ≡ nothing = ap (λ (p : PayloadView). p.control) c.new-payload.ensures in
+    let streams_none : c.new-payload.result.streams.items ≡ [] = ap (λ (p : PayloadView). p.streams) c.new-payload.ensures in
+    let between : EndState = record { streams = shown w.new.self; pending = shown_pending w.new.pending } in
+    let control : EmitsControl c.args.max_size (end_state c.args.self.now) (Ok tt) between w.new.buf.items (noted_in w.new.sent) = record {
+      before = c.new-counters.result;
+      after = w.new.counters;
+      writes = rw (bytes_none, noted_none, c.in_default.is) at w.ensures.writes;
+      full = rw c.in_default.is at w.ensures.full;
+      refused = tt;
+      from = rw (bytes_none, noted_none) at w.ensures.from;
+    } in
+    whole between w.new.buf.items control (record {
+      writes = rw streams_none at v.ensures.writes;
+      full = v.ensures.full;
+      refused = v.ensures.refused;
+      carries = rw streams_none at v.ensures.carries;
+      from = rw streams_none at v.ensures.from;
+      pending = refl;
+    })
+
+pub returns-clause-within : goal.returns-clause-within
+unfolding end_state
+returns-clause-within c = λ m h f.
+    let w = c.write_control_frames-written in
+    let v = c.write_stream_frames-answer in
+    let bytes_none : c.new-payload.result.bytes.items ≡ [] = ap (λ (p : PayloadView). p.bytes) c.new-payload.ensures in
+    let begins : length c.new-payload.result.bytes.items ≤ c.args.max_size = rw bytes_none (omega arith) in
+    let control = w.ensures.from in
+    let appended = v.ensures.carries m (with_entries control.entries h) (control.from m h f) in
+    appended.within (w.ensures.within begins)
