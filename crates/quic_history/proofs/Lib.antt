@@ -32,3 +32,6 @@ pub mod Totals
 pub mod Traces
 pub mod WorldSteps
 pub mod WritesTold
+pub mod JointMoves
+pub mod EarlyFlows
+pub mod EarlyFacts

@@ -12,3 +12,4 @@ pub mod Writes
 pub mod Acknowledged
 pub mod SendEvents
 pub mod Permitting
+pub mod Early

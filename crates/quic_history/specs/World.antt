@@ -22,6 +22,7 @@ use Rattle.quic_outgoing.specs.Outgoing.{Outgoing, no_streams, with_send_half, w
 -- receive: the receive half of a stream, if one is held
 -- window: the first limit of each stream
 -- events: what the application was not told yet
+-- adjusted: whether it was set how many streams the peer is to be able to use at a time
 pub record World : Type 0 where
   pub credit : Credit
   pub bi : Remote
@@ -31,6 +32,7 @@ pub record World : Type 0 where
   pub receive : Halves
   pub window : ℕ
   pub events : List StreamEvent
+  pub adjusted : Bool
 
 -- what an end is made with: which end it is, how many streams of each direction the peer may open, and the windows of
 -- sending, of receiving, and of receiving on one stream
@@ -57,6 +59,7 @@ start m = record {
   receive = with_first (with_first (λ id. None) (other_side m.side) Bi m.bi (Some (new_half m.window))) (other_side m.side) Uni m.uni (Some (new_half m.window));
   window = m.window;
   events = [];
+  adjusted = false;
 }
 
 -- whether the send half of a stream is held

@@ -16,7 +16,7 @@ use Rattle.quic_outgoing.specs.Senders.{first_for, first_limit, is_local, new_se
 use Rattle.quic_sending.specs.Buffer.{is_acked}
 use Rattle.quic_sending.specs.Sending.{is_reset_sent}
 use Rattle.quic_outgoing.specs.Transmitting.{is_data_sent}
-use Rattle.quic_outgoing.specs.Early.{of_peer_anew, own_unsent, as_unsent, has_content, NoneAcked}
+use Rattle.quic_outgoing.specs.Early.{of_peer_anew, own_unsent, as_unsent, NoneAcked}
 use Rattle.quic_outgoing.specs.Seen.{sender_in, unsent_box}
 use Rattle.quic_outgoing.proofs.SenderMaps.{entry_sender, senders_of}
 
@@ -61,12 +61,12 @@ kept-pairs {F} {X} T g ok f h (e ∷ es) kept r q may =
 
 -- a half of which all counts as not sent, whatever its room
 unsent-raised : (limit : ℕ) (s : Send) → raised limit (bare (as_unsent s)) ≡ as_unsent (raised limit (bare s))
-unsent-raised limit s = by (has_content s)
+unsent-raised limit s = by (is_reset_sent s.state)
   where
     all : Send → Send
     all t = record t { pending = record t.pending { unsent = 0; lost = [] }; fin_pending = t.fin_pending || is_data_sent t.state }
 
-    by : (b : Bool) → raised limit (bare (cond b (all s) s)) ≡ cond b (all (raised limit (bare s))) (raised limit (bare s))
+    by : (b : Bool) → raised limit (bare (cond b s (all s))) ≡ cond b (raised limit (bare s)) (all (raised limit (bare s)))
     by true = refl
     by false = refl
 

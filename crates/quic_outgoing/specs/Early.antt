@@ -31,9 +31,10 @@ after_rejection u = record u {
 abbrev pub has_content : Send → Bool
 has_content s = not (is_reset_sent s.state) && (nat_lt 0 s.pending.offset || is_data_sent s.state)
 
--- a half of which all that was written counts as not sent, and so does the end of a finished stream
+-- a half of which all that was written counts as not sent, and so does the end of a finished stream; of one that was
+-- reset nothing is sent
 abbrev pub as_unsent : Send → Send
-as_unsent s = if has_content s then record s { pending = record s.pending { unsent = 0; lost = [] }; fin_pending = s.fin_pending || is_data_sent s.state } else s
+as_unsent s = if is_reset_sent s.state then s else record s { pending = record s.pending { unsent = 0; lost = [] }; fin_pending = s.fin_pending || is_data_sent s.state }
 
 -- so it is with each half of this end's streams
 unfoldable pub own_unsent : Side → SendersById → SendersById

@@ -406,7 +406,7 @@ fn has_content(half: &Send) -> bool
 fn unsend_half(half: &mut Send)
     ensures { (is_reset_sent half.old.state ≡ false → (n : ℕ) → is_acked half.old.pending n ≡ false) → half.new ≡ as_unsent half.old }
 {
-    if !has_content(half) {
+    if half.is_reset() {
         return;
     }
     if !half.pending.none_acked() {
