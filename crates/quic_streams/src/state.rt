@@ -35,6 +35,8 @@ pub struct StreamsState {
     // The streams on which something is to be sent.
     pub(crate) queue: SendQueue,
     pub(crate) events: VecDeque<StreamEvent>,
+    // Whether it was set how many streams the peer is to be able to use at a time.
+    pub(crate) adjusted: bool,
 }
 
 #[tactic(auto, unfolding(crate::specs::Shown::shown, quic_history::specs::World::with_receive, crate::specs::Room::rooms, crate::specs::Room::HasEventRoom))]
@@ -71,6 +73,7 @@ impl StreamsState {
             outgoing,
             queue: SendQueue::new(alloc),
             events: VecDeque::new(alloc),
+            adjusted: false,
         })
     }
 
