@@ -15,4 +15,4 @@ returns-clause-held c =
     let es = c.args.self.now.entries.entries in
     let others = filter_same_pairs _ (λ p. not (is_local side p.0)) _ (λ k v b w f' t. search rules) _ _ c.retain.ensures.filtered in
     held-without side c.args.self.now.window _ _ (λ q.
-        rw others (lookup-filter-keys (eqb q) (λ k. not (is_local side k)) (not (is_local side q)) (λ k t. ap (λ i. not (is_local side i)) (sym (eqb-true q k t))) es))
+    rw others (lookup-filter-keys (eqb q) (λ k. not (is_local side k)) (not (is_local side q)) (λ k t. ap (λ i. not (is_local side i)) (sym (eqb-true q k t))) es))

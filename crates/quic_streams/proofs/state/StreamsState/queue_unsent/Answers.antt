@@ -1,7 +1,6 @@
-use Rattle.std.proofs.Common.{◌≡◌, ℕ, sym, ap, ◌∙◌, subst}
+use Rattle.std.proofs.Common.{◌≡◌, ℕ, ap, ◌∙◌, subst}
 use Rattle.quic_values.specs.declared.ids.Side.{Side}
 use Rattle.quic_values.specs.Ids.{stream_id}
-use Rattle.quic_queue.specs.SendOrder.{SendOrder}
 use Rattle.quic_outgoing.specs.Early.{QueuesUnsent}
 use Rattle.quic_outgoing.specs.Shown.{view_of}
 use Rattle.quic_history.specs.Early.{entry_at, with_entries_put}

@@ -1,4 +1,4 @@
-use Rattle.std.proofs.Common.{◌≡◌, None, ap, ◌∙◌, ◌++◌}
+use Rattle.std.proofs.Common.{None, ap, ◌∙◌, ◌++◌}
 use Rattle.quic_values.specs.declared.ids.Dir.TheVariants.{Bi, Uni}
 use Rattle.quic_queue.specs.SendOrder.{SendOrder}
 use Rattle.quic_outgoing.specs.Outgoing.{Outgoing}
@@ -21,5 +21,5 @@ returns-clause-sends c = λ none.
       one.0 ++ two.0,
       unsent-both o (first_ids o.side Bi o.own_bi.opened) (first_ids o.side Uni o.own_uni.opened) one.0 two.0 one.1 two.1,
       ap (λ (a : Outgoing). with_both a (record c.queue_unsent-2.new.queue { reserved = None })) (c.unsend_all.ensures.unsends none)
-      ∙ ap (with_both (with_all_unsent o)) (all-queued c.args.self.now.queue c.in_ok-queue.queue c.queue_unsent.new.queue c.queue_unsent-2.new.queue one.0 two.0 c.in_ok-queue.ensures one.2 two.2),
+          ∙ ap (with_both (with_all_unsent o)) (all-queued c.args.self.now.queue c.in_ok-queue.queue c.queue_unsent.new.queue c.queue_unsent-2.new.queue one.0 two.0 c.in_ok-queue.ensures one.2 two.2),
     )
