@@ -17,5 +17,5 @@ returns-clause-halves c =
     let others = filter_same_pairs _ (λ p. not (is_local side p.0)) _ (λ k v b w f' t. search rules) _ _ c.retain.ensures.filtered in
     let unused = map_same_pairs _ (λ v. None) _ (λ k v b w f' t. search rules) _ _ c.retain-2.ensures.filtered in
     rw c.none-self.ensures (anew side c.args.self.now.first _ _ (λ q.
-        rw unused (lookup-map_values (λ v. None) (eqb q) c.retain.new.self.entries
-        ∙ ap (option_map (λ v. None)) (rw others (lookup-filter-keys (eqb q) (λ k. not (is_local side k)) (not (is_local side q)) (λ k t. ap (λ i. not (is_local side i)) (sym (eqb-true q k t))) es)))))
+    rw unused (lookup-map_values (λ v. None) (eqb q) c.retain.new.self.entries
+    ∙ ap (option_map (λ v. None)) (rw others (lookup-filter-keys (eqb q) (λ k. not (is_local side k)) (not (is_local side q)) (λ k t. ap (λ i. not (is_local side i)) (sym (eqb-true q k t))) es)))))
