@@ -1,5 +1,5 @@
 -- What is told of what an end received stays true where an early start is rejected, or sent again.
-use Rattle.std.proofs.Common.{◌≡◌, ℕ, Bool, true, false, List, [], ◌∷◌, Option, Some, None, is_some, Result, Ok, Err, refl, sym, ap, ◌∙◌, subst, arith, ◌+◌, ◌-◌, ◌<◌, ◌≤◌, ◌/◌, ◌%◌}
+use Rattle.std.proofs.Common.{◌≡◌, ℕ, Bool, true, false, List, ◌∷◌, Option, Some, None, is_some, Result, Ok, Err, refl, sym, ap, ◌∙◌, subst, arith, ◌/◌, ◌%◌}
 use Rattle.std.specs.Prelude.{◌&&◌, ◌==◌, not, nat_le, if◌then◌else◌}
 use Rattle.std.specs.Option.{option_map}
 use Rattle.std.proofs.lemmas.Bool.Decides.{nat_tests}
@@ -16,7 +16,7 @@ use Rattle.quic_sending.specs.declared.send.Send.{Send}
 use Rattle.quic_outgoing.specs.Early.{of_peer_anew, own_unsent, as_unsent, with_all_unsent}
 use Rattle.quic_history.specs.World.{World, sends, id_refusal, is_own, is_same_side, own_refusal, remote_of}
 use Rattle.quic_history.specs.Early.{IsEarly, without_own, with_rejection, announced_anew}
-use Rattle.quic_history.specs.History.{Event, Rejected, SentAgain, Trace, untouched, trace, told_still, streams, total_over, received, consumed, debt, last_window, is_freed, GivenSo, EndsSo, StreamFrom, HalfFrom, Facts}
+use Rattle.quic_history.specs.History.{Event, Rejected, SentAgain, Trace, untouched, trace, told_still, streams, received, consumed, debt, last_window, is_freed, GivenSo, EndsSo, StreamFrom, Facts}
 use Rattle.quic_history.proofs.Totals.{total_same}
 use Rattle.quic_history.proofs.Credits.{credit-same}
 use Rattle.quic_history.proofs.Refusals.{refusal_by, refusal-is, refusal-same, side-bit}

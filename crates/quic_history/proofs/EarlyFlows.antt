@@ -1,6 +1,6 @@
 -- What is told of the sending sides stays true where an early start is rejected, or sent again.
-use Rattle.std.proofs.Common.{◌≡◌, ℕ, Bool, true, false, List, [], ◌∷◌, Option, Some, None, is_some, refl, sym, ap, ◌∙◌, subst, arith, ◌+◌, ◌-◌, ◌<◌, ◌≤◌}
-use Rattle.std.specs.Prelude.{◌&&◌, ◌||◌, not, is_none, nat_lt, if◌then◌else◌}
+use Rattle.std.proofs.Common.{◌≡◌, ℕ, Bool, true, false, List, [], ◌∷◌, Option, Some, None, is_some, refl, sym, ap, ◌∙◌, subst, arith}
+use Rattle.std.specs.Prelude.{◌||◌, is_none, nat_lt, if◌then◌else◌}
 use Rattle.std.specs.Option.{option_map}
 use Rattle.std.proofs.lemmas.Bool.Decides.{nat_tests}
 use Rattle.quic_values.specs.declared.ids.Side.{Side}
@@ -8,13 +8,11 @@ use Rattle.quic_values.specs.declared.ids.Dir.{Dir}
 use Rattle.quic_values.specs.declared.ids.Dir.TheVariants.{Bi, Uni}
 use Rattle.quic_values.specs.Ids.{dir_of, index_of}
 use Rattle.quic_sending.specs.declared.send.Send.{Send}
-use Rattle.quic_sending.specs.declared.send.SendState.{SendState}
-use Rattle.quic_sending.specs.declared.send.SendState.TheVariants.{Ready, DataSent, ResetSent}
 use Rattle.quic_sending.specs.Sending.{is_reset_sent}
-use Rattle.quic_flows.specs.Flow.{SendFlow, new_flow, retained, state_told, OffsetsFrom, FlowFrom, FlowAt}
+use Rattle.quic_flows.specs.Flow.{SendFlow, new_flow, retained, state_told, FlowFrom, FlowAt}
 use Rattle.quic_flows.proofs.FlowSteps.{flow-fresh}
 use Rattle.quic_outgoing.specs.Senders.{is_local, first_for, first_limit, no_limits, new_sender}
-use Rattle.quic_outgoing.specs.Outgoing.{Outgoing, own_of, fresh_sender}
+use Rattle.quic_outgoing.specs.Outgoing.{Outgoing, own_of}
 use Rattle.quic_outgoing.specs.Transmitting.{is_data_sent}
 use Rattle.quic_outgoing.specs.Early.{of_peer_anew, after_rejection, as_unsent, own_unsent, with_all_unsent}
 use Rattle.quic_history.specs.Flows.{has_side_in, is_answered_on, AllFlows}
@@ -54,9 +52,9 @@ flows-rejected f u early all q = by (is_local u.out.side q) refl
     by true e = rw (none_opened u.out (dir_of q) (index_of q)) (not_open (first_for true (dir_of q) no_limits) (none_first true (dir_of q)))
     by false e =
         let side : has_side_in u.out u.bi.max_remote q ≡ is_answered_on (dir_of q) u.bi.max_remote (index_of q) =
-            ap (λ b. if b then nat_lt (index_of q) (own_of u.out (dir_of q)).opened else is_answered_on (dir_of q) u.bi.max_remote (index_of q)) e in
+        ap (λ b. if b then nat_lt (index_of q) (own_of u.out (dir_of q)).opened else is_answered_on (dir_of q) u.bi.max_remote (index_of q)) e in
         peer_anew (first_for false (dir_of q) no_limits) (is_answered_on (dir_of q) u.bi.max_remote (index_of q)) (u.out.halves q) (none_first false (dir_of q))
-        (λ t. ap (λ (o : Option Send). is_some o) (early.peer q e (side ∙ t)))
+        (λ t. early.peer q e (side ∙ t))
         (λ n. none-held _ (f q) (has_side_in u.out u.bi.max_remote q) (u.out.halves q) (side ∙ n) (all q))
 
 pub none-in-all : (ids : List ℕ) → 0 ≡ total_over (λ q. retained (new_flow 0)) ids

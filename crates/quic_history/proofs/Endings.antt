@@ -1,5 +1,5 @@
 -- A reported end means that every byte was given, over every history.
-use Rattle.std.proofs.Common.{◌≡◌, ℕ, Bool, true, false, ◌||◌, ◌&&◌, List, ◌∷◌, length, Option, Some, None, is_some, Result, Ok, Err, refl, sym, ap, ◌∙◌, ◌↔◌, subst, inl, inr, arith, ◌+◌, ◌≤◌, ◌<◌}
+use Rattle.std.proofs.Common.{◌≡◌, ℕ, Bool, true, false, ◌||◌, List, ◌∷◌, length, Option, Some, None, is_some, Result, Ok, Err, refl, sym, ap, ◌∙◌, ◌↔◌, subst, inl, inr, arith, ◌+◌, ◌≤◌, ◌<◌}
 use Rattle.std.specs.Prelude.{if◌then◌else◌, ◌==◌, ◌-◌, max, slice_index}
 use Rattle.std.proofs.lemmas.Bool.Decides.{nat_tests}
 use Rattle.quic_assembler.specs.declared.chunk.Chunk.{Chunk}
@@ -7,7 +7,7 @@ use Rattle.quic_assembler.specs.Piece.{lies}
 use Rattle.quic_wire.specs.declared.error.ReceiveError.{ReceiveError}
 use Rattle.quic_wire.specs.declared.frame.Frame.TheVariants as frames
 use Rattle.quic_receiving.specs.declared.transmit.ShouldTransmit.{ShouldTransmit}
-use Rattle.quic_receiving.specs.Data.{Slice, IsData, IsAllGiven, is_in_slices}
+use Rattle.quic_receiving.specs.Data.{IsData, IsAllGiven, is_in_slices}
 use Rattle.quic_receiving.specs.Half.{Half, is_all}
 use Rattle.quic_receiving.specs.Calls.{Reads}
 use Rattle.quic_receiving.specs.declared.errors.ReadError.{ReadError}

@@ -365,13 +365,13 @@ plain_sends m h u e v none side after sent f r s =
     let known = known-by m h u side f.may_open sent in
     let kept = f.retained in
     let step : FlowStep (send_move_of e) (limits_in e) (send_window_in e) m.side there (flow m h) u v =
-        alone (FlowStep (send_move_of e) (limits_in e) (send_window_in e) m.side there (flow m h) u v) (joint_move_of e) none
-        (step-any m.side there (flow m h) u known f.flows side (λ q. let k = few-retained m h q in omega arith) e v s) in
+    alone (FlowStep (send_move_of e) (limits_in e) (send_window_in e) m.side there (flow m h) u v) (joint_move_of e) none
+    (step-any m.side there (flow m h) u known f.flows side (λ q. let k = few-retained m h q in omega arith) e v s) in
     let g : Option JointMove → ℕ → SendFlow = λ o q. with_first_limits (limits_in e) m.side q (send_moved (send_move_of e) there q (with_joint_move o m.side q (flow m h q))) in
     let flows : AllFlows (flow m (e ∷ h)) v.out v.bi.max_remote = subst (λ (o : Option JointMove). AllFlows (g o) v.out v.bi.max_remote) (sym none) step.flows in
     let total : v.out.budget.buffered_data ≡ total_over (λ q. retained (g None q)) (with_moved_stream (send_move_of e) (moved_streams h)) =
-        kept_total (send_move_of e) (limits_in e) m.side there (flow m h) (moved_streams h) u.out.budget.buffered_data v.out.budget.buffered_data (moved_once h)
-        (λ q a. none_retained (flow m h q) (unwritten m h q a)) step.buffered f.retained in
+    kept_total (send_move_of e) (limits_in e) m.side there (flow m h) (moved_streams h) u.out.budget.buffered_data v.out.budget.buffered_data (moved_once h)
+    (λ q a. none_retained (flow m h q) (unwritten m h q a)) step.buffered f.retained in
     record {
       flows = flows;
       first = subst (λ (o : Option JointMove). v.out.first ≡ limits_given (if begins_anew o then [] else e ∷ since h)) (sym none) (step.first ∙ ap (λ l. with_limits_in (limits_in e) l) f.first);
@@ -402,7 +402,7 @@ kept-sends m h u (SentAgain (Ok x)) v side after sent f r s =
     let out : v.out ≡ with_all_unsent u.out = ap (λ (w : World). w.out) s.1.2 in
     let most : v.bi.max_remote ≡ u.bi.max_remote = ap (λ (w : World). w.bi.max_remote) s.1.2 in
     let there : AllFlows (flow m (SentAgain (Ok x) ∷ h)) v.out u.bi.max_remote =
-        subst (λ (o : Outgoing). AllFlows (flow m (SentAgain (Ok x) ∷ h)) o u.bi.max_remote) (sym out) (flows-unsent (flow m h) m.side u.out u.bi.max_remote side f.flows) in
+    subst (λ (o : Outgoing). AllFlows (flow m (SentAgain (Ok x) ∷ h)) o u.bi.max_remote) (sym out) (flows-unsent (flow m h) m.side u.out u.bi.max_remote side f.flows) in
     let flows : AllFlows (flow m (SentAgain (Ok x) ∷ h)) v.out v.bi.max_remote = subst (λ n. AllFlows (flow m (SentAgain (Ok x) ∷ h)) v.out n) (sym most) there in
     let sums = total_same (λ q. retained (flow m h q)) (λ q. retained (flow m (SentAgain (Ok x) ∷ h) q)) (moved_streams h) (λ q. same_retained (flow m h q) (is_local m.side q)) in
     record {

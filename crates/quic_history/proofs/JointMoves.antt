@@ -1,8 +1,8 @@
 -- What is done to the sending sides of all streams at once.
-use Rattle.std.proofs.Common.{◌≡◌, ◌⊎◌, ℕ, Bool, true, false, List, [], Option, Some, None, is_some, refl, sym, ap, ◌∙◌, subst}
-use Rattle.std.specs.Prelude.{◌&&◌, ◌||◌, is_none, if◌then◌else◌}
+use Rattle.std.proofs.Common.{◌≡◌, ℕ, Bool, true, false, [], Option, Some, None, refl}
+use Rattle.std.specs.Prelude.{◌||◌, is_none, if◌then◌else◌}
 use Rattle.quic_values.specs.declared.ids.Side.{Side}
-use Rattle.quic_flows.specs.Flow.{SendFlow, new_flow, retained}
+use Rattle.quic_flows.specs.Flow.{SendFlow, new_flow}
 use Rattle.quic_outgoing.specs.Senders.{is_local}
 use Rattle.quic_history.specs.Early.{JointMove, WereDropped, WereUnsent, with_unsent, with_joint_move}
 

@@ -35,3 +35,4 @@ pub mod WritesTold
 pub mod JointMoves
 pub mod EarlyFlows
 pub mod EarlyFacts
+pub mod Unanswered

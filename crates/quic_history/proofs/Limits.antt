@@ -20,14 +20,12 @@ use Rattle.quic_history.specs.Receiving.{Receives, ReceivesReset, after_data, af
 use Rattle.quic_history.specs.Reading.{Begins, Stops, TellsReset, after_read, after_stop}
 use Rattle.quic_history.specs.History.{Event, Received, ReceivedReset, AddedCredits, Began, Gave, Ended, Stopped, ToldReset, Resized, SetConcurrent, Accepted, Settled, Sending, Rejected, SentAgain, Step, Goes}
 use Rattle.quic_history.specs.Early.{with_rejection}
-use Rattle.quic_history.specs.Permitting.{after_concurrent, with_accepted}
 use Rattle.quic_history.specs.SendTotals.{SendTotals, send_totals}
 use Rattle.quic_history.proofs.ControlSteps.{announces, goes-settled}
 use Rattle.quic_history.proofs.SendSteps.{goes-sending}
 use Rattle.quic_history.proofs.Permits.{steady-concurrent}
-use Rattle.quic_limits.specs.Credit.{Credit, resized}
+use Rattle.quic_limits.specs.Credit.{Credit}
 use Rattle.quic_limits.specs.Remote.{one_accepted}
-use Rattle.std.proofs.lemmas.Bool.Decides.{nat_tests}
 use Rattle.quic_history.proofs.StreamSteps.{Steady, steady, steady-put, steady-noticed, steady-freed, steady-remote}
 
 -- what no call but credit changes

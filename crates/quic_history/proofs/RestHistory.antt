@@ -1,5 +1,5 @@
 -- Each stream on which something is left to be sent stands in the send queue, whatever calls were made.
-use Rattle.std.proofs.Common.{◌≡◌, ◌⊎◌, ℕ, ℤ, Bool, true, false, eqb, List, [], ◌∷◌, Option, Some, None, is_some, Result, Ok, Err, refl, sym, ap, ◌∙◌, subst, inl, inr, arith, ◌+◌, ◌<◌, ◌≤◌, ◌^◌, ◌-◌}
+use Rattle.std.proofs.Common.{◌≡◌, ◌⊎◌, ℕ, ℤ, Bool, true, false, eqb, List, [], ◌∷◌, Option, Some, None, is_some, Ok, Err, refl, sym, ap, ◌∙◌, subst, inl, inr, arith, ◌<◌, ◌≤◌, ◌^◌, ◌-◌}
 use Rattle.std.specs.Prelude.{◌==◌, ◌&&◌, ◌||◌, not, drop, int_lt, is_none, min, nat_lt, nat_le, slice_get, MatchBool, if◌then◌else◌}
 use Rattle.std.specs.declared.ops.Range.{Range}
 use Rattle.std.proofs.lemmas.Bool.Decides.{nat_tests}
@@ -16,7 +16,7 @@ use Rattle.quic_queue.specs.declared.queue.Next.{Next}
 use Rattle.quic_queue.specs.declared.queue.Next.TheVariants.{LetGo, PutAnew, KeepBack}
 use Rattle.quic_queue.specs.SendOrder.{SendOrder, put, line, first, with_entry, without_first, settled}
 use Rattle.quic_sending.specs.declared.send.Send.{Send}
-use Rattle.quic_sending.specs.Buffer.{Buffered, HasDue, HasNoneDue, is_due, is_lost, total_length}
+use Rattle.quic_sending.specs.Buffer.{is_due, is_lost, total_length}
 use Rattle.quic_sending.specs.Sending.{is_ready, is_reset_sent}
 use Rattle.quic_flows.specs.Flow.{SendMove, WasCarried, WasAcked, WasLost, WasResetAcked, WasWritten, WasFinished, WasGivenUp, WasAskedToStop, WasPermitted, SendFlow, new_flow, front_of, retained, with_lost, counts_for, takes_data, with_least_limit, with_acked, freed_if_whole, is_whole, with_send_move, state_told, FlowFrom, FlowAt}
 use Rattle.quic_outgoing.specs.declared.limits.PeerLimits.{PeerLimits}
@@ -51,7 +51,6 @@ use Rattle.quic_history.proofs.FlowReports.{uncounted, step-carried, told_freed,
 use Rattle.quic_limits.specs.Own.{with_count}
 use Rattle.quic_sending.specs.declared.send.SendState.{SendState}
 use Rattle.quic_sending.specs.declared.send.SendState.TheVariants.{Ready, DataSent, ResetSent}
-use Rattle.quic_sending.specs.declared.send.WriteError.TheVariants as write_error
 use Rattle.quic_sending.specs.Sending.{write_refusal, finish_refusal}
 use Rattle.quic_outgoing.specs.Outgoing.{own_of, with_own}
 use Rattle.quic_outgoing.specs.Writing.{refusal_of_write}
@@ -654,7 +653,7 @@ again_rest f u es all r a q k = by (is_local u.out.side q) refl
         let left = unsent_rest (f q) x in
         let half = left_open _ (f q) (has_side_in u.out u.bi.max_remote q) (u.out.halves q) (all q) left.1 left.2 in
         let opened : nat_lt (index_of q) (own_of u.out (dir_of q)).opened ≡ true =
-            sym (ap (λ b. if b then nat_lt (index_of q) (own_of u.out (dir_of q)).opened else is_answered_on (dir_of q) u.bi.max_remote (index_of q)) e) ∙ half.2 in
+        sym (ap (λ b. if b then nat_lt (index_of q) (own_of u.out (dir_of q)).opened else is_answered_on (dir_of q) u.bi.max_remote (index_of q)) e) ∙ half.2 in
         let entry = unsent_of u.out (own_ids u.out) es a q (own_has u.out q e opened) in
         queued half.0 half.1 half.3 left.0 left.1 left.2 entry.0 (subst (λ (o : Option Send). QueuesUnsent o entry.0) half.1 entry.1) entry.2
 

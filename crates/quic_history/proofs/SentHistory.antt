@@ -1,7 +1,7 @@
 -- What a history says of what an end sent and opened.
 use Rattle.std.proofs.Common.{◌≡◌, ℕ, Bool, true, false, List, [], ◌∷◌, Option, Some, None, Result, Ok, Err, refl, sym, ap, ◌∙◌, subst, inl, inr, arith, ◌+◌, ◌-◌, ◌<◌, ◌≤◌}
 use Rattle.std.specs.declared.ops.Range.{Range}
-use Rattle.std.specs.Prelude.{max, min, ◌^◌, ◌++◌, ℤ, ◌&&◌, nat_lt, nat_le, if◌then◌else◌, MatchBool}
+use Rattle.std.specs.Prelude.{max, min, ◌^◌, ◌++◌, ℤ, ◌&&◌, nat_lt, if◌then◌else◌}
 use Rattle.std.proofs.lemmas.Bool.Decides.{nat_tests}
 use Rattle.quic_values.specs.declared.memory.OutOfMemory.{OutOfMemory}
 use Rattle.quic_values.specs.declared.ids.Dir.{Dir}
@@ -11,7 +11,6 @@ use Rattle.quic_wire.specs.declared.event.StreamEvent.TheVariants as stream_even
 use Rattle.quic_wire.specs.declared.error.ReceiveError.{ReceiveError}
 use Rattle.quic_wire.specs.declared.error.ReceiveError.TheVariants as receive_error
 use Rattle.quic_limits.specs.Own.{Own, no_own, with_next_own, with_count}
-use Rattle.quic_limits.specs.Remote.{opening_told}
 use Rattle.quic_limits.specs.SendingCredit.{SendingCredit, with_blocked, is_blocked_due}
 use Rattle.quic_sending.specs.declared.send.Send.{Send}
 use Rattle.quic_sending.specs.Sending.{stream_room}
@@ -25,11 +24,11 @@ use Rattle.quic_receiving.specs.declared.errors.HandleError.TheVariants as handl
 use Rattle.quic_retransmits.specs.Pending.{Pending}
 use Rattle.quic_outgoing.specs.declared.limits.PeerLimits.{PeerLimits}
 use Rattle.quic_outgoing.specs.History.{count_in, given_for}
-use Rattle.quic_outgoing.specs.Outgoing.{Outgoing, own_of, with_own, with_params, with_send_half, waiting, marked, is_stuck, fresh_sender}
+use Rattle.quic_outgoing.specs.Outgoing.{Outgoing, own_of, with_own, with_send_half, waiting, marked, is_stuck, fresh_sender}
 use Rattle.quic_outgoing.specs.Calls.{PollsWritable, ResetsStream, SetsPriority, after_rise, with_rise, is_woken, with_stop_reason}
 use Rattle.quic_outgoing.specs.Writing.{RefusesWrite, after_blocked}
 use Rattle.quic_history.specs.World.{World, told, noticed}
-use Rattle.quic_history.specs.Sends.{with_out, with_opened, told_writable, after_first_stop, is_permitted, RaisesCount, RaisesLimit, StopsOwn, TellsNext, PollsQueue}
+use Rattle.quic_history.specs.Sends.{with_out, with_opened, told_writable, after_first_stop, is_permitted, RaisesLimit, StopsOwn, TellsNext, PollsQueue}
 use Rattle.quic_history.specs.Writes.{WritesOwn, FinishesOwn, with_queued}
 use Rattle.quic_history.specs.SendEvents.{SendEvent, SendStep, GaveLimits, OpenedOwn, RaisedData, RaisedCount, RaisedLimit, StoppedOwn, SetWindow, Polled, WroteOwn, FinishedOwn, ResetOwn, SetOwnPriority, AckedOwn, LostOwn, ResetAckedOwn, TookTurn}
 use Rattle.quic_wire.specs.declared.frame.StreamMeta.{StreamMeta}

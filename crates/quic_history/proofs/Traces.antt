@@ -10,7 +10,7 @@ use Rattle.quic_history.specs.History.{Event, Move, Trace, trace, untouched, joi
 use Rattle.quic_history.specs.Early.{begins_anew}
 use Rattle.quic_outgoing.specs.Senders.{is_local}
 use Rattle.quic_values.specs.declared.ids.Side.TheVariants.{Client}
-use Rattle.quic_history.proofs.Totals.{IsOnce, once_with, total_with, total_same, same, by_cases}
+use Rattle.quic_history.proofs.Totals.{IsOnce, once_with, total_with, same, by_cases}
 
 pub itself : (k : ℕ) → eqb k k ≡ true
 itself k = grind (arith, nat_tests)

@@ -1,5 +1,5 @@
 -- An early start (RFC 9001 section 4.6): what its rejection does to an end, and what sending all of it again does.
-use Rattle.std.specs.Prelude.{ℕ, zero, suc, ℤ, Bool, true, false, ◌≡◌, ◌&&◌, ◌||◌, is_none, if◌then◌else◌, List, [], ◌∷◌, ◌++◌, Option, Some, None, Result, Ok, Err}
+use Rattle.std.specs.Prelude.{ℕ, zero, suc, ℤ, Bool, true, false, ◌≡◌, ◌||◌, is_none, is_some, if◌then◌else◌, List, [], ◌∷◌, ◌++◌, Option, Some, None, Result, Ok, Err}
 use Rattle.quic_values.specs.declared.memory.OutOfMemory.{OutOfMemory}
 use Rattle.quic_values.specs.declared.ids.Side.{Side}
 use Rattle.quic_values.specs.declared.ids.Side.TheVariants.{Client}
@@ -12,17 +12,18 @@ use Rattle.quic_queue.specs.SendOrder.{SendOrder, empty_queue, with_entry}
 use Rattle.quic_receiving.specs.Half.{Half}
 use Rattle.quic_flows.specs.Flow.{SendFlow, new_flow}
 use Rattle.quic_outgoing.specs.Senders.{is_local}
-use Rattle.quic_outgoing.specs.Outgoing.{Outgoing, fresh_sender}
-use Rattle.quic_outgoing.specs.Early.{after_rejection, with_all_unsent, NoneAcked, QueuesUnsent}
+use Rattle.quic_outgoing.specs.Outgoing.{Outgoing}
+use Rattle.quic_outgoing.specs.Early.{after_rejection, with_all_unsent, QueuesUnsent}
 use Rattle.quic_history.specs.Halves.{Halves}
 use Rattle.quic_history.specs.World.{World, id_refusal}
 use Rattle.quic_history.specs.Flows.{has_side_in}
 
--- a client to which no frame came: nothing was received on its own streams, and what it may send on to its peer is as new
+-- a client to whose early start its peer has not answered: nothing came on the streams that it opened, and no send half
+-- of a stream of its peer was freed
 pub record IsEarly (w : World) : Type 0 where
   pub client : w.out.side ≡ Client
   pub own : (q : ℕ) → is_local w.out.side q ≡ true → id_refusal w q ≡ None → (h : Half) × (w.receive q ≡ Some h) × (h.end ≡ 0)
-  pub peer : (q : ℕ) → is_local w.out.side q ≡ false → has_side_in w.out w.bi.max_remote q ≡ true → w.out.halves q ≡ Some (fresh_sender w.out q)
+  pub peer : (q : ℕ) → is_local w.out.side q ≡ false → has_side_in w.out w.bi.max_remote q ≡ true → is_some (w.out.halves q) ≡ true
 
 -- the receive halves of the streams of this end go
 unfoldable pub without_own : Side → Halves → Halves

@@ -35,7 +35,7 @@ use Rattle.quic_history.specs.Control.{SettlesEntry}
 use Rattle.quic_wire.specs.declared.frame.Frame.{Frame}
 use Rattle.quic_wire.specs.declared.frame.Frame.TheVariants as frames
 use Rattle.quic_history.specs.SendEvents.{SendEvent, SendStep, GaveLimits, RaisedData, RaisedCount, RaisedLimit, StoppedOwn, SetWindow, OpenedOwn, WroteOwn, FinishedOwn, ResetOwn, Polled, AckedOwn, LostOwn, ResetAckedOwn, TookTurn}
-use Rattle.quic_flows.specs.Flow.{SendMove, WasWritten, WasFinished, WasGivenUp, WasAskedToStop, WasPermitted, SendFlow, new_flow, front_of, retained, WasCarried, WasAcked, WasLost, WasResetAcked, counts_for, is_whole, with_acked}
+use Rattle.quic_flows.specs.Flow.{SendMove, WasWritten, WasFinished, WasGivenUp, WasAskedToStop, WasPermitted, SendFlow, new_flow, front_of, retained, WasCarried, WasAcked, WasLost, WasResetAcked}
 use Rattle.quic_outgoing.specs.declared.limits.PeerLimits.{PeerLimits}
 use Rattle.quic_outgoing.specs.declared.entries.FirstLimits.{FirstLimits}
 use Rattle.quic_outgoing.specs.Senders.{no_limits}
@@ -685,3 +685,19 @@ pub record From (m : Made) (h : List Event) (v : World) : Type 0 where
   pub writes : TellsWrites m h v
   pub queued : AreQueued m h v.events
   pub rest : AreInQueue (flow m h) v.queue
+
+-- whether a call tells that the peer answered: by data or a reset on some stream, or by an acknowledgement
+abbrev pub tells_answer : Event → Bool
+tells_answer (Received id offset bytes fin answer) = true
+tells_answer (ReceivedReset id code final answer) = true
+tells_answer (Gave id most ordered (Ok None)) = true
+tells_answer (Gave id most ordered (Err (read_error.Reset code))) = true
+tells_answer (ToldReset id (Ok (Some code))) = true
+tells_answer (Sending (AckedOwn id offsets fin answer)) = true
+tells_answer (Sending (ResetAckedOwn id answer)) = true
+tells_answer _ = false
+
+-- no call does
+abbrev pub IsUnanswered : List Event → Type 0
+IsUnanswered [] = Unit {0}
+IsUnanswered (e ∷ h) = (tells_answer e ≡ false) × IsUnanswered h

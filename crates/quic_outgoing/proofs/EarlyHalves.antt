@@ -1,6 +1,6 @@
 -- What becomes of the halves of an early start.
 use Rattle.std.proofs.Common.{◌≡◌, ℕ, Bool, true, false, cond, eqb, List, [], ◌∷◌, Option, Some, None, refl, sym, ap, ◌∙◌, subst}
-use Rattle.std.specs.Prelude.{not, ◌||◌, ◌==◌, IfSome}
+use Rattle.std.specs.Prelude.{not, ◌||◌, IfSome}
 use Rattle.std.specs.Global.{Box}
 use Rattle.std.specs.Map.{lookup}
 use Rattle.std.specs.Map.Calls.{RetainsPairs}
@@ -17,7 +17,7 @@ use Rattle.quic_sending.specs.Buffer.{is_acked}
 use Rattle.quic_sending.specs.Sending.{is_reset_sent}
 use Rattle.quic_outgoing.specs.Transmitting.{is_data_sent}
 use Rattle.quic_outgoing.specs.Early.{of_peer_anew, own_unsent, as_unsent, NoneAcked}
-use Rattle.quic_outgoing.specs.Seen.{sender_in, unsent_box}
+use Rattle.quic_outgoing.specs.Seen.{unsent_box}
 use Rattle.quic_outgoing.proofs.SenderMaps.{entry_sender, senders_of}
 
 none_first : (own : Bool) (d : Dir) → first_for own d no_limits ≡ 0

@@ -1,6 +1,6 @@
 -- The history of the sending side: the calls on it with their answers, the newest first, and what it says of what may be
 -- sent.
-use Rattle.std.specs.Prelude.{◌≡◌, ℕ, ℤ, ◌+◌, ◌≤◌, ◌^◌, Bool, true, false, if◌then◌else◌, max, min, List, [], ◌∷◌, Option, Some, None, Result, Ok, Err}
+use Rattle.std.specs.Prelude.{◌≡◌, ℕ, ℤ, ◌+◌, ◌≤◌, ◌^◌, Bool, true, false, if◌then◌else◌, max, min, List, [], ◌∷◌, Option, Some, None, Result, Ok}
 use Rattle.std.specs.declared.ops.Range.{Range}
 use Rattle.quic_values.specs.declared.ids.Side.{Side}
 use Rattle.quic_values.specs.declared.ids.Dir.{Dir}

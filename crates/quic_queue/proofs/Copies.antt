@@ -4,9 +4,7 @@ use Rattle.std.specs.Prelude.{Option, IfSome, IsSomeAnd, MatchOption}
 use Rattle.std.specs.List.{AllZip}
 use Rattle.std.specs.declared.cmp.Reverse.{Reverse}
 use Rattle.std.specs.VecDeque.{deque_len}
-use Rattle.std.specs.Map.{lookup}
 use Rattle.std.proofs.lemmas.Map.Entries.{lookup_clone}
-use Rattle.quic_queue.specs.declared.queue.Entry.{Entry}
 use Rattle.quic_queue.specs.Levels.{Ids, Levels, entries_at, entries_of, ids_at, IsFilled}
 use Rattle.quic_queue.proofs.Comparing.{at}
 use Rattle.quic_queue.proofs.Lines.{Level}

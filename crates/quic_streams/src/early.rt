@@ -1,13 +1,14 @@
 //! An early start (RFC 9001 section 4.6): a client sends before the peer has answered.
 
 ghost use Rattle.std.specs.Prelude.{ℕ, ℤ, List, ◌∷◌, ◌≡◌, Option, OnOk, OnErr};
+ghost use Rattle.quic_values.specs.declared.ids.Side.TheVariants.{Client};
 ghost use Rattle.quic_queue.specs.declared.queue.Entry.{Entry};
 ghost use Rattle.quic_outgoing.specs.Outgoing.{own_of};
 ghost use Rattle.quic_outgoing.specs.Early.{NoneAcked, QueuesUnsent};
 ghost use Rattle.quic_outgoing.specs.Shown.{view_of};
 ghost use Rattle.quic_history.specs.World.{Made};
 ghost use Rattle.quic_history.specs.Early.{IsEarly, with_rejection, SendsAgain, AreUnsentOf, entry_at, first_ids, with_entries_put};
-ghost use Rattle.quic_history.specs.History.{Event, Rejected, SentAgain, From};
+ghost use Rattle.quic_history.specs.History.{Event, Rejected, SentAgain, IsUnanswered, From};
 ghost use Rattle.quic_streams.specs.Shown.{shown};
 
 use crate::state::StreamsState;
@@ -20,11 +21,12 @@ impl StreamsState {
     /// may be sent until the peer gives its limits ([`StreamsState::set_params`]), and indices begin anew. Takes no
     /// memory.
     ///
-    /// What is to be sent beside data is the caller's, who empties it. The history goes on with this where no frame came
-    /// to this end, and it did nothing on the sending side of a stream of its peer.
+    /// What is to be sent beside data is the caller's, who empties it. The history goes on with this while the peer has
+    /// not answered: no data and no reset came, and nothing was acknowledged.
     pub fn zero_rtt_rejected(&mut self)
         ensures rejects { shown self.new ≡ with_rejection (shown self.old) }
         ensures from { (m : Made) (h : List Event) → IsEarly (shown self.old) → From m h (shown self.old) → From m (Rejected ∷ h) (shown self.new) }
+        ensures unanswered { (m : Made) (h : List Event) → m.side ≡ Client → IsUnanswered h → From m h (shown self.old) → From m (Rejected ∷ h) (shown self.new) }
     {
         self.reject_early();
     }
@@ -45,12 +47,14 @@ impl StreamsState {
     /// All that the early start of a client sent is to be sent again, also the ends of streams: each stream that has
     /// something to be sent is queued, where it had nothing to be sent before. If refused, all is as it was.
     ///
-    /// This is meant for a time at which nothing was acknowledged. A stream of which something was stays as it is.
+    /// This is meant for a time at which nothing was acknowledged: a stream of which something was stays as it is.
     pub fn retransmit_all_for_0rtt(&mut self) -> Result<(), OutOfMemory>
         ensures sends { NoneAcked (shown self.old).out.side (shown self.old).out.halves → SendsAgain (shown self.old) result (shown self.new) }
         ensures err { OnErr result (shown self.new ≡ shown self.old) }
         ensures from { (m : Made) (h : List Event) → NoneAcked (shown self.old).out.side (shown self.old).out.halves → From m h (shown self.old)
             → From m (SentAgain result ∷ h) (shown self.new) }
+        ensures unanswered { (m : Made) (h : List Event) → IsUnanswered h → From m h (shown self.old)
+            → SendsAgain (shown self.old) result (shown self.new) × From m (SentAgain result ∷ h) (shown self.new) }
     {
         self.send_again()
     }

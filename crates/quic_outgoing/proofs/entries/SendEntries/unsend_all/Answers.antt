@@ -1,4 +1,4 @@
-use Rattle.std.proofs.Common.{rules, ◌≡◌, ℕ, cond, eqb, Option}
+use Rattle.std.proofs.Common.{rules, ℕ, cond}
 use Rattle.std.specs.Option.{option_map}
 use Rattle.std.specs.HashMap.{get}
 use Rattle.std.specs.Prelude.{◌==◌}
