@@ -1,5 +1,5 @@
 -- A reported end means that every byte was given, over every history.
-use Rattle.std.proofs.Common.{◌≡◌, ℕ, Bool, true, false, ◌||◌, ◌&&◌, List, ◌∷◌, length, Option, Some, None, is_some, Result, Ok, Err, refl, sym, ap, ◌∙◌, ◌↔◌, subst, inl, inr, arith, ◌+◌, ◌≤◌, ◌<◌}
+use Rattle.std.proofs.Common.{◌≡◌, ℕ, Bool, true, false, ◌||◌, List, ◌∷◌, length, Option, Some, None, is_some, Result, Ok, Err, refl, sym, ap, ◌∙◌, ◌↔◌, subst, inl, inr, arith, ◌+◌, ◌≤◌, ◌<◌}
 use Rattle.std.specs.Prelude.{if◌then◌else◌, ◌==◌, ◌-◌, max, slice_index}
 use Rattle.std.proofs.lemmas.Bool.Decides.{nat_tests}
 use Rattle.quic_assembler.specs.declared.chunk.Chunk.{Chunk}
@@ -7,14 +7,15 @@ use Rattle.quic_assembler.specs.Piece.{lies}
 use Rattle.quic_wire.specs.declared.error.ReceiveError.{ReceiveError}
 use Rattle.quic_wire.specs.declared.frame.Frame.TheVariants as frames
 use Rattle.quic_receiving.specs.declared.transmit.ShouldTransmit.{ShouldTransmit}
-use Rattle.quic_receiving.specs.Data.{Slice, IsData, IsAllGiven, is_in_slices}
+use Rattle.quic_receiving.specs.Data.{IsData, IsAllGiven, is_in_slices}
 use Rattle.quic_receiving.specs.Half.{Half, is_all}
 use Rattle.quic_receiving.specs.Calls.{Reads}
 use Rattle.quic_receiving.specs.declared.errors.ReadError.{ReadError}
 use Rattle.quic_receiving.specs.declared.errors.ReadError.TheVariants as read_error
 use Rattle.quic_receiving.proofs.Data.{all_given}
 use Rattle.quic_history.specs.World.{World}
-use Rattle.quic_history.specs.History.{Event, Received, ReceivedReset, Gave, Stopped, ToldReset, Step, Move, Framed, WasReset, WasRead, WasStopped, WasTold, WasAnnounced, Settled, Trace, HalfFrom, Facts, GivenSo, EndsSo, TellsEnds, slices, trace, moved, is_closed, is_kept, with_kept_frame, with_reset, with_read, with_stop, with_move}
+use Rattle.quic_history.specs.History.{Event, Received, ReceivedReset, Gave, Stopped, ToldReset, Rejected, SentAgain, Step, Move, Framed, WasReset, WasRead, WasStopped, WasTold, WasAnnounced, Settled, Trace, HalfFrom, Facts, GivenSo, EndsSo, TellsEnds, slices, trace, moved, is_closed, is_kept, with_kept_frame, with_reset, with_read, with_stop, with_move}
+use Rattle.quic_history.proofs.EarlyFacts.{told-rejected}
 use Rattle.quic_history.proofs.Totals.{by_cases, same}
 use Rattle.quic_history.proofs.StreamSteps.{half-from, known-from}
 
@@ -151,4 +152,7 @@ kept-told-of window h u (Stopped id code (Ok x)) v f s p q =
 kept-told-of window h u (ToldReset id (Ok (Some code))) v f s p q = told_moved h q id WasTold (λ t. told_code (trace h id) (p id)) (p q)
 kept-told-of window h u (Settled kind (Some (frames.MaxStreamData id limit))) v f s p q =
     told_moved h q id (WasAnnounced limit) (λ t. told_announced (trace h id) limit (p id)) (p q)
+kept-told-of window h u Rejected v f s p q = told-rejected q (trace h q) (p q)
+kept-told-of window h u (SentAgain (Ok x)) v f s p q = p q
+kept-told-of window h u (SentAgain (Err x)) v f s p q = p q
 kept-told-of window h u _ v f s p q = p q

@@ -31,8 +31,12 @@ use Rattle.quic_history.specs.Sends.{with_out, with_opened, with_own_count, Tell
 use Rattle.quic_history.specs.Writes.{WritesOwn}
 use Rattle.quic_history.specs.SendTotals.{send_totals, own_total}
 use Rattle.quic_history.specs.SendEvents.{SendEvent, SendStep, GaveLimits, OpenedOwn, RaisedData, RaisedCount, RaisedLimit, StoppedOwn, SetWindow, Polled, WroteOwn, FinishedOwn, ResetOwn, SetOwnPriority, AckedOwn, LostOwn, ResetAckedOwn, TookTurn}
-use Rattle.quic_history.specs.History.{Event, Received, ReceivedReset, AddedCredits, Began, Gave, Ended, Stopped, ToldReset, Resized, SetConcurrent, Accepted, Settled, Sending, Step, SentSo, RemoteFrom, is_freed, trace, counts, opened_in_all, total_over, send_move_of, limits_in, send_window_in, flow_after, is_over, may_open_after, send_tale, flow, with_moved_stream, moved_streams, retained_in_all, FlowsSo}
+use Rattle.quic_history.specs.History.{since, Event, Received, ReceivedReset, AddedCredits, Began, Gave, Ended, Stopped, ToldReset, Resized, SetConcurrent, Accepted, Settled, Sending, Rejected, SentAgain, joint_move_of, limits_given, Step, SentSo, RemoteFrom, is_freed, trace, counts, opened_in_all, total_over, send_move_of, limits_in, send_window_in, flow_after, is_over, may_open_after, send_tale, flow, with_moved_stream, moved_streams, retained_in_all, FlowsSo}
 use Rattle.quic_history.specs.Flows.{has_send_side, has_side_in, is_answered_on, send_moved, with_first_limits, with_limits_in, AllFlows}
+use Rattle.quic_history.specs.Early.{JointMove, with_joint_move, begins_anew, announced_anew, with_unsent}
+use Rattle.quic_outgoing.specs.Early.{after_rejection, with_all_unsent}
+use Rattle.quic_history.proofs.EarlyFlows.{flows-rejected, flows-unsent, none-in-all, unsent-retained}
+use Rattle.quic_history.proofs.JointMoves.{Alone, alone, joint-cuts, joint-freed}
 use Rattle.quic_history.proofs.FlowReports.{step-acked, step-lost, step-reset-acked, step-carried, leaves-passed, leaves-settled}
 use Rattle.quic_history.proofs.Totals.{by_cases, same, IsOnce, once_with, total_with, total_same}
 use Rattle.quic_history.proofs.Traces.{absent}
@@ -154,7 +158,7 @@ module _ (side : Side) (there : ℕ → Bool) (f : ℕ → SendFlow) (u : World)
   step_sending (SetOwnPriority id priority (Err handle_error.ClosedStream)) v s = left v (leaves_out u v s.0 s.2 (sides-at u.out s.0 u.out s.1.1 (sides-none u.out)))
   step_sending (SetOwnPriority id priority (Err handle_error.OutOfMemory)) v s = left v (leaves_out u v s.0 s.2 (sides-at u.out s.0 u.out s.1 (sides-none u.out)))
 
-  pub step-any : (e : Event) (v : World) → Step u e v → FlowStep (send_move_of e) (limits_in e) (send_window_in e) side there f u v
+  pub step-any : (e : Event) (v : World) → Step u e v → Alone (joint_move_of e) (FlowStep (send_move_of e) (limits_in e) (send_window_in e) side there f u v)
   step-any (Received id offset bytes fin answer) v s = left v (leaves-received u v id offset bytes fin answer s)
   step-any (ReceivedReset id code final answer) v s = left v (leaves-reset u v id code final answer s)
   step-any (AddedCredits count answer) v s = left v (leaves-at u v _ s.0 (leaves-sides u _ (sides-none u.out) refl))
@@ -173,6 +177,9 @@ module _ (side : Side) (there : ℕ → Bool) (f : ℕ → SendFlow) (u : World)
       accepted_max r false = refl
   step-any (Settled kind frame) v s = left v (leaves-settled u kind s.0 frame v s.1 s.2)
   step-any (Sending e) v s = step_sending e v s
+  step-any Rejected v s = tt
+  step-any (SentAgain (Ok x)) v s = tt
+  step-any (SentAgain (Err x)) v s = left v (leaves-same u v s.1)
 
 -- ---- what is retained
 
@@ -206,7 +213,8 @@ unwritten : (m : Made) (h : List Event) (q : ℕ) → list_any (nat_eq q) (moved
 unwritten m [] q a = refl
 unwritten m (e ∷ h) q a =
     let tale = send_tale m h in
-    limits_cuts (limits_in e) m.side q _ ∙ unmoved_cuts (send_move_of e) (has_send_side m.side (opened_in_all h) tale.may_open) q (moved_streams h) (flow m h q) a (unwritten m h q)
+    limits_cuts (limits_in e) m.side q _ ∙ unmoved_cuts (send_move_of e) (has_send_side m.side (opened_in_all (since h)) tale.may_open) q (moved_streams h) (with_joint_move (joint_move_of e) m.side q (flow m h q)) a
+    (λ n. joint-cuts (joint_move_of e) m.side q (flow m h q) (unwritten m h q n))
 
 none_retained : (t : SendFlow) → t.cuts ≡ [] → retained t ≡ 0
 none_retained t e = rw e (none_if 0 (is_some t.reset || t.freed) refl)
@@ -280,7 +288,7 @@ above_if true c e = e
 above_if false c e = refl
 
 module _ (m : Made) (h : List Event) (e : Event) (u v : World) (side : u.out.side ≡ m.side) (after : v.out.side ≡ m.side) (may : u.bi.max_remote ≡ (send_tale m h).may_open)
-    (known : (q : ℕ) → has_send_side m.side (opened_in_all h) (send_tale m h).may_open q ≡ has_side_in u.out u.bi.max_remote q)
+    (known : (q : ℕ) → has_send_side m.side (opened_in_all (since h)) (send_tale m h).may_open q ≡ has_side_in u.out u.bi.max_remote q)
     (was : AllFlows (flow m h) u.out u.bi.max_remote) (is : AllFlows (flow m (e ∷ h)) v.out v.bi.max_remote)
     (r : RemoteFrom (counts (count_of m) (e ∷ h) Bi) u.bi.max_remote (is_freed (trace (e ∷ h)) v.out.side (sends v) Bi) v.bi) where
   -- the bidirectional stream of the peer with an index
@@ -304,8 +312,8 @@ module _ (m : Made) (h : List Event) (e : Event) (u v : World) (side : u.out.sid
       let k : nat_lt i u.bi.max_remote ≡ false = grind (arith, nat_tests) in
       let none : has_side_in u.out u.bi.max_remote (peer_at i) ≡ false = peer_side u.out u.bi.max_remote i m.side side ∙ k in
       limits_freed (limits_in e) m.side (peer_at i) _
-      ∙ ap (λ (t : SendFlow). t.freed) (unmoved_at (send_move_of e) (has_send_side m.side (opened_in_all h) (send_tale m h).may_open) (peer_at i) (flow m h (peer_at i)) (known (peer_at i) ∙ none))
-      ∙ ap (λ (t : SendFlow). t.freed) (none-done _ (flow m h (peer_at i)) (has_side_in u.out u.bi.max_remote (peer_at i)) (u.out.halves (peer_at i)) none (was (peer_at i)))
+      ∙ ap (λ (t : SendFlow). t.freed) (unmoved_at (send_move_of e) (has_send_side m.side (opened_in_all (since h)) (send_tale m h).may_open) (peer_at i) (with_joint_move (joint_move_of e) m.side (peer_at i) (flow m h (peer_at i))) (known (peer_at i) ∙ none))
+      ∙ joint-freed (joint_move_of e) m.side (peer_at i) (flow m h (peer_at i)) (ap (λ (t : SendFlow). t.freed) (none-done _ (flow m h (peer_at i)) (has_side_in u.out u.bi.max_remote (peer_at i)) (u.out.halves (peer_at i)) none (was (peer_at i))))
 
   none_above : (i : ℕ) → u.bi.max_remote ≤ i → (is_freed (trace (e ∷ h)) v.out.side (sends v) Bi i && nat_lt i v.bi.max_remote) ≡ false
   none_above i l = by_cases (nat_lt i v.bi.max_remote)
@@ -342,28 +350,73 @@ opened_is : (o : Outgoing) (d : Dir) (n : ℕ) → (own_total (send_totals o) d)
 opened_is o Bi n e = e
 opened_is o Uni n e = e
 
-pub known-by : (m : Made) (h : List Event) (u : World) → u.out.side ≡ m.side → u.bi.max_remote ≡ (send_tale m h).may_open → SentSo h (send_totals u.out) → (q : ℕ)
-    → has_send_side m.side (opened_in_all h) (send_tale m h).may_open q ≡ has_side_in u.out u.bi.max_remote q
+pub known-by : (m : Made) (h : List Event) (u : World) → u.out.side ≡ m.side → u.bi.max_remote ≡ (send_tale m h).may_open → SentSo (since h) (send_totals u.out) → (q : ℕ)
+    → has_send_side m.side (opened_in_all (since h)) (send_tale m h).may_open q ≡ has_side_in u.out u.bi.max_remote q
 known-by m h u side may s q =
-    ap (λ k. has_send_side k (opened_in_all h) (send_tale m h).may_open q) (sym side)
-    ∙ ap (λ n. has_send_side u.out.side (opened_in_all h) n q) (sym may)
-    ∙ ap (λ n. if is_local u.out.side q then nat_lt (index_of q) n else is_answered_on (dir_of q) u.bi.max_remote (index_of q)) (sym (opened_is u.out (dir_of q) (opened_in_all h (dir_of q)) (s.opened (dir_of q))))
+    ap (λ k. has_send_side k (opened_in_all (since h)) (send_tale m h).may_open q) (sym side)
+    ∙ ap (λ n. has_send_side u.out.side (opened_in_all (since h)) n q) (sym may)
+    ∙ ap (λ n. if is_local u.out.side q then nat_lt (index_of q) n else is_answered_on (dir_of q) u.bi.max_remote (index_of q)) (sym (opened_is u.out (dir_of q) (opened_in_all (since h) (dir_of q)) (s.opened (dir_of q))))
 
-pub kept-sends : (m : Made) (h : List Event) (u : World) (e : Event) (v : World) → u.out.side ≡ m.side → v.out.side ≡ m.side → SentSo h (send_totals u.out) → FlowsSo m h u
+-- a call that does nothing to all streams at once
+plain_sends : (m : Made) (h : List Event) (u : World) (e : Event) (v : World) → joint_move_of e ≡ None → u.out.side ≡ m.side → v.out.side ≡ m.side → SentSo (since h) (send_totals u.out) → FlowsSo m h u
     → RemoteFrom (counts (count_of m) (e ∷ h) Bi) u.bi.max_remote (is_freed (trace (e ∷ h)) v.out.side (sends v) Bi) v.bi → Step u e v → FlowsSo m (e ∷ h) v
-kept-sends m h u e v side after sent f r s =
-    let there : ℕ → Bool = has_send_side m.side (opened_in_all h) (send_tale m h).may_open in
+plain_sends m h u e v none side after sent f r s =
+    let there : ℕ → Bool = has_send_side m.side (opened_in_all (since h)) (send_tale m h).may_open in
     let known = known-by m h u side f.may_open sent in
     let kept = f.retained in
-    let step = step-any m.side there (flow m h) u known f.flows side (λ q. let k = few-retained m h q in omega arith) e v s in
+    let step : FlowStep (send_move_of e) (limits_in e) (send_window_in e) m.side there (flow m h) u v =
+    alone (FlowStep (send_move_of e) (limits_in e) (send_window_in e) m.side there (flow m h) u v) (joint_move_of e) none
+    (step-any m.side there (flow m h) u known f.flows side (λ q. let k = few-retained m h q in omega arith) e v s) in
+    let g : Option JointMove → ℕ → SendFlow = λ o q. with_first_limits (limits_in e) m.side q (send_moved (send_move_of e) there q (with_joint_move o m.side q (flow m h q))) in
+    let flows : AllFlows (flow m (e ∷ h)) v.out v.bi.max_remote = subst (λ (o : Option JointMove). AllFlows (g o) v.out v.bi.max_remote) (sym none) step.flows in
+    let total : v.out.budget.buffered_data ≡ total_over (λ q. retained (g None q)) (with_moved_stream (send_move_of e) (moved_streams h)) =
+    kept_total (send_move_of e) (limits_in e) m.side there (flow m h) (moved_streams h) u.out.budget.buffered_data v.out.budget.buffered_data (moved_once h)
+    (λ q a. none_retained (flow m h q) (unwritten m h q a)) step.buffered f.retained in
     record {
-      flows = step.flows;
-      first = step.first ∙ ap (λ l. with_limits_in (limits_in e) l) f.first;
-      may_open = kept_may_open m h e u v side after f.may_open known f.flows step.flows r;
+      flows = flows;
+      first = subst (λ (o : Option JointMove). v.out.first ≡ limits_given (if begins_anew o then [] else e ∷ since h)) (sym none) (step.first ∙ ap (λ l. with_limits_in (limits_in e) l) f.first);
+      may_open = kept_may_open m h e u v side after f.may_open known f.flows flows r;
       send_window = step.window ∙ ap (λ n. unwrap_or (send_window_in e) n) f.send_window;
-      retained = kept_total (send_move_of e) (limits_in e) m.side there (flow m h) (moved_streams h) u.out.budget.buffered_data v.out.budget.buffered_data (moved_once h)
-          (λ q a. none_retained (flow m h q) (unwritten m h q a)) step.buffered f.retained;
+      retained = subst (λ (o : Option JointMove). v.out.budget.buffered_data ≡ total_over (λ q. retained (g o q)) (with_moved_stream (send_move_of e) (moved_streams h))) (sym none) total;
     }
+
+pub kept-sends : (m : Made) (h : List Event) (u : World) (e : Event) (v : World) → u.out.side ≡ m.side → v.out.side ≡ m.side → SentSo (since h) (send_totals u.out) → FlowsSo m h u
+    → RemoteFrom (counts (count_of m) (e ∷ h) Bi) u.bi.max_remote (is_freed (trace (e ∷ h)) v.out.side (sends v) Bi) v.bi → Step u e v → FlowsSo m (e ∷ h) v
+kept-sends m h u Rejected v side after sent f r s =
+    let most : v.bi.max_remote ≡ u.bi.max_remote = ap (λ (w : World). w.bi.max_remote) s.1 ∙ announced_most u.adjusted u.bi in
+    let out : v.out ≡ after_rejection u.out = ap (λ (w : World). w.out) s.1 in
+    let there : AllFlows (λ q. new_flow 0) v.out u.bi.max_remote = subst (λ (o : Outgoing). AllFlows (λ q. new_flow 0) o u.bi.max_remote) (sym out) (flows-rejected (flow m h) u s.0 f.flows) in
+    let flows : AllFlows (flow m (Rejected ∷ h)) v.out v.bi.max_remote = subst (λ n. AllFlows (λ q. new_flow 0) v.out n) (sym most) there in
+    record {
+      flows = flows;
+      first = ap (λ (o : Outgoing). o.first) out;
+      may_open = kept_may_open m h Rejected u v side after f.may_open (known-by m h u side f.may_open sent) f.flows flows r;
+      send_window = ap (λ (o : Outgoing). o.budget.send_window) out ∙ f.send_window;
+      retained = ap (λ (o : Outgoing). o.budget.buffered_data) out ∙ none-in-all (moved_streams h);
+    }
+  where
+    announced_most : (b : Bool) (r : Remote) → (announced_anew b r).max_remote ≡ r.max_remote
+    announced_most true r = refl
+    announced_most false r = refl
+kept-sends m h u (SentAgain (Ok x)) v side after sent f r s =
+    let out : v.out ≡ with_all_unsent u.out = ap (λ (w : World). w.out) s.1.2 in
+    let most : v.bi.max_remote ≡ u.bi.max_remote = ap (λ (w : World). w.bi.max_remote) s.1.2 in
+    let there : AllFlows (flow m (SentAgain (Ok x) ∷ h)) v.out u.bi.max_remote =
+    subst (λ (o : Outgoing). AllFlows (flow m (SentAgain (Ok x) ∷ h)) o u.bi.max_remote) (sym out) (flows-unsent (flow m h) m.side u.out u.bi.max_remote side f.flows) in
+    let flows : AllFlows (flow m (SentAgain (Ok x) ∷ h)) v.out v.bi.max_remote = subst (λ n. AllFlows (flow m (SentAgain (Ok x) ∷ h)) v.out n) (sym most) there in
+    let sums = total_same (λ q. retained (flow m h q)) (λ q. retained (flow m (SentAgain (Ok x) ∷ h) q)) (moved_streams h) (λ q. same_retained (flow m h q) (is_local m.side q)) in
+    record {
+      flows = flows;
+      first = ap (λ (o : Outgoing). o.first) out ∙ f.first;
+      may_open = kept_may_open m h (SentAgain (Ok x)) u v side after f.may_open (known-by m h u side f.may_open sent) f.flows flows r;
+      send_window = ap (λ (o : Outgoing). o.budget.send_window) out ∙ f.send_window;
+      retained = ap (λ (o : Outgoing). o.budget.buffered_data) out ∙ f.retained ∙ sym sums;
+    }
+  where
+    same_retained : (t : SendFlow) (b : Bool) → retained (if b then with_unsent t else t) ≡ retained t
+    same_retained t true = unsent-retained t
+    same_retained t false = refl
+kept-sends m h u e v side after sent f r s = plain_sends m h u e v refl side after sent f r s
 
 -- ---- at first
 

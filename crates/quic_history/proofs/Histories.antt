@@ -7,7 +7,7 @@ use Rattle.quic_history.specs.declared.progress.Progress.{Progress}
 use Rattle.quic_history.specs.declared.progress.Progress.TheVariants as progress
 use Rattle.quic_history.specs.Reading.{is_ended, ReadsHalf}
 use Rattle.quic_history.specs.World.{World, sends, Made, count_of, remote_of}
-use Rattle.quic_history.specs.History.{Event, Received, ReceivedReset, AddedCredits, Began, Gave, Ended, Stopped, ToldReset, Resized, SetConcurrent, Accepted, Settled, Sending, Step, Fits, Facts, From, IsRun, PermitsNow, EverPermits, with_next, before, RemoteFrom, counts, is_freed, trace, consumed, last_window, debt, received}
+use Rattle.quic_history.specs.History.{Event, Received, ReceivedReset, AddedCredits, Began, Gave, Ended, Stopped, ToldReset, Resized, SetConcurrent, Accepted, Settled, Sending, Step, Fits, Facts, From, IsRun, PermitsNow, EverPermits, with_next, before, RemoteFrom, counts, is_freed, trace, consumed, last_window, debt, received, Rejected, SentAgain, since}
 use Rattle.quic_history.proofs.Credits.{credit-credited, credit-resized, credit-same, limit-fits}
 use Rattle.quic_history.proofs.SentHistory.{kept-sent}
 use Rattle.quic_history.proofs.ControlSteps.{facts-settled}
@@ -19,6 +19,7 @@ use Rattle.quic_history.proofs.WritesTold.{writes-told}
 use Rattle.quic_history.proofs.ToldEvents.{queues}
 use Rattle.quic_values.specs.declared.ids.Dir.TheVariants.{Bi}
 use Rattle.quic_history.proofs.SendSteps.{facts-sending}
+use Rattle.quic_history.proofs.EarlyFacts.{facts-rejected, facts-again, spares-again, spares-nothing}
 use Rattle.quic_history.proofs.Permits.{all-concurrent, all-accepted, credit-concurrent, credit-accepted}
 use Rattle.quic_limits.specs.Credit.{resized}
 use Rattle.quic_history.proofs.Endings.{kept-told-of, tells-ends}
@@ -60,6 +61,9 @@ kept window h u (Accepted dir answer) v f s = rw s.0 (record {
 })
 kept window h u (Settled kind frame) v f s = facts-settled window h kind frame u v s.0 s.1 f s.2
 kept window h u (Sending e) v f s = facts-sending window h u e v f s
+kept window h u Rejected v f s = facts-rejected window h u v f s.0 s.1
+kept window h u (SentAgain (Ok x)) v f s = facts-again window h u v (Ok x) f (spares-again u v _ s.1.2)
+kept window h u (SentAgain (Err x)) v f s = facts-again window h u v (Err x) f (spares-nothing u v s.1)
 
 permits-now : (m : Made) (h : List Event) (v : World) (run : IsRun m h v) → EverPermits m h v run → PermitsNow m h v run
 permits-now m [] v run p = p
@@ -81,7 +85,7 @@ next m h u e v fits f s =
     let told = kept-told-of window h u e v f.facts s (λ q. (f.ends q, f.given q)) in
     let permits = kept-remotes window (counts (count_of m) h) h u e v f.facts
     (λ d. rebased (counts (count_of m) h d) (before m h u f.run d) (is_freed (trace h) u.out.side (sends u) d) (remote_of u d) (permits-now m h u f.run f.remotes d)) s in
-    let sent = kept-sent h u e v (limit-fits _ _ _ _ u.credit f.facts.credit) f.sent s in
+    let sent = kept-sent (since h) u e v (limit-fits _ _ _ _ u.credit f.facts.credit) f.sent s in
     let sends = kept-sends m h u e v f.side (went.side ∙ f.side) f.sent f.sends (permits Bi) s in
     record {
       run = (u, f.run, fits, s, went);

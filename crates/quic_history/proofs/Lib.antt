@@ -35,3 +35,7 @@ pub mod WritesTold
 pub mod ReceivingSteps
 pub mod UsedHalves
 pub mod UsedHistory
+pub mod JointMoves
+pub mod EarlyFlows
+pub mod EarlyFacts
+pub mod Unanswered

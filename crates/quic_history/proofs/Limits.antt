@@ -18,15 +18,14 @@ use Rattle.quic_queue.specs.SendOrder.{SendOrder}
 use Rattle.quic_history.specs.World.{World, with_receive, with_credit, with_receive_window, remote_of, advanced, noticed, with_freed}
 use Rattle.quic_history.specs.Receiving.{Receives, ReceivesReset, after_data, after_reset, credited_to}
 use Rattle.quic_history.specs.Reading.{Begins, Stops, TellsReset, after_read, after_stop}
-use Rattle.quic_history.specs.History.{Event, Received, ReceivedReset, AddedCredits, Began, Gave, Ended, Stopped, ToldReset, Resized, SetConcurrent, Accepted, Settled, Sending, Step, Goes}
-use Rattle.quic_history.specs.Permitting.{after_concurrent, with_accepted}
+use Rattle.quic_history.specs.History.{Event, Received, ReceivedReset, AddedCredits, Began, Gave, Ended, Stopped, ToldReset, Resized, SetConcurrent, Accepted, Settled, Sending, Rejected, SentAgain, Step, Goes}
+use Rattle.quic_history.specs.Early.{with_rejection}
 use Rattle.quic_history.specs.SendTotals.{SendTotals, send_totals}
 use Rattle.quic_history.proofs.ControlSteps.{announces, goes-settled}
 use Rattle.quic_history.proofs.SendSteps.{goes-sending}
 use Rattle.quic_history.proofs.Permits.{steady-concurrent}
-use Rattle.quic_limits.specs.Credit.{Credit, resized}
+use Rattle.quic_limits.specs.Credit.{Credit}
 use Rattle.quic_limits.specs.Remote.{one_accepted}
-use Rattle.std.proofs.lemmas.Bool.Decides.{nat_tests}
 use Rattle.quic_history.proofs.StreamSteps.{Steady, steady, steady-put, steady-noticed, steady-freed, steady-remote}
 
 -- what no call but credit changes
@@ -156,6 +155,8 @@ resized_rises c n false fits = omega arith
 -- whether a call is one of the sending side
 abbrev pub is_of_sending : Event → Bool
 is_of_sending (Sending e) = true
+is_of_sending Rejected = true
+is_of_sending (SentAgain answer) = true
 is_of_sending _ = false
 
 pub firmly : (h : List Event) (u : World) (e : Event) (v : World) → u.credit.local_max_data < 2 ^ 64 → is_of_sending e ≡ false → Step u e v → Firmly u v
@@ -173,6 +174,12 @@ firmly h u (SetConcurrent dir count (Err k)) v fits n s = stays u v (ap firm s)
 firmly h u (Accepted dir answer) v fits n s = stays u v (ap firm s.0 ∙ ap firm_of (steady-remote u dir (one_accepted (remote_of u dir))))
 firmly h u (Settled kind frame) v fits n s = let t = announces kind u s.0 frame v s.1 s.2 in record { goes = goes-settled u v t; same = ap send_totals t.out; queue = t.queue }
 firmly h u (Sending e) v fits n s = cc
+firmly h u Rejected v fits n s = cc
+firmly h u (SentAgain answer) v fits n s = cc
+
+-- what an early start leaves
+goes_at : (u v w : World) → v ≡ w → Goes u w → Goes u v
+goes_at u v w e g = let P : World → Type 0 = λ x. Goes u x in subst P (sym e) g
 
 pub goes : (h : List Event) (u : World) (e : Event) (v : World) → u.credit.local_max_data < 2 ^ 64 → Step u e v → Goes u v
 goes h u (Received id offset bytes fin answer) v fits s = let f = firmly h u (Received id offset bytes fin answer) v fits refl s in f.goes
@@ -189,3 +196,6 @@ goes h u (SetConcurrent dir count (Err k)) v fits s = let f = firmly h u (SetCon
 goes h u (Accepted dir answer) v fits s = let f = firmly h u (Accepted dir answer) v fits refl s in f.goes
 goes h u (Settled kind frame) v fits s = let f = firmly h u (Settled kind frame) v fits refl s in f.goes
 goes h u (Sending e) v fits s = goes-sending u e v s
+goes h u Rejected v fits s = goes_at u v (with_rejection u) s.1 (record { side = refl; window = refl; limit = omega arith })
+goes h u (SentAgain (Ok x)) v fits s = goes_at u v _ s.1.2 (record { side = refl; window = refl; limit = omega arith })
+goes h u (SentAgain (Err x)) v fits s = goes_at u v u s.1 (record { side = refl; window = refl; limit = omega arith })

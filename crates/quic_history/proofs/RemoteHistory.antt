@@ -20,11 +20,12 @@ use Rattle.quic_retransmits.specs.Pending.{Pending}
 use Rattle.quic_history.specs.World.{World, id_refusal, remote_of, with_remote, with_receive, with_credit, with_receive_window, advanced, noticed, with_freed}
 use Rattle.quic_history.specs.Receiving.{Receives, ReceivesReset, after_reset, credited_to}
 use Rattle.quic_history.specs.Reading.{Begins, ReadsHalf, Stops, TellsReset, after_stop}
-use Rattle.quic_history.specs.History.{Event, Received, ReceivedReset, AddedCredits, Began, Gave, Ended, Stopped, ToldReset, Resized, SetConcurrent, Accepted, Settled, Sending, Step, Trace, HalfFrom, untouched, trace, is_closed, is_kept, with_read, with_count_set, Facts}
+use Rattle.quic_history.specs.History.{Event, Received, ReceivedReset, AddedCredits, Began, Gave, Ended, Stopped, ToldReset, Resized, SetConcurrent, Accepted, Settled, Sending, Rejected, SentAgain, Step, Trace, HalfFrom, untouched, trace, is_closed, is_kept, with_read, with_count_set, Facts}
 use Rattle.quic_limits.specs.Remote.{one_accepted}
 use Rattle.quic_history.specs.Permitting.{after_concurrent, with_accepted, with_count_of}
 use Rattle.quic_history.proofs.ControlSteps.{announces, remotes-settled}
-use Rattle.quic_history.proofs.SendSteps.{remotes-sending}
+use Rattle.quic_history.proofs.SendSteps.{remotes-sending, remotes-spared}
+use Rattle.quic_history.proofs.EarlyFacts.{remotes-rejected, spares-again}
 use Rattle.quic_history.proofs.Permits.{remotes-concurrent, one-accepted}
 use Rattle.quic_history.proofs.WorldSteps.{refusal-advanced}
 use Rattle.quic_history.proofs.Refusals.{refusal-next}
@@ -342,3 +343,6 @@ kept-remotes window at_once h u (Accepted dir answer) v f x s = let b : Dir → 
     (remotes-idle at_once b (trace h) (trace h) u (with_accepted u dir) (λ q. refl) (remotes-counted u (with_remote u dir (one_accepted (remote_of u dir))) _ (remotes-remote u dir (one_accepted (remote_of u dir)) (one-accepted (remote_of u dir)))) x)
 kept-remotes window at_once h u (Settled kind frame) v f x s = remotes-settled at_once (λ d. (remote_of u d).max_remote) h kind frame u v (announces kind u s.0 frame v s.1 s.2) x
 kept-remotes window at_once h u (Sending e) v f x s = remotes-sending at_once (λ d. (remote_of u d).max_remote) (trace h) u e v f.streams x s
+kept-remotes window at_once h u Rejected v f x s = remotes-rejected at_once (λ d. (remote_of u d).max_remote) h u v s.0 s.1 x
+kept-remotes window at_once h u (SentAgain (Ok k)) v f x s = remotes-spared at_once (λ d. (remote_of u d).max_remote) (trace h) u v (spares-again u v _ s.1.2) x
+kept-remotes window at_once h u (SentAgain (Err k)) v f x s = remotes_at at_once (λ d. (remote_of u d).max_remote) (trace h) v u s.1 x

@@ -1,5 +1,5 @@
 -- Each stream on which something is left to be sent stands in the send queue, whatever calls were made.
-use Rattle.std.proofs.Common.{◌≡◌, ◌⊎◌, ℕ, ℤ, Bool, true, false, eqb, List, [], ◌∷◌, Option, Some, None, is_some, Result, Ok, Err, refl, sym, ap, ◌∙◌, subst, inl, inr, arith, ◌+◌, ◌<◌, ◌≤◌, ◌^◌, ◌-◌}
+use Rattle.std.proofs.Common.{◌≡◌, ◌⊎◌, ℕ, ℤ, Bool, true, false, eqb, List, [], ◌∷◌, Option, Some, None, is_some, Ok, Err, refl, sym, ap, ◌∙◌, subst, inl, inr, arith, ◌<◌, ◌≤◌, ◌^◌, ◌-◌}
 use Rattle.std.specs.Prelude.{◌==◌, ◌&&◌, ◌||◌, not, drop, int_lt, is_none, min, nat_lt, nat_le, slice_get, MatchBool, if◌then◌else◌}
 use Rattle.std.specs.declared.ops.Range.{Range}
 use Rattle.std.proofs.lemmas.Bool.Decides.{nat_tests}
@@ -16,7 +16,7 @@ use Rattle.quic_queue.specs.declared.queue.Next.{Next}
 use Rattle.quic_queue.specs.declared.queue.Next.TheVariants.{LetGo, PutAnew, KeepBack}
 use Rattle.quic_queue.specs.SendOrder.{SendOrder, put, line, first, with_entry, without_first, settled}
 use Rattle.quic_sending.specs.declared.send.Send.{Send}
-use Rattle.quic_sending.specs.Buffer.{Buffered, HasDue, HasNoneDue, is_due, is_lost, total_length}
+use Rattle.quic_sending.specs.Buffer.{is_due, is_lost, total_length}
 use Rattle.quic_sending.specs.Sending.{is_ready, is_reset_sent}
 use Rattle.quic_flows.specs.Flow.{SendMove, WasCarried, WasAcked, WasLost, WasResetAcked, WasWritten, WasFinished, WasGivenUp, WasAskedToStop, WasPermitted, SendFlow, new_flow, front_of, retained, with_lost, counts_for, takes_data, with_least_limit, with_acked, freed_if_whole, is_whole, with_send_move, state_told, FlowFrom, FlowAt}
 use Rattle.quic_outgoing.specs.declared.limits.PeerLimits.{PeerLimits}
@@ -27,7 +27,17 @@ use Rattle.quic_history.specs.Writes.{with_queued, WritesOwn}
 use Rattle.quic_history.specs.Sends.{with_out, with_opened, told_writable, after_first_stop, is_permitted, PollsQueue, TellsNext}
 use Rattle.quic_history.specs.SendEvents.{SendEvent, SendStep, GaveLimits, OpenedOwn, RaisedData, RaisedCount, RaisedLimit, StoppedOwn, SetWindow, Polled, WroteOwn, FinishedOwn, ResetOwn, SetOwnPriority, AckedOwn, LostOwn, ResetAckedOwn, TookTurn}
 use Rattle.quic_history.specs.SendTotals.{send_totals}
-use Rattle.quic_history.specs.History.{Event, Received, ReceivedReset, AddedCredits, Began, Gave, Ended, Stopped, ToldReset, Resized, SetConcurrent, Accepted, Settled, Sending, Step, SentSo, FlowsSo, limits_in, send_move_of, send_tale, flow, opened_in_all}
+use Rattle.quic_history.specs.History.{since, Rejected, SentAgain, Event, Received, ReceivedReset, AddedCredits, Began, Gave, Ended, Stopped, ToldReset, Resized, SetConcurrent, Accepted, Settled, Sending, Step, SentSo, FlowsSo, limits_in, send_move_of, send_tale, flow, opened_in_all}
+use Rattle.std.proofs.Common.{zero, suc, ◌/◌, ◌%◌, ◌++◌}
+use Rattle.std.specs.Prelude.{nat_eq}
+use Rattle.std.specs.List.{list_any}
+use Rattle.quic_values.specs.declared.ids.Side.TheVariants.{Client, Server}
+use Rattle.quic_values.specs.Ids.{stream_id, dir_of, index_of}
+use Rattle.quic_outgoing.specs.Senders.{is_local, are_one_end}
+use Rattle.quic_outgoing.specs.Transmitting.{is_data_sent}
+use Rattle.quic_outgoing.specs.Early.{has_content, QueuesUnsent}
+use Rattle.quic_history.specs.Early.{with_unsent, first_ids, own_ids, entry_at, AreUnsentOf, with_entries_put}
+use Rattle.quic_history.proofs.EarlyFlows.{sent_state, reset_state}
 use Rattle.quic_history.proofs.Limits.{firmly}
 use Rattle.quic_history.proofs.FlowHistory.{known-by, few-retained}
 use Rattle.quic_history.specs.Carrying.{PassesOver, CarriesFrame}
@@ -41,7 +51,6 @@ use Rattle.quic_history.proofs.FlowReports.{uncounted, step-carried, told_freed,
 use Rattle.quic_limits.specs.Own.{with_count}
 use Rattle.quic_sending.specs.declared.send.SendState.{SendState}
 use Rattle.quic_sending.specs.declared.send.SendState.TheVariants.{Ready, DataSent, ResetSent}
-use Rattle.quic_sending.specs.declared.send.WriteError.TheVariants as write_error
 use Rattle.quic_sending.specs.Sending.{write_refusal, finish_refusal}
 use Rattle.quic_outgoing.specs.Outgoing.{own_of, with_own}
 use Rattle.quic_outgoing.specs.Writing.{refusal_of_write}
@@ -49,7 +58,7 @@ use Rattle.quic_outgoing.specs.Acknowledging.{LosesOnStream, were_sent}
 use Rattle.quic_outgoing.specs.Transmitting.{sending_priority}
 use Rattle.quic_history.proofs.Totals.{by_cases, same}
 use Rattle.quic_history.specs.World.{World, Made, with_receive, told, noticed}
-use Rattle.quic_history.specs.Flows.{has_send_side, has_side_in, send_moved, with_first_limits, AllFlows, stands, HasRest, AreInQueue}
+use Rattle.quic_history.specs.Flows.{has_send_side, has_side_in, is_answered_on, send_moved, with_first_limits, AllFlows, stands, HasRest, AreInQueue}
 
 -- ---- entries of the queue
 
@@ -503,13 +512,162 @@ module _ (side : Side) (there : ℕ → Bool) (f : ℕ → SendFlow) (u : World)
   rest_sending (TookTurn most fair None) v s = passed_so v s
   rest_sending (TookTurn most fair (Some frame)) v s = carried_so most fair frame v s
 
+-- ---- all is sent again
+
+entries_stay : (q : ℕ) (w : SendOrder) (es : List Entry) → stands q (line w) ≡ true → stands q (line (with_entries_put w es)) ≡ true
+entries_stay q w [] h = h
+entries_stay q w (e ∷ es) h = entries_stay q (with_entry w e) es (entry_stays q w e h)
+
+entries_stand : (q : ℕ) (w : SendOrder) (es : List Entry) → stands q es ≡ true → stands q (line (with_entries_put w es)) ≡ true
+entries_stand q w [] h = cc
+entries_stand q w (e ∷ es) h = by_cases (q == e.id)
+    (λ t. entries_stay q (with_entry w e) es (ap (λ i. stands i (line (with_entry w e))) (same q e.id t) ∙ entry_stands w e))
+    (λ n. entries_stand q (with_entry w e) es (or_rest (q == e.id) (stands q es) n h))
+  where
+    or_rest : (a b : Bool) → a ≡ false → (a || b) ≡ true → b ≡ true
+    or_rest true b n h = cc
+    or_rest false b n h = h
+
+any_append : (p : ℕ → Bool) (xs ys : List ℕ) → list_any p (xs ++ ys) ≡ (list_any p xs || list_any p ys)
+any_append p [] ys = refl
+any_append p (x ∷ xs) ys = ap (λ b. p x || b) (any_append p xs ys) ∙ further (p x) (list_any p xs) (list_any p ys)
+  where
+    further : (a b c : Bool) → (a || (b || c)) ≡ ((a || b) || c)
+    further true b c = refl
+    further false b c = refl
+
+first_has : (s : Side) (d : Dir) (n i : ℕ) → i < n → list_any (nat_eq (stream_id s d i)) (first_ids s d n) ≡ true
+first_has s d zero i l = absurd (omega arith)
+first_has s d (suc n) i l = any_append (nat_eq (stream_id s d i)) (first_ids s d n) (stream_id s d n ∷ []) ∙ by_cases (eqb i n)
+    (λ t. ap (λ j. list_any (nat_eq (stream_id s d j)) (first_ids s d n) || (nat_eq (stream_id s d j) (stream_id s d n) || false)) (same i n t)
+    ∙ or_right (list_any (nat_eq (stream_id s d n)) (first_ids s d n)) (nat_eq (stream_id s d n) (stream_id s d n) || false) (ap (λ b. b || false) (itself (stream_id s d n))))
+    (λ m. let less : i < n = below i n l m in ap (λ b. b || (nat_eq (stream_id s d i) (stream_id s d n) || false)) (first_has s d n i less))
+  where
+    below : (i n : ℕ) → i < suc n → eqb i n ≡ false → i < n
+    below i n l m = grind (arith, nat_tests)
+
+id_parts : (s : Side) (q : ℕ) → is_local s q ≡ true → q ≡ stream_id s (dir_of q) (index_of q)
+id_parts s q e = by s (q % 2 == 0) (q / 2 % 2 == 0) refl refl e
+  where
+    by : (s : Side) (b c : Bool) → (q % 2 == 0) ≡ b → (q / 2 % 2 == 0) ≡ c → are_one_end s (if b then Client else Server) ≡ true → q ≡ stream_id s (if c then Bi else Uni) (q / 4)
+    by Client true true e k o = grind (arith, nat_tests)
+    by Client true false e k o = grind (arith, nat_tests)
+    by Client false c e k o = cc
+    by Server true c e k o = cc
+    by Server false true e k o = grind (arith, nat_tests)
+    by Server false false e k o = grind (arith, nat_tests)
+
+own_has : (o : Outgoing) (q : ℕ) → is_local o.side q ≡ true → nat_lt (index_of q) (own_of o (dir_of q)).opened ≡ true → list_any (nat_eq q) (own_ids o) ≡ true
+own_has o q e l = ap (λ i. list_any (nat_eq i) (own_ids o)) (id_parts o.side q e) ∙ by (dir_of q) (index_of q) l
+  where
+    by : (d : Dir) (i : ℕ) → nat_lt i (own_of o d).opened ≡ true → list_any (nat_eq (stream_id o.side d i)) (own_ids o) ≡ true
+    by Bi i l = let less : i < o.own_bi.opened = grind (arith, nat_tests) in
+        any_append (nat_eq (stream_id o.side Bi i)) (first_ids o.side Bi o.own_bi.opened) (first_ids o.side Uni o.own_uni.opened)
+        ∙ ap (λ b. b || list_any (nat_eq (stream_id o.side Bi i)) (first_ids o.side Uni o.own_uni.opened)) (first_has o.side Bi o.own_bi.opened i less)
+    by Uni i l = let less : i < o.own_uni.opened = grind (arith, nat_tests) in
+        any_append (nat_eq (stream_id o.side Uni i)) (first_ids o.side Bi o.own_bi.opened) (first_ids o.side Uni o.own_uni.opened)
+        ∙ or_right (list_any (nat_eq (stream_id o.side Uni i)) (first_ids o.side Bi o.own_bi.opened)) _ (first_has o.side Uni o.own_uni.opened i less)
+
+-- each of those streams is queued, or need not be
+unsent_of : (o : Outgoing) (ids : List ℕ) (es : List Entry) → AreUnsentOf o ids es → (q : ℕ) → list_any (nat_eq q) ids ≡ true
+    → (queue : Option ℤ) × QueuesUnsent (o.halves q) queue × ((p : ℤ) → queue ≡ Some p → stands q es ≡ true)
+unsent_of o [] es a q h = cc
+unsent_of o (id ∷ ids) es a q h = by_cases (nat_eq q id)
+    (λ t. let e : q ≡ id = same q id t in
+    (a.0, subst (λ i. QueuesUnsent (o.halves i) a.0) (sym e) a.1, λ p k. ap (stands q) a.4 ∙ ap (λ x. stands q (entry_at id x ++ a.2)) k ∙ ap (λ i. (q == i) || stands q a.2) (sym e) ∙ ap (λ b. b || stands q a.2) (itself q)))
+    (λ n. let later = unsent_of o ids a.2 a.3 q (or_rest (nat_eq q id) (list_any (nat_eq q) ids) n h) in
+    (later.0, later.1, λ p k. ap (stands q) a.4 ∙ behind a.0 (later.2 p k)))
+  where
+    or_rest : (a b : Bool) → a ≡ false → (a || b) ≡ true → b ≡ true
+    or_rest true b n h = cc
+    or_rest false b n h = h
+
+    behind : (x : Option ℤ) → stands q a.2 ≡ true → stands q (entry_at id x ++ a.2) ≡ true
+    behind None k = k
+    behind (Some p) k = or_right (q == id) (stands q a.2) k
+
+-- what is left then is what was written, and an end
+unsent_rest : (t : SendFlow) → HasRest (with_unsent t) → (t.reset ≡ None) × (t.freed ≡ false) × ((0 < total_length t.cuts) ⊎ ((t.finished ≡ true) ⊎ (t.end_due ≡ true)))
+unsent_rest t r = by t.reset refl
+  where
+    either : (a b : Bool) → (a || b) ≡ true → (b ≡ true) ⊎ (a ≡ true)
+    either true b e = inr refl
+    either false b e = inl e
+
+    left : HasRest (record t { carried = λ n. false; sent_up_to = 0; missing = λ n. false; end_due = t.end_due || t.finished })
+        → (t.reset ≡ None) × (t.freed ≡ false) × ((0 < total_length t.cuts) ⊎ ((t.finished ≡ true) ⊎ (t.end_due ≡ true)))
+    left (a, b, inl x) = (a, b, inl (let l = x.1 in omega arith))
+    left (a, b, inr (inl x)) = cc
+    left (a, b, inr (inr e)) = (a, b, inr (either t.end_due t.finished e))
+
+    by : (o : Option ℕ) → t.reset ≡ o → (t.reset ≡ None) × (t.freed ≡ false) × ((0 < total_length t.cuts) ⊎ ((t.finished ≡ true) ⊎ (t.end_due ≡ true)))
+    by None e = left (subst (λ (b : Bool). HasRest (if b then record t { carried = λ n. false; sent_up_to = 0; missing = λ n. false; end_due = t.end_due || t.finished } else t)) (ap (λ (o : Option ℕ). is_none o) e) r)
+    by (Some code) e = let x : HasRest t = subst (λ (b : Bool). HasRest (if b then record t { carried = λ n. false; sent_up_to = 0; missing = λ n. false; end_due = t.end_due || t.finished } else t)) (ap (λ (o : Option ℕ). is_none o) e) r in
+        let k = sym e ∙ x.0 in cc
+
+-- a stream on which something is left is open
+left_open : (first : ℕ) (t : SendFlow) (k : Bool) (o : Option Send) → FlowAt first t k o → t.freed ≡ false → (0 < total_length t.cuts) ⊎ ((t.finished ≡ true) ⊎ (t.end_due ≡ true))
+    → (s : Send) × (o ≡ Some s) × (k ≡ true) × FlowFrom t s
+left_open first t true (Some s) f there some = (s, refl, refl, f)
+left_open first t true None f there some = let k = sym there ∙ f in cc
+left_open first t false (Some s) f there some = absurd f
+left_open first t false None f there (inl x) = absurd (let l : 0 < 0 = subst (λ (y : SendFlow). 0 < total_length y.cuts) f x in omega arith)
+left_open first t false None f there (inr (inl x)) = let k = sym (ap (λ (y : SendFlow). y.finished) f) ∙ x in cc
+left_open first t false None f there (inr (inr x)) = let k = sym (ap (λ (y : SendFlow). y.end_due) f) ∙ x in cc
+
+-- without data and without an end nothing but an end that was due before is left
+no_content : (t : SendFlow) (s : Send) → FlowFrom t s → t.reset ≡ None → has_content s ≡ false → (0 < total_length t.cuts) ⊎ ((t.finished ≡ true) ⊎ (t.end_due ≡ true)) → t.end_due ≡ true
+no_content t s f e none some =
+    let open_now : is_reset_sent s.state ≡ false = ap is_reset_sent f.state ∙ reset_state t.reset t.finished t.end_acked ∙ ap (λ (o : Option ℕ). is_some o) e in
+    let ended : is_data_sent s.state ≡ t.finished = ap is_data_sent f.state ∙ ap (λ (x : Option ℕ). is_data_sent (state_told x t.finished t.end_acked)) e ∙ sent_state t.finished t.end_acked in
+    let parts = neither (is_reset_sent s.state) (nat_lt 0 s.pending.offset) (is_data_sent s.state) open_now none in
+    by some parts.0 (sym ended ∙ parts.1)
+  where
+    neither : (a b c : Bool) → a ≡ false → (not a && (b || c)) ≡ false → (b ≡ false) × (c ≡ false)
+    neither true b c e k = cc
+    neither false true c e k = cc
+    neither false false c e k = (refl, k)
+
+    empty : nat_lt 0 s.pending.offset ≡ false → 0 < total_length t.cuts → ⊥
+    empty n l = let w = f.cuts.written in let less : 0 < s.pending.offset = omega arith in let k : nat_lt 0 s.pending.offset ≡ true = grind (arith, nat_tests) in let j = sym n ∙ k in cc
+
+    by : (0 < total_length t.cuts) ⊎ ((t.finished ≡ true) ⊎ (t.end_due ≡ true)) → nat_lt 0 s.pending.offset ≡ false → t.finished ≡ false → t.end_due ≡ true
+    by (inl x) n m = absurd (empty n x)
+    by (inr (inl x)) n m = let k = sym m ∙ x in cc
+    by (inr (inr x)) n m = x
+
+again_rest : (f : ℕ → SendFlow) (u : World) (es : List Entry) → AllFlows f u.out u.bi.max_remote → AreInQueue f u.queue → AreUnsentOf u.out (own_ids u.out) es
+    → AreInQueue (λ q. if is_local u.out.side q then with_unsent (f q) else f q) (with_entries_put u.queue es)
+again_rest f u es all r a q k = by (is_local u.out.side q) refl
+  where
+    queued : (s : Send) → u.out.halves q ≡ Some s → FlowFrom (f q) s → (f q).reset ≡ None → (f q).freed ≡ false → (0 < total_length (f q).cuts) ⊎ (((f q).finished ≡ true) ⊎ ((f q).end_due ≡ true))
+        → (queue : Option ℤ) → QueuesUnsent (Some s) queue → ((p : ℤ) → queue ≡ Some p → stands q es ≡ true) → stands q (line (with_entries_put u.queue es)) ≡ true
+    queued s held flow reset there some None (inl none) at = entries_stay q u.queue es (r q (reset, there, inr (inr (no_content (f q) s flow reset none some))))
+    queued s held flow reset there some None (inr more) at =
+        let open_now : is_reset_sent s.state ≡ false = ap is_reset_sent flow.state ∙ reset_state (f q).reset (f q).finished (f q).end_acked ∙ ap (λ (o : Option ℕ). is_some o) reset in
+        entries_stay q u.queue es (r q (is_pending (f q) s flow open_now more))
+    queued s held flow reset there some (Some p) c at = entries_stand q u.queue es (at p refl)
+
+    own : is_local u.out.side q ≡ true → HasRest (with_unsent (f q)) → stands q (line (with_entries_put u.queue es)) ≡ true
+    own e x =
+        let left = unsent_rest (f q) x in
+        let half = left_open _ (f q) (has_side_in u.out u.bi.max_remote q) (u.out.halves q) (all q) left.1 left.2 in
+        let opened : nat_lt (index_of q) (own_of u.out (dir_of q)).opened ≡ true =
+        sym (ap (λ b. if b then nat_lt (index_of q) (own_of u.out (dir_of q)).opened else is_answered_on (dir_of q) u.bi.max_remote (index_of q)) e) ∙ half.2 in
+        let entry = unsent_of u.out (own_ids u.out) es a q (own_has u.out q e opened) in
+        queued half.0 half.1 half.3 left.0 left.1 left.2 entry.0 (subst (λ (o : Option Send). QueuesUnsent o entry.0) half.1 entry.1) entry.2
+
+    by : (b : Bool) → is_local u.out.side q ≡ b → stands q (line (with_entries_put u.queue es)) ≡ true
+    by true e = own e (subst (λ (b : Bool). HasRest (if b then with_unsent (f q) else f q)) e k)
+    by false e = entries_stay q u.queue es (r q (subst (λ (b : Bool). HasRest (if b then with_unsent (f q) else f q)) e k))
+
 -- ---- every call
 
-pub kept-rest : (m : Made) (h : List Event) (u : World) (e : Event) (v : World) → u.credit.local_max_data < 2 ^ 64 → u.out.side ≡ m.side → SentSo h (send_totals u.out) → FlowsSo m h u → AreInQueue (flow m h) u.queue → Step u e v
+pub kept-rest : (m : Made) (h : List Event) (u : World) (e : Event) (v : World) → u.credit.local_max_data < 2 ^ 64 → u.out.side ≡ m.side → SentSo (since h) (send_totals u.out) → FlowsSo m h u → AreInQueue (flow m h) u.queue → Step u e v
     → AreInQueue (flow m (e ∷ h)) v.queue
 kept-rest m h u (Sending e) v fits side sent f r s =
     let kept = f.retained in
-    rest_sending m.side (has_send_side m.side (opened_in_all h) (send_tale m h).may_open) (flow m h) u (known-by m h u side f.may_open sent) f.flows side (λ q. let k = few-retained m h q in omega arith) r e v s
+    rest_sending m.side (has_send_side m.side (opened_in_all (since h)) (send_tale m h).may_open) (flow m h) u (known-by m h u side f.may_open sent) f.flows side (λ q. let k = few-retained m h q in omega arith) r e v s
 kept-rest m h u (Received id offset bytes fin answer) v fits side sent f r s = let w = firmly h u (Received id offset bytes fin answer) v fits refl s in λ q k. ap (λ (x : SendOrder). stands q (line x)) w.queue ∙ r q k
 kept-rest m h u (ReceivedReset id code final answer) v fits side sent f r s = let w = firmly h u (ReceivedReset id code final answer) v fits refl s in λ q k. ap (λ (x : SendOrder). stands q (line x)) w.queue ∙ r q k
 kept-rest m h u (AddedCredits count answer) v fits side sent f r s = let w = firmly h u (AddedCredits count answer) v fits refl s in λ q k. ap (λ (x : SendOrder). stands q (line x)) w.queue ∙ r q k
@@ -523,6 +681,12 @@ kept-rest m h u (SetConcurrent dir count (Ok j)) v fits side sent f r s = let w 
 kept-rest m h u (SetConcurrent dir count (Err j)) v fits side sent f r s = let w = firmly h u (SetConcurrent dir count (Err j)) v fits refl s in λ q k. ap (λ (x : SendOrder). stands q (line x)) w.queue ∙ r q k
 kept-rest m h u (Accepted dir answer) v fits side sent f r s = let w = firmly h u (Accepted dir answer) v fits refl s in λ q k. ap (λ (x : SendOrder). stands q (line x)) w.queue ∙ r q k
 kept-rest m h u (Settled kind frame) v fits side sent f r s = let w = firmly h u (Settled kind frame) v fits refl s in λ q k. ap (λ (x : SendOrder). stands q (line x)) w.queue ∙ r q k
+kept-rest m h u Rejected v fits side sent f r s = λ q k. absurd (absent_rest 0 (new_flow 0) false None refl refl k)
+kept-rest m h u (SentAgain (Ok x)) v fits side sent f r s =
+    let queue : v.queue ≡ with_entries_put u.queue s.1.0 = ap (λ (w : World). w.queue) s.1.2 in
+    subst (λ (k : SendOrder). AreInQueue (flow m (SentAgain (Ok x) ∷ h)) k) (sym queue)
+    (subst (λ (j : Side). AreInQueue (λ q. if is_local j q then with_unsent (flow m h q) else flow m h q) (with_entries_put u.queue s.1.0)) side (again_rest (flow m h) u s.1.0 f.flows r s.1.1))
+kept-rest m h u (SentAgain (Err x)) v fits side sent f r s = λ q k. ap (λ (w : World). stands q (line w.queue)) s.1 ∙ r q k
 
 -- nothing is left at first
 pub rest-start : (m : Made) (w : SendOrder) → AreInQueue (flow m []) w

@@ -1,7 +1,7 @@
 -- What a history says of what an end sent and opened.
 use Rattle.std.proofs.Common.{◌≡◌, ℕ, Bool, true, false, List, [], ◌∷◌, Option, Some, None, Result, Ok, Err, refl, sym, ap, ◌∙◌, subst, inl, inr, arith, ◌+◌, ◌-◌, ◌<◌, ◌≤◌}
 use Rattle.std.specs.declared.ops.Range.{Range}
-use Rattle.std.specs.Prelude.{max, min, ◌^◌, ◌++◌, ℤ, ◌&&◌, nat_lt, nat_le, if◌then◌else◌, MatchBool}
+use Rattle.std.specs.Prelude.{max, min, ◌^◌, ◌++◌, ℤ, ◌&&◌, nat_lt, if◌then◌else◌}
 use Rattle.std.proofs.lemmas.Bool.Decides.{nat_tests}
 use Rattle.quic_values.specs.declared.memory.OutOfMemory.{OutOfMemory}
 use Rattle.quic_values.specs.declared.ids.Dir.{Dir}
@@ -11,7 +11,6 @@ use Rattle.quic_wire.specs.declared.event.StreamEvent.TheVariants as stream_even
 use Rattle.quic_wire.specs.declared.error.ReceiveError.{ReceiveError}
 use Rattle.quic_wire.specs.declared.error.ReceiveError.TheVariants as receive_error
 use Rattle.quic_limits.specs.Own.{Own, no_own, with_next_own, with_count}
-use Rattle.quic_limits.specs.Remote.{opening_told}
 use Rattle.quic_limits.specs.SendingCredit.{SendingCredit, with_blocked, is_blocked_due}
 use Rattle.quic_sending.specs.declared.send.Send.{Send}
 use Rattle.quic_sending.specs.Sending.{stream_room}
@@ -25,11 +24,11 @@ use Rattle.quic_receiving.specs.declared.errors.HandleError.TheVariants as handl
 use Rattle.quic_retransmits.specs.Pending.{Pending}
 use Rattle.quic_outgoing.specs.declared.limits.PeerLimits.{PeerLimits}
 use Rattle.quic_outgoing.specs.History.{count_in, given_for}
-use Rattle.quic_outgoing.specs.Outgoing.{Outgoing, own_of, with_own, with_params, with_send_half, waiting, marked, is_stuck, fresh_sender}
+use Rattle.quic_outgoing.specs.Outgoing.{Outgoing, own_of, with_own, with_send_half, waiting, marked, is_stuck, fresh_sender}
 use Rattle.quic_outgoing.specs.Calls.{PollsWritable, ResetsStream, SetsPriority, after_rise, with_rise, is_woken, with_stop_reason}
 use Rattle.quic_outgoing.specs.Writing.{RefusesWrite, after_blocked}
 use Rattle.quic_history.specs.World.{World, told, noticed}
-use Rattle.quic_history.specs.Sends.{with_out, with_opened, told_writable, after_first_stop, is_permitted, RaisesCount, RaisesLimit, StopsOwn, TellsNext, PollsQueue}
+use Rattle.quic_history.specs.Sends.{with_out, with_opened, told_writable, after_first_stop, is_permitted, RaisesLimit, StopsOwn, TellsNext, PollsQueue}
 use Rattle.quic_history.specs.Writes.{WritesOwn, FinishesOwn, with_queued}
 use Rattle.quic_history.specs.SendEvents.{SendEvent, SendStep, GaveLimits, OpenedOwn, RaisedData, RaisedCount, RaisedLimit, StoppedOwn, SetWindow, Polled, WroteOwn, FinishedOwn, ResetOwn, SetOwnPriority, AckedOwn, LostOwn, ResetAckedOwn, TookTurn}
 use Rattle.quic_wire.specs.declared.frame.StreamMeta.{StreamMeta}
@@ -39,7 +38,7 @@ use Rattle.quic_outgoing.specs.Acknowledging.{were_sent}
 use Rattle.quic_history.specs.Acknowledged.{AcksOwn, LosesOwn, AcksReset, told_finished, with_send_freed, frees_reset}
 use Rattle.quic_history.proofs.SendFreed.{steady-send-freed}
 use Rattle.quic_history.specs.SendTotals.{SendTotals, send_totals, own_total}
-use Rattle.quic_history.specs.History.{Event, Received, ReceivedReset, AddedCredits, Began, Gave, Ended, Stopped, ToldReset, Resized, SetConcurrent, Accepted, Settled, Sending, Step, SentSo, taken_in_all, greatest_limit, greatest_count, opened_in_all, taken_by, limit_by, count_by, opens_by}
+use Rattle.quic_history.specs.History.{Event, Received, ReceivedReset, AddedCredits, Began, Gave, Ended, Stopped, ToldReset, Resized, SetConcurrent, Accepted, Settled, Sending, Rejected, SentAgain, with_call, Step, SentSo, taken_in_all, greatest_limit, greatest_count, opened_in_all, taken_by, limit_by, count_by, opens_by}
 use Rattle.quic_history.proofs.Limits.{firmly}
 use Rattle.quic_history.proofs.SendSteps.{either-way}
 use Rattle.quic_history.proofs.StreamSteps.{steady-noticed}
@@ -422,22 +421,6 @@ sent-sending h u (LostOwn id offsets fin answer) v f s = sent_same h (send_total
 sent-sending h u (TookTurn most fair frame) v f s = sent_same h (send_totals u.out) f _ (send_totals v.out) (same_turn u most fair frame v s) refl refl (λ d. refl) (λ d. refl)
 sent-sending h u (ResetAckedOwn id answer) v f s = sent_same h (send_totals u.out) f _ (send_totals v.out) (same_reset u id answer v s) refl refl (λ d. refl) (λ d. refl)
 
-pub kept-sent : (h : List Event) (u : World) (e : Event) (v : World) → u.credit.local_max_data < 2 ^ 64 → SentSo h (send_totals u.out) → Step u e v → SentSo (e ∷ h) (send_totals v.out)
-kept-sent h u (Received id offset bytes fin answer) v fits f s = let went = firmly h u (Received id offset bytes fin answer) v fits refl s in sent_same h (send_totals u.out) f (Received id offset bytes fin answer) (send_totals v.out) went.same refl refl (λ d. refl) (λ d. refl)
-kept-sent h u (ReceivedReset id code final answer) v fits f s = let went = firmly h u (ReceivedReset id code final answer) v fits refl s in sent_same h (send_totals u.out) f (ReceivedReset id code final answer) (send_totals v.out) went.same refl refl (λ d. refl) (λ d. refl)
-kept-sent h u (AddedCredits count answer) v fits f s = let went = firmly h u (AddedCredits count answer) v fits refl s in sent_same h (send_totals u.out) f (AddedCredits count answer) (send_totals v.out) went.same refl refl (λ d. refl) (λ d. refl)
-kept-sent h u (Began id ordered answer) v fits f s = let went = firmly h u (Began id ordered answer) v fits refl s in sent_same h (send_totals u.out) f (Began id ordered answer) (send_totals v.out) went.same refl refl (λ d. refl) (λ d. refl)
-kept-sent h u (Gave id most ordered answer) v fits f s = let went = firmly h u (Gave id most ordered answer) v fits refl s in sent_same h (send_totals u.out) f (Gave id most ordered answer) (send_totals v.out) went.same refl refl (λ d. refl) (λ d. refl)
-kept-sent h u (Ended id count) v fits f s = let went = firmly h u (Ended id count) v fits refl s in sent_same h (send_totals u.out) f (Ended id count) (send_totals v.out) went.same refl refl (λ d. refl) (λ d. refl)
-kept-sent h u (Stopped id code answer) v fits f s = let went = firmly h u (Stopped id code answer) v fits refl s in sent_same h (send_totals u.out) f (Stopped id code answer) (send_totals v.out) went.same refl refl (λ d. refl) (λ d. refl)
-kept-sent h u (ToldReset id answer) v fits f s = let went = firmly h u (ToldReset id answer) v fits refl s in sent_same h (send_totals u.out) f (ToldReset id answer) (send_totals v.out) went.same refl refl (λ d. refl) (λ d. refl)
-kept-sent h u (Resized size answer) v fits f s = let went = firmly h u (Resized size answer) v fits refl s in sent_same h (send_totals u.out) f (Resized size answer) (send_totals v.out) went.same refl refl (λ d. refl) (λ d. refl)
-kept-sent h u (SetConcurrent dir count (Ok k)) v fits f s = let went = firmly h u (SetConcurrent dir count (Ok k)) v fits refl s in sent_same h (send_totals u.out) f (SetConcurrent dir count (Ok k)) (send_totals v.out) went.same refl refl (λ d. refl) (λ d. refl)
-kept-sent h u (SetConcurrent dir count (Err k)) v fits f s = let went = firmly h u (SetConcurrent dir count (Err k)) v fits refl s in sent_same h (send_totals u.out) f (SetConcurrent dir count (Err k)) (send_totals v.out) went.same refl refl (λ d. refl) (λ d. refl)
-kept-sent h u (Accepted dir answer) v fits f s = let went = firmly h u (Accepted dir answer) v fits refl s in sent_same h (send_totals u.out) f (Accepted dir answer) (send_totals v.out) went.same refl refl (λ d. refl) (λ d. refl)
-kept-sent h u (Settled kind frame) v fits f s = let went = firmly h u (Settled kind frame) v fits refl s in sent_same h (send_totals u.out) f (Settled kind frame) (send_totals v.out) went.same refl refl (λ d. refl) (λ d. refl)
-kept-sent h u (Sending e) v fits f s = sent-sending h u e v f s
-
 -- nothing was sent and opened at first
 pub sent-start : (a : SendTotals) → a.data_sent ≡ 0 → a.max_data ≡ 0 → a.own_bi ≡ no_own → a.own_uni ≡ no_own → SentSo [] a
 sent-start a s m bi uni = record {
@@ -456,3 +439,24 @@ sent-start a s m bi uni = record {
     counted : (d : Dir) → (own_total a d).limit ≡ 0
     counted Bi = ap (λ (o : Own). o.limit) bi
     counted Uni = ap (λ (o : Own). o.limit) uni
+
+pub kept-sent : (h : List Event) (u : World) (e : Event) (v : World) → u.credit.local_max_data < 2 ^ 64 → SentSo h (send_totals u.out) → Step u e v → SentSo (with_call e h) (send_totals v.out)
+kept-sent h u (Received id offset bytes fin answer) v fits f s = let went = firmly h u (Received id offset bytes fin answer) v fits refl s in sent_same h (send_totals u.out) f (Received id offset bytes fin answer) (send_totals v.out) went.same refl refl (λ d. refl) (λ d. refl)
+kept-sent h u (ReceivedReset id code final answer) v fits f s = let went = firmly h u (ReceivedReset id code final answer) v fits refl s in sent_same h (send_totals u.out) f (ReceivedReset id code final answer) (send_totals v.out) went.same refl refl (λ d. refl) (λ d. refl)
+kept-sent h u (AddedCredits count answer) v fits f s = let went = firmly h u (AddedCredits count answer) v fits refl s in sent_same h (send_totals u.out) f (AddedCredits count answer) (send_totals v.out) went.same refl refl (λ d. refl) (λ d. refl)
+kept-sent h u (Began id ordered answer) v fits f s = let went = firmly h u (Began id ordered answer) v fits refl s in sent_same h (send_totals u.out) f (Began id ordered answer) (send_totals v.out) went.same refl refl (λ d. refl) (λ d. refl)
+kept-sent h u (Gave id most ordered answer) v fits f s = let went = firmly h u (Gave id most ordered answer) v fits refl s in sent_same h (send_totals u.out) f (Gave id most ordered answer) (send_totals v.out) went.same refl refl (λ d. refl) (λ d. refl)
+kept-sent h u (Ended id count) v fits f s = let went = firmly h u (Ended id count) v fits refl s in sent_same h (send_totals u.out) f (Ended id count) (send_totals v.out) went.same refl refl (λ d. refl) (λ d. refl)
+kept-sent h u (Stopped id code answer) v fits f s = let went = firmly h u (Stopped id code answer) v fits refl s in sent_same h (send_totals u.out) f (Stopped id code answer) (send_totals v.out) went.same refl refl (λ d. refl) (λ d. refl)
+kept-sent h u (ToldReset id answer) v fits f s = let went = firmly h u (ToldReset id answer) v fits refl s in sent_same h (send_totals u.out) f (ToldReset id answer) (send_totals v.out) went.same refl refl (λ d. refl) (λ d. refl)
+kept-sent h u (Resized size answer) v fits f s = let went = firmly h u (Resized size answer) v fits refl s in sent_same h (send_totals u.out) f (Resized size answer) (send_totals v.out) went.same refl refl (λ d. refl) (λ d. refl)
+kept-sent h u (SetConcurrent dir count (Ok k)) v fits f s = let went = firmly h u (SetConcurrent dir count (Ok k)) v fits refl s in sent_same h (send_totals u.out) f (SetConcurrent dir count (Ok k)) (send_totals v.out) went.same refl refl (λ d. refl) (λ d. refl)
+kept-sent h u (SetConcurrent dir count (Err k)) v fits f s = let went = firmly h u (SetConcurrent dir count (Err k)) v fits refl s in sent_same h (send_totals u.out) f (SetConcurrent dir count (Err k)) (send_totals v.out) went.same refl refl (λ d. refl) (λ d. refl)
+kept-sent h u (Accepted dir answer) v fits f s = let went = firmly h u (Accepted dir answer) v fits refl s in sent_same h (send_totals u.out) f (Accepted dir answer) (send_totals v.out) went.same refl refl (λ d. refl) (λ d. refl)
+kept-sent h u (Settled kind frame) v fits f s = let went = firmly h u (Settled kind frame) v fits refl s in sent_same h (send_totals u.out) f (Settled kind frame) (send_totals v.out) went.same refl refl (λ d. refl) (λ d. refl)
+kept-sent h u (Sending e) v fits f s = sent-sending h u e v f s
+kept-sent h u Rejected v fits f s =
+    let o = ap (λ (w : World). send_totals w.out) s.1 in
+    sent-start (send_totals v.out) (ap (λ (a : SendTotals). a.data_sent) o) (ap (λ (a : SendTotals). a.max_data) o) (ap (λ (a : SendTotals). a.own_bi) o) (ap (λ (a : SendTotals). a.own_uni) o)
+kept-sent h u (SentAgain (Ok x)) v fits f s = sent_same h (send_totals u.out) f (SentAgain (Ok x)) (send_totals v.out) (ap (λ (w : World). send_totals w.out) s.1.2) refl refl (λ d. refl) (λ d. refl)
+kept-sent h u (SentAgain (Err x)) v fits f s = sent_same h (send_totals u.out) f (SentAgain (Err x)) (send_totals v.out) (ap (λ (w : World). send_totals w.out) s.1) refl refl (λ d. refl) (λ d. refl)

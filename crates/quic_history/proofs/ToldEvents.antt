@@ -36,7 +36,7 @@ use Rattle.quic_history.specs.Sends.{with_out, with_opened, told_writable, after
 use Rattle.quic_history.specs.Writes.{WritesOwn, with_queued}
 use Rattle.quic_history.specs.SendTotals.{send_totals, own_total}
 use Rattle.quic_history.specs.SendEvents.{SendEvent, SendStep, GaveLimits, OpenedOwn, RaisedData, RaisedCount, RaisedLimit, StoppedOwn, SetWindow, Polled, WroteOwn, FinishedOwn, ResetOwn, SetOwnPriority, AckedOwn, LostOwn, ResetAckedOwn, TookTurn}
-use Rattle.quic_history.specs.History.{Event, Received, ReceivedReset, AddedCredits, Began, Gave, Ended, Stopped, ToldReset, Resized, SetConcurrent, Accepted, Settled, Sending, Step, SentSo, FlowsSo, opened_in_all, greatest_count, send_tale, flow, is_sent_on, room_in_connection, room_in_window, QueuesSo}
+use Rattle.quic_history.specs.History.{since, Rejected, SentAgain, Event, Received, ReceivedReset, AddedCredits, Began, Gave, Ended, Stopped, ToldReset, Resized, SetConcurrent, Accepted, Settled, Sending, Step, SentSo, FlowsSo, opened_in_all, greatest_count, send_tale, flow, is_sent_on, room_in_connection, room_in_window, QueuesSo}
 use Rattle.std.specs.declared.ops.Range.{Range}
 use Rattle.quic_wire.specs.declared.frame.Frame.{Frame}
 use Rattle.quic_flows.specs.Flow.{is_whole, with_acked}
@@ -334,8 +334,8 @@ polled u answer v s = either-way u.bi.opened s
     (λ r. not_queued u.events answer v.events Uni r.0 (ap (λ (x : World). x.events) r.1))
     (λ p. polls_queue (with_out u p.1) p.0 answer v p.3))
 
-module _ (m : Made) (h : List Event) (u : World) (side : u.out.side ≡ m.side) (sent : SentSo h (send_totals u.out)) (f : FlowsSo m h u) where
-  sent_on : (id : ℕ) → has_side_in u.out u.bi.max_remote id ≡ has_send_side m.side (opened_in_all h) (send_tale m h).may_open id
+module _ (m : Made) (h : List Event) (u : World) (side : u.out.side ≡ m.side) (sent : SentSo (since h) (send_totals u.out)) (f : FlowsSo m h u) where
+  sent_on : (id : ℕ) → has_side_in u.out u.bi.max_remote id ≡ has_send_side m.side (opened_in_all (since h)) (send_tale m h).may_open id
   sent_on id = sym (known-by m h u side f.may_open sent id)
 
   limit_told : (id n : ℕ) → tells_writable u.out n (u.out.halves id) ≡ (is_sent_on m h id && (wakes n (flow m h id) && not (min (room_in_connection h) (room_in_window m h) == 0)))
@@ -350,7 +350,7 @@ module _ (m : Made) (h : List Event) (u : World) (side : u.out.side ≡ m.side) 
 
   not_there : (id : ℕ) → is_permitted u id ≡ false → is_first_stop (u.out.halves id) ≡ false
   not_there id e =
-      ap is_first_stop (unpermitted m.side (has_send_side m.side (opened_in_all h) (send_tale m h).may_open) (flow m h) u (known-by m h u side f.may_open sent) f.flows id e)
+      ap is_first_stop (unpermitted m.side (has_send_side m.side (opened_in_all (since h)) (send_tale m h).may_open) (flow m h) u (known-by m h u side f.may_open sent) f.flows id e)
 
   stopped_so : (id code : ℕ) (x : Unit {0}) (v : World) → StopsOwn u id code (Ok x) v → QueuesSo m h (Sending (StoppedOwn id code (Ok x))) u.events v.events
   stopped_so id code x v s = by_test (is_permitted u id) refl
@@ -375,7 +375,7 @@ module _ (m : Made) (h : List Event) (u : World) (side : u.out.side ≡ m.side) 
           (last_told u.out id offsets fin t.0 t.1 _ (flow m h id) (has_side_in u.out u.bi.max_remote id) (f.flows id) t.2
           ∙ ap (λ j. (j && not (flow m h id).freed) && ends_by offsets.start offsets.end fin (flow m h id)) (sent_on id))
       by_test false k = let t = rw k at s in
-          let none = unpermitted m.side (has_send_side m.side (opened_in_all h) (send_tale m h).may_open) (flow m h) u (known-by m h u side f.may_open sent) f.flows id k in
+          let none = unpermitted m.side (has_send_side m.side (opened_in_all (since h)) (send_tale m h).may_open) (flow m h) u (known-by m h u side f.may_open sent) f.flows id k in
           let not_on : is_sent_on m h id ≡ false = sym held ∙ ap (λ (o : Option Send). is_some o) none in
           same_as u v t ∙ ap (λ b. u.events ++ told_if (b && ends_by offsets.start offsets.end fin (flow m h id)) (stream_event.Finished id)) (sym not_on)
 
@@ -387,7 +387,7 @@ module _ (m : Made) (h : List Event) (u : World) (side : u.out.side ≡ m.side) 
   count_so : (d : Dir) (n : ℕ) (x : Unit {0}) (v : World) → RaisesCount u d n (Ok x) v → QueuesSo m h (Sending (RaisedCount d n (Ok x))) u.events v.events
   count_so d n x v s =
       ap (λ (w : World). w.events) s.1 ∙ events_available (with_out u (with_own u.out d (with_count (own_of u.out d) n))) (stream_event.Available d) (nat_lt (own_of u.out d).limit n)
-      ∙ ap (λ k. u.events ++ told_if (nat_lt k n) (stream_event.Available d)) (counted_is u d (greatest_count h d) (sent.counted d))
+      ∙ ap (λ k. u.events ++ told_if (nat_lt k n) (stream_event.Available d)) (counted_is u d (greatest_count (since h) d) (sent.counted d))
 
   queues_sending : (e : SendEvent) (v : World) → SendStep u e v → QueuesSo m h (Sending e) u.events v.events
   queues_sending (GaveLimits limits) v s = ap (λ (w : World). w.events) s ∙ told_none u.events
@@ -444,3 +444,6 @@ module _ (m : Made) (h : List Event) (u : World) (side : u.out.side ≡ m.side) 
   queues (Accepted dir answer) v s = ap (λ (w : World). w.events) s.0 ∙ events_remote u dir (one_accepted (remote_of u dir)) ∙ told_none u.events
   queues (Settled kind frame) v s = settled_so u kind s.0 frame v s.1 s.2
   queues (Sending e) v s = queues_sending e v s
+  queues Rejected v s = ap (λ (w : World). w.events) s.1 ∙ told_none u.events
+  queues (SentAgain (Ok x)) v s = ap (λ (w : World). w.events) s.1.2 ∙ told_none u.events
+  queues (SentAgain (Err x)) v s = same_as u v s.1

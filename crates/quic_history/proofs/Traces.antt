@@ -1,13 +1,16 @@
 -- What histories tell of streams, by themselves.
-use Rattle.std.proofs.Common.{◌≡◌, ℕ, Bool, true, false, ◌||◌, eqb, List, [], ◌∷◌, Option, Some, None, Result, Ok, Err, refl, ap, ◌∙◌, arith, ◌+◌}
+use Rattle.std.proofs.Common.{◌≡◌, ℕ, Bool, true, false, ◌||◌, ◌&&◌, eqb, List, [], ◌∷◌, Option, Some, None, Result, Ok, Err, refl, ap, ◌∙◌, arith, ◌+◌}
 use Rattle.std.specs.Prelude.{nat_eq, if◌then◌else◌}
 use Rattle.std.specs.List.{list_any}
 use Rattle.std.proofs.lemmas.Bool.Decides.{nat_tests}
 use Rattle.quic_assembler.specs.declared.chunk.Chunk.{Chunk}
 use Rattle.quic_receiving.specs.declared.errors.ReadError.{ReadError}
 use Rattle.quic_receiving.specs.declared.errors.ReadError.TheVariants as read_error
-use Rattle.quic_history.specs.History.{Event, Move, Trace, trace, untouched, move_of, moved, with_stream, with_streams, streams, received, total_over, with_read}
-use Rattle.quic_history.proofs.Totals.{IsOnce, once_with, total_with, total_same, same, by_cases}
+use Rattle.quic_history.specs.History.{Event, Move, Trace, trace, untouched, joint_move_of, told_still, move_of, moved, with_stream, with_streams, streams, received, total_over, with_read}
+use Rattle.quic_history.specs.Early.{begins_anew}
+use Rattle.quic_outgoing.specs.Senders.{is_local}
+use Rattle.quic_values.specs.declared.ids.Side.TheVariants.{Client}
+use Rattle.quic_history.proofs.Totals.{IsOnce, once_with, total_with, same, by_cases}
 
 pub itself : (k : ℕ) → eqb k k ≡ true
 itself k = grind (arith, nat_tests)
@@ -39,10 +42,18 @@ quiet_moved : (m : Option (ℕ × Move)) (q : ℕ) (ids : List ℕ) (t : Trace) 
 quiet_moved None q ids t a was = was a
 quiet_moved (Some m) q ids t a was = let k = absent q m.0 ids a in let n : eqb q m.0 ≡ false = k.0 in rw n (was k.1)
 
+-- where nothing was told of a stream, nothing is
+pub still-untouched : (e : Event) (q : ℕ) (t : Trace) → t ≡ untouched → told_still e q t ≡ untouched
+still-untouched e q t k = by (begins_anew (joint_move_of e) && is_local Client q)
+  where
+    by : (b : Bool) → (if b then untouched else t) ≡ untouched
+    by true = refl
+    by false = k
+
 -- a stream that no call touched is as at first
 pub quiet : (h : List Event) (q : ℕ) → list_any (nat_eq q) (streams h) ≡ false → trace h q ≡ untouched
 quiet [] q a = refl
-quiet (e ∷ h) q a = quiet_moved (move_of e) q (streams h) (trace h q) a (quiet h q)
+quiet (e ∷ h) q a = quiet_moved (move_of e) q (streams h) (told_still e q (trace h q)) a (λ n. still-untouched e q (trace h q) (quiet h q n))
 
 -- a frame changes the sum of the highest offsets by what it changes that of its stream
 pub received-change : (h : List Event) (g : ℕ → Trace) (id : ℕ) → ((q : ℕ) → eqb q id ≡ false → g q ≡ trace h q)

@@ -14,7 +14,7 @@ use Rattle.quic_limits.specs.SendingCredit.{SendingCredit}
 use Rattle.quic_sending.specs.declared.send.Send.{Send}
 use Rattle.quic_receiving.specs.Counted.{number}
 use Rattle.quic_receiving.proofs.Counted.{number-bound}
-use Rattle.quic_outgoing.specs.Senders.{is_local, are_one_end, with_sender}
+use Rattle.quic_outgoing.specs.Senders.{is_local, are_one_end, with_sender, new_sender}
 use Rattle.quic_outgoing.specs.Outgoing.{Outgoing, own_of}
 use Rattle.quic_outgoing.specs.History.{count_in, given_for}
 use Rattle.quic_flows.specs.Flow.{SendFlow}
@@ -25,11 +25,16 @@ use Rattle.quic_history.specs.SendTotals.{SendTotals, send_totals, own_total}
 use Rattle.quic_history.specs.Permitting.{with_accepted, is_sent_as_well}
 use Rattle.quic_history.specs.Acknowledged.{without_sender, with_send_freed}
 use Rattle.quic_history.specs.Flows.{AllFlows, has_side_in}
-use Rattle.quic_history.specs.Used.{used_halves}
-use Rattle.quic_history.specs.History.{Event, Received, ReceivedReset, AddedCredits, Began, Gave, Ended, Stopped, ToldReset, Resized, SetConcurrent, Accepted, Settled, Sending, Step, SentSo, FlowsSo, count_by, greatest_count, opened_in_all, send_tale, may_open_after}
+use Rattle.quic_history.specs.Used.{used_halves, halves_among}
+use Rattle.quic_history.specs.History.{Event, Received, ReceivedReset, AddedCredits, Began, Gave, Ended, Stopped, ToldReset, Resized, SetConcurrent, Accepted, Settled, Sending, Rejected, SentAgain, since, Step, SentSo, FlowsSo, count_by, greatest_count, opened_in_all, send_tale, may_open_after}
 use Rattle.quic_history.proofs.ControlSteps.{announces}
 use Rattle.quic_history.proofs.ReceivingSteps.{stays-at, stays-same, stays-replaced, stays-received, stays-reset, stays-began, stays-gave, stays-stopped, stays-told-reset}
-use Rattle.quic_history.proofs.Remotes.{next-number, other-place, bi-not-uni, spelled}
+use Rattle.std.specs.Option.{option_map}
+use Rattle.quic_outgoing.specs.Early.{of_peer_anew}
+use Rattle.quic_history.specs.Early.{announced_anew, with_rejection}
+use Rattle.quic_history.proofs.EarlyFacts.{spares-again}
+use Rattle.quic_history.proofs.Refusals.{own-other}
+use Rattle.quic_history.proofs.Remotes.{number-same, next-number, other-place, bi-not-uni, spelled}
 use Rattle.quic_history.proofs.Totals.{by_cases, same}
 use Rattle.quic_history.proofs.SendFreed.{without_half, send-freed, none-here, others-held}
 use Rattle.quic_history.proofs.SendSides.{side_by, side-is, held-side}
@@ -54,11 +59,11 @@ may_open_few m (e ∷ h) l = let a = may_open_few m h l in omega arith
 opened_few : (h : List Event) (v : World) (d : Dir) → SentSo h (send_totals v.out) → (own_total (send_totals v.out) d).opened ≤ 2 ^ 60
 opened_few h v d f = let a = f.opened d in let b = f.few d in let c = greatest_few h d in omega arith
 
-pub used-few : (m : Made) (h : List Event) (v : World) → m.bi ≤ 2 ^ 60 → SentSo h (send_totals v.out) → FlowsSo m h v → v.bi.next_reported ≤ v.bi.max_remote → used_halves v < 2 ^ 64
+pub used-few : (m : Made) (h : List Event) (v : World) → m.bi ≤ 2 ^ 60 → SentSo (since h) (send_totals v.out) → FlowsSo m h v → v.bi.next_reported ≤ v.bi.max_remote → used_halves v < 2 ^ 64
 used-few m h v l sent sends room =
     let s : Side = v.out.side in
-    let a = opened_few h v Bi sent in
-    let b = opened_few h v Uni sent in
+    let a = opened_few (since h) v Bi sent in
+    let b = opened_few (since h) v Uni sent in
     let c = may_open_few m h l in
     let d = sends.may_open in
     let x = number-bound v.out.own_bi.opened (λ i. is_some (v.out.halves (stream_id s Bi i))) in
@@ -203,6 +208,49 @@ held_there f u id all held = by_half (u.out.halves id) refl held
 keeps_freed : (w : World) (id : ℕ) → KeepsUsed (without_sender w id) (with_send_freed w id)
 keeps_freed w id = send-freed (KeepsUsed (without_sender w id)) w id (keeps-none (without_sender w id)) (stays-replaced KeepsUsed keeps-parts (without_sender w id) Bi)
 
+-- ---- how many are held, one after another
+
+pub none-among : (w : World) (s : Side) (d : Dir) → 0 ≡ halves_among w s d 0
+unfolding number
+none-among w s d = refl
+
+pub one-among : (w : World) (s : Side) (d : Dir) (n count : ℕ) (b : Bool) → sends w (stream_id s d n) ≡ b → count ≡ halves_among w s d n → (if b then count + 1 else count) ≡ halves_among w s d (n + 1)
+one-among w s d n count true e k = k' k ∙ sym (number-next n (λ i. sends w (stream_id s d i)) e)
+  where
+    k' : count ≡ halves_among w s d n → count + 1 ≡ halves_among w s d n + 1
+    k' k = ap (λ m. m + 1) k
+one-among w s d n count false e k = k ∙ sym (next-number n (λ i. sends w (stream_id s d i)) e)
+
+-- ---- an early start is rejected
+
+announced_reported : (b : Bool) (r : Remote) → (announced_anew b r).next_reported ≡ r.next_reported
+announced_reported true r = refl
+announced_reported false r = refl
+
+peer_local : (s : Side) (i : ℕ) → is_local s (stream_id (other_side s) Bi i) ≡ false
+peer_local s i = same_end s (initiator_of (stream_id (other_side s) Bi i)) ∙ own-other s Bi i
+
+some_mapped : (o : Option Send) → is_some (option_map (λ s. new_sender 0) o) ≡ is_some o
+some_mapped None = refl
+some_mapped (Some s) = refl
+
+peer_kept : (u : World) (i : ℕ) → sends (with_rejection u) (stream_id (other_side u.out.side) Bi i) ≡ sends u (stream_id (other_side u.out.side) Bi i)
+unfolding of_peer_anew
+peer_kept u i = rw (peer_local u.out.side i) (some_mapped (u.out.halves (stream_id (other_side u.out.side) Bi i)))
+
+none_opened : (f : ℕ → Bool) → number f 0 ≡ 0
+unfolding number
+none_opened f = refl
+
+counts_rejected : (u : World) → CountsUsed (with_rejection u)
+counts_rejected u =
+    let s : Side = u.out.side in
+    let v : World = with_rejection u in
+    let a = none_opened (λ i. sends v (stream_id s Bi i)) in
+    let b = none_opened (λ i. sends v (stream_id s Uni i)) in
+    let c = number-same u.bi.next_reported (λ i. sends u (stream_id (other_side s) Bi i)) (λ i. sends v (stream_id (other_side s) Bi i)) (λ i l. peer_kept u i) in
+    rw (announced_reported u.adjusted u.bi) (omega (arith, a, b, c))
+
 -- ---- every call
 
 module _ (m : Made) (h : List Event) (u v : World) (room : u.bi.next_reported ≤ u.bi.max_remote) (flows : FlowsSo m h u) (few : used_halves v < 2 ^ 64) (e : CountsUsed u) where
@@ -239,3 +287,6 @@ module _ (m : Made) (h : List Event) (u v : World) (room : u.bi.next_reported �
       subst P (sym s.0) (counts_accepted u dir (let l : used_halves v ≡ used_halves (with_accepted u dir) = ap used_halves s.0 in omega (arith, few, l)) e)
   kept-used (Settled kind frame) s = keeps (keeps-announced u v (announces kind u s.0 frame v s.1 s.2))
   kept-used (Sending a) s = counts_sending a s
+  kept-used Rejected s = let P : World → Type 0 = λ x. CountsUsed x in subst P (sym s.1) (counts_rejected u)
+  kept-used (SentAgain (Ok x)) s = keeps (keeps-spared u v (spares-again u v _ s.1.2))
+  kept-used (SentAgain (Err x)) s = keeps (stays-same KeepsUsed keeps-parts u v s.1)

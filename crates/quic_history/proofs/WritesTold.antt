@@ -18,7 +18,7 @@ use Rattle.quic_history.specs.World.{World, Made}
 use Rattle.quic_history.specs.Writes.{WritesOwn}
 use Rattle.quic_history.specs.SendTotals.{send_totals}
 use Rattle.quic_history.specs.Flows.{has_side_in, room_on, refusal_where, refusal_told}
-use Rattle.quic_history.specs.History.{Event, SentSo, flow, FlowsSo, room_in_connection, room_in_window, write_room, why_not, WritesSo, TellsWrites}
+use Rattle.quic_history.specs.History.{since, Event, SentSo, flow, FlowsSo, room_in_connection, room_in_window, write_room, why_not, WritesSo, TellsWrites}
 use Rattle.quic_history.proofs.SendSides.{held-flow}
 use Rattle.quic_history.proofs.FlowHistory.{known-by}
 
@@ -49,7 +49,7 @@ refused_at o first room t true None e f = rw f refl
 refused_at o first room t false (Some s) e f = absurd f
 refused_at o first room t false None e f = refl
 
-module _ (m : Made) (h : List Event) (u : World) (side : u.out.side ≡ m.side) (sent : SentSo h (send_totals u.out)) (f : FlowsSo m h u) where
+module _ (m : Made) (h : List Event) (u : World) (side : u.out.side ≡ m.side) (sent : SentSo (since h) (send_totals u.out)) (f : FlowsSo m h u) where
   -- how many bytes may be written on all streams
   pub all-room : writable u.out.budget ≡ min (room_in_connection h) (room_in_window m h)
   all-room =

@@ -36,7 +36,7 @@ use Rattle.quic_history.specs.Control.{SettlesEntry}
 use Rattle.quic_wire.specs.declared.frame.Frame.{Frame}
 use Rattle.quic_wire.specs.declared.frame.Frame.TheVariants as frames
 use Rattle.quic_history.specs.SendEvents.{SendEvent, SendStep, GaveLimits, RaisedData, RaisedCount, RaisedLimit, StoppedOwn, SetWindow, OpenedOwn, WroteOwn, FinishedOwn, ResetOwn, Polled, AckedOwn, LostOwn, ResetAckedOwn, TookTurn}
-use Rattle.quic_flows.specs.Flow.{SendMove, WasWritten, WasFinished, WasGivenUp, WasAskedToStop, WasPermitted, SendFlow, new_flow, front_of, retained, WasCarried, WasAcked, WasLost, WasResetAcked, counts_for, is_whole, with_acked}
+use Rattle.quic_flows.specs.Flow.{SendMove, WasWritten, WasFinished, WasGivenUp, WasAskedToStop, WasPermitted, SendFlow, new_flow, front_of, retained, WasCarried, WasAcked, WasLost, WasResetAcked}
 use Rattle.quic_outgoing.specs.declared.limits.PeerLimits.{PeerLimits}
 use Rattle.quic_outgoing.specs.declared.entries.FirstLimits.{FirstLimits}
 use Rattle.quic_outgoing.specs.Senders.{no_limits}
@@ -48,6 +48,10 @@ use Rattle.quic_sending.specs.declared.send.Written.{Written}
 use Rattle.quic_sending.specs.declared.send.WriteError.{WriteError}
 use Rattle.quic_sending.specs.declared.send.WriteError.TheVariants as write_error
 use Rattle.quic_history.specs.Writes.{WritesOwn}
+use Rattle.quic_values.specs.declared.ids.Side.TheVariants.{Client}
+use Rattle.quic_outgoing.specs.Senders.{is_local}
+use Rattle.quic_outgoing.specs.Early.{NoneAcked}
+use Rattle.quic_history.specs.Early.{IsEarly, with_rejection, SendsAgain, JointMove, WereDropped, WereUnsent, with_joint_move, begins_anew}
 use Rattle.quic_history.specs.Permitting.{SetsConcurrent, with_accepted, acceptable, with_count_of}
 use Rattle.quic_history.specs.Receiving.{Receives, ReceivesReset}
 use Rattle.quic_history.specs.Reading.{Begins, ReadsHalf, Stops, TellsReset, bytes_in}
@@ -80,6 +84,10 @@ pub data Event : Type 0 where
   Settled : (kind : ControlKind) → (frame : Option Frame) → Event
   -- a call on the sending side
   Sending : SendEvent → Event
+  -- an early start was rejected
+  Rejected : Event
+  -- all that an early start sent was asked to be sent again
+  SentAgain : (answer : Result (Unit {0}) OutOfMemory) → Event
 
 -- an answer of a reader that may go on is a call; what it told at the end it tells again, and that is none
 abbrev pub with_next : Progress → ℕ → ℕ → Bool → Result (Option Chunk) ReadError → List Event → List Event
@@ -120,6 +128,22 @@ Step u (SetConcurrent dir count answer) v = SetsConcurrent u dir count answer v
 Step u (Accepted dir answer) v = (v ≡ with_accepted u dir) × (answer ≡ acceptable u dir)
 Step u (Settled kind frame) v = (p : Pending) × (q : Pending) × SettlesEntry kind u p frame v q
 Step u (Sending e) v = SendStep u e v
+Step u Rejected v = IsEarly u × (v ≡ with_rejection u)
+Step u (SentAgain answer) v = NoneAcked u.out.side u.out.halves × SendsAgain u answer v
+
+-- what a call did to the sending sides of all streams at once, if it did something to them
+abbrev pub joint_move_of : Event → Option JointMove
+joint_move_of Rejected = Some WereDropped
+joint_move_of (SentAgain (Ok x)) = Some WereUnsent
+joint_move_of _ = None
+
+-- the calls since the last early start that was rejected
+abbrev pub with_call : Event → List Event → List Event
+with_call e h = if begins_anew (joint_move_of e) then [] else e ∷ h
+
+abbrev pub since : List Event → List Event
+since [] = []
+since (e ∷ h) = with_call e (since h)
 
 -- how many bytes the reader gave that was opened last, and is not ended
 abbrev pub with_given : Event → ℕ → ℕ
@@ -265,9 +289,13 @@ abbrev pub moved : Option (ℕ × Move) → ℕ → Trace → Trace
 moved None q t = t
 moved (Some m) q t = if q == m.0 then with_move m.1 t else t
 
+-- and where an early start was rejected, nothing is told any more of the streams that a client opens
+abbrev pub told_still : Event → ℕ → Trace → Trace
+told_still e q t = if begins_anew (joint_move_of e) && is_local Client q then untouched else t
+
 abbrev pub trace : List Event → ℕ → Trace
 trace [] q = untouched
-trace (e ∷ h) q = moved (move_of e) q (trace h q)
+trace (e ∷ h) q = moved (move_of e) q (told_still e q (trace h q))
 
 -- the streams that calls touched, each once
 abbrev pub with_stream : ℕ → List ℕ → List ℕ
@@ -545,7 +573,7 @@ last_send_window w (e ∷ h) = unwrap_or (send_window_in e) (last_send_window w 
 
 -- what is told of the sending side of a stream once one more call was made
 abbrev pub flow_after : Side → Event → List Event → SendTale → ℕ → SendFlow
-flow_after side e h tale q = with_first_limits (limits_in e) side q (send_moved (send_move_of e) (has_send_side side (opened_in_all h) tale.may_open) q (tale.flow q))
+flow_after side e h tale q = with_first_limits (limits_in e) side q (send_moved (send_move_of e) (has_send_side side (opened_in_all (since h)) tale.may_open) q (with_joint_move (joint_move_of e) side q (tale.flow q)))
 
 -- whether the bidirectional stream of the peer with an index is over on both sides
 abbrev pub is_over : Side → List Event → (ℕ → SendFlow) → ℕ → Bool
@@ -581,7 +609,7 @@ retained_in_all m h = total_over (λ q. retained (flow m h q)) (moved_streams h)
 -- what a history says of the sending sides
 pub record FlowsSo (m : Made) (h : List Event) (v : World) : Type 0 where
   pub flows : AllFlows (flow m h) v.out v.bi.max_remote
-  pub first : v.out.first ≡ limits_given h
+  pub first : v.out.first ≡ limits_given (since h)
   pub may_open : v.bi.max_remote ≡ (send_tale m h).may_open
   pub send_window : v.out.budget.send_window ≡ last_send_window m.send_window h
   -- what counts as retained is what is retained of all streams
@@ -589,7 +617,7 @@ pub record FlowsSo (m : Made) (h : List Event) (v : World) : Type 0 where
 
 -- how many bytes the limit of the connection leaves
 abbrev pub room_in_connection : List Event → ℕ
-room_in_connection h = greatest_limit h - taken_in_all h
+room_in_connection h = greatest_limit (since h) - taken_in_all (since h)
 
 -- how many the send window leaves
 abbrev pub room_in_window : Made → List Event → ℕ
@@ -601,7 +629,7 @@ write_room m h id = min (min (room_in_connection h) (room_in_window m h)) (room_
 
 -- whether a stream is open on its sending side
 abbrev pub is_sent_on : Made → List Event → ℕ → Bool
-is_sent_on m h id = has_send_side m.side (opened_in_all h) (send_tale m h).may_open id && not (flow m h id).freed
+is_sent_on m h id = has_send_side m.side (opened_in_all (since h)) (send_tale m h).may_open id && not (flow m h id).freed
 
 -- why nothing is written on a stream, if it is not for want of memory
 abbrev pub why_not : Made → List Event → ℕ → Option WriteError
@@ -624,7 +652,7 @@ TellsWrites m h v = (id : ℕ) (lists : List (List ℕ)) (closed : Bool) (p : Pe
 -- what a call queues to be told: that more streams may be opened, that a stream was stopped, that it may be written on,
 -- that it is finished
 abbrev pub told_by : Made → List Event → Event → List StreamEvent
-told_by m h (Sending (RaisedCount dir count (Ok x))) = told_if (nat_lt (greatest_count h dir) count) (stream_event.Available dir)
+told_by m h (Sending (RaisedCount dir count (Ok x))) = told_if (nat_lt (greatest_count (since h) dir) count) (stream_event.Available dir)
 told_by m h (Sending (StoppedOwn id code (Ok x))) = told_if (is_sent_on m h id && is_none (flow m h id).stopped) (stream_event.Stopped id code)
 told_by m h (Sending (RaisedLimit id limit (Ok x))) =
     told_if (is_sent_on m h id && (wakes limit (flow m h id) && not (min (room_in_connection h) (room_in_window m h) == 0))) (stream_event.Writable id)
@@ -653,9 +681,25 @@ pub record From (m : Made) (h : List Event) (v : World) : Type 0 where
   pub ends : (q : ℕ) → EndsSo (trace h q)
   pub tells : TellsEnds h v
   pub remotes : EverPermits m h v run
-  pub sent : SentSo h (send_totals v.out)
+  pub sent : SentSo (since h) (send_totals v.out)
   pub sends : FlowsSo m h v
   pub writes : TellsWrites m h v
   pub queued : AreQueued m h v.events
   pub rest : AreInQueue (flow m h) v.queue
   pub used : v.send_streams ≡ used_halves v
+
+-- whether a call tells that the peer answered: by data or a reset on some stream, or by an acknowledgement
+abbrev pub tells_answer : Event → Bool
+tells_answer (Received id offset bytes fin answer) = true
+tells_answer (ReceivedReset id code final answer) = true
+tells_answer (Gave id most ordered (Ok None)) = true
+tells_answer (Gave id most ordered (Err (read_error.Reset code))) = true
+tells_answer (ToldReset id (Ok (Some code))) = true
+tells_answer (Sending (AckedOwn id offsets fin answer)) = true
+tells_answer (Sending (ResetAckedOwn id answer)) = true
+tells_answer _ = false
+
+-- no call does
+abbrev pub IsUnanswered : List Event → Type 0
+IsUnanswered [] = Unit {0}
+IsUnanswered (e ∷ h) = (tells_answer e ≡ false) × IsUnanswered h

@@ -13,3 +13,4 @@ pub mod Writes
 pub mod Acknowledged
 pub mod SendEvents
 pub mod Permitting
+pub mod Early

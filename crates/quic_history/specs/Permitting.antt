@@ -1,5 +1,5 @@
 -- How many streams the peer may open, and which the application accepts.
-use Rattle.std.specs.Prelude.{ℕ, Bool, false, not, ◌&&◌, ◌≡◌, nat_lt, if◌then◌else◌, Option, Some, None, is_none, Result, Ok, Err}
+use Rattle.std.specs.Prelude.{ℕ, Bool, false, not, ◌&&◌, ◌≡◌, nat_lt, if◌then◌else◌, Option, Some, None, is_none, Result, Ok, Err, true}
 use Rattle.std.specs.Option.{option_map}
 use Rattle.quic_values.specs.declared.memory.OutOfMemory.{OutOfMemory}
 use Rattle.quic_values.specs.declared.ids.Dir.{Dir}
@@ -23,7 +23,7 @@ with_more_permitted w Bi first n = record w {
 -- the peer is to be able to use so many streams of a direction at a time: where it may use fewer, more are permitted
 abbrev pub after_concurrent : World → Dir → ℕ → World
 after_concurrent w d count = let r : Remote = remote_of w d in
-    with_more_permitted (with_remote w d (with_concurrent r count)) d r.max_remote (lacking r count)
+    record (with_more_permitted (with_remote w d (with_concurrent r count)) d r.max_remote (lacking r count)) { adjusted = true }
 
 -- what came of it
 abbrev pub SetsConcurrent : World → Dir → ℕ → Result (Unit {0}) OutOfMemory → World → Type 0

@@ -23,6 +23,7 @@ use Rattle.quic_outgoing.specs.Outgoing.{Outgoing, no_streams, with_send_half, w
 -- window: the first limit of each stream
 -- events: what the application was not told yet
 -- send_streams: how many send halves are held of the streams that this end opened or accepted
+-- adjusted: whether it was set how many streams the peer is to be able to use at a time
 pub record World : Type 0 where
   pub credit : Credit
   pub bi : Remote
@@ -33,6 +34,7 @@ pub record World : Type 0 where
   pub window : ℕ
   pub events : List StreamEvent
   pub send_streams : ℕ
+  pub adjusted : Bool
 
 -- what an end is made with: which end it is, how many streams of each direction the peer may open, and the windows of
 -- sending, of receiving, and of receiving on one stream
@@ -60,6 +62,7 @@ start m = record {
   window = m.window;
   events = [];
   send_streams = 0;
+  adjusted = false;
 }
 
 -- whether the send half of a stream is held

@@ -51,6 +51,10 @@ is_max_streams_due r = nat_lt (r.max_concurrent / 8) (r.max_remote - r.sent_max_
 abbrev pub streams_announced : Remote → Remote
 streams_announced r = record r { sent_max_remote = r.max_remote }
 
+-- no count was announced, as far as the peer can have taken one
+abbrev pub none_announced : Remote → Remote
+none_announced r = record r { sent_max_remote = 0 }
+
 -- how many more are permitted once it is to be able to use so many at a time; there are 2^60 streams at most
 abbrev pub lacking : Remote → ℕ → ℕ
 lacking r count = min (count - r.allocated) (2 ^ 60 - r.max_remote)

@@ -40,6 +40,7 @@ impl OwnStreams {
     pub fn opened(&self) -> u64
         ensures count { result ≡ self.now.opened }
         ensures within { result ≤ self.now.limit }
+        ensures small { result ≤ 2 ^ 60 }
     {
         self.opened
     }

@@ -1,7 +1,7 @@
 //! The streams of one direction that the peer may open (RFC 9000 section 4.6).
 
 ghost use Rattle.std.specs.Prelude.{◌≡◌, ◌+◌, ◌<◌, ◌≤◌, ◌^◌, IfSome, nat_le};
-ghost use Rattle.quic_limits.specs.Remote.{Remote, IsRemote, new_remote, replaced, replacement, opened_up_to, is_max_streams_due, streams_announced, lacking, with_concurrent, acceptable_index, one_accepted, open_now, opening_told};
+ghost use Rattle.quic_limits.specs.Remote.{Remote, IsRemote, new_remote, replaced, replacement, opened_up_to, is_max_streams_due, streams_announced, none_announced, lacking, with_concurrent, acceptable_index, one_accepted, open_now, opening_told};
 
 use quic_values::{MAX_STREAM_COUNT, VarInt};
 use std::marker::Model;
@@ -89,7 +89,8 @@ impl RemoteStreams {
     /// The lowest index that the application did not accept.
     #[inline]
     pub fn next_reported(&self) -> u64
-        ensures { result ≡ self.now.next_reported }
+        ensures index { result ≡ self.now.next_reported }
+        ensures small { result ≤ 2 ^ 60 }
     {
         self.next_reported
     }
@@ -136,6 +137,13 @@ impl RemoteStreams {
         ensures { self.new ≡ streams_announced self.old }
     {
         self.sent_max_remote = self.max_remote;
+    }
+
+    /// What was announced was lost, or was not taken: none counts as announced.
+    pub fn forget_announced(&mut self)
+        ensures { self.new ≡ none_announced self.old }
+    {
+        self.sent_max_remote = 0;
     }
 
     /// How many more streams are permitted once the peer is to be able to use so many at a time.

@@ -52,6 +52,8 @@ fn freed_stream_is_replaced(rt: HostRuntime) {
     assert!(rt; streams.is_max_streams_due());
     streams.announce();
     assert!(rt; !streams.is_max_streams_due());
+    streams.forget_announced();
+    assert!(rt; streams.is_max_streams_due());
 }
 
 #[test]

@@ -1,5 +1,5 @@
 -- Each call leaves what the history says of what may be sent.
-use Rattle.std.proofs.Common.{◌≡◌, ◌≤◌, ◌<◌, ◌+◌, ℕ, Bool, true, cond, Option, Some, None, List, [], ◌∷◌, refl, sym, ap, ◌∙◌, max, min, subst, ◌^◌, arith}
+use Rattle.std.proofs.Common.{◌≡◌, ◌≤◌, ◌<◌, ◌+◌, ℕ, Bool, true, false, cond, Option, Some, None, List, [], ◌∷◌, refl, sym, ap, ◌∙◌, max, min, subst, ◌^◌, arith}
 use Rattle.std.specs.Prelude.{Ok, Err, nat_lt}
 use Rattle.std.proofs.lemmas.Bool.Decides.{nat_tests}
 use Rattle.quic_values.specs.declared.ids.Side.{Side}
@@ -14,7 +14,8 @@ use Rattle.quic_outgoing.specs.declared.limits.PeerLimits.{PeerLimits}
 use Rattle.quic_outgoing.specs.declared.writing.Wrote.{Wrote}
 use Rattle.quic_outgoing.specs.Writing.{TakesBytesOf}
 use Rattle.quic_outgoing.specs.Outgoing.{Outgoing, no_streams, own_of, with_own, with_send_half, with_params, fresh_sender}
-use Rattle.quic_outgoing.specs.History.{Call, Permitted, PermittedMore, Removed, GaveParams, Opened, GaveData, GaveStreams, GaveStream, WasStopped, Writing, Finished, Reset, SetPriority, Polled, Transmitted, SetWindow, AckedFrame, LostFrame, ResetAcked, DoesCall, bytes_by, data_limit_of, count_in, given_for, count_given_by, opened_by, TellsBudget, ComesFrom, Continues}
+use Rattle.quic_outgoing.specs.History.{Call, Permitted, PermittedMore, Removed, GaveParams, Opened, GaveData, GaveStreams, GaveStream, WasStopped, Writing, Finished, Reset, SetPriority, Polled, Transmitted, SetWindow, AckedFrame, LostFrame, ResetAcked, RejectedEarly, Unsent, DoesCall, is_rejection, calls_since, bytes_by, data_limit_of, count_in, given_for, count_given_by, opened_by, TellsBudget, ComesFrom, Continues}
+use Rattle.quic_outgoing.specs.Early.{after_rejection}
 use Rattle.quic_outgoing.proofs.Keeping.{Keeps, keeps-all, keeps-is, keeps-stream, keeps-rise, keeps-stop, keeps-blocked, keeps-polled, keeps-acked, keeps-lost, keeps-given-up}
 
 -- what a call adds to what was sent, to the limits, and to what was opened
@@ -265,78 +266,120 @@ write-moves u id lists left wrote v t = moves-is t.is (record {
     few Bi h = h
     few Uni h = h
 
-moves : (u : Outgoing) (e : Call) (v : Outgoing) → DoesCall u e v → Moves u e v
-moves u (Permitted id) v h = idle u _ v (record { bytes = refl; limit = refl; opened = λ dir. refl; counted = λ dir. refl })
+moves : (u : Outgoing) (e : Call) (v : Outgoing) → is_rejection e ≡ false → DoesCall u e v → Moves u e v
+moves u (Permitted id) v n h = idle u _ v (record { bytes = refl; limit = refl; opened = λ dir. refl; counted = λ dir. refl })
     (keeps-is h (keeps-stream u id _))
-moves u (PermittedMore first count) v h = idle u _ v (record { bytes = refl; limit = refl; opened = λ dir. refl; counted = λ dir. refl })
+moves u (PermittedMore first count) v n h = idle u _ v (record { bytes = refl; limit = refl; opened = λ dir. refl; counted = λ dir. refl })
     (keeps-is h (record { side = refl; sent = refl; limit = refl; bi = refl; uni = refl }))
-moves u (Removed id) v h = idle u _ v (record { bytes = refl; limit = refl; opened = λ dir. refl; counted = λ dir. refl })
+moves u (Removed id) v n h = idle u _ v (record { bytes = refl; limit = refl; opened = λ dir. refl; counted = λ dir. refl })
     (keeps-is h (keeps-stream u id None))
-moves u (GaveParams params) v h = moves-is h (params-move u params)
-moves u (Opened dir (Ok None)) v h = idle u _ v (record { bytes = refl; limit = refl; opened = λ dir. refl; counted = λ dir. refl })
+moves u (GaveParams params) v n h = moves-is h (params-move u params)
+moves u (Opened dir (Ok None)) v n h = idle u _ v (record { bytes = refl; limit = refl; opened = λ dir. refl; counted = λ dir. refl })
     (keeps-is h.1 (keeps-all u))
-moves u (Opened dir (Ok (Some id))) v h = moves-is (h.2 ∙ ap (λ (o : Own). with_send_half (with_own u dir o) id (Some (fresh_sender u id))) (one-opened (own_of u dir) h.0)) (open-moves u dir id _ h.0)
-moves u (Opened dir (Err e)) v h = idle u _ v (record { bytes = refl; limit = refl; opened = λ dir. refl; counted = λ dir. refl })
+moves u (Opened dir (Ok (Some id))) v n h = moves-is (h.2 ∙ ap (λ (o : Own). with_send_half (with_own u dir o) id (Some (fresh_sender u id))) (one-opened (own_of u dir) h.0)) (open-moves u dir id _ h.0)
+moves u (Opened dir (Err e)) v n h = idle u _ v (record { bytes = refl; limit = refl; opened = λ dir. refl; counted = λ dir. refl })
     (keeps-is h (keeps-all u))
-moves u (GaveData limit) v h = moves-is h (data-moves u limit)
-moves u (GaveStreams dir count (Ok rose)) v h = moves-is h.2 (count-moves u dir count rose h.0)
-moves u (GaveStreams dir count (Err e)) v h = idle u _ v (record { bytes = refl; limit = refl; opened = λ dir. refl; counted = λ dir. refl })
+moves u (GaveData limit) v n h = moves-is h (data-moves u limit)
+moves u (GaveStreams dir count (Ok rose)) v n h = moves-is h.2 (count-moves u dir count rose h.0)
+moves u (GaveStreams dir count (Err e)) v n h = idle u _ v (record { bytes = refl; limit = refl; opened = λ dir. refl; counted = λ dir. refl })
     (keeps-is h.2 (keeps-all u))
-moves u (GaveStream id limit (Ok tells)) v h = idle u _ v (record { bytes = refl; limit = refl; opened = λ dir. refl; counted = λ dir. refl })
+moves u (GaveStream id limit (Ok tells)) v n h = idle u _ v (record { bytes = refl; limit = refl; opened = λ dir. refl; counted = λ dir. refl })
     (keeps-is h.1 (keeps-rise u id limit (u.halves id)))
-moves u (GaveStream id limit (Err e)) v h = idle u _ v (record { bytes = refl; limit = refl; opened = λ dir. refl; counted = λ dir. refl })
+moves u (GaveStream id limit (Err e)) v n h = idle u _ v (record { bytes = refl; limit = refl; opened = λ dir. refl; counted = λ dir. refl })
     (keeps-is h (keeps-all u))
-moves u (WasStopped id code (Ok first)) v h = idle u _ v (record { bytes = refl; limit = refl; opened = λ dir. refl; counted = λ dir. refl })
+moves u (WasStopped id code (Ok first)) v n h = idle u _ v (record { bytes = refl; limit = refl; opened = λ dir. refl; counted = λ dir. refl })
     (keeps-is h.1 (keeps-stop u id code (u.halves id)))
-moves u (WasStopped id code (Err e)) v h = idle u _ v (record { bytes = refl; limit = refl; opened = λ dir. refl; counted = λ dir. refl })
+moves u (WasStopped id code (Err e)) v n h = idle u _ v (record { bytes = refl; limit = refl; opened = λ dir. refl; counted = λ dir. refl })
     (keeps-is h (keeps-all u))
-moves u (Writing id lists (Ok wrote)) v h = write-moves u id lists h.1 wrote v h.3.0
-moves u (Writing id lists (Err write_error.Blocked)) v h = idle u _ v (record { bytes = refl; limit = refl; opened = λ dir. refl; counted = λ dir. refl })
+moves u (Writing id lists (Ok wrote)) v n h = write-moves u id lists h.1 wrote v h.3.0
+moves u (Writing id lists (Err write_error.Blocked)) v n h = idle u _ v (record { bytes = refl; limit = refl; opened = λ dir. refl; counted = λ dir. refl })
     (keeps-is h.3.1.1 (keeps-blocked u id (u.halves id)))
-moves u (Writing id lists (Err (write_error.Stopped code))) v h = idle u _ v (record { bytes = refl; limit = refl; opened = λ dir. refl; counted = λ dir. refl })
+moves u (Writing id lists (Err (write_error.Stopped code))) v n h = idle u _ v (record { bytes = refl; limit = refl; opened = λ dir. refl; counted = λ dir. refl })
     (keeps-is h.3.1.1 (keeps-all u))
-moves u (Writing id lists (Err write_error.ClosedStream)) v h = idle u _ v (record { bytes = refl; limit = refl; opened = λ dir. refl; counted = λ dir. refl })
+moves u (Writing id lists (Err write_error.ClosedStream)) v n h = idle u _ v (record { bytes = refl; limit = refl; opened = λ dir. refl; counted = λ dir. refl })
     (keeps-is h.3.1.1 (keeps-all u))
-moves u (Writing id lists (Err write_error.OutOfMemory)) v h = idle u _ v (record { bytes = refl; limit = refl; opened = λ dir. refl; counted = λ dir. refl })
+moves u (Writing id lists (Err write_error.OutOfMemory)) v n h = idle u _ v (record { bytes = refl; limit = refl; opened = λ dir. refl; counted = λ dir. refl })
     (keeps-is h.3.1.0 (keeps-all u))
-moves u (Finished id (Ok queue)) v h = idle u _ v (record { bytes = refl; limit = refl; opened = λ dir. refl; counted = λ dir. refl })
+moves u (Finished id (Ok queue)) v n h = idle u _ v (record { bytes = refl; limit = refl; opened = λ dir. refl; counted = λ dir. refl })
     (keeps-is h.4 (keeps-stream u id _))
-moves u (Finished id (Err e)) v h = idle u _ v (record { bytes = refl; limit = refl; opened = λ dir. refl; counted = λ dir. refl })
+moves u (Finished id (Err e)) v n h = idle u _ v (record { bytes = refl; limit = refl; opened = λ dir. refl; counted = λ dir. refl })
     (keeps-is h.1 (keeps-all u))
-moves u (Reset id code (Ok done)) v h = idle u _ v (record { bytes = refl; limit = refl; opened = λ dir. refl; counted = λ dir. refl })
+moves u (Reset id code (Ok done)) v n h = idle u _ v (record { bytes = refl; limit = refl; opened = λ dir. refl; counted = λ dir. refl })
     (keeps-is h.2.3 (record { side = refl; sent = refl; limit = refl; bi = refl; uni = refl }))
-moves u (Reset id code (Err handle_error.ClosedStream)) v h = idle u _ v (record { bytes = refl; limit = refl; opened = λ dir. refl; counted = λ dir. refl })
+moves u (Reset id code (Err handle_error.ClosedStream)) v n h = idle u _ v (record { bytes = refl; limit = refl; opened = λ dir. refl; counted = λ dir. refl })
     (keeps-is h.2.1 (keeps-all u))
-moves u (Reset id code (Err handle_error.OutOfMemory)) v h = idle u _ v (record { bytes = refl; limit = refl; opened = λ dir. refl; counted = λ dir. refl })
+moves u (Reset id code (Err handle_error.OutOfMemory)) v n h = idle u _ v (record { bytes = refl; limit = refl; opened = λ dir. refl; counted = λ dir. refl })
     (keeps-is h.2.0 (keeps-all u))
-moves u (SetPriority id priority (Ok done)) v h = idle u _ v (record { bytes = refl; limit = refl; opened = λ dir. refl; counted = λ dir. refl })
+moves u (SetPriority id priority (Ok done)) v n h = idle u _ v (record { bytes = refl; limit = refl; opened = λ dir. refl; counted = λ dir. refl })
     (keeps-is h.2 (keeps-stream u id _))
-moves u (SetPriority id priority (Err handle_error.ClosedStream)) v h = idle u _ v (record { bytes = refl; limit = refl; opened = λ dir. refl; counted = λ dir. refl })
+moves u (SetPriority id priority (Err handle_error.ClosedStream)) v n h = idle u _ v (record { bytes = refl; limit = refl; opened = λ dir. refl; counted = λ dir. refl })
     (keeps-is h.1 (keeps-all u))
-moves u (SetPriority id priority (Err handle_error.OutOfMemory)) v h = idle u _ v (record { bytes = refl; limit = refl; opened = λ dir. refl; counted = λ dir. refl })
+moves u (SetPriority id priority (Err handle_error.OutOfMemory)) v n h = idle u _ v (record { bytes = refl; limit = refl; opened = λ dir. refl; counted = λ dir. refl })
     (keeps-is h (keeps-all u))
-moves u (Polled answer) v h = idle u _ v (record { bytes = refl; limit = refl; opened = λ dir. refl; counted = λ dir. refl })
+moves u (Polled answer) v n h = idle u _ v (record { bytes = refl; limit = refl; opened = λ dir. refl; counted = λ dir. refl })
     (keeps-polled u v answer h)
-moves u (Transmitted id most (Ok frame)) v h = idle u _ v (record { bytes = refl; limit = refl; opened = λ dir. refl; counted = λ dir. refl })
+moves u (Transmitted id most (Ok frame)) v n h = idle u _ v (record { bytes = refl; limit = refl; opened = λ dir. refl; counted = λ dir. refl })
     (keeps-is h.2.1 (record { side = refl; sent = refl; limit = refl; bi = refl; uni = refl }))
-moves u (Transmitted id most (Err e)) v h = idle u _ v (record { bytes = refl; limit = refl; opened = λ dir. refl; counted = λ dir. refl })
+moves u (Transmitted id most (Err e)) v n h = idle u _ v (record { bytes = refl; limit = refl; opened = λ dir. refl; counted = λ dir. refl })
     (keeps-is h.2.0 (keeps-all u))
-moves u (SetWindow window) v h = idle u _ v (record { bytes = refl; limit = refl; opened = λ dir. refl; counted = λ dir. refl })
+moves u (SetWindow window) v n h = idle u _ v (record { bytes = refl; limit = refl; opened = λ dir. refl; counted = λ dir. refl })
     (keeps-is h (record { side = refl; sent = refl; limit = refl; bi = refl; uni = refl }))
-moves u (AckedFrame id offsets fin (Ok done)) v h = idle u _ v (record { bytes = refl; limit = refl; opened = λ dir. refl; counted = λ dir. refl })
+moves u (AckedFrame id offsets fin (Ok done)) v n h = idle u _ v (record { bytes = refl; limit = refl; opened = λ dir. refl; counted = λ dir. refl })
     (keeps-acked u id offsets fin done v h)
-moves u (AckedFrame id offsets fin (Err e)) v h = idle u _ v (record { bytes = refl; limit = refl; opened = λ dir. refl; counted = λ dir. refl })
+moves u (AckedFrame id offsets fin (Err e)) v n h = idle u _ v (record { bytes = refl; limit = refl; opened = λ dir. refl; counted = λ dir. refl })
     (keeps-is h.1 (keeps-all u))
-moves u (LostFrame id offsets fin (Ok queue)) v h = idle u _ v (record { bytes = refl; limit = refl; opened = λ dir. refl; counted = λ dir. refl })
+moves u (LostFrame id offsets fin (Ok queue)) v n h = idle u _ v (record { bytes = refl; limit = refl; opened = λ dir. refl; counted = λ dir. refl })
     (keeps-lost u id offsets fin queue v h)
-moves u (LostFrame id offsets fin (Err e)) v h = idle u _ v (record { bytes = refl; limit = refl; opened = λ dir. refl; counted = λ dir. refl })
+moves u (LostFrame id offsets fin (Err e)) v n h = idle u _ v (record { bytes = refl; limit = refl; opened = λ dir. refl; counted = λ dir. refl })
     (keeps-is h.1 (keeps-all u))
-moves u (ResetAcked id answer) v h = idle u _ v (record { bytes = refl; limit = refl; opened = λ dir. refl; counted = λ dir. refl })
+moves u (ResetAcked id answer) v n h = idle u _ v (record { bytes = refl; limit = refl; opened = λ dir. refl; counted = λ dir. refl })
     (keeps-is h.1 (keeps-given-up u id))
+moves u RejectedEarly v n h = cc
+moves u Unsent v n h = idle u _ v (record { bytes = refl; limit = refl; opened = λ dir. refl; counted = λ dir. refl })
+    (keeps-is h (record { side = refl; sent = refl; limit = refl; bi = refl; uni = refl }))
+
+-- what the calls since the last rejection say
+begun : (side : Side) (u : Outgoing) → u.side ≡ side → TellsBudget side [] (after_rejection u)
+begun side u e = record { is_side = e; written = refl; limit = refl; within = omega arith; opened = λ dir. opened dir; counted = λ dir. counted dir; few = λ dir. omega arith }
+  where
+    opened : (dir : Dir) → (own_of (after_rejection u) dir).opened ≡ 0
+    opened Bi = refl
+    opened Uni = refl
+
+    counted : (dir : Dir) → (own_of (after_rejection u) dir).limit ≡ 0
+    counted Bi = refl
+    counted Uni = refl
+
+is-rejection : (u : Outgoing) (e : Call) (v : Outgoing) → is_rejection e ≡ true → DoesCall u e v → v ≡ after_rejection u
+is-rejection u (Permitted id) v t h = cc
+is-rejection u (PermittedMore first count) v t h = cc
+is-rejection u (Removed id) v t h = cc
+is-rejection u (GaveParams params) v t h = cc
+is-rejection u (Opened dir answer) v t h = cc
+is-rejection u (GaveData limit) v t h = cc
+is-rejection u (GaveStreams dir count answer) v t h = cc
+is-rejection u (GaveStream id limit answer) v t h = cc
+is-rejection u (WasStopped id code answer) v t h = cc
+is-rejection u (Writing id lists answer) v t h = cc
+is-rejection u (Finished id answer) v t h = cc
+is-rejection u (Reset id code answer) v t h = cc
+is-rejection u (SetPriority id priority answer) v t h = cc
+is-rejection u (Polled answer) v t h = cc
+is-rejection u (Transmitted id most answer) v t h = cc
+is-rejection u (SetWindow window) v t h = cc
+is-rejection u (AckedFrame id offsets fin answer) v t h = cc
+is-rejection u (LostFrame id offsets fin answer) v t h = cc
+is-rejection u (ResetAcked id answer) v t h = cc
+is-rejection u RejectedEarly v t h = h
+is-rejection u Unsent v t h = cc
+
+tells-on : (side : Side) (h : List Call) (u : Outgoing) (e : Call) (v : Outgoing) (b : Bool) → is_rejection e ≡ b → TellsBudget side h u → DoesCall u e v → TellsBudget side (cond b [] (e ∷ h)) v
+tells-on side h u e v false n t does = goes-on (moves u e v n does) t
+tells-on side h u e v true n t does = subst (λ (x : Outgoing). TellsBudget side [] x) (sym (is-rejection u e v n does)) (begun side u t.is_side)
 
 -- one more call
 pub next : (side : Side) (window : ℕ) (h : List Call) (u : Outgoing) (e : Call) (v : Outgoing) → ComesFrom side window h u → DoesCall u e v → ComesFrom side window (e ∷ h) v
-next side window h u e v f does = record { run = (u, f.run, does); tells = goes-on (moves u e v does) f.tells }
+next side window h u e v f does = record { run = (u, f.run, does); tells = tells-on side (calls_since h) u e v (is_rejection e) refl f.tells does }
 
 pub continues : (u : Outgoing) (e : Call) (v : Outgoing) → DoesCall u e v → Continues u e v
 continues u e v does = λ side window h f. next side window h u e v f does

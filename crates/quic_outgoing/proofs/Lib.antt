@@ -7,3 +7,4 @@ pub mod AckSteps
 pub mod Keeping
 pub mod Histories
 pub mod Frames
+pub mod EarlyHalves

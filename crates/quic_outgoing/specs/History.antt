@@ -1,6 +1,6 @@
 -- The history of the sending side: the calls on it with their answers, the newest first, and what it says of what may be
 -- sent.
-use Rattle.std.specs.Prelude.{◌≡◌, ℕ, ℤ, ◌+◌, ◌≤◌, ◌^◌, Bool, max, min, List, [], ◌∷◌, Option, Some, None, Result, Ok, Err}
+use Rattle.std.specs.Prelude.{◌≡◌, ℕ, ℤ, ◌+◌, ◌≤◌, ◌^◌, Bool, true, false, if◌then◌else◌, max, min, List, [], ◌∷◌, Option, Some, None, Result, Ok}
 use Rattle.std.specs.declared.ops.Range.{Range}
 use Rattle.quic_values.specs.declared.ids.Side.{Side}
 use Rattle.quic_values.specs.declared.ids.Dir.{Dir}
@@ -19,6 +19,7 @@ use Rattle.quic_outgoing.specs.Calls.{OpensStream, RaisesStreams, RaisesStream, 
 use Rattle.quic_outgoing.specs.Writing.{WritesOn}
 use Rattle.quic_outgoing.specs.declared.transmitting.WrittenFrame.{WrittenFrame}
 use Rattle.quic_outgoing.specs.Transmitting.{Transmits}
+use Rattle.quic_outgoing.specs.Early.{after_rejection, with_all_unsent}
 use Rattle.quic_outgoing.specs.Acknowledging.{AcksStream, LosesOnStream, is_given_up, without_given_up}
 
 -- a call and its answer
@@ -42,6 +43,8 @@ pub data Call : Type 0 where
   AckedFrame : (id : ℕ) → (offsets : Range ℕ) → (fin : Bool) → (answer : Result Bool OutOfMemory) → Call
   LostFrame : (id : ℕ) → (offsets : Range ℕ) → (fin : Bool) → (answer : Result (Option ℤ) OutOfMemory) → Call
   ResetAcked : (id : ℕ) → (answer : Bool) → Call
+  RejectedEarly : Call
+  Unsent : Call
 
 -- what one call may do; a write and a reset also with what was to be sent before, and after, and a frame with the bytes
 -- of the payload before, and after
@@ -65,11 +68,23 @@ DoesCall u (SetWindow window) v = v ≡ record u { budget = with_window u.budget
 DoesCall u (AckedFrame id offsets fin answer) v = AcksStream u id offsets fin answer v
 DoesCall u (LostFrame id offsets fin answer) v = LosesOnStream u id offsets fin answer v
 DoesCall u (ResetAcked id answer) v = (answer ≡ is_given_up (u.halves id)) × (v ≡ without_given_up u id)
+DoesCall u RejectedEarly v = v ≡ after_rejection u
+DoesCall u Unsent v = v ≡ with_all_unsent u
 
 -- the calls, one after another from no streams on, may lead there
 abbrev pub AreCalls : Side → ℕ → List Call → Outgoing → Type 0
 AreCalls side window [] v = v ≡ no_streams side window
 AreCalls side window (e ∷ h) v = (u : Outgoing) × AreCalls side window h u × DoesCall u e v
+
+-- whether an early start was rejected by a call
+abbrev pub is_rejection : Call → Bool
+is_rejection RejectedEarly = true
+is_rejection _ = false
+
+-- the calls since the last one that did
+abbrev pub calls_since : List Call → List Call
+calls_since [] = []
+calls_since (e ∷ h) = if is_rejection e then [] else e ∷ calls_since h
 
 -- how many bytes writes took
 abbrev pub bytes_by : Call → ℕ
@@ -131,10 +146,10 @@ pub record TellsBudget (side : Side) (h : List Call) (v : Outgoing) : Type 0 whe
   pub counted : (dir : Dir) → (own_of v dir).limit ≡ stream_count h dir
   pub few : (dir : Dir) → streams_opened h dir ≤ stream_count h dir
 
--- the sending side may come from these calls, and what they say of it
+-- the sending side may come from these calls, and what those since the last rejection say of it
 pub record ComesFrom (side : Side) (window : ℕ) (h : List Call) (v : Outgoing) : Type 0 where
   pub run : AreCalls side window h v
-  pub tells : TellsBudget side h v
+  pub tells : TellsBudget side (calls_since h) v
 
 -- whatever calls came before, this one comes behind them
 abbrev pub Continues : Outgoing → Call → Outgoing → Type 0

@@ -7,3 +7,4 @@ pub mod Acknowledging
 pub mod Shown
 pub mod History
 pub mod Transmitting
+pub mod Early

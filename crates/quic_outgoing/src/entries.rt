@@ -1,12 +1,17 @@
 //! The send halves of a connection's streams.
 
-ghost use Rattle.std.specs.Prelude.{◌≡◌, ◌⊎◌, ◌+◌, ◌<◌, ◌≤◌, Some, None, IfOk, IfSome, IfNone, OnSome, OnOk, OnErr, is_some, true, false, max};
+ghost use Rattle.std.specs.Prelude.{ℕ, ◌≡◌, ◌⊎◌, ◌+◌, ◌<◌, ◌≤◌, Some, None, IfOk, IfSome, IfNone, OnSome, OnOk, OnErr, is_some, true, false, max};
 ghost use Rattle.std.specs.Option.{option_map};
 ghost use Rattle.quic_outgoing.specs.Senders.{bare, raised, new_sender, with_sender, first_limit, first_for, are_one_end, is_local, no_limits, joined, raised_by};
 ghost use Rattle.quic_outgoing.specs.Calls.{told_of_half, blocked_limit, can_take, unmarked};
 ghost use Rattle.quic_outgoing.specs.Acknowledging.{is_given_up};
+ghost use Rattle.quic_outgoing.specs.Early.{of_peer_anew, own_unsent, has_content, as_unsent, NoneAcked, QueuesUnsent};
+ghost use Rattle.quic_outgoing.specs.Seen.{unsent_box};
 ghost use Rattle.quic_outgoing.specs.Seen.{senders, sender_room};
+ghost use Rattle.quic_sending.specs.Buffer.{is_acked};
+ghost use Rattle.quic_sending.specs.Sending.{is_reset_sent};
 
+use crate::closing::queue_at;
 use quic_sending::{ClosedStream, Send};
 use quic_values::{Dir, OutOfMemory, Side, StreamId, VarInt};
 use std::alloc::Global;
@@ -317,6 +322,56 @@ impl SendEntries {
         let _ = self.entries.remove(&id);
     }
 
+    /// The halves of this end's streams go. Those of its peer's are new, with no limit.
+    pub(crate) fn reject_early(&mut self)
+        ensures halves { senders self.new ≡ of_peer_anew self.old.side (senders self.old) }
+        ensures side { self.new.side ≡ self.old.side }
+        ensures first { self.new.first ≡ no_limits }
+        ensures room { sender_room self.old ≤ sender_room self.new }
+    {
+        let side = self.side;
+        self.entries
+            .retain(|id, _| !are_one_end(side, id.initiator()));
+        self.entries.retain(|_, entry| {
+            *entry = None;
+            true
+        });
+        self.first = FirstLimits::none();
+    }
+
+    /// The priority at which a stream is to be queued once all counts as not sent that was sent on it.
+    pub(crate) fn queue_unsent(&self, id: StreamId) -> Option<i32>
+        ensures { QueuesUnsent (senders self.now id) result }
+    {
+        match self.entries.get(&id) {
+            None => None,
+            Some(None) => None,
+            Some(Some(half)) => {
+                if has_content(half) {
+                    queue_at(half)
+                } else {
+                    None
+                }
+            }
+        }
+    }
+
+    /// All that was sent on this end's streams counts as not sent.
+    pub(crate) fn unsend_all(&mut self)
+        ensures halves { NoneAcked self.old.side (senders self.old) → senders self.new ≡ own_unsent self.old.side (senders self.old) }
+        ensures side { self.new.side ≡ self.old.side }
+        ensures first { self.new.first ≡ self.old.first }
+        ensures room { sender_room self.old ≤ sender_room self.new }
+    {
+        let side = self.side;
+        self.entries.retain(|id, entry| {
+            if are_one_end(side, id.initiator()) {
+                unsend(entry);
+            }
+            true
+        });
+    }
+
     /// The peer gave limits that streams begin with. No limit falls.
     pub(crate) fn raise_first(&mut self, limits: FirstLimits)
         ensures halves { senders self.new ≡ raised_by self.old.side limits (senders self.old) }
@@ -337,5 +392,35 @@ fn are_one_end(a: Side, b: Side) -> bool
         (Side::Client, Side::Server) => false,
         (Side::Server, Side::Client) => false,
         (Side::Server, Side::Server) => true,
+    }
+}
+
+// Whether a half has data or an end to be sent.
+fn has_content(half: &Send) -> bool
+    ensures { result ≡ has_content half.now }
+{
+    !half.is_reset() && (half.offset() > 0 || !half.is_writable())
+}
+
+// All that was sent of a half counts as not sent, and nothing as lost, where nothing was acknowledged.
+fn unsend_half(half: &mut Send)
+    ensures { (is_reset_sent half.old.state ≡ false → (n : ℕ) → is_acked half.old.pending n ≡ false) → half.new ≡ as_unsent half.old }
+{
+    if half.is_reset() {
+        return;
+    }
+    if !half.pending.none_acked() {
+        return;
+    }
+    half.pending.retransmit_all_for_0rtt();
+    half.fin_pending = half.fin_pending || !half.is_writable();
+}
+
+// The same of one that may have been used.
+fn unsend(entry: &mut Option<Box<Send>>)
+    ensures { (IfSome entry.old (λ b. is_reset_sent b.value.state ≡ false → (n : ℕ) → is_acked b.value.pending n ≡ false)) → entry.new ≡ option_map unsent_box entry.old }
+{
+    if let Some(half) = entry {
+        unsend_half(half);
     }
 }

@@ -3,6 +3,7 @@
 
 mod acknowledging;
 mod closing;
+mod early;
 mod entries;
 mod limits;
 mod outgoing;

@@ -1,6 +1,6 @@
 //! The streams on which one end of a connection sends.
 
-ghost use Rattle.std.specs.Prelude.{[], ◌≡◌, ◌+◌, ◌<◌, ◌≤◌, ◌⊎◌, ◌↔◌, Some, None, OnOk, OnErr, is_some, nat_le};
+ghost use Rattle.std.specs.Prelude.{[], ◌≡◌, ◌+◌, ◌<◌, ◌≤◌, ◌^◌, ◌⊎◌, ◌↔◌, Some, None, OnOk, OnErr, is_some, nat_le};
 ghost use Rattle.quic_limits.specs.SendingCredit.{writable, with_limit, with_window, is_blocked_reported};
 ghost use Rattle.quic_values.specs.Ids.{dir_of, index_of};
 ghost use Rattle.quic_outgoing.specs.Outgoing.{no_streams, with_send_half, fresh_sender, own_of, with_params};
@@ -129,7 +129,8 @@ impl OutgoingStreams {
 
     /// How many streams of a direction this end opened.
     pub fn opened(&self, dir: Dir) -> u64
-        ensures { result ≡ (own_of (view_of self.now) dir).opened }
+        ensures count { result ≡ (own_of (view_of self.now) dir).opened }
+        ensures small { result ≤ 2 ^ 60 }
     {
         match dir {
             Dir::Bi => self.own_bi.opened(),

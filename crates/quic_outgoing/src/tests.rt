@@ -1,6 +1,7 @@
 //! Steps on the sending side of one end, and what each has to answer.
 
 mod acknowledging;
+mod early;
 mod refusals;
 mod sizes;
 mod transmitting;

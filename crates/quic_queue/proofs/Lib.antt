@@ -1,3 +1,4 @@
 pub mod Comparing
 pub mod Lines
 pub mod Changes
+pub mod Copies

@@ -1,6 +1,6 @@
 //! The send queue: the streams that have something to send, the highest priority first.
 
-ghost use Rattle.std.specs.Prelude.{◌≡◌, ◌==◌, Some, None, Bool, IsOk, OnOk, OnErr, IfSome, length, slice_get, drop, ℕ};
+ghost use Rattle.std.specs.Prelude.{◌≡◌, ◌==◌, Some, None, Bool, IsOk, IfOk, OnOk, OnErr, IfSome, length, slice_get, drop, ℕ, ℤ};
 ghost use Rattle.std.specs.List.{list_any};
 ghost use Rattle.quic_queue.specs.SendOrder.{empty_queue, put, with_entry, line, first, without_first, settled, IsReserved, NoneIsHigher, Tells, ids_of};
 ghost use Rattle.quic_queue.specs.Levels.{HasRoom, IsFilled, IsFirstPriority, KeepsOtherLevels, entries_of, ids_at};
@@ -71,6 +71,14 @@ fn first_entry(levels: &Levels) -> Option<Entry>
         }
     }
     None
+}
+
+// The same ids of each priority.
+fn copy_of(levels: &Levels) -> Result<Levels, OutOfMemory>
+    ensures shown { IfOk result (λ copy. entries_of copy.entries ≡ entries_of levels.now.entries) }
+    ensures filled { IfOk result (λ copy. (priority : ℤ) → IsFilled levels.now priority → IsFilled copy priority) }
+{
+    Ok(levels.clone()?)
 }
 
 // Makes room for one id more at a priority.
@@ -170,6 +178,20 @@ impl SendQueue {
             kept: None,
             reserved: None,
         }
+    }
+
+    /// The same streams in the same order, with room for none.
+    pub fn copy(&self) -> Result<SendQueue, OutOfMemory>
+        ensures { IfOk result (λ copy. copy ≡ record self.now { reserved = None }) }
+    {
+        let mut levels = copy_of(&self.levels)?;
+        if let Some(priority) = self.reserved {
+            drop_if_empty(&mut levels, priority);
+        }
+        let mut copy = SendQueue::new(self.alloc);
+        copy.levels = levels;
+        copy.kept = self.kept;
+        Ok(copy)
     }
 
     /// Makes room for one stream of a priority, in place of the room that was there. Nothing changes if memory runs

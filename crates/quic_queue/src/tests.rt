@@ -358,3 +358,31 @@ fn as_a_sorted_list(rt: HostRuntime) -> Result<(), Fail> {
     assert!(rt; queue.is_empty());
     Ok(())
 }
+
+// A copy, once more where memory was wanting.
+fn copy_of(queue: &SendQueue) -> Result<SendQueue, OutOfMemory> {
+    match queue.copy() {
+        Ok(copy) => Ok(copy),
+        Err(OutOfMemory) => queue.copy(),
+    }
+}
+
+#[test]
+fn a_copy_has_the_same_streams(rt: HostRuntime) -> Result<(), Fail> {
+    let mut queue = SendQueue::new(rt.alloc());
+    for index in 0..100u32 {
+        put(&mut queue, index, (index % 7) as i32 - 3)?;
+    }
+    assert!(rt; keep_back(&mut queue).is_some());
+    queue.reserve(9)?;
+    let mut copy = copy_of(&queue)?;
+    queue.release();
+    put(&mut copy, 200, 9)?;
+    assert_eq!(rt; copy.take_first(), queue.take_first());
+    assert_eq!(rt; copy.take_first(), Some(entry(200, 9)));
+    for _ in 0..100 {
+        assert_eq!(rt; copy.take_first(), queue.take_first());
+    }
+    assert!(rt; queue.is_empty() && copy.is_empty());
+    Ok(())
+}

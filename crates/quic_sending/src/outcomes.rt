@@ -1,4 +1,4 @@
-ghost use Rattle.std.specs.Prelude.{◌≡◌, ◌+◌, ◌<◌, ◌≤◌, ℕ, [], ◌∷◌, ◌&&◌, ◌||◌, not, true, IfOk, OnOk, OnErr, nat_lt, List};
+ghost use Rattle.std.specs.Prelude.{◌≡◌, ◌+◌, ◌<◌, ◌≤◌, ℕ, [], ◌∷◌, ◌&&◌, ◌||◌, not, true, false, IfOk, OnOk, OnErr, nat_lt, List};
 ghost use Rattle.quic_values.specs.Runs.{Run, contains, lies_in};
 ghost use Rattle.quic_sending.specs.Ranges.{IsLowestRun};
 ghost use Rattle.quic_sending.specs.Outcomes.{Answered, is_answered, minus, IsLowestOrNone};
@@ -58,6 +58,15 @@ impl Outcomes {
         ensures { result ≡ self.now.prefix }
     {
         self.prefix
+    }
+
+    /// Whether no offset is acknowledged.
+    #[inline]
+    pub(crate) fn none_acked(&self) -> bool
+        ensures none { result ≡ true → (n : ℕ) → is_answered self.now.prefix self.now.later n ≡ false }
+        ensures some { result ≡ false → (n : ℕ) × (is_answered self.now.prefix self.now.later n ≡ true) }
+    {
+        self.prefix == 0 && self.later.is_empty()
     }
 
     /// The lowest lost range, or an empty one where nothing is lost.

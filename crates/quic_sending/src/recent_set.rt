@@ -1,4 +1,4 @@
-ghost use Rattle.std.specs.Prelude.{◌≡◌, ◌≤◌, ◌<◌, ◌++◌, ◌||◌, ℕ, [], OnOk, OnErr};
+ghost use Rattle.std.specs.Prelude.{◌≡◌, ◌≤◌, ◌<◌, ◌++◌, ◌||◌, ℕ, [], true, false, OnOk, OnErr};
 ghost use Rattle.quic_values.specs.Runs.{contains, lies_in, range_of};
 ghost use Rattle.quic_sending.specs.Outcomes.{IsGap, Joins};
 
@@ -38,6 +38,16 @@ impl RecentSet {
             recent: 0..0,
             others: RangeSet::new(alloc),
         }
+    }
+
+    /// Whether the set has no numbers.
+    #[inline]
+    pub(crate) fn is_empty(&self) -> bool
+        ensures none { result ≡ true → (n : ℕ) → contains self.now n ≡ false }
+        ensures some { result ≡ false → (n : ℕ) × (contains self.now n ≡ true) }
+    {
+        let _ = &self.others;
+        self.recent.start >= self.recent.end
     }
 
     /// Adds the numbers of a range that has some.

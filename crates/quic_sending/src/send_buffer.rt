@@ -107,6 +107,16 @@ impl SendBuffer {
         self.acked_prefix() == self.offset()
     }
 
+    /// Whether nothing that was sent is acknowledged.
+    #[inline]
+    pub fn none_acked(&self) -> bool
+        ensures none { result ≡ true → (n : ℕ) → is_acked self.now n ≡ false }
+        ensures some { result ≡ false → (n : ℕ) × (is_acked self.now n ≡ true) }
+    {
+        let _ = &self.unsent;
+        self.outcomes.none_acked()
+    }
+
     /// How many bytes are retained: those of the written pieces that the acknowledged prefix does
     /// not wholly cover.
     #[inline]

@@ -2,3 +2,4 @@ pub mod ControlRuns
 pub mod HeldMaps
 pub mod Results
 pub mod TurnRuns
+pub mod Unsent

@@ -16,4 +16,5 @@ shown s = record {
   window = s.receive.window;
   events = s.events.items;
   send_streams = s.send_streams;
+  adjusted = s.adjusted;
 }

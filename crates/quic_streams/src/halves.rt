@@ -5,6 +5,8 @@ ghost use Rattle.std.specs.Option.{option_map};
 ghost use Rattle.quic_receiving.specs.Half.{new_half};
 ghost use Rattle.quic_streams.specs.Held.{held, half_in, room};
 ghost use Rattle.quic_history.specs.Halves.{with_half, with_first, with_more, taken, is_due_in, TellsCode};
+ghost use Rattle.quic_outgoing.specs.Senders.{are_one_end};
+ghost use Rattle.quic_history.specs.Early.{without_own};
 ghost use Rattle.quic_history.specs.Permitting.{is_flow_controlled};
 ghost use Rattle.quic_history.specs.Control.{announced_end, after_announced, with_announced};
 
@@ -210,6 +212,28 @@ impl ReceiveHalves {
         ensures room { room self.old ≤ room self.new }
     {
         let _ = self.entries.remove(&id);
+    }
+
+    /// Lets the halves of the streams of one end go.
+    pub(crate) fn remove_of(&mut self, side: Side)
+        ensures held { held self.new ≡ without_own side (held self.old) }
+        ensures window { self.new.window ≡ self.old.window }
+        ensures room { room self.old ≤ room self.new }
+    {
+        self.entries
+            .retain(|id, _| !are_one_end(side, id.initiator()));
+    }
+}
+
+// Whether two ends are one.
+fn are_one_end(a: Side, b: Side) -> bool
+    ensures { result ≡ are_one_end a b }
+{
+    match (a, b) {
+        (Side::Client, Side::Client) => true,
+        (Side::Client, Side::Server) => false,
+        (Side::Server, Side::Client) => false,
+        (Side::Server, Side::Server) => true,
     }
 }
 

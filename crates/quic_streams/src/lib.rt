@@ -4,6 +4,7 @@
 mod acknowledging;
 pub mod batches;
 mod control;
+mod early;
 pub mod halves;
 mod payload;
 pub mod pending;

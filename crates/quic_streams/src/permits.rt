@@ -54,6 +54,7 @@ impl StreamsState {
             .permit_more(!self.outgoing.side(), Dir::Bi, first, more);
         self.outgoing.permit_more(first, more);
         self.bi.set_max_concurrent(count);
+        self.adjusted = true;
         Ok(())
     }
 
@@ -65,6 +66,7 @@ impl StreamsState {
         self.receive
             .permit_more(!self.outgoing.side(), Dir::Uni, first, more);
         self.uni.set_max_concurrent(count);
+        self.adjusted = true;
         Ok(())
     }
 

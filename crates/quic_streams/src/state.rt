@@ -37,6 +37,8 @@ pub struct StreamsState {
     pub(crate) events: VecDeque<StreamEvent>,
     // How many send halves are held of the streams that this end opened or accepted.
     pub(crate) send_streams: usize,
+    // Whether it was set how many streams the peer is to be able to use at a time.
+    pub(crate) adjusted: bool,
 }
 
 #[tactic(auto, unfolding(crate::specs::Shown::shown, quic_history::specs::World::with_receive, crate::specs::Room::rooms, crate::specs::Room::HasEventRoom))]
@@ -74,6 +76,7 @@ impl StreamsState {
             queue: SendQueue::new(alloc),
             events: VecDeque::new(alloc),
             send_streams: 0,
+            adjusted: false,
         })
     }
 

@@ -3,6 +3,7 @@
 mod acknowledging;
 mod amounts;
 mod control;
+mod early;
 mod pending;
 mod reading;
 mod receiving;

@@ -18,6 +18,7 @@ enum Step {
     // The bytes behind the acknowledged prefix.
     Unacked(&'static [u8]),
     Buffered(u64),
+    NoneAcked(bool),
 }
 
 fn take(
@@ -54,6 +55,7 @@ fn take(
         Step::Buffered(count) => {
             assert_eq!(rt; buffer.buffered(), count);
         }
+        Step::NoneAcked(none) => assert_eq!(rt; buffer.none_acked(), none),
     }
     Ok(())
 }
@@ -126,6 +128,22 @@ const FRAGMENTS_WITH_LENGTH: [Step; 4] = [
 #[test]
 fn fragment_with_length(rt: HostRuntime) -> Result<(), Fail> {
     let _ = run(&rt, rt.alloc(), &FRAGMENTS_WITH_LENGTH)?;
+    Ok(())
+}
+
+const ACKED_BEHIND_A_GAP: [Step; 7] = [
+    Step::NoneAcked(true),
+    Step::Write(b"Hello, world!"),
+    Step::Poll(58, 0, 13, true),
+    Step::Ack(3, 3),
+    Step::NoneAcked(true),
+    Step::Ack(3, 4),
+    Step::NoneAcked(false),
+];
+
+#[test]
+fn something_is_acknowledged_behind_a_gap(rt: HostRuntime) -> Result<(), Fail> {
+    let _ = run(&rt, rt.alloc(), &ACKED_BEHIND_A_GAP)?;
     Ok(())
 }
 

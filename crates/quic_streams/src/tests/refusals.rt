@@ -275,6 +275,15 @@ fn take_report(rt: &impl Abort, subject: &mut Subject, report: Report) {
     }
 }
 
+// All counts as not sent.
+fn send_again(rt: &impl Abort, subject: &mut Subject) {
+    let before = all_of(subject);
+    if subject.state.retransmit_all_for_0rtt().is_err() {
+        assert_eq!(rt; all_of(subject), before);
+        assert!(rt; subject.state.retransmit_all_for_0rtt().is_ok());
+    }
+}
+
 const OPENED: [Step; 21] = [
     Step::MaxStreams(Dir::Uni, 4, TAKEN),
     Step::Poll(Some(Event::Available(Dir::Uni))),
@@ -335,6 +344,8 @@ fn client_that_wrote(rt: &impl Abort, alloc: Global) -> Result<Subject, OutOfMem
 
 const SENT: &[u8] = b"\x0b\x06\x04abcd\x0a\x02\x04thir\x0a\x00\x02th";
 
+const AGAIN: &[u8] = b"\x0b\x06\x04abcd\x0a\x00\x02th\x0a\x02\x04thir";
+
 const STOPPED: [Step; 6] = [
     Step::Limit(8),
     Step::Stop(2, 7),
@@ -347,6 +358,8 @@ const STOPPED: [Step; 6] = [
 // The client's frames are sent, one is lost and sent again, and most is acknowledged.
 fn send_and_ack(rt: &impl Abort, alloc: Global, subject: &mut Subject) -> Result<(), OutOfMemory> {
     send(rt, alloc, subject, SENT, &[0, 7, 14, 19])?;
+    send_again(rt, subject);
+    send(rt, alloc, subject, AGAIN, &[0, 7, 12, 19])?;
     take_report(rt, subject, Report::Acked(14, 0, 0, false));
     take_report(rt, subject, Report::Lost(2, 0, 4));
     send(rt, alloc, subject, b"\x0a\x02\x04thir", &[0, 7])?;

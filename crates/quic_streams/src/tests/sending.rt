@@ -357,7 +357,7 @@ fn set(rt: &impl Abort, subject: &mut Subject, step: Step) {
 }
 
 // The frames that are handed in.
-fn hand_in(
+pub(super) fn hand_in(
     rt: &impl Abort,
     alloc: Global,
     subject: &mut Subject,

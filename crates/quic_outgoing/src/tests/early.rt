@@ -1,0 +1,95 @@
+// An early start that is rejected, or sent again.
+use super::{Answer, Step, Subject, end, id, run};
+use quic_values::{Dir, Side};
+use std::alloc::Global;
+use std::ops::Range;
+use std::process::Abort;
+use std::rt::HostRuntime;
+use std::test::Fail;
+
+// Whether the next frame of a stream carries this, and the end.
+fn sends(
+    alloc: Global,
+    subject: &mut Subject,
+    stream: u32,
+    offsets: Range<u64>,
+    fin: bool,
+) -> bool {
+    let stream = id(stream);
+    if !subject.state.contains(stream) {
+        return false;
+    }
+    let mut buf = Vec::new(alloc);
+    match subject.state.write_frame(stream, 1200, &mut buf) {
+        Ok(frame) => frame.meta.offsets == offsets && frame.meta.fin == fin,
+        Err(_) => false,
+    }
+}
+
+const OPENED: [Step; 7] = [
+    Step::Open(Dir::Bi, Some(0)),
+    Step::Open(Dir::Uni, Some(2)),
+    Step::Open(Dir::Uni, Some(6)),
+    Step::Write(2, 8, Answer::Took(8, true)),
+    Step::Write(0, 4, Answer::Took(2, true)),
+    Step::Finish(6, Answer::Done(true)),
+    Step::SetPriority(2, 5),
+];
+
+#[test]
+fn a_rejected_start_leaves_the_window(rt: HostRuntime) -> Result<(), Fail> {
+    let alloc = rt.alloc();
+    let mut subject = end(alloc, Side::Client, 2, 10, 9);
+    subject.state.reserve(1)?;
+    subject.state.permit(id(1));
+    run(&rt, alloc, &mut subject, &OPENED);
+    run(
+        &rt,
+        alloc,
+        &mut subject,
+        &[Step::Write(2, 1, Answer::Blocked), Step::Window(7)],
+    );
+    subject.state.reject_early();
+    let steps = [
+        Step::Holds(0, false),
+        Step::Holds(2, false),
+        Step::Holds(1, true),
+        Step::Unopened(0, true),
+        Step::Open(Dir::Uni, None),
+        Step::Limit(0),
+        Step::Blocked(false, true),
+        Step::Data(20),
+        Step::Limit(7),
+        // The peer gave no limit for its streams.
+        Step::Write(1, 1, Answer::Blocked),
+        Step::Poll(None),
+        Step::Streams(Dir::Uni, 1, true),
+        Step::Open(Dir::Uni, Some(2)),
+        Step::Priority(2, Some(0)),
+    ];
+    run(&rt, alloc, &mut subject, &steps);
+    Ok(())
+}
+
+#[test]
+fn what_was_sent_counts_as_not_sent(rt: HostRuntime) -> Result<(), Fail> {
+    let alloc = rt.alloc();
+    let mut subject = end(alloc, Side::Client, 3, 10, 9);
+    run(&rt, alloc, &mut subject, &OPENED);
+    run(&rt, alloc, &mut subject, &[Step::Open(Dir::Uni, Some(10))]);
+    assert!(&rt; sends(alloc, &mut subject, 2, 0..8, false));
+    assert!(&rt; sends(alloc, &mut subject, 6, 0..0, true));
+    assert!(&rt; subject.state.lose(id(2), 2..4, false).is_ok());
+    assert_eq!(&rt; subject.state.queue_unsent(id(2)), None);
+    assert_eq!(&rt; subject.state.queue_unsent(id(0)), None);
+    assert_eq!(&rt; subject.state.queue_unsent(id(6)), Some(0));
+    assert_eq!(&rt; subject.state.queue_unsent(id(10)), None);
+    assert_eq!(&rt; subject.state.queue_unsent(id(14)), None);
+    assert!(&rt; sends(alloc, &mut subject, 2, 2..4, false));
+    assert_eq!(&rt; subject.state.queue_unsent(id(2)), Some(5));
+    subject.state.unsend_all();
+    assert!(&rt; sends(alloc, &mut subject, 2, 0..8, false));
+    assert!(&rt; sends(alloc, &mut subject, 0, 0..2, false));
+    assert!(&rt; sends(alloc, &mut subject, 6, 0..0, true));
+    Ok(())
+}
