@@ -1,1 +1,4 @@
 pub mod Ends
+pub mod Growth
+pub mod Sums
+pub mod Rooms
