@@ -2,3 +2,5 @@ pub mod Ends
 pub mod Growth
 pub mod Sums
 pub mod Rooms
+pub mod Texts
+pub mod TrueFrames
