@@ -4,3 +4,4 @@ pub mod Sums
 pub mod Rooms
 pub mod Texts
 pub mod TrueFrames
+pub mod Streams

@@ -1,2 +1,3 @@
 pub mod Endpoints
 pub mod Truths
+pub mod Promises
