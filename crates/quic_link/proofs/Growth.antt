@@ -8,7 +8,7 @@ use Rattle.quic_sending.specs.declared.send.Send.{Send}
 use Rattle.quic_sending.specs.declared.send.WriteError.{WriteError}
 use Rattle.quic_sending.specs.declared.send.WriteError.TheVariants as write_error
 use Rattle.quic_flows.specs.Flow.{SendMove, WasWritten, WasFinished, WasGivenUp, WasAskedToStop, WasPermitted, WasCarried, WasAcked, WasLost, WasResetAcked, SendFlow, takes_data, with_least_limit, with_carried, with_acked, with_lost, freed_if_whole, counts_for, with_send_move, FlowFrom}
-use Rattle.quic_flows.proofs.FlowSteps.{reset-is}
+use Rattle.quic_flows.proofs.FlowSteps.{reset-is, ready-is, finishable-ready}
 use Rattle.quic_outgoing.specs.declared.limits.PeerLimits.{PeerLimits}
 use Rattle.quic_history.specs.World.{World, Made}
 use Rattle.quic_history.specs.Flows.{has_side_in, send_moved, with_first_limits, refusal_told, refusal_where, room_on}
@@ -50,9 +50,10 @@ still-closed t t' g e = by_reset t.reset refl
     by_reset None k = by_finished t.finished refl k
     by_reset (Some code) k = ap (λ (r : Option ℕ). takes_data r t'.finished) (g.reset code k)
 
--- what is done to a stream may be done: it is written only where it takes data, and given up once
-abbrev MayMove : SendMove → SendFlow → Type 0
+-- what is done to a stream may be done: it is written and ended only where it takes data, and given up once
+abbrev pub MayMove : SendMove → SendFlow → Type 0
 MayMove (WasWritten pieces) t = takes_data t.reset t.finished ≡ true
+MayMove WasFinished t = takes_data t.reset t.finished ≡ true
 MayMove (WasGivenUp code) t = t.reset ≡ None
 MayMove _ t = Unit {0}
 
@@ -124,7 +125,9 @@ module _ (m : Made) (h : List Event) (u v : World) (f : From m h u) where
   can_send (StoppedOwn id code (Ok x)) s = tt
   can_send (StoppedOwn id code (Err e)) s = tt
   can_send (SetWindow window) s = tt
-  can_send (FinishedOwn id (Ok x)) s = tt
+  can_send (FinishedOwn id (Ok x)) s =
+      let r = s.2 in
+      sym (ready-is (flow m h id) r.0 (held-told id r.0 r.1)) ∙ finishable-ready r.0 r.2
   can_send (FinishedOwn id (Err e)) s = tt
   can_send (SetOwnPriority id priority answer) s = tt
   can_send (AckedOwn id offsets fin (Ok x)) s = tt

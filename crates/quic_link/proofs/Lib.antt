@@ -5,3 +5,4 @@ pub mod Rooms
 pub mod Texts
 pub mod TrueFrames
 pub mod Streams
+pub mod Acks
