@@ -6,3 +6,4 @@ pub mod Texts
 pub mod TrueFrames
 pub mod Streams
 pub mod Acks
+pub mod Meets
