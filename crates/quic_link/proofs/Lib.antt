@@ -7,3 +7,4 @@ pub mod TrueFrames
 pub mod Streams
 pub mod Acks
 pub mod Meets
+pub mod Queues
