@@ -8,3 +8,4 @@ pub mod Streams
 pub mod Acks
 pub mod Meets
 pub mod Queues
+pub mod Opens
