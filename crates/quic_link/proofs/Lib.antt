@@ -9,3 +9,4 @@ pub mod Acks
 pub mod Meets
 pub mod Queues
 pub mod Opens
+pub mod Counts

@@ -98,16 +98,16 @@ open_more : (own : Bool) (a b c d : Dir → ℕ) (id : ℕ) → ((k : Dir) → a
 open_more true a b c d id l m o = let k = l (dir_of id) in omega arith
 open_more false a b c d id l m o = let k = m (dir_of id) in omega arith
 
-opened_grows : (h : List Event) (e : Event) (d : Dir) → opened_in_all h d ≤ opened_in_all (e ∷ h) d
+pub opened_grows : (h : List Event) (e : Event) (d : Dir) → opened_in_all h d ≤ opened_in_all (e ∷ h) d
 opened_grows h e d = omega arith
 
 most_same : (f : Dir → ℕ) (d : Dir) → f d ≤ f d
 most_same f d = omega arith
 
-open_first : (x y : Endpoint) (e : Event) (v : World) (id : ℕ) → IsOpenAt x y id → IsOpenAt (acted x e v) y id
+pub open_first : (x y : Endpoint) (e : Event) (v : World) (id : ℕ) → IsOpenAt x y id → IsOpenAt (acted x e v) y id
 open_first x y e v id o = open_more (is_local x.made.side id) (opened_in_all x.calls) (opened_in_all y.calls) (opened_in_all (e ∷ x.calls)) (opened_in_all y.calls) id (opened_grows x.calls e) (most_same (opened_in_all y.calls)) o
 
-open_second : (x y : Endpoint) (e : Event) (v : World) (id : ℕ) → IsOpenAt x y id → IsOpenAt x (acted y e v) id
+pub open_second : (x y : Endpoint) (e : Event) (v : World) (id : ℕ) → IsOpenAt x y id → IsOpenAt x (acted y e v) id
 open_second x y e v id o = open_more (is_local x.made.side id) (opened_in_all x.calls) (opened_in_all y.calls) (opened_in_all x.calls) (opened_in_all (e ∷ y.calls)) id (most_same (opened_in_all x.calls)) (opened_grows y.calls e) o
 
 -- a stream that is open is open at the other end
@@ -118,7 +118,7 @@ open_turned false other a b id e o = rw e o
 pub open-turned : (x y : Endpoint) (id : ℕ) → y.made.side ≡ other_side x.made.side → IsOpenAt x y id → IsOpenAt y x id
 open-turned x y id e o = open_turned (is_local x.made.side id) (is_local y.made.side id) (opened_in_all x.calls) (opened_in_all y.calls) id (local-other x.made.side y.made.side id e) o
 
-frame_first : (x y : Endpoint) (e : Event) (v : World) (g : Frame) → OpenFrame x y g → OpenFrame (acted x e v) y g
+pub frame_first : (x y : Endpoint) (e : Event) (v : World) (g : Frame) → OpenFrame x y g → OpenFrame (acted x e v) y g
 frame_first x y e v (frames.Stream s) o = record { opened = open_first x y e v s.id o.opened; both_ways = o.both_ways }
 frame_first x y e v (frames.ResetStream f) o = record { opened = open_first x y e v f.id o.opened; both_ways = o.both_ways }
 frame_first x y e v (frames.MaxStreamData id limit) o = record { opened = open_first x y e v id o.opened; both_ways = o.both_ways }
@@ -143,7 +143,7 @@ frame_first x y e v frames.AckFrequency o = tt
 frame_first x y e v frames.ImmediateAck o = tt
 frame_first x y e v frames.HandshakeDone o = tt
 
-frame_second : (x y : Endpoint) (e : Event) (v : World) (g : Frame) → OpenFrame x y g → OpenFrame x (acted y e v) g
+pub frame_second : (x y : Endpoint) (e : Event) (v : World) (g : Frame) → OpenFrame x y g → OpenFrame x (acted y e v) g
 frame_second x y e v (frames.Stream s) o = record { opened = open_second x y e v s.id o.opened; both_ways = o.both_ways }
 frame_second x y e v (frames.ResetStream f) o = record { opened = open_second x y e v f.id o.opened; both_ways = o.both_ways }
 frame_second x y e v (frames.MaxStreamData id limit) o = record { opened = open_second x y e v id o.opened; both_ways = o.both_ways }
@@ -283,7 +283,7 @@ only a b (inr h) = absurd h
 frame_at : (x y : Endpoint) (g k : Frame) → g ≡ k → OpenFrame x y k → OpenFrame x y g
 frame_at x y g k e t = let P : Frame → Type 0 = λ j. OpenFrame x y j in subst P (sym e) t
 
-new_open : (x y : Endpoint) (e : Event) (v : World) → Comes x → IdsSo x y → MayAct x y e v → (g : Frame) → IsOneOf g (written_by x e) → OpenFrame x y g
+pub new_open : (x y : Endpoint) (e : Event) (v : World) → Comes x → IdsSo x y → MayAct x y e v → (g : Frame) → IsOneOf g (written_by x e) → OpenFrame x y g
 new_open x y (Settled kind (Some k)) v f s a g h = frame_at x y g k (only g k h) (settled_open x y f s kind a.step.0 a.step.1 k v a.step.2 a.honest)
 new_open x y (Settled kind None) v f s a g h = absurd h
 new_open x y (Sending (TookTurn most fair (Some meta))) v f s a g h = frame_at x y g (frame_with (written_on x) meta) (only g (frame_with (written_on x) meta) h) (turn_open x y f s most fair meta v a.step)
