@@ -10,3 +10,4 @@ pub mod Meets
 pub mod Queues
 pub mod Opens
 pub mod Counts
+pub mod Joint
