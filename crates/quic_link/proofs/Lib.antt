@@ -11,3 +11,4 @@ pub mod Queues
 pub mod Opens
 pub mod Counts
 pub mod Joint
+pub mod Welcome
