@@ -11,7 +11,7 @@ use Rattle.quic_link.specs.Endpoints.{Endpoint, MayAct, acted, IsNewEnd, Linked,
 use Rattle.quic_link.proofs.Ends.{Comes, comes-new, comes-acted}
 use Rattle.quic_link.proofs.Growth.{grows}
 use Rattle.quic_link.proofs.Rooms.{RoomSo, room-kept, limits-honest}
-use Rattle.quic_link.proofs.TrueFrames.{AllTrue, true-acted}
+use Rattle.quic_link.proofs.TrueFrames.{AllTrue, true-acted, count-few}
 use Rattle.quic_link.proofs.Streams.{StreamFits, fits-new, fits-grown, fits-moved, move-true, LimitSo, limits-sent, limits-came}
 use Rattle.quic_link.proofs.Acks.{AckedSo, acked-sent, acked-came}
 use Rattle.quic_link.proofs.Meets.{nexts, next_of_dir}
@@ -22,6 +22,7 @@ use Rattle.quic_link.proofs.Counts.{DataSo, ids-first, ids-other, data-first, da
 pub record Agrees (x y : Endpoint) : Type 0 where
   pub comes : Comes x
   pub small : x.made.window < 2 ^ 62
+  pub few : (d : Dir) → (remote_of x.world d).max_remote ≤ 2 ^ 60
   pub other : y.made.side ≡ other_side x.made.side
   pub truth : AllTrue x
   pub ids : IdsSo x y
@@ -53,10 +54,11 @@ new_ids m n = record { frames_open = λ g h. absurd h; queue = λ q h. cc; met =
     base Bi = omega arith
     base Uni = omega arith
 
-agrees_new : (m n : Made) → Comes (new_end m) → m.window < 2 ^ 62 → n.side ≡ other_side m.side → Agrees (new_end m) (new_end n)
-agrees_new m n f small other = record {
+agrees_new : (m n : Made) → Comes (new_end m) → m.uni ≤ 2 ^ 60 → m.bi ≤ 2 ^ 60 → m.window < 2 ^ 62 → n.side ≡ other_side m.side → Agrees (new_end m) (new_end n)
+agrees_new m n f few_uni few_bi small other = record {
   comes = f;
   small = small;
+  few = few;
   other = other;
   truth = λ g h. absurd h;
   ids = new_ids m n;
@@ -66,6 +68,10 @@ agrees_new m n f small other = record {
   limits = λ q. omega arith;
   acked = λ q. record { came = λ k e. cc; end_came = λ e. cc; whole = λ e r. cc; stopped = λ code e. cc };
 }
+  where
+    few : (d : Dir) → (remote_of (start m) d).max_remote ≤ 2 ^ 60
+    few Bi = omega arith
+    few Uni = omega arith
 
 agrees_begun : (x y : Endpoint) → IsNewEnd x → IsNewEnd y → y.made.side ≡ other_side x.made.side → Agrees x y
 agrees_begun x y a b other =
@@ -74,7 +80,7 @@ agrees_begun x y a b other =
     let P : Endpoint → Type 0 = λ z. Agrees z y in
     let Q : Endpoint → Type 0 = λ z. Agrees (new_end x.made) z in
     let R : Endpoint → Type 0 = λ z. Comes z in
-    subst P (sym e) (subst Q (sym k) (agrees_new x.made y.made (subst R e (comes-new x a)) a.small other))
+    subst P (sym e) (subst Q (sym k) (agrees_new x.made y.made (subst R e (comes-new x a)) a.start.few_uni a.start.few_bi a.small other))
 
 -- ---- a call of the end that sends
 
@@ -85,6 +91,7 @@ agrees-sent x y e v s r a =
     record {
       comes = comes-acted x y e v f a;
       small = s.small;
+      few = λ d. count-few x.made x.calls x.world f e v a.step d (s.few d);
       other = s.other;
       truth = true-acted x y e v f a s.truth;
       ids = ids-first x y e v f a s.other r.truth s.ids r.ids;
@@ -103,6 +110,7 @@ agrees-came x y e v s r a =
     record {
       comes = s.comes;
       small = s.small;
+      few = s.few;
       other = s.other;
       truth = s.truth;
       ids = ids-other y x e v f a s.ids;

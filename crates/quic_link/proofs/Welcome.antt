@@ -13,20 +13,25 @@ use Rattle.quic_wire.specs.declared.frame.Frame.TheVariants as frames
 use Rattle.quic_wire.specs.declared.frame.Stream.{Stream}
 use Rattle.quic_wire.specs.declared.error.ReceiveError.{ReceiveError}
 use Rattle.quic_wire.specs.declared.error.ReceiveError.TheVariants as receive_error
-use Rattle.quic_wire.specs.declared.error.TheConstants.TransportError.{STREAM_LIMIT_ERROR, STREAM_STATE_ERROR}
+use Rattle.quic_wire.specs.declared.error.TransportError.{TransportError}
+use Rattle.quic_wire.specs.declared.error.TheConstants.TransportError.{STREAM_LIMIT_ERROR, STREAM_STATE_ERROR, INTERNAL_ERROR}
+use Rattle.quic_receiving.specs.Calls.{Ingests}
+use Rattle.quic_history.specs.Receiving.{Receives, ReceivesReset}
+use Rattle.quic_history.proofs.WorldSteps.{receive-there}
+use Rattle.quic_history.specs.SendEvents.{SendEvent, GaveLimits, RaisedData, RaisedCount, RaisedLimit, StoppedOwn, SetWindow, OpenedOwn, WroteOwn, FinishedOwn, ResetOwn, SetOwnPriority, AckedOwn, LostOwn, ResetAckedOwn, TookTurn, Polled}
 use Rattle.quic_receiving.specs.Half.{Half, Verdict, Refused, Taken, verdict, verdict_by, verdict_of_limits, reset_verdict, is_unfit, is_beyond, new_bytes, flow_control_error, final_size_error}
 use Rattle.quic_outgoing.specs.Outgoing.{own_of}
 use Rattle.quic_outgoing.specs.Senders.{is_local}
 use Rattle.quic_history.specs.World.{World, is_own, remote_of, id_refusal, own_refusal}
 use Rattle.quic_history.specs.Sends.{sending_refusal}
 use Rattle.quic_history.specs.SendTotals.{send_totals, own_total}
-use Rattle.quic_history.specs.History.{Trace, HalfFrom, trace, streams, received, total_over, with_stream, taken_in_all, greatest_limit, greatest_count, opened_in_all}
+use Rattle.quic_history.specs.History.{Event, Received, ReceivedReset, AddedCredits, Began, Gave, Ended, Stopped, ToldReset, Resized, SetConcurrent, Accepted, Settled, Sending, Trace, HalfFrom, trace, streams, received, total_over, with_stream, taken_in_all, greatest_limit, greatest_count, opened_in_all}
 use Rattle.quic_history.proofs.StreamSteps.{half-from}
 use Rattle.quic_history.proofs.Totals.{IsOnce, once_with, total_with, by_cases, same}
 use Rattle.quic_history.proofs.Traces.{streams-once, quiet, itself}
 use Rattle.quic_link.specs.Endpoints.{Endpoint, IsOneOf, sent_on, came_on, Linked}
 use Rattle.quic_link.specs.Truths.{IsTrue, IsTrueData, amount_on}
-use Rattle.quic_link.specs.Promises.{IsWelcome, AreWelcome}
+use Rattle.quic_link.specs.Promises.{IsWelcome, AreWelcome, IsCrowded, RefusesNone}
 use Rattle.quic_link.proofs.Ends.{Comes}
 use Rattle.quic_link.proofs.Sums.{total-most}
 use Rattle.quic_link.proofs.Rooms.{amount, sum-written}
@@ -165,3 +170,160 @@ module _ (x y : Endpoint) (s : Agrees x y) (r : Agrees y x) where
         where
           by_two : (p q : Bool) → p ≡ false → q ≡ false → (p || q) ≡ false
           by_two p q e k = rw (e, k) refl
+
+  -- a final size that is known is what was written
+  size_written : (id : ℕ) (h : Half) → HalfFrom y.world.window (came_on y id) h → (size : ℕ) → h.size ≡ Some size → size ≡ amount_on x id
+  size_written id h t size e =
+      let sized : (came_on y id).sized ≡ true = sym t.sized ∙ ap (λ (o : Option ℕ). is_some o) e in
+      sym (t.final size e) ∙ t.high ∙ (s.fits id).whole sized
+
+  taken : (g : Stream) → IsTrueData x g → (h : Half) → HalfFrom y.world.window (came_on y g.id) h
+      → verdict h g.offset (length g.bytes) g.fin y.world.credit.data_recvd y.world.credit.local_max_data ≡ Taken
+  taken g d h t =
+      let within = d.within in
+      let room = (s.rooms g.id).within in
+      let small = (s.rooms g.id).small in
+      let high = (s.fits g.id).high in
+      let is_high = t.high in
+      let end : ℕ = g.offset + length g.bytes in
+      take_by h.size h.end h.sent_max (g.offset + length g.bytes) g.fin y.world.credit.data_recvd y.world.credit.local_max_data (omega arith)
+      (past_none h.size (g.offset + length g.bytes) (amount_on x g.id) g.fin within d.ends (size_written g.id h t))
+      (not_below (g.offset + length g.bytes) h.end g.fin (λ e. let k = d.ends e in omega arith))
+      (fits_limit g.id (g.offset + length g.bytes) h t within)
+    where
+      take_by : (size : Option ℕ) (high limit end : ℕ) (fin : Bool) (received most : ℕ) → end < 2 ^ 62 → is_past size end fin ≡ false → (fin && nat_lt end high) ≡ false → is_beyond high limit end received most ≡ false
+          → verdict_by size high limit end fin received most ≡ Taken
+      take_by size high limit end fin received most l a b c = let k : nat_le (2 ^ 62) end ≡ false = grind (arith, nat_tests) in rw (k, a, b, c) refl
+
+      past_none : (size : Option ℕ) (end n : ℕ) (fin : Bool) → end ≤ n → (fin ≡ true → end ≡ n) → ((k : ℕ) → size ≡ Some k → k ≡ n) → is_past size end fin ≡ false
+      past_none None end n fin l e k = refl
+      past_none (Some m) end n true l e k = let a = k m refl in let b = e refl in grind (arith, nat_tests)
+      past_none (Some m) end n false l e k = let a = k m refl in grind (arith, nat_tests)
+
+      not_below : (end high : ℕ) (fin : Bool) → (fin ≡ true → high ≤ end) → (fin && nat_lt end high) ≡ false
+      not_below end high true l = let k = l refl in grind (arith, nat_tests)
+      not_below end high false l = refl
+
+  reset_taken : (id final : ℕ) → final ≡ amount_on x id → (h : Half) → HalfFrom y.world.window (came_on y id) h
+      → reset_verdict h final y.world.credit.data_recvd y.world.credit.local_max_data ≡ Taken
+  reset_taken id final e h t =
+      let high = (s.fits id).high in
+      let is_high = t.high in
+      take_reset h.size h.end h.sent_max final y.world.credit.data_recvd y.world.credit.local_max_data
+      (fit h.size h.end final (omega arith) (λ k i. size_written id h t k i ∙ sym e))
+      (fits_limit id final h t (omega arith))
+    where
+      take_reset : (size : Option ℕ) (high limit final received most : ℕ) → is_unfit size high final ≡ false → is_beyond high limit final received most ≡ false
+          → (if is_unfit size high final then Refused final_size_error else verdict_of_limits high limit final received most) ≡ Taken
+      take_reset size high limit final received most a b = rw (a, b) refl
+
+      fit : (size : Option ℕ) (high final : ℕ) → high ≤ final → ((k : ℕ) → size ≡ Some k → k ≡ final) → is_unfit size high final ≡ false
+      fit None high final l k = grind (arith, nat_tests)
+      fit (Some m) high final l k = let a = k m refl in grind (arith, nat_tests)
+
+  -- every frame is welcome
+  welcome : (g : Frame) → IsTrue x g → OpenFrame x y g → IsWelcome y.world g
+  welcome (frames.Stream g) t o =
+      let known = sends_known g.id o in
+      (known, λ h e n. taken g t h (told g.id h e known))
+  welcome (frames.ResetStream g) t o =
+      let known = sends_known g.id o in
+      (known, λ h e. reset_taken g.id g.final_offset t.1 h (told g.id h e known))
+  welcome (frames.MaxStreamData id limit) t o = receives_known id o
+  welcome (frames.MaxStreams d count) t o = few_streams d count t
+    where
+      few_streams : (d : Dir) (count : ℕ) → count ≤ (remote_of x.world d).max_remote → count ≤ 2 ^ 60
+      few_streams d count l = let m = s.few d in omega arith
+  welcome (frames.StopSending f) t o = tt
+  welcome frames.Padding t o = tt
+  welcome frames.Ping t o = tt
+  welcome frames.Ack t o = tt
+  welcome (frames.Crypto c) t o = tt
+  welcome frames.NewToken t o = tt
+  welcome (frames.MaxData limit) t o = tt
+  welcome (frames.DataBlocked offset) t o = tt
+  welcome (frames.StreamDataBlocked id offset) t o = tt
+  welcome (frames.StreamsBlocked d) t o = tt
+  welcome frames.NewConnectionId t o = tt
+  welcome frames.RetireConnectionId t o = tt
+  welcome frames.PathChallenge t o = tt
+  welcome frames.PathResponse t o = tt
+  welcome frames.Close t o = tt
+  welcome (frames.Datagram d) t o = tt
+  welcome frames.AckFrequency t o = tt
+  welcome frames.ImmediateAck t o = tt
+  welcome frames.HandshakeDone t o = tt
+
+  pub all-welcome : AreWelcome x y
+  all-welcome g h = welcome g (s.truth g h) (s.ids.frames_open g h)
+
+-- ---- what calls are answered
+
+refused_taken : (c : ℕ) (k : Verdict) → k ≡ Refused c → k ≡ Taken → ⊥
+refused_taken c k e t = let n = sym e ∙ t in cc
+
+none_some : (c : ℕ) (o : Option ℕ) → o ≡ Some c → o ≡ None → ⊥
+none_some c o e n = let k = sym e ∙ n in cc
+
+module _ (x y : Endpoint) (all : AreWelcome x y) where
+  unrefused_frame : (id offset : ℕ) (bytes : List ℕ) (fin : Bool) (error : TransportError) (v : World) → IsOneOf (frames.Stream (record { id = id; offset = offset; fin = fin; bytes = bytes })) x.wrote
+      → Receives y.world id offset bytes fin (Err (receive_error.Transport error)) v → (error.code ≡ INTERNAL_ERROR) × IsCrowded v id
+  unrefused_frame id offset bytes fin error v k (inl s) = let w = all _ k in absurd (none_some error.code _ s.0 w.0)
+  unrefused_frame id offset bytes fin error v k (inr s) =
+      let w = all (frames.Stream (record { id = id; offset = offset; fin = fin; bytes = bytes })) k in
+      by_answer s.0 s.1 (w.1 s.0 s.2.half s.2.running) (ap (λ (w : World). w.receive id) s.3 ∙ receive-there y.world id (Some s.1)) s.2.ingests
+    where
+      by_answer : (old new : Half) → verdict old offset (length bytes) fin y.world.credit.data_recvd y.world.credit.local_max_data ≡ Taken → v.receive id ≡ Some new
+          → Ingests old offset bytes fin y.world.credit.data_recvd y.world.credit.local_max_data (Err (receive_error.Transport error)) new → (error.code ≡ INTERNAL_ERROR) × IsCrowded v id
+      by_answer old new now held (inl t) = absurd (refused_taken error.code _ t.0 now)
+      by_answer old new now held (inr t) = (t.1, record { half = new; held = held; many = t.2 })
+
+  unrefused_reset : (id code final : ℕ) (error : TransportError) (v : World) → IsOneOf (frames.ResetStream (record { id = id; error_code = code; final_offset = final })) x.wrote
+      → ReceivesReset y.world id code final (Err (receive_error.Transport error)) v → ⊥
+  unrefused_reset id code final error v k (inl s) = let w = all _ k in none_some error.code _ s.0 w.0
+  unrefused_reset id code final error v k (inr s) =
+      let w = all (frames.ResetStream (record { id = id; error_code = code; final_offset = final })) k in
+      refused_taken error.code _ s.2.resets.0 (w.1 s.0 s.2.half)
+
+  -- none is a transport error, but of too many pieces
+  pub refuses-none : RefusesNone x y
+  refuses-none (Received id offset bytes fin (Err (receive_error.Transport error))) v a = unrefused_frame id offset bytes fin error v a.honest a.step
+  refuses-none (Received id offset bytes fin (Err receive_error.CompactionMemory)) v a = tt
+  refuses-none (Received id offset bytes fin (Err receive_error.OutOfMemory)) v a = tt
+  refuses-none (Received id offset bytes fin (Ok transmit)) v a = tt
+  refuses-none (ReceivedReset id code final (Err (receive_error.Transport error))) v a = unrefused_reset id code final error v a.honest a.step
+  refuses-none (ReceivedReset id code final (Err receive_error.CompactionMemory)) v a = tt
+  refuses-none (ReceivedReset id code final (Err receive_error.OutOfMemory)) v a = tt
+  refuses-none (ReceivedReset id code final (Ok transmit)) v a = tt
+  refuses-none (Sending (RaisedCount dir count (Err (receive_error.Transport error)))) v a = let w = all (frames.MaxStreams dir count) a.honest in let k = a.step.0 in omega arith
+  refuses-none (Sending (RaisedCount dir count (Err receive_error.CompactionMemory))) v a = tt
+  refuses-none (Sending (RaisedCount dir count (Err receive_error.OutOfMemory))) v a = tt
+  refuses-none (Sending (RaisedCount dir count (Ok u))) v a = tt
+  refuses-none (Sending (RaisedLimit id limit (Err (receive_error.Transport error)))) v a = none_some error.code _ a.step.0 (all (frames.MaxStreamData id limit) a.honest)
+  refuses-none (Sending (RaisedLimit id limit (Err receive_error.CompactionMemory))) v a = tt
+  refuses-none (Sending (RaisedLimit id limit (Err receive_error.OutOfMemory))) v a = tt
+  refuses-none (Sending (RaisedLimit id limit (Ok u))) v a = tt
+  refuses-none (Sending (GaveLimits limits)) v a = tt
+  refuses-none (Sending (OpenedOwn dir closed answer)) v a = tt
+  refuses-none (Sending (RaisedData limit)) v a = tt
+  refuses-none (Sending (StoppedOwn id code answer)) v a = tt
+  refuses-none (Sending (SetWindow window)) v a = tt
+  refuses-none (Sending (WroteOwn id lists closed answer)) v a = tt
+  refuses-none (Sending (FinishedOwn id answer)) v a = tt
+  refuses-none (Sending (ResetOwn id code answer)) v a = tt
+  refuses-none (Sending (SetOwnPriority id priority answer)) v a = tt
+  refuses-none (Sending (AckedOwn id offsets fin answer)) v a = tt
+  refuses-none (Sending (LostOwn id offsets fin answer)) v a = tt
+  refuses-none (Sending (ResetAckedOwn id answer)) v a = tt
+  refuses-none (Sending (TookTurn most fair frame)) v a = tt
+  refuses-none (Sending (Polled answer)) v a = tt
+  refuses-none (AddedCredits count answer) v a = tt
+  refuses-none (Began id ordered answer) v a = tt
+  refuses-none (Gave id most ordered answer) v a = tt
+  refuses-none (Ended id count) v a = tt
+  refuses-none (Stopped id code answer) v a = tt
+  refuses-none (ToldReset id answer) v a = tt
+  refuses-none (Resized window answer) v a = tt
+  refuses-none (SetConcurrent dir count answer) v a = tt
+  refuses-none (Accepted dir answer) v a = tt
+  refuses-none (Settled kind frame) v a = tt
