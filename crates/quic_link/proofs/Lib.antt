@@ -12,3 +12,4 @@ pub mod Opens
 pub mod Counts
 pub mod Joint
 pub mod Welcome
+pub mod Modes
