@@ -13,3 +13,4 @@ pub mod Counts
 pub mod Joint
 pub mod Welcome
 pub mod Modes
+pub mod Readers

@@ -1,18 +1,21 @@
 -- What holds between two ends, whatever is lost, repeated or reordered.
-use Rattle.std.specs.Prelude.{ℕ, Bool, true, ◌≡◌, ◌+◌, ◌^◌, ◌≤◌, ◌<◌, List, length, Some, None, Ok, Err}
+use Rattle.std.specs.Prelude.{ℕ, Bool, Result, true, ◌≡◌, ◌+◌, ◌^◌, ◌≤◌, ◌<◌, List, [], ◌∷◌, ◌++◌, length, if◌then◌else◌, false, Some, None, Ok, Err}
 use Rattle.quic_wire.specs.declared.frame.Frame.{Frame}
 use Rattle.quic_wire.specs.declared.frame.Frame.TheVariants as frames
+use Rattle.quic_wire.specs.declared.error.ReceiveError.{ReceiveError}
 use Rattle.quic_wire.specs.declared.error.ReceiveError.TheVariants as receive_error
 use Rattle.quic_wire.specs.declared.error.TheConstants.TransportError.{INTERNAL_ERROR}
-use Rattle.quic_assembler.specs.Piece.{lies}
-use Rattle.quic_assembler.specs.Reassembly.{piece_count}
-use Rattle.quic_receiving.specs.Half.{Half, Taken, verdict, reset_verdict}
+use Rattle.quic_assembler.specs.Piece.{lies, IsByteAt}
+use Rattle.quic_assembler.specs.Reassembly.{Holds, IsHeld, piece_count}
+use Rattle.quic_receiving.specs.Data.{Carries, is_in_slices, IsAllGiven}
+use Rattle.quic_receiving.specs.Half.{Half, Taken, verdict, reset_verdict, is_all}
 use Rattle.quic_receiving.specs.declared.transmit.ShouldTransmit.{ShouldTransmit}
 use Rattle.quic_history.specs.World.{World, id_refusal}
 use Rattle.quic_history.specs.Sends.{sending_refusal}
 use Rattle.quic_history.specs.SendEvents.{RaisedCount, RaisedLimit}
-use Rattle.quic_history.specs.History.{Event, Received, ReceivedReset, Sending}
-use Rattle.quic_link.specs.Endpoints.{Endpoint, IsOneOf, MayAct}
+use Rattle.quic_history.specs.History.{Event, Received, ReceivedReset, Sending, ReadChunk, slices, EachOnce, is_kept}
+use Rattle.quic_link.specs.Endpoints.{Endpoint, IsOneOf, MayAct, sent_on, came_on, written_on, WasStoppedWith}
+use Rattle.quic_link.specs.Truths.{AreBytesOf, amount_on}
 
 -- a STREAM frame with the byte at an offset was answered Ok
 pub record CameAt (calls : List Event) (id at : ℕ) : Type 0 where
@@ -62,3 +65,59 @@ IsUnrefused _ v = Unit {0}
 -- so no call of y may be answered otherwise
 abbrev pub RefusesNone : Endpoint → Endpoint → Type 0
 RefusesNone x y = (e : Event) (v : World) → MayAct y x e v → IsUnrefused e v
+
+-- the bytes of the chunks that were read in order, joined; the newest chunk is the first of the list
+abbrev pub given_in_order : List ReadChunk → List ℕ
+given_in_order [] = []
+given_in_order (c ∷ cs) = if c.ordered then given_in_order cs ++ c.bytes else given_in_order cs
+
+-- what y was told of a stream is true of x, and what x was told of y
+pub record TellsTruth (x y : Endpoint) (q : ℕ) : Type 0 where
+  -- ordered reads gave a beginning of what was written
+  pub beginning : AreBytesOf 0 (given_in_order (came_on y q).given) (written_on x q)
+  -- each byte that was given is what was written at its place
+  pub slices_written : (at byte : ℕ) → Carries (slices (came_on y q).given) at byte → IsByteAt 0 (written_on x q) at byte
+  -- and is given once
+  pub once : EachOnce (slices (came_on y q).given)
+  -- where a read told the end, the stream was finished, and every byte of it given
+  pub finished : (came_on y q).ended ≡ true → (sent_on x q).finished ≡ true
+  pub all : (came_on y q).ended ≡ true → IsAllGiven (slices (came_on y q).given) (amount_on x q)
+  -- the code of a reset that came is that of a reset, and the code of a stop that of a stop
+  pub reset : (code : ℕ) → (came_on y q).reset ≡ Some code → (sent_on x q).reset ≡ Some code
+  pub stopped : (code : ℕ) → (sent_on x q).stopped ≡ Some code → WasStoppedWith y.calls q code
+  -- where the half of a stream that was not reset is freed, it was finished, and frames with every byte and with the end
+  -- were answered Ok
+  pub ends : (sent_on x q).freed ≡ true → (sent_on x q).reset ≡ None → (sent_on x q).finished ≡ true
+  pub came : (sent_on x q).freed ≡ true → (sent_on x q).reset ≡ None → (at : ℕ) → at < amount_on x q → CameAt y.calls q at
+  pub end_came : (sent_on x q).freed ≡ true → (sent_on x q).reset ≡ None → EndCame y.calls q
+
+-- a STREAM frame with the byte at an offset was kept
+pub record KeptAt (calls : List Event) (id at : ℕ) : Type 0 where
+  pub offset : ℕ
+  pub bytes : List ℕ
+  pub fin : Bool
+  pub answer : Result ShouldTransmit ReceiveError
+  pub is : IsOneOf (Received id offset bytes fin answer) calls
+  pub kept : is_kept answer ≡ true
+  pub has : lies offset (offset + length bytes) at ≡ true
+
+-- one with the end was
+pub record EndKept (calls : List Event) (id : ℕ) : Type 0 where
+  pub offset : ℕ
+  pub bytes : List ℕ
+  pub answer : Result ShouldTransmit ReceiveError
+  pub is : IsOneOf (Received id offset bytes true answer) calls
+  pub kept : is_kept answer ≡ true
+
+-- nothing that was kept is withheld from reads
+pub record IsReadable (x y : Endpoint) (q : ℕ) (h : Half) : Type 0 where
+  -- in order, the next byte is there
+  pub next : h.buffer.ordered ≡ true → KeptAt y.calls q h.buffer.bytes_read → IsHeld (Holds h.buffer) h.buffer.bytes_read
+  -- as bytes come, each that was not given
+  pub any : (at : ℕ) → KeptAt y.calls q at → is_in_slices (slices (came_on y q).given) at ≡ false → IsHeld (Holds h.buffer) at
+  -- where every byte was given and the end was kept, reads tell the end
+  pub end : EndKept y.calls q → IsAllGiven (slices (came_on y q).given) (amount_on x q) → is_all h.size h.buffer.bytes_read ≡ true
+
+-- so on each stream that its reader did not stop, and of which no reset came
+abbrev pub AreReadable : Endpoint → Endpoint → Type 0
+AreReadable x y = (q : ℕ) (h : Half) → y.world.receive q ≡ Some h → h.stopped ≡ false → h.reset ≡ None → IsReadable x y q h

@@ -1,0 +1,174 @@
+-- What reads gave in order stands in a row, and a stream that was reset tells no end.
+use Rattle.std.proofs.Common.{◌≡◌, ◌⊎◌, ℕ, Bool, true, false, eqb, List, [], ◌∷◌, length, Option, Some, None, is_some, Result, Ok, Err, refl, sym, ap, ◌∙◌, subst, inl, inr, arith, ◌+◌, ◌≤◌}
+use Rattle.std.specs.Prelude.{◌++◌, ◌==◌, ◌&&◌, ◌||◌, if◌then◌else◌}
+use Rattle.std.proofs.lemmas.List.{length-append}
+use Rattle.quic_assembler.specs.declared.chunk.Chunk.{Chunk}
+use Rattle.quic_wire.specs.declared.frame.Frame.TheVariants as frames
+use Rattle.quic_receiving.specs.Half.{Half}
+use Rattle.quic_receiving.specs.declared.errors.ReadError.{ReadError}
+use Rattle.quic_receiving.specs.declared.errors.ReadError.TheVariants as read_error
+use Rattle.quic_history.specs.World.{World, Made, id_refusal}
+use Rattle.quic_history.specs.History.{Event, Move, Framed, WasReset, WasRead, WasStopped, WasTold, WasAnnounced, Received, ReceivedReset, AddedCredits, Began, Gave, Ended, Stopped, ToldReset, Resized, SetConcurrent, Accepted, Settled, Sending, Step, From, Trace, ReadChunk, HalfFrom, EndsSo, trace, untouched, move_of, moved, with_move, with_kept_frame, with_reset, with_read, is_kept, is_closed}
+use Rattle.quic_history.specs.Reading.{ReadsHalf}
+use Rattle.quic_history.proofs.StreamSteps.{half-from, known-from}
+use Rattle.quic_history.proofs.Totals.{by_cases, same}
+use Rattle.quic_link.specs.Promises.{given_in_order}
+use Rattle.quic_link.proofs.Modes.{Modes, modes-step}
+
+-- each chunk that was read in order starts where those before it end
+abbrev pub InRows : List ReadChunk → Type 0
+InRows [] = Unit {0}
+InRows (c ∷ cs) = InRows cs × (c.ordered ≡ true → c.offset ≡ length (given_in_order cs))
+
+pub record TraceSo (t : Trace) : Type 0 where
+  pub unreset : t.ended ≡ true → t.reset ≡ None
+  pub rows : InRows t.given
+  pub few : length (given_in_order t.given) ≤ t.read
+
+pub record ReadsSo (h : List Event) (w : World) : Type 0 where
+  pub traces : (q : ℕ) → TraceSo (trace h q)
+  -- all that was read of a half that reads in order was read so
+  pub order : (q : ℕ) (half : Half) → w.receive q ≡ Some half → half.buffer.ordered ≡ true → length (given_in_order (trace h q).given) ≡ (trace h q).read
+
+-- what a read did agrees with the half that it read
+abbrev ReadTrue : (w : World) → ℕ → Trace → Move → Type 0
+ReadTrue w id t (WasRead ordered (Ok (Some chunk))) = (ordered ≡ true → chunk.offset ≡ length (given_in_order t.given)) × ((half : Half) → w.receive id ≡ Some half → half.buffer.ordered ≡ ordered)
+ReadTrue w id t (WasRead ordered (Ok None)) = t.reset ≡ None
+ReadTrue w id t _ = Unit {0}
+
+abbrev ReadsTrue : (w : World) → (ℕ → Trace) → Option (ℕ × Move) → Type 0
+ReadsTrue w f None = Unit {0}
+ReadsTrue w f (Some m) = ReadTrue w m.0 (f m.0) m.1
+
+so_if : (a b : Trace) (k : Bool) → (k ≡ true → TraceSo a) → (k ≡ false → TraceSo b) → TraceSo (if k then a else b)
+so_if a b true g h = g refl
+so_if a b false g h = h refl
+
+-- the rest does not count
+so_same : (t t' : Trace) → t'.ended ≡ t.ended → t'.reset ≡ t.reset → t'.given ≡ t.given → t'.read ≡ t.read → TraceSo t → TraceSo t'
+so_same t t' a b c d s =
+    let P : List ReadChunk → Type 0 = λ g. InRows g in
+    let few = s.few in
+    let n : length (given_in_order t'.given) ≡ length (given_in_order t.given) = ap (λ g. length (given_in_order g)) c in
+    record { unreset = λ k. b ∙ s.unreset (sym a ∙ k); rows = subst P (sym c) s.rows; few = omega arith }
+
+more_given : (b : Bool) (xs ys : List ℕ) (n : ℕ) → length xs ≤ n → length (if b then xs ++ ys else xs) ≤ n + length ys
+more_given true xs ys n l = let k = length-append xs ys in omega arith
+more_given false xs ys n l = omega arith
+
+not_both : (a b : Bool) → a ≡ true → (b || a) ≡ false → ⊥
+not_both a true e k = cc
+not_both a false e k = let l = sym e ∙ k in cc
+
+so_move : (w : World) (id : ℕ) (m : Move) (t : Trace) → EndsSo t → ReadTrue w id t m → TraceSo t → TraceSo (with_move m t)
+so_move w id (Framed offset bytes fin answer) t e k s = so_if (with_kept_frame offset bytes fin t) t (is_kept answer) (λ a. so_if t _ (is_closed t) (λ b. s) (λ b. so_same t _ refl refl refl refl s)) (λ a. s)
+so_move w id (WasReset code final) t e k s = so_if t _ (is_closed t) (λ b. s) (λ b. record { unreset = λ r. absurd (not_both t.gone (is_some t.reset) (e.freed r) b); rows = s.rows; few = s.few })
+so_move w id (WasRead ordered (Ok (Some chunk))) t e k s = record { unreset = s.unreset; rows = (s.rows, k.0); few = more_given ordered (given_in_order t.given) chunk.bytes t.read s.few }
+so_move w id (WasRead ordered (Ok None)) t e k s = record { unreset = λ r. k; rows = s.rows; few = s.few }
+so_move w id (WasRead ordered (Err read_error.Blocked)) t e k s = s
+so_move w id (WasRead ordered (Err (read_error.Reset code))) t e k s = so_same t _ refl refl refl refl s
+so_move w id (WasRead ordered (Err read_error.OutOfMemory)) t e k s = s
+so_move w id WasStopped t e k s = so_same t _ refl refl refl refl s
+so_move w id WasTold t e k s = so_same t _ refl refl refl refl s
+so_move w id (WasAnnounced limit) t e k s = so_same t _ refl refl refl refl s
+
+so_moved : (w : World) (f : ℕ → Trace) (o : Option (ℕ × Move)) (q : ℕ) → EndsSo (f q) → ReadsTrue w f o → TraceSo (f q) → TraceSo (moved o q (f q))
+so_moved w f None q e k s = s
+so_moved w f (Some m) q e k s = by_cases (eqb q m.0)
+    (λ t. let P : ℕ → Type 0 = λ i. ReadTrue w i (f i) m.1 in
+    let at : ReadTrue w q (f q) m.1 = subst P (sym (same q m.0 t)) k in
+    so_if (with_move m.1 (f q)) (f q) (eqb q m.0) (λ x. so_move w q m.1 (f q) e at s) (λ x. s))
+    (λ n. rw n s)
+
+-- ---- in order
+
+abbrev Same : Trace → Type 0
+Same t = length (given_in_order t.given) ≡ t.read
+
+same_if : (a b : Trace) (k : Bool) → Same a → Same b → Same (if k then a else b)
+same_if a b true g h = g
+same_if a b false g h = h
+
+order_move : (w : World) (id : ℕ) (m : Move) (t : Trace) (half : Half) → w.receive id ≡ Some half → half.buffer.ordered ≡ true → ReadTrue w id t m → Same t → Same (with_move m t)
+order_move w id (Framed offset bytes fin answer) t half at o k s = same_if (with_kept_frame offset bytes fin t) t (is_kept answer) (same_if t _ (is_closed t) s s) s
+order_move w id (WasReset code final) t half at o k s = same_if t _ (is_closed t) s s
+order_move w id (WasRead ordered (Ok (Some chunk))) t half at o k s =
+    let is : ordered ≡ true = sym (k.1 half at) ∙ o in
+    let n = length-append (given_in_order t.given) chunk.bytes in
+    let all : length (given_in_order t.given ++ chunk.bytes) ≡ t.read + length chunk.bytes = omega arith in
+    rw is all
+order_move w id (WasRead ordered (Ok None)) t half at o k s = s
+order_move w id (WasRead ordered (Err read_error.Blocked)) t half at o k s = s
+order_move w id (WasRead ordered (Err (read_error.Reset code))) t half at o k s = s
+order_move w id (WasRead ordered (Err read_error.OutOfMemory)) t half at o k s = s
+order_move w id WasStopped t half at o k s = s
+order_move w id WasTold t half at o k s = s
+order_move w id (WasAnnounced limit) t half at o k s = s
+
+order_moved : (w : World) (f : ℕ → Trace) (o : Option (ℕ × Move)) (q : ℕ) (half : Half) → w.receive q ≡ Some half → half.buffer.ordered ≡ true → ReadsTrue w f o → Same (f q) → Same (moved o q (f q))
+order_moved w f None q half at r k s = s
+order_moved w f (Some m) q half at r k s = by_cases (eqb q m.0)
+    (λ t. let P : ℕ → Type 0 = λ i. ReadTrue w i (f i) m.1 in
+    let here : ReadTrue w q (f q) m.1 = subst P (sym (same q m.0 t)) k in
+    same_if (with_move m.1 (f q)) (f q) (eqb q m.0) (order_move w q m.1 (f q) half at r here s) s)
+    (λ n. rw n s)
+
+-- ---- what a call did
+
+some_same : {X : Type 0} (a b : X) → Some a ≡ Some b → a ≡ b
+some_same a b k = cc
+
+module _ (m : Made) (h : List Event) (u : World) (f : From m h u) (s : ReadsSo h u) where
+  told_half : (id : ℕ) (half : Half) → u.receive id ≡ Some half → HalfFrom u.window (trace h id) half
+  told_half id half e = half-from (trace h) u id half f.facts.streams (known-from (trace h) u id half f.facts.streams e) e
+
+  read_true : (id most : ℕ) (ordered : Bool) (answer : Result (Option Chunk) ReadError) (v : World) → ReadsHalf u id most ordered answer v → ReadTrue u id (trace h id) (WasRead ordered answer)
+  read_true id most ordered (Ok (Some chunk)) v r =
+      let told = told_half id r.old r.half in
+      (λ e. let o : r.old.buffer.ordered ≡ true = r.mode ∙ e in r.reads.1.start o ∙ told.read ∙ sym (s.order id r.old r.half o),
+       λ half e. let k = some_same half r.old (sym e ∙ r.half) in ap (λ (x : Half). x.buffer.ordered) k ∙ r.mode)
+  read_true id most ordered (Ok None) v r =
+      let told = told_half id r.old r.half in
+      sym told.reset ∙ r.reads.2.running
+  read_true id most ordered (Err read_error.Blocked) v r = tt
+  read_true id most ordered (Err (read_error.Reset code)) v r = tt
+  read_true id most ordered (Err read_error.OutOfMemory) v r = tt
+
+  reads_true : (e : Event) (v : World) → Step u e v → ReadsTrue u (trace h) (move_of e)
+  reads_true (Gave id most ordered answer) v r = read_true id most ordered answer v r
+  reads_true (Received id offset bytes fin answer) v r = tt
+  reads_true (ReceivedReset id code final (Ok transmit)) v r = tt
+  reads_true (ReceivedReset id code final (Err error)) v r = tt
+  reads_true (AddedCredits count answer) v r = tt
+  reads_true (Began id ordered answer) v r = tt
+  reads_true (Ended id count) v r = tt
+  reads_true (Stopped id code (Ok x)) v r = tt
+  reads_true (Stopped id code (Err error)) v r = tt
+  reads_true (ToldReset id (Ok (Some code))) v r = tt
+  reads_true (ToldReset id (Ok None)) v r = tt
+  reads_true (ToldReset id (Err error)) v r = tt
+  reads_true (Resized window answer) v r = tt
+  reads_true (SetConcurrent dir count answer) v r = tt
+  reads_true (Accepted dir answer) v r = tt
+  reads_true (Settled kind None) v r = tt
+  reads_true (Settled kind (Some (frames.MaxStreamData id limit))) v r = tt
+  reads_true (Settled kind (Some _)) v r = tt
+  reads_true (Sending e) v r = tt
+
+  pub reads-kept : (e : Event) (v : World) → Step u e v → From m (e ∷ h) v → ReadsSo (e ∷ h) v
+  reads-kept e v r after =
+      let k = reads_true e v r in
+      let traces : (q : ℕ) → TraceSo (trace (e ∷ h) q) = λ q. so_moved u (trace h) (move_of e) q (f.ends q) k (s.traces q) in
+      record {
+        traces = traces;
+        order = λ q half at o. elim (modes-step u e v r q half at) [
+          | inl none ↦ (let told = half-from (trace (e ∷ h)) v q half after.facts.streams (known-from (trace (e ∷ h)) v q half after.facts.streams at) at in
+              let read = told.read in
+              let few = (traces q).few in
+              omega arith)
+          | inr was ↦ order_moved u (trace h) (move_of e) q was.0 was.1 (was.2 o) k (s.order q was.0 was.1 (was.2 o))
+        ];
+      }
+
+pub reads-new : (w : World) → ReadsSo [] w
+reads-new w = record { traces = λ q. record { unreset = λ k. refl; rows = tt; few = omega arith }; order = λ q half e o. refl }
