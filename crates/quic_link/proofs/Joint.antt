@@ -16,6 +16,8 @@ use Rattle.quic_link.proofs.Streams.{StreamFits, fits-new, fits-grown, fits-move
 use Rattle.quic_link.proofs.Acks.{AckedSo, acked-sent, acked-came}
 use Rattle.quic_link.proofs.Meets.{nexts, next_of_dir}
 use Rattle.quic_link.proofs.Opens.{IdsSo}
+use Rattle.quic_link.proofs.Readers.{ReadsSo, reads-new, reads-kept}
+use Rattle.quic_link.proofs.Kept.{KeptSo, kept-new, kept-step}
 use Rattle.quic_link.proofs.Counts.{DataSo, ids-first, ids-other, data-first, data-other}
 
 -- as x sends and y receives
@@ -27,6 +29,8 @@ pub record Agrees (x y : Endpoint) : Type 0 where
   pub truth : AllTrue x
   pub ids : IdsSo x y
   pub credit : DataSo x y
+  pub reads : ReadsSo x.calls x.world
+  pub keeps : KeptSo x.calls
   pub rooms : (q : ℕ) → RoomSo (sent_on x q)
   pub fits : (q : ℕ) → StreamFits (sent_on x q) (came_on y q)
   pub limits : (q : ℕ) → LimitSo y.made.window (sent_on x q) (came_on y q)
@@ -63,6 +67,8 @@ agrees_new m n f few_uni few_bi small other = record {
   truth = λ g h. absurd h;
   ids = new_ids m n;
   credit = record { limit = omega arith; base = omega arith };
+  reads = reads-new (start m);
+  keeps = kept-new;
   rooms = λ q. record { within = omega arith; small = omega arith };
   fits = λ q. fits-new (sent_on (new_end m) q);
   limits = λ q. omega arith;
@@ -96,6 +102,8 @@ agrees-sent x y e v s r a =
       truth = true-acted x y e v f a s.truth;
       ids = ids-first x y e v f a s.other r.truth s.ids r.ids;
       credit = data-first x y e v f a r.truth s.credit r.credit;
+      reads = reads-kept x.made x.calls x.world f s.reads e v a.step (comes-acted x y e v f a);
+      keeps = kept-step x.made x.calls x.world f e v a.step s.keeps;
       rooms = λ q. room-kept x.made x.calls x.world v f y.made e a.step r.small l q (s.rooms q);
       fits = λ q. fits-grown (sent_on x q) (sent_on (acted x e v) q) (came_on y q) (grows x.made x.calls x.world v f e a.step q) (s.fits q);
       limits = limits-sent x y e v r.truth a.honest l s.limits;
@@ -115,6 +123,8 @@ agrees-came x y e v s r a =
       truth = s.truth;
       ids = ids-other y x e v f a s.ids;
       credit = data-other y x e v f a s.credit;
+      reads = s.reads;
+      keeps = s.keeps;
       rooms = s.rooms;
       fits = λ q. fits-moved (sent_on x) (move_of e) q (came_on y q) (move-true x y e s.truth a.honest) (s.fits q);
       limits = limits-came x y e v s.limits;

@@ -14,3 +14,5 @@ pub mod Joint
 pub mod Welcome
 pub mod Modes
 pub mod Readers
+pub mod Kept
+pub mod Truthful
