@@ -1,26 +1,23 @@
 -- Streams and limits that one end counts on, the other permits; kept by each call.
-use Rattle.std.proofs.Common.{◌≡◌, ◌⊎◌, ℕ, Bool, true, false, List, [], ◌∷◌, Option, Some, None, Result, Ok, Err, refl, sym, ap, ◌∙◌, subst, inl, inr, arith, ◌+◌, ◌≤◌, ◌<◌, ◌^◌}
-use Rattle.std.specs.Prelude.{◌++◌, not, max, min, if◌then◌else◌}
+use Rattle.std.proofs.Common.{◌≡◌, ℕ, Bool, true, false, Option, Some, None, Ok, Err, refl, sym, ap, ◌∙◌, subst, inl, inr, arith, ◌≤◌, ◌<◌}
+use Rattle.std.specs.Prelude.{not, max}
 use Rattle.quic_values.specs.declared.ids.Dir.{Dir}
 use Rattle.quic_values.specs.declared.ids.Dir.TheVariants.{Bi, Uni}
 use Rattle.quic_values.specs.Ids.{other_side, dir_of, index_of}
-use Rattle.quic_wire.specs.declared.frame.Frame.{Frame}
 use Rattle.quic_wire.specs.declared.frame.Frame.TheVariants as frames
-use Rattle.quic_queue.specs.SendOrder.{SendOrder, line}
 use Rattle.quic_outgoing.specs.declared.limits.PeerLimits.{PeerLimits}
 use Rattle.quic_outgoing.specs.History.{count_in, given_for}
 use Rattle.quic_outgoing.specs.Senders.{is_local}
-use Rattle.quic_history.specs.World.{World, Made, count_of, is_own, remote_of}
-use Rattle.quic_history.specs.Flows.{stands}
-use Rattle.quic_history.specs.SendEvents.{SendEvent, GaveLimits, RaisedData, RaisedCount, RaisedLimit, StoppedOwn, SetWindow, OpenedOwn, WroteOwn, FinishedOwn, ResetOwn, SetOwnPriority, AckedOwn, LostOwn, ResetAckedOwn, TookTurn, Polled}
-use Rattle.quic_history.specs.History.{Event, Received, ReceivedReset, AddedCredits, Began, Gave, Ended, Stopped, ToldReset, Resized, SetConcurrent, Accepted, Settled, Sending, opened_in_all, opens_by, greatest_count, count_by, greatest_limit, limit_by}
+use Rattle.quic_history.specs.World.{World, Made, count_of, remote_of}
+use Rattle.quic_history.specs.SendEvents.{GaveLimits, RaisedData, RaisedCount, RaisedLimit, StoppedOwn, SetWindow, OpenedOwn, WroteOwn, FinishedOwn, ResetOwn, SetOwnPriority, AckedOwn, LostOwn, ResetAckedOwn, TookTurn, Polled}
+use Rattle.quic_history.specs.History.{Event, Received, ReceivedReset, AddedCredits, Began, Gave, Ended, Stopped, ToldReset, Resized, SetConcurrent, Accepted, Settled, Sending, opened_in_all, count_by, greatest_limit, limit_by}
 use Rattle.quic_history.proofs.Credits.{limit-fits}
-use Rattle.quic_link.specs.Endpoints.{Endpoint, IsOneOf, MayAct, acted, written_by, IsHonest, limits_of}
+use Rattle.quic_link.specs.Endpoints.{Endpoint, MayAct, acted, written_by, IsHonest, limits_of}
 use Rattle.quic_link.proofs.Ends.{Comes}
 use Rattle.quic_link.proofs.TrueFrames.{AllTrue, count-grows, limit-grows, either-of}
 use Rattle.quic_link.proofs.Meets.{nexts, next_of_dir, MeetsBy, frame_id, meets-step}
 use Rattle.quic_link.proofs.Queues.{queued_id, queues-step}
-use Rattle.quic_link.proofs.Opens.{IdsSo, IsOpenAt, OpenBy, OpenFrame, SendsOn, ReceivesOn, own-local, local-other, open_first, open_second, frame_first, frame_second, opened_grows, given-open, new_open}
+use Rattle.quic_link.proofs.Opens.{IdsSo, IsOpenAt, OpenBy, own-local, local-other, open_first, open_second, frame_first, frame_second, opened_grows, given-open, new_open}
 
 -- ---- the queue
 

@@ -1,12 +1,12 @@
 -- What holds of two ends that are linked, each way.
-use Rattle.std.proofs.Common.{◌≡◌, ℕ, Bool, true, false, List, [], Option, Some, None, refl, sym, ap, ◌∙◌, subst, arith, ◌≤◌, ◌<◌, ◌^◌}
+use Rattle.std.proofs.Common.{◌≡◌, ℕ, [], refl, sym, ap, ◌∙◌, subst, arith, ◌≤◌, ◌<◌, ◌^◌}
 use Rattle.quic_values.specs.declared.ids.Side.{Side}
 use Rattle.quic_values.specs.declared.ids.Side.TheVariants.{Client, Server}
 use Rattle.quic_values.specs.declared.ids.Dir.{Dir}
 use Rattle.quic_values.specs.declared.ids.Dir.TheVariants.{Bi, Uni}
 use Rattle.quic_values.specs.Ids.{other_side}
 use Rattle.quic_history.specs.World.{World, Made, start, count_of, remote_of}
-use Rattle.quic_history.specs.History.{Event, move_of, limits_in}
+use Rattle.quic_history.specs.History.{Event, move_of}
 use Rattle.quic_link.specs.Endpoints.{Endpoint, MayAct, acted, IsNewEnd, Linked, begun, first_acts, second_acts, sent_on, came_on}
 use Rattle.quic_link.proofs.Ends.{Comes, comes-new, comes-acted}
 use Rattle.quic_link.proofs.Growth.{grows}

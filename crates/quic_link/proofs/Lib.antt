@@ -16,3 +16,4 @@ pub mod Modes
 pub mod Readers
 pub mod Kept
 pub mod Truthful
+pub mod Promised

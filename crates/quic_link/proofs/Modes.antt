@@ -1,21 +1,19 @@
 -- A half that reads bytes as they come never reads in order again.
-use Rattle.std.proofs.Common.{◌≡◌, ◌⊎◌, ℕ, ℤ, Bool, true, false, eqb, List, [], ◌∷◌, Option, Some, None, is_some, Result, Ok, Err, refl, sym, ap, ◌∙◌, subst, inl, inr, arith, ◌-◌}
-use Rattle.std.specs.Prelude.{not, ◌==◌, nat_lt, nat_le, if◌then◌else◌}
-use Rattle.quic_values.specs.declared.ids.Side.{Side}
+use Rattle.std.proofs.Common.{◌≡◌, ◌⊎◌, ℕ, ℤ, Bool, true, false, eqb, List, Option, Some, None, is_some, Result, Ok, Err, refl, sym, ap, ◌∙◌, subst, inl, inr, ◌-◌}
+use Rattle.std.specs.Prelude.{not, ◌==◌, nat_lt, if◌then◌else◌}
 use Rattle.quic_values.specs.declared.ids.Dir.{Dir}
 use Rattle.quic_values.specs.declared.ids.Dir.TheVariants.{Bi, Uni}
 use Rattle.quic_values.specs.Ids.{stream_id, other_side, dir_of, index_of}
 use Rattle.quic_assembler.specs.declared.chunk.Chunk.{Chunk}
-use Rattle.quic_assembler.specs.declared.errors.EnsureError.TheVariants as ensure_error
 use Rattle.quic_wire.specs.declared.event.StreamEvent.{StreamEvent}
 use Rattle.quic_wire.specs.declared.event.StreamEvent.TheVariants as stream_event
 use Rattle.quic_wire.specs.declared.error.ReceiveError.{ReceiveError}
 use Rattle.quic_wire.specs.declared.error.ReceiveError.TheVariants as receive_error
 use Rattle.quic_wire.specs.declared.frame.Frame.{Frame}
-use Rattle.quic_limits.specs.Remote.{Remote, freed, one_permitted, lacks_streams, replaced, replacement, opened_up_to, one_accepted, opening_told, streams_announced}
+use Rattle.quic_limits.specs.Remote.{Remote, replaced, replacement, opened_up_to, one_accepted, opening_told, streams_announced}
 use Rattle.quic_limits.specs.Own.{with_count}
-use Rattle.quic_receiving.specs.Half.{Half, new_half, is_open, window_end}
-use Rattle.quic_receiving.specs.Calls.{Ingests, TakesFrame, Resets, Orders, Reads}
+use Rattle.quic_receiving.specs.Half.{Half, new_half, is_open}
+use Rattle.quic_receiving.specs.Calls.{Ingests, TakesFrame, Orders, Reads}
 use Rattle.quic_receiving.specs.declared.transmit.ShouldTransmit.{ShouldTransmit}
 use Rattle.quic_receiving.specs.declared.errors.ReadError.{ReadError}
 use Rattle.quic_receiving.specs.declared.errors.ReadError.TheVariants as read_error
@@ -27,9 +25,9 @@ use Rattle.quic_outgoing.specs.Senders.{is_between}
 use Rattle.quic_outgoing.specs.Outgoing.{Outgoing, own_of, with_own, with_send_half}
 use Rattle.quic_history.specs.World.{World, is_own, remote_of, with_remote, with_receive, with_permitted, permitted_if, replaced_in, released, with_freed, sends, told, told_readable, noticed, with_credit, advanced}
 use Rattle.quic_history.specs.Halves.{Halves, with_half, with_more}
-use Rattle.quic_history.specs.Permitting.{after_concurrent, with_accepted}
+use Rattle.quic_history.specs.Permitting.{after_concurrent}
 use Rattle.quic_history.specs.Receiving.{Receives, ReceivesReset, after_data, after_reset, credited_to}
-use Rattle.quic_history.specs.Reading.{Begins, ReadsHalf, after_read}
+use Rattle.quic_history.specs.Reading.{Begins, after_read}
 use Rattle.quic_history.specs.Control.{SettlesEntry, after_announced, with_announced}
 use Rattle.quic_history.specs.declared.control.ControlKind.{ControlKind}
 use Rattle.quic_history.specs.declared.control.ControlKind.TheVariants as kinds

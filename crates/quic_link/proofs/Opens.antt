@@ -1,6 +1,6 @@
 -- Each frame that an end wrote is on a stream that is open, and no end counts on more streams than it may.
-use Rattle.std.proofs.Common.{◌≡◌, ◌⊎◌, ℕ, Bool, true, false, List, [], ◌∷◌, Option, Some, None, Result, Ok, Err, refl, sym, ap, ◌∙◌, subst, inl, inr, arith, ◌+◌, ◌≤◌, ◌<◌, ◌^◌}
-use Rattle.std.specs.Prelude.{◌++◌, not, max, min, nat_lt, nat_le, if◌then◌else◌}
+use Rattle.std.proofs.Common.{◌≡◌, ℕ, Bool, true, false, List, [], ◌∷◌, Option, Some, None, refl, sym, ap, ◌∙◌, subst, inl, inr, arith, ◌≤◌, ◌<◌}
+use Rattle.std.specs.Prelude.{not, nat_lt, if◌then◌else◌}
 use Rattle.std.specs.Option.{option_map}
 use Rattle.quic_values.specs.declared.ids.Side.{Side}
 use Rattle.quic_values.specs.declared.ids.Side.TheVariants.{Client, Server}
@@ -14,31 +14,24 @@ use Rattle.quic_queue.specs.SendOrder.{SendOrder, line}
 use Rattle.quic_sending.specs.declared.send.Send.{Send}
 use Rattle.quic_receiving.specs.Half.{Half}
 use Rattle.quic_retransmits.specs.Pending.{Pending}
-use Rattle.quic_outgoing.specs.declared.limits.PeerLimits.{PeerLimits}
-use Rattle.quic_outgoing.specs.History.{count_in, given_for}
 use Rattle.quic_outgoing.specs.Outgoing.{own_of}
 use Rattle.quic_outgoing.specs.Senders.{is_local, are_one_end}
 use Rattle.quic_writing.specs.Appended.{frame_with}
-use Rattle.quic_writing.specs.Writer.{Writer}
 use Rattle.quic_history.specs.World.{World, Made, count_of, is_own, is_same_side, remote_of, id_refusal, own_refusal}
 use Rattle.quic_history.specs.Flows.{stands, has_side_in, is_answered_on}
-use Rattle.quic_history.specs.SendTotals.{SendTotals, send_totals, own_total}
 use Rattle.quic_history.specs.Carrying.{CarriesFrame}
 use Rattle.quic_history.specs.declared.control.ControlKind.{ControlKind}
 use Rattle.quic_history.specs.declared.control.ControlKind.TheVariants as kinds
 use Rattle.quic_history.specs.Control.{SettlesEntry, reset_frame, window_frame, announced_end}
-use Rattle.quic_history.specs.SendEvents.{SendEvent, SendStep, GaveLimits, RaisedData, RaisedCount, RaisedLimit, StoppedOwn, SetWindow, OpenedOwn, WroteOwn, FinishedOwn, ResetOwn, SetOwnPriority, AckedOwn, LostOwn, ResetAckedOwn, TookTurn, Polled}
-use Rattle.quic_history.specs.History.{Event, Received, ReceivedReset, AddedCredits, Began, Gave, Ended, Stopped, ToldReset, Resized, SetConcurrent, Accepted, Settled, Sending, Step, From, IsRun, EverPermits, PermitsNow, RemoteFrom, trace, opened_in_all, opens_by, greatest_count, count_by}
-use Rattle.quic_history.proofs.Credits.{limit-fits}
+use Rattle.quic_history.specs.SendEvents.{GaveLimits, RaisedData, RaisedCount, RaisedLimit, StoppedOwn, SetWindow, OpenedOwn, WroteOwn, FinishedOwn, ResetOwn, SetOwnPriority, AckedOwn, LostOwn, ResetAckedOwn, TookTurn, Polled}
+use Rattle.quic_history.specs.History.{Event, Received, ReceivedReset, AddedCredits, Began, Gave, Ended, Stopped, ToldReset, Resized, SetConcurrent, Accepted, Settled, Sending, IsRun, EverPermits, PermitsNow, trace, opened_in_all, greatest_count}
 use Rattle.quic_history.proofs.SendSides.{held-side}
 use Rattle.quic_history.proofs.StreamSteps.{known-from}
-use Rattle.quic_link.specs.Endpoints.{Endpoint, IsOneOf, MayAct, acted, written_by, written_on, IsHonest, WasAskedFor, WasGiven, limits_of}
-use Rattle.quic_link.specs.Truths.{IsTrue}
+use Rattle.quic_link.specs.Endpoints.{Endpoint, IsOneOf, MayAct, acted, written_by, written_on, WasAskedFor, WasGiven}
 use Rattle.quic_link.proofs.Ends.{Comes}
-use Rattle.quic_link.proofs.Rooms.{AreLimitsOf, limits-honest}
-use Rattle.quic_link.proofs.TrueFrames.{AllTrue, TurnSo, turn-so, count-grows, either-of}
-use Rattle.quic_link.proofs.Meets.{nexts, next_of_dir, Meets, MeetsBy, frame_id, meets-step}
-use Rattle.quic_link.proofs.Queues.{queued_id, QueuesBy, queues-step, first-stands}
+use Rattle.quic_link.proofs.TrueFrames.{turn-so}
+use Rattle.quic_link.proofs.Meets.{nexts, next_of_dir}
+use Rattle.quic_link.proofs.Queues.{first-stands}
 
 -- ---- whose a stream is
 

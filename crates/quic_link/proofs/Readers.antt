@@ -1,19 +1,19 @@
 -- What reads gave in order stands in a row, and a stream that was reset tells no end.
-use Rattle.std.proofs.Common.{◌≡◌, ◌⊎◌, ℕ, Bool, true, false, eqb, List, [], ◌∷◌, length, Option, Some, None, is_some, Result, Ok, Err, refl, sym, ap, ◌∙◌, subst, inl, inr, arith, ◌+◌, ◌≤◌}
-use Rattle.std.specs.Prelude.{◌++◌, ◌==◌, ◌&&◌, ◌||◌, if◌then◌else◌}
+use Rattle.std.proofs.Common.{◌≡◌, ℕ, Bool, true, false, eqb, List, [], ◌∷◌, length, Option, Some, None, is_some, Result, Ok, Err, refl, sym, ap, ◌∙◌, subst, inl, inr, arith, ◌+◌, ◌≤◌}
+use Rattle.std.specs.Prelude.{◌++◌, ◌||◌, if◌then◌else◌}
 use Rattle.std.proofs.lemmas.List.{length-append}
 use Rattle.quic_assembler.specs.declared.chunk.Chunk.{Chunk}
 use Rattle.quic_wire.specs.declared.frame.Frame.TheVariants as frames
 use Rattle.quic_receiving.specs.Half.{Half}
 use Rattle.quic_receiving.specs.declared.errors.ReadError.{ReadError}
 use Rattle.quic_receiving.specs.declared.errors.ReadError.TheVariants as read_error
-use Rattle.quic_history.specs.World.{World, Made, id_refusal}
-use Rattle.quic_history.specs.History.{Event, Move, Framed, WasReset, WasRead, WasStopped, WasTold, WasAnnounced, Received, ReceivedReset, AddedCredits, Began, Gave, Ended, Stopped, ToldReset, Resized, SetConcurrent, Accepted, Settled, Sending, Step, From, Trace, ReadChunk, HalfFrom, EndsSo, trace, untouched, move_of, moved, with_move, with_kept_frame, with_reset, with_read, is_kept, is_closed}
+use Rattle.quic_history.specs.World.{World, Made}
+use Rattle.quic_history.specs.History.{Event, Move, Framed, WasReset, WasRead, WasStopped, WasTold, WasAnnounced, Received, ReceivedReset, AddedCredits, Began, Gave, Ended, Stopped, ToldReset, Resized, SetConcurrent, Accepted, Settled, Sending, Step, From, Trace, ReadChunk, HalfFrom, EndsSo, trace, move_of, moved, with_move, with_kept_frame, is_kept, is_closed}
 use Rattle.quic_history.specs.Reading.{ReadsHalf}
 use Rattle.quic_history.proofs.StreamSteps.{half-from, known-from}
 use Rattle.quic_history.proofs.Totals.{by_cases, same}
 use Rattle.quic_link.specs.Promises.{given_in_order}
-use Rattle.quic_link.proofs.Modes.{Modes, modes-step}
+use Rattle.quic_link.proofs.Modes.{modes-step}
 
 -- each chunk that was read in order starts where those before it end
 abbrev pub InRows : List ReadChunk → Type 0
@@ -124,9 +124,10 @@ module _ (m : Made) (h : List Event) (u : World) (f : From m h u) (s : ReadsSo h
 
   read_true : (id most : ℕ) (ordered : Bool) (answer : Result (Option Chunk) ReadError) (v : World) → ReadsHalf u id most ordered answer v → ReadTrue u id (trace h id) (WasRead ordered answer)
   read_true id most ordered (Ok (Some chunk)) v r =
-      let told = told_half id r.old r.half in
-      (λ e. let o : r.old.buffer.ordered ≡ true = r.mode ∙ e in r.reads.1.start o ∙ told.read ∙ sym (s.order id r.old r.half o),
-       λ half e. let k = some_same half r.old (sym e ∙ r.half) in ap (λ (x : Half). x.buffer.ordered) k ∙ r.mode)
+      let told = told_half id r.old r.half in (
+        λ e. let o : r.old.buffer.ordered ≡ true = r.mode ∙ e in r.reads.1.start o ∙ told.read ∙ sym (s.order id r.old r.half o),
+        λ half e. let k = some_same half r.old (sym e ∙ r.half) in ap (λ (x : Half). x.buffer.ordered) k ∙ r.mode,
+      )
   read_true id most ordered (Ok None) v r =
       let told = told_half id r.old r.half in
       sym told.reset ∙ r.reads.2.running

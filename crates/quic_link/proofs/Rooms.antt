@@ -1,5 +1,5 @@
 -- No more is written on a stream than its limit says, and in all no more than is counted.
-use Rattle.std.proofs.Common.{◌≡◌, ℕ, Bool, true, false, eqb, List, [], ◌∷◌, Option, Some, None, is_some, Ok, Err, refl, sym, ap, ◌∙◌, subst, arith, ◌+◌, ◌-◌, ◌^◌, ◌≤◌, ◌<◌}
+use Rattle.std.proofs.Common.{◌≡◌, ℕ, Bool, true, false, eqb, List, [], ◌∷◌, Option, Some, None, Ok, Err, refl, sym, ap, ◌∙◌, subst, arith, ◌+◌, ◌-◌, ◌^◌, ◌≤◌, ◌<◌}
 use Rattle.std.specs.Prelude.{◌++◌, ◌==◌, ◌&&◌, is_none, min, max, if◌then◌else◌}
 use Rattle.quic_values.specs.declared.ids.Side.{Side}
 use Rattle.quic_values.specs.declared.ids.Dir.{Dir}
@@ -7,7 +7,7 @@ use Rattle.quic_values.specs.declared.ids.Dir.TheVariants.{Bi, Uni}
 use Rattle.quic_values.specs.Ids.{dir_of}
 use Rattle.quic_sending.specs.Buffer.{total_length}
 use Rattle.quic_sending.proofs.Pieces.{total-append}
-use Rattle.quic_flows.specs.Flow.{SendMove, WasWritten, WasFinished, WasGivenUp, WasAskedToStop, WasPermitted, WasCarried, WasAcked, WasLost, WasResetAcked, SendFlow, new_flow, front_of, takes_data, with_least_limit, with_carried, with_acked, with_lost, freed_if_whole, counts_for, with_send_move}
+use Rattle.quic_flows.specs.Flow.{SendMove, WasWritten, WasFinished, WasGivenUp, WasAskedToStop, WasPermitted, WasCarried, WasAcked, WasLost, WasResetAcked, SendFlow, front_of, takes_data, with_least_limit, with_carried, with_acked, with_lost, freed_if_whole, counts_for, with_send_move}
 use Rattle.quic_flows.proofs.Fronts.{front-length}
 use Rattle.quic_outgoing.specs.declared.limits.PeerLimits.{PeerLimits}
 use Rattle.quic_outgoing.specs.Outgoing.{first_of}

@@ -1,6 +1,6 @@
 -- What came of a stream agrees with what was written on it.
-use Rattle.std.proofs.Common.{◌≡◌, ◌⊎◌, ℕ, Bool, true, false, eqb, List, [], ◌∷◌, length, Option, Some, None, is_some, Ok, Err, refl, sym, ap, ◌∙◌, subst, inl, inr, arith, ◌+◌, ◌≤◌}
-use Rattle.std.specs.Prelude.{◌++◌, ◌==◌, ◌&&◌, ◌||◌, max, min, ◌-◌, ◌^◌, if◌then◌else◌}
+use Rattle.std.proofs.Common.{◌≡◌, ◌⊎◌, ℕ, Bool, true, false, eqb, List, ◌∷◌, length, Option, Some, None, is_some, Ok, Err, refl, sym, ap, ◌∙◌, subst, inl, inr, arith, ◌+◌, ◌≤◌}
+use Rattle.std.specs.Prelude.{◌++◌, ◌&&◌, ◌||◌, max, min, ◌-◌, ◌^◌, if◌then◌else◌}
 use Rattle.std.specs.List.{concat}
 use Rattle.std.proofs.lemmas.List.Folds.{concat-append}
 use Rattle.quic_assembler.specs.Piece.{IsByteAt}
@@ -10,19 +10,17 @@ use Rattle.quic_sending.specs.Buffer.{total_length}
 use Rattle.quic_sending.proofs.Pieces.{total-append}
 use Rattle.quic_receiving.specs.Data.{Carries}
 use Rattle.quic_receiving.specs.declared.errors.ReadError.TheVariants as read_error
-use Rattle.quic_receiving.specs.declared.errors.HandleError.TheVariants as handle_error
 use Rattle.quic_flows.specs.Flow.{SendMove, WasWritten, WasFinished, WasGivenUp, WasAskedToStop, WasPermitted, WasCarried, WasAcked, WasLost, WasResetAcked, SendFlow, takes_data, with_least_limit, with_send_move}
 use Rattle.quic_outgoing.specs.declared.limits.PeerLimits.{PeerLimits}
 use Rattle.quic_outgoing.specs.Outgoing.{first_of}
 use Rattle.quic_outgoing.specs.Senders.{first_limit}
 use Rattle.quic_history.specs.World.{World, Made}
 use Rattle.quic_history.specs.Flows.{send_moved, with_first_limits, has_send_side}
-use Rattle.quic_history.specs.declared.control.ControlKind.{ControlKind}
-use Rattle.quic_history.specs.SendEvents.{SendEvent, GaveLimits, RaisedData, RaisedCount, RaisedLimit, StoppedOwn, SetWindow, OpenedOwn, WroteOwn, FinishedOwn, ResetOwn, SetOwnPriority, AckedOwn, LostOwn, ResetAckedOwn, TookTurn, Polled}
-use Rattle.quic_history.specs.History.{Event, Move, Framed, WasReset, WasRead, WasStopped, WasTold, WasAnnounced, Received, ReceivedReset, AddedCredits, Began, Gave, Ended, Stopped, ToldReset, Resized, SetConcurrent, Accepted, Settled, Sending, Trace, trace, untouched, move_of, moved, with_move, with_kept_frame, with_reset, with_read, with_stop, is_kept, is_closed, send_move_of, limits_in, opened_in_all, send_tale}
+use Rattle.quic_history.specs.SendEvents.{GaveLimits, RaisedData, RaisedCount, RaisedLimit, StoppedOwn, SetWindow, OpenedOwn, WroteOwn, FinishedOwn, ResetOwn, SetOwnPriority, AckedOwn, LostOwn, ResetAckedOwn, TookTurn, Polled}
+use Rattle.quic_history.specs.History.{Event, Move, Framed, WasReset, WasRead, WasStopped, WasTold, WasAnnounced, Received, ReceivedReset, AddedCredits, Began, Gave, Ended, Stopped, ToldReset, Resized, SetConcurrent, Accepted, Settled, Sending, Trace, untouched, move_of, moved, with_move, with_kept_frame, with_reset, is_kept, is_closed, send_move_of, limits_in, opened_in_all, send_tale}
 use Rattle.quic_history.proofs.Totals.{by_cases, same}
 use Rattle.quic_link.specs.Endpoints.{Endpoint, acted, sent_on, came_on, IsHonest, limits_of}
-use Rattle.quic_link.specs.Truths.{AreBytesOf, IsTrue, IsTrueData}
+use Rattle.quic_link.specs.Truths.{AreBytesOf}
 use Rattle.quic_link.proofs.Growth.{Grows, still-closed}
 use Rattle.quic_link.proofs.Rooms.{amount, AreLimitsOf, first-is}
 use Rattle.quic_link.proofs.Texts.{byte-more}

@@ -1,6 +1,6 @@
 -- Bytes of a stream at their places.
-use Rattle.std.proofs.Common.{◌≡◌, ℕ, List, length, refl, sym, ap, ◌∙◌, subst, arith, ◌+◌, ◌-◌, ◌≤◌, ◌<◌, get_or}
-use Rattle.std.specs.Prelude.{◌++◌, take, drop, slice_index}
+use Rattle.std.proofs.Common.{◌≡◌, ℕ, List, length, sym, ap, ◌∙◌, subst, arith, ◌+◌, ◌-◌, ◌≤◌, ◌<◌}
+use Rattle.std.specs.Prelude.{◌++◌, drop, slice_index}
 use Rattle.std.specs.List.{concat}
 use Rattle.std.proofs.lemmas.List.{get_or_append_left, get_or-take, get_or-drop, length-append, length-take, length-drop}
 use Rattle.std.proofs.lemmas.List.Folds.{concat-append}

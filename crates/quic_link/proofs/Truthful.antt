@@ -1,19 +1,19 @@
 -- What each end is told is true of the other, and what was kept may be read.
-use Rattle.std.proofs.Common.{◌≡◌, ◌⊎◌, ℕ, Bool, true, false, List, [], ◌∷◌, length, Option, Some, None, is_some, refl, sym, ap, ◌∙◌, subst, inl, inr, arith, ◌+◌, ◌-◌, ◌≤◌, ◌<◌}
+use Rattle.std.proofs.Common.{◌≡◌, ℕ, Bool, true, false, List, [], ◌∷◌, length, Option, Some, None, is_some, refl, sym, ap, ◌∙◌, subst, inl, inr, arith, ◌-◌, ◌≤◌, ◌<◌}
 use Rattle.std.specs.Prelude.{◌++◌, ◌==◌, ◌||◌, slice_index, if◌then◌else◌}
 use Rattle.std.proofs.lemmas.Bool.{cases_lt}
 use Rattle.std.proofs.lemmas.Bool.Decides.{nat_tests}
 use Rattle.std.proofs.lemmas.List.{get_or_append_left, get_or-append_right, length-append}
 use Rattle.quic_assembler.specs.Piece.{IsByteAt}
-use Rattle.quic_assembler.specs.Reassembly.{Reassembly, Holds, IsHeld, is_done}
+use Rattle.quic_assembler.specs.Reassembly.{Reassembly, is_done}
 use Rattle.quic_assembler.specs.Laws.{done_below}
 use Rattle.quic_receiving.specs.Data.{Slice, Carries, is_in_slices, IsData, IsAllGiven}
-use Rattle.quic_receiving.specs.Half.{Half, is_all}
+use Rattle.quic_receiving.specs.Half.{is_all}
 use Rattle.quic_history.specs.History.{ReadChunk, slices, HalfFrom, trace, is_closed}
 use Rattle.quic_history.proofs.StreamSteps.{half-from, known-from}
-use Rattle.quic_link.specs.Endpoints.{Endpoint, sent_on, came_on, written_on}
+use Rattle.quic_link.specs.Endpoints.{Endpoint, came_on, written_on}
 use Rattle.quic_link.specs.Truths.{AreBytesOf, amount_on}
-use Rattle.quic_link.specs.Promises.{given_in_order, TellsTruth, IsReadable, AreReadable, KeptAt}
+use Rattle.quic_link.specs.Promises.{given_in_order, TellsTruth, AreReadable}
 use Rattle.quic_link.proofs.Readers.{InRows}
 use Rattle.quic_link.proofs.Joint.{Agrees}
 

@@ -1,42 +1,37 @@
 -- No frame that an end wrote is refused by the other.
-use Rattle.std.proofs.Common.{◌≡◌, ◌⊎◌, ℕ, Bool, true, false, eqb, List, [], ◌∷◌, length, Option, Some, None, is_some, Result, Ok, Err, refl, sym, ap, ◌∙◌, subst, inl, inr, arith, ◌+◌, ◌-◌, ◌≤◌, ◌<◌, ◌^◌}
-use Rattle.std.specs.Prelude.{◌&&◌, ◌||◌, ◌==◌, not, max, nat_eq, nat_lt, nat_le, if◌then◌else◌}
-use Rattle.std.specs.List.{list_any}
+use Rattle.std.proofs.Common.{◌≡◌, ℕ, Bool, true, false, eqb, List, length, Option, Some, None, is_some, Ok, Err, refl, sym, ap, ◌∙◌, inl, inr, arith, ◌+◌, ◌-◌, ◌≤◌, ◌<◌, ◌^◌}
+use Rattle.std.specs.Prelude.{◌&&◌, ◌||◌, not, nat_lt, nat_le, if◌then◌else◌}
 use Rattle.std.proofs.lemmas.Bool.Decides.{nat_tests}
-use Rattle.quic_values.specs.declared.ids.Side.{Side}
 use Rattle.quic_values.specs.declared.ids.Dir.{Dir}
 use Rattle.quic_values.specs.declared.ids.Dir.TheVariants.{Bi, Uni}
-use Rattle.quic_values.specs.Ids.{other_side, dir_of, index_of}
+use Rattle.quic_values.specs.Ids.{dir_of, index_of}
 use Rattle.quic_values.specs.Offsets.{is_past}
 use Rattle.quic_wire.specs.declared.frame.Frame.{Frame}
 use Rattle.quic_wire.specs.declared.frame.Frame.TheVariants as frames
 use Rattle.quic_wire.specs.declared.frame.Stream.{Stream}
-use Rattle.quic_wire.specs.declared.error.ReceiveError.{ReceiveError}
 use Rattle.quic_wire.specs.declared.error.ReceiveError.TheVariants as receive_error
 use Rattle.quic_wire.specs.declared.error.TransportError.{TransportError}
 use Rattle.quic_wire.specs.declared.error.TheConstants.TransportError.{STREAM_LIMIT_ERROR, STREAM_STATE_ERROR, INTERNAL_ERROR}
 use Rattle.quic_receiving.specs.Calls.{Ingests}
 use Rattle.quic_history.specs.Receiving.{Receives, ReceivesReset}
 use Rattle.quic_history.proofs.WorldSteps.{receive-there}
-use Rattle.quic_history.specs.SendEvents.{SendEvent, GaveLimits, RaisedData, RaisedCount, RaisedLimit, StoppedOwn, SetWindow, OpenedOwn, WroteOwn, FinishedOwn, ResetOwn, SetOwnPriority, AckedOwn, LostOwn, ResetAckedOwn, TookTurn, Polled}
-use Rattle.quic_receiving.specs.Half.{Half, Verdict, Refused, Taken, verdict, verdict_by, verdict_of_limits, reset_verdict, is_unfit, is_beyond, new_bytes, flow_control_error, final_size_error}
+use Rattle.quic_history.specs.SendEvents.{GaveLimits, RaisedData, RaisedCount, RaisedLimit, StoppedOwn, SetWindow, OpenedOwn, WroteOwn, FinishedOwn, ResetOwn, SetOwnPriority, AckedOwn, LostOwn, ResetAckedOwn, TookTurn, Polled}
+use Rattle.quic_receiving.specs.Half.{Half, Verdict, Refused, Taken, verdict, verdict_by, verdict_of_limits, reset_verdict, is_unfit, is_beyond, final_size_error}
 use Rattle.quic_outgoing.specs.Outgoing.{own_of}
 use Rattle.quic_outgoing.specs.Senders.{is_local}
 use Rattle.quic_history.specs.World.{World, is_own, remote_of, id_refusal, own_refusal}
 use Rattle.quic_history.specs.Sends.{sending_refusal}
-use Rattle.quic_history.specs.SendTotals.{send_totals, own_total}
-use Rattle.quic_history.specs.History.{Event, Received, ReceivedReset, AddedCredits, Began, Gave, Ended, Stopped, ToldReset, Resized, SetConcurrent, Accepted, Settled, Sending, Trace, HalfFrom, trace, streams, received, total_over, with_stream, taken_in_all, greatest_limit, greatest_count, opened_in_all}
+use Rattle.quic_history.specs.History.{Received, ReceivedReset, AddedCredits, Began, Gave, Ended, Stopped, ToldReset, Resized, SetConcurrent, Accepted, Settled, Sending, Trace, HalfFrom, trace, streams, received, with_stream, opened_in_all}
 use Rattle.quic_history.proofs.StreamSteps.{half-from}
-use Rattle.quic_history.proofs.Totals.{IsOnce, once_with, total_with, by_cases, same}
+use Rattle.quic_history.proofs.Totals.{once_with, total_with, by_cases, same}
 use Rattle.quic_history.proofs.Traces.{streams-once, quiet, itself}
-use Rattle.quic_link.specs.Endpoints.{Endpoint, IsOneOf, sent_on, came_on, Linked}
+use Rattle.quic_link.specs.Endpoints.{Endpoint, IsOneOf, sent_on, came_on}
 use Rattle.quic_link.specs.Truths.{IsTrue, IsTrueData, amount_on}
 use Rattle.quic_link.specs.Promises.{IsWelcome, AreWelcome, IsCrowded, RefusesNone}
-use Rattle.quic_link.proofs.Ends.{Comes}
 use Rattle.quic_link.proofs.Sums.{total-most}
 use Rattle.quic_link.proofs.Rooms.{amount, sum-written}
-use Rattle.quic_link.proofs.Opens.{IdsSo, IsOpenAt, OpenBy, OpenFrame, SendsOn, ReceivesOn, own-local, local-other, opened-is}
-use Rattle.quic_link.proofs.Joint.{Agrees, agrees}
+use Rattle.quic_link.proofs.Opens.{OpenBy, OpenFrame, SendsOn, ReceivesOn, own-local, local-other, opened-is}
+use Rattle.quic_link.proofs.Joint.{Agrees}
 
 -- ---- ids
 

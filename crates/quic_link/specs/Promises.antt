@@ -15,7 +15,7 @@ use Rattle.quic_history.specs.Sends.{sending_refusal}
 use Rattle.quic_history.specs.SendEvents.{RaisedCount, RaisedLimit}
 use Rattle.quic_history.specs.History.{Event, Received, ReceivedReset, Sending, ReadChunk, slices, EachOnce, is_kept}
 use Rattle.quic_link.specs.Endpoints.{Endpoint, IsOneOf, MayAct, sent_on, came_on, written_on, WasStoppedWith}
-use Rattle.quic_link.specs.Truths.{AreBytesOf, amount_on}
+use Rattle.quic_link.specs.Truths.{AreBytesOf, IsTrue, amount_on}
 
 -- a STREAM frame with the byte at an offset was answered Ok
 pub record CameAt (calls : List Event) (id at : ℕ) : Type 0 where
@@ -121,3 +121,12 @@ pub record IsReadable (x y : Endpoint) (q : ℕ) (h : Half) : Type 0 where
 -- so on each stream that its reader did not stop, and of which no reset came
 abbrev pub AreReadable : Endpoint → Endpoint → Type 0
 AreReadable x y = (q : ℕ) (h : Half) → y.world.receive q ≡ Some h → h.stopped ≡ false → h.reset ≡ None → IsReadable x y q h
+
+-- what holds of two ends as x sends and y receives: every frame that x wrote is true of it, and none is refused; what is
+-- told is true, and what was kept may be read
+pub record Promises (x y : Endpoint) : Type 0 where
+  pub frames_true : (g : Frame) → IsOneOf g x.wrote → IsTrue x g
+  pub welcome : AreWelcome x y
+  pub unrefused : RefusesNone x y
+  pub truth : (q : ℕ) → TellsTruth x y q
+  pub readable : AreReadable x y
