@@ -17,3 +17,4 @@ pub mod Readers
 pub mod Kept
 pub mod Truthful
 pub mod Promised
+pub mod Example
