@@ -1,6 +1,6 @@
 -- A half that reads bytes as they come never reads in order again.
-use Rattle.std.proofs.Common.{◌≡◌, ◌⊎◌, ℕ, ℤ, Bool, true, false, eqb, List, Option, Some, None, is_some, Result, Ok, Err, refl, sym, ap, ◌∙◌, subst, inl, inr, ◌-◌}
-use Rattle.std.specs.Prelude.{not, ◌==◌, nat_lt, if◌then◌else◌}
+use Rattle.std.proofs.Common.{◌≡◌, ◌⊎◌, ℕ, ℤ, Bool, true, false, eqb, List, Option, Some, None, is_some, Result, Ok, Err, refl, sym, ap, ◌∙◌, subst, inl, inr, arith, ◌+◌, ◌-◌, ◌≤◌}
+use Rattle.std.specs.Prelude.{not, ◌==◌, ◌&&◌, max, nat_lt, if◌then◌else◌}
 use Rattle.quic_values.specs.declared.ids.Dir.{Dir}
 use Rattle.quic_values.specs.declared.ids.Dir.TheVariants.{Bi, Uni}
 use Rattle.quic_values.specs.Ids.{stream_id, other_side, dir_of, index_of}
@@ -9,11 +9,13 @@ use Rattle.quic_wire.specs.declared.event.StreamEvent.{StreamEvent}
 use Rattle.quic_wire.specs.declared.event.StreamEvent.TheVariants as stream_event
 use Rattle.quic_wire.specs.declared.error.ReceiveError.{ReceiveError}
 use Rattle.quic_wire.specs.declared.error.ReceiveError.TheVariants as receive_error
+use Rattle.quic_wire.specs.declared.error.TheConstants.TransportError.{INTERNAL_ERROR}
+use Rattle.quic_assembler.specs.Reassembly.{Reassembly, piece_count}
 use Rattle.quic_wire.specs.declared.frame.Frame.{Frame}
 use Rattle.quic_limits.specs.Remote.{Remote, replaced, replacement, opened_up_to, one_accepted, opening_told, streams_announced}
 use Rattle.quic_limits.specs.Own.{with_count}
-use Rattle.quic_receiving.specs.Half.{Half, new_half, is_open}
-use Rattle.quic_receiving.specs.Calls.{Ingests, TakesFrame, Orders, Reads}
+use Rattle.quic_receiving.specs.Half.{Half, new_half, is_open, window_end, internal_error}
+use Rattle.quic_receiving.specs.Calls.{Ingests, TakesFrame, KeepsBytes, Clears, Rests, Orders, Reads}
 use Rattle.quic_receiving.specs.declared.transmit.ShouldTransmit.{ShouldTransmit}
 use Rattle.quic_receiving.specs.declared.errors.ReadError.{ReadError}
 use Rattle.quic_receiving.specs.declared.errors.ReadError.TheVariants as read_error
@@ -35,36 +37,53 @@ use Rattle.quic_history.specs.Sends.{with_out, with_opened, told_writable, after
 use Rattle.quic_history.specs.Writes.{with_queued, WritesOwn}
 use Rattle.quic_history.specs.Acknowledged.{with_send_freed, send_released, told_finished, frees_reset}
 use Rattle.quic_history.specs.SendEvents.{SendEvent, SendStep, GaveLimits, RaisedData, RaisedCount, RaisedLimit, StoppedOwn, SetWindow, OpenedOwn, WroteOwn, FinishedOwn, ResetOwn, SetOwnPriority, AckedOwn, LostOwn, ResetAckedOwn, TookTurn, Polled}
-use Rattle.quic_history.specs.History.{Event, Received, ReceivedReset, AddedCredits, Began, Gave, Ended, Stopped, ToldReset, Resized, SetConcurrent, Accepted, Settled, Sending, Step}
+use Rattle.quic_history.specs.History.{Event, Received, ReceivedReset, AddedCredits, Began, Gave, Ended, Stopped, ToldReset, Resized, SetConcurrent, Accepted, Settled, Sending, Step, is_kept}
 use Rattle.quic_history.proofs.SendSteps.{either-way}
 use Rattle.quic_history.proofs.StreamSteps.{noticed-any}
 use Rattle.quic_history.proofs.Totals.{by_cases, same}
+use Rattle.quic_history.proofs.Traces.{itself}
 
--- a half of v is one of u, or nothing was read of it
+-- nothing came of a half
+pub record IsNewHalf (h : Half) : Type 0 where
+  pub read : h.buffer.bytes_read ≡ 0
+  pub ordered : h.buffer.ordered ≡ true
+  pub pieces : piece_count h.buffer ≡ 0
+
+-- the half of a stream after a call, and before it. begun: the stream of which a reader was begun that reads bytes as they
+-- come; kept: how many frames of a stream were kept
+pub record Follows (begun : Option ℕ) (kept : ℕ → ℕ) (q : ℕ) (g h : Half) : Type 0 where
+  pub ordered : h.buffer.ordered ≡ true → g.buffer.ordered ≡ true
+  pub unordered : h.buffer.ordered ≡ false → (g.buffer.ordered ≡ false) ⊎ (begun ≡ Some q)
+  pub pieces : h.buffer.ordered ≡ true → piece_count h.buffer ≤ piece_count g.buffer + kept q
+
+follows_same : (begun : Option ℕ) (kept : ℕ → ℕ) (q : ℕ) (g h : Half) → h.buffer.ordered ≡ g.buffer.ordered → piece_count h.buffer ≤ piece_count g.buffer → Follows begun kept q g h
+follows_same begun kept q g h e l = record { ordered = λ k. sym e ∙ k; unordered = λ k. inl (sym e ∙ k); pieces = λ k. omega arith }
+
+-- a half of v is one of u, or new
 abbrev Tails : World → World → Type 0
-Tails u v = (q : ℕ) (h : Half) → v.receive q ≡ Some h → (h.buffer.bytes_read ≡ 0) ⊎ (u.receive q ≡ Some h)
+Tails u v = (q : ℕ) (h : Half) → v.receive q ≡ Some h → IsNewHalf h ⊎ (u.receive q ≡ Some h)
 
--- or it was one of u, which read in order if it does
-abbrev pub Modes : World → World → Type 0
-Modes u v = (q : ℕ) (h : Half) → v.receive q ≡ Some h → (h.buffer.bytes_read ≡ 0) ⊎ ((g : Half) × (u.receive q ≡ Some g) × (h.buffer.ordered ≡ true → g.buffer.ordered ≡ true))
+-- or it follows one of u
+abbrev pub Modes : Option ℕ → (ℕ → ℕ) → World → World → Type 0
+Modes begun kept u v = (q : ℕ) (h : Half) → v.receive q ≡ Some h → IsNewHalf h ⊎ ((g : Half) × (u.receive q ≡ Some g) × Follows begun kept q g h)
 
 tails_same : (u v : World) → v.receive ≡ u.receive → Tails u v
 tails_same u v e q h k = inr (sym (ap (λ (f : Halves). f q) e) ∙ k)
 
-modes_tail : (u w v : World) → Modes u w → Tails w v → Modes u v
-modes_tail u w v m t q h k = elim (t q h k) [ inl a ↦ inl a | inr b ↦ m q h b ]
+modes_tail : (begun : Option ℕ) (kept : ℕ → ℕ) (u w v : World) → Modes begun kept u w → Tails w v → Modes begun kept u v
+modes_tail begun kept u w v m t q h k = elim (t q h k) [ inl a ↦ inl a | inr b ↦ m q h b ]
 
 tails_then : (u w v : World) → Tails u w → Tails w v → Tails u v
 tails_then u w v m t q h k = elim (t q h k) [ inl a ↦ inl a | inr b ↦ m q h b ]
 
-modes_of : (u v : World) → Tails u v → Modes u v
-modes_of u v t q h k = elim (t q h k) [ inl a ↦ inl a | inr b ↦ inr (h, b, λ o. o) ]
+modes_of : (begun : Option ℕ) (kept : ℕ → ℕ) (u v : World) → Tails u v → Modes begun kept u v
+modes_of begun kept u v t q h k = elim (t q h k) [ inl a ↦ inl a | inr b ↦ inr (h, b, follows_same begun kept q h h refl (omega arith)) ]
 
 tails_at : (u v w : World) → v ≡ w → Tails u w → Tails u v
 tails_at u v w e t = let P : World → Type 0 = λ x. Tails u x in subst P (sym e) t
 
-modes_at : (u v w : World) → v ≡ w → Modes u w → Modes u v
-modes_at u v w e t = let P : World → Type 0 = λ x. Modes u x in subst P (sym e) t
+modes_at : (begun : Option ℕ) (kept : ℕ → ℕ) (u v w : World) → v ≡ w → Modes begun kept u w → Modes begun kept u v
+modes_at begun kept u v w e t = let P : World → Type 0 = λ x. Modes begun kept u x in subst P (sym e) t
 
 some_same : {X : Type 0} (a b : X) → Some a ≡ Some b → a ≡ b
 some_same a b k = cc
@@ -76,18 +95,21 @@ put_half f id q o h k here other = by_cases (eqb q id)
     (λ t. here (same q id t) (let l = rw t at k in l))
     (λ n. other (let l = rw n at k in l))
 
-modes_put : (u : World) (id : ℕ) (g h : Half) → u.receive id ≡ Some g → (h.buffer.ordered ≡ true → g.buffer.ordered ≡ true) → Modes u (with_receive u id (Some h))
+modes_put : (begun : Option ℕ) (kept : ℕ → ℕ) (u : World) (id : ℕ) (g h : Half) → u.receive id ≡ Some g → Follows begun kept id g h → Modes begun kept u (with_receive u id (Some h))
 unfolding with_receive
-modes_put u id g h e o q k at = put_half u.receive id q (Some h) k at
-    (λ i s. inr (g, ap u.receive i ∙ e, λ r. o (ap (λ (x : Half). x.buffer.ordered) (some_same h k s) ∙ r)))
-    (λ s. inr (k, s, λ r. r))
+modes_put begun kept u id g h e o q k at = put_half u.receive id q (Some h) k at
+    (λ i s. inr (g, ap u.receive i ∙ e,
+    let P : Half → Type 0 = λ x. Follows begun kept q g x in
+    let Q : ℕ → Type 0 = λ j. Follows begun kept j g h in
+    subst P (some_same h k s) (subst Q (sym i) o)))
+    (λ s. inr (k, s, follows_same begun kept q k k refl (omega arith)))
 
 tails_drop : (u : World) (id : ℕ) → Tails u (with_receive u id None)
 unfolding with_receive
 tails_drop u id q h at = put_half u.receive id q None h at (λ i s. cc) (λ s. inr s)
 
-read_none : (h : Half) (window : ℕ) → new_half window ≡ h → h.buffer.bytes_read ≡ 0
-read_none h window e = sym (ap (λ (x : Half). x.buffer.bytes_read) e)
+read_none : (h : Half) (window : ℕ) → new_half window ≡ h → IsNewHalf h
+read_none h window e = let P : Half → Type 0 = λ x. IsNewHalf x in subst P e (record { read = refl; ordered = refl; pieces = refl })
 
 tails_new : (u v : World) (id : ℕ) → v.receive ≡ with_half u.receive id (Some (new_half u.window)) → Tails u v
 tails_new u v id e q h at = put_half u.receive id q (Some (new_half u.window)) h (sym (ap (λ (f : Halves). f q) e) ∙ at)
@@ -116,9 +138,9 @@ tails_if : (u v w : World) (b : Bool) → Tails u v → Tails u w → Tails u (i
 tails_if u v w true s t = s
 tails_if u v w false s t = t
 
-modes_if : (u v w : World) (b : Bool) → Modes u v → Modes u w → Modes u (if b then v else w)
-modes_if u v w true s t = s
-modes_if u v w false s t = t
+modes_if : (begun : Option ℕ) (kept : ℕ → ℕ) (u v w : World) (b : Bool) → Modes begun kept u v → Modes begun kept u w → Modes begun kept u (if b then v else w)
+modes_if begun kept u v w true s t = s
+modes_if begun kept u v w false s t = t
 
 tails_released : (u : World) (d : Dir) (id : ℕ) → Tails u (released u d id)
 tails_released u Uni id = tails_replaced u Uni
@@ -141,78 +163,94 @@ tails_noticed w id b =
 
 -- ---- frames
 
-order_taken : (old new : Half) (offset : ℕ) (bytes : List ℕ) (fin : Bool) → TakesFrame old offset bytes fin new → new.buffer.ordered ≡ old.buffer.ordered
-order_taken old new offset bytes fin t = by_cases old.stopped
-    (λ s. ap (λ (h : Half). h.buffer.ordered) (t.stopped s))
-    (λ n. let k = t.running n in k.inserted.ordered)
+follows_kept : (begun : Option ℕ) (kept : ℕ → ℕ) (id offset : ℕ) (bytes : List ℕ) (fin : Bool) (old new : Half) → 1 ≤ kept id → KeepsBytes old offset bytes fin new → Follows begun kept id old new
+follows_kept begun kept id offset bytes fin old new l k =
+    let e = k.inserted.ordered in
+    record { ordered = λ o. sym e ∙ o; unordered = λ o. inl (sym e ∙ o); pieces = λ o. let n = k.inserted.pieces (sym e ∙ o) in omega arith }
 
-in_order : (a b : Bool) → a ≡ b → a ≡ true → b ≡ true
-in_order a b e k = sym e ∙ k
+follows_at : (begun : Option ℕ) (kept : ℕ → ℕ) (id : ℕ) (old new : Half) → new.buffer ≡ old.buffer → Follows begun kept id old new
+follows_at begun kept id old new e = let n : piece_count new.buffer ≡ piece_count old.buffer = ap piece_count e in follows_same begun kept id old new (ap (λ (a : Reassembly). a.ordered) e) (omega arith)
 
-modes_data : (u : World) (id : ℕ) (old new : Half) (fin : Bool) → u.receive id ≡ Some old → new.buffer.ordered ≡ old.buffer.ordered → Modes u (after_data u id old new fin)
-modes_data u id old new fin e o =
+follows_taken : (begun : Option ℕ) (kept : ℕ → ℕ) (id offset : ℕ) (bytes : List ℕ) (fin : Bool) (old new : Half) → 1 ≤ kept id → TakesFrame old offset bytes fin new → Follows begun kept id old new
+follows_taken begun kept id offset bytes fin old new l t = by_cases old.stopped
+    (λ s. follows_at begun kept id old new (ap (λ (h : Half). h.buffer) (t.stopped s)))
+    (λ n. follows_kept begun kept id offset bytes fin old new l (t.running n))
+
+modes_data : (begun : Option ℕ) (kept : ℕ → ℕ) (u : World) (id : ℕ) (old new : Half) (fin : Bool) → u.receive id ≡ Some old → Follows begun kept id old new → Modes begun kept u (after_data u id old new fin)
+modes_data begun kept u id old new fin e o =
     let w = advanced u id old new in
-    let m : Modes u w = modes_put u id old new e (in_order new.buffer.ordered old.buffer.ordered o) in
-    modes_if u (with_credit (if fin then with_freed w id else w) (new.end - old.end)) (noticed w id true) old.stopped
+    let m : Modes begun kept u w = modes_put begun kept u id old new e o in
+    modes_if begun kept u (with_credit (if fin then with_freed w id else w) (new.end - old.end)) (noticed w id true) old.stopped
     (modes_if_fin w m fin)
-    (modes_tail u w (noticed w id true) m (tails_noticed w id true))
+    (modes_tail begun kept u w (noticed w id true) m (tails_noticed w id true))
   where
-    modes_if_fin : (w : World) → Modes u w → (b : Bool) → Modes u (with_credit (if b then with_freed w id else w) (new.end - old.end))
-    modes_if_fin w m true = modes_tail u w (with_credit (with_freed w id) (new.end - old.end)) m (tails_freed w id)
+    modes_if_fin : (w : World) → Modes begun kept u w → (b : Bool) → Modes begun kept u (with_credit (if b then with_freed w id else w) (new.end - old.end))
+    modes_if_fin w m true = modes_tail begun kept u w (with_credit (with_freed w id) (new.end - old.end)) m (tails_freed w id)
     modes_if_fin w m false = m
 
-modes_frame : (u v : World) (id offset : ℕ) (bytes : List ℕ) (fin : Bool) (answer : Result ShouldTransmit ReceiveError) → Receives u id offset bytes fin answer v → Modes u v
-modes_frame u v id offset bytes fin (Ok transmit) (inl s) = modes_of u v (tails_at u v u s.3 (tails_same u u refl))
-modes_frame u v id offset bytes fin (Ok transmit) (inr s) =
+modes_frame : (begun : Option ℕ) (kept : ℕ → ℕ) (u v : World) (id offset : ℕ) (bytes : List ℕ) (fin : Bool) (answer : Result ShouldTransmit ReceiveError) → (is_kept answer ≡ true → 1 ≤ kept id) → Receives u id offset bytes fin answer v → Modes begun kept u v
+modes_frame begun kept u v id offset bytes fin (Ok transmit) l (inl s) = modes_of begun kept u v (tails_at u v u s.3 (tails_same u u refl))
+modes_frame begun kept u v id offset bytes fin (Ok transmit) l (inr s) =
     let r = s.3 in
-    modes_at u v _ s.5 (modes_data u id s.1 s.2 fin r.half (order_taken s.1 s.2 offset bytes fin r.ingests.3))
-modes_frame u v id offset bytes fin (Err (receive_error.Transport error)) (inl s) = modes_of u v (tails_at u v u s.1 (tails_same u u refl))
-modes_frame u v id offset bytes fin (Err (receive_error.Transport error)) (inr s) = by_answer s.2.ingests
+    modes_at begun kept u v _ s.5 (modes_data begun kept u id s.1 s.2 fin r.half (follows_taken begun kept id offset bytes fin s.1 s.2 (l refl) r.ingests.3))
+modes_frame begun kept u v id offset bytes fin (Err (receive_error.Transport error)) l (inl s) = modes_of begun kept u v (tails_at u v u s.1 (tails_same u u refl))
+modes_frame begun kept u v id offset bytes fin (Err (receive_error.Transport error)) l (inr s) = by_answer s.2.ingests
   where
-    by_answer : Ingests s.0 offset bytes fin u.credit.data_recvd u.credit.local_max_data (Err (receive_error.Transport error)) s.1 → Modes u v
-    by_answer (inl t) = modes_at u v (advanced u id s.0 s.1) s.3 (modes_put u id s.0 s.1 s.2.half (λ k. sym (ap (λ (h : Half). h.buffer.ordered) t.1) ∙ k))
-    by_answer (inr t) = modes_at u v (advanced u id s.0 s.1) s.3 (modes_put u id s.0 s.1 s.2.half (in_order s.1.buffer.ordered s.0.buffer.ordered t.4.inserted.ordered))
-modes_frame u v id offset bytes fin (Err receive_error.CompactionMemory) s =
-    modes_at u v (advanced u id s.0 s.1) s.3 (modes_put u id s.0 s.1 s.2.half (in_order s.1.buffer.ordered s.0.buffer.ordered s.2.ingests.2.inserted.ordered))
-modes_frame u v id offset bytes fin (Err receive_error.OutOfMemory) s = modes_of u v (tails_at u v u s (tails_same u u refl))
+    internal : (c : ℕ) → c ≡ internal_error → (c == INTERNAL_ERROR) ≡ true
+    internal c e = rw e refl
 
-modes_reset : (u v : World) (id code final : ℕ) (answer : Result ShouldTransmit ReceiveError) → ReceivesReset u id code final answer v → Modes u v
-modes_reset u v id code final (Ok transmit) (inl s) = modes_of u v (tails_at u v u s.3 (tails_same u u refl))
-modes_reset u v id code final (Ok transmit) (inr (inl s)) = modes_of u v (tails_at u v u s.4 (tails_same u u refl))
-modes_reset u v id code final (Ok transmit) (inr (inr s)) =
+    by_answer : Ingests s.0 offset bytes fin u.credit.data_recvd u.credit.local_max_data (Err (receive_error.Transport error)) s.1 → Modes begun kept u v
+    by_answer (inl t) = modes_at begun kept u v (advanced u id s.0 s.1) s.3 (modes_put begun kept u id s.0 s.1 s.2.half (follows_at begun kept id s.0 s.1 (ap (λ (h : Half). h.buffer) t.1)))
+    by_answer (inr t) = modes_at begun kept u v (advanced u id s.0 s.1) s.3 (modes_put begun kept u id s.0 s.1 s.2.half (follows_kept begun kept id offset bytes fin s.0 s.1 (l (internal error.code t.1)) t.4))
+modes_frame begun kept u v id offset bytes fin (Err receive_error.CompactionMemory) l s =
+    modes_at begun kept u v (advanced u id s.0 s.1) s.3 (modes_put begun kept u id s.0 s.1 s.2.half (follows_kept begun kept id offset bytes fin s.0 s.1 (l refl) s.2.ingests.2))
+modes_frame begun kept u v id offset bytes fin (Err receive_error.OutOfMemory) l s = modes_of begun kept u v (tails_at u v u s (tails_same u u refl))
+
+follows_cleared : (begun : Option ℕ) (kept : ℕ → ℕ) (id : ℕ) (old new : Half) → Clears old.buffer new.buffer → Follows begun kept id old new
+follows_cleared begun kept id old new c = let n = c.pieces in follows_same begun kept id old new c.ordered (omega arith)
+
+modes_reset : (begun : Option ℕ) (kept : ℕ → ℕ) (u v : World) (id code final : ℕ) (answer : Result ShouldTransmit ReceiveError) → ReceivesReset u id code final answer v → Modes begun kept u v
+modes_reset begun kept u v id code final (Ok transmit) (inl s) = modes_of begun kept u v (tails_at u v u s.3 (tails_same u u refl))
+modes_reset begun kept u v id code final (Ok transmit) (inr (inl s)) = modes_of begun kept u v (tails_at u v u s.4 (tails_same u u refl))
+modes_reset begun kept u v id code final (Ok transmit) (inr (inr s)) =
     let old = s.0 in
     let new = s.1 in
     let r = s.2 in
     let w = advanced u id old new in
     let x = noticed w id (not old.stopped) in
     let y = if old.stopped then with_freed x id else x in
-    let m : Modes u w = modes_put u id old new r.half (in_order new.buffer.ordered old.buffer.ordered r.resets.2.ordered) in
+    let m : Modes begun kept u w = modes_put begun kept u id old new r.half (follows_cleared begun kept id old new r.resets.2) in
     let t : Tails w y = tails_then w x y (tails_noticed w id (not old.stopped)) (tails_if x (with_freed x id) x old.stopped (tails_freed x id) (tails_same x x refl)) in
-    modes_at u v _ s.4 (modes_tail u w (after_reset u id old new) m (tails_if w y (with_credit y (new.end - credited_to old)) (new.end - credited_to old == 0) t t))
-modes_reset u v id code final (Err (receive_error.Transport error)) (inl s) = modes_of u v (tails_at u v u s.1 (tails_same u u refl))
-modes_reset u v id code final (Err (receive_error.Transport error)) (inr s) = modes_of u v (tails_at u v u s.3 (tails_same u u refl))
-modes_reset u v id code final (Err receive_error.CompactionMemory) s = absurd s
-modes_reset u v id code final (Err receive_error.OutOfMemory) s = modes_of u v (tails_at u v u s (tails_same u u refl))
+    modes_at begun kept u v _ s.4 (modes_tail begun kept u w (after_reset u id old new) m (tails_if w y (with_credit y (new.end - credited_to old)) (new.end - credited_to old == 0) t t))
+modes_reset begun kept u v id code final (Err (receive_error.Transport error)) (inl s) = modes_of begun kept u v (tails_at u v u s.1 (tails_same u u refl))
+modes_reset begun kept u v id code final (Err (receive_error.Transport error)) (inr s) = modes_of begun kept u v (tails_at u v u s.3 (tails_same u u refl))
+modes_reset begun kept u v id code final (Err receive_error.CompactionMemory) s = absurd s
+modes_reset begun kept u v id code final (Err receive_error.OutOfMemory) s = modes_of begun kept u v (tails_at u v u s (tails_same u u refl))
 
 -- ---- readers
 
-order_asked : (old new : Half) (ordered : Bool) → Orders old ordered (Ok tt) new → new.buffer.ordered ≡ true → old.buffer.ordered ≡ true
-order_asked old new ordered (inl s) k = sym (ap (λ (h : Half). h.buffer.ordered) s.1) ∙ k
-order_asked old new ordered (inr s) k = let n = s.1.leaves.ordered in let l = sym n ∙ k in cc
+follows_asked : (begun : Option ℕ) (kept : ℕ → ℕ) (id : ℕ) (old new : Half) (ordered : Bool) → (ordered ≡ false → begun ≡ Some id) → Orders old ordered (Ok tt) new → Follows begun kept id old new
+follows_asked begun kept id old new ordered l (inl s) = follows_at begun kept id old new (ap (λ (h : Half). h.buffer) s.1)
+follows_asked begun kept id old new ordered l (inr s) =
+    let n = s.1.leaves.ordered in
+    record { ordered = λ k. let e = sym n ∙ k in cc; unordered = λ k. inr (l s.0); pieces = λ k. let e = sym n ∙ k in cc }
 
-modes_began : (u v : World) (id : ℕ) (ordered : Bool) (answer : Result (Unit {0}) ReadableError) → Begins u id ordered answer v → Modes u v
-modes_began u v id ordered (Ok x) s = modes_at u v _ s.is (modes_put u id s.old s.new s.half (order_asked s.old s.new ordered s.orders))
-modes_began u v id ordered (Err readable_error.ClosedStream) s = modes_of u v (tails_at u v u s.1 (tails_same u u refl))
-modes_began u v id ordered (Err readable_error.IllegalOrderedRead) s = modes_at u v _ s.is (modes_put u id s.old s.new s.half (in_order s.new.buffer.ordered s.old.buffer.ordered s.orders.2.ordered))
-modes_began u v id ordered (Err readable_error.OutOfMemory) (inl s) = modes_of u v (tails_at u v u s (tails_same u u refl))
-modes_began u v id ordered (Err readable_error.OutOfMemory) (inr s) = modes_at u v _ s.is (modes_put u id s.old s.new s.half (in_order s.new.buffer.ordered s.old.buffer.ordered s.orders.1.ordered))
+follows_rests : (begun : Option ℕ) (kept : ℕ → ℕ) (id : ℕ) (old new : Half) → Rests old.buffer new.buffer → Follows begun kept id old new
+follows_rests begun kept id old new r = follows_same begun kept id old new r.ordered r.pieces
 
-modes_read : (u : World) (id most : ℕ) (old new : Half) (answer : Result (Option Chunk) ReadError) → u.receive id ≡ Some old → Reads old most answer new → Modes u (after_read u id new answer)
-modes_read u id most old new (Ok (Some chunk)) e r = modes_put u id old new e (in_order new.buffer.ordered old.buffer.ordered r.1.ordered)
-modes_read u id most old new (Ok None) e r = modes_of u (with_freed u id) (tails_freed u id)
-modes_read u id most old new (Err read_error.Blocked) e r = modes_put u id old new e (in_order new.buffer.ordered old.buffer.ordered r.2.rests.ordered)
-modes_read u id most old new (Err (read_error.Reset code)) e r = modes_of u (with_freed u id) (tails_freed u id)
-modes_read u id most old new (Err read_error.OutOfMemory) e r = modes_put u id old new e (in_order new.buffer.ordered old.buffer.ordered r.1.rests.ordered)
+modes_began : (begun : Option ℕ) (kept : ℕ → ℕ) (u v : World) (id : ℕ) (ordered : Bool) (answer : Result (Unit {0}) ReadableError) → (answer ≡ Ok tt → ordered ≡ false → begun ≡ Some id) → Begins u id ordered answer v → Modes begun kept u v
+modes_began begun kept u v id ordered (Ok x) l s = modes_at begun kept u v _ s.is (modes_put begun kept u id s.old s.new s.half (follows_asked begun kept id s.old s.new ordered (l refl) s.orders))
+modes_began begun kept u v id ordered (Err readable_error.ClosedStream) l s = modes_of begun kept u v (tails_at u v u s.1 (tails_same u u refl))
+modes_began begun kept u v id ordered (Err readable_error.IllegalOrderedRead) l s = modes_at begun kept u v _ s.is (modes_put begun kept u id s.old s.new s.half (follows_rests begun kept id s.old s.new s.orders.2))
+modes_began begun kept u v id ordered (Err readable_error.OutOfMemory) l (inl s) = modes_of begun kept u v (tails_at u v u s (tails_same u u refl))
+modes_began begun kept u v id ordered (Err readable_error.OutOfMemory) l (inr s) = modes_at begun kept u v _ s.is (modes_put begun kept u id s.old s.new s.half (follows_rests begun kept id s.old s.new s.orders.1))
+
+modes_read : (begun : Option ℕ) (kept : ℕ → ℕ) (u : World) (id most : ℕ) (old new : Half) (answer : Result (Option Chunk) ReadError) → u.receive id ≡ Some old → Reads old most answer new → Modes begun kept u (after_read u id new answer)
+modes_read begun kept u id most old new (Ok (Some chunk)) e r = modes_put begun kept u id old new e (follows_same begun kept id old new r.1.ordered r.1.pieces)
+modes_read begun kept u id most old new (Ok None) e r = modes_of begun kept u (with_freed u id) (tails_freed u id)
+modes_read begun kept u id most old new (Err read_error.Blocked) e r = modes_put begun kept u id old new e (follows_rests begun kept id old new r.2.rests)
+modes_read begun kept u id most old new (Err (read_error.Reset code)) e r = modes_of begun kept u (with_freed u id) (tails_freed u id)
+modes_read begun kept u id most old new (Err read_error.OutOfMemory) e r = modes_put begun kept u id old new e (follows_rests begun kept id old new r.1.rests)
 
 -- ---- what is permitted
 
@@ -220,7 +258,7 @@ tails_more : (u v : World) (d : Dir) (first n : ℕ) → v.receive ≡ with_more
 unfolding with_more
 tails_more u v d first n e q h at = by_between (is_between (other_side u.out.side) d first n q) (sym (ap (λ (f : Halves). f q) e) ∙ at)
   where
-    by_between : (b : Bool) → (if b then Some (new_half u.window) else u.receive q) ≡ Some h → (h.buffer.bytes_read ≡ 0) ⊎ (u.receive q ≡ Some h)
+    by_between : (b : Bool) → (if b then Some (new_half u.window) else u.receive q) ≡ Some h → IsNewHalf h ⊎ (u.receive q ≡ Some h)
     by_between true k = inl (read_none h u.window (some_same (new_half u.window) h k))
     by_between false k = inr k
 
@@ -228,23 +266,23 @@ tails_concurrent : (u : World) (d : Dir) (count : ℕ) → Tails u (after_concur
 tails_concurrent u Bi count = tails_more u (after_concurrent u Bi count) Bi u.bi.max_remote _ refl
 tails_concurrent u Uni count = tails_more u (after_concurrent u Uni count) Uni u.uni.max_remote _ refl
 
-announced_order : (window : ℕ) (h : Half) (b : Bool) (n : ℕ) → (if b then record h { sent_max = n } else h).buffer.ordered ≡ h.buffer.ordered
-announced_order window h true n = refl
-announced_order window h false n = refl
+announced_buffer : (h : Half) (b : Bool) (n : ℕ) → (if b then record h { sent_max = n } else h).buffer ≡ h.buffer
+announced_buffer h true n = refl
+announced_buffer h false n = refl
 
-modes_announced : (u : World) (window id : ℕ) (o : Option Half) → u.receive id ≡ o → Modes u (record u { receive = after_announced u.receive window id o })
+modes_announced : (begun : Option ℕ) (kept : ℕ → ℕ) (u : World) (window id : ℕ) (o : Option Half) → u.receive id ≡ o → Modes begun kept u (record u { receive = after_announced u.receive window id o })
 unfolding with_receive
-modes_announced u window id None e = modes_of u u (tails_same u u refl)
-modes_announced u window id (Some h) e = modes_put u id h (with_announced window h) e (in_order (with_announced window h).buffer.ordered h.buffer.ordered (announced_order window h (is_open h) _))
+modes_announced begun kept u window id None e = modes_of begun kept u u (tails_same u u refl)
+modes_announced begun kept u window id (Some h) e = modes_put begun kept u id h (with_announced window h) e (follows_at begun kept id h (with_announced window h) (announced_buffer h (is_open h) (max h.sent_max (window_end h window))))
 
-modes_settled : (kind : ControlKind) (u : World) (p : Pending) (o : Option Frame) (v : World) (q : Pending) → SettlesEntry kind u p o v q → Modes u v
-modes_settled kinds.ResetStream u p o v q s = modes_of u v (tails_at u v u s.end (tails_same u u refl))
-modes_settled kinds.StopSending u p o v q s = modes_of u v (tails_at u v u s.end (tails_same u u refl))
-modes_settled kinds.MaxData u p o v q s = modes_of u v (tails_same u v (ap (λ (w : World). w.receive) s.end))
-modes_settled kinds.MaxStreamData u p o v q s = modes_at u v _ s.end (modes_announced u u.window s.id (u.receive s.id) refl)
-modes_settled (kinds.MaxStreams d) u p o v q s = modes_of u v (tails_at u v _ s.end (tails_remote u d (streams_announced (remote_of u d))))
-modes_settled kinds.DataBlocked u p o v q s = modes_of u v (tails_at u v u s.end (tails_same u u refl))
-modes_settled kinds.StreamDataBlocked u p o v q s = modes_of u v (tails_at u v u s.end (tails_same u u refl))
+modes_settled : (begun : Option ℕ) (kept : ℕ → ℕ) (kind : ControlKind) (u : World) (p : Pending) (o : Option Frame) (v : World) (q : Pending) → SettlesEntry kind u p o v q → Modes begun kept u v
+modes_settled begun kept kinds.ResetStream u p o v q s = modes_of begun kept u v (tails_at u v u s.end (tails_same u u refl))
+modes_settled begun kept kinds.StopSending u p o v q s = modes_of begun kept u v (tails_at u v u s.end (tails_same u u refl))
+modes_settled begun kept kinds.MaxData u p o v q s = modes_of begun kept u v (tails_same u v (ap (λ (w : World). w.receive) s.end))
+modes_settled begun kept kinds.MaxStreamData u p o v q s = modes_at begun kept u v _ s.end (modes_announced begun kept u u.window s.id (u.receive s.id) refl)
+modes_settled begun kept (kinds.MaxStreams d) u p o v q s = modes_of begun kept u v (tails_at u v _ s.end (tails_remote u d (streams_announced (remote_of u d))))
+modes_settled begun kept kinds.DataBlocked u p o v q s = modes_of begun kept u v (tails_at u v u s.end (tails_same u u refl))
+modes_settled begun kept kinds.StreamDataBlocked u p o v q s = modes_of begun kept u v (tails_at u v u s.end (tails_same u u refl))
 
 -- ---- the sending side
 
@@ -334,27 +372,50 @@ tails_send u (ResetAckedOwn id (Err e)) v s = tails_same u v (ap (λ (w : World)
 tails_send u (TookTurn most fair None) v s = tails_same u v (ap (λ (w : World). w.receive) s.is ∙ sym (ap (λ (w : World). w.receive) s.found))
 tails_send u (TookTurn most fair (Some frame)) v s = tails_same u v (ap (λ (w : World). w.receive) s.is ∙ sym (ap (λ (w : World). w.receive) s.found))
 
+-- the stream of which a call began a reader that reads bytes as they come
+abbrev pub begun_by : Event → Option ℕ
+begun_by (Began id false (Ok x)) = Some id
+begun_by _ = None
+
+-- how many frames of a stream it kept
+abbrev pub kept_by : Event → ℕ → ℕ
+kept_by (Received id offset bytes fin answer) q = if (q == id) && is_kept answer then 1 else 0
+kept_by _ q = 0
+
+kept_one : (id : ℕ) (b : Bool) → b ≡ true → 1 ≤ (if (id == id) && b then 1 else 0)
+kept_one id b e = rw (itself id, e) (omega arith)
+
+begun_so : (id : ℕ) (ordered : Bool) → ordered ≡ false → begun_by (Began id ordered (Ok tt)) ≡ Some id
+begun_so id true e = cc
+begun_so id false e = refl
+
+begun_here : (id : ℕ) (ordered : Bool) (answer : Result (Unit {0}) ReadableError) → answer ≡ Ok tt → ordered ≡ false → begun_by (Began id ordered answer) ≡ Some id
+begun_here id ordered answer e k = ap (λ a. begun_by (Began id ordered a)) e ∙ begun_so id ordered k
+
+abbrev pub ModesBy : Event → World → World → Type 0
+ModesBy e u v = Modes (begun_by e) (kept_by e) u v
+
 -- a call leaves each half in its mode, or lets it read bytes as they come
-pub modes-step : (u : World) (e : Event) (v : World) → Step u e v → Modes u v
-modes-step u (Received id offset bytes fin answer) v s = modes_frame u v id offset bytes fin answer s
-modes-step u (ReceivedReset id code final answer) v s = modes_reset u v id code final answer s
-modes-step u (AddedCredits count answer) v s = modes_of u v (tails_same u v (ap (λ (w : World). w.receive) s.0))
-modes-step u (Began id ordered answer) v s = modes_began u v id ordered answer s
-modes-step u (Gave id most ordered answer) v s = modes_at u v _ s.is (modes_read u id most s.old s.new answer s.half s.reads)
-modes-step u (Ended id count) v s = modes_of u v (tails_same u v (ap (λ (w : World). w.receive) s))
+pub modes-step : (u : World) (e : Event) (v : World) → Step u e v → ModesBy e u v
+modes-step u (Received id offset bytes fin answer) v s = modes_frame (begun_by (Received id offset bytes fin answer)) (kept_by (Received id offset bytes fin answer)) u v id offset bytes fin answer (kept_one id (is_kept answer)) s
+modes-step u (ReceivedReset id code final answer) v s = modes_reset (begun_by (ReceivedReset id code final answer)) (kept_by (ReceivedReset id code final answer)) u v id code final answer s
+modes-step u (AddedCredits count answer) v s = modes_of (begun_by (AddedCredits count answer)) (kept_by (AddedCredits count answer)) u v (tails_same u v (ap (λ (w : World). w.receive) s.0))
+modes-step u (Began id ordered answer) v s = modes_began (begun_by (Began id ordered answer)) (kept_by (Began id ordered answer)) u v id ordered answer (begun_here id ordered answer) s
+modes-step u (Gave id most ordered answer) v s = modes_at (begun_by (Gave id most ordered answer)) (kept_by (Gave id most ordered answer)) u v _ s.is (modes_read (begun_by (Gave id most ordered answer)) (kept_by (Gave id most ordered answer)) u id most s.old s.new answer s.half s.reads)
+modes-step u (Ended id count) v s = modes_of (begun_by (Ended id count)) (kept_by (Ended id count)) u v (tails_same u v (ap (λ (w : World). w.receive) s))
 modes-step u (Stopped id code (Ok x)) v s =
     let t = s.2 in
-    modes_at u v _ t.6 (modes_if u (with_freed u id) (with_receive u id (Some t.1)) (is_some t.0.size) (modes_of u (with_freed u id) (tails_freed u id))
-    (modes_put u id t.0 t.1 t.2 (in_order t.1.buffer.ordered t.0.buffer.ordered t.4.ordered)))
-modes-step u (Stopped id code (Err handle_error.ClosedStream)) v s = modes_of u v (tails_same u v (ap (λ (w : World). w.receive) s.2.1))
-modes-step u (Stopped id code (Err handle_error.OutOfMemory)) v s = modes_of u v (tails_same u v (ap (λ (w : World). w.receive) s.2.0))
-modes-step u (ToldReset id (Ok (Some code))) v s = modes_of u v (tails_at u v _ s.2.4 (tails_freed u id))
-modes-step u (ToldReset id (Ok None)) v s = modes_of u v (tails_same u v (ap (λ (w : World). w.receive) s.2.4))
-modes-step u (ToldReset id (Err handle_error.ClosedStream)) v s = modes_of u v (tails_same u v (ap (λ (w : World). w.receive) s.2.1))
-modes-step u (ToldReset id (Err handle_error.OutOfMemory)) v s = modes_of u v (tails_same u v (ap (λ (w : World). w.receive) s.2.3))
-modes-step u (Resized window answer) v s = modes_of u v (tails_same u v (ap (λ (w : World). w.receive) s.0))
-modes-step u (SetConcurrent dir count (Ok k)) v s = modes_of u v (tails_at u v _ s (tails_concurrent u dir count))
-modes-step u (SetConcurrent dir count (Err k)) v s = modes_of u v (tails_same u v (ap (λ (w : World). w.receive) s))
-modes-step u (Accepted dir answer) v s = modes_of u v (tails_at u v _ s.0 (tails_remote u dir (one_accepted (remote_of u dir))))
-modes-step u (Settled kind frame) v s = modes_settled kind u s.0 frame v s.1 s.2
-modes-step u (Sending e) v s = modes_of u v (tails_send u e v s)
+    modes_at (begun_by (Stopped id code (Ok x))) (kept_by (Stopped id code (Ok x))) u v _ t.6 (modes_if (begun_by (Stopped id code (Ok x))) (kept_by (Stopped id code (Ok x))) u (with_freed u id) (with_receive u id (Some t.1)) (is_some t.0.size) (modes_of (begun_by (Stopped id code (Ok x))) (kept_by (Stopped id code (Ok x))) u (with_freed u id) (tails_freed u id))
+    (modes_put (begun_by (Stopped id code (Ok x))) (kept_by (Stopped id code (Ok x))) u id t.0 t.1 t.2 (follows_cleared (begun_by (Stopped id code (Ok x))) (kept_by (Stopped id code (Ok x))) id t.0 t.1 t.4)))
+modes-step u (Stopped id code (Err handle_error.ClosedStream)) v s = modes_of (begun_by (Stopped id code (Err handle_error.ClosedStream))) (kept_by (Stopped id code (Err handle_error.ClosedStream))) u v (tails_same u v (ap (λ (w : World). w.receive) s.2.1))
+modes-step u (Stopped id code (Err handle_error.OutOfMemory)) v s = modes_of (begun_by (Stopped id code (Err handle_error.OutOfMemory))) (kept_by (Stopped id code (Err handle_error.OutOfMemory))) u v (tails_same u v (ap (λ (w : World). w.receive) s.2.0))
+modes-step u (ToldReset id (Ok (Some code))) v s = modes_of (begun_by (ToldReset id (Ok (Some code)))) (kept_by (ToldReset id (Ok (Some code)))) u v (tails_at u v _ s.2.4 (tails_freed u id))
+modes-step u (ToldReset id (Ok None)) v s = modes_of (begun_by (ToldReset id (Ok None))) (kept_by (ToldReset id (Ok None))) u v (tails_same u v (ap (λ (w : World). w.receive) s.2.4))
+modes-step u (ToldReset id (Err handle_error.ClosedStream)) v s = modes_of (begun_by (ToldReset id (Err handle_error.ClosedStream))) (kept_by (ToldReset id (Err handle_error.ClosedStream))) u v (tails_same u v (ap (λ (w : World). w.receive) s.2.1))
+modes-step u (ToldReset id (Err handle_error.OutOfMemory)) v s = modes_of (begun_by (ToldReset id (Err handle_error.OutOfMemory))) (kept_by (ToldReset id (Err handle_error.OutOfMemory))) u v (tails_same u v (ap (λ (w : World). w.receive) s.2.3))
+modes-step u (Resized window answer) v s = modes_of (begun_by (Resized window answer)) (kept_by (Resized window answer)) u v (tails_same u v (ap (λ (w : World). w.receive) s.0))
+modes-step u (SetConcurrent dir count (Ok k)) v s = modes_of (begun_by (SetConcurrent dir count (Ok k))) (kept_by (SetConcurrent dir count (Ok k))) u v (tails_at u v _ s (tails_concurrent u dir count))
+modes-step u (SetConcurrent dir count (Err k)) v s = modes_of (begun_by (SetConcurrent dir count (Err k))) (kept_by (SetConcurrent dir count (Err k))) u v (tails_same u v (ap (λ (w : World). w.receive) s))
+modes-step u (Accepted dir answer) v s = modes_of (begun_by (Accepted dir answer)) (kept_by (Accepted dir answer)) u v (tails_at u v _ s.0 (tails_remote u dir (one_accepted (remote_of u dir))))
+modes-step u (Settled kind frame) v s = modes_settled (begun_by (Settled kind frame)) (kept_by (Settled kind frame)) kind u s.0 frame v s.1 s.2
+modes-step u (Sending e) v s = modes_of (begun_by (Sending e)) (kept_by (Sending e)) u v (tails_send u e v s)

@@ -165,9 +165,10 @@ module _ (m : Made) (h : List Event) (u : World) (f : From m h u) (s : ReadsSo h
         order = λ q half at o. elim (modes-step u e v r q half at) [
           | inl none ↦ (let told = half-from (trace (e ∷ h)) v q half after.facts.streams (known-from (trace (e ∷ h)) v q half after.facts.streams at) at in
               let read = told.read in
+              let nothing = none.read in
               let few = (traces q).few in
               omega arith)
-          | inr was ↦ order_moved u (trace h) (move_of e) q was.0 was.1 (was.2 o) k (s.order q was.0 was.1 (was.2 o))
+          | inr was ↦ order_moved u (trace h) (move_of e) q was.0 was.1 (was.2.ordered o) k (s.order q was.0 was.1 (was.2.ordered o))
         ];
       }
 
