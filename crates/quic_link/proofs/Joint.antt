@@ -67,7 +67,7 @@ agrees_new m n f few_uni few_bi small other = record {
   truth = λ g h. absurd h;
   ids = new_ids m n;
   credit = record { limit = omega arith; base = omega arith };
-  reads = reads-new (start m);
+  reads = reads-new m;
   keeps = kept-new;
   rooms = λ q. record { within = omega arith; small = omega arith };
   fits = λ q. fits-new (sent_on (new_end m) q);

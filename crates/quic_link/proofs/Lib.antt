@@ -16,5 +16,6 @@ pub mod Modes
 pub mod Readers
 pub mod Kept
 pub mod Truthful
+pub mod Answered
 pub mod Promised
 pub mod Example

@@ -42,6 +42,7 @@ use Rattle.quic_history.proofs.SendSteps.{either-way}
 use Rattle.quic_history.proofs.StreamSteps.{noticed-any}
 use Rattle.quic_history.proofs.Totals.{by_cases, same}
 use Rattle.quic_history.proofs.Traces.{itself}
+use Rattle.quic_link.specs.Promises.{kept_by}
 
 -- nothing came of a half
 pub record IsNewHalf (h : Half) : Type 0 where
@@ -98,17 +99,20 @@ put_half f id q o h k here other = by_cases (eqb q id)
 modes_put : (begun : Option ℕ) (kept : ℕ → ℕ) (u : World) (id : ℕ) (g h : Half) → u.receive id ≡ Some g → Follows begun kept id g h → Modes begun kept u (with_receive u id (Some h))
 unfolding with_receive
 modes_put begun kept u id g h e o q k at = put_half u.receive id q (Some h) k at
-    (λ i s. inr (g, ap u.receive i ∙ e,
-    let P : Half → Type 0 = λ x. Follows begun kept q g x in
-    let Q : ℕ → Type 0 = λ j. Follows begun kept j g h in
-    subst P (some_same h k s) (subst Q (sym i) o)))
+    (λ i s. inr (
+      g,
+      ap u.receive i ∙ e,
+      let P : Half → Type 0 = λ x. Follows begun kept q g x in
+          let Q : ℕ → Type 0 = λ j. Follows begun kept j g h in
+          subst P (some_same h k s) (subst Q (sym i) o),
+    ))
     (λ s. inr (k, s, follows_same begun kept q k k refl (omega arith)))
 
 tails_drop : (u : World) (id : ℕ) → Tails u (with_receive u id None)
 unfolding with_receive
 tails_drop u id q h at = put_half u.receive id q None h at (λ i s. cc) (λ s. inr s)
 
-read_none : (h : Half) (window : ℕ) → new_half window ≡ h → IsNewHalf h
+pub read_none : (h : Half) (window : ℕ) → new_half window ≡ h → IsNewHalf h
 read_none h window e = let P : Half → Type 0 = λ x. IsNewHalf x in subst P e (record { read = refl; ordered = refl; pieces = refl })
 
 tails_new : (u v : World) (id : ℕ) → v.receive ≡ with_half u.receive id (Some (new_half u.window)) → Tails u v
@@ -376,11 +380,6 @@ tails_send u (TookTurn most fair (Some frame)) v s = tails_same u v (ap (λ (w :
 abbrev pub begun_by : Event → Option ℕ
 begun_by (Began id false (Ok x)) = Some id
 begun_by _ = None
-
--- how many frames of a stream it kept
-abbrev pub kept_by : Event → ℕ → ℕ
-kept_by (Received id offset bytes fin answer) q = if (q == id) && is_kept answer then 1 else 0
-kept_by _ q = 0
 
 kept_one : (id : ℕ) (b : Bool) → b ≡ true → 1 ≤ (if (id == id) && b then 1 else 0)
 kept_one id b e = rw (itself id, e) (omega arith)

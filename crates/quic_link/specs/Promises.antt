@@ -1,5 +1,5 @@
 -- What holds between two ends, whatever is lost, repeated or reordered.
-use Rattle.std.specs.Prelude.{ℕ, Bool, Result, true, ◌≡◌, ◌+◌, ◌^◌, ◌≤◌, ◌<◌, List, [], ◌∷◌, ◌++◌, length, if◌then◌else◌, false, Some, None, Ok, Err}
+use Rattle.std.specs.Prelude.{ℕ, Bool, Result, true, ◌⊎◌, ◌==◌, ◌&&◌, is_some, ◌≡◌, ◌+◌, ◌^◌, ◌≤◌, ◌<◌, List, [], ◌∷◌, ◌++◌, length, if◌then◌else◌, false, Some, None, Ok, Err}
 use Rattle.quic_wire.specs.declared.frame.Frame.{Frame}
 use Rattle.quic_wire.specs.declared.frame.Frame.TheVariants as frames
 use Rattle.quic_wire.specs.declared.error.ReceiveError.{ReceiveError}
@@ -12,8 +12,12 @@ use Rattle.quic_receiving.specs.Half.{Half, Taken, verdict, reset_verdict, is_al
 use Rattle.quic_receiving.specs.declared.transmit.ShouldTransmit.{ShouldTransmit}
 use Rattle.quic_history.specs.World.{World, id_refusal}
 use Rattle.quic_history.specs.Sends.{sending_refusal}
-use Rattle.quic_history.specs.SendEvents.{RaisedCount, RaisedLimit}
-use Rattle.quic_history.specs.History.{Event, Received, ReceivedReset, Sending, ReadChunk, slices, EachOnce, is_kept}
+use Rattle.quic_receiving.specs.declared.errors.ReadError.TheVariants as read_error
+use Rattle.quic_receiving.specs.declared.errors.ReadableError.TheVariants as readable_error
+use Rattle.quic_sending.specs.declared.send.WriteError.TheVariants as write_error
+use Rattle.quic_sending.specs.declared.send.FinishError.TheVariants as finish_error
+use Rattle.quic_history.specs.SendEvents.{RaisedCount, RaisedLimit, WroteOwn, FinishedOwn}
+use Rattle.quic_history.specs.History.{Event, Received, ReceivedReset, Began, Gave, ToldReset, Sending, Trace, ReadChunk, slices, EachOnce, is_kept}
 use Rattle.quic_link.specs.Endpoints.{Endpoint, IsOneOf, MayAct, sent_on, came_on, written_on, WasStoppedWith}
 use Rattle.quic_link.specs.Truths.{AreBytesOf, IsTrue, amount_on}
 
@@ -122,6 +126,41 @@ pub record IsReadable (x y : Endpoint) (q : ℕ) (h : Half) : Type 0 where
 abbrev pub AreReadable : Endpoint → Endpoint → Type 0
 AreReadable x y = (q : ℕ) (h : Half) → y.world.receive q ≡ Some h → h.stopped ≡ false → h.reset ≡ None → IsReadable x y q h
 
+-- how many frames of a stream a call kept, and all calls
+abbrev pub kept_by : Event → ℕ → ℕ
+kept_by (Received id offset bytes fin answer) q = if (q == id) && is_kept answer then 1 else 0
+kept_by _ q = 0
+
+abbrev pub kept_count : List Event → ℕ → ℕ
+kept_count [] q = 0
+kept_count (e ∷ h) q = kept_count h q + kept_by e q
+
+-- a reader of a stream was opened that reads bytes as they come
+abbrev pub WasReadUnordered : List Event → ℕ → Type 0
+WasReadUnordered calls id = IsOneOf (Began id false (Ok tt)) calls
+
+-- why a stream is read no more: its end was told, or it was stopped, or a reset came
+abbrev pub IsOver : Trace → Type 0
+IsOver t = (t.ended ≡ true) ⊎ ((t.stopped ≡ true) ⊎ (is_some t.reset ≡ true))
+
+-- what x is answered is true: an end, a reset and a stop are those of y, a stream that x receives on is closed only where it
+-- is over, an
+-- ordered read is refused only after an unordered one, and there are too many pieces on a stream that was read in order
+-- only where more than 1024 of its frames were kept
+abbrev pub IsTrueAnswer : Endpoint → Endpoint → Event → Type 0
+IsTrueAnswer x y (Gave id most ordered (Ok None)) = ((sent_on y id).finished ≡ true) × IsAllGiven (slices (came_on x id).given) (amount_on y id)
+IsTrueAnswer x y (Gave id most ordered (Err (read_error.Reset code))) = (sent_on y id).reset ≡ Some code
+IsTrueAnswer x y (ToldReset id (Ok (Some code))) = (sent_on y id).reset ≡ Some code
+IsTrueAnswer x y (Began id ordered (Err readable_error.ClosedStream)) = id_refusal x.world id ≡ None → IsOver (came_on x id)
+IsTrueAnswer x y (Began id ordered (Err readable_error.IllegalOrderedRead)) = (ordered ≡ true) × WasReadUnordered x.calls id
+IsTrueAnswer x y (Received id offset bytes fin (Err (receive_error.Transport error))) = (WasReadUnordered x.calls id → ⊥) → 1024 < kept_count x.calls id + 1
+IsTrueAnswer x y (Sending (WroteOwn id lists closed (Err (write_error.Stopped code)))) = WasStoppedWith y.calls id code
+IsTrueAnswer x y (Sending (FinishedOwn id (Err (finish_error.Stopped code)))) = WasStoppedWith y.calls id code
+IsTrueAnswer x y _ = Unit {0}
+
+abbrev pub AnswersTrue : Endpoint → Endpoint → Type 0
+AnswersTrue x y = (e : Event) (v : World) → MayAct x y e v → IsTrueAnswer x y e
+
 -- what holds of two ends as x sends and y receives: every frame that x wrote is true of it, and none is refused; what is
 -- told is true, and what was kept may be read
 pub record Promises (x y : Endpoint) : Type 0 where
@@ -130,3 +169,4 @@ pub record Promises (x y : Endpoint) : Type 0 where
   pub unrefused : RefusesNone x y
   pub truth : (q : ℕ) → TellsTruth x y q
   pub readable : AreReadable x y
+  pub answers : AnswersTrue x y
