@@ -31,6 +31,8 @@ use Rattle.quic_link.specs.Endpoints.{Endpoint, MayAct, WasGiven, sent_on, came_
 use Rattle.quic_link.specs.Truths.{amount_on}
 use Rattle.quic_link.specs.Promises.{IsTrueAnswer, AnswersTrue, IsOver, WasReadUnordered, RefusesNone, kept_by, kept_count}
 use Rattle.quic_link.proofs.Growth.{held-told}
+use Rattle.quic_history.proofs.ToldEvents.{queues}
+use Rattle.quic_link.proofs.Told.{told-polled}
 use Rattle.quic_link.proofs.Ends.{comes-acted}
 use Rattle.quic_link.proofs.Readers.{reads-kept}
 use Rattle.quic_link.proofs.Joint.{Agrees}
@@ -164,7 +166,8 @@ module _ (x y : Endpoint) (s : Agrees x y) (r : Agrees y x) where
   answers-true none (Sending (LostOwn id offsets fin answer)) v a = tt
   answers-true none (Sending (ResetAckedOwn id answer)) v a = tt
   answers-true none (Sending (TookTurn most fair frame)) v a = tt
-  answers-true none (Sending (Polled answer)) v a = tt
+  answers-true none (Sending (Polled None)) v a = tt
+  answers-true none (Sending (Polled (Some g))) v a = told-polled x y x.world.events v.events g (queues x.made x.calls x.world s.comes.side s.comes.sent s.comes.sends (Sending (Polled (Some g))) v a.step) s.events
   answers-true none (ReceivedReset id code final answer) v a = tt
   answers-true none (AddedCredits count answer) v a = tt
   answers-true none (Ended id count) v a = tt

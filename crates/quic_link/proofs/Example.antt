@@ -136,4 +136,4 @@ module _ (t1 t2 : ShouldTransmit) (v0 v1 v2 v3 v4 v5 v6 w0 w1 w2 w3 w4 w5 w6 : W
 
   -- the send half was freed, and each of the three bytes was in a frame that was answered Ok
   each_came : (at : ℕ) → at < 3 → CameAt y6.calls 2 at
-  each_came at l = told.came refl refl at l
+  each_came at l = let w = told.delivered refl refl in w.bytes at l

@@ -14,6 +14,7 @@ use Rattle.quic_link.proofs.Rooms.{RoomSo, room-kept, limits-honest}
 use Rattle.quic_link.proofs.TrueFrames.{AllTrue, true-acted, count-few}
 use Rattle.quic_link.proofs.Streams.{StreamFits, fits-new, fits-grown, fits-moved, move-true, LimitSo, limits-sent, limits-came}
 use Rattle.quic_link.proofs.Acks.{AckedSo, acked-sent, acked-came}
+use Rattle.quic_link.proofs.Told.{AllToldTrue, told-first, told-second}
 use Rattle.quic_link.proofs.Meets.{nexts, next_of_dir}
 use Rattle.quic_link.proofs.Opens.{IdsSo}
 use Rattle.quic_link.proofs.Readers.{ReadsSo, reads-new, reads-kept}
@@ -35,6 +36,7 @@ pub record Agrees (x y : Endpoint) : Type 0 where
   pub fits : (q : ℕ) → StreamFits (sent_on x q) (came_on y q)
   pub limits : (q : ℕ) → LimitSo y.made.window (sent_on x q) (came_on y q)
   pub acked : (q : ℕ) → AckedSo (sent_on x q) y.calls q
+  pub events : AllToldTrue x y
 
 -- ---- at first
 
@@ -73,6 +75,7 @@ agrees_new m n f few_uni few_bi small other = record {
   fits = λ q. fits-new (sent_on (new_end m) q);
   limits = λ q. omega arith;
   acked = λ q. record { came = λ k e. cc; end_came = λ e. cc; whole = λ e r. cc; stopped = λ code e. cc };
+  events = λ g h. absurd h;
 }
   where
     few : (d : Dir) → (remote_of (start m) d).max_remote ≤ 2 ^ 60
@@ -108,6 +111,7 @@ agrees-sent x y e v s r a =
       fits = λ q. fits-grown (sent_on x q) (sent_on (acted x e v) q) (came_on y q) (grows x.made x.calls x.world v f e a.step q) (s.fits q);
       limits = limits-sent x y e v r.truth a.honest l s.limits;
       acked = acked-sent x y e v f r.truth a s.acked;
+      events = told-first x y e v f r.truth a s.acked s.events;
     }
 
 -- ---- and of the end that receives
@@ -129,6 +133,7 @@ agrees-came x y e v s r a =
       fits = λ q. fits-moved (sent_on x) (move_of e) q (came_on y q) (move-true x y e s.truth a.honest) (s.fits q);
       limits = limits-came x y e v s.limits;
       acked = λ q. acked-came (sent_on x q) y.calls q e (s.acked q);
+      events = told-second x y e v s.events;
     }
 
 other_other : (s : Side) → s ≡ other_side (other_side s)

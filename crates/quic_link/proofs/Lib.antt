@@ -6,6 +6,7 @@ pub mod Texts
 pub mod TrueFrames
 pub mod Streams
 pub mod Acks
+pub mod Told
 pub mod Meets
 pub mod Queues
 pub mod Opens

@@ -56,9 +56,7 @@ truthful x y s r q =
       all = λ e. let P : ℕ → Type 0 = λ n. IsAllGiven (slices (came_on y q).given) n in subst P (fits.whole (ends.sized e)) (ends.all e);
       reset = fits.reset;
       stopped = acked.stopped;
-      ends = λ e n. let w = acked.whole e n in w.finished;
-      came = λ e n at l. let w = acked.whole e n in acked.came at (w.all at l);
-      end_came = λ e n. let w = acked.whole e n in acked.end_came w.end_acked;
+      delivered = λ e n. let w = acked.whole e n in record { finished = w.finished; bytes = λ at l. acked.came at (w.all at l); end = acked.end_came w.end_acked };
     }
 
 -- ---- reads

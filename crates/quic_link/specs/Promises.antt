@@ -5,6 +5,8 @@ use Rattle.quic_wire.specs.declared.frame.Frame.TheVariants as frames
 use Rattle.quic_wire.specs.declared.error.ReceiveError.{ReceiveError}
 use Rattle.quic_wire.specs.declared.error.ReceiveError.TheVariants as receive_error
 use Rattle.quic_wire.specs.declared.error.TheConstants.TransportError.{INTERNAL_ERROR}
+use Rattle.quic_wire.specs.declared.event.StreamEvent.{StreamEvent}
+use Rattle.quic_wire.specs.declared.event.StreamEvent.TheVariants as stream_event
 use Rattle.quic_assembler.specs.Piece.{lies, IsByteAt}
 use Rattle.quic_assembler.specs.Reassembly.{Holds, IsHeld, piece_count}
 use Rattle.quic_receiving.specs.Data.{Carries, is_in_slices, IsAllGiven}
@@ -16,7 +18,7 @@ use Rattle.quic_receiving.specs.declared.errors.ReadError.TheVariants as read_er
 use Rattle.quic_receiving.specs.declared.errors.ReadableError.TheVariants as readable_error
 use Rattle.quic_sending.specs.declared.send.WriteError.TheVariants as write_error
 use Rattle.quic_sending.specs.declared.send.FinishError.TheVariants as finish_error
-use Rattle.quic_history.specs.SendEvents.{RaisedCount, RaisedLimit, WroteOwn, FinishedOwn}
+use Rattle.quic_history.specs.SendEvents.{RaisedCount, RaisedLimit, WroteOwn, FinishedOwn, Polled}
 use Rattle.quic_history.specs.History.{Event, Received, ReceivedReset, Began, Gave, ToldReset, Sending, Trace, ReadChunk, slices, EachOnce, is_kept}
 use Rattle.quic_link.specs.Endpoints.{Endpoint, IsOneOf, MayAct, sent_on, came_on, written_on, WasStoppedWith}
 use Rattle.quic_link.specs.Truths.{AreBytesOf, IsTrue, amount_on}
@@ -36,6 +38,18 @@ pub record EndCame (calls : List Event) (id : ℕ) : Type 0 where
   pub bytes : List ℕ
   pub transmit : ShouldTransmit
   pub is : IsOneOf (Received id offset bytes true (Ok transmit)) calls
+
+-- all that x wrote on a stream came to y: it was finished, and frames with every byte and with the end were answered Ok
+pub record CameWhole (x y : Endpoint) (q : ℕ) : Type 0 where
+  pub finished : (sent_on x q).finished ≡ true
+  pub bytes : (at : ℕ) → at < amount_on x q → CameAt y.calls q at
+  pub end : EndCame y.calls q
+
+-- what the application is told of a stream is true: where it is finished all of it came, and a stop was asked for
+abbrev pub IsTrueEvent : Endpoint → Endpoint → StreamEvent → Type 0
+IsTrueEvent x y (stream_event.Finished id) = CameWhole x y id
+IsTrueEvent x y (stream_event.Stopped id code) = WasStoppedWith y.calls id code
+IsTrueEvent x y _ = Unit {0}
 
 -- an end does not refuse a frame: it knows the stream, and its half, where one is held, takes the frame (RFC 9000
 -- sections 4.1, 4.5, 4.6, 19.8, 19.4, 19.10 and 19.11)
@@ -89,11 +103,8 @@ pub record TellsTruth (x y : Endpoint) (q : ℕ) : Type 0 where
   -- the code of a reset that came is that of a reset, and the code of a stop that of a stop
   pub reset : (code : ℕ) → (came_on y q).reset ≡ Some code → (sent_on x q).reset ≡ Some code
   pub stopped : (code : ℕ) → (sent_on x q).stopped ≡ Some code → WasStoppedWith y.calls q code
-  -- where the half of a stream that was not reset is freed, it was finished, and frames with every byte and with the end
-  -- were answered Ok
-  pub ends : (sent_on x q).freed ≡ true → (sent_on x q).reset ≡ None → (sent_on x q).finished ≡ true
-  pub came : (sent_on x q).freed ≡ true → (sent_on x q).reset ≡ None → (at : ℕ) → at < amount_on x q → CameAt y.calls q at
-  pub end_came : (sent_on x q).freed ≡ true → (sent_on x q).reset ≡ None → EndCame y.calls q
+  -- where the half of a stream that was not reset is freed, all of it came
+  pub delivered : (sent_on x q).freed ≡ true → (sent_on x q).reset ≡ None → CameWhole x y q
 
 -- a STREAM frame with the byte at an offset was kept
 pub record KeptAt (calls : List Event) (id at : ℕ) : Type 0 where
@@ -156,6 +167,7 @@ IsTrueAnswer x y (Began id ordered (Err readable_error.IllegalOrderedRead)) = (o
 IsTrueAnswer x y (Received id offset bytes fin (Err (receive_error.Transport error))) = (WasReadUnordered x.calls id → ⊥) → 1024 < kept_count x.calls id + 1
 IsTrueAnswer x y (Sending (WroteOwn id lists closed (Err (write_error.Stopped code)))) = WasStoppedWith y.calls id code
 IsTrueAnswer x y (Sending (FinishedOwn id (Err (finish_error.Stopped code)))) = WasStoppedWith y.calls id code
+IsTrueAnswer x y (Sending (Polled (Some g))) = IsTrueEvent x y g
 IsTrueAnswer x y _ = Unit {0}
 
 abbrev pub AnswersTrue : Endpoint → Endpoint → Type 0
