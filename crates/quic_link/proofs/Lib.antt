@@ -9,6 +9,7 @@ pub mod Acks
 pub mod Told
 pub mod Meets
 pub mod Queues
+pub mod Reports
 pub mod Opens
 pub mod Counts
 pub mod Joint
