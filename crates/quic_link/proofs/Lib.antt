@@ -10,6 +10,7 @@ pub mod Told
 pub mod Meets
 pub mod Queues
 pub mod Reports
+pub mod Given
 pub mod Opens
 pub mod Counts
 pub mod Joint
