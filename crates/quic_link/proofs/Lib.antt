@@ -11,6 +11,7 @@ pub mod Meets
 pub mod Queues
 pub mod Reports
 pub mod Given
+pub mod AskedFor
 pub mod Opens
 pub mod Counts
 pub mod Joint

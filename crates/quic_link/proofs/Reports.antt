@@ -234,7 +234,6 @@ stays_send u (ResetAckedOwn id (Err e)) v s = ap reports s.1
 stays_send u (TookTurn most fair None) v s = ap reports s.is ∙ sym (ap reports s.found)
 stays_send u (TookTurn most fair (Some frame)) v s = ap reports s.is ∙ sym (ap reports s.found)
 
-
 -- whether a call accepts a stream
 abbrev pub is_accepting : Event → Bool
 is_accepting (Accepted dir answer) = true
