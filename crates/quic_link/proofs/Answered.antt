@@ -1,35 +1,29 @@
 -- What calls are answered is true of the other end.
-use Rattle.std.proofs.Common.{◌≡◌, ◌⊎◌, ℕ, Bool, true, false, List, [], ◌∷◌, Option, Some, None, is_some, Ok, Err, refl, sym, ap, ◌∙◌, subst, inl, inr, arith, ◌+◌, ◌<◌, ◌≤◌}
-use Rattle.std.specs.Prelude.{◌==◌, ◌&&◌, ◌-◌, min, nat_le, nat_lt, if◌then◌else◌}
+use Rattle.std.proofs.Common.{◌≡◌, ℕ, Bool, true, false, List, Option, Some, None, is_some, Ok, Err, refl, sym, ap, ◌∙◌, subst, inl, inr, arith, ◌+◌, ◌<◌, ◌≤◌}
+use Rattle.std.specs.Prelude.{◌==◌, ◌&&◌, min, if◌then◌else◌}
 use Rattle.std.proofs.lemmas.Bool.Decides.{nat_tests}
-use Rattle.quic_values.specs.declared.ids.Dir.{Dir}
-use Rattle.quic_values.specs.Ids.{dir_of, index_of}
 use Rattle.quic_wire.specs.declared.error.TransportError.{TransportError}
 use Rattle.quic_wire.specs.declared.error.ReceiveError.TheVariants as receive_error
-use Rattle.quic_wire.specs.declared.error.TheConstants.TransportError.{STREAM_LIMIT_ERROR, STREAM_STATE_ERROR}
 use Rattle.quic_sending.specs.declared.send.Send.{Send}
-use Rattle.quic_sending.specs.declared.send.WriteError.{WriteError}
 use Rattle.quic_sending.specs.declared.send.WriteError.TheVariants as write_error
-use Rattle.quic_sending.specs.declared.send.FinishError.{FinishError}
 use Rattle.quic_sending.specs.declared.send.FinishError.TheVariants as finish_error
 use Rattle.quic_sending.specs.Sending.{finish_refusal, is_ready}
 use Rattle.quic_receiving.specs.Half.{Half, is_all}
 use Rattle.quic_receiving.specs.Data.{IsAllGiven}
 use Rattle.quic_receiving.specs.declared.errors.ReadError.TheVariants as read_error
 use Rattle.quic_receiving.specs.declared.errors.ReadableError.TheVariants as readable_error
-use Rattle.quic_outgoing.specs.Outgoing.{own_of}
 use Rattle.quic_outgoing.specs.Calls.{end_refusal}
 use Rattle.quic_flows.specs.Flow.{SendFlow, takes_data}
 use Rattle.quic_history.specs.World.{World, id_refusal}
 use Rattle.quic_history.specs.Flows.{refusal_told, refusal_where, room_on}
 use Rattle.quic_history.specs.Reading.{ReadsHalf, IsClosed}
-use Rattle.quic_history.specs.SendEvents.{SendEvent, GaveLimits, RaisedData, RaisedCount, RaisedLimit, StoppedOwn, SetWindow, OpenedOwn, WroteOwn, FinishedOwn, ResetOwn, SetOwnPriority, AckedOwn, LostOwn, ResetAckedOwn, TookTurn, Polled}
+use Rattle.quic_history.specs.SendEvents.{GaveLimits, RaisedData, RaisedCount, RaisedLimit, StoppedOwn, SetWindow, OpenedOwn, WroteOwn, FinishedOwn, ResetOwn, SetOwnPriority, AckedOwn, LostOwn, ResetAckedOwn, TookTurn, Polled}
 use Rattle.quic_history.specs.History.{Event, Received, ReceivedReset, AddedCredits, Began, Gave, Ended, Stopped, ToldReset, Resized, SetConcurrent, Accepted, Settled, Sending, HalfFrom, slices, trace, is_kept, is_sent_on, room_in_connection, room_in_window}
 use Rattle.quic_history.proofs.Totals.{by_cases}
 use Rattle.quic_history.proofs.StreamSteps.{half-from, known-from, gone-from}
-use Rattle.quic_link.specs.Endpoints.{Endpoint, MayAct, WasGiven, sent_on, came_on, WasStoppedWith}
+use Rattle.quic_link.specs.Endpoints.{Endpoint, MayAct, sent_on, came_on}
 use Rattle.quic_link.specs.Truths.{amount_on}
-use Rattle.quic_link.specs.Promises.{IsTrueAnswer, AnswersTrue, IsOver, WasReadUnordered, RefusesNone, kept_by, kept_count}
+use Rattle.quic_link.specs.Promises.{AnswersTrue, IsOver, WasReadUnordered, RefusesNone, kept_by, kept_count}
 use Rattle.quic_link.proofs.Growth.{held-told}
 use Rattle.quic_history.proofs.ToldEvents.{queues}
 use Rattle.quic_link.proofs.Told.{told-polled}

@@ -1,5 +1,5 @@
 -- What is pending beside data was asked for, and so is every frame that was written of it.
-use Rattle.std.proofs.Common.{◌≡◌, ◌⊎◌, ℕ, Bool, true, false, eqb, List, [], ◌∷◌, Option, Some, None, Result, Ok, Err, refl, sym, ap, ◌∙◌, subst, inl, inr, arith}
+use Rattle.std.proofs.Common.{◌≡◌, ◌⊎◌, ℕ, Bool, true, false, List, [], ◌∷◌, Option, Some, None, Ok, refl, sym, ap, ◌∙◌, subst, inl, inr, arith}
 use Rattle.std.specs.Prelude.{◌++◌, ◌==◌, ◌&&◌, ◌||◌, not, if◌then◌else◌}
 use Rattle.std.specs.Option.{option_map}
 use Rattle.std.proofs.lemmas.Bool.Decides.{nat_tests}
@@ -9,18 +9,17 @@ use Rattle.quic_wire.specs.declared.frame.Frame.{Frame}
 use Rattle.quic_wire.specs.declared.frame.Frame.TheVariants as frames
 use Rattle.quic_wire.specs.declared.frame.StopSending.{StopSending}
 use Rattle.quic_sending.specs.declared.send.Send.{Send}
-use Rattle.quic_receiving.specs.Half.{Half}
 use Rattle.quic_retransmits.specs.Pending.{Pending, nothing, merged}
 use Rattle.quic_retransmits.specs.Queueing.{with_id, with_stop_sending, with_reset_stream}
-use Rattle.quic_retransmits.specs.Settling.{noted, without_id, without_max_streams}
+use Rattle.quic_retransmits.specs.Settling.{noted, without_max_streams}
 use Rattle.quic_flows.specs.Flow.{WasGivenUp, SendFlow}
 use Rattle.quic_writing.specs.Appended.{frame_with}
 use Rattle.quic_history.specs.World.{World}
 use Rattle.quic_history.specs.Flows.{has_send_side, has_side_in, send_moved}
 use Rattle.quic_history.specs.declared.control.ControlKind.{ControlKind}
 use Rattle.quic_history.specs.declared.control.ControlKind.TheVariants as kinds
-use Rattle.quic_history.specs.Control.{SettlesEntry, reset_frame, window_frame, announced_end}
-use Rattle.quic_history.specs.SendEvents.{SendEvent, GaveLimits, RaisedData, RaisedCount, RaisedLimit, StoppedOwn, SetWindow, OpenedOwn, WroteOwn, FinishedOwn, ResetOwn, SetOwnPriority, AckedOwn, LostOwn, ResetAckedOwn, TookTurn, Polled}
+use Rattle.quic_history.specs.Control.{SettlesEntry, reset_frame, announced_end}
+use Rattle.quic_history.specs.SendEvents.{GaveLimits, RaisedData, RaisedCount, RaisedLimit, StoppedOwn, SetWindow, OpenedOwn, WroteOwn, FinishedOwn, ResetOwn, SetOwnPriority, AckedOwn, LostOwn, ResetAckedOwn, TookTurn, Polled}
 use Rattle.quic_history.specs.History.{Event, Received, ReceivedReset, AddedCredits, Began, Gave, Ended, Stopped, ToldReset, Resized, SetConcurrent, Accepted, Settled, Sending, opened_in_all, send_tale}
 use Rattle.quic_history.proofs.Traces.{itself}
 use Rattle.quic_history.proofs.SendSides.{held-side}
@@ -28,7 +27,7 @@ use Rattle.quic_history.proofs.FlowHistory.{known-by}
 use Rattle.quic_link.specs.Endpoints.{Endpoint, IsOneOf, MayAct, acted, written_by, written_on, sent_on, WasAskedFor, WasGiven, WasStoppedWith}
 use Rattle.quic_link.specs.Asked.{AreAsked}
 use Rattle.quic_link.proofs.Ends.{Comes}
-use Rattle.quic_link.proofs.Growth.{Grows, grows}
+use Rattle.quic_link.proofs.Growth.{grows}
 use Rattle.quic_link.proofs.TrueFrames.{either-of}
 use Rattle.quic_link.proofs.Given.{given-more}
 

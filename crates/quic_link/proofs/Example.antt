@@ -1,24 +1,19 @@
 -- A run of two ends, whatever values its calls lead to: a stream is opened, written, ended and sent, delivered twice,
 -- read to its end, and acknowledged.
-use Rattle.std.proofs.Common.{◌≡◌, ℕ, Bool, true, false, List, [], ◌∷◌, Some, None, Ok, refl, sym, ap, ◌∙◌, subst, inl, inr, arith, ◌<◌, ◌^◌}
-use Rattle.std.specs.Prelude.{if◌then◌else◌}
+use Rattle.std.proofs.Common.{◌≡◌, ℕ, true, false, List, [], ◌∷◌, Some, None, Ok, refl, ◌∙◌, inl, inr, arith, ◌<◌}
 use Rattle.std.specs.declared.ops.Range.{Range}
 use Rattle.quic_values.specs.declared.ids.Side.TheVariants.{Client, Server}
 use Rattle.quic_values.specs.declared.ids.Dir.TheVariants.{Uni}
 use Rattle.quic_values.specs.Ids.{dir_of, index_of}
-use Rattle.quic_assembler.specs.declared.chunk.Chunk.{Chunk}
-use Rattle.quic_wire.specs.declared.frame.StreamMeta.{StreamMeta}
-use Rattle.quic_sending.specs.declared.send.Written.{Written}
 use Rattle.quic_receiving.specs.declared.transmit.ShouldTransmit.{ShouldTransmit}
-use Rattle.quic_outgoing.specs.Outgoing.{own_of}
 use Rattle.quic_outgoing.specs.Senders.{is_local}
-use Rattle.quic_history.specs.World.{World, Made, made_with, is_own, remote_of}
+use Rattle.quic_history.specs.World.{World, Made, made_with, is_own}
 use Rattle.quic_history.specs.SendEvents.{GaveLimits, OpenedOwn, WroteOwn, FinishedOwn, AckedOwn, TookTurn}
 use Rattle.quic_history.specs.History.{Event, Received, Began, Gave, Accepted, Sending, Step, opened_in_all, IsStart}
-use Rattle.quic_link.specs.Endpoints.{Endpoint, MayAct, acted, IsNewEnd, Linked, begun, first_acts, second_acts, WasGiven, limits_of, sent_on, came_on}
+use Rattle.quic_link.specs.Endpoints.{Endpoint, acted, Linked, begun, first_acts, second_acts, WasGiven, limits_of, sent_on}
 use Rattle.quic_link.specs.Promises.{TellsTruth, CameAt}
 use Rattle.quic_link.proofs.Ends.{Comes}
-use Rattle.quic_link.proofs.Joint.{Agrees, agrees}
+use Rattle.quic_link.proofs.Joint.{agrees}
 use Rattle.quic_link.proofs.Opens.{own-local, opened-is}
 use Rattle.quic_link.proofs.Truthful.{truthful}
 

@@ -1,5 +1,5 @@
 -- A stream that the application was given stays so.
-use Rattle.std.proofs.Common.{◌≡◌, ℕ, Bool, true, false, List, ◌∷◌, Option, Some, None, refl, sym, ap, ◌∙◌, subst, arith, ◌+◌, ◌≤◌, ◌<◌}
+use Rattle.std.proofs.Common.{◌≡◌, ℕ, Bool, true, false, ◌∷◌, refl, sym, ap, subst, arith, ◌+◌, ◌≤◌, ◌<◌}
 use Rattle.std.specs.Prelude.{nat_lt, if◌then◌else◌}
 use Rattle.quic_values.specs.declared.ids.Dir.{Dir}
 use Rattle.quic_values.specs.declared.ids.Dir.TheVariants.{Bi, Uni}
@@ -7,9 +7,9 @@ use Rattle.quic_values.specs.Ids.{dir_of, index_of}
 use Rattle.quic_limits.specs.Remote.{Remote}
 use Rattle.quic_outgoing.specs.Outgoing.{own_of}
 use Rattle.quic_outgoing.specs.Senders.{is_local}
-use Rattle.quic_history.specs.World.{World, is_own, remote_of}
+use Rattle.quic_history.specs.World.{World, remote_of}
 use Rattle.quic_history.specs.Permitting.{with_accepted}
-use Rattle.quic_history.specs.History.{Event, Accepted, Step, opened_in_all, opens_by}
+use Rattle.quic_history.specs.History.{Event, Accepted, Step, opened_in_all}
 use Rattle.quic_link.specs.Endpoints.{Endpoint, MayAct, acted, WasGiven}
 use Rattle.quic_link.proofs.Ends.{Comes, comes-acted}
 use Rattle.quic_link.proofs.Meets.{next_of_dir}

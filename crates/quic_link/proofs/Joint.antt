@@ -17,6 +17,7 @@ use Rattle.quic_link.proofs.Acks.{AckedSo, acked-sent, acked-came}
 use Rattle.quic_link.proofs.Told.{AllToldTrue, told-first, told-second}
 use Rattle.quic_link.proofs.Meets.{nexts, next_of_dir}
 use Rattle.quic_link.proofs.AskedFor.{AllAskedFor, frames-asked}
+use Rattle.quic_link.proofs.GivenIds.{GivenSo, given-new, given-step}
 use Rattle.quic_link.proofs.Opens.{IdsSo}
 use Rattle.quic_link.proofs.Readers.{ReadsSo, reads-new, reads-kept}
 use Rattle.quic_link.proofs.Kept.{KeptSo, kept-new, kept-step}
@@ -30,6 +31,7 @@ pub record Agrees (x y : Endpoint) : Type 0 where
   pub other : y.made.side ≡ other_side x.made.side
   pub truth : AllTrue x
   pub asked : AllAskedFor x
+  pub given : GivenSo x
   pub ids : IdsSo x y
   pub credit : DataSo x y
   pub reads : ReadsSo x.calls x.world
@@ -70,6 +72,7 @@ agrees_new m n f few_uni few_bi small other = record {
   other = other;
   truth = λ g h. absurd h;
   asked = λ g h. absurd h;
+  given = given-new (new_end m) f refl refl;
   ids = new_ids m n;
   credit = record { limit = omega arith; base = omega arith };
   reads = reads-new m;
@@ -107,6 +110,7 @@ agrees-sent x y e v s r a =
       other = s.other;
       truth = true-acted x y e v f a s.truth;
       asked = frames-asked x y e v f a s.asked;
+      given = given-step x y e v f a s.given;
       ids = ids-first x y e v f a s.other r.truth s.ids r.ids;
       credit = data-first x y e v f a r.truth s.credit r.credit;
       reads = reads-kept x.made x.calls x.world f s.reads e v a.step (comes-acted x y e v f a);
@@ -130,6 +134,7 @@ agrees-came x y e v s r a =
       other = s.other;
       truth = s.truth;
       asked = s.asked;
+      given = s.given;
       ids = ids-other y x e v f a s.ids;
       credit = data-other y x e v f a s.credit;
       reads = s.reads;

@@ -12,6 +12,7 @@ pub mod Queues
 pub mod Reports
 pub mod Given
 pub mod AskedFor
+pub mod GivenIds
 pub mod Opens
 pub mod Counts
 pub mod Joint

@@ -1,6 +1,6 @@
 -- Which streams of the peer count as accepted: one more by each call that accepts one.
-use Rattle.std.proofs.Common.{◌≡◌, ◌⊎◌, ℕ, ℤ, Bool, true, false, List, [], ◌∷◌, Option, Some, None, is_some, Result, Ok, Err, refl, sym, ap, ◌∙◌, subst, inl, inr, arith, ◌+◌, ◌-◌, ◌≤◌}
-use Rattle.std.specs.Prelude.{◌++◌, ◌&&◌, not, nat_le, nat_lt, ◌==◌, if◌then◌else◌}
+use Rattle.std.proofs.Common.{◌≡◌, ℕ, ℤ, Bool, true, false, List, Option, Some, None, is_some, Result, Ok, Err, refl, sym, ap, ◌∙◌, inl, inr, ◌+◌, ◌-◌}
+use Rattle.std.specs.Prelude.{not, nat_lt, ◌==◌, if◌then◌else◌}
 use Rattle.quic_values.specs.declared.ids.Dir.{Dir}
 use Rattle.quic_values.specs.declared.ids.Dir.TheVariants.{Bi, Uni}
 use Rattle.quic_values.specs.Ids.{dir_of, index_of}
@@ -8,7 +8,7 @@ use Rattle.quic_wire.specs.declared.event.StreamEvent.{StreamEvent}
 use Rattle.quic_wire.specs.declared.event.StreamEvent.TheVariants as stream_event
 use Rattle.quic_wire.specs.declared.error.ReceiveError.{ReceiveError}
 use Rattle.quic_wire.specs.declared.error.ReceiveError.TheVariants as receive_error
-use Rattle.quic_limits.specs.Remote.{Remote, freed, one_permitted, lacks_streams, replaced, replacement, opened_up_to, one_accepted, opening_told, streams_announced}
+use Rattle.quic_limits.specs.Remote.{Remote, freed, one_permitted, lacks_streams, replaced, replacement, opened_up_to, opening_told, streams_announced}
 use Rattle.quic_limits.specs.Own.{with_count}
 use Rattle.quic_receiving.specs.Half.{Half}
 use Rattle.quic_receiving.specs.declared.transmit.ShouldTransmit.{ShouldTransmit}
@@ -17,13 +17,11 @@ use Rattle.quic_receiving.specs.declared.errors.ReadableError.TheVariants as rea
 use Rattle.quic_receiving.specs.declared.errors.HandleError.TheVariants as handle_error
 use Rattle.quic_retransmits.specs.Pending.{Pending}
 use Rattle.quic_assembler.specs.declared.chunk.Chunk.{Chunk}
-use Rattle.quic_sending.specs.declared.send.Send.{Send}
-use Rattle.quic_outgoing.specs.Outgoing.{Outgoing, own_of, with_own, with_send_half, waiting, marked, is_stuck}
-use Rattle.quic_outgoing.specs.Calls.{after_rise, with_rise, is_woken, with_stop_reason}
+use Rattle.quic_outgoing.specs.Outgoing.{Outgoing, own_of, with_own, with_send_half}
 use Rattle.quic_receiving.specs.declared.errors.ReadError.{ReadError}
 use Rattle.quic_history.specs.World.{World, is_own, remote_of, with_remote, with_receive, with_permitted, permitted_if, replaced_in, released, with_freed, sends, told, told_readable, noticed, with_credit, advanced}
 use Rattle.quic_history.specs.Permitting.{after_concurrent}
-use Rattle.quic_history.specs.Receiving.{Receives, ReceivesReset, after_data, after_reset, credited_to}
+use Rattle.quic_history.specs.Receiving.{Receives, ReceivesReset, after_data, credited_to}
 use Rattle.quic_history.specs.Reading.{after_read}
 use Rattle.quic_history.specs.Control.{SettlesEntry}
 use Rattle.quic_history.specs.declared.control.ControlKind.{ControlKind}

@@ -1,18 +1,17 @@
 -- What the application of an end is told is true of the other end.
-use Rattle.std.proofs.Common.{◌≡◌, ◌⊎◌, ℕ, Bool, true, false, List, [], ◌∷◌, Option, Some, None, is_some, Result, Ok, Err, refl, sym, ap, ◌∙◌, subst, inl, inr, arith, ◌<◌}
-use Rattle.std.specs.Prelude.{◌++◌, ◌==◌, ◌&&◌, ◌||◌, not, is_none, nat_le, if◌then◌else◌}
+use Rattle.std.proofs.Common.{◌≡◌, ◌⊎◌, ℕ, Bool, true, false, List, [], ◌∷◌, Option, Some, None, Ok, Err, refl, sym, ap, ◌∙◌, subst, inl, inr, arith}
+use Rattle.std.specs.Prelude.{◌++◌, ◌&&◌, ◌||◌, not, is_none, nat_le}
 use Rattle.quic_wire.specs.declared.event.StreamEvent.{StreamEvent}
 use Rattle.quic_wire.specs.declared.event.StreamEvent.TheVariants as stream_event
 use Rattle.quic_wire.specs.declared.frame.Frame.TheVariants as frames
-use Rattle.quic_flows.specs.Flow.{WasAcked, SendFlow, takes_data, with_acked, counts_for, is_whole, freed_if_whole, with_send_move}
+use Rattle.quic_flows.specs.Flow.{WasAcked, SendFlow, takes_data, with_acked, counts_for, is_whole, freed_if_whole}
 use Rattle.quic_history.specs.World.{World}
 use Rattle.quic_history.specs.Flows.{has_send_side, send_moved, told_if, ends_by, TakesQueued}
-use Rattle.quic_history.specs.SendEvents.{SendEvent, GaveLimits, RaisedData, RaisedCount, RaisedLimit, StoppedOwn, SetWindow, OpenedOwn, WroteOwn, FinishedOwn, ResetOwn, SetOwnPriority, AckedOwn, LostOwn, ResetAckedOwn, TookTurn, Polled}
-use Rattle.quic_history.specs.History.{Event, Received, ReceivedReset, AddedCredits, Began, Gave, Ended, Stopped, ToldReset, Resized, SetConcurrent, Accepted, Settled, Sending, flow, opened_in_all, send_tale, told_by, QueuesSo, is_sent_on}
+use Rattle.quic_history.specs.SendEvents.{GaveLimits, RaisedData, RaisedCount, RaisedLimit, StoppedOwn, SetWindow, OpenedOwn, WroteOwn, FinishedOwn, ResetOwn, SetOwnPriority, AckedOwn, LostOwn, ResetAckedOwn, TookTurn, Polled}
+use Rattle.quic_history.specs.History.{Event, Received, ReceivedReset, AddedCredits, Began, Gave, Ended, Stopped, ToldReset, Resized, SetConcurrent, Accepted, Settled, Sending, opened_in_all, send_tale, told_by, QueuesSo, is_sent_on}
 use Rattle.quic_history.proofs.ToldEvents.{queues}
 use Rattle.quic_history.proofs.Traces.{itself}
-use Rattle.quic_link.specs.Endpoints.{Endpoint, IsOneOf, MayAct, acted, IsHonest, sent_on}
-use Rattle.quic_link.specs.Truths.{amount_on}
+use Rattle.quic_link.specs.Endpoints.{Endpoint, IsOneOf, MayAct, acted, sent_on}
 use Rattle.quic_link.specs.Promises.{IsTrueEvent, CameWhole}
 use Rattle.quic_link.proofs.Ends.{Comes}
 use Rattle.quic_link.proofs.Growth.{grows}

@@ -69,6 +69,35 @@ not_false : (b : Bool) → not b ≡ false → b ≡ true
 not_false true e = refl
 not_false false e = cc
 
+-- ---- verdicts
+
+neither : (a b c d : ℕ) → b ≤ a → d ≤ c → (nat_lt a b || nat_lt c d) ≡ false
+neither a b c d l m = by_two (nat_lt a b) (nat_lt c d) (grind (arith, nat_tests)) (grind (arith, nat_tests))
+  where
+    by_two : (p q : Bool) → p ≡ false → q ≡ false → (p || q) ≡ false
+    by_two p q e k = rw (e, k) refl
+
+take_by : (size : Option ℕ) (high limit end : ℕ) (fin : Bool) (received most : ℕ) → end < 2 ^ 62 → is_past size end fin ≡ false → (fin && nat_lt end high) ≡ false → is_beyond high limit end received most ≡ false
+    → verdict_by size high limit end fin received most ≡ Taken
+take_by size high limit end fin received most l a b c = let k : nat_le (2 ^ 62) end ≡ false = grind (arith, nat_tests) in rw (k, a, b, c) refl
+
+past_none : (size : Option ℕ) (end n : ℕ) (fin : Bool) → end ≤ n → (fin ≡ true → end ≡ n) → ((k : ℕ) → size ≡ Some k → k ≡ n) → is_past size end fin ≡ false
+past_none None end n fin l e k = refl
+past_none (Some m) end n true l e k = let a = k m refl in let b = e refl in grind (arith, nat_tests)
+past_none (Some m) end n false l e k = let a = k m refl in grind (arith, nat_tests)
+
+not_below : (end high : ℕ) (fin : Bool) → (fin ≡ true → high ≤ end) → (fin && nat_lt end high) ≡ false
+not_below end high true l = let k = l refl in grind (arith, nat_tests)
+not_below end high false l = refl
+
+take_reset : (size : Option ℕ) (high limit final received most : ℕ) → is_unfit size high final ≡ false → is_beyond high limit final received most ≡ false
+    → (if is_unfit size high final then Refused final_size_error else verdict_of_limits high limit final received most) ≡ Taken
+take_reset size high limit final received most a b = rw (a, b) refl
+
+fit : (size : Option ℕ) (high final : ℕ) → high ≤ final → ((k : ℕ) → size ≡ Some k → k ≡ final) → is_unfit size high final ≡ false
+fit None high final l k = grind (arith, nat_tests)
+fit (Some m) high final l k = let a = k m refl in grind (arith, nat_tests)
+
 module _ (x y : Endpoint) (s : Agrees x y) (r : Agrees y x) where
   -- an end opens no more streams than the other permits
   opened_most : (d : Dir) → opened_in_all x.calls d ≤ (remote_of y.world d).max_remote
@@ -159,12 +188,6 @@ module _ (x y : Endpoint) (s : Agrees x y) (r : Agrees y x) where
       let within = (s.rooms id).within in
       let p = permitted id end l in
       neither h.sent_max end y.world.credit.local_max_data (y.world.credit.data_recvd + (end - h.end)) (omega arith) (omega arith)
-    where
-      neither : (a b c d : ℕ) → b ≤ a → d ≤ c → (nat_lt a b || nat_lt c d) ≡ false
-      neither a b c d l m = by_two (nat_lt a b) (nat_lt c d) (grind (arith, nat_tests)) (grind (arith, nat_tests))
-        where
-          by_two : (p q : Bool) → p ≡ false → q ≡ false → (p || q) ≡ false
-          by_two p q e k = rw (e, k) refl
 
   -- a final size that is known is what was written
   size_written : (id : ℕ) (h : Half) → HalfFrom y.world.window (came_on y id) h → (size : ℕ) → h.size ≡ Some size → size ≡ amount_on x id
@@ -185,19 +208,6 @@ module _ (x y : Endpoint) (s : Agrees x y) (r : Agrees y x) where
       (past_none h.size (g.offset + length g.bytes) (amount_on x g.id) g.fin within d.ends (size_written g.id h t))
       (not_below (g.offset + length g.bytes) h.end g.fin (λ e. let k = d.ends e in omega arith))
       (fits_limit g.id (g.offset + length g.bytes) h t within)
-    where
-      take_by : (size : Option ℕ) (high limit end : ℕ) (fin : Bool) (received most : ℕ) → end < 2 ^ 62 → is_past size end fin ≡ false → (fin && nat_lt end high) ≡ false → is_beyond high limit end received most ≡ false
-          → verdict_by size high limit end fin received most ≡ Taken
-      take_by size high limit end fin received most l a b c = let k : nat_le (2 ^ 62) end ≡ false = grind (arith, nat_tests) in rw (k, a, b, c) refl
-
-      past_none : (size : Option ℕ) (end n : ℕ) (fin : Bool) → end ≤ n → (fin ≡ true → end ≡ n) → ((k : ℕ) → size ≡ Some k → k ≡ n) → is_past size end fin ≡ false
-      past_none None end n fin l e k = refl
-      past_none (Some m) end n true l e k = let a = k m refl in let b = e refl in grind (arith, nat_tests)
-      past_none (Some m) end n false l e k = let a = k m refl in grind (arith, nat_tests)
-
-      not_below : (end high : ℕ) (fin : Bool) → (fin ≡ true → high ≤ end) → (fin && nat_lt end high) ≡ false
-      not_below end high true l = let k = l refl in grind (arith, nat_tests)
-      not_below end high false l = refl
 
   reset_taken : (id final : ℕ) → final ≡ amount_on x id → (h : Half) → HalfFrom y.world.window (came_on y id) h
       → reset_verdict h final y.world.credit.data_recvd y.world.credit.local_max_data ≡ Taken
@@ -207,14 +217,6 @@ module _ (x y : Endpoint) (s : Agrees x y) (r : Agrees y x) where
       take_reset h.size h.end h.sent_max final y.world.credit.data_recvd y.world.credit.local_max_data
       (fit h.size h.end final (omega arith) (λ k i. size_written id h t k i ∙ sym e))
       (fits_limit id final h t (omega arith))
-    where
-      take_reset : (size : Option ℕ) (high limit final received most : ℕ) → is_unfit size high final ≡ false → is_beyond high limit final received most ≡ false
-          → (if is_unfit size high final then Refused final_size_error else verdict_of_limits high limit final received most) ≡ Taken
-      take_reset size high limit final received most a b = rw (a, b) refl
-
-      fit : (size : Option ℕ) (high final : ℕ) → high ≤ final → ((k : ℕ) → size ≡ Some k → k ≡ final) → is_unfit size high final ≡ false
-      fit None high final l k = grind (arith, nat_tests)
-      fit (Some m) high final l k = let a = k m refl in grind (arith, nat_tests)
 
   -- every frame is welcome
   welcome : (g : Frame) → IsTrue x g → OpenFrame x y g → IsWelcome y.world g

@@ -2,6 +2,7 @@
 use Rattle.std.specs.Prelude.{ℕ, Bool, ◌≡◌, ◌<◌, ◌+◌, ◌^◌, ◌⊎◌, if◌then◌else◌, List, [], ◌∷◌, ◌++◌, length, Some, Ok}
 use Rattle.std.specs.List.{concat}
 use Rattle.std.specs.declared.ops.Range.{Range}
+use Rattle.quic_values.specs.declared.ids.Dir.{Dir}
 use Rattle.quic_values.specs.Ids.{other_side, dir_of, index_of}
 use Rattle.quic_wire.specs.declared.frame.Frame.{Frame}
 use Rattle.quic_wire.specs.declared.frame.Frame.TheVariants as frames
@@ -11,8 +12,8 @@ use Rattle.quic_outgoing.specs.declared.limits.PeerLimits.{PeerLimits}
 use Rattle.quic_outgoing.specs.Outgoing.{own_of}
 use Rattle.quic_writing.specs.Appended.{frame_with}
 use Rattle.quic_history.specs.World.{World, Made, is_own, remote_of}
-use Rattle.quic_history.specs.SendEvents.{SendEvent, GaveLimits, RaisedData, RaisedCount, RaisedLimit, StoppedOwn, WroteOwn, FinishedOwn, AckedOwn, LostOwn, TookTurn}
-use Rattle.quic_history.specs.History.{Event, Received, ReceivedReset, Stopped, Settled, Sending, Step, Fits, IsStart, Trace, trace, flow}
+use Rattle.quic_history.specs.SendEvents.{SendEvent, GaveLimits, RaisedData, RaisedCount, RaisedLimit, StoppedOwn, OpenedOwn, WroteOwn, FinishedOwn, AckedOwn, LostOwn, TookTurn}
+use Rattle.quic_history.specs.History.{Event, Received, ReceivedReset, Stopped, Accepted, Settled, Sending, Step, Fits, IsStart, Trace, trace, flow}
 
 -- made: what the end was made with
 -- calls: the calls on it with their answers, the newest first
@@ -47,9 +48,13 @@ written_by x (Settled kind (Some frame)) = frame ∷ []
 written_by x (Sending (TookTurn most fair (Some meta))) = frame_with (written_on x) meta ∷ []
 written_by x _ = []
 
--- an id that `open` or `accept` gave
+-- an id that was given: that of a stream that the end opened, or that its application accepted
 abbrev pub WasGiven : World → ℕ → Type 0
 WasGiven w id = index_of id < (if is_own w id then (own_of w.out (dir_of id)).opened else (remote_of w (dir_of id)).next_reported)
+
+-- `open` or `accept` answered it
+abbrev pub GaveId : List Event → ℕ → Type 0
+GaveId calls id = ((d : Dir) × (closed : Bool) × IsOneOf (Sending (OpenedOwn d closed (Ok (Some id)))) calls) ⊎ ((d : Dir) × IsOneOf (Accepted d (Some id)) calls)
 
 -- a STREAM frame with these offsets, with the end or not, was answered Ok
 pub record WasAccepted (calls : List Event) (id : ℕ) (offsets : Range ℕ) (fin : Bool) : Type 0 where

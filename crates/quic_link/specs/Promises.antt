@@ -1,5 +1,5 @@
 -- What holds between two ends, whatever is lost, repeated or reordered.
-use Rattle.std.specs.Prelude.{ℕ, Bool, Result, true, ◌⊎◌, ◌==◌, ◌&&◌, is_some, ◌≡◌, ◌+◌, ◌^◌, ◌≤◌, ◌<◌, List, [], ◌∷◌, ◌++◌, length, if◌then◌else◌, false, Some, None, Ok, Err}
+use Rattle.std.specs.Prelude.{◌↔◌, ℕ, Bool, Result, true, ◌⊎◌, ◌==◌, ◌&&◌, is_some, ◌≡◌, ◌+◌, ◌^◌, ◌≤◌, ◌<◌, List, [], ◌∷◌, ◌++◌, length, if◌then◌else◌, false, Some, None, Ok, Err}
 use Rattle.quic_wire.specs.declared.frame.Frame.{Frame}
 use Rattle.quic_wire.specs.declared.frame.Frame.TheVariants as frames
 use Rattle.quic_wire.specs.declared.error.ReceiveError.{ReceiveError}
@@ -20,7 +20,7 @@ use Rattle.quic_sending.specs.declared.send.WriteError.TheVariants as write_erro
 use Rattle.quic_sending.specs.declared.send.FinishError.TheVariants as finish_error
 use Rattle.quic_history.specs.SendEvents.{RaisedCount, RaisedLimit, WroteOwn, FinishedOwn, Polled}
 use Rattle.quic_history.specs.History.{Event, Received, ReceivedReset, Began, Gave, ToldReset, Sending, From, Trace, ReadChunk, slices, EachOnce, is_kept}
-use Rattle.quic_link.specs.Endpoints.{Endpoint, IsOneOf, MayAct, sent_on, came_on, written_on, WasStoppedWith, WasAskedFor}
+use Rattle.quic_link.specs.Endpoints.{Endpoint, IsOneOf, MayAct, sent_on, came_on, written_on, WasStoppedWith, WasAskedFor, WasGiven, GaveId}
 use Rattle.quic_link.specs.Truths.{AreBytesOf, IsTrue, amount_on}
 
 -- a STREAM frame with the byte at an offset was answered Ok
@@ -173,10 +173,11 @@ IsTrueAnswer x y _ = Unit {0}
 abbrev pub AnswersTrue : Endpoint → Endpoint → Type 0
 AnswersTrue x y = (e : Event) (v : World) → MayAct x y e v → IsTrueAnswer x y e
 
--- what holds of two ends as x sends and y receives: x may come from its calls; every frame that it wrote is true of it,
--- was asked for, and is welcome; no call is refused; what is told and answered is true, and what was kept may be read
+-- what holds of two ends as x sends and y receives: x may come from its calls, and its application was given what `open` and
+-- `accept` answered; every frame that x wrote is true of it, was asked for, and is welcome; no call is refused; what is told and answered is true, and what was kept may be read
 pub record Promises (x y : Endpoint) : Type 0 where
   pub comes : From x.made x.calls x.world
+  pub given : (id : ℕ) → WasGiven x.world id ↔ GaveId x.calls id
   pub frames_true : (g : Frame) → IsOneOf g x.wrote → IsTrue x g
   pub frames_asked : (g : Frame) → IsOneOf g x.wrote → WasAskedFor x g
   pub welcome : AreWelcome x y
