@@ -23,7 +23,7 @@ use Rattle.quic_history.proofs.Totals.{by_cases}
 use Rattle.quic_history.proofs.StreamSteps.{half-from, known-from, gone-from}
 use Rattle.quic_link.specs.Endpoints.{Endpoint, MayAct, sent_on, came_on}
 use Rattle.quic_link.specs.Truths.{amount_on}
-use Rattle.quic_link.specs.Promises.{AnswersTrue, IsOver, WasReadUnordered, RefusesNone, kept_by, kept_count}
+use Rattle.quic_link.specs.Promises.{AnswersTrue, IsOver, WasReadUnordered, RefusesNone, frames_kept, kept_count}
 use Rattle.quic_link.proofs.Growth.{held-told}
 use Rattle.quic_history.proofs.ToldEvents.{queues}
 use Rattle.quic_link.proofs.Told.{told-polled}
@@ -111,7 +111,7 @@ module _ (x y : Endpoint) (s : Agrees x y) (r : Agrees y x) where
       kept_if true = omega arith
       kept_if false = omega arith
 
-      kept_most : (e : Event) (q : ℕ) → kept_by e q ≤ 1
+      kept_most : (e : Event) (q : ℕ) → frames_kept e q ≤ 1
       kept_most (Received id offset bytes fin answer) q = kept_if ((q == id) && is_kept answer)
       kept_most _ q = omega arith
 

@@ -30,7 +30,7 @@ use Rattle.quic_history.proofs.Remotes.{rebased}
 use Rattle.quic_history.proofs.RemoteHistory.{kept-remotes}
 use Rattle.quic_history.proofs.Traces.{itself}
 use Rattle.quic_link.specs.Endpoints.{Endpoint, IsOneOf, MayAct, acted, written_by, written_on, sent_on, WasAskedFor}
-use Rattle.quic_link.specs.Truths.{IsTrue, amount_on}
+use Rattle.quic_link.specs.Truths.{IsFrameTrue, amount_on}
 use Rattle.quic_link.proofs.Ends.{Comes}
 use Rattle.quic_link.proofs.Growth.{Grows, grows, held-told}
 use Rattle.quic_link.proofs.Texts.{cuts-more, bytes-between, length-between}
@@ -112,7 +112,7 @@ module _ (x y : Endpoint) (e : Event) (v : World) (f : Comes x) (a : MayAct x y 
   ended_closed None b k = rw k refl
   ended_closed (Some code) b k = refl
 
-  pub true-kept : (g : Frame) → IsTrue x g → IsTrue (acted x e v) g
+  pub true-kept : (g : Frame) → IsFrameTrue x g → IsFrameTrue (acted x e v) g
   true-kept (frames.Stream s) t =
       let g = grown s.id in
       let more = amount-grows s.id in
@@ -186,7 +186,7 @@ turn-so x most fair meta v s =
       fin = a.fin_is;
     })
 
-pub true-turn : (x : Endpoint) (meta : StreamMeta) → Comes x → TurnSo x meta → IsTrue x (frame_with (written_on x) meta)
+pub true-turn : (x : Endpoint) (meta : StreamMeta) → Comes x → TurnSo x meta → IsFrameTrue x (frame_with (written_on x) meta)
 true-turn x meta f t =
     let told = held-told x.made x.calls x.world x.world f meta.id t.half t.held in
     let size = told.cuts.written in
@@ -210,7 +210,7 @@ some_same : {X : Type 0} (a b : X) → Some a ≡ Some b → a ≡ b
 some_same a b k = cc
 
 abbrev IsTrueThen : Endpoint → World → ControlKind → Frame → Type 0
-IsTrueThen x v kind g = WasAskedFor x g → IsTrue (acted x (Settled kind (Some g)) v) g
+IsTrueThen x v kind g = WasAskedFor x g → IsFrameTrue (acted x (Settled kind (Some g)) v) g
 
 then_at : (x : Endpoint) (v : World) (kind : ControlKind) (g k : Frame) → g ≡ k → IsTrueThen x v kind k → IsTrueThen x v kind g
 then_at x v kind g k e t = let P : Frame → Type 0 = λ j. IsTrueThen x v kind j in subst P (sym e) t
@@ -225,7 +225,7 @@ module _ (x y : Endpoint) (v : World) (f : Comes x) where
       let b = subst P is a in
       then_at x v kind g _ is (λ asked.
       let r = frames.ResetStream (record { id = id; error_code = code; final_offset = s.pending.offset }) in
-      let old : IsTrue x r = (asked.0, told.cuts.written) in
+      let old : IsFrameTrue x r = (asked.0, told.cuts.written) in
       true-kept x y (Settled kind (Some r)) v f b r old)
 
   window_true : (kind : ControlKind) (id : ℕ) (o : Option ℕ) (g : Frame) → Some g ≡ option_map (frames.MaxStreamData id) o → IsTrueThen x v kind g
@@ -269,10 +269,10 @@ either-of a [] ys h = inr h
 either-of a (x ∷ xs) ys (inl e) = inl (inl e)
 either-of a (x ∷ xs) ys (inr h) = elim (either-of a xs ys h) [ inl k ↦ inl (inr k) | inr k ↦ inr k ]
 
-at_one : (x : Endpoint) (g k : Frame) → g ≡ k → IsTrue x k → IsTrue x g
-at_one x g k e t = let P : Frame → Type 0 = λ j. IsTrue x j in subst P (sym e) t
+at_one : (x : Endpoint) (g k : Frame) → g ≡ k → IsFrameTrue x k → IsFrameTrue x g
+at_one x g k e t = let P : Frame → Type 0 = λ j. IsFrameTrue x j in subst P (sym e) t
 
-new_true : (x y : Endpoint) (e : Event) (v : World) → Comes x → MayAct x y e v → (g : Frame) → IsOneOf g (written_by x e) → IsTrue (acted x e v) g
+new_true : (x y : Endpoint) (e : Event) (v : World) → Comes x → MayAct x y e v → (g : Frame) → IsOneOf g (written_by x e) → IsFrameTrue (acted x e v) g
 new_true x y (Settled kind (Some k)) v f a g h = at_one (acted x (Settled kind (Some k)) v) g k (only g k h) (settled_true x y v f kind a.step.0 a.step.1 k a a.step.2 a.honest)
 new_true x y (Settled kind None) v f a g h = absurd h
 new_true x y (Sending (TookTurn most fair (Some meta))) v f a g h =
@@ -307,7 +307,7 @@ new_true x y (SetConcurrent dir count answer) v f a g h = absurd h
 new_true x y (Accepted dir answer) v f a g h = absurd h
 
 abbrev pub AllTrue : Endpoint → Type 0
-AllTrue x = (g : Frame) → IsOneOf g x.wrote → IsTrue x g
+AllTrue x = (g : Frame) → IsOneOf g x.wrote → IsFrameTrue x g
 
 pub true-acted : (x y : Endpoint) (e : Event) (v : World) → Comes x → MayAct x y e v → AllTrue x → AllTrue (acted x e v)
 true-acted x y e v f a t g h = elim (either-of g (written_by x e) x.wrote h) [

@@ -26,7 +26,7 @@ use Rattle.quic_history.proofs.StreamSteps.{half-from}
 use Rattle.quic_history.proofs.Totals.{once_with, total_with, by_cases, same}
 use Rattle.quic_history.proofs.Traces.{streams-once, quiet, itself}
 use Rattle.quic_link.specs.Endpoints.{Endpoint, IsOneOf, sent_on, came_on}
-use Rattle.quic_link.specs.Truths.{IsTrue, IsTrueData, amount_on}
+use Rattle.quic_link.specs.Truths.{IsFrameTrue, IsTrueData, amount_on}
 use Rattle.quic_link.specs.Promises.{IsWelcome, AreWelcome, IsCrowded, RefusesNone}
 use Rattle.quic_link.proofs.Sums.{total-most}
 use Rattle.quic_link.proofs.Rooms.{amount, sum-written}
@@ -219,7 +219,7 @@ module _ (x y : Endpoint) (s : Agrees x y) (r : Agrees y x) where
       (fits_limit id final h t (omega arith))
 
   -- every frame is welcome
-  welcome : (g : Frame) → IsTrue x g → OpenFrame x y g → IsWelcome y.world g
+  welcome : (g : Frame) → IsFrameTrue x g → OpenFrame x y g → IsWelcome y.world g
   welcome (frames.Stream g) t o =
       let known = sends_known g.id o in
       (known, λ h e n. taken g t h (told g.id h e known))

@@ -21,7 +21,7 @@ use Rattle.quic_sending.specs.declared.send.FinishError.TheVariants as finish_er
 use Rattle.quic_history.specs.SendEvents.{RaisedCount, RaisedLimit, WroteOwn, FinishedOwn, Polled}
 use Rattle.quic_history.specs.History.{Event, Received, ReceivedReset, Began, Gave, ToldReset, Sending, From, Trace, ReadChunk, slices, EachOnce, is_kept}
 use Rattle.quic_link.specs.Endpoints.{Endpoint, IsOneOf, MayAct, sent_on, came_on, written_on, WasStoppedWith, WasAskedFor, WasGiven, GaveId}
-use Rattle.quic_link.specs.Truths.{AreBytesOf, IsTrue, amount_on}
+use Rattle.quic_link.specs.Truths.{AreBytesOf, IsFrameTrue, amount_on}
 
 -- a STREAM frame with the byte at an offset was answered Ok
 pub record CameAt (calls : List Event) (id at : ℕ) : Type 0 where
@@ -138,13 +138,13 @@ abbrev pub AreReadable : Endpoint → Endpoint → Type 0
 AreReadable x y = (q : ℕ) (h : Half) → y.world.receive q ≡ Some h → h.stopped ≡ false → h.reset ≡ None → IsReadable x y q h
 
 -- how many frames of a stream a call kept, and all calls
-abbrev pub kept_by : Event → ℕ → ℕ
-kept_by (Received id offset bytes fin answer) q = if (q == id) && is_kept answer then 1 else 0
-kept_by _ q = 0
+abbrev pub frames_kept : Event → ℕ → ℕ
+frames_kept (Received id offset bytes fin answer) q = if (q == id) && is_kept answer then 1 else 0
+frames_kept _ q = 0
 
 abbrev pub kept_count : List Event → ℕ → ℕ
 kept_count [] q = 0
-kept_count (e ∷ h) q = kept_count h q + kept_by e q
+kept_count (e ∷ h) q = kept_count h q + frames_kept e q
 
 -- a reader of a stream was opened that reads bytes as they come
 abbrev pub WasReadUnordered : List Event → ℕ → Type 0
@@ -178,7 +178,7 @@ AnswersTrue x y = (e : Event) (v : World) → MayAct x y e v → IsTrueAnswer x 
 pub record Promises (x y : Endpoint) : Type 0 where
   pub comes : From x.made x.calls x.world
   pub given : (id : ℕ) → WasGiven x.world id ↔ GaveId x.calls id
-  pub frames_true : (g : Frame) → IsOneOf g x.wrote → IsTrue x g
+  pub frames_true : (g : Frame) → IsOneOf g x.wrote → IsFrameTrue x g
   pub frames_asked : (g : Frame) → IsOneOf g x.wrote → WasAskedFor x g
   pub welcome : AreWelcome x y
   pub unrefused : RefusesNone x y

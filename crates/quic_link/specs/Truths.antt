@@ -25,11 +25,11 @@ pub record IsTrueData (x : Endpoint) (s : Stream) : Type 0 where
 
 -- a frame is true of the end that wrote it (RFC 9000 sections 4.1, 4.5, 4.6 and 19): a reset and a stop were asked for
 -- with their codes, a final size is what was written, and a limit is not above the one that is enforced
-abbrev pub IsTrue : Endpoint → Frame → Type 0
-IsTrue x (frames.Stream s) = IsTrueData x s
-IsTrue x (frames.ResetStream f) = ((sent_on x f.id).reset ≡ Some f.error_code) × (f.final_offset ≡ amount_on x f.id)
-IsTrue x (frames.StopSending f) = WasStoppedWith x.calls f.id f.error_code
-IsTrue x (frames.MaxData limit) = limit ≤ x.world.credit.local_max_data
-IsTrue x (frames.MaxStreamData id limit) = limit ≤ (came_on x id).announced
-IsTrue x (frames.MaxStreams d count) = count ≤ (remote_of x.world d).max_remote
-IsTrue x _ = Unit {0}
+abbrev pub IsFrameTrue : Endpoint → Frame → Type 0
+IsFrameTrue x (frames.Stream s) = IsTrueData x s
+IsFrameTrue x (frames.ResetStream f) = ((sent_on x f.id).reset ≡ Some f.error_code) × (f.final_offset ≡ amount_on x f.id)
+IsFrameTrue x (frames.StopSending f) = WasStoppedWith x.calls f.id f.error_code
+IsFrameTrue x (frames.MaxData limit) = limit ≤ x.world.credit.local_max_data
+IsFrameTrue x (frames.MaxStreamData id limit) = limit ≤ (came_on x id).announced
+IsFrameTrue x (frames.MaxStreams d count) = count ≤ (remote_of x.world d).max_remote
+IsFrameTrue x _ = Unit {0}
