@@ -13,8 +13,8 @@ use Rattle.quic_flows.specs.Flow.{SendMove, WasWritten, WasFinished, WasGivenUp,
 use Rattle.quic_outgoing.specs.declared.limits.PeerLimits.{PeerLimits}
 use Rattle.quic_history.specs.World.{World}
 use Rattle.quic_history.specs.Flows.{send_moved, with_first_limits, has_send_side}
-use Rattle.quic_history.specs.SendEvents.{GaveLimits, RaisedData, RaisedCount, RaisedLimit, StoppedOwn, SetWindow, OpenedOwn, WroteOwn, FinishedOwn, ResetOwn, SetOwnPriority, AckedOwn, LostOwn, ResetAckedOwn, TookTurn, Polled}
-use Rattle.quic_history.specs.History.{Event, Received, ReceivedReset, AddedCredits, Began, Gave, Ended, Stopped, ToldReset, Resized, SetConcurrent, Accepted, Settled, Sending, send_move_of, limits_in, opened_in_all, send_tale}
+use Rattle.quic_history.specs.SendEvents.{RaisedLimit, StoppedOwn, WroteOwn, FinishedOwn, ResetOwn, AckedOwn, LostOwn, ResetAckedOwn, TookTurn}
+use Rattle.quic_history.specs.History.{Event, Received, Sending, send_move_of, limits_in, opened_in_all, send_tale}
 use Rattle.quic_history.proofs.Totals.{by_cases, same}
 use Rattle.quic_link.specs.Endpoints.{Endpoint, IsOneOf, MayAct, acted, sent_on, IsHonest, WasStoppedWith}
 use Rattle.quic_link.specs.Promises.{CameAt, EndCame}
@@ -184,37 +184,19 @@ ack_true x y (Sending (StoppedOwn id code (Ok u))) t k = t (frames.StopSending (
 ack_true x y (Sending (StoppedOwn id code (Err error))) t k = tt
 ack_true x y (Sending (RaisedLimit id limit (Ok u))) t k = tt
 ack_true x y (Sending (RaisedLimit id limit (Err error))) t k = tt
-ack_true x y (Sending (GaveLimits limits)) t k = tt
-ack_true x y (Sending (OpenedOwn dir closed answer)) t k = tt
-ack_true x y (Sending (RaisedData limit)) t k = tt
-ack_true x y (Sending (RaisedCount dir count answer)) t k = tt
-ack_true x y (Sending (SetWindow window)) t k = tt
 ack_true x y (Sending (WroteOwn id lists closed (Ok written))) t k = tt
 ack_true x y (Sending (WroteOwn id lists closed (Err error))) t k = tt
 ack_true x y (Sending (FinishedOwn id (Ok u))) t k = tt
 ack_true x y (Sending (FinishedOwn id (Err error))) t k = tt
 ack_true x y (Sending (ResetOwn id code (Ok u))) t k = tt
 ack_true x y (Sending (ResetOwn id code (Err error))) t k = tt
-ack_true x y (Sending (SetOwnPriority id priority answer)) t k = tt
 ack_true x y (Sending (LostOwn id offsets fin (Ok u))) t k = tt
 ack_true x y (Sending (LostOwn id offsets fin (Err error))) t k = tt
 ack_true x y (Sending (ResetAckedOwn id (Ok u))) t k = tt
 ack_true x y (Sending (ResetAckedOwn id (Err error))) t k = tt
 ack_true x y (Sending (TookTurn most fair None)) t k = tt
 ack_true x y (Sending (TookTurn most fair (Some frame))) t k = tt
-ack_true x y (Sending (Polled answer)) t k = tt
-ack_true x y (Received id offset bytes fin answer) t k = tt
-ack_true x y (ReceivedReset id code final answer) t k = tt
-ack_true x y (AddedCredits count answer) t k = tt
-ack_true x y (Began id ordered answer) t k = tt
-ack_true x y (Gave id most ordered answer) t k = tt
-ack_true x y (Ended id count) t k = tt
-ack_true x y (Stopped id code answer) t k = tt
-ack_true x y (ToldReset id answer) t k = tt
-ack_true x y (Resized window answer) t k = tt
-ack_true x y (SetConcurrent dir count answer) t k = tt
-ack_true x y (Accepted dir answer) t k = tt
-ack_true x y (Settled kind frame) t k = tt
+ack_true x y _ t k = tt
 
 -- the end that sends was called
 pub acked-sent : (x y : Endpoint) (e : Event) (v : World) → Comes x → AllTrue y → MayAct x y e v → ((q : ℕ) → AckedSo (sent_on x q) y.calls q) → (q : ℕ) → AckedSo (sent_on (acted x e v) q) y.calls q

@@ -17,8 +17,8 @@ use Rattle.quic_flows.specs.Flow.{SendFlow, takes_data}
 use Rattle.quic_history.specs.World.{World, id_refusal}
 use Rattle.quic_history.specs.Flows.{refusal_told, refusal_where, room_on}
 use Rattle.quic_history.specs.Reading.{ReadsHalf, IsClosed}
-use Rattle.quic_history.specs.SendEvents.{GaveLimits, RaisedData, RaisedCount, RaisedLimit, StoppedOwn, SetWindow, OpenedOwn, WroteOwn, FinishedOwn, ResetOwn, SetOwnPriority, AckedOwn, LostOwn, ResetAckedOwn, TookTurn, Polled}
-use Rattle.quic_history.specs.History.{Event, Received, ReceivedReset, AddedCredits, Began, Gave, Ended, Stopped, ToldReset, Resized, SetConcurrent, Accepted, Settled, Sending, HalfFrom, slices, trace, is_kept, is_sent_on, room_in_connection, room_in_window}
+use Rattle.quic_history.specs.SendEvents.{WroteOwn, FinishedOwn, Polled}
+use Rattle.quic_history.specs.History.{Event, Received, Began, Gave, ToldReset, Sending, HalfFrom, slices, trace, is_kept, is_sent_on, room_in_connection, room_in_window}
 use Rattle.quic_history.proofs.Totals.{by_cases}
 use Rattle.quic_history.proofs.StreamSteps.{half-from, known-from, gone-from}
 use Rattle.quic_link.specs.Endpoints.{Endpoint, MayAct, sent_on, came_on}
@@ -147,26 +147,6 @@ module _ (x y : Endpoint) (s : Agrees x y) (r : Agrees y x) where
   answers-true none (Sending (FinishedOwn id (Err finish_error.ClosedStream))) v a = tt
   answers-true none (Sending (FinishedOwn id (Err finish_error.OutOfMemory))) v a = tt
   answers-true none (Sending (FinishedOwn id (Ok u))) v a = tt
-  answers-true none (Sending (GaveLimits limits)) v a = tt
-  answers-true none (Sending (OpenedOwn dir closed answer)) v a = tt
-  answers-true none (Sending (RaisedData limit)) v a = tt
-  answers-true none (Sending (RaisedCount dir count answer)) v a = tt
-  answers-true none (Sending (RaisedLimit id limit answer)) v a = tt
-  answers-true none (Sending (StoppedOwn id code answer)) v a = tt
-  answers-true none (Sending (SetWindow window)) v a = tt
-  answers-true none (Sending (ResetOwn id code answer)) v a = tt
-  answers-true none (Sending (SetOwnPriority id priority answer)) v a = tt
-  answers-true none (Sending (AckedOwn id offsets fin answer)) v a = tt
-  answers-true none (Sending (LostOwn id offsets fin answer)) v a = tt
-  answers-true none (Sending (ResetAckedOwn id answer)) v a = tt
-  answers-true none (Sending (TookTurn most fair frame)) v a = tt
   answers-true none (Sending (Polled None)) v a = tt
   answers-true none (Sending (Polled (Some g))) v a = told-polled x y x.world.events v.events g (queues x.made x.calls x.world s.comes.side s.comes.sent s.comes.sends (Sending (Polled (Some g))) v a.step) s.events
-  answers-true none (ReceivedReset id code final answer) v a = tt
-  answers-true none (AddedCredits count answer) v a = tt
-  answers-true none (Ended id count) v a = tt
-  answers-true none (Stopped id code answer) v a = tt
-  answers-true none (Resized window answer) v a = tt
-  answers-true none (SetConcurrent dir count answer) v a = tt
-  answers-true none (Accepted dir answer) v a = tt
-  answers-true none (Settled kind frame) v a = tt
+  answers-true none _ v a = tt

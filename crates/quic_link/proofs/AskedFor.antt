@@ -19,8 +19,8 @@ use Rattle.quic_history.specs.Flows.{has_send_side, has_side_in, send_moved}
 use Rattle.quic_history.specs.declared.control.ControlKind.{ControlKind}
 use Rattle.quic_history.specs.declared.control.ControlKind.TheVariants as kinds
 use Rattle.quic_history.specs.Control.{SettlesEntry, reset_frame, announced_end}
-use Rattle.quic_history.specs.SendEvents.{GaveLimits, RaisedData, RaisedCount, RaisedLimit, StoppedOwn, SetWindow, OpenedOwn, WroteOwn, FinishedOwn, ResetOwn, SetOwnPriority, AckedOwn, LostOwn, ResetAckedOwn, TookTurn, Polled}
-use Rattle.quic_history.specs.History.{Event, Received, ReceivedReset, AddedCredits, Began, Gave, Ended, Stopped, ToldReset, Resized, SetConcurrent, Accepted, Settled, Sending, opened_in_all, send_tale}
+use Rattle.quic_history.specs.SendEvents.{ResetOwn, TookTurn}
+use Rattle.quic_history.specs.History.{Event, Settled, Sending, opened_in_all, send_tale}
 use Rattle.quic_history.proofs.Traces.{itself}
 use Rattle.quic_history.proofs.SendSides.{held-side}
 use Rattle.quic_history.proofs.FlowHistory.{known-by}
@@ -44,26 +44,7 @@ module _ (x y : Endpoint) (e : Event) (v : World) (f : Comes x) (a : MayAct x y 
   frame-asked (frames.ResetStream r) k = (reset_stays r.id r.error_code k.0, given-more x y e v f a r.id k.1)
   frame-asked (frames.StopSending s) k = (inr k.0, given-more x y e v f a s.id k.1)
   frame-asked (frames.MaxStreamData id limit) k = given-more x y e v f a id k
-  frame-asked (frames.Stream s) k = tt
-  frame-asked frames.Padding k = tt
-  frame-asked frames.Ping k = tt
-  frame-asked frames.Ack k = tt
-  frame-asked (frames.Crypto c) k = tt
-  frame-asked frames.NewToken k = tt
-  frame-asked (frames.MaxData limit) k = tt
-  frame-asked (frames.MaxStreams d count) k = tt
-  frame-asked (frames.DataBlocked offset) k = tt
-  frame-asked (frames.StreamDataBlocked id offset) k = tt
-  frame-asked (frames.StreamsBlocked d) k = tt
-  frame-asked frames.NewConnectionId k = tt
-  frame-asked frames.RetireConnectionId k = tt
-  frame-asked frames.PathChallenge k = tt
-  frame-asked frames.PathResponse k = tt
-  frame-asked frames.Close k = tt
-  frame-asked (frames.Datagram d) k = tt
-  frame-asked frames.AckFrequency k = tt
-  frame-asked frames.ImmediateAck k = tt
-  frame-asked frames.HandshakeDone k = tt
+  frame-asked _ k = tt
 
   -- what is pending stays asked for
   pub asked-acted : (p : Pending) → AreAsked x p → AreAsked (acted x e v) p
@@ -85,32 +66,7 @@ new_asked x y (Settled kind (Some k)) v a g h = asked_at x g k (only g k h) a.ho
 new_asked x y (Settled kind None) v a g h = absurd h
 new_asked x y (Sending (TookTurn most fair (Some meta))) v a g h = asked_at x g (frame_with (written_on x) meta) (only g (frame_with (written_on x) meta) h) tt
 new_asked x y (Sending (TookTurn most fair None)) v a g h = absurd h
-new_asked x y (Sending (GaveLimits limits)) v a g h = absurd h
-new_asked x y (Sending (OpenedOwn dir closed answer)) v a g h = absurd h
-new_asked x y (Sending (RaisedData limit)) v a g h = absurd h
-new_asked x y (Sending (RaisedCount dir count answer)) v a g h = absurd h
-new_asked x y (Sending (RaisedLimit id limit answer)) v a g h = absurd h
-new_asked x y (Sending (StoppedOwn id code answer)) v a g h = absurd h
-new_asked x y (Sending (SetWindow window)) v a g h = absurd h
-new_asked x y (Sending (WroteOwn id lists closed answer)) v a g h = absurd h
-new_asked x y (Sending (FinishedOwn id answer)) v a g h = absurd h
-new_asked x y (Sending (ResetOwn id code answer)) v a g h = absurd h
-new_asked x y (Sending (SetOwnPriority id priority answer)) v a g h = absurd h
-new_asked x y (Sending (AckedOwn id offsets fin answer)) v a g h = absurd h
-new_asked x y (Sending (LostOwn id offsets fin answer)) v a g h = absurd h
-new_asked x y (Sending (ResetAckedOwn id answer)) v a g h = absurd h
-new_asked x y (Sending (Polled answer)) v a g h = absurd h
-new_asked x y (Received id offset bytes fin answer) v a g h = absurd h
-new_asked x y (ReceivedReset id code final answer) v a g h = absurd h
-new_asked x y (AddedCredits count answer) v a g h = absurd h
-new_asked x y (Began id ordered answer) v a g h = absurd h
-new_asked x y (Gave id most ordered answer) v a g h = absurd h
-new_asked x y (Ended id count) v a g h = absurd h
-new_asked x y (Stopped id code answer) v a g h = absurd h
-new_asked x y (ToldReset id answer) v a g h = absurd h
-new_asked x y (Resized window answer) v a g h = absurd h
-new_asked x y (SetConcurrent dir count answer) v a g h = absurd h
-new_asked x y (Accepted dir answer) v a g h = absurd h
+new_asked x y _ v a g h = absurd h
 
 pub frames-asked : (x y : Endpoint) (e : Event) (v : World) → Comes x → MayAct x y e v → AllAskedFor x → AllAskedFor (acted x e v)
 frames-asked x y e v f a s g h = frame-asked x y e v f a g (elim (either-of g (written_by x e) x.wrote h) [ inl k ↦ new_asked x y e v a g k | inr k ↦ s g k ])
@@ -199,22 +155,7 @@ asked-noted x p (frames.MaxStreams Bi count) k a = record { resets = a.resets; s
 asked-noted x p (frames.MaxStreams Uni count) k a = record { resets = a.resets; stops = a.stops; windows = a.windows }
 asked-noted x p (frames.DataBlocked offset) k a = record { resets = a.resets; stops = a.stops; windows = a.windows }
 asked-noted x p (frames.StreamDataBlocked id offset) k a = record { resets = a.resets; stops = a.stops; windows = a.windows }
-asked-noted x p (frames.Stream s) k a = a
-asked-noted x p frames.Padding k a = a
-asked-noted x p frames.Ping k a = a
-asked-noted x p frames.Ack k a = a
-asked-noted x p (frames.Crypto c) k a = a
-asked-noted x p frames.NewToken k a = a
-asked-noted x p (frames.StreamsBlocked d) k a = a
-asked-noted x p frames.NewConnectionId k a = a
-asked-noted x p frames.RetireConnectionId k a = a
-asked-noted x p frames.PathChallenge k a = a
-asked-noted x p frames.PathResponse k a = a
-asked-noted x p frames.Close k a = a
-asked-noted x p (frames.Datagram d) k a = a
-asked-noted x p frames.AckFrequency k a = a
-asked-noted x p frames.ImmediateAck k a = a
-asked-noted x p frames.HandshakeDone k a = a
+asked-noted x p _ k a = a
 
 -- ---- an entry that leaves
 

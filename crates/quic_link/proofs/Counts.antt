@@ -9,8 +9,8 @@ use Rattle.quic_outgoing.specs.declared.limits.PeerLimits.{PeerLimits}
 use Rattle.quic_outgoing.specs.History.{count_in, given_for}
 use Rattle.quic_outgoing.specs.Senders.{is_local}
 use Rattle.quic_history.specs.World.{World, Made, count_of, remote_of}
-use Rattle.quic_history.specs.SendEvents.{GaveLimits, RaisedData, RaisedCount, RaisedLimit, StoppedOwn, SetWindow, OpenedOwn, WroteOwn, FinishedOwn, ResetOwn, SetOwnPriority, AckedOwn, LostOwn, ResetAckedOwn, TookTurn, Polled}
-use Rattle.quic_history.specs.History.{Event, Received, ReceivedReset, AddedCredits, Began, Gave, Ended, Stopped, ToldReset, Resized, SetConcurrent, Accepted, Settled, Sending, opened_in_all, count_by, greatest_limit, limit_by}
+use Rattle.quic_history.specs.SendEvents.{GaveLimits, RaisedData, RaisedCount, RaisedLimit, StoppedOwn, WroteOwn, FinishedOwn, LostOwn}
+use Rattle.quic_history.specs.History.{Event, Received, ReceivedReset, Sending, opened_in_all, count_by, greatest_limit, limit_by}
 use Rattle.quic_history.proofs.Credits.{limit-fits}
 use Rattle.quic_link.specs.Endpoints.{Endpoint, MayAct, acted, written_by, IsHonest, limits_of}
 use Rattle.quic_link.proofs.Ends.{Comes}
@@ -33,31 +33,7 @@ queued_open x y (Sending (FinishedOwn id (Err error))) f s k = tt
 queued_open x y (Sending (LostOwn id offsets fin (Ok u))) f s k =
     let sends = s.frames_open (frames.Stream (record { id = id; offset = offsets.start; fin = fin; bytes = k.bytes })) k.is in sends.opened
 queued_open x y (Sending (LostOwn id offsets fin (Err error))) f s k = tt
-queued_open x y (Sending (GaveLimits limits)) f s k = tt
-queued_open x y (Sending (OpenedOwn dir closed answer)) f s k = tt
-queued_open x y (Sending (RaisedData limit)) f s k = tt
-queued_open x y (Sending (RaisedCount dir count answer)) f s k = tt
-queued_open x y (Sending (RaisedLimit id limit answer)) f s k = tt
-queued_open x y (Sending (StoppedOwn id code answer)) f s k = tt
-queued_open x y (Sending (SetWindow window)) f s k = tt
-queued_open x y (Sending (ResetOwn id code answer)) f s k = tt
-queued_open x y (Sending (SetOwnPriority id priority answer)) f s k = tt
-queued_open x y (Sending (AckedOwn id offsets fin answer)) f s k = tt
-queued_open x y (Sending (ResetAckedOwn id answer)) f s k = tt
-queued_open x y (Sending (TookTurn most fair frame)) f s k = tt
-queued_open x y (Sending (Polled answer)) f s k = tt
-queued_open x y (Received id offset bytes fin answer) f s k = tt
-queued_open x y (ReceivedReset id code final answer) f s k = tt
-queued_open x y (AddedCredits count answer) f s k = tt
-queued_open x y (Began id ordered answer) f s k = tt
-queued_open x y (Gave id most ordered answer) f s k = tt
-queued_open x y (Ended id count) f s k = tt
-queued_open x y (Stopped id code answer) f s k = tt
-queued_open x y (ToldReset id answer) f s k = tt
-queued_open x y (Resized window answer) f s k = tt
-queued_open x y (SetConcurrent dir count answer) f s k = tt
-queued_open x y (Accepted dir answer) f s k = tt
-queued_open x y (Settled kind frame) f s k = tt
+queued_open x y _ f s k = tt
 
 -- ---- streams that frames open
 
@@ -70,30 +46,7 @@ met_open x y (Received id offset bytes fin answer) s k = let o = s.frames_open (
 met_open x y (ReceivedReset id code final answer) s k = let o = s.frames_open (frames.ResetStream (record { id = id; error_code = code; final_offset = final })) k in o.opened
 met_open x y (Sending (RaisedLimit id limit answer)) s k = let o = s.frames_open (frames.MaxStreamData id limit) k in o.opened
 met_open x y (Sending (StoppedOwn id code answer)) s k = s.frames_open (frames.StopSending (record { id = id; error_code = code })) k
-met_open x y (Sending (GaveLimits limits)) s k = tt
-met_open x y (Sending (OpenedOwn dir closed answer)) s k = tt
-met_open x y (Sending (RaisedData limit)) s k = tt
-met_open x y (Sending (RaisedCount dir count answer)) s k = tt
-met_open x y (Sending (SetWindow window)) s k = tt
-met_open x y (Sending (WroteOwn id lists closed answer)) s k = tt
-met_open x y (Sending (FinishedOwn id answer)) s k = tt
-met_open x y (Sending (ResetOwn id code answer)) s k = tt
-met_open x y (Sending (SetOwnPriority id priority answer)) s k = tt
-met_open x y (Sending (AckedOwn id offsets fin answer)) s k = tt
-met_open x y (Sending (LostOwn id offsets fin answer)) s k = tt
-met_open x y (Sending (ResetAckedOwn id answer)) s k = tt
-met_open x y (Sending (TookTurn most fair frame)) s k = tt
-met_open x y (Sending (Polled answer)) s k = tt
-met_open x y (AddedCredits count answer) s k = tt
-met_open x y (Began id ordered answer) s k = tt
-met_open x y (Gave id most ordered answer) s k = tt
-met_open x y (Ended id count) s k = tt
-met_open x y (Stopped id code answer) s k = tt
-met_open x y (ToldReset id answer) s k = tt
-met_open x y (Resized window answer) s k = tt
-met_open x y (SetConcurrent dir count answer) s k = tt
-met_open x y (Accepted dir answer) s k = tt
-met_open x y (Settled kind frame) s k = tt
+met_open x y _ s k = tt
 
 own_open : (own : Bool) (a b : Dir → ℕ) (id : ℕ) (d : Dir) → own ≡ true → dir_of id ≡ d → OpenBy own a b id → index_of id < a d
 own_open true a b id d e k o = let n = ap a k in omega arith
@@ -133,32 +86,7 @@ count_true x y (Sending (RaisedCount dir count (Ok u))) t base k d =
     let a = given_most dir d count (λ c. (remote_of y.world c).max_remote) (t (frames.MaxStreams dir count) k) in
     omega arith
 count_true x y (Sending (RaisedCount dir count (Err error))) t base k d = omega arith
-count_true x y (Sending (OpenedOwn dir closed answer)) t base k d = omega arith
-count_true x y (Sending (RaisedData limit)) t base k d = omega arith
-count_true x y (Sending (RaisedLimit id limit answer)) t base k d = omega arith
-count_true x y (Sending (StoppedOwn id code answer)) t base k d = omega arith
-count_true x y (Sending (SetWindow window)) t base k d = omega arith
-count_true x y (Sending (WroteOwn id lists closed answer)) t base k d = omega arith
-count_true x y (Sending (FinishedOwn id answer)) t base k d = omega arith
-count_true x y (Sending (ResetOwn id code answer)) t base k d = omega arith
-count_true x y (Sending (SetOwnPriority id priority answer)) t base k d = omega arith
-count_true x y (Sending (AckedOwn id offsets fin answer)) t base k d = omega arith
-count_true x y (Sending (LostOwn id offsets fin answer)) t base k d = omega arith
-count_true x y (Sending (ResetAckedOwn id answer)) t base k d = omega arith
-count_true x y (Sending (TookTurn most fair frame)) t base k d = omega arith
-count_true x y (Sending (Polled answer)) t base k d = omega arith
-count_true x y (Received id offset bytes fin answer) t base k d = omega arith
-count_true x y (ReceivedReset id code final answer) t base k d = omega arith
-count_true x y (AddedCredits count answer) t base k d = omega arith
-count_true x y (Began id ordered answer) t base k d = omega arith
-count_true x y (Gave id most ordered answer) t base k d = omega arith
-count_true x y (Ended id count) t base k d = omega arith
-count_true x y (Stopped id code answer) t base k d = omega arith
-count_true x y (ToldReset id answer) t base k d = omega arith
-count_true x y (Resized window answer) t base k d = omega arith
-count_true x y (SetConcurrent dir count answer) t base k d = omega arith
-count_true x y (Accepted dir answer) t base k d = omega arith
-count_true x y (Settled kind frame) t base k d = omega arith
+count_true x y _ t base k d = omega arith
 
 -- ---- the limit of the connection
 
@@ -170,32 +98,7 @@ pub record DataSo (x y : Endpoint) : Type 0 where
 limit_true : (x y : Endpoint) (e : Event) → AllTrue y → y.made.receive_window ≤ y.world.credit.local_max_data → IsHonest x y e → limit_by e ≤ y.world.credit.local_max_data
 limit_true x y (Sending (GaveLimits limits)) t base k = let a : limits.initial_max_data ≡ y.made.receive_window = ap (λ (p : PeerLimits). p.initial_max_data) k in omega arith
 limit_true x y (Sending (RaisedData limit)) t base k = t (frames.MaxData limit) k
-limit_true x y (Sending (RaisedCount dir count answer)) t base k = omega arith
-limit_true x y (Sending (OpenedOwn dir closed answer)) t base k = omega arith
-limit_true x y (Sending (RaisedLimit id limit answer)) t base k = omega arith
-limit_true x y (Sending (StoppedOwn id code answer)) t base k = omega arith
-limit_true x y (Sending (SetWindow window)) t base k = omega arith
-limit_true x y (Sending (WroteOwn id lists closed answer)) t base k = omega arith
-limit_true x y (Sending (FinishedOwn id answer)) t base k = omega arith
-limit_true x y (Sending (ResetOwn id code answer)) t base k = omega arith
-limit_true x y (Sending (SetOwnPriority id priority answer)) t base k = omega arith
-limit_true x y (Sending (AckedOwn id offsets fin answer)) t base k = omega arith
-limit_true x y (Sending (LostOwn id offsets fin answer)) t base k = omega arith
-limit_true x y (Sending (ResetAckedOwn id answer)) t base k = omega arith
-limit_true x y (Sending (TookTurn most fair frame)) t base k = omega arith
-limit_true x y (Sending (Polled answer)) t base k = omega arith
-limit_true x y (Received id offset bytes fin answer) t base k = omega arith
-limit_true x y (ReceivedReset id code final answer) t base k = omega arith
-limit_true x y (AddedCredits count answer) t base k = omega arith
-limit_true x y (Began id ordered answer) t base k = omega arith
-limit_true x y (Gave id most ordered answer) t base k = omega arith
-limit_true x y (Ended id count) t base k = omega arith
-limit_true x y (Stopped id code answer) t base k = omega arith
-limit_true x y (ToldReset id answer) t base k = omega arith
-limit_true x y (Resized window answer) t base k = omega arith
-limit_true x y (SetConcurrent dir count answer) t base k = omega arith
-limit_true x y (Accepted dir answer) t base k = omega arith
-limit_true x y (Settled kind frame) t base k = omega arith
+limit_true x y _ t base k = omega arith
 
 -- ---- the first end was called
 

@@ -11,8 +11,8 @@ use Rattle.quic_flows.proofs.FlowSteps.{reset-is, ready-is, finishable-ready}
 use Rattle.quic_outgoing.specs.declared.limits.PeerLimits.{PeerLimits}
 use Rattle.quic_history.specs.World.{World, Made}
 use Rattle.quic_history.specs.Flows.{has_side_in, send_moved, with_first_limits, refusal_told, refusal_where, room_on}
-use Rattle.quic_history.specs.SendEvents.{SendEvent, SendStep, GaveLimits, RaisedData, RaisedCount, RaisedLimit, StoppedOwn, SetWindow, OpenedOwn, WroteOwn, FinishedOwn, ResetOwn, SetOwnPriority, AckedOwn, LostOwn, ResetAckedOwn, TookTurn, Polled}
-use Rattle.quic_history.specs.History.{Event, Received, ReceivedReset, AddedCredits, Began, Gave, Ended, Stopped, ToldReset, Resized, SetConcurrent, Accepted, Settled, Sending, Step, From, flow, send_move_of, limits_in, is_sent_on, room_in_connection, room_in_window}
+use Rattle.quic_history.specs.SendEvents.{SendEvent, SendStep, RaisedLimit, StoppedOwn, WroteOwn, FinishedOwn, ResetOwn, AckedOwn, LostOwn, ResetAckedOwn, TookTurn}
+use Rattle.quic_history.specs.History.{Event, Sending, Step, From, flow, send_move_of, limits_in, is_sent_on, room_in_connection, room_in_window}
 use Rattle.quic_history.proofs.Totals.{by_cases, same}
 use Rattle.quic_history.proofs.SendSides.{held-flow}
 
@@ -115,20 +115,14 @@ module _ (m : Made) (h : List Event) (u v : World) (f : From m h u) where
       let r = s.2.1 in
       none_of (flow m h id).reset (sym (reset-is (flow m h id) r.0 (held-told id r.0 r.1)) ∙ r.2)
   can_send (ResetOwn id code (Err e)) s = tt
-  can_send (GaveLimits limits) s = tt
-  can_send (OpenedOwn dir closed answer) s = tt
-  can_send (RaisedData limit) s = tt
-  can_send (RaisedCount dir count answer) s = tt
   can_send (RaisedLimit id limit (Ok x)) s = tt
   can_send (RaisedLimit id limit (Err e)) s = tt
   can_send (StoppedOwn id code (Ok x)) s = tt
   can_send (StoppedOwn id code (Err e)) s = tt
-  can_send (SetWindow window) s = tt
   can_send (FinishedOwn id (Ok x)) s =
       let r = s.2 in
       sym (ready-is (flow m h id) r.0 (held-told id r.0 r.1)) ∙ finishable-ready r.0 r.2
   can_send (FinishedOwn id (Err e)) s = tt
-  can_send (SetOwnPriority id priority answer) s = tt
   can_send (AckedOwn id offsets fin (Ok x)) s = tt
   can_send (AckedOwn id offsets fin (Err e)) s = tt
   can_send (LostOwn id offsets fin (Ok x)) s = tt
@@ -137,22 +131,11 @@ module _ (m : Made) (h : List Event) (u v : World) (f : From m h u) where
   can_send (ResetAckedOwn id (Err e)) s = tt
   can_send (TookTurn most fair None) s = tt
   can_send (TookTurn most fair (Some frame)) s = tt
-  can_send (Polled answer) s = tt
+  can_send _ s = tt
 
   pub can-move : (e : Event) → Step u e v → CanMove (flow m h) (send_move_of e)
   can-move (Sending e) s = can_send e s
-  can-move (Received id offset bytes fin answer) s = tt
-  can-move (ReceivedReset id code final answer) s = tt
-  can-move (AddedCredits count answer) s = tt
-  can-move (Began id ordered answer) s = tt
-  can-move (Gave id most ordered answer) s = tt
-  can-move (Ended id count) s = tt
-  can-move (Stopped id code answer) s = tt
-  can-move (ToldReset id answer) s = tt
-  can-move (Resized window answer) s = tt
-  can-move (SetConcurrent dir count answer) s = tt
-  can-move (Accepted dir answer) s = tt
-  can-move (Settled kind frame) s = tt
+  can-move _ s = tt
 
   -- each call lets what is told of a sending side grow
   pub grows : (e : Event) → Step u e v → (q : ℕ) → Grows (flow m h q) (flow m (e ∷ h) q)

@@ -8,7 +8,7 @@ use Rattle.quic_receiving.specs.Data.{is_in_slices}
 use Rattle.quic_receiving.specs.declared.transmit.ShouldTransmit.{ShouldTransmit}
 use Rattle.quic_receiving.specs.declared.errors.ReadError.TheVariants as read_error
 use Rattle.quic_history.specs.World.{World, Made}
-use Rattle.quic_history.specs.History.{Event, Move, Framed, WasReset, WasRead, WasStopped, WasTold, WasAnnounced, Received, ReceivedReset, AddedCredits, Began, Gave, Ended, Stopped, ToldReset, Resized, SetConcurrent, Accepted, Settled, Sending, Step, From, Trace, trace, move_of, moved, with_move, with_kept_frame, is_kept, is_closed}
+use Rattle.quic_history.specs.History.{Event, Move, Framed, WasReset, WasRead, WasStopped, WasTold, WasAnnounced, Received, ReceivedReset, Stopped, ToldReset, Settled, Step, From, Trace, trace, move_of, moved, with_move, with_kept_frame, is_kept, is_closed}
 use Rattle.quic_history.proofs.StreamSteps.{half-from, known-from}
 use Rattle.quic_history.proofs.Totals.{by_cases, same}
 use Rattle.quic_history.proofs.Traces.{itself}
@@ -126,23 +126,15 @@ module _ (m : Made) (h : List Event) (u : World) (f : From m h u) where
       let told = half-from (trace h) u id t.0 f.facts.streams (known-from (trace h) u id t.0 f.facts.streams t.2) t.2 in
       told.there
   stops_true (Stopped id code (Err error)) v s = tt
-  stops_true (Gave id most ordered answer) v s = tt
-  stops_true (Received id offset bytes fin answer) v s = tt
   stops_true (ReceivedReset id code final (Ok transmit)) v s = tt
   stops_true (ReceivedReset id code final (Err error)) v s = tt
-  stops_true (AddedCredits count answer) v s = tt
-  stops_true (Began id ordered answer) v s = tt
-  stops_true (Ended id count) v s = tt
   stops_true (ToldReset id (Ok (Some code))) v s = tt
   stops_true (ToldReset id (Ok None)) v s = tt
   stops_true (ToldReset id (Err error)) v s = tt
-  stops_true (Resized window answer) v s = tt
-  stops_true (SetConcurrent dir count answer) v s = tt
-  stops_true (Accepted dir answer) v s = tt
   stops_true (Settled kind None) v s = tt
   stops_true (Settled kind (Some (frames.MaxStreamData id limit))) v s = tt
   stops_true (Settled kind (Some _)) v s = tt
-  stops_true (Sending e) v s = tt
+  stops_true _ v s = tt
 
   pub kept-step : (e : Event) (v : World) → Step u e v → KeptSo h → KeptSo (e ∷ h)
   kept-step e v s k =

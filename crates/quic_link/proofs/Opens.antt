@@ -23,8 +23,8 @@ use Rattle.quic_history.specs.Carrying.{CarriesFrame}
 use Rattle.quic_history.specs.declared.control.ControlKind.{ControlKind}
 use Rattle.quic_history.specs.declared.control.ControlKind.TheVariants as kinds
 use Rattle.quic_history.specs.Control.{SettlesEntry, reset_frame, window_frame, announced_end}
-use Rattle.quic_history.specs.SendEvents.{GaveLimits, RaisedData, RaisedCount, RaisedLimit, StoppedOwn, SetWindow, OpenedOwn, WroteOwn, FinishedOwn, ResetOwn, SetOwnPriority, AckedOwn, LostOwn, ResetAckedOwn, TookTurn, Polled}
-use Rattle.quic_history.specs.History.{Event, Received, ReceivedReset, AddedCredits, Began, Gave, Ended, Stopped, ToldReset, Resized, SetConcurrent, Accepted, Settled, Sending, IsRun, EverPermits, PermitsNow, trace, opened_in_all, greatest_count}
+use Rattle.quic_history.specs.SendEvents.{TookTurn}
+use Rattle.quic_history.specs.History.{Event, Settled, Sending, IsRun, EverPermits, PermitsNow, trace, opened_in_all, greatest_count}
 use Rattle.quic_history.proofs.SendSides.{held-side}
 use Rattle.quic_history.proofs.StreamSteps.{known-from}
 use Rattle.quic_link.specs.Endpoints.{Endpoint, IsOneOf, MayAct, acted, written_by, written_on, WasAskedFor, WasGiven}
@@ -116,50 +116,14 @@ frame_first x y e v (frames.Stream s) o = record { opened = open_first x y e v s
 frame_first x y e v (frames.ResetStream f) o = record { opened = open_first x y e v f.id o.opened; both_ways = o.both_ways }
 frame_first x y e v (frames.MaxStreamData id limit) o = record { opened = open_first x y e v id o.opened; both_ways = o.both_ways }
 frame_first x y e v (frames.StopSending f) o = open_first x y e v f.id o
-frame_first x y e v frames.Padding o = tt
-frame_first x y e v frames.Ping o = tt
-frame_first x y e v frames.Ack o = tt
-frame_first x y e v (frames.Crypto c) o = tt
-frame_first x y e v frames.NewToken o = tt
-frame_first x y e v (frames.MaxData limit) o = tt
-frame_first x y e v (frames.MaxStreams d count) o = tt
-frame_first x y e v (frames.DataBlocked offset) o = tt
-frame_first x y e v (frames.StreamDataBlocked id offset) o = tt
-frame_first x y e v (frames.StreamsBlocked d) o = tt
-frame_first x y e v frames.NewConnectionId o = tt
-frame_first x y e v frames.RetireConnectionId o = tt
-frame_first x y e v frames.PathChallenge o = tt
-frame_first x y e v frames.PathResponse o = tt
-frame_first x y e v frames.Close o = tt
-frame_first x y e v (frames.Datagram d) o = tt
-frame_first x y e v frames.AckFrequency o = tt
-frame_first x y e v frames.ImmediateAck o = tt
-frame_first x y e v frames.HandshakeDone o = tt
+frame_first x y e v _ o = tt
 
 pub frame_second : (x y : Endpoint) (e : Event) (v : World) (g : Frame) → OpenFrame x y g → OpenFrame x (acted y e v) g
 frame_second x y e v (frames.Stream s) o = record { opened = open_second x y e v s.id o.opened; both_ways = o.both_ways }
 frame_second x y e v (frames.ResetStream f) o = record { opened = open_second x y e v f.id o.opened; both_ways = o.both_ways }
 frame_second x y e v (frames.MaxStreamData id limit) o = record { opened = open_second x y e v id o.opened; both_ways = o.both_ways }
 frame_second x y e v (frames.StopSending f) o = open_second x y e v f.id o
-frame_second x y e v frames.Padding o = tt
-frame_second x y e v frames.Ping o = tt
-frame_second x y e v frames.Ack o = tt
-frame_second x y e v (frames.Crypto c) o = tt
-frame_second x y e v frames.NewToken o = tt
-frame_second x y e v (frames.MaxData limit) o = tt
-frame_second x y e v (frames.MaxStreams d count) o = tt
-frame_second x y e v (frames.DataBlocked offset) o = tt
-frame_second x y e v (frames.StreamDataBlocked id offset) o = tt
-frame_second x y e v (frames.StreamsBlocked d) o = tt
-frame_second x y e v frames.NewConnectionId o = tt
-frame_second x y e v frames.RetireConnectionId o = tt
-frame_second x y e v frames.PathChallenge o = tt
-frame_second x y e v frames.PathResponse o = tt
-frame_second x y e v frames.Close o = tt
-frame_second x y e v (frames.Datagram d) o = tt
-frame_second x y e v frames.AckFrequency o = tt
-frame_second x y e v frames.ImmediateAck o = tt
-frame_second x y e v frames.HandshakeDone o = tt
+frame_second x y e v _ o = tt
 
 -- ---- what an end was given, and what it sends or receives on
 
@@ -281,29 +245,4 @@ new_open x y (Settled kind (Some k)) v f s a g h = frame_at x y g k (only g k h)
 new_open x y (Settled kind None) v f s a g h = absurd h
 new_open x y (Sending (TookTurn most fair (Some meta))) v f s a g h = frame_at x y g (frame_with (written_on x) meta) (only g (frame_with (written_on x) meta) h) (turn_open x y f s most fair meta v a.step)
 new_open x y (Sending (TookTurn most fair None)) v f s a g h = absurd h
-new_open x y (Sending (GaveLimits limits)) v f s a g h = absurd h
-new_open x y (Sending (OpenedOwn dir closed answer)) v f s a g h = absurd h
-new_open x y (Sending (RaisedData limit)) v f s a g h = absurd h
-new_open x y (Sending (RaisedCount dir count answer)) v f s a g h = absurd h
-new_open x y (Sending (RaisedLimit id limit answer)) v f s a g h = absurd h
-new_open x y (Sending (StoppedOwn id code answer)) v f s a g h = absurd h
-new_open x y (Sending (SetWindow window)) v f s a g h = absurd h
-new_open x y (Sending (WroteOwn id lists closed answer)) v f s a g h = absurd h
-new_open x y (Sending (FinishedOwn id answer)) v f s a g h = absurd h
-new_open x y (Sending (ResetOwn id code answer)) v f s a g h = absurd h
-new_open x y (Sending (SetOwnPriority id priority answer)) v f s a g h = absurd h
-new_open x y (Sending (AckedOwn id offsets fin answer)) v f s a g h = absurd h
-new_open x y (Sending (LostOwn id offsets fin answer)) v f s a g h = absurd h
-new_open x y (Sending (ResetAckedOwn id answer)) v f s a g h = absurd h
-new_open x y (Sending (Polled answer)) v f s a g h = absurd h
-new_open x y (Received id offset bytes fin answer) v f s a g h = absurd h
-new_open x y (ReceivedReset id code final answer) v f s a g h = absurd h
-new_open x y (AddedCredits count answer) v f s a g h = absurd h
-new_open x y (Began id ordered answer) v f s a g h = absurd h
-new_open x y (Gave id most ordered answer) v f s a g h = absurd h
-new_open x y (Ended id count) v f s a g h = absurd h
-new_open x y (Stopped id code answer) v f s a g h = absurd h
-new_open x y (ToldReset id answer) v f s a g h = absurd h
-new_open x y (Resized window answer) v f s a g h = absurd h
-new_open x y (SetConcurrent dir count answer) v f s a g h = absurd h
-new_open x y (Accepted dir answer) v f s a g h = absurd h
+new_open x y _ v f s a g h = absurd h

@@ -12,7 +12,7 @@ use Rattle.quic_history.specs.Halves.{is_among, with_first}
 use Rattle.quic_receiving.specs.declared.errors.ReadError.{ReadError}
 use Rattle.quic_receiving.specs.declared.errors.ReadError.TheVariants as read_error
 use Rattle.quic_history.specs.World.{World, Made, start}
-use Rattle.quic_history.specs.History.{Event, Move, Framed, WasReset, WasRead, WasStopped, WasTold, WasAnnounced, Received, ReceivedReset, AddedCredits, Began, Gave, Ended, Stopped, ToldReset, Resized, SetConcurrent, Accepted, Settled, Sending, Step, From, Trace, ReadChunk, HalfFrom, EndsSo, trace, move_of, moved, with_move, with_kept_frame, is_kept, is_closed}
+use Rattle.quic_history.specs.History.{Event, Move, Framed, WasReset, WasRead, WasStopped, WasTold, WasAnnounced, ReceivedReset, Began, Gave, Stopped, ToldReset, Settled, Step, From, Trace, ReadChunk, HalfFrom, EndsSo, trace, move_of, moved, with_move, with_kept_frame, is_kept, is_closed}
 use Rattle.quic_history.specs.Reading.{ReadsHalf}
 use Rattle.quic_history.proofs.StreamSteps.{half-from, known-from}
 use Rattle.quic_history.proofs.Totals.{by_cases, same}
@@ -159,12 +159,8 @@ module _ (m : Made) (h : List Event) (u : World) (f : From m h u) (s : ReadsSo h
 
   reads_true : (e : Event) (v : World) → Step u e v → ReadsTrue u (trace h) (move_of e)
   reads_true (Gave id most ordered answer) v r = read_true id most ordered answer v r
-  reads_true (Received id offset bytes fin answer) v r = tt
   reads_true (ReceivedReset id code final (Ok transmit)) v r = tt
   reads_true (ReceivedReset id code final (Err error)) v r = tt
-  reads_true (AddedCredits count answer) v r = tt
-  reads_true (Began id ordered answer) v r = tt
-  reads_true (Ended id count) v r = tt
   reads_true (Stopped id code (Ok x)) v r = tt
   reads_true (Stopped id code (Err error)) v r = tt
   reads_true (ToldReset id (Ok (Some code))) v r =
@@ -173,13 +169,10 @@ module _ (m : Made) (h : List Event) (u : World) (f : From m h u) (s : ReadsSo h
       ap (λ (o : Option ℕ). is_some o) (sym told.reset ∙ t.3)
   reads_true (ToldReset id (Ok None)) v r = tt
   reads_true (ToldReset id (Err error)) v r = tt
-  reads_true (Resized window answer) v r = tt
-  reads_true (SetConcurrent dir count answer) v r = tt
-  reads_true (Accepted dir answer) v r = tt
   reads_true (Settled kind None) v r = tt
   reads_true (Settled kind (Some (frames.MaxStreamData id limit))) v r = tt
   reads_true (Settled kind (Some _)) v r = tt
-  reads_true (Sending e) v r = tt
+  reads_true _ v r = tt
 
   pub reads-kept : (e : Event) (v : World) → Step u e v → From m (e ∷ h) v → ReadsSo (e ∷ h) v
   reads-kept e v r after =

@@ -14,8 +14,8 @@ use Rattle.quic_outgoing.specs.Outgoing.{first_of}
 use Rattle.quic_outgoing.specs.Senders.{first_limit, first_for, is_local}
 use Rattle.quic_history.specs.World.{World, Made}
 use Rattle.quic_history.specs.Flows.{send_moved, with_first_limits, room_on, has_send_side}
-use Rattle.quic_history.specs.SendEvents.{SendEvent, SendStep, GaveLimits, RaisedData, RaisedCount, RaisedLimit, StoppedOwn, SetWindow, OpenedOwn, WroteOwn, FinishedOwn, ResetOwn, SetOwnPriority, AckedOwn, LostOwn, ResetAckedOwn, TookTurn, Polled}
-use Rattle.quic_history.specs.History.{Event, Received, ReceivedReset, AddedCredits, Began, Gave, Ended, Stopped, ToldReset, Resized, SetConcurrent, Accepted, Settled, Sending, Step, From, flow, send_move_of, limits_in, taken_by, taken_in_all, total_over, opened_in_all, send_tale, write_room}
+use Rattle.quic_history.specs.SendEvents.{SendEvent, SendStep, GaveLimits, RaisedLimit, StoppedOwn, WroteOwn, FinishedOwn, ResetOwn, AckedOwn, LostOwn, ResetAckedOwn, TookTurn}
+use Rattle.quic_history.specs.History.{Event, Sending, Step, From, flow, send_move_of, limits_in, taken_by, taken_in_all, total_over, opened_in_all, send_tale, write_room}
 use Rattle.quic_history.proofs.Totals.{by_cases, same, IsOnce}
 use Rattle.quic_link.specs.Endpoints.{Endpoint, IsHonest, limits_of}
 use Rattle.quic_link.proofs.Sums.{total-most, total-grows}
@@ -143,33 +143,7 @@ room_limits m (Some limits) side q t s a r =
 
 pub limits-honest : (x y : Endpoint) (e : Event) → IsHonest x y e → AreLimitsOf y.made (limits_in e)
 limits-honest x y (Sending (GaveLimits limits)) k = k
-limits-honest x y (Sending (OpenedOwn dir closed answer)) k = tt
-limits-honest x y (Sending (RaisedData limit)) k = tt
-limits-honest x y (Sending (RaisedCount dir count answer)) k = tt
-limits-honest x y (Sending (RaisedLimit id limit answer)) k = tt
-limits-honest x y (Sending (StoppedOwn id code answer)) k = tt
-limits-honest x y (Sending (SetWindow window)) k = tt
-limits-honest x y (Sending (WroteOwn id lists closed answer)) k = tt
-limits-honest x y (Sending (FinishedOwn id answer)) k = tt
-limits-honest x y (Sending (ResetOwn id code answer)) k = tt
-limits-honest x y (Sending (SetOwnPriority id priority answer)) k = tt
-limits-honest x y (Sending (AckedOwn id offsets fin answer)) k = tt
-limits-honest x y (Sending (LostOwn id offsets fin answer)) k = tt
-limits-honest x y (Sending (ResetAckedOwn id answer)) k = tt
-limits-honest x y (Sending (TookTurn most fair frame)) k = tt
-limits-honest x y (Sending (Polled answer)) k = tt
-limits-honest x y (Received id offset bytes fin answer) k = tt
-limits-honest x y (ReceivedReset id code final answer) k = tt
-limits-honest x y (AddedCredits count answer) k = tt
-limits-honest x y (Began id ordered answer) k = tt
-limits-honest x y (Gave id most ordered answer) k = tt
-limits-honest x y (Ended id count) k = tt
-limits-honest x y (Stopped id code answer) k = tt
-limits-honest x y (ToldReset id answer) k = tt
-limits-honest x y (Resized window answer) k = tt
-limits-honest x y (SetConcurrent dir count answer) k = tt
-limits-honest x y (Accepted dir answer) k = tt
-limits-honest x y (Settled kind frame) k = tt
+limits-honest x y _ k = tt
 
 -- ---- what a call writes
 
@@ -185,18 +159,12 @@ module _ (m : Made) (h : List Event) (u v : World) (f : From m h u) where
   room_send (WroteOwn id lists closed (Err e)) s = tt
   room_send (ResetOwn id code (Ok x)) s = omega arith
   room_send (ResetOwn id code (Err e)) s = tt
-  room_send (GaveLimits limits) s = tt
-  room_send (OpenedOwn dir closed answer) s = tt
-  room_send (RaisedData limit) s = tt
-  room_send (RaisedCount dir count answer) s = tt
   room_send (RaisedLimit id limit (Ok x)) s = omega arith
   room_send (RaisedLimit id limit (Err e)) s = tt
   room_send (StoppedOwn id code (Ok x)) s = omega arith
   room_send (StoppedOwn id code (Err e)) s = tt
-  room_send (SetWindow window) s = tt
   room_send (FinishedOwn id (Ok x)) s = omega arith
   room_send (FinishedOwn id (Err e)) s = tt
-  room_send (SetOwnPriority id priority answer) s = tt
   room_send (AckedOwn id offsets fin (Ok x)) s = omega arith
   room_send (AckedOwn id offsets fin (Err e)) s = tt
   room_send (LostOwn id offsets fin (Ok x)) s = omega arith
@@ -205,22 +173,11 @@ module _ (m : Made) (h : List Event) (u v : World) (f : From m h u) where
   room_send (ResetAckedOwn id (Err e)) s = tt
   room_send (TookTurn most fair None) s = tt
   room_send (TookTurn most fair (Some frame)) s = omega arith
-  room_send (Polled answer) s = tt
+  room_send _ s = tt
 
   room_any : (e : Event) → Step u e v → IsRoomFor (flow m h) (send_move_of e)
   room_any (Sending e) s = room_send e s
-  room_any (Received id offset bytes fin answer) s = tt
-  room_any (ReceivedReset id code final answer) s = tt
-  room_any (AddedCredits count answer) s = tt
-  room_any (Began id ordered answer) s = tt
-  room_any (Gave id most ordered answer) s = tt
-  room_any (Ended id count) s = tt
-  room_any (Stopped id code answer) s = tt
-  room_any (ToldReset id answer) s = tt
-  room_any (Resized window answer) s = tt
-  room_any (SetConcurrent dir count answer) s = tt
-  room_any (Accepted dir answer) s = tt
-  room_any (Settled kind frame) s = tt
+  room_any _ s = tt
 
   -- no call goes beyond the limit of a stream
   pub room-kept : (n : Made) (e : Event) → Step u e v → n.window < 2 ^ 62 → AreLimitsOf n (limits_in e) → (q : ℕ) → RoomSo (flow m h q) → RoomSo (flow m (e ∷ h) q)
@@ -232,18 +189,12 @@ written_counts (Sending (WroteOwn id lists closed (Ok written))) = let k = front
 written_counts (Sending (WroteOwn id lists closed (Err e))) = omega arith
 written_counts (Sending (ResetOwn id code (Ok x))) = omega arith
 written_counts (Sending (ResetOwn id code (Err e))) = omega arith
-written_counts (Sending (GaveLimits limits)) = omega arith
-written_counts (Sending (OpenedOwn dir closed answer)) = omega arith
-written_counts (Sending (RaisedData limit)) = omega arith
-written_counts (Sending (RaisedCount dir count answer)) = omega arith
 written_counts (Sending (RaisedLimit id limit (Ok x))) = omega arith
 written_counts (Sending (RaisedLimit id limit (Err e))) = omega arith
 written_counts (Sending (StoppedOwn id code (Ok x))) = omega arith
 written_counts (Sending (StoppedOwn id code (Err e))) = omega arith
-written_counts (Sending (SetWindow window)) = omega arith
 written_counts (Sending (FinishedOwn id (Ok x))) = omega arith
 written_counts (Sending (FinishedOwn id (Err e))) = omega arith
-written_counts (Sending (SetOwnPriority id priority answer)) = omega arith
 written_counts (Sending (AckedOwn id offsets fin (Ok x))) = omega arith
 written_counts (Sending (AckedOwn id offsets fin (Err e))) = omega arith
 written_counts (Sending (LostOwn id offsets fin (Ok x))) = omega arith
@@ -252,19 +203,7 @@ written_counts (Sending (ResetAckedOwn id (Ok x))) = omega arith
 written_counts (Sending (ResetAckedOwn id (Err e))) = omega arith
 written_counts (Sending (TookTurn most fair None)) = omega arith
 written_counts (Sending (TookTurn most fair (Some frame))) = omega arith
-written_counts (Sending (Polled answer)) = omega arith
-written_counts (Received id offset bytes fin answer) = omega arith
-written_counts (ReceivedReset id code final answer) = omega arith
-written_counts (AddedCredits count answer) = omega arith
-written_counts (Began id ordered answer) = omega arith
-written_counts (Gave id most ordered answer) = omega arith
-written_counts (Ended id count) = omega arith
-written_counts (Stopped id code answer) = omega arith
-written_counts (ToldReset id answer) = omega arith
-written_counts (Resized window answer) = omega arith
-written_counts (SetConcurrent dir count answer) = omega arith
-written_counts (Accepted dir answer) = omega arith
-written_counts (Settled kind frame) = omega arith
+written_counts _ = omega arith
 
 -- the sum over any streams, each once, is no more than what is counted
 pub sum-written : (m : Made) (h : List Event) (xs : List ℕ) → IsOnce xs → total_over (λ q. amount (flow m h q)) xs ≤ taken_in_all h

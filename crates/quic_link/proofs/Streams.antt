@@ -16,8 +16,8 @@ use Rattle.quic_outgoing.specs.Outgoing.{first_of}
 use Rattle.quic_outgoing.specs.Senders.{first_limit}
 use Rattle.quic_history.specs.World.{World, Made}
 use Rattle.quic_history.specs.Flows.{send_moved, with_first_limits, has_send_side}
-use Rattle.quic_history.specs.SendEvents.{GaveLimits, RaisedData, RaisedCount, RaisedLimit, StoppedOwn, SetWindow, OpenedOwn, WroteOwn, FinishedOwn, ResetOwn, SetOwnPriority, AckedOwn, LostOwn, ResetAckedOwn, TookTurn, Polled}
-use Rattle.quic_history.specs.History.{Event, Move, Framed, WasReset, WasRead, WasStopped, WasTold, WasAnnounced, Received, ReceivedReset, AddedCredits, Began, Gave, Ended, Stopped, ToldReset, Resized, SetConcurrent, Accepted, Settled, Sending, Trace, untouched, move_of, moved, with_move, with_kept_frame, with_reset, is_kept, is_closed, send_move_of, limits_in, opened_in_all, send_tale}
+use Rattle.quic_history.specs.SendEvents.{RaisedLimit, StoppedOwn, WroteOwn, FinishedOwn, ResetOwn, AckedOwn, LostOwn, ResetAckedOwn, TookTurn}
+use Rattle.quic_history.specs.History.{Event, Move, Framed, WasReset, WasRead, WasStopped, WasTold, WasAnnounced, Received, ReceivedReset, Stopped, ToldReset, Settled, Sending, Trace, untouched, move_of, moved, with_move, with_kept_frame, with_reset, is_kept, is_closed, send_move_of, limits_in, opened_in_all, send_tale}
 use Rattle.quic_history.proofs.Totals.{by_cases, same}
 use Rattle.quic_link.specs.Endpoints.{Endpoint, acted, sent_on, came_on, IsHonest, limits_of}
 use Rattle.quic_link.specs.Truths.{AreBytesOf}
@@ -175,22 +175,15 @@ move-true x y (Received id offset bytes fin answer) t k =
     record { bytes_are = d.bytes; within = d.within; finished = d.finished; ends = d.ends }
 move-true x y (ReceivedReset id code final (Ok transmit)) t k = t (frames.ResetStream (record { id = id; error_code = code; final_offset = final })) k
 move-true x y (ReceivedReset id code final (Err error)) t k = tt
-move-true x y (AddedCredits count answer) t k = tt
-move-true x y (Began id ordered answer) t k = tt
-move-true x y (Gave id most ordered answer) t k = tt
-move-true x y (Ended id count) t k = tt
 move-true x y (Stopped id code (Ok u)) t k = tt
 move-true x y (Stopped id code (Err error)) t k = tt
 move-true x y (ToldReset id (Ok (Some code))) t k = tt
 move-true x y (ToldReset id (Ok None)) t k = tt
 move-true x y (ToldReset id (Err error)) t k = tt
-move-true x y (Resized window answer) t k = tt
-move-true x y (SetConcurrent dir count answer) t k = tt
-move-true x y (Accepted dir answer) t k = tt
 move-true x y (Settled kind None) t k = tt
 move-true x y (Settled kind (Some (frames.MaxStreamData id limit))) t k = tt
 move-true x y (Settled kind (Some _)) t k = tt
-move-true x y (Sending e) t k = tt
+move-true x y _ t k = tt
 
 -- ---- the limits of streams
 
@@ -240,20 +233,14 @@ limit_first m (Some limits) side q f t a k =
 limit_true : (x y : Endpoint) (e : Event) → AllTrue y → IsHonest x y e → TrueLimit (came_on y) (send_move_of e)
 limit_true x y (Sending (RaisedLimit id limit (Ok u))) t k = t (frames.MaxStreamData id limit) k
 limit_true x y (Sending (RaisedLimit id limit (Err error))) t k = tt
-limit_true x y (Sending (GaveLimits limits)) t k = tt
-limit_true x y (Sending (OpenedOwn dir closed answer)) t k = tt
-limit_true x y (Sending (RaisedData limit)) t k = tt
-limit_true x y (Sending (RaisedCount dir count answer)) t k = tt
 limit_true x y (Sending (StoppedOwn id code (Ok u))) t k = tt
 limit_true x y (Sending (StoppedOwn id code (Err error))) t k = tt
-limit_true x y (Sending (SetWindow window)) t k = tt
 limit_true x y (Sending (WroteOwn id lists closed (Ok written))) t k = tt
 limit_true x y (Sending (WroteOwn id lists closed (Err error))) t k = tt
 limit_true x y (Sending (FinishedOwn id (Ok u))) t k = tt
 limit_true x y (Sending (FinishedOwn id (Err error))) t k = tt
 limit_true x y (Sending (ResetOwn id code (Ok u))) t k = tt
 limit_true x y (Sending (ResetOwn id code (Err error))) t k = tt
-limit_true x y (Sending (SetOwnPriority id priority answer)) t k = tt
 limit_true x y (Sending (AckedOwn id offsets fin (Ok u))) t k = tt
 limit_true x y (Sending (AckedOwn id offsets fin (Err error))) t k = tt
 limit_true x y (Sending (LostOwn id offsets fin (Ok u))) t k = tt
@@ -262,19 +249,7 @@ limit_true x y (Sending (ResetAckedOwn id (Ok u))) t k = tt
 limit_true x y (Sending (ResetAckedOwn id (Err error))) t k = tt
 limit_true x y (Sending (TookTurn most fair None)) t k = tt
 limit_true x y (Sending (TookTurn most fair (Some frame))) t k = tt
-limit_true x y (Sending (Polled answer)) t k = tt
-limit_true x y (Received id offset bytes fin answer) t k = tt
-limit_true x y (ReceivedReset id code final answer) t k = tt
-limit_true x y (AddedCredits count answer) t k = tt
-limit_true x y (Began id ordered answer) t k = tt
-limit_true x y (Gave id most ordered answer) t k = tt
-limit_true x y (Ended id count) t k = tt
-limit_true x y (Stopped id code answer) t k = tt
-limit_true x y (ToldReset id answer) t k = tt
-limit_true x y (Resized window answer) t k = tt
-limit_true x y (SetConcurrent dir count answer) t k = tt
-limit_true x y (Accepted dir answer) t k = tt
-limit_true x y (Settled kind frame) t k = tt
+limit_true x y _ t k = tt
 
 -- the end that sends was called
 pub limits-sent : (x y : Endpoint) (e : Event) (v : World) → AllTrue y → IsHonest x y e → AreLimitsOf y.made (limits_in e) → ((q : ℕ) → LimitSo y.made.window (sent_on x q) (came_on y q))

@@ -7,8 +7,8 @@ use Rattle.quic_wire.specs.declared.frame.Frame.TheVariants as frames
 use Rattle.quic_flows.specs.Flow.{WasAcked, SendFlow, takes_data, with_acked, counts_for, is_whole, freed_if_whole}
 use Rattle.quic_history.specs.World.{World}
 use Rattle.quic_history.specs.Flows.{has_send_side, send_moved, told_if, ends_by, TakesQueued}
-use Rattle.quic_history.specs.SendEvents.{GaveLimits, RaisedData, RaisedCount, RaisedLimit, StoppedOwn, SetWindow, OpenedOwn, WroteOwn, FinishedOwn, ResetOwn, SetOwnPriority, AckedOwn, LostOwn, ResetAckedOwn, TookTurn, Polled}
-use Rattle.quic_history.specs.History.{Event, Received, ReceivedReset, AddedCredits, Began, Gave, Ended, Stopped, ToldReset, Resized, SetConcurrent, Accepted, Settled, Sending, opened_in_all, send_tale, told_by, QueuesSo, is_sent_on}
+use Rattle.quic_history.specs.SendEvents.{RaisedCount, RaisedLimit, StoppedOwn, AckedOwn, Polled}
+use Rattle.quic_history.specs.History.{Event, Received, ReceivedReset, Sending, opened_in_all, send_tale, told_by, QueuesSo, is_sent_on}
 use Rattle.quic_history.proofs.ToldEvents.{queues}
 use Rattle.quic_history.proofs.Traces.{itself}
 use Rattle.quic_link.specs.Endpoints.{Endpoint, IsOneOf, MayAct, acted, sent_on}
@@ -109,30 +109,7 @@ module _ (x y : Endpoint) (f : Comes x) (t : AllTrue y) (s : (q : ℕ) → Acked
       (whole_came (acted x e v) y id offsets.start offsets.end fin (sent_on x id) (sent_on (acted x e v) id) counts.0 counts.1
       (acked_flow id offsets.start offsets.end fin there (sent_on x id) open_now.0 counts.0) refl (acked-sent x y e v f t a s id))
   new_told (Sending (AckedOwn id offsets fin (Err error))) v a g h = absurd h
-  new_told (Sending (GaveLimits limits)) v a g h = absurd h
-  new_told (Sending (OpenedOwn dir closed answer)) v a g h = absurd h
-  new_told (Sending (RaisedData limit)) v a g h = absurd h
-  new_told (Sending (SetWindow window)) v a g h = absurd h
-  new_told (Sending (WroteOwn id lists closed answer)) v a g h = absurd h
-  new_told (Sending (FinishedOwn id answer)) v a g h = absurd h
-  new_told (Sending (ResetOwn id code answer)) v a g h = absurd h
-  new_told (Sending (SetOwnPriority id priority answer)) v a g h = absurd h
-  new_told (Sending (LostOwn id offsets fin answer)) v a g h = absurd h
-  new_told (Sending (ResetAckedOwn id answer)) v a g h = absurd h
-  new_told (Sending (TookTurn most fair frame)) v a g h = absurd h
-  new_told (Sending (Polled answer)) v a g h = absurd h
-  new_told (Received id offset bytes fin answer) v a g h = absurd h
-  new_told (ReceivedReset id code final answer) v a g h = absurd h
-  new_told (AddedCredits count answer) v a g h = absurd h
-  new_told (Began id ordered answer) v a g h = absurd h
-  new_told (Gave id most ordered answer) v a g h = absurd h
-  new_told (Ended id count) v a g h = absurd h
-  new_told (Stopped id code answer) v a g h = absurd h
-  new_told (ToldReset id answer) v a g h = absurd h
-  new_told (Resized window answer) v a g h = absurd h
-  new_told (SetConcurrent dir count answer) v a g h = absurd h
-  new_told (Accepted dir answer) v a g h = absurd h
-  new_told (Settled kind frame) v a g h = absurd h
+  new_told _ v a g h = absurd h
 
 -- what was taken is told no more
 left_of : (before after : List StreamEvent) (k g : StreamEvent) → before ≡ k ∷ after → IsOneOf g after → IsOneOf g before
@@ -184,33 +161,7 @@ by_queues : (x y : Endpoint) (e : Event) (v : World) → Comes x → AllTrue y �
 by_queues x y (Sending (Polled answer)) v f t a s old k = fewer_told x y (Sending (Polled answer)) v f t a s old (λ g h. taken_of x.world.events v.events answer g k h)
 by_queues x y (Received id offset bytes fin (Ok transmit)) v f t a s old k = readable_told x y (Received id offset bytes fin (Ok transmit)) v f t a s old id k
 by_queues x y (ReceivedReset id code final (Ok transmit)) v f t a s old k = readable_told x y (ReceivedReset id code final (Ok transmit)) v f t a s old id k
-by_queues x y (Received id offset bytes fin (Err error)) v f t a s old k = more_told x y (Received id offset bytes fin (Err error)) v f t a s old k
-by_queues x y (ReceivedReset id code final (Err error)) v f t a s old k = more_told x y (ReceivedReset id code final (Err error)) v f t a s old k
-by_queues x y (Sending (GaveLimits limits)) v f t a s old k = more_told x y (Sending (GaveLimits limits)) v f t a s old k
-by_queues x y (Sending (OpenedOwn dir closed answer)) v f t a s old k = more_told x y (Sending (OpenedOwn dir closed answer)) v f t a s old k
-by_queues x y (Sending (RaisedData limit)) v f t a s old k = more_told x y (Sending (RaisedData limit)) v f t a s old k
-by_queues x y (Sending (RaisedCount dir count answer)) v f t a s old k = more_told x y (Sending (RaisedCount dir count answer)) v f t a s old k
-by_queues x y (Sending (RaisedLimit id limit answer)) v f t a s old k = more_told x y (Sending (RaisedLimit id limit answer)) v f t a s old k
-by_queues x y (Sending (StoppedOwn id code answer)) v f t a s old k = more_told x y (Sending (StoppedOwn id code answer)) v f t a s old k
-by_queues x y (Sending (SetWindow window)) v f t a s old k = more_told x y (Sending (SetWindow window)) v f t a s old k
-by_queues x y (Sending (WroteOwn id lists closed answer)) v f t a s old k = more_told x y (Sending (WroteOwn id lists closed answer)) v f t a s old k
-by_queues x y (Sending (FinishedOwn id answer)) v f t a s old k = more_told x y (Sending (FinishedOwn id answer)) v f t a s old k
-by_queues x y (Sending (ResetOwn id code answer)) v f t a s old k = more_told x y (Sending (ResetOwn id code answer)) v f t a s old k
-by_queues x y (Sending (SetOwnPriority id priority answer)) v f t a s old k = more_told x y (Sending (SetOwnPriority id priority answer)) v f t a s old k
-by_queues x y (Sending (AckedOwn id offsets fin answer)) v f t a s old k = more_told x y (Sending (AckedOwn id offsets fin answer)) v f t a s old k
-by_queues x y (Sending (LostOwn id offsets fin answer)) v f t a s old k = more_told x y (Sending (LostOwn id offsets fin answer)) v f t a s old k
-by_queues x y (Sending (ResetAckedOwn id answer)) v f t a s old k = more_told x y (Sending (ResetAckedOwn id answer)) v f t a s old k
-by_queues x y (Sending (TookTurn most fair frame)) v f t a s old k = more_told x y (Sending (TookTurn most fair frame)) v f t a s old k
-by_queues x y (AddedCredits count answer) v f t a s old k = more_told x y (AddedCredits count answer) v f t a s old k
-by_queues x y (Began id ordered answer) v f t a s old k = more_told x y (Began id ordered answer) v f t a s old k
-by_queues x y (Gave id most ordered answer) v f t a s old k = more_told x y (Gave id most ordered answer) v f t a s old k
-by_queues x y (Ended id count) v f t a s old k = more_told x y (Ended id count) v f t a s old k
-by_queues x y (Stopped id code answer) v f t a s old k = more_told x y (Stopped id code answer) v f t a s old k
-by_queues x y (ToldReset id answer) v f t a s old k = more_told x y (ToldReset id answer) v f t a s old k
-by_queues x y (Resized window answer) v f t a s old k = more_told x y (Resized window answer) v f t a s old k
-by_queues x y (SetConcurrent dir count answer) v f t a s old k = more_told x y (SetConcurrent dir count answer) v f t a s old k
-by_queues x y (Accepted dir answer) v f t a s old k = more_told x y (Accepted dir answer) v f t a s old k
-by_queues x y (Settled kind frame) v f t a s old k = more_told x y (Settled kind frame) v f t a s old k
+by_queues x y e v f t a s old k = more_told x y e v f t a s old k
 
 pub told-first : (x y : Endpoint) (e : Event) (v : World) → Comes x → AllTrue y → MayAct x y e v → ((q : ℕ) → AckedSo (sent_on x q) y.calls q) → AllToldTrue x y → AllToldTrue (acted x e v) y
 told-first x y e v f t a s old = by_queues x y e v f t a s old (queues x.made x.calls x.world f.side f.sent f.sends e v a.step)

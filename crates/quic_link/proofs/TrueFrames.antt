@@ -21,8 +21,8 @@ use Rattle.quic_history.specs.declared.control.ControlKind.{ControlKind}
 use Rattle.quic_history.specs.declared.control.ControlKind.TheVariants as kinds
 use Rattle.quic_history.specs.Control.{SettlesEntry, reset_frame, announced_end}
 use Rattle.quic_history.specs.Carrying.{CarriesFrame}
-use Rattle.quic_history.specs.SendEvents.{GaveLimits, RaisedData, RaisedCount, RaisedLimit, StoppedOwn, SetWindow, OpenedOwn, WroteOwn, FinishedOwn, ResetOwn, SetOwnPriority, AckedOwn, LostOwn, ResetAckedOwn, TookTurn, Polled}
-use Rattle.quic_history.specs.History.{Event, Move, Framed, WasReset, WasRead, WasStopped, WasTold, WasAnnounced, Received, ReceivedReset, AddedCredits, Began, Gave, Ended, Stopped, ToldReset, Resized, SetConcurrent, Accepted, Settled, Sending, Step, From, IsRun, EverPermits, PermitsNow, Trace, trace, move_of, moved, with_move, with_kept_frame, is_kept, is_closed, is_freed, before, counts}
+use Rattle.quic_history.specs.SendEvents.{TookTurn}
+use Rattle.quic_history.specs.History.{Event, Move, Framed, WasReset, WasRead, WasStopped, WasTold, WasAnnounced, Settled, Sending, Step, From, IsRun, EverPermits, PermitsNow, Trace, trace, move_of, moved, with_move, with_kept_frame, is_kept, is_closed, is_freed, before, counts}
 use Rattle.quic_receiving.specs.declared.errors.ReadError.TheVariants as read_error
 use Rattle.quic_history.proofs.Credits.{limit-fits}
 use Rattle.quic_history.proofs.Limits.{goes}
@@ -130,23 +130,7 @@ module _ (x y : Endpoint) (e : Event) (v : World) (f : Comes x) (a : MayAct x y 
   true-kept (frames.MaxData limit) t = let k = limit-grows x.made x.calls x.world f e v a.step in omega arith
   true-kept (frames.MaxStreamData id limit) t = let k = announced-grows e x.calls id in omega arith
   true-kept (frames.MaxStreams d count) t = let k = count-grows x.made x.calls x.world f e v a.step d in omega arith
-  true-kept frames.Padding t = tt
-  true-kept frames.Ping t = tt
-  true-kept frames.Ack t = tt
-  true-kept (frames.Crypto c) t = tt
-  true-kept frames.NewToken t = tt
-  true-kept (frames.DataBlocked offset) t = tt
-  true-kept (frames.StreamDataBlocked id offset) t = tt
-  true-kept (frames.StreamsBlocked d) t = tt
-  true-kept frames.NewConnectionId t = tt
-  true-kept frames.RetireConnectionId t = tt
-  true-kept frames.PathChallenge t = tt
-  true-kept frames.PathResponse t = tt
-  true-kept frames.Close t = tt
-  true-kept (frames.Datagram d) t = tt
-  true-kept frames.AckFrequency t = tt
-  true-kept frames.ImmediateAck t = tt
-  true-kept frames.HandshakeDone t = tt
+  true-kept _ t = tt
 
 -- ---- a STREAM frame
 
@@ -279,32 +263,7 @@ new_true x y (Sending (TookTurn most fair (Some meta))) v f a g h =
     let k = frame_with (written_on x) meta in
     at_one (acted x (Sending (TookTurn most fair (Some meta))) v) g k (only g k h) (true-kept x y (Sending (TookTurn most fair (Some meta))) v f a k (true-turn x meta f (turn-so x most fair meta v a.step)))
 new_true x y (Sending (TookTurn most fair None)) v f a g h = absurd h
-new_true x y (Sending (GaveLimits limits)) v f a g h = absurd h
-new_true x y (Sending (OpenedOwn dir closed answer)) v f a g h = absurd h
-new_true x y (Sending (RaisedData limit)) v f a g h = absurd h
-new_true x y (Sending (RaisedCount dir count answer)) v f a g h = absurd h
-new_true x y (Sending (RaisedLimit id limit answer)) v f a g h = absurd h
-new_true x y (Sending (StoppedOwn id code answer)) v f a g h = absurd h
-new_true x y (Sending (SetWindow window)) v f a g h = absurd h
-new_true x y (Sending (WroteOwn id lists closed answer)) v f a g h = absurd h
-new_true x y (Sending (FinishedOwn id answer)) v f a g h = absurd h
-new_true x y (Sending (ResetOwn id code answer)) v f a g h = absurd h
-new_true x y (Sending (SetOwnPriority id priority answer)) v f a g h = absurd h
-new_true x y (Sending (AckedOwn id offsets fin answer)) v f a g h = absurd h
-new_true x y (Sending (LostOwn id offsets fin answer)) v f a g h = absurd h
-new_true x y (Sending (ResetAckedOwn id answer)) v f a g h = absurd h
-new_true x y (Sending (Polled answer)) v f a g h = absurd h
-new_true x y (Received id offset bytes fin answer) v f a g h = absurd h
-new_true x y (ReceivedReset id code final answer) v f a g h = absurd h
-new_true x y (AddedCredits count answer) v f a g h = absurd h
-new_true x y (Began id ordered answer) v f a g h = absurd h
-new_true x y (Gave id most ordered answer) v f a g h = absurd h
-new_true x y (Ended id count) v f a g h = absurd h
-new_true x y (Stopped id code answer) v f a g h = absurd h
-new_true x y (ToldReset id answer) v f a g h = absurd h
-new_true x y (Resized window answer) v f a g h = absurd h
-new_true x y (SetConcurrent dir count answer) v f a g h = absurd h
-new_true x y (Accepted dir answer) v f a g h = absurd h
+new_true x y _ v f a g h = absurd h
 
 abbrev pub AllTrue : Endpoint → Type 0
 AllTrue x = (g : Frame) → IsOneOf g x.wrote → IsFrameTrue x g

@@ -15,13 +15,13 @@ use Rattle.quic_wire.specs.declared.error.TheConstants.TransportError.{STREAM_LI
 use Rattle.quic_receiving.specs.Calls.{Ingests}
 use Rattle.quic_history.specs.Receiving.{Receives, ReceivesReset}
 use Rattle.quic_history.proofs.WorldSteps.{receive-there}
-use Rattle.quic_history.specs.SendEvents.{GaveLimits, RaisedData, RaisedCount, RaisedLimit, StoppedOwn, SetWindow, OpenedOwn, WroteOwn, FinishedOwn, ResetOwn, SetOwnPriority, AckedOwn, LostOwn, ResetAckedOwn, TookTurn, Polled}
+use Rattle.quic_history.specs.SendEvents.{RaisedCount, RaisedLimit}
 use Rattle.quic_receiving.specs.Half.{Half, Verdict, Refused, Taken, verdict, verdict_by, verdict_of_limits, reset_verdict, is_unfit, is_beyond, final_size_error}
 use Rattle.quic_outgoing.specs.Outgoing.{own_of}
 use Rattle.quic_outgoing.specs.Senders.{is_local}
 use Rattle.quic_history.specs.World.{World, is_own, remote_of, id_refusal, own_refusal}
 use Rattle.quic_history.specs.Sends.{sending_refusal}
-use Rattle.quic_history.specs.History.{Received, ReceivedReset, AddedCredits, Began, Gave, Ended, Stopped, ToldReset, Resized, SetConcurrent, Accepted, Settled, Sending, Trace, HalfFrom, trace, streams, received, with_stream, opened_in_all}
+use Rattle.quic_history.specs.History.{Received, ReceivedReset, Sending, Trace, HalfFrom, trace, streams, received, with_stream, opened_in_all}
 use Rattle.quic_history.proofs.StreamSteps.{half-from}
 use Rattle.quic_history.proofs.Totals.{once_with, total_with, by_cases, same}
 use Rattle.quic_history.proofs.Traces.{streams-once, quiet, itself}
@@ -231,25 +231,7 @@ module _ (x y : Endpoint) (s : Agrees x y) (r : Agrees y x) where
     where
       few_streams : (d : Dir) (count : ℕ) → count ≤ (remote_of x.world d).max_remote → count ≤ 2 ^ 60
       few_streams d count l = let m = s.few d in omega arith
-  welcome (frames.StopSending f) t o = tt
-  welcome frames.Padding t o = tt
-  welcome frames.Ping t o = tt
-  welcome frames.Ack t o = tt
-  welcome (frames.Crypto c) t o = tt
-  welcome frames.NewToken t o = tt
-  welcome (frames.MaxData limit) t o = tt
-  welcome (frames.DataBlocked offset) t o = tt
-  welcome (frames.StreamDataBlocked id offset) t o = tt
-  welcome (frames.StreamsBlocked d) t o = tt
-  welcome frames.NewConnectionId t o = tt
-  welcome frames.RetireConnectionId t o = tt
-  welcome frames.PathChallenge t o = tt
-  welcome frames.PathResponse t o = tt
-  welcome frames.Close t o = tt
-  welcome (frames.Datagram d) t o = tt
-  welcome frames.AckFrequency t o = tt
-  welcome frames.ImmediateAck t o = tt
-  welcome frames.HandshakeDone t o = tt
+  welcome _ t o = tt
 
   pub all-welcome : AreWelcome x y
   all-welcome g h = welcome g (s.truth g h) (s.ids.frames_open g h)
@@ -300,27 +282,4 @@ module _ (x y : Endpoint) (all : AreWelcome x y) where
   refuses-none (Sending (RaisedLimit id limit (Err receive_error.CompactionMemory))) v a = tt
   refuses-none (Sending (RaisedLimit id limit (Err receive_error.OutOfMemory))) v a = tt
   refuses-none (Sending (RaisedLimit id limit (Ok u))) v a = tt
-  refuses-none (Sending (GaveLimits limits)) v a = tt
-  refuses-none (Sending (OpenedOwn dir closed answer)) v a = tt
-  refuses-none (Sending (RaisedData limit)) v a = tt
-  refuses-none (Sending (StoppedOwn id code answer)) v a = tt
-  refuses-none (Sending (SetWindow window)) v a = tt
-  refuses-none (Sending (WroteOwn id lists closed answer)) v a = tt
-  refuses-none (Sending (FinishedOwn id answer)) v a = tt
-  refuses-none (Sending (ResetOwn id code answer)) v a = tt
-  refuses-none (Sending (SetOwnPriority id priority answer)) v a = tt
-  refuses-none (Sending (AckedOwn id offsets fin answer)) v a = tt
-  refuses-none (Sending (LostOwn id offsets fin answer)) v a = tt
-  refuses-none (Sending (ResetAckedOwn id answer)) v a = tt
-  refuses-none (Sending (TookTurn most fair frame)) v a = tt
-  refuses-none (Sending (Polled answer)) v a = tt
-  refuses-none (AddedCredits count answer) v a = tt
-  refuses-none (Began id ordered answer) v a = tt
-  refuses-none (Gave id most ordered answer) v a = tt
-  refuses-none (Ended id count) v a = tt
-  refuses-none (Stopped id code answer) v a = tt
-  refuses-none (ToldReset id answer) v a = tt
-  refuses-none (Resized window answer) v a = tt
-  refuses-none (SetConcurrent dir count answer) v a = tt
-  refuses-none (Accepted dir answer) v a = tt
-  refuses-none (Settled kind frame) v a = tt
+  refuses-none _ v a = tt
