@@ -1,5 +1,5 @@
 -- What is acknowledged came, and what a stop tells was asked for.
-use Rattle.std.proofs.Common.{◌≡◌, ◌⊎◌, ℕ, zero, suc, Bool, true, false, eqb, List, ◌∷◌, length, Option, Some, None, is_some, Ok, Err, refl, sym, ap, ◌∙◌, subst, inl, inr, arith, ◌+◌, ◌≤◌, ◌<◌}
+use Rattle.std.proofs.Common.{◌≡◌, ℕ, zero, suc, Bool, true, false, eqb, List, ◌∷◌, length, Option, Some, None, is_some, Ok, Err, refl, sym, ap, ◌∙◌, subst, inl, inr, arith, ◌+◌, ◌≤◌, ◌<◌}
 use Rattle.std.specs.Prelude.{◌==◌, ◌&&◌, ◌||◌, is_none, unwrap_or, if◌then◌else◌}
 use Rattle.std.proofs.lemmas.Bool.{cases_lt}
 use Rattle.std.proofs.lemmas.Bool.Decides.{nat_tests}
@@ -22,6 +22,7 @@ use Rattle.quic_link.proofs.Ends.{Comes}
 use Rattle.quic_link.proofs.Growth.{MayMove, CanMove, can-move}
 use Rattle.quic_link.proofs.Rooms.{amount}
 use Rattle.quic_link.proofs.TrueFrames.{AllTrue}
+use Rattle.quic_link.proofs.Basics.{both, either_true, or_left}
 
 -- the end and every byte are acknowledged
 pub record WholeSo (f : SendFlow) : Type 0 where
@@ -44,10 +45,6 @@ passing_most f (suc n) = by_test ((passing f n == n) && f n) (passing_most f n)
     by_test : (b : Bool) → passing f n ≤ n → (if b then suc n else passing f n) ≤ suc n
     by_test true l = omega arith
     by_test false l = omega arith
-
-both : (a b : Bool) → (a && b) ≡ true → (a ≡ true) × (b ≡ true)
-both true b k = (refl, k)
-both false b k = cc
 
 all_pass : (f : ℕ → Bool) (n : ℕ) → (passing f n == n) ≡ true → (k : ℕ) → k < n → f k ≡ true
 all_pass f zero e k l = absurd (omega arith)
@@ -105,13 +102,6 @@ acked_same calls q f f' a b c d e g h s = record {
       record { finished = g ∙ w.finished; end_acked = b ∙ w.end_acked; all = λ i l. ap (λ t. t i) a ∙ w.all i (omega arith) };
   stopped = λ code k. s.stopped code (sym e ∙ k);
 }
-
-either_true : (a b : Bool) → (a || b) ≡ true → (a ≡ true) ⊎ (b ≡ true)
-either_true true b h = inl refl
-either_true false b h = inr h
-
-or_left : (a b : Bool) → a ≡ true → (a || b) ≡ true
-or_left a b h = rw h refl
 
 -- a stream that is whole takes no data
 no_more : (f : SendFlow) → WholeSo f → f.reset ≡ None → takes_data f.reset f.finished ≡ true → ⊥

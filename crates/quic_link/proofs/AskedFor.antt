@@ -1,8 +1,7 @@
 -- What is pending beside data was asked for, and so is every frame that was written of it.
-use Rattle.std.proofs.Common.{◌≡◌, ◌⊎◌, ℕ, Bool, true, false, List, [], ◌∷◌, Option, Some, None, Ok, refl, sym, ap, ◌∙◌, subst, inl, inr, arith}
-use Rattle.std.specs.Prelude.{◌++◌, ◌==◌, ◌&&◌, ◌||◌, not, if◌then◌else◌}
+use Rattle.std.proofs.Common.{◌≡◌, ℕ, Bool, true, false, List, [], ◌∷◌, Option, Some, None, Ok, refl, sym, ap, ◌∙◌, subst, inl, inr}
+use Rattle.std.specs.Prelude.{◌++◌, ◌==◌, ◌&&◌, not, if◌then◌else◌}
 use Rattle.std.specs.Option.{option_map}
-use Rattle.std.proofs.lemmas.Bool.Decides.{nat_tests}
 use Rattle.quic_values.specs.declared.ids.Dir.{Dir}
 use Rattle.quic_values.specs.declared.ids.Dir.TheVariants.{Bi, Uni}
 use Rattle.quic_wire.specs.declared.frame.Frame.{Frame}
@@ -28,8 +27,8 @@ use Rattle.quic_link.specs.Endpoints.{Endpoint, IsOneOf, MayAct, acted, written_
 use Rattle.quic_link.specs.Asked.{AreAsked}
 use Rattle.quic_link.proofs.Ends.{Comes}
 use Rattle.quic_link.proofs.Growth.{grows}
-use Rattle.quic_link.proofs.TrueFrames.{either-of}
 use Rattle.quic_link.proofs.Given.{given-more}
+use Rattle.quic_link.proofs.Basics.{both, either-of, either_true, only, same_id, some_same}
 
 -- ---- frames
 
@@ -54,10 +53,6 @@ module _ (x y : Endpoint) (e : Event) (v : World) (f : Comes x) (a : MayAct x y 
     windows = λ id h. given-more x y e v f a id (s.windows id h);
   }
 
-only : {X : Type 0} (a b : X) → IsOneOf a (b ∷ []) → a ≡ b
-only a b (inl e) = e
-only a b (inr h) = absurd h
-
 asked_at : (x : Endpoint) (g k : Frame) → g ≡ k → WasAskedFor x k → WasAskedFor x g
 asked_at x g k e t = let P : Frame → Type 0 = λ j. WasAskedFor x j in subst P (sym e) t
 
@@ -81,14 +76,6 @@ pub asked-fewer : (x : Endpoint) (p q : Pending) → ((k : ℕ × ℕ) → IsOne
     → ((id : ℕ) → q.max_stream_data id ≡ true → p.max_stream_data id ≡ true) → AreAsked x p → AreAsked x q
 asked-fewer x p q r s w k = record { resets = λ id code h. k.resets id code (r (id, code) h); stops = λ g h. k.stops g (s g h); windows = λ id h. k.windows id (w id h) }
 
-either_true : (a b : Bool) → (a || b) ≡ true → (a ≡ true) ⊎ (b ≡ true)
-either_true true b h = inl refl
-either_true false b h = inr h
-
-both : (a b : Bool) → (a && b) ≡ true → (a ≡ true) × (b ≡ true)
-both true b k = (refl, k)
-both false b k = cc
-
 -- two sets joined
 pub asked-merged : (x : Endpoint) (p q : Pending) → AreAsked x p → AreAsked x q → AreAsked x (merged p q)
 asked-merged x p q a b = record {
@@ -96,9 +83,6 @@ asked-merged x p q a b = record {
   stops = λ g h. elim (either-of g p.stop_sending q.stop_sending h) [ inl k ↦ a.stops g k | inr k ↦ b.stops g k ];
   windows = λ id h. elim (either_true (p.max_stream_data id) (q.max_stream_data id) h) [ inl k ↦ a.windows id k | inr k ↦ b.windows id k ];
 }
-
-same_id : (a b : ℕ) → (a == b) ≡ true → a ≡ b
-same_id a b h = grind (arith, nat_tests)
 
 -- a limit of a stream that was given is queued
 pub asked-window : (x : Endpoint) (p : Pending) (id : ℕ) (due : Bool) → WasGiven x.world id → AreAsked x p → AreAsked x (record p { max_stream_data = with_id p.max_stream_data id due })
@@ -167,9 +151,6 @@ in_front k (x ∷ xs) ys (inr h) = inr (in_front k xs ys h)
 at_end : {X : Type 0} (k : X) (xs : List X) → IsOneOf k (xs ++ k ∷ [])
 at_end k [] = inl refl
 at_end k (x ∷ xs) = inr (at_end k xs)
-
-some_same : {X : Type 0} (a b : X) → Some a ≡ Some b → a ≡ b
-some_same a b k = cc
 
 module _ (x : Endpoint) (p : Pending) (s : AreAsked x p) where
   unchanged : (q : Pending) → q.reset_stream ≡ p.reset_stream → q.stop_sending ≡ p.stop_sending → q.max_stream_data ≡ p.max_stream_data → AreAsked x q

@@ -14,10 +14,11 @@ use Rattle.quic_history.specs.History.{Event, Received, ReceivedReset, Sending, 
 use Rattle.quic_history.proofs.Credits.{limit-fits}
 use Rattle.quic_link.specs.Endpoints.{Endpoint, MayAct, acted, written_by, IsHonest, limits_of}
 use Rattle.quic_link.proofs.Ends.{Comes}
-use Rattle.quic_link.proofs.TrueFrames.{AllTrue, count-grows, limit-grows, either-of}
+use Rattle.quic_link.proofs.TrueFrames.{AllTrue, count-grows, limit-grows}
 use Rattle.quic_link.proofs.Meets.{nexts, next_of_dir, MeetsBy, frame_id, meets-step}
 use Rattle.quic_link.proofs.Queues.{queued_id, queues-step}
 use Rattle.quic_link.proofs.Opens.{IdsSo, IsOpenAt, OpenBy, own-local, local-other, open_first, open_second, frame_first, frame_second, opened_grows, given-open, new_open}
+use Rattle.quic_link.proofs.Basics.{either-of}
 
 -- ---- the queue
 

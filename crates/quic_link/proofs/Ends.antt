@@ -1,20 +1,15 @@
 -- Each of two ends may come from its calls.
-use Rattle.std.proofs.Common.{◌≡◌, refl, sym, ap, ◌∙◌}
+use Rattle.std.proofs.Common.{sym, ap, ◌∙◌}
 use Rattle.quic_values.specs.Ids.{other_side}
-use Rattle.quic_values.specs.declared.ids.Side.{Side}
-use Rattle.quic_values.specs.declared.ids.Side.TheVariants.{Client, Server}
 use Rattle.quic_history.specs.World.{World}
 use Rattle.quic_history.specs.History.{From, Event}
 use Rattle.quic_history.proofs.Histories.{next}
 use Rattle.quic_history.proofs.Beginnings.{begins}
 use Rattle.quic_link.specs.Endpoints.{Endpoint, MayAct, acted, IsNewEnd, Linked, begun, first_acts, second_acts}
+use Rattle.quic_link.proofs.Basics.{other_other}
 
 abbrev pub Comes : Endpoint → Type 0
 Comes x = From x.made x.calls x.world
-
-other_other : (s : Side) → s ≡ other_side (other_side s)
-other_other Client = refl
-other_other Server = refl
 
 -- two ends are linked either way
 pub turned : {x y : Endpoint} → Linked x y → Linked y x

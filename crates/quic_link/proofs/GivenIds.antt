@@ -24,6 +24,7 @@ use Rattle.quic_link.proofs.Meets.{next_of_dir}
 use Rattle.quic_link.proofs.Reports.{reports, reports-step}
 use Rattle.quic_link.proofs.Opens.{own-local, opened-is}
 use Rattle.quic_link.proofs.Given.{given-more}
+use Rattle.quic_link.proofs.Basics.{some_same}
 
 -- ---- ids
 
@@ -103,9 +104,6 @@ of_given : (x : Endpoint) (id : ℕ) → Comes x → WasGiven x.world id → ind
 of_given x id f l = let e = given_is x id f in omega arith
 
 -- ---- a call that gives one
-
-some_same : {X : Type 0} (a b : X) → Some a ≡ Some b → a ≡ b
-some_same a b k = cc
 
 given_self : (d : Dir) → given_for d d 1 ≡ 1
 given_self Bi = refl

@@ -1,7 +1,5 @@
 -- What holds of two ends that are linked, each way.
 use Rattle.std.proofs.Common.{◌≡◌, ℕ, [], refl, sym, ap, ◌∙◌, subst, arith, ◌≤◌, ◌<◌, ◌^◌}
-use Rattle.quic_values.specs.declared.ids.Side.{Side}
-use Rattle.quic_values.specs.declared.ids.Side.TheVariants.{Client, Server}
 use Rattle.quic_values.specs.declared.ids.Dir.{Dir}
 use Rattle.quic_values.specs.declared.ids.Dir.TheVariants.{Bi, Uni}
 use Rattle.quic_values.specs.Ids.{other_side}
@@ -22,6 +20,7 @@ use Rattle.quic_link.proofs.Opens.{IdsSo}
 use Rattle.quic_link.proofs.Readers.{ReadsSo, reads-new, reads-kept}
 use Rattle.quic_link.proofs.Kept.{KeptSo, kept-new, kept-step}
 use Rattle.quic_link.proofs.Counts.{DataSo, ids-first, ids-other, data-first, data-other}
+use Rattle.quic_link.proofs.Basics.{other_other}
 
 -- as x sends and y receives
 pub record Agrees (x y : Endpoint) : Type 0 where
@@ -145,10 +144,6 @@ agrees-came x y e v s r a =
       acked = λ q. acked-came (sent_on x q) y.calls q e (s.acked q);
       events = told-second x y e v s.events;
     }
-
-other_other : (s : Side) → s ≡ other_side (other_side s)
-other_other Client = refl
-other_other Server = refl
 
 -- both ways, however they came so far
 pub agrees : {x y : Endpoint} → Linked x y → Agrees x y × Agrees y x

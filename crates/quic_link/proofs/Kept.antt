@@ -13,6 +13,7 @@ use Rattle.quic_history.proofs.StreamSteps.{half-from, known-from}
 use Rattle.quic_history.proofs.Totals.{by_cases, same}
 use Rattle.quic_history.proofs.Traces.{itself}
 use Rattle.quic_link.specs.Promises.{KeptAt, EndKept}
+use Rattle.quic_link.proofs.Basics.{or_left, or_right}
 
 pub record KeptSo (h : List Event) : Type 0 where
   pub bytes : (q at : ℕ) → KeptAt h q at → is_closed (trace h q) ≡ false → is_in_slices (trace h q).kept at ≡ true
@@ -20,13 +21,6 @@ pub record KeptSo (h : List Event) : Type 0 where
 
 pub kept-new : KeptSo []
 kept-new = record { bytes = λ q at k n. absurd k.is; ends = λ q k n. absurd k.is }
-
-or_right : (a b : Bool) → b ≡ true → (a || b) ≡ true
-or_right true b e = refl
-or_right false b e = e
-
-or_left : (a b : Bool) → a ≡ true → (a || b) ≡ true
-or_left a b e = rw e refl
 
 first_of_two : (a b : Bool) → (a || b) ≡ true → b ≡ false → a ≡ true
 first_of_two true b e n = refl

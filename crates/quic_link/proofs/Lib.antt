@@ -1,3 +1,4 @@
+pub mod Basics
 pub mod Ends
 pub mod Growth
 pub mod Sums

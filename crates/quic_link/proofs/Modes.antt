@@ -43,6 +43,7 @@ use Rattle.quic_history.proofs.StreamSteps.{noticed-any}
 use Rattle.quic_history.proofs.Totals.{by_cases, same}
 use Rattle.quic_history.proofs.Traces.{itself}
 use Rattle.quic_link.specs.Promises.{frames_kept}
+use Rattle.quic_link.proofs.Basics.{some_same}
 
 -- nothing came of a half
 pub record IsNewHalf (h : Half) : Type 0 where
@@ -85,9 +86,6 @@ tails_at u v w e t = let P : World → Type 0 = λ x. Tails u x in subst P (sym 
 
 modes_at : (begun : Option ℕ) (kept : ℕ → ℕ) (u v w : World) → v ≡ w → Modes begun kept u w → Modes begun kept u v
 modes_at begun kept u v w e t = let P : World → Type 0 = λ x. Modes begun kept u x in subst P (sym e) t
-
-some_same : {X : Type 0} (a b : X) → Some a ≡ Some b → a ≡ b
-some_same a b k = cc
 
 -- one half is another now
 put_half : (f : Halves) (id q : ℕ) (o : Option Half) (h : Half) {P : Type 0} → (with_half f id o) q ≡ Some h → (q ≡ id → o ≡ Some h → P) → (f q ≡ Some h → P) → P

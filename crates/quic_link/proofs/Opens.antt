@@ -1,5 +1,5 @@
 -- Each frame that an end wrote is on a stream that is open, and no end counts on more streams than it may.
-use Rattle.std.proofs.Common.{◌≡◌, ℕ, Bool, true, false, List, [], ◌∷◌, Option, Some, None, refl, sym, ap, ◌∙◌, subst, inl, inr, arith, ◌≤◌, ◌<◌}
+use Rattle.std.proofs.Common.{◌≡◌, ℕ, Bool, true, false, List, ◌∷◌, Option, Some, None, refl, sym, ap, ◌∙◌, subst, arith, ◌≤◌, ◌<◌}
 use Rattle.std.specs.Prelude.{not, nat_lt, if◌then◌else◌}
 use Rattle.std.specs.Option.{option_map}
 use Rattle.quic_values.specs.declared.ids.Side.{Side}
@@ -17,14 +17,14 @@ use Rattle.quic_retransmits.specs.Pending.{Pending}
 use Rattle.quic_outgoing.specs.Outgoing.{own_of}
 use Rattle.quic_outgoing.specs.Senders.{is_local, are_one_end}
 use Rattle.quic_writing.specs.Appended.{frame_with}
-use Rattle.quic_history.specs.World.{World, Made, count_of, is_own, is_same_side, remote_of, id_refusal, own_refusal}
+use Rattle.quic_history.specs.World.{World, count_of, is_own, is_same_side, remote_of, id_refusal, own_refusal}
 use Rattle.quic_history.specs.Flows.{stands, has_side_in, is_answered_on}
 use Rattle.quic_history.specs.Carrying.{CarriesFrame}
 use Rattle.quic_history.specs.declared.control.ControlKind.{ControlKind}
 use Rattle.quic_history.specs.declared.control.ControlKind.TheVariants as kinds
 use Rattle.quic_history.specs.Control.{SettlesEntry, reset_frame, window_frame, announced_end}
 use Rattle.quic_history.specs.SendEvents.{TookTurn}
-use Rattle.quic_history.specs.History.{Event, Settled, Sending, IsRun, EverPermits, PermitsNow, trace, opened_in_all, greatest_count}
+use Rattle.quic_history.specs.History.{Event, Settled, Sending, trace, opened_in_all, greatest_count}
 use Rattle.quic_history.proofs.SendSides.{held-side}
 use Rattle.quic_history.proofs.StreamSteps.{known-from}
 use Rattle.quic_link.specs.Endpoints.{Endpoint, IsOneOf, MayAct, acted, written_by, written_on, WasAskedFor, WasGiven}
@@ -32,6 +32,7 @@ use Rattle.quic_link.proofs.Ends.{Comes}
 use Rattle.quic_link.proofs.TrueFrames.{turn-so}
 use Rattle.quic_link.proofs.Meets.{nexts, next_of_dir}
 use Rattle.quic_link.proofs.Queues.{first-stands}
+use Rattle.quic_link.proofs.Basics.{only, permits_now, some_same}
 
 -- ---- whose a stream is
 
@@ -127,10 +128,6 @@ frame_second x y e v _ o = tt
 
 -- ---- what an end was given, and what it sends or receives on
 
-permits_now : (m : Made) (h : List Event) (v : World) (run : IsRun m h v) → EverPermits m h v run → PermitsNow m h v run
-permits_now m [] v run p = p
-permits_now m (e ∷ h) v run p = p.0
-
 pub opened-is : (x : Endpoint) (d : Dir) → Comes x → (own_of x.world.out d).opened ≡ opened_in_all x.calls d
 opened-is x Bi f = f.sent.opened Bi
 opened-is x Uni f = f.sent.opened Uni
@@ -184,9 +181,6 @@ module _ (x y : Endpoint) (f : Comes x) (s : IdsSo x y) where
 
 -- ---- new frames
 
-some_same : {X : Type 0} (a b : X) → Some a ≡ Some b → a ≡ b
-some_same a b k = cc
-
 abbrev OpenThen : Endpoint → Endpoint → Frame → Type 0
 OpenThen x y g = WasAskedFor x g → OpenFrame x y g
 
@@ -232,10 +226,6 @@ module _ (x y : Endpoint) (f : Comes x) (s : IdsSo x y) where
       let there : stands meta.id (line x.world.queue) ≡ true =
       ap (λ (w : SendOrder). stands meta.id (line w)) queue ∙ ap (λ i. stands i (line t.before.queue)) same ∙ first-stands t.before.queue t.turn.entry t.turn.is_first in
       record { opened = s.queue meta.id there; both_ways = held-both x y f s meta.id so.half so.held }
-
-only : {X : Type 0} (a b : X) → IsOneOf a (b ∷ []) → a ≡ b
-only a b (inl e) = e
-only a b (inr h) = absurd h
 
 frame_at : (x y : Endpoint) (g k : Frame) → g ≡ k → OpenFrame x y k → OpenFrame x y g
 frame_at x y g k e t = let P : Frame → Type 0 = λ j. OpenFrame x y j in subst P (sym e) t

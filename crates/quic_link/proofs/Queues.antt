@@ -25,25 +25,12 @@ use Rattle.quic_history.proofs.Limits.{firmly, is_of_sending}
 use Rattle.quic_history.proofs.StreamSteps.{Steady, steady-noticed}
 use Rattle.quic_history.proofs.SendFreed.{steady-send-freed}
 use Rattle.quic_history.proofs.SendSteps.{either-way}
+use Rattle.quic_link.proofs.Basics.{either_true, or_left, or_right, same_id}
 
 -- ---- entries
 
-same_id : (a b : ℕ) → (a == b) ≡ true → a ≡ b
-same_id a b h = grind (arith, nat_tests)
-
 itself : (a : ℕ) → (a == a) ≡ true
 itself a = grind (arith, nat_tests)
-
-or_right : (a b : Bool) → b ≡ true → (a || b) ≡ true
-or_right true b e = refl
-or_right false b e = e
-
-or_left : (a b : Bool) → a ≡ true → (a || b) ≡ true
-or_left a b e = rw e refl
-
-either_true : (a b : Bool) → (a || b) ≡ true → (a ≡ true) ⊎ (b ≡ true)
-either_true true b h = inl refl
-either_true false b h = inr h
 
 -- one that stands in a list with one more stood there before, or is that one
 put_from : (q : ℕ) (es : List Entry) (e : Entry) → stands q (put es e) ≡ true → (stands q es ≡ true) ⊎ (q ≡ e.id)

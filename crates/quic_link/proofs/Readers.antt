@@ -18,6 +18,7 @@ use Rattle.quic_history.proofs.StreamSteps.{half-from, known-from}
 use Rattle.quic_history.proofs.Totals.{by_cases, same}
 use Rattle.quic_link.specs.Promises.{given_in_order, WasReadUnordered, IsOver, kept_count}
 use Rattle.quic_link.proofs.Modes.{IsNewHalf, modes-step, begun_by, read_none}
+use Rattle.quic_link.proofs.Basics.{some_same}
 
 -- each chunk that was read in order starts where those before it end
 abbrev pub InRows : List ReadChunk → Type 0
@@ -136,9 +137,6 @@ order_moved w f (Some m) q half at r k s = by_cases (eqb q m.0)
 begun_is : (e : Event) (q : ℕ) → begun_by e ≡ Some q → Began q false (Ok tt) ≡ e
 begun_is (Began id false (Ok x)) q k = let i : q ≡ id = cc in ap (λ j. Began j false (Ok tt)) i
 begun_is _ q k = cc
-
-some_same : {X : Type 0} (a b : X) → Some a ≡ Some b → a ≡ b
-some_same a b k = cc
 
 module _ (m : Made) (h : List Event) (u : World) (f : From m h u) (s : ReadsSo h u) where
   told_half : (id : ℕ) (half : Half) → u.receive id ≡ Some half → HalfFrom u.window (trace h id) half

@@ -1,5 +1,5 @@
 -- What came of a stream agrees with what was written on it.
-use Rattle.std.proofs.Common.{◌≡◌, ◌⊎◌, ℕ, Bool, true, false, eqb, List, ◌∷◌, length, Option, Some, None, is_some, Ok, Err, refl, sym, ap, ◌∙◌, subst, inl, inr, arith, ◌+◌, ◌≤◌}
+use Rattle.std.proofs.Common.{◌≡◌, ℕ, Bool, true, false, eqb, List, ◌∷◌, length, Option, Some, None, is_some, Ok, Err, refl, sym, ap, ◌∙◌, subst, inl, inr, arith, ◌+◌, ◌≤◌}
 use Rattle.std.specs.Prelude.{◌++◌, ◌&&◌, ◌||◌, max, min, ◌-◌, ◌^◌, if◌then◌else◌}
 use Rattle.std.specs.List.{concat}
 use Rattle.std.proofs.lemmas.List.Folds.{concat-append}
@@ -25,6 +25,7 @@ use Rattle.quic_link.proofs.Growth.{Grows, still-closed}
 use Rattle.quic_link.proofs.Rooms.{amount, AreLimitsOf, first-is}
 use Rattle.quic_link.proofs.Texts.{byte-more}
 use Rattle.quic_link.proofs.TrueFrames.{AllTrue, announced-grows}
+use Rattle.quic_link.proofs.Basics.{either_true, ended_closed, or_left}
 
 pub record StreamFits (f : SendFlow) (t : Trace) : Type 0 where
   pub high : t.high ≤ amount f
@@ -83,17 +84,6 @@ TrueMoved f (Some m) = TrueMove (f m.0) m.1
 fits_if : (f : SendFlow) (a b : Trace) (k : Bool) → StreamFits f a → StreamFits f b → StreamFits f (if k then a else b)
 fits_if f a b true g h = g
 fits_if f a b false g h = h
-
-either_true : (a b : Bool) → (a || b) ≡ true → (a ≡ true) ⊎ (b ≡ true)
-either_true true b h = inl refl
-either_true false b h = inr h
-
-or_left : (a b : Bool) → a ≡ true → (a || b) ≡ true
-or_left a b h = rw h refl
-
-ended_closed : (r : Option ℕ) (b : Bool) → b ≡ true → takes_data r b ≡ false
-ended_closed None b k = rw k refl
-ended_closed (Some code) b k = refl
 
 fits_frame : (f : SendFlow) (t : Trace) (offset : ℕ) (bytes : List ℕ) (fin : Bool) → TrueFrame f offset bytes fin → StreamFits f t → StreamFits f (with_kept_frame offset bytes fin t)
 fits_frame f t offset bytes fin k s = fits_if f t _ (is_closed t) s new

@@ -1,10 +1,10 @@
 -- What the application of an end is told is true of the other end.
 use Rattle.std.proofs.Common.{◌≡◌, ◌⊎◌, ℕ, Bool, true, false, List, [], ◌∷◌, Option, Some, None, Ok, Err, refl, sym, ap, ◌∙◌, subst, inl, inr, arith}
-use Rattle.std.specs.Prelude.{◌++◌, ◌&&◌, ◌||◌, not, is_none, nat_le}
+use Rattle.std.specs.Prelude.{◌++◌, ◌&&◌, not, is_none, nat_le}
 use Rattle.quic_wire.specs.declared.event.StreamEvent.{StreamEvent}
 use Rattle.quic_wire.specs.declared.event.StreamEvent.TheVariants as stream_event
 use Rattle.quic_wire.specs.declared.frame.Frame.TheVariants as frames
-use Rattle.quic_flows.specs.Flow.{WasAcked, SendFlow, takes_data, with_acked, counts_for, is_whole, freed_if_whole}
+use Rattle.quic_flows.specs.Flow.{WasAcked, SendFlow, with_acked, counts_for, is_whole, freed_if_whole}
 use Rattle.quic_history.specs.World.{World}
 use Rattle.quic_history.specs.Flows.{has_send_side, send_moved, told_if, ends_by, TakesQueued}
 use Rattle.quic_history.specs.SendEvents.{RaisedCount, RaisedLimit, StoppedOwn, AckedOwn, Polled}
@@ -15,17 +15,14 @@ use Rattle.quic_link.specs.Endpoints.{Endpoint, IsOneOf, MayAct, acted, sent_on}
 use Rattle.quic_link.specs.Promises.{IsTrueEvent, CameWhole}
 use Rattle.quic_link.proofs.Ends.{Comes}
 use Rattle.quic_link.proofs.Growth.{grows}
-use Rattle.quic_link.proofs.TrueFrames.{AllTrue, amount-stays, either-of}
+use Rattle.quic_link.proofs.TrueFrames.{AllTrue, amount-stays}
 use Rattle.quic_link.proofs.Acks.{AckedSo, acked-sent}
+use Rattle.quic_link.proofs.Basics.{both, either-of, ended_closed, or_right}
 
 abbrev pub AllToldTrue : Endpoint → Endpoint → Type 0
 AllToldTrue x y = (g : StreamEvent) → IsOneOf g x.world.events → IsTrueEvent x y g
 
 -- ---- what was true stays so
-
-ended_closed : (r : Option ℕ) (b : Bool) → b ≡ true → takes_data r b ≡ false
-ended_closed None b k = rw k refl
-ended_closed (Some code) b k = refl
 
 event_first : (x y : Endpoint) (e : Event) (v : World) → Comes x → MayAct x y e v → (g : StreamEvent) → IsTrueEvent x y g → IsTrueEvent (acted x e v) y g
 event_first x y e v f a (stream_event.Finished id) t =
@@ -62,17 +59,9 @@ only_if true g k (inl e) = (refl, e)
 only_if true g k (inr h) = absurd h
 only_if false g k h = absurd h
 
-both : (a b : Bool) → (a && b) ≡ true → (a ≡ true) × (b ≡ true)
-both true b k = (refl, k)
-both false b k = cc
-
 none_of : (r : Option ℕ) → is_none r ≡ true → r ≡ None
 none_of None e = refl
 none_of (Some code) e = cc
-
-or_right : (a b : Bool) → b ≡ true → (a || b) ≡ true
-or_right true b e = refl
-or_right false b e = e
 
 -- a stream of which all is acknowledged came
 whole_came : (x y : Endpoint) (id first behind : ℕ) (fin : Bool) (t t' : SendFlow) → counts_for t.reset t.sent_up_to behind ≡ true → is_whole (with_acked first behind fin t) ≡ true → t' ≡ freed_if_whole (with_acked first behind fin t)

@@ -1,6 +1,5 @@
 -- Every frame that an end wrote is true of it, at the time and later.
-use Rattle.std.proofs.Common.{◌≡◌, ◌⊎◌, ℕ, Bool, true, false, List, [], ◌∷◌, length, Option, Some, None, Ok, Err, refl, sym, ap, ◌∙◌, subst, inl, inr, arith, ◌+◌, ◌≤◌, ◌^◌}
-use Rattle.std.proofs.lemmas.Bool.Decides.{nat_tests}
+use Rattle.std.proofs.Common.{◌≡◌, ℕ, Bool, true, false, List, [], ◌∷◌, length, Option, Some, None, Ok, Err, refl, sym, ap, ◌∙◌, subst, inl, inr, arith, ◌+◌, ◌≤◌, ◌^◌}
 use Rattle.std.specs.Prelude.{◌++◌, ◌==◌, ◌&&◌, if◌then◌else◌}
 use Rattle.std.specs.Option.{option_map}
 use Rattle.quic_values.specs.declared.ids.Dir.{Dir}
@@ -22,7 +21,7 @@ use Rattle.quic_history.specs.declared.control.ControlKind.TheVariants as kinds
 use Rattle.quic_history.specs.Control.{SettlesEntry, reset_frame, announced_end}
 use Rattle.quic_history.specs.Carrying.{CarriesFrame}
 use Rattle.quic_history.specs.SendEvents.{TookTurn}
-use Rattle.quic_history.specs.History.{Event, Move, Framed, WasReset, WasRead, WasStopped, WasTold, WasAnnounced, Settled, Sending, Step, From, IsRun, EverPermits, PermitsNow, Trace, trace, move_of, moved, with_move, with_kept_frame, is_kept, is_closed, is_freed, before, counts}
+use Rattle.quic_history.specs.History.{Event, Move, Framed, WasReset, WasRead, WasStopped, WasTold, WasAnnounced, Settled, Sending, Step, From, Trace, trace, move_of, moved, with_move, with_kept_frame, is_kept, is_closed, is_freed, before, counts}
 use Rattle.quic_receiving.specs.declared.errors.ReadError.TheVariants as read_error
 use Rattle.quic_history.proofs.Credits.{limit-fits}
 use Rattle.quic_history.proofs.Limits.{goes}
@@ -34,12 +33,9 @@ use Rattle.quic_link.specs.Truths.{IsFrameTrue, amount_on}
 use Rattle.quic_link.proofs.Ends.{Comes}
 use Rattle.quic_link.proofs.Growth.{Grows, grows, held-told}
 use Rattle.quic_link.proofs.Texts.{cuts-more, bytes-between, length-between}
+use Rattle.quic_link.proofs.Basics.{both, either-of, only, permits_now, same_id, some_same}
 
 -- ---- limits only rise
-
-permits_now : (m : Made) (h : List Event) (v : World) (run : IsRun m h v) → EverPermits m h v run → PermitsNow m h v run
-permits_now m [] v run p = p
-permits_now m (e ∷ h) v run p = p.0
 
 announced_if : (t a b : Trace) (k : Bool) → t.announced ≤ a.announced → t.announced ≤ b.announced → t.announced ≤ (if k then a else b).announced
 announced_if t a b true g h = g
@@ -139,13 +135,6 @@ sent_state None true a k = refl
 sent_state None false a k = cc
 sent_state (Some code) b a k = cc
 
-both : (a b : Bool) → (a && b) ≡ true → (a ≡ true) × (b ≡ true)
-both true b k = (refl, k)
-both false b k = cc
-
-same_number : (a b : ℕ) → (a == b) ≡ true → a ≡ b
-same_number a b k = grind (arith, nat_tests)
-
 -- the half that a turn was of
 pub record TurnSo (x : Endpoint) (meta : StreamMeta) : Type 0 where
   pub half : Send
@@ -185,13 +174,10 @@ true-turn x meta f t =
       bytes = bytes-between (written_on x meta.id) meta.offsets.start meta.offsets.end ordered inside;
       within = omega arith;
       finished = λ k. sent_state (sent_on x meta.id).reset (sent_on x meta.id).finished (sent_on x meta.id).end_acked (sym (ap is_data_sent told.state) ∙ (parts k).0);
-      ends = λ k. let e = same_number meta.offsets.end t.half.pending.offset (parts k).1 in omega arith;
+      ends = λ k. let e = same_id meta.offsets.end t.half.pending.offset (parts k).1 in omega arith;
     }
 
 -- ---- the other frames
-
-some_same : {X : Type 0} (a b : X) → Some a ≡ Some b → a ≡ b
-some_same a b k = cc
 
 abbrev IsTrueThen : Endpoint → World → ControlKind → Frame → Type 0
 IsTrueThen x v kind g = WasAskedFor x g → IsFrameTrue (acted x (Settled kind (Some g)) v) g
@@ -243,15 +229,6 @@ module _ (x y : Endpoint) (v : World) (f : Comes x) where
   settled_true kinds.StreamDataBlocked p q g a s = blocked_true kinds.StreamDataBlocked s.id _ g s.frame
 
 -- ---- every frame
-
-only : {X : Type 0} (a b : X) → IsOneOf a (b ∷ []) → a ≡ b
-only a b (inl e) = e
-only a b (inr h) = absurd h
-
-pub either-of : {X : Type 0} (a : X) (xs ys : List X) → IsOneOf a (xs ++ ys) → IsOneOf a xs ⊎ IsOneOf a ys
-either-of a [] ys h = inr h
-either-of a (x ∷ xs) ys (inl e) = inl (inl e)
-either-of a (x ∷ xs) ys (inr h) = elim (either-of a xs ys h) [ inl k ↦ inl (inr k) | inr k ↦ inr k ]
 
 at_one : (x : Endpoint) (g k : Frame) → g ≡ k → IsFrameTrue x k → IsFrameTrue x g
 at_one x g k e t = let P : Frame → Type 0 = λ j. IsFrameTrue x j in subst P (sym e) t
