@@ -24,4 +24,5 @@ pub mod Kept
 pub mod Truthful
 pub mod Answered
 pub mod Promised
+pub mod Payloads
 pub mod Example
