@@ -25,4 +25,5 @@ pub mod Truthful
 pub mod Answered
 pub mod Promised
 pub mod Payloads
+pub mod Readings
 pub mod Example
