@@ -23,12 +23,13 @@ use Rattle.quic_history.proofs.Totals.{by_cases}
 use Rattle.quic_history.proofs.StreamSteps.{half-from, known-from, gone-from}
 use Rattle.quic_link.specs.Endpoints.{Endpoint, MayAct, sent_on, came_on}
 use Rattle.quic_link.specs.Truths.{amount_on}
-use Rattle.quic_link.specs.Promises.{AnswersTrue, IsOver, WasReadUnordered, RefusesNone, frames_kept, kept_count}
+use Rattle.quic_link.specs.Promises.{HasNothingToRead, KeptAt, AnswersTrue, IsOver, WasReadUnordered, RefusesNone, frames_kept, kept_count}
 use Rattle.quic_link.proofs.Growth.{held-told}
 use Rattle.quic_history.proofs.ToldEvents.{queues}
 use Rattle.quic_link.proofs.Told.{told-polled}
 use Rattle.quic_link.proofs.Ends.{comes-acted}
 use Rattle.quic_link.proofs.Readers.{reads-kept}
+use Rattle.quic_link.proofs.Truthful.{readable}
 use Rattle.quic_link.proofs.Joint.{Agrees}
 
 module _ (x y : Endpoint) (s : Agrees x y) (r : Agrees y x) where
@@ -50,6 +51,19 @@ module _ (x y : Endpoint) (s : Agrees x y) (r : Agrees y x) where
       let whole : k.old.buffer.bytes_read ≡ amount_on y id = sym (h.final k.old.buffer.bytes_read size) ∙ h.high ∙ fits.whole sized in
       let P : ℕ → Type 0 = λ n. IsAllGiven (slices (came_on x id).given) n in
       (fits.ended sized (sym h.reset ∙ k.reads.2.running), subst P whole all)
+
+  -- nothing to read
+  blocked_true : (id most : ℕ) (ordered : Bool) (v : World) → ReadsHalf x.world id most ordered (Err read_error.Blocked) v → HasNothingToRead x y id ordered
+  blocked_true id most ordered v k =
+      let t = told id k.old k.half in
+      let is = readable y x r s id k.old k.half k.running k.reads.2.running in
+      let none = k.reads.1 in
+      let P : ℕ → Type 0 = λ n. KeptAt x.calls id n in
+      record {
+        next = λ o h. let q : k.old.buffer.ordered ≡ true = k.mode ∙ o in none.next q (is.next q (subst P (sym t.read) h));
+        any = λ o at h g. let q : k.old.buffer.ordered ≡ false = k.mode ∙ o in let b = is.any at h g in none.any q at b.0 b.1;
+        end = λ h all. let e = sym (is.end h all) ∙ k.reads.0 in cc;
+      }
 
   -- a reset
   reset_true : (id code : ℕ) (h : Half) → x.world.receive id ≡ Some h → h.reset ≡ Some code → (sent_on y id).reset ≡ Some code
@@ -119,7 +133,7 @@ module _ (x y : Endpoint) (s : Agrees x y) (r : Agrees y x) where
   answers-true none (Gave id most ordered (Ok None)) v a = end_true id most ordered v a.step
   answers-true none (Gave id most ordered (Ok (Some chunk))) v a = tt
   answers-true none (Gave id most ordered (Err (read_error.Reset code))) v a = reset_true id code a.step.old a.step.half a.step.reads.0
-  answers-true none (Gave id most ordered (Err read_error.Blocked)) v a = tt
+  answers-true none (Gave id most ordered (Err read_error.Blocked)) v a = blocked_true id most ordered v a.step
   answers-true none (Gave id most ordered (Err read_error.OutOfMemory)) v a = tt
   answers-true none (ToldReset id (Ok (Some code))) v a = let t = a.step.2 in reset_true id code t.0 t.1 t.3
   answers-true none (ToldReset id (Ok None)) v a = tt

@@ -154,12 +154,20 @@ WasReadUnordered calls id = IsOneOf (Began id false (Ok tt)) calls
 abbrev pub IsOver : Trace → Type 0
 IsOver t = (t.ended ≡ true) ⊎ ((t.stopped ≡ true) ⊎ (is_some t.reset ≡ true))
 
--- what x is answered is true: an end, a reset and a stop are those of y, a stream that x receives on is closed only where it
+-- there is nothing to read on a stream: in order, the next byte was not kept, and as bytes come, none that was not given;
+-- and the end was not kept, or not every byte was given
+pub record HasNothingToRead (x y : Endpoint) (q : ℕ) (ordered : Bool) : Type 0 where
+  pub next : ordered ≡ true → KeptAt x.calls q (came_on x q).read → ⊥
+  pub any : ordered ≡ false → (at : ℕ) → KeptAt x.calls q at → is_in_slices (slices (came_on x q).given) at ≡ false → ⊥
+  pub end : EndKept x.calls q → IsAllGiven (slices (came_on x q).given) (amount_on y q) → ⊥
+
+-- what x is answered is true: reads are blocked only where there is nothing to read, an end, a reset and a stop are those of y, a stream that x receives on is closed only where it
 -- is over, an
 -- ordered read is refused only after an unordered one, and there are too many pieces on a stream that was read in order
 -- only where more than 1024 of its frames were kept
 abbrev pub IsTrueAnswer : Endpoint → Endpoint → Event → Type 0
 IsTrueAnswer x y (Gave id most ordered (Ok None)) = ((sent_on y id).finished ≡ true) × IsAllGiven (slices (came_on x id).given) (amount_on y id)
+IsTrueAnswer x y (Gave id most ordered (Err read_error.Blocked)) = HasNothingToRead x y id ordered
 IsTrueAnswer x y (Gave id most ordered (Err (read_error.Reset code))) = (sent_on y id).reset ≡ Some code
 IsTrueAnswer x y (ToldReset id (Ok (Some code))) = (sent_on y id).reset ≡ Some code
 IsTrueAnswer x y (Began id ordered (Err readable_error.ClosedStream)) = id_refusal x.world id ≡ None → IsOver (came_on x id)
