@@ -161,10 +161,9 @@ pub record HasNothingToRead (x y : Endpoint) (q : ℕ) (ordered : Bool) : Type 0
   pub any : ordered ≡ false → (at : ℕ) → KeptAt x.calls q at → is_in_slices (slices (came_on x q).given) at ≡ false → ⊥
   pub end : EndKept x.calls q → IsAllGiven (slices (came_on x q).given) (amount_on y q) → ⊥
 
--- what x is answered is true: reads are blocked only where there is nothing to read, an end, a reset and a stop are those of y, a stream that x receives on is closed only where it
--- is over, an
--- ordered read is refused only after an unordered one, and there are too many pieces on a stream that was read in order
--- only where more than 1024 of its frames were kept
+-- what x is answered is true: reads are blocked only where there is nothing to read; an end, a reset and a stop are those
+-- of y; a stream that x receives on is closed only where it is over; an ordered read is refused only after an unordered
+-- one; and there are too many pieces on a stream that was read in order only where more than 1024 of its frames were kept
 abbrev pub IsTrueAnswer : Endpoint → Endpoint → Event → Type 0
 IsTrueAnswer x y (Gave id most ordered (Ok None)) = ((sent_on y id).finished ≡ true) × IsAllGiven (slices (came_on x id).given) (amount_on y id)
 IsTrueAnswer x y (Gave id most ordered (Err read_error.Blocked)) = HasNothingToRead x y id ordered
@@ -181,8 +180,9 @@ IsTrueAnswer x y _ = Unit {0}
 abbrev pub AnswersTrue : Endpoint → Endpoint → Type 0
 AnswersTrue x y = (e : Event) (v : World) → MayAct x y e v → IsTrueAnswer x y e
 
--- what holds of two ends as x sends and y receives: x may come from its calls, and its application was given what `open` and
--- `accept` answered; every frame that x wrote is true of it, was asked for, and is welcome; no call is refused; what is told and answered is true, and what was kept may be read
+-- what holds of two ends as x sends and y receives: x may come from its calls, and its application was given what `open`
+-- and `accept` answered; every frame that x wrote is true of it, was asked for, and is welcome; no call is refused; what
+-- is told and answered is true, and what was kept may be read
 pub record Promises (x y : Endpoint) : Type 0 where
   pub comes : From x.made x.calls x.world
   pub given : (id : ℕ) → WasGiven x.world id ↔ GaveId x.calls id
