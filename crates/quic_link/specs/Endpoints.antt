@@ -1,0 +1,138 @@
+-- Two ends of a connection and the network between them: what each may do, by what the other wrote and answered.
+use Rattle.std.specs.Prelude.{ℕ, Bool, ◌≡◌, ◌<◌, ◌+◌, ◌^◌, ◌⊎◌, if◌then◌else◌, List, [], ◌∷◌, ◌++◌, length, Some, Ok}
+use Rattle.std.specs.List.{concat}
+use Rattle.std.specs.declared.ops.Range.{Range}
+use Rattle.quic_values.specs.declared.ids.Dir.{Dir}
+use Rattle.quic_values.specs.Ids.{other_side, dir_of, index_of}
+use Rattle.quic_wire.specs.declared.frame.Frame.{Frame}
+use Rattle.quic_wire.specs.declared.frame.Frame.TheVariants as frames
+use Rattle.quic_receiving.specs.declared.transmit.ShouldTransmit.{ShouldTransmit}
+use Rattle.quic_flows.specs.Flow.{SendFlow}
+use Rattle.quic_outgoing.specs.declared.limits.PeerLimits.{PeerLimits}
+use Rattle.quic_outgoing.specs.Outgoing.{own_of}
+use Rattle.quic_writing.specs.Appended.{frame_with}
+use Rattle.quic_history.specs.World.{World, Made, is_own, remote_of}
+use Rattle.quic_history.specs.SendEvents.{SendEvent, GaveLimits, RaisedData, RaisedCount, RaisedLimit, StoppedOwn, OpenedOwn, WroteOwn, FinishedOwn, AckedOwn, LostOwn, TookTurn}
+use Rattle.quic_history.specs.History.{Event, Received, ReceivedReset, Stopped, Accepted, Settled, Sending, Step, Fits, IsStart, Trace, trace, flow}
+
+-- made: what the end was made with
+-- calls: the calls on it with their answers, the newest first
+-- world: its value
+-- wrote: the frames that it wrote, the newest first
+pub record Endpoint : Type 0 where
+  pub made : Made
+  pub calls : List Event
+  pub world : World
+  pub wrote : List Frame
+
+-- x stands in a list
+abbrev pub IsOneOf : {X : Type 0} → X → List X → Type 0
+IsOneOf x [] = ⊥
+IsOneOf x (y ∷ ys) = (x ≡ y) ⊎ IsOneOf x ys
+
+-- what the calls tell of the sending side of a stream
+abbrev pub sent_on : Endpoint → ℕ → SendFlow
+sent_on x q = flow x.made x.calls q
+
+-- what they tell of its receiving side
+abbrev pub came_on : Endpoint → ℕ → Trace
+came_on x q = trace x.calls q
+
+-- the bytes that were written on a stream
+abbrev pub written_on : Endpoint → ℕ → List ℕ
+written_on x q = concat (sent_on x q).cuts
+
+-- the frames that a call wrote
+abbrev pub written_by : Endpoint → Event → List Frame
+written_by x (Settled kind (Some frame)) = frame ∷ []
+written_by x (Sending (TookTurn most fair (Some meta))) = frame_with (written_on x) meta ∷ []
+written_by x _ = []
+
+-- an id that was given: that of a stream that the end opened, or that its application accepted
+abbrev pub WasGiven : World → ℕ → Type 0
+WasGiven w id = index_of id < (if is_own w id then (own_of w.out (dir_of id)).opened else (remote_of w (dir_of id)).next_reported)
+
+-- `open` or `accept` answered it
+abbrev pub GaveId : List Event → ℕ → Type 0
+GaveId calls id = ((d : Dir) × (closed : Bool) × IsOneOf (Sending (OpenedOwn d closed (Ok (Some id)))) calls) ⊎ ((d : Dir) × IsOneOf (Accepted d (Some id)) calls)
+
+-- a STREAM frame with these offsets, with the end or not, was answered Ok
+pub record WasAccepted (calls : List Event) (id : ℕ) (offsets : Range ℕ) (fin : Bool) : Type 0 where
+  pub bytes : List ℕ
+  pub transmit : ShouldTransmit
+  pub is : IsOneOf (Received id offsets.start bytes fin (Ok transmit)) calls
+  pub behind : offsets.end ≡ offsets.start + length bytes
+
+-- such a frame was written
+pub record WasWrittenAs (wrote : List Frame) (id : ℕ) (offsets : Range ℕ) (fin : Bool) : Type 0 where
+  pub bytes : List ℕ
+  pub is : IsOneOf (frames.Stream (record { id = id; offset = offsets.start; fin = fin; bytes = bytes })) wrote
+  pub behind : offsets.end ≡ offsets.start + length bytes
+
+-- the stream was stopped with a code
+abbrev pub WasStoppedWith : List Event → ℕ → ℕ → Type 0
+WasStoppedWith calls id code = IsOneOf (Stopped id code (Ok tt)) calls
+
+-- a frame that is written of what is pending was asked for, on a stream that the application was given
+abbrev pub WasAskedFor : Endpoint → Frame → Type 0
+WasAskedFor x (frames.ResetStream f) = ((sent_on x f.id).reset ≡ Some f.error_code) × WasGiven x.world f.id
+WasAskedFor x (frames.StopSending f) = WasStoppedWith x.calls f.id f.error_code × WasGiven x.world f.id
+WasAskedFor x (frames.MaxStreamData id limit) = WasGiven x.world id
+WasAskedFor x _ = Unit {0}
+
+-- what the transport parameters of an end say
+abbrev pub limits_of : Made → PeerLimits
+limits_of m = record {
+  initial_max_data = m.receive_window;
+  initial_max_streams_bidi = m.bi;
+  initial_max_streams_uni = m.uni;
+  initial_max_stream_data_uni = m.window;
+  initial_max_stream_data_bidi_local = m.window;
+  initial_max_stream_data_bidi_remote = m.window;
+}
+
+-- what end x is told on its sending side comes from end y: its limits, frames that it wrote, a frame that it accepted.
+-- A frame that was lost was written. The application writes on streams that it was given
+abbrev pub IsHonestSending : Endpoint → Endpoint → SendEvent → Type 0
+IsHonestSending x y (GaveLimits limits) = limits ≡ limits_of y.made
+IsHonestSending x y (RaisedData limit) = IsOneOf (frames.MaxData limit) y.wrote
+IsHonestSending x y (RaisedCount dir count answer) = IsOneOf (frames.MaxStreams dir count) y.wrote
+IsHonestSending x y (RaisedLimit id limit answer) = IsOneOf (frames.MaxStreamData id limit) y.wrote
+IsHonestSending x y (StoppedOwn id code answer) = IsOneOf (frames.StopSending (record { id = id; error_code = code })) y.wrote
+IsHonestSending x y (WroteOwn id lists closed answer) = WasGiven x.world id
+IsHonestSending x y (FinishedOwn id answer) = WasGiven x.world id
+IsHonestSending x y (AckedOwn id offsets fin answer) = WasAccepted y.calls id offsets fin
+IsHonestSending x y (LostOwn id offsets fin answer) = WasWrittenAs x.wrote id offsets fin
+IsHonestSending x y _ = Unit {0}
+
+-- what end x is told comes from end y
+abbrev pub IsHonest : Endpoint → Endpoint → Event → Type 0
+IsHonest x y (Received id offset bytes fin answer) = IsOneOf (frames.Stream (record { id = id; offset = offset; fin = fin; bytes = bytes })) y.wrote
+IsHonest x y (ReceivedReset id code final answer) = IsOneOf (frames.ResetStream (record { id = id; error_code = code; final_offset = final })) y.wrote
+IsHonest x y (Settled kind (Some frame)) = WasAskedFor x frame
+IsHonest x y (Sending e) = IsHonestSending x y e
+IsHonest x y _ = Unit {0}
+
+-- end x may be called so, with end y beside it, and have the value v then
+pub record MayAct (x y : Endpoint) (e : Event) (v : World) : Type 0 where
+  pub fits : Fits x.calls e
+  pub honest : IsHonest x y e
+  pub step : Step x.world e v
+
+-- the end once it was
+abbrev pub acted : Endpoint → Event → World → Endpoint
+acted x e v = record { made = x.made; calls = e ∷ x.calls; world = v; wrote = written_by x e ++ x.wrote }
+
+-- an end that was just made
+pub record IsNewEnd (x : Endpoint) : Type 0 where
+  pub start : IsStart x.made x.world
+  pub calls : x.calls ≡ []
+  pub wrote : x.wrote ≡ []
+  pub small : x.made.window < 2 ^ 62
+
+-- two ends may have come so far, by calls in any order: each frame that one of them wrote comes to the other as often as
+-- may be, at any time, or never
+pub data Linked : Endpoint → Endpoint → Type 0 where
+  begun : {x y : Endpoint} → IsNewEnd x → IsNewEnd y → y.made.side ≡ other_side x.made.side → Linked x y
+  first_acts : {x y : Endpoint} (e : Event) (v : World) → Linked x y → MayAct x y e v → Linked (acted x e v) y
+  second_acts : {x y : Endpoint} (e : Event) (v : World) → Linked x y → MayAct y x e v → Linked x (acted y e v)

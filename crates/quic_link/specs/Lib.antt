@@ -1,0 +1,4 @@
+pub mod Endpoints
+pub mod Truths
+pub mod Promises
+pub mod Asked
