@@ -13,7 +13,7 @@ use Rattle.quic_outgoing.specs.Outgoing.{own_of}
 use Rattle.quic_writing.specs.Appended.{frame_with}
 use Rattle.quic_history.specs.World.{World, Made, is_own, remote_of}
 use Rattle.quic_history.specs.SendEvents.{SendEvent, GaveLimits, RaisedData, RaisedCount, RaisedLimit, StoppedOwn, OpenedOwn, WroteOwn, FinishedOwn, AckedOwn, LostOwn, TookTurn}
-use Rattle.quic_history.specs.History.{Event, Received, ReceivedReset, Stopped, Accepted, Settled, Sending, Step, Fits, IsStart, Trace, trace, flow}
+use Rattle.quic_history.specs.History.{Event, Received, ReceivedReset, Stopped, Accepted, Settled, Sending, Rejected, SentAgain, Step, Fits, IsStart, Trace, trace, flow}
 
 -- made: what the end was made with
 -- calls: the calls on it with their answers, the newest first
@@ -105,12 +105,14 @@ IsHonestSending x y (AckedOwn id offsets fin answer) = WasAccepted y.calls id of
 IsHonestSending x y (LostOwn id offsets fin answer) = WasWrittenAs x.wrote id offsets fin
 IsHonestSending x y _ = Unit {0}
 
--- what end x is told comes from end y
+-- what end x is told comes from end y, and nothing is sent early
 abbrev pub IsHonest : Endpoint → Endpoint → Event → Type 0
 IsHonest x y (Received id offset bytes fin answer) = IsOneOf (frames.Stream (record { id = id; offset = offset; fin = fin; bytes = bytes })) y.wrote
 IsHonest x y (ReceivedReset id code final answer) = IsOneOf (frames.ResetStream (record { id = id; error_code = code; final_offset = final })) y.wrote
 IsHonest x y (Settled kind (Some frame)) = WasAskedFor x frame
 IsHonest x y (Sending e) = IsHonestSending x y e
+IsHonest x y Rejected = ⊥
+IsHonest x y (SentAgain answer) = ⊥
 IsHonest x y _ = Unit {0}
 
 -- end x may be called so, with end y beside it, and have the value v then
