@@ -16,6 +16,7 @@ use Rattle.quic_queue.specs.SendOrder.{empty_queue}
 use Rattle.quic_history.proofs.RestHistory.{rest-start}
 use Rattle.quic_history.proofs.Endings.{tells-ends}
 use Rattle.quic_history.specs.SendTotals.{send_totals}
+use Rattle.quic_history.specs.Used.{used_halves}
 use Rattle.quic_history.proofs.SentHistory.{sent-start}
 use Rattle.quic_history.proofs.FlowHistory.{sends-start}
 use Rattle.quic_history.proofs.WritesTold.{writes-told}
@@ -112,6 +113,10 @@ remotes_start m few_uni few_bi Bi = remote_start _ m.bi (λ i. refl) few_bi
 remotes_start m few_uni few_bi Uni = remote_start _ m.uni (λ i. refl) few_uni
 
 -- an end that was just made may come from what it was made with and no calls
+used_start : (m : Made) → 0 ≡ used_halves (start m)
+unfolding number
+used_start m = refl
+
 pub begins : (m : Made) (v : World) → m.uni ≤ 2 ^ 60 → m.bi ≤ 2 ^ 60 → m.receive_window < 2 ^ 62 → v ≡ start m → From m [] v
 begins m v few_uni few_bi small e =
     let P : World → Type 0 = λ x. From m [] x in
@@ -131,4 +136,5 @@ begins m v few_uni few_bi small e =
       writes = writes-told m [] (start m) refl sent (sends-start m);
       queued = refl;
       rest = rest-start m empty_queue;
+      used = used_start m;
     })

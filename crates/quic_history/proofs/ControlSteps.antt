@@ -31,6 +31,8 @@ pub record Announces (u v : World) : Type 0 where
   pub out : v.out ≡ u.out
   pub window : v.window ≡ u.window
   pub queue : v.queue ≡ u.queue
+  pub reported : v.bi.next_reported ≡ u.bi.next_reported
+  pub count : v.send_streams ≡ u.send_streams
   pub credit_window : v.credit.receive_window ≡ u.credit.receive_window
   pub credit_limit : v.credit.local_max_data ≡ u.credit.local_max_data
   pub credit_came : v.credit.data_recvd ≡ u.credit.data_recvd
@@ -38,7 +40,7 @@ pub record Announces (u v : World) : Type 0 where
   pub limits : (d : Dir) → SameLimits (remote_of u d) (remote_of v d)
 
 announces_none : (u : World) → Announces u u
-announces_none u = record { out = refl; window = refl; queue = refl; credit_window = refl; credit_limit = refl; credit_came = refl; credit_debt = refl; limits = λ d. limits-refl (remote_of u d) }
+announces_none u = record { out = refl; window = refl; queue = refl; reported = refl; count = refl; credit_window = refl; credit_limit = refl; credit_came = refl; credit_debt = refl; limits = λ d. limits-refl (remote_of u d) }
 
 announces_at : (u v w : World) → v ≡ w → Announces u w → Announces u v
 announces_at u v w e s = let P : World → Type 0 = λ x. Announces u x in subst P (sym e) s
@@ -48,6 +50,8 @@ announces_credit u = record {
   out = refl;
   window = refl;
   queue = refl;
+  reported = refl;
+  count = refl;
   credit_window = refl;
   credit_limit = refl;
   credit_came = refl;
@@ -64,6 +68,8 @@ announces_streams u Bi = record {
   out = refl;
   window = refl;
   queue = refl;
+  reported = refl;
+  count = refl;
   credit_window = refl;
   credit_limit = refl;
   credit_came = refl;
@@ -78,6 +84,8 @@ announces_streams u Uni = record {
   out = refl;
   window = refl;
   queue = refl;
+  reported = refl;
+  count = refl;
   credit_window = refl;
   credit_limit = refl;
   credit_came = refl;
@@ -98,6 +106,8 @@ announces_half u id h e = record {
   out = refl;
   window = refl;
   queue = refl;
+  reported = refl;
+  count = refl;
   credit_window = refl;
   credit_limit = refl;
   credit_came = refl;

@@ -26,7 +26,7 @@ use Rattle.quic_outgoing.specs.Senders.{is_local, are_one_end, first_limit, firs
 use Rattle.quic_outgoing.specs.Outgoing.{Outgoing, no_streams, own_of, with_own, with_send_half, with_more_streams, with_params, first_of, is_stuck, fresh_sender}
 use Rattle.quic_outgoing.specs.Calls.{OpensStream, PollsWritable}
 use Rattle.quic_outgoing.specs.Writing.{RefusesWrite}
-use Rattle.quic_history.specs.World.{World, Made, start, count_of, sends, remote_of, with_receive, told}
+use Rattle.quic_history.specs.World.{World, Made, start, count_of, sends, remote_of, with_remote, with_receive, told}
 use Rattle.quic_history.specs.Sends.{with_out, with_opened, with_own_count, TellsNext, PollsQueue}
 use Rattle.quic_history.specs.Writes.{WritesOwn}
 use Rattle.quic_history.specs.SendTotals.{send_totals, own_total}
@@ -41,7 +41,7 @@ use Rattle.quic_history.proofs.Remotes.{number-same}
 use Rattle.quic_history.proofs.Permits.{number-more}
 use Rattle.quic_history.proofs.SendSteps.{either-way}
 use Rattle.quic_history.proofs.SendSides.{SameSides, sides-none, sides-at, sides-put, sides-unmarked, sides-blocked, side-is, side_by, none-done, flows-halves, flows-opened, flows-more, flows-limits, with_one_open}
-use Rattle.quic_history.proofs.FlowLeaves.{Leaves, leaves-then, leaves-at, leaves-same, leaves-sides, leaves-remote, leaves-told, leaves-concurrent, leaves-received, leaves-reset, leaves-began, leaves-gave, leaves-stopped, leaves-told-reset}
+use Rattle.quic_history.proofs.FlowLeaves.{Leaves, leaves-then, leaves-at, leaves-same, leaves-sides, leaves-remote, leaves-counted, leaves-told, leaves-concurrent, leaves-received, leaves-reset, leaves-began, leaves-gave, leaves-stopped, leaves-told-reset}
 use Rattle.quic_history.proofs.FlowSteps.{Buffers, FlowStep, step-left, step-at, step-limit, step-stop, step-wrote, step-finished, step-given-up}
 
 -- ---- calls of the sending side that did nothing to a stream
@@ -166,7 +166,7 @@ module _ (side : Side) (there : ℕ → Bool) (f : ℕ → SendFlow) (u : World)
   step-any (Resized size answer) v s = left v (leaves-at u v _ s.0 (leaves-sides u _ (sides-none u.out) refl))
   step-any (SetConcurrent dir count (Ok k)) v s = left v (leaves-at u v _ s (leaves-concurrent u dir count))
   step-any (SetConcurrent dir count (Err k)) v s = left v (leaves-same u v s)
-  step-any (Accepted dir answer) v s = left v (leaves-at u v _ s.0 (leaves-remote u dir (one_accepted (remote_of u dir)) (accepted_max (remote_of u dir) (nat_lt (remote_of u dir).next_reported (remote_of u dir).next_remote))))
+  step-any (Accepted dir answer) v s = left v (leaves-at u v _ s.0 (leaves-counted u (with_remote u dir (one_accepted (remote_of u dir))) _ (leaves-remote u dir (one_accepted (remote_of u dir)) (accepted_max (remote_of u dir) (nat_lt (remote_of u dir).next_reported (remote_of u dir).next_remote)))))
     where
       accepted_max : (r : Remote) (b : Bool) → (if b then record r { next_reported = r.next_reported + 1 } else r).max_remote ≡ r.max_remote
       accepted_max r true = refl

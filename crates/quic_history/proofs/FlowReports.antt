@@ -30,7 +30,8 @@ use Rattle.quic_history.specs.Sends.{with_out, is_permitted}
 use Rattle.quic_history.specs.Control.{SettlesEntry}
 use Rattle.quic_history.specs.declared.control.ControlKind.{ControlKind}
 use Rattle.quic_history.specs.Carrying.{PassesOver, CarriesFrame, with_writer}
-use Rattle.quic_history.specs.Acknowledged.{AcksOwn, LosesOwn, AcksReset, frees_reset, told_finished, with_send_freed, send_released}
+use Rattle.quic_history.specs.Acknowledged.{AcksOwn, LosesOwn, AcksReset, frees_reset, told_finished, with_send_freed, without_sender}
+use Rattle.quic_history.proofs.SendFreed.{send-freed}
 use Rattle.quic_history.specs.Writes.{with_queued}
 use Rattle.quic_history.specs.Flows.{has_side_in, send_moved, AllFlows}
 use Rattle.quic_history.proofs.ControlSteps.{announces}
@@ -53,20 +54,11 @@ leaves-settled u k p o v q s =
     let bi = a.limits Bi in
     leaves-sides u v (sides-at u.out v.out u.out a.out (sides-none u.out)) bi.max
 
-leaves_released : (u : World) (d : Dir) (id : ℕ) → Leaves u (send_released u d id)
-leaves_released u Uni id = leaves-none u
-leaves_released u Bi id = by_test (is_some (u.receive id))
-  where
-    by_test : (b : Bool) → Leaves u (if b then u else replaced_in u Bi)
-    by_test true = leaves-none u
-    by_test false = leaves-replaced u Bi
+leaves_uncounted : (u : World) (id : ℕ) → Leaves u (without_sender u id)
+leaves_uncounted u id = leaves-sides u (without_sender u id) (sides-none u.out) refl
 
 leaves_freed : (u : World) (id : ℕ) → Leaves u (with_send_freed u id)
-leaves_freed u id = by_test (is_own u id)
-  where
-    by_test : (b : Bool) → Leaves u (if b then u else send_released u (dir_of id) id)
-    by_test true = leaves-none u
-    by_test false = leaves_released u (dir_of id) id
+leaves_freed u id = let w = without_sender u id in send-freed (Leaves u) u id (leaves_uncounted u id) (leaves-then u w _ (leaves_uncounted u id) (leaves-replaced w Bi))
 
 leaves_finished : (u : World) (id : ℕ) (b : Bool) → Leaves u (told_finished u id b)
 leaves_finished u id true = leaves-then u (with_send_freed u id) _ (leaves_freed u id) (leaves-told (with_send_freed u id) (stream_event.Finished id))

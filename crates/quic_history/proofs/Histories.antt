@@ -1,5 +1,5 @@
 -- Each call keeps what a history says.
-use Rattle.std.proofs.Common.{◌≡◌, ℕ, false, true, Bool, refl, subst, ◌∙◌, List, [], ◌∷◌, Option, Result, Ok, Err, arith, ◌+◌, ◌-◌, ◌^◌}
+use Rattle.std.proofs.Common.{◌≡◌, ℕ, false, true, Bool, refl, subst, ◌∙◌, List, [], ◌∷◌, Option, Result, Ok, Err, arith, ◌+◌, ◌-◌, ◌^◌, ◌≤◌}
 use Rattle.std.specs.Prelude.{min}
 use Rattle.quic_assembler.specs.declared.chunk.Chunk.{Chunk}
 use Rattle.quic_receiving.specs.declared.errors.ReadError.{ReadError}
@@ -7,12 +7,14 @@ use Rattle.quic_history.specs.declared.progress.Progress.{Progress}
 use Rattle.quic_history.specs.declared.progress.Progress.TheVariants as progress
 use Rattle.quic_history.specs.Reading.{is_ended, ReadsHalf}
 use Rattle.quic_history.specs.World.{World, sends, Made, count_of, remote_of}
-use Rattle.quic_history.specs.History.{Event, Received, ReceivedReset, AddedCredits, Began, Gave, Ended, Stopped, ToldReset, Resized, SetConcurrent, Accepted, Settled, Sending, Step, Fits, Facts, From, IsRun, PermitsNow, EverPermits, with_next, before, counts, is_freed, trace, consumed, last_window, debt, received}
+use Rattle.quic_history.specs.History.{Event, Received, ReceivedReset, AddedCredits, Began, Gave, Ended, Stopped, ToldReset, Resized, SetConcurrent, Accepted, Settled, Sending, Step, Fits, Facts, From, IsRun, PermitsNow, EverPermits, with_next, before, RemoteFrom, counts, is_freed, trace, consumed, last_window, debt, received}
 use Rattle.quic_history.proofs.Credits.{credit-credited, credit-resized, credit-same, limit-fits}
 use Rattle.quic_history.proofs.SentHistory.{kept-sent}
 use Rattle.quic_history.proofs.ControlSteps.{facts-settled}
 use Rattle.quic_history.proofs.FlowHistory.{kept-sends}
 use Rattle.quic_history.proofs.RestHistory.{kept-rest}
+use Rattle.quic_history.proofs.UsedHistory.{kept-used, used-few}
+use Rattle.quic_limits.specs.Remote.{Remote}
 use Rattle.quic_history.proofs.WritesTold.{writes-told}
 use Rattle.quic_history.proofs.ToldEvents.{queues}
 use Rattle.quic_values.specs.declared.ids.Dir.TheVariants.{Bi}
@@ -63,6 +65,13 @@ permits-now : (m : Made) (h : List Event) (v : World) (run : IsRun m h v) → Ev
 permits-now m [] v run p = p
 permits-now m (e ∷ h) v run p = p.0
 
+accepted_room : (at_once b : ℕ) (g : ℕ → Bool) (r : Remote) → RemoteFrom at_once b g r → r.next_reported ≤ r.max_remote
+accepted_room at_once b g r x = let o = x.opened in let a = x.accepted in omega arith
+
+start_few : (m : Made) (h : List Event) (u : World) → IsRun m h u → m.bi ≤ 2 ^ 60
+start_few m [] u s = s.few_bi
+start_few m (e ∷ h) u s = start_few m h s.0 s.1
+
 -- an end that may come from a history may come, after a call, from the history with that call
 pub next : (m : Made) (h : List Event) (u : World) (e : Event) (v : World) → Fits h e → From m h u → Step u e v → From m (e ∷ h) v
 next m h u e v fits f s =
@@ -87,6 +96,8 @@ next m h u e v fits f s =
       sends = sends;
       writes = writes-told m (e ∷ h) v (went.side ∙ f.side) sent sends;
       queued = (u.events, f.queued, queues m h u f.side f.sent f.sends e v s);
+      used = kept-used m h u v (accepted_room _ _ _ u.bi (permits-now m h u f.run f.remotes Bi)) f.sends
+          (used-few m (e ∷ h) v (start_few m h u f.run) sent sends (accepted_room _ _ _ v.bi (permits Bi))) f.used e s;
       rest = kept-rest m h u e v (limit-fits _ _ _ _ u.credit f.facts.credit) f.side f.sent f.sends f.rest s;
     }
 

@@ -32,3 +32,6 @@ pub mod Totals
 pub mod Traces
 pub mod WorldSteps
 pub mod WritesTold
+pub mod ReceivingSteps
+pub mod UsedHalves
+pub mod UsedHistory

@@ -145,15 +145,15 @@ own_index : (s : Side) (q m : ℕ) → (q % 2 == 0) ≡ is_client_side s → (q 
 own_index Client q m side dir apart = grind (arith, nat_tests)
 own_index Server q m side dir apart = grind (arith, nat_tests)
 
-own_side : (s : Side) (b : Bool) → is_same_side s (if b then Client else Server) ≡ true → b ≡ is_client_side s
-own_side Client true e = refl
-own_side Client false e = cc
-own_side Server true e = cc
-own_side Server false e = refl
+pub own-side : (s : Side) (b : Bool) → is_same_side s (if b then Client else Server) ≡ true → b ≡ is_client_side s
+own-side Client true e = refl
+own-side Client false e = cc
+own-side Server true e = cc
+own-side Server false e = refl
 
 opened_more : (s : Side) (q m bi uni : ℕ) (own is : Bool) → is_same_side s (initiator_of q) ≡ own → (q / 2 % 2 == 0) ≡ is → (q == stream_id s Bi m) ≡ false
     → refusal_by own is (m + 1) bi uni (index_of q) ≡ refusal_by own is m bi uni (index_of q)
-opened_more s q m bi uni true true e f apart = ap (λ b. if b then Some STREAM_STATE_ERROR else None) (own_index s q m (own_side s (q % 2 == 0) e) f apart)
+opened_more s q m bi uni true true e f apart = ap (λ b. if b then Some STREAM_STATE_ERROR else None) (own_index s q m (own-side s (q % 2 == 0) e) f apart)
 opened_more s q m bi uni true false e f apart = refl
 opened_more s q m bi uni false true e f apart = refl
 opened_more s q m bi uni false false e f apart = refl

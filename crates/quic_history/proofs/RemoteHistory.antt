@@ -17,7 +17,7 @@ use Rattle.quic_receiving.specs.declared.errors.ReadableError.TheVariants as rea
 use Rattle.quic_receiving.specs.declared.errors.HandleError.{HandleError}
 use Rattle.quic_receiving.specs.declared.errors.HandleError.TheVariants as handle_error
 use Rattle.quic_retransmits.specs.Pending.{Pending}
-use Rattle.quic_history.specs.World.{World, id_refusal, remote_of, with_receive, with_credit, with_receive_window, advanced, noticed, with_freed}
+use Rattle.quic_history.specs.World.{World, id_refusal, remote_of, with_remote, with_receive, with_credit, with_receive_window, advanced, noticed, with_freed}
 use Rattle.quic_history.specs.Receiving.{Receives, ReceivesReset, after_reset, credited_to}
 use Rattle.quic_history.specs.Reading.{Begins, ReadsHalf, Stops, TellsReset, after_stop}
 use Rattle.quic_history.specs.History.{Event, Received, ReceivedReset, AddedCredits, Began, Gave, Ended, Stopped, ToldReset, Resized, SetConcurrent, Accepted, Settled, Sending, Step, Trace, HalfFrom, untouched, trace, is_closed, is_kept, with_read, with_count_set, Facts}
@@ -33,7 +33,7 @@ use Rattle.quic_history.proofs.Traces.{itself}
 use Rattle.quic_history.proofs.StreamSteps.{half-from, gone-from, known-from, new-from, refusal-noticed}
 use Rattle.quic_history.proofs.FrameHistory.{open-trace, dropped-closed, refusal-code, refused-other, unmoved, after_data_stopped, after_data_running, untold}
 use Rattle.quic_history.proofs.ResetHistory.{untold-closed, or-second, or-first}
-use Rattle.quic_history.proofs.Remotes.{AllRemotes, SameLimits, SameRemotes, remotes-put, remotes-noticed, remotes-then, remotes-idle, remotes-freed, remotes-remote, known-index}
+use Rattle.quic_history.proofs.Remotes.{AllRemotes, SameLimits, SameRemotes, remotes-put, remotes-noticed, remotes-then, remotes-idle, remotes-freed, remotes-remote, remotes-counted, known-index}
 
 remotes_at : (at_once b : Dir → ℕ) (f : ℕ → Trace) (v w : World) → v ≡ w → AllRemotes at_once b f w → AllRemotes at_once b f v
 remotes_at at_once b f v w e s = let P : World → Type 0 = λ x. AllRemotes at_once b f x in subst P (sym e) s
@@ -339,6 +339,6 @@ kept-remotes window at_once h u (SetConcurrent dir count (Ok k)) v f x s = let b
 kept-remotes window at_once h u (SetConcurrent dir count (Err k)) v f x s = remotes_at at_once (λ d. (remote_of u d).max_remote) (trace h) v u s x
 kept-remotes window at_once h u (Accepted dir answer) v f x s = let b : Dir → ℕ = λ d. (remote_of u d).max_remote in
     remotes_at at_once b (trace h) v (with_accepted u dir) s.0
-    (remotes-idle at_once b (trace h) (trace h) u (with_accepted u dir) (λ q. refl) (remotes-remote u dir (one_accepted (remote_of u dir)) (one-accepted (remote_of u dir))) x)
+    (remotes-idle at_once b (trace h) (trace h) u (with_accepted u dir) (λ q. refl) (remotes-counted u (with_remote u dir (one_accepted (remote_of u dir))) _ (remotes-remote u dir (one_accepted (remote_of u dir)) (one-accepted (remote_of u dir)))) x)
 kept-remotes window at_once h u (Settled kind frame) v f x s = remotes-settled at_once (λ d. (remote_of u d).max_remote) h kind frame u v (announces kind u s.0 frame v s.1 s.2) x
 kept-remotes window at_once h u (Sending e) v f x s = remotes-sending at_once (λ d. (remote_of u d).max_remote) (trace h) u e v f.streams x s

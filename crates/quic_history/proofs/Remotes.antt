@@ -14,7 +14,7 @@ use Rattle.quic_limits.specs.Remote.{Remote}
 use Rattle.quic_receiving.specs.Counted.{number}
 use Rattle.quic_receiving.specs.Half.{Half}
 use Rattle.quic_outgoing.specs.Senders.{with_sender}
-use Rattle.quic_history.specs.World.{World, sends, id_refusal, own_refusal, is_own, is_same_side, remote_of, with_remote, with_receive, permitted_if, replaced_in, released, with_freed, told_readable, noticed}
+use Rattle.quic_history.specs.World.{World, sends, id_refusal, own_refusal, is_own, is_same_side, remote_of, with_remote, with_receive, with_send_streams, permitted_if, replaced_in, released, with_freed, told_readable, noticed}
 use Rattle.quic_history.specs.History.{Trace, RemoteFrom, is_freed}
 use Rattle.quic_history.proofs.Totals.{by_cases, same}
 use Rattle.quic_history.proofs.Refusals.{own-other}
@@ -29,11 +29,11 @@ number-same zero f g e = refl
 number-same (suc n) f g e = let k = e n (omega arith) in rw k (omega (arith, number-same n f g (λ i l. e i (omega arith))))
 
 -- one more passes
-number_one : (n i : ℕ) (f g : ℕ → Bool) → i < n → f i ≡ false → g i ≡ true → ((k : ℕ) → eqb k i ≡ false → g k ≡ f k) → number g n ≡ number f n + 1
+pub number-one : (n i : ℕ) (f g : ℕ → Bool) → i < n → f i ≡ false → g i ≡ true → ((k : ℕ) → eqb k i ≡ false → g k ≡ f k) → number g n ≡ number f n + 1
 unfolding number
-number_one zero i f g l before after e = absurd (omega arith)
-number_one (suc n) i f g l before after e = elim (cases_lt i n) [
-  | inl k ↦ (let m : eqb n i ≡ false = grind (arith, nat_tests) in let s = e n m in rw s (omega (arith, number_one n i f g k before after e)))
+number-one zero i f g l before after e = absurd (omega arith)
+number-one (suc n) i f g l before after e = elim (cases_lt i n) [
+  | inl k ↦ (let m : eqb n i ≡ false = grind (arith, nat_tests) in let s = e n m in rw s (omega (arith, number-one n i f g k before after e)))
   | inr k ↦ (let is : i ≡ n = omega arith in
       let before_n : f n ≡ false = sym (ap f is) ∙ before in
       let after_n : g n ≡ true = sym (ap g is) ∙ after in
@@ -82,7 +82,7 @@ next-number n g e = rw (add-one, e) (omega arith)
 after_replaced : (at_once before' : ℕ) (f g : ℕ → Bool) (r : Remote) (i : ℕ) (b : Bool) → remote.lacks_streams (remote.freed r) ≡ b → i < r.max_remote → f i ≡ false → g i ≡ true
     → ((k : ℕ) → eqb k i ≡ false → g k ≡ f k) → g r.max_remote ≡ false → RemoteFrom at_once before' f r → RemoteFrom at_once before' g (if b then remote.one_permitted (remote.freed r) else remote.freed r)
 after_replaced at_once before' f g r i true lacks l before after e last x =
-    let one = number_one r.max_remote i f g l before after e in
+    let one = number-one r.max_remote i f g l before after e in
     let less = number_less r.max_remote i f l before in
     let d = x.allocated in
     let m : r.max_remote ≡ max before' (min (r.max_concurrent + number f r.max_remote) (2 ^ 60)) = x.permitted in
@@ -106,7 +106,7 @@ after_replaced at_once before' f g r i true lacks l before after e last x =
     and_lt true m e = grind (arith, nat_tests)
     and_lt false m e = cc
 after_replaced at_once before' f g r i false lacks l before after e last x =
-    let one = number_one r.max_remote i f g l before after e in
+    let one = number-one r.max_remote i f g l before after e in
     let less = number_less r.max_remote i f l before in
     let d = x.allocated in
     let m : r.max_remote ≡ max before' (min (r.max_concurrent + number f r.max_remote) (2 ^ 60)) = x.permitted in
@@ -174,6 +174,13 @@ remotes-remote u Uni r s = record { side = refl; sends = refl; limits = both }
     both Bi = limits-refl u.bi
     both Uni = s
 
+pub remotes-counted : (u v : World) (n : ℕ) → SameRemotes u v → SameRemotes u (with_send_streams v n)
+remotes-counted u v n s = record { side = s.side; sends = s.sends; limits = both }
+  where
+    both : (d : Dir) → SameLimits (remote_of u d) (remote_of (with_send_streams v n) d)
+    both Bi = s.limits Bi
+    both Uni = s.limits Uni
+
 pub opened-limits : (r : Remote) (index : ℕ) (b : Bool) → nat_le r.next_remote index ≡ b → index < r.max_remote → SameLimits r (if b then record r { next_remote = index + 1; opened = true } else r)
 opened-limits r index true e l = record { max = refl; allocated = refl; concurrent = refl; opened = λ k. above index r.max_remote l; accepted = λ k. below r.next_reported r.next_remote index k e }
   where
@@ -237,9 +244,9 @@ pub bi-not-uni : (s : Side) (i j : ℕ) → eqb (stream_id s Bi i) (stream_id s 
 bi-not-uni Client i j = grind (arith, nat_tests)
 bi-not-uni Server i j = grind (arith, nat_tests)
 
-uni_not_bi : (s : Side) (i j : ℕ) → eqb (stream_id s Uni i) (stream_id s Bi j) ≡ false
-uni_not_bi Client i j = grind (arith, nat_tests)
-uni_not_bi Server i j = grind (arith, nat_tests)
+pub uni-not-bi : (s : Side) (i j : ℕ) → eqb (stream_id s Uni i) (stream_id s Bi j) ≡ false
+uni-not-bi Client i j = grind (arith, nat_tests)
+uni-not-bi Server i j = grind (arith, nat_tests)
 
 -- another stream took the place of one of a direction
 abbrev IsReplaced : Dir → World → World → Type 0
@@ -275,7 +282,7 @@ module _ (at_once b : Dir → ℕ) (f g : ℕ → Trace) (w : World) (id : ℕ) 
   -- the other direction
   uni_stays : (j : ℕ) → id ≡ stream_id o Bi j → RemoteFrom (at_once Uni) (b Uni) (is_freed g w.out.side (sends w) Uni) w.uni
   uni_stays j e = remote-same (at_once Uni) (b Uni) (is_freed f w.out.side (sends w) Uni) (is_freed g w.out.side (sends w) Uni) w.uni w.uni (limits-refl w.uni)
-      (λ i l. ap (λ t. t.gone) (others (stream_id o Uni i) (rw e (uni_not_bi o i j)))) (x Uni)
+      (λ i l. ap (λ t. t.gone) (others (stream_id o Uni i) (rw e (uni-not-bi o i j)))) (x Uni)
 
   bi_stays : (j : ℕ) → id ≡ stream_id o Uni j → RemoteFrom (at_once Bi) (b Bi) (is_freed g w.out.side (sends w) Bi) w.bi
   bi_stays j e = remote-same (at_once Bi) (b Bi) (is_freed f w.out.side (sends w) Bi) (is_freed g w.out.side (sends w) Bi) w.bi w.bi (limits-refl w.bi)

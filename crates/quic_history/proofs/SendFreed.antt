@@ -15,7 +15,7 @@ use Rattle.quic_outgoing.specs.Senders.{with_sender}
 use Rattle.quic_outgoing.specs.Outgoing.{with_send_half}
 use Rattle.quic_history.specs.World.{World, sends, id_refusal, is_own, remote_of, with_remote, with_receive, permitted_if, replaced_in}
 use Rattle.quic_history.specs.Sends.{with_out, is_permitted}
-use Rattle.quic_history.specs.Acknowledged.{send_released, with_send_freed}
+use Rattle.quic_history.specs.Acknowledged.{send_released, with_send_freed, without_sender}
 use Rattle.quic_history.specs.History.{Trace, RemoteFrom, untouched, is_freed}
 use Rattle.quic_history.proofs.Totals.{by_cases, same}
 use Rattle.quic_history.proofs.Traces.{itself}
@@ -32,32 +32,32 @@ either P u v true s t = s refl
 either P u v false s t = t refl
 
 -- what may be said of an end where a send half was freed
-send_freed : (P : World → Type 0) (w : World) (id : ℕ) → P w → P (replaced_in w Bi) → P (with_send_freed w id)
-send_freed P w id s t = either P w (send_released w (dir_of id) id) (is_own w id) (λ e. s) (λ e. of_dir (dir_of id))
+pub send-freed : (P : World → Type 0) (w : World) (id : ℕ) → P (without_sender w id) → P (replaced_in (without_sender w id) Bi) → P (with_send_freed w id)
+send-freed P w id s t = let u = without_sender w id in either P u (send_released u (dir_of id) id) (is_own u id) (λ e. s) (λ e. of_dir (dir_of id))
   where
-    of_dir : (d : Dir) → P (send_released w d id)
+    of_dir : (d : Dir) → P (send_released (without_sender w id) d id)
     of_dir Uni = s
-    of_dir Bi = either P w (replaced_in w Bi) (is_some (w.receive id)) (λ e. s) (λ e. t)
+    of_dir Bi = let u = without_sender w id in either P u (replaced_in u Bi) (is_some (u.receive id)) (λ e. s) (λ e. t)
 
 pub steady-send-freed : (w : World) (id : ℕ) → steady (with_send_freed w id) ≡ steady w
-steady-send-freed w id = send_freed (λ x. steady x ≡ steady w) w id refl (steady-replaced w Bi)
+steady-send-freed w id = send-freed (λ x. steady x ≡ steady w) w id refl (steady-replaced (without_sender w id) Bi)
 
 -- what is told of each stream
 pub all-send-freed : (f : ℕ → Trace) (u : World) (id : ℕ) (c : SendingCredit) → AllFrom f u → AllFrom f (with_send_freed (without_half u id c) id)
 all-send-freed f u id c s =
     let w = without_half u id c in
     let k : AllFrom f w = all-same f u w refl (λ q. refusal-same w u q refl refl refl refl) (λ q. refl) s in
-    send_freed (AllFrom f) w id k (all-replaced f Bi w k)
+    send-freed (AllFrom f) w id k (all-replaced f Bi (without_sender w id) k)
 
 -- ---- how many streams the peer may open
 
-none_here : (u : World) (id : ℕ) (c : SendingCredit) → sends (without_half u id c) id ≡ false
+pub none-here : (u : World) (id : ℕ) (c : SendingCredit) → sends (without_half u id c) id ≡ false
 unfolding with_sender
-none_here u id c = rw (itself id) refl
+none-here u id c = rw (itself id) refl
 
-others_held : (u : World) (id : ℕ) (c : SendingCredit) (q : ℕ) → eqb q id ≡ false → sends (without_half u id c) q ≡ sends u q
+pub others-held : (u : World) (id : ℕ) (c : SendingCredit) (q : ℕ) → eqb q id ≡ false → sends (without_half u id c) q ≡ sends u q
 unfolding with_sender
-others_held u id c q n = rw n refl
+others-held u id c q n = rw n refl
 
 -- another stream takes the place of a bidirectional one
 record Replaced (w v : World) : Type 0 where
@@ -88,16 +88,16 @@ below m i l = let t : nat_le m i ≡ false = grind (arith, nat_tests) in rw t re
 apart : (j m : ℕ) → j < m → eqb j m ≡ false
 apart j m l = grind (arith, nat_tests)
 
-index_below : (own : Bool) (i m : ℕ) → own ≡ false → (if own then true else nat_lt i m) ≡ true → i < m
-index_below true i m e k = cc
-index_below false i m e k = grind (arith, nat_tests)
+pub index-below : (own : Bool) (i m : ℕ) → own ≡ false → (if own then true else nat_lt i m) ≡ true → i < m
+index-below true i m e k = cc
+index-below false i m e k = grind (arith, nat_tests)
 
 contrary : (k : Bool) {P : Type 0} → k ≡ true → k ≡ false → P
 contrary k t n = absurd (cc)
 
 module _ (at_once b : Dir → ℕ) (f : ℕ → Trace) (u : World) (id : ℕ) (c : SendingCredit) (held : sends u id ≡ true) (s : AllFrom f u) (x : AllRemotes at_once b f u) where
   abbrev w : World
-  w = without_half u id c
+  w = without_sender (without_half u id c) id
 
   abbrev peer : Side
   peer = other_side u.out.side
@@ -108,7 +108,7 @@ module _ (at_once b : Dir → ℕ) (f : ℕ → Trace) (u : World) (id : ℕ) (c
   stays e Bi = remote-same (at_once Bi) (b Bi) (is_freed f u.out.side (sends u) Bi) (is_freed f u.out.side (sends w) Bi) u.bi u.bi (limits-refl u.bi)
       (λ i l. let k : ℕ = stream_id peer Bi i in by_cases (eqb k id)
       (λ t. let gone : (f k).gone ≡ false = ap (λ j. (f j).gone) (same k id t) ∙ e i t in rw gone refl)
-      (λ n. ap (λ m. (f k).gone && not m) (others_held u id c k n))) (x Bi)
+      (λ n. ap (λ m. (f k).gone && not m) (others-held u id c k n))) (x Bi)
 
   -- nothing was told of the next stream
   next_new : (f (stream_id peer Bi u.bi.max_remote)).gone ≡ false
@@ -121,7 +121,7 @@ module _ (at_once b : Dir → ℕ) (f : ℕ → Trace) (u : World) (id : ℕ) (c
   replaces j e l gone v r Bi =
       let at : ℕ → ℕ = λ i. stream_id peer Bi i in
       let was : sends u (at j) ≡ true = ap (sends u) (sym e) ∙ held in
-      let here : sends v (at j) ≡ false = r.held (at j) (other-place peer Bi j u.bi.max_remote (apart j u.bi.max_remote l)) ∙ ap (sends w) (sym e) ∙ none_here u id c in
+      let here : sends v (at j) ≡ false = r.held (at j) (other-place peer Bi j u.bi.max_remote (apart j u.bi.max_remote l)) ∙ ap (sends w) (sym e) ∙ none-here u id c in
       let told : (f (at j)).gone ≡ true = ap (λ k. (f k).gone) (sym e) ∙ gone in
       rw (r.side, r.bi)
       (remote-replaced (at_once Bi) (b Bi) (is_freed f u.out.side (sends u) Bi) (is_freed f u.out.side (sends v) Bi) u.bi j l
@@ -129,7 +129,7 @@ module _ (at_once b : Dir → ℕ) (f : ℕ → Trace) (u : World) (id : ℕ) (c
       (λ i n. by_cases (eqb i u.bi.max_remote)
       (λ t. let new : (f (at i)).gone ≡ false = ap (λ m. (f (at m)).gone) (same i u.bi.max_remote t) ∙ next_new in rw new refl)
       (λ m. ap (λ k. (f (at i)).gone && not k)
-      (r.held (at i) (other-place peer Bi i u.bi.max_remote m) ∙ others_held u id c (at i) (rw e (other-place peer Bi i j n)))))
+      (r.held (at i) (other-place peer Bi i u.bi.max_remote m) ∙ others-held u id c (at i) (rw e (other-place peer Bi i j n)))))
       (none-and (f (at u.bi.max_remote)).gone (not (sends v (at u.bi.max_remote))) next_new) (x Bi))
 
   by_receive : (j : ℕ) → id ≡ stream_id peer Bi j → j < u.bi.max_remote → (k : Bool) → is_some (u.receive id) ≡ k → AllRemotes at_once b f (if k then w else replaced_in w Bi)
@@ -145,7 +145,7 @@ module _ (at_once b : Dir → ℕ) (f : ℕ → Trace) (u : World) (id : ℕ) (c
   of_dir Uni j e l = stays (λ i t. contrary (eqb (stream_id peer Bi i) id) t (rw e (bi-not-uni peer i j)))
   of_dir Bi j e l = by_receive j e l (is_some (u.receive id)) refl
 
-  pub remotes-send-freed : is_permitted u id ≡ true → AllRemotes at_once b f (with_send_freed w id)
+  pub remotes-send-freed : is_permitted u id ≡ true → AllRemotes at_once b f (with_send_freed (without_half u id c) id)
   remotes-send-freed known = either (AllRemotes at_once b f) w (send_released w (dir_of id) id) (is_own w id)
       (λ own. stays (λ i t. contrary (is_own u id) own (ap (is_own u) (sym (same (stream_id peer Bi i) id t)) ∙ own-other u.out.side Bi i)))
-      (λ own. of_dir (dir_of id) (index_of id) (spelled u.out.side (id % 2 == 0) (id / 2 % 2 == 0) id refl refl own) (index_below (is_own u id) (index_of id) (remote_of u (dir_of id)).max_remote own known))
+      (λ own. of_dir (dir_of id) (index_of id) (spelled u.out.side (id % 2 == 0) (id / 2 % 2 == 0) id refl refl own) (index-below (is_own u id) (index_of id) (remote_of u (dir_of id)).max_remote own known))

@@ -314,8 +314,8 @@ not_below m = grind (arith, nat_tests)
 just_below : (m : ℕ) → nat_lt m (m + 1) ≡ true
 just_below m = grind (arith, nat_tests)
 
-opened_next : (o : Own) → o.opened < o.limit → (with_next_own o).opened ≡ o.opened + 1
-opened_next o l = let t : nat_lt o.opened o.limit ≡ true = grind (arith, nat_tests) in rw t refl
+pub opened-next : (o : Own) → o.opened < o.limit → (with_next_own o).opened ≡ o.opened + 1
+opened-next o l = let t : nat_lt o.opened o.limit ≡ true = grind (arith, nat_tests) in rw t refl
 
 -- one more stream with a new half
 module _ (f : ℕ → SendFlow) (a b : Outgoing) (n id : ℕ) (side : b.side ≡ a.side) (first : b.first ≡ a.first) (before : has_side_in a n id ≡ false) (after : has_side_in b n id ≡ true)
@@ -348,14 +348,14 @@ pub flows-opened : (f : ℕ → SendFlow) (a : Outgoing) (d : Dir) (n : ℕ) →
 flows-opened f a Bi n l all =
     let id : ℕ = stream_id a.side Bi a.own_bi.opened in
     let b = with_one_open a Bi in
-    let more : b.own_bi.opened ≡ a.own_bi.opened + 1 = opened_next a.own_bi l in
+    let more : b.own_bi.opened ≡ a.own_bi.opened + 1 = opened-next a.own_bi l in
     flows-one f a b n id refl refl (side_at a n a.own_bi.opened Bi a.side refl ∙ not_below a.own_bi.opened) (side_at b n a.own_bi.opened Bi a.side refl ∙ rw more (just_below a.own_bi.opened))
     (λ q e. side-is b n q ∙ rw more (bi_parts a.side (q % 2 == 0) (q / 2 % 2 == 0) a.own_bi.opened a.own_uni.opened q n refl refl e) ∙ sym (side-is a n q))
     (here_put a.halves id (Some (fresh_sender a id))) (λ q e. rest_put a.halves id q (Some (fresh_sender a id)) e) all
 flows-opened f a Uni n l all =
     let id : ℕ = stream_id a.side Uni a.own_uni.opened in
     let b = with_one_open a Uni in
-    let more : b.own_uni.opened ≡ a.own_uni.opened + 1 = opened_next a.own_uni l in
+    let more : b.own_uni.opened ≡ a.own_uni.opened + 1 = opened-next a.own_uni l in
     flows-one f a b n id refl refl (side_at a n a.own_uni.opened Uni a.side refl ∙ not_below a.own_uni.opened) (side_at b n a.own_uni.opened Uni a.side refl ∙ rw more (just_below a.own_uni.opened))
     (λ q e. side-is b n q ∙ rw more (uni_parts a.side (q % 2 == 0) (q / 2 % 2 == 0) a.own_bi.opened a.own_uni.opened q n refl refl e) ∙ sym (side-is a n q))
     (here_put a.halves id (Some (fresh_sender a id))) (λ q e. rest_put a.halves id q (Some (fresh_sender a id)) e) all

@@ -38,7 +38,7 @@ use Rattle.quic_outgoing.specs.Calls.{OpensStream, RaisesStream, StopsSending, P
 use Rattle.quic_outgoing.specs.Calls as calls
 use Rattle.quic_outgoing.specs.Acknowledging.{AcksHalf, LosesOnStream, were_sent, is_given_up}
 use Rattle.quic_history.specs.Halves.{Halves, with_half}
-use Rattle.quic_history.specs.World.{World, sends, id_refusal, is_own, is_same_side, remote_of, with_remote, with_receive, told, told_readable, noticed}
+use Rattle.quic_history.specs.World.{World, sends, id_refusal, is_own, is_same_side, remote_of, with_remote, with_receive, with_send_streams, told, told_readable, noticed}
 use Rattle.quic_history.specs.SendEvents.{SendEvent, SendStep, GaveLimits, OpenedOwn, RaisedData, RaisedCount, RaisedLimit, StoppedOwn, SetWindow, Polled, WroteOwn, FinishedOwn, ResetOwn, SetOwnPriority, AckedOwn, LostOwn, ResetAckedOwn, TookTurn}
 use Rattle.quic_wire.specs.declared.frame.StreamMeta.{StreamMeta}
 use Rattle.quic_writing.specs.Writer.{Writer, SkipsFirst, ServesFirst}
@@ -51,6 +51,7 @@ use Rattle.quic_history.specs.History.{Event, Sending, Goes, Trace, Facts, untou
 use Rattle.quic_history.proofs.Credits.{credit-same}
 use Rattle.quic_history.proofs.Refusals.{refusal-same, refusal-own, refusal-own-next, own-id}
 use Rattle.quic_history.proofs.Remotes.{AllRemotes, SameLimits, remotes-idle, remote-same, limits-refl, opened-limits, noticed-known}
+use Rattle.quic_history.proofs.ReceivingSteps.{opened-reported}
 use Rattle.quic_history.proofs.StreamSteps.{AllFrom, all-same, all-one, new-half-from}
 use Rattle.quic_history.proofs.Totals.{by_cases, same}
 
@@ -61,11 +62,14 @@ pub record Spares (u v : World) : Type 0 where
   pub credit : v.credit ≡ u.credit
   pub receive : v.receive ≡ u.receive
   pub opened : v.out.own_bi.opened ≡ u.out.own_bi.opened
+  pub opened_uni : v.out.own_uni.opened ≡ u.out.own_uni.opened
+  pub reported : v.bi.next_reported ≡ u.bi.next_reported
+  pub count : v.send_streams ≡ u.send_streams
   pub limits : (d : Dir) → SameLimits (remote_of u d) (remote_of v d)
   pub held : (q : ℕ) → is_some (v.out.halves q) ≡ is_some (u.out.halves q)
 
 spares_none : (u : World) → Spares u u
-spares_none u = record { side = refl; window = refl; credit = refl; receive = refl; opened = refl; limits = λ d. limits-refl (remote_of u d); held = λ q. refl }
+spares_none u = record { side = refl; window = refl; credit = refl; receive = refl; opened = refl; opened_uni = refl; reported = refl; count = refl; limits = λ d. limits-refl (remote_of u d); held = λ q. refl }
 
 spares_then : (u v w : World) → Spares u v → Spares v w → Spares u w
 spares_then u v w s t = record {
@@ -74,6 +78,9 @@ spares_then u v w s t = record {
   credit = t.credit ∙ s.credit;
   receive = t.receive ∙ s.receive;
   opened = t.opened ∙ s.opened;
+  opened_uni = t.opened_uni ∙ s.opened_uni;
+  reported = t.reported ∙ s.reported;
+  count = t.count ∙ s.count;
   limits = λ d. let a = s.limits d in let b = t.limits d in record { max = b.max ∙ a.max; allocated = b.allocated ∙ a.allocated; concurrent = b.concurrent ∙ a.concurrent; opened = λ k. b.opened (a.opened k); accepted = λ k. b.accepted (a.accepted k) };
   held = λ q. t.held q ∙ s.held q;
 }
@@ -81,34 +88,34 @@ spares_then u v w s t = record {
 spares_at : (u v w : World) → v ≡ w → Spares u w → Spares u v
 spares_at u v w e s = let P : World → Type 0 = λ x. Spares u x in subst P (sym e) s
 
-spares_out : (u : World) (o : Outgoing) → o.side ≡ u.out.side → o.own_bi.opened ≡ u.out.own_bi.opened → ((q : ℕ) → is_some (o.halves q) ≡ is_some (u.out.halves q)) → Spares u (with_out u o)
-spares_out u o side opened held = record { side = side; window = refl; credit = refl; receive = refl; opened = opened; limits = both; held = held }
+spares_out : (u : World) (o : Outgoing) → o.side ≡ u.out.side → o.own_bi.opened ≡ u.out.own_bi.opened → o.own_uni.opened ≡ u.out.own_uni.opened → ((q : ℕ) → is_some (o.halves q) ≡ is_some (u.out.halves q)) → Spares u (with_out u o)
+spares_out u o side opened opened_uni held = record { side = side; window = refl; credit = refl; receive = refl; opened = opened; opened_uni = opened_uni; reported = refl; count = refl; limits = both; held = held }
   where
     both : (d : Dir) → SameLimits (remote_of u d) (remote_of (with_out u o) d)
     both Bi = limits-refl u.bi
     both Uni = limits-refl u.uni
 
 spares_told : (u : World) (e : StreamEvent) → Spares u (told u e)
-spares_told u e = record { side = refl; window = refl; credit = refl; receive = refl; opened = refl; limits = both; held = λ q. refl }
+spares_told u e = record { side = refl; window = refl; credit = refl; receive = refl; opened = refl; opened_uni = refl; reported = refl; count = refl; limits = both; held = λ q. refl }
   where
     both : (d : Dir) → SameLimits (remote_of u d) (remote_of (told u e) d)
     both Bi = limits-refl u.bi
     both Uni = limits-refl u.uni
 
 spares_events : (u : World) (es : List StreamEvent) → Spares u (record u { events = es })
-spares_events u es = record { side = refl; window = refl; credit = refl; receive = refl; opened = refl; limits = both; held = λ q. refl }
+spares_events u es = record { side = refl; window = refl; credit = refl; receive = refl; opened = refl; opened_uni = refl; reported = refl; count = refl; limits = both; held = λ q. refl }
   where
     both : (d : Dir) → SameLimits (remote_of u d) (remote_of (record u { events = es }) d)
     both Bi = limits-refl u.bi
     both Uni = limits-refl u.uni
 
-spares_remote : (u : World) (e : Dir) (r : Remote) → SameLimits (remote_of u e) r → Spares u (with_remote u e r)
-spares_remote u Bi r s = record { side = refl; window = refl; credit = refl; receive = refl; opened = refl; limits = both; held = λ q. refl }
+spares_remote : (u : World) (e : Dir) (r : Remote) → r.next_reported ≡ (remote_of u e).next_reported → SameLimits (remote_of u e) r → Spares u (with_remote u e r)
+spares_remote u Bi r k s = record { side = refl; window = refl; credit = refl; receive = refl; opened = refl; opened_uni = refl; reported = k; count = refl; limits = both; held = λ q. refl }
   where
     both : (d : Dir) → SameLimits (remote_of u d) (remote_of (with_remote u Bi r) d)
     both Bi = s
     both Uni = limits-refl u.uni
-spares_remote u Uni r s = record { side = refl; window = refl; credit = refl; receive = refl; opened = refl; limits = both; held = λ q. refl }
+spares_remote u Uni r k s = record { side = refl; window = refl; credit = refl; receive = refl; opened = refl; opened_uni = refl; reported = refl; count = refl; limits = both; held = λ q. refl }
   where
     both : (d : Dir) → SameLimits (remote_of u d) (remote_of (with_remote u Uni r) d)
     both Bi = limits-refl u.bi
@@ -117,7 +124,7 @@ spares_remote u Uni r s = record { side = refl; window = refl; credit = refl; re
 spares_noticed : (u : World) (id : ℕ) → (is_own u id ≡ false → index_of id < (remote_of u (dir_of id)).max_remote) → Spares u (noticed u id false)
 spares_noticed u id known = let P : World → Type 0 = λ x. Spares u x in
     noticed-known P u id false known (spares_none u)
-    (λ l. spares_remote u (dir_of id) _ (opened-limits (remote_of u (dir_of id)) (index_of id) (nat_le (remote_of u (dir_of id)).next_remote (index_of id)) refl l))
+    (λ l. spares_remote u (dir_of id) _ (opened-reported (remote_of u (dir_of id)) (index_of id) (nat_le (remote_of u (dir_of id)).next_remote (index_of id))) (opened-limits (remote_of u (dir_of id)) (index_of id) (nat_le (remote_of u (dir_of id)).next_remote (index_of id)) refl l))
 
 -- a stream whose limit the peer may raise, or that it may stop, is this end's or one that it may open
 within : (error most index : ℕ) (b : Bool) → nat_le most index ≡ b → (if b then Some error else None) ≡ None → index < most
@@ -165,26 +172,27 @@ held_unmarked f ids q = by_test (list_any (λ id. q == id) ids)
 record Steadies (a b : Outgoing) : Type 0 where
   pub side : b.side ≡ a.side
   pub opened : b.own_bi.opened ≡ a.own_bi.opened
+  pub opened_uni : b.own_uni.opened ≡ a.own_uni.opened
   pub held : (q : ℕ) → is_some (b.halves q) ≡ is_some (a.halves q)
 
 spares_step : (u : World) (o : Outgoing) → Steadies u.out o → Spares u (with_out u o)
-spares_step u o s = spares_out u o s.side s.opened s.held
+spares_step u o s = spares_out u o s.side s.opened s.opened_uni s.held
 
 steadies_at : (a b c : Outgoing) → b ≡ c → Steadies a c → Steadies a b
 steadies_at a b c e s = let P : Outgoing → Type 0 = λ x. Steadies a x in subst P (sym e) s
 
 steadies_none : (a : Outgoing) → Steadies a a
-steadies_none a = record { side = refl; opened = refl; held = λ q. refl }
+steadies_none a = record { side = refl; opened = refl; opened_uni = refl; held = λ q. refl }
 
 steadies_put : (a : Outgoing) (id : ℕ) (s t : Send) → a.halves id ≡ Some s → Steadies a (with_send_half a id (Some t))
-steadies_put a id s t e = record { side = refl; opened = refl; held = held_put a.halves id s t e }
+steadies_put a id s t e = record { side = refl; opened = refl; opened_uni = refl; held = held_put a.halves id s t e }
 
 waits : (a : Outgoing) (id : ℕ) (s t : Send) → a.halves id ≡ Some s → Steadies a (waiting a id t)
 waits a id s t e = by_mark t.connection_blocked
   where
     by_mark : (b : Bool) → Steadies a (if b then with_send_half a id (Some t) else record (with_send_half a id (Some (marked true t))) { blocked = a.blocked ++ id ∷ [] })
     by_mark true = steadies_put a id s t e
-    by_mark false = record { side = refl; opened = refl; held = held_put a.halves id s (marked true t) e }
+    by_mark false = record { side = refl; opened = refl; opened_uni = refl; held = held_put a.halves id s (marked true t) e }
 
 steadies_rise : (a : Outgoing) (id n : ℕ) (o : Option Send) → a.halves id ≡ o → Steadies a (after_rise a id n o)
 steadies_rise a id n None e = steadies_none a
@@ -203,12 +211,12 @@ steadies_polls a None b s = by_stuck (is_stuck a) refl
   where
     by_stuck : (k : Bool) → is_stuck a ≡ k → Steadies a b
     by_stuck true k = let t = rw k at s in steadies_at a b a t (steadies_none a)
-    by_stuck false k = let t = rw k at s in steadies_at a b _ t.1 (record { side = refl; opened = refl; held = held_unmarked a.halves a.blocked })
-steadies_polls a (Some id) b s = steadies_at a b _ s.6 (record { side = refl; opened = refl; held = held_unmarked a.halves (id ∷ s.3) })
+    by_stuck false k = let t = rw k at s in steadies_at a b _ t.1 (record { side = refl; opened = refl; opened_uni = refl; held = held_unmarked a.halves a.blocked })
+steadies_polls a (Some id) b s = steadies_at a b _ s.6 (record { side = refl; opened = refl; opened_uni = refl; held = held_unmarked a.halves (id ∷ s.3) })
 
 own_count : (u : World) (d : Dir) (o : Own) → o.opened ≡ (own_of u.out d).opened → Spares u (with_out u (with_own u.out d o))
-own_count u Bi o e = spares_out u (with_own u.out Bi o) refl e (λ q. refl)
-own_count u Uni o e = spares_out u (with_own u.out Uni o) refl refl (λ q. refl)
+own_count u Bi o e = spares_out u (with_own u.out Bi o) refl e refl (λ q. refl)
+own_count u Uni o e = spares_out u (with_own u.out Uni o) refl refl e (λ q. refl)
 
 writable_told : (u : World) (id : ℕ) (b : Bool) → Spares u (told_writable u id b)
 writable_told u id true = spares_told u _
@@ -242,9 +250,9 @@ either-way false s f g = g s
 
 polls : (u : World) (answer : Option StreamEvent) (v : World) → TellsNext u answer v → Spares u v
 polls u answer v s = either-way u.bi.opened s
-    (λ t. spares_at u v _ t.1 (spares_remote u Bi (opening_told u.bi) (told_limits u.bi)))
+    (λ t. spares_at u v _ t.1 (spares_remote u Bi (opening_told u.bi) refl (told_limits u.bi)))
     (λ t. either-way u.uni.opened t
-    (λ r. spares_at u v _ r.1 (spares_remote u Uni (opening_told u.uni) (told_limits u.uni)))
+    (λ r. spares_at u v _ r.1 (spares_remote u Uni (opening_told u.uni) refl (told_limits u.uni)))
     (λ p. polls_queue u (with_out u p.1) p.0 answer v (spares_step u p.1 (steadies_polls u.out p.0 p.1 p.2)) p.3))
 
 raises_limit : (u : World) (id n : ℕ) (answer : Result (Unit {0}) ReceiveError) (v : World) → RaisesLimit u id n answer v → Spares u v
@@ -280,14 +288,14 @@ queued u w id None s = s
 queued u w id (Some priority) s = spares_then u w _ s (spares_queue w _)
   where
     spares_queue : (w : World) (q : SendOrder) → Spares w (record w { queue = q })
-    spares_queue w q = record { side = refl; window = refl; credit = refl; receive = refl; opened = refl; limits = both; held = λ k. refl }
+    spares_queue w q = record { side = refl; window = refl; credit = refl; receive = refl; opened = refl; opened_uni = refl; reported = refl; count = refl; limits = both; held = λ k. refl }
       where
         both : (d : Dir) → SameLimits (remote_of w d) (remote_of (record w { queue = q }) d)
         both Bi = limits-refl w.bi
         both Uni = limits-refl w.uni
 
 steadies_budget : (a b : Outgoing) (c : SendingCredit) → Steadies a b → Steadies a (record b { budget = c })
-steadies_budget a b c s = record { side = s.side; opened = s.opened; held = s.held }
+steadies_budget a b c s = record { side = s.side; opened = s.opened; opened_uni = s.opened_uni; held = s.held }
 
 steadies_blocked : (a : Outgoing) (id : ℕ) (o : Option Send) → a.halves id ≡ o → Steadies a (after_blocked a id o)
 steadies_blocked a id None e = steadies_none a
@@ -351,7 +359,7 @@ next_opened o false e l = absurd (not_less o.opened o.limit e l)
     not_less a b e l = grind (arith, nat_tests)
 
 -- the sending side with one more stream open
-abbrev opening : World → Dir → ℕ → Outgoing
+abbrev pub opening : World → Dir → ℕ → Outgoing
 opening u d id = with_send_half (with_own u.out d (with_next_own (own_of u.out d))) id (Some (fresh_sender u.out id))
 
 opened_all : (f : ℕ → Trace) (u : World) (d : Dir) → (own_of u.out d).opened < (own_of u.out d).limit → AllFrom f u
@@ -372,19 +380,19 @@ opened_all f u Uni l s = let id : ℕ = stream_id u.out.side Uni u.out.own_uni.o
     let v = with_opened u Uni id (opening u Uni id) in
     all-same f u v refl (λ q. refusal-same v u q refl refl refl refl) (λ q. refl) s
 
-peer_apart : (s : Side) (d e : Dir) (i n : ℕ) → eqb (stream_id (other_side s) d i) (stream_id s e n) ≡ false
-peer_apart Client Bi Bi i n = grind (arith, nat_tests)
-peer_apart Client Bi Uni i n = grind (arith, nat_tests)
-peer_apart Client Uni Bi i n = grind (arith, nat_tests)
-peer_apart Client Uni Uni i n = grind (arith, nat_tests)
-peer_apart Server Bi Bi i n = grind (arith, nat_tests)
-peer_apart Server Bi Uni i n = grind (arith, nat_tests)
-peer_apart Server Uni Bi i n = grind (arith, nat_tests)
-peer_apart Server Uni Uni i n = grind (arith, nat_tests)
+pub peer-apart : (s : Side) (d e : Dir) (i n : ℕ) → eqb (stream_id (other_side s) d i) (stream_id s e n) ≡ false
+peer-apart Client Bi Bi i n = grind (arith, nat_tests)
+peer-apart Client Bi Uni i n = grind (arith, nat_tests)
+peer-apart Client Uni Bi i n = grind (arith, nat_tests)
+peer-apart Client Uni Uni i n = grind (arith, nat_tests)
+peer-apart Server Bi Bi i n = grind (arith, nat_tests)
+peer-apart Server Bi Uni i n = grind (arith, nat_tests)
+peer-apart Server Uni Bi i n = grind (arith, nat_tests)
+peer-apart Server Uni Uni i n = grind (arith, nat_tests)
 
 peer_held : (u : World) (d : Dir) (n i : ℕ) (s : Send) → is_some ((with_sender u.out.halves (stream_id u.out.side d n) (Some s)) (stream_id (other_side u.out.side) Bi i)) ≡ sends u (stream_id (other_side u.out.side) Bi i)
 unfolding with_sender
-peer_held u d n i s = rw (peer_apart u.out.side Bi d i n) refl
+peer_held u d n i s = rw (peer-apart u.out.side Bi d i n) refl
 
 opened_remotes : (at_once b : Dir → ℕ) (f : ℕ → Trace) (u : World) (d : Dir) → AllRemotes at_once b f u
     → AllRemotes at_once b f (with_opened u d (stream_id u.out.side d (own_of u.out d).opened) (opening u d (stream_id u.out.side d (own_of u.out d).opened)))
@@ -414,13 +422,13 @@ opened_is u v d id o s e = e ∙ ap (λ k. with_opened u d id k) s.2 ∙ ap (λ 
 -- ---- every call of the sending side
 
 -- a stream was opened
-record OpensOne (u v : World) : Type 0 where
+pub record OpensOne (u v : World) : Type 0 where
   pub dir : Dir
   pub few : (own_of u.out dir).opened < (own_of u.out dir).limit
   pub is : v ≡ with_opened u dir (stream_id u.out.side dir (own_of u.out dir).opened) (opening u dir (stream_id u.out.side dir (own_of u.out dir).opened))
 
 -- the send half of a stream was let go
-record FreesOne (u v : World) : Type 0 where
+pub record FreesOne (u v : World) : Type 0 where
   pub id : ℕ
   pub budget : SendingCredit
   pub known : is_permitted u id ≡ true
@@ -485,7 +493,7 @@ acks_reset u id (Err e) v s = inl (spares_at u v u s.1 (spares_none u))
 
 -- a turn of the send queue
 spares_writer : (u : World) (x : Writer) → Steadies u.out x.streams → Spares u (with_writer u x)
-spares_writer u x s = record { side = s.side; window = refl; credit = refl; receive = refl; opened = s.opened; limits = both; held = s.held }
+spares_writer u x s = record { side = s.side; window = refl; credit = refl; receive = refl; opened = s.opened; opened_uni = s.opened_uni; reported = refl; count = refl; limits = both; held = s.held }
   where
     both : (d : Dir) → SameLimits (remote_of u d) (remote_of (with_writer u x) d)
     both Bi = limits-refl u.bi
@@ -512,25 +520,25 @@ or_frees (inl k) = inl k
 or_frees (inr k) = inr (inr k)
 
 -- a call spares the receiving side, or opens a stream, or lets a send half go
-kind : (u : World) (e : SendEvent) (v : World) → SendStep u e v → Spares u v ⊎ (OpensOne u v ⊎ FreesOne u v)
-kind u (GaveLimits limits) v s = inl (spares_at u v _ s (spares_out u (with_params u.out limits) refl refl (held_raised u.out.side (first_of limits) u.out.halves)))
-kind u (OpenedOwn dir closed (Ok None)) v s = inl (spares_at u v u s.1 (spares_none u))
-kind u (OpenedOwn dir closed (Ok (Some id))) v s = inr (inl (record { dir = dir; few = s.2.0; is = opened_is u v dir id s.1 s.2 s.3 }))
-kind u (OpenedOwn dir closed (Err e)) v s = inl (spares_at u v u s (spares_none u))
-kind u (RaisedData limit) v s = inl (spares_at u v _ s (spares_out u _ refl refl (λ q. refl)))
-kind u (RaisedCount dir count answer) v s = inl (raises_count u dir count answer v s)
-kind u (RaisedLimit id limit answer) v s = inl (raises_limit u id limit answer v s)
-kind u (StoppedOwn id code answer) v s = inl (stops_own u id code answer v s)
-kind u (SetWindow size) v s = inl (spares_at u v _ s (spares_out u _ refl refl (λ q. refl)))
-kind u (Polled answer) v s = inl (polls u answer v s)
-kind u (WroteOwn id lists closed answer) v s = inl (writes u id lists closed s.0 answer v s.2 s.1 s.3)
-kind u (FinishedOwn id answer) v s = inl (finishes u id answer v s)
-kind u (ResetOwn id code answer) v s = inl (spares_at u v _ s.2.2 (spares_step u s.2.0 (steadies_reset u.out id code s.0 answer s.2.0 s.1 s.2.1)))
-kind u (SetOwnPriority id priority answer) v s = inl (spares_at u v _ s.2 (spares_step u s.0 (steadies_priority u.out id priority answer s.0 s.1)))
-kind u (AckedOwn id offsets fin answer) v s = or_frees (acks u id offsets fin answer v s)
-kind u (LostOwn id offsets fin answer) v s = inl (loses u id offsets fin answer v s)
-kind u (ResetAckedOwn id answer) v s = or_frees (acks_reset u id answer v s)
-kind u (TookTurn most fair frame) v s = inl (turns u most fair frame v s)
+pub kind-of : (u : World) (e : SendEvent) (v : World) → SendStep u e v → Spares u v ⊎ (OpensOne u v ⊎ FreesOne u v)
+kind-of u (GaveLimits limits) v s = inl (spares_at u v _ s (spares_out u (with_params u.out limits) refl refl refl (held_raised u.out.side (first_of limits) u.out.halves)))
+kind-of u (OpenedOwn dir closed (Ok None)) v s = inl (spares_at u v u s.1 (spares_none u))
+kind-of u (OpenedOwn dir closed (Ok (Some id))) v s = inr (inl (record { dir = dir; few = s.2.0; is = opened_is u v dir id s.1 s.2 s.3 }))
+kind-of u (OpenedOwn dir closed (Err e)) v s = inl (spares_at u v u s (spares_none u))
+kind-of u (RaisedData limit) v s = inl (spares_at u v _ s (spares_out u _ refl refl refl (λ q. refl)))
+kind-of u (RaisedCount dir count answer) v s = inl (raises_count u dir count answer v s)
+kind-of u (RaisedLimit id limit answer) v s = inl (raises_limit u id limit answer v s)
+kind-of u (StoppedOwn id code answer) v s = inl (stops_own u id code answer v s)
+kind-of u (SetWindow size) v s = inl (spares_at u v _ s (spares_out u _ refl refl refl (λ q. refl)))
+kind-of u (Polled answer) v s = inl (polls u answer v s)
+kind-of u (WroteOwn id lists closed answer) v s = inl (writes u id lists closed s.0 answer v s.2 s.1 s.3)
+kind-of u (FinishedOwn id answer) v s = inl (finishes u id answer v s)
+kind-of u (ResetOwn id code answer) v s = inl (spares_at u v _ s.2.2 (spares_step u s.2.0 (steadies_reset u.out id code s.0 answer s.2.0 s.1 s.2.1)))
+kind-of u (SetOwnPriority id priority answer) v s = inl (spares_at u v _ s.2 (spares_step u s.0 (steadies_priority u.out id priority answer s.0 s.1)))
+kind-of u (AckedOwn id offsets fin answer) v s = or_frees (acks u id offsets fin answer v s)
+kind-of u (LostOwn id offsets fin answer) v s = inl (loses u id offsets fin answer v s)
+kind-of u (ResetAckedOwn id answer) v s = or_frees (acks_reset u id answer v s)
+kind-of u (TookTurn most fair frame) v s = inl (turns u most fair frame v s)
 
 facts_opened : (window : ℕ) (h : List Event) (u : World) (e : SendEvent) (v : World) → Facts window h u → OpensOne u v → Facts window (Sending e ∷ h) v
 facts_opened window h u e v f k = let P : World → Type 0 = λ w. Facts window (Sending e ∷ h) w in
@@ -555,21 +563,21 @@ goes_then : (u w v : World) → Goes u w → Goes w v → Goes u v
 goes_then u w v a b = let l = a.limit in let m = b.limit in record { side = b.side ∙ a.side; window = b.window ∙ a.window; limit = omega arith }
 
 pub facts-sending : (window : ℕ) (h : List Event) (u : World) (e : SendEvent) (v : World) → Facts window h u → SendStep u e v → Facts window (Sending e ∷ h) v
-facts-sending window h u e v f s = elim (kind u e v s) [
+facts-sending window h u e v f s = elim (kind-of u e v s) [
   | inl k ↦ facts-spared window h u e v f k
   | inr (inl k) ↦ facts_opened window h u e v f k
   | inr (inr k) ↦ facts-spared window h (with_send_freed (without_half u k.id k.budget) k.id) e v (facts_freed window h u k.id k.budget f) k.rest
 ]
 
 pub remotes-sending : (at_once b : Dir → ℕ) (f : ℕ → Trace) (u : World) (e : SendEvent) (v : World) → AllFrom f u → AllRemotes at_once b f u → SendStep u e v → AllRemotes at_once b f v
-remotes-sending at_once b f u e v streams x s = elim (kind u e v s) [
+remotes-sending at_once b f u e v streams x s = elim (kind-of u e v s) [
   | inl k ↦ remotes-spared at_once b f u v k x
   | inr (inl k) ↦ (let P : World → Type 0 = λ w. AllRemotes at_once b f w in subst P (sym k.is) (opened_remotes at_once b f u k.dir x))
   | inr (inr k) ↦ remotes-spared at_once b f (with_send_freed (without_half u k.id k.budget) k.id) v k.rest (remotes-send-freed at_once b f u k.id k.budget k.held streams x k.known)
 ]
 
 pub goes-sending : (u : World) (e : SendEvent) (v : World) → SendStep u e v → Goes u v
-goes-sending u e v s = elim (kind u e v s) [
+goes-sending u e v s = elim (kind-of u e v s) [
   | inl k ↦ goes-spared u v k
   | inr (inl k) ↦ (let P : World → Type 0 = λ w. Goes u w in subst P (sym k.is) (opened_goes u k.dir (stream_id u.out.side k.dir (own_of u.out k.dir).opened)))
   | inr (inr k) ↦ goes_then u (with_send_freed (without_half u k.id k.budget) k.id) v (goes_freed u k.id k.budget) (goes-spared (with_send_freed (without_half u k.id k.budget) k.id) v k.rest)

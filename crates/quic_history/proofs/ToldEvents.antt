@@ -46,7 +46,8 @@ use Rattle.quic_outgoing.specs.Acknowledging.{AcksStream, were_sent}
 use Rattle.quic_history.specs.declared.control.ControlKind.{ControlKind}
 use Rattle.quic_history.specs.declared.control.ControlKind.TheVariants as kinds
 use Rattle.quic_history.specs.Control.{SettlesEntry}
-use Rattle.quic_history.specs.Acknowledged.{AcksOwn, frees_reset, told_finished, with_send_freed, send_released}
+use Rattle.quic_history.specs.Acknowledged.{AcksOwn, frees_reset, told_finished, with_send_freed, without_sender}
+use Rattle.quic_history.proofs.SendFreed.{send-freed}
 use Rattle.quic_history.proofs.FlowReports.{uncounted, counted}
 use Rattle.quic_history.proofs.SendSides.{held-flow}
 use Rattle.quic_history.specs.Flows.{ends_by, has_send_side, has_side_in, wakes, told_if, TakesQueued}
@@ -295,19 +296,7 @@ last_told u id offsets fin done o first t k f a = by_half (u.halves id) refl
     by_half (Some s) e = by_sent s e (were_sent (Some s) offsets) refl
 
 events_send_freed : (w : World) (id : ℕ) → (with_send_freed w id).events ≡ w.events
-events_send_freed w id = by_own (is_own w id)
-  where
-    by_held : (b : Bool) → (if b then w else replaced_in w Bi).events ≡ w.events
-    by_held true = refl
-    by_held false = events_replaced w Bi
-
-    by_dir : (d : Dir) → (send_released w d id).events ≡ w.events
-    by_dir Uni = refl
-    by_dir Bi = by_held (is_some (w.receive id))
-
-    by_own : (b : Bool) → (if b then w else send_released w (dir_of id) id).events ≡ w.events
-    by_own true = refl
-    by_own false = by_dir (dir_of id)
+events_send_freed w id = send-freed (λ x. x.events ≡ w.events) w id refl (events_replaced (without_sender w id) Bi)
 
 events_finished : (w : World) (id : ℕ) (b : Bool) → (told_finished w id b).events ≡ w.events ++ told_if b (stream_event.Finished id)
 events_finished w id true = ap (λ es. es ++ stream_event.Finished id ∷ []) (events_send_freed w id)

@@ -1,14 +1,14 @@
 -- What acknowledgements and losses of frames do to an end.
-use Rattle.std.specs.Prelude.{ℕ, ℤ, Bool, true, false, ◌≡◌, ◌&&◌, if◌then◌else◌, Option, Some, None, is_some, Result, Ok, Err, MatchBool}
+use Rattle.std.specs.Prelude.{ℕ, ℤ, Bool, true, false, ◌≡◌, ◌-◌, ◌&&◌, ◌||◌, nat_lt, if◌then◌else◌, Option, Some, None, is_some, Result, Ok, Err, MatchBool}
 use Rattle.std.specs.declared.ops.Range.{Range}
 use Rattle.quic_values.specs.declared.memory.OutOfMemory.{OutOfMemory}
 use Rattle.quic_values.specs.declared.ids.Dir.{Dir}
 use Rattle.quic_values.specs.declared.ids.Dir.TheVariants.{Bi, Uni}
-use Rattle.quic_values.specs.Ids.{dir_of}
+use Rattle.quic_values.specs.Ids.{dir_of, index_of}
 use Rattle.quic_wire.specs.declared.event.StreamEvent.TheVariants as stream_event
 use Rattle.quic_outgoing.specs.Outgoing.{Outgoing, with_send_half}
 use Rattle.quic_outgoing.specs.Acknowledging.{AcksStream, LosesOnStream, is_given_up}
-use Rattle.quic_history.specs.World.{World, is_own, replaced_in, told}
+use Rattle.quic_history.specs.World.{World, is_own, remote_of, replaced_in, told, with_send_streams}
 use Rattle.quic_history.specs.Sends.{with_out, is_permitted}
 use Rattle.quic_history.specs.Writes.{with_queued}
 
@@ -17,9 +17,21 @@ abbrev pub send_released : World → Dir → ℕ → World
 send_released w Uni id = w
 send_released w Bi id = if is_some (w.receive id) then w else replaced_in w Bi
 
--- the send half of a stream was let go: one of the peer may be wholly freed by that
+-- whether this end opened a stream, or accepted it
+abbrev pub is_used : World → ℕ → Bool
+is_used w id = is_own w id || nat_lt (index_of id) (remote_of w (dir_of id)).next_reported
+
+-- one send half less is held, of a stream that is used or not
+abbrev pub without_sender : World → ℕ → World
+without_sender w id = with_send_streams w (if is_used w id then w.send_streams - 1 else w.send_streams)
+
+-- one of the peer may be wholly freed by that
+abbrev pub without_send_half : World → ℕ → World
+without_send_half w id = if is_own w id then w else send_released w (dir_of id) id
+
+-- the send half of a stream was let go
 abbrev pub with_send_freed : World → ℕ → World
-with_send_freed w id = if is_own w id then w else send_released w (dir_of id) id
+with_send_freed w id = without_send_half (without_sender w id) id
 
 -- where by a report the end and every byte of a stream are acknowledged, its send half is freed, and the application is
 -- told

@@ -28,6 +28,7 @@ use Rattle.quic_history.specs.declared.progress.LastAnswer.TheVariants as last_a
 use Rattle.quic_retransmits.specs.Pending.{Pending}
 use Rattle.quic_values.specs.declared.memory.OutOfMemory.{OutOfMemory}
 use Rattle.quic_history.specs.World.{World, Made, count_of, start, id_refusal, remote_of, sends, with_credit, with_receive_window}
+use Rattle.quic_history.specs.Used.{used_halves}
 use Rattle.quic_outgoing.specs.History.{count_in, given_for}
 use Rattle.quic_history.specs.SendTotals.{SendTotals, send_totals, own_total}
 use Rattle.quic_history.specs.declared.control.ControlKind.{ControlKind}
@@ -657,3 +658,4 @@ pub record From (m : Made) (h : List Event) (v : World) : Type 0 where
   pub writes : TellsWrites m h v
   pub queued : AreQueued m h v.events
   pub rest : AreInQueue (flow m h) v.queue
+  pub used : v.send_streams ≡ used_halves v

@@ -1,5 +1,6 @@
 pub mod Halves
 pub mod World
+pub mod Used
 pub mod Control
 pub mod Carrying
 pub mod SendTotals

@@ -1,15 +1,16 @@
 -- How many streams the peer may open, and which the application accepts.
-use Rattle.std.specs.Prelude.{ℕ, Bool, false, not, ◌&&◌, ◌≡◌, Option, Some, None, is_none, Result, Ok, Err}
+use Rattle.std.specs.Prelude.{ℕ, Bool, false, not, ◌&&◌, ◌≡◌, nat_lt, if◌then◌else◌, Option, Some, None, is_none, Result, Ok, Err}
 use Rattle.std.specs.Option.{option_map}
 use Rattle.quic_values.specs.declared.memory.OutOfMemory.{OutOfMemory}
 use Rattle.quic_values.specs.declared.ids.Dir.{Dir}
 use Rattle.quic_values.specs.declared.ids.Dir.TheVariants.{Bi, Uni}
 use Rattle.quic_values.specs.Ids.{stream_id, other_side}
+use Rattle.quic_values.specs.Offsets.{one_more}
 use Rattle.quic_limits.specs.Remote.{Remote, lacking, with_concurrent, acceptable_index, one_accepted}
 use Rattle.quic_receiving.specs.Half.{Half, new_half}
 use Rattle.quic_history.specs.Halves.{with_more}
 use Rattle.quic_outgoing.specs.Outgoing.{with_more_streams}
-use Rattle.quic_history.specs.World.{World, remote_of, with_remote}
+use Rattle.quic_history.specs.World.{World, sends, remote_of, with_remote, with_send_streams}
 
 -- so many more streams of the peer are permitted, from an index on: their halves are new
 abbrev pub with_more_permitted : World → Dir → ℕ → ℕ → World
@@ -40,9 +41,14 @@ with_count_of Uni count f Uni = count
 abbrev pub acceptable : World → Dir → Option ℕ
 acceptable w d = option_map (stream_id (other_side w.out.side) d) (acceptable_index (remote_of w d))
 
+-- whether this end sends on it as well
+abbrev pub is_sent_as_well : World → Dir → Bool
+is_sent_as_well w Bi = nat_lt w.bi.next_reported w.bi.next_remote && sends w (stream_id (other_side w.out.side) Bi w.bi.next_reported)
+is_sent_as_well w Uni = false
+
 -- it was accepted, if there is one
 abbrev pub with_accepted : World → Dir → World
-with_accepted w d = with_remote w d (one_accepted (remote_of w d))
+with_accepted w d = with_send_streams (with_remote w d (one_accepted (remote_of w d))) (if is_sent_as_well w d then one_more w.send_streams else w.send_streams)
 
 -- whether MAX_STREAM_DATA is of use on a stream: its half is held and not stopped, and its final size is not known
 abbrev pub is_flow_controlled : Option Half → Bool

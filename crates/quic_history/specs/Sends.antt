@@ -4,6 +4,7 @@ use Rattle.quic_values.specs.declared.memory.OutOfMemory.{OutOfMemory}
 use Rattle.quic_values.specs.declared.ids.Dir.{Dir}
 use Rattle.quic_values.specs.declared.ids.Dir.TheVariants.{Bi, Uni}
 use Rattle.quic_values.specs.Ids.{dir_of, index_of}
+use Rattle.quic_values.specs.Offsets.{one_more}
 use Rattle.quic_wire.specs.declared.event.StreamEvent.{StreamEvent}
 use Rattle.quic_wire.specs.declared.event.StreamEvent.TheVariants as stream_event
 use Rattle.quic_wire.specs.declared.error.ReceiveError.{ReceiveError}
@@ -16,7 +17,7 @@ use Rattle.quic_receiving.specs.Half.{new_half}
 use Rattle.quic_outgoing.specs.declared.limits.PeerLimits.{PeerLimits}
 use Rattle.quic_outgoing.specs.Outgoing.{Outgoing, own_of, with_own, with_params}
 use Rattle.quic_outgoing.specs.Calls.{OpensStream, RaisesStream, StopsSending, PollsWritable}
-use Rattle.quic_history.specs.World.{World, is_own, remote_of, with_remote, with_receive, told, noticed}
+use Rattle.quic_history.specs.World.{World, is_own, remote_of, with_remote, with_receive, with_send_streams, told, noticed}
 
 -- another sending side
 abbrev pub with_out : World → Outgoing → World
@@ -24,8 +25,8 @@ with_out w o = record w { out = o }
 
 -- a stream of this end was opened: one that is bidirectional has a new receive half
 abbrev pub with_opened : World → Dir → ℕ → Outgoing → World
-with_opened w Uni id o = with_out w o
-with_opened w Bi id o = with_out (with_receive w id (Some (new_half w.window))) o
+with_opened w Uni id o = with_send_streams (with_out w o) (one_more w.send_streams)
+with_opened w Bi id o = with_send_streams (with_out (with_receive w id (Some (new_half w.window))) o) (one_more w.send_streams)
 
 -- a stream was asked for, on a connection that is closed or not: none is opened on a closed one, and where as many were
 -- as the peer permits

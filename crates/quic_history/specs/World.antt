@@ -22,6 +22,7 @@ use Rattle.quic_outgoing.specs.Outgoing.{Outgoing, no_streams, with_send_half, w
 -- receive: the receive half of a stream, if one is held
 -- window: the first limit of each stream
 -- events: what the application was not told yet
+-- send_streams: how many send halves are held of the streams that this end opened or accepted
 pub record World : Type 0 where
   pub credit : Credit
   pub bi : Remote
@@ -31,6 +32,7 @@ pub record World : Type 0 where
   pub receive : Halves
   pub window : ℕ
   pub events : List StreamEvent
+  pub send_streams : ℕ
 
 -- what an end is made with: which end it is, how many streams of each direction the peer may open, and the windows of
 -- sending, of receiving, and of receiving on one stream
@@ -57,6 +59,7 @@ start m = record {
   receive = with_first (with_first (λ id. None) (other_side m.side) Bi m.bi (Some (new_half m.window))) (other_side m.side) Uni m.uni (Some (new_half m.window));
   window = m.window;
   events = [];
+  send_streams = 0;
 }
 
 -- whether the send half of a stream is held
@@ -138,6 +141,10 @@ noticed w id readable = if is_own w id then told_readable w id readable
     else (if nat_le (remote_of w (dir_of id)).next_remote (index_of id)
     then with_remote w (dir_of id) (opened_up_to (remote_of w (dir_of id)) (index_of id))
     else told_readable w id readable)
+
+-- so many send halves are held of the streams that this end opened or accepted
+abbrev pub with_send_streams : World → ℕ → World
+with_send_streams w n = record w { send_streams = n }
 
 abbrev pub with_credit : World → ℕ → World
 with_credit w n = record w { credit = credited w.credit n }

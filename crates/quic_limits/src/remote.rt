@@ -86,6 +86,14 @@ impl RemoteStreams {
         self.next_remote
     }
 
+    /// The lowest index that the application did not accept.
+    #[inline]
+    pub fn next_reported(&self) -> u64
+        ensures { result ≡ self.now.next_reported }
+    {
+        self.next_reported
+    }
+
     /// The peer opened a stream, and with it all of lower index. Answers whether it was not open before.
     pub fn open_up_to(&mut self, index: u64) -> bool
         requires { index < self.old.max_remote }

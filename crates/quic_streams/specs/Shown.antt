@@ -15,4 +15,5 @@ shown s = record {
   receive = held s.receive;
   window = s.receive.window;
   events = s.events.items;
+  send_streams = s.send_streams;
 }

@@ -4,7 +4,7 @@ ghost use Rattle.std.specs.Prelude.{ℕ, List, ◌∷◌, ◌≡◌, ◌≤◌};
 ghost use Rattle.quic_streams.specs.Room.{rooms, HasEventRoom};
 ghost use Rattle.quic_streams.specs.Shown.{shown};
 ghost use Rattle.quic_history.specs.World.{Made};
-ghost use Rattle.quic_history.specs.Acknowledged.{AcksOwn, LosesOwn, AcksReset, with_send_freed};
+ghost use Rattle.quic_history.specs.Acknowledged.{AcksOwn, LosesOwn, AcksReset, with_send_freed, without_sender, without_send_half, is_used};
 ghost use Rattle.quic_history.specs.SendEvents.{AckedOwn, LostOwn, ResetAckedOwn};
 ghost use Rattle.quic_history.specs.History.{Event, Sending, From};
 
@@ -105,6 +105,41 @@ impl StreamsState {
     fn free_send(&mut self, id: StreamId)
         requires { 1 ≤ rooms self.old }
         ensures freed { shown self.new ≡ with_send_freed (shown self.old) id }
+        ensures events { HasEventRoom self.old → HasEventRoom self.new }
+    {
+        self.discount(id);
+        self.release_send(id);
+    }
+
+    // It counts no more, if it was opened or accepted.
+    fn discount(&mut self, id: StreamId)
+        ensures discounted { shown self.new ≡ without_sender (shown self.old) id }
+        ensures rooms { rooms self.new ≡ rooms self.old }
+        ensures events { HasEventRoom self.old → HasEventRoom self.new }
+    {
+        if self.is_used(id) {
+            self.send_streams = self.send_streams.saturating_sub(1);
+        }
+    }
+
+    // Whether this end opened a stream, or accepted it.
+    fn is_used(&self, id: StreamId) -> bool
+        ensures { result ≡ is_used (shown self.now) id }
+    {
+        if self.is_own(id) {
+            return true;
+        }
+        let accepted = match id.dir() {
+            Dir::Bi => self.bi.next_reported(),
+            Dir::Uni => self.uni.next_reported(),
+        };
+        id.index() < accepted
+    }
+
+    // A stream of the peer is wholly freed, unless its receive half is held.
+    fn release_send(&mut self, id: StreamId)
+        requires { 1 ≤ rooms self.old }
+        ensures released { shown self.new ≡ without_send_half (shown self.old) id }
         ensures events { HasEventRoom self.old → HasEventRoom self.new }
     {
         if self.is_own(id) {

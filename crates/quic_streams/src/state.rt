@@ -35,6 +35,8 @@ pub struct StreamsState {
     // The streams on which something is to be sent.
     pub(crate) queue: SendQueue,
     pub(crate) events: VecDeque<StreamEvent>,
+    // How many send halves are held of the streams that this end opened or accepted.
+    pub(crate) send_streams: usize,
 }
 
 #[tactic(auto, unfolding(crate::specs::Shown::shown, quic_history::specs::World::with_receive, crate::specs::Room::rooms, crate::specs::Room::HasEventRoom))]
@@ -71,6 +73,7 @@ impl StreamsState {
             outgoing,
             queue: SendQueue::new(alloc),
             events: VecDeque::new(alloc),
+            send_streams: 0,
         })
     }
 

@@ -4,6 +4,7 @@ ghost use Rattle.std.specs.Prelude.{ℕ, List, ◌∷◌, ◌≡◌, ◌<◌, �
 ghost use Rattle.std.specs.Option.{option_map};
 ghost use Rattle.quic_limits.specs.Remote.{open_now, one_accepted, acceptable_index};
 ghost use Rattle.quic_streams.specs.Shown.{shown};
+ghost use Rattle.quic_history.specs.Used.{used_halves};
 ghost use Rattle.quic_history.specs.World.{Made, remote_of};
 ghost use Rattle.quic_history.specs.Permitting.{with_accepted, acceptable};
 ghost use Rattle.quic_history.specs.SendEvents.{OpenedOwn};
@@ -76,6 +77,15 @@ impl<'a> Streams<'a> {
     {
         self.state.remote_open(dir)
     }
+
+    /// How many streams have a send half that is held: those that this end opened, and those of the peer that were
+    /// accepted. One is held until the stream's end and all its data, or its reset, were acknowledged.
+    pub fn send_streams(&self) -> usize
+        ensures count { result ≡ (shown self.now.state.now).send_streams }
+        ensures used { (m : Made) (h : List Event) → From m h (shown self.now.state.now) → result ≡ used_halves (shown self.now.state.now) }
+    {
+        self.state.used_halves()
+    }
 }
 
 #[tactic(auto, unfolding(crate::specs::Shown::shown, quic_history::specs::World::with_receive))]
@@ -89,8 +99,29 @@ impl StreamsState {
         }
         match dir {
             Dir::Bi => self.open_bi(),
-            Dir::Uni => Ok(self.outgoing.open(Dir::Uni)?),
+            Dir::Uni => self.open_uni(),
         }
+    }
+
+    // Opens the next unidirectional stream.
+    fn open_uni(&mut self) -> Result<Option<StreamId>, OutOfMemory>
+        ensures { OpensOwn (shown self.old) Dir.Uni false result (shown self.new) }
+    {
+        match self.outgoing.open(Dir::Uni)? {
+            None => Ok(None),
+            Some(id) => {
+                self.send_streams = self.send_streams.saturating_add(1);
+                Ok(Some(id))
+            }
+        }
+    }
+
+    // How many send halves are held of the streams that this end opened or accepted.
+    fn used_halves(&self) -> usize
+        ensures count { result ≡ (shown self.now).send_streams }
+        ensures used { (m : Made) (h : List Event) → From m h (shown self.now) → result ≡ used_halves (shown self.now) }
+    {
+        self.send_streams
     }
 
     // Opens the next bidirectional stream, with both halves.
@@ -102,6 +133,7 @@ impl StreamsState {
             None => Ok(None),
             Some(id) => {
                 self.receive.permit(id);
+                self.send_streams = self.send_streams.saturating_add(1);
                 Ok(Some(id))
             }
         }
@@ -112,13 +144,31 @@ impl StreamsState {
         ensures id { result ≡ acceptable (shown self.old) dir }
         ensures accepted { shown self.new ≡ with_accepted (shown self.old) dir }
     {
-        let index = match dir {
-            Dir::Bi => self.bi.accept(),
-            Dir::Uni => self.uni.accept(),
-        };
-        match index {
-            Some(index) => Some(StreamId::new(!self.outgoing.side(), dir, index)),
-            None => None,
+        match dir {
+            Dir::Bi => self.accept_bi(),
+            Dir::Uni => self.accept_uni(),
         }
+    }
+
+    // Accepts the next bidirectional stream, on which this end sends as well while its send half is held.
+    fn accept_bi(&mut self) -> Option<StreamId>
+        ensures id { result ≡ acceptable (shown self.old) Dir.Bi }
+        ensures accepted { shown self.new ≡ with_accepted (shown self.old) Dir.Bi }
+    {
+        let index = self.bi.accept()?;
+        let id = StreamId::new(!self.outgoing.side(), Dir::Bi, index);
+        if self.outgoing.contains(id) {
+            self.send_streams = self.send_streams.saturating_add(1);
+        }
+        Some(id)
+    }
+
+    // Accepts the next unidirectional stream.
+    fn accept_uni(&mut self) -> Option<StreamId>
+        ensures id { result ≡ acceptable (shown self.old) Dir.Uni }
+        ensures accepted { shown self.new ≡ with_accepted (shown self.old) Dir.Uni }
+    {
+        let index = self.uni.accept()?;
+        Some(StreamId::new(!self.outgoing.side(), Dir::Uni, index))
     }
 }

@@ -215,6 +215,69 @@ fn lost_frames_queue_once(rt: HostRuntime) -> Result<(), Fail> {
     Ok(())
 }
 
+fn send_streams(subject: &mut Subject) -> usize {
+    Streams::new(&mut subject.state, ConnState::Open).send_streams()
+}
+
+fn accept(subject: &mut Subject, dir: Dir) -> Option<StreamId> {
+    Streams::new(&mut subject.state, ConnState::Open).accept(dir)
+}
+
+#[test]
+fn opened_and_accepted_streams_count(rt: HostRuntime) -> Result<(), Fail> {
+    let alloc = rt.alloc();
+    let mut subject = end(alloc, 1)?;
+    assert_eq!(&rt; send_streams(&mut subject), 0);
+    assert_eq!(&rt; open(&mut subject), Some(id(2)));
+    assert_eq!(&rt; open(&mut subject), None);
+    assert_eq!(&rt; send_streams(&mut subject), 1);
+    let opened = Streams::new(&mut subject.state, ConnState::Open).open(Dir::Bi);
+    assert!(&rt; matches!(opened, Ok(Some(stream)) if stream == id(0)));
+    assert_eq!(&rt; send_streams(&mut subject), 2);
+    // The peer opens one of each direction.
+    let both = receive(alloc, &mut subject, 1, 0, 1, true)?;
+    assert_eq!(&rt; both, Answer::Taken(false));
+    let one = receive(alloc, &mut subject, 3, 0, 1, true)?;
+    assert_eq!(&rt; one, Answer::Taken(false));
+    assert_eq!(&rt; send_streams(&mut subject), 2);
+    assert_eq!(&rt; accept(&mut subject, Dir::Uni), Some(id(3)));
+    assert_eq!(&rt; send_streams(&mut subject), 2);
+    assert_eq!(&rt; accept(&mut subject, Dir::Bi), Some(id(1)));
+    assert_eq!(&rt; accept(&mut subject, Dir::Bi), None);
+    assert_eq!(&rt; send_streams(&mut subject), 3);
+    // What is acknowledged to the end counts no more.
+    assert!(&rt; sending(&mut subject, 1).finish().is_ok());
+    assert!(&rt; sending(&mut subject, 2).finish().is_ok());
+    assert!(&rt; sending(&mut subject, 0).reset(VarInt::from(3u32)).is_ok());
+    assert_eq!(&rt; send_streams(&mut subject), 3);
+    ack(&rt, &mut subject, 2, 0, true);
+    assert_eq!(&rt; send_streams(&mut subject), 2);
+    ack(&rt, &mut subject, 2, 0, true);
+    assert_eq!(&rt; send_streams(&mut subject), 2);
+    ack(&rt, &mut subject, 1, 0, true);
+    assert_eq!(&rt; send_streams(&mut subject), 1);
+    reset_acked(&rt, &mut subject, 0);
+    assert_eq!(&rt; send_streams(&mut subject), 0);
+    Ok(())
+}
+
+#[test]
+fn streams_that_were_not_accepted_do_not_count(rt: HostRuntime) -> Result<(), Fail> {
+    let alloc = rt.alloc();
+    let mut subject = end(alloc, 1)?;
+    assert_eq!(&rt; open(&mut subject), Some(id(2)));
+    let opened = receive(alloc, &mut subject, 1, 0, 1, true)?;
+    assert_eq!(&rt; opened, Answer::Taken(false));
+    assert!(&rt; sending(&mut subject, 1).finish().is_ok());
+    assert_eq!(&rt; send_streams(&mut subject), 1);
+    ack(&rt, &mut subject, 1, 0, true);
+    assert_eq!(&rt; send_streams(&mut subject), 1);
+    // Its send half is gone when it is accepted.
+    assert_eq!(&rt; accept(&mut subject, Dir::Bi), Some(id(1)));
+    assert_eq!(&rt; send_streams(&mut subject), 1);
+    Ok(())
+}
+
 const MANY: u32 = 65_537;
 
 #[test]
