@@ -1,6 +1,6 @@
 -- What is pending beside data was asked for, and so is every frame that was written of it.
 use Rattle.std.proofs.Common.{◌≡◌, ℕ, Bool, true, false, List, [], ◌∷◌, Option, Some, None, Ok, refl, sym, ap, ◌∙◌, subst, inl, inr}
-use Rattle.std.specs.Prelude.{◌++◌, ◌==◌, ◌&&◌, not, if◌then◌else◌}
+use Rattle.std.specs.Prelude.{◌++◌, ◌==◌, ◌&&◌, ◌||◌, not, if◌then◌else◌}
 use Rattle.std.specs.Option.{option_map}
 use Rattle.quic_values.specs.declared.ids.Dir.{Dir}
 use Rattle.quic_values.specs.declared.ids.Dir.TheVariants.{Bi, Uni}
@@ -8,6 +8,11 @@ use Rattle.quic_wire.specs.declared.frame.Frame.{Frame}
 use Rattle.quic_wire.specs.declared.frame.Frame.TheVariants as frames
 use Rattle.quic_wire.specs.declared.frame.StopSending.{StopSending}
 use Rattle.quic_sending.specs.declared.send.Send.{Send}
+use Rattle.quic_outgoing.specs.Outgoing.{Outgoing, is_stuck}
+use Rattle.quic_sending.specs.declared.send.WriteError.{WriteError}
+use Rattle.quic_sending.specs.declared.send.WriteError.TheVariants as write_error
+use Rattle.quic_outgoing.specs.Writing.{is_limit_news, told_blocked, RefusesWrite}
+use Rattle.quic_limits.specs.SendingCredit.{is_blocked_due}
 use Rattle.quic_retransmits.specs.Pending.{Pending, nothing, merged}
 use Rattle.quic_retransmits.specs.Queueing.{with_id, with_stop_sending, with_reset_stream}
 use Rattle.quic_retransmits.specs.Settling.{noted, without_max_streams}
@@ -140,6 +145,21 @@ asked-noted x p (frames.MaxStreams Uni count) k a = record { resets = a.resets; 
 asked-noted x p (frames.DataBlocked offset) k a = record { resets = a.resets; stops = a.stops; windows = a.windows }
 asked-noted x p (frames.StreamDataBlocked id offset) k a = record { resets = a.resets; stops = a.stops; windows = a.windows }
 asked-noted x p _ k a = a
+
+-- what a write queues that found nothing to be writable, and what a refused write leaves
+pub asked-blocked : (x : Endpoint) (u : Outgoing) (p : Pending) (id : ℕ) (o : Option Send) → AreAsked x p → AreAsked x (told_blocked u id o p)
+asked-blocked x u p id None a = a
+asked-blocked x u p id (Some s) a = told (is_stuck u)
+  where
+    told : (b : Bool) → AreAsked x (if b then record p { data_blocked = p.data_blocked || is_blocked_due u.budget } else record p { stream_data_blocked = with_id p.stream_data_blocked id (is_limit_news s) })
+    told true = record { resets = a.resets; stops = a.stops; windows = a.windows }
+    told false = record { resets = a.resets; stops = a.stops; windows = a.windows }
+
+pub asked-refused : (x : Endpoint) (u v : Outgoing) (p q : Pending) (id : ℕ) (e : WriteError) → RefusesWrite u id p e v q → AreAsked x p → AreAsked x q
+asked-refused x u v p q id write_error.Blocked r a = let P : Pending → Type 0 = λ k. AreAsked x k in subst P (sym r.2) (asked-blocked x u p id (u.halves id) a)
+asked-refused x u v p q id (write_error.Stopped code) r a = let P : Pending → Type 0 = λ k. AreAsked x k in subst P (sym r.2) a
+asked-refused x u v p q id write_error.ClosedStream r a = let P : Pending → Type 0 = λ k. AreAsked x k in subst P (sym r.2) a
+asked-refused x u v p q id write_error.OutOfMemory r a = let P : Pending → Type 0 = λ k. AreAsked x k in subst P (sym r.1) a
 
 -- ---- an entry that leaves
 

@@ -31,7 +31,7 @@ use Rattle.quic_history.specs.declared.control.ControlKind.TheVariants as kinds
 use Rattle.quic_wire.specs.declared.frame.Frame.{Frame}
 use Rattle.quic_history.specs.Sends.{with_out, with_opened, told_writable, after_first_stop, is_permitted, PollsQueue, TellsNext}
 use Rattle.quic_history.specs.Writes.{with_queued, WritesOwn}
-use Rattle.quic_history.specs.Acknowledged.{with_send_freed, send_released, told_finished, frees_reset}
+use Rattle.quic_history.specs.Acknowledged.{with_send_freed, send_released, told_finished, frees_reset, without_sender, without_send_half}
 use Rattle.quic_history.specs.SendEvents.{SendEvent, SendStep, GaveLimits, RaisedData, RaisedCount, RaisedLimit, StoppedOwn, SetWindow, OpenedOwn, WroteOwn, FinishedOwn, ResetOwn, SetOwnPriority, AckedOwn, LostOwn, ResetAckedOwn, TookTurn, Polled}
 use Rattle.quic_history.specs.History.{Event, Received, ReceivedReset, AddedCredits, Began, Gave, Ended, Stopped, ToldReset, Resized, SetConcurrent, Accepted, Settled, Sending, Step}
 use Rattle.quic_history.proofs.SendSteps.{either-way}
@@ -218,8 +218,11 @@ stays_send_released : (w : World) (d : Dir) (id : ℕ) → Stays w (send_release
 stays_send_released w Uni id = refl
 stays_send_released w Bi id = stays_if w w (replaced_in w Bi) (is_some (w.receive id)) refl (stays_replaced w Bi)
 
+stays_send_half : (w : World) (id : ℕ) → Stays w (without_send_half w id)
+stays_send_half w id = stays_if w w (send_released w (dir_of id) id) (is_own w id) refl (stays_send_released w (dir_of id) id)
+
 stays_send_freed : (w : World) (id : ℕ) → Stays w (with_send_freed w id)
-stays_send_freed w id = stays_if w w (send_released w (dir_of id) id) (is_own w id) refl (stays_send_released w (dir_of id) id)
+stays_send_freed w id = stays_send_half (without_sender w id) id
 
 stays_finished : (w : World) (id : ℕ) (b : Bool) → Stays w (told_finished w id b)
 stays_finished w id true = stays_send_freed w id

@@ -35,7 +35,7 @@ use Rattle.quic_history.specs.declared.control.ControlKind.{ControlKind}
 use Rattle.quic_history.specs.declared.control.ControlKind.TheVariants as kinds
 use Rattle.quic_history.specs.Sends.{with_out, with_opened, told_writable, after_first_stop, is_permitted, PollsQueue, TellsNext}
 use Rattle.quic_history.specs.Writes.{with_queued, WritesOwn}
-use Rattle.quic_history.specs.Acknowledged.{with_send_freed, send_released, told_finished, frees_reset}
+use Rattle.quic_history.specs.Acknowledged.{with_send_freed, send_released, told_finished, frees_reset, without_sender, without_send_half}
 use Rattle.quic_history.specs.SendEvents.{SendEvent, SendStep, GaveLimits, RaisedData, RaisedCount, RaisedLimit, StoppedOwn, SetWindow, OpenedOwn, WroteOwn, FinishedOwn, ResetOwn, SetOwnPriority, AckedOwn, LostOwn, ResetAckedOwn, TookTurn, Polled}
 use Rattle.quic_history.specs.History.{Event, Received, ReceivedReset, AddedCredits, Began, Gave, Ended, Stopped, ToldReset, Resized, SetConcurrent, Accepted, Settled, Sending, Step, is_kept}
 use Rattle.quic_history.proofs.SendSteps.{either-way}
@@ -320,8 +320,11 @@ tails_send_released : (w : World) (d : Dir) (id : ℕ) → Tails w (send_release
 tails_send_released w Uni id = tails_same w w refl
 tails_send_released w Bi id = tails_if w w (replaced_in w Bi) (is_some (w.receive id)) (tails_same w w refl) (tails_replaced w Bi)
 
+tails_send_half : (w : World) (id : ℕ) → Tails w (without_send_half w id)
+tails_send_half w id = tails_if w w (send_released w (dir_of id) id) (is_own w id) (tails_same w w refl) (tails_send_released w (dir_of id) id)
+
 tails_send_freed : (w : World) (id : ℕ) → Tails w (with_send_freed w id)
-tails_send_freed w id = tails_if w w (send_released w (dir_of id) id) (is_own w id) (tails_same w w refl) (tails_send_released w (dir_of id) id)
+tails_send_freed w id = tails_send_half (without_sender w id) id
 
 tails_finished : (w : World) (id : ℕ) (b : Bool) → Tails w (told_finished w id b)
 tails_finished w id true = tails_send_freed w id
