@@ -14,11 +14,11 @@ use Rattle.quic_outgoing.specs.declared.limits.PeerLimits.{PeerLimits}
 use Rattle.quic_history.specs.World.{World}
 use Rattle.quic_history.specs.Flows.{send_moved, with_first_limits, has_send_side}
 use Rattle.quic_history.specs.SendEvents.{RaisedLimit, StoppedOwn, WroteOwn, FinishedOwn, ResetOwn, AckedOwn, LostOwn, ResetAckedOwn, TookTurn}
-use Rattle.quic_history.specs.History.{Event, Received, Sending, send_move_of, limits_in, opened_in_all, send_tale}
+use Rattle.quic_history.specs.History.{Event, Received, Sending, send_move_of, limits_in, opened_in_all, send_tale, since}
 use Rattle.quic_history.proofs.Totals.{by_cases, same}
 use Rattle.quic_link.specs.Endpoints.{Endpoint, IsOneOf, MayAct, acted, sent_on, IsHonest, WasStoppedWith}
 use Rattle.quic_link.specs.Promises.{CameAt, EndCame}
-use Rattle.quic_link.proofs.Ends.{Comes}
+use Rattle.quic_link.proofs.Ends.{Comes, plain-call}
 use Rattle.quic_link.proofs.Growth.{MayMove, CanMove, can-move}
 use Rattle.quic_link.proofs.Rooms.{amount}
 use Rattle.quic_link.proofs.TrueFrames.{AllTrue}
@@ -191,8 +191,8 @@ ack_true x y _ t k = tt
 -- the end that sends was called
 pub acked-sent : (x y : Endpoint) (e : Event) (v : World) → Comes x → AllTrue y → MayAct x y e v → ((q : ℕ) → AckedSo (sent_on x q) y.calls q) → (q : ℕ) → AckedSo (sent_on (acted x e v) q) y.calls q
 acked-sent x y e v f t a s q =
-    acked_limits y.calls q (limits_in e) x.made.side _
-    (acked_moved y.calls (send_move_of e) (has_send_side x.made.side (opened_in_all x.calls) (send_tale x.made x.calls).may_open) (sent_on x) q (can-move x.made x.calls x.world v f e a.step) (ack_true x y e t a.honest) (s q))
+    rw (plain-call x y e a.honest) (acked_limits y.calls q (limits_in e) x.made.side _
+    (acked_moved y.calls (send_move_of e) (has_send_side x.made.side (opened_in_all (since x.calls)) (send_tale x.made x.calls).may_open) (sent_on x) q (can-move x.made x.calls x.world v f.from e a.step) (ack_true x y e t a.honest) (s q)))
 
 -- the end that receives was
 pub acked-came : (f : SendFlow) (calls : List Event) (q : ℕ) (e : Event) → AckedSo f calls q → AckedSo f (e ∷ calls) q

@@ -27,7 +27,7 @@ use Rattle.quic_link.specs.Promises.{HasNothingToRead, KeptAt, AnswersTrue, IsOv
 use Rattle.quic_link.proofs.Growth.{held-told}
 use Rattle.quic_history.proofs.ToldEvents.{queues}
 use Rattle.quic_link.proofs.Told.{told-polled}
-use Rattle.quic_link.proofs.Ends.{comes-acted}
+use Rattle.quic_link.proofs.Ends.{comes-acted, plain-call}
 use Rattle.quic_link.proofs.Readers.{reads-kept}
 use Rattle.quic_link.proofs.Truthful.{readable}
 use Rattle.quic_link.proofs.Joint.{Agrees}
@@ -106,7 +106,7 @@ module _ (x y : Endpoint) (s : Agrees x y) (r : Agrees y x) where
   ended_stopped : (id code : ℕ) (o : Option Send) → x.world.out.halves id ≡ o → end_refusal o ≡ Some (finish_error.Stopped code) → (sent_on x id).stopped ≡ Some code
   ended_stopped id code None e k = cc
   ended_stopped id code (Some h) e k =
-      let t = held-told x.made x.calls x.world x.world s.comes id h e in
+      let t = held-told x.made x.calls x.world x.world s.comes.from id h e in
       sym t.stopped ∙ finish_stopped h code h.stop_reason refl k
 
   -- too many pieces
@@ -115,7 +115,8 @@ module _ (x y : Endpoint) (s : Agrees x y) (r : Agrees y x) where
   crowded_true none id offset bytes fin error v a not_read =
       let e = Received id offset bytes fin (Err (receive_error.Transport error)) in
       let c = (none e v a).1 in
-      let after = reads-kept x.made x.calls x.world s.comes s.reads e v a.step (comes-acted x y e v s.comes a) in
+      let acted_so = comes-acted x y e v s.comes a in
+      let after = reads-kept x.made x.calls x.world s.comes.from s.reads e v (plain-call x y e a.honest) a.step acted_so.from in
       let many = c.many in
       by_cases c.half.buffer.ordered
       (λ o. let k = after.pieces id c.half c.held o in let l = kept_most e id in omega arith)
@@ -162,5 +163,5 @@ module _ (x y : Endpoint) (s : Agrees x y) (r : Agrees y x) where
   answers-true none (Sending (FinishedOwn id (Err finish_error.OutOfMemory))) v a = tt
   answers-true none (Sending (FinishedOwn id (Ok u))) v a = tt
   answers-true none (Sending (Polled None)) v a = tt
-  answers-true none (Sending (Polled (Some g))) v a = told-polled x y x.world.events v.events g (queues x.made x.calls x.world s.comes.side s.comes.sent s.comes.sends (Sending (Polled (Some g))) v a.step) s.events
+  answers-true none (Sending (Polled (Some g))) v a = told-polled x y x.world.events v.events g (queues x.made x.calls x.world s.comes.side s.comes.from.sent s.comes.sends (Sending (Polled (Some g))) v a.step) s.events
   answers-true none _ v a = tt

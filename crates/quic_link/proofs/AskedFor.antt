@@ -1,5 +1,5 @@
 -- What is pending beside data was asked for, and so is every frame that was written of it.
-use Rattle.std.proofs.Common.{◌≡◌, ℕ, Bool, true, false, List, [], ◌∷◌, Option, Some, None, Ok, refl, sym, ap, ◌∙◌, subst, inl, inr}
+use Rattle.std.proofs.Common.{◌≡◌, ℕ, Bool, true, false, List, [], ◌∷◌, Option, Some, None, Ok, refl, sym, ap, ◌∙◌, subst, inl, inr, Err}
 use Rattle.std.specs.Prelude.{◌++◌, ◌==◌, ◌&&◌, ◌||◌, not, if◌then◌else◌}
 use Rattle.std.specs.Option.{option_map}
 use Rattle.quic_values.specs.declared.ids.Dir.{Dir}
@@ -24,13 +24,13 @@ use Rattle.quic_history.specs.declared.control.ControlKind.{ControlKind}
 use Rattle.quic_history.specs.declared.control.ControlKind.TheVariants as kinds
 use Rattle.quic_history.specs.Control.{SettlesEntry, reset_frame, announced_end}
 use Rattle.quic_history.specs.SendEvents.{ResetOwn, TookTurn}
-use Rattle.quic_history.specs.History.{Event, Settled, Sending, opened_in_all, send_tale}
+use Rattle.quic_history.specs.History.{Event, Settled, Sending, opened_in_all, send_tale, since}
 use Rattle.quic_history.proofs.Traces.{itself}
 use Rattle.quic_history.proofs.SendSides.{held-side}
 use Rattle.quic_history.proofs.FlowHistory.{known-by}
 use Rattle.quic_link.specs.Endpoints.{Endpoint, IsOneOf, MayAct, acted, written_by, written_on, sent_on, WasAskedFor, WasGiven, WasStoppedWith}
 use Rattle.quic_link.specs.Asked.{AreAsked}
-use Rattle.quic_link.proofs.Ends.{Comes}
+use Rattle.quic_link.proofs.Ends.{Comes, plain-call}
 use Rattle.quic_link.proofs.Growth.{grows}
 use Rattle.quic_link.proofs.Given.{given-more}
 use Rattle.quic_link.proofs.Basics.{both, either-of, either_true, only, same_id, some_same}
@@ -42,7 +42,7 @@ AllAskedFor x = (g : Frame) → IsOneOf g x.wrote → WasAskedFor x g
 
 module _ (x y : Endpoint) (e : Event) (v : World) (f : Comes x) (a : MayAct x y e v) where
   reset_stays : (id code : ℕ) → (sent_on x id).reset ≡ Some code → (sent_on (acted x e v) id).reset ≡ Some code
-  reset_stays id code k = let g = grows x.made x.calls x.world v f e a.step id in g.reset code k
+  reset_stays id code k = let g = grows x.made x.calls x.world v f.from e (plain-call x y e a.honest) a.step id in g.reset code k
 
   pub frame-asked : (g : Frame) → WasAskedFor x g → WasAskedFor (acted x e v) g
   frame-asked (frames.ResetStream r) k = (reset_stays r.id r.error_code k.0, given-more x y e v f a r.id k.1)
@@ -128,8 +128,8 @@ pub reset-told : (x y : Endpoint) (id code : ℕ) (v : World) → Comes x → Ma
 reset-told x y id code v f a =
     let r = a.step.2.1 in
     let there = held-side _ _ (has_side_in x.world.out x.world.bi.max_remote id) r.0 (x.world.out.halves id) r.1 (f.sends.flows id) in
-    let known = known-by x.made x.calls x.world f.side f.sends.may_open f.sent id in
-    given_up (has_send_side x.made.side (opened_in_all x.calls) (send_tale x.made x.calls).may_open) (sent_on x id) (known ∙ there)
+    let known = known-by x.made x.calls x.world f.side f.sends.may_open f.from.sent id in
+    given_up (has_send_side x.made.side (opened_in_all (since x.calls)) (send_tale x.made x.calls).may_open) (sent_on x id) (known ∙ there)
   where
     given_up : (there : ℕ → Bool) (t : SendFlow) → there id ≡ true → (send_moved (Some (id, WasGivenUp code)) there id t).reset ≡ Some code
     given_up there t k = rw (itself id, k) refl

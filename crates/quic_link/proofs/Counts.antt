@@ -13,7 +13,7 @@ use Rattle.quic_history.specs.SendEvents.{GaveLimits, RaisedData, RaisedCount, R
 use Rattle.quic_history.specs.History.{Event, Received, ReceivedReset, Sending, opened_in_all, count_by, greatest_limit, limit_by}
 use Rattle.quic_history.proofs.Credits.{limit-fits}
 use Rattle.quic_link.specs.Endpoints.{Endpoint, MayAct, acted, written_by, IsHonest, limits_of}
-use Rattle.quic_link.proofs.Ends.{Comes}
+use Rattle.quic_link.proofs.Ends.{Comes, plain-call}
 use Rattle.quic_link.proofs.TrueFrames.{AllTrue, count-grows, limit-grows}
 use Rattle.quic_link.proofs.Meets.{nexts, next_of_dir, MeetsBy, frame_id, meets-step}
 use Rattle.quic_link.proofs.Queues.{queued_id, queues-step}
@@ -107,7 +107,7 @@ module _ (x y : Endpoint) (e : Event) (v : World) (f : Comes x) (a : MayAct x y 
   pub ids-first : y.made.side ≡ other_side x.made.side → AllTrue y → IdsSo x y → IdsSo y x → IdsSo (acted x e v) y
   ids-first other t s r =
       let fits = limit-fits _ _ _ _ x.world.credit f.facts.credit in
-      let queues = queues-step x.calls x.world e v fits a.step in
+      let queues = queues-step x.calls x.world e v fits (plain-call x y e a.honest) a.step in
       record {
         frames_open = λ g h. elim (either-of g (written_by x e) x.wrote h) [
           | inl k ↦ frame_first x y e v g (new_open x y e v f s a g k)
@@ -117,9 +117,9 @@ module _ (x y : Endpoint) (e : Event) (v : World) (f : Comes x) (a : MayAct x y 
           | inl k ↦ open_first x y e v q (s.queue q k)
           | inr k ↦ open_first x y e v q (let P : Option ℕ → Type 0 = λ o. QueuedOpen x y o in subst P k (queued_open x y e f s a.honest))
         ];
-        met = met_after x y v (frame_id e) f.side other (meets-step x.world e v a.step) (met_open x y e r a.honest) s.met;
+        met = met_after x y v (frame_id e) f.side other (meets-step x.world e v (plain-call x y e a.honest) a.step) (met_open x y e r a.honest) s.met;
         counts = λ d. let k = s.counts d in let l = count_true x y e t r.base a.honest d in omega arith;
-        base = λ d. let k = s.base d in let l = count-grows x.made x.calls x.world f e v a.step d in omega arith;
+        base = λ d. let k = s.base d in let l = count-grows x.made x.calls x.world f.from e v a.step d in omega arith;
       }
 
   -- what the other end knows stays
@@ -128,7 +128,7 @@ module _ (x y : Endpoint) (e : Event) (v : World) (f : Comes x) (a : MayAct x y 
     frames_open = λ g h. frame_second y x e v g (s.frames_open g h);
     queue = λ q h. open_second y x e v q (s.queue q h);
     met = λ d. let k = s.met d in let l = opened_grows x.calls e d in omega arith;
-    counts = λ d. let k = s.counts d in let l = count-grows x.made x.calls x.world f e v a.step d in omega arith;
+    counts = λ d. let k = s.counts d in let l = count-grows x.made x.calls x.world f.from e v a.step d in omega arith;
     base = s.base;
   }
 
@@ -137,9 +137,9 @@ module _ (x y : Endpoint) (e : Event) (v : World) (f : Comes x) (a : MayAct x y 
       let k = s.limit in
       let l = limit_true x y e t r.base a.honest in
       let m = s.base in
-      let n = limit-grows x.made x.calls x.world f e v a.step in
+      let n = limit-grows x.made x.calls x.world f.from e v a.step in
       let b : max (greatest_limit x.calls) (limit_by e) ≤ y.world.credit.local_max_data = omega arith in
       record { limit = b; base = omega arith }
 
   pub data-other : DataSo y x → DataSo y (acted x e v)
-  data-other s = let k = s.limit in let n = limit-grows x.made x.calls x.world f e v a.step in record { limit = omega arith; base = s.base }
+  data-other s = let k = s.limit in let n = limit-grows x.made x.calls x.world f.from e v a.step in record { limit = omega arith; base = s.base }

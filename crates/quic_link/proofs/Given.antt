@@ -1,5 +1,5 @@
 -- A stream that the application was given stays so.
-use Rattle.std.proofs.Common.{◌≡◌, ℕ, Bool, true, false, ◌∷◌, refl, sym, ap, subst, arith, ◌+◌, ◌≤◌, ◌<◌}
+use Rattle.std.proofs.Common.{◌≡◌, ℕ, Bool, true, false, ◌∷◌, refl, sym, ap, subst, arith, ◌+◌, ◌≤◌, ◌<◌, None}
 use Rattle.std.specs.Prelude.{nat_lt, if◌then◌else◌}
 use Rattle.quic_values.specs.declared.ids.Dir.{Dir}
 use Rattle.quic_values.specs.declared.ids.Dir.TheVariants.{Bi, Uni}
@@ -9,9 +9,9 @@ use Rattle.quic_outgoing.specs.Outgoing.{own_of}
 use Rattle.quic_outgoing.specs.Senders.{is_local}
 use Rattle.quic_history.specs.World.{World, remote_of}
 use Rattle.quic_history.specs.Permitting.{with_accepted}
-use Rattle.quic_history.specs.History.{Event, Accepted, Step, opened_in_all}
+use Rattle.quic_history.specs.History.{Event, Accepted, Step, opened_in_all, joint_move_of}
 use Rattle.quic_link.specs.Endpoints.{Endpoint, MayAct, acted, WasGiven}
-use Rattle.quic_link.proofs.Ends.{Comes, comes-acted}
+use Rattle.quic_link.proofs.Ends.{Comes, comes-acted, plain-call}
 use Rattle.quic_link.proofs.Meets.{next_of_dir}
 use Rattle.quic_link.proofs.Reports.{reports, reports-step}
 use Rattle.quic_link.proofs.Opens.{own-local, opened-is}
@@ -30,9 +30,9 @@ same_reports : (u v : World) (d : Dir) → reports v ≡ reports u → next_of_d
 same_reports u v d e = let k : next_of_dir (reports v) d ≡ next_of_dir (reports u) d = ap (λ p. next_of_dir p d) e in omega arith
 
 -- the application accepts more and more
-reports_grow : (u : World) (e : Event) (v : World) → Step u e v → (d : Dir) → next_of_dir (reports u) d ≤ next_of_dir (reports v) d
-reports_grow u (Accepted dir answer) v s d = accepted_grows u v dir d s.0
-reports_grow u e v s d = same_reports u v d (reports-step u e v refl s)
+reports_grow : (u : World) (e : Event) (v : World) → joint_move_of e ≡ None → Step u e v → (d : Dir) → next_of_dir (reports u) d ≤ next_of_dir (reports v) d
+reports_grow u (Accepted dir answer) v plain s d = accepted_grows u v dir d s.0
+reports_grow u e v plain s d = same_reports u v d (reports-step u e v plain refl s)
 
 report_is : (w : World) (d : Dir) → (remote_of w d).next_reported ≡ next_of_dir (reports w) d
 report_is w Bi = refl
@@ -53,7 +53,7 @@ given-more x y e v f a id k =
     let Q : Bool → Type 0 = λ b. index_of id < (if b then (own_of v.out d).opened else (remote_of v d).next_reported) in
     let opened = opened-is x d f in
     let opened_now = opened-is z d g in
-    let grown = reports_grow x.world e v a.step d in
+    let grown = reports_grow x.world e v (plain-call x y e a.honest) a.step d in
     let told = report_is x.world d in
     let told_now = report_is v d in
     let more : opened_in_all x.calls d ≤ opened_in_all (e ∷ x.calls) d = omega arith in

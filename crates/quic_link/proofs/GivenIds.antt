@@ -19,7 +19,7 @@ use Rattle.quic_history.specs.SendEvents.{OpenedOwn}
 use Rattle.quic_history.specs.History.{Event, Accepted, Sending, opened_in_all}
 use Rattle.quic_history.proofs.Refusals.{side-bit, dir-bit, index-id}
 use Rattle.quic_link.specs.Endpoints.{Endpoint, IsOneOf, MayAct, acted, WasGiven, GaveId}
-use Rattle.quic_link.proofs.Ends.{Comes, comes-acted}
+use Rattle.quic_link.proofs.Ends.{Comes, comes-acted, plain-call}
 use Rattle.quic_link.proofs.Meets.{next_of_dir}
 use Rattle.quic_link.proofs.Reports.{reports, reports-step}
 use Rattle.quic_link.proofs.Opens.{own-local, opened-is}
@@ -226,7 +226,7 @@ new_peer x y (Accepted d None) v id f a own low high =
     let t = accepts_now x.world v d (dir_of id) a.step.0 (omega arith) in
     absurd (let k = rw t.some at a.step.1 in cc)
 new_peer x y e v id f a own low high =
-    let k : next_of_dir (reports v) (dir_of id) ≡ next_of_dir (reports x.world) (dir_of id) = ap (λ p. next_of_dir p (dir_of id)) (reports-step x.world e v refl a.step) in
+    let k : next_of_dir (reports v) (dir_of id) ≡ next_of_dir (reports x.world) (dir_of id) = ap (λ p. next_of_dir p (dir_of id)) (reports-step x.world e v (plain-call x y e a.honest) refl a.step) in
     absurd (omega arith)
 
 -- ---- after every call

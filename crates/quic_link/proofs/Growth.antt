@@ -12,7 +12,7 @@ use Rattle.quic_outgoing.specs.declared.limits.PeerLimits.{PeerLimits}
 use Rattle.quic_history.specs.World.{World, Made}
 use Rattle.quic_history.specs.Flows.{has_side_in, send_moved, with_first_limits, refusal_told, refusal_where, room_on}
 use Rattle.quic_history.specs.SendEvents.{SendEvent, SendStep, RaisedLimit, StoppedOwn, WroteOwn, FinishedOwn, ResetOwn, AckedOwn, LostOwn, ResetAckedOwn, TookTurn}
-use Rattle.quic_history.specs.History.{Event, Sending, Step, From, flow, send_move_of, limits_in, is_sent_on, room_in_connection, room_in_window}
+use Rattle.quic_history.specs.History.{Event, Sending, Step, From, flow, send_move_of, limits_in, is_sent_on, room_in_connection, room_in_window, joint_move_of}
 use Rattle.quic_history.proofs.Totals.{by_cases, same}
 use Rattle.quic_history.proofs.SendSides.{held-flow}
 
@@ -138,5 +138,5 @@ module _ (m : Made) (h : List Event) (u v : World) (f : From m h u) where
   can-move _ s = tt
 
   -- each call lets what is told of a sending side grow
-  pub grows : (e : Event) → Step u e v → (q : ℕ) → Grows (flow m h q) (flow m (e ∷ h) q)
-  grows e s q = grows_limits (limits_in e) m.side q (flow m h q) _ (grows_moved (send_move_of e) _ (flow m h) q (can-move e s))
+  pub grows : (e : Event) → joint_move_of e ≡ None → Step u e v → (q : ℕ) → Grows (flow m h q) (flow m (e ∷ h) q)
+  grows e plain s q = rw plain (grows_limits (limits_in e) m.side q (flow m h q) _ (grows_moved (send_move_of e) _ (flow m h) q (can-move e s)))

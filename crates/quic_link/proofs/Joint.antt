@@ -6,7 +6,7 @@ use Rattle.quic_values.specs.Ids.{other_side}
 use Rattle.quic_history.specs.World.{World, Made, start, count_of, remote_of}
 use Rattle.quic_history.specs.History.{Event, move_of}
 use Rattle.quic_link.specs.Endpoints.{Endpoint, MayAct, acted, IsNewEnd, Linked, begun, first_acts, second_acts, sent_on, came_on}
-use Rattle.quic_link.proofs.Ends.{Comes, comes-new, comes-acted}
+use Rattle.quic_link.proofs.Ends.{Comes, comes-new, comes-acted, plain-call}
 use Rattle.quic_link.proofs.Growth.{grows}
 use Rattle.quic_link.proofs.Rooms.{RoomSo, room-kept, limits-honest}
 use Rattle.quic_link.proofs.TrueFrames.{AllTrue, true-acted, count-few}
@@ -102,20 +102,21 @@ agrees-sent : (x y : Endpoint) (e : Event) (v : World) → Agrees x y → Agrees
 agrees-sent x y e v s r a =
     let f = s.comes in
     let l = limits-honest x y e a.honest in
+    let plain = plain-call x y e a.honest in
     record {
       comes = comes-acted x y e v f a;
       small = s.small;
-      few = λ d. count-few x.made x.calls x.world f e v a.step d (s.few d);
+      few = λ d. count-few x.made x.calls x.world f.from e v a.step d (s.few d);
       other = s.other;
       truth = true-acted x y e v f a s.truth;
       asked = frames-asked x y e v f a s.asked;
       given = given-step x y e v f a s.given;
       ids = ids-first x y e v f a s.other r.truth s.ids r.ids;
       credit = data-first x y e v f a r.truth s.credit r.credit;
-      reads = reads-kept x.made x.calls x.world f s.reads e v a.step (comes-acted x y e v f a);
-      keeps = kept-step x.made x.calls x.world f e v a.step s.keeps;
-      rooms = λ q. room-kept x.made x.calls x.world v f y.made e a.step r.small l q (s.rooms q);
-      fits = λ q. fits-grown (sent_on x q) (sent_on (acted x e v) q) (came_on y q) (grows x.made x.calls x.world v f e a.step q) (s.fits q);
+      reads = let after = comes-acted x y e v f a in reads-kept x.made x.calls x.world f.from s.reads e v plain a.step after.from;
+      keeps = kept-step x.made x.calls x.world f.from e v plain a.step s.keeps;
+      rooms = λ q. room-kept x.made x.calls x.world v f.from y.made e plain a.step r.small l q (s.rooms q);
+      fits = λ q. fits-grown (sent_on x q) (sent_on (acted x e v) q) (came_on y q) (grows x.made x.calls x.world v f.from e plain a.step q) (s.fits q);
       limits = limits-sent x y e v r.truth a.honest l s.limits;
       acked = acked-sent x y e v f r.truth a s.acked;
       events = told-first x y e v f r.truth a s.acked s.events;
@@ -126,6 +127,7 @@ agrees-sent x y e v s r a =
 agrees-came : (x y : Endpoint) (e : Event) (v : World) → Agrees x y → Agrees y x → MayAct y x e v → Agrees x (acted y e v)
 agrees-came x y e v s r a =
     let f = r.comes in
+    let plain = plain-call y x e a.honest in
     record {
       comes = s.comes;
       small = s.small;
@@ -139,8 +141,8 @@ agrees-came x y e v s r a =
       reads = s.reads;
       keeps = s.keeps;
       rooms = s.rooms;
-      fits = λ q. fits-moved (sent_on x) (move_of e) q (came_on y q) (move-true x y e s.truth a.honest) (s.fits q);
-      limits = limits-came x y e v s.limits;
+      fits = λ q. rw plain (fits-moved (sent_on x) (move_of e) q (came_on y q) (move-true x y e s.truth a.honest) (s.fits q));
+      limits = limits-came x y e v plain s.limits;
       acked = λ q. acked-came (sent_on x q) y.calls q e (s.acked q);
       events = told-second x y e v s.events;
     }

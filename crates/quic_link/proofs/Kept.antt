@@ -8,7 +8,7 @@ use Rattle.quic_receiving.specs.Data.{is_in_slices}
 use Rattle.quic_receiving.specs.declared.transmit.ShouldTransmit.{ShouldTransmit}
 use Rattle.quic_receiving.specs.declared.errors.ReadError.TheVariants as read_error
 use Rattle.quic_history.specs.World.{World, Made}
-use Rattle.quic_history.specs.History.{Event, Move, Framed, WasReset, WasRead, WasStopped, WasTold, WasAnnounced, Received, ReceivedReset, Stopped, ToldReset, Settled, Step, From, Trace, trace, move_of, moved, with_move, with_kept_frame, is_kept, is_closed}
+use Rattle.quic_history.specs.History.{Event, Move, Framed, WasReset, WasRead, WasStopped, WasTold, WasAnnounced, Received, ReceivedReset, Stopped, ToldReset, Settled, Step, From, Trace, trace, move_of, moved, with_move, with_kept_frame, is_kept, is_closed, joint_move_of}
 use Rattle.quic_history.proofs.StreamSteps.{half-from, known-from}
 use Rattle.quic_history.proofs.Totals.{by_cases, same}
 use Rattle.quic_history.proofs.Traces.{itself}
@@ -130,18 +130,18 @@ module _ (m : Made) (h : List Event) (u : World) (f : From m h u) where
   stops_true (Settled kind (Some _)) v s = tt
   stops_true _ v s = tt
 
-  pub kept-step : (e : Event) (v : World) → Step u e v → KeptSo h → KeptSo (e ∷ h)
-  kept-step e v s k =
+  pub kept-step : (e : Event) (v : World) → joint_move_of e ≡ None → Step u e v → KeptSo h → KeptSo (e ∷ h)
+  kept-step e v plain s k =
       let t = stops_true e v s in
       record {
-        bytes = λ q at b n. elim b.is [
+        bytes = λ q at b closed. let n = rw plain at closed in rw plain (elim b.is [
           | inl now ↦ (let P : Event → Type 0 = λ j. is_closed (moved (move_of j) q (trace h q)) ≡ false → StopsTrue (trace h) (move_of j) → is_in_slices (moved (move_of j) q (trace h q)).kept at ≡ true in
               subst P now (λ open_now stops. now_bytes q b.offset b.bytes b.fin b.answer (trace h q) at b.kept (open_before (trace h) (move_of (Received q b.offset b.bytes b.fin b.answer)) q stops open_now) b.has) n t)
           | inr old ↦ in_moved (move_of e) q (trace h q) at (k.bytes q at (record { offset = b.offset; bytes = b.bytes; fin = b.fin; answer = b.answer; is = old; kept = b.kept; has = b.has }) (open_before (trace h) (move_of e) q t n))
-        ];
-        ends = λ q b n. elim b.is [
+        ]);
+        ends = λ q b closed. let n = rw plain at closed in rw plain (elim b.is [
           | inl now ↦ (let P : Event → Type 0 = λ j. is_closed (moved (move_of j) q (trace h q)) ≡ false → StopsTrue (trace h) (move_of j) → (moved (move_of j) q (trace h q)).sized ≡ true in
               subst P now (λ open_now stops. now_end q b.offset b.bytes b.answer (trace h q) b.kept (open_before (trace h) (move_of (Received q b.offset b.bytes true b.answer)) q stops open_now)) n t)
           | inr old ↦ sized_moved (move_of e) q (trace h q) (k.ends q (record { offset = b.offset; bytes = b.bytes; answer = b.answer; is = old; kept = b.kept }) (open_before (trace h) (move_of e) q t n))
-        ];
+        ]);
       }

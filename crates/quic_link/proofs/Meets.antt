@@ -33,7 +33,7 @@ use Rattle.quic_history.specs.Sends.{with_out, with_opened, told_writable, after
 use Rattle.quic_history.specs.Writes.{with_queued, WritesOwn}
 use Rattle.quic_history.specs.Acknowledged.{with_send_freed, send_released, told_finished, frees_reset, without_sender, without_send_half}
 use Rattle.quic_history.specs.SendEvents.{SendEvent, SendStep, GaveLimits, RaisedData, RaisedCount, RaisedLimit, StoppedOwn, SetWindow, OpenedOwn, WroteOwn, FinishedOwn, ResetOwn, SetOwnPriority, AckedOwn, LostOwn, ResetAckedOwn, TookTurn, Polled}
-use Rattle.quic_history.specs.History.{Event, Received, ReceivedReset, AddedCredits, Began, Gave, Ended, Stopped, ToldReset, Resized, SetConcurrent, Accepted, Settled, Sending, Step}
+use Rattle.quic_history.specs.History.{Event, Received, ReceivedReset, AddedCredits, Began, Gave, Ended, Stopped, ToldReset, Resized, SetConcurrent, Accepted, Settled, Sending, Step, Rejected, SentAgain, joint_move_of}
 use Rattle.quic_history.proofs.SendSteps.{either-way}
 
 -- the lowest index of each direction that the peer did not open
@@ -343,27 +343,30 @@ stays_read u id new (Err (read_error.Reset code)) = stays_freed u id
 stays_read u id new (Err read_error.OutOfMemory) = stays_put u id (Some new)
 
 -- a call makes the peer's streams count as opened only by a frame
-pub meets-step : (u : World) (e : Event) (v : World) → Step u e v → MeetsBy u v (frame_id e)
-meets-step u (Received id offset bytes fin answer) v s = meets_received u v id offset bytes fin answer s
-meets-step u (ReceivedReset id code final answer) v s = meets_reset u v id code final answer s
-meets-step u (AddedCredits count answer) v s = ap nexts s.0
-meets-step u (Began id ordered (Ok x)) v s = ap nexts s.is ∙ stays_put u id (Some s.new)
-meets-step u (Began id ordered (Err readable_error.ClosedStream)) v s = ap nexts s.1
-meets-step u (Began id ordered (Err readable_error.IllegalOrderedRead)) v s = ap nexts s.is ∙ stays_put u id (Some s.new)
-meets-step u (Began id ordered (Err readable_error.OutOfMemory)) v s = elim s [ inl t ↦ ap nexts t | inr t ↦ ap nexts t.is ∙ stays_put u id (Some t.new) ]
-meets-step u (Gave id most ordered answer) v s = ap nexts s.is ∙ stays_read u id s.new answer
-meets-step u (Ended id count) v s = ap nexts s
-meets-step u (Stopped id code (Ok x)) v s =
+pub meets-step : (u : World) (e : Event) (v : World) → joint_move_of e ≡ None → Step u e v → MeetsBy u v (frame_id e)
+meets-step u (Received id offset bytes fin answer) v p s = meets_received u v id offset bytes fin answer s
+meets-step u (ReceivedReset id code final answer) v p s = meets_reset u v id code final answer s
+meets-step u (AddedCredits count answer) v p s = ap nexts s.0
+meets-step u (Began id ordered (Ok x)) v p s = ap nexts s.is ∙ stays_put u id (Some s.new)
+meets-step u (Began id ordered (Err readable_error.ClosedStream)) v p s = ap nexts s.1
+meets-step u (Began id ordered (Err readable_error.IllegalOrderedRead)) v p s = ap nexts s.is ∙ stays_put u id (Some s.new)
+meets-step u (Began id ordered (Err readable_error.OutOfMemory)) v p s = elim s [ inl t ↦ ap nexts t | inr t ↦ ap nexts t.is ∙ stays_put u id (Some t.new) ]
+meets-step u (Gave id most ordered answer) v p s = ap nexts s.is ∙ stays_read u id s.new answer
+meets-step u (Ended id count) v p s = ap nexts s
+meets-step u (Stopped id code (Ok x)) v p s =
     ap nexts s.2.6 ∙ stays_if u (with_freed u id) (with_receive u id (Some s.2.1)) (is_some s.2.0.size) (stays_freed u id) (stays_put u id (Some s.2.1))
-meets-step u (Stopped id code (Err handle_error.ClosedStream)) v s = ap nexts s.2.1
-meets-step u (Stopped id code (Err handle_error.OutOfMemory)) v s = ap nexts s.2.0
-meets-step u (ToldReset id (Ok (Some code))) v s = ap nexts s.2.4 ∙ stays_freed u id
-meets-step u (ToldReset id (Ok None)) v s = ap nexts s.2.4
-meets-step u (ToldReset id (Err handle_error.ClosedStream)) v s = ap nexts s.2.1
-meets-step u (ToldReset id (Err handle_error.OutOfMemory)) v s = ap nexts s.2.3
-meets-step u (Resized window answer) v s = ap nexts s.0
-meets-step u (SetConcurrent dir count (Ok k)) v s = ap nexts s ∙ stays_concurrent u dir count
-meets-step u (SetConcurrent dir count (Err k)) v s = ap nexts s
-meets-step u (Accepted dir answer) v s = ap nexts s.0 ∙ stays_remote u dir (one_accepted (remote_of u dir)) (accepted_next (remote_of u dir) (nat_lt (remote_of u dir).next_reported (remote_of u dir).next_remote))
-meets-step u (Settled kind frame) v s = stays_settled kind u s.0 frame v s.1 s.2
-meets-step u (Sending e) v s = meets_send u e v s
+meets-step u (Stopped id code (Err handle_error.ClosedStream)) v p s = ap nexts s.2.1
+meets-step u (Stopped id code (Err handle_error.OutOfMemory)) v p s = ap nexts s.2.0
+meets-step u (ToldReset id (Ok (Some code))) v p s = ap nexts s.2.4 ∙ stays_freed u id
+meets-step u (ToldReset id (Ok None)) v p s = ap nexts s.2.4
+meets-step u (ToldReset id (Err handle_error.ClosedStream)) v p s = ap nexts s.2.1
+meets-step u (ToldReset id (Err handle_error.OutOfMemory)) v p s = ap nexts s.2.3
+meets-step u (Resized window answer) v p s = ap nexts s.0
+meets-step u (SetConcurrent dir count (Ok k)) v p s = ap nexts s ∙ stays_concurrent u dir count
+meets-step u (SetConcurrent dir count (Err k)) v p s = ap nexts s
+meets-step u (Accepted dir answer) v p s = ap nexts s.0 ∙ stays_remote u dir (one_accepted (remote_of u dir)) (accepted_next (remote_of u dir) (nat_lt (remote_of u dir).next_reported (remote_of u dir).next_remote))
+meets-step u (Settled kind frame) v p s = stays_settled kind u s.0 frame v s.1 s.2
+meets-step u (Sending e) v p s = meets_send u e v s
+meets-step u Rejected v p s = cc
+meets-step u (SentAgain (Ok x)) v p s = cc
+meets-step u (SentAgain (Err x)) v p s = ap nexts s.1

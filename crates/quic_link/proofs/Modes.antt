@@ -37,7 +37,7 @@ use Rattle.quic_history.specs.Sends.{with_out, with_opened, told_writable, after
 use Rattle.quic_history.specs.Writes.{with_queued, WritesOwn}
 use Rattle.quic_history.specs.Acknowledged.{with_send_freed, send_released, told_finished, frees_reset, without_sender, without_send_half}
 use Rattle.quic_history.specs.SendEvents.{SendEvent, SendStep, GaveLimits, RaisedData, RaisedCount, RaisedLimit, StoppedOwn, SetWindow, OpenedOwn, WroteOwn, FinishedOwn, ResetOwn, SetOwnPriority, AckedOwn, LostOwn, ResetAckedOwn, TookTurn, Polled}
-use Rattle.quic_history.specs.History.{Event, Received, ReceivedReset, AddedCredits, Began, Gave, Ended, Stopped, ToldReset, Resized, SetConcurrent, Accepted, Settled, Sending, Step, is_kept}
+use Rattle.quic_history.specs.History.{Event, Received, ReceivedReset, AddedCredits, Began, Gave, Ended, Stopped, ToldReset, Resized, SetConcurrent, Accepted, Settled, Sending, Step, is_kept, Rejected, SentAgain, joint_move_of}
 use Rattle.quic_history.proofs.SendSteps.{either-way}
 use Rattle.quic_history.proofs.StreamSteps.{noticed-any}
 use Rattle.quic_history.proofs.Totals.{by_cases, same}
@@ -396,26 +396,29 @@ abbrev pub ModesBy : Event → World → World → Type 0
 ModesBy e u v = Modes (begun_by e) (frames_kept e) u v
 
 -- a call leaves each half in its mode, or lets it read bytes as they come
-pub modes-step : (u : World) (e : Event) (v : World) → Step u e v → ModesBy e u v
-modes-step u (Received id offset bytes fin answer) v s = modes_frame (begun_by (Received id offset bytes fin answer)) (frames_kept (Received id offset bytes fin answer)) u v id offset bytes fin answer (kept_one id (is_kept answer)) s
-modes-step u (ReceivedReset id code final answer) v s = modes_reset (begun_by (ReceivedReset id code final answer)) (frames_kept (ReceivedReset id code final answer)) u v id code final answer s
-modes-step u (AddedCredits count answer) v s = modes_of (begun_by (AddedCredits count answer)) (frames_kept (AddedCredits count answer)) u v (tails_same u v (ap (λ (w : World). w.receive) s.0))
-modes-step u (Began id ordered answer) v s = modes_began (begun_by (Began id ordered answer)) (frames_kept (Began id ordered answer)) u v id ordered answer (begun_here id ordered answer) s
-modes-step u (Gave id most ordered answer) v s = modes_at (begun_by (Gave id most ordered answer)) (frames_kept (Gave id most ordered answer)) u v _ s.is (modes_read (begun_by (Gave id most ordered answer)) (frames_kept (Gave id most ordered answer)) u id most s.old s.new answer s.half s.reads)
-modes-step u (Ended id count) v s = modes_of (begun_by (Ended id count)) (frames_kept (Ended id count)) u v (tails_same u v (ap (λ (w : World). w.receive) s))
-modes-step u (Stopped id code (Ok x)) v s =
+pub modes-step : (u : World) (e : Event) (v : World) → joint_move_of e ≡ None → Step u e v → ModesBy e u v
+modes-step u (Received id offset bytes fin answer) v p s = modes_frame (begun_by (Received id offset bytes fin answer)) (frames_kept (Received id offset bytes fin answer)) u v id offset bytes fin answer (kept_one id (is_kept answer)) s
+modes-step u (ReceivedReset id code final answer) v p s = modes_reset (begun_by (ReceivedReset id code final answer)) (frames_kept (ReceivedReset id code final answer)) u v id code final answer s
+modes-step u (AddedCredits count answer) v p s = modes_of (begun_by (AddedCredits count answer)) (frames_kept (AddedCredits count answer)) u v (tails_same u v (ap (λ (w : World). w.receive) s.0))
+modes-step u (Began id ordered answer) v p s = modes_began (begun_by (Began id ordered answer)) (frames_kept (Began id ordered answer)) u v id ordered answer (begun_here id ordered answer) s
+modes-step u (Gave id most ordered answer) v p s = modes_at (begun_by (Gave id most ordered answer)) (frames_kept (Gave id most ordered answer)) u v _ s.is (modes_read (begun_by (Gave id most ordered answer)) (frames_kept (Gave id most ordered answer)) u id most s.old s.new answer s.half s.reads)
+modes-step u (Ended id count) v p s = modes_of (begun_by (Ended id count)) (frames_kept (Ended id count)) u v (tails_same u v (ap (λ (w : World). w.receive) s))
+modes-step u (Stopped id code (Ok x)) v p s =
     let t = s.2 in
     modes_at (begun_by (Stopped id code (Ok x))) (frames_kept (Stopped id code (Ok x))) u v _ t.6 (modes_if (begun_by (Stopped id code (Ok x))) (frames_kept (Stopped id code (Ok x))) u (with_freed u id) (with_receive u id (Some t.1)) (is_some t.0.size) (modes_of (begun_by (Stopped id code (Ok x))) (frames_kept (Stopped id code (Ok x))) u (with_freed u id) (tails_freed u id))
     (modes_put (begun_by (Stopped id code (Ok x))) (frames_kept (Stopped id code (Ok x))) u id t.0 t.1 t.2 (follows_cleared (begun_by (Stopped id code (Ok x))) (frames_kept (Stopped id code (Ok x))) id t.0 t.1 t.4)))
-modes-step u (Stopped id code (Err handle_error.ClosedStream)) v s = modes_of (begun_by (Stopped id code (Err handle_error.ClosedStream))) (frames_kept (Stopped id code (Err handle_error.ClosedStream))) u v (tails_same u v (ap (λ (w : World). w.receive) s.2.1))
-modes-step u (Stopped id code (Err handle_error.OutOfMemory)) v s = modes_of (begun_by (Stopped id code (Err handle_error.OutOfMemory))) (frames_kept (Stopped id code (Err handle_error.OutOfMemory))) u v (tails_same u v (ap (λ (w : World). w.receive) s.2.0))
-modes-step u (ToldReset id (Ok (Some code))) v s = modes_of (begun_by (ToldReset id (Ok (Some code)))) (frames_kept (ToldReset id (Ok (Some code)))) u v (tails_at u v _ s.2.4 (tails_freed u id))
-modes-step u (ToldReset id (Ok None)) v s = modes_of (begun_by (ToldReset id (Ok None))) (frames_kept (ToldReset id (Ok None))) u v (tails_same u v (ap (λ (w : World). w.receive) s.2.4))
-modes-step u (ToldReset id (Err handle_error.ClosedStream)) v s = modes_of (begun_by (ToldReset id (Err handle_error.ClosedStream))) (frames_kept (ToldReset id (Err handle_error.ClosedStream))) u v (tails_same u v (ap (λ (w : World). w.receive) s.2.1))
-modes-step u (ToldReset id (Err handle_error.OutOfMemory)) v s = modes_of (begun_by (ToldReset id (Err handle_error.OutOfMemory))) (frames_kept (ToldReset id (Err handle_error.OutOfMemory))) u v (tails_same u v (ap (λ (w : World). w.receive) s.2.3))
-modes-step u (Resized window answer) v s = modes_of (begun_by (Resized window answer)) (frames_kept (Resized window answer)) u v (tails_same u v (ap (λ (w : World). w.receive) s.0))
-modes-step u (SetConcurrent dir count (Ok k)) v s = modes_of (begun_by (SetConcurrent dir count (Ok k))) (frames_kept (SetConcurrent dir count (Ok k))) u v (tails_at u v _ s (tails_concurrent u dir count))
-modes-step u (SetConcurrent dir count (Err k)) v s = modes_of (begun_by (SetConcurrent dir count (Err k))) (frames_kept (SetConcurrent dir count (Err k))) u v (tails_same u v (ap (λ (w : World). w.receive) s))
-modes-step u (Accepted dir answer) v s = modes_of (begun_by (Accepted dir answer)) (frames_kept (Accepted dir answer)) u v (tails_at u v _ s.0 (tails_remote u dir (one_accepted (remote_of u dir))))
-modes-step u (Settled kind frame) v s = modes_settled (begun_by (Settled kind frame)) (frames_kept (Settled kind frame)) kind u s.0 frame v s.1 s.2
-modes-step u (Sending e) v s = modes_of (begun_by (Sending e)) (frames_kept (Sending e)) u v (tails_send u e v s)
+modes-step u (Stopped id code (Err handle_error.ClosedStream)) v p s = modes_of (begun_by (Stopped id code (Err handle_error.ClosedStream))) (frames_kept (Stopped id code (Err handle_error.ClosedStream))) u v (tails_same u v (ap (λ (w : World). w.receive) s.2.1))
+modes-step u (Stopped id code (Err handle_error.OutOfMemory)) v p s = modes_of (begun_by (Stopped id code (Err handle_error.OutOfMemory))) (frames_kept (Stopped id code (Err handle_error.OutOfMemory))) u v (tails_same u v (ap (λ (w : World). w.receive) s.2.0))
+modes-step u (ToldReset id (Ok (Some code))) v p s = modes_of (begun_by (ToldReset id (Ok (Some code)))) (frames_kept (ToldReset id (Ok (Some code)))) u v (tails_at u v _ s.2.4 (tails_freed u id))
+modes-step u (ToldReset id (Ok None)) v p s = modes_of (begun_by (ToldReset id (Ok None))) (frames_kept (ToldReset id (Ok None))) u v (tails_same u v (ap (λ (w : World). w.receive) s.2.4))
+modes-step u (ToldReset id (Err handle_error.ClosedStream)) v p s = modes_of (begun_by (ToldReset id (Err handle_error.ClosedStream))) (frames_kept (ToldReset id (Err handle_error.ClosedStream))) u v (tails_same u v (ap (λ (w : World). w.receive) s.2.1))
+modes-step u (ToldReset id (Err handle_error.OutOfMemory)) v p s = modes_of (begun_by (ToldReset id (Err handle_error.OutOfMemory))) (frames_kept (ToldReset id (Err handle_error.OutOfMemory))) u v (tails_same u v (ap (λ (w : World). w.receive) s.2.3))
+modes-step u (Resized window answer) v p s = modes_of (begun_by (Resized window answer)) (frames_kept (Resized window answer)) u v (tails_same u v (ap (λ (w : World). w.receive) s.0))
+modes-step u (SetConcurrent dir count (Ok k)) v p s = modes_of (begun_by (SetConcurrent dir count (Ok k))) (frames_kept (SetConcurrent dir count (Ok k))) u v (tails_at u v _ s (tails_concurrent u dir count))
+modes-step u (SetConcurrent dir count (Err k)) v p s = modes_of (begun_by (SetConcurrent dir count (Err k))) (frames_kept (SetConcurrent dir count (Err k))) u v (tails_same u v (ap (λ (w : World). w.receive) s))
+modes-step u (Accepted dir answer) v p s = modes_of (begun_by (Accepted dir answer)) (frames_kept (Accepted dir answer)) u v (tails_at u v _ s.0 (tails_remote u dir (one_accepted (remote_of u dir))))
+modes-step u (Settled kind frame) v p s = modes_settled (begun_by (Settled kind frame)) (frames_kept (Settled kind frame)) kind u s.0 frame v s.1 s.2
+modes-step u (Sending e) v p s = modes_of (begun_by (Sending e)) (frames_kept (Sending e)) u v (tails_send u e v s)
+modes-step u Rejected v p s = cc
+modes-step u (SentAgain (Ok x)) v p s = cc
+modes-step u (SentAgain (Err x)) v p s = modes_of (begun_by (SentAgain (Err x))) (frames_kept (SentAgain (Err x))) u v (tails_same u v (ap (λ (w : World). w.receive) s.1))

@@ -145,7 +145,7 @@ module _ (x y : Endpoint) (f : Comes x) (s : IdsSo x y) where
   pub given-open : (id : ℕ) → WasGiven x.world id → IsOpenAt x y id
   given-open id k =
       let d : Dir = dir_of id in
-      let r = permits_now x.made x.calls x.world f.run f.remotes d in
+      let r = permits_now x.made x.calls x.world f.from.run f.remotes d in
       let accepted = r.accepted in
       let met = s.met d in
       let same = next_is x.world d in

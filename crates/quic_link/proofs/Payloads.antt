@@ -17,7 +17,7 @@ use Rattle.quic_history.specs.Carrying.{with_writer}
 use Rattle.quic_history.specs.Control.{SettlesEntry}
 use Rattle.quic_history.specs.declared.control.ControlKind.{ControlKind}
 use Rattle.quic_history.specs.SendEvents.{TookTurn}
-use Rattle.quic_history.specs.History.{Event, Settled, Sending, Step, flow, opened_in_all, send_tale}
+use Rattle.quic_history.specs.History.{Event, Settled, Sending, Step, flow, opened_in_all, send_tale, since}
 use Rattle.quic_link.specs.Endpoints.{Endpoint, MayAct, acted, Linked, first_acts, written_on}
 use Rattle.quic_link.specs.Asked.{AreAsked}
 use Rattle.quic_link.proofs.Joint.{agrees}
@@ -76,7 +76,7 @@ carried_cuts id first behind q fin there t =
 turn_bytes : (x : Endpoint) (most : ℕ) (fair : Bool) (frame : Option StreamMeta) (v : World) (q : ℕ) → written_on (acted x (Sending (TookTurn most fair frame)) v) q ≡ written_on x q
 turn_bytes x most fair None v q = refl
 turn_bytes x most fair (Some meta) v q =
-    ap concat (carried_cuts meta.id meta.offsets.start meta.offsets.end q meta.fin (has_send_side x.made.side (opened_in_all x.calls) (send_tale x.made x.calls).may_open) (flow x.made x.calls q))
+    ap concat (carried_cuts meta.id meta.offsets.start meta.offsets.end q meta.fin (has_send_side x.made.side (opened_in_all (since x.calls)) (send_tale x.made x.calls).may_open) (flow x.made x.calls q))
 
 turn_may : (x y : Endpoint) (most : ℕ) (fair : Bool) (frame : Option StreamMeta) (v : World) → Step x.world (Sending (TookTurn most fair frame)) v → MayAct x y (Sending (TookTurn most fair frame)) v
 turn_may x y most fair None v s = record { fits = tt; honest = tt; step = s }

@@ -20,7 +20,7 @@ use Rattle.quic_history.specs.Sends.{with_out, with_opened, told_writable, after
 use Rattle.quic_history.specs.Writes.{with_queued, WritesOwn}
 use Rattle.quic_history.specs.Acknowledged.{with_send_freed, told_finished, frees_reset}
 use Rattle.quic_history.specs.SendEvents.{SendEvent, SendStep, GaveLimits, RaisedData, RaisedCount, RaisedLimit, StoppedOwn, SetWindow, OpenedOwn, WroteOwn, FinishedOwn, ResetOwn, SetOwnPriority, AckedOwn, LostOwn, ResetAckedOwn, TookTurn, Polled}
-use Rattle.quic_history.specs.History.{Event, Received, ReceivedReset, AddedCredits, Began, Gave, Ended, Stopped, ToldReset, Resized, SetConcurrent, Accepted, Settled, Sending, Step}
+use Rattle.quic_history.specs.History.{Event, Received, ReceivedReset, AddedCredits, Began, Gave, Ended, Stopped, ToldReset, Resized, SetConcurrent, Accepted, Settled, Sending, Step, Rejected, SentAgain, joint_move_of}
 use Rattle.quic_history.proofs.Limits.{firmly, is_of_sending}
 use Rattle.quic_history.proofs.StreamSteps.{Steady, steady-noticed}
 use Rattle.quic_history.proofs.SendFreed.{steady-send-freed}
@@ -213,17 +213,20 @@ module _ (h : List Event) (u : World) (e : Event) (v : World) where
   firm_queue fits n s = let f = firmly h u e v fits n s in queues_same u v None f.queue
 
 -- a call puts no other stream into the queue
-pub queues-step : (h : List Event) (u : World) (e : Event) (v : World) → u.credit.local_max_data < 2 ^ 64 → Step u e v → QueuesBy u v (queued_id e)
-queues-step h u (Sending e) v fits s = queues_send u e v s
-queues-step h u (Received id offset bytes fin answer) v fits s = firm_queue h u (Received id offset bytes fin answer) v fits refl s
-queues-step h u (ReceivedReset id code final answer) v fits s = firm_queue h u (ReceivedReset id code final answer) v fits refl s
-queues-step h u (AddedCredits count answer) v fits s = firm_queue h u (AddedCredits count answer) v fits refl s
-queues-step h u (Began id ordered answer) v fits s = firm_queue h u (Began id ordered answer) v fits refl s
-queues-step h u (Gave id most ordered answer) v fits s = firm_queue h u (Gave id most ordered answer) v fits refl s
-queues-step h u (Ended id count) v fits s = firm_queue h u (Ended id count) v fits refl s
-queues-step h u (Stopped id code answer) v fits s = firm_queue h u (Stopped id code answer) v fits refl s
-queues-step h u (ToldReset id answer) v fits s = firm_queue h u (ToldReset id answer) v fits refl s
-queues-step h u (Resized window answer) v fits s = firm_queue h u (Resized window answer) v fits refl s
-queues-step h u (SetConcurrent dir count answer) v fits s = firm_queue h u (SetConcurrent dir count answer) v fits refl s
-queues-step h u (Accepted dir answer) v fits s = firm_queue h u (Accepted dir answer) v fits refl s
-queues-step h u (Settled kind frame) v fits s = firm_queue h u (Settled kind frame) v fits refl s
+pub queues-step : (h : List Event) (u : World) (e : Event) (v : World) → u.credit.local_max_data < 2 ^ 64 → joint_move_of e ≡ None → Step u e v → QueuesBy u v (queued_id e)
+queues-step h u (Sending e) v fits p s = queues_send u e v s
+queues-step h u (Received id offset bytes fin answer) v fits p s = firm_queue h u (Received id offset bytes fin answer) v fits refl s
+queues-step h u (ReceivedReset id code final answer) v fits p s = firm_queue h u (ReceivedReset id code final answer) v fits refl s
+queues-step h u (AddedCredits count answer) v fits p s = firm_queue h u (AddedCredits count answer) v fits refl s
+queues-step h u (Began id ordered answer) v fits p s = firm_queue h u (Began id ordered answer) v fits refl s
+queues-step h u (Gave id most ordered answer) v fits p s = firm_queue h u (Gave id most ordered answer) v fits refl s
+queues-step h u (Ended id count) v fits p s = firm_queue h u (Ended id count) v fits refl s
+queues-step h u (Stopped id code answer) v fits p s = firm_queue h u (Stopped id code answer) v fits refl s
+queues-step h u (ToldReset id answer) v fits p s = firm_queue h u (ToldReset id answer) v fits refl s
+queues-step h u (Resized window answer) v fits p s = firm_queue h u (Resized window answer) v fits refl s
+queues-step h u (SetConcurrent dir count answer) v fits p s = firm_queue h u (SetConcurrent dir count answer) v fits refl s
+queues-step h u (Accepted dir answer) v fits p s = firm_queue h u (Accepted dir answer) v fits refl s
+queues-step h u (Settled kind frame) v fits p s = firm_queue h u (Settled kind frame) v fits refl s
+queues-step h u Rejected v fits p s = cc
+queues-step h u (SentAgain (Ok x)) v fits p s = cc
+queues-step h u (SentAgain (Err x)) v fits p s = queues_same u v None (ap (λ (x : World). x.queue) s.1)

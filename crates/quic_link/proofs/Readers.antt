@@ -12,7 +12,7 @@ use Rattle.quic_history.specs.Halves.{is_among, with_first}
 use Rattle.quic_receiving.specs.declared.errors.ReadError.{ReadError}
 use Rattle.quic_receiving.specs.declared.errors.ReadError.TheVariants as read_error
 use Rattle.quic_history.specs.World.{World, Made, start}
-use Rattle.quic_history.specs.History.{Event, Move, Framed, WasReset, WasRead, WasStopped, WasTold, WasAnnounced, ReceivedReset, Began, Gave, Stopped, ToldReset, Settled, Step, From, Trace, ReadChunk, HalfFrom, EndsSo, trace, move_of, moved, with_move, with_kept_frame, is_kept, is_closed}
+use Rattle.quic_history.specs.History.{Event, Move, Framed, WasReset, WasRead, WasStopped, WasTold, WasAnnounced, ReceivedReset, Began, Gave, Stopped, ToldReset, Settled, Step, From, Trace, ReadChunk, HalfFrom, EndsSo, trace, move_of, moved, with_move, with_kept_frame, is_kept, is_closed, joint_move_of}
 use Rattle.quic_history.specs.Reading.{ReadsHalf}
 use Rattle.quic_history.proofs.StreamSteps.{half-from, known-from}
 use Rattle.quic_history.proofs.Totals.{by_cases, same}
@@ -172,25 +172,25 @@ module _ (m : Made) (h : List Event) (u : World) (f : From m h u) (s : ReadsSo h
   reads_true (Settled kind (Some _)) v r = tt
   reads_true _ v r = tt
 
-  pub reads-kept : (e : Event) (v : World) → Step u e v → From m (e ∷ h) v → ReadsSo (e ∷ h) v
-  reads-kept e v r after =
+  pub reads-kept : (e : Event) (v : World) → joint_move_of e ≡ None → Step u e v → From m (e ∷ h) v → ReadsSo (e ∷ h) v
+  reads-kept e v plain r after =
       let k = reads_true e v r in
-      let traces : (q : ℕ) → TraceSo (trace (e ∷ h) q) = λ q. so_moved u (trace h) (move_of e) q (f.ends q) k (s.traces q) in
+      let traces : (q : ℕ) → TraceSo (trace (e ∷ h) q) = λ q. rw plain (so_moved u (trace h) (move_of e) q (f.ends q) k (s.traces q)) in
       record {
         traces = traces;
-        order = λ q half at o. elim (modes-step u e v r q half at) [
+        order = λ q half at o. elim (modes-step u e v plain r q half at) [
           | inl none ↦ (let told = half-from (trace (e ∷ h)) v q half after.facts.streams (known-from (trace (e ∷ h)) v q half after.facts.streams at) at in
               let read = told.read in
               let nothing = none.read in
               let few = (traces q).few in
               omega arith)
-          | inr was ↦ order_moved u (trace h) (move_of e) q was.0 was.1 (was.2.ordered o) k (s.order q was.0 was.1 (was.2.ordered o))
+          | inr was ↦ rw plain (order_moved u (trace h) (move_of e) q was.0 was.1 (was.2.ordered o) k (s.order q was.0 was.1 (was.2.ordered o)))
         ];
-        unordered = λ q half at o. elim (modes-step u e v r q half at) [
+        unordered = λ q half at o. elim (modes-step u e v plain r q half at) [
           | inl none ↦ absurd (let n = sym none.ordered ∙ o in cc)
           | inr was ↦ elim (was.2.unordered o) [ inl before ↦ inr (s.unordered q was.0 was.1 before) | inr now ↦ inl (begun_is e q now) ]
         ];
-        pieces = λ q half at o. elim (modes-step u e v r q half at) [
+        pieces = λ q half at o. elim (modes-step u e v plain r q half at) [
           | inl none ↦ (let n = none.pieces in omega arith)
           | inr was ↦ (let l = was.2.pieces o in let n = s.pieces q was.0 was.1 (was.2.ordered o) in omega arith)
         ];

@@ -31,7 +31,7 @@ use Rattle.quic_history.specs.Sends.{with_out, with_opened, told_writable, after
 use Rattle.quic_history.specs.Writes.{with_queued, WritesOwn}
 use Rattle.quic_history.specs.Acknowledged.{with_send_freed, send_released, told_finished, frees_reset, without_sender, without_send_half}
 use Rattle.quic_history.specs.SendEvents.{SendEvent, SendStep, GaveLimits, RaisedData, RaisedCount, RaisedLimit, StoppedOwn, SetWindow, OpenedOwn, WroteOwn, FinishedOwn, ResetOwn, SetOwnPriority, AckedOwn, LostOwn, ResetAckedOwn, TookTurn, Polled}
-use Rattle.quic_history.specs.History.{Event, Received, ReceivedReset, AddedCredits, Began, Gave, Ended, Stopped, ToldReset, Resized, SetConcurrent, Accepted, Settled, Sending, Step}
+use Rattle.quic_history.specs.History.{Event, Received, ReceivedReset, AddedCredits, Began, Gave, Ended, Stopped, ToldReset, Resized, SetConcurrent, Accepted, Settled, Sending, Step, Rejected, SentAgain, joint_move_of}
 use Rattle.quic_history.proofs.SendSteps.{either-way}
 use Rattle.quic_history.proofs.StreamSteps.{noticed-any}
 
@@ -241,27 +241,30 @@ is_accepting (Accepted dir answer) = true
 is_accepting _ = false
 
 -- no other call makes one count as accepted
-pub reports-step : (u : World) (e : Event) (v : World) → is_accepting e ≡ false → Step u e v → reports v ≡ reports u
-reports-step u (Received id offset bytes fin answer) v n s = stays_received u v id offset bytes fin answer s
-reports-step u (ReceivedReset id code final answer) v n s = stays_reset u v id code final answer s
-reports-step u (AddedCredits count answer) v n s = ap reports s.0
-reports-step u (Began id ordered (Ok x)) v n s = ap reports s.is ∙ stays_put u id (Some s.new)
-reports-step u (Began id ordered (Err readable_error.ClosedStream)) v n s = ap reports s.1
-reports-step u (Began id ordered (Err readable_error.IllegalOrderedRead)) v n s = ap reports s.is ∙ stays_put u id (Some s.new)
-reports-step u (Began id ordered (Err readable_error.OutOfMemory)) v n s = elim s [ inl t ↦ ap reports t | inr t ↦ ap reports t.is ∙ stays_put u id (Some t.new) ]
-reports-step u (Gave id most ordered answer) v n s = ap reports s.is ∙ stays_read u id s.new answer
-reports-step u (Ended id count) v n s = ap reports s
-reports-step u (Stopped id code (Ok x)) v n s =
+pub reports-step : (u : World) (e : Event) (v : World) → joint_move_of e ≡ None → is_accepting e ≡ false → Step u e v → reports v ≡ reports u
+reports-step u (Received id offset bytes fin answer) v p n s = stays_received u v id offset bytes fin answer s
+reports-step u (ReceivedReset id code final answer) v p n s = stays_reset u v id code final answer s
+reports-step u (AddedCredits count answer) v p n s = ap reports s.0
+reports-step u (Began id ordered (Ok x)) v p n s = ap reports s.is ∙ stays_put u id (Some s.new)
+reports-step u (Began id ordered (Err readable_error.ClosedStream)) v p n s = ap reports s.1
+reports-step u (Began id ordered (Err readable_error.IllegalOrderedRead)) v p n s = ap reports s.is ∙ stays_put u id (Some s.new)
+reports-step u (Began id ordered (Err readable_error.OutOfMemory)) v p n s = elim s [ inl t ↦ ap reports t | inr t ↦ ap reports t.is ∙ stays_put u id (Some t.new) ]
+reports-step u (Gave id most ordered answer) v p n s = ap reports s.is ∙ stays_read u id s.new answer
+reports-step u (Ended id count) v p n s = ap reports s
+reports-step u (Stopped id code (Ok x)) v p n s =
     ap reports s.2.6 ∙ stays_if u (with_freed u id) (with_receive u id (Some s.2.1)) (is_some s.2.0.size) (stays_freed u id) (stays_put u id (Some s.2.1))
-reports-step u (Stopped id code (Err handle_error.ClosedStream)) v n s = ap reports s.2.1
-reports-step u (Stopped id code (Err handle_error.OutOfMemory)) v n s = ap reports s.2.0
-reports-step u (ToldReset id (Ok (Some code))) v n s = ap reports s.2.4 ∙ stays_freed u id
-reports-step u (ToldReset id (Ok None)) v n s = ap reports s.2.4
-reports-step u (ToldReset id (Err handle_error.ClosedStream)) v n s = ap reports s.2.1
-reports-step u (ToldReset id (Err handle_error.OutOfMemory)) v n s = ap reports s.2.3
-reports-step u (Resized window answer) v n s = ap reports s.0
-reports-step u (SetConcurrent dir count (Ok k)) v n s = ap reports s ∙ stays_concurrent u dir count
-reports-step u (SetConcurrent dir count (Err k)) v n s = ap reports s
-reports-step u (Accepted dir answer) v n s = cc
-reports-step u (Settled kind frame) v n s = stays_settled kind u s.0 frame v s.1 s.2
-reports-step u (Sending e) v n s = stays_send u e v s
+reports-step u (Stopped id code (Err handle_error.ClosedStream)) v p n s = ap reports s.2.1
+reports-step u (Stopped id code (Err handle_error.OutOfMemory)) v p n s = ap reports s.2.0
+reports-step u (ToldReset id (Ok (Some code))) v p n s = ap reports s.2.4 ∙ stays_freed u id
+reports-step u (ToldReset id (Ok None)) v p n s = ap reports s.2.4
+reports-step u (ToldReset id (Err handle_error.ClosedStream)) v p n s = ap reports s.2.1
+reports-step u (ToldReset id (Err handle_error.OutOfMemory)) v p n s = ap reports s.2.3
+reports-step u (Resized window answer) v p n s = ap reports s.0
+reports-step u (SetConcurrent dir count (Ok k)) v p n s = ap reports s ∙ stays_concurrent u dir count
+reports-step u (SetConcurrent dir count (Err k)) v p n s = ap reports s
+reports-step u (Accepted dir answer) v p n s = cc
+reports-step u (Settled kind frame) v p n s = stays_settled kind u s.0 frame v s.1 s.2
+reports-step u (Sending e) v p n s = stays_send u e v s
+reports-step u Rejected v p n s = cc
+reports-step u (SentAgain (Ok x)) v p n s = cc
+reports-step u (SentAgain (Err x)) v p n s = ap reports s.1

@@ -15,8 +15,9 @@ use Rattle.quic_outgoing.specs.Senders.{first_limit, first_for, is_local}
 use Rattle.quic_history.specs.World.{World, Made}
 use Rattle.quic_history.specs.Flows.{send_moved, with_first_limits, room_on, has_send_side}
 use Rattle.quic_history.specs.SendEvents.{SendEvent, SendStep, GaveLimits, RaisedLimit, StoppedOwn, WroteOwn, FinishedOwn, ResetOwn, AckedOwn, LostOwn, ResetAckedOwn, TookTurn}
-use Rattle.quic_history.specs.History.{Event, Sending, Step, From, flow, send_move_of, limits_in, taken_by, taken_in_all, total_over, opened_in_all, send_tale, write_room}
+use Rattle.quic_history.specs.History.{Event, Sending, Step, From, flow, send_move_of, limits_in, taken_by, taken_in_all, total_over, opened_in_all, send_tale, write_room, joint_move_of, since}
 use Rattle.quic_history.proofs.Totals.{by_cases, same, IsOnce}
+use Rattle.quic_link.proofs.Ends.{ArePlain}
 use Rattle.quic_link.specs.Endpoints.{Endpoint, IsHonest, limits_of}
 use Rattle.quic_link.proofs.Sums.{total-most, total-grows}
 
@@ -180,8 +181,8 @@ module _ (m : Made) (h : List Event) (u v : World) (f : From m h u) where
   room_any _ s = tt
 
   -- no call goes beyond the limit of a stream
-  pub room-kept : (n : Made) (e : Event) → Step u e v → n.window < 2 ^ 62 → AreLimitsOf n (limits_in e) → (q : ℕ) → RoomSo (flow m h q) → RoomSo (flow m (e ∷ h) q)
-  room-kept n e s small a q r = room_limits n (limits_in e) m.side q _ small a (room_moved (send_move_of e) _ (flow m h) q (room_any e s) r)
+  pub room-kept : (n : Made) (e : Event) → joint_move_of e ≡ None → Step u e v → n.window < 2 ^ 62 → AreLimitsOf n (limits_in e) → (q : ℕ) → RoomSo (flow m h q) → RoomSo (flow m (e ∷ h) q)
+  room-kept n e plain s small a q r = rw plain (room_limits n (limits_in e) m.side q _ small a (room_moved (send_move_of e) _ (flow m h) q (room_any e s) r))
 
 -- a call writes no more than is counted
 written_counts : (e : Event) → bytes_in_move (send_move_of e) ≤ taken_by e
@@ -206,14 +207,15 @@ written_counts (Sending (TookTurn most fair (Some frame))) = omega arith
 written_counts _ = omega arith
 
 -- the sum over any streams, each once, is no more than what is counted
-pub sum-written : (m : Made) (h : List Event) (xs : List ℕ) → IsOnce xs → total_over (λ q. amount (flow m h q)) xs ≤ taken_in_all h
-sum-written m [] xs once = none_written xs
+pub sum-written : (m : Made) (h : List Event) (xs : List ℕ) → ArePlain h → IsOnce xs → total_over (λ q. amount (flow m h q)) xs ≤ taken_in_all h
+sum-written m [] xs plain once = none_written xs
   where
     none_written : (ys : List ℕ) → total_over (λ q. amount (flow m [] q)) ys ≤ 0
     none_written [] = omega arith
     none_written (y ∷ ys) = omega (arith, none_written ys)
-sum-written m (e ∷ h) xs once =
-    let a = sum_moved (send_move_of e) (limits_in e) m.side (has_send_side m.side (opened_in_all h) (send_tale m h).may_open) (flow m h) xs once in
+sum-written m (e ∷ h) xs plain once =
+    let there : ℕ → Bool = has_send_side m.side (opened_in_all (since h)) (send_tale m h).may_open in
+    let a = sum_moved (send_move_of e) (limits_in e) m.side there (flow m h) xs once in
     let b = written_counts e in
-    let c = sum-written m h xs once in
-    omega arith
+    let c = sum-written m h xs plain.1 once in
+    rw plain.0 (omega arith)

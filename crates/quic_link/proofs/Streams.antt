@@ -17,8 +17,9 @@ use Rattle.quic_outgoing.specs.Senders.{first_limit}
 use Rattle.quic_history.specs.World.{World, Made}
 use Rattle.quic_history.specs.Flows.{send_moved, with_first_limits, has_send_side}
 use Rattle.quic_history.specs.SendEvents.{RaisedLimit, StoppedOwn, WroteOwn, FinishedOwn, ResetOwn, AckedOwn, LostOwn, ResetAckedOwn, TookTurn}
-use Rattle.quic_history.specs.History.{Event, Move, Framed, WasReset, WasRead, WasStopped, WasTold, WasAnnounced, Received, ReceivedReset, Stopped, ToldReset, Settled, Sending, Trace, untouched, move_of, moved, with_move, with_kept_frame, with_reset, is_kept, is_closed, send_move_of, limits_in, opened_in_all, send_tale}
+use Rattle.quic_history.specs.History.{Event, Move, Framed, WasReset, WasRead, WasStopped, WasTold, WasAnnounced, Received, ReceivedReset, Stopped, ToldReset, Settled, Sending, Trace, untouched, move_of, moved, with_move, with_kept_frame, with_reset, is_kept, is_closed, send_move_of, limits_in, opened_in_all, send_tale, joint_move_of, since}
 use Rattle.quic_history.proofs.Totals.{by_cases, same}
+use Rattle.quic_link.proofs.Ends.{plain-call}
 use Rattle.quic_link.specs.Endpoints.{Endpoint, acted, sent_on, came_on, IsHonest, limits_of}
 use Rattle.quic_link.specs.Truths.{AreBytesOf}
 use Rattle.quic_link.proofs.Growth.{Grows, still-closed}
@@ -244,10 +245,10 @@ limit_true x y _ t k = tt
 -- the end that sends was called
 pub limits-sent : (x y : Endpoint) (e : Event) (v : World) → AllTrue y → IsHonest x y e → AreLimitsOf y.made (limits_in e) → ((q : ℕ) → LimitSo y.made.window (sent_on x q) (came_on y q))
     → (q : ℕ) → LimitSo y.made.window (sent_on (acted x e v) q) (came_on y q)
-limits-sent x y e v t k a l q =
+limits-sent x y e v t k a l q = rw (plain-call x y e k) (
     limit_first y.made (limits_in e) x.made.side q _ (came_on y q) a
-    (limit_moved y.made.window (send_move_of e) (has_send_side x.made.side (opened_in_all x.calls) (send_tale x.made x.calls).may_open) (sent_on x) (came_on y) q (limit_true x y e t k) (l q))
+    (limit_moved y.made.window (send_move_of e) (has_send_side x.made.side (opened_in_all (since x.calls)) (send_tale x.made x.calls).may_open) (sent_on x) (came_on y) q (limit_true x y e t k) (l q)))
 
 -- the end that receives was
-pub limits-came : (x y : Endpoint) (e : Event) (v : World) → ((q : ℕ) → LimitSo y.made.window (sent_on x q) (came_on y q)) → (q : ℕ) → LimitSo y.made.window (sent_on x q) (came_on (acted y e v) q)
-limits-came x y e v l q = let a = announced-grows e y.calls q in let b = l q in omega arith
+pub limits-came : (x y : Endpoint) (e : Event) (v : World) → joint_move_of e ≡ None → ((q : ℕ) → LimitSo y.made.window (sent_on x q) (came_on y q)) → (q : ℕ) → LimitSo y.made.window (sent_on x q) (came_on (acted y e v) q)
+limits-came x y e v plain l q = let a = announced-grows e y.calls plain q in let b = l q in omega arith

@@ -8,12 +8,12 @@ use Rattle.quic_flows.specs.Flow.{WasAcked, SendFlow, with_acked, counts_for, is
 use Rattle.quic_history.specs.World.{World}
 use Rattle.quic_history.specs.Flows.{has_send_side, send_moved, told_if, ends_by, TakesQueued}
 use Rattle.quic_history.specs.SendEvents.{RaisedCount, RaisedLimit, StoppedOwn, AckedOwn, Polled}
-use Rattle.quic_history.specs.History.{Event, Received, ReceivedReset, Sending, opened_in_all, send_tale, told_by, QueuesSo, is_sent_on}
+use Rattle.quic_history.specs.History.{Event, Received, ReceivedReset, Sending, opened_in_all, send_tale, told_by, QueuesSo, is_sent_on, since}
 use Rattle.quic_history.proofs.ToldEvents.{queues}
 use Rattle.quic_history.proofs.Traces.{itself}
 use Rattle.quic_link.specs.Endpoints.{Endpoint, IsOneOf, MayAct, acted, sent_on}
 use Rattle.quic_link.specs.Promises.{IsTrueEvent, CameWhole}
-use Rattle.quic_link.proofs.Ends.{Comes}
+use Rattle.quic_link.proofs.Ends.{Comes, plain-call}
 use Rattle.quic_link.proofs.Growth.{grows}
 use Rattle.quic_link.proofs.TrueFrames.{AllTrue, amount-stays}
 use Rattle.quic_link.proofs.Acks.{AckedSo, acked-sent}
@@ -26,7 +26,7 @@ AllToldTrue x y = (g : StreamEvent) → IsOneOf g x.world.events → IsTrueEvent
 
 event_first : (x y : Endpoint) (e : Event) (v : World) → Comes x → MayAct x y e v → (g : StreamEvent) → IsTrueEvent x y g → IsTrueEvent (acted x e v) y g
 event_first x y e v f a (stream_event.Finished id) t =
-    let grown = grows x.made x.calls x.world v f e a.step id in
+    let grown = grows x.made x.calls x.world v f.from e (plain-call x y e a.honest) a.step id in
     let same = amount-stays x y e v f a id (ended_closed (sent_on x id).reset (sent_on x id).finished t.finished) in
     record { finished = grown.finished t.finished; bytes = λ at l. t.bytes at (omega arith); end = t.end }
 event_first x y e v f a (stream_event.Stopped id code) t = t
@@ -89,7 +89,7 @@ module _ (x y : Endpoint) (f : Comes x) (t : AllTrue y) (s : (q : ℕ) → Acked
   new_told (Sending (RaisedLimit id limit (Err error))) v a g h = absurd h
   new_told (Sending (AckedOwn id offsets fin (Ok u))) v a g h =
       let e = Sending (AckedOwn id offsets fin (Ok u)) in
-      let there : ℕ → Bool = has_send_side x.made.side (opened_in_all x.calls) (send_tale x.made x.calls).may_open in
+      let there : ℕ → Bool = has_send_side x.made.side (opened_in_all (since x.calls)) (send_tale x.made x.calls).may_open in
       let k = only_if (is_sent_on x.made x.calls id && ends_by offsets.start offsets.end fin (sent_on x id)) g (stream_event.Finished id) h in
       let parts = both (is_sent_on x.made x.calls id) (ends_by offsets.start offsets.end fin (sent_on x id)) k.0 in
       let open_now = both (there id) (not (sent_on x id).freed) parts.0 in
@@ -153,7 +153,7 @@ by_queues x y (ReceivedReset id code final (Ok transmit)) v f t a s old k = read
 by_queues x y e v f t a s old k = more_told x y e v f t a s old k
 
 pub told-first : (x y : Endpoint) (e : Event) (v : World) → Comes x → AllTrue y → MayAct x y e v → ((q : ℕ) → AckedSo (sent_on x q) y.calls q) → AllToldTrue x y → AllToldTrue (acted x e v) y
-told-first x y e v f t a s old = by_queues x y e v f t a s old (queues x.made x.calls x.world f.side f.sent f.sends e v a.step)
+told-first x y e v f t a s old = by_queues x y e v f t a s old (queues x.made x.calls x.world f.side f.from.sent f.sends e v a.step)
 
 pub told-second : (x y : Endpoint) (e : Event) (v : World) → AllToldTrue x y → AllToldTrue x (acted y e v)
 told-second x y e v old g h = event_second x y e v g (old g h)

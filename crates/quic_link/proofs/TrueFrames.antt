@@ -21,7 +21,7 @@ use Rattle.quic_history.specs.declared.control.ControlKind.TheVariants as kinds
 use Rattle.quic_history.specs.Control.{SettlesEntry, reset_frame, announced_end}
 use Rattle.quic_history.specs.Carrying.{CarriesFrame}
 use Rattle.quic_history.specs.SendEvents.{TookTurn}
-use Rattle.quic_history.specs.History.{Event, Move, Framed, WasReset, WasRead, WasStopped, WasTold, WasAnnounced, Settled, Sending, Step, From, Trace, trace, move_of, moved, with_move, with_kept_frame, is_kept, is_closed, is_freed, before, counts}
+use Rattle.quic_history.specs.History.{Event, Move, Framed, WasReset, WasRead, WasStopped, WasTold, WasAnnounced, Settled, Sending, Step, From, Trace, trace, move_of, moved, with_move, with_kept_frame, is_kept, is_closed, is_freed, before, counts, joint_move_of}
 use Rattle.quic_receiving.specs.declared.errors.ReadError.TheVariants as read_error
 use Rattle.quic_history.proofs.Credits.{limit-fits}
 use Rattle.quic_history.proofs.Limits.{goes}
@@ -30,7 +30,7 @@ use Rattle.quic_history.proofs.RemoteHistory.{kept-remotes}
 use Rattle.quic_history.proofs.Traces.{itself}
 use Rattle.quic_link.specs.Endpoints.{Endpoint, IsOneOf, MayAct, acted, written_by, written_on, sent_on, WasAskedFor}
 use Rattle.quic_link.specs.Truths.{IsFrameTrue, amount_on}
-use Rattle.quic_link.proofs.Ends.{Comes}
+use Rattle.quic_link.proofs.Ends.{Comes, plain-call}
 use Rattle.quic_link.proofs.Growth.{Grows, grows, held-told}
 use Rattle.quic_link.proofs.Texts.{cuts-more, bytes-between, length-between}
 use Rattle.quic_link.proofs.Basics.{both, either-of, only, permits_now, same_id, some_same}
@@ -59,8 +59,8 @@ announced_moved None q t = omega arith
 announced_moved (Some m) q t = announced_if t (with_move m.1 t) t (q == m.0) (announced_move m.1 t) (omega arith)
 
 -- the limit of a stream that was announced does not fall
-pub announced-grows : (e : Event) (h : List Event) (q : ℕ) → (trace h q).announced ≤ (trace (e ∷ h) q).announced
-announced-grows e h q = announced_moved (move_of e) q (trace h q)
+pub announced-grows : (e : Event) (h : List Event) → joint_move_of e ≡ None → (q : ℕ) → (trace h q).announced ≤ (trace (e ∷ h) q).announced
+announced-grows e h plain q = rw plain (announced_moved (move_of e) q (trace h q))
 
 module _ (m : Made) (h : List Event) (u : World) (f : From m h u) (e : Event) (v : World) (s : Step u e v) where
   -- nor does that of the connection
@@ -87,7 +87,7 @@ module _ (m : Made) (h : List Event) (u : World) (f : From m h u) (e : Event) (v
 
 module _ (x y : Endpoint) (e : Event) (v : World) (f : Comes x) (a : MayAct x y e v) where
   grown : (q : ℕ) → Grows (sent_on x q) (sent_on (acted x e v) q)
-  grown q = grows x.made x.calls x.world v f e a.step q
+  grown q = grows x.made x.calls x.world v f.from e (plain-call x y e a.honest) a.step q
 
   -- a stream that takes no more data has as many bytes as before
   pub amount-stays : (q : ℕ) → takes_data (sent_on x q).reset (sent_on x q).finished ≡ false → amount_on (acted x e v) q ≡ amount_on x q
@@ -123,9 +123,9 @@ module _ (x y : Endpoint) (e : Event) (v : World) (f : Comes x) (a : MayAct x y 
       let g = grown r.id in
       (g.reset r.error_code t.0, t.1 ∙ sym (amount-stays r.id (ap (λ (o : Option ℕ). takes_data o (sent_on x r.id).finished) t.0)))
   true-kept (frames.StopSending s) t = inr t
-  true-kept (frames.MaxData limit) t = let k = limit-grows x.made x.calls x.world f e v a.step in omega arith
-  true-kept (frames.MaxStreamData id limit) t = let k = announced-grows e x.calls id in omega arith
-  true-kept (frames.MaxStreams d count) t = let k = count-grows x.made x.calls x.world f e v a.step d in omega arith
+  true-kept (frames.MaxData limit) t = let k = limit-grows x.made x.calls x.world f.from e v a.step in omega arith
+  true-kept (frames.MaxStreamData id limit) t = let k = announced-grows e x.calls (plain-call x y e a.honest) id in omega arith
+  true-kept (frames.MaxStreams d count) t = let k = count-grows x.made x.calls x.world f.from e v a.step d in omega arith
   true-kept _ t = tt
 
 -- ---- a STREAM frame
@@ -161,7 +161,7 @@ turn-so x most fair meta v s =
 
 pub true-turn : (x : Endpoint) (meta : StreamMeta) → Comes x → TurnSo x meta → IsFrameTrue x (frame_with (written_on x) meta)
 true-turn x meta f t =
-    let told = held-told x.made x.calls x.world x.world f meta.id t.half t.held in
+    let told = held-told x.made x.calls x.world x.world f.from meta.id t.half t.held in
     let size = told.cuts.written in
     let all = length-concat (sent_on x meta.id).cuts in
     let ordered = t.ordered in
@@ -189,7 +189,7 @@ module _ (x y : Endpoint) (v : World) (f : Comes x) where
   reset_true : (kind : ControlKind) (id code : ℕ) (o : Option Send) (g : Frame) → x.world.out.halves id ≡ o → Some g ≡ reset_frame id code o → MayAct x y (Settled kind (Some g)) v → IsTrueThen x v kind g
   reset_true kind id code None g e k a = cc
   reset_true kind id code (Some s) g e k a =
-      let told = held-told x.made x.calls x.world v f id s e in
+      let told = held-told x.made x.calls x.world v f.from id s e in
       let is : g ≡ frames.ResetStream (record { id = id; error_code = code; final_offset = s.pending.offset }) = some_same g _ k in
       let P : Frame → Type 0 = λ j. MayAct x y (Settled kind (Some j)) v in
       let b = subst P is a in
@@ -218,12 +218,12 @@ module _ (x y : Endpoint) (v : World) (f : Comes x) where
   settled_true kinds.StopSending p q g a s = then_at x v kinds.StopSending g (frames.StopSending s.stop) (some_same g _ s.frame) (λ asked. inr asked.0)
   settled_true kinds.MaxData p q g a s =
       let is = some_same g _ s.frame in
-      let k = limit-grows x.made x.calls x.world f (Settled kinds.MaxData (Some g)) v a.step in
+      let k = limit-grows x.made x.calls x.world f.from (Settled kinds.MaxData (Some g)) v a.step in
       then_at x v kinds.MaxData g _ is (λ asked. omega arith)
   settled_true kinds.MaxStreamData p q g a s = window_true kinds.MaxStreamData s.id (announced_end x.world.window (x.world.receive s.id)) g s.frame
   settled_true (kinds.MaxStreams d) p q g a s =
       let is = some_same g _ s.frame in
-      let k = count-grows x.made x.calls x.world f (Settled (kinds.MaxStreams d) (Some g)) v a.step d in
+      let k = count-grows x.made x.calls x.world f.from (Settled (kinds.MaxStreams d) (Some g)) v a.step d in
       then_at x v (kinds.MaxStreams d) g _ is (λ asked. k)
   settled_true kinds.DataBlocked p q g a s = data_blocked_true kinds.DataBlocked _ _ g s.frame
   settled_true kinds.StreamDataBlocked p q g a s = blocked_true kinds.StreamDataBlocked s.id _ g s.frame

@@ -166,7 +166,7 @@ module _ (x y : Endpoint) (s : Agrees x y) (r : Agrees y x) where
       let sums = total_with (λ q. (came_on y q).high) (reaches id end) id xs once (λ a. ap (λ (t : Trace). t.high) (quiet y.calls id a)) (λ q n. rw n refl) in
       let here : reaches id end id ≡ (came_on y id).high + (end - (came_on y id).high) = rw (itself id) refl in
       let most = total-most (λ q. amount (sent_on x q)) (reaches id end) (with_stream id xs) (reaches_most id end l) in
-      let written = sum-written x.made x.calls (with_stream id xs) all in
+      let written = sum-written x.made x.calls (with_stream id xs) s.comes.plain all in
       let taken = f.sent.taken in
       let limit = f.sent.limit in
       let within = f.sent.within in
