@@ -1,11 +1,11 @@
 -- What it leaves of the receiving side that the send half of a stream is let go.
-use Rattle.std.proofs.Common.{◌≡◌, ℕ, Bool, true, false, ◌&&◌, not, eqb, Option, Some, None, is_some, refl, sym, ap, ◌∙◌, arith, ◌<◌, ◌/◌, ◌%◌}
+use Rattle.std.proofs.Common.{◌≡◌, ℕ, Bool, true, false, ◌&&◌, not, eqb, Option, Some, None, is_some, refl, sym, ap, ◌∙◌, arith, ◌≤◌, ◌<◌, ◌/◌, ◌%◌}
 use Rattle.std.specs.Prelude.{◌==◌, nat_le, nat_lt, if◌then◌else◌}
 use Rattle.std.proofs.lemmas.Bool.Decides.{nat_tests}
 use Rattle.quic_values.specs.declared.ids.Side.{Side}
 use Rattle.quic_values.specs.declared.ids.Dir.{Dir}
 use Rattle.quic_values.specs.declared.ids.Dir.TheVariants.{Bi, Uni}
-use Rattle.quic_values.specs.Ids.{stream_id, other_side, dir_of, index_of}
+use Rattle.quic_values.specs.Ids.{stream_id, other_side, dir_of, index_of, initiator_of}
 use Rattle.quic_wire.specs.declared.error.TheConstants.TransportError.{STREAM_LIMIT_ERROR}
 use Rattle.quic_limits.specs.Remote as remote
 use Rattle.quic_limits.specs.Remote.{Remote}
@@ -16,7 +16,7 @@ use Rattle.quic_outgoing.specs.Outgoing.{with_send_half}
 use Rattle.quic_history.specs.World.{World, sends, id_refusal, is_own, remote_of, with_remote, with_receive, permitted_if, replaced_in}
 use Rattle.quic_history.specs.Sends.{with_out, is_permitted}
 use Rattle.quic_history.specs.Acknowledged.{send_released, with_send_freed}
-use Rattle.quic_history.specs.History.{Trace, is_freed}
+use Rattle.quic_history.specs.History.{Trace, RemoteFrom, untouched, is_freed}
 use Rattle.quic_history.proofs.Totals.{by_cases, same}
 use Rattle.quic_history.proofs.Traces.{itself}
 use Rattle.quic_history.proofs.Refusals.{refusal-same, refusal-next, refusal-peer, own-other}

@@ -1,5 +1,5 @@
 -- What the calls on the sending side leave of the receiving side.
-use Rattle.std.proofs.Common.{◌≡◌, ◌⊎◌, ℕ, Bool, true, false, eqb, List, ◌∷◌, Option, Some, None, is_some, Result, Ok, Err, refl, sym, ap, ◌∙◌, subst, inl, inr, arith, ◌+◌, ◌-◌, ◌<◌}
+use Rattle.std.proofs.Common.{◌≡◌, ◌⊎◌, ℕ, Bool, true, false, cond, eqb, List, ◌∷◌, Option, Some, None, is_some, Result, Ok, Err, refl, sym, ap, ◌∙◌, subst, inl, inr, arith, ◌+◌, ◌-◌, ◌<◌, ◌≤◌}
 use Rattle.std.specs.declared.ops.Range.{Range}
 use Rattle.std.specs.Prelude.{◌==◌, ◌&&◌, not, nat_lt, nat_le, if◌then◌else◌, ℤ, MatchBool, ◌++◌, []}
 use Rattle.std.specs.Option.{option_map}
@@ -16,6 +16,7 @@ use Rattle.quic_wire.specs.declared.event.StreamEvent.TheVariants as stream_even
 use Rattle.quic_wire.specs.declared.error.ReceiveError.{ReceiveError}
 use Rattle.quic_wire.specs.declared.error.ReceiveError.TheVariants as receive_error
 use Rattle.quic_wire.specs.declared.error.TheConstants.TransportError.{STREAM_STATE_ERROR, STREAM_LIMIT_ERROR}
+use Rattle.quic_limits.specs.Credit.{Credit}
 use Rattle.quic_limits.specs.Own.{Own, with_next_own}
 use Rattle.quic_limits.specs.Remote.{Remote, opening_told}
 use Rattle.quic_limits.specs.SendingCredit.{SendingCredit, with_blocked, with_released}
@@ -30,26 +31,27 @@ use Rattle.quic_receiving.specs.declared.errors.HandleError.TheVariants as handl
 use Rattle.quic_retransmits.specs.Pending.{Pending}
 use Rattle.quic_queue.specs.SendOrder.{SendOrder}
 use Rattle.quic_outgoing.specs.Writing.{RefusesWrite, after_blocked}
+use Rattle.quic_receiving.specs.Half.{Half, new_half}
 use Rattle.quic_outgoing.specs.Senders.{SendersById, with_sender, raised_by, raised, first_limit}
 use Rattle.quic_outgoing.specs.Outgoing.{Outgoing, own_of, with_own, with_send_half, with_params, waiting, marked, is_stuck, fresh_sender, first_of}
 use Rattle.quic_outgoing.specs.Calls.{OpensStream, RaisesStream, StopsSending, PollsWritable, ResetsStream, SetsPriority, after_rise, with_rise, is_woken, without_marks}
 use Rattle.quic_outgoing.specs.Calls as calls
 use Rattle.quic_outgoing.specs.Acknowledging.{AcksHalf, LosesOnStream, were_sent, is_given_up}
-use Rattle.quic_history.specs.Halves.{Halves}
-use Rattle.quic_history.specs.World.{World, sends, is_own, is_same_side, remote_of, with_remote, with_receive, told, noticed}
+use Rattle.quic_history.specs.Halves.{Halves, with_half}
+use Rattle.quic_history.specs.World.{World, sends, id_refusal, is_own, is_same_side, remote_of, with_remote, with_receive, told, told_readable, noticed}
 use Rattle.quic_history.specs.SendEvents.{SendEvent, SendStep, GaveLimits, OpenedOwn, RaisedData, RaisedCount, RaisedLimit, StoppedOwn, SetWindow, Polled, WroteOwn, FinishedOwn, ResetOwn, SetOwnPriority, AckedOwn, LostOwn, ResetAckedOwn, TookTurn}
 use Rattle.quic_wire.specs.declared.frame.StreamMeta.{StreamMeta}
-use Rattle.quic_writing.specs.Writer.{Writer, ServesFirst}
+use Rattle.quic_writing.specs.Writer.{Writer, SkipsFirst, ServesFirst}
 use Rattle.quic_history.specs.Carrying.{TakesItsTurn, with_writer}
 use Rattle.quic_history.specs.Acknowledged.{AcksOwn, LosesOwn, AcksReset, with_send_freed, told_finished, frees_reset}
 use Rattle.quic_history.proofs.SendFreed.{without_half, steady-send-freed, all-send-freed, remotes-send-freed}
-use Rattle.quic_history.specs.Writes.{WritesOwn, FinishesOwn, with_queued}
-use Rattle.quic_history.specs.Sends.{with_out, with_opened, sending_refusal, told_writable, after_first_stop, is_permitted, PollsQueue, RaisesLimit, RaisesCount, StopsOwn, TellsNext}
-use Rattle.quic_history.specs.History.{Event, Sending, Goes, Trace, Facts, trace, consumed, last_window, debt, received}
+use Rattle.quic_history.specs.Writes.{WritesOwn, FinishesOwn, ResetsOwn, SetsOwnPriority, with_queued}
+use Rattle.quic_history.specs.Sends.{with_out, with_opened, sending_refusal, with_own_count, told_writable, after_first_stop, is_permitted, PollsQueue, RaisesLimit, RaisesCount, StopsOwn, TellsNext}
+use Rattle.quic_history.specs.History.{Event, Sending, Goes, Trace, Facts, untouched, trace, consumed, last_window, debt, received}
 use Rattle.quic_history.proofs.Credits.{credit-same}
-use Rattle.quic_history.proofs.Refusals.{refusal-same, refusal-own, refusal-own-next}
+use Rattle.quic_history.proofs.Refusals.{refusal-same, refusal-own, refusal-own-next, own-id}
 use Rattle.quic_history.proofs.Remotes.{AllRemotes, SameLimits, remotes-idle, remote-same, limits-refl, opened-limits, noticed-known}
-use Rattle.quic_history.proofs.StreamSteps.{AllFrom, all-same, all-one}
+use Rattle.quic_history.proofs.StreamSteps.{AllFrom, all-same, all-one, new-half-from}
 use Rattle.quic_history.proofs.Totals.{by_cases, same}
 
 -- a call that leaves the receiving side as it is

@@ -1,5 +1,5 @@
 -- What acknowledgements and losses of frames do to an end.
-use Rattle.std.specs.Prelude.{ℕ, ℤ, Bool, true, false, ◌≡◌, ◌&&◌, if◌then◌else◌, Option, None, is_some, Result, Ok, Err, MatchBool}
+use Rattle.std.specs.Prelude.{ℕ, ℤ, Bool, true, false, ◌≡◌, ◌&&◌, if◌then◌else◌, Option, Some, None, is_some, Result, Ok, Err, MatchBool}
 use Rattle.std.specs.declared.ops.Range.{Range}
 use Rattle.quic_values.specs.declared.memory.OutOfMemory.{OutOfMemory}
 use Rattle.quic_values.specs.declared.ids.Dir.{Dir}
