@@ -1,5 +1,5 @@
 -- What the frames beside STREAM that an end writes leave as it was.
-use Rattle.std.proofs.Common.{◌≡◌, ℕ, Bool, true, false, eqb, Option, Some, None, refl, sym, ap, subst, arith, List, ◌∷◌, is_some, ◌∙◌, ◌+◌, ◌-◌}
+use Rattle.std.proofs.Common.{◌≡◌, ℕ, Bool, true, false, eqb, Option, Some, None, refl, sym, ap, subst, arith, List, ◌∷◌, is_some, ◌∙◌, ◌+◌, ◌-◌, ◌≤◌}
 use Rattle.std.specs.Prelude.{max, ◌==◌, if◌then◌else◌}
 use Rattle.std.specs.Option.{option_map}
 use Rattle.quic_values.specs.declared.ids.Dir.{Dir}
@@ -10,11 +10,11 @@ use Rattle.quic_sending.specs.declared.send.Send.{Send}
 use Rattle.quic_limits.specs.SendingCredit.{is_blocked_reported}
 use Rattle.quic_outgoing.specs.Calls.{blocked_limit}
 use Rattle.quic_limits.specs.Credit.{Credit, announced}
-use Rattle.quic_limits.specs.Remote.{streams_announced}
+use Rattle.quic_limits.specs.Remote.{Remote, streams_announced}
 use Rattle.quic_receiving.specs.Half.{Half, is_open, window_end}
 use Rattle.quic_retransmits.specs.Pending.{Pending}
 use Rattle.quic_history.specs.Halves.{with_half}
-use Rattle.quic_history.specs.World.{World, id_refusal, remote_of, with_remote}
+use Rattle.quic_history.specs.World.{World, id_refusal, remote_of, with_remote, with_receive}
 use Rattle.quic_history.specs.History.{Event, Settled, Trace, WasAnnounced, HalfFrom, StreamFrom, CreditFrom, Facts, Goes, trace, moved, consumed, last_window, debt, received}
 use Rattle.quic_history.specs.declared.control.ControlKind.{ControlKind}
 use Rattle.quic_history.specs.declared.control.ControlKind.TheVariants as kinds

@@ -1,6 +1,6 @@
 -- What acknowledgements, losses and frames do to what is told of the sending sides.
 use Rattle.std.proofs.Common.{◌≡◌, ◌⊎◌, ℕ, ℤ, Bool, true, false, List, [], ◌∷◌, Option, Some, None, is_some, Ok, refl, sym, ap, ◌∙◌, subst, inl, inr, arith, ◌+◌, ◌-◌, ◌<◌, ◌≤◌}
-use Rattle.std.specs.Prelude.{◌&&◌, ◌||◌, not, is_none, length, max, nat_le, nat_lt, if◌then◌else◌}
+use Rattle.std.specs.Prelude.{◌&&◌, ◌||◌, not, ◌==◌, is_none, length, max, nat_le, nat_lt, if◌then◌else◌, unwrap_or}
 use Rattle.std.specs.Option.{option_map}
 use Rattle.std.specs.declared.ops.Range.{Range}
 use Rattle.std.proofs.lemmas.Bool.Decides.{nat_tests}
@@ -11,7 +11,9 @@ use Rattle.quic_values.specs.Ids.{dir_of}
 use Rattle.quic_wire.specs.declared.event.StreamEvent.TheVariants as stream_event
 use Rattle.quic_wire.specs.declared.frame.Frame.{Frame}
 use Rattle.quic_wire.specs.declared.frame.StreamMeta.{StreamMeta}
+use Rattle.quic_limits.specs.SendingCredit.{with_released}
 use Rattle.quic_sending.specs.declared.send.Send.{Send}
+use Rattle.quic_sending.specs.declared.send.SendState.{SendState}
 use Rattle.quic_sending.specs.Buffer.{Buffered, IsNextRange, frame_end, total_length, uncovered, is_lost}
 use Rattle.quic_sending.specs.Sending.{is_ready, is_reset_sent}
 use Rattle.quic_outgoing.specs.Transmitting.{sending_priority, room_behind_id}
@@ -23,7 +25,7 @@ use Rattle.quic_outgoing.specs.Senders.{with_sender}
 use Rattle.quic_outgoing.specs.Outgoing.{Outgoing, with_send_half}
 use Rattle.quic_outgoing.specs.Acknowledging.{AcksHalf, LosesOnHalf, AcksStream, LosesOnStream, were_sent, is_complete, is_given_up}
 use Rattle.quic_writing.specs.Writer.{Writer}
-use Rattle.quic_history.specs.World.{World, is_own, replaced_in}
+use Rattle.quic_history.specs.World.{World, is_own, remote_of, replaced_in, told}
 use Rattle.quic_history.specs.Sends.{with_out, is_permitted}
 use Rattle.quic_history.specs.Control.{SettlesEntry}
 use Rattle.quic_history.specs.declared.control.ControlKind.{ControlKind}
@@ -33,9 +35,9 @@ use Rattle.quic_history.proofs.SendFreed.{send-freed}
 use Rattle.quic_history.specs.Writes.{with_queued}
 use Rattle.quic_history.specs.Flows.{has_side_in, send_moved, AllFlows}
 use Rattle.quic_history.proofs.ControlSteps.{announces}
-use Rattle.quic_history.proofs.SendSteps.{served-is}
+use Rattle.quic_history.proofs.SendSteps.{either-way, served-is}
 use Rattle.quic_history.proofs.SendSides.{sides-none, sides-at, HalfAfter, MovesHalf, after_at, here_put, cores-rest, moves-put, freed_moved}
-use Rattle.quic_history.proofs.FlowLeaves.{Leaves, leaves-none, leaves-then, leaves-at, leaves-sides, leaves-told, leaves-replaced}
+use Rattle.quic_history.proofs.FlowLeaves.{Leaves, leaves-none, leaves-then, leaves-at, leaves-same, leaves-sides, leaves-told, leaves-replaced}
 use Rattle.quic_history.proofs.FlowSteps.{FlowStep, step-at, step_then, step_moved, moved_here, moved_held, flow_held, unpermitted, queued_leaves}
 
 -- ---- calls that leave the sending sides

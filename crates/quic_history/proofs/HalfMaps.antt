@@ -1,8 +1,12 @@
 -- Lemmas on maps from ids to halves.
 use Rattle.std.proofs.Common.{◌≡◌, ℕ, Bool, true, false, cond, eqb, Option, Some, refl, sym, ap, ◌∙◌, arith}
+use Rattle.std.specs.Prelude.{◌==◌, Result, Ok, Err, OnErr}
 use Rattle.std.proofs.lemmas.Bool.{eqb-true}
 use Rattle.std.proofs.lemmas.Grind.{common_steps}
+use Rattle.std.specs.Global.{Box}
+use Rattle.std.specs.Option.{option_map}
 use Rattle.quic_receiving.specs.Half.{Half, new_half}
+use Rattle.quic_retransmits.proofs.Sets.{==-comm}
 use Rattle.quic_history.specs.Halves.{Halves, with_half, taken}
 
 eqb-self : (n : ℕ) → eqb n n ≡ true

@@ -1,22 +1,24 @@
 -- More streams are permitted at once.
-use Rattle.std.proofs.Common.{◌≡◌, ℕ, zero, suc, Bool, true, false, ◌&&◌, not, Some, is_some, refl, sym, ap, ◌∙◌, subst, arith, ◌+◌, ◌-◌, ◌≤◌, ◌<◌}
+use Rattle.std.proofs.Common.{◌≡◌, ℕ, zero, suc, add-one, Bool, true, false, ◌&&◌, not, Option, Some, None, is_some, Result, Ok, Err, refl, sym, ap, ◌∙◌, subst, arith, ◌+◌, ◌-◌, ◌≤◌, ◌<◌}
 use Rattle.std.specs.Prelude.{max, min, ◌^◌, nat_le, nat_lt, if◌then◌else◌}
 use Rattle.std.proofs.lemmas.Bool.Decides.{nat_tests}
+use Rattle.quic_values.specs.declared.memory.OutOfMemory.{OutOfMemory}
+use Rattle.quic_values.specs.declared.ids.Side.{Side}
 use Rattle.quic_values.specs.declared.ids.Dir.{Dir}
 use Rattle.quic_values.specs.declared.ids.Dir.TheVariants.{Bi, Uni}
 use Rattle.quic_values.specs.Ids.{stream_id, other_side}
 use Rattle.quic_wire.specs.declared.error.TheConstants.TransportError.{STREAM_LIMIT_ERROR}
 use Rattle.quic_limits.specs.Remote.{Remote, lacking, with_concurrent, one_accepted}
 use Rattle.quic_receiving.specs.Counted.{number}
-use Rattle.quic_receiving.specs.Half.{new_half}
+use Rattle.quic_receiving.specs.Half.{Half, new_half}
 use Rattle.quic_history.specs.Halves.{with_more}
 use Rattle.quic_history.specs.World.{World, sends, id_refusal, remote_of, with_remote}
 use Rattle.quic_history.specs.Permitting.{after_concurrent, with_accepted, with_count_of}
-use Rattle.quic_history.specs.History.{Trace, RemoteFrom, is_freed}
+use Rattle.quic_history.specs.History.{Trace, RemoteFrom, untouched, is_freed, room_for}
 use Rattle.quic_history.proofs.FirstStreams.{with_more-none, with_more-one, more-below}
 use Rattle.quic_history.proofs.Refusals.{refusal-same, refusal-peer}
-use Rattle.quic_history.proofs.Remotes.{AllRemotes, SameLimits, number-same, next-number}
-use Rattle.quic_history.proofs.StreamSteps.{AllFrom, all-same, all-remote, raised-all, new-from, steady}
+use Rattle.quic_history.proofs.Remotes.{AllRemotes, SameLimits, SameRemotes, number-same, next-number}
+use Rattle.quic_history.proofs.StreamSteps.{AllFrom, all-same, all-remote, raised-all, new-from, Steady, steady, steady-remote}
 
 -- ---- what is told of each stream
 

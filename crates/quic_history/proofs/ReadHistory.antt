@@ -21,6 +21,7 @@ use Rattle.quic_history.specs.Reading.{Begins, Asks, ReadsHalf, Stops, TellsRese
 use Rattle.quic_history.specs.History.{Event, Began, Gave, Ended, Stopped, ToldReset, Trace, HalfFrom, CreditFrom, Facts, slices, trace, with_read, consumed, consumed_by, last_window, window_set, debt, received}
 use Rattle.quic_history.specs.History as history
 use Rattle.quic_history.proofs.WorldSteps.{credit-with_receive}
+use Rattle.quic_history.proofs.Totals.{by_cases}
 use Rattle.quic_history.proofs.Credits.{credit-credited, credit-same}
 use Rattle.quic_history.proofs.Traces.{itself, high-read, received-kept}
 use Rattle.quic_history.proofs.StreamSteps.{all-told, half-from, known-from, but-from, all-put, all-freed, credit-freed}

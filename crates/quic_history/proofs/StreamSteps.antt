@@ -15,7 +15,7 @@ use Rattle.quic_queue.specs.SendOrder.{SendOrder}
 use Rattle.quic_history.specs.World.{World, sends, id_refusal, is_own, remote_of, with_remote, with_receive, with_permitted, permitted_if, replaced_in, released, with_freed, told_readable, noticed}
 use Rattle.quic_receiving.proofs.Data.{data-fresh}
 use Rattle.quic_history.specs.History.{Trace, untouched, HalfFrom, StreamFrom}
-use Rattle.quic_history.proofs.WorldSteps.{receive-there, refusal-with_receive}
+use Rattle.quic_history.proofs.WorldSteps.{receive-there, refusal-with_receive, credit-with_receive}
 use Rattle.quic_history.proofs.Refusals.{IsRaised, refusal-same, refusal-raised, refusal-next, refusal-permitted}
 use Rattle.quic_history.proofs.Totals.{by_cases, same}
 

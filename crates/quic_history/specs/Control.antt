@@ -1,8 +1,9 @@
 -- The frames beside STREAM that an end writes: what leaves what is pending, as which frame, and what the end notes of it
 -- (RFC 9000 sections 4.1, 4.6 and 19).
-use Rattle.std.specs.Prelude.{ℕ, true, false, ◌≡◌, max, if◌then◌else◌, List, [], ◌∷◌, ◌++◌, Option, Some, None}
+use Rattle.std.specs.Prelude.{ℕ, Bool, true, false, ◌≡◌, max, if◌then◌else◌, List, [], ◌∷◌, ◌++◌, Option, Some, None}
 use Rattle.std.specs.Option.{option_map}
 use Rattle.quic_values.specs.declared.ids.Dir.{Dir}
+use Rattle.quic_values.specs.declared.ids.Dir.TheVariants.{Bi, Uni}
 use Rattle.quic_wire.specs.declared.frame.Frame.{Frame}
 use Rattle.quic_wire.specs.declared.frame.Frame.TheVariants as frames
 use Rattle.quic_wire.specs.declared.frame.StopSending.{StopSending}

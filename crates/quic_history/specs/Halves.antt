@@ -1,9 +1,12 @@
 -- The receive halves of a connection, by the ids of their streams.
-use Rattle.std.specs.Prelude.{ℕ, Bool, false, ◌==◌, ◌≡◌, Option, Some, None, Result, Ok, Err, true, ◌&&◌, nat_lt, if◌then◌else◌}
+use Rattle.std.specs.Prelude.{ℕ, Bool, false, ◌==◌, ◌≡◌, Option, Some, None, Result, Ok, Err, true, ◌&&◌, ◌+◌, nat_le, nat_lt, if◌then◌else◌}
+use Rattle.std.specs.Option.{option_map}
 use Rattle.quic_values.specs.declared.ids.Side.{Side}
 use Rattle.quic_values.specs.declared.ids.Dir.{Dir}
 use Rattle.quic_values.specs.Ids.{stream_id, index_of}
+use Rattle.std.specs.HashMap.{get, spare}
 use Rattle.quic_outgoing.specs.Senders.{is_between}
+use Rattle.std.specs.Global.{Box}
 use Rattle.quic_sending.specs.declared.send.ClosedStream.{ClosedStream}
 use Rattle.quic_receiving.specs.Half.{Half, new_half, is_window_due}
 

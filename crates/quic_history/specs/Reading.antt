@@ -1,8 +1,9 @@
 -- What reads of a stream do.
-use Rattle.std.specs.Prelude.{◌+◌, ◌<◌, ℕ, Bool, true, false, not, ◌≡◌, ◌&&◌, ◌||◌, ◌⊎◌, nat_le, if◌then◌else◌, length, List, [], ◌∷◌, Option, Some, None, is_none, is_some, Result, Ok, Err}
+use Rattle.std.specs.Prelude.{◌+◌, ◌<◌, ℕ, Bool, true, false, not, ◌≡◌, ◌==◌, ◌&&◌, ◌||◌, ◌⊎◌, nat_le, if◌then◌else◌, length, List, [], ◌∷◌, ◌++◌, Option, Some, None, is_none, is_some, Result, Ok, Err}
 use Rattle.quic_assembler.specs.declared.chunk.Chunk.{Chunk}
 use Rattle.quic_assembler.specs.declared.errors.EnsureError.{EnsureError}
 use Rattle.quic_assembler.specs.declared.errors.EnsureError.TheVariants as ensure_error
+use Rattle.quic_wire.specs.declared.frame.StopSending.{StopSending}
 use Rattle.quic_limits.specs.Credit.{credited, is_max_data_due}
 use Rattle.quic_limits.specs.Remote.{is_max_streams_due}
 use Rattle.quic_receiving.specs.Half.{Half, stop_credit}

@@ -1,5 +1,5 @@
 -- What the calls on the sending side do to an end.
-use Rattle.std.specs.Prelude.{ℕ, Bool, true, false, ◌≡◌, ◌≤◌, ◌<◌, ◌^◌, ◌⊎◌, nat_le, nat_lt, if◌then◌else◌, List, [], ◌∷◌, Option, Some, None, Result, Ok, Err, MatchBool}
+use Rattle.std.specs.Prelude.{ℕ, Bool, true, false, ◌≡◌, ◌≤◌, ◌<◌, ◌^◌, ◌⊎◌, not, nat_le, nat_lt, if◌then◌else◌, List, [], ◌∷◌, Option, Some, None, Result, Ok, Err, MatchBool}
 use Rattle.quic_values.specs.declared.memory.OutOfMemory.{OutOfMemory}
 use Rattle.quic_values.specs.declared.ids.Dir.{Dir}
 use Rattle.quic_values.specs.declared.ids.Dir.TheVariants.{Bi, Uni}
@@ -12,8 +12,10 @@ use Rattle.quic_wire.specs.declared.error.ReceiveError.TheVariants as receive_er
 use Rattle.quic_wire.specs.declared.error.TheConstants.TransportError.{FRAME_ENCODING_ERROR, STREAM_LIMIT_ERROR, STREAM_STATE_ERROR}
 use Rattle.quic_limits.specs.Own.{with_count}
 use Rattle.quic_limits.specs.Remote.{opening_told}
+use Rattle.quic_limits.specs.SendingCredit.{with_limit, with_window}
 use Rattle.quic_receiving.specs.Half.{new_half}
-use Rattle.quic_outgoing.specs.Outgoing.{Outgoing, own_of, with_own}
+use Rattle.quic_outgoing.specs.declared.limits.PeerLimits.{PeerLimits}
+use Rattle.quic_outgoing.specs.Outgoing.{Outgoing, own_of, with_own, with_params}
 use Rattle.quic_outgoing.specs.Calls.{OpensStream, RaisesStream, StopsSending, PollsWritable}
 use Rattle.quic_history.specs.World.{World, is_own, remote_of, with_remote, with_receive, with_send_streams, told, noticed}
 

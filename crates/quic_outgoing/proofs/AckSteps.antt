@@ -1,5 +1,5 @@
 -- Reports of frames that count.
-use Rattle.std.proofs.Common.{◌≡◌, ◌≤◌, ℕ, ℤ, Bool, true, false, ◌&&◌, ◌||◌, not, Option, Some, None, refl, sym, ap, ◌∙◌, ◌-◌, List, arith}
+use Rattle.std.proofs.Common.{◌≡◌, ◌≤◌, ℕ, ℤ, Bool, true, false, cond, ◌&&◌, ◌||◌, not, Option, Some, None, refl, sym, ap, ◌∙◌, ◌-◌, List, arith}
 use Rattle.std.specs.Prelude.{◌==◌, ◌↔◌, IsTrue, MatchBool, nat_le, if◌then◌else◌}
 use Rattle.std.proofs.lemmas.Bool.Decides.{nat_tests}
 use Rattle.std.specs.declared.ops.Range.{Range}
@@ -11,7 +11,7 @@ use Rattle.quic_sending.specs.Sending.{is_ready, is_reset_sent, is_finish_acked,
 use Rattle.quic_outgoing.specs.Senders.{bare}
 use Rattle.quic_outgoing.specs.Outgoing.{Outgoing, with_send_half}
 use Rattle.quic_outgoing.specs.Calls.{QueuesAt}
-use Rattle.quic_outgoing.specs.Acknowledging.{were_sent, AcksHalf, LosesOnHalf}
+use Rattle.quic_outgoing.specs.Acknowledging.{were_sent, AcksHalf, LosesOnHalf, is_complete}
 use Rattle.quic_outgoing.proofs.SenderMaps.{sender-there, with_sender-twice}
 
 -- what holds of a buffer does not depend on the room

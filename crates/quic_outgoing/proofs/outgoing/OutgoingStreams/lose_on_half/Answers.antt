@@ -1,4 +1,4 @@
-use Rattle.std.proofs.Common.{rules, ◌≡◌, Some}
+use Rattle.std.proofs.Common.{rules, ◌≡◌, Some, None}
 use Rattle.quic_outgoing.specs.Shown.{view_of}
 use Rattle.quic_outgoing.specs.Seen.{senders}
 use Rattle.quic_outgoing.specs.Senders.{bare, with_sender}
