@@ -8,6 +8,7 @@ use Rattle.quic_wire.specs.declared.frame.StreamMeta.{StreamMeta}
 use Rattle.quic_flows.specs.Flow.{WasCarried, SendFlow, with_send_move}
 use Rattle.quic_outgoing.specs.Transmitting.{between}
 use Rattle.quic_retransmits.specs.Pending.{Pending}
+use Rattle.quic_retransmits.specs.Settling.{noted}
 use Rattle.quic_wire.specs.Text.{stream_of}
 use Rattle.quic_writing.specs.Writer.{Writer, TakesTurn, TakesTurns, none, more}
 use Rattle.quic_writing.specs.Appended.{frame_with}
@@ -18,10 +19,10 @@ use Rattle.quic_history.specs.Control.{SettlesEntry}
 use Rattle.quic_history.specs.declared.control.ControlKind.{ControlKind}
 use Rattle.quic_history.specs.SendEvents.{TookTurn}
 use Rattle.quic_history.specs.History.{Event, Settled, Sending, Step, flow, opened_in_all, send_tale, since}
-use Rattle.quic_link.specs.Endpoints.{Endpoint, MayAct, acted, Linked, first_acts, written_on}
+use Rattle.quic_link.specs.Endpoints.{Endpoint, MayAct, acted, Linked, first_acts, written_on, WasAskedFor}
 use Rattle.quic_link.specs.Asked.{AreAsked}
 use Rattle.quic_link.proofs.Joint.{agrees}
-use Rattle.quic_link.proofs.AskedFor.{asked-acted, asked-left, asked-written}
+use Rattle.quic_link.proofs.AskedFor.{asked-acted, asked-left, asked-written, asked-noted, frame-asked}
 
 -- ---- entries beside STREAM
 
@@ -36,6 +37,71 @@ entry-linked x y kind p q frame v l k s =
     let a = entry-may x y kind p q frame v k s in
     let f = (agrees l).0 in
     (first_acts (Settled kind frame) v l a, asked-acted x y (Settled kind frame) v f.comes a q (asked-left x p k kind frame v q s))
+
+abbrev pub noted_if : Pending → Option Frame → Pending
+noted_if notes None = notes
+noted_if notes (Some g) = noted notes g
+
+abbrev pub before_frames : Option Frame → List Frame → List Frame
+before_frames None fs = fs
+before_frames (Some g) fs = g ∷ fs
+
+-- the end, once entries of x left what is pending: what is left, and what was noted of the frames that were written, was
+-- asked for. The frames stand here the last one first
+pub record SettledTo (x y : Endpoint) (w : World) (left notes : Pending) (frames : List Frame) : Type 0 where
+  pub end : Endpoint
+  pub linked : Linked end y
+  pub made : end.made ≡ x.made
+  pub world : end.world ≡ w
+  pub bytes : (q : ℕ) → written_on end q ≡ written_on x q
+  pub wrote : end.wrote ≡ frames ++ x.wrote
+  pub left_asked : AreAsked end left
+  pub notes_asked : AreAsked end notes
+  pub asked : (p : Pending) → AreAsked x p → AreAsked end p
+
+-- no entry yet
+pub settled-none : (x y : Endpoint) (left notes : Pending) → Linked x y → AreAsked x left → AreAsked x notes → SettledTo x y x.world left notes []
+settled-none x y left notes l a b = record { end = x; linked = l; made = refl; world = refl; bytes = λ q. refl; wrote = refl; left_asked = a; notes_asked = b; asked = λ p h. h }
+
+-- one more
+module _ (x y : Endpoint) (w : World) (left notes : Pending) (frames : List Frame) (t : SettledTo x y w left notes frames) (kind : ControlKind) (v : World) (q : Pending) where
+  pub settled-more : (frame : Option Frame) → SettlesEntry kind w left frame v q → SettledTo x y v q (noted_if notes frame) (before_frames frame frames)
+  settled-more None s =
+      let k = let P : World → Type 0 = λ u. SettlesEntry kind u left None v q in subst P (sym t.world) s in
+      let e = Settled kind None in
+      let may = entry-may t.end y kind left q None v t.left_asked k in
+      let more = entry-linked t.end y kind left q None v t.linked t.left_asked k in
+      let f = (agrees t.linked).0 in
+      record {
+        end = acted t.end e v;
+        linked = more.0;
+        made = t.made;
+        world = refl;
+        bytes = t.bytes;
+        wrote = t.wrote;
+        left_asked = more.1;
+        notes_asked = asked-acted t.end y e v f.comes may notes t.notes_asked;
+        asked = λ p h. asked-acted t.end y e v f.comes may p (t.asked p h);
+      }
+  settled-more (Some g) s =
+      let k = let P : World → Type 0 = λ u. SettlesEntry kind u left (Some g) v q in subst P (sym t.world) s in
+      let e = Settled kind (Some g) in
+      let z = acted t.end e v in
+      let may = entry-may t.end y kind left q (Some g) v t.left_asked k in
+      let more = entry-linked t.end y kind left q (Some g) v t.linked t.left_asked k in
+      let f = (agrees t.linked).0 in
+      let told : WasAskedFor z g = frame-asked t.end y e v f.comes may g (asked-written t.end left t.left_asked kind g v q k) in
+      record {
+        end = z;
+        linked = more.0;
+        made = t.made;
+        world = refl;
+        bytes = t.bytes;
+        wrote = ap (λ fs. g ∷ fs) t.wrote;
+        left_asked = more.1;
+        notes_asked = asked-noted z notes g told (asked-acted t.end y e v f.comes may notes t.notes_asked);
+        asked = λ p h. asked-acted t.end y e v f.comes may p (t.asked p h);
+      }
 
 -- ---- turns of the send queue
 

@@ -92,15 +92,15 @@ limits_of m = record {
 }
 
 -- what end x is told on its sending side comes from end y: its limits, frames that it wrote, a frame that it accepted.
--- A frame that was lost was written. The application writes on streams that it was given
+-- A frame that was lost was written. A write takes bytes, and an end is taken, of streams that the application was given
 abbrev pub IsHonestSending : Endpoint → Endpoint → SendEvent → Type 0
 IsHonestSending x y (GaveLimits limits) = limits ≡ limits_of y.made
 IsHonestSending x y (RaisedData limit) = IsOneOf (frames.MaxData limit) y.wrote
 IsHonestSending x y (RaisedCount dir count answer) = IsOneOf (frames.MaxStreams dir count) y.wrote
 IsHonestSending x y (RaisedLimit id limit answer) = IsOneOf (frames.MaxStreamData id limit) y.wrote
 IsHonestSending x y (StoppedOwn id code answer) = IsOneOf (frames.StopSending (record { id = id; error_code = code })) y.wrote
-IsHonestSending x y (WroteOwn id lists closed answer) = WasGiven x.world id
-IsHonestSending x y (FinishedOwn id answer) = WasGiven x.world id
+IsHonestSending x y (WroteOwn id lists closed (Ok written)) = WasGiven x.world id
+IsHonestSending x y (FinishedOwn id (Ok u)) = WasGiven x.world id
 IsHonestSending x y (AckedOwn id offsets fin answer) = WasAccepted y.calls id offsets fin
 IsHonestSending x y (LostOwn id offsets fin answer) = WasWrittenAs x.wrote id offsets fin
 IsHonestSending x y _ = Unit {0}
