@@ -11,7 +11,7 @@ use Rattle.quic_receiving.specs.declared.transmit.ShouldTransmit.{ShouldTransmit
 use Rattle.quic_history.specs.World.{World, Made}
 use Rattle.quic_history.specs.History.{Event, Fits, From}
 use Rattle.quic_history.proofs.Histories.{next}
-use Rattle.quic_endpoint.specs.Receiving.{MakesCall, event_of, with_call, with_answer_told}
+use Rattle.quic_endpoint.specs.Receiving.{MakesCall, event_of, with_call_made, with_answer_told}
 use Rattle.quic_history.specs.Reading.{ReadsSome}
 use Rattle.quic_endpoint.specs.Ends.{EndState, ReadsAt, with_counts_told_if, is_opened}
 
@@ -45,6 +45,6 @@ event-fits (frames.MaxStreamData id limit) answer h = tt
 event-fits (frames.MaxStreams dir count) answer h = tt
 event-fits _ answer h = tt
 
-pub goes-on : (m : Made) (h : List Event) (u v : World) (e : Option Event) → FitsCall h e → From m h u → MakesCall u e v → From m (with_call e h) v
+pub goes-on : (m : Made) (h : List Event) (u v : World) (e : Option Event) → FitsCall h e → From m h u → MakesCall u e v → From m (with_call_made e h) v
 goes-on m h u v None fits f k = let P : World → Type 0 = λ w. From m h w in subst P (sym k) f
 goes-on m h u v (Some e) fits f k = next m h u e v fits f k

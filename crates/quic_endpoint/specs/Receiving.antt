@@ -42,9 +42,9 @@ MakesCall u None v = v ≡ u
 MakesCall u (Some e) v = Step u e v
 
 -- and a history goes on with it
-abbrev pub with_call : Option Event → List Event → List Event
-with_call None h = h
-with_call (Some e) h = e ∷ h
+abbrev pub with_call_made : Option Event → List Event → List Event
+with_call_made None h = h
+with_call_made (Some e) h = e ∷ h
 
 -- an answer by which no frame is to be sent
 abbrev pub IsQuiet : Result ShouldTransmit ReceiveError → Type 0

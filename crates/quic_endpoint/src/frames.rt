@@ -4,7 +4,7 @@ ghost use Rattle.std.specs.Prelude.{List, ◌≡◌, ◌≤◌, ◌∷◌};
 ghost use Rattle.quic_history.specs.World.{Made};
 ghost use Rattle.quic_history.specs.History.{Event, From};
 ghost use Rattle.quic_endpoint.specs.Shown.{end_state};
-ghost use Rattle.quic_endpoint.specs.Receiving.{data_length, event_of, with_call, MakesCall, MayAnswer, with_answer_told, ReceivesAt};
+ghost use Rattle.quic_endpoint.specs.Receiving.{data_length, event_of, with_call_made, MakesCall, MayAnswer, with_answer_told, ReceivesAt};
 
 use crate::endpoint::Endpoint;
 use quic_receiving::ShouldTransmit;
@@ -23,7 +23,7 @@ impl Endpoint {
     ) -> Result<ShouldTransmit, ReceiveError>
         requires { data_length frame ≤ payload_len }
         ensures receives { ReceivesAt (end_state self.old) frame result (end_state self.new) }
-        ensures from { (m : Made) (h : List Event) → From m h (end_state self.old).streams → From m (with_call (event_of frame result) h) (end_state self.new).streams }
+        ensures from { (m : Made) (h : List Event) → From m h (end_state self.old).streams → From m (with_call_made (event_of frame result) h) (end_state self.new).streams }
     {
         let answer = self.take_frame(frame, payload_len);
         self.tell_answer(&answer);
