@@ -10,11 +10,11 @@ use Rattle.std.proofs.lemmas.List.Splits.{slice_split_none, slice_split_at, join
 use Rattle.std.proofs.lemmas.Str.Ascii.{IsAscii-nil, IsAscii-cons, IsAscii-from_all, All-from_ascii}
 use Rattle.hex.specs.Hex.{encode_with, lower_digits, IsBytes}
 use Rattle.hex.proofs.HexLemmas.{IsAscii-encode_with}
-use Rattle.quic_pair.specs.declared.steps.Config.{Config}
-use Rattle.quic_pair.specs.declared.steps.End.{End}
-use Rattle.quic_pair.specs.declared.steps.End.TheVariants.{A, B}
-use Rattle.quic_pair.specs.declared.steps.Step.{Step}
-use Rattle.quic_pair.specs.declared.steps.Step.TheVariants as steps
+use Rattle.quic_steps.specs.declared.steps.Config.{Config}
+use Rattle.quic_steps.specs.declared.steps.End.{End}
+use Rattle.quic_steps.specs.declared.steps.End.TheVariants.{A, B}
+use Rattle.quic_steps.specs.declared.steps.Step.{Step}
+use Rattle.quic_steps.specs.declared.steps.Step.TheVariants as steps
 use Rattle.quic_wire.specs.declared.Dir.{Dir}
 use Rattle.quic_wire.specs.declared.Dir.TheVariants.{Bi, Uni}
 use Rattle.quic_lines.specs.Field.{hex_form, SpellsNoBytes, SpellsNoChunks}

@@ -2,8 +2,8 @@
 use Rattle.std.proofs.Common.{◌≡◌, ◌≤◌, ◌∙◌, ℕ, eqb, ◌-◌, length, take, drop, arith, if◌then◌else◌, List, [], ◌∷◌, map, get_or, codes, refl, sym, ap, subst}
 use Rattle.std.proofs.lemmas.List.{take_rest}
 use lib.Pointwise.{pointwise}
-use Rattle.quic_pair.specs.declared.steps.Step.{Step}
-use Rattle.quic_pair.specs.declared.steps.Step.TheVariants as steps
+use Rattle.quic_steps.specs.declared.steps.Step.{Step}
+use Rattle.quic_steps.specs.declared.steps.Step.TheVariants as steps
 use Rattle.quic_lines.specs.declared.steps.Verb.{Verb}
 use Rattle.quic_lines.specs.declared.steps.Verb.TheVariants as verbs
 use Rattle.quic_lines.specs.Arguments.{verb_text, SpellsNoArguments}

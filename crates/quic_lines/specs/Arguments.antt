@@ -4,7 +4,7 @@ use Rattle.std.specs.Int.{w32}
 use Rattle.std.specs.Fmt.{decimal, signed_decimal}
 use Rattle.std.specs.List.{join_with_byte}
 use Rattle.hex.specs.Hex.{IsBytes}
-use Rattle.quic_pair.specs.declared.steps.End.{End}
+use Rattle.quic_steps.specs.declared.steps.End.{End}
 use Rattle.quic_wire.specs.declared.Dir.{Dir}
 use Rattle.quic_lines.specs.declared.steps.Verb.{Verb}
 use Rattle.quic_lines.specs.declared.steps.Verb.TheVariants as verbs

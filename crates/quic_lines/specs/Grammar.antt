@@ -3,11 +3,11 @@ use Rattle.std.specs.Prelude.{◌≡◌, ◌==◌, ◌<◌, ◌≤◌, ◌^◌, 
 use Rattle.std.specs.Int.{w32}
 use Rattle.std.specs.Fmt.{decimal, signed_decimal}
 use Rattle.std.specs.List.{join_with_byte, slice_split}
-use Rattle.quic_pair.specs.declared.steps.Config.{Config}
-use Rattle.quic_pair.specs.declared.steps.End.{End}
-use Rattle.quic_pair.specs.declared.steps.End.TheVariants.{A, B}
-use Rattle.quic_pair.specs.declared.steps.Step.{Step}
-use Rattle.quic_pair.specs.declared.steps.Step.TheVariants as steps
+use Rattle.quic_steps.specs.declared.steps.Config.{Config}
+use Rattle.quic_steps.specs.declared.steps.End.{End}
+use Rattle.quic_steps.specs.declared.steps.End.TheVariants.{A, B}
+use Rattle.quic_steps.specs.declared.steps.Step.{Step}
+use Rattle.quic_steps.specs.declared.steps.Step.TheVariants as steps
 use Rattle.hex.specs.Hex.{IsBytes}
 use Rattle.quic_lines.specs.Field.{hex_form, AreChunks}
 use Rattle.quic_lines.specs.Line.{direction_text}

@@ -8,13 +8,13 @@ use Rattle.quic_wire.specs.declared.StreamEvent.{StreamEvent}
 use Rattle.quic_wire.specs.declared.StreamEvent.TheVariants as events
 use Rattle.quic_wire.specs.declared.Dir.{Dir}
 use Rattle.quic_wire.specs.declared.Dir.TheVariants.{Bi, Uni}
-use Rattle.quic_pair.specs.Errors.{number_of}
-use Rattle.quic_pair.specs.declared.steps.PairError.{PairError}
-use Rattle.quic_pair.specs.declared.steps.PairError.TheVariants.{NoSuchPayload, NoSuchFrame, NotAccepted, UnknownId, OutOfMemory}
-use Rattle.quic_pair.specs.declared.steps.Reply.{Reply}
-use Rattle.quic_pair.specs.declared.steps.Reply.TheVariants as replies
-use Rattle.quic_pair.specs.declared.steps.Last.{Last}
-use Rattle.quic_pair.specs.declared.steps.Last.TheVariants as lasts
+use Rattle.quic_steps.specs.Errors.{number_of}
+use Rattle.quic_steps.specs.declared.steps.PairError.{PairError}
+use Rattle.quic_steps.specs.declared.steps.PairError.TheVariants.{NoSuchPayload, NoSuchFrame, NotAccepted, UnknownId, OutOfMemory}
+use Rattle.quic_steps.specs.declared.steps.Reply.{Reply}
+use Rattle.quic_steps.specs.declared.steps.Reply.TheVariants as replies
+use Rattle.quic_steps.specs.declared.steps.Last.{Last}
+use Rattle.quic_steps.specs.declared.steps.Last.TheVariants as lasts
 use Rattle.quic_assembler.specs.declared.Chunk.{Chunk}
 use Rattle.quic_lines.specs.Field.{hex_form}
 

@@ -8,7 +8,7 @@ ghost use Rattle.quic_lines.specs.Grammar.{end_text, letter_text, fields_of, lim
 ghost use Rattle.quic_lines.specs.Line.{direction_text};
 
 use crate::hexadecimal::hex_bytes;
-use quic_pair::{Config, End};
+use quic_steps::{Config, End};
 use quic_values::ChunkList;
 use quic_wire::{Bytes, Dir, MAX_STREAM_COUNT, OutOfMemory, StreamId, VarInt};
 use std::alloc::{AllocError, AllocFailed, Global};

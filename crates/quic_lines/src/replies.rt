@@ -3,7 +3,7 @@ ghost use Rattle.quic_lines.specs.Line.{reason_name, refusal_text, direction_tex
 
 use crate::hexadecimal::hex_field;
 use quic_assembler::Chunk;
-use quic_pair::{Last, PairError, Reply};
+use quic_steps::{Last, PairError, Reply};
 use quic_wire::{Dir, OutOfMemory, ReceiveError, StreamEvent, StreamId, TransportError, VarInt};
 use std::alloc::Global;
 

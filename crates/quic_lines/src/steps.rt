@@ -7,7 +7,7 @@ use crate::lines::{
     LineError, bytes, chunks, count, direction, end, fields_of, is_first, number, priority, size,
     stream_id, times, var_int,
 };
-use quic_pair::Step;
+use quic_steps::Step;
 use std::alloc::Global;
 
 /// What a step does, as its first field says.

@@ -43,11 +43,11 @@ goes_at : (x y : Endpoint) (h : List Event) (v w : World) → v ≡ w → GoesOn
 goes_at x y h v w e g = let P : World → Type 0 = λ u. GoesOn x y (called x h u) in subst P (sym e) g
 
 module _ (x y : Endpoint) (id most : ℕ) (ordered : Bool) where
-  chunks_linked : (cs : List Chunk) (h : List Event) (w v : World) → GoesOn x y (called x h w) → GivesChunks w id most ordered cs v → GoesOn x y (called x (with_chunks id most ordered cs h) v)
-  chunks_linked [] h w v l g = goes_at x y h v w g l
-  chunks_linked (c ∷ cs) h w v l g =
+  pub chunks-linked : (cs : List Chunk) (h : List Event) (w v : World) → GoesOn x y (called x h w) → GivesChunks w id most ordered cs v → GoesOn x y (called x (with_chunks id most ordered cs h) v)
+  chunks-linked [] h w v l g = goes_at x y h v w g l
+  chunks-linked (c ∷ cs) h w v l g =
       let e = Gave id most ordered (Ok (Some c)) in
-      chunks_linked cs (e ∷ h) g.0 v (goes-then x y (called x h w) (called x (e ∷ h) g.0) l (goes-call (called x h w) y e g.0 l.linked (record { fits = tt; honest = tt; step = g.1 }))) g.2
+      chunks-linked cs (e ∷ h) g.0 v (goes-then x y (called x h w) (called x (e ∷ h) g.0) l (goes-call (called x h w) y e g.0 l.linked (record { fits = tt; honest = tt; step = g.1 }))) g.2
 
   last_linked : (last : LastAnswer) (h : List Event) (w v : World) → GoesOn x y (called x h w) → LastReads w id most ordered last v → GoesOn x y (called x (with_last id most ordered last h) v)
   last_linked last_answer.Blocked h w v l r = goes-then x y (called x h w) _ l (goes-call (called x h w) y (Gave id most ordered (Err read_error.Blocked)) v l.linked (record { fits = tt; honest = tt; step = r }))
@@ -74,7 +74,7 @@ reads-linked x y id most times ordered p q cs last transmit v l s =
     let b = Began id ordered (Ok tt) in
     let begun_now : GoesOn x y (called x (b ∷ x.calls) s.opened) = goes-call x y b s.opened l (record { fits = tt; honest = tt; step = s.begins }) in
     let h = with_chunks id most ordered cs (b ∷ x.calls) in
-    let read : GoesOn x y (called x h s.read) = chunks_linked x y id most ordered cs (b ∷ x.calls) s.opened s.read begun_now s.gives in
+    let read : GoesOn x y (called x h s.read) = chunks-linked x y id most ordered cs (b ∷ x.calls) s.opened s.read begun_now s.gives in
     let k = with_last id most ordered last h in
     let ended : GoesOn x y (called x k s.ended) = last_linked x y id most ordered last h s.read s.ended read s.last_reads in
     let fits : bytes_in cs ≡ given k = let a = given_last id most ordered last h in let c = given_chunks id most ordered cs (b ∷ x.calls) in counted (bytes_in cs) (given k) (given h) a c in

@@ -1,62 +1,80 @@
--- The headline of the path, from what holds at each moment.
-use Rattle.std.proofs.Common.{◌≡◌, ℕ, ◌<◌, Bool, true, false, ◌||◌, List, [], drop, refl, sym, ◌∙◌, arith}
-use Rattle.std.specs.Prelude.{nat_lt}
-use Rattle.std.proofs.lemmas.List.{take-append-drop}
-use Rattle.std.proofs.lemmas.Bool.{and_parts, eqb-true}
-use Rattle.std.proofs.lemmas.Bool.Decides.{nat_tests}
-use Rattle.quic_pair.specs.declared.steps.Config.{Config}
-use Rattle.quic_pair.specs.Steps.{World}
-use Rattle.quic_pair.specs.declared.steps.End.{End}
-use Rattle.quic_pair.specs.declared.steps.End.TheVariants.{A, B}
-use Rattle.quic_pair.specs.Network.{Sent, FramePlace}
-use Rattle.quic_pair.specs.History.{Past, History, past_of, no_flow, is_same_end}
-use Rattle.quic_pair.proofs.Told.{told_of}
-use Rattle.quic_pair.proofs.Telling.{AreUntouched, untouched-from, is_the_flow}
-use Rattle.quic_pair.specs.From.{From}
-use Rattle.quic_pair.specs.Headline.{Headline, IsFaithful}
-use Rattle.quic_pair.proofs.Invariant.{Fits, source_of}
-use Rattle.quic_pair.proofs.Histories.{Fits-from}
-use Rattle.quic_pair.proofs.Admits.{Admits-from}
-use Rattle.quic_pair.proofs.Spelled.{written_length}
+-- What linked ends promise is what a caller knows.
+use Rattle.std.proofs.Common.{◌≡◌, ℕ, zero, suc, Bool, true, List, [], ◌∷◌, ◌++◌, length, ◌<◌, ◌+◌, ◌-◌, Some, refl, sym, ap, ◌∙◌, subst, arith}
+use Rattle.std.specs.List.{concat, slice_index}
+use Rattle.quic_assembler.specs.Piece.{IsByteAt, lies}
+use Rattle.quic_receiving.specs.Data.{Carries, IsAllGiven}
+use Rattle.quic_sending.specs.Buffer.{total_length}
+use Rattle.quic_sending.proofs.Cuts.{length-concat}
+use Rattle.quic_wire.specs.declared.frame.Stream.{Stream}
+use Rattle.quic_history.specs.History.{ReadChunk, slices, EachOnce}
+use Rattle.quic_link.specs.Endpoints.{Endpoint, IsOneOf, sent_on, came_on, written_on}
+use Rattle.quic_link.specs.Truths.{AreBytesOf, amount_on}
+use Rattle.quic_link.specs.Promises.{TellsTruth, Promises, CameWhole, CameAt, EndCame, given_in_order}
+use Rattle.quic_link.proofs.Promised.{promised}
+use Rattle.quic_steps.specs.declared.steps.End.{End}
+use Rattle.quic_steps.specs.declared.steps.End.TheVariants.{A, B}
+use Rattle.quic_steps.specs.declared.steps.Config.{Config}
+use Rattle.quic_pair.specs.declared.sent.Sent.{Sent}
+use Rattle.quic_pair.specs.State.{PairState}
+use Rattle.quic_pair.specs.History.{Past, Flow}
+use Rattle.quic_pair.specs.Headline.{Headline, IsFaithful, IsDelivered, IsBeginningOf, SomeStream, HasOffset, HasEnd}
+use Rattle.quic_pair.proofs.Joined.{Knows, IsLike, Seen, Joined}
 
-below_acked : (n prefix : ℕ) (later : Bool) → n < prefix → (nat_lt n prefix || later) ≡ true
-below_acked n prefix later h = grind (arith, nat_tests)
+-- ---- bytes at their places are a beginning
 
--- the one flow
-faithful : (p : Past) (v : World) → Fits (told_of p) v → IsFaithful (p.flow A 2) p.accepted v.sent
-faithful p v h =
-    let written = (p.flow A 2).written in
-    record {
-      beginning = (drop v.receiving.held.bytes_read written, rw h.receiver.given_is (take-append-drop v.receiving.held.bytes_read written));
-      ended = h.ended;
-      complete = λ e.
-          let z = h.freed (h.complete e) in
-          let size = written_length (source_of (told_of p)) v.sending h.sender in (
-            sym h.sender.finished ∙ z.finished,
-            λ n low. h.acked n (below_acked n v.sending.buffer.prefix _ (omega (arith, z.all, size))),
-            h.fin_acked z.fin_acked,
-          );
-    }
+byte_tail : (x y : ℕ) (xs ys : List ℕ) → AreBytesOf 0 (x ∷ xs) (y ∷ ys) → AreBytesOf 0 xs ys
+byte_tail x y xs ys h at byte k =
+    let l : suc at < 0 + length (x ∷ xs) = omega (arith, k.1) in
+    let e : suc at - 0 ≡ suc at = omega arith in
+    let d : at - 0 ≡ at = omega arith in
+    let b : slice_index xs at ≡ byte = rw d at k.2 in
+    let t = h (suc at) byte (omega arith, l, rw e b) in
+    (omega arith, omega (arith, t.1), rw d (rw e at t.2))
 
--- a flow of which nothing is known
-faithful_none : (accepted : List FramePlace) (sent : List Sent) → IsFaithful no_flow accepted sent
-faithful_none accepted sent = record { beginning = ([], refl); ended = λ e. absurd cc; complete = λ e. absurd cc }
+pub beginning : (xs ys : List ℕ) → AreBytesOf 0 xs ys → IsBeginningOf xs ys
+beginning [] ys h = (ys, refl)
+beginning (x ∷ xs) [] h = let t = h 0 x (omega arith, omega arith, refl) in absurd (omega (arith, t.1))
+beginning (x ∷ xs) (y ∷ ys) h =
+    let t = h 0 x (omega arith, omega arith, refl) in
+    let e : y ≡ x = t.2 in
+    let more = beginning xs ys (byte_tail x y xs ys h) in
+    (more.0, cc)
 
-client : (who : End) → is_same_end who A ≡ true → who ≡ A
-client A e = refl
-client B e = absurd cc
+-- ---- what came whole was delivered
 
-each_faithful : (p : Past) (sent : List Sent) → IsFaithful (p.flow A 2) p.accepted sent → AreUntouched p → (who : End) (id : ℕ) (b : Bool) → is_the_flow who id ≡ b → IsFaithful (p.flow who id) p.accepted sent
-each_faithful p sent h others who id true e =
-    let z = and_parts _ _ e in
-    rw (client who z.0, eqb-true id 2 z.1) h
-each_faithful p sent h others who id false e = rw (others who id e) (faithful_none p.accepted sent)
+module _ (p : Past) (sent : List Sent) (who : End) (x y : Endpoint) (k : Knows p sent who x y) where
+  pub length-written : (q : ℕ) → amount_on x q ≡ length (p.flow who q).written
+  length-written q = sym (length-concat (sent_on x q).cuts) ∙ ap length (k.written q)
 
-pub Headline-from : {a b : Config} (h : History) (v : World) → From a b h v → Headline (past_of h) v
-Headline-from h v f =
-    let fits = Fits-from f in
-    record {
-      faithful = λ who id. each_faithful (past_of h) v.sent (faithful (past_of h) v fits) (untouched-from f) who id (is_the_flow who id) refl;
-      honest = fits.frames;
-      unrefused = (Admits-from f).refused;
-    }
+  like_offset : (offset : ℕ) (bytes : List ℕ) (fin : Bool) (at : ℕ) (s : Stream) → lies offset (offset + length bytes) at ≡ true → IsLike offset bytes fin s → HasOffset at s
+  like_offset offset bytes fin at s h l = rw (l.offset_is, l.bytes_are) h
+
+  delivered : (q : ℕ) → CameWhole x y q → IsDelivered (p.flow who q) who q p.accepted sent
+  delivered q c = record {
+    finished = sym (k.finished q) ∙ c.finished;
+    bytes = λ at below. let came = c.bytes at (subst (λ n. at < n) (sym (length-written q)) below) in
+        let s = k.accepted q came.offset came.bytes came.fin came.transmit came.is in
+        record { at = s.at; listed = s.listed; stream = s.stream; sent_as = s.sent_as; on = s.on; is = like_offset came.offset came.bytes came.fin at s.stream came.has s.is };
+    end = let came = c.end in
+        let s = k.accepted q came.offset came.bytes true came.transmit came.is in
+        record { at = s.at; listed = s.listed; stream = s.stream; sent_as = s.sent_as; on = s.on; is = s.is.fin_is };
+  }
+
+  -- what is true of linked ends is true of what a caller knows
+  pub faithful : (q : ℕ) → TellsTruth x y q → IsFaithful (p.flow who q) who q p.accepted sent
+  faithful q t =
+      let f = p.flow who q in
+      let all : (came_on y q).ended ≡ true → IsAllGiven (slices (came_on y q).given) (length f.written) = λ e. subst (IsAllGiven (slices (came_on y q).given)) (length-written q) (t.all e) in
+      let bytes : AreBytesOf 0 (given_in_order f.given) f.written = rw (← k.given q, ← k.written q) t.beginning in record {
+        beginning = beginning (given_in_order f.given) f.written bytes;
+        slices_written = rw (← k.given q, ← k.written q) t.slices_written;
+        once = rw (← k.given q) t.once;
+        ended = λ e. let told = k.ended q ∙ e in (sym (k.finished q) ∙ t.finished told, subst (λ g. IsAllGiven (slices g) (length f.written)) (k.given q) (all told));
+        resets = λ code h. k.resets q code (k.told_resets q code h);
+        stops = λ code h. k.stops q code (k.told_stops q code h);
+        complete = λ e. delivered q (k.complete q e);
+      }
+
+pub headline : (a b : Config) (p : Past) (v : PairState) → Joined a b p v → Headline p v.sent
+headline a b p v j A id = let all = promised j.seen.linked in faithful p v.sent A j.first j.second j.seen.sends id (all.0.truth id)
+headline a b p v j B id = let all = promised j.seen.linked in faithful p v.sent B j.second j.first j.seen.receives id (all.1.truth id)

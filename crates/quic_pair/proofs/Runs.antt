@@ -1,46 +1,39 @@
--- Lemmas on whole runs.
+-- Lemmas on many steps.
 use Rattle.std.proofs.Common.{◌≡◌, List, [], ◌∷◌, ◌++◌, length, refl, ap, arith, append_assoc, append-nil}
 use Rattle.std.specs.List.{zip}
-use Rattle.quic_pair.specs.declared.steps.Config.{Config}
-use Rattle.quic_pair.specs.declared.steps.Step.{Step}
-use Rattle.quic_pair.specs.History.{History, Answer}
-use Rattle.quic_pair.specs.Steps.{World, Next}
+use Rattle.quic_steps.specs.declared.steps.Config.{Config}
+use Rattle.quic_steps.specs.declared.steps.Step.{Step}
+use Rattle.quic_pair.specs.declared.sent.Sent.{Sent}
+use Rattle.quic_pair.specs.Replies.{Answer}
+use Rattle.quic_pair.specs.State.{PairState}
+use Rattle.quic_pair.specs.Steps.{Next}
+use Rattle.quic_pair.specs.History.{History, Past, past_of}
 use Rattle.quic_pair.specs.From.{From, next}
-use Rattle.quic_pair.specs.Runs.{StepByStep, none, more, TakesSteps, IsPermittedBehind, IsRefusedBehind}
-use Rattle.quic_pair.proofs.Bounds.{permitted_so}
-use Rattle.quic_pair.proofs.Refused.{refused_so}
+use Rattle.quic_pair.specs.Runs.{StepByStep, none, more, TakesSteps, Behind}
 
 -- one more step and one more reply
-zip-push : {A B : Type 0} (xs : List A) (ys : List B) (x : A) (y : B) → length ys ≡ length xs → zip (xs ++ x ∷ []) (ys ++ y ∷ []) ≡ zip xs ys ++ (x, y) ∷ []
-zip-push [] [] x y e = refl
-zip-push [] (b ∷ ys) x y e = absurd (omega arith)
-zip-push (a ∷ xs) [] x y e = absurd (omega arith)
-zip-push (a ∷ xs) (b ∷ ys) x y e = ap (λ r. (a, b) ∷ r) (zip-push xs ys x y (omega arith))
+zip-behind : {X Y : Type 0} (xs : List X) (ys : List Y) (x : X) (y : Y) → length ys ≡ length xs → zip (xs ++ x ∷ []) (ys ++ y ∷ []) ≡ zip xs ys ++ (x, y) ∷ []
+zip-behind [] [] x y e = refl
+zip-behind [] (k ∷ ys) x y e = absurd (omega arith)
+zip-behind (k ∷ xs) [] x y e = absurd (omega arith)
+zip-behind (j ∷ xs) (k ∷ ys) x y e = ap (λ r. (j, k) ∷ r) (zip-behind xs ys x y (omega arith))
 
 -- a run goes on by one step
-pub steps-more : (old between new : World) (steps : List Step) (answers longer : List Answer) (step : Step) (answer : Answer) → length answers ≡ length steps → longer ≡ answers ++ answer ∷ [] →
-    TakesSteps old (zip steps answers) between → Next between step answer new → TakesSteps old (zip (steps ++ step ∷ []) longer) new
-steps-more old between new steps answers longer step answer count e taken n =
-    rw (e, zip-push steps answers step answer count) (more step answer taken n tt)
+pub steps-more : {old between new : PairState} (taken : List Step) (replies longer : List Answer) (step : Step) (reply : Answer) → length replies ≡ length taken → longer ≡ replies ++ reply ∷ []
+    → TakesSteps old (zip taken replies) between → Next between step reply new → TakesSteps old (zip (taken ++ step ∷ []) longer) new
+steps-more taken replies longer step reply count e run n =
+    rw (e, zip-behind taken replies step reply count) (more step reply run n tt)
 
 -- the history goes on by the steps of a run
-pub From-steps : {a b : Config} {h : History} {old : World} {taken : History} {new : World} → From a b h old → TakesSteps old taken new → From a b (h ++ taken) new
-From-steps {a} {b} {h} {old} f none = rw (append-nil h) f
-From-steps {a} {b} {h} {old} f (more {taken} {between} {new} step answer t n each) =
-    rw (← append_assoc h taken ((step, answer) ∷ [])) (next step answer (From-steps f t) n)
+pub from-steps : {a b : Config} {h : History} {old : PairState} {taken : History} {new : PairState} → From a b h old → TakesSteps old taken new → From a b (h ++ taken) new
+from-steps {a} {b} {h} {old} f none = rw (append-nil h) f
+from-steps {a} {b} {h} {old} f (more {taken} {between} {new} step reply run n each) =
+    rw (← append_assoc h taken ((step, reply) ∷ [])) (next step reply (from-steps f run) n)
 
--- of each step of a run holds what follows from the history before it
-along : (a b : Config) (h : History) (Each : History → World → Step → Answer → Type 0) →
-    ((before : History) (between new : World) (step : Step) (answer : Answer) → From a b (h ++ before) between → Next between step answer new → Each before between step answer) →
-    (old : World) (taken : History) (new : World) → From a b h old → TakesSteps old taken new → StepByStep Each old taken new
-along a b h Each holds old _ _ f none = none
-along a b h Each holds old _ _ f (more {taken} {between} {new} step answer t n each) =
-    more step answer (along a b h Each holds old taken between f t) n (holds taken between new step answer (From-steps f t) n)
-
-pub permitted-steps : (a b : Config) (h taken : History) (old new : World) → From a b h old → TakesSteps old taken new → StepByStep (IsPermittedBehind a b h) old taken new
-permitted-steps a b h taken old new f t =
-    along a b h (IsPermittedBehind a b h) (λ before between after step answer from n. permitted_so step answer after from n) old taken new f t
-
-pub refused-steps : (a b : Config) (h taken : History) (old new : World) → From a b h old → TakesSteps old taken new → StepByStep (IsRefusedBehind h) old taken new
-refused-steps a b h taken old new f t =
-    along a b h (IsRefusedBehind h) (λ before between after step answer from n. refused_so step answer after from n) old taken new f t
+-- what holds of every step behind its history, holds of each step of a run
+pub each-behind : (Holds : Past → List Sent → Step → Answer → Type 0)
+    → ((a b : Config) (h : History) (old new : PairState) (step : Step) (reply : Answer) → From a b h old → Next old step reply new → Holds (past_of h) old.sent step reply)
+    → (a b : Config) (h : History) (old : PairState) (taken : History) (new : PairState) → From a b h old → TakesSteps old taken new → StepByStep (Behind Holds h) old taken new
+each-behind Holds holds a b h old _ _ f none = none
+each-behind Holds holds a b h old _ _ f (more {taken} {between} {new} step reply run n each) =
+    more step reply (each-behind Holds holds a b h old taken between f run) n (holds a b (h ++ taken) between new step reply (from-steps f run) n)

@@ -1,46 +1,68 @@
--- What holds between the two ends, whatever frames the network loses, repeats or reorders.
-use Rattle.std.specs.Prelude.{◌≡◌, ℕ, ◌<◌, ◌≤◌, All, Bool, true, if◌then◌else◌, List, [], ◌++◌, length, slice_get, Some, map}
-use Rattle.std.specs.List.{flat_map}
-use Rattle.quic_wire.specs.Frames.{AreFrames}
-use Rattle.quic_pair.specs.Network.{Sent, Piece, FramePlace, SomeFrame, CarriesOffset, EndsStream, frame_of}
-use Rattle.quic_pair.specs.History.{Past, Flow, GivenChunk}
-use Rattle.quic_pair.specs.declared.steps.End.{End}
-use Rattle.quic_pair.specs.declared.steps.End.TheVariants.{A}
-use Rattle.quic_pair.specs.Steps.{World}
+-- What holds between two ends, whatever frames are lost, repeated or reordered.
+use Rattle.std.specs.Prelude.{ℕ, ◌≡◌, ◌<◌, ◌+◌, true, List, ◌++◌, length, slice_get, Some}
+use Rattle.quic_assembler.specs.Piece.{lies, IsByteAt}
+use Rattle.quic_wire.specs.declared.frame.Frame.{Frame}
+use Rattle.quic_wire.specs.declared.frame.Frame.TheVariants as frames
+use Rattle.quic_wire.specs.declared.frame.Stream.{Stream}
+use Rattle.quic_receiving.specs.Data.{Carries, IsAllGiven}
+use Rattle.quic_history.specs.History.{ReadChunk, slices, EachOnce}
+use Rattle.quic_link.specs.Endpoints.{IsOneOf}
+use Rattle.quic_link.specs.Promises.{given_in_order}
+use Rattle.quic_steps.specs.declared.steps.End.{End}
+use Rattle.quic_pair.specs.declared.sent.Sent.{Sent}
+use Rattle.quic_pair.specs.Payloads.{IsFrameAt}
+use Rattle.quic_pair.specs.History.{Past, Flow, FramePlace}
 
+-- the second list begins with the first
 abbrev pub IsBeginningOf : List ℕ → List ℕ → Type 0
 IsBeginningOf xs ys = (rest : List ℕ) × (xs ++ rest ≡ ys)
 
--- the bytes that ordered reads handed out
-abbrev pub bytes_in_order : GivenChunk → List ℕ
-bytes_in_order chunk = if chunk.ordered then chunk.bytes else []
+-- an end sent a STREAM frame at a place
+pub record IsStreamFrom (sent : List Sent) (who : End) (at : FramePlace) (s : Stream) : Type 0 where
+  pub payload : Sent
+  pub is : slice_get sent at.0 ≡ Some payload
+  pub writer : payload.writer ≡ who
+  pub frame : IsFrameAt payload.text.bytes at.1 (frames.Stream s)
 
-abbrev pub ordered_bytes : List GivenChunk → List ℕ
-ordered_bytes chunks = flat_map bytes_in_order chunks
+-- one of some places has a STREAM frame of an end on a stream, of which something holds
+pub record SomeStream (sent : List Sent) (who : End) (id : ℕ) (places : List FramePlace) (Is : Stream → Type 0) : Type 0 where
+  pub at : FramePlace
+  pub listed : IsOneOf at places
+  pub stream : Stream
+  pub sent_as : IsStreamFrom sent who at stream
+  pub on : stream.id ≡ id
+  pub is : Is stream
 
--- a frame carries a part of what was written, and ends the stream only where it is finished (RFC 9000 sections 4.5, 19.8)
-pub record IsHonestPiece (written : List ℕ) (finished : Bool) (p : Piece) : Type 0 where
-  pub ordered : p.start ≤ p.end
-  pub within : p.end ≤ length written
-  pub ends : p.fin ≡ true → (finished ≡ true) × (p.end ≡ length written)
+-- a frame has the byte at an offset
+abbrev pub HasOffset : ℕ → Stream → Type 0
+HasOffset at s = lies s.offset (s.offset + length s.bytes) at ≡ true
 
--- the bytes of a payload spell its frames, each with the bytes that were written at its place
-pub record IsHonestPayload (written : List ℕ) (finished : Bool) (s : Sent) : Type 0 where
-  pub spelled : AreFrames s.bytes (map (frame_of written) s.frames)
-  pub pieces : (index : ℕ) (p : Piece) → slice_get s.frames index ≡ Some p → IsHonestPiece written finished p
+-- and the end
+abbrev pub HasEnd : Stream → Type 0
+HasEnd s = s.fin ≡ true
 
--- what was read and told of a flow
-pub record IsFaithful (f : Flow) (accepted : List FramePlace) (sent : List Sent) : Type 0 where
+-- all that an end wrote on a stream was delivered: it was ended, and every byte and the end stood in frames that were accepted
+pub record IsDelivered (f : Flow) (who : End) (id : ℕ) (accepted : List FramePlace) (sent : List Sent) : Type 0 where
+  pub finished : f.finished ≡ true
+  pub bytes : (at : ℕ) → at < length f.written → SomeStream sent who id accepted (HasOffset at)
+  pub end : SomeStream sent who id accepted HasEnd
+
+-- what was read and told of what an end sends on a stream is true
+pub record IsFaithful (f : Flow) (who : End) (id : ℕ) (accepted : List FramePlace) (sent : List Sent) : Type 0 where
   -- what ordered reads gave is a beginning of what was written
-  pub beginning : IsBeginningOf (ordered_bytes f.given) f.written
-  -- where a read told the end, the stream was finished and every byte was given
-  pub ended : f.ended ≡ true → (f.finished ≡ true) × (ordered_bytes f.given ≡ f.written)
-  -- where the stream was polled finished, each byte and the end stood in frames that were accepted
-  pub complete : f.complete ≡ true → (f.finished ≡ true) × ((n : ℕ) → n < length f.written → SomeFrame (CarriesOffset n) accepted sent) × SomeFrame EndsStream accepted sent
+  pub beginning : IsBeginningOf (given_in_order f.given) f.written
+  -- each chunk is what was written at its place
+  pub slices_written : (at byte : ℕ) → Carries (slices f.given) at byte → IsByteAt 0 f.written at byte
+  -- no byte is given twice
+  pub once : EachOnce (slices f.given)
+  -- where a read told the end, the stream was ended, and every byte of it given
+  pub ended : f.ended ≡ true → (f.finished ≡ true) × IsAllGiven (slices f.given) (length f.written)
+  -- codes that are told of a reset and of a stop are those of a reset and of a stop
+  pub resets : (code : ℕ) → IsOneOf code f.told_resets → IsOneOf code f.resets
+  pub stops : (code : ℕ) → IsOneOf code f.told_stops → IsOneOf code f.stops
+  -- where the writer is told that it is finished, all of it was delivered
+  pub complete : f.complete ≡ true → IsDelivered f who id accepted sent
 
-pub record Headline (p : Past) (v : World) : Type 0 where
-  pub faithful : (who : End) (id : ℕ) → IsFaithful (p.flow who id) p.accepted v.sent
-  -- every frame that was ever sent is honest with what was written
-  pub honest : (payload : ℕ) (s : Sent) → slice_get v.sent payload ≡ Some s → IsHonestPayload (p.flow A 2).written (p.flow A 2).finished s
-  -- no delivery was refused but for too many pieces (INTERNAL_ERROR is 1), and so only where more than 1024 frames were kept
-  pub unrefused : All (λ code. (code ≡ 1) × (1024 < length p.kept)) p.refused
+-- so of what each end sends on each stream
+abbrev pub Headline : Past → List Sent → Type 0
+Headline p sent = (who : End) (id : ℕ) → IsFaithful (p.flow who id) who id p.accepted sent

@@ -1,174 +1,229 @@
--- The history of a pair: its steps with their replies, oldest first, and what a caller knows from it.
-use Rattle.std.specs.Prelude.{ℕ, ◌==◌, ◌&&◌, if◌then◌else◌, Bool, true, false, List, [], ◌∷◌, ◌++◌, Result, Ok, take, map}
-use Rattle.quic_assembler.specs.declared.Chunk.{Chunk}
-use Rattle.quic_sending.specs.Buffer.{cut_of}
-use Rattle.quic_wire.specs.declared.ReceiveError.{ReceiveError}
-use Rattle.quic_wire.specs.declared.ReceiveError.TheVariants as faults
-use Rattle.quic_pair.specs.declared.steps.End.{End}
-use Rattle.quic_pair.specs.declared.steps.End.TheVariants.{A, B}
-use Rattle.quic_pair.specs.declared.steps.Step.{Step}
-use Rattle.quic_pair.specs.declared.steps.Step.TheVariants.{Open, Accept, Write, Finish, Read as ReadStep, Poll, Deliver, AckStream}
-use Rattle.quic_pair.specs.declared.steps.Reply.{Reply}
-use Rattle.quic_pair.specs.declared.steps.Reply.TheVariants.{Done, DoneTransmit, Fault, Id, Wrote, Read, Event}
-use Rattle.quic_pair.specs.declared.steps.Last.{Last}
-use Rattle.quic_pair.specs.declared.steps.Last.TheVariants.{Ended}
-use Rattle.quic_pair.specs.declared.steps.PairError.{PairError}
-use Rattle.quic_wire.specs.declared.StreamEvent.{StreamEvent}
-use Rattle.quic_wire.specs.declared.StreamEvent.TheVariants.{Finished}
-use Rattle.quic_pair.specs.Network.{FramePlace}
-
-abbrev pub Answer : Type 0
-Answer = Result Reply PairError
+-- The steps of a pair with their replies, the first one first, and what a caller knows from them.
+use Rattle.std.specs.Prelude.{ℕ, Bool, true, false, ◌==◌, ◌&&◌, if◌then◌else◌, List, [], ◌∷◌, ◌++◌, Result, Ok, take}
+use Rattle.std.specs.List.{concat}
+use Rattle.quic_assembler.specs.declared.chunk.Chunk.{Chunk}
+use Rattle.quic_wire.specs.declared.event.StreamEvent.{StreamEvent}
+use Rattle.quic_wire.specs.declared.event.StreamEvent.TheVariants as stream_event
+use Rattle.quic_wire.specs.declared.error.ReceiveError.{ReceiveError}
+use Rattle.quic_wire.specs.declared.error.ReceiveError.TheVariants as receive_error
+use Rattle.quic_wire.specs.declared.error.TheConstants.TransportError.{INTERNAL_ERROR}
+use Rattle.quic_history.specs.History.{ReadChunk}
+use Rattle.quic_steps.specs.declared.steps.End.{End}
+use Rattle.quic_steps.specs.declared.steps.End.TheVariants.{A, B}
+use Rattle.quic_steps.specs.declared.steps.Step.{Step}
+use Rattle.quic_steps.specs.declared.steps.Step.TheVariants as steps
+use Rattle.quic_steps.specs.declared.steps.Reply.{Reply}
+use Rattle.quic_steps.specs.declared.steps.Reply.TheVariants.{Done, DoneTransmit, Fault, Id, Wrote, WroteChunks, Stopped, Read, Code, Event}
+use Rattle.quic_steps.specs.declared.steps.Last.{Last}
+use Rattle.quic_steps.specs.declared.steps.Last.TheVariants as last
+use Rattle.quic_pair.specs.Replies.{Answer}
+use Rattle.quic_pair.specs.State.{peer}
 
 -- a step with its reply
 abbrev pub StepTaken : Type 0
 StepTaken = Step × Answer
 
+-- steps with their replies, the first one first
 abbrev pub History : Type 0
 History = List StepTaken
 
--- a chunk that a read handed out, and whether the read was ordered
-pub record GivenChunk : Type 0 where
-  pub offset : ℕ
-  pub bytes : List ℕ
-  pub ordered : Bool
+-- a frame, by the number of its payload and its place there
+abbrev pub FramePlace : Type 0
+FramePlace = ℕ × ℕ
 
--- what a caller knows of a flow, which is what one end sends on one stream
+-- what a caller knows of what one end sends on one stream
 pub record Flow : Type 0 where
-  -- the end that writes was given the stream
-  pub opened : Bool
-  -- the end that reads was given it
-  pub taken : Bool
   -- the bytes that writes were told were taken
   pub written : List ℕ
-  -- the same in the pieces of the writes that took bytes
-  pub pieces : List (List ℕ)
-  -- a `Finish` was answered done
+  -- it was ended
   pub finished : Bool
-  -- what reads handed out
-  pub given : List GivenChunk
+  -- the codes with which it was given up
+  pub resets : List ℕ
+  -- those with which its reader stopped it
+  pub stops : List ℕ
+  -- the chunks that reads gave, the last first
+  pub given : List ReadChunk
   -- a read told the end
   pub ended : Bool
-  -- a poll told that the stream is finished
+  -- its reader was opened to read bytes as they come
+  pub unordered : Bool
+  -- the codes of a reset that its reader was told
+  pub told_resets : List ℕ
+  -- those of a stop that its writer was told
+  pub told_stops : List ℕ
+  -- a poll told that it is finished
   pub complete : Bool
 
+-- a flow of which nothing is known
 abbrev pub no_flow : Flow
-no_flow = record { opened = false; taken = false; written = []; pieces = []; finished = false; given = []; ended = false; complete = false }
+no_flow = record { written = []; finished = false; resets = []; stops = []; given = []; ended = false; unordered = false; told_resets = []; told_stops = []; complete = false }
 
--- what a caller knows of the past from the steps and their replies
+-- ids: the streams that an end was given, by `Open` and `Accept`, the last first
+-- flow: of each end as it writes, and of each stream
+-- accepted: the frames of which a delivery was answered Ok, one for each such delivery, the last first
+-- kept: those of which a delivery was kept: there were too many pieces, or no memory to compact them, or it was answered Ok
 pub record Past : Type 0 where
-  -- each flow, by the end that writes and the stream
+  pub ids : End → List ℕ
   pub flow : End → ℕ → Flow
-  -- the frames of which a delivery was answered done, one for each such delivery
   pub accepted : List FramePlace
-  -- the same of deliveries of which the frame was kept
   pub kept : List FramePlace
-  -- the codes of the transport errors with which deliveries were refused
-  pub refused : List ℕ
-  -- the frames that were reported acknowledged
-  pub acknowledged : List FramePlace
 
+-- what is known before the first step
 abbrev pub nothing_yet : Past
-nothing_yet = record { flow = λ who id. no_flow; accepted = []; kept = []; refused = []; acknowledged = [] }
+nothing_yet = record { ids = λ who. []; flow = λ who id. no_flow; accepted = []; kept = [] }
 
--- the other end
-abbrev pub peer : End → End
-peer A = B
-peer B = A
-
+-- whether two ends are one
 abbrev pub is_same_end : End → End → Bool
 is_same_end A A = true
 is_same_end B B = true
 is_same_end _ _ = false
 
--- one flow is known anew, and the others as they were
-abbrev pub with_flow : (End → ℕ → Flow) → End → ℕ → Flow → End → ℕ → Flow
-with_flow flows who id f end stream = if is_same_end end who && stream == id then f else flows end stream
+-- a stream was given to an end
+abbrev pub gives_id : End → ℕ → Past → Past
+gives_id who id p = record p { ids = λ end. if is_same_end end who then id ∷ p.ids end else p.ids end }
 
-abbrev pub with_past : Past → End → ℕ → Flow → Past
-with_past p who id f = record p { flow = with_flow p.flow who id f }
+-- what is known after a stream was opened or accepted
+abbrev pub after_given : Past → End → Answer → Past
+after_given p who (Ok (Id id)) = gives_id who id p
+after_given p who _ = p
 
-abbrev pub after_open : Past → End → Answer → Past
-after_open p who (Ok (Id id)) = with_past p who id (record (p.flow who id) { opened = true })
-after_open p who _ = p
+-- more is known of one flow
+abbrev pub with_flow : End → ℕ → (Flow → Flow) → Past → Past
+with_flow who id change p = record p { flow = λ end q. if is_same_end end who && (q == id) then change (p.flow end q) else p.flow end q }
 
-abbrev pub after_accept : Past → End → Answer → Past
-after_accept p who (Ok (Id id)) = with_past p (peer who) id (record (p.flow (peer who) id) { taken = true })
-after_accept p who _ = p
+-- more bytes were written
+abbrev pub writes_more : List ℕ → Flow → Flow
+writes_more bytes f = record f { written = f.written ++ bytes }
 
-abbrev pub flow_written : Flow → List ℕ → Flow
-flow_written f bytes = record f { written = f.written ++ bytes; pieces = f.pieces ++ cut_of bytes }
+-- the flow was ended
+abbrev pub ends_flow : Flow → Flow
+ends_flow f = record f { finished = true }
 
+-- it was given up, with a code
+abbrev pub resets_with : ℕ → Flow → Flow
+resets_with code f = record f { resets = code ∷ f.resets }
+
+-- its reader stopped it, with a code
+abbrev pub stops_with : ℕ → Flow → Flow
+stops_with code f = record f { stops = code ∷ f.stops }
+
+-- its reader was told that it was given up, with a code
+abbrev pub tells_reset : ℕ → Flow → Flow
+tells_reset code f = record f { told_resets = code ∷ f.told_resets }
+
+-- its writer was told of a stop, with a code
+abbrev pub tells_stop : ℕ → Flow → Flow
+tells_stop code f = record f { told_stops = code ∷ f.told_stops }
+
+-- its writer was told that it is finished
+abbrev pub completes : Flow → Flow
+completes f = record f { complete = true }
+
+-- chunks that a read gave
+abbrev pub with_chunks_read : Bool → List Chunk → List ReadChunk → List ReadChunk
+with_chunks_read ordered [] given = given
+with_chunks_read ordered (c ∷ cs) given = with_chunks_read ordered cs (record { offset = c.offset; bytes = c.bytes; ordered = ordered } ∷ given)
+
+-- how a read ended
+abbrev pub reads_last : Last → Flow → Flow
+reads_last last.Ended f = record f { ended = true }
+reads_last (last.Reset code) f = tells_reset code f
+reads_last _ f = f
+
+-- chunks were read, in order or as they come
+abbrev pub reads_chunks : Bool → List Chunk → Flow → Flow
+reads_chunks ordered chunks f = record f { given = with_chunks_read ordered chunks f.given; unordered = if ordered then f.unordered else true }
+
+-- what is known after a write
 abbrev pub after_write : Past → End → ℕ → List ℕ → Answer → Past
-after_write p who id bytes (Ok (Wrote count)) = with_past p who id (flow_written (p.flow who id) (take count bytes))
+after_write p who id bytes (Ok (Wrote count)) = with_flow who id (writes_more (take count bytes)) p
+after_write p who id bytes (Ok (Stopped code)) = with_flow who id (tells_stop code) p
 after_write p who id bytes _ = p
 
+-- after one of chunks
+abbrev pub after_chunks : Past → End → ℕ → List (List ℕ) → Answer → Past
+after_chunks p who id chunks (Ok (WroteChunks written)) = with_flow who id (writes_more (take written.bytes (concat chunks))) p
+after_chunks p who id chunks (Ok (Stopped code)) = with_flow who id (tells_stop code) p
+after_chunks p who id chunks _ = p
+
+-- after an end
 abbrev pub after_finish : Past → End → ℕ → Answer → Past
-after_finish p who id (Ok Done) = with_past p who id (record (p.flow who id) { finished = true })
+after_finish p who id (Ok Done) = with_flow who id ends_flow p
+after_finish p who id (Ok (Stopped code)) = with_flow who id (tells_stop code) p
 after_finish p who id _ = p
 
-abbrev pub bytes_of : Chunk → List ℕ
-bytes_of chunk = chunk.bytes
+-- after a reset
+abbrev pub past_reset : Past → End → ℕ → ℕ → Answer → Past
+past_reset p who id code (Ok Done) = with_flow who id (resets_with code) p
+past_reset p who id code _ = p
 
-abbrev pub as_given : Bool → Chunk → GivenChunk
-as_given ordered chunk = record { offset = chunk.offset; bytes = chunk.bytes; ordered = ordered }
+-- after a stop
+abbrev pub past_stop : Past → End → ℕ → ℕ → Answer → Past
+past_stop p who id code (Ok Done) = with_flow (peer who) id (stops_with code) p
+past_stop p who id code _ = p
 
-abbrev pub ended_by : Last → Bool → Bool
-ended_by Ended before = true
-ended_by _ before = before
-
-abbrev pub flow_read : Flow → Bool → List Chunk → Last → Flow
-flow_read f ordered chunks last = record f { given = f.given ++ map (as_given ordered) chunks; ended = ended_by last f.ended }
-
+-- after a read
 abbrev pub past_read : Past → End → ℕ → Bool → Answer → Past
-past_read p who id ordered (Ok (Read chunks last transmit)) = with_past p (peer who) id (flow_read (p.flow (peer who) id) ordered chunks.items last)
+past_read p who id ordered (Ok (Read chunks last transmit)) = with_flow (peer who) id (λ f. reads_last last (reads_chunks ordered chunks.items f)) p
 past_read p who id ordered _ = p
 
+-- after a question for the code of a reset
+abbrev pub past_code : Past → End → ℕ → Answer → Past
+past_code p who id (Ok (Code code)) = with_flow (peer who) id (tells_reset code) p
+past_code p who id _ = p
+
+-- after an event that was told
 abbrev pub after_event : Past → End → StreamEvent → Past
-after_event p who (Finished id) = with_past p who id (record (p.flow who id) { complete = true })
+after_event p who (stream_event.Finished id) = with_flow who id completes p
+after_event p who (stream_event.Stopped id code) = with_flow who id (tells_stop code) p
 after_event p who _ = p
 
+-- after a poll
 abbrev pub after_poll : Past → End → Answer → Past
 after_poll p who (Ok (Event event)) = after_event p who event
 after_poll p who _ = p
 
--- a frame is kept where there are too many pieces (INTERNAL_ERROR is 1), and where there is no memory to compact
-abbrev pub kept_by : ReceiveError → FramePlace → List FramePlace
-kept_by (faults.Transport error) at = if error.code == 1 then at ∷ [] else []
-kept_by faults.OutOfMemory at = []
-kept_by faults.CompactionMemory at = at ∷ []
+-- a frame was accepted, and so kept
+abbrev pub accepts_frame : FramePlace → Past → Past
+accepts_frame at p = record p { accepted = at ∷ p.accepted; kept = at ∷ p.kept }
 
-abbrev pub codes_of : ReceiveError → List ℕ
-codes_of (faults.Transport error) = error.code ∷ []
-codes_of faults.OutOfMemory = []
-codes_of faults.CompactionMemory = []
+-- a frame was kept, or not
+abbrev pub keeps_frame : FramePlace → Bool → Past → Past
+keeps_frame at kept p = record p { kept = if kept then at ∷ p.kept else p.kept }
 
+-- whether a frame that was refused so was kept
+abbrev pub is_kept_by : ReceiveError → Bool
+is_kept_by (receive_error.Transport error) = error.code == INTERNAL_ERROR
+is_kept_by receive_error.CompactionMemory = true
+is_kept_by receive_error.OutOfMemory = false
+
+-- what is known after a delivery
 abbrev pub after_deliver : Past → FramePlace → Answer → Past
-after_deliver p at (Ok Done) = record p { accepted = p.accepted ++ at ∷ []; kept = p.kept ++ at ∷ [] }
-after_deliver p at (Ok DoneTransmit) = record p { accepted = p.accepted ++ at ∷ []; kept = p.kept ++ at ∷ [] }
-after_deliver p at (Ok (Fault fault)) = record p { kept = p.kept ++ kept_by fault at; refused = p.refused ++ codes_of fault }
+after_deliver p at (Ok Done) = accepts_frame at p
+after_deliver p at (Ok DoneTransmit) = accepts_frame at p
+after_deliver p at (Ok (Fault fault)) = keeps_frame at (is_kept_by fault) p
 after_deliver p at _ = p
 
-abbrev pub past_ack : Past → FramePlace → Answer → Past
-past_ack p at (Ok Done) = record p { acknowledged = p.acknowledged ++ at ∷ [] }
-past_ack p at _ = p
-
--- the past after one more step
+-- what is known after one more step
 abbrev pub after : Past → Step → Answer → Past
-after p (Open who dir) answer = after_open p who answer
-after p (Accept who dir) answer = after_accept p who answer
-after p (Write who id bytes) answer = after_write p who id bytes answer
-after p (Finish who id) answer = after_finish p who id answer
-after p (ReadStep who id ordered max times) answer = past_read p who id ordered answer
-after p (Poll who) answer = after_poll p who answer
-after p (Deliver payload frame) answer = after_deliver p (payload, frame) answer
-after p (AckStream payload index) answer = past_ack p (payload, index) answer
-after p _ answer = p
+after p (steps.Open who dir) reply = after_given p who reply
+after p (steps.Accept who dir) reply = after_given p who reply
+after p (steps.Write who id bytes) reply = after_write p who id bytes reply
+after p (steps.WriteChunks who id chunks) reply = after_chunks p who id chunks reply
+after p (steps.Finish who id) reply = after_finish p who id reply
+after p (steps.Reset who id code) reply = past_reset p who id code reply
+after p (steps.Stop who id code) reply = past_stop p who id code reply
+after p (steps.Read who id ordered most times) reply = past_read p who id ordered reply
+after p (steps.ReceivedReset who id) reply = past_code p who id reply
+after p (steps.Poll who) reply = after_poll p who reply
+after p (steps.Deliver number index) reply = after_deliver p (number, index) reply
+after p _ reply = p
 
+-- what is known after these steps, and what was known before
 abbrev pub past_from : Past → History → Past
 past_from p [] = p
 past_from p (e ∷ h) = past_from (after p e.0 e.1) h
 
--- what a caller knows after this history
+-- what is known after these steps
 abbrev pub past_of : History → Past
 past_of h = past_from nothing_yet h

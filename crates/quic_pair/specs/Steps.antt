@@ -1,157 +1,212 @@
--- Two ends of one stream and a network: what each step may do.
-use Rattle.std.specs.Prelude.{◌≡◌, ℕ, ◌≤◌, ◌⊎◌, Bool, true, false, List, [], ◌∷◌, ◌++◌, Ok, Err, length, slice_set}
-use Rattle.quic_wire.specs.declared.frame.Stream.{Stream}
-use Rattle.quic_values.specs.declared.Dir.TheVariants.{Uni}
-use Rattle.quic_pair.specs.Network.{Sent, Piece, HasPiece, LacksPiece, HasStream, LacksStream, accepted_at}
-use Rattle.quic_pair.specs.Sending.{Sending, Turns, IsFull, Opens, Writes, Finishes, Lost, Acked, Polls}
-use Rattle.quic_pair.specs.Receiving.{Receiving, ReceivesFrame, Accepts, ReadsStream}
-use Rattle.quic_pair.specs.History.{Answer}
-use Rattle.quic_pair.specs.declared.steps.End.TheVariants.{A, B}
-use Rattle.quic_pair.specs.declared.steps.Step.{Step}
-use Rattle.quic_pair.specs.declared.steps.Step.TheVariants.{Open, Accept, Write, Finish, Read as ReadStep, Poll, Emit, Deliver, LoseStream, AckStream}
-use Rattle.quic_pair.specs.declared.steps.Reply.TheVariants.{Done, Payload, Fault}
-use Rattle.quic_pair.specs.declared.steps.PairError.TheVariants.{NoSuchPayload, NoSuchFrame, NotAccepted, UnknownId, OutOfMemory}
+-- What each step does to two ends and what was sent between them.
+use Rattle.std.specs.Prelude.{ℕ, Bool, true, false, ◌≡◌, ◌⊎◌, ◌≤◌, List, [], ◌∷◌, ◌++◌, length, slice_get, slice_set, Some, None, Result, Ok, Err}
+use Rattle.quic_values.specs.declared.memory.OutOfMemory.{OutOfMemory}
+use Rattle.quic_wire.specs.declared.frame.Frame.{Frame}
+use Rattle.quic_wire.specs.declared.frame.StreamMeta.{StreamMeta}
+use Rattle.quic_wire.specs.declared.error.ReceiveError.{ReceiveError}
+use Rattle.quic_sending.specs.Source.{slice_lists}
+use Rattle.quic_receiving.specs.declared.transmit.ShouldTransmit.{ShouldTransmit}
+use Rattle.quic_retransmits.specs.Pending.{merged_if, shown_if}
+use Rattle.quic_retransmits.specs.Settling.{noted_in}
+use Rattle.quic_endpoint.specs.Ends.{EndState}
+use Rattle.quic_endpoint.specs.Receiving.{ReceivesAt}
+use Rattle.quic_endpoint.specs.Reports.{LosesAt, AcksAt, with_pending}
+use Rattle.quic_endpoint.specs.Emitting.{PayloadView, EmitsAt}
+use Rattle.quic_steps.specs.declared.steps.End.{End}
+use Rattle.quic_steps.specs.declared.steps.Step.{Step}
+use Rattle.quic_steps.specs.declared.steps.Step.TheVariants as steps
+use Rattle.quic_steps.specs.declared.steps.Reply.TheVariants.{Done, Payload}
+use Rattle.quic_steps.specs.declared.steps.PairError.TheVariants.{NoSuchPayload, NoSuchFrame, NotAccepted, OutOfMemory as NoMemory}
+use Rattle.quic_pair.specs.Replies.{Answer, done_reply, received_reply}
+use Rattle.quic_pair.specs.Payloads.{SentText, IsFrameAt, LacksFrame, SpellsNone, IsMarked, IsStreamAt, LacksStream, IsControlAccepted, LacksAccepted, is_accepted}
+use Rattle.quic_pair.specs.declared.sent.Sent.{Sent}
+use Rattle.quic_pair.specs.State.{PairState, OnEnd, peer, the_end, with_end, with_sent}
+use Rattle.quic_pair.specs.Calls.{Opens, Accepts, OnGiven, Writes, WritesChunksOrNone, AcksResets, AcksSome, Finishes, ResetsOn, StopsOn, SetsPriorityOn, AsksReset, ReadsOn, SetsSendWindow, SetsReceiveWindow, SetsMaxConcurrent, Polls}
 
-pub record World : Type 0 where
-  pub sending : Sending
-  pub receiving : Receiving
-  -- every payload that was ever sent
-  pub sent : List Sent
+-- ---- payloads that are written
 
--- the step is refused, since it does not know the id
-abbrev pub KnowsNoId : World → Answer → World → Type 0
-KnowsNoId old answer new = (answer ≡ Err UnknownId) × (new ≡ old)
+-- a payload of the view of an end, which nothing was delivered of
+pub record IsSentBy (who : End) (payload : PayloadView) (s : Sent) : Type 0 where
+  pub writer : s.writer ≡ who
+  pub text : s.text ≡ record { bytes = payload.bytes; accepted = [] }
+  pub control : noted_in s.control ≡ payload.control
 
-abbrev pub with_sending : World → Sending → World
-with_sending v s = record v { sending = s }
+-- an end wrote a payload, which is sent
+pub record Emits (old : PairState) (who : End) (most : ℕ) (fair : Bool) (answer : Result (Unit {0}) OutOfMemory) (payload : PayloadView) (new : PairState) : Type 0 where
+  pub end : EndState
+  pub emits : EmitsAt most fair (the_end old who) payload answer end
+  pub sent : Sent
+  pub sent_is : IsSentBy who payload sent
+  pub is : new ≡ with_sent (with_end old who end) (old.sent ++ sent ∷ [])
 
-abbrev pub with_receiving : World → Receiving → World
-with_receiving v r = record v { receiving = r }
-
--- a step on the stream of the end that writes
-pub record OnSending (P : Sending → Answer → Sending → Type 0) (old : World) (id : ℕ) (answer : Answer) (new : World) : Type 0 where
-  pub known : (id ≡ 2) × (old.sending.opened ≡ true)
-  pub does : P old.sending answer new.sending
-  pub new_is : new ≡ record old { sending = new.sending }
-
-abbrev pub Unknown : Bool → ℕ → Type 0
-Unknown given id = (given ≡ false) ⊎ (id ≡ 2 → ⊥)
-
-abbrev pub OnStream : (Sending → Answer → Sending → Type 0) → World → ℕ → Answer → World → Type 0
-OnStream P old id answer new = (Unknown old.sending.opened id × KnowsNoId old answer new) ⊎ OnSending P old id answer new
-
-pub record OnReceiving (most times : ℕ) (old : World) (id : ℕ) (answer : Answer) (new : World) : Type 0 where
-  pub known : (id ≡ 2) × (old.receiving.taken ≡ true)
-  pub does : ReadsStream most times old.receiving answer new.receiving
-  pub new_is : new ≡ record old { receiving = new.receiving }
-
--- a payload is sent
-pub record Emitted (most : ℕ) (old : World) (payload : Sent) (new : World) : Type 0 where
-  pub turns : Turns most (record { end = old.sending; payload = record { bytes = []; frames = [] } }) (record { end = new.sending; payload = payload })
-  pub new_is : new ≡ record old { sending = new.sending; sent = old.sent ++ payload ∷ [] }
-
-pub record EmitsAll (most : ℕ) (old : World) (number : ℕ) (bytes : List ℕ) (new : World) : Type 0 where
+-- all of it, with its number and its bytes
+pub record EmitsWhole (old : PairState) (who : End) (most : ℕ) (fair : Bool) (number : ℕ) (bytes : List ℕ) (new : PairState) : Type 0 where
+  pub payload : PayloadView
+  pub emits : Emits old who most fair (Ok tt) payload new
   pub number_is : number ≡ length old.sent
-  pub payload : Sent
-  pub bytes_are : payload.bytes ≡ bytes
-  pub emitted : Emitted most old payload new
-  pub full : IsFull most new.sending bytes
+  pub bytes_are : bytes ≡ payload.bytes
 
-pub record EmitsSome (most : ℕ) (old new : World) : Type 0 where
-  pub payload : Sent
-  pub emitted : Emitted most old payload new
+-- what could be written of it, for want of memory
+pub record EmitsPart (old : PairState) (who : End) (most : ℕ) (fair : Bool) (new : PairState) : Type 0 where
+  pub answer : Result (Unit {0}) OutOfMemory
+  pub payload : PayloadView
+  pub emits : Emits old who most fair answer payload new
 
-abbrev pub Emits : World → ℕ → Answer → World → Type 0
-Emits old most (Ok (Payload number bytes)) new = EmitsAll most old number bytes.items new
-Emits old most (Err OutOfMemory) new = (new ≡ old) ⊎ EmitsSome most old new
-Emits old most _ new = ⊥
+-- what an emit was replied, and what it did
+abbrev pub Emitted : PairState → End → ℕ → Bool → Answer → PairState → Type 0
+Emitted old who most fair (Ok (Payload number bytes)) new = EmitsWhole old who most fair number bytes.items new
+Emitted old who most fair (Err NoMemory) new = (new ≡ old) ⊎ EmitsPart old who most fair new
+Emitted old who most fair _ new = ⊥
 
-abbrev pub NoPayload : World → ℕ → Type 0
-NoPayload v payload = length v.sent ≤ payload
+-- ---- frames that were sent
 
-abbrev pub NoFrame : World → ℕ → ℕ → Type 0
-NoFrame v payload index = LacksPiece v.sent payload index
+-- a payload has a number
+pub record HasPayload (old : PairState) (number : ℕ) : Type 0 where
+  pub sent : Sent
+  pub is : slice_get old.sent number ≡ Some sent
 
-abbrev pub NoStream : World → ℕ → ℕ → Type 0
-NoStream v payload index = LacksStream v.sent payload index
+-- why a step on a frame of a payload is refused, and nothing changes
+abbrev pub LacksPayload : PairState → ℕ → PairState → Type 0
+LacksPayload old number new = (length old.sent ≤ number) × (new ≡ old)
+
+-- a payload is there, but its text is not as the step wants it
+pub record RefusesOf (old : PairState) (number : ℕ) (Why : SentText → Type 0) (new : PairState) : Type 0 where
+  pub payload : HasPayload old number
+  pub why : Why payload.sent.text
+  pub is : new ≡ old
+
+-- the frames at a place, after an answer
+abbrev pub SentAfter : List Sent → ℕ → Sent → ℕ → Result ShouldTransmit ReceiveError → List Sent → Type 0
+SentAfter old number sent index (Ok transmit) new = (marked : SentText) × IsMarked sent.text index marked × (new ≡ slice_set old number (record sent { text = marked }))
+SentAfter old number sent index (Err error) new = new ≡ old
 
 -- a frame of a payload is handed to the other end
-pub record HandsOver (old : World) (payload index : ℕ) (answer : Answer) (new : World) : Type 0 where
-  pub frame : Stream
-  pub has : HasStream old.sent payload index frame
-  pub receives : ReceivesFrame old.receiving frame.offset frame.bytes frame.fin (length has.whole.bytes) answer new.receiving
-  pub sending : new.sending ≡ old.sending
+pub record HandsOver (old : PairState) (number index : ℕ) (reply : Answer) (new : PairState) : Type 0 where
+  pub payload : HasPayload old number
+  pub frame : Frame
+  pub at : IsFrameAt payload.sent.text.bytes index frame
+  pub answer : Result ShouldTransmit ReceiveError
+  pub end : EndState
+  pub receives : ReceivesAt (the_end old (peer payload.sent.writer)) frame answer end
+  pub reply_is : reply ≡ received_reply answer
+  pub sent : SentAfter old.sent number payload.sent index answer new.sent
+  pub is : new ≡ with_sent (with_end old (peer payload.sent.writer) end) new.sent
 
-pub record Delivers (old : World) (payload index : ℕ) (new : World) : Type 0 where
-  pub hands : HandsOver old payload index (Ok Done) new
-  pub sent : new.sent ≡ slice_set old.sent payload (accepted_at hands.has.whole index hands.has.piece)
+-- what a delivery was replied, and what it did
+abbrev pub Delivers : PairState → ℕ → ℕ → Answer → PairState → Type 0
+Delivers old number index (Err NoSuchPayload) new = LacksPayload old number new
+Delivers old number index (Err NoSuchFrame) new = RefusesOf old number (λ s. LacksFrame s.bytes index) new
+Delivers old number index (Err NoMemory) new = (new ≡ old) ⊎ HandsOver old number index (Err NoMemory) new
+Delivers old number index reply new = HandsOver old number index reply new
 
-pub record Faults (old : World) (payload index : ℕ) (answer : Answer) (new : World) : Type 0 where
-  pub hands : HandsOver old payload index answer new
-  pub sent : new.sent ≡ old.sent
+-- ---- what becomes of them
 
-abbrev pub Delivered : World → ℕ → ℕ → Answer → World → Type 0
-Delivered old payload index (Ok Done) new = Delivers old payload index new
-Delivered old payload index (Ok (Fault error)) new = Faults old payload index (Ok (Fault error)) new
-Delivered old payload index (Err NoSuchPayload) new = NoPayload old payload × (new ≡ old)
-Delivered old payload index (Err NoSuchFrame) new = (NoFrame old payload index ⊎ NoStream old payload index) × (new ≡ old)
-Delivered old payload index (Err OutOfMemory) new = new ≡ old
-Delivered old payload index _ new = ⊥
+-- a STREAM frame of a payload is reported lost to the end that wrote it
+pub record ReportsLoss (old : PairState) (number index : ℕ) (reply : Answer) (new : PairState) : Type 0 where
+  pub payload : HasPayload old number
+  pub meta : StreamMeta
+  pub at : IsStreamAt payload.sent.text.bytes index meta
+  pub answer : Result (Unit {0}) OutOfMemory
+  pub end : EndState
+  pub loses : LosesAt (the_end old payload.sent.writer) meta answer end
+  pub reply_is : reply ≡ done_reply answer
+  pub is : new ≡ with_end old payload.sent.writer end
 
--- a frame of a payload is reported lost
-pub record ReportsLoss (old : World) (payload index : ℕ) (answer : Answer) (new : World) : Type 0 where
-  pub piece : Piece
-  pub has : HasPiece old.sent payload index piece
-  pub does : Lost old.sending (record { start = piece.start; end = piece.end }) piece.fin answer new.sending
-  pub new_is : new ≡ record old { sending = new.sending }
+-- what a report of a loss was replied, and what it did
+abbrev pub LosesFrame : PairState → ℕ → ℕ → Answer → PairState → Type 0
+LosesFrame old number index (Err NoSuchPayload) new = LacksPayload old number new
+LosesFrame old number index (Err NoSuchFrame) new = RefusesOf old number (λ s. LacksStream s.bytes index) new
+LosesFrame old number index (Err NoMemory) new = (new ≡ old) ⊎ ReportsLoss old number index (Err NoMemory) new
+LosesFrame old number index reply new = ReportsLoss old number index reply new
 
-abbrev pub LosesFrame : World → ℕ → ℕ → Answer → World → Type 0
-LosesFrame old payload index (Err NoSuchPayload) new = NoPayload old payload × (new ≡ old)
-LosesFrame old payload index (Err NoSuchFrame) new = NoFrame old payload index × (new ≡ old)
-LosesFrame old payload index answer new = ReportsLoss old payload index answer new
+-- one that was accepted is reported acknowledged
+pub record ReportsAck (old : PairState) (number index : ℕ) (reply : Answer) (new : PairState) : Type 0 where
+  pub payload : HasPayload old number
+  pub meta : StreamMeta
+  pub at : IsStreamAt payload.sent.text.bytes index meta
+  pub accepted : is_accepted payload.sent.text index ≡ true
+  pub answer : Result (Unit {0}) OutOfMemory
+  pub end : EndState
+  pub acks : AcksAt (the_end old payload.sent.writer) meta answer end
+  pub reply_is : reply ≡ done_reply answer
+  pub is : new ≡ with_end old payload.sent.writer end
 
--- a frame of a payload is reported acknowledged
-pub record ReportsAck (old : World) (payload index : ℕ) (answer : Answer) (new : World) : Type 0 where
-  pub piece : Piece
-  pub has : HasPiece old.sent payload index piece
-  pub accepted : piece.accepted ≡ true
-  pub does : Acked old.sending (record { start = piece.start; end = piece.end }) piece.fin answer new.sending
-  pub new_is : new ≡ record old { sending = new.sending }
+-- a STREAM frame stands at a place, and was not accepted
+pub record IsUnaccepted (s : SentText) (index : ℕ) : Type 0 where
+  pub meta : StreamMeta
+  pub at : IsStreamAt s.bytes index meta
+  pub refused : is_accepted s index ≡ false
 
-pub record NotTaken (v : World) (payload index : ℕ) : Type 0 where
-  pub piece : Piece
-  pub has : HasPiece v.sent payload index piece
-  pub refused : piece.accepted ≡ false
+-- what a report of an acknowledgement was replied, and what it did
+abbrev pub AcksFrame : PairState → ℕ → ℕ → Answer → PairState → Type 0
+AcksFrame old number index (Err NoSuchPayload) new = LacksPayload old number new
+AcksFrame old number index (Err NoSuchFrame) new = RefusesOf old number (λ s. LacksStream s.bytes index) new
+AcksFrame old number index (Err NotAccepted) new = RefusesOf old number (λ s. IsUnaccepted s index) new
+AcksFrame old number index (Err NoMemory) new = (new ≡ old) ⊎ ReportsAck old number index (Err NoMemory) new
+AcksFrame old number index reply new = ReportsAck old number index reply new
 
-abbrev pub AcksFrame : World → ℕ → ℕ → Answer → World → Type 0
-AcksFrame old payload index (Err NoSuchPayload) new = NoPayload old payload × (new ≡ old)
-AcksFrame old payload index (Err NoSuchFrame) new = NoFrame old payload index × (new ≡ old)
-AcksFrame old payload index (Err NotAccepted) new = NotTaken old payload index × (new ≡ old)
-AcksFrame old payload index answer new = ReportsAck old payload index answer new
+-- what the frames beside STREAM of a payload carried is pending again
+pub record LosesAllControl (old : PairState) (number : ℕ) (new : PairState) : Type 0 where
+  pub payload : HasPayload old number
+  pub end : EndState
+  pub end_is : end ≡ with_pending (the_end old payload.sent.writer) (merged_if (the_end old payload.sent.writer).pending (shown_if payload.sent.control))
+  pub is : new ≡ with_end old payload.sent.writer end
 
--- a step on one of the ends as a whole
-pub record OnlySending (P : Sending → Answer → Sending → Type 0) (old : World) (answer : Answer) (new : World) : Type 0 where
-  pub does : P old.sending answer new.sending
-  pub new_is : new ≡ record old { sending = new.sending }
+-- what a report that control frames were lost was replied, and what it did
+abbrev pub LosesControl : PairState → ℕ → Answer → PairState → Type 0
+LosesControl old number (Ok Done) new = LosesAllControl old number new
+LosesControl old number (Err NoSuchPayload) new = LacksPayload old number new
+LosesControl old number (Err NoMemory) new = new ≡ old
+LosesControl old number _ new = ⊥
 
-pub record OnlyReceiving (old : World) (answer : Answer) (new : World) : Type 0 where
-  pub does : Accepts old.receiving answer new.receiving
-  pub new_is : new ≡ record old { receiving = new.receiving }
+-- those of a payload, of which each frame beside STREAM was accepted
+pub record AcksAllControl (old : PairState) (number : ℕ) (new : PairState) : Type 0 where
+  pub payload : HasPayload old number
+  pub ids : List ℕ
+  pub accepted : IsControlAccepted payload.sent.text ids
+  pub end : EndState
+  pub acks : AcksResets (the_end old payload.sent.writer) ids end
+  pub is : new ≡ with_end old payload.sent.writer end
 
-abbrev pub WritesBytes : List ℕ → Sending → Answer → Sending → Type 0
-WritesBytes bytes old answer new = Writes old bytes answer new
+-- the first of them, up to one for which memory was wanting
+pub record AcksSomeControl (old : PairState) (number : ℕ) (new : PairState) : Type 0 where
+  pub payload : HasPayload old number
+  pub ids : List ℕ
+  pub accepted : IsControlAccepted payload.sent.text ids
+  pub end : EndState
+  pub acks : AcksSome (the_end old payload.sent.writer) ids end
+  pub is : new ≡ with_end old payload.sent.writer end
 
--- what a step may do
-abbrev pub Next : World → Step → Answer → World → Type 0
-Next old (Open A Uni) answer new = OnlySending Opens old answer new
-Next old (Accept B Uni) answer new = OnlyReceiving old answer new
-Next old (Write A id bytes) answer new = OnStream (WritesBytes bytes) old id answer new
-Next old (Finish A id) answer new = OnStream Finishes old id answer new
-Next old (ReadStep B id true max times) answer new =
-    (Unknown old.receiving.taken id × KnowsNoId old answer new) ⊎ OnReceiving max times old id answer new
-Next old (Poll A) answer new = OnlySending Polls old answer new
-Next old (Emit A most fair) answer new = Emits old most answer new
-Next old (Deliver payload index) answer new = Delivered old payload index answer new
-Next old (LoseStream payload index) answer new = LosesFrame old payload index answer new
-Next old (AckStream payload index) answer new = AcksFrame old payload index answer new
-Next old _ answer new = KnowsNoId old answer new
+-- what a report that control frames were acknowledged was replied, and what it did
+abbrev pub AcksControl : PairState → ℕ → Answer → PairState → Type 0
+AcksControl old number (Ok Done) new = AcksAllControl old number new
+AcksControl old number (Err NoSuchPayload) new = LacksPayload old number new
+AcksControl old number (Err NoSuchFrame) new = RefusesOf old number (λ s. SpellsNone s.bytes) new
+AcksControl old number (Err NotAccepted) new = RefusesOf old number LacksAccepted new
+AcksControl old number (Err NoMemory) new = (new ≡ old) ⊎ AcksSomeControl old number new
+AcksControl old number _ new = ⊥
+
+-- ---- all steps
+
+-- what each step was replied, and what it did
+abbrev pub Next : PairState → Step → Answer → PairState → Type 0
+Next old (steps.Open who dir) reply new = OnEnd (λ e f. Opens e dir reply f) old who new
+Next old (steps.Accept who dir) reply new = OnEnd (λ e f. Accepts e dir reply f) old who new
+Next old (steps.Write who id bytes) reply new = OnEnd (λ e f. OnGiven e id reply f (Writes e id (slice_lists bytes) reply f)) old who new
+Next old (steps.WriteChunks who id chunks) reply new = OnEnd (λ e f. OnGiven e id reply f (WritesChunksOrNone e id chunks reply f)) old who new
+Next old (steps.Finish who id) reply new = OnEnd (λ e f. OnGiven e id reply f (Finishes e id reply f)) old who new
+Next old (steps.Reset who id code) reply new = OnEnd (λ e f. OnGiven e id reply f (ResetsOn e id code reply f)) old who new
+Next old (steps.Stop who id code) reply new = OnEnd (λ e f. OnGiven e id reply f (StopsOn e id code reply f)) old who new
+Next old (steps.SetPriority who id priority) reply new = OnEnd (λ e f. OnGiven e id reply f (SetsPriorityOn e id priority reply f)) old who new
+Next old (steps.Read who id ordered most times) reply new = OnEnd (λ e f. OnGiven e id reply f (ReadsOn e id ordered most times reply f)) old who new
+Next old (steps.ReceivedReset who id) reply new = OnEnd (λ e f. OnGiven e id reply f (AsksReset e id reply f)) old who new
+Next old (steps.SetSendWindow who window) reply new = OnEnd (λ e f. SetsSendWindow e window reply f) old who new
+Next old (steps.SetReceiveWindow who window) reply new = OnEnd (λ e f. SetsReceiveWindow e window reply f) old who new
+Next old (steps.SetMaxConcurrent who dir count) reply new = OnEnd (λ e f. SetsMaxConcurrent e dir count reply f) old who new
+Next old (steps.Poll who) reply new = OnEnd (λ e f. Polls e reply f) old who new
+Next old (steps.Emit who most fair) reply new = Emitted old who most fair reply new
+Next old (steps.Deliver number index) reply new = Delivers old number index reply new
+Next old (steps.LoseStream number index) reply new = LosesFrame old number index reply new
+Next old (steps.AckStream number index) reply new = AcksFrame old number index reply new
+Next old (steps.LoseControl number) reply new = LosesControl old number reply new
+Next old (steps.AckControl number) reply new = AcksControl old number reply new

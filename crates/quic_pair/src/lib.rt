@@ -1,12 +1,13 @@
-//! Two ends of QUIC's stream layer and a network that loses, repeats and reorders between them.
+//! Two ends of QUIC's stream layer, and a network that loses, repeats and reorders between them.
 #![tactic(auto)]
 
-mod pair;
-mod receiving;
-mod sending;
-mod steps;
+mod calls;
+pub mod pair;
+mod places;
+mod replies;
+mod sent;
 #[cfg(test)]
 mod tests;
 
 pub use pair::Pair;
-pub use steps::{Config, End, Last, PairError, Reply, Step};
+pub use quic_steps::{Config, End, Last, PairError, Reply, Step};

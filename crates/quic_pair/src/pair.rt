@@ -1,115 +1,174 @@
-ghost use Rattle.std.specs.Prelude.{◌≡◌, ◌⊎◌, ◌↔◌, IsTrue, true, ◌+◌, ◌≤◌, ◌<◌, ◌^◌, ℕ, [], ◌∷◌, ◌++◌, List, IfOk, IfErr, IfSome, IfNone, OnErr, Some, Ok, Err, length, slice_get, slice_set, option_map, MatchResult, OnOk};
+//! Two ends, and the payloads between them.
+
+ghost use Rattle.std.specs.Prelude.{◌≡◌, List, ◌∷◌, [], ◌++◌, length, IfSome, IfNone, IfOk, OnOk, OnErr, Some, option_map, slice_get, ◌≤◌};
 ghost use Rattle.std.specs.List.{zip};
-ghost use Rattle.quic_pair.specs.From.{From};
-ghost use Rattle.quic_pair.specs.Headline.{Headline};
+ghost use Rattle.quic_sending.specs.Source.{slice_lists};
+ghost use Rattle.quic_endpoint.specs.Shown.{end_state};
+ghost use Rattle.quic_endpoint.specs.Emitting.{EmitsAt, payload_view};
+ghost use Rattle.quic_endpoint.specs.Receiving.{data_length, ReceivesAt};
+ghost use Rattle.quic_endpoint.specs.Reports.{LosesAt, AcksAt};
+ghost use Rattle.quic_pair.specs.State.{pair_state, the_end, with_end, peer, two_ends, OnEnd};
+ghost use Rattle.quic_pair.specs.Calls.{Opens, Accepts, OnGiven, Writes, WritesChunks, Finishes, ResetsOn, StopsOn, SetsPriorityOn, AsksReset, ReadsOn, SetsSendWindow, SetsReceiveWindow, SetsMaxConcurrent, Polls, AcksResets, AcksSome};
+ghost use Rattle.quic_pair.specs.Steps.{Next, Emitted, Delivers, LosesFrame, AcksFrame, LosesControl, AcksControl};
+ghost use Rattle.quic_values.specs.Ids.{other_side};
+ghost use Rattle.quic_streams.specs.Shown.{shown};
+ghost use Rattle.quic_link.specs.Endpoints.{limits_of};
+ghost use Rattle.quic_pair.specs.From.{From, made_of, end_begun};
 ghost use Rattle.quic_pair.specs.History.{History, past_of};
-ghost use Rattle.quic_pair.specs.Network.{Sent, Piece, HasPiece, LacksPiece, HasStream, LacksStream, SpellsStream, SpellsNoStream, accepted_at};
-ghost use Rattle.quic_pair.specs.Permits.{TakesWhatIsPermitted};
-ghost use Rattle.quic_pair.specs.Refusals.{IsRefusedSo, refusal};
-ghost use Rattle.quic_pair.specs.Runs.{TakesSteps, StepByStep, IsPermittedBehind, IsRefusedBehind};
-ghost use Rattle.quic_pair.specs.Steps.{Next};
+ghost use Rattle.quic_pair.specs.Headline.{Headline};
+ghost use Rattle.quic_pair.specs.Runs.{TakesSteps, StepByStep, Behind};
+ghost use Rattle.quic_pair.specs.Unrefused.{RefusesNoFrame};
+ghost use Rattle.quic_pair.specs.Readable.{WithholdsNothing};
+ghost use Rattle.quic_pair.specs.Honest.{AreHonest};
+ghost use Rattle.quic_pair.specs.Refused.{IsRefused, IsRefusedSo};
 
-use crate::receiving::ReceivingEnd;
-use crate::sending::{Payload, SendingEnd, SentFrame, the_stream};
-use crate::steps::{Config, End, PairError, Reply, Step};
-use quic_wire::frame::Stream;
-use quic_wire::{Bytes, DecodeError, Dir, Frame, OutOfMemory, StreamId, decode};
+use crate::calls;
+use crate::places::{frame_at, mark_if, resets_at, sent_at, stream_at};
+use crate::replies::{done_reply, payload_reply, received_reply};
+use crate::sent::Sent;
+use quic_endpoint::{Endpoint, Payload};
+use quic_receiving::ShouldTransmit;
+use quic_steps::{Config, End, PairError, Reply, Step};
+use quic_streams::PeerLimits;
+use quic_streams::state::StreamsState;
+use quic_values::{Bytes, ChunkList, Dir, OutOfMemory, Side, StreamId, VarInt};
+use quic_wire::frame::StreamMeta;
+use quic_wire::{Frame, ReceiveError};
 use std::alloc::Global;
-use std::marker::Model;
 
-/// Two ends and a network between them, which loses, repeats and reorders as it is told.
-///
-/// At present the client writes and the server reads one stream, id 2; every other step is answered
-/// [`PairError::UnknownId`] and changes nothing.
+/// Two ends, and a network between them that loses, repeats and reorders as it is told. A is the client, B the server.
 #[derive(Drop)]
 pub struct Pair {
-    sending: SendingEnd,
-    receiving: ReceivingEnd,
-    payloads: Vec<Payload>,
-    memory: Global,
+    pub(crate) a: Endpoint,
+    pub(crate) b: Endpoint,
+    pub(crate) sent: Vec<Sent>,
+    pub(crate) alloc: Global,
 }
 
-impl Model for Pair {
-    ghost use Rattle.quic_pair.specs.Steps.{World};
-    ghost use Rattle.quic_pair.specs.Network.{AreSent};
-
-    ghost Value = { World };
-
-    ghost view = { λ p. record { sending = p.sending; receiving = p.receiving; sent = p.payloads.items } };
-
-    ghost invariant = { λ p. AreSent p.sending.buffer.unsent p.payloads.items };
+// What the transport parameters of an end say.
+fn limits_of(side: Side, config: &Config) -> PeerLimits
+    ensures { result ≡ limits_of (made_of side config.now) }
+{
+    PeerLimits {
+        initial_max_data: config.receive_window,
+        initial_max_streams_bidi: config.max_remote_bi,
+        initial_max_streams_uni: config.max_remote_uni,
+        initial_max_stream_data_uni: config.stream_receive_window,
+        initial_max_stream_data_bidi_local: config.stream_receive_window,
+        initial_max_stream_data_bidi_remote: config.stream_receive_window,
+    }
 }
 
+// An end with the limits of its peer.
+fn end_of(alloc: Global, side: Side, own: &Config, peer: &Config) -> Result<Endpoint, OutOfMemory>
+    ensures { IfOk result (λ end. end_state end ≡ end_begun (made_of side own.now) (made_of (other_side side) peer.now)) }
+{
+    let mut end = Endpoint::new(
+        alloc,
+        side,
+        own.max_remote_uni,
+        own.max_remote_bi,
+        own.send_window,
+        own.receive_window,
+        own.stream_receive_window,
+    )?;
+    end.set_params(&limits_of(side, peer));
+    Ok(end)
+}
+
+// The payload that one of two ends writes, and whether memory was wanting.
+fn emit_on(
+    a: &mut Endpoint,
+    b: &mut Endpoint,
+    who: End,
+    max_size: usize,
+    fair: bool,
+) -> (Payload, Result<(), OutOfMemory>)
+    ensures { OnEnd (λ e f. EmitsAt max_size fair e (payload_view result.0) result.1 f) (two_ends (end_state a.old) (end_state b.old)) who (two_ends (end_state a.new) (end_state b.new)) }
+{
+    match who {
+        End::A => a.emit(max_size, fair),
+        End::B => b.emit(max_size, fair),
+    }
+}
+
+#[tactic(auto, unfolding(crate::specs::State::pair_state))]
 impl Pair {
-    /// Two ends that have sent nothing.
-    pub fn new(alloc: Global, a: Config, b: Config) -> Result<Pair, OutOfMemory>
-        ensures { IfOk result (From a b []) }
-    {
-        Ok(Pair {
-            sending: SendingEnd::new(alloc, &a, &b),
-            receiving: ReceivingEnd::new(alloc, &b),
-            payloads: Vec::new(alloc),
-            memory: alloc,
-        })
-    }
-
-    /// The bytes of a payload, none where no payload has the number.
-    pub fn payload(&self, number: usize) -> Option<&[u8]>
-        ensures bytes { IfSome result (λ bytes. option_map (λ sent. sent.bytes) (slice_get self.now.sent number) ≡ Some bytes.now) }
-        ensures none { IfNone result (length self.now.sent ≤ number) }
-    {
-        let payload = self.payloads.get(number)?;
-        Some(payload.bytes.as_slice())
-    }
-
     fn open(&mut self, who: End, dir: Dir) -> Result<Reply, PairError>
-        ensures { Next self.old (Step.Open who dir) result self.new }
+        ensures { Next (pair_state self.old) (Step.Open who dir) result (pair_state self.new) }
     {
-        match (who, dir) {
-            (End::A, Dir::Uni) => self.sending.open(),
-            _ => Err(PairError::UnknownId),
+        match who {
+            End::A => calls::open(&mut self.a, dir),
+            End::B => calls::open(&mut self.b, dir),
         }
     }
 
     fn accept(&mut self, who: End, dir: Dir) -> Result<Reply, PairError>
-        ensures { Next self.old (Step.Accept who dir) result self.new }
+        ensures { Next (pair_state self.old) (Step.Accept who dir) result (pair_state self.new) }
     {
-        match (who, dir) {
-            (End::B, Dir::Uni) => self.receiving.accept(),
-            _ => Err(PairError::UnknownId),
+        match who {
+            End::A => calls::accept(&mut self.a, dir),
+            End::B => calls::accept(&mut self.b, dir),
         }
-    }
-
-    // Whether `Open` gave the stream on that end.
-    fn is_open(&self, who: End, id: StreamId) -> bool
-        ensures { IsTrue result ↔ ((who ≡ End.A) × (id ≡ 2) × (self.now.sending.opened ≡ true)) }
-    {
-        who == End::A && id == the_stream() && self.sending.is_open()
-    }
-
-    // Whether `Accept` gave the stream on that end.
-    fn is_taken(&self, who: End, id: StreamId) -> bool
-        ensures { IsTrue result ↔ ((who ≡ End.B) × (id ≡ 2) × (self.now.receiving.taken ≡ true)) }
-    {
-        who == End::B && id == the_stream() && self.receiving.is_taken()
     }
 
     fn write(&mut self, who: End, id: StreamId, bytes: Bytes) -> Result<Reply, PairError>
-        ensures { Next self.old (Step.Write who id bytes) result self.new }
+        ensures { Next (pair_state self.old) (Step.Write who id bytes) result (pair_state self.new) }
     {
-        if !self.is_open(who, id) {
-            return Err(PairError::UnknownId);
+        match who {
+            End::A => calls::write(&mut self.a, id, bytes),
+            End::B => calls::write(&mut self.b, id, bytes),
         }
-        self.sending.write(bytes)
+    }
+
+    fn write_chunks(
+        &mut self,
+        who: End,
+        id: StreamId,
+        chunks: ChunkList,
+    ) -> Result<Reply, PairError>
+        ensures { Next (pair_state self.old) (Step.WriteChunks who id chunks) result (pair_state self.new) }
+    {
+        match who {
+            End::A => calls::write_chunks(&mut self.a, self.alloc, id, &chunks),
+            End::B => calls::write_chunks(&mut self.b, self.alloc, id, &chunks),
+        }
     }
 
     fn finish(&mut self, who: End, id: StreamId) -> Result<Reply, PairError>
-        ensures { Next self.old (Step.Finish who id) result self.new }
+        ensures { Next (pair_state self.old) (Step.Finish who id) result (pair_state self.new) }
     {
-        if !self.is_open(who, id) {
-            return Err(PairError::UnknownId);
+        match who {
+            End::A => calls::finish(&mut self.a, id),
+            End::B => calls::finish(&mut self.b, id),
         }
-        self.sending.finish()
+    }
+
+    fn reset(&mut self, who: End, id: StreamId, code: VarInt) -> Result<Reply, PairError>
+        ensures { Next (pair_state self.old) (Step.Reset who id code) result (pair_state self.new) }
+    {
+        match who {
+            End::A => calls::reset(&mut self.a, id, code),
+            End::B => calls::reset(&mut self.b, id, code),
+        }
+    }
+
+    fn stop(&mut self, who: End, id: StreamId, code: VarInt) -> Result<Reply, PairError>
+        ensures { Next (pair_state self.old) (Step.Stop who id code) result (pair_state self.new) }
+    {
+        match who {
+            End::A => calls::stop(&mut self.a, id, code),
+            End::B => calls::stop(&mut self.b, id, code),
+        }
+    }
+
+    fn set_priority(&mut self, who: End, id: StreamId, priority: i32) -> Result<Reply, PairError>
+        ensures { Next (pair_state self.old) (Step.SetPriority who id priority) result (pair_state self.new) }
+    {
+        match who {
+            End::A => calls::set_priority(&mut self.a, id, priority),
+            End::B => calls::set_priority(&mut self.b, id, priority),
+        }
     }
 
     fn read(
@@ -120,87 +179,187 @@ impl Pair {
         max: usize,
         times: u16,
     ) -> Result<Reply, PairError>
-        ensures { Next self.old (Step.Read who id ordered max times) result self.new }
+        ensures { Next (pair_state self.old) (Step.Read who id ordered max times) result (pair_state self.new) }
     {
-        if !ordered || !self.is_taken(who, id) {
-            return Err(PairError::UnknownId);
+        match who {
+            End::A => calls::read(&mut self.a, id, ordered, max, times),
+            End::B => calls::read(&mut self.b, id, ordered, max, times),
         }
-        self.receiving.read(max, times)
+    }
+
+    fn received_reset(&mut self, who: End, id: StreamId) -> Result<Reply, PairError>
+        ensures { Next (pair_state self.old) (Step.ReceivedReset who id) result (pair_state self.new) }
+    {
+        match who {
+            End::A => calls::received_reset(&mut self.a, id),
+            End::B => calls::received_reset(&mut self.b, id),
+        }
+    }
+
+    fn set_send_window(&mut self, who: End, window: u64) -> Result<Reply, PairError>
+        ensures { Next (pair_state self.old) (Step.SetSendWindow who window) result (pair_state self.new) }
+    {
+        match who {
+            End::A => calls::set_send_window(&mut self.a, window),
+            End::B => calls::set_send_window(&mut self.b, window),
+        }
+    }
+
+    fn set_receive_window(&mut self, who: End, window: VarInt) -> Result<Reply, PairError>
+        ensures { Next (pair_state self.old) (Step.SetReceiveWindow who window) result (pair_state self.new) }
+    {
+        match who {
+            End::A => calls::set_receive_window(&mut self.a, window),
+            End::B => calls::set_receive_window(&mut self.b, window),
+        }
+    }
+
+    fn set_max_concurrent(&mut self, who: End, dir: Dir, count: VarInt) -> Result<Reply, PairError>
+        ensures { Next (pair_state self.old) (Step.SetMaxConcurrent who dir count) result (pair_state self.new) }
+    {
+        match who {
+            End::A => calls::set_max_concurrent(&mut self.a, dir, count),
+            End::B => calls::set_max_concurrent(&mut self.b, dir, count),
+        }
     }
 
     fn poll(&mut self, who: End) -> Result<Reply, PairError>
-        ensures { Next self.old (Step.Poll who) result self.new }
+        ensures { Next (pair_state self.old) (Step.Poll who) result (pair_state self.new) }
     {
         match who {
-            End::A => self.sending.poll(),
-            End::B => Err(PairError::UnknownId),
+            End::A => calls::poll(&mut self.a),
+            End::B => calls::poll(&mut self.b),
         }
     }
 
     fn emit(&mut self, who: End, max_size: usize, fair: bool) -> Result<Reply, PairError>
-        ensures { Next self.old (Step.Emit who max_size fair) result self.new }
+        ensures { Next (pair_state self.old) (Step.Emit who max_size fair) result (pair_state self.new) }
     {
-        match who {
-            End::A => self.emit_payload(max_size, fair),
-            End::B => Err(PairError::UnknownId),
+        self.sent.reserve(1)?;
+        let number = self.sent.len();
+        let (payload, written) = emit_on(&mut self.a, &mut self.b, who, max_size, fair);
+        let copy = Vec::from_slice(self.alloc, payload.bytes.as_slice());
+        match self.sent.push(Sent::new(self.alloc, who, payload)) {
+            Ok(()) => {}
+            Err(_) => unreachable!(),
         }
+        payload_reply(number, written, copy)
     }
 
-    fn emit_payload(&mut self, max_size: usize, fair: bool) -> Result<Reply, PairError>
-        ensures { Next self.old (Step.Emit End.A max_size fair) result self.new }
+    // A frame that an end wrote is handed to the other.
+    fn receive_on(
+        &mut self,
+        writer: End,
+        frame: Frame,
+        len: usize,
+    ) -> Result<ShouldTransmit, ReceiveError>
+        requires { data_length frame ≤ len }
+        ensures { OnEnd (λ e f. ReceivesAt e frame result f) (pair_state self.old) (peer writer) (pair_state self.new) }
     {
-        self.payloads.reserve(1)?;
-        let number = self.payloads.len();
-        let mut payload = Payload::new(self.memory);
-        let written = self.sending.write_stream_frames(&mut payload, max_size);
-        let copy = Vec::from_slice(self.memory, payload.bytes.as_slice());
-        self.payloads.push(payload)?;
-        written?;
-        Ok(Reply::Payload {
-            number,
-            bytes: copy?,
-        })
+        match writer {
+            End::A => self.b.receive(frame, len),
+            End::B => self.a.receive(frame, len),
+        }
     }
 
     fn deliver(&mut self, payload: usize, index: usize) -> Result<Reply, PairError>
-        ensures { Next self.old (Step.Deliver payload index) result self.new }
+        ensures { Next (pair_state self.old) (Step.Deliver payload index) result (pair_state self.new) }
     {
-        let (frame, len) = stream_of(self.memory, &self.payloads, payload, index)?;
-        match self.receiving.receive(frame, len)? {
-            Reply::Done => {
-                mark_accepted(&mut self.payloads, payload, index);
-                Ok(Reply::Done)
-            }
-            reply => Ok(reply),
+        let handed = match frame_at(&mut self.sent, self.alloc, payload, index) {
+            Ok(found) => found,
+            Err(error) => return Err(error),
+        };
+        let answer = self.receive_on(handed.writer, handed.frame, handed.len);
+        mark_if(&mut self.sent, &answer, payload, index, handed.marks);
+        received_reply(answer)
+    }
+
+    fn lose_on(&mut self, writer: End, meta: StreamMeta) -> Result<(), OutOfMemory>
+        ensures { OnEnd (λ e f. LosesAt e meta result f) (pair_state self.old) writer (pair_state self.new) }
+    {
+        match writer {
+            End::A => self.a.lose_stream(meta),
+            End::B => self.b.lose_stream(meta),
         }
     }
 
-    fn lose(&mut self, payload: usize, index: usize) -> Result<Reply, PairError>
-        ensures { Next self.old (Step.LoseStream payload index) result self.new }
+    fn lose_stream(&mut self, payload: usize, index: usize) -> Result<Reply, PairError>
+        ensures { Next (pair_state self.old) (Step.LoseStream payload index) result (pair_state self.new) }
     {
-        let frame = frame_at(&self.payloads, payload, index)?;
-        self.sending.lose(frame.start..frame.end, frame.fin)
+        let stream = match stream_at(&mut self.sent, self.alloc, payload, index) {
+            Ok(found) => found,
+            Err(error) => return Err(error),
+        };
+        done_reply(self.lose_on(stream.writer, stream.meta))
     }
 
-    fn acknowledge(&mut self, payload: usize, index: usize) -> Result<Reply, PairError>
-        ensures { Next self.old (Step.AckStream payload index) result self.new }
+    fn ack_on(&mut self, writer: End, meta: StreamMeta) -> Result<(), OutOfMemory>
+        ensures { OnEnd (λ e f. AcksAt e meta result f) (pair_state self.old) writer (pair_state self.new) }
     {
-        let frame = frame_at(&self.payloads, payload, index)?;
-        if !frame.accepted {
+        match writer {
+            End::A => self.a.ack_stream(meta),
+            End::B => self.b.ack_stream(meta),
+        }
+    }
+
+    fn ack_stream(&mut self, payload: usize, index: usize) -> Result<Reply, PairError>
+        ensures { Next (pair_state self.old) (Step.AckStream payload index) result (pair_state self.new) }
+    {
+        let stream = match stream_at(&mut self.sent, self.alloc, payload, index) {
+            Ok(found) => found,
+            Err(error) => return Err(error),
+        };
+        if !stream.accepted {
             return Err(PairError::NotAccepted);
         }
-        self.sending.acknowledge(frame.start..frame.end, frame.fin)
+        done_reply(self.ack_on(stream.writer, stream.meta))
+    }
+
+    fn lose_control(&mut self, payload: usize) -> Result<Reply, PairError>
+        ensures { Next (pair_state self.old) (Step.LoseControl payload) result (pair_state self.new) }
+    {
+        let Some(sent) = sent_at(&self.sent, payload) else {
+            return Err(PairError::NoSuchPayload);
+        };
+        match sent.writer {
+            End::A => done_reply(self.a.lose_control(&sent.control)),
+            End::B => done_reply(self.b.lose_control(&sent.control)),
+        }
+    }
+
+    fn ack_resets_on(&mut self, writer: End, ids: &[StreamId]) -> Result<(), OutOfMemory>
+        ensures ok { OnOk result (OnEnd (λ e f. AcksResets e ids.now f) (pair_state self.old) writer (pair_state self.new)) }
+        ensures err { OnErr result (OnEnd (λ e f. AcksSome e ids.now f) (pair_state self.old) writer (pair_state self.new)) }
+    {
+        match writer {
+            End::A => calls::ack_resets(&mut self.a, ids),
+            End::B => calls::ack_resets(&mut self.b, ids),
+        }
+    }
+
+    fn ack_control(&mut self, payload: usize) -> Result<Reply, PairError>
+        ensures { Next (pair_state self.old) (Step.AckControl payload) result (pair_state self.new) }
+    {
+        let (writer, resets) = match resets_at(&mut self.sent, self.alloc, payload) {
+            Ok(found) => found,
+            Err(error) => return Err(error),
+        };
+        done_reply(self.ack_resets_on(writer, &resets))
     }
 
     // One step, by its kind.
     fn dispatch(&mut self, step: Step) -> Result<Reply, PairError>
-        ensures { Next self.old step result self.new }
+        ensures { Next (pair_state self.old) step result (pair_state self.new) }
     {
         match step {
             Step::Open { who, dir } => self.open(who, dir),
             Step::Accept { who, dir } => self.accept(who, dir),
             Step::Write { who, id, bytes } => self.write(who, id, bytes),
+            Step::WriteChunks { who, id, chunks } => self.write_chunks(who, id, chunks),
             Step::Finish { who, id } => self.finish(who, id),
+            Step::Reset { who, id, code } => self.reset(who, id, code),
+            Step::Stop { who, id, code } => self.stop(who, id, code),
+            Step::SetPriority { who, id, priority } => self.set_priority(who, id, priority),
             Step::Read {
                 who,
                 id,
@@ -208,6 +367,10 @@ impl Pair {
                 max,
                 times,
             } => self.read(who, id, ordered, max, times),
+            Step::ReceivedReset { who, id } => self.received_reset(who, id),
+            Step::SetSendWindow { who, window } => self.set_send_window(who, window),
+            Step::SetReceiveWindow { who, window } => self.set_receive_window(who, window),
+            Step::SetMaxConcurrent { who, dir, count } => self.set_max_concurrent(who, dir, count),
             Step::Poll { who } => self.poll(who),
             Step::Emit {
                 who,
@@ -215,44 +378,52 @@ impl Pair {
                 fair,
             } => self.emit(who, max_size, fair),
             Step::Deliver { payload, frame } => self.deliver(payload, frame),
-            Step::LoseStream { payload, index } => self.lose(payload, index),
-            Step::AckStream { payload, index } => self.acknowledge(payload, index),
-            Step::WriteChunks { .. }
-            | Step::Reset { .. }
-            | Step::Stop { .. }
-            | Step::SetPriority { .. }
-            | Step::ReceivedReset { .. }
-            | Step::SetSendWindow { .. }
-            | Step::SetReceiveWindow { .. }
-            | Step::SetMaxConcurrent { .. }
-            | Step::LoseControl { .. }
-            | Step::AckControl { .. } => Err(PairError::UnknownId),
+            Step::LoseStream { payload, index } => self.lose_stream(payload, index),
+            Step::AckStream { payload, index } => self.ack_stream(payload, index),
+            Step::LoseControl { payload } => self.lose_control(payload),
+            Step::AckControl { payload } => self.ack_control(payload),
         }
+    }
+
+    /// Two ends that have sent nothing.
+    pub fn new(alloc: Global, a: Config, b: Config) -> Result<Pair, OutOfMemory>
+        ensures { IfOk result (λ pair. From a b [] (pair_state pair)) }
+    {
+        Ok(Pair {
+            a: end_of(alloc, Side::Client, &a, &b)?,
+            b: end_of(alloc, Side::Server, &b, &a)?,
+            sent: Vec::new(alloc),
+            alloc,
+        })
     }
 
     /// One step. A refused one changes nothing, but for what [`PairError::OutOfMemory`] says.
     pub fn step(&mut self, step: Step) -> Result<Reply, PairError>
-        ensures next { Next self.old step result self.new }
-        ensures from { (a b : Config) (h : History) → From a b h self.old → From a b (h ++ (step, result) ∷ []) self.new }
-        ensures headline { (a b : Config) (h : History) → From a b h self.old → Headline (past_of (h ++ (step, result) ∷ [])) self.new }
-        ensures permitted { (a b : Config) (h : History) → From a b h self.old → TakesWhatIsPermitted a b (past_of h) self.old.sent step result }
-        ensures refused { (a b : Config) (h : History) → From a b h self.old → IsRefusedSo result (refusal (past_of h) self.old.sent step) }
+        ensures next { Next (pair_state self.old) step result (pair_state self.new) }
+        ensures from { (a b : Config) (h : History) → From a b h (pair_state self.old) → From a b (h ++ (step, result) ∷ []) (pair_state self.new) }
+        ensures headline { (a b : Config) (h : History) → From a b h (pair_state self.old) → Headline (past_of (h ++ (step, result) ∷ [])) (pair_state self.new).sent }
+        ensures honest { (a b : Config) (h : History) → From a b h (pair_state self.old) → AreHonest (past_of (h ++ (step, result) ∷ [])) (pair_state self.new) }
+        ensures refused { (a b : Config) (h : History) → From a b h (pair_state self.old) → IsRefusedSo (past_of h) (pair_state self.old).sent step result }
+        ensures unchanged { IsRefused result → pair_state self.new ≡ pair_state self.old }
+        ensures unrefused { (a b : Config) (h : History) → From a b h (pair_state self.old) → RefusesNoFrame (past_of h) (pair_state self.old).sent step result }
+        ensures readable { (a b : Config) (h : History) → From a b h (pair_state self.old) → WithholdsNothing (past_of h) (pair_state self.old).sent step result }
     {
         self.dispatch(step)
     }
 
-    /// Many steps, with the reply to each. Room for the replies is made first: if that is refused, no
-    /// step was taken.
+    /// Many steps, with the reply to each. Room for the replies is made first: if that is refused, no step was taken.
     pub fn run(&mut self, steps: Vec<Step>) -> Result<Vec<Result<Reply, PairError>>, OutOfMemory>
         ensures count { IfOk result (λ replies. length replies.items ≡ length steps.items) }
-        ensures next { IfOk result (λ replies. TakesSteps self.old (zip steps.items replies.items) self.new) }
-        ensures from { IfOk result (λ replies. (a b : Config) (h : History) → From a b h self.old → From a b (h ++ zip steps.items replies.items) self.new) }
-        ensures headline { IfOk result (λ replies. (a b : Config) (h : History) → From a b h self.old → Headline (past_of (h ++ zip steps.items replies.items)) self.new) }
-        ensures permitted { IfOk result (λ replies. (a b : Config) (h : History) → From a b h self.old → StepByStep (IsPermittedBehind a b h) self.old (zip steps.items replies.items) self.new) }
-        ensures refused { IfOk result (λ replies. (a b : Config) (h : History) → From a b h self.old → StepByStep (IsRefusedBehind h) self.old (zip steps.items replies.items) self.new) }
-        ensures err { OnErr result (self.new ≡ self.old) }
+        ensures next { IfOk result (λ replies. TakesSteps (pair_state self.old) (zip steps.items replies.items) (pair_state self.new)) }
+        ensures from { IfOk result (λ replies. (a b : Config) (h : History) → From a b h (pair_state self.old) → From a b (h ++ zip steps.items replies.items) (pair_state self.new)) }
+        ensures headline { IfOk result (λ replies. (a b : Config) (h : History) → From a b h (pair_state self.old) → Headline (past_of (h ++ zip steps.items replies.items)) (pair_state self.new).sent) }
+        ensures honest { IfOk result (λ replies. (a b : Config) (h : History) → From a b h (pair_state self.old) → AreHonest (past_of (h ++ zip steps.items replies.items)) (pair_state self.new)) }
+        ensures refused { IfOk result (λ replies. (a b : Config) (h : History) → From a b h (pair_state self.old) → StepByStep (Behind IsRefusedSo h) (pair_state self.old) (zip steps.items replies.items) (pair_state self.new)) }
+        ensures unrefused { IfOk result (λ replies. (a b : Config) (h : History) → From a b h (pair_state self.old) → StepByStep (Behind RefusesNoFrame h) (pair_state self.old) (zip steps.items replies.items) (pair_state self.new)) }
+        ensures readable { IfOk result (λ replies. (a b : Config) (h : History) → From a b h (pair_state self.old) → StepByStep (Behind WithholdsNothing h) (pair_state self.old) (zip steps.items replies.items) (pair_state self.new)) }
+        ensures err { OnErr result (pair_state self.new ≡ pair_state self.old) }
     {
-        let mut replies = Vec::with_capacity(self.memory, steps.len())?;
+        let mut replies = Vec::with_capacity(self.alloc, steps.len())?;
         for step in steps {
             let reply = self.step(step);
             match replies.push(reply) {
@@ -262,73 +433,23 @@ impl Pair {
         }
         Ok(replies)
     }
-}
 
-// A frame of a payload.
-fn frame_at(payloads: &[Payload], payload: usize, index: usize) -> Result<SentFrame, PairError>
-    ensures found { IfOk result (HasPiece payloads.now payload index) }
-    ensures no_payload { result ≡ Err PairError.NoSuchPayload → length payloads.now ≤ payload }
-    ensures no_frame { result ≡ Err PairError.NoSuchFrame → LacksPiece payloads.now payload index }
-    ensures only { IfErr result (λ e. (e ≡ PairError.NoSuchPayload) ⊎ (e ≡ PairError.NoSuchFrame)) }
-{
-    let Some(whole) = payloads.get(payload) else {
-        return Err(PairError::NoSuchPayload);
-    };
-    match whole.frames.get(index) {
-        Some(frame) => Ok(*frame),
-        None => Err(PairError::NoSuchFrame),
+    /// The bytes of a payload, none where no payload has the number.
+    pub fn payload(&self, number: usize) -> Option<&[u8]>
+        ensures bytes { IfSome result (λ bytes. option_map (λ sent. sent.text.bytes) (slice_get (pair_state self.now).sent number) ≡ Some bytes.now) }
+        ensures none { IfNone result (length (pair_state self.now).sent ≤ number) }
+    {
+        let sent = self.sent.get(number)?;
+        Some(sent.text.bytes())
     }
-}
 
-// The STREAM frame at a place of a payload, and the length of the payload.
-fn stream_of(
-    alloc: Global,
-    payloads: &[Payload],
-    payload: usize,
-    index: usize,
-) -> Result<(Stream, usize), PairError>
-    ensures found { IfOk result (λ r. (has : HasStream payloads.now payload index r.0) × (r.1 ≡ length has.whole.bytes)) }
-    ensures no_payload { result ≡ Err PairError.NoSuchPayload → length payloads.now ≤ payload }
-    ensures no_frame { result ≡ Err PairError.NoSuchFrame → LacksPiece payloads.now payload index ⊎ LacksStream payloads.now payload index }
-    ensures only { IfErr result (λ e. (e ≡ PairError.NoSuchPayload) ⊎ ((e ≡ PairError.NoSuchFrame) ⊎ (e ≡ PairError.OutOfMemory))) }
-{
-    let Some(whole) = payloads.get(payload) else {
-        return Err(PairError::NoSuchPayload);
-    };
-    let Some(_frame) = whole.frames.get(index) else {
-        return Err(PairError::NoSuchFrame);
-    };
-    let stream = stream_at(alloc, whole.bytes.as_slice(), index)?;
-    Ok((stream, whole.bytes.len()))
-}
-
-// The STREAM frame at a place among the frames that some bytes spell.
-fn stream_at(alloc: Global, bytes: &[u8], index: usize) -> Result<Stream, PairError>
-    ensures found { IfOk result (SpellsStream bytes.now index) }
-    ensures none { result ≡ Err PairError.NoSuchFrame → SpellsNoStream bytes.now index }
-    ensures err { MatchResult result (λ _. Unit {0}) (λ e. (e ≡ PairError.NoSuchFrame) ⊎ (e ≡ PairError.OutOfMemory)) }
-{
-    let mut frames = match decode(alloc, bytes) {
-        Ok(frames) => frames,
-        Err(DecodeError::OutOfMemory) => return Err(PairError::OutOfMemory),
-        Err(DecodeError::Malformed) => return Err(PairError::NoSuchFrame),
-    };
-    if index >= frames.len() {
-        return Err(PairError::NoSuchFrame);
-    }
-    match frames.swap_remove(index) {
-        Frame::Stream(stream) => Ok(stream),
-        _ => Err(PairError::NoSuchFrame),
-    }
-}
-
-// Marks a frame of a payload as accepted.
-fn mark_accepted(payloads: &mut Vec<Payload>, payload: usize, index: usize)
-    requires payload { payload < length payloads.old.items }
-    ensures { (s : Sent) (p : Piece) → slice_get payloads.old.items payload ≡ Some s → slice_get s.frames index ≡ Some p → payloads.new.items ≡ slice_set payloads.old.items payload (accepted_at s index p) }
-{
-    let whole = &mut payloads[payload];
-    if index < whole.frames.len() {
-        whole.frames[index].accepted = true;
+    /// The streams of an end.
+    pub fn end(&self, who: End) -> &StreamsState
+        ensures { shown result.now ≡ (the_end (pair_state self.now) who).streams }
+    {
+        match who {
+            End::A => self.a.streams(),
+            End::B => self.b.streams(),
+        }
     }
 }

@@ -5,6 +5,12 @@ use quic_wire::{Bytes, Dir, OutOfMemory, Side, StreamEvent, StreamId, VarInt};
 use std::alloc::Global;
 use std::test::Fail;
 
+mod draws;
+mod flows;
+mod keeping;
+mod network;
+mod sessions;
+
 fn config(window: u32) -> Config {
     Config {
         max_remote_uni: VarInt::from(4),
@@ -229,22 +235,6 @@ fn each_step_alone_is_answered_as_in_a_run(rt: HostRuntime) -> Result<(), Fail> 
         replies.push(answer(&mut pair, step))?;
     }
     assert!(rt; replies == wanted, "{replies:?}");
-    Ok(())
-}
-
-#[test]
-fn each_error_has_its_number_and_its_text(rt: HostRuntime) -> Result<(), Fail> {
-    for (error, number, text) in [
-        (PairError::NoSuchPayload, 1, "no such payload"),
-        (PairError::NoSuchFrame, 2, "no such frame"),
-        (PairError::NotAccepted, 3, "the frame was not accepted"),
-        (PairError::UnknownId, 4, "unknown stream id"),
-        (PairError::OutOfMemory, 5, "out of memory"),
-    ] {
-        let shown = format!(in rt.alloc(); "{error}")?;
-        assert_eq!(rt; shown.as_str(), text);
-        assert_eq!(rt; error.number(), number);
-    }
     Ok(())
 }
 

@@ -4,10 +4,11 @@ use Rattle.std.specs.Fmt.{decimal}
 use Rattle.std.specs.Str.{IsAscii}
 use Rattle.std.specs.Io.BufRead.{first_piece, drop_through}
 use Rattle.std.specs.Io.KnownBytes.{Appends}
-use Rattle.quic_pair.specs.declared.steps.Config.{Config}
-use Rattle.quic_pair.specs.declared.steps.Step.{Step}
-use Rattle.quic_pair.specs.History.{Answer}
-use Rattle.quic_pair.specs.Steps.{World, Next}
+use Rattle.quic_steps.specs.declared.steps.Config.{Config}
+use Rattle.quic_steps.specs.declared.steps.Step.{Step}
+use Rattle.quic_pair.specs.Replies.{Answer}
+use Rattle.quic_pair.specs.State.{PairState, pair_state}
+use Rattle.quic_pair.specs.Steps.{Next}
 use Rattle.quic_pair.specs.From.{From}
 use Rattle.streampair.specs.declared.session.Session.{Session}
 use Rattle.streampair.specs.declared.session.Session.TheVariants.{Start, Configured, Running}
@@ -15,7 +16,7 @@ use Rattle.streampair.specs.declared.session.Stop.{Stop}
 use Rattle.streampair.specs.declared.session.Stop.TheVariants.{Malformed, NoPair, Failed}
 use Rattle.quic_lines.specs.declared.lines.LineError.{LineError}
 use Rattle.quic_lines.specs.declared.lines.LineError.TheVariants as lines
-use Rattle.quic_pair.specs.declared.steps.End.TheVariants.{A, B}
+use Rattle.quic_steps.specs.declared.steps.End.TheVariants.{A, B}
 use Rattle.quic_lines.specs.Grammar.{MeansStep, MeansConfig, MeansNoStep, MeansNoConfig}
 use Rattle.quic_lines.specs.Line.{reply_text, refusal_text}
 
@@ -33,19 +34,19 @@ answer_line (Ok reply) = reply_text reply ++ codes "\n"
 answer_line (Err error) = refusal_text error ++ codes "\n"
 
 -- the pair took a step, and this text is the reply to it
-pub record IsStep (old : World) (step : Step) (text : List ℕ) (new : World) : Type 0 where
+pub record IsStep (old : PairState) (step : Step) (text : List ℕ) (new : PairState) : Type 0 where
   pub reply : Answer
   pub next : Next old step reply new
   pub text_is : text ≡ answer_line reply
 
 -- that which the line means
-pub record TakesStep (line : List ℕ) (old : World) (text : List ℕ) (new : World) : Type 0 where
+pub record TakesStep (line : List ℕ) (old : PairState) (text : List ℕ) (new : PairState) : Type 0 where
   pub step : Step
   pub means : MeansStep line step
   pub taken : IsStep old step text new
 
 -- the pair is made of both configs
-pub record IsReady (a : Config) (line text : List ℕ) (pair : World) : Type 0 where
+pub record IsReady (a : Config) (line text : List ℕ) (pair : PairState) : Type 0 where
   pub b : Config
   pub means : MeansConfig line B b
   pub from : From a b [] pair
@@ -54,8 +55,8 @@ pub record IsReady (a : Config) (line text : List ℕ) (pair : World) : Type 0 w
 -- a session answers a line by this text, and goes on so
 abbrev pub Answers : Session → List ℕ → List ℕ → Session → Type 0
 Answers Start line text (Configured config) = MeansConfig line A config × (text ≡ ok_line)
-Answers (Configured config) line text (Running pair) = IsReady config line text pair
-Answers (Running old) line text (Running new) = TakesStep line old text new
+Answers (Configured config) line text (Running pair) = IsReady config line text (pair_state pair)
+Answers (Running old) line text (Running new) = TakesStep line (pair_state old) text (pair_state new)
 Answers _ line text _ = ⊥
 
 -- a session took a line, and its answer was written

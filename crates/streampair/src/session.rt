@@ -1,9 +1,11 @@
 ghost use Rattle.std.specs.Prelude.{◌≡◌, ◌≤◌, ◌++◌, IfOk, IfErr, IfSome, OnOk, None, string_bytes, codes};
 ghost use Rattle.std.specs.Io.BufRead.{strip_last};
+ghost use Rattle.quic_pair.specs.State.{pair_state};
 ghost use Rattle.streampair.specs.Session.{answer_line, AnswersLine, IsStep, IsServed, IsMalformed, StopsAt, StopsWith, stop_of};
 
 use quic_lines::{LineError, parse_config, parse_step, refusal_line, reply_line};
-use quic_pair::{Config, End, Pair, PairError, Reply, Step};
+use quic_pair::Pair;
+use quic_steps::{Config, End, PairError, Reply, Step};
 use quic_wire::OutOfMemory;
 use std::alloc::Global;
 use std::io;
@@ -64,7 +66,7 @@ enum Session {
 
 // Takes a step. Answers its reply, as a line with its line feed.
 fn answer_step(alloc: Global, pair: &mut Pair, step: Step) -> Result<String, OutOfMemory>
-    ensures { IfOk result (λ line. IsStep pair.old step (string_bytes line) pair.new) }
+    ensures { IfOk result (λ line. IsStep (pair_state pair.old) step (string_bytes line) (pair_state pair.new)) }
 {
     let answer = pair.step(step);
     let line = answer_line(alloc, &answer)?;

@@ -154,8 +154,7 @@ fn the_greatest_numbers_are_taken(rt: HostRuntime) -> Result<(), Fail> {
         "open a uni\nemit a 18446744073709551615 u\npriority a 2 -2147483648\n\
          priority a 2 2147483647\ndeliver 18446744073709551615 18446744073709551615\n\
          finish a 4611686018427387903\n",
-        "id 2\npayload 0 -\nrefused 4 UnknownId\nrefused 4 UnknownId\nrefused 1 NoSuchPayload\n\
-         refused 4 UnknownId\n",
+        "id 2\npayload 0 -\nok\nok\nrefused 1 NoSuchPayload\nrefused 4 UnknownId\n",
         0,
     )
 }
@@ -174,22 +173,110 @@ fn each_refusal_has_its_number_and_name(rt: HostRuntime) -> Result<(), Fail> {
     )
 }
 
-// Steps that no end serves yet.
-const NOT_SERVED: &str = "\
-open a bi\nopen b uni\nopen a uni\naccept a uni\nwrite b 2 00\nchunks a 2 00,-,01\n\
-reset a 2 7\nstop b 2 7\npriority a 2 -1\nread b 2 u 1 1\nreceived-reset b 2\n\
-send-window a 5\nreceive-window b 5\nmax-concurrent b uni 5\npoll b\nemit b 100 f\n\
-lose-control 0\nack-control 0\n";
+// The two sessions of the page on the program.
+const OF_THE_PAGE: &str = "\
+open a uni\nwrite a 2 6869\nfinish a 2\nemit a 100 f\nemit a 100 f\ndeliver 0 0\n\
+accept b uni\nread b 2 o 100 9\nlose-stream 0 0\nemit a 100 f\nack-stream 2 0\n\
+ack-stream 0 0\npoll a\nopen b uni\nwrite b 6 00\n";
+
+const OF_THE_PAGE_REPLIES: &str = "\
+id 2\nwrote 2\nok\npayload 0 0b02026869\npayload 1 -\nok\nid 2\n\
+0:6869 end transmit\nok\npayload 2 0b02026869\nrefused 3 NotAccepted\nok\n\
+finished 2\nid 3\nrefused 4 UnknownId\n";
+
+const STOP_OF_THE_PAGE: &str = "\
+open a bi\nwrite a 0 6869\nemit a 100 f\ndeliver 0 0\naccept b bi\nstop b 0 9\n\
+emit b 100 f\ndeliver 1 0\npoll a\nwrite a 0 6a\nreset a 0 9\nemit a 100 f\n\
+deliver 2 0\nack-control 2\n";
+
+const STOP_OF_THE_PAGE_REPLIES: &str = "\
+id 0\nwrote 2\npayload 0 0a00026869\nok\nid 0\nok\npayload 1 050009\nok\n\
+stopped 0 9\nstopped 9\nok\npayload 2 04000902\nok\nok\n";
 
 #[test]
-fn steps_that_are_not_served_are_refused(rt: HostRuntime) -> Result<(), Fail> {
-    let mut input = String::from_str(rt.alloc(), "open a uni\n")?;
-    input.push_str(NOT_SERVED)?;
-    let mut wanted = String::from_str(rt.alloc(), "id 2\n")?;
-    for _ in 0..18 {
-        wanted.push_str("refused 4 UnknownId\n")?;
-    }
-    session_gives(&rt, rt.alloc(), input.as_str(), wanted.as_str(), 0)
+fn the_sessions_of_the_page_are_served(rt: HostRuntime) -> Result<(), Fail> {
+    session_gives(&rt, rt.alloc(), OF_THE_PAGE, OF_THE_PAGE_REPLIES, 0)?;
+    session_gives(
+        &rt,
+        rt.alloc(),
+        STOP_OF_THE_PAGE,
+        STOP_OF_THE_PAGE_REPLIES,
+        0,
+    )
+}
+
+const STOPPED: &str = "\
+open a bi\nwrite a 0 6869\nemit a 100 f\ndeliver 0 0\npoll b\naccept b bi\n\
+stop b 0 9\nemit b 100 f\ndeliver 1 0\npoll a\nwrite a 0 6a\nreset a 0 9\n\
+emit a 100 f\nack-control 2\ndeliver 2 0\nack-control 2\nwrite a 0 6a\n\
+lose-control 1\nemit b 100 f\ndeliver 3 0\n";
+
+const STOPPED_REPLIES: &str = "\
+id 0\nwrote 2\npayload 0 0a00026869\nok\nopened bi\nid 0\nok\npayload 1 050009\n\
+ok\nstopped 0 9\nstopped 9\nok\npayload 2 04000902\nrefused 3 NotAccepted\nok\n\
+ok\nclosed\nok\npayload 3 050009\nok\n";
+
+#[test]
+fn a_stopped_stream_is_given_up(rt: HostRuntime) -> Result<(), Fail> {
+    session_gives(&rt, rt.alloc(), STOPPED, STOPPED_REPLIES, 0)
+}
+
+const CREDIT: &str = "\
+config a 4 4 1000 1000 1000\nconfig b 4 4 1000 16 8\nopen a uni\n\
+write a 2 00010203040506070809\nwrite a 2 0809\nemit a 100 f\ndeliver 0 1\n\
+accept b uni\nread b 2 o 100 9\nemit b 100 f\ndeliver 1 1\npoll a\n\
+write a 2 0809\ndeliver 1 1\ndeliver 1 0\npoll a\n";
+
+const CREDIT_REPLIES: &str = "\
+ok\nok\nid 2\nwrote 8\nblocked\npayload 0 1502080a02080001020304050607\nok\n\
+id 2\n0:0001020304050607 blocked transmit\npayload 1 1018110210\nok\n\
+writable 2\nwrote 2\nok\nok\nnone\n";
+
+#[test]
+fn credit_lets_more_be_written(rt: HostRuntime) -> Result<(), Fail> {
+    input_gives(&rt, rt.alloc(), CREDIT, CREDIT_REPLIES, 0)
+}
+
+const ENDED: &str = "\
+open a uni\nwrite a 2 68\nemit a 100 f\ndeliver 0 0\naccept b uni\nstop b 2 9\n\
+finish a 2\nemit a 100 f\ndeliver 1 0\nemit b 100 f\ndeliver 0 1\ndeliver 9 0\n\
+write b 6 68\n";
+
+const ENDED_REPLIES: &str = "\
+id 2\nwrote 1\npayload 0 0a020168\nok\nid 2\nok\nok\npayload 1 0f020100\nok\n\
+payload 2 0502091305\nrefused 2 NoSuchFrame\nrefused 1 NoSuchPayload\n\
+refused 4 UnknownId\n";
+
+#[test]
+fn the_end_of_a_stopped_stream_makes_room(rt: HostRuntime) -> Result<(), Fail> {
+    session_gives(&rt, rt.alloc(), ENDED, ENDED_REPLIES, 0)
+}
+
+const RESET: &str = "\
+open a uni\npriority a 2 -1\nchunks a 2 68,-,69\nemit a 100 u\ndeliver 0 0\n\
+accept b uni\nread b 2 u 100 9\nreset a 2 7\nemit a 100 f\ndeliver 1 0\n\
+received-reset b 2\nmax-concurrent b uni 5\nsend-window a 1000\n\
+receive-window b 1001\nemit b 100 f\n";
+
+const RESET_REPLIES: &str = "\
+id 2\nok\nwrote 2 chunks 3\npayload 0 0a02026869\nok\nid 2\n\
+0:6869 blocked quiet\nok\npayload 1 04020702\nok\ncode 7\nok\nok\nexpanded\n\
+payload 2 1043eb1306\n";
+
+#[test]
+fn a_reset_is_told(rt: HostRuntime) -> Result<(), Fail> {
+    session_gives(&rt, rt.alloc(), RESET, RESET_REPLIES, 0)
+}
+
+const SMALL: &str = "\
+open a uni\nwrite a 2 68\nemit a 25 f\nemit a 26 f\n";
+
+const SMALL_REPLIES: &str = "\
+id 2\nwrote 1\npayload 0 -\npayload 1 0a020168\n";
+
+#[test]
+fn a_frame_needs_its_room(rt: HostRuntime) -> Result<(), Fail> {
+    session_gives(&rt, rt.alloc(), SMALL, SMALL_REPLIES, 0)
 }
 
 #[test]

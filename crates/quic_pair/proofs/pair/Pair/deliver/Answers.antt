@@ -1,30 +1,26 @@
-use Rattle.std.proofs.Common.{◌≡◌, Ok, length, refl, subst}
-use Rattle.quic_pair.specs.Network.{HasStream}
-use Rattle.quic_pair.specs.Steps.{World, Delivered}
-use Rattle.quic_pair.proofs.Reports.{delivers-answered}
-use Rattle.quic_pair.proofs.Turns.{AreSent-accept}
+use Rattle.std.proofs.Common.{refl, ap, ◌∙◌, ◌≡◌, subst}
+use Rattle.quic_endpoint.specs.Receiving.{ReceivesAt}
+use Rattle.quic_pair.specs.Places.{MarksIf}
+use Rattle.quic_pair.specs.State.{PairState, OnEnd, peer, pair_state}
+use Rattle.quic_pair.proofs.Deeds.{deliver-refused, deliver-so, sent-same}
 use Rattle.quic_pair.proofs.pair.Pair.deliver.Goals as goal
 
-pub invariant_of-self-in-Done : goal.invariant_of-self-in-Done
-invariant_of-self-in-Done c =
-    let found : (has : HasStream c.self.inside.payloads.items c.args.payload c.args.index c.in_ok-frame.frame) × (c.in_ok-frame.len ≡ length has.whole.bytes) = rw (← c.deref.ensures.value) c.in_ok-frame.ensures.found in
-    let has = found.0 in
-    rw (c.mark_accepted.ensures has.whole has.piece has.is has.at)
-    (AreSent-accept c.self.inside.sending.buffer.unsent c.self.inside.payloads.items c.args.payload c.args.index has.whole has.piece has.is has.at c.self.invariant)
+pub returns-in-Err : goal.returns-in-Err
+unfolding pair_state
+returns-in-Err c =
+    let old : PairState = pair_state c.args.self.now in
+    let new : PairState = record { a = old.a; b = old.b; sent = c.frame_at.new.sent.items } in
+    deliver-refused old new c.args.payload c.args.index c.in-Err.error (rw c.in-Err.is at c.frame_at.ensures.fails) (ap (λ l. record { a = old.a; b = old.b; sent = l }) c.frame_at.ensures.same)
 
-pub returns-in-Done : goal.returns-in-Done
-returns-in-Done c =
-    let found : (has : HasStream c.self.inside.payloads.items c.args.payload c.args.index c.in_ok-frame.frame) × (c.in_ok-frame.len ≡ length has.whole.bytes) = rw (← c.deref.ensures.value) c.in_ok-frame.ensures.found in
-    let has = found.0 in
-    rw (← c.self.view_is)
-    (record {
-      hands = record { frame = c.in_ok-frame.frame; has = has; receives = rw (c.in-Done.is, found.1) at c.in_ok-reply.ensures; sending = refl };
-      sent = c.mark_accepted.ensures has.whole has.piece has.is has.at;
-    })
-
-pub returns-in_default : goal.returns-in_default
-returns-in_default c =
-    let found : (has : HasStream c.self.inside.payloads.items c.args.payload c.args.index c.in_ok-frame.frame) × (c.in_ok-frame.len ≡ length has.whole.bytes) = rw (← c.deref.ensures.value) c.in_ok-frame.ensures.found in
-    let old : World = record { sending = c.self.inside.sending; receiving = c.self.inside.receiving; sent = c.self.inside.payloads.items } in
-    subst (λ (w : World). Delivered w c.args.payload c.args.index (Ok c.in_ok-reply.reply) (record old { receiving = c.receive.new.self })) c.self.view_is
-    (delivers-answered old c.args.payload c.args.index c.in_ok-frame.frame found.0 c.in_ok-frame.len c.in_ok-reply.reply _ found.1 c.in_default.not-Done c.in_ok-reply.ensures)
+pub returns : goal.returns
+unfolding pair_state
+returns c =
+    let old : PairState = pair_state c.args.self.now in
+    let mid : PairState = pair_state c.receive_on-answer.new.self in
+    let new : PairState = record { a = mid.a; b = mid.b; sent = c.mark_if.new.sent.items } in
+    let h = c.in-Ok.found in
+    let f = rw c.in-Ok.is at c.frame_at.ensures.found in
+    let d : OnEnd (λ e g. ReceivesAt e h.frame c.receive_on-answer.result g) old (peer h.writer) mid = rw c.frame_at.ensures.same at c.receive_on-answer.ensures in
+    let kept : mid.sent ≡ old.sent = ap (λ (k : PairState). k.sent) d.is ∙ sent-same old (peer h.writer) d.end in
+    let m = subst (λ l. MarksIf c.receive_on-answer.result l c.args.payload c.args.index new.sent) kept c.mark_if.ensures in
+    rw c.received_reply.ensures (deliver-so old mid new c.args.payload c.args.index h f c.receive_on-answer.result d m refl)

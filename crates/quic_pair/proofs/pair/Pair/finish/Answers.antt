@@ -1,4 +1,12 @@
+use Rattle.std.proofs.Common.{refl}
+use Rattle.quic_endpoint.specs.Shown.{end_state}
+use Rattle.quic_pair.specs.State.{pair_state}
 use Rattle.quic_pair.proofs.pair.Pair.finish.Goals as goal
 
-pub invariant_of-self : goal.invariant_of-self
-invariant_of-self c = λ payload index p h. rw c.finish.ensures.unsent (c.self.invariant payload index p h)
+pub returns-in-A : goal.returns-in-A
+unfolding pair_state
+returns-in-A c = rw c.in-A.is (record { end = end_state c.finish.new.end; does = c.finish.ensures; is = refl })
+
+pub returns-in-B : goal.returns-in-B
+unfolding pair_state
+returns-in-B c = rw c.in-B.is (record { end = end_state c.finish-in-B.new.end; does = c.finish-in-B.ensures; is = refl })

@@ -1,4 +1,12 @@
+use Rattle.std.proofs.Common.{refl}
+use Rattle.quic_endpoint.specs.Shown.{end_state}
+use Rattle.quic_pair.specs.State.{pair_state}
 use Rattle.quic_pair.proofs.pair.Pair.open.Goals as goal
 
-pub invariant_of-self : goal.invariant_of-self
-invariant_of-self c = λ payload index p h. rw c.open.ensures.unsent (c.self.invariant payload index p h)
+pub returns-in-A : goal.returns-in-A
+unfolding pair_state
+returns-in-A c = rw c.in-A.is (record { end = end_state c.open.new.end; does = c.open.ensures; is = refl })
+
+pub returns-in-B : goal.returns-in-B
+unfolding pair_state
+returns-in-B c = rw c.in-B.is (record { end = end_state c.open-in-B.new.end; does = c.open-in-B.ensures; is = refl })

@@ -2,9 +2,16 @@ use Rattle.std.proofs.Common.{arith, rules, sym, ◌∙◌}
 use Rattle.std.proofs.lemmas.List.{length_push, map-id}
 use Rattle.std.proofs.lemmas.Iterator.Adapters.{YieldsList-from_vec}
 use Rattle.std.proofs.lemmas.Iterator.Consumers.{YieldsList-end}
+use Rattle.quic_pair.specs.Refused.{IsRefusedSo}
 use Rattle.quic_pair.specs.Runs.{none}
-use Rattle.quic_pair.proofs.Headlines.{Headline-from}
-use Rattle.quic_pair.proofs.Runs.{steps-more, From-steps, permitted-steps, refused-steps}
+use Rattle.quic_pair.specs.Unrefused.{RefusesNoFrame}
+use Rattle.quic_pair.specs.Readable.{WithholdsNothing}
+use Rattle.quic_pair.proofs.Grown.{headline-from}
+use Rattle.quic_pair.proofs.Runs.{steps-more, from-steps, each-behind}
+use Rattle.quic_pair.proofs.Unrefused.{unrefused-so}
+use Rattle.quic_pair.proofs.Readable.{readable-so}
+use Rattle.quic_pair.proofs.Honest.{honest-from}
+use Rattle.quic_pair.proofs.RefusedSo.{refused-so}
 use Rattle.quic_pair.proofs.pair.Pair.run.Goals as goal
 
 pub loop-step-init : goal.loop-step-init
@@ -12,7 +19,7 @@ loop-step-init c = record { taken = none; count = search rules; room = search ru
 
 pub loop-step-preserved : goal.loop-step-preserved
 loop-step-preserved c = record {
-  taken = steps-more _ _ _ _ _ _ _ _ (sym c.loop-step.replies.ok.0 ∙ c.loop-step.invariant.count) c.in-Ok.ensures.items c.loop-step.invariant.taken c.step-reply.ensures.next;
+  taken = steps-more _ _ _ _ _ (sym c.loop-step.replies.ok.0 ∙ c.loop-step.invariant.count) c.in-Ok.ensures.items c.loop-step.invariant.taken c.step-reply.ensures.next;
   count = omega (arith, c.in-Ok.ensures.len, length_push c.loop-step.yielded c.in-Some.step);
   room = omega (arith, c.push.ensures.capacity);
 }
@@ -26,9 +33,11 @@ returns c =
     (record {
       count = sym c.loop-step.replies.ok.0 ∙ c.loop-step.invariant.count;
       next = c.loop-step.invariant.taken;
-      from = λ a b h p. From-steps p c.loop-step.invariant.taken;
-      headline = λ a b h p. Headline-from _ _ (From-steps p c.loop-step.invariant.taken);
-      permitted = λ a b h p. permitted-steps a b h _ _ _ p c.loop-step.invariant.taken;
-      refused = λ a b h p. refused-steps a b h _ _ _ p c.loop-step.invariant.taken;
+      from = λ a b h f. from-steps f c.loop-step.invariant.taken;
+      headline = λ a b h f. headline-from (from-steps f c.loop-step.invariant.taken);
+      unrefused = λ a b h f. each-behind RefusesNoFrame unrefused-so a b h _ _ _ f c.loop-step.invariant.taken;
+      readable = λ a b h f. each-behind WithholdsNothing readable-so a b h _ _ _ f c.loop-step.invariant.taken;
+      honest = λ a b h f. honest-from (from-steps f c.loop-step.invariant.taken);
+      refused = λ a b h f. each-behind IsRefusedSo refused-so a b h _ _ _ f c.loop-step.invariant.taken;
       err = tt;
     }))

@@ -1,17 +1,29 @@
 use Rattle.quic_pair.specs.From.{next}
-use Rattle.quic_pair.proofs.Headlines.{Headline-from}
-use Rattle.quic_pair.proofs.Refused.{refused_so}
-use Rattle.quic_pair.proofs.Bounds.{permitted_so}
+use Rattle.quic_pair.proofs.Grown.{headline-from}
+use Rattle.quic_pair.proofs.Readable.{readable-so}
+use Rattle.quic_pair.proofs.Unrefused.{unrefused-so}
+use Rattle.quic_pair.proofs.Honest.{honest-from}
+use Rattle.quic_pair.proofs.RefusedSo.{refused-so}
+use Rattle.quic_pair.proofs.Served.{refused-stays}
 use Rattle.quic_pair.proofs.pair.Pair.step.Goals as goal
 
 pub returns-clause-from : goal.returns-clause-from
-returns-clause-from c = λ a b h p. next c.args.step c.dispatch.result p c.dispatch.ensures
+returns-clause-from c = λ a b h f. next c.args.step c.dispatch.result f c.dispatch.ensures
 
 pub returns-clause-headline : goal.returns-clause-headline
-returns-clause-headline c = λ a b h p. Headline-from _ _ (next c.args.step c.dispatch.result p c.dispatch.ensures)
+returns-clause-headline c = λ a b h f. headline-from (next c.args.step c.dispatch.result f c.dispatch.ensures)
+
+pub returns-clause-unrefused : goal.returns-clause-unrefused
+returns-clause-unrefused c = λ a b h f. unrefused-so a b h _ _ c.args.step c.dispatch.result f c.dispatch.ensures
+
+pub returns-clause-readable : goal.returns-clause-readable
+returns-clause-readable c = λ a b h f. readable-so a b h _ _ c.args.step c.dispatch.result f c.dispatch.ensures
+
+pub returns-clause-honest : goal.returns-clause-honest
+returns-clause-honest c = λ a b h f. honest-from (next c.args.step c.dispatch.result f c.dispatch.ensures)
 
 pub returns-clause-refused : goal.returns-clause-refused
-returns-clause-refused c = λ a b h p. refused_so c.args.step c.dispatch.result _ p c.dispatch.ensures
+returns-clause-refused c = λ a b h f. refused-so a b h _ _ c.args.step c.dispatch.result f c.dispatch.ensures
 
-pub returns-clause-permitted : goal.returns-clause-permitted
-returns-clause-permitted c = λ a b h p. permitted_so c.args.step c.dispatch.result _ p c.dispatch.ensures
+pub returns-clause-unchanged : goal.returns-clause-unchanged
+returns-clause-unchanged c = λ r. refused-stays _ _ c.args.step c.dispatch.result c.dispatch.ensures r

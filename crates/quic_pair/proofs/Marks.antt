@@ -1,0 +1,276 @@
+-- The frames that are marked as accepted are those of which a delivery was answered Ok.
+use Rattle.std.proofs.Common.{◌≡◌, ℕ, Bool, true, false, List, [], ◌∷◌, Some, Result, Ok, Err, refl, sym, ap, ◌∙◌, subst, inl, inr}
+use Rattle.std.specs.Prelude.{◌++◌, ◌||◌, ◌==◌, slice_get, slice_set, slice_index_or, if◌then◌else◌}
+use Rattle.std.proofs.lemmas.Option.{none-some, same_Some}
+use Rattle.quic_values.specs.declared.memory.OutOfMemory.{OutOfMemory}
+use Rattle.quic_wire.specs.declared.error.ReceiveError.{ReceiveError}
+use Rattle.quic_wire.specs.declared.error.ReceiveError.TheVariants as receive_error
+use Rattle.quic_wire.specs.declared.event.StreamEvent.{StreamEvent}
+use Rattle.quic_wire.specs.declared.event.StreamEvent.TheVariants as stream_event
+use Rattle.quic_receiving.specs.declared.transmit.ShouldTransmit.{ShouldTransmit}
+use Rattle.quic_history.proofs.Traces.{itself}
+use Rattle.quic_link.specs.Endpoints.{IsOneOf}
+use Rattle.quic_link.proofs.Basics.{either_true, same_id}
+use Rattle.quic_endpoint.specs.Ends.{EndState}
+use Rattle.quic_endpoint.specs.Emitting.{PayloadView}
+use Rattle.quic_steps.specs.declared.steps.End.{End}
+use Rattle.quic_steps.specs.declared.steps.Config.{Config}
+use Rattle.quic_steps.specs.declared.steps.Step.{Step}
+use Rattle.quic_steps.specs.declared.steps.Step.TheVariants as steps
+use Rattle.quic_steps.specs.declared.steps.Reply.TheVariants.{Done, DoneTransmit, Id, Wrote, WroteChunks, Stopped, Read, Code, Event, Payload}
+use Rattle.quic_steps.specs.declared.steps.PairError.TheVariants.{NoSuchPayload, NoSuchFrame, NotAccepted, OutOfMemory as NoMemory}
+use Rattle.quic_pair.specs.declared.sent.Sent.{Sent}
+use Rattle.quic_pair.specs.Payloads.{SentText, IsMarked, is_accepted}
+use Rattle.quic_pair.specs.Replies.{Answer, received_reply}
+use Rattle.quic_pair.specs.State.{PairState, OnEnd, with_end}
+use Rattle.quic_pair.specs.Steps.{Next, Emits, Emitted, SentAfter, HandsOver, Delivers, LosesFrame, AcksFrame, LosesControl, AcksControl}
+use Rattle.quic_pair.specs.History.{Past, History, FramePlace, after, after_given, after_write, after_chunks, after_finish, past_reset, past_stop, past_read, past_code, after_poll, after_event, after_deliver, past_of}
+use Rattle.quic_pair.specs.From.{From, begun, next}
+use Rattle.quic_pair.proofs.Lists.{slice_get-append_left, slice_get-push, slice_get-slice_set, slice_set-keeps, slice_get-set_same}
+use Rattle.quic_pair.proofs.Deeds.{sent-same}
+use Rattle.quic_pair.proofs.Grown.{past-after}
+
+-- a payload that was sent has a mark at a place
+pub record HasMark (sent : List Sent) (at : FramePlace) : Type 0 where
+  pub payload : Sent
+  pub is : slice_get sent at.0 ≡ Some payload
+  pub marked : is_accepted payload.text at.1 ≡ true
+
+-- the marks are these places
+pub record AreMarkedSo (accepted : List FramePlace) (sent : List Sent) : Type 0 where
+  pub listed : (number index : ℕ) (s : Sent) → slice_get sent number ≡ Some s → is_accepted s.text index ≡ true → IsOneOf (number, index) accepted
+  pub marked : (at : FramePlace) → IsOneOf at accepted → HasMark sent at
+
+-- ---- one more place
+
+first_true : (a b : Bool) → a ≡ true → (a || b) ≡ true
+first_true true b h = refl
+first_true false b h = cc
+
+second_true : (a b : Bool) → b ≡ true → (a || b) ≡ true
+second_true true b h = refl
+second_true false b h = h
+
+place_is : (a b c d : ℕ) → a ≡ c → b ≡ d → ◌≡◌ {A = FramePlace} (a, b) (c, d)
+place_is a b c d p q = rw (p, q) refl
+
+module _ (accepted : List FramePlace) (old : List Sent) (m : AreMarkedSo accepted old) (number index : ℕ) (s : Sent) (is : slice_get old number ≡ Some s) (text : SentText) (k : IsMarked s.text index text) where
+  -- the payload once it is marked
+  abbrev marked_payload : Sent
+  marked_payload = record s { text = text }
+
+  new_mark : is_accepted text index ≡ true
+  new_mark = k.marks index ∙ second_true (is_accepted s.text index) (index == index) (itself index)
+
+  old_mark : (at : ℕ) → is_accepted s.text at ≡ true → is_accepted text at ≡ true
+  old_mark at h = k.marks at ∙ first_true (is_accepted s.text at) (at == index) h
+
+  listed_more : (n i : ℕ) (t : Sent) → slice_get (slice_set old number marked_payload) n ≡ Some t → is_accepted t.text i ≡ true → IsOneOf (n, i) ((number, index) ∷ accepted)
+  listed_more n i t got set = elim (slice_get-slice_set old number n marked_payload t got) [
+    | inl new ↦ (
+        let set_here : is_accepted text i ≡ true = sym (ap (λ (v : Sent). is_accepted v.text i) new.1) ∙ set in
+        elim (either_true (is_accepted s.text i) (i == index) (sym (k.marks i) ∙ set_here)) [
+          | inl was ↦ inr (m.listed n i s (ap (slice_get old) new.0 ∙ is) was)
+          | inr now ↦ inl (place_is n i number index new.0 (same_id i index now))
+        ]
+        )
+    | inr there ↦ inr (m.listed n i t there set)
+  ]
+
+  marked_more : (at : FramePlace) → IsOneOf at ((number, index) ∷ accepted) → HasMark (slice_set old number marked_payload) at
+  marked_more at (inl now) =
+      let P : FramePlace → Type 0 = λ place. HasMark (slice_set old number marked_payload) place in
+      let here : HasMark (slice_set old number marked_payload) (number, index) = record { payload = marked_payload; is = slice_get-set_same old number s marked_payload is; marked = new_mark } in
+      subst P (sym now) here
+  marked_more at (inr before) =
+      let b = m.marked at before in
+      elim (slice_set-keeps old number at.0 marked_payload b.payload b.is) [
+        | inl same ↦ (
+            let whole : b.payload ≡ s = same_Some b.payload s (sym b.is ∙ ap (slice_get old) same ∙ is) in record {
+              payload = marked_payload;
+              is = ap (slice_get (slice_set old number marked_payload)) same ∙ slice_get-set_same old number s marked_payload is;
+              marked = old_mark at.1 (sym (ap (λ (v : Sent). is_accepted v.text at.1) whole) ∙ b.marked);
+            })
+        | inr kept ↦ record { payload = b.payload; is = kept; marked = b.marked }
+      ]
+
+  marks_more : AreMarkedSo ((number, index) ∷ accepted) (slice_set old number marked_payload)
+  marks_more = record { listed = listed_more; marked = marked_more }
+
+-- ---- one more payload
+
+no_mark : (text : SentText) (index : ℕ) → text.accepted ≡ [] → is_accepted text index ≡ true → ⊥
+no_mark text index e h = let k = sym (ap (λ l. slice_index_or l index false) e) ∙ h in cc
+
+marks_sent : (accepted : List FramePlace) (old : List Sent) (s : Sent) → s.text.accepted ≡ [] → AreMarkedSo accepted old → AreMarkedSo accepted (old ++ s ∷ [])
+marks_sent accepted old s none m = record {
+  listed = λ number index t got set. elim (slice_get-push old s number t got) [
+    | inl before ↦ m.listed number index t before set
+    | inr now ↦ absurd (no_mark t.text index (ap (λ (v : Sent). v.text.accepted) now.1 ∙ none) set)
+  ];
+  marked = λ at h. let b = m.marked at h in record { payload = b.payload; is = slice_get-append_left old (s ∷ []) at.0 b.payload b.is; marked = b.marked };
+}
+
+-- ---- steps that accept no frame
+
+-- nothing was sent, and nothing accepted
+marks_same : (accepted new_accepted : List FramePlace) (old new : List Sent) → new_accepted ≡ accepted → new ≡ old → AreMarkedSo accepted old → AreMarkedSo new_accepted new
+marks_same accepted new_accepted old new e k m =
+    let P : List FramePlace → Type 0 = λ l. AreMarkedSo l new in
+    let Q : List Sent → Type 0 = λ l. AreMarkedSo accepted l in
+    subst P (sym e) (subst Q (sym k) m)
+
+sent_on_end : {P : EndState → EndState → Type 0} (old : PairState) (who : End) (new : PairState) → OnEnd P old who new → new.sent ≡ old.sent
+sent_on_end old who new d = ap (λ (v : PairState). v.sent) d.is ∙ sent-same old who d.end
+
+module _ (p : Past) (who : End) where
+  given_none : (reply : Answer) → (after_given p who reply).accepted ≡ p.accepted
+  given_none (Ok (Id id)) = refl
+  given_none _ = refl
+
+  write_none : (id : ℕ) (bytes : List ℕ) (reply : Answer) → (after_write p who id bytes reply).accepted ≡ p.accepted
+  write_none id bytes (Ok (Wrote count)) = refl
+  write_none id bytes (Ok (Stopped code)) = refl
+  write_none id bytes _ = refl
+
+  chunks_none : (id : ℕ) (chunks : List (List ℕ)) (reply : Answer) → (after_chunks p who id chunks reply).accepted ≡ p.accepted
+  chunks_none id chunks (Ok (WroteChunks written)) = refl
+  chunks_none id chunks (Ok (Stopped code)) = refl
+  chunks_none id chunks _ = refl
+
+  finish_none : (id : ℕ) (reply : Answer) → (after_finish p who id reply).accepted ≡ p.accepted
+  finish_none id (Ok Done) = refl
+  finish_none id (Ok (Stopped code)) = refl
+  finish_none id _ = refl
+
+  reset_none : (id code : ℕ) (reply : Answer) → (past_reset p who id code reply).accepted ≡ p.accepted
+  reset_none id code (Ok Done) = refl
+  reset_none id code _ = refl
+
+  stop_none : (id code : ℕ) (reply : Answer) → (past_stop p who id code reply).accepted ≡ p.accepted
+  stop_none id code (Ok Done) = refl
+  stop_none id code _ = refl
+
+  read_none : (id : ℕ) (ordered : Bool) (reply : Answer) → (past_read p who id ordered reply).accepted ≡ p.accepted
+  read_none id ordered (Ok (Read chunks last transmit)) = refl
+  read_none id ordered _ = refl
+
+  code_none : (id : ℕ) (reply : Answer) → (past_code p who id reply).accepted ≡ p.accepted
+  code_none id (Ok (Code code)) = refl
+  code_none id _ = refl
+
+  event_none : (event : StreamEvent) → (after_event p who event).accepted ≡ p.accepted
+  event_none (stream_event.Finished id) = refl
+  event_none (stream_event.Stopped id code) = refl
+  event_none _ = refl
+
+  poll_none : (reply : Answer) → (after_poll p who reply).accepted ≡ p.accepted
+  poll_none (Ok (Event event)) = event_none event
+  poll_none _ = refl
+
+-- ---- steps on payloads
+
+module _ (p : Past) (old new : PairState) (m : AreMarkedSo p.accepted old.sent) where
+  marks_stay : new ≡ old → AreMarkedSo p.accepted new.sent
+  marks_stay e = marks_same p.accepted p.accepted old.sent new.sent refl (ap (λ (v : PairState). v.sent) e) m
+
+  marks_end : (who : End) (f : EndState) → new ≡ with_end old who f → AreMarkedSo p.accepted new.sent
+  marks_end who f e = marks_same p.accepted p.accepted old.sent new.sent refl (ap (λ (v : PairState). v.sent) e ∙ sent-same old who f) m
+
+  marks_emits : {who : End} {most : ℕ} {fair : Bool} {answer : Result (Unit {0}) OutOfMemory} {payload : PayloadView} → Emits old who most fair answer payload new → AreMarkedSo p.accepted new.sent
+  marks_emits {who} k =
+      marks_same p.accepted p.accepted (old.sent ++ k.sent ∷ []) new.sent refl (ap (λ (v : PairState). v.sent) k.is) (marks_sent p.accepted old.sent k.sent (ap (λ (t : SentText). t.accepted) k.sent_is.text) m)
+
+  marks_emitted : (who : End) (most : ℕ) (fair : Bool) (reply : Answer) → Emitted old who most fair reply new → AreMarkedSo p.accepted new.sent
+  marks_emitted who most fair (Ok (Payload number bytes)) k = marks_emits k.emits
+  marks_emitted who most fair (Err NoMemory) k = elim k [ inl is ↦ marks_stay is | inr t ↦ marks_emits t.emits ]
+  marks_emitted who most fair _ k = absurd k
+
+  module _ (number index : ℕ) where
+    -- a delivery that was answered Ok marks the frame
+    marks_ok : (s : Sent) (is : slice_get old.sent number ≡ Some s) (due : Bool) (text : SentText) → IsMarked s.text index text → new.sent ≡ slice_set old.sent number (record s { text = text })
+        → AreMarkedSo (after_deliver p (number, index) (Ok (if due then DoneTransmit else Done))).accepted new.sent
+    marks_ok s is true text k e = marks_same ((number, index) ∷ p.accepted) ((number, index) ∷ p.accepted) (slice_set old.sent number (record s { text = text })) new.sent refl e (marks_more p.accepted old.sent m number index s is text k)
+    marks_ok s is false text k e = marks_same ((number, index) ∷ p.accepted) ((number, index) ∷ p.accepted) (slice_set old.sent number (record s { text = text })) new.sent refl e (marks_more p.accepted old.sent m number index s is text k)
+
+    -- and no other does
+    marks_answered : (s : Sent) (is : slice_get old.sent number ≡ Some s) (answer : Result ShouldTransmit ReceiveError) → SentAfter old.sent number s index answer new.sent → AreMarkedSo (after_deliver p (number, index) (received_reply answer)).accepted new.sent
+    marks_answered s is (Ok transmit) k = marks_ok s is transmit.0 k.0 k.1 k.2
+    marks_answered s is (Err (receive_error.Transport error)) k = marks_same p.accepted p.accepted old.sent new.sent refl k m
+    marks_answered s is (Err receive_error.CompactionMemory) k = marks_same p.accepted p.accepted old.sent new.sent refl k m
+    marks_answered s is (Err receive_error.OutOfMemory) k = marks_same p.accepted p.accepted old.sent new.sent refl k m
+
+    marks_handed : (reply : Answer) → HandsOver old number index reply new → AreMarkedSo (after_deliver p (number, index) reply).accepted new.sent
+    marks_handed reply k =
+        let P : Answer → Type 0 = λ r. AreMarkedSo (after_deliver p (number, index) r).accepted new.sent in
+        subst P (sym k.reply_is) (marks_answered k.payload.sent k.payload.is k.answer k.sent)
+
+    marks_delivers : (reply : Answer) → Delivers old number index reply new → AreMarkedSo (after_deliver p (number, index) reply).accepted new.sent
+    marks_delivers (Err NoSuchPayload) k = marks_stay k.1
+    marks_delivers (Err NoSuchFrame) k = marks_stay k.is
+    marks_delivers (Err NoMemory) k = elim k [ inl is ↦ marks_stay is | inr t ↦ marks_handed (Err NoMemory) t ]
+    marks_delivers reply k = marks_handed reply k
+
+    marks_loses : (reply : Answer) → LosesFrame old number index reply new → AreMarkedSo p.accepted new.sent
+    marks_loses (Err NoSuchPayload) k = marks_stay k.1
+    marks_loses (Err NoSuchFrame) k = marks_stay k.is
+    marks_loses (Err NoMemory) k = elim k [ inl is ↦ marks_stay is | inr t ↦ marks_end t.payload.sent.writer t.end t.is ]
+    marks_loses reply k = marks_end k.payload.sent.writer k.end k.is
+
+    marks_acks : (reply : Answer) → AcksFrame old number index reply new → AreMarkedSo p.accepted new.sent
+    marks_acks (Err NoSuchPayload) k = marks_stay k.1
+    marks_acks (Err NoSuchFrame) k = marks_stay k.is
+    marks_acks (Err NotAccepted) k = marks_stay k.is
+    marks_acks (Err NoMemory) k = elim k [ inl is ↦ marks_stay is | inr t ↦ marks_end t.payload.sent.writer t.end t.is ]
+    marks_acks reply k = marks_end k.payload.sent.writer k.end k.is
+
+  marks_loses_control : (number : ℕ) (reply : Answer) → LosesControl old number reply new → AreMarkedSo p.accepted new.sent
+  marks_loses_control number (Ok Done) k = marks_end k.payload.sent.writer k.end k.is
+  marks_loses_control number (Err NoSuchPayload) k = marks_stay k.1
+  marks_loses_control number (Err NoMemory) k = marks_stay k
+  marks_loses_control number _ k = absurd k
+
+  marks_acks_control : (number : ℕ) (reply : Answer) → AcksControl old number reply new → AreMarkedSo p.accepted new.sent
+  marks_acks_control number (Ok Done) k = marks_end k.payload.sent.writer k.end k.is
+  marks_acks_control number (Err NoSuchPayload) k = marks_stay k.1
+  marks_acks_control number (Err NoSuchFrame) k = marks_stay k.is
+  marks_acks_control number (Err NotAccepted) k = marks_stay k.is
+  marks_acks_control number (Err NoMemory) k = elim k [ inl is ↦ marks_stay is | inr t ↦ marks_end t.payload.sent.writer t.end t.is ]
+  marks_acks_control number _ k = absurd k
+
+-- ---- all steps
+
+module _ (p : Past) (old new : PairState) (reply : Answer) (m : AreMarkedSo p.accepted old.sent) where
+  marks_on_end : {P : EndState → EndState → Type 0} (who : End) (later : List FramePlace) → later ≡ p.accepted → OnEnd P old who new → AreMarkedSo later new.sent
+  marks_on_end who later e d = marks_same p.accepted later old.sent new.sent e (sent_on_end old who new d) m
+
+  marks-next : (step : Step) → Next old step reply new → AreMarkedSo (after p step reply).accepted new.sent
+  marks-next (steps.Open who dir) n = marks_on_end who _ (given_none p who reply) n
+  marks-next (steps.Accept who dir) n = marks_on_end who _ (given_none p who reply) n
+  marks-next (steps.Write who id bytes) n = marks_on_end who _ (write_none p who id bytes reply) n
+  marks-next (steps.WriteChunks who id chunks) n = marks_on_end who _ (chunks_none p who id chunks reply) n
+  marks-next (steps.Finish who id) n = marks_on_end who _ (finish_none p who id reply) n
+  marks-next (steps.Reset who id code) n = marks_on_end who _ (reset_none p who id code reply) n
+  marks-next (steps.Stop who id code) n = marks_on_end who _ (stop_none p who id code reply) n
+  marks-next (steps.SetPriority who id priority) n = marks_on_end who p.accepted refl n
+  marks-next (steps.Read who id ordered most times) n = marks_on_end who _ (read_none p who id ordered reply) n
+  marks-next (steps.ReceivedReset who id) n = marks_on_end who _ (code_none p who id reply) n
+  marks-next (steps.SetSendWindow who window) n = marks_on_end who p.accepted refl n
+  marks-next (steps.SetReceiveWindow who window) n = marks_on_end who p.accepted refl n
+  marks-next (steps.SetMaxConcurrent who dir count) n = marks_on_end who p.accepted refl n
+  marks-next (steps.Poll who) n = marks_on_end who _ (poll_none p who reply) n
+  marks-next (steps.Emit who most fair) n = marks_emitted p old new m who most fair reply n
+  marks-next (steps.Deliver number index) n = marks_delivers p old new m number index reply n
+  marks-next (steps.LoseStream number index) n = marks_loses p old new m number index reply n
+  marks-next (steps.AckStream number index) n = marks_acks p old new m number index reply n
+  marks-next (steps.LoseControl number) n = marks_loses_control p old new m number reply n
+  marks-next (steps.AckControl number) n = marks_acks_control p old new m number reply n
+
+-- whatever steps led to a pair, its marks are what their replies say
+pub marks-from : {a b : Config} {whole : History} {v : PairState} → From a b whole v → AreMarkedSo (past_of whole).accepted v.sent
+marks-from {a} {b} {whole} {v} (begun n) =
+    let P : PairState → Type 0 = λ u. AreMarkedSo [] u.sent in
+    subst P (sym n.is) (record { listed = λ number index s got set. absurd (none-some s got); marked = λ at h. absurd h })
+marks-from {a} {b} {whole} {v} (next {h} {old} {new} step reply f n) =
+    let P : Past → Type 0 = λ p. AreMarkedSo p.accepted v.sent in
+    subst P (sym (past-after h step reply)) (marks-next (past_of h) old v reply (marks-from f) step n)

@@ -1,0 +1,210 @@
+-- Nothing that was kept is withheld from a read.
+use Rattle.std.proofs.Common.{◌≡◌, ◌⊎◌, ℕ, Bool, true, false, List, ◌∷◌, length, Some, None, Result, Ok, Err, refl, sym, ap, ◌∙◌, subst, inl, inr, arith, ◌<◌, ◌≤◌}
+use Rattle.std.specs.Prelude.{nat_le, if◌then◌else◌}
+use Rattle.std.proofs.lemmas.Bool.Decides.{nat_tests}
+use Rattle.quic_values.specs.declared.ids.Side.{Side}
+use Rattle.quic_values.specs.declared.ids.Side.TheVariants.{Client, Server}
+use Rattle.quic_values.specs.declared.ids.Dir.{Dir}
+use Rattle.quic_values.specs.declared.ids.Dir.TheVariants.{Bi, Uni}
+use Rattle.quic_values.specs.Ids.{initiator_of, dir_of, index_of}
+use Rattle.quic_wire.specs.declared.error.TheConstants.TransportError.{STREAM_LIMIT_ERROR, STREAM_STATE_ERROR}
+use Rattle.quic_assembler.specs.declared.chunk.Chunk.{Chunk}
+use Rattle.quic_receiving.specs.Data.{is_in_slices, IsAllGiven}
+use Rattle.quic_receiving.specs.declared.errors.ReadError.TheVariants as read_error
+use Rattle.quic_receiving.specs.declared.errors.ReadableError.{ReadableError}
+use Rattle.quic_receiving.specs.declared.errors.ReadableError.TheVariants as readable_error
+use Rattle.quic_retransmits.specs.Pending.{Pending}
+use Rattle.quic_outgoing.specs.Outgoing.{own_of}
+use Rattle.quic_streams.specs.declared.batches.ReadSome.{ReadSome}
+use Rattle.quic_history.specs.World.{World, is_own, is_same_side, remote_of, own_refusal, id_refusal}
+use Rattle.quic_history.specs.Acknowledged.{was_given}
+use Rattle.quic_history.specs.declared.progress.LastAnswer.{LastAnswer}
+use Rattle.quic_history.specs.declared.progress.LastAnswer.TheVariants as last_answer
+use Rattle.quic_history.specs.Reading.{ReadsSome}
+use Rattle.quic_history.specs.History.{Event, Received, Began, Gave, ReadChunk, slices, with_chunks}
+use Rattle.quic_history.proofs.Totals.{by_cases}
+use Rattle.quic_history.proofs.Traces.{itself}
+use Rattle.quic_link.specs.Endpoints.{Endpoint, MayAct, WasGiven, came_on}
+use Rattle.quic_link.specs.Truths.{amount_on}
+use Rattle.quic_link.specs.Promises.{KeptAt, EndKept, given_in_order, IsOver as IsOverTrace}
+use Rattle.quic_link.proofs.Basics.{permits_now}
+use Rattle.quic_link.proofs.Ends.{Comes}
+use Rattle.quic_link.proofs.Readings.{GoesOn, goes-call, called, chunks-linked}
+use Rattle.quic_link.proofs.Joint.{agrees}
+use Rattle.quic_link.proofs.Promised.{promised}
+use Rattle.quic_endpoint.specs.Ends.{EndState, ReadsAt, RefusesRead}
+use Rattle.quic_steps.specs.declared.steps.End.{End}
+use Rattle.quic_steps.specs.declared.steps.Config.{Config}
+use Rattle.quic_steps.specs.declared.steps.Step.{Step}
+use Rattle.quic_steps.specs.declared.steps.Step.TheVariants as steps
+use Rattle.quic_steps.specs.declared.steps.Reply.TheVariants.{Read}
+use Rattle.quic_pair.specs.Replies.{Answer, read_reply, last_of}
+use Rattle.quic_pair.specs.Calls.{OnGiven, ReadsOn, ReadsSo}
+use Rattle.quic_pair.specs.State.{PairState, OnEnd, peer, the_end}
+use Rattle.quic_pair.specs.Steps.{Next}
+use Rattle.quic_pair.specs.History.{Past, Flow, History, past_of, past_read, with_flow, reads_chunks, with_chunks_read}
+use Rattle.quic_pair.specs.Headline.{SomeStream, HasOffset, HasEnd}
+use Rattle.quic_pair.specs.Readable.{HasNothingLeft, OnlySends, IsFlowOver, EndsReads, ReadsTrue, WithholdsNothing, side_of}
+use Rattle.quic_pair.specs.From.{From}
+use Rattle.quic_pair.proofs.Joined.{Seen, Joined}
+use Rattle.quic_pair.proofs.KeptCalls.{kept-offset, kept-end, was-stopped, was-reset}
+use Rattle.quic_pair.proofs.Flips.{seen-as}
+use Rattle.quic_pair.proofs.Headlines.{length-written}
+use Rattle.quic_pair.proofs.CallsFlows.{flow-changed}
+use Rattle.quic_pair.proofs.CallsSeen.{step-at}
+use Rattle.quic_pair.proofs.CallsSetting.{given-here}
+use Rattle.quic_pair.proofs.CallsReading.{chunks-calls, chunks-given}
+use Rattle.quic_pair.proofs.Grown.{joined-from}
+
+-- ---- streams that were given
+
+below : (n i : ℕ) {X : Type 0} (e : X) → i < n → (if nat_le n i then Some e else None) ≡ None
+below n i e l = by_test (nat_le n i) (grind (arith, nat_tests))
+  where
+    by_test : (b : Bool) → b ≡ false → (if b then Some e else None) ≡ None
+    by_test true k = cc
+    by_test false k = refl
+
+known_by : (w : World) (own : Bool) (d : Dir) (i : ℕ) → (remote_of w d).next_reported ≤ (remote_of w d).max_remote → i < (if own then (own_of w.out d).opened else (remote_of w d).next_reported)
+    → ((own ≡ true) × (d ≡ Uni)) ⊎ ((if own then own_refusal w d i else (if nat_le (remote_of w d).max_remote i then Some STREAM_LIMIT_ERROR else None)) ≡ None)
+known_by w true Uni i l k = inl (refl, refl)
+known_by w true Bi i l k = inr (below w.out.own_bi.opened i STREAM_STATE_ERROR k)
+known_by w false d i l k = inr (below (remote_of w d).max_remote i STREAM_LIMIT_ERROR (omega (arith, l, k)))
+
+-- a stream that was given is known, or one that the end only sends on
+given_known : (x : Endpoint) → Comes x → (id : ℕ) → WasGiven x.world id → ((is_own x.world id ≡ true) × (dir_of id ≡ Uni)) ⊎ (id_refusal x.world id ≡ None)
+given_known x f id k =
+    let r = permits_now x.made x.calls x.world f.from.run f.remotes (dir_of id) in
+    let a = r.accepted in
+    let b = r.opened in
+    known_by x.world (is_own x.world id) (dir_of id) (index_of id) (omega (arith, a, b)) k
+
+same_sides : (a b : Side) → is_same_side a b ≡ true → b ≡ a
+same_sides Client Client e = refl
+same_sides Client Server e = cc
+same_sides Server Client e = cc
+same_sides Server Server e = refl
+
+-- ---- what is known after a read
+
+flow_here : (P : Flow → Type 0) (who : End) (id : ℕ) (change : Flow → Flow) (p : Past) → P (change (p.flow who id)) → P ((with_flow who id change p).flow who id)
+flow_here P who id change p h = flow-changed P who id change p id (λ e. h) (λ n. absurd (let l = sym (itself id) ∙ n in cc))
+
+module _ (p : Past) (who : End) (v : PairState) (x y : Endpoint) (s : Seen p who v x y) (id most times : ℕ) (ordered : Bool) where
+  abbrev known : Flow
+  known = p.flow (peer who) id
+
+  -- ---- nothing is left
+
+  module _ (q : Pending) (cs : List Chunk) (transmit : Bool) (u : World) (r : Pending) (d : ReadsSome x.world id most times ordered q cs last_answer.Blocked transmit u r) where
+    abbrev calls_read : List Event
+    calls_read = with_chunks id most ordered cs (Began id ordered (Ok tt) ∷ x.calls)
+
+    -- the end before the read that gave none
+    abbrev between : Endpoint
+    between = called x calls_read d.read
+
+    goes : GoesOn x y between
+    goes =
+        let b = Began id ordered (Ok tt) in
+        chunks-linked x y id most ordered cs (b ∷ x.calls) d.opened d.read (goes-call x y b d.opened s.linked (record { fits = tt; honest = tt; step = d.begins })) d.gives
+
+    given : (came_on between id).given ≡ with_chunks_read ordered cs known.given
+    given = chunks-given id most ordered cs (Began id ordered (Ok tt) ∷ x.calls) ∙ ap (with_chunks_read ordered cs) (s.receives.given id)
+
+    offset_read : (at : ℕ) → SomeStream v.sent (peer who) id p.kept (HasOffset at) → KeptAt calls_read id at
+    offset_read at k =
+        let c = kept-offset v.sent (peer who) id p.kept x.calls (s.kept_here.streams id) at k in
+        record { offset = c.offset; bytes = c.bytes; fin = c.fin; answer = c.answer; is = chunks-calls id most ordered cs (Began id ordered (Ok tt) ∷ x.calls) (Received id c.offset c.bytes c.fin c.answer) (inr c.is); kept = c.kept; has = c.has }
+
+    end_read : SomeStream v.sent (peer who) id p.kept HasEnd → EndKept calls_read id
+    end_read k =
+        let c = kept-end v.sent (peer who) id p.kept x.calls (s.kept_here.streams id) k in
+        record { offset = c.offset; bytes = c.bytes; answer = c.answer; is = chunks-calls id most ordered cs (Began id ordered (Ok tt) ∷ x.calls) (Received id c.offset c.bytes true c.answer) (inr c.is); kept = c.kept }
+
+    nothing_left : HasNothingLeft (reads_chunks ordered cs known) (peer who) id p.kept v.sent ordered
+    nothing_left =
+        let none = (promised goes.linked).0.answers (Gave id most ordered (Err read_error.Blocked)) d.ended (record { fits = tt; honest = tt; step = d.last_reads }) in
+        let half = d.last_reads in
+        let P : ℕ → Type 0 = λ n. KeptAt calls_read id n in
+        let G : List ReadChunk → Type 0 = λ g. IsAllGiven (slices g) (length known.written) in
+        let A : ℕ → Type 0 = λ n. IsAllGiven (slices (came_on between id).given) n in
+        let amount : amount_on y id ≡ length known.written = length-written p v.sent (peer who) y x s.receives id in
+        record {
+          next = λ o k.
+              let row = (((agrees goes.linked).0).reads).order id half.old half.half (half.mode ∙ o) in
+              let n : length (given_in_order (with_chunks_read ordered cs known.given)) ≡ (came_on between id).read = ap (λ g. length (given_in_order g)) (sym given) ∙ row in
+              none.next o (subst P n (offset_read _ k));
+          any = λ o at k. by_cases (is_in_slices (slices (with_chunks_read ordered cs known.given)) at)
+              (λ t. t)
+              (λ n. absurd (none.any o at (offset_read at k) (ap (λ g. is_in_slices (slices g) at) given ∙ n)));
+          end = λ k all. none.end (end_read k) (subst A (sym amount) (subst G (sym given) all));
+        }
+
+  -- ---- each answer
+
+  ends_reads : (r : ReadSome) (last : LastAnswer) (f : EndState) → ReadsAt (the_end v who) id most times ordered r.chunks.items last r.transmit.0 f
+      → EndsReads (past_read p who id ordered (Ok (Read r.chunks (last_of last) r.transmit.0))) v.sent who id ordered times (length r.chunks.items) (last_of last)
+  ends_reads r last_answer.Blocked f d =
+      let q = (the_end v who).pending in
+      let W : World → Type 0 = λ w. ReadsSome w id most times ordered q r.chunks.items last_answer.Blocked r.transmit.0 d.read.streams d.read.pending in
+      let P : Flow → Type 0 = λ k. HasNothingLeft k (peer who) id p.kept v.sent ordered in
+      flow_here P (peer who) id (reads_chunks ordered r.chunks.items) p (nothing_left q r.chunks.items r.transmit.0 d.read.streams d.read.pending (subst W (sym s.here.world) d.reads))
+  ends_reads r last_answer.Ended f d = tt
+  ends_reads r (last_answer.Reset code) f d = tt
+  ends_reads r last_answer.Memory f d = tt
+  ends_reads r last_answer.More f d = d.reads.count
+
+  may_begin : (error : ReadableError) (f : EndState) (d : RefusesRead (the_end v who) id ordered error f) → MayAct x y (Began id ordered (Err error)) d.asked.streams
+  may_begin error f d = record { fits = tt; honest = tt; step = step-at x.world (the_end v who).streams d.asked.streams (Began id ordered (Err error)) s.here.world d.begins }
+
+  -- the trace of a stream that is over
+  over_so : IsOverTrace (came_on x id) → IsFlowOver p v.sent (peer who) id
+  over_so (inl e) = inl (sym (s.receives.ended id) ∙ e)
+  over_so (inr (inl e)) = let t = was-stopped x.calls id e in inr (inl (t.0, s.receives.stops id t.0 t.1))
+  over_so (inr (inr e)) =
+      let t = was-reset x.calls id e in
+      inr (inr (s.kept_here.resets id t.0 t.1 t.2 t.3))
+
+  module _ (side : x.made.side ≡ side_of who) (given : was_given (the_end v who).streams id ≡ true) where
+    closed_so : (f : EndState) → RefusesRead (the_end v who) id ordered readable_error.ClosedStream f → OnlySends who id ⊎ IsFlowOver p v.sent (peer who) id
+    closed_so f d =
+        let comes = ((agrees s.linked).0).comes in
+        elim (given_known x comes id (given-here p who v v x y s id given)) [
+          | inl own ↦ inl (same_sides x.world.out.side (initiator_of id) own.0 ∙ comes.side ∙ side, own.1)
+          | inr there ↦ inr (over_so ((promised s.linked).0.answers (Began id ordered (Err readable_error.ClosedStream)) d.asked.streams (may_begin readable_error.ClosedStream f d) there))
+        ]
+
+    illegal_so : (f : EndState) → RefusesRead (the_end v who) id ordered readable_error.IllegalOrderedRead f → (ordered ≡ true) × (known.unordered ≡ true)
+    illegal_so f d =
+        let t = (promised s.linked).0.answers (Began id ordered (Err readable_error.IllegalOrderedRead)) d.asked.streams (may_begin readable_error.IllegalOrderedRead f d) in
+        (t.0, s.receives.unordered id t.1)
+
+    answered_so : (answer : Result ReadSome ReadableError) (f : EndState) → ReadsSo (the_end v who) id ordered most times answer f → ReadsTrue (past_read p who id ordered (read_reply answer)) v.sent who id ordered times (read_reply answer)
+    answered_so (Ok r) f d = ends_reads r r.last f d
+    answered_so (Err readable_error.ClosedStream) f d = closed_so f d
+    answered_so (Err readable_error.IllegalOrderedRead) f d = illegal_so f d
+    answered_so (Err readable_error.OutOfMemory) f d = tt
+
+-- ---- the step
+
+module _ (a b : Config) (p : Past) (old new : PairState) (j : Joined a b p old) where
+  abbrev IsRead : End → ℕ → Bool → ℕ → Answer → Type 0
+  IsRead who id ordered times reply = ReadsTrue (past_read p who id ordered reply) old.sent who id ordered times reply
+
+  read_so : (who : End) (id : ℕ) (ordered : Bool) (most times : ℕ) (reply : Answer) → OnEnd (λ e f. OnGiven e id reply f (ReadsOn e id ordered most times reply f)) old who new → IsRead who id ordered times reply
+  read_so who id ordered most times reply n = elim n.does [
+    | inl known ↦ (let r = known.1 in
+        let P : Answer → Type 0 = λ k. IsRead who id ordered times k in
+        subst P (sym r.reply_is)
+        (seen-as a b p old who j (IsRead who id ordered times (read_reply r.answer)) (λ x y side s. answered_so p who old x y s id most times ordered side known.0 r.answer n.end r.reads)))
+    | inr unknown ↦ (let P : Answer → Type 0 = λ k. IsRead who id ordered times k in subst P (sym unknown.1) tt)
+  ]
+
+  readable_next : (step : Step) (reply : Answer) → Next old step reply new → WithholdsNothing p old.sent step reply
+  readable_next (steps.Read who id ordered most times) reply n = read_so who id ordered most times reply n
+  readable_next _ reply n = tt
+
+-- whatever the network did, nothing that was kept is withheld
+pub readable-so : (a b : Config) (h : History) (old new : PairState) (step : Step) (reply : Answer) → From a b h old → Next old step reply new → WithholdsNothing (past_of h) old.sent step reply
+readable-so a b h old new step reply f n = readable_next a b (past_of h) old new (joined-from f) step reply n

@@ -1,0 +1,20 @@
+use Rattle.std.proofs.Common.{ap, ◌∙◌, ◌≡◌, length, ◌++◌, ◌∷◌, []}
+use Rattle.quic_endpoint.specs.Shown.{end_state}
+use Rattle.quic_pair.specs.State.{PairState, pair_state}
+use Rattle.quic_pair.proofs.Deeds.{emit-so}
+use Rattle.quic_pair.proofs.pair.Pair.emit.Goals as goal
+use Rattle.quic_retransmits.specs.Settling.{noted_in}
+use Rattle.quic_endpoint.specs.Emitting.{payload_view}
+use Rattle.quic_pair.specs.Steps.{IsSentBy}
+
+pub returns : goal.returns
+unfolding pair_state
+returns c =
+    let old : PairState = pair_state c.args.self.now in
+    let new : PairState = record { a = end_state c.emit_on-payload.new.a; b = end_state c.emit_on-payload.new.b; sent = c.push.new.self.items } in
+    let sent_is : IsSentBy c.args.who (payload_view c.emit_on-payload.result.0) c.new.result = record { writer = c.new.ensures.0; text = c.new.ensures.2; control = ap noted_in c.new.ensures.1 } in
+    let is : new.sent ≡ old.sent ++ c.new.result ∷ [] = c.in-Ok.ensures.items ∙ ap (λ l. l ++ c.new.result ∷ []) c.reserve.ensures.items in
+    let count : c.len-number.result ≡ length old.sent = c.len-number.ensures ∙ c.reserve.new.self.ok.0 ∙ ap length c.reserve.ensures.items in
+    rw c.payload_reply.ensures
+    (emit-so old new c.args.who c.args.max_size c.args.fair (payload_view c.emit_on-payload.result.0) c.len-number.result c.new.result sent_is is count
+    c.emit_on-payload.result.1 c.from_slice-copy.result c.emit_on-payload.ensures (λ v e. (rw e at c.from_slice-copy.ensures.items) ∙ c.as_slice.ensures.value))

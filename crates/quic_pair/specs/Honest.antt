@@ -1,0 +1,42 @@
+-- What every frame between two ends says is true.
+use Rattle.std.specs.Prelude.{ℕ, ◌≡◌, ◌+◌, ◌≤◌, true, List, length, slice_get, Some}
+use Rattle.quic_assembler.specs.Piece.{IsByteAt}
+use Rattle.quic_wire.specs.Frames.{AreFrames}
+use Rattle.quic_wire.specs.declared.frame.Frame.{Frame}
+use Rattle.quic_wire.specs.declared.frame.Frame.TheVariants as frames
+use Rattle.quic_wire.specs.declared.frame.Stream.{Stream}
+use Rattle.quic_history.specs.World.{remote_of}
+use Rattle.quic_link.specs.Endpoints.{IsOneOf}
+use Rattle.quic_link.specs.Truths.{AreBytesOf}
+use Rattle.quic_steps.specs.declared.steps.End.{End}
+use Rattle.quic_pair.specs.declared.sent.Sent.{Sent}
+use Rattle.quic_pair.specs.State.{PairState, peer, the_end}
+use Rattle.quic_pair.specs.History.{Past, Flow}
+
+-- a STREAM frame carries what was written at its place, and ends the stream only where it was ended, at its last byte
+-- (RFC 9000 sections 4.5 and 19.8)
+pub record IsHonestData (f : Flow) (s : Stream) : Type 0 where
+  pub bytes : AreBytesOf s.offset s.bytes f.written
+  pub within : s.offset + length s.bytes ≤ length f.written
+  pub finished : s.fin ≡ true → f.finished ≡ true
+  pub ends : s.fin ≡ true → s.offset + length s.bytes ≡ length f.written
+
+-- a frame of an end is true: a reset and a stop were asked for with their codes, a final size is what was written, and a
+-- limit is not above the one that is enforced (RFC 9000 sections 4.1, 4.5, 4.6, 19.4 and 19.5)
+abbrev pub IsHonestFrame : Past → PairState → End → Frame → Type 0
+IsHonestFrame p v who (frames.Stream s) = IsHonestData (p.flow who s.id) s
+IsHonestFrame p v who (frames.ResetStream f) = IsOneOf f.error_code (p.flow who f.id).resets × (f.final_offset ≡ length (p.flow who f.id).written)
+IsHonestFrame p v who (frames.StopSending f) = IsOneOf f.error_code (p.flow (peer who) f.id).stops
+IsHonestFrame p v who (frames.MaxData limit) = limit ≤ (the_end v who).streams.credit.local_max_data
+IsHonestFrame p v who (frames.MaxStreams dir count) = count ≤ (remote_of (the_end v who).streams dir).max_remote
+IsHonestFrame p v who _ = Unit {0}
+
+-- the bytes of a payload spell its frames, and each of them is true
+pub record IsHonestPayload (p : Past) (v : PairState) (s : Sent) : Type 0 where
+  pub all : List Frame
+  pub spelled : AreFrames s.text.bytes all
+  pub honest : (frame : Frame) → IsOneOf frame all → IsHonestFrame p v s.writer frame
+
+-- so does every payload that was ever sent
+abbrev pub AreHonest : Past → PairState → Type 0
+AreHonest p v = (number : ℕ) (s : Sent) → slice_get v.sent number ≡ Some s → IsHonestPayload p v s

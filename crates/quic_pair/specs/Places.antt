@@ -1,0 +1,87 @@
+-- Frames by the number of their payload and their place there.
+use Rattle.std.specs.Prelude.{◌≡◌, ℕ, ◌≤◌, Bool, List, Option, Some, Result, Ok, Err, length, slice_get, slice_set}
+use Rattle.std.specs.Global.{Vec}
+use Rattle.quic_wire.specs.declared.error.ReceiveError.{ReceiveError}
+use Rattle.quic_receiving.specs.declared.transmit.ShouldTransmit.{ShouldTransmit}
+use Rattle.quic_endpoint.specs.Receiving.{data_length}
+use Rattle.quic_steps.specs.declared.steps.End.{End}
+use Rattle.quic_steps.specs.declared.steps.PairError.{PairError}
+use Rattle.quic_steps.specs.declared.steps.PairError.TheVariants as refusals
+use Rattle.quic_pair.specs.declared.sent.Sent.{Sent}
+use Rattle.quic_pair.specs.declared.places.HandedFrame.{HandedFrame}
+use Rattle.quic_pair.specs.declared.places.SentStream.{SentStream}
+use Rattle.quic_pair.specs.Payloads.{SentText, IsFrameAt, IsStreamAt, IsReadyToMark, IsMarked, IsControlAccepted, is_accepted}
+
+-- the frame at a place of this payload
+pub record IsHandedFrame (whole : Sent) (index : ℕ) (h : HandedFrame) : Type 0 where
+  pub writer : h.writer ≡ whole.writer
+  pub at : IsFrameAt whole.text.bytes index h.frame
+  pub within : data_length h.frame ≤ h.len
+  pub marks : IsReadyToMark whole.text index h.marks
+
+-- the STREAM frame there
+pub record IsSentStream (whole : Sent) (index : ℕ) (s : SentStream) : Type 0 where
+  pub writer : s.writer ≡ whole.writer
+  pub at : IsStreamAt whole.text.bytes index s.meta
+  pub accepted : s.accepted ≡ is_accepted whole.text index
+
+-- the frame at a place of a payload
+pub record FindsFrame (sent : List Sent) (payload index : ℕ) (h : HandedFrame) : Type 0 where
+  pub whole : Sent
+  pub is : slice_get sent payload ≡ Some whole
+  pub writer : h.writer ≡ whole.writer
+  pub at : IsFrameAt whole.text.bytes index h.frame
+  pub within : data_length h.frame ≤ h.len
+  pub marks : IsReadyToMark whole.text index h.marks
+
+-- the STREAM frame there
+pub record FindsStream (sent : List Sent) (payload index : ℕ) (s : SentStream) : Type 0 where
+  pub whole : Sent
+  pub is : slice_get sent payload ≡ Some whole
+  pub writer : s.writer ≡ whole.writer
+  pub at : IsStreamAt whole.text.bytes index s.meta
+  pub accepted : s.accepted ≡ is_accepted whole.text index
+
+-- the streams of the RESET_STREAM frames of a payload, of which every frame beside STREAM was accepted
+pub record FindsResets (sent : List Sent) (payload : ℕ) (writer : End) (ids : List ℕ) : Type 0 where
+  pub whole : Sent
+  pub is : slice_get sent payload ≡ Some whole
+  pub writer_is : writer ≡ whole.writer
+  pub accepted : IsControlAccepted whole.text ids
+
+-- a payload with such a text has a number
+pub record HasText (sent : List Sent) (payload : ℕ) (Is : SentText → Type 0) : Type 0 where
+  pub whole : Sent
+  pub is : slice_get sent payload ≡ Some whole
+  pub why : Is whole.text
+
+-- why nothing was found: there is no such payload, its text lacks that, or the text is refused
+abbrev pub FailsToFind : List Sent → ℕ → (Lacks Refused : SentText → Type 0) → PairError → Type 0
+FailsToFind sent payload Lacks Refused refusals.NoSuchPayload = length sent ≤ payload
+FailsToFind sent payload Lacks Refused refusals.NoSuchFrame = HasText sent payload Lacks
+FailsToFind sent payload Lacks Refused refusals.NotAccepted = HasText sent payload Refused
+FailsToFind sent payload Lacks Refused refusals.UnknownId = ⊥
+FailsToFind sent payload Lacks Refused refusals.OutOfMemory = Unit {0}
+
+-- for no reason is a text refused
+abbrev pub IsNeverRefused : SentText → Type 0
+IsNeverRefused text = ⊥
+
+-- the frame at a place can be marked with these marks
+pub record IsReadyAt (sent : List Sent) (payload index : ℕ) (marks : Option (Vec Bool)) : Type 0 where
+  pub whole : Sent
+  pub is : slice_get sent payload ≡ Some whole
+  pub ready : IsReadyToMark whole.text index marks
+
+-- it is marked
+pub record MarksAt (old : List Sent) (payload index : ℕ) (new : List Sent) : Type 0 where
+  pub whole : Sent
+  pub is : slice_get old payload ≡ Some whole
+  pub text : SentText
+  pub marked : IsMarked whole.text index text
+  pub new_is : new ≡ slice_set old payload (record whole { text = text })
+
+-- it is marked, if the answer is Ok
+abbrev pub MarksIf : Result ShouldTransmit ReceiveError → List Sent → ℕ → ℕ → List Sent → Type 0
+MarksIf (Ok transmit) old payload index new = MarksAt old payload index new
+MarksIf (Err error) old payload index new = new ≡ old

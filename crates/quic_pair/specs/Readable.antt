@@ -1,0 +1,74 @@
+-- What was kept may be read.
+use Rattle.std.specs.Prelude.{ℕ, Bool, true, false, ◌≡◌, ◌⊎◌, List, length, slice_get, Some, Ok}
+use Rattle.quic_values.specs.declared.ids.Side.{Side}
+use Rattle.quic_values.specs.declared.ids.Side.TheVariants.{Client, Server}
+use Rattle.quic_values.specs.declared.ids.Dir.TheVariants.{Uni}
+use Rattle.quic_values.specs.Ids.{initiator_of, dir_of}
+use Rattle.quic_wire.specs.declared.frame.Frame.TheVariants as frames
+use Rattle.quic_wire.specs.declared.frame.ResetStream.{ResetStream}
+use Rattle.quic_receiving.specs.Data.{is_in_slices, IsAllGiven}
+use Rattle.quic_history.specs.History.{slices}
+use Rattle.quic_link.specs.Endpoints.{IsOneOf}
+use Rattle.quic_link.specs.Promises.{given_in_order}
+use Rattle.quic_steps.specs.declared.steps.End.{End}
+use Rattle.quic_steps.specs.declared.steps.End.TheVariants.{A, B}
+use Rattle.quic_steps.specs.declared.steps.Step.{Step}
+use Rattle.quic_steps.specs.declared.steps.Step.TheVariants as steps
+use Rattle.quic_steps.specs.declared.steps.Reply.TheVariants.{Read, Closed, Illegal}
+use Rattle.quic_steps.specs.declared.steps.Last.{Last}
+use Rattle.quic_steps.specs.declared.steps.Last.TheVariants as last
+use Rattle.quic_pair.specs.declared.sent.Sent.{Sent}
+use Rattle.quic_pair.specs.Payloads.{IsFrameAt}
+use Rattle.quic_pair.specs.Replies.{Answer}
+use Rattle.quic_pair.specs.State.{peer}
+use Rattle.quic_pair.specs.History.{Past, Flow, FramePlace, past_read}
+use Rattle.quic_pair.specs.Headline.{SomeStream, HasOffset, HasEnd}
+
+-- nothing is left to read of what an end sends on a stream: in order, the byte behind those that were given was not kept,
+-- and as bytes come, each that was kept was given; and the end was not kept, or not every byte was given
+pub record HasNothingLeft (f : Flow) (who : End) (id : ℕ) (kept : List FramePlace) (sent : List Sent) (ordered : Bool) : Type 0 where
+  pub next : ordered ≡ true → SomeStream sent who id kept (HasOffset (length (given_in_order f.given))) → ⊥
+  pub any : ordered ≡ false → (at : ℕ) → SomeStream sent who id kept (HasOffset at) → is_in_slices (slices f.given) at ≡ true
+  pub end : SomeStream sent who id kept HasEnd → IsAllGiven (slices f.given) (length f.written) → ⊥
+
+-- which side of the connection an end is
+abbrev pub side_of : End → Side
+side_of A = Client
+side_of B = Server
+
+-- the stream is one that the end only sends on (RFC 9000 section 2.1)
+abbrev pub OnlySends : End → ℕ → Type 0
+OnlySends who id = (initiator_of id ≡ side_of who) × (dir_of id ≡ Uni)
+
+-- one of some places has a RESET_STREAM frame of an end on a stream
+pub record SomeReset (sent : List Sent) (who : End) (id : ℕ) (places : List FramePlace) : Type 0 where
+  pub at : FramePlace
+  pub listed : IsOneOf at places
+  pub payload : Sent
+  pub is : slice_get sent at.0 ≡ Some payload
+  pub writer : payload.writer ≡ who
+  pub frame : ResetStream
+  pub there : IsFrameAt payload.text.bytes at.1 (frames.ResetStream frame)
+  pub on : frame.id ≡ id
+
+-- what an end sends on a stream is read no more: its end was told, or its reader stopped it, or a RESET_STREAM frame came
+abbrev pub IsFlowOver : Past → List Sent → End → ℕ → Type 0
+IsFlowOver p sent who id = ((p.flow who id).ended ≡ true) ⊎ (((code : ℕ) × IsOneOf code (p.flow who id).stops) ⊎ SomeReset sent who id p.accepted)
+
+-- reads are blocked only where nothing is left, and end with no answer only once as many gave a chunk as were asked for
+abbrev pub EndsReads : Past → List Sent → End → ℕ → Bool → ℕ → ℕ → Last → Type 0
+EndsReads p sent who id ordered times count last.Blocked = HasNothingLeft (p.flow (peer who) id) (peer who) id p.kept sent ordered
+EndsReads p sent who id ordered times count last.More = count ≡ times
+EndsReads p sent who id ordered times count _ = Unit {0}
+
+-- a stream is closed to its reader only where it is over, and an ordered read refused only after one that was not
+abbrev pub ReadsTrue : Past → List Sent → End → ℕ → Bool → ℕ → Answer → Type 0
+ReadsTrue p sent who id ordered times (Ok (Read chunks last transmit)) = EndsReads p sent who id ordered times (length chunks.items) last
+ReadsTrue p sent who id ordered times (Ok Closed) = OnlySends who id ⊎ IsFlowOver p sent (peer who) id
+ReadsTrue p sent who id ordered times (Ok Illegal) = (ordered ≡ true) × ((p.flow (peer who) id).unordered ≡ true)
+ReadsTrue p sent who id ordered times _ = Unit {0}
+
+-- a step withholds nothing that was kept
+abbrev pub WithholdsNothing : Past → List Sent → Step → Answer → Type 0
+WithholdsNothing p sent (steps.Read who id ordered most times) reply = ReadsTrue (past_read p who id ordered reply) sent who id ordered times reply
+WithholdsNothing p sent _ reply = Unit {0}

@@ -1,0 +1,178 @@
+//! What a step does to the end that takes it.
+
+ghost use Rattle.std.specs.Prelude.{◌≡◌, IfOk, OnOk, OnErr};
+ghost use Rattle.quic_sending.specs.Source.{slice_lists};
+ghost use Rattle.quic_endpoint.specs.Shown.{end_state};
+ghost use Rattle.quic_pair.specs.Calls.{Opens, Accepts, OnGiven, Writes, WritesChunksOrNone, AcksResets, AcksSome, Finishes, ResetsOn, StopsOn, SetsPriorityOn, AsksReset, ReadsOn, SetsSendWindow, SetsReceiveWindow, SetsMaxConcurrent, Polls};
+
+use crate::replies::{
+    accepted_reply, chunks_reply, code_reply, done_reply, event_reply, finished_reply,
+    handled_reply, opened_reply, read_reply, unwritten_reply,
+};
+use quic_endpoint::Endpoint;
+use quic_steps::{PairError, Reply};
+use quic_values::{Bytes, ChunkList, Dir, OutOfMemory, StreamId, VarInt};
+use std::alloc::Global;
+
+pub(crate) fn open(end: &mut Endpoint, dir: Dir) -> Result<Reply, PairError>
+    ensures { Opens (end_state end.old) dir result (end_state end.new) }
+{
+    opened_reply(end.open(dir))
+}
+
+pub(crate) fn accept(end: &mut Endpoint, dir: Dir) -> Result<Reply, PairError>
+    ensures { Accepts (end_state end.old) dir result (end_state end.new) }
+{
+    accepted_reply(end.accept(dir))
+}
+
+pub(crate) fn write(end: &mut Endpoint, id: StreamId, bytes: Bytes) -> Result<Reply, PairError>
+    ensures { OnGiven (end_state end.old) id result (end_state end.new) (Writes (end_state end.old) id (slice_lists bytes) result (end_state end.new)) }
+{
+    if !end.streams().was_given(id) {
+        return Err(PairError::UnknownId);
+    }
+    write_known(end, id, &bytes)
+}
+
+// The same on a stream that was given.
+fn write_known(end: &mut Endpoint, id: StreamId, bytes: &Bytes) -> Result<Reply, PairError>
+    ensures { Writes (end_state end.old) id (slice_lists bytes.now) result (end_state end.new) }
+{
+    match end.write(id, bytes.as_slice()) {
+        Ok(count) => Ok(Reply::Wrote(count)),
+        Err(error) => unwritten_reply(error),
+    }
+}
+
+pub(crate) fn write_chunks(
+    end: &mut Endpoint,
+    alloc: Global,
+    id: StreamId,
+    chunks: &ChunkList,
+) -> Result<Reply, PairError>
+    ensures { OnGiven (end_state end.old) id result (end_state end.new) (WritesChunksOrNone (end_state end.old) id chunks.now result (end_state end.new)) }
+{
+    if !end.streams().was_given(id) {
+        return Err(PairError::UnknownId);
+    }
+    let mut copies = copies_of(alloc, chunks)?;
+    chunks_reply(end.write_chunks(id, &mut copies))
+}
+
+// The chunks, each by itself.
+fn copies_of(alloc: Global, chunks: &ChunkList) -> Result<Vec<Bytes>, OutOfMemory>
+    ensures { IfOk result (λ copies. copies.items ≡ chunks.now) }
+{
+    let mut copies = Vec::with_capacity(alloc, chunks.len())?;
+    for index in 0..chunks.len() {
+        if let Some(chunk) = chunks.get(index) {
+            copies.push(Bytes::copy_from_slice(alloc, chunk)?)?;
+        }
+    }
+    Ok(copies)
+}
+
+pub(crate) fn finish(end: &mut Endpoint, id: StreamId) -> Result<Reply, PairError>
+    ensures { OnGiven (end_state end.old) id result (end_state end.new) (Finishes (end_state end.old) id result (end_state end.new)) }
+{
+    if !end.streams().was_given(id) {
+        return Err(PairError::UnknownId);
+    }
+    finished_reply(end.finish(id))
+}
+
+pub(crate) fn reset(end: &mut Endpoint, id: StreamId, code: VarInt) -> Result<Reply, PairError>
+    ensures { OnGiven (end_state end.old) id result (end_state end.new) (ResetsOn (end_state end.old) id code result (end_state end.new)) }
+{
+    if !end.streams().was_given(id) {
+        return Err(PairError::UnknownId);
+    }
+    handled_reply(end.reset(id, code))
+}
+
+pub(crate) fn stop(end: &mut Endpoint, id: StreamId, code: VarInt) -> Result<Reply, PairError>
+    ensures { OnGiven (end_state end.old) id result (end_state end.new) (StopsOn (end_state end.old) id code result (end_state end.new)) }
+{
+    if !end.streams().was_given(id) {
+        return Err(PairError::UnknownId);
+    }
+    handled_reply(end.stop(id, code))
+}
+
+pub(crate) fn set_priority(
+    end: &mut Endpoint,
+    id: StreamId,
+    priority: i32,
+) -> Result<Reply, PairError>
+    ensures { OnGiven (end_state end.old) id result (end_state end.new) (SetsPriorityOn (end_state end.old) id priority result (end_state end.new)) }
+{
+    if !end.streams().was_given(id) {
+        return Err(PairError::UnknownId);
+    }
+    handled_reply(end.set_priority(id, priority))
+}
+
+pub(crate) fn received_reset(end: &mut Endpoint, id: StreamId) -> Result<Reply, PairError>
+    ensures { OnGiven (end_state end.old) id result (end_state end.new) (AsksReset (end_state end.old) id result (end_state end.new)) }
+{
+    if !end.streams().was_given(id) {
+        return Err(PairError::UnknownId);
+    }
+    code_reply(end.received_reset(id))
+}
+
+pub(crate) fn read(
+    end: &mut Endpoint,
+    id: StreamId,
+    ordered: bool,
+    max: usize,
+    times: u16,
+) -> Result<Reply, PairError>
+    ensures { OnGiven (end_state end.old) id result (end_state end.new) (ReadsOn (end_state end.old) id ordered max times result (end_state end.new)) }
+{
+    if !end.streams().was_given(id) {
+        return Err(PairError::UnknownId);
+    }
+    read_reply(end.read(id, ordered, max, times))
+}
+
+pub(crate) fn set_send_window(end: &mut Endpoint, window: u64) -> Result<Reply, PairError>
+    ensures { SetsSendWindow (end_state end.old) window result (end_state end.new) }
+{
+    end.set_send_window(window);
+    Ok(Reply::Done)
+}
+
+pub(crate) fn set_receive_window(end: &mut Endpoint, window: VarInt) -> Result<Reply, PairError>
+    ensures { SetsReceiveWindow (end_state end.old) window result (end_state end.new) }
+{
+    Ok(Reply::Expanded(end.set_receive_window(window)))
+}
+
+pub(crate) fn set_max_concurrent(
+    end: &mut Endpoint,
+    dir: Dir,
+    count: VarInt,
+) -> Result<Reply, PairError>
+    ensures { SetsMaxConcurrent (end_state end.old) dir count result (end_state end.new) }
+{
+    done_reply(end.set_max_concurrent(dir, count))
+}
+
+pub(crate) fn poll(end: &mut Endpoint) -> Result<Reply, PairError>
+    ensures { Polls (end_state end.old) result (end_state end.new) }
+{
+    event_reply(end.poll())
+}
+
+// The resets of some streams are acknowledged, one after another.
+pub(crate) fn ack_resets(end: &mut Endpoint, ids: &[StreamId]) -> Result<(), OutOfMemory>
+    ensures ok { OnOk result (AcksResets (end_state end.old) ids.now (end_state end.new)) }
+    ensures err { OnErr result (AcksSome (end_state end.old) ids.now (end_state end.new)) }
+{
+    for id in ids {
+        end.ack_reset(*id)?;
+    }
+    Ok(())
+}
