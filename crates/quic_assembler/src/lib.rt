@@ -15,6 +15,3 @@ pub use chunk::Chunk;
 pub use errors::{EnsureError, IllegalOrderedRead, InsertError};
 pub use reassemble::Reassemble;
 pub use steps::{Op, ReplayError, replay};
-
-#[cfg(test)]
-mod tests;

@@ -6,6 +6,3 @@ pub mod stats;
 
 pub use datagrams::{DatagramBuffer, DatagramLimits, DatagramState, Datagrams, SendDatagramError};
 pub use stats::FrameStats;
-
-#[cfg(test)]
-mod tests;

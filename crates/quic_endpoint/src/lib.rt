@@ -9,6 +9,3 @@ mod reports;
 
 pub use endpoint::Endpoint;
 pub use payload::Payload;
-
-#[cfg(test)]
-mod tests;

@@ -10,6 +10,3 @@ pub use credit::ReceiveCredit;
 pub use own::OwnStreams;
 pub use remote::RemoteStreams;
 pub use send_credit::SendCredit;
-
-#[cfg(test)]
-mod tests;

@@ -12,6 +12,3 @@ mod unreceived;
 
 pub use assembly::OrderedAssembler;
 pub use store::OrderedPieces;
-
-#[cfg(test)]
-mod tests;

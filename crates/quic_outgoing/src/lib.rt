@@ -18,6 +18,3 @@ pub use limits::PeerLimits;
 pub use outgoing::OutgoingStreams;
 pub use transmitting::WrittenFrame;
 pub use writing::Wrote;
-
-#[cfg(test)]
-mod tests;

@@ -6,8 +6,6 @@ pub mod pair;
 mod places;
 mod replies;
 mod sent;
-#[cfg(test)]
-mod tests;
 
 pub use pair::Pair;
 pub use quic_steps::{Config, End, Last, PairError, Reply, Step};

@@ -4,6 +4,3 @@
 pub mod queue;
 
 pub use queue::{Entry, Next, SendQueue};
-
-#[cfg(test)]
-mod tests;

@@ -12,6 +12,3 @@ pub use quic_assembler::{Chunk, EnsureError, IllegalOrderedRead};
 pub use quic_sending::ClosedStream;
 pub use state::RecvState;
 pub use transmit::ShouldTransmit;
-
-#[cfg(test)]
-mod tests;

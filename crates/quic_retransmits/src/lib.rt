@@ -6,6 +6,3 @@ pub mod retransmits;
 mod settling;
 
 pub use retransmits::{IssuedCid, Retransmits, ThinRetransmits};
-
-#[cfg(test)]
-mod tests;

@@ -11,6 +11,3 @@ pub mod source;
 pub use send::{ClosedStream, FinishError, Send, SendState, WriteError, Written};
 pub use send_buffer::SendBuffer;
 pub use source::{ByteSlice, BytesArray, BytesSource};
-
-#[cfg(test)]
-mod tests;

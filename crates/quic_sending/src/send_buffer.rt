@@ -377,9 +377,10 @@ impl SendBuffer {
     }
 }
 
-// Where the front of a range ends that fits a frame, and whether the frame has a length.
+/// Where the front of a range ends that fits a STREAM frame with so many bytes behind its type and id, and whether the
+/// frame has a length (RFC 9000 section 19.8).
 #[inline]
-pub(crate) fn cut_to_frame(start: u64, end: u64, max_len: usize) -> (u64, bool)
+pub fn cut_to_frame(start: u64, end: u64, max_len: usize) -> (u64, bool)
     requires ordered { start ≤ end }
     requires small { end < 2 ^ 62 }
     requires room { 16 ≤ max_len }

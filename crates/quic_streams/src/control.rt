@@ -124,17 +124,6 @@ impl StreamsState {
         }
     }
 
-    // How many streams of a direction the peer may open.
-    fn max_remote(&self, dir: Dir) -> u64
-        ensures count { result ≡ (remote_of (shown self.now) dir).max_remote }
-        ensures small { result ≤ 2 ^ 60 }
-    {
-        match dir {
-            Dir::Bi => self.bi.max_remote(),
-            Dir::Uni => self.uni.max_remote(),
-        }
-    }
-
     // That count was announced.
     fn announce_streams(&mut self, dir: Dir)
         ensures { shown self.new ≡ with_remote (shown self.old) dir (streams_announced (remote_of (shown self.old) dir)) }

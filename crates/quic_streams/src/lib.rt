@@ -25,6 +25,3 @@ pub use quic_outgoing::PeerLimits;
 pub use quic_pieces::{assembler, datagrams, send, send_buffer, source, stats};
 pub use quic_retransmits::{IssuedCid, Retransmits, ThinRetransmits};
 pub use quic_writing::StreamMetaVec;
-
-#[cfg(test)]
-mod tests;

@@ -80,6 +80,42 @@ impl StreamsState {
         }
     }
 
+    /// How many bytes the peer may send in all, on all streams: the limit that is enforced (RFC 9000 section 4.1).
+    pub fn local_max_data(&self) -> u64
+        ensures { result ≡ (shown self.now).credit.local_max_data }
+    {
+        self.credit.local_max_data()
+    }
+
+    /// How many bytes the peer sent: the sum of the highest offsets of all streams (RFC 9000 section 4.1).
+    pub fn data_recvd(&self) -> u64
+        ensures { result ≡ (shown self.now).credit.data_recvd }
+    {
+        self.credit.data_recvd()
+    }
+
+    /// How many streams of a direction the peer may open in all: the limit that is enforced (RFC 9000 section 4.6).
+    pub fn max_remote(&self, dir: Dir) -> u64
+        ensures count { result ≡ (remote_of (shown self.now) dir).max_remote }
+        ensures small { result ≤ 2 ^ 60 }
+    {
+        match dir {
+            Dir::Bi => self.bi.max_remote(),
+            Dir::Uni => self.uni.max_remote(),
+        }
+    }
+
+    /// The lowest index of a direction that the peer did not open: how many streams it opened in all (RFC 9000 section
+    /// 2.1).
+    pub fn next_remote(&self, dir: Dir) -> u64
+        ensures { result ≡ (remote_of (shown self.now) dir).next_remote }
+    {
+        match dir {
+            Dir::Bi => self.bi.next_remote(),
+            Dir::Uni => self.uni.next_remote(),
+        }
+    }
+
     // How many streams of a direction the peer has open.
     pub(crate) fn remote_open(&self, dir: Dir) -> u64
         ensures { result ≡ open_now (remote_of (shown self.now) dir) }

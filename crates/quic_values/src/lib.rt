@@ -6,8 +6,6 @@ mod chunk_list;
 mod ids;
 mod memory;
 mod range_set;
-#[cfg(test)]
-mod tests;
 mod var_int;
 
 pub use bytes::Bytes;

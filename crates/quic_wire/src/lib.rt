@@ -6,8 +6,6 @@ mod event;
 pub mod frame;
 mod laws;
 mod reading;
-#[cfg(test)]
-mod tests;
 mod writing;
 
 pub use error::{ReceiveError, TransportError};

@@ -4,6 +4,3 @@
 mod stream_frames;
 
 pub use stream_frames::{StreamMetaVec, write_stream_frames};
-
-#[cfg(test)]
-mod tests;

@@ -1,0 +1,120 @@
+ghost use Rattle.std.specs.Prelude.{◌<◌};
+
+use quic_ordered::OrderedAssembler;
+use quic_assembler::{Assembler, Chunk, Op, replay};
+use quic_values::Bytes;
+use std::alloc::Global;
+use std::test::Fail;
+
+// A number that looks random, from the one before.
+fn next(seed: u64) -> u64 {
+    let mixed = seed
+        .wrapping_mul(6_364_136_223_846_793_005)
+        .wrapping_add(1_442_695_040_888_963_407);
+    mixed ^ (mixed >> 29)
+}
+
+// The byte of the stream at an offset.
+fn byte_at(offset: u64) -> u8 {
+    (offset.wrapping_mul(31).wrapping_add(offset >> 7) % 251) as u8
+}
+
+fn bytes_at(alloc: Global, offset: u64, count: u64) -> Result<Bytes, Fail> {
+    let mut bytes = Vec::new(alloc);
+    for index in 0..count {
+        bytes.push(byte_at(offset.wrapping_add(index)))?;
+    }
+    Ok(Bytes::from(bytes))
+}
+
+// Pieces of 1 to 40 bytes below `span`, with reads between them, and at the end what was not sent yet and reads.
+fn steps(alloc: Global, seed: u64, count: u64, span: u64) -> Result<Vec<Op>, Fail>
+    requires { 0 < span }
+{
+    let mut ops = Vec::new(alloc);
+    let mut number = seed;
+    for _ in 0..count {
+        number = next(number);
+        if number % 5 == 0 {
+            ops.push(Op::Read {
+                max_length: ((number >> 8) % 70) as usize,
+            })?;
+        } else {
+            let offset = (number >> 16) % span;
+            let length = (number >> 40) % 40 + 1;
+            ops.push(Op::Insert {
+                offset,
+                bytes: bytes_at(alloc, offset, length)?,
+                allocation_size: length as usize + ((number >> 48) % 3 * 700) as usize,
+            })?;
+        }
+    }
+    ops.push(Op::Insert {
+        offset: 0,
+        bytes: bytes_at(alloc, 0, span)?,
+        allocation_size: span as usize,
+    })?;
+    for _ in 0..count {
+        ops.push(Op::Read { max_length: 10_000 })?;
+    }
+    Ok(ops)
+}
+
+fn joined(alloc: Global, chunks: &[Chunk]) -> Result<Vec<u8>, Fail> {
+    let mut bytes = Vec::new(alloc);
+    for chunk in chunks {
+        bytes.extend_from_slice(chunk.bytes.as_slice())?;
+    }
+    Ok(bytes)
+}
+
+#[test]
+fn both_bodies_give_the_same_bytes(rt: HostRuntime) -> Result<(), Fail> {
+    let alloc = rt.alloc();
+    for seed in 0..60u64 {
+        let ops = steps(alloc, seed, 40 + 5 * seed, 200 + 40 * seed)?;
+        let mut chunks = Vec::new(alloc);
+        let mut others = Vec::new(alloc);
+        let mut body = OrderedAssembler::new(alloc);
+        let mut heap = Assembler::new(alloc);
+        assert_eq!(rt; replay(&mut body, &ops, &mut chunks), Ok(()));
+        assert_eq!(rt; replay(&mut heap, &ops, &mut others), Ok(()));
+        let bytes = joined(alloc, &chunks)?;
+        assert_eq!(rt; bytes, joined(alloc, &others)?);
+        assert!(rt; bytes.len() as u64 >= 200 + 40 * seed);
+        assert_eq!(rt; body.bytes_read(), bytes.len() as u64);
+        assert_eq!(rt; heap.bytes_read(), bytes.len() as u64);
+        for (index, byte) in bytes.iter().enumerate() {
+            assert_eq!(rt; *byte, byte_at(index as u64));
+        }
+    }
+    Ok(())
+}
+
+#[test]
+fn both_bodies_give_each_byte_once_in_unordered_mode(rt: HostRuntime) -> Result<(), Fail> {
+    let alloc = rt.alloc();
+    for seed in 100..130u64 {
+        let span = 200 + 20 * seed;
+        let mut ops = Vec::new(alloc);
+        ops.push(Op::Unordered)?;
+        for op in steps(alloc, seed, 5 * seed, span)? {
+            ops.push(op)?;
+        }
+        let mut chunks = Vec::new(alloc);
+        let mut body = OrderedAssembler::new(alloc);
+        assert_eq!(rt; replay(&mut body, &ops, &mut chunks), Ok(()));
+        let mut given = vec![in alloc; false; span as usize + 40]?;
+        for chunk in &chunks {
+            for (index, byte) in chunk.bytes.as_slice().iter().enumerate() {
+                let offset = chunk.offset.wrapping_add(index as u64);
+                let place = offset as usize;
+                assert_eq!(rt; *byte, byte_at(offset));
+                assert!(rt; place < given.len() && !given[place]);
+                given[place] = true;
+            }
+        }
+        assert!(rt; given.iter().take(span as usize).all(|given| *given));
+    }
+    Ok(())
+}

@@ -1,0 +1,234 @@
+mod frames;
+mod reads;
+mod sizes;
+mod texts;
+
+use quic_receiving::{ClosedStream, ReadError, Recv, ShouldTransmit};
+use quic_values::{Bytes, Dir, OutOfMemory, Side, StreamId, VarInt};
+use quic_wire::frame::Stream;
+use quic_wire::{ReceiveError, TransportError};
+use std::alloc::Global;
+use std::process::Abort;
+
+// What a frame came to.
+#[derive(Clone, Copy, Debug, PartialEq, Eq)]
+enum Answer {
+    // So many bytes are new.
+    New(u64),
+    // So many bytes are new, and the half is closed.
+    Closes(u64),
+    // It is the first reset, or a further one.
+    First,
+    Again,
+    // The code of an error.
+    Fails(u64),
+    // Want of memory.
+    NoMemory,
+}
+
+const FLOW_CONTROL: Answer = Answer::Fails(TransportError::FLOW_CONTROL_ERROR);
+
+const FINAL_SIZE: Answer = Answer::Fails(TransportError::FINAL_SIZE_ERROR);
+
+const INTERNAL: Answer = Answer::Fails(TransportError::INTERNAL_ERROR);
+
+// Why a read gave nothing.
+#[derive(Clone, Copy, Debug, PartialEq, Eq)]
+enum Why {
+    Blocked,
+    Ended,
+    Reset(u64),
+    NoMemory,
+}
+
+// A call on a half, and what it has to answer.
+#[derive(Clone, Copy, Debug)]
+enum Step {
+    // What the connection received, and what it permits, from here on.
+    Credit(u64, u64),
+    // Bytes at an offset.
+    Data(u64, &'static [u8], Answer),
+    // Bytes at an offset, with FIN.
+    Last(u64, &'static [u8], Answer),
+    // A code and a final size.
+    Reset(u32, u64, Answer),
+    // The credit, and whether to transmit.
+    Stop(u64, bool),
+    StopAgain,
+    // Reads in order, until one gives nothing: the bytes joined, and why it gave nothing.
+    Ordered(&'static [u8], Why),
+    Unordered(&'static [u8], Why),
+    // The window, the limit to announce, and whether to transmit.
+    Window(u64, u64, bool),
+    Sent(u64),
+    // The highest offset, how many bytes were read, and whether the final size is unknown.
+    Is(u64, u64, bool),
+}
+
+#[derive(Drop)]
+struct Subject {
+    half: Recv,
+    received: u64,
+    max_data: u64,
+}
+
+fn ingest(
+    rt: &impl Abort,
+    alloc: Global,
+    subject: &mut Subject,
+    offset: u64,
+    bytes: &[u8],
+    payload_len: usize,
+    fin: bool,
+) -> Result<Answer, OutOfMemory> {
+    let frame = Stream {
+        id: StreamId::new(Side::Server, Dir::Uni, 0),
+        offset,
+        fin,
+        bytes: Bytes::copy_from_slice(alloc, bytes)?,
+    };
+    assert!(rt; frame.bytes.len() <= payload_len);
+    assert!(rt; subject.half.reset_code().is_none());
+    let (received, max_data) = (subject.received, subject.max_data);
+    match subject.half.ingest(frame, payload_len, received, max_data) {
+        Ok((count, false)) => Ok(Answer::New(count)),
+        Ok((count, true)) => Ok(Answer::Closes(count)),
+        Err(ReceiveError::Transport(error)) => Ok(Answer::Fails(error.code)),
+        Err(_) => Ok(Answer::NoMemory),
+    }
+}
+
+fn reset(rt: &impl Abort, subject: &mut Subject, code: u32, size: u64) -> Answer {
+    let size = VarInt::from_u64(size).expect(rt, "a final size");
+    let (received, max_data) = (subject.received, subject.max_data);
+    let code = VarInt::from(code);
+    match subject.half.reset(code, size, received, max_data) {
+        Ok(true) => Answer::First,
+        Ok(false) => Answer::Again,
+        Err(error) => Answer::Fails(error.code),
+    }
+}
+
+fn why_of(error: ReadError) -> Why {
+    match error {
+        ReadError::Blocked => Why::Blocked,
+        ReadError::Reset(code) => Why::Reset(code.into_inner()),
+        ReadError::OutOfMemory => Why::NoMemory,
+    }
+}
+
+// Reads chunks of at most 4 bytes, and joins them.
+fn read(
+    rt: &impl Abort,
+    alloc: Global,
+    half: &mut Recv,
+    ordered: bool,
+) -> Result<(Vec<u8>, Why), OutOfMemory> {
+    let mut bytes = Vec::new(alloc);
+    for _turn in 0..1000 {
+        half.ensure_ordering(ordered)
+            .expect(rt, "the mode of reading");
+        match half.next(4, ordered) {
+            Ok(Some(chunk)) => bytes.extend_from_slice(chunk.bytes.as_slice())?,
+            Ok(None) => return Ok((bytes, Why::Ended)),
+            Err(error) => return Ok((bytes, why_of(error))),
+        }
+    }
+    Ok((bytes, Why::NoMemory))
+}
+
+// Reads all, which has to be these bytes.
+fn expect_read(
+    rt: &impl Abort,
+    alloc: Global,
+    half: &mut Recv,
+    ordered: bool,
+    bytes: &[u8],
+    why: Why,
+) -> Result<(), OutOfMemory> {
+    let (given, answer) = read(rt, alloc, half, ordered)?;
+    assert_eq!(rt; given.as_slice(), bytes);
+    assert_eq!(rt; answer, why);
+    Ok(())
+}
+
+fn take(
+    rt: &impl Abort,
+    alloc: Global,
+    subject: &mut Subject,
+    step: Step,
+) -> Result<(), OutOfMemory> {
+    match step {
+        Step::Credit(received, max_data) => {
+            subject.received = received;
+            subject.max_data = max_data;
+        }
+        Step::Data(offset, bytes, answer) => {
+            assert_eq!(rt;
+                ingest(rt, alloc, subject, offset, bytes, bytes.len(), false)?,
+                answer,
+                "at {offset}"
+            );
+        }
+        Step::Last(offset, bytes, answer) => {
+            assert_eq!(rt;
+                ingest(rt, alloc, subject, offset, bytes, bytes.len(), true)?,
+                answer,
+                "at {offset}"
+            );
+        }
+        Step::Reset(code, size, answer) => {
+            assert_eq!(rt; reset(rt, subject, code, size), answer, "at {size}");
+        }
+        Step::Ordered(bytes, why) => expect_read(rt, alloc, &mut subject.half, true, bytes, why)?,
+        Step::Unordered(bytes, why) => expect_read(
+            rt,
+            alloc,
+            &mut subject.half,
+            false,
+            bytes,
+            why,
+        )?,
+        _ => ask(rt, &mut subject.half, step),
+    }
+    Ok(())
+}
+
+// The steps that need no memory.
+fn ask(rt: &impl Abort, half: &mut Recv, step: Step) {
+    match step {
+        Step::Stop(credit, transmit) => {
+            assert_eq!(rt; half.stop(), Ok((credit, ShouldTransmit(transmit))));
+        }
+        Step::StopAgain => {
+            assert_eq!(rt; half.stop(), Err(ClosedStream));
+        }
+        Step::Window(window, limit, transmit) => {
+            let answer = half.max_stream_data(window);
+            assert_eq!(rt; answer, (limit, ShouldTransmit(transmit)));
+        }
+        Step::Sent(limit) => {
+            assert!(rt; limit < 1 << 62);
+            half.record_sent_max_stream_data(limit);
+        }
+        Step::Is(end, read, unknown) => {
+            let is = (half.end(), half.bytes_read(), half.final_offset_unknown());
+            assert_eq!(rt; is, (end, read, unknown));
+        }
+        _ => {}
+    }
+}
+
+// Takes steps on a half whose peer may send so many bytes.
+fn run(rt: &impl Abort, alloc: Global, limit: u64, steps: &[Step]) -> Result<Subject, OutOfMemory> {
+    assert!(rt; limit < 1 << 62);
+    let mut subject = Subject {
+        half: Recv::new(alloc, limit),
+        received: 0,
+        max_data: 1 << 20,
+    };
+    for step in steps {
+        take(rt, alloc, &mut subject, *step)?;
+    }
+    Ok(subject)
+}

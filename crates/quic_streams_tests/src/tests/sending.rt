@@ -1,0 +1,745 @@
+use super::{Answer, STREAM_LIMIT, STREAM_STATE, Subject, WINDOW, client, id, receive};
+use quic_streams::send_stream::SendStream;
+use quic_streams::state::StreamsState;
+use quic_streams::streams::{ConnState, Streams};
+use quic_streams::{PeerLimits, Retransmits, StreamMetaVec};
+use quic_receiving::HandleError;
+use quic_sending::{FinishError, WriteError};
+use quic_values::{Bytes, Dir, OutOfMemory, Side, StreamId, VarInt};
+use quic_wire::{ReceiveError, StreamEvent, TransportError};
+use std::alloc::Global;
+use std::process::Abort;
+use std::test::Fail;
+
+// What the application is told.
+#[derive(Clone, Copy, Debug, PartialEq, Eq)]
+pub(super) enum Event {
+    Opened(Dir),
+    Readable(u64),
+    Writable(u64),
+    Finished(u64),
+    Stopped(u64, u64),
+    Available(Dir),
+}
+
+// What a write, an end or a reset came to.
+#[derive(Clone, Copy, Debug, PartialEq, Eq)]
+pub(super) enum Done {
+    // So many bytes were taken.
+    Took(usize),
+    Is,
+    Blocked,
+    Stopped(u64),
+    Closed,
+    NoMemory,
+}
+
+// A call, mostly on the stream of an id, and what it has to answer.
+#[derive(Clone, Copy, Debug)]
+pub(super) enum Step {
+    Open(Dir, Option<u32>),
+    Accept(Dir, Option<u32>),
+    Poll(Option<Event>),
+    // So many bytes, the first ones of a text.
+    Write(u32, usize, Done),
+    Finish(u32, Done),
+    Reset(u32, u32, Done),
+    // The code of the first STOP_SENDING, of a stream that is there.
+    Code(u32, Option<u64>),
+    SetPriority(u32, i32),
+    Priority(u32, Option<i32>),
+    // Frames.
+    Stop(u32, u32),
+    MaxData(u32),
+    MaxStreams(Dir, u64, Answer),
+    MaxStreamData(u32, u64, Answer),
+    Data(u32, usize, Answer),
+    // How many streams of a direction the peer is to be able to use at a time, and how many it may use then.
+    Concurrent(Dir, u32, u64),
+    // How many it may use, and how many it has open.
+    Uses(Dir, u64, u64),
+    // The receive window, and whether MAX_DATA is to be sent.
+    Window(u32, bool),
+    // Bytes that were consumed, whether MAX_DATA is to be sent, and the limit then.
+    Credit(u64, bool, u64),
+    SendWindow(u64),
+    // How many bytes may be written.
+    Limit(u64),
+    // Whether DATA_BLOCKED is queued, and whether it may be sent.
+    Blocked(bool, bool),
+    StreamBlocked(u32, Option<u64>),
+    // Whether MAX_STREAM_DATA is of use.
+    Flow(u32, bool),
+    // Whether the index was not opened by this end.
+    Unopened(u32, bool),
+    // The streams that are queued, the next one first.
+    Queued(&'static [u32]),
+    // How many RESET_STREAM frames are queued.
+    Resets(usize),
+    // The connection is closed from here on.
+    Close,
+}
+
+const TEXT: &[u8] = b"thirty two bytes of written text";
+
+const TAKEN: Answer = Answer::Taken(false);
+
+// An end that permits its peer one stream of each direction, with the limits that its peer gave.
+pub(super) fn end(
+    alloc: Global,
+    side: Side,
+    streams: u32,
+    data: u32,
+    stream_data: u32,
+) -> Result<Subject, OutOfMemory> {
+    let mut state = StreamsState::new(
+        alloc,
+        side,
+        VarInt::from(1u32),
+        VarInt::from(1u32),
+        u64::from(WINDOW),
+        VarInt::from(WINDOW),
+        VarInt::from(WINDOW),
+    )?;
+    permit(&mut state, streams, data, stream_data);
+    Ok(Subject {
+        state,
+        pending: Retransmits::new(alloc),
+        window: u64::from(WINDOW),
+        in_one: false,
+    })
+}
+
+// The peer permits so many streams of each direction, bytes in all, and bytes on each stream.
+pub(super) fn permit(state: &mut StreamsState, streams: u32, data: u32, stream_data: u32) {
+    let limit = VarInt::from(stream_data);
+    state.set_params(&PeerLimits {
+        initial_max_data: VarInt::from(data),
+        initial_max_streams_bidi: VarInt::from(streams),
+        initial_max_streams_uni: VarInt::from(streams),
+        initial_max_stream_data_uni: limit,
+        initial_max_stream_data_bidi_local: limit,
+        initial_max_stream_data_bidi_remote: limit,
+    });
+}
+
+fn number(id: StreamId) -> u64 {
+    VarInt::from(id).into_inner()
+}
+
+fn event_of(event: StreamEvent) -> Event {
+    match event {
+        StreamEvent::Opened { dir } => Event::Opened(dir),
+        StreamEvent::Readable { id } => Event::Readable(number(id)),
+        StreamEvent::Writable { id } => Event::Writable(number(id)),
+        StreamEvent::Finished { id } => Event::Finished(number(id)),
+        StreamEvent::Stopped { id, error_code } => {
+            Event::Stopped(number(id), error_code.into_inner())
+        }
+        StreamEvent::Available { dir } => Event::Available(dir),
+    }
+}
+
+fn sending(subject: &mut Subject, stream: u32, conn: ConnState) -> SendStream<'_> {
+    SendStream::new(id(stream), &mut subject.state, &mut subject.pending, conn)
+}
+
+// Opens a stream, which has to have this id.
+pub(super) fn open_one(subject: &mut Subject, dir: Dir, stream: u32) -> bool {
+    open(subject, dir, ConnState::Open) == Some(u64::from(stream))
+}
+
+// Writes so many bytes. Answers how many were taken, if any might be.
+pub(super) fn write_one(subject: &mut Subject, stream: u32, count: usize) -> Option<usize> {
+    match write(subject, stream, count, ConnState::Open) {
+        Done::Took(count) => Some(count),
+        _ => None,
+    }
+}
+
+pub(super) fn reset_one(subject: &mut Subject, stream: u32, code: u32) -> bool {
+    reset(subject, stream, code, ConnState::Open) == Done::Is
+}
+
+fn refused_write(error: WriteError) -> Done {
+    match error {
+        WriteError::Blocked => Done::Blocked,
+        WriteError::Stopped(code) => Done::Stopped(code.into_inner()),
+        WriteError::ClosedStream => Done::Closed,
+        WriteError::OutOfMemory => Done::NoMemory,
+    }
+}
+
+pub(super) fn write(subject: &mut Subject, stream: u32, count: usize, conn: ConnState) -> Done {
+    let bytes = TEXT.get(..count).unwrap_or(TEXT);
+    match sending(subject, stream, conn).write(bytes) {
+        Ok(count) => Done::Took(count),
+        Err(error) => refused_write(error),
+    }
+}
+
+fn refused_finish(error: FinishError) -> Done {
+    match error {
+        FinishError::Stopped(code) => Done::Stopped(code.into_inner()),
+        FinishError::ClosedStream => Done::Closed,
+        FinishError::OutOfMemory => Done::NoMemory,
+    }
+}
+
+pub(super) fn finish(subject: &mut Subject, stream: u32, conn: ConnState) -> Done {
+    match sending(subject, stream, conn).finish() {
+        Ok(()) => Done::Is,
+        Err(error) => refused_finish(error),
+    }
+}
+
+fn handled(answer: Result<(), HandleError>) -> Done {
+    match answer {
+        Ok(()) => Done::Is,
+        Err(HandleError::ClosedStream) => Done::Closed,
+        Err(HandleError::OutOfMemory) => Done::NoMemory,
+    }
+}
+
+pub(super) fn reset(subject: &mut Subject, stream: u32, code: u32, conn: ConnState) -> Done {
+    handled(sending(subject, stream, conn).reset(VarInt::from(code)))
+}
+
+pub(super) fn set_priority(
+    subject: &mut Subject,
+    stream: u32,
+    priority: i32,
+    conn: ConnState,
+) -> Done {
+    handled(sending(subject, stream, conn).set_priority(priority))
+}
+
+fn code(subject: &mut Subject, stream: u32, conn: ConnState) -> Option<u64> {
+    match sending(subject, stream, conn).stopped() {
+        Ok(Some(code)) => Some(code.into_inner()),
+        Ok(None) => None,
+        Err(_) => Some(u64::MAX),
+    }
+}
+
+fn priority(subject: &mut Subject, stream: u32, conn: ConnState) -> Option<i32> {
+    sending(subject, stream, conn).priority().ok()
+}
+
+pub(super) fn taken(answer: Result<(), ReceiveError>) -> Answer {
+    match answer {
+        Ok(()) => TAKEN,
+        Err(ReceiveError::Transport(error)) => Answer::Refused(error.code),
+        Err(_) => Answer::NoMemory,
+    }
+}
+
+pub(super) fn open(subject: &mut Subject, dir: Dir, conn: ConnState) -> Option<u64> {
+    match Streams::new(&mut subject.state, conn).open(dir) {
+        Ok(Some(id)) => Some(number(id)),
+        Ok(None) => None,
+        Err(_) => Some(u64::MAX),
+    }
+}
+
+fn accept(subject: &mut Subject, dir: Dir, conn: ConnState) -> Option<u64> {
+    match Streams::new(&mut subject.state, conn).accept(dir) {
+        Some(id) => Some(number(id)),
+        None => None,
+    }
+}
+
+fn remote_open(subject: &mut Subject, dir: Dir) -> u64 {
+    Streams::new(&mut subject.state, ConnState::Open).remote_open_streams(dir)
+}
+
+fn polled(subject: &mut Subject) -> Option<Event> {
+    match subject.state.poll() {
+        Some(event) => Some(event_of(event)),
+        None => None,
+    }
+}
+
+fn limit_of(subject: &Subject, stream: u32) -> Option<u64> {
+    match subject.state.stream_data_blocked_limit(id(stream)) {
+        Some(limit) => Some(limit.into_inner()),
+        None => None,
+    }
+}
+
+pub(super) fn expected(stream: Option<u32>) -> Option<u64> {
+    match stream {
+        Some(stream) => Some(u64::from(stream)),
+        None => None,
+    }
+}
+
+// Writes one frame of each queued stream, in this order. No stream is left on which something may be sent.
+pub(super) fn queued(
+    rt: &impl Abort,
+    alloc: Global,
+    subject: &mut Subject,
+    streams: &[u32],
+) -> Result<(), OutOfMemory> {
+    let (mut buf, mut sent) = (Vec::new(alloc), StreamMetaVec::new(alloc));
+    subject
+        .state
+        .write_stream_frames(&mut buf, &mut sent, 1200, true)?;
+    assert_eq!(rt; sent.len(), streams.len());
+    for (frame, stream) in sent.iter().zip(streams) {
+        assert_eq!(rt; frame.id, id(*stream));
+    }
+    assert!(rt; !subject.state.can_send_stream_data());
+    Ok(())
+}
+
+// What the application calls.
+pub(super) fn call(rt: &impl Abort, subject: &mut Subject, conn: ConnState, step: Step) {
+    match step {
+        Step::Open(dir, stream) => assert_eq!(rt; open(subject, dir, conn), expected(stream)),
+        Step::Accept(dir, stream) => assert_eq!(rt; accept(subject, dir, conn), expected(stream)),
+        Step::Poll(event) => assert_eq!(rt; polled(subject), event),
+        Step::Write(stream, count, done) => {
+            assert_eq!(rt; write(subject, stream, count, conn), done);
+        }
+        Step::Finish(stream, done) => assert_eq!(rt; finish(subject, stream, conn), done),
+        Step::Reset(stream, code, done) => {
+            assert_eq!(rt; reset(subject, stream, code, conn), done);
+        }
+        Step::Code(stream, was) => assert_eq!(rt; code(subject, stream, conn), was),
+        Step::SetPriority(stream, priority) => {
+            assert_eq!(rt; set_priority(subject, stream, priority, conn), Done::Is);
+        }
+        Step::Priority(stream, was) => assert_eq!(rt; priority(subject, stream, conn), was),
+        other => ask(rt, subject, other),
+    }
+}
+
+// What the end is asked.
+fn ask(rt: &impl Abort, subject: &mut Subject, step: Step) {
+    match step {
+        Step::Uses(dir, uses, open) => {
+            assert_eq!(rt; subject.state.max_concurrent(dir), uses);
+            assert_eq!(rt; remote_open(subject, dir), open);
+        }
+        Step::Limit(limit) => assert_eq!(rt; subject.state.write_limit(), limit),
+        Step::Blocked(is_queued, may) => {
+            assert_eq!(rt; subject.pending.data_blocked, is_queued);
+            assert_eq!(rt; subject.state.can_send_data_blocked(), may);
+        }
+        Step::StreamBlocked(stream, limit) => assert_eq!(rt; limit_of(subject, stream), limit),
+        Step::Flow(stream, is) => {
+            assert_eq!(rt; subject.state.can_send_flow_control(id(stream)), is);
+        }
+        Step::Unopened(stream, is) => {
+            assert_eq!(rt; subject.state.is_local_unopened(id(stream)), is);
+        }
+        Step::Resets(count) => assert_eq!(rt; subject.pending.reset_stream.len(), count),
+        other => set(rt, subject, other),
+    }
+}
+
+// What is set.
+fn set(rt: &impl Abort, subject: &mut Subject, step: Step) {
+    match step {
+        Step::Concurrent(dir, count, uses) => {
+            assert!(rt;
+                subject
+                    .state
+                    .set_max_concurrent(dir, VarInt::from(count))
+                    .is_ok()
+            );
+            assert_eq!(rt; subject.state.max_concurrent(dir), uses);
+        }
+        Step::Window(window, transmit) => {
+            let window = VarInt::from(window);
+            assert_eq!(rt; subject.state.set_receive_window(window), transmit);
+        }
+        Step::Credit(count, transmit, limit) => {
+            let answer = subject.state.add_read_credits(count).should_transmit();
+            assert_eq!(rt; answer, transmit);
+            assert_eq!(rt; subject.state.local_max_data(), limit);
+        }
+        Step::SendWindow(window) => subject.state.set_send_window(window),
+        _ => {}
+    }
+}
+
+// The frames that are handed in, and those that leave.
+pub(super) fn hand_in(
+    rt: &impl Abort,
+    alloc: Global,
+    subject: &mut Subject,
+    step: Step,
+) -> Result<(), OutOfMemory> {
+    match step {
+        Step::Stop(stream, code) => {
+            let code = VarInt::from(code);
+            assert!(rt;
+                subject
+                    .state
+                    .received_stop_sending(id(stream), code)
+                    .is_ok()
+            );
+        }
+        Step::MaxData(limit) => subject.state.received_max_data(VarInt::from(limit)),
+        Step::MaxStreams(dir, count, answer) => {
+            assert_eq!(rt;
+                taken(subject.state.received_max_streams(dir, count)),
+                answer
+            );
+        }
+        Step::MaxStreamData(stream, limit, answer) => {
+            let was = subject.state.received_max_stream_data(id(stream), limit);
+            assert_eq!(rt; taken(was), answer);
+        }
+        Step::Data(stream, count, answer) => {
+            assert_eq!(rt; receive(alloc, subject, stream, 0, count, false)?, answer);
+        }
+        Step::Queued(streams) => queued(rt, alloc, subject, streams)?,
+        _ => {}
+    }
+    Ok(())
+}
+
+fn run(
+    rt: &impl Abort,
+    alloc: Global,
+    subject: Subject,
+    steps: &[Step],
+) -> Result<(), OutOfMemory> {
+    let mut subject = subject;
+    let mut conn = ConnState::Open;
+    for step in steps {
+        match *step {
+            Step::Close => conn = ConnState::Closed,
+            Step::Stop(..)
+            | Step::MaxData(..)
+            | Step::MaxStreams(..)
+            | Step::MaxStreamData(..)
+            | Step::Data(..)
+            | Step::Queued(..) => hand_in(rt, alloc, &mut subject, *step)?,
+            other => call(rt, &mut subject, conn, other),
+        }
+    }
+    Ok(())
+}
+
+const COUNTS: [Step; 13] = [
+    Step::Open(Dir::Uni, Some(3)),
+    Step::Open(Dir::Uni, None),
+    Step::MaxStreams(Dir::Uni, 2, TAKEN),
+    Step::MaxStreams(Dir::Uni, 2, TAKEN),
+    Step::Poll(Some(Event::Available(Dir::Uni))),
+    Step::Open(Dir::Uni, Some(7)),
+    Step::Poll(None),
+    Step::MaxStreams(
+        Dir::Bi,
+        (1 << 60) + 1,
+        Answer::Refused(TransportError::FRAME_ENCODING_ERROR),
+    ),
+    Step::MaxStreams(Dir::Bi, 1 << 60, TAKEN),
+    Step::Unopened(7, false),
+    Step::Unopened(11, true),
+    Step::Open(Dir::Bi, Some(1)),
+    Step::Open(Dir::Bi, Some(5)),
+];
+
+#[test]
+fn streams_are_opened_up_to_the_count(rt: HostRuntime) -> Result<(), Fail> {
+    let alloc = rt.alloc();
+    run(&rt, alloc, end(alloc, Side::Server, 1, 42, 42)?, &COUNTS)?;
+    Ok(())
+}
+
+const LIMITS: [Step; 16] = [
+    Step::Open(Dir::Uni, Some(2)),
+    Step::Write(2, 6, Done::Took(4)),
+    Step::Limit(0),
+    Step::Write(2, 2, Done::Blocked),
+    Step::Blocked(true, true),
+    Step::MaxData(4),
+    Step::Poll(None),
+    Step::MaxData(9),
+    Step::Blocked(true, false),
+    Step::Poll(Some(Event::Writable(2))),
+    Step::Poll(None),
+    Step::Write(2, 10, Done::Took(5)),
+    Step::Queued(&[2]),
+    Step::MaxStreamData(2, 20, TAKEN),
+    Step::Poll(None),
+    Step::StreamBlocked(2, None),
+];
+
+const STREAM_LIMITS: [Step; 11] = [
+    Step::Open(Dir::Uni, Some(2)),
+    Step::Write(2, 3, Done::Took(2)),
+    Step::Write(2, 1, Done::Blocked),
+    Step::StreamBlocked(2, Some(2)),
+    Step::MaxStreamData(2, 3, TAKEN),
+    Step::StreamBlocked(2, None),
+    Step::Poll(Some(Event::Writable(2))),
+    Step::Write(2, 3, Done::Took(1)),
+    Step::Write(2, 1, Done::Blocked),
+    Step::Stop(2, 5),
+    Step::StreamBlocked(2, None),
+];
+
+const BOTH_LIMITS: [Step; 9] = [
+    Step::Open(Dir::Uni, Some(2)),
+    Step::Write(2, 3, Done::Took(2)),
+    Step::MaxData(2),
+    Step::MaxStreamData(2, 9, TAKEN),
+    Step::Poll(None),
+    Step::MaxData(3),
+    Step::Poll(Some(Event::Writable(2))),
+    Step::Write(2, 3, Done::Took(1)),
+    Step::Poll(None),
+];
+
+#[test]
+fn no_more_than_every_limit_is_written(rt: HostRuntime) -> Result<(), Fail> {
+    let alloc = rt.alloc();
+    run(&rt, alloc, end(alloc, Side::Client, 1, 4, 10)?, &LIMITS)?;
+    run(
+        &rt,
+        alloc,
+        end(alloc, Side::Client, 1, 4, 2)?,
+        &STREAM_LIMITS,
+    )?;
+    run(&rt, alloc, end(alloc, Side::Client, 1, 2, 2)?, &BOTH_LIMITS)?;
+    Ok(())
+}
+
+const REPORTS: [Step; 6] = [
+    Step::Open(Dir::Uni, Some(2)),
+    Step::Write(2, 2, Done::Took(2)),
+    Step::Blocked(false, false),
+    Step::Write(2, 1, Done::Blocked),
+    Step::Blocked(true, true),
+    Step::MaxData(3),
+];
+
+const SEND_WINDOW: [Step; 9] = [
+    Step::SendWindow(24),
+    Step::Open(Dir::Uni, Some(2)),
+    Step::Write(2, 24, Done::Took(24)),
+    Step::Limit(0),
+    Step::Write(2, 1, Done::Blocked),
+    Step::Blocked(false, false),
+    Step::Reset(2, 0, Done::Is),
+    Step::Resets(1),
+    Step::Limit(24),
+];
+
+#[test]
+fn a_blocked_connection_is_reported(rt: HostRuntime) -> Result<(), Fail> {
+    let alloc = rt.alloc();
+    run(&rt, alloc, end(alloc, Side::Client, 1, 2, 10)?, &REPORTS)?;
+    run(
+        &rt,
+        alloc,
+        end(alloc, Side::Client, 1, 100, 100)?,
+        &SEND_WINDOW,
+    )?;
+    Ok(())
+}
+
+const STOPPED: [Step; 12] = [
+    Step::Open(Dir::Uni, Some(3)),
+    Step::Code(3, None),
+    Step::Stop(3, 0),
+    Step::Poll(Some(Event::Stopped(3, 0))),
+    Step::Write(3, 0, Done::Stopped(0)),
+    Step::Finish(3, Done::Stopped(0)),
+    Step::Reset(3, 0, Done::Is),
+    Step::Write(3, 0, Done::Closed),
+    Step::Reset(3, 0, Done::Closed),
+    Step::Stop(3, 1),
+    Step::Poll(None),
+    Step::Code(3, Some(0)),
+];
+
+const ENDED: [Step; 9] = [
+    Step::Write(3, 1, Done::Closed),
+    Step::Finish(3, Done::Closed),
+    Step::Open(Dir::Uni, Some(3)),
+    Step::Write(3, 0, Done::Took(0)),
+    Step::Finish(3, Done::Is),
+    Step::Finish(3, Done::Closed),
+    Step::Write(3, 1, Done::Closed),
+    Step::MaxStreamData(3, 100, TAKEN),
+    Step::Queued(&[3, 3]),
+];
+
+#[test]
+fn a_stream_ends_once(rt: HostRuntime) -> Result<(), Fail> {
+    let alloc = rt.alloc();
+    run(&rt, alloc, end(alloc, Side::Server, 1, 42, 42)?, &STOPPED)?;
+    run(&rt, alloc, end(alloc, Side::Server, 1, 42, 42)?, &ENDED)?;
+    Ok(())
+}
+
+const ACCEPTED: [Step; 12] = [
+    Step::Concurrent(Dir::Uni, 3, 3),
+    Step::Accept(Dir::Uni, None),
+    Step::Data(11, 1, TAKEN),
+    Step::Uses(Dir::Uni, 3, 3),
+    Step::Poll(Some(Event::Opened(Dir::Uni))),
+    Step::Accept(Dir::Uni, Some(3)),
+    Step::Accept(Dir::Uni, Some(7)),
+    Step::Accept(Dir::Uni, Some(11)),
+    Step::Accept(Dir::Uni, None),
+    Step::Data(7, 1, TAKEN),
+    Step::Poll(Some(Event::Readable(7))),
+    Step::Uses(Dir::Uni, 3, 3),
+];
+
+const COUNTED: [Step; 9] = [
+    Step::Uses(Dir::Uni, 1, 0),
+    Step::Data(7, 1, STREAM_LIMIT),
+    Step::Concurrent(Dir::Uni, 3, 3),
+    Step::Data(7, 1, TAKEN),
+    Step::Data(11, 1, TAKEN),
+    Step::Data(15, 1, STREAM_LIMIT),
+    Step::Concurrent(Dir::Uni, 1, 3),
+    Step::Concurrent(Dir::Bi, 2, 2),
+    Step::Data(5, 1, TAKEN),
+];
+
+#[test]
+fn the_peer_opens_as_many_as_it_may(rt: HostRuntime) -> Result<(), Fail> {
+    let alloc = rt.alloc();
+    run(&rt, alloc, end(alloc, Side::Client, 1, 42, 42)?, &ACCEPTED)?;
+    run(&rt, alloc, end(alloc, Side::Client, 1, 42, 42)?, &COUNTED)?;
+    Ok(())
+}
+
+const OWN_BOTH_WAYS: [Step; 13] = [
+    Step::Data(0, 1, STREAM_STATE),
+    Step::MaxStreamData(0, 9, STREAM_STATE),
+    Step::Flow(0, false),
+    Step::Open(Dir::Bi, Some(0)),
+    Step::Flow(0, true),
+    Step::Data(0, 1, TAKEN),
+    Step::Poll(Some(Event::Readable(0))),
+    Step::Data(4, 1, STREAM_STATE),
+    Step::MaxStreamData(3, 9, STREAM_STATE),
+    Step::MaxStreamData(5, 9, STREAM_LIMIT),
+    Step::MaxStreamData(1, 9, TAKEN),
+    Step::Poll(Some(Event::Opened(Dir::Bi))),
+    Step::Write(1, 1, Done::Took(1)),
+];
+
+const STOPPED_BY_PEER: [Step; 7] = [
+    Step::Stop(5, 1),
+    Step::Stop(2, 1),
+    Step::Poll(None),
+    Step::Stop(1, 1),
+    Step::Poll(Some(Event::Opened(Dir::Bi))),
+    Step::Poll(Some(Event::Stopped(1, 1))),
+    Step::Poll(None),
+];
+
+#[test]
+fn frames_open_streams_of_the_peer(rt: HostRuntime) -> Result<(), Fail> {
+    let alloc = rt.alloc();
+    run(
+        &rt,
+        alloc,
+        end(alloc, Side::Client, 1, 42, 42)?,
+        &OWN_BOTH_WAYS,
+    )?;
+    run(
+        &rt,
+        alloc,
+        end(alloc, Side::Client, 1, 42, 42)?,
+        &STOPPED_BY_PEER,
+    )?;
+    Ok(())
+}
+
+const SMALLER: [Step; 3] = [
+    Step::Window(600, false),
+    Step::Credit(300, false, 1000),
+    Step::Credit(300, true, 1200),
+];
+
+const LARGER: [Step; 4] = [
+    Step::Window(900, false),
+    Step::Window(1100, true),
+    Step::Credit(100, true, 1200),
+    Step::Credit(100, true, 1300),
+];
+
+#[test]
+fn a_smaller_window_is_owed(rt: HostRuntime) -> Result<(), Fail> {
+    let alloc = rt.alloc();
+    run(&rt, alloc, client(alloc, 1, 1000, 1000)?, &SMALLER)?;
+    run(&rt, alloc, client(alloc, 1, 1000, 1000)?, &LARGER)?;
+    Ok(())
+}
+
+const PRIORITIES: [Step; 10] = [
+    Step::Open(Dir::Uni, Some(2)),
+    Step::Open(Dir::Uni, Some(6)),
+    Step::Open(Dir::Uni, Some(10)),
+    Step::Priority(6, Some(0)),
+    Step::SetPriority(6, 3),
+    Step::Priority(6, Some(3)),
+    Step::Write(2, 1, Done::Took(1)),
+    Step::Write(6, 1, Done::Took(1)),
+    Step::Write(10, 1, Done::Took(1)),
+    Step::Queued(&[6, 2, 10]),
+];
+
+const CLOSED: [Step; 6] = [
+    Step::Open(Dir::Uni, Some(2)),
+    Step::Close,
+    Step::Open(Dir::Uni, None),
+    Step::Write(2, 1, Done::Blocked),
+    Step::Write(6, 1, Done::Blocked),
+    Step::Finish(2, Done::Is),
+];
+
+#[test]
+fn streams_are_queued_by_priority(rt: HostRuntime) -> Result<(), Fail> {
+    let alloc = rt.alloc();
+    run(
+        &rt,
+        alloc,
+        end(alloc, Side::Client, 3, 42, 42)?,
+        &PRIORITIES,
+    )?;
+    run(&rt, alloc, end(alloc, Side::Client, 3, 42, 42)?, &CLOSED)?;
+    Ok(())
+}
+
+fn chunk(alloc: Global, bytes: &[u8]) -> Result<Bytes, OutOfMemory> {
+    Bytes::copy_from_slice(alloc, bytes)
+}
+
+#[test]
+fn chunks_are_taken_whole_or_cut(rt: HostRuntime) -> Result<(), Fail> {
+    let alloc = rt.alloc();
+    let mut subject = end(alloc, Side::Client, 1, 100, 7)?;
+    assert_eq!(&rt; open(&mut subject, Dir::Uni, ConnState::Open), Some(2));
+    let mut chunks = Vec::with_capacity(alloc, 3)?;
+    chunks.push(chunk(alloc, b"")?)?;
+    chunks.push(chunk(alloc, b"Hello ")?)?;
+    chunks.push(chunk(alloc, b"Wo")?)?;
+    let written = match sending(&mut subject, 2, ConnState::Open).write_chunks(&mut chunks) {
+        Ok(written) => (written.bytes, written.chunks),
+        Err(_) => (0, 0),
+    };
+    assert_eq!(&rt; written, (7, 2));
+    let mut left = Vec::with_capacity(alloc, 3)?;
+    for chunk in &chunks {
+        left.push(chunk.as_slice())?;
+    }
+    assert_eq!(&rt;
+        left.as_slice(),
+        [b"".as_slice(), b"".as_slice(), b"o".as_slice()].as_slice()
+    );
+    Ok(())
+}

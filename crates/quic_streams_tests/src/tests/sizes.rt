@@ -1,0 +1,61 @@
+// With ample memory no size is refused.
+use super::{Answer, Subject, WINDOW, client, data, id, pattern, read_some};
+use quic_streams::progress::LastAnswer;
+use quic_values::Dir;
+use std::alloc::Global;
+use std::process::Abort;
+use std::test::Fail;
+
+// Takes a frame of so many bytes behind what came, and reads it in two chunks.
+fn pass(
+    rt: &impl Abort,
+    alloc: Global,
+    subject: &mut Subject,
+    offset: u64,
+    size: usize,
+) -> Result<(), Fail> {
+    let answer = data(rt, alloc, subject, 3, offset, size, false)?;
+    assert_eq!(rt; answer, Answer::Taken(false), "{size} bytes");
+    let most = size.div_ceil(2);
+    let read = read_some(subject, 3, true, most, 3)?;
+    assert_eq!(rt; read.last, LastAnswer::Blocked, "{size} bytes");
+    let mut bytes = Vec::new(alloc);
+    for chunk in &read.chunks {
+        bytes.extend_from_slice(chunk.bytes.as_slice())?;
+    }
+    let expected = pattern(alloc, offset, size)?;
+    assert_eq!(rt; bytes.as_slice(), expected.as_slice(), "{size} bytes");
+    Ok(())
+}
+
+#[test]
+fn every_size_is_taken_and_read(rt: HostRuntime) -> Result<(), Fail> {
+    let alloc = rt.alloc();
+    let mut subject = client(alloc, 1, WINDOW, WINDOW)?;
+    let mut offset = 0u64;
+    for power in 0..17u32 {
+        let size = 1usize << power;
+        for size in [size - 1, size, size + 1] {
+            pass(&rt, alloc, &mut subject, offset, size)?;
+            offset = offset.wrapping_add(size as u64);
+        }
+    }
+    Ok(())
+}
+
+#[test]
+fn every_number_of_streams_and_chunks_is_served(rt: HostRuntime) -> Result<(), Fail> {
+    let alloc = rt.alloc();
+    let mut subject = client(alloc, 1025, WINDOW, WINDOW)?;
+    for index in 0..1025u32 {
+        let stream = index.wrapping_mul(4).wrapping_add(3);
+        let answer = data(&rt, alloc, &mut subject, stream, 0, 3, true)?;
+        assert_eq!(&rt; answer, Answer::Taken(false), "stream {stream}");
+        let read = read_some(&mut subject, stream, false, 1, u16::MAX)?;
+        assert_eq!(&rt; read.chunks.len(), 3, "stream {stream}");
+        assert_eq!(&rt; read.last, LastAnswer::Ended, "stream {stream}");
+    }
+    assert_eq!(&rt; subject.pending.max_stream_id, [false, true]);
+    assert!(&rt; subject.state.max_remote(Dir::Uni) == 2050);
+    Ok(())
+}

@@ -1,0 +1,313 @@
+use quic_values::{
+    Bytes, ChunkList, Dir, MAX_STREAM_COUNT, OutOfMemory, RangeSet, Side, StreamId, VarInt,
+};
+use std::alloc::Global;
+use std::ops::Range;
+use std::process::Abort;
+use std::test::Fail;
+
+// The runs of a set, lowest first, after which the set is empty.
+fn is_runs(rt: &impl Abort, set: &mut RangeSet, runs: &[Range<u64>]) {
+    for run in runs {
+        assert_eq!(rt; set.min(), Some(run.start));
+        assert_eq!(rt; set.pop_min().as_ref(), Some(run));
+    }
+    assert!(rt; set.is_empty());
+    assert_eq!(rt; set.pop_min(), None);
+    assert_eq!(rt; set.min(), None);
+}
+
+fn set_of(alloc: Global, runs: &[Range<u64>]) -> Result<RangeSet, OutOfMemory> {
+    let mut set = RangeSet::new(alloc);
+    for run in runs {
+        set.insert(run.start..run.end)?;
+    }
+    Ok(set)
+}
+
+#[test]
+fn runs_that_touch_are_joined(rt: HostRuntime) -> Result<(), Fail> {
+    let mut set = set_of(rt.alloc(), &[0..2, 8..10])?;
+    assert!(rt; set.insert(2..4)?);
+    assert!(rt; set.insert(6..8)?);
+    assert!(rt; !set.insert(3..4)?);
+    assert!(rt; !set.insert(5..5)?);
+    let mut copy = set.try_clone()?;
+    is_runs(&rt, &mut set, &[0..4, 6..10]);
+    assert!(rt; copy.insert(4..6)?);
+    is_runs(&rt, &mut copy, &[0..10]);
+    Ok(())
+}
+
+#[test]
+fn a_run_that_is_cut_keeps_both_ends(rt: HostRuntime) -> Result<(), Fail> {
+    let mut set = set_of(rt.alloc(), &[0..10, 20..30])?;
+    assert!(rt; set.remove(3..5)?);
+    assert!(rt; set.remove(8..22)?);
+    assert!(rt; !set.remove(10..20)?);
+    assert!(rt; set.contains(2) && !set.contains(3) && !set.contains(4) && set.contains(5));
+    assert_eq!(rt; set.run_from(1), Some(1..3));
+    assert_eq!(rt; set.run_from(3), Some(5..8));
+    assert_eq!(rt; set.run_from(30), None);
+    is_runs(&rt, &mut set, &[0..3, 5..8, 22..30]);
+    Ok(())
+}
+
+#[test]
+fn the_highest_numbers_are_kept(rt: HostRuntime) -> Result<(), Fail> {
+    let mut set = set_of(rt.alloc(), &[u64::MAX - 1..u64::MAX])?;
+    assert!(rt; set.contains(u64::MAX - 1) && !set.contains(u64::MAX));
+    assert!(rt; set.remove(0..u64::MAX)?);
+    is_runs(&rt, &mut set, &[]);
+    Ok(())
+}
+
+#[test]
+fn ids_have_their_bits(rt: HostRuntime) -> Result<(), Fail> {
+    let samples = [
+        (
+            Side::Client,
+            Dir::Bi,
+            0,
+            0u64,
+            "client bidirectional stream 0",
+        ),
+        (Side::Server, Dir::Bi, 0, 1, "server bidirectional stream 0"),
+        (
+            Side::Client,
+            Dir::Uni,
+            0,
+            2,
+            "client unidirectional stream 0",
+        ),
+        (
+            Side::Server,
+            Dir::Uni,
+            3,
+            15,
+            "server unidirectional stream 3",
+        ),
+        (
+            Side::Server,
+            Dir::Uni,
+            MAX_STREAM_COUNT - 1,
+            (1 << 62) - 1,
+            "server unidirectional stream 1152921504606846975",
+        ),
+    ];
+    for (side, dir, index, number, text) in samples {
+        let id = StreamId::new(side, dir, index);
+        assert_eq!(rt; VarInt::from(id).into_inner(), number);
+        assert_eq!(rt; (id.initiator(), id.dir(), id.index()), (side, dir, index));
+        assert_eq!(rt; StreamId::from(VarInt::from(id)), id);
+        let printed = format!(in rt.alloc(); "{id}")?;
+        assert_eq!(rt; printed.as_str(), text);
+    }
+    assert_eq!(rt; !Side::Client, Side::Server);
+    assert!(rt; Side::Client.is_client() && !Side::Server.is_client());
+    Ok(())
+}
+
+#[test]
+fn numbers_are_printed_as_digits(rt: HostRuntime) -> Result<(), Fail> {
+    let samples = [
+        (63, 1, "63"),
+        (64, 2, "64"),
+        (16_383, 2, "16383"),
+        (16_384, 4, "16384"),
+        (1_073_741_824, 8, "1073741824"),
+    ];
+    for (number, size, text) in samples {
+        let number = VarInt::from_u64(number).ok_or("a number below 2^62")?;
+        assert_eq!(rt; number.size(), size);
+        let printed = format!(in rt.alloc(); "{number}")?;
+        assert_eq!(rt; printed.as_str(), text);
+    }
+    assert_eq!(rt; VarInt::from_u64(1 << 62), None);
+    assert_eq!(rt; VarInt::MAX.into_inner(), 4_611_686_018_427_387_903);
+    let printed = format!(in rt.alloc(); "{}", OutOfMemory)?;
+    assert_eq!(rt; printed.as_str(), "out of memory");
+    Ok(())
+}
+
+#[test]
+fn bytes_keep_what_was_not_let_go(rt: HostRuntime) -> Result<(), Fail> {
+    let mut bytes = Bytes::from(Vec::from_slice(rt.alloc(), b"hello world")?);
+    assert_eq!(rt; bytes.len(), 11);
+    let front = bytes.split_to(2)?;
+    assert_eq!(rt; front.as_slice(), b"he".as_slice());
+    assert_eq!(rt; bytes.len(), 9);
+    bytes.advance(4);
+    bytes.extend_from_slice(b"!")?;
+    let copy = bytes.try_clone()?;
+    assert!(rt; copy == bytes && !bytes.is_empty());
+    let content = bytes.into_vec();
+    assert_eq!(rt; content.as_slice(), b"world!".as_slice());
+    assert!(rt; Bytes::new(rt.alloc()).is_empty());
+    Ok(())
+}
+
+fn insert(set: &mut RangeSet, start: u64) -> Result<bool, OutOfMemory> {
+    set.insert(start..start.saturating_add(3))
+}
+
+fn cut(set: &mut RangeSet, start: u64) -> Result<bool, OutOfMemory> {
+    set.remove(start.saturating_add(1)..start.saturating_add(2))
+}
+
+// Where the run of an index begins. The runs of the indices below 65537, a prime, begin apart, and in no order.
+fn start_of(index: u64) -> u64 {
+    index % 65_537 * 40_503 % 65_537 * 4
+}
+
+// Whether a set has exactly so many runs, each of so many numbers. It is then empty.
+fn has_runs(set: &mut RangeSet, count: u64, len: u64) -> bool {
+    for _ in 0..count {
+        match set.pop_min() {
+            Some(run) if run.end.wrapping_sub(run.start) == len => {}
+            _ => return false,
+        }
+    }
+    set.is_empty()
+}
+
+#[test]
+fn no_number_of_runs_is_refused(rt: HostRuntime) -> Result<(), Fail> {
+    let mut set = RangeSet::new(rt.alloc());
+    let mut count = 0u64;
+    for power in 0..17u32 {
+        let middle = 1u64 << power;
+        for wanted in [middle.saturating_sub(1), middle, middle.saturating_add(1)] {
+            for index in count..wanted {
+                assert!(rt; insert(&mut set, start_of(index))?);
+            }
+            count = wanted.max(count);
+            let mut copy = set.try_clone()?;
+            assert!(rt;
+                copy.contains(0) == (count > 0) && !copy.contains(3),
+                "{count} runs"
+            );
+            assert_eq!(rt; cut(&mut copy, 0)?, count > 0);
+        }
+    }
+    for index in 0..count {
+        assert!(rt; cut(&mut set, start_of(index))?);
+    }
+    assert!(rt; has_runs(&mut set, 131_074, 1));
+    Ok(())
+}
+
+// So many bytes that a seed gives.
+fn seeded(alloc: Global, len: usize) -> Result<Vec<u8>, OutOfMemory> {
+    let mut bytes = Vec::new(alloc);
+    let mut state = 0x9e37_79b9_7f4a_7c15u64;
+    for _ in 0..len {
+        state = state
+            .wrapping_mul(0x5851_f42d_4c95_7f2d)
+            .wrapping_add(0x1405_7b7e_f767_814f);
+        bytes.push((state >> 56) as u8)?;
+    }
+    Ok(bytes)
+}
+
+// Two copies of a slice behind each other, and the first of them taken out.
+fn doubled(alloc: Global, content: &[u8]) -> Result<(Bytes, Bytes), OutOfMemory> {
+    let mut bytes = Bytes::copy_from_slice(alloc, content)?.try_clone()?;
+    bytes.extend_from_slice(content)?;
+    let len = content.len().min(bytes.len());
+    let front = bytes.split_to(len)?;
+    Ok((front, bytes))
+}
+
+#[test]
+fn no_number_of_bytes_is_refused(rt: HostRuntime) -> Result<(), Fail> {
+    for power in 0..17u32 {
+        let middle = 1usize << power;
+        for len in [middle.saturating_sub(1), middle, middle.saturating_add(1)] {
+            let content = seeded(rt.alloc(), len)?;
+            let (front, back) = doubled(rt.alloc(), &content)?;
+            assert!(rt; front.as_slice() == content.as_slice(), "{len} bytes");
+            assert!(rt;
+                back.into_vec().as_slice() == content.as_slice(),
+                "{len} bytes"
+            );
+        }
+    }
+    Ok(())
+}
+
+fn chunks_of(alloc: Global, chunks: &[&[u8]]) -> Result<ChunkList, OutOfMemory> {
+    let mut list = ChunkList::with_capacity(alloc, chunks.len(), 0)?;
+    for chunk in chunks {
+        list.push(chunk)?;
+    }
+    Ok(list)
+}
+
+fn has_chunks(rt: &impl Abort, list: &ChunkList, chunks: &[&[u8]]) {
+    assert_eq!(rt; list.len(), chunks.len());
+    for (index, chunk) in chunks.iter().enumerate() {
+        match list.get(index) {
+            Some(bytes) => assert_eq!(rt; bytes, *chunk),
+            None => panic!(rt; "no chunk {index}"),
+        }
+    }
+    assert!(rt; list.get(chunks.len()).is_none());
+}
+
+#[test]
+fn chunks_keep_where_they_are_parted(rt: HostRuntime) -> Result<(), Fail> {
+    let list = chunks_of(rt.alloc(), &[b"", b"ab", b"", b"c"])?;
+    has_chunks(&rt, &list, &[b"", b"ab", b"", b"c"]);
+    has_chunks(&rt, &ChunkList::new(rt.alloc()), &[]);
+    Ok(())
+}
+
+#[test]
+fn lists_of_the_same_bytes_differ_where_they_are_parted(rt: HostRuntime) -> Result<(), Fail> {
+    let list = chunks_of(rt.alloc(), &[b"ab", b"c"])?;
+    assert!(rt; list == chunks_of(rt.alloc(), &[b"ab", b"c"])?);
+    assert!(rt; list != chunks_of(rt.alloc(), &[b"a", b"bc"])?);
+    assert!(rt; list != chunks_of(rt.alloc(), &[b"ab", b"c", b""])?);
+    assert!(rt; !list.is_empty() && ChunkList::new(rt.alloc()).is_empty());
+    assert_eq!(rt;
+        format!(in rt.alloc(); "{list:?}")?.as_str(),
+        "[[97, 98], [99]]"
+    );
+    Ok(())
+}
+
+// A list of so many chunks, of no, one and two bytes in turn, and one of so many bytes, and the bytes of all of them.
+fn in_turn(alloc: Global, count: usize) -> Result<(ChunkList, Vec<u8>), OutOfMemory> {
+    let mut list = ChunkList::new(alloc);
+    let mut content = Vec::new(alloc);
+    for number in 0..count {
+        let chunk = seeded(alloc, number % 3)?;
+        list.push(&chunk)?;
+        content.extend_from_slice(&chunk)?;
+    }
+    let long = seeded(alloc, count)?;
+    list.push(&long)?;
+    content.extend_from_slice(&long)?;
+    Ok((list, content))
+}
+
+#[test]
+fn no_number_of_chunks_is_refused(rt: HostRuntime) -> Result<(), Fail> {
+    for power in 0..17u32 {
+        let middle = 1usize << power;
+        for count in [middle.saturating_sub(1), middle, middle.saturating_add(1)] {
+            let (list, content) = in_turn(rt.alloc(), count)?;
+            let mut joined = Vec::new(rt.alloc());
+            for index in 0..list.len() {
+                match list.get(index) {
+                    Some(chunk) => joined.extend_from_slice(chunk)?,
+                    None => panic!(rt; "no chunk {index} of {count}"),
+                }
+            }
+            assert!(rt; list.len().checked_sub(1) == Some(count));
+            assert!(rt; joined.as_slice() == content.as_slice(), "{count} chunks");
+        }
+    }
+    Ok(())
+}
