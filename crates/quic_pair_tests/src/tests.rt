@@ -1,6 +1,6 @@
 //! Steps and runs with known answers.
-use quic_pair::{Config, End, Last, Pair, PairError, Reply, Step};
 use quic_assembler::Chunk;
+use quic_pair::{Config, End, Last, Pair, PairError, Reply, Step};
 use quic_wire::{Bytes, Dir, OutOfMemory, Side, StreamEvent, StreamId, VarInt};
 use std::alloc::Global;
 use std::test::Fail;

@@ -12,13 +12,13 @@ mod sending;
 mod sizes;
 mod transmitting;
 
+use quic_receiving::{HandleError, ReadError, ReadableError, ShouldTransmit};
 use quic_streams::Retransmits;
 use quic_streams::batches::ReadSome;
 use quic_streams::progress::LastAnswer;
 use quic_streams::reading::Chunks;
 use quic_streams::recv_stream::RecvStream;
 use quic_streams::state::StreamsState;
-use quic_receiving::{HandleError, ReadError, ReadableError, ShouldTransmit};
 use quic_values::{Bytes, Dir, OutOfMemory, Side, StreamId, VarInt};
 use quic_wire::{ReceiveError, StreamEvent, TransportError, frame};
 use std::alloc::Global;

@@ -2,12 +2,12 @@
 //! payload has to be as if it had not been.
 ghost use Rattle.std.specs.Prelude.{◌<◌};
 
-use quic_writing::{StreamMetaVec, write_stream_frames};
 use quic_outgoing::{OutgoingStreams, PeerLimits};
 use quic_queue::SendQueue;
 use quic_retransmits::Retransmits;
 use quic_sending::ByteSlice;
 use quic_values::{Dir, OutOfMemory, Side, StreamId, VarInt};
+use quic_writing::{StreamMetaVec, write_stream_frames};
 use std::alloc::Global;
 use std::rt::HostRuntime;
 use std::test::Fail;

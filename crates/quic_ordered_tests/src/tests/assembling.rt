@@ -1,5 +1,5 @@
-use quic_ordered::OrderedAssembler;
 use quic_assembler::{EnsureError, InsertError};
+use quic_ordered::OrderedAssembler;
 use quic_values::Bytes;
 use std::alloc::Global;
 use std::process::Abort;

@@ -1,7 +1,7 @@
 ghost use Rattle.std.specs.Prelude.{◌<◌};
 
-use quic_ordered::OrderedAssembler;
 use quic_assembler::{Assembler, Chunk, Op, replay};
+use quic_ordered::OrderedAssembler;
 use quic_values::Bytes;
 use std::alloc::Global;
 use std::test::Fail;

@@ -1,7 +1,7 @@
 //! What a caller may know of what one end sends on one stream, kept as plain marks.
 
-use quic_pair::End;
 use quic_assembler::Chunk;
+use quic_pair::End;
 use quic_values::{OutOfMemory, StreamId, VarInt};
 use quic_wire::frame::Stream;
 use std::alloc::Global;

@@ -1,8 +1,8 @@
 //! A plain record of a session, against which each further answer is held.
 
 use super::flows::{Flow, Wrong, check, is_among, other};
-use quic_pair::{End, Last, PairError, Reply, Step};
 use quic_assembler::Chunk;
+use quic_pair::{End, Last, PairError, Reply, Step};
 use quic_values::{ChunkList, Dir, Side, StreamId, VarInt};
 use quic_wire::{Frame, ReceiveError, StreamEvent, TransportError, decode};
 use std::alloc::Global;

@@ -1,4 +1,6 @@
-use quic_receiving::{ClosedStream, EnsureError, HandleError, IllegalOrderedRead, ReadError, ReadableError};
+use quic_receiving::{
+    ClosedStream, EnsureError, HandleError, IllegalOrderedRead, ReadError, ReadableError,
+};
 use quic_values::{OutOfMemory, VarInt};
 use std::io;
 use std::test::Fail;

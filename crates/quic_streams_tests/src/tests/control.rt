@@ -46,7 +46,13 @@ fn control(alloc: Global, subject: &mut Subject, max_size: usize) -> Payload {
     written
 }
 
-pub(super) fn writes(rt: &impl Abort, alloc: Global, subject: &mut Subject, max_size: usize, bytes: &[u8]) {
+pub(super) fn writes(
+    rt: &impl Abort,
+    alloc: Global,
+    subject: &mut Subject,
+    max_size: usize,
+    bytes: &[u8],
+) {
     let written = control(alloc, subject, max_size);
     assert_eq!(rt; written.bytes.as_slice(), bytes);
 }

@@ -20,7 +20,9 @@ fn run(
 ) -> Result<(), OutOfMemory> {
     for step in steps {
         match *step {
-            Step::MaxData(..) | Step::Data(..) | Step::Queued(..) => hand_in(rt, alloc, subject, *step)?,
+            Step::MaxData(..) | Step::Data(..) | Step::Queued(..) => hand_in(
+                rt, alloc, subject, *step,
+            )?,
             other => call(rt, subject, ConnState::Open, other),
         }
     }

@@ -4,10 +4,10 @@ use super::sending::{
     Done, Event, Step, call, expected, finish, open, permit, reset, set_priority, taken, write,
 };
 use super::{Answer, Subject, WINDOW, client, id};
+use quic_sending::WriteError;
 use quic_streams::StreamMetaVec;
 use quic_streams::send_stream::SendStream;
 use quic_streams::streams::{ConnState, Streams};
-use quic_sending::WriteError;
 use quic_values::{Bytes, Dir, OutOfMemory, VarInt};
 use quic_wire::frame::StreamMeta;
 use std::alloc::Global;

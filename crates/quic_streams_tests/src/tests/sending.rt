@@ -1,10 +1,10 @@
 use super::{Answer, STREAM_LIMIT, STREAM_STATE, Subject, WINDOW, client, id, receive};
+use quic_receiving::HandleError;
+use quic_sending::{FinishError, WriteError};
 use quic_streams::send_stream::SendStream;
 use quic_streams::state::StreamsState;
 use quic_streams::streams::{ConnState, Streams};
 use quic_streams::{PeerLimits, Retransmits, StreamMetaVec};
-use quic_receiving::HandleError;
-use quic_sending::{FinishError, WriteError};
 use quic_values::{Bytes, Dir, OutOfMemory, Side, StreamId, VarInt};
 use quic_wire::{ReceiveError, StreamEvent, TransportError};
 use std::alloc::Global;
