@@ -21,8 +21,9 @@ pub record IsHonestData (f : Flow) (s : Stream) : Type 0 where
   pub finished : s.fin ≡ true → f.finished ≡ true
   pub ends : s.fin ≡ true → s.offset + length s.bytes ≡ length f.written
 
--- a frame of an end is true: a reset and a stop were asked for with their codes, a final size is what was written, and a
--- limit is not above the one that is enforced (RFC 9000 sections 4.1, 4.5, 4.6, 19.4 and 19.5)
+-- a frame of an end is true: a reset and a stop were asked for with their codes, a final size is what was written, and the
+-- limits of MAX_DATA and MAX_STREAMS are not above those that are enforced (RFC 9000 sections 4.1, 4.5, 4.6, 19.4 and 19.5);
+-- of frames of other kinds this says nothing
 abbrev pub IsHonestFrame : Past → PairState → End → Frame → Type 0
 IsHonestFrame p v who (frames.Stream s) = IsHonestData (p.flow who s.id) s
 IsHonestFrame p v who (frames.ResetStream f) = IsOneOf f.error_code (p.flow who f.id).resets × (f.final_offset ≡ length (p.flow who f.id).written)

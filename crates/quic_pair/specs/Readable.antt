@@ -61,14 +61,15 @@ EndsReads p sent who id ordered times count last.Blocked = HasNothingLeft (p.flo
 EndsReads p sent who id ordered times count last.More = count ≡ times
 EndsReads p sent who id ordered times count _ = Unit {0}
 
--- a stream is closed to its reader only where it is over, and an ordered read refused only after one that was not
+-- a stream is closed to an end only where that end sends on it alone, or it is over, and an ordered read is refused only
+-- after one that was not
 abbrev pub ReadsTrue : Past → List Sent → End → ℕ → Bool → ℕ → Answer → Type 0
 ReadsTrue p sent who id ordered times (Ok (Read chunks last transmit)) = EndsReads p sent who id ordered times (length chunks.items) last
 ReadsTrue p sent who id ordered times (Ok Closed) = OnlySends who id ⊎ IsFlowOver p sent (peer who) id
 ReadsTrue p sent who id ordered times (Ok Illegal) = (ordered ≡ true) × ((p.flow (peer who) id).unordered ≡ true)
 ReadsTrue p sent who id ordered times _ = Unit {0}
 
--- a step withholds nothing that was kept
+-- a read withholds nothing that was kept; what other steps may withhold is not said here
 abbrev pub WithholdsNothing : Past → List Sent → Step → Answer → Type 0
 WithholdsNothing p sent (steps.Read who id ordered most times) reply = ReadsTrue (past_read p who id ordered reply) sent who id ordered times reply
 WithholdsNothing p sent _ reply = Unit {0}

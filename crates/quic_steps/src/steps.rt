@@ -207,8 +207,8 @@ pub enum PairError {
     NotAccepted,
     #[error("unknown stream id")]
     UnknownId,
-    /// Want of memory: the step was not taken. An `Emit` may have made its payload, with the
-    /// frames that were written before.
+    /// Want of memory: the step was not taken. But an `Emit` may have made its payload, with the
+    /// frames that were written before, and an `AckControl` may have been taken for the first of its resets.
     #[error("out of memory")]
     OutOfMemory,
 }
