@@ -9,7 +9,10 @@ use Rattle.quic_pair.specs.State.{PairState}
 use Rattle.quic_pair.specs.Steps.{Next}
 use Rattle.quic_pair.specs.History.{History, Past, past_of}
 use Rattle.quic_pair.specs.From.{From, next}
-use Rattle.quic_pair.specs.Runs.{StepByStep, none, more, TakesSteps, Behind}
+use Rattle.quic_pair.specs.Runs.{StepByStep, none, more, TakesSteps, Behind, Throughout, IsTrueOf, StaysIfRefused}
+use Rattle.quic_pair.proofs.Grown.{headline-from}
+use Rattle.quic_pair.proofs.Honest.{honest-from}
+use Rattle.quic_pair.proofs.Served.{refused-stays}
 
 -- one more step and one more reply
 zip-behind : {X Y : Type 0} (xs : List X) (ys : List Y) (x : X) (y : Y) → length ys ≡ length xs → zip (xs ++ x ∷ []) (ys ++ y ∷ []) ≡ zip xs ys ++ (x, y) ∷ []
@@ -37,3 +40,16 @@ pub each-behind : (Holds : Past → List Sent → Step → Answer → Type 0)
 each-behind Holds holds a b h old _ _ f none = none
 each-behind Holds holds a b h old _ _ f (more {taken} {between} {new} step reply run n each) =
     more step reply (each-behind Holds holds a b h old taken between f run) n (holds a b (h ++ taken) between new step reply (from-steps f run) n)
+
+-- what holds of every pair behind its history, holds behind each step of a run
+pub each-after : (a b : Config) (h : History) (old : PairState) (taken : History) (new : PairState) → From a b h old → TakesSteps old taken new → StepByStep (Throughout IsTrueOf h) old taken new
+each-after a b h old _ _ f none = none
+each-after a b h old _ _ f (more {taken} {between} {new} step reply run n each) =
+    let g = from-steps f (more step reply run n each) in
+    more step reply (each-after a b h old taken between f run) n (record { headline = headline-from g; honest = honest-from g })
+
+-- a refused step of a run left the pair as it was
+pub each-stays : (old : PairState) (taken : History) (new : PairState) → TakesSteps old taken new → StepByStep StaysIfRefused old taken new
+each-stays old _ _ none = none
+each-stays old _ _ (more {taken} {between} {new} step reply run n each) =
+    more step reply (each-stays old taken between run) n (λ r. refused-stays between new step reply n r)

@@ -16,7 +16,7 @@ ghost use Rattle.quic_link.specs.Endpoints.{limits_of};
 ghost use Rattle.quic_pair.specs.From.{From, made_of, end_begun};
 ghost use Rattle.quic_pair.specs.History.{History, past_of};
 ghost use Rattle.quic_pair.specs.Headline.{Headline};
-ghost use Rattle.quic_pair.specs.Runs.{TakesSteps, StepByStep, Behind};
+ghost use Rattle.quic_pair.specs.Runs.{TakesSteps, StepByStep, Behind, Throughout, IsTrueOf, StaysIfRefused};
 ghost use Rattle.quic_pair.specs.Unrefused.{RefusesNoFrame};
 ghost use Rattle.quic_pair.specs.Readable.{WithholdsNothing};
 ghost use Rattle.quic_pair.specs.Honest.{AreHonest};
@@ -419,6 +419,8 @@ impl Pair {
         ensures headline { IfOk result (λ replies. (a b : Config) (h : History) → From a b h (pair_state self.old) → Headline (past_of (h ++ zip steps.items replies.items)) (pair_state self.new).sent) }
         ensures honest { IfOk result (λ replies. (a b : Config) (h : History) → From a b h (pair_state self.old) → AreHonest (past_of (h ++ zip steps.items replies.items)) (pair_state self.new)) }
         ensures refused { IfOk result (λ replies. (a b : Config) (h : History) → From a b h (pair_state self.old) → StepByStep (Behind IsRefusedSo h) (pair_state self.old) (zip steps.items replies.items) (pair_state self.new)) }
+        ensures throughout { IfOk result (λ replies. (a b : Config) (h : History) → From a b h (pair_state self.old) → StepByStep (Throughout IsTrueOf h) (pair_state self.old) (zip steps.items replies.items) (pair_state self.new)) }
+        ensures unchanged { IfOk result (λ replies. StepByStep StaysIfRefused (pair_state self.old) (zip steps.items replies.items) (pair_state self.new)) }
         ensures unrefused { IfOk result (λ replies. (a b : Config) (h : History) → From a b h (pair_state self.old) → StepByStep (Behind RefusesNoFrame h) (pair_state self.old) (zip steps.items replies.items) (pair_state self.new)) }
         ensures readable { IfOk result (λ replies. (a b : Config) (h : History) → From a b h (pair_state self.old) → StepByStep (Behind WithholdsNothing h) (pair_state self.old) (zip steps.items replies.items) (pair_state self.new)) }
         ensures err { OnErr result (pair_state self.new ≡ pair_state self.old) }

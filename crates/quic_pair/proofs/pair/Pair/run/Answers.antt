@@ -7,7 +7,7 @@ use Rattle.quic_pair.specs.Runs.{none}
 use Rattle.quic_pair.specs.Unrefused.{RefusesNoFrame}
 use Rattle.quic_pair.specs.Readable.{WithholdsNothing}
 use Rattle.quic_pair.proofs.Grown.{headline-from}
-use Rattle.quic_pair.proofs.Runs.{steps-more, from-steps, each-behind}
+use Rattle.quic_pair.proofs.Runs.{steps-more, from-steps, each-behind, each-after, each-stays}
 use Rattle.quic_pair.proofs.Unrefused.{unrefused-so}
 use Rattle.quic_pair.proofs.Readable.{readable-so}
 use Rattle.quic_pair.proofs.Honest.{honest-from}
@@ -35,6 +35,8 @@ returns c =
       next = c.loop-step.invariant.taken;
       from = λ a b h f. from-steps f c.loop-step.invariant.taken;
       headline = λ a b h f. headline-from (from-steps f c.loop-step.invariant.taken);
+      throughout = λ a b h f. each-after a b h _ _ _ f c.loop-step.invariant.taken;
+      unchanged = each-stays _ _ _ c.loop-step.invariant.taken;
       unrefused = λ a b h f. each-behind RefusesNoFrame unrefused-so a b h _ _ _ f c.loop-step.invariant.taken;
       readable = λ a b h f. each-behind WithholdsNothing readable-so a b h _ _ _ f c.loop-step.invariant.taken;
       honest = λ a b h f. honest-from (from-steps f c.loop-step.invariant.taken);
