@@ -100,7 +100,7 @@ enum Step {
     // How many bidirectional and unidirectional streams the peer may open, and how many of these it opened.
     Remote(u64, u64, u64),
     // The limit that MAX_STREAM_DATA announces, where nothing else is pending.
-    Limit(u32, u32),
+    Limit(u8, u8),
     // The streams of which the application is told that it may read, and of nothing else.
     Readable(&'static [u32]),
     // What waits to be sent.
@@ -469,7 +469,7 @@ fn take(
             assert_eq!(rt; is, answer, "the last data at {offset} of {stream}");
         }
         Step::Limit(stream, limit) => {
-            let bytes = [0x11, stream as u8, limit as u8];
+            let bytes = [0x11, stream, limit];
             control::writes(rt, alloc, &mut subject, 1200, &bytes);
         }
         _ => ask(rt, &mut subject, step),
