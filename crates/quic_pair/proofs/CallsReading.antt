@@ -178,8 +178,8 @@ module _ (id most : ℕ) (ordered : Bool) where
       let with_all = with_last id most ordered last all in
       chunks_back cs (b ∷ h) e w (last_back last all e w (other_event IsNoGift e (Ended id (bytes_in cs)) with_all w (λ n. n) k))
 
-  reads_back : (cs : List Chunk) (last : LastAnswer) (h : List Event) (e : Event) → IsNoRead e → IsOneOf e (with_reads id most ordered cs last h) → IsOneOf e h
-  reads_back cs last h e w k = other_event IsNoRead e (Began id ordered (Ok tt)) h w (λ n. n) (reads_begun cs last h e (no_gift e w) k)
+  pub reads-back : (cs : List Chunk) (last : LastAnswer) (h : List Event) (e : Event) → IsNoRead e → IsOneOf e (with_reads id most ordered cs last h) → IsOneOf e h
+  reads-back cs last h e w k = other_event IsNoRead e (Began id ordered (Ok tt)) h w (λ n. n) (reads_begun cs last h e (no_gift e w) k)
 
   -- no frame is kept by them
   chunks_kept : (cs : List Chunk) (h : List Event) (q : ℕ) → kept_in (with_chunks id most ordered cs h) q ≡ kept_in h q
@@ -303,11 +303,11 @@ module _ (x y : Endpoint) (id most times : ℕ) (ordered : Bool) (cs : List Chun
       record { written = ap (λ (t : SendFlow). concat t.cuts) k; finished = ap (λ (t : SendFlow). t.finished) k; reset = ap (λ (t : SendFlow). t.reset) k }
 
   reads_stops : (q code : ℕ) → WasStoppedWith read_end.calls q code → WasStoppedWith x.calls q code
-  reads_stops q code h = reads_back id most ordered cs last x.calls (Stopped q code (Ok tt)) tt h
+  reads_stops q code h = reads-back id most ordered cs last x.calls (Stopped q code (Ok tt)) tt h
 
   reads_gave_none : GaveNone x read_end
-  reads_gave_none q (inl o) = inl (o.0, o.1, reads_back id most ordered cs last x.calls (Sending (OpenedOwn o.0 o.1 (Ok (Some q)))) tt o.2)
-  reads_gave_none q (inr o) = inr (o.0, reads_back id most ordered cs last x.calls (Accepted o.0 (Some q)) tt o.1)
+  reads_gave_none q (inl o) = inl (o.0, o.1, reads-back id most ordered cs last x.calls (Sending (OpenedOwn o.0 o.1 (Ok (Some q)))) tt o.2)
+  reads_gave_none q (inr o) = inr (o.0, reads-back id most ordered cs last x.calls (Accepted o.0 (Some q)) tt o.1)
 
   reads_others : (q : ℕ) → eqb q id ≡ false → ReadsSame x read_end q
   reads_others q n =
@@ -429,9 +429,9 @@ module _ (p : Past) (who : End) (old new : PairState) (x y : Endpoint) (s : Seen
         let c : Called who old new x y z = record {
           onward = o;
           quiet = record {
-            accepts = λ q offset bytes fin sent h. reads_back id most ordered cs last x.calls (Received q offset bytes fin (Ok sent)) tt h;
+            accepts = λ q offset bytes fin sent h. reads-back id most ordered cs last x.calls (Received q offset bytes fin (Ok sent)) tt h;
             keeps = λ q. reads_kept id most ordered cs last x.calls q;
-            resets = λ q code final sent h. reads_back id most ordered cs last x.calls (ReceivedReset q code final (Ok sent)) tt h;
+            resets = λ q code final sent h. reads-back id most ordered cs last x.calls (ReceivedReset q code final (Ok sent)) tt h;
           };
           end = f;
           stands = record {

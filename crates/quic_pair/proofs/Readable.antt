@@ -1,6 +1,6 @@
 -- Nothing that was kept is withheld from a read.
-use Rattle.std.proofs.Common.{◌≡◌, ◌⊎◌, ℕ, Bool, true, false, List, ◌∷◌, length, Some, None, Result, Ok, Err, refl, sym, ap, ◌∙◌, subst, inl, inr, arith, ◌<◌, ◌≤◌}
-use Rattle.std.specs.Prelude.{nat_le, if◌then◌else◌}
+use Rattle.std.proofs.Common.{◌≡◌, ◌⊎◌, ℕ, Bool, true, false, List, [], ◌∷◌, length, Some, None, Result, Ok, Err, refl, sym, ap, ◌∙◌, subst, inl, inr, arith, ◌<◌, ◌≤◌}
+use Rattle.std.specs.Prelude.{nat_le, is_some, if◌then◌else◌}
 use Rattle.std.proofs.lemmas.Bool.Decides.{nat_tests}
 use Rattle.quic_values.specs.declared.ids.Side.{Side}
 use Rattle.quic_values.specs.declared.ids.Side.TheVariants.{Client, Server}
@@ -20,10 +20,11 @@ use Rattle.quic_history.specs.World.{World, is_own, is_same_side, remote_of, own
 use Rattle.quic_history.specs.Acknowledged.{was_given}
 use Rattle.quic_history.specs.declared.progress.LastAnswer.{LastAnswer}
 use Rattle.quic_history.specs.declared.progress.LastAnswer.TheVariants as last_answer
-use Rattle.quic_history.specs.Reading.{ReadsSome}
-use Rattle.quic_history.specs.History.{Event, Received, Began, Gave, ReadChunk, slices, with_chunks}
+use Rattle.quic_history.specs.Reading.{ReadsSome, ReadsHalf, GivesChunks, LastReads}
+use Rattle.quic_history.specs.History.{Event, Received, ReceivedReset, Began, Gave, ReadChunk, slices, trace, with_chunks}
 use Rattle.quic_history.proofs.Totals.{by_cases}
 use Rattle.quic_history.proofs.Traces.{itself}
+use Rattle.quic_history.proofs.StreamSteps.{half-from, known-from}
 use Rattle.quic_link.specs.Endpoints.{Endpoint, MayAct, WasGiven, came_on}
 use Rattle.quic_link.specs.Truths.{amount_on}
 use Rattle.quic_link.specs.Promises.{KeptAt, EndKept, given_in_order, IsOver as IsOverTrace}
@@ -44,7 +45,7 @@ use Rattle.quic_pair.specs.State.{PairState, OnEnd, peer, the_end}
 use Rattle.quic_pair.specs.Steps.{Next}
 use Rattle.quic_pair.specs.History.{Past, Flow, History, past_of, past_read, with_flow, reads_chunks, with_chunks_read}
 use Rattle.quic_pair.specs.Headline.{SomeStream, HasOffset, HasEnd}
-use Rattle.quic_pair.specs.Readable.{HasNothingLeft, OnlySends, IsFlowOver, EndsReads, ReadsTrue, WithholdsNothing, side_of}
+use Rattle.quic_pair.specs.Readable.{AreCut, SomeReset, HasNothingLeft, OnlySends, IsFlowOver, EndsReads, ReadsTrue, WithholdsNothing, side_of}
 use Rattle.quic_pair.specs.From.{From}
 use Rattle.quic_pair.proofs.Joined.{Seen, Joined}
 use Rattle.quic_pair.proofs.KeptCalls.{kept-offset, kept-end, was-stopped, was-reset}
@@ -53,7 +54,7 @@ use Rattle.quic_pair.proofs.Headlines.{length-written}
 use Rattle.quic_pair.proofs.CallsFlows.{flow-changed}
 use Rattle.quic_pair.proofs.CallsSeen.{step-at}
 use Rattle.quic_pair.proofs.CallsSetting.{given-here}
-use Rattle.quic_pair.proofs.CallsReading.{chunks-calls, chunks-given}
+use Rattle.quic_pair.proofs.CallsReading.{chunks-calls, chunks-given, reads-back}
 use Rattle.quic_pair.proofs.Grown.{joined-from}
 
 -- ---- streams that were given
@@ -96,7 +97,7 @@ module _ (p : Past) (who : End) (v : PairState) (x y : Endpoint) (s : Seen p who
 
   -- ---- nothing is left
 
-  module _ (q : Pending) (cs : List Chunk) (transmit : Bool) (u : World) (r : Pending) (d : ReadsSome x.world id most times ordered q cs last_answer.Blocked transmit u r) where
+  module _ (last : LastAnswer) (q : Pending) (cs : List Chunk) (transmit : Bool) (u : World) (r : Pending) (d : ReadsSome x.world id most times ordered q cs last transmit u r) where
     abbrev calls_read : List Event
     calls_read = with_chunks id most ordered cs (Began id ordered (Ok tt) ∷ x.calls)
 
@@ -122,10 +123,11 @@ module _ (p : Past) (who : End) (v : PairState) (x y : Endpoint) (s : Seen p who
         let c = kept-end v.sent (peer who) id p.kept x.calls (s.kept_here.streams id) k in
         record { offset = c.offset; bytes = c.bytes; answer = c.answer; is = chunks-calls id most ordered cs (Began id ordered (Ok tt) ∷ x.calls) (Received id c.offset c.bytes true c.answer) (inr c.is); kept = c.kept }
 
-    nothing_left : HasNothingLeft (reads_chunks ordered cs known) (peer who) id p.kept v.sent ordered
-    nothing_left =
-        let none = (promised goes.linked).0.answers (Gave id most ordered (Err read_error.Blocked)) d.ended (record { fits = tt; honest = tt; step = d.last_reads }) in
-        let half = d.last_reads in
+    nothing_left : last ≡ last_answer.Blocked → HasNothingLeft (reads_chunks ordered cs known) (peer who) id p.kept v.sent ordered
+    nothing_left blocked =
+        let L : LastAnswer → Type 0 = λ l. LastReads d.read id most ordered l d.ended in
+        let half : ReadsHalf d.read id most ordered (Err read_error.Blocked) d.ended = subst L blocked d.last_reads in
+        let none = (promised goes.linked).0.answers (Gave id most ordered (Err read_error.Blocked)) d.ended (record { fits = tt; honest = tt; step = half }) in
         let P : ℕ → Type 0 = λ n. KeptAt calls_read id n in
         let G : List ReadChunk → Type 0 = λ g. IsAllGiven (slices g) (length known.written) in
         let A : ℕ → Type 0 = λ n. IsAllGiven (slices (came_on between id).given) n in
@@ -141,6 +143,22 @@ module _ (p : Past) (who : End) (v : PairState) (x y : Endpoint) (s : Seen p who
           end = λ k all. none.end (end_read k) (subst A (sym amount) (subst G (sym given) all));
         }
 
+    -- the reset that was told came
+    reset_came : (code : ℕ) → last ≡ last_answer.Reset code → SomeReset v.sent (peer who) id p.accepted
+    reset_came code told =
+        let L : LastAnswer → Type 0 = λ l. LastReads d.read id most ordered l d.ended in
+        let half : ReadsHalf d.read id most ordered (Err (read_error.Reset code)) d.ended = subst L told d.last_reads in
+        let streams = (((agrees goes.linked).0).comes).facts.streams in
+        let knows = half-from (trace calls_read) d.read id half.old streams (known-from (trace calls_read) d.read id half.old streams half.half) half.half in
+        let has : (trace calls_read id).reset ≡ Some code = sym knows.reset ∙ half.reads.0 in
+        let t = was-reset calls_read id (ap is_some has) in
+        s.kept_here.resets id t.0 t.1 t.2 (reads-back id most ordered cs last_answer.More x.calls (ReceivedReset id t.0 t.1 (Ok t.2)) tt (inr t.3))
+
+  -- no chunk has more bytes than were asked for
+  cut_so : (w : World) (cs : List Chunk) (u : World) → GivesChunks w id most ordered cs u → AreCut most cs
+  cut_so w [] u d = tt
+  cut_so w (c ∷ cs) u d = (d.1.reads.1.limit, d.1.reads.1.some, cut_so d.0 cs u d.2)
+
   -- ---- each answer
 
   ends_reads : (r : ReadSome) (last : LastAnswer) (f : EndState) → ReadsAt (the_end v who) id most times ordered r.chunks.items last r.transmit.0 f
@@ -149,9 +167,12 @@ module _ (p : Past) (who : End) (v : PairState) (x y : Endpoint) (s : Seen p who
       let q = (the_end v who).pending in
       let W : World → Type 0 = λ w. ReadsSome w id most times ordered q r.chunks.items last_answer.Blocked r.transmit.0 d.read.streams d.read.pending in
       let P : Flow → Type 0 = λ k. HasNothingLeft k (peer who) id p.kept v.sent ordered in
-      flow_here P (peer who) id (reads_chunks ordered r.chunks.items) p (nothing_left q r.chunks.items r.transmit.0 d.read.streams d.read.pending (subst W (sym s.here.world) d.reads))
+      flow_here P (peer who) id (reads_chunks ordered r.chunks.items) p (nothing_left last_answer.Blocked q r.chunks.items r.transmit.0 d.read.streams d.read.pending (subst W (sym s.here.world) d.reads) refl)
   ends_reads r last_answer.Ended f d = tt
-  ends_reads r (last_answer.Reset code) f d = tt
+  ends_reads r (last_answer.Reset code) f d =
+      let q = (the_end v who).pending in
+      let W : World → Type 0 = λ w. ReadsSome w id most times ordered q r.chunks.items (last_answer.Reset code) r.transmit.0 d.read.streams d.read.pending in
+      reset_came (last_answer.Reset code) q r.chunks.items r.transmit.0 d.read.streams d.read.pending (subst W (sym s.here.world) d.reads) code refl
   ends_reads r last_answer.Memory f d = tt
   ends_reads r last_answer.More f d = d.reads.count
 
@@ -180,8 +201,8 @@ module _ (p : Past) (who : End) (v : PairState) (x y : Endpoint) (s : Seen p who
         let t = (promised s.linked).0.answers (Began id ordered (Err readable_error.IllegalOrderedRead)) d.asked.streams (may_begin readable_error.IllegalOrderedRead f d) in
         (t.0, s.receives.unordered id t.1)
 
-    answered_so : (answer : Result ReadSome ReadableError) (f : EndState) → ReadsSo (the_end v who) id ordered most times answer f → ReadsTrue (past_read p who id ordered (read_reply answer)) v.sent who id ordered times (read_reply answer)
-    answered_so (Ok r) f d = ends_reads r r.last f d
+    answered_so : (answer : Result ReadSome ReadableError) (f : EndState) → ReadsSo (the_end v who) id ordered most times answer f → ReadsTrue (past_read p who id ordered (read_reply answer)) v.sent who id ordered most times (read_reply answer)
+    answered_so (Ok r) f d = (cut_so d.reads.opened r.chunks.items d.reads.read d.reads.gives, ends_reads r r.last f d)
     answered_so (Err readable_error.ClosedStream) f d = closed_so f d
     answered_so (Err readable_error.IllegalOrderedRead) f d = illegal_so f d
     answered_so (Err readable_error.OutOfMemory) f d = tt
@@ -189,16 +210,16 @@ module _ (p : Past) (who : End) (v : PairState) (x y : Endpoint) (s : Seen p who
 -- ---- the step
 
 module _ (a b : Config) (p : Past) (old new : PairState) (j : Joined a b p old) where
-  abbrev IsRead : End → ℕ → Bool → ℕ → Answer → Type 0
-  IsRead who id ordered times reply = ReadsTrue (past_read p who id ordered reply) old.sent who id ordered times reply
+  abbrev IsRead : End → ℕ → Bool → ℕ → ℕ → Answer → Type 0
+  IsRead who id ordered most times reply = ReadsTrue (past_read p who id ordered reply) old.sent who id ordered most times reply
 
-  read_so : (who : End) (id : ℕ) (ordered : Bool) (most times : ℕ) (reply : Answer) → OnEnd (λ e f. OnGiven e id reply f (ReadsOn e id ordered most times reply f)) old who new → IsRead who id ordered times reply
+  read_so : (who : End) (id : ℕ) (ordered : Bool) (most times : ℕ) (reply : Answer) → OnEnd (λ e f. OnGiven e id reply f (ReadsOn e id ordered most times reply f)) old who new → IsRead who id ordered most times reply
   read_so who id ordered most times reply n = elim n.does [
     | inl known ↦ (let r = known.1 in
-        let P : Answer → Type 0 = λ k. IsRead who id ordered times k in
+        let P : Answer → Type 0 = λ k. IsRead who id ordered most times k in
         subst P (sym r.reply_is)
-        (seen-as a b p old who j (IsRead who id ordered times (read_reply r.answer)) (λ x y side s. answered_so p who old x y s id most times ordered side known.0 r.answer n.end r.reads)))
-    | inr unknown ↦ (let P : Answer → Type 0 = λ k. IsRead who id ordered times k in subst P (sym unknown.1) tt)
+        (seen-as a b p old who j (IsRead who id ordered most times (read_reply r.answer)) (λ x y side s. answered_so p who old x y s id most times ordered side known.0 r.answer n.end r.reads)))
+    | inr unknown ↦ (let P : Answer → Type 0 = λ k. IsRead who id ordered most times k in subst P (sym unknown.1) tt)
   ]
 
   readable_next : (step : Step) (reply : Answer) → Next old step reply new → WithholdsNothing p old.sent step reply

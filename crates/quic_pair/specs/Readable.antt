@@ -1,11 +1,12 @@
 -- What was kept may be read.
-use Rattle.std.specs.Prelude.{ℕ, Bool, true, false, ◌≡◌, ◌⊎◌, List, length, slice_get, Some, Ok}
+use Rattle.std.specs.Prelude.{ℕ, Bool, true, false, ◌≡◌, ◌<◌, ◌≤◌, ◌⊎◌, List, [], ◌∷◌, length, slice_get, Some, Ok}
 use Rattle.quic_values.specs.declared.ids.Side.{Side}
 use Rattle.quic_values.specs.declared.ids.Side.TheVariants.{Client, Server}
 use Rattle.quic_values.specs.declared.ids.Dir.TheVariants.{Uni}
 use Rattle.quic_values.specs.Ids.{initiator_of, dir_of}
 use Rattle.quic_wire.specs.declared.frame.Frame.TheVariants as frames
 use Rattle.quic_wire.specs.declared.frame.ResetStream.{ResetStream}
+use Rattle.quic_assembler.specs.declared.chunk.Chunk.{Chunk}
 use Rattle.quic_receiving.specs.Data.{is_in_slices, IsAllGiven}
 use Rattle.quic_history.specs.History.{slices}
 use Rattle.quic_link.specs.Endpoints.{IsOneOf}
@@ -55,21 +56,28 @@ pub record SomeReset (sent : List Sent) (who : End) (id : ℕ) (places : List Fr
 abbrev pub IsFlowOver : Past → List Sent → End → ℕ → Type 0
 IsFlowOver p sent who id = ((p.flow who id).ended ≡ true) ⊎ (((code : ℕ) × IsOneOf code (p.flow who id).stops) ⊎ SomeReset sent who id p.accepted)
 
--- reads are blocked only where nothing is left, and end with no answer only once as many gave a chunk as were asked for
+-- no chunk has more bytes than were asked for, and each has some where any were
+abbrev pub AreCut : ℕ → List Chunk → Type 0
+AreCut most [] = Unit {0}
+AreCut most (c ∷ cs) = (length c.bytes ≤ most) × (0 < most → 0 < length c.bytes) × AreCut most cs
+
+-- reads are blocked only where nothing is left, told a reset only once its frame was accepted, and end with no answer only
+-- once as many gave a chunk as were asked for
 abbrev pub EndsReads : Past → List Sent → End → ℕ → Bool → ℕ → ℕ → Last → Type 0
 EndsReads p sent who id ordered times count last.Blocked = HasNothingLeft (p.flow (peer who) id) (peer who) id p.kept sent ordered
+EndsReads p sent who id ordered times count (last.Reset code) = SomeReset sent (peer who) id p.accepted
 EndsReads p sent who id ordered times count last.More = count ≡ times
 EndsReads p sent who id ordered times count _ = Unit {0}
 
 -- a stream is closed to an end only where that end sends on it alone, or it is over, and an ordered read is refused only
 -- after one that was not
-abbrev pub ReadsTrue : Past → List Sent → End → ℕ → Bool → ℕ → Answer → Type 0
-ReadsTrue p sent who id ordered times (Ok (Read chunks last transmit)) = EndsReads p sent who id ordered times (length chunks.items) last
-ReadsTrue p sent who id ordered times (Ok Closed) = OnlySends who id ⊎ IsFlowOver p sent (peer who) id
-ReadsTrue p sent who id ordered times (Ok Illegal) = (ordered ≡ true) × ((p.flow (peer who) id).unordered ≡ true)
-ReadsTrue p sent who id ordered times _ = Unit {0}
+abbrev pub ReadsTrue : Past → List Sent → End → ℕ → Bool → ℕ → ℕ → Answer → Type 0
+ReadsTrue p sent who id ordered most times (Ok (Read chunks last transmit)) = AreCut most chunks.items × EndsReads p sent who id ordered times (length chunks.items) last
+ReadsTrue p sent who id ordered most times (Ok Closed) = OnlySends who id ⊎ IsFlowOver p sent (peer who) id
+ReadsTrue p sent who id ordered most times (Ok Illegal) = (ordered ≡ true) × ((p.flow (peer who) id).unordered ≡ true)
+ReadsTrue p sent who id ordered most times _ = Unit {0}
 
 -- a read withholds nothing that was kept; what other steps may withhold is not said here
 abbrev pub WithholdsNothing : Past → List Sent → Step → Answer → Type 0
-WithholdsNothing p sent (steps.Read who id ordered most times) reply = ReadsTrue (past_read p who id ordered reply) sent who id ordered times reply
+WithholdsNothing p sent (steps.Read who id ordered most times) reply = ReadsTrue (past_read p who id ordered reply) sent who id ordered most times reply
 WithholdsNothing p sent _ reply = Unit {0}
