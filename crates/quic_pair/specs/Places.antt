@@ -17,6 +17,7 @@ pub record IsHandedFrame (whole : Sent) (index : ℕ) (h : HandedFrame) : Type 0
   pub writer : h.writer ≡ whole.writer
   pub at : IsFrameAt whole.text.bytes index h.frame
   pub within : data_length h.frame ≤ h.len
+  pub length_is : h.len ≡ length whole.text.bytes
   pub marks : IsReadyToMark whole.text index h.marks
 
 -- the STREAM frame there
@@ -32,6 +33,7 @@ pub record FindsFrame (sent : List Sent) (payload index : ℕ) (h : HandedFrame)
   pub writer : h.writer ≡ whole.writer
   pub at : IsFrameAt whole.text.bytes index h.frame
   pub within : data_length h.frame ≤ h.len
+  pub length_is : h.len ≡ length whole.text.bytes
   pub marks : IsReadyToMark whole.text index h.marks
 
 -- the STREAM frame there
