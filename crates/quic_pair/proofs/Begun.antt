@@ -56,7 +56,7 @@ knows-nothing who m n = record {
 }
 
 kept-nothing : (who : End) (m n : Made) → KeptSent nothing_yet [] who (made_beside n m)
-kept-nothing who m n = record { streams = λ q. none; resets = λ q code final transmit h. elim h [ inl e ↦ cc | inr e ↦ absurd e ] }
+kept-nothing who m n = record { streams = λ q. none; resets = λ q code final transmit h. elim h [ inl e ↦ cc | inr e ↦ absurd e ]; stops = λ q code h. elim h [ inl e ↦ cc | inr e ↦ absurd e ] }
 
 stands-begun : (m n : Made) → Stands (made_beside m n) (end_begun m n)
 stands-begun m n = record { world = refl; pending = asked-nothing (made_beside m n) }

@@ -17,7 +17,7 @@ use Rattle.quic_history.specs.declared.progress.LastAnswer.TheVariants as last_a
 use Rattle.quic_history.specs.Acknowledged.{was_given}
 use Rattle.quic_history.specs.Receiving.{with_max_streams}
 use Rattle.quic_history.specs.Reading.{ReadsSome, pending_stopped, pending_after, progress_of, bytes_in}
-use Rattle.quic_history.specs.SendEvents.{OpenedOwn}
+use Rattle.quic_history.specs.SendEvents.{OpenedOwn, StoppedOwn}
 use Rattle.quic_history.specs.History.{Event, Received, ReceivedReset, Accepted, Sending, Began, Gave, Ended, Stopped, ToldReset, Trace, trace, flow, with_chunks, with_last, with_reads, with_stop}
 use Rattle.quic_history.proofs.Traces.{itself}
 use Rattle.quic_link.specs.Endpoints.{Endpoint, Linked, acted, IsOneOf, WasGiven, WasStoppedWith, sent_on, came_on}
@@ -432,6 +432,7 @@ module _ (p : Past) (who : End) (old new : PairState) (x y : Endpoint) (s : Seen
             accepts = λ q offset bytes fin sent h. reads-back id most ordered cs last x.calls (Received q offset bytes fin (Ok sent)) tt h;
             keeps = λ q. reads_kept id most ordered cs last x.calls q;
             resets = λ q code final sent h. reads-back id most ordered cs last x.calls (ReceivedReset q code final (Ok sent)) tt h;
+            stops = λ q code h. reads-back id most ordered cs last x.calls (Sending (StoppedOwn q code (Ok tt))) tt h;
           };
           end = f;
           stands = record {

@@ -5,7 +5,7 @@ use Rattle.quic_receiving.specs.declared.transmit.ShouldTransmit.{ShouldTransmit
 use Rattle.quic_retransmits.specs.Settling.{noted_in}
 use Rattle.quic_flows.specs.Flow.{SendFlow}
 use Rattle.quic_history.specs.World.{World}
-use Rattle.quic_history.specs.SendEvents.{OpenedOwn}
+use Rattle.quic_history.specs.SendEvents.{OpenedOwn, StoppedOwn}
 use Rattle.quic_history.specs.History.{Event, Received, ReceivedReset, Began, Stopped, Accepted, Sending, Step, Trace, send_move_of, limits_in, move_of}
 use Rattle.quic_link.specs.Endpoints.{Endpoint, MayAct, acted, IsOneOf, sent_on, came_on}
 use Rattle.quic_link.specs.Asked.{AreAsked}
@@ -130,6 +130,7 @@ IsQuiet (Received id offset bytes fin answer) = ⊥
 IsQuiet (ReceivedReset id code final answer) = ⊥
 IsQuiet (Stopped id code answer) = ⊥
 IsQuiet (Began id ordered (Ok u)) = ⊥
+IsQuiet (Sending (StoppedOwn id code answer)) = ⊥
 IsQuiet _ = Unit {0}
 
 -- and no stream given
@@ -139,7 +140,7 @@ IsSilent (Accepted dir (Some id)) = ⊥
 IsSilent e = IsQuiet e
 
 pub silent-quiet : (e : Event) → IsSilent e → IsQuiet e
-silent-quiet (Sending e) w = tt
+silent-quiet (Sending (OpenedOwn dir closed (Ok (Some id)))) w = absurd w
 silent-quiet (Accepted dir answer) w = tt
 silent-quiet e w = w
 
@@ -155,6 +156,7 @@ called-once who old new x y e v f o w k is quiet = record { onward = o; quiet = 
 no_frame : (e : Event) → IsQuiet e → IsNoFrame e
 no_frame (Received id offset bytes fin answer) w = w
 no_frame (ReceivedReset id code final answer) w = w
+no_frame (Sending (StoppedOwn id code answer)) w = w
 no_frame _ w = tt
 
 pub quiet-accepts : (x : Endpoint) (e : Event) (v : World) → IsQuiet e → HearsNothing x (acted x e v)

@@ -73,7 +73,7 @@ deliver-refused old new n i refusals.NoSuchPayload h e = (h, e)
 deliver-refused old new n i refusals.NoSuchFrame h e = record { payload = record { sent = h.whole; is = h.is }; why = h.why; is = e }
 deliver-refused old new n i refusals.NotAccepted h e = absurd h.why
 deliver-refused old new n i refusals.UnknownId h e = absurd h
-deliver-refused old new n i refusals.OutOfMemory h e = inl e
+deliver-refused old new n i refusals.OutOfMemory h e = inl (record { sent = h.whole; is = h.is }, e)
 
 module _ (old mid new : PairState) (n i : ℕ) (h : HandedFrame) (f : FindsFrame old.sent n i h) where
   at_writer : (P : EndState → EndState → Type 0) → OnEnd P old (peer h.writer) mid → OnEnd P old (peer f.whole.writer) mid
@@ -117,14 +117,14 @@ lose-refused old new n i refusals.NoSuchPayload h e = (h, e)
 lose-refused old new n i refusals.NoSuchFrame h e = record { payload = record { sent = h.whole; is = h.is }; why = h.why; is = e }
 lose-refused old new n i refusals.NotAccepted h e = absurd h.why
 lose-refused old new n i refusals.UnknownId h e = absurd h
-lose-refused old new n i refusals.OutOfMemory h e = inl e
+lose-refused old new n i refusals.OutOfMemory h e = inl (record { sent = h.whole; is = h.is }, e)
 
 pub ack-refused : (old new : PairState) (n i : ℕ) (error : PairError) → FailsToFind old.sent n (λ text. LacksStream text.bytes i) IsNeverRefused error → new ≡ old → AcksFrame old n i (Err error) new
 ack-refused old new n i refusals.NoSuchPayload h e = (h, e)
 ack-refused old new n i refusals.NoSuchFrame h e = record { payload = record { sent = h.whole; is = h.is }; why = h.why; is = e }
 ack-refused old new n i refusals.NotAccepted h e = absurd h.why
 ack-refused old new n i refusals.UnknownId h e = absurd h
-ack-refused old new n i refusals.OutOfMemory h e = inl e
+ack-refused old new n i refusals.OutOfMemory h e = inl (record { sent = h.whole; is = h.is }, e)
 
 module _ (old new : PairState) (n i : ℕ) (s : SentStream) (f : FindsStream old.sent n i s) where
   on_writer : (P : EndState → EndState → Type 0) → OnEnd P old s.writer new → OnEnd P old f.whole.writer new
@@ -159,14 +159,14 @@ lose-control-so old new n whole is who w end (Ok done) o f e =
     let P : End → Type 0 = λ k. end ≡ with_pending (the_end old k) (merged_if (the_end old k).pending (shown_if whole.control)) in
     let Q : End → Type 0 = λ k. new ≡ with_end old k end in
     record { payload = record { sent = whole; is = is }; end = end; end_is = subst P (sym w) o; is = subst Q (sym w) e }
-lose-control-so old new n whole is who w end (Err error) o f e = e ∙ ap (λ k. with_end old who k) f ∙ end_same old who
+lose-control-so old new n whole is who w end (Err error) o f e = (record { sent = whole; is = is }, e ∙ ap (λ k. with_end old who k) f ∙ end_same old who)
 
 pub control-refused : (old new : PairState) (n : ℕ) (error : PairError) → FailsToFind old.sent n (λ text. SpellsNone text.bytes) LacksAccepted error → new ≡ old → AcksControl old n (Err error) new
 control-refused old new n refusals.NoSuchPayload h e = (h, e)
 control-refused old new n refusals.NoSuchFrame h e = record { payload = record { sent = h.whole; is = h.is }; why = h.why; is = e }
 control-refused old new n refusals.NotAccepted h e = record { payload = record { sent = h.whole; is = h.is }; why = h.why; is = e }
 control-refused old new n refusals.UnknownId h e = absurd h
-control-refused old new n refusals.OutOfMemory h e = inl e
+control-refused old new n refusals.OutOfMemory h e = inl (record { sent = h.whole; is = h.is }, e)
 
 module _ (old new : PairState) (n : ℕ) (writer : End) (ids : List ℕ) (f : FindsResets old.sent n writer ids) where
   by_writer : (P : EndState → EndState → Type 0) → OnEnd P old writer new → OnEnd P old f.whole.writer new

@@ -1,8 +1,10 @@
 -- A frame that is handed to an end is a call of a linked end.
 use Rattle.std.proofs.Common.{◌≡◌, ◌⊎◌, ℕ, Bool, List, Result, Ok, Err, refl, sym, ap, ◌∙◌, subst, inl, inr}
+use Rattle.quic_values.specs.declared.memory.OutOfMemory.{OutOfMemory}
 use Rattle.quic_wire.specs.declared.frame.Frame.{Frame}
 use Rattle.quic_wire.specs.declared.frame.Frame.TheVariants as frames
 use Rattle.quic_wire.specs.declared.frame.ResetStream.{ResetStream}
+use Rattle.quic_wire.specs.declared.frame.StopSending.{StopSending}
 use Rattle.quic_wire.specs.declared.frame.Stream.{Stream}
 use Rattle.quic_wire.specs.declared.error.ReceiveError.{ReceiveError}
 use Rattle.quic_wire.specs.declared.error.ReceiveError.TheVariants as receive_error
@@ -10,7 +12,7 @@ use Rattle.quic_receiving.specs.declared.transmit.ShouldTransmit.{ShouldTransmit
 use Rattle.quic_retransmits.specs.Pending.{Pending}
 use Rattle.quic_history.specs.World.{World}
 use Rattle.quic_history.specs.SendEvents.{StoppedOwn, RaisedData, RaisedLimit, RaisedCount}
-use Rattle.quic_history.specs.History.{Event, Received, ReceivedReset, Step}
+use Rattle.quic_history.specs.History.{Event, Received, ReceivedReset, Sending, Step}
 use Rattle.quic_link.specs.Endpoints.{Endpoint, Linked, first_acts, MayAct, acted, IsOneOf, WasAccepted}
 use Rattle.quic_link.specs.Asked.{AreAsked}
 use Rattle.quic_endpoint.specs.Ends.{EndState, with_limit_told}
@@ -18,7 +20,7 @@ use Rattle.quic_endpoint.specs.Receiving.{ReceivesAt, MakesCall, event_of, with_
 use Rattle.quic_pair.specs.Payloads.{meta_of}
 use Rattle.quic_pair.proofs.Joined.{Stands}
 use Rattle.quic_pair.proofs.KeptFrames.{HearsFrame, kept_in, kept-other}
-use Rattle.quic_pair.proofs.PayloadKeeps.{Keeps, keeps-received, keeps-reset}
+use Rattle.quic_pair.proofs.PayloadKeeps.{Keeps, keeps-received, keeps-reset, keeps-send}
 use Rattle.quic_pair.proofs.ReportsControl.{Reaches, reached-send, reached-same, stands-told, stands-at, asked-flags}
 
 abbrev Answered : Type 0
@@ -71,7 +73,7 @@ hears_stream x y e f g answer l s wrote step pending =
       keeps = k;
       here = record { world = refl; pending = pending_at (acted x event f.streams) e.pending f.pending pending (k.asked e.pending s.pending) };
       heard = λ q offset bytes fin transmit h. elim h [ inl is ↦ inr (same_frame g answer q offset bytes fin transmit is) | inr old ↦ inl old ];
-      frame_heard = record { keeps = λ q. refl; resets = λ q code final transmit h. elim h [ inl is ↦ cc | inr old ↦ inl old ] };
+      frame_heard = record { keeps = λ q. refl; resets = λ q code final transmit h. elim h [ inl is ↦ cc | inr old ↦ inl old ]; stops = λ q code h. elim h [ inl is ↦ cc | inr old ↦ inl old ] };
       told = λ stream transmit is ok.
           let P : Stream → Type 0 = λ m. WasAccepted (acted x event f.streams).calls m.id (meta_of m).offsets m.fin in
           subst P (ap (stream_in g) is) (record { bytes = g.bytes; transmit = transmit; is = inl (sym (ap (λ a. Received g.id g.offset g.bytes g.fin a) ok)); behind = refl });
@@ -106,6 +108,48 @@ hears_reset x y e f g answer l s wrote step pending =
       frame_heard = record {
         keeps = λ q. refl;
         resets = λ q code final transmit h. elim h [ inl is ↦ inr (same_reset g answer q code final transmit is) | inr old ↦ inl old ];
+        stops = λ q code h. elim h [ inl is ↦ cc | inr old ↦ inl old ];
+      };
+      told = λ stream transmit is ok. cc;
+    }
+
+-- ---- a STOP_SENDING frame
+
+abbrev stop_in : Frame → Event → Frame
+stop_in g (Sending (StoppedOwn id code answer)) = frames.StopSending (record { id = id; error_code = code })
+stop_in g _ = g
+
+abbrev stop_answer : Result (Unit {0}) OutOfMemory → Event → Result (Unit {0}) OutOfMemory
+stop_answer a (Sending (StoppedOwn id code answer)) = answer
+stop_answer a _ = a
+
+stop_done : (answer : Answered) → stopped_so answer ≡ Ok tt → (transmit : ShouldTransmit) × (answer ≡ Ok transmit)
+stop_done (Ok transmit) e = (transmit, refl)
+stop_done (Err error) e = cc
+
+same_stop : (g : StopSending) (answer : Answered) (q code : ℕ) → Sending (StoppedOwn q code (Ok tt)) ≡ Sending (StoppedOwn g.id g.error_code (stopped_so answer))
+    → (frames.StopSending g ≡ frames.StopSending (record { id = q; error_code = code })) × (transmit : ShouldTransmit) × (answer ≡ Ok transmit)
+same_stop g answer q code e =
+    let done = stop_done answer (sym (ap (stop_answer (stopped_so answer)) e)) in
+    (sym (ap (stop_in (frames.StopSending g)) e), done.0, done.1)
+
+hears_stop : (x y : Endpoint) (e f : EndState) (g : StopSending) (answer : Answered) → Linked x y → Stands x e → IsOneOf (frames.StopSending g) y.wrote → Step e.streams (Sending (StoppedOwn g.id g.error_code (stopped_so answer))) f.streams
+    → f.pending ≡ e.pending → Hears x y (frames.StopSending g) answer f
+hears_stop x y e f g answer l s wrote step pending =
+    let stop = StoppedOwn g.id g.error_code (stopped_so answer) in
+    let event = Sending stop in
+    let may : MayAct x y event f.streams = record { fits = tt; honest = wrote; step = step_at x.world e.streams f.streams event s.world step } in
+    let k = keeps-send x y stop f.streams tt l may in
+    record {
+      end = acted x event f.streams;
+      linked = first_acts event f.streams l may;
+      keeps = k;
+      here = record { world = refl; pending = pending_at (acted x event f.streams) e.pending f.pending pending (k.asked e.pending s.pending) };
+      heard = λ q offset bytes fin transmit h. elim h [ inl is ↦ cc | inr old ↦ inl old ];
+      frame_heard = record {
+        keeps = λ q. refl;
+        resets = λ q code final transmit h. elim h [ inl is ↦ cc | inr old ↦ inl old ];
+        stops = λ q code h. elim h [ inl is ↦ inr (same_stop g answer q code is) | inr old ↦ inl old ];
       };
       told = λ stream transmit is ok. cc;
     }
@@ -120,7 +164,7 @@ quietly x y frame answer f r other = record {
   keeps = r.keeps;
   here = r.here;
   heard = λ q offset bytes fin transmit h. inl (r.hears.accepts q offset bytes fin transmit h);
-  frame_heard = record { keeps = λ q. r.hears.keeps q ∙ sym (kept-other frame answer q (kept_in x.calls q) other); resets = λ q code final transmit h. inl (r.hears.resets q code final transmit h) };
+  frame_heard = record { keeps = λ q. r.hears.keeps q ∙ sym (kept-other frame answer q (kept_in x.calls q) other); resets = λ q code final transmit h. inl (r.hears.resets q code final transmit h); stops = λ q code h. inl (r.hears.stops q code h) };
   told = λ stream transmit is ok. absurd (other stream is);
 }
 
@@ -134,14 +178,13 @@ hears_call : (x y : Endpoint) (e f : EndState) (frame : Frame) (answer : Answere
 hears_call x y e f (frames.Stream g) answer l s wrote call pending = hears_stream x y e f g answer l s wrote call pending
 hears_call x y e f (frames.ResetStream g) answer l s wrote call pending =
     hears_reset x y e f g answer l s wrote call pending
-hears_call x y e f (frames.StopSending g) answer l s wrote call pending =
-    quietly x y (frames.StopSending g) answer f (reached-send x y e f (StoppedOwn g.id g.error_code (stopped_so answer)) l s tt wrote call pending) (λ stream is. cc)
+hears_call x y e f (frames.StopSending g) answer l s wrote call pending = hears_stop x y e f g answer l s wrote call pending
 hears_call x y e f (frames.MaxData limit) answer l s wrote call pending =
-    quietly x y (frames.MaxData limit) answer f (reached-send x y e f (RaisedData limit) l s tt wrote call pending) (λ stream is. cc)
+    quietly x y (frames.MaxData limit) answer f (reached-send x y e f (RaisedData limit) l s tt tt wrote call pending) (λ stream is. cc)
 hears_call x y e f (frames.MaxStreamData id limit) answer l s wrote call pending =
-    quietly x y (frames.MaxStreamData id limit) answer f (reached-send x y e f (RaisedLimit id limit (done_so answer)) l s tt wrote call pending) (λ stream is. cc)
+    quietly x y (frames.MaxStreamData id limit) answer f (reached-send x y e f (RaisedLimit id limit (done_so answer)) l s tt tt wrote call pending) (λ stream is. cc)
 hears_call x y e f (frames.MaxStreams dir count) answer l s wrote call pending =
-    quietly x y (frames.MaxStreams dir count) answer f (reached-send x y e f (RaisedCount dir count (done_so answer)) l s tt wrote call pending) (λ stream is. cc)
+    quietly x y (frames.MaxStreams dir count) answer f (reached-send x y e f (RaisedCount dir count (done_so answer)) l s tt tt wrote call pending) (λ stream is. cc)
 hears_call x y e f frame answer l s wrote call pending = quietly x y frame answer f (reached_none x y e f l s call pending) (λ stream is. cc)
 
 -- what an answer asks for is flags

@@ -191,5 +191,5 @@ module _ (a b : Config) (p : Past) (old new : PairState) (number index : ℕ) (j
   pub joined-delivers : (reply : Answer) → Delivers old number index reply new → Joined a b (after_deliver p (number, index) reply) new
   joined-delivers (Err NoSuchPayload) k = joined-same a b p old new number j k.1
   joined-delivers (Err NoSuchFrame) k = joined-same a b p old new number j k.is
-  joined-delivers (Err NoMemory) k = elim k [ inl is ↦ joined-same a b p old new number j is | inr t ↦ handed_over (Err NoMemory) t ]
+  joined-delivers (Err NoMemory) k = elim k [ inl w ↦ joined-same a b p old new number j w.1 | inr t ↦ handed_over (Err NoMemory) t ]
   joined-delivers reply k = handed_over reply k

@@ -11,13 +11,15 @@ use Rattle.quic_link.specs.Endpoints.{Endpoint, IsOneOf, sent_on, came_on, writt
 use Rattle.quic_link.specs.Truths.{AreBytesOf, amount_on}
 use Rattle.quic_link.specs.Promises.{TellsTruth, Promises, CameWhole, CameAt, EndCame, given_in_order}
 use Rattle.quic_link.proofs.Promised.{promised}
+use Rattle.quic_link.proofs.Readers.{InRows}
+use Rattle.quic_link.proofs.Joint.{agrees}
 use Rattle.quic_steps.specs.declared.steps.End.{End}
 use Rattle.quic_steps.specs.declared.steps.End.TheVariants.{A, B}
 use Rattle.quic_steps.specs.declared.steps.Config.{Config}
 use Rattle.quic_pair.specs.declared.sent.Sent.{Sent}
 use Rattle.quic_pair.specs.State.{PairState}
 use Rattle.quic_pair.specs.History.{Past, Flow}
-use Rattle.quic_pair.specs.Headline.{Headline, IsFaithful, IsDelivered, IsBeginningOf, SomeStream, HasOffset, HasEnd}
+use Rattle.quic_pair.specs.Headline.{Headline, IsFaithful, IsDelivered, IsBeginningOf, AreInOrder, SomeStream, HasOffset, HasEnd}
 use Rattle.quic_pair.proofs.Joined.{Knows, IsLike, Seen, Joined}
 
 -- ---- bytes at their places are a beginning
@@ -40,6 +42,10 @@ beginning (x ∷ xs) (y ∷ ys) h =
     let more = beginning xs ys (byte_tail x y xs ys h) in
     (more.0, cc)
 
+in_order : (given : List ReadChunk) → InRows given → AreInOrder given
+in_order [] rows = tt
+in_order (c ∷ cs) rows = (in_order cs rows.0, rows.1)
+
 -- ---- what came whole was delivered
 
 module _ (p : Past) (sent : List Sent) (who : End) (x y : Endpoint) (k : Knows p sent who x y) where
@@ -61,13 +67,14 @@ module _ (p : Past) (sent : List Sent) (who : End) (x y : Endpoint) (k : Knows p
   }
 
   -- what is true of linked ends is true of what a caller knows
-  pub faithful : (q : ℕ) → TellsTruth x y q → IsFaithful (p.flow who q) who q p.accepted sent
-  faithful q t =
+  pub faithful : (q : ℕ) → TellsTruth x y q → InRows (came_on y q).given → IsFaithful (p.flow who q) who q p.accepted sent
+  faithful q t rows =
       let f = p.flow who q in
       let all : (came_on y q).ended ≡ true → IsAllGiven (slices (came_on y q).given) (length f.written) = λ e. subst (IsAllGiven (slices (came_on y q).given)) (length-written q) (t.all e) in
       let bytes : AreBytesOf 0 (given_in_order f.given) f.written = rw (← k.given q, ← k.written q) t.beginning in record {
         beginning = beginning (given_in_order f.given) f.written bytes;
         slices_written = rw (← k.given q, ← k.written q) t.slices_written;
+        in_order = rw (← k.given q) (in_order (came_on y q).given rows);
         once = rw (← k.given q) t.once;
         ended = λ e. let told = k.ended q ∙ e in (sym (k.finished q) ∙ t.finished told, subst (λ g. IsAllGiven (slices g) (length f.written)) (k.given q) (all told));
         resets = λ code h. k.resets q code (k.told_resets q code h);
@@ -76,5 +83,5 @@ module _ (p : Past) (sent : List Sent) (who : End) (x y : Endpoint) (k : Knows p
       }
 
 pub headline : (a b : Config) (p : Past) (v : PairState) → Joined a b p v → Headline p v.sent
-headline a b p v j A id = let all = promised j.seen.linked in faithful p v.sent A j.first j.second j.seen.sends id (all.0.truth id)
-headline a b p v j B id = let all = promised j.seen.linked in faithful p v.sent B j.second j.first j.seen.receives id (all.1.truth id)
+headline a b p v j A id = let all = promised j.seen.linked in faithful p v.sent A j.first j.second j.seen.sends id (all.0.truth id) (((agrees j.seen.linked).1).reads.traces id).rows
+headline a b p v j B id = let all = promised j.seen.linked in faithful p v.sent B j.second j.first j.seen.receives id (all.1.truth id) (((agrees j.seen.linked).0).reads.traces id).rows

@@ -1,6 +1,7 @@
 -- A frame that was kept at a place was handed in by a call, and a stream that was stopped or reset was so by one.
 use Rattle.std.proofs.Common.{◌≡◌, ◌⊎◌, ℕ, Bool, true, false, List, [], ◌∷◌, Option, Some, None, is_some, Result, Ok, Err, refl, sym, ap, ◌∙◌, subst, inl, inr}
 use Rattle.std.specs.Prelude.{◌==◌, ◌&&◌, if◌then◌else◌}
+use Rattle.std.proofs.lemmas.Option.{same_Some}
 use Rattle.quic_assembler.specs.declared.chunk.Chunk.{Chunk}
 use Rattle.quic_wire.specs.declared.frame.Frame.TheVariants as frames
 use Rattle.quic_wire.specs.declared.frame.Stream.{Stream}
@@ -123,10 +124,20 @@ module _ (id code q : ℕ) (t : Trace) where
   stop_now u true e k = inr (ap (λ (j : ℕ). Stopped j code (Ok tt)) (same_id q id e))
   stop_now u false e k = inl k
 
-  reset_now : (final : ℕ) (transmit : ShouldTransmit) (b : Bool) → (q == id) ≡ b → is_some (if b then with_reset code final t else t).reset ≡ true
-      → (is_some t.reset ≡ true) ⊎ (ReceivedReset q code final (Ok transmit) ≡ ReceivedReset id code final (Ok transmit))
-  reset_now final transmit true e k = inr (ap (λ (j : ℕ). ReceivedReset j code final (Ok transmit)) (same_id q id e))
-  reset_now final transmit false e k = inl k
+  reset_code : (c : ℕ) (final : ℕ) → (with_reset code final t).reset ≡ Some c → (t.reset ≡ Some c) ⊎ (code ≡ c)
+  reset_code c final k = by_closed (is_closed t) k
+    where
+      by_closed : (b : Bool) → (if b then t else record t { high = final; sized = true; reset = Some code; gone = t.stopped }).reset ≡ Some c → (t.reset ≡ Some c) ⊎ (code ≡ c)
+      by_closed true e = inl e
+      by_closed false e = inr (same_Some code c e)
+
+  reset_now : (c : ℕ) (final : ℕ) (transmit : ShouldTransmit) (b : Bool) → (q == id) ≡ b → (if b then with_reset code final t else t).reset ≡ Some c
+      → (t.reset ≡ Some c) ⊎ (ReceivedReset q c final (Ok transmit) ≡ ReceivedReset id code final (Ok transmit))
+  reset_now c final transmit true e k = elim (reset_code c final k) [
+    | inl old ↦ inl old
+    | inr now ↦ inr (ap (λ (j : ℕ). ReceivedReset j c final (Ok transmit)) (same_id q id e) ∙ ap (λ (d : ℕ). ReceivedReset id d final (Ok transmit)) (sym now))
+  ]
+  reset_now c final transmit false e k = inl k
 
   stop_kept : (final : ℕ) (b : Bool) → (if b then with_reset code final t else t).stopped ≡ t.stopped
   stop_kept final true = stop_either (is_closed t)
@@ -148,13 +159,13 @@ stop_by (ReceivedReset id code final (Ok transmit)) q t k = inl (sym (stop_kept 
 stop_by (ReceivedReset id code final (Err error)) q t k = inl k
 stop_by e q t k = inl (sym (as_before e q t tt).0 ∙ k)
 
--- and reset by one
-reset_by : (e : Event) (q : ℕ) (t : Trace) → is_some (moved (move_of e) q t).reset ≡ true → (is_some t.reset ≡ true) ⊎ ((code : ℕ) × (final : ℕ) × (transmit : ShouldTransmit) × (ReceivedReset q code final (Ok transmit) ≡ e))
-reset_by (ReceivedReset id code final (Ok transmit)) q t k = elim (reset_now id code q t final transmit (q == id) refl k) [ inl old ↦ inl old | inr now ↦ inr (code, final, transmit, now) ]
-reset_by (ReceivedReset id code final (Err error)) q t k = inl k
-reset_by (Stopped id code (Ok u)) q t k = inl (ap (λ (o : Option ℕ). is_some o) (sym (reset_kept id code q t (q == id))) ∙ k)
-reset_by (Stopped id code (Err error)) q t k = inl k
-reset_by e q t k = inl (ap (λ (o : Option ℕ). is_some o) (sym (as_before e q t tt).1) ∙ k)
+-- and reset by one with its code
+reset_by : (e : Event) (q c : ℕ) (t : Trace) → (moved (move_of e) q t).reset ≡ Some c → (t.reset ≡ Some c) ⊎ ((final : ℕ) × (transmit : ShouldTransmit) × (ReceivedReset q c final (Ok transmit) ≡ e))
+reset_by (ReceivedReset id code final (Ok transmit)) q c t k = elim (reset_now id code q t c final transmit (q == id) refl k) [ inl old ↦ inl old | inr now ↦ inr (final, transmit, now) ]
+reset_by (ReceivedReset id code final (Err error)) q c t k = inl k
+reset_by (Stopped id code (Ok u)) q c t k = inl (sym (reset_kept id code q t (q == id)) ∙ k)
+reset_by (Stopped id code (Err error)) q c t k = inl k
+reset_by e q c t k = inl (sym (as_before e q t tt).1 ∙ k)
 
 -- nothing is forgotten where nothing is told any more
 still : (P : Trace → Type 0) (e : Event) (q : ℕ) (t : Trace) → (P untouched → ⊥) → P (told_still e q t) → P t
@@ -171,9 +182,9 @@ was-stopped (e ∷ h) q k = elim (stop_by e q (told_still e q (trace h q)) k) [
   | inr now ↦ (now.0, inl now.1)
 ]
 
-pub was-reset : (h : List Event) (q : ℕ) → is_some (trace h q).reset ≡ true → (code : ℕ) × (final : ℕ) × (transmit : ShouldTransmit) × IsOneOf (ReceivedReset q code final (Ok transmit)) h
-was-reset [] q k = cc
-was-reset (e ∷ h) q k = elim (reset_by e q (told_still e q (trace h q)) k) [
-  | inl old ↦ (let before = was-reset h q (still (λ t. is_some t.reset ≡ true) e q (trace h q) (λ n. cc) old) in (before.0, before.1, before.2, inr before.3))
-  | inr now ↦ (now.0, now.1, now.2, inl now.3)
+pub was-reset : (h : List Event) (q c : ℕ) → (trace h q).reset ≡ Some c → (final : ℕ) × (transmit : ShouldTransmit) × IsOneOf (ReceivedReset q c final (Ok transmit)) h
+was-reset [] q c k = cc
+was-reset (e ∷ h) q c k = elim (reset_by e q c (told_still e q (trace h q)) k) [
+  | inl old ↦ (let before = was-reset h q c (still (λ t. t.reset ≡ Some c) e q (trace h q) (λ n. cc) old) in (before.0, before.1, inr before.2))
+  | inr now ↦ (now.0, now.1, inl now.2)
 ]

@@ -21,7 +21,7 @@ use Rattle.quic_pair.specs.Replies.{received_reply}
 use Rattle.quic_pair.specs.State.{peer}
 use Rattle.quic_pair.specs.History.{Past, FramePlace, after_deliver}
 use Rattle.quic_pair.specs.Headline.{IsStreamFrom}
-use Rattle.quic_pair.specs.Readable.{SomeReset}
+use Rattle.quic_pair.specs.Readable.{SomeReset, SomeStop}
 use Rattle.quic_pair.specs.Unrefused.{StreamsAt, none, on, beside}
 use Rattle.quic_pair.proofs.Flips.{peer-other}
 use Rattle.quic_pair.proofs.KeptFrames.{KeptSent, HearsFrame, kept_in, kept_of}
@@ -71,16 +71,23 @@ module _ (sent more : List Sent) (who : End) (id : ℕ) (stay : StaySent sent mo
       let k = stay at.0 payload is in
       beside at k.0 (streams_stay before) k.1 (λ s from e. lacks s (was_from at payload is s from) e)
 
-  reset_stays : (ps : List FramePlace) → SomeReset sent who id ps → SomeReset more who id ps
-  reset_stays ps r =
+  reset_stays : (code : ℕ) (ps : List FramePlace) → SomeReset sent who id code ps → SomeReset more who id code ps
+  reset_stays code ps r =
       let k = stay r.at.0 r.payload r.is in
       let P : List ℕ → Type 0 = λ bytes. IsFrameAt bytes r.at.1 (frames.ResetStream r.frame) in
-      record { at = r.at; listed = r.listed; payload = k.0; is = k.1; writer = k.2 ∙ r.writer; frame = r.frame; there = subst P (sym k.3) r.there; on = r.on }
+      record { at = r.at; listed = r.listed; payload = k.0; is = k.1; writer = k.2 ∙ r.writer; frame = r.frame; there = subst P (sym k.3) r.there; on = r.on; with_code = r.with_code }
+
+  stop_stays : (code : ℕ) (ps : List FramePlace) → SomeStop sent who id code ps → SomeStop more who id code ps
+  stop_stays code ps r =
+      let k = stay r.at.0 r.payload r.is in
+      let P : List ℕ → Type 0 = λ bytes. IsFrameAt bytes r.at.1 (frames.StopSending r.frame) in
+      record { at = r.at; listed = r.listed; payload = k.0; is = k.1; writer = k.2 ∙ r.writer; frame = r.frame; there = subst P (sym k.3) r.there; on = r.on; with_code = r.with_code }
 
 pub kept-stay : (p : Past) (sent more : List Sent) (who : End) (y : Endpoint) → StaySent sent more → KeptSent p sent who y → KeptSent p more who y
 kept-stay p sent more who y stay k = record {
   streams = λ id. streams_stay sent more who id stay (k.streams id);
-  resets = λ id code final transmit h. reset_stays sent more who id stay p.accepted (k.resets id code final transmit h);
+  resets = λ id code final transmit h. reset_stays sent more who id stay code p.accepted (k.resets id code final transmit h);
+  stops = λ id code h. stop_stays sent more who id stay code p.accepted (k.stops id code h);
 }
 
 -- ---- a frame is handed over
@@ -138,8 +145,11 @@ accepted_now p at answer transmit e =
 module _ (p : Past) (sent : List Sent) (who : End) (at : FramePlace) (payload : Sent) (is : slice_get sent at.0 ≡ Some payload) (w : payload.writer ≡ peer who) (frame : Frame) (there : IsFrameAt payload.text.bytes at.1 frame)
     (answer : Result ShouldTransmit ReceiveError) where
   -- resets that were accepted stay so
-  resets_before : (from : End) (q : ℕ) → SomeReset sent from q p.accepted → SomeReset sent from q (after_deliver p at (received_reply answer)).accepted
-  resets_before from q r = record { at = r.at; listed = accepted_after p at answer r.at r.listed; payload = r.payload; is = r.is; writer = r.writer; frame = r.frame; there = r.there; on = r.on }
+  resets_before : (from : End) (q code : ℕ) → SomeReset sent from q code p.accepted → SomeReset sent from q code (after_deliver p at (received_reply answer)).accepted
+  resets_before from q code r = record { at = r.at; listed = accepted_after p at answer r.at r.listed; payload = r.payload; is = r.is; writer = r.writer; frame = r.frame; there = r.there; on = r.on; with_code = r.with_code }
+
+  stops_before : (from : End) (q code : ℕ) → SomeStop sent from q code p.accepted → SomeStop sent from q code (after_deliver p at (received_reply answer)).accepted
+  stops_before from q code r = record { at = r.at; listed = accepted_after p at answer r.at r.listed; payload = r.payload; is = r.is; writer = r.writer; frame = r.frame; there = r.there; on = r.on; with_code = r.with_code }
 
   -- of what the end sent that it is handed to, none came
   pub kept-aside : (y : Endpoint) → KeptSent p sent who y → KeptSent (after_deliver p at (received_reply answer)) sent who y
@@ -148,7 +158,8 @@ module _ (p : Past) (sent : List Sent) (who : End) (at : FramePlace) (payload : 
         let P : List FramePlace → Type 0 = λ l. StreamsAt sent who q l (kept_in y.calls q) in
         subst P (sym (kept_after p at answer))
         (place_beside sent who q at payload is p.kept (kept_in y.calls q) (k.streams q) (is_kept answer) (λ s from e. peer-other who (sym (writer-here sent who at payload is s from) ∙ w)));
-    resets = λ q code final transmit h. resets_before who q (k.resets q code final transmit h);
+    resets = λ q code final transmit h. resets_before who q code (k.resets q code final transmit h);
+    stops = λ q code h. stops_before who q code (k.stops q code h);
   }
 
   -- of what the other sent it may be one
@@ -159,7 +170,7 @@ module _ (p : Past) (sent : List Sent) (who : End) (at : FramePlace) (payload : 
         let Q : List Stream → Type 0 = λ l. StreamsAt sent (peer who) q (if is_kept answer then at ∷ p.kept else p.kept) l in
         subst P (sym (kept_after p at answer)) (subst Q (sym (h.keeps q)) (place_frame sent (peer who) q at payload is p.kept (kept_in x.calls q) (k.streams q) frame answer there w));
     resets = λ q code final transmit i. elim (h.resets q code final transmit i) [
-      | inl before ↦ resets_before (peer who) q (k.resets q code final transmit before)
+      | inl before ↦ resets_before (peer who) q code (k.resets q code final transmit before)
       | inr now ↦ (let P : Frame → Type 0 = λ g. IsFrameAt payload.text.bytes at.1 g in
           record {
             at = at;
@@ -170,6 +181,22 @@ module _ (p : Past) (sent : List Sent) (who : End) (at : FramePlace) (payload : 
             frame = record { id = q; error_code = code; final_offset = final };
             there = subst P now.0 there;
             on = refl;
+            with_code = refl;
+          })
+    ];
+    stops = λ q code i. elim (h.stops q code i) [
+      | inl before ↦ stops_before (peer who) q code (k.stops q code before)
+      | inr now ↦ (let P : Frame → Type 0 = λ g. IsFrameAt payload.text.bytes at.1 g in
+          record {
+            at = at;
+            listed = accepted_now p at answer now.1 now.2;
+            payload = payload;
+            is = is;
+            writer = w;
+            frame = record { id = q; error_code = code };
+            there = subst P now.0 there;
+            on = refl;
+            with_code = refl;
           })
     ];
   }

@@ -8,6 +8,9 @@ pub mod CallsSetting
 pub mod Deeds
 pub mod DeliverFrames
 pub mod DeliverMarks
+pub mod Drained
+pub mod Due
+pub mod DuePayloads
 pub mod Flips
 pub mod GivenSo
 pub mod Gives
@@ -34,5 +37,6 @@ pub mod ReportsControl
 pub mod ReportsStreams
 pub mod Runs
 pub mod Served
+pub mod Stops
 pub mod Texts
 pub mod Unrefused

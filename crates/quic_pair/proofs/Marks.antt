@@ -208,26 +208,26 @@ module _ (p : Past) (old new : PairState) (m : AreMarkedSo p.accepted old.sent) 
     marks_delivers : (reply : Answer) → Delivers old number index reply new → AreMarkedSo (after_deliver p (number, index) reply).accepted new.sent
     marks_delivers (Err NoSuchPayload) k = marks_stay k.1
     marks_delivers (Err NoSuchFrame) k = marks_stay k.is
-    marks_delivers (Err NoMemory) k = elim k [ inl is ↦ marks_stay is | inr t ↦ marks_handed (Err NoMemory) t ]
+    marks_delivers (Err NoMemory) k = elim k [ inl w ↦ marks_stay w.1 | inr t ↦ marks_handed (Err NoMemory) t ]
     marks_delivers reply k = marks_handed reply k
 
     marks_loses : (reply : Answer) → LosesFrame old number index reply new → AreMarkedSo p.accepted new.sent
     marks_loses (Err NoSuchPayload) k = marks_stay k.1
     marks_loses (Err NoSuchFrame) k = marks_stay k.is
-    marks_loses (Err NoMemory) k = elim k [ inl is ↦ marks_stay is | inr t ↦ marks_end t.payload.sent.writer t.end t.is ]
+    marks_loses (Err NoMemory) k = elim k [ inl w ↦ marks_stay w.1 | inr t ↦ marks_end t.payload.sent.writer t.end t.is ]
     marks_loses reply k = marks_end k.payload.sent.writer k.end k.is
 
     marks_acks : (reply : Answer) → AcksFrame old number index reply new → AreMarkedSo p.accepted new.sent
     marks_acks (Err NoSuchPayload) k = marks_stay k.1
     marks_acks (Err NoSuchFrame) k = marks_stay k.is
     marks_acks (Err NotAccepted) k = marks_stay k.is
-    marks_acks (Err NoMemory) k = elim k [ inl is ↦ marks_stay is | inr t ↦ marks_end t.payload.sent.writer t.end t.is ]
+    marks_acks (Err NoMemory) k = elim k [ inl w ↦ marks_stay w.1 | inr t ↦ marks_end t.payload.sent.writer t.end t.is ]
     marks_acks reply k = marks_end k.payload.sent.writer k.end k.is
 
   marks_loses_control : (number : ℕ) (reply : Answer) → LosesControl old number reply new → AreMarkedSo p.accepted new.sent
   marks_loses_control number (Ok Done) k = marks_end k.payload.sent.writer k.end k.is
   marks_loses_control number (Err NoSuchPayload) k = marks_stay k.1
-  marks_loses_control number (Err NoMemory) k = marks_stay k
+  marks_loses_control number (Err NoMemory) k = marks_stay k.1
   marks_loses_control number _ k = absurd k
 
   marks_acks_control : (number : ℕ) (reply : Answer) → AcksControl old number reply new → AreMarkedSo p.accepted new.sent
@@ -235,7 +235,7 @@ module _ (p : Past) (old new : PairState) (m : AreMarkedSo p.accepted old.sent) 
   marks_acks_control number (Err NoSuchPayload) k = marks_stay k.1
   marks_acks_control number (Err NoSuchFrame) k = marks_stay k.is
   marks_acks_control number (Err NotAccepted) k = marks_stay k.is
-  marks_acks_control number (Err NoMemory) k = elim k [ inl is ↦ marks_stay is | inr t ↦ marks_end t.payload.sent.writer t.end t.is ]
+  marks_acks_control number (Err NoMemory) k = elim k [ inl w ↦ marks_stay w.1 | inr t ↦ marks_end t.payload.sent.writer t.end t.is ]
   marks_acks_control number _ k = absurd k
 
 -- ---- all steps

@@ -17,7 +17,7 @@ use Rattle.quic_link.specs.Promises.{WasReadUnordered}
 use Rattle.quic_link.specs.Asked.{AreAsked}
 use Rattle.quic_link.proofs.Joint.{agrees}
 use Rattle.quic_link.proofs.AskedFor.{asked-acted}
-use Rattle.quic_pair.proofs.KeptFrames.{HearsNothing, hears-call}
+use Rattle.quic_pair.proofs.KeptFrames.{HearsNothing, IsNoFrame, hears-call}
 use Rattle.quic_pair.proofs.Gives.{GivesNone, GaveNone, gave-none}
 
 -- the sending side of a stream, as far as the steps tell it
@@ -156,8 +156,8 @@ quiet_given _ k = tt
 pub keeps-send : (x y : Endpoint) (e : SendEvent) (v : World) → IsQuietSend e → Linked x y → MayAct x y (Sending e) v → Keeps x (acted x (Sending e) v)
 keeps-send x y e v k l a = keeps_call x y (Sending e) v (quiet_given e k) l a (λ q. quiet_flow x e v q k) (λ q. trace-refl (came_on x q)) (λ q code h. cc) (λ q h. cc)
 
-pub hears-send : (x : Endpoint) (e : SendEvent) (v : World) → HearsNothing x (acted x (Sending e) v)
-hears-send x e v = hears-call x (Sending e) v tt
+pub hears-send : (x : Endpoint) (e : SendEvent) (v : World) → IsNoFrame (Sending e) → HearsNothing x (acted x (Sending e) v)
+hears-send x e v w = hears-call x (Sending e) v w
 
 -- ---- frames that come
 

@@ -51,7 +51,7 @@ module _ (x y : Endpoint) (most : ℕ) (fair : Bool) (w : World) (b c : Writer) 
         end = z;
         linked = first_acts (Sending e) (with_writer w c) t.linked may;
         keeps = keeps-both x t.end z t.keeps keeps;
-        hears = hears-both x t.end z t.hears (hears-send t.end e (with_writer w c));
+        hears = hears-both x t.end z t.hears (hears-send t.end e (with_writer w c) tt);
         world = refl;
         wrote = λ g h. keeps.wrote g (t.wrote g h);
       }
@@ -69,7 +69,7 @@ module _ (x y : Endpoint) (most : ℕ) (fair : Bool) (w : World) (b c : Writer) 
         end = z;
         linked = first_acts (Sending e) (with_writer w c) t.linked may;
         keeps = keeps-both x t.end z t.keeps keeps;
-        hears = hears-both x t.end z t.hears (hears-send t.end e (with_writer w c));
+        hears = hears-both x t.end z t.hears (hears-send t.end e (with_writer w c) tt);
         world = refl;
         wrote = λ g h. elim (mapped_either (frame_with (written_on x)) frames m g h) [ inl before ↦ keeps.wrote g (t.wrote g before) | inr now ↦ inl (now ∙ sym same) ];
       }

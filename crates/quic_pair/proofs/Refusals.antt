@@ -14,7 +14,7 @@ fails-so (Err refusals.NoSuchPayload) sent n whole Lacks is none only = elim onl
 fails-so (Err refusals.NoSuchFrame) sent n whole Lacks is none only = record { whole = whole; is = is; why = none refl }
 fails-so (Err refusals.NotAccepted) sent n whole Lacks is none only = elim only [ inl e ↦ cc | inr e ↦ cc ]
 fails-so (Err refusals.UnknownId) sent n whole Lacks is none only = elim only [ inl e ↦ cc | inr e ↦ cc ]
-fails-so (Err refusals.OutOfMemory) sent n whole Lacks is none only = tt
+fails-so (Err refusals.OutOfMemory) sent n whole Lacks is none only = record { whole = whole; is = is; why = tt }
 
 pub fails-or-refused : {T : Type 0} (result : Result T PairError) (sent : List Sent) (n : ℕ) (whole : Sent) (Lacks Refused : SentText → Type 0) → slice_get sent n ≡ Some whole → (result ≡ Err refusals.NoSuchFrame → Lacks whole.text) → (result ≡ Err refusals.NotAccepted → Refused whole.text)
     → IfErr result (λ e. (e ≡ refusals.NoSuchFrame) ⊎ ((e ≡ refusals.NotAccepted) ⊎ (e ≡ refusals.OutOfMemory))) → IfErr result (FailsToFind sent n Lacks Refused)
@@ -23,4 +23,4 @@ fails-or-refused (Err refusals.NoSuchPayload) sent n whole Lacks Refused is none
 fails-or-refused (Err refusals.NoSuchFrame) sent n whole Lacks Refused is none refused only = record { whole = whole; is = is; why = none refl }
 fails-or-refused (Err refusals.NotAccepted) sent n whole Lacks Refused is none refused only = record { whole = whole; is = is; why = refused refl }
 fails-or-refused (Err refusals.UnknownId) sent n whole Lacks Refused is none refused only = elim only [ inl e ↦ cc | inr o ↦ elim o [ inl e ↦ cc | inr e ↦ cc ] ]
-fails-or-refused (Err refusals.OutOfMemory) sent n whole Lacks Refused is none refused only = tt
+fails-or-refused (Err refusals.OutOfMemory) sent n whole Lacks Refused is none refused only = record { whole = whole; is = is; why = tt }

@@ -18,10 +18,10 @@ use Rattle.quic_pair.specs.Payloads.{IsControlAccepted, LacksAccepted, LacksFram
 use Rattle.quic_pair.specs.Replies.{Answer}
 use Rattle.quic_pair.specs.State.{PairState, OnEnd, the_end}
 use Rattle.quic_pair.specs.Calls.{OnGiven}
-use Rattle.quic_pair.specs.Steps.{Next, Delivers, LosesFrame, AcksFrame, LosesControl, AcksControl}
+use Rattle.quic_pair.specs.Steps.{HasPayload, Next, Delivers, LosesFrame, AcksFrame, LosesControl, AcksControl}
 use Rattle.quic_pair.specs.History.{Past, History, FramePlace, past_of}
 use Rattle.quic_pair.specs.From.{From}
-use Rattle.quic_pair.specs.Refused.{IsTaken, IsKnownSo, IsFoundSo, Never, Always, HasFrame, HasStream, HasAccepted, HasUnaccepted, HasAllAccepted, HasOneUnaccepted, IsRefusedSo}
+use Rattle.quic_pair.specs.Refused.{IsTaken, IsKnownSo, IsFoundSo, HasBytes, Never, Always, HasFrame, HasStream, HasAccepted, HasUnaccepted, HasAllAccepted, HasOneUnaccepted, IsRefusedSo}
 use Rattle.quic_pair.proofs.Marks.{AreMarkedSo, marks-from}
 use Rattle.quic_pair.proofs.Honest.{honest-from}
 use Rattle.quic_pair.proofs.GivenSo.{AreKnown, known-from}
@@ -75,6 +75,9 @@ module _ (accepted : List FramePlace) (sent : List Sent) (m : AreMarkedSo accept
 
 -- ---- steps on payloads
 
+on_sent : {old : PairState} {number : ℕ} → HasPayload old number → HasBytes old.sent number Always
+on_sent h = record { payload = h.sent; is = h.is; are = tt }
+
 module _ (p : Past) (old new : PairState) (m : AreMarkedSo p.accepted old.sent) where
   delivers_so : (number index : ℕ) (reply : Answer) → Delivers old number index reply new → IsFoundSo old.sent number (λ bytes. LacksFrame bytes index) Never (λ bytes. HasFrame bytes index) reply
   delivers_so number index (Ok reply) k = record { payload = k.payload.sent; is = k.payload.is; are = (k.frame, k.at) }
@@ -82,7 +85,7 @@ module _ (p : Past) (old new : PairState) (m : AreMarkedSo p.accepted old.sent) 
   delivers_so number index (Err NoSuchFrame) k = record { payload = k.payload.sent; is = k.payload.is; are = k.why }
   delivers_so number index (Err NotAccepted) k = absurd (served-hands (Err NotAccepted) k tt)
   delivers_so number index (Err UnknownId) k = absurd (served-hands (Err UnknownId) k tt)
-  delivers_so number index (Err NoMemory) k = tt
+  delivers_so number index (Err NoMemory) k = elim k [ inl w ↦ on_sent w.0 | inr t ↦ on_sent t.payload ]
 
   loses_so : (number index : ℕ) (reply : Answer) → LosesFrame old number index reply new → IsFoundSo old.sent number (λ bytes. LacksStream bytes index) Never (λ bytes. HasStream bytes index) reply
   loses_so number index (Ok reply) k = record { payload = k.payload.sent; is = k.payload.is; are = (k.at.stream, k.at.at) }
@@ -90,7 +93,7 @@ module _ (p : Past) (old new : PairState) (m : AreMarkedSo p.accepted old.sent) 
   loses_so number index (Err NoSuchFrame) k = record { payload = k.payload.sent; is = k.payload.is; are = k.why }
   loses_so number index (Err NotAccepted) k = absurd (served-loss (Err NotAccepted) k tt)
   loses_so number index (Err UnknownId) k = absurd (served-loss (Err UnknownId) k tt)
-  loses_so number index (Err NoMemory) k = tt
+  loses_so number index (Err NoMemory) k = elim k [ inl w ↦ on_sent w.0 | inr t ↦ on_sent t.payload ]
 
   acks_so : (number index : ℕ) (reply : Answer) → AcksFrame old number index reply new
       → IsFoundSo old.sent number (λ bytes. LacksStream bytes index) (HasUnaccepted p.accepted number index) (HasAccepted p.accepted number index) reply
@@ -103,12 +106,12 @@ module _ (p : Past) (old new : PairState) (m : AreMarkedSo p.accepted old.sent) 
     are = ((k.why.at.stream, k.why.at.at), unmarked_so p.accepted old.sent m number k.payload.sent k.payload.is index k.why.refused);
   }
   acks_so number index (Err UnknownId) k = absurd (served-ack (Err UnknownId) k tt)
-  acks_so number index (Err NoMemory) k = tt
+  acks_so number index (Err NoMemory) k = elim k [ inl w ↦ on_sent w.0 | inr t ↦ on_sent t.payload ]
 
   loses_control_so : (number : ℕ) (reply : Answer) → LosesControl old number reply new → IsFoundSo old.sent number Never Never Always reply
   loses_control_so number (Ok Done) k = record { payload = k.payload.sent; is = k.payload.is; are = tt }
   loses_control_so number (Err NoSuchPayload) k = k.0
-  loses_control_so number (Err NoMemory) k = tt
+  loses_control_so number (Err NoMemory) k = on_sent k.0
   loses_control_so number _ k = absurd k
 
   acks_control_so : AreSpelled old.sent → (number : ℕ) (reply : Answer) → AcksControl old number reply new
@@ -117,7 +120,7 @@ module _ (p : Past) (old new : PairState) (m : AreMarkedSo p.accepted old.sent) 
   acks_control_so t number (Err NoSuchPayload) k = k.0
   acks_control_so t number (Err NoSuchFrame) k = let spelled = t number k.payload.sent k.payload.is in absurd (k.why spelled.0 spelled.1)
   acks_control_so t number (Err NotAccepted) k = record { payload = k.payload.sent; is = k.payload.is; are = one_unlisted p.accepted old.sent m number k.payload.sent k.payload.is k.why }
-  acks_control_so t number (Err NoMemory) k = tt
+  acks_control_so t number (Err NoMemory) k = elim k [ inl w ↦ on_sent w.0 | inr part ↦ on_sent part.payload ]
   acks_control_so t number _ k = absurd k
 
 -- ---- all steps

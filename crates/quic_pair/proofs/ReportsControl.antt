@@ -23,7 +23,7 @@ use Rattle.quic_pair.specs.Steps.{LosesAllControl, LosesControl, AcksAllControl,
 use Rattle.quic_pair.specs.History.{Past}
 use Rattle.quic_pair.proofs.Joined.{Stands, Seen, Sees, Joined}
 use Rattle.quic_pair.proofs.Flips.{joined-by}
-use Rattle.quic_pair.proofs.KeptFrames.{HearsNothing, hears-none, hears-both}
+use Rattle.quic_pair.proofs.KeptFrames.{HearsNothing, IsNoFrame, hears-none, hears-both}
 use Rattle.quic_pair.proofs.PayloadKeeps.{Keeps, IsQuietSend, keeps-refl, keeps-both, keeps-send, hears-send}
 use Rattle.quic_pair.proofs.PayloadKnows.{seen-called}
 
@@ -57,8 +57,8 @@ stands-at x e f k s = let P : EndState → Type 0 = λ j. Stands x j in subst P 
 -- ---- one report
 
 -- a call on the sending side that the steps tell nothing of, after which as much is pending
-pub reached-send : (x y : Endpoint) (e f : EndState) (event : SendEvent) → Linked x y → Stands x e → IsQuietSend event → IsHonestSending x y event → SendStep e.streams event f.streams → f.pending ≡ e.pending → Reaches x y f
-reached-send x y e f event l s quiet honest step pending =
+pub reached-send : (x y : Endpoint) (e f : EndState) (event : SendEvent) → Linked x y → Stands x e → IsQuietSend event → IsNoFrame (Sending event) → IsHonestSending x y event → SendStep e.streams event f.streams → f.pending ≡ e.pending → Reaches x y f
+reached-send x y e f event l s quiet none_heard honest step pending =
     let P : World → Type 0 = λ u. SendStep u event f.streams in
     let may : MayAct x y (Sending event) f.streams = record { fits = tt; honest = honest; step = subst P (sym s.world) step } in
     let k = keeps-send x y event f.streams quiet l may in
@@ -67,7 +67,7 @@ reached-send x y e f event l s quiet honest step pending =
       end = acted x (Sending event) f.streams;
       linked = first_acts (Sending event) f.streams l may;
       keeps = k;
-      hears = hears-send x event f.streams;
+      hears = hears-send x event f.streams none_heard;
       here = record { world = refl; pending = subst Q (sym pending) (k.asked e.pending s.pending) };
     }
 
@@ -89,7 +89,7 @@ reached-same x y e l s = record { end = x; linked = l; keeps = keeps-refl x; hea
 -- ---- acknowledgements of resets
 
 ack_reached : (x y : Endpoint) (e : EndState) (id : ℕ) (answer : Result (Unit {0}) OutOfMemory) (f : EndState) → Linked x y → Stands x e → AcksResetAt e id answer f → Reaches x y f
-ack_reached x y e id answer f l s k = reached-told x y k.acked f _ (reached-send x y e k.acked (ResetAckedOwn id answer) l s tt tt k.acks k.pending) k.is
+ack_reached x y e id answer f l s k = reached-told x y k.acked f _ (reached-send x y e k.acked (ResetAckedOwn id answer) l s tt tt tt k.acks k.pending) k.is
 
 acks_reached : {e f : EndState} {ids : List ℕ} (x y : Endpoint) → Linked x y → Stands x e → AcksResets e ids f → Reaches x y f
 acks_reached x y l s (none {e}) = reached-same x y e l s
@@ -136,7 +136,7 @@ module _ (a b : Config) (p : Past) (old new : PairState) (number : ℕ) (j : Joi
   pub joined-loses-control : (reply : Answer) → LosesControl old number reply new → Joined a b p new
   joined-loses-control (Ok Done) k = joined-by a b p p k.payload.sent.writer old new j (λ x y s. seen-loses-control p k.payload.sent.writer old new x y number s k refl)
   joined-loses-control (Err NoSuchPayload) k = joined-same k.1
-  joined-loses-control (Err NoMemory) k = joined-same k
+  joined-loses-control (Err NoMemory) k = joined-same k.1
   joined-loses-control _ k = absurd k
 
   pub joined-acks-control : (reply : Answer) → AcksControl old number reply new → Joined a b p new
@@ -145,7 +145,7 @@ module _ (a b : Config) (p : Past) (old new : PairState) (number : ℕ) (j : Joi
   joined-acks-control (Err NoSuchFrame) k = joined-same k.is
   joined-acks-control (Err NotAccepted) k = joined-same k.is
   joined-acks-control (Err NoMemory) k = elim k [
-    | inl is ↦ joined-same is
+    | inl w ↦ joined-same w.1
     | inr t ↦ joined-by a b p p t.payload.sent.writer old new j (λ x y s. seen-acks-some p t.payload.sent.writer old new x y number s t refl)
   ]
   joined-acks-control _ k = absurd k

@@ -50,7 +50,7 @@ seen-loses-stream p who old new x y number index reply s k w =
     let l = subst P w k.loses in
     let i = s.own number k.payload.sent k.payload.is w in
     seen-reached p who old new x y k.end s
-    (reached-send x y (the_end old who) k.end (LostOwn k.meta.id k.meta.offsets k.meta.fin k.answer) s.linked s.here tt (stream_written x y k.payload.sent i index k.meta k.at) l.loses l.pending)
+    (reached-send x y (the_end old who) k.end (LostOwn k.meta.id k.meta.offsets k.meta.fin k.answer) s.linked s.here tt tt (stream_written x y k.payload.sent i index k.meta k.at) l.loses l.pending)
     (k.is ∙ ap (λ v. with_end old v k.end) w)
 
 -- ---- an acknowledgement
@@ -67,7 +67,7 @@ seen-acks-stream p who old new x y number index reply s k w =
     let i = s.own number k.payload.sent k.payload.is w in
     seen-reached p who old new x y k.end s
     (reached-told x y l.acked k.end (is_ok k.answer)
-    (reached-send x y (the_end old who) l.acked (AckedOwn k.meta.id k.meta.offsets k.meta.fin k.answer) s.linked s.here tt (stream_accepted x y k.payload.sent i index k.meta k.at k.accepted) l.acks l.pending) l.is)
+    (reached-send x y (the_end old who) l.acked (AckedOwn k.meta.id k.meta.offsets k.meta.fin k.answer) s.linked s.here tt tt (stream_accepted x y k.payload.sent i index k.meta k.at k.accepted) l.acks l.pending) l.is)
     (k.is ∙ ap (λ v. with_end old v k.end) w)
 
 -- ---- all of these steps
@@ -79,7 +79,7 @@ module _ (a b : Config) (p : Past) (old new : PairState) (number index : ℕ) (j
   pub joined-loses-stream : (reply : Answer) → LosesFrame old number index reply new → Joined a b p new
   joined-loses-stream (Err NoSuchPayload) k = joined-same a b p old new number j k.1
   joined-loses-stream (Err NoSuchFrame) k = joined-same a b p old new number j k.is
-  joined-loses-stream (Err NoMemory) k = elim k [ inl is ↦ joined-same a b p old new number j is | inr t ↦ lost (Err NoMemory) t ]
+  joined-loses-stream (Err NoMemory) k = elim k [ inl w ↦ joined-same a b p old new number j w.1 | inr t ↦ lost (Err NoMemory) t ]
   joined-loses-stream reply k = lost reply k
 
   acked : (reply : Answer) → ReportsAck old number index reply new → Joined a b p new
@@ -89,5 +89,5 @@ module _ (a b : Config) (p : Past) (old new : PairState) (number index : ℕ) (j
   joined-acks-stream (Err NoSuchPayload) k = joined-same a b p old new number j k.1
   joined-acks-stream (Err NoSuchFrame) k = joined-same a b p old new number j k.is
   joined-acks-stream (Err NotAccepted) k = joined-same a b p old new number j k.is
-  joined-acks-stream (Err NoMemory) k = elim k [ inl is ↦ joined-same a b p old new number j is | inr t ↦ acked (Err NoMemory) t ]
+  joined-acks-stream (Err NoMemory) k = elim k [ inl w ↦ joined-same a b p old new number j w.1 | inr t ↦ acked (Err NoMemory) t ]
   joined-acks-stream reply k = acked reply k

@@ -9,10 +9,11 @@ use Rattle.quic_pair.specs.State.{PairState}
 use Rattle.quic_pair.specs.Steps.{Next}
 use Rattle.quic_pair.specs.History.{History, Past, past_of}
 use Rattle.quic_pair.specs.From.{From, next}
-use Rattle.quic_pair.specs.Runs.{StepByStep, none, more, TakesSteps, Behind, Throughout, IsTrueOf, StaysIfRefused}
+use Rattle.quic_pair.specs.Runs.{StepByStep, none, more, TakesSteps, Behind, Around, Throughout, IsTrueOf, StaysIfRefused, AsksOf}
 use Rattle.quic_pair.proofs.Grown.{headline-from}
 use Rattle.quic_pair.proofs.Honest.{honest-from}
 use Rattle.quic_pair.proofs.Served.{refused-stays}
+use Rattle.quic_pair.proofs.Due.{asks-for}
 
 -- one more step and one more reply
 zip-behind : {X Y : Type 0} (xs : List X) (ys : List Y) (x : X) (y : Y) → length ys ≡ length xs → zip (xs ++ x ∷ []) (ys ++ y ∷ []) ≡ zip xs ys ++ (x, y) ∷ []
@@ -41,6 +42,14 @@ each-behind Holds holds a b h old _ _ f none = none
 each-behind Holds holds a b h old _ _ f (more {taken} {between} {new} step reply run n each) =
     more step reply (each-behind Holds holds a b h old taken between f run) n (holds a b (h ++ taken) between new step reply (from-steps f run) n)
 
+-- so does what holds of the pair behind it, too
+pub each-around : (Holds : Past → List Sent → Step → Answer → PairState → Type 0)
+    → ((a b : Config) (h : History) (old new : PairState) (step : Step) (reply : Answer) → From a b h old → Next old step reply new → Holds (past_of h) old.sent step reply new)
+    → (a b : Config) (h : History) (old : PairState) (taken : History) (new : PairState) → From a b h old → TakesSteps old taken new → StepByStep (Around Holds h) old taken new
+each-around Holds holds a b h old _ _ f none = none
+each-around Holds holds a b h old _ _ f (more {taken} {between} {new} step reply run n each) =
+    more step reply (each-around Holds holds a b h old taken between f run) n (holds a b (h ++ taken) between new step reply (from-steps f run) n)
+
 -- what holds of every pair behind its history, holds behind each step of a run
 pub each-after : (a b : Config) (h : History) (old : PairState) (taken : History) (new : PairState) → From a b h old → TakesSteps old taken new → StepByStep (Throughout IsTrueOf h) old taken new
 each-after a b h old _ _ f none = none
@@ -53,3 +62,9 @@ pub each-stays : (old : PairState) (taken : History) (new : PairState) → Takes
 each-stays old _ _ none = none
 each-stays old _ _ (more {taken} {between} {new} step reply run n each) =
     more step reply (each-stays old taken between run) n (λ r. refused-stays between new step reply n r)
+
+-- no step of a run withheld what was due
+pub each-asks : (a b : Config) (h : History) (old : PairState) (taken : History) (new : PairState) → From a b h old → TakesSteps old taken new → StepByStep AsksOf old taken new
+each-asks a b h old _ _ f none = none
+each-asks a b h old _ _ f (more {taken} {between} {new} step reply run n each) =
+    more step reply (each-asks a b h old taken between f run) n (asks-for a b (h ++ taken) between new step reply (from-steps f run) n)

@@ -1,5 +1,5 @@
 -- What holds between two ends, whatever frames are lost, repeated or reordered.
-use Rattle.std.specs.Prelude.{ℕ, ◌≡◌, ◌<◌, ◌+◌, true, List, ◌++◌, length, slice_get, Some}
+use Rattle.std.specs.Prelude.{ℕ, ◌≡◌, ◌<◌, ◌+◌, true, List, [], ◌∷◌, ◌++◌, length, slice_get, Some}
 use Rattle.quic_assembler.specs.Piece.{lies, IsByteAt}
 use Rattle.quic_wire.specs.declared.frame.Frame.{Frame}
 use Rattle.quic_wire.specs.declared.frame.Frame.TheVariants as frames
@@ -47,12 +47,19 @@ pub record IsDelivered (f : Flow) (who : End) (id : ℕ) (accepted : List FrameP
   pub bytes : (at : ℕ) → at < length f.written → SomeStream sent who id accepted (HasOffset at)
   pub end : SomeStream sent who id accepted HasEnd
 
+-- the chunks of ordered reads follow one another; the newest chunk is the first of the list
+abbrev pub AreInOrder : List ReadChunk → Type 0
+AreInOrder [] = Unit {0}
+AreInOrder (c ∷ cs) = AreInOrder cs × (c.ordered ≡ true → c.offset ≡ length (given_in_order cs))
+
 -- what was read and told of what an end sends on a stream is true
 pub record IsFaithful (f : Flow) (who : End) (id : ℕ) (accepted : List FramePlace) (sent : List Sent) : Type 0 where
   -- what ordered reads gave is a beginning of what was written
   pub beginning : IsBeginningOf (given_in_order f.given) f.written
   -- each chunk is what was written at its place
   pub slices_written : (at byte : ℕ) → Carries (slices f.given) at byte → IsByteAt 0 f.written at byte
+  -- a chunk of an ordered read lies behind what ordered reads gave before
+  pub in_order : AreInOrder f.given
   -- no byte is given twice
   pub once : EachOnce (slices f.given)
   -- where a read told the end, the stream was ended, and every byte of it given

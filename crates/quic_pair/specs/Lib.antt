@@ -1,8 +1,10 @@
 pub mod Calls
+pub mod Due
 pub mod From
 pub mod Headline
 pub mod History
 pub mod Honest
+pub mod Law
 pub mod Payloads
 pub mod Places
 pub mod Readable

@@ -57,13 +57,18 @@ pub record HasText (sent : List Sent) (payload : ℕ) (Is : SentText → Type 0)
   pub is : slice_get sent payload ≡ Some whole
   pub why : Is whole.text
 
--- why nothing was found: there is no such payload, its text lacks that, or the text is refused
+-- whatever its text is
+abbrev pub IsAnyText : SentText → Type 0
+IsAnyText text = Unit {0}
+
+-- why nothing was found: there is no such payload, its text lacks that, the text is refused, or memory was wanting to read
+-- it
 abbrev pub FailsToFind : List Sent → ℕ → (Lacks Refused : SentText → Type 0) → PairError → Type 0
 FailsToFind sent payload Lacks Refused refusals.NoSuchPayload = length sent ≤ payload
 FailsToFind sent payload Lacks Refused refusals.NoSuchFrame = HasText sent payload Lacks
 FailsToFind sent payload Lacks Refused refusals.NotAccepted = HasText sent payload Refused
 FailsToFind sent payload Lacks Refused refusals.UnknownId = ⊥
-FailsToFind sent payload Lacks Refused refusals.OutOfMemory = Unit {0}
+FailsToFind sent payload Lacks Refused refusals.OutOfMemory = HasText sent payload IsAnyText
 
 -- for no reason is a text refused
 abbrev pub IsNeverRefused : SentText → Type 0

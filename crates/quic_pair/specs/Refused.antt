@@ -37,23 +37,23 @@ pub record HasBytes (sent : List Sent) (number : ℕ) (Are : List ℕ → Type 0
   pub is : slice_get sent number ≡ Some payload
   pub are : Are payload.text.bytes
 
--- there is no such payload, or its bytes lack the frame, or what has to be accepted was not; and a step that is served is
--- on bytes that serve it
+-- bytes of any kind
+abbrev pub Always : List ℕ → Type 0
+Always bytes = Unit {0}
+
+-- there is no such payload, or its bytes lack the frame, or what has to be accepted was not; a step that is served is on
+-- bytes that serve it, and one for which memory was wanting on a payload that was sent
 abbrev pub IsFoundSo : List Sent → ℕ → (Lack Await Serve : List ℕ → Type 0) → Answer → Type 0
 IsFoundSo sent number Lack Await Serve (Ok reply) = HasBytes sent number Serve
 IsFoundSo sent number Lack Await Serve (Err NoSuchPayload) = length sent ≤ number
 IsFoundSo sent number Lack Await Serve (Err NoSuchFrame) = HasBytes sent number Lack
 IsFoundSo sent number Lack Await Serve (Err NotAccepted) = HasBytes sent number Await
 IsFoundSo sent number Lack Await Serve (Err UnknownId) = ⊥
-IsFoundSo sent number Lack Await Serve (Err NoMemory) = Unit {0}
+IsFoundSo sent number Lack Await Serve (Err NoMemory) = HasBytes sent number Always
 
 -- bytes that are never so
 abbrev pub Never : List ℕ → Type 0
 Never bytes = ⊥
-
--- bytes of any kind
-abbrev pub Always : List ℕ → Type 0
-Always bytes = Unit {0}
 
 -- a frame stands at a place
 abbrev pub HasFrame : List ℕ → ℕ → Type 0
@@ -87,7 +87,8 @@ HasOneUnaccepted accepted number bytes = (index : ℕ) × HasControl bytes index
 
 -- ---- all steps
 
--- a step is refused exactly so, and for no other reason; want of memory is excused
+-- a step is refused exactly so, and for no other reason; want of memory is excused, on a stream that the end was given and
+-- on a payload that was sent
 abbrev pub IsRefusedSo : Past → List Sent → Step → Answer → Type 0
 IsRefusedSo p sent (steps.Write who id bytes) reply = IsKnownSo (p.ids who) id reply
 IsRefusedSo p sent (steps.WriteChunks who id chunks) reply = IsKnownSo (p.ids who) id reply

@@ -9,6 +9,7 @@ use Rattle.quic_pair.specs.History.{History, Past, past_of}
 use Rattle.quic_pair.specs.Headline.{Headline}
 use Rattle.quic_pair.specs.Honest.{AreHonest}
 use Rattle.quic_pair.specs.Refused.{IsRefused}
+use Rattle.quic_pair.specs.Due.{AsksFor}
 
 -- steps were taken one after the other, each with its reply; of each of them holds what `Each` says of the steps of the run
 -- before it, of the pair before it, of the step and its reply, and of the pair behind it
@@ -25,6 +26,10 @@ TakesSteps old taken new = StepByStep (λ before between step reply after. Unit 
 abbrev pub Behind : (Past → List Sent → Step → Answer → Type 0) → History → History → PairState → Step → Answer → PairState → Type 0
 Behind Holds h before between step reply after = Holds (past_of (h ++ before)) between.sent step reply
 
+-- what holds of a step so, and of the pair behind it
+abbrev pub Around : (Past → List Sent → Step → Answer → PairState → Type 0) → History → History → PairState → Step → Answer → PairState → Type 0
+Around Holds h before between step reply after = Holds (past_of (h ++ before)) between.sent step reply after
+
 -- what holds of a pair by what is known of it, holds of the pair behind a history, the steps of the run before this one, and
 -- this one
 abbrev pub Throughout : (Past → PairState → Type 0) → History → History → PairState → Step → Answer → PairState → Type 0
@@ -38,3 +43,7 @@ pub record IsTrueOf (p : Past) (v : PairState) : Type 0 where
 -- a refused step left the pair as it was
 abbrev pub StaysIfRefused : History → PairState → Step → Answer → PairState → Type 0
 StaysIfRefused before between step reply after = IsRefused reply → after ≡ between
+
+-- a step withheld nothing that was due
+abbrev pub AsksOf : History → PairState → Step → Answer → PairState → Type 0
+AsksOf before between step reply after = AsksFor between step reply after

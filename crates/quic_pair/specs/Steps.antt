@@ -69,6 +69,10 @@ pub record HasPayload (old : PairState) (number : ℕ) : Type 0 where
 abbrev pub LacksPayload : PairState → ℕ → PairState → Type 0
 LacksPayload old number new = (length old.sent ≤ number) × (new ≡ old)
 
+-- a payload is there, but memory was wanting before anything was done
+abbrev pub WantsMemoryFor : PairState → ℕ → PairState → Type 0
+WantsMemoryFor old number new = HasPayload old number × (new ≡ old)
+
 -- a payload is there, but its text is not as the step wants it
 pub record RefusesOf (old : PairState) (number : ℕ) (Why : SentText → Type 0) (new : PairState) : Type 0 where
   pub payload : HasPayload old number
@@ -96,7 +100,7 @@ pub record HandsOver (old : PairState) (number index : ℕ) (reply : Answer) (ne
 abbrev pub Delivers : PairState → ℕ → ℕ → Answer → PairState → Type 0
 Delivers old number index (Err NoSuchPayload) new = LacksPayload old number new
 Delivers old number index (Err NoSuchFrame) new = RefusesOf old number (λ s. LacksFrame s.bytes index) new
-Delivers old number index (Err NoMemory) new = (new ≡ old) ⊎ HandsOver old number index (Err NoMemory) new
+Delivers old number index (Err NoMemory) new = WantsMemoryFor old number new ⊎ HandsOver old number index (Err NoMemory) new
 Delivers old number index reply new = HandsOver old number index reply new
 
 -- ---- what becomes of them
@@ -116,7 +120,7 @@ pub record ReportsLoss (old : PairState) (number index : ℕ) (reply : Answer) (
 abbrev pub LosesFrame : PairState → ℕ → ℕ → Answer → PairState → Type 0
 LosesFrame old number index (Err NoSuchPayload) new = LacksPayload old number new
 LosesFrame old number index (Err NoSuchFrame) new = RefusesOf old number (λ s. LacksStream s.bytes index) new
-LosesFrame old number index (Err NoMemory) new = (new ≡ old) ⊎ ReportsLoss old number index (Err NoMemory) new
+LosesFrame old number index (Err NoMemory) new = WantsMemoryFor old number new ⊎ ReportsLoss old number index (Err NoMemory) new
 LosesFrame old number index reply new = ReportsLoss old number index reply new
 
 -- one that was accepted is reported acknowledged
@@ -142,7 +146,7 @@ abbrev pub AcksFrame : PairState → ℕ → ℕ → Answer → PairState → Ty
 AcksFrame old number index (Err NoSuchPayload) new = LacksPayload old number new
 AcksFrame old number index (Err NoSuchFrame) new = RefusesOf old number (λ s. LacksStream s.bytes index) new
 AcksFrame old number index (Err NotAccepted) new = RefusesOf old number (λ s. IsUnaccepted s index) new
-AcksFrame old number index (Err NoMemory) new = (new ≡ old) ⊎ ReportsAck old number index (Err NoMemory) new
+AcksFrame old number index (Err NoMemory) new = WantsMemoryFor old number new ⊎ ReportsAck old number index (Err NoMemory) new
 AcksFrame old number index reply new = ReportsAck old number index reply new
 
 -- what the frames beside STREAM of a payload carried is pending again
@@ -156,7 +160,7 @@ pub record LosesAllControl (old : PairState) (number : ℕ) (new : PairState) : 
 abbrev pub LosesControl : PairState → ℕ → Answer → PairState → Type 0
 LosesControl old number (Ok Done) new = LosesAllControl old number new
 LosesControl old number (Err NoSuchPayload) new = LacksPayload old number new
-LosesControl old number (Err NoMemory) new = new ≡ old
+LosesControl old number (Err NoMemory) new = WantsMemoryFor old number new
 LosesControl old number _ new = ⊥
 
 -- those of a payload, of which each frame beside STREAM was accepted
@@ -183,7 +187,7 @@ AcksControl old number (Ok Done) new = AcksAllControl old number new
 AcksControl old number (Err NoSuchPayload) new = LacksPayload old number new
 AcksControl old number (Err NoSuchFrame) new = RefusesOf old number (λ s. SpellsNone s.bytes) new
 AcksControl old number (Err NotAccepted) new = RefusesOf old number LacksAccepted new
-AcksControl old number (Err NoMemory) new = (new ≡ old) ⊎ AcksSomeControl old number new
+AcksControl old number (Err NoMemory) new = WantsMemoryFor old number new ⊎ AcksSomeControl old number new
 AcksControl old number _ new = ⊥
 
 -- ---- all steps

@@ -16,9 +16,11 @@ ghost use Rattle.quic_link.specs.Endpoints.{limits_of};
 ghost use Rattle.quic_pair.specs.From.{From, made_of, end_begun};
 ghost use Rattle.quic_pair.specs.History.{History, past_of};
 ghost use Rattle.quic_pair.specs.Headline.{Headline};
-ghost use Rattle.quic_pair.specs.Runs.{TakesSteps, StepByStep, Behind, Throughout, IsTrueOf, StaysIfRefused};
+ghost use Rattle.quic_pair.specs.Runs.{TakesSteps, StepByStep, Behind, Around, Throughout, IsTrueOf, StaysIfRefused, AsksOf};
 ghost use Rattle.quic_pair.specs.Unrefused.{RefusesNoFrame};
 ghost use Rattle.quic_pair.specs.Readable.{WithholdsNothing};
+ghost use Rattle.quic_pair.specs.Law.{Drains};
+ghost use Rattle.quic_pair.specs.Due.{AsksFor};
 ghost use Rattle.quic_pair.specs.Honest.{AreHonest};
 ghost use Rattle.quic_pair.specs.Refused.{IsRefused, IsRefusedSo};
 
@@ -405,8 +407,10 @@ impl Pair {
         ensures honest { (a b : Config) (h : History) → From a b h (pair_state self.old) → AreHonest (past_of (h ++ (step, result) ∷ [])) (pair_state self.new) }
         ensures refused { (a b : Config) (h : History) → From a b h (pair_state self.old) → IsRefusedSo (past_of h) (pair_state self.old).sent step result }
         ensures unchanged { IsRefused result → pair_state self.new ≡ pair_state self.old }
-        ensures unrefused { (a b : Config) (h : History) → From a b h (pair_state self.old) → RefusesNoFrame (past_of h) (pair_state self.old).sent step result }
+        ensures unrefused { (a b : Config) (h : History) → From a b h (pair_state self.old) → RefusesNoFrame (past_of h) (pair_state self.old).sent step result (pair_state self.new) }
         ensures readable { (a b : Config) (h : History) → From a b h (pair_state self.old) → WithholdsNothing (past_of h) (pair_state self.old).sent step result }
+        ensures drained { (a b : Config) (h : History) → From a b h (pair_state self.old) → Drains (past_of h) (pair_state self.old).sent step result }
+        ensures due { (a b : Config) (h : History) → From a b h (pair_state self.old) → AsksFor (pair_state self.old) step result (pair_state self.new) }
     {
         self.dispatch(step)
     }
@@ -421,8 +425,10 @@ impl Pair {
         ensures refused { IfOk result (λ replies. (a b : Config) (h : History) → From a b h (pair_state self.old) → StepByStep (Behind IsRefusedSo h) (pair_state self.old) (zip steps.items replies.items) (pair_state self.new)) }
         ensures throughout { IfOk result (λ replies. (a b : Config) (h : History) → From a b h (pair_state self.old) → StepByStep (Throughout IsTrueOf h) (pair_state self.old) (zip steps.items replies.items) (pair_state self.new)) }
         ensures unchanged { IfOk result (λ replies. StepByStep StaysIfRefused (pair_state self.old) (zip steps.items replies.items) (pair_state self.new)) }
-        ensures unrefused { IfOk result (λ replies. (a b : Config) (h : History) → From a b h (pair_state self.old) → StepByStep (Behind RefusesNoFrame h) (pair_state self.old) (zip steps.items replies.items) (pair_state self.new)) }
+        ensures unrefused { IfOk result (λ replies. (a b : Config) (h : History) → From a b h (pair_state self.old) → StepByStep (Around RefusesNoFrame h) (pair_state self.old) (zip steps.items replies.items) (pair_state self.new)) }
         ensures readable { IfOk result (λ replies. (a b : Config) (h : History) → From a b h (pair_state self.old) → StepByStep (Behind WithholdsNothing h) (pair_state self.old) (zip steps.items replies.items) (pair_state self.new)) }
+        ensures drained { IfOk result (λ replies. (a b : Config) (h : History) → From a b h (pair_state self.old) → StepByStep (Behind Drains h) (pair_state self.old) (zip steps.items replies.items) (pair_state self.new)) }
+        ensures due { IfOk result (λ replies. (a b : Config) (h : History) → From a b h (pair_state self.old) → StepByStep AsksOf (pair_state self.old) (zip steps.items replies.items) (pair_state self.new)) }
         ensures err { OnErr result (pair_state self.new ≡ pair_state self.old) }
     {
         let mut replies = Vec::with_capacity(self.alloc, steps.len())?;

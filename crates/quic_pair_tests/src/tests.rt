@@ -10,6 +10,7 @@ mod flows;
 mod keeping;
 mod network;
 mod sessions;
+mod twenty;
 
 fn config(window: u32) -> Config {
     Config {

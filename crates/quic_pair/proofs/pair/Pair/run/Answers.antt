@@ -7,8 +7,10 @@ use Rattle.quic_pair.specs.Runs.{none}
 use Rattle.quic_pair.specs.Unrefused.{RefusesNoFrame}
 use Rattle.quic_pair.specs.Readable.{WithholdsNothing}
 use Rattle.quic_pair.proofs.Grown.{headline-from}
-use Rattle.quic_pair.proofs.Runs.{steps-more, from-steps, each-behind, each-after, each-stays}
+use Rattle.quic_pair.proofs.Runs.{steps-more, from-steps, each-behind, each-around, each-asks, each-after, each-stays}
 use Rattle.quic_pair.proofs.Unrefused.{unrefused-so}
+use Rattle.quic_pair.proofs.Drained.{drains-so}
+use Rattle.quic_pair.specs.Law.{Drains}
 use Rattle.quic_pair.proofs.Readable.{readable-so}
 use Rattle.quic_pair.proofs.Honest.{honest-from}
 use Rattle.quic_pair.proofs.RefusedSo.{refused-so}
@@ -37,9 +39,11 @@ returns c =
       headline = λ a b h f. headline-from (from-steps f c.loop-step.invariant.taken);
       throughout = λ a b h f. each-after a b h _ _ _ f c.loop-step.invariant.taken;
       unchanged = each-stays _ _ _ c.loop-step.invariant.taken;
-      unrefused = λ a b h f. each-behind RefusesNoFrame unrefused-so a b h _ _ _ f c.loop-step.invariant.taken;
+      unrefused = λ a b h f. each-around RefusesNoFrame unrefused-so a b h _ _ _ f c.loop-step.invariant.taken;
       readable = λ a b h f. each-behind WithholdsNothing readable-so a b h _ _ _ f c.loop-step.invariant.taken;
       honest = λ a b h f. honest-from (from-steps f c.loop-step.invariant.taken);
       refused = λ a b h f. each-behind IsRefusedSo refused-so a b h _ _ _ f c.loop-step.invariant.taken;
+      drained = λ a b h f. each-behind Drains drains-so a b h _ _ _ f c.loop-step.invariant.taken;
+      due = λ a b h f. each-asks a b h _ _ _ f c.loop-step.invariant.taken;
       err = tt;
     }))

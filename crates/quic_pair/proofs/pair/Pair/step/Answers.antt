@@ -1,6 +1,8 @@
 use Rattle.quic_pair.specs.From.{next}
 use Rattle.quic_pair.proofs.Grown.{headline-from}
 use Rattle.quic_pair.proofs.Readable.{readable-so}
+use Rattle.quic_pair.proofs.Due.{asks-for}
+use Rattle.quic_pair.proofs.Drained.{drains-so}
 use Rattle.quic_pair.proofs.Unrefused.{unrefused-so}
 use Rattle.quic_pair.proofs.Honest.{honest-from}
 use Rattle.quic_pair.proofs.RefusedSo.{refused-so}
@@ -18,6 +20,12 @@ returns-clause-unrefused c = λ a b h f. unrefused-so a b h _ _ c.args.step c.di
 
 pub returns-clause-readable : goal.returns-clause-readable
 returns-clause-readable c = λ a b h f. readable-so a b h _ _ c.args.step c.dispatch.result f c.dispatch.ensures
+
+pub returns-clause-drained : goal.returns-clause-drained
+returns-clause-drained c = λ a b h f. drains-so a b h _ _ c.args.step c.dispatch.result f c.dispatch.ensures
+
+pub returns-clause-due : goal.returns-clause-due
+returns-clause-due c = λ a b h f. asks-for a b h _ _ c.args.step c.dispatch.result f c.dispatch.ensures
 
 pub returns-clause-honest : goal.returns-clause-honest
 returns-clause-honest c = λ a b h f. honest-from (next c.args.step c.dispatch.result f c.dispatch.ensures)
