@@ -113,7 +113,7 @@ fn the_numbers_of_a_config_have_limits(rt: HostRuntime) -> Result<(), Fail> {
 // Lines that are no steps.
 const NO_STEPS: &str = "\
 opens a uni\nopen  a uni\nopen a uni \n open a uni\nopen a uni\r\nopen c uni\n\
-open a both\nopen a\n\nconfig a 4 4 1000 1000 1000\nwrite a 2 AA\nwrite a 2 a\n\
+open a both\nopen a\n\nconfig a 4 4 1000 1000 1000\nwrite a 2 AA\nwrite a 2 a\nwrite a 2 0\n\
 write a 2 \nwrite a 2 gg\nwrite a 02 00\nwrite a +2 00\nwrite a 4611686018427387904 00\n\
 chunks a 2 00,,00\nread b 2 o 1 0\nread b 2 o 1 65536\nread b 2 x 1 1\n\
 read b 2 o 18446744073709551616 1\npriority a 2 -0\npriority a 2 2147483648\n\
