@@ -102,17 +102,20 @@ impl Link {
             if bytes.is_empty() {
                 break;
             }
-            let tally = &mut self.tally;
-            tally.to_server.see(tally.to_server.bytes, &bytes);
-            let lost = self.network == Network::Lossy
-                && tally.payloads % LOSS_PERIOD == LOSS_PERIOD - 1;
-            tally.payloads = tally.payloads.wrapping_add(1);
+            let lost = self.is_next_lost();
+            self.tally.to_server.see_next(&bytes);
+            self.tally.payloads = self.tally.payloads.wrapping_add(1);
             if !lost {
                 self.server.deliver(&bytes)?;
             }
             self.flight.push(InFlight { sent, lost })?;
         }
         Ok(())
+    }
+
+    // Whether the next payload of the client is lost.
+    fn is_next_lost(&self) -> bool {
+        self.network == Network::Lossy && self.tally.payloads % LOSS_PERIOD == LOSS_PERIOD - 1
     }
 
     fn poll_server(&mut self) -> Result<(), Refused> {
@@ -156,8 +159,7 @@ impl Link {
             if bytes.is_empty() {
                 break 'payloads;
             }
-            let seen = &mut self.tally.to_client;
-            seen.see(seen.bytes, &bytes);
+            self.tally.to_client.see_next(&bytes);
             self.client.deliver(&bytes)?;
             self.server.acknowledge(sent)?;
         }
