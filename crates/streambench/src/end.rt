@@ -4,8 +4,9 @@ ghost use Rattle.std.specs.Prelude.{◌≤◌};
 
 use crate::content::{PIECE, Seen};
 use crate::refused::Refused;
-use quic_receiving::{ReadError, ReadableError};
+use quic_receiving::ReadableError;
 use quic_sending::WriteError;
+use quic_streams::progress::LastAnswer;
 use quic_streams::recv_stream::RecvStream;
 use quic_streams::send_stream::SendStream;
 use quic_streams::state::StreamsState;
@@ -18,6 +19,9 @@ use std::alloc::Global;
 
 // Each window, and each limit of the peer but the number of streams.
 const LIMIT: u32 = 1 << 20;
+
+// The most chunks that are read at once.
+const BATCH: u16 = 64;
 
 /// An end, with what it has to send beside the data of streams.
 #[derive(Drop)]
@@ -115,27 +119,28 @@ impl End {
         first: u64,
         seen: Seen,
     ) -> Result<Option<Read>, Refused> {
-        let mut stream = RecvStream::new(id, &mut self.streams, &mut self.pending);
-        let mut chunks = match stream.read(true) {
-            Ok(chunks) => chunks,
-            Err(ReadableError::ClosedStream) => return Ok(None),
-            Err(_) => return Err(Refused),
-        };
         let mut read = Read { seen, ended: false };
-        'chunks: for _ in 0..u64::MAX {
-            match chunks.next(usize::MAX) {
-                Ok(Some(chunk)) => read
-                    .seen
-                    .see(first.wrapping_add(chunk.offset), chunk.bytes.as_slice()),
-                Ok(None) => {
-                    read.ended = true;
-                    break 'chunks;
-                }
-                Err(ReadError::Blocked) => break 'chunks,
+        'batches: for _ in 0..u64::MAX {
+            let mut stream = RecvStream::new(id, &mut self.streams, &mut self.pending);
+            let batch = match stream.read_some(true, usize::MAX, BATCH) {
+                Ok(batch) => batch,
+                Err(ReadableError::ClosedStream) => return Ok(None),
                 Err(_) => return Err(Refused),
+            };
+            for chunk in &batch.chunks {
+                read.seen
+                    .see(first.wrapping_add(chunk.offset), chunk.bytes.as_slice());
+            }
+            match batch.last {
+                LastAnswer::More => {}
+                LastAnswer::Blocked => break 'batches,
+                LastAnswer::Ended => {
+                    read.ended = true;
+                    break 'batches;
+                }
+                LastAnswer::Reset(_) | LastAnswer::Memory => return Err(Refused),
             }
         }
-        let _ = chunks.finalize();
         Ok(Some(read))
     }
 
