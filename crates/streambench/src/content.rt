@@ -77,6 +77,13 @@ impl Seen {
         self.bytes = self.bytes.wrapping_add(bytes.len() as u64);
         self.sum = mix(self.sum, offset, bytes);
     }
+
+    /// Sees bytes that follow those that were seen before.
+    #[inline]
+    pub(crate) fn see_next(&mut self, bytes: &[u8]) {
+        let offset = self.bytes;
+        self.see(offset, bytes);
+    }
 }
 
 // A sum, and what bytes at an offset add to it.

@@ -1,5 +1,7 @@
 use quic_assembler::{EnsureError, InsertError};
+use quic_sending::FinishError;
 use quic_values::OutOfMemory;
+use quic_wire::{DecodeError, ReceiveError};
 use std::alloc::{AllocError, AllocFailed};
 
 /// The answer of a case that was not run to its end.
@@ -35,6 +37,24 @@ impl From<InsertError> for Refused {
 
 impl From<EnsureError> for Refused {
     fn from(_error: EnsureError) -> Self {
+        Refused
+    }
+}
+
+impl From<FinishError> for Refused {
+    fn from(_error: FinishError) -> Self {
+        Refused
+    }
+}
+
+impl From<DecodeError> for Refused {
+    fn from(_error: DecodeError) -> Self {
+        Refused
+    }
+}
+
+impl From<ReceiveError> for Refused {
+    fn from(_error: ReceiveError) -> Self {
         Refused
     }
 }

@@ -1,7 +1,8 @@
 use crate::{
     REFUSED, streambench_case_a, streambench_case_b, streambench_case_c, streambench_case_c2,
     streambench_case_d, streambench_case_e, streambench_case_e2, streambench_case_f,
-    streambench_case_j, streambench_case_z,
+    streambench_case_g, streambench_case_h, streambench_case_i, streambench_case_j,
+    streambench_case_z,
 };
 use std::alloc::{AllocError, Global};
 use std::test::Fail;
@@ -69,6 +70,36 @@ fn frames_are_sent_until_all_is_acknowledged(rt: HostRuntime) -> Result<(), Fail
 }
 
 #[test]
+fn a_stream_goes_from_end_to_end(rt: HostRuntime) -> Result<(), Fail> {
+    let alloc = rt.alloc();
+    let src = zeros(alloc)?;
+    // The server answers with MAX_STREAMS, 0x13 and 2; one stream is opened, acknowledged, and one more permitted.
+    let answer = (0x14 + 2) + 3;
+    // One frame, 0x0b, 2 and a length of one or of two bytes.
+    let (none, some) = (12 + 3 + 1, (12 + 2 + 3 + 4) + 1004 + 1 + 10);
+    assert_eq!(rt; streambench_case_g(alloc, 0, &src, &[]), none + answer);
+    assert_eq!(rt; streambench_case_g(alloc, 1000, &src, &[]), some + answer);
+    assert_eq!(rt; streambench_case_i(alloc, 1000, &src, &[]), some + answer);
+    // 21 payloads, of which the twentieth is sent twice, and 25,298 bytes in all. All but the first that comes tell
+    // that the stream is readable. 94 of the bytes read are seen.
+    let lost = 5870 + 25_298 + 22 + 20 + 94 * 95 / 2;
+    assert_eq!(rt; streambench_case_i(alloc, 24_000, &src, &[]), lost + answer);
+    Ok(())
+}
+
+#[test]
+fn streams_are_written_in_parts(rt: HostRuntime) -> Result<(), Fail> {
+    let alloc = rt.alloc();
+    let src = zeros(alloc)?;
+    assert_eq!(rt; streambench_case_h(alloc, 0, &src, &[]), 0);
+    // Four frames of 256 bytes, with heads of 4, 6, 6 and 6 bytes. Five events: opened, three times readable, finished.
+    let sum = (11 + 2 + 3 + 4 + 5) + 1046 + 4 + 5 + (1 + 2 + 3 + 4);
+    assert_eq!(rt; streambench_case_h(alloc, 1, &src, &[]), sum);
+    assert_eq!(rt; streambench_case_h(alloc, 1024, &src, &[]), sum);
+    Ok(())
+}
+
+#[test]
 fn impossible_arguments_are_refused(rt: HostRuntime) -> Result<(), Fail> {
     let alloc = rt.alloc();
     let src = zeros(alloc)?;
@@ -76,6 +107,9 @@ fn impossible_arguments_are_refused(rt: HostRuntime) -> Result<(), Fail> {
     assert_eq!(rt; streambench_case_a(alloc, 0, &src, &[]), 0);
     assert_eq!(rt; streambench_case_a(alloc, 0, short, &[]), REFUSED);
     assert_eq!(rt; streambench_case_e(alloc, 1 << 60, &src, &[]), REFUSED);
+    assert_eq!(rt; streambench_case_g(alloc, 0, short, &[]), REFUSED);
+    assert_eq!(rt; streambench_case_h(alloc, 1 << 60, &src, &[]), REFUSED);
+    assert_eq!(rt; streambench_case_i(alloc, 0, short, &[]), REFUSED);
     assert_eq!(rt; streambench_case_b(alloc, 1, &src, &[873, u32::MAX]), 0);
     Ok(())
 }

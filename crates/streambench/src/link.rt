@@ -1,0 +1,212 @@
+//! Two ends, of which the client sends and the server reads.
+
+use crate::content::Seen;
+use crate::end::{End, Sent};
+use crate::refused::Refused;
+use quic_values::{Side, StreamId};
+use quic_wire::StreamEvent;
+use std::alloc::Global;
+
+// The most payloads of the client in a turn.
+const BURST: usize = 32;
+
+// Where payloads are lost, the last of so many is.
+const LOSS_PERIOD: u64 = 20;
+
+/// Whether the network loses payloads of the client.
+#[derive(Clone, Copy, Debug, PartialEq, Eq)]
+pub(crate) enum Network {
+    Lossless,
+    /// One in twenty is lost.
+    Lossy,
+}
+
+/// What was counted, to be compared.
+#[derive(Clone, Copy, Default)]
+struct Tally {
+    // The payloads of the client, and of the server, each as one run of bytes.
+    to_server: Seen,
+    to_client: Seen,
+    // What the server read.
+    read: Seen,
+    // How many payloads the client wrote.
+    payloads: u64,
+    // How many events both ends told.
+    events: u64,
+    // How many streams were acknowledged whole, and how many were read to their end.
+    finished: u64,
+    ended: u64,
+}
+
+// A payload of the client, of which is still to be reported what became of it.
+#[derive(Drop)]
+struct InFlight {
+    sent: Sent,
+    lost: bool,
+}
+
+/// A client and a server.
+#[derive(Drop)]
+pub(crate) struct Link {
+    pub client: End,
+    server: End,
+    network: Network,
+    // How many bytes each stream has at most, where there are several.
+    stream_len: u64,
+    flight: Vec<InFlight>,
+    // The streams on which the server has something to read, in the order in which it was told.
+    readable: Vec<StreamId>,
+    tally: Tally,
+}
+
+impl Link {
+    /// Two ends that permit so many streams at a time, of so many bytes each at most.
+    pub(crate) fn new(
+        alloc: Global,
+        streams: u32,
+        stream_len: u64,
+        network: Network,
+    ) -> Result<Self, Refused> {
+        Ok(Link {
+            client: End::new(alloc, Side::Client, streams)?,
+            server: End::new(alloc, Side::Server, streams)?,
+            network,
+            stream_len,
+            flight: Vec::with_capacity(alloc, BURST)?,
+            readable: Vec::new(alloc),
+            tally: Tally::default(),
+        })
+    }
+
+    /// Whether a stream was acknowledged whole, and one was read to its end.
+    pub(crate) fn is_done(&self) -> bool {
+        self.tally.finished > 0 && self.tally.ended > 0
+    }
+
+    /// Payloads go from the client to the server, which reads and answers. Then it is reported what became of them.
+    /// Answers whether there were any.
+    pub(crate) fn turn(&mut self) -> Result<bool, Refused> {
+        self.send_burst()?;
+        let any = !self.flight.is_empty();
+        self.poll_server()?;
+        self.read_all()?;
+        self.answer()?;
+        self.report()?;
+        self.poll_client();
+        Ok(any)
+    }
+
+    fn send_burst(&mut self) -> Result<(), Refused> {
+        for _ in 0..BURST {
+            let (bytes, sent) = self.client.emit()?;
+            if bytes.is_empty() {
+                break;
+            }
+            let lost = self.is_next_lost();
+            self.tally.to_server.see_next(&bytes);
+            self.tally.payloads = self.tally.payloads.wrapping_add(1);
+            if !lost {
+                self.server.deliver(&bytes)?;
+            }
+            self.flight.push(InFlight { sent, lost })?;
+        }
+        Ok(())
+    }
+
+    // Whether the next payload of the client is lost.
+    fn is_next_lost(&self) -> bool {
+        self.network == Network::Lossy && self.tally.payloads % LOSS_PERIOD == LOSS_PERIOD - 1
+    }
+
+    fn poll_server(&mut self) -> Result<(), Refused> {
+        'events: for _ in 0..u64::MAX {
+            let Some(event) = self.server.poll() else {
+                break 'events;
+            };
+            self.tally.events = self.tally.events.wrapping_add(1);
+            match event {
+                StreamEvent::Opened { dir } => {
+                    'streams: for _ in 0..u64::MAX {
+                        let Some(id) = self.server.accept(dir) else {
+                            break 'streams;
+                        };
+                        self.readable.push(id)?;
+                    }
+                }
+                StreamEvent::Readable { id } => self.readable.push(id)?,
+                _ => {}
+            }
+        }
+        Ok(())
+    }
+
+    fn read_all(&mut self) -> Result<(), Refused> {
+        for id in &self.readable {
+            let first = id.index().wrapping_mul(self.stream_len);
+            if let Some(read) = self.server.read(*id, first, self.tally.read)? {
+                self.tally.read = read.seen;
+                self.tally.ended = self.tally.ended.wrapping_add(u64::from(read.ended));
+            }
+        }
+        self.readable.clear();
+        Ok(())
+    }
+
+    // The server writes to the client, and each payload is acknowledged at once.
+    fn answer(&mut self) -> Result<(), Refused> {
+        'payloads: for _ in 0..u64::MAX {
+            let (bytes, sent) = self.server.emit()?;
+            if bytes.is_empty() {
+                break 'payloads;
+            }
+            self.tally.to_client.see_next(&bytes);
+            self.client.deliver(&bytes)?;
+            self.server.acknowledge(sent)?;
+        }
+        Ok(())
+    }
+
+    fn report(&mut self) -> Result<(), Refused> {
+        for payload in self.flight.drain(..) {
+            if payload.lost {
+                self.client.lose(payload.sent)?;
+            } else {
+                self.client.acknowledge(payload.sent)?;
+            }
+        }
+        Ok(())
+    }
+
+    fn poll_client(&mut self) {
+        'events: for _ in 0..u64::MAX {
+            let Some(event) = self.client.poll() else {
+                break 'events;
+            };
+            self.tally.events = self.tally.events.wrapping_add(1);
+            if matches!(event, StreamEvent::Finished { .. }) {
+                self.tally.finished = self.tally.finished.wrapping_add(1);
+            }
+        }
+    }
+
+    /// The check number, where so many streams were acknowledged and read, with so many bytes in all.
+    pub(crate) fn check(&self, streams: u64, bytes: u64) -> Result<u64, Refused> {
+        let tally = &self.tally;
+        if tally.finished != streams || tally.ended != streams || tally.read.bytes != bytes {
+            return Err(Refused);
+        }
+        Ok(
+            [
+                tally.to_server.sum,
+                tally.to_server.bytes,
+                tally.to_client.sum,
+                tally.to_client.bytes,
+                tally.read.sum,
+                tally.payloads,
+                tally.events,
+            ]
+            .iter()
+            .fold(0u64, |sum, part| sum.wrapping_add(*part)),
+        )
+    }
+}
