@@ -8,6 +8,7 @@ use std::test::Fail;
 mod draws;
 mod flows;
 mod keeping;
+mod kinds;
 mod network;
 mod sessions;
 mod twenty;
