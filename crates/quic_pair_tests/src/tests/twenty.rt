@@ -32,6 +32,14 @@ fn byte_at(index: usize, offset: usize) -> u8 {
     ((index % STREAMS * 17 + offset % LEN * 3) % 251) as u8
 }
 
+// The stream that an event calls finished.
+fn finished_by(reply: &Reply) -> Option<StreamId> {
+    match reply {
+        Reply::Event(StreamEvent::Finished { id }) => Some(*id),
+        _ => None,
+    }
+}
+
 // What was done with one stream.
 #[derive(Clone, Copy, Default)]
 struct Progress {
@@ -221,10 +229,12 @@ impl Network {
     // The client is told which streams are finished.
     fn poll_all(&mut self) -> Result<(), Fail> {
         for _ in 0..1000 {
-            match self.take(Step::Poll { who: End::A })? {
-                Reply::Event(StreamEvent::Finished { id }) => self.tell(id),
-                Reply::Event(_) => {}
-                _ => return Ok(()),
+            let reply = self.take(Step::Poll { who: End::A })?;
+            if reply == Reply::Nothing {
+                return Ok(());
+            }
+            if let Some(id) = finished_by(&reply) {
+                self.tell(id);
             }
         }
         Err(Fail::from("events never end"))
