@@ -54,10 +54,10 @@ tells_error p at receive_error.OutOfMemory = tells-same p
 
 -- ---- a payload of which one more frame is marked
 
-abbrev with_marks : Sent → SentText → Sent
+abbrev pub with_marks : Sent → SentText → Sent
 with_marks s marked = record s { text = marked }
 
-stay_marked : (sent : List Sent) (number : ℕ) (s : Sent) (index : ℕ) (marked : SentText) → slice_get sent number ≡ Some s → IsMarked s.text index marked → StaySent sent (slice_set sent number (with_marks s marked))
+pub stay_marked : (sent : List Sent) (number : ℕ) (s : Sent) (index : ℕ) (marked : SentText) → slice_get sent number ≡ Some s → IsMarked s.text index marked → StaySent sent (slice_set sent number (with_marks s marked))
 stay_marked sent number s index marked is m k t h = elim (slice_set-keeps sent number k (with_marks s marked) t h) [
   | inl e ↦ (
       let same : t ≡ s = same_Some t s (sym h ∙ ap (slice_get sent) e ∙ is) in (

@@ -59,7 +59,7 @@ entry_control kinds.DataBlocked u p g v q s = chosen (is_blocked_reported u.out.
 entry_control kinds.StreamDataBlocked u p g v q s = mapped (λ n. frames.StreamDataBlocked s.id n) (blocked_limit (u.out.halves s.id)) g (λ n. refl) s.frame
 
 -- what a payload begins with, so far
-record Front (most : ℕ) (p : PayloadPlace) : Type 0 where
+pub record Front (most : ℕ) (p : PayloadPlace) : Type 0 where
   pub all : List Frame
   pub spelled : (rest : List ℕ) → BeginsFrames (p.sheet.bytes ++ rest) all rest
   pub control : (g : Frame) → IsOneOf g all → is_control g ≡ true
@@ -103,7 +103,7 @@ front_some : {kind : ControlKind} {most : ℕ} {p q : PayloadPlace} → Front mo
 front_some t (none {p}) = t
 front_some {kind} {most} t (more {p} {q} {r} before room s) = front_one most q r (front_some t before) kind room s
 
-front_kinds : (most : ℕ) (kinds : List ControlKind) (p q : PayloadPlace) (answer : Result (Unit {0}) OutOfMemory) → Front most p → WritesKinds most kinds p answer q → Front most q
+pub front_kinds : (most : ℕ) (kinds : List ControlKind) (p q : PayloadPlace) (answer : Result (Unit {0}) OutOfMemory) → Front most p → WritesKinds most kinds p answer q → Front most q
 front_kinds most [] p q (Ok u) t w = let P : PayloadPlace → Type 0 = λ k. Front most k in subst P (sym w) t
 front_kinds most [] p q (Err e) t w = absurd w
 front_kinds most (k ∷ ks) p q answer t w = elim w [
@@ -111,7 +111,7 @@ front_kinds most (k ∷ ks) p q answer t w = elim w [
   | inr b ↦ front_some t b.1
 ]
 
-front_first : (most : ℕ) (e : EndState) (stats : FrameStats) → Front most (place_at e [] nothing stats)
+pub front_first : (most : ℕ) (e : EndState) (stats : FrameStats) → Front most (place_at e [] nothing stats)
 front_first most e stats = record { all = []; spelled = λ rest. refl; control = λ g h. absurd h; within = omega arith }
 
 -- ---- STREAM frames behind them

@@ -5,6 +5,10 @@ pub mod CallsReading
 pub mod CallsSeen
 pub mod CallsSending
 pub mod CallsSetting
+pub mod Counted
+pub mod CountedCalls
+pub mod CountedFrames
+pub mod CountedPayloads
 pub mod Deeds
 pub mod DeliverFrames
 pub mod DeliverMarks
@@ -23,6 +27,8 @@ pub mod KeptFrames
 pub mod KeptPlaces
 pub mod Lists
 pub mod Marks
+pub mod NotWithheld
+pub mod OpenSides
 pub mod PayloadEmits
 pub mod PayloadKeeps
 pub mod PayloadKnows
@@ -31,6 +37,7 @@ pub mod PayloadQueues
 pub mod PayloadSteps
 pub mod PayloadTurns
 pub mod Readable
+pub mod Recounted
 pub mod Refusals
 pub mod RefusedSo
 pub mod ReportsControl

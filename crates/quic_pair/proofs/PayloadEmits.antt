@@ -57,10 +57,10 @@ pub record Emptied (x y : Endpoint) (payload : PayloadView) (f : EndState) : Typ
   pub wrote : (g : Frame) → IsOneOf g all → IsOneOf g end.wrote
 
 -- a queue without room is the same without it
-bare_world : (w : World) (bytes : List ℕ) → w.queue.reserved ≡ None → w ≡ with_writer w (end_writer w bytes [])
+pub bare_world : (w : World) (bytes : List ℕ) → w.queue.reserved ≡ None → w ≡ with_writer w (end_writer w bytes [])
 bare_world w bytes b = ap (λ r. record w { queue = record w.queue { reserved = r } }) b
 
-bare_after : (w v : World) (bytes : List ℕ) (frames : List StreamMeta) → v ≡ record w { out = v.out; queue = v.queue } → v.queue.reserved ≡ None → with_writer w (end_writer v bytes frames) ≡ v
+pub bare_after : (w v : World) (bytes : List ℕ) (frames : List StreamMeta) → v ≡ record w { out = v.out; queue = v.queue } → v.queue.reserved ≡ None → with_writer w (end_writer v bytes frames) ≡ v
 bare_after w v bytes frames e b = ap (λ r. record w { out = v.out; queue = record v.queue { reserved = r } }) (sym b) ∙ sym e
 
 asked_at : (x : Endpoint) (p q : Pending) → q ≡ p → AreAsked x p → AreAsked x q
@@ -140,7 +140,7 @@ payload_sent x y who payload f s t i =
       accepted = λ index stream h m. absurd (no_marks s.text index (ap (λ (u : SentText). u.accepted) i.text) m);
     }
 
-stay_before : (sent : List Sent) (s : Sent) → StaySent sent (sent ++ s ∷ [])
+pub stay_before : (sent : List Sent) (s : Sent) → StaySent sent (sent ++ s ∷ [])
 stay_before sent s k t h = (t, slice_get-append_left sent (s ∷ []) k t h, refl, refl)
 
 pub seen-emits : (p : Past) (who : End) (old new : PairState) (x y : Endpoint) (most : ℕ) (fair : Bool) (answer : Result (Unit {0}) OutOfMemory) (payload : PayloadView) → Seen p who old x y → Emits old who most fair answer payload new → Sees p who new x y

@@ -9,11 +9,12 @@ use Rattle.quic_pair.specs.State.{PairState}
 use Rattle.quic_pair.specs.Steps.{Next}
 use Rattle.quic_pair.specs.History.{History, Past, past_of}
 use Rattle.quic_pair.specs.From.{From, next}
-use Rattle.quic_pair.specs.Runs.{StepByStep, none, more, TakesSteps, Behind, Around, Throughout, IsTrueOf, StaysIfRefused, AsksOf}
+use Rattle.quic_pair.specs.Runs.{StepByStep, none, more, TakesSteps, Behind, Around, Throughout, IsTrueOf, StaysIfRefused, AsksOf, WithholdsNone}
 use Rattle.quic_pair.proofs.Grown.{headline-from}
 use Rattle.quic_pair.proofs.Honest.{honest-from}
 use Rattle.quic_pair.proofs.Served.{refused-stays}
 use Rattle.quic_pair.proofs.Due.{asks-for}
+use Rattle.quic_pair.proofs.NotWithheld.{not-withheld}
 
 -- one more step and one more reply
 zip-behind : {X Y : Type 0} (xs : List X) (ys : List Y) (x : X) (y : Y) → length ys ≡ length xs → zip (xs ++ x ∷ []) (ys ++ y ∷ []) ≡ zip xs ys ++ (x, y) ∷ []
@@ -68,3 +69,9 @@ pub each-asks : (a b : Config) (h : History) (old : PairState) (taken : History)
 each-asks a b h old _ _ f none = none
 each-asks a b h old _ _ f (more {taken} {between} {new} step reply run n each) =
     more step reply (each-asks a b h old taken between f run) n (asks-for a b (h ++ taken) between new step reply (from-steps f run) n)
+
+-- nor what was permitted
+pub each-permits : (a b : Config) (h : History) (old : PairState) (taken : History) (new : PairState) → From a b h old → TakesSteps old taken new → StepByStep (WithholdsNone a b h) old taken new
+each-permits a b h old _ _ f none = none
+each-permits a b h old _ _ f (more {taken} {between} {new} step reply run n each) =
+    more step reply (each-permits a b h old taken between f run) n (not-withheld a b (h ++ taken) between new step reply (from-steps f run) n)

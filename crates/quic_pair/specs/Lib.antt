@@ -13,4 +13,6 @@ pub mod Replies
 pub mod Runs
 pub mod State
 pub mod Steps
+pub mod Tale
 pub mod Unrefused
+pub mod Withheld

@@ -1,5 +1,6 @@
 -- Many steps, one after the other.
 use Rattle.std.specs.Prelude.{[], ◌∷◌, ◌++◌, ◌≡◌, List}
+use Rattle.quic_steps.specs.declared.steps.Config.{Config}
 use Rattle.quic_steps.specs.declared.steps.Step.{Step}
 use Rattle.quic_pair.specs.declared.sent.Sent.{Sent}
 use Rattle.quic_pair.specs.Replies.{Answer}
@@ -10,6 +11,7 @@ use Rattle.quic_pair.specs.Headline.{Headline}
 use Rattle.quic_pair.specs.Honest.{AreHonest}
 use Rattle.quic_pair.specs.Refused.{IsRefused}
 use Rattle.quic_pair.specs.Due.{AsksFor}
+use Rattle.quic_pair.specs.Withheld.{NotWithheld}
 
 -- steps were taken one after the other, each with its reply; of each of them holds what `Each` says of the steps of the run
 -- before it, of the pair before it, of the step and its reply, and of the pair behind it
@@ -47,3 +49,7 @@ StaysIfRefused before between step reply after = IsRefused reply → after ≡ b
 -- a step withheld nothing that was due
 abbrev pub AsksOf : History → PairState → Step → Answer → PairState → Type 0
 AsksOf before between step reply after = AsksFor between step reply after
+
+-- a step withheld nothing on the sending side that was permitted, by a history, the steps of the run before it, and this one
+abbrev pub WithholdsNone : Config → Config → History → History → PairState → Step → Answer → PairState → Type 0
+WithholdsNone a b h before between step reply after = NotWithheld a b (h ++ before) between.sent after.sent step reply

@@ -16,11 +16,12 @@ ghost use Rattle.quic_link.specs.Endpoints.{limits_of};
 ghost use Rattle.quic_pair.specs.From.{From, made_of, end_begun};
 ghost use Rattle.quic_pair.specs.History.{History, past_of};
 ghost use Rattle.quic_pair.specs.Headline.{Headline};
-ghost use Rattle.quic_pair.specs.Runs.{TakesSteps, StepByStep, Behind, Around, Throughout, IsTrueOf, StaysIfRefused, AsksOf};
+ghost use Rattle.quic_pair.specs.Runs.{TakesSteps, StepByStep, Behind, Around, Throughout, IsTrueOf, StaysIfRefused, AsksOf, WithholdsNone};
 ghost use Rattle.quic_pair.specs.Unrefused.{RefusesNoFrame};
 ghost use Rattle.quic_pair.specs.Readable.{WithholdsNothing};
 ghost use Rattle.quic_pair.specs.Law.{Drains};
 ghost use Rattle.quic_pair.specs.Due.{AsksFor};
+ghost use Rattle.quic_pair.specs.Withheld.{NotWithheld};
 ghost use Rattle.quic_pair.specs.Honest.{AreHonest};
 ghost use Rattle.quic_pair.specs.Refused.{IsRefused, IsRefusedSo};
 
@@ -411,6 +412,7 @@ impl Pair {
         ensures readable { (a b : Config) (h : History) → From a b h (pair_state self.old) → WithholdsNothing (past_of h) (pair_state self.old).sent step result }
         ensures drained { (a b : Config) (h : History) → From a b h (pair_state self.old) → Drains (past_of h) (pair_state self.old).sent step result }
         ensures due { (a b : Config) (h : History) → From a b h (pair_state self.old) → AsksFor (pair_state self.old) step result (pair_state self.new) }
+        ensures not_withheld { (a b : Config) (h : History) → From a b h (pair_state self.old) → NotWithheld a b h (pair_state self.old).sent (pair_state self.new).sent step result }
     {
         self.dispatch(step)
     }
@@ -429,6 +431,7 @@ impl Pair {
         ensures readable { IfOk result (λ replies. (a b : Config) (h : History) → From a b h (pair_state self.old) → StepByStep (Behind WithholdsNothing h) (pair_state self.old) (zip steps.items replies.items) (pair_state self.new)) }
         ensures drained { IfOk result (λ replies. (a b : Config) (h : History) → From a b h (pair_state self.old) → StepByStep (Behind Drains h) (pair_state self.old) (zip steps.items replies.items) (pair_state self.new)) }
         ensures due { IfOk result (λ replies. (a b : Config) (h : History) → From a b h (pair_state self.old) → StepByStep AsksOf (pair_state self.old) (zip steps.items replies.items) (pair_state self.new)) }
+        ensures not_withheld { IfOk result (λ replies. (a b : Config) (h : History) → From a b h (pair_state self.old) → StepByStep (WithholdsNone a b h) (pair_state self.old) (zip steps.items replies.items) (pair_state self.new)) }
         ensures err { OnErr result (pair_state self.new ≡ pair_state self.old) }
     {
         let mut replies = Vec::with_capacity(self.alloc, steps.len())?;

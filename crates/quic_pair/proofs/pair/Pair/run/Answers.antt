@@ -7,7 +7,7 @@ use Rattle.quic_pair.specs.Runs.{none}
 use Rattle.quic_pair.specs.Unrefused.{RefusesNoFrame}
 use Rattle.quic_pair.specs.Readable.{WithholdsNothing}
 use Rattle.quic_pair.proofs.Grown.{headline-from}
-use Rattle.quic_pair.proofs.Runs.{steps-more, from-steps, each-behind, each-around, each-asks, each-after, each-stays}
+use Rattle.quic_pair.proofs.Runs.{steps-more, from-steps, each-behind, each-around, each-asks, each-permits, each-after, each-stays}
 use Rattle.quic_pair.proofs.Unrefused.{unrefused-so}
 use Rattle.quic_pair.proofs.Drained.{drains-so}
 use Rattle.quic_pair.specs.Law.{Drains}
@@ -45,5 +45,6 @@ returns c =
       refused = λ a b h f. each-behind IsRefusedSo refused-so a b h _ _ _ f c.loop-step.invariant.taken;
       drained = λ a b h f. each-behind Drains drains-so a b h _ _ _ f c.loop-step.invariant.taken;
       due = λ a b h f. each-asks a b h _ _ _ f c.loop-step.invariant.taken;
+      not_withheld = λ a b h f. each-permits a b h _ _ _ f c.loop-step.invariant.taken;
       err = tt;
     }))

@@ -2,6 +2,7 @@ use Rattle.quic_pair.specs.From.{next}
 use Rattle.quic_pair.proofs.Grown.{headline-from}
 use Rattle.quic_pair.proofs.Readable.{readable-so}
 use Rattle.quic_pair.proofs.Due.{asks-for}
+use Rattle.quic_pair.proofs.NotWithheld.{not-withheld}
 use Rattle.quic_pair.proofs.Drained.{drains-so}
 use Rattle.quic_pair.proofs.Unrefused.{unrefused-so}
 use Rattle.quic_pair.proofs.Honest.{honest-from}
@@ -26,6 +27,9 @@ returns-clause-drained c = λ a b h f. drains-so a b h _ _ c.args.step c.dispatc
 
 pub returns-clause-due : goal.returns-clause-due
 returns-clause-due c = λ a b h f. asks-for a b h _ _ c.args.step c.dispatch.result f c.dispatch.ensures
+
+pub returns-clause-not_withheld : goal.returns-clause-not_withheld
+returns-clause-not_withheld c = λ a b h f. not-withheld a b h _ _ c.args.step c.dispatch.result f c.dispatch.ensures
 
 pub returns-clause-honest : goal.returns-clause-honest
 returns-clause-honest c = λ a b h f. honest-from (next c.args.step c.dispatch.result f c.dispatch.ensures)
