@@ -1,5 +1,5 @@
 -- Acknowledged resets, one after another.
-use Rattle.std.proofs.Common.{◌≡◌, ℕ, suc, List, [], ◌∷◌, ◌++◌, ◌+◌, Some, Ok, Err, refl}
+use Rattle.std.proofs.Common.{◌≡◌, ℕ, suc, List, ◌+◌, Some, Ok, Err}
 use Rattle.std.specs.Prelude.{take, drop, slice_get}
 use Rattle.quic_values.specs.declared.memory.OutOfMemory.{OutOfMemory}
 use Rattle.quic_endpoint.specs.Ends.{EndState}

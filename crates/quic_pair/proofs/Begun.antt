@@ -1,13 +1,12 @@
 -- A pair that was just made has two linked ends.
-use Rattle.std.proofs.Common.{◌≡◌, ℕ, ◌<◌, ◌^◌, List, [], ◌∷◌, Some, None, refl, inl, inr}
+use Rattle.std.proofs.Common.{◌≡◌, ◌<◌, ◌^◌, [], refl, inl, inr}
 use Rattle.quic_values.specs.declared.ids.Side.TheVariants.{Client, Server}
 use Rattle.quic_values.specs.Ids.{other_side}
 use Rattle.quic_outgoing.specs.Outgoing.{with_params}
-use Rattle.quic_retransmits.specs.Pending.{nothing}
-use Rattle.quic_history.specs.World.{World, Made, start}
+use Rattle.quic_history.specs.World.{Made, start}
 use Rattle.quic_history.specs.Sends.{with_out}
 use Rattle.quic_history.specs.SendEvents.{GaveLimits}
-use Rattle.quic_history.specs.History.{Event, Sending, IsStart}
+use Rattle.quic_history.specs.History.{Sending, IsStart}
 use Rattle.quic_link.specs.Endpoints.{Endpoint, Linked, begun, first_acts, second_acts, acted, limits_of}
 use Rattle.quic_link.proofs.AskedFor.{asked-nothing}
 use Rattle.quic_steps.specs.declared.steps.Config.{Config}
@@ -18,7 +17,7 @@ use Rattle.quic_pair.specs.History.{nothing_yet}
 use Rattle.quic_pair.specs.Unrefused.{none}
 use Rattle.quic_pair.specs.From.{IsNew, made_of, end_begun}
 use Rattle.quic_pair.proofs.KeptFrames.{KeptSent}
-use Rattle.quic_pair.proofs.Joined.{Knows, Stands, Seen, Joined}
+use Rattle.quic_pair.proofs.Joined.{Knows, Stands, Joined}
 
 -- an end that was made, and was told what the transport parameters of its peer say
 abbrev pub made_alone : Made → Endpoint

@@ -1,6 +1,6 @@
 -- What the calls of an end tell of what it sends is what a tale says.
-use Rattle.std.proofs.Common.{◌≡◌, ℕ, Bool, true, false, List, [], ◌∷◌, Option, Some, None, refl, sym, ap, ◌∙◌, subst, arith}
-use Rattle.std.specs.Prelude.{◌==◌, ◌&&◌, ◌+◌, max, min, ◌^◌, ◌≤◌, nat_lt, if◌then◌else◌, unwrap_or}
+use Rattle.std.proofs.Common.{◌≡◌, ℕ, Bool, true, false, List, ◌∷◌, Option, Some, None, refl, sym, ap, ◌∙◌, subst, arith}
+use Rattle.std.specs.Prelude.{◌==◌, ◌&&◌, ◌+◌, max, ◌≤◌, nat_lt, if◌then◌else◌, unwrap_or}
 use Rattle.std.proofs.lemmas.Bool.Decides.{nat_tests}
 use Rattle.quic_values.specs.declared.ids.Dir.{Dir}
 use Rattle.quic_values.specs.declared.ids.Dir.TheVariants.{Bi, Uni}
@@ -10,7 +10,7 @@ use Rattle.quic_flows.specs.Flow.{SendFlow, SendMove, with_send_move}
 use Rattle.quic_outgoing.specs.Senders.{is_local}
 use Rattle.quic_history.specs.World.{World, Made}
 use Rattle.quic_history.specs.Flows.{has_send_side, has_side_in, is_answered_on, send_moved}
-use Rattle.quic_history.specs.History.{Event, Step, Fits, From, flow, since, send_tale, moved_streams, with_moved_stream, taken_in_all, taken_by, greatest_limit, limit_by, last_send_window, send_window_in, opened_in_all, opens_by, greatest_count, count_by, send_move_of, limits_in, joint_move_of, with_stream}
+use Rattle.quic_history.specs.History.{Event, Step, Fits, From, flow, since, send_tale, moved_streams, taken_in_all, taken_by, greatest_limit, limit_by, last_send_window, send_window_in, opened_in_all, opens_by, greatest_count, count_by, send_move_of, limits_in, joint_move_of, with_stream}
 use Rattle.quic_history.proofs.Histories.{next}
 use Rattle.quic_history.proofs.SendSides.{held-side}
 use Rattle.quic_history.proofs.FlowHistory.{known-by}

@@ -1,5 +1,5 @@
 -- What steps of an application tell of what its end sends.
-use Rattle.std.proofs.Common.{◌≡◌, ◌⊎◌, ℕ, Bool, true, false, List, [], ◌∷◌, ◌++◌, Option, Some, None, Result, Ok, Err, refl, sym, ap, ◌∙◌, subst, inl, inr, arith}
+use Rattle.std.proofs.Common.{◌≡◌, ℕ, Bool, true, false, List, [], ◌∷◌, ◌++◌, Option, Some, None, Result, Ok, Err, refl, sym, ap, ◌∙◌, subst, inl, inr, arith}
 use Rattle.std.specs.Prelude.{ℤ, ◌+◌, is_ok}
 use Rattle.quic_values.specs.declared.memory.OutOfMemory.{OutOfMemory}
 use Rattle.quic_values.specs.declared.ids.Dir.{Dir}
@@ -22,12 +22,12 @@ use Rattle.quic_flows.specs.Flow.{WasWritten, WasFinished, WasGivenUp, front_of}
 use Rattle.quic_history.specs.World.{World, Made}
 use Rattle.quic_history.specs.declared.progress.LastAnswer.{LastAnswer}
 use Rattle.quic_history.specs.declared.progress.LastAnswer.TheVariants as last_answer
-use Rattle.quic_history.specs.Permitting.{acceptable, with_accepted}
+use Rattle.quic_history.specs.Permitting.{acceptable}
 use Rattle.quic_history.specs.Reading.{GivesChunks, LastReads, ReadsSome, bytes_in}
 use Rattle.quic_history.specs.SendEvents.{OpenedOwn, SetWindow, WroteOwn, FinishedOwn, ResetOwn, SetOwnPriority, Polled}
-use Rattle.quic_history.specs.History.{Event, Step, Fits, From, Accepted, Resized, SetConcurrent, Sending, Began, Gave, Ended, Stopped, ToldReset, given, with_chunks, with_last, opened_in_all}
+use Rattle.quic_history.specs.History.{Event, Step, Fits, Accepted, Resized, SetConcurrent, Sending, Began, Gave, Ended, Stopped, ToldReset, given, with_chunks, with_last}
 use Rattle.quic_history.proofs.Histories.{next}
-use Rattle.quic_endpoint.specs.Ends.{EndState, OpensAt, WritesAt, FinishesAt, ResetsAt, with_world, with_counts_told_if, with_counts_told}
+use Rattle.quic_endpoint.specs.Ends.{EndState, OpensAt, WritesAt, FinishesAt, ResetsAt, with_counts_told_if}
 use Rattle.quic_steps.specs.declared.steps.Config.{Config}
 use Rattle.quic_steps.specs.declared.steps.End.{End}
 use Rattle.quic_steps.specs.declared.steps.Step.{Step as PairStep}
@@ -130,19 +130,19 @@ module _ (a b : Config) (h : History) (old new : PairState) (r : Recounted a b h
   abbrev made : Made
   made = made_at a b who
 
-  here : Counted made end.streams (r.tale who)
+  here : Counted made end.streams (r.tales.of who)
   here = r.counted who
 
   -- the end made a call that tells nothing
-  called : (f : EndState) (e : Event) → TellsNothing e → ((k : List Event) → Fits k e) → Step end.streams e f.streams → Counted made f.streams (r.tale who)
-  called f e k fits s = counted-untold made end.streams f.streams (r.tale who) e (untold e k) fits here s
+  called : (f : EndState) (e : Event) → TellsNothing e → ((k : List Event) → Fits k e) → Step end.streams e f.streams → Counted made f.streams (r.tales.of who)
+  called f e k fits s = counted-untold made end.streams f.streams (r.tales.of who) e (untold e k) fits here s
 
   -- which is all that a step did
-  quiet : (step : PairStep) (reply : Answer) (f : EndState) → new ≡ with_end old who f → StepTells old.sent step reply r.tale r.tale → Counted made f.streams (r.tale who) → after step reply
+  quiet : (step : PairStep) (reply : Answer) (f : EndState) → new ≡ with_end old who f → StepTells old.sent step reply r.tales r.tales → Counted made f.streams (r.tales.of who) → after step reply
   quiet step reply f is t c = recount-called a b h old r step reply who f new is c t
 
   -- a step that is refused, as its stream is not known, does nothing
-  on_given : (step : PairStep) (id : ℕ) (reply : Answer) (f : EndState) (Does : Type 0) → StepTells old.sent step (Err UnknownId) r.tale r.tale → new ≡ with_end old who f → OnGiven end id reply f Does → (Does → after step reply) → after step reply
+  on_given : (step : PairStep) (id : ℕ) (reply : Answer) (f : EndState) (Does : Type 0) → StepTells old.sent step (Err UnknownId) r.tales r.tales → new ≡ with_end old who f → OnGiven end id reply f Does → (Does → after step reply) → after step reply
   on_given step id reply f Does t is d known = elim d [
     | inl k ↦ known k.1
     | inr k ↦ subst (after step) (sym k.1) (quiet step (Err UnknownId) f is t (counted-at f.streams (ap (λ (e : EndState). e.streams) k.2) here))
@@ -151,14 +151,14 @@ module _ (a b : Config) (h : History) (old new : PairState) (r : Recounted a b h
   -- ---- streams are opened and accepted
 
   opened_any : (dir : Dir) (f : EndState) → new ≡ with_end old who f → (answer : Result (Option ℕ) OutOfMemory) → OpensAt end dir answer f → after (steps.Open who dir) (opened_reply answer)
-  opened_any dir f is (Ok (Some id)) o = recount-end a b h old r (steps.Open who dir) _ who (with_one_opened dir) f new is (counted_opened made end.streams f.streams (r.tale who) dir id here o.0) refl
+  opened_any dir f is (Ok (Some id)) o = recount-end a b h old r (steps.Open who dir) _ who (with_one_opened dir) f new is (counted_opened made end.streams f.streams (r.tales.of who) dir id here o.0) refl
   opened_any dir f is (Ok None) o = quiet (steps.Open who dir) _ f is refl (called f (Sending (OpenedOwn dir false (Ok None))) tt (λ k. tt) o.0)
   opened_any dir f is (Err error) o = quiet (steps.Open who dir) _ f is refl (called f (Sending (OpenedOwn dir false (Err error))) tt (λ k. tt) o.0)
 
   pub counts-open : (dir : Dir) (reply : Answer) → OnEnd (λ e f. Opens e dir reply f) old who new → after (steps.Open who dir) reply
   counts-open dir reply d = subst (after (steps.Open who dir)) (sym d.does.reply_is) (opened_any dir d.end d.is d.does.answer d.does.opens)
 
-  accepted_tells : (dir : Dir) (answer : Option ℕ) → StepTells old.sent (steps.Accept who dir) (accepted_reply answer) r.tale r.tale
+  accepted_tells : (dir : Dir) (answer : Option ℕ) → StepTells old.sent (steps.Accept who dir) (accepted_reply answer) r.tales r.tales
   accepted_tells dir (Some id) = refl
   accepted_tells dir None = refl
 
@@ -173,20 +173,20 @@ module _ (a b : Config) (h : History) (old new : PairState) (r : Recounted a b h
   -- ---- writes
 
   module _ (id : ℕ) (f : EndState) (is : new ≡ with_end old who f) (lists : List (List ℕ)) where
-    wrote_some : (written : Written) → WritesAt end id lists (Ok written) f → Counted made f.streams (with_bytes_taken id written.bytes lists (r.tale who))
+    wrote_some : (written : Written) → WritesAt end id lists (Ok written) f → Counted made f.streams (with_bytes_taken id written.bytes lists (r.tales.of who))
     wrote_some written w =
         let e = Sending (WroteOwn id lists false (Ok written)) in
         let took = w.1.3 in
-        counted-taken made end.streams f.streams (r.tale who) e id (WasWritten (front_of written.bytes lists)) written.bytes
+        counted-taken made end.streams f.streams (r.tales.of who) e id (WasWritten (front_of written.bytes lists)) written.bytes
         (record { move_is = refl; limits = refl; joint = refl; taken = refl; limit = refl; window = refl; opens = λ d. refl; counts = λ d. refl }) (λ k. tt)
         (side-held here id took.0.half took.0.is_held) here (end.pending, f.pending, w.0, w.1)
 
-    wrote_none : (error : WriteError) → WritesAt end id lists (Err error) f → Counted made f.streams (r.tale who)
+    wrote_none : (error : WriteError) → WritesAt end id lists (Err error) f → Counted made f.streams (r.tales.of who)
     wrote_none error w = called f (Sending (WroteOwn id lists false (Err error))) tt (λ k. tt) (end.pending, f.pending, w.0, w.1)
 
     wrote_bytes : (bytes : List ℕ) → lists ≡ slice_lists bytes → (answer : Result Written WriteError) → WritesAt end id lists answer f → after (steps.Write who id bytes) (written_reply answer)
     wrote_bytes bytes same (Ok written) w =
-        let P : List (List ℕ) → Type 0 = λ l. Counted made f.streams (with_bytes_taken id written.bytes l (r.tale who)) in
+        let P : List (List ℕ) → Type 0 = λ l. Counted made f.streams (with_bytes_taken id written.bytes l (r.tales.of who)) in
         recount-end a b h old r (steps.Write who id bytes) _ who (with_bytes_taken id written.bytes (slice_lists bytes)) f new is (subst P same (wrote_some written w)) refl
     wrote_bytes bytes same (Err write_error.Blocked) w = quiet (steps.Write who id bytes) _ f is refl (wrote_none write_error.Blocked w)
     wrote_bytes bytes same (Err (write_error.Stopped code)) w = quiet (steps.Write who id bytes) _ f is refl (wrote_none (write_error.Stopped code) w)
@@ -213,13 +213,13 @@ module _ (a b : Config) (h : History) (old new : PairState) (r : Recounted a b h
 
   -- ---- ends and resets
 
-  finished_one : (id : ℕ) (f : EndState) → FinishesAt end id (Ok tt) f → Counted made f.streams (with_deed id WasFinished (r.tale who))
+  finished_one : (id : ℕ) (f : EndState) → FinishesAt end id (Ok tt) f → Counted made f.streams (with_deed id WasFinished (r.tales.of who))
   finished_one id f done =
       let s = done.0.2 in
-      counted-deed made end.streams f.streams (r.tale who) (Sending (FinishedOwn id (Ok tt))) id WasFinished
+      counted-deed made end.streams f.streams (r.tales.of who) (Sending (FinishedOwn id (Ok tt))) id WasFinished
       (record { move_is = refl; limits = refl; joint = refl; taken = refl; limit = refl; window = refl; opens = λ d. refl; counts = λ d. refl }) (λ k. tt) (side-held here id s.0 s.1) here done.0
 
-  finished_none : (id : ℕ) (f : EndState) (error : FinishError) → FinishesAt end id (Err error) f → Counted made f.streams (r.tale who)
+  finished_none : (id : ℕ) (f : EndState) (error : FinishError) → FinishesAt end id (Err error) f → Counted made f.streams (r.tales.of who)
   finished_none id f error done = called f (Sending (FinishedOwn id (Err error))) tt (λ k. tt) done.0
 
   finished_any : (id : ℕ) (f : EndState) → new ≡ with_end old who f → (answer : Result (Unit {0}) FinishError) → FinishesAt end id answer f → after (steps.Finish who id) (finished_reply answer)
@@ -232,13 +232,13 @@ module _ (a b : Config) (h : History) (old new : PairState) (r : Recounted a b h
   counts-finish id reply d = on_given (steps.Finish who id) id reply d.end _ refl d.is d.does
       (λ w. subst (after (steps.Finish who id)) (sym w.reply_is) (finished_any id d.end d.is w.answer w.finishes))
 
-  reset_one : (id code : ℕ) (f : EndState) → ResetsAt end id code (Ok tt) f → Counted made f.streams (with_deed id (WasGivenUp code) (r.tale who))
+  reset_one : (id code : ℕ) (f : EndState) → ResetsAt end id code (Ok tt) f → Counted made f.streams (with_deed id (WasGivenUp code) (r.tales.of who))
   reset_one id code f done =
       let s = done.1 in
-      counted-deed made end.streams f.streams (r.tale who) (Sending (ResetOwn id code (Ok tt))) id (WasGivenUp code)
+      counted-deed made end.streams f.streams (r.tales.of who) (Sending (ResetOwn id code (Ok tt))) id (WasGivenUp code)
       (record { move_is = refl; limits = refl; joint = refl; taken = refl; limit = refl; window = refl; opens = λ d. refl; counts = λ d. refl }) (λ k. tt) (side-held here id s.0 s.1) here (end.pending, f.pending, done)
 
-  reset_none : (id code : ℕ) (f : EndState) (error : HandleError) → ResetsAt end id code (Err error) f → Counted made f.streams (r.tale who)
+  reset_none : (id code : ℕ) (f : EndState) (error : HandleError) → ResetsAt end id code (Err error) f → Counted made f.streams (r.tales.of who)
   reset_none id code f error done = called f (Sending (ResetOwn id code (Err error))) tt (λ k. tt) (end.pending, f.pending, done)
 
   reset_any : (id code : ℕ) (f : EndState) → new ≡ with_end old who f → (answer : Result (Unit {0}) HandleError) → ResetsAt end id code answer f → after (steps.Reset who id code) (handled_reply answer)
@@ -252,7 +252,7 @@ module _ (a b : Config) (h : History) (old new : PairState) (r : Recounted a b h
 
   -- ---- other calls, that tell nothing
 
-  told_at : (f g : EndState) (due : Bool) → f ≡ with_counts_told_if due g → Counted made g.streams (r.tale who) → Counted made f.streams (r.tale who)
+  told_at : (f g : EndState) (due : Bool) → f ≡ with_counts_told_if due g → Counted made g.streams (r.tales.of who) → Counted made f.streams (r.tales.of who)
   told_at f g due is c = counted-at f.streams (ap (λ (k : EndState). k.streams) is ∙ told-streams due g) c
 
   pub counts-stop : (id code : ℕ) (reply : Answer) → OnEnd (λ e f. OnGiven e id reply f (StopsOn e id code reply f)) old who new → after (steps.Stop who id code) reply
@@ -261,7 +261,7 @@ module _ (a b : Config) (h : History) (old new : PairState) (r : Recounted a b h
       subst (after (steps.Stop who id code)) (sym w.reply_is)
       (quiet (steps.Stop who id code) (handled_reply w.answer) d.end d.is (stopped_tells w.answer) (told_at d.end s.stopped _ s.is (called s.stopped (Stopped id code w.answer) tt (λ k. tt) (end.pending, s.stopped.pending, s.stops)))))
     where
-      stopped_tells : (answer : Result (Unit {0}) HandleError) → StepTells old.sent (steps.Stop who id code) (handled_reply answer) r.tale r.tale
+      stopped_tells : (answer : Result (Unit {0}) HandleError) → StepTells old.sent (steps.Stop who id code) (handled_reply answer) r.tales r.tales
       stopped_tells (Ok u) = refl
       stopped_tells (Err handle_error.ClosedStream) = refl
       stopped_tells (Err handle_error.OutOfMemory) = refl
@@ -271,14 +271,14 @@ module _ (a b : Config) (h : History) (old new : PairState) (r : Recounted a b h
       (λ w. subst (after (steps.SetPriority who id priority)) (sym w.reply_is)
       (quiet (steps.SetPriority who id priority) (handled_reply w.answer) d.end d.is (set_tells w.answer) (called d.end (Sending (SetOwnPriority id priority w.answer)) tt (λ k. tt) w.sets.0)))
     where
-      set_tells : (answer : Result (Unit {0}) HandleError) → StepTells old.sent (steps.SetPriority who id priority) (handled_reply answer) r.tale r.tale
+      set_tells : (answer : Result (Unit {0}) HandleError) → StepTells old.sent (steps.SetPriority who id priority) (handled_reply answer) r.tales r.tales
       set_tells (Ok u) = refl
       set_tells (Err handle_error.ClosedStream) = refl
       set_tells (Err handle_error.OutOfMemory) = refl
 
-  read_so : (id : ℕ) (ordered : Bool) (most times : ℕ) (f : EndState) (answer : Result ReadSome ReadableError) → ReadsSo end id ordered most times answer f → Counted made f.streams (r.tale who)
+  read_so : (id : ℕ) (ordered : Bool) (most times : ℕ) (f : EndState) (answer : Result ReadSome ReadableError) → ReadsSo end id ordered most times answer f → Counted made f.streams (r.tales.of who)
   read_so id ordered most times f (Ok read) s =
-      told_at f s.read true s.is (reads_counted made (r.tale who) id most ordered times end.pending s.read.pending read.chunks.items read.last read.transmit.0 end.streams s.read.streams here s.reads)
+      told_at f s.read true s.is (reads_counted made (r.tales.of who) id most ordered times end.pending s.read.pending read.chunks.items read.last read.transmit.0 end.streams s.read.streams here s.reads)
   read_so id ordered most times f (Err error) s = told_at f s.asked _ s.is (called s.asked (Began id ordered (Err error)) tt (λ k. tt) s.begins)
 
   pub counts-read : (id : ℕ) (ordered : Bool) (most times : ℕ) (reply : Answer) → OnEnd (λ e f. OnGiven e id reply f (ReadsOn e id ordered most times reply f)) old who new → after (steps.Read who id ordered most times) reply
@@ -286,7 +286,7 @@ module _ (a b : Config) (h : History) (old new : PairState) (r : Recounted a b h
       (λ w. subst (after (steps.Read who id ordered most times)) (sym w.reply_is)
       (quiet (steps.Read who id ordered most times) (read_reply w.answer) d.end d.is (read_tells w.answer) (read_so id ordered most times d.end w.answer w.reads)))
     where
-      read_tells : (answer : Result ReadSome ReadableError) → StepTells old.sent (steps.Read who id ordered most times) (read_reply answer) r.tale r.tale
+      read_tells : (answer : Result ReadSome ReadableError) → StepTells old.sent (steps.Read who id ordered most times) (read_reply answer) r.tales r.tales
       read_tells (Ok read) = refl
       read_tells (Err readable_error.ClosedStream) = refl
       read_tells (Err readable_error.IllegalOrderedRead) = refl
@@ -298,7 +298,7 @@ module _ (a b : Config) (h : History) (old new : PairState) (r : Recounted a b h
       subst (after (steps.ReceivedReset who id)) (sym w.reply_is)
       (quiet (steps.ReceivedReset who id) (code_reply w.answer) d.end d.is (code_tells w.answer) (told_at d.end s.asked _ s.is (called s.asked (ToldReset id w.answer) tt (λ k. tt) (end.pending, s.asked.pending, s.tells)))))
     where
-      code_tells : (answer : Result (Option ℕ) HandleError) → StepTells old.sent (steps.ReceivedReset who id) (code_reply answer) r.tale r.tale
+      code_tells : (answer : Result (Option ℕ) HandleError) → StepTells old.sent (steps.ReceivedReset who id) (code_reply answer) r.tales r.tales
       code_tells (Ok (Some code)) = refl
       code_tells (Ok None) = refl
       code_tells (Err handle_error.ClosedStream) = refl
@@ -308,7 +308,7 @@ module _ (a b : Config) (h : History) (old new : PairState) (r : Recounted a b h
   counts-send-window window reply d =
       let o = d.does in
       subst (after (steps.SetSendWindow who window)) (sym o.0)
-      (recount-end a b h old r (steps.SetSendWindow who window) _ who (with_window_of window) d.end new d.is (counted_window made end.streams d.end.streams (r.tale who) window here (ap (λ (k : EndState). k.streams) o.1)) refl)
+      (recount-end a b h old r (steps.SetSendWindow who window) _ who (with_window_of window) d.end new d.is (counted_window made end.streams d.end.streams (r.tales.of who) window here (ap (λ (k : EndState). k.streams) o.1)) refl)
 
   pub counts-receive-window : (window : ℕ) (reply : Answer) → OnEnd (λ e f. SetsReceiveWindow e window reply f) old who new → after (steps.SetReceiveWindow who window) reply
   counts-receive-window window reply d =
@@ -323,7 +323,7 @@ module _ (a b : Config) (h : History) (old new : PairState) (r : Recounted a b h
       subst (after (steps.SetMaxConcurrent who dir count)) (sym o.reply_is)
       (quiet (steps.SetMaxConcurrent who dir count) (done_reply o.answer) d.end d.is (set_tells o.answer) (told_at d.end s.set (is_ok o.answer) s.is (called s.set (SetConcurrent dir count o.answer) tt (λ k. tt) s.sets)))
     where
-      set_tells : (answer : Result (Unit {0}) OutOfMemory) → StepTells old.sent (steps.SetMaxConcurrent who dir count) (done_reply answer) r.tale r.tale
+      set_tells : (answer : Result (Unit {0}) OutOfMemory) → StepTells old.sent (steps.SetMaxConcurrent who dir count) (done_reply answer) r.tales r.tales
       set_tells (Ok u) = refl
       set_tells (Err error) = refl
 
@@ -333,6 +333,6 @@ module _ (a b : Config) (h : History) (old new : PairState) (r : Recounted a b h
       subst (after (steps.Poll who)) (sym o.reply_is)
       (quiet (steps.Poll who) (event_reply o.event) d.end d.is (poll_tells o.event) (called d.end (Sending (Polled o.event)) tt (λ k. tt) o.polls))
     where
-      poll_tells : (event : Option StreamEvent) → StepTells old.sent (steps.Poll who) (event_reply event) r.tale r.tale
+      poll_tells : (event : Option StreamEvent) → StepTells old.sent (steps.Poll who) (event_reply event) r.tales r.tales
       poll_tells (Some event) = refl
       poll_tells None = refl

@@ -1,9 +1,8 @@
 -- What frames that are delivered, and reports of what became of frames, tell of what an end sends.
-use Rattle.std.proofs.Common.{◌≡◌, ◌⊎◌, ℕ, Bool, true, false, List, [], ◌∷◌, ◌++◌, length, Option, Some, None, Result, Ok, Err, refl, sym, ap, ◌∙◌, subst, inl, inr, arith, ◌≤◌, ◌^◌}
-use Rattle.std.specs.Prelude.{slice_get, slice_set, max, min, is_ok, if◌then◌else◌}
+use Rattle.std.proofs.Common.{◌≡◌, ℕ, zero, suc, Bool, true, false, List, [], ◌∷◌, ◌++◌, length, Some, Result, Ok, Err, refl, sym, ap, ◌∙◌, subst, inl, inr, arith, ◌≤◌, ◌^◌}
+use Rattle.std.specs.Prelude.{slice_get, slice_set, max, min, if◌then◌else◌}
 use Rattle.std.proofs.lemmas.List.{append-nil}
 use Rattle.quic_values.specs.declared.memory.OutOfMemory.{OutOfMemory}
-use Rattle.quic_values.specs.declared.ids.Side.{Side}
 use Rattle.quic_values.specs.declared.ids.Dir.{Dir}
 use Rattle.quic_values.specs.declared.ids.Dir.TheVariants.{Bi, Uni}
 use Rattle.quic_wire.specs.declared.frame.Frame.{Frame}
@@ -15,20 +14,19 @@ use Rattle.quic_wire.specs.Frames.{AreFrames}
 use Rattle.quic_wire.specs.declared.error.ReceiveError.{ReceiveError}
 use Rattle.quic_wire.specs.declared.error.ReceiveError.TheVariants as receive_error
 use Rattle.quic_receiving.specs.declared.transmit.ShouldTransmit.{ShouldTransmit}
-use Rattle.quic_flows.specs.Flow.{SendMove, WasAskedToStop, WasPermitted, WasAcked, WasLost, WasResetAcked}
+use Rattle.quic_flows.specs.Flow.{WasAskedToStop, WasPermitted, WasResetAcked}
 use Rattle.quic_outgoing.specs.History.{given_for}
 use Rattle.quic_history.specs.World.{World, Made}
 use Rattle.quic_history.specs.Flows.{has_side_in}
-use Rattle.quic_history.specs.SendEvents.{SendEvent, StoppedOwn, RaisedData, RaisedLimit, RaisedCount, AckedOwn, LostOwn, ResetAckedOwn}
-use Rattle.quic_history.specs.History.{Event, Step, Received, ReceivedReset, Sending, From}
+use Rattle.quic_history.specs.SendEvents.{StoppedOwn, RaisedData, RaisedLimit, RaisedCount, AckedOwn, LostOwn, ResetAckedOwn}
+use Rattle.quic_history.specs.History.{Event, Received, ReceivedReset, Sending}
 use Rattle.quic_history.proofs.Histories.{next}
-use Rattle.quic_link.specs.Endpoints.{Endpoint, IsOneOf, WasAskedFor}
-use Rattle.quic_link.specs.Promises.{Promises}
+use Rattle.quic_link.specs.Endpoints.{Endpoint, IsOneOf}
 use Rattle.quic_link.proofs.Joint.{agrees}
 use Rattle.quic_link.proofs.Promised.{promised}
-use Rattle.quic_endpoint.specs.Ends.{EndState, with_counts_told_if}
-use Rattle.quic_endpoint.specs.Receiving.{ReceivesAt, MakesCall, MayAnswer, event_of, with_answer_told, stopped_so, done_so}
-use Rattle.quic_endpoint.specs.Reports.{LosesAt, AcksAt, AcksResetAt}
+use Rattle.quic_endpoint.specs.Ends.{EndState}
+use Rattle.quic_endpoint.specs.Receiving.{ReceivesAt, MakesCall, MayAnswer, event_of, with_answer_told}
+use Rattle.quic_endpoint.specs.Reports.{LosesAt, AcksAt}
 use Rattle.quic_steps.specs.declared.steps.Config.{Config}
 use Rattle.quic_steps.specs.declared.steps.End.{End}
 use Rattle.quic_steps.specs.declared.steps.Step.{Step as PairStep}
@@ -36,13 +34,13 @@ use Rattle.quic_steps.specs.declared.steps.Step.TheVariants as steps
 use Rattle.quic_steps.specs.declared.steps.Reply.TheVariants.{Done, DoneTransmit}
 use Rattle.quic_steps.specs.declared.steps.PairError.TheVariants.{NoSuchPayload, NoSuchFrame, NotAccepted, OutOfMemory as NoMemory}
 use Rattle.quic_pair.specs.declared.sent.Sent.{Sent}
-use Rattle.quic_pair.specs.Payloads.{SentText, IsFrameAt, IsStreamAt, IsMarked, resets_in}
+use Rattle.quic_pair.specs.Payloads.{IsFrameAt, IsStreamAt, resets_in}
 use Rattle.quic_pair.specs.Replies.{Answer, done_reply, received_reply}
 use Rattle.quic_pair.specs.State.{PairState, peer, the_end, with_end, with_sent}
-use Rattle.quic_pair.specs.Calls.{AcksResets, none, more, AcksSome}
+use Rattle.quic_pair.specs.Calls.{AcksResets, none, more}
 use Rattle.quic_pair.specs.Steps.{SentAfter, HandsOver, Delivers, ReportsLoss, LosesFrame, ReportsAck, AcksFrame, LosesAllControl, LosesControl, AcksAllControl, AcksSomeControl, AcksControl}
-use Rattle.quic_pair.specs.History.{History, Past, past_of}
-use Rattle.quic_pair.specs.Tale.{Tale, StepTells, HearsOne, Reported, AcksFirst, AcksEach, WasFrame, WasStream, WasPayload, with_deed, with_frame_heard, with_resets_acked, told_of, was_acked, was_lost}
+use Rattle.quic_pair.specs.History.{History, Past}
+use Rattle.quic_pair.specs.Tale.{Tale, StepTells, WasFrame, with_deed, with_frame_heard, with_resets_acked, told_of, was_acked, was_lost}
 use Rattle.quic_pair.proofs.Joined.{Seen, Joined}
 use Rattle.quic_pair.proofs.Flips.{seen-as, peer-peer}
 use Rattle.quic_pair.proofs.CallsSetting.{told-streams}
@@ -130,6 +128,12 @@ answered_streams (Err (receive_error.Transport error)) e = refl
 answered_streams (Err receive_error.CompactionMemory) e = refl
 answered_streams (Err receive_error.OutOfMemory) e = refl
 
+-- one payload takes the place of another
+set_length : {X : Type 0} (xs : List X) (n : ℕ) (x : X) → length (slice_set xs n x) ≡ length xs
+set_length [] n x = refl
+set_length (y ∷ ys) zero x = refl
+set_length (y ∷ ys) (suc n) x = ap (λ k. suc k) (set_length ys n x)
+
 -- ---- which streams frames speak of
 
 module _ (p : Past) (who : End) (v : PairState) (x y : Endpoint) (s : Seen p who v x y) where
@@ -176,6 +180,10 @@ module _ (a b : Config) (p : Past) (h : History) (old new : PairState) (j : Join
   stays s is (Ok transmit) m = subst (StaySent old.sent) (sym m.2) (stay_marked old.sent number s index m.0 is m.1)
   stays s is (Err error) m = subst (StaySent old.sent) (sym m) (stay-sent old.sent)
 
+  sizes : (s : Sent) (answer : Result ShouldTransmit ReceiveError) → SentAfter old.sent number s index answer new.sent → length new.sent ≡ length old.sent
+  sizes s (Ok transmit) m = ap length m.2 ∙ set_length old.sent number (record s { text = m.0 })
+  sizes s (Err error) m = ap length m
+
   -- what was accepted was sent
   module _ (s : Sent) (is : slice_get old.sent number ≡ Some s) (frame : Frame) (at : IsFrameAt s.text.bytes index frame) (stay : StaySent old.sent new.sent) where
     stood : WasFrame new.sent s.writer (number, index) frame
@@ -184,7 +192,7 @@ module _ (a b : Config) (p : Past) (h : History) (old new : PairState) (j : Join
         let P : List ℕ → Type 0 = λ bytes. IsFrameAt bytes index frame in
         record { payload = k.0; is = k.1; writer = k.2; frame_is = subst P (sym k.3) at }
 
-    hears_reply : (due : Bool) → StepTells new.sent delivery (Ok (if due then DoneTransmit else Done)) r.tale (told_of (peer s.writer) (with_frame_heard frame) r.tale)
+    hears_reply : (due : Bool) → StepTells new.sent delivery (Ok (if due then DoneTransmit else Done)) r.tales (told_of (peer s.writer) (with_frame_heard frame) r.tales)
     hears_reply true = record { who = s.writer; frame = frame; stood = stood; is = refl }
     hears_reply false = record { who = s.writer; frame = frame; stood = stood; is = refl }
 
@@ -198,19 +206,19 @@ module _ (a b : Config) (p : Past) (h : History) (old new : PairState) (j : Join
       at_end : (k : ReceivesAt (the_end old who) frame answer end) (t : Tale) → Counted (made_at a b who) k.taken.streams t → Counted (made_at a b who) end.streams t
       at_end k t c = counted-at end.streams (ap (λ (g : EndState). g.streams) k.is ∙ answered_streams answer k.taken) c
 
-      refused : (error : ReceiveError) (g : EndState) (k : ReceivesAt (the_end old who) frame (Err error) g) → Counted (made_at a b who) g.streams (r.tale who)
+      refused : (error : ReceiveError) (g : EndState) (k : ReceivesAt (the_end old who) frame (Err error) g) → Counted (made_at a b who) g.streams (r.tales.of who)
       refused error g k = counted-at g.streams (ap (λ (f : EndState). f.streams) k.is ∙ answered_streams (Err error) k.taken)
-          (heard_error (made_at a b who) (r.tale who) (the_end old who).streams k.taken.streams (r.counted who) frame error k.may k.call)
+          (heard_error (made_at a b who) (r.tales.of who) (the_end old who).streams k.taken.streams (r.counted who) frame error k.may k.call)
 
-      accepted : (transmit : ShouldTransmit) (g : EndState) (k : ReceivesAt (the_end old who) frame (Ok transmit) g) → Counted (made_at a b who) g.streams (with_frame_heard frame (r.tale who))
+      accepted : (transmit : ShouldTransmit) (g : EndState) (k : ReceivesAt (the_end old who) frame (Ok transmit) g) → Counted (made_at a b who) g.streams (with_frame_heard frame (r.tales.of who))
       accepted transmit g k = counted-at g.streams (ap (λ (f : EndState). f.streams) k.is ∙ answered_streams (Ok transmit) k.taken)
-          (heard_ok (made_at a b who) (r.tale who) (the_end old who).streams k.taken.streams (r.counted who) frame transmit (side_at s is frame at) k.call)
+          (heard_ok (made_at a b who) (r.tales.of who) (the_end old who).streams k.taken.streams (r.counted who) frame transmit (side_at s is frame at) k.call)
 
       by_answer : (answer : Result ShouldTransmit ReceiveError) → ReceivesAt (the_end old who) frame answer end → SentAfter old.sent number s index answer new.sent → after delivery (received_reply answer)
-      by_answer (Ok transmit) k m = let stay = stays s is (Ok transmit) m in recount a b h old r delivery _ who (with_frame_heard frame) end new.sent new e stay (accepted transmit end k) (hears_reply s is frame at stay transmit.0)
-      by_answer (Err (receive_error.Transport error)) k m = recount-as a b h old r delivery _ who end new.sent new e (stays s is (Err (receive_error.Transport error)) m) (refused (receive_error.Transport error) end k) refl
-      by_answer (Err receive_error.CompactionMemory) k m = recount-as a b h old r delivery _ who end new.sent new e (stays s is (Err receive_error.CompactionMemory) m) (refused receive_error.CompactionMemory end k) refl
-      by_answer (Err receive_error.OutOfMemory) k m = recount-as a b h old r delivery _ who end new.sent new e (stays s is (Err receive_error.OutOfMemory) m) (refused receive_error.OutOfMemory end k) refl
+      by_answer (Ok transmit) k m = let stay = stays s is (Ok transmit) m in recount a b h old r delivery _ who (with_frame_heard frame) end new.sent new e stay (sizes s (Ok transmit) m) (accepted transmit end k) (hears_reply s is frame at stay transmit.0)
+      by_answer (Err (receive_error.Transport error)) k m = recount-as a b h old r delivery _ who end new.sent new e (stays s is (Err (receive_error.Transport error)) m) (sizes s (Err (receive_error.Transport error)) m) (refused (receive_error.Transport error) end k) refl
+      by_answer (Err receive_error.CompactionMemory) k m = recount-as a b h old r delivery _ who end new.sent new e (stays s is (Err receive_error.CompactionMemory) m) (sizes s (Err receive_error.CompactionMemory) m) (refused receive_error.CompactionMemory end k) refl
+      by_answer (Err receive_error.OutOfMemory) k m = recount-as a b h old r delivery _ who end new.sent new e (stays s is (Err receive_error.OutOfMemory) m) (sizes s (Err receive_error.OutOfMemory) m) (refused receive_error.OutOfMemory end k) refl
 
   handed : (reply : Answer) → HandsOver old number index reply new → after delivery reply
   handed reply k = subst (after delivery) (sym k.reply_is) (deliver_any k.payload.sent k.payload.is k.frame k.at k.answer k.end k.receives k.sent k.is)
@@ -237,13 +245,13 @@ module _ (a b : Config) (p : Past) (h : History) (old new : PairState) (j : Join
   lose_any s is meta at (Ok u) end l e =
       let who = s.writer in
       recount-end a b h old r (steps.LoseStream number index) _ who (with_deed meta.id (was_lost meta)) end new e
-      (counted-deed (made_at a b who) (the_end old who).streams end.streams (r.tale who) (Sending (LostOwn meta.id meta.offsets meta.fin (Ok tt))) meta.id (was_lost meta)
+      (counted-deed (made_at a b who) (the_end old who).streams end.streams (r.tales.of who) (Sending (LostOwn meta.id meta.offsets meta.fin (Ok tt))) meta.id (was_lost meta)
       (record { move_is = refl; limits = refl; joint = refl; taken = refl; limit = refl; window = refl; opens = λ d. refl; counts = λ d. refl }) (λ k. tt) (stream_side s is meta at) (r.counted who) l.loses)
       (record { who = who; meta = meta; stood = record { payload = s; is = is; writer = refl; stream_is = at }; is = refl })
   lose_any s is meta at (Err error) end l e =
       let who = s.writer in
       let event = Sending (LostOwn meta.id meta.offsets meta.fin (Err error)) in
-      recount-called a b h old r (steps.LoseStream number index) _ who end new e (counted-untold (made_at a b who) (the_end old who).streams end.streams (r.tale who) event (untold event tt) (λ k. tt) (r.counted who) l.loses) refl
+      recount-called a b h old r (steps.LoseStream number index) _ who end new e (counted-untold (made_at a b who) (the_end old who).streams end.streams (r.tales.of who) event (untold event tt) (λ k. tt) (r.counted who) l.loses) refl
 
   lost : (reply : Answer) → ReportsLoss old number index reply new → after (steps.LoseStream number index) reply
   lost reply k = subst (after (steps.LoseStream number index)) (sym k.reply_is) (lose_any k.payload.sent k.payload.is k.meta k.at k.answer k.end k.loses k.is)
@@ -260,7 +268,7 @@ module _ (a b : Config) (p : Past) (h : History) (old new : PairState) (j : Join
       let who = s.writer in
       recount-end a b h old r (steps.AckStream number index) _ who (with_deed meta.id (was_acked meta)) end new e
       (counted-at end.streams (ap (λ (g : EndState). g.streams) l.is ∙ told-streams true l.acked)
-      (counted-deed (made_at a b who) (the_end old who).streams l.acked.streams (r.tale who) (Sending (AckedOwn meta.id meta.offsets meta.fin (Ok tt))) meta.id (was_acked meta)
+      (counted-deed (made_at a b who) (the_end old who).streams l.acked.streams (r.tales.of who) (Sending (AckedOwn meta.id meta.offsets meta.fin (Ok tt))) meta.id (was_acked meta)
       (record { move_is = refl; limits = refl; joint = refl; taken = refl; limit = refl; window = refl; opens = λ d. refl; counts = λ d. refl }) (λ k. tt) (stream_side s is meta at) (r.counted who) l.acks))
       (record { who = who; meta = meta; stood = record { payload = s; is = is; writer = refl; stream_is = at }; is = refl })
   ack_any s is meta at (Err error) end l e =
@@ -268,7 +276,7 @@ module _ (a b : Config) (p : Past) (h : History) (old new : PairState) (j : Join
       let event = Sending (AckedOwn meta.id meta.offsets meta.fin (Err error)) in
       recount-called a b h old r (steps.AckStream number index) _ who end new e
       (counted-at end.streams (ap (λ (g : EndState). g.streams) l.is ∙ told-streams false l.acked)
-      (counted-untold (made_at a b who) (the_end old who).streams l.acked.streams (r.tale who) event (untold event tt) (λ k. tt) (r.counted who) l.acks)) refl
+      (counted-untold (made_at a b who) (the_end old who).streams l.acked.streams (r.tales.of who) event (untold event tt) (λ k. tt) (r.counted who) l.acks)) refl
 
   acked : (reply : Answer) → ReportsAck old number index reply new → after (steps.AckStream number index) reply
   acked reply k = subst (after (steps.AckStream number index)) (sym k.reply_is) (ack_any k.payload.sent k.payload.is k.meta k.at k.answer k.end k.acks k.is)
@@ -360,7 +368,7 @@ module _ (a b : Config) (p : Past) (h : History) (old new : PairState) (j : Join
       let m = made_at a b who in
       let c = r.counted who in
       let P : List ℕ → Type 0 = λ l. (id : ℕ) → IsOneOf id l → sides_told m c.calls id ≡ true in
-      let done = acks_counted m c.calls (r.tale who) (by-counted c) (subst P (sym k.accepted.resets_are) (reset_side s k.payload.is k.accepted.all k.accepted.spelled)) k.acks in
+      let done = acks_counted m c.calls (r.tales.of who) (by-counted c) (subst P (sym k.accepted.resets_are) (reset_side s k.payload.is k.accepted.all k.accepted.spelled)) k.acks in
       recount-end a b h old r (steps.AckControl number) (Ok Done) who (with_resets_acked k.ids) k.end new k.is (counted-by done.by)
       (record { who = who; all = k.accepted.all; stood = record { payload = s; is = k.payload.is; writer = refl; spelled = k.accepted.spelled }; first = k.ids; rest = []; are = sym k.accepted.resets_are ∙ sym (append-nil k.ids); is = refl }, refl)
 
@@ -375,9 +383,9 @@ module _ (a b : Config) (p : Past) (h : History) (old new : PairState) (j : Join
       let sides = reset_side s k.payload.is k.accepted.all k.accepted.spelled in
       let P : List ℕ → Type 0 = λ l. (id : ℕ) → IsOneOf id l → sides_told m c.calls id ≡ true in
       let these = subst P all_is sides in
-      let done = acks_counted m c.calls (r.tale who) (by-counted c) (λ id l. these id (one_of_first id t.first (t.id ∷ t.rest) l)) t.acks in
+      let done = acks_counted m c.calls (r.tales.of who) (by-counted c) (λ id l. these id (one_of_first id t.first (t.id ∷ t.rest) l)) t.acks in
       let event = Sending (ResetAckedOwn t.id (Err (record {}))) in
-      let last = by-untold m done.calls t.between.streams t.refused.acked.streams (with_resets_acked t.first (r.tale who)) event (untold event tt) tt done.by t.refused.acks in
+      let last = by-untold m done.calls t.between.streams t.refused.acked.streams (with_resets_acked t.first (r.tales.of who)) event (untold event tt) tt done.by t.refused.acks in
       recount-end a b h old r (steps.AckControl number) (Err NoMemory) who (with_resets_acked t.first) k.end new k.is
       (counted-by (by-at k.end.streams (ap (λ (g : EndState). g.streams) t.refused.is ∙ told-streams false t.refused.acked) last))
       (inr (record { who = who; all = k.accepted.all; stood = record { payload = s; is = k.payload.is; writer = refl; spelled = k.accepted.spelled }; first = t.first; rest = t.id ∷ t.rest; are = all_is; is = refl }))

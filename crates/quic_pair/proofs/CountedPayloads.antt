@@ -1,7 +1,6 @@
 -- What payloads that an end writes tell of what it sends.
-use Rattle.std.proofs.Common.{◌≡◌, ◌⊎◌, ℕ, Bool, true, false, List, [], ◌∷◌, ◌++◌, length, Option, Some, None, Result, Ok, Err, refl, sym, ap, ◌∙◌, subst, inl, inr, arith, ◌≤◌, ◌+◌}
+use Rattle.std.proofs.Common.{◌≡◌, ℕ, Bool, true, false, List, [], ◌∷◌, ◌++◌, length, Some, None, Result, Ok, Err, refl, sym, ap, ◌∙◌, subst, inl, inr, arith, ◌≤◌, ◌+◌}
 use Rattle.std.specs.Prelude.{slice_get, map, if◌then◌else◌, ◌==◌}
-use Rattle.std.specs.List.{concat}
 use Rattle.std.proofs.lemmas.List.{append-nil, append_assoc}
 use Rattle.quic_values.specs.declared.memory.OutOfMemory.{OutOfMemory}
 use Rattle.quic_sending.specs.Buffer.{total_length}
@@ -9,7 +8,6 @@ use Rattle.quic_sending.proofs.Cuts.{length-concat}
 use Rattle.quic_wire.specs.declared.frame.Frame.{Frame}
 use Rattle.quic_wire.specs.declared.frame.Frame.TheVariants as frames
 use Rattle.quic_wire.specs.declared.frame.StreamMeta.{StreamMeta}
-use Rattle.quic_wire.specs.Text.{stream_of}
 use Rattle.quic_wire.specs.Frames.{BeginsFrames, AreFrames}
 use Rattle.quic_wire.proofs.Joins.{join}
 use Rattle.quic_retransmits.specs.Pending.{Pending, nothing}
@@ -19,8 +17,8 @@ use Rattle.quic_writing.specs.Writer.{Writer, TakesTurns, SkipsFirst, ServesFirs
 use Rattle.quic_writing.specs.Appended.{frame_with}
 use Rattle.quic_history.specs.World.{World, Made}
 use Rattle.quic_history.specs.Carrying.{with_writer}
-use Rattle.quic_history.specs.SendEvents.{SendStep, TookTurn}
-use Rattle.quic_history.specs.History.{Event, Settled, Sending, From, flow}
+use Rattle.quic_history.specs.SendEvents.{TookTurn}
+use Rattle.quic_history.specs.History.{Event, Settled, Sending, flow}
 use Rattle.quic_streams.specs.Payload.{Entry, with_entries, control_order}
 use Rattle.quic_streams.specs.Transmitting.{end_writer, told_bytes}
 use Rattle.quic_link.specs.Endpoints.{Endpoint, IsOneOf}
@@ -32,22 +30,21 @@ use Rattle.quic_endpoint.specs.Ends.{EndState}
 use Rattle.quic_endpoint.specs.Emitting.{PayloadView, place_at, EmitsControl, EmitsStreams, EmitsNoStream, EmitsAt, whole, cut}
 use Rattle.quic_steps.specs.declared.steps.Config.{Config}
 use Rattle.quic_steps.specs.declared.steps.End.{End}
-use Rattle.quic_steps.specs.declared.steps.Step.{Step as PairStep}
 use Rattle.quic_steps.specs.declared.steps.Step.TheVariants as steps
 use Rattle.quic_steps.specs.declared.steps.Reply.TheVariants.{Payload}
 use Rattle.quic_steps.specs.declared.steps.PairError.TheVariants.{OutOfMemory as NoMemory}
 use Rattle.quic_pair.specs.declared.sent.Sent.{Sent}
 use Rattle.quic_pair.specs.Payloads.{SentText, is_control}
 use Rattle.quic_pair.specs.Replies.{Answer}
-use Rattle.quic_pair.specs.State.{PairState, the_end, with_end, with_sent}
+use Rattle.quic_pair.specs.State.{PairState}
 use Rattle.quic_pair.specs.Steps.{Emits, Emitted}
 use Rattle.quic_pair.specs.History.{History}
-use Rattle.quic_pair.specs.Tale.{Tale, StepTells, SendsOne, WasPayload, with_deed, with_frames_sent, told_of}
+use Rattle.quic_pair.specs.Tale.{Tale, Tales, StepTells, SendsOne, WasPayload, with_deed, with_frames_sent, told_of}
 use Rattle.quic_pair.proofs.DuePayloads.{Front, front_kinds, front_first}
 use Rattle.quic_pair.proofs.PayloadQueues.{queue-bare}
 use Rattle.quic_pair.proofs.PayloadEmits.{bare_world, bare_after, stay_before}
-use Rattle.quic_pair.proofs.Counted.{Counted, CountedBy, TellsSo, counted-untold, counted-deed, counted-at, tells-untold, side-held}
-use Rattle.quic_pair.proofs.Recounted.{Recounted, made_at, recount, recount-same, untold}
+use Rattle.quic_pair.proofs.Counted.{Counted, TellsSo, counted-untold, counted-deed, counted-at, tells-untold, side-held}
+use Rattle.quic_pair.proofs.Recounted.{Recounted, made_at, recount-sent, recount-same, untold}
 
 -- ---- turns of the send queue
 
@@ -229,20 +226,20 @@ module _ (a b : Config) (h : History) (old new : PairState) (r : Recounted a b h
   after reply = Recounted a b (h ++ (steps.Emit who most fair, reply) ∷ []) new
 
   emitted_any : (reply : Answer) (answer : Result (Unit {0}) OutOfMemory) (payload : PayloadView) → Emits old who most fair answer payload new
-      → ((u : End → Tale) (sents : List Sent) → (k : SendsOne sents who r.tale u) → k.number ≡ length old.sent → StepTells sents (steps.Emit who most fair) reply r.tale u) → after reply
+      → ((u : Tales) (sents : List Sent) → SendsOne sents who r.tales u → StepTells sents (steps.Emit who most fair) reply r.tales u) → after reply
   emitted_any reply answer payload k tells =
-      let c = payload_counted (made_at a b who) (r.tale who) (r.counted who) k.emits in
+      let c = payload_counted (made_at a b who) (r.tales.of who) (r.counted who) k.emits in
       let sents = old.sent ++ k.sent ∷ [] in
       let P : List ℕ → Type 0 = λ l. AreFrames l c.all in
-      let stood : WasPayload sents who (length old.sent) c.all =
-      record { payload = k.sent; is = last_of old.sent k.sent; writer = k.sent_is.writer; spelled = subst P (sym (ap (λ (u : SentText). u.bytes) k.sent_is.text)) c.spelled } in
-      let sends : SendsOne sents who r.tale (told_of who (with_frames_sent c.all) r.tale) = record { number = length old.sent; all = c.all; stood = stood; is = refl } in
-      recount a b h old r (steps.Emit who most fair) reply who (with_frames_sent c.all) k.end sents new k.is (stay_before old.sent k.sent) c.counted (tells _ sents sends refl)
+      let stood : WasPayload sents who r.tales.payloads c.all =
+      record { payload = k.sent; is = ap (slice_get sents) r.count ∙ last_of old.sent k.sent; writer = k.sent_is.writer; spelled = subst P (sym (ap (λ (u : SentText). u.bytes) k.sent_is.text)) c.spelled } in
+      let sends : SendsOne sents who r.tales (record (told_of who (with_frames_sent c.all) r.tales) { payloads = r.tales.payloads + 1 }) = record { all = c.all; stood = stood; is = refl } in
+      recount-sent a b h old r (steps.Emit who most fair) reply who (with_frames_sent c.all) k.end k.sent new k.is (stay_before old.sent k.sent) c.counted (tells _ sents sends)
 
   pub counts-emit : (reply : Answer) → Emitted old who most fair reply new → after reply
-  counts-emit (Ok (Payload number bytes)) k = emitted_any (Ok (Payload number bytes)) (Ok tt) k.payload k.emits (λ u sents s n. (s, n ∙ sym k.number_is))
+  counts-emit (Ok (Payload number bytes)) k = emitted_any (Ok (Payload number bytes)) (Ok tt) k.payload k.emits (λ u sents s. (s, r.count ∙ sym k.number_is))
   counts-emit (Err NoMemory) k = elim k [
     | inl same ↦ recount-same a b h old r (steps.Emit who most fair) (Err NoMemory) new same (inl refl)
-    | inr t ↦ emitted_any (Err NoMemory) t.answer t.payload t.emits (λ u sents s n. inr s)
+    | inr t ↦ emitted_any (Err NoMemory) t.answer t.payload t.emits (λ u sents s. inr s)
   ]
   counts-emit _ k = absurd k

@@ -1,5 +1,5 @@
 -- Steps on payloads, put together from what their parts do.
-use Rattle.std.proofs.Common.{◌≡◌, ℕ, Bool, true, false, List, [], ◌∷◌, ◌++◌, length, Option, Some, None, Result, Ok, Err, refl, sym, ap, ◌∙◌, subst, inl, inr, ◌≤◌}
+use Rattle.std.proofs.Common.{◌≡◌, ℕ, Bool, true, false, List, [], ◌∷◌, ◌++◌, length, Some, Result, Ok, Err, refl, sym, ap, ◌∙◌, subst, inl, inr}
 use Rattle.std.specs.Prelude.{not, slice_get, slice_set, OnOk, OnErr}
 use Rattle.std.specs.Global.{Vec}
 use Rattle.quic_values.specs.declared.memory.OutOfMemory.{OutOfMemory}
@@ -19,7 +19,7 @@ use Rattle.quic_steps.specs.declared.steps.PairError.TheVariants as refusals
 use Rattle.quic_pair.specs.declared.sent.Sent.{Sent}
 use Rattle.quic_pair.specs.declared.places.HandedFrame.{HandedFrame}
 use Rattle.quic_pair.specs.declared.places.SentStream.{SentStream}
-use Rattle.quic_pair.specs.Replies.{Answer, done_reply, received_reply, payload_reply, wants_memory}
+use Rattle.quic_pair.specs.Replies.{done_reply, received_reply, payload_reply}
 use Rattle.quic_pair.specs.Payloads.{LacksFrame, LacksStream, SpellsNone, LacksAccepted, IsMarked}
 use Rattle.quic_pair.specs.Places.{FindsFrame, FindsStream, FindsResets, FailsToFind, IsNeverRefused, MarksIf, MarksAt}
 use Rattle.quic_pair.specs.State.{PairState, OnEnd, peer, the_end, with_end, with_sent, two_ends}

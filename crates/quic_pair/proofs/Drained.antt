@@ -1,5 +1,5 @@
 -- What was delivered is read.
-use Rattle.std.proofs.Common.{◌≡◌, ◌⊎◌, ℕ, Bool, true, false, List, [], ◌∷◌, ◌++◌, length, Option, Some, None, Result, Ok, Err, refl, sym, ap, ◌∙◌, subst, inl, inr, arith, ◌+◌, ◌<◌, ◌≤◌}
+use Rattle.std.proofs.Common.{◌≡◌, ℕ, Bool, true, false, List, [], ◌∷◌, ◌++◌, length, Result, Ok, Err, refl, sym, ap, ◌∙◌, subst, inl, inr, arith, ◌+◌, ◌<◌, ◌≤◌}
 use Rattle.std.specs.Prelude.{nat_lt, ◌||◌, if◌then◌else◌}
 use Rattle.std.specs.Global.{Vec}
 use Rattle.std.proofs.lemmas.List.{length-append}
@@ -8,7 +8,6 @@ use Rattle.quic_assembler.specs.declared.chunk.Chunk.{Chunk}
 use Rattle.quic_assembler.specs.Piece.{lies}
 use Rattle.quic_wire.specs.declared.event.StreamEvent.{StreamEvent}
 use Rattle.quic_wire.specs.declared.event.StreamEvent.TheVariants as stream_event
-use Rattle.quic_wire.specs.declared.error.ReceiveError.{ReceiveError}
 use Rattle.quic_receiving.specs.Data.{is_in_slices, IsAllGiven}
 use Rattle.quic_receiving.specs.declared.errors.ReadableError.{ReadableError}
 use Rattle.quic_receiving.specs.declared.errors.ReadableError.TheVariants as readable_error
@@ -26,14 +25,13 @@ use Rattle.quic_steps.specs.declared.steps.Last.{Last}
 use Rattle.quic_steps.specs.declared.steps.Last.TheVariants as last
 use Rattle.quic_pair.specs.declared.sent.Sent.{Sent}
 use Rattle.quic_pair.specs.Replies.{Answer, read_reply}
-use Rattle.quic_pair.specs.State.{PairState, OnEnd, peer}
-use Rattle.quic_pair.specs.Calls.{OnGiven, ReadsOn}
+use Rattle.quic_pair.specs.State.{PairState, peer}
 use Rattle.quic_pair.specs.Steps.{Next}
-use Rattle.quic_pair.specs.History.{Past, Flow, FramePlace, History, past_of, after, after_given, after_write, after_chunks, after_finish, past_reset, past_stop, past_read, past_code, after_event, after_poll, after_deliver, with_flow, reads_last, reads_chunks, with_chunks_read, is_kept_by}
-use Rattle.quic_pair.specs.Headline.{IsFaithful, IsBeginningOf, AreInOrder, SomeStream, HasOffset, HasEnd}
-use Rattle.quic_pair.specs.Readable.{AreCut, SomeReset, HasNothingLeft, OnlySends, IsFlowOver, EndsReads, ReadsTrue}
+use Rattle.quic_pair.specs.History.{Past, Flow, FramePlace, History, past_of, after, after_given, after_write, after_chunks, after_finish, past_reset, past_stop, past_read, past_code, after_event, after_poll, after_deliver, reads_last, reads_chunks, with_chunks_read, is_kept_by}
+use Rattle.quic_pair.specs.Headline.{IsFaithful, IsBeginningOf, AreInOrder, SomeStream}
+use Rattle.quic_pair.specs.Readable.{AreCut, HasNothingLeft, ReadsTrue}
 use Rattle.quic_pair.specs.Refused.{IsKnownSo}
-use Rattle.quic_pair.specs.Law.{MayDrain, IsDrained, DrainsBy, DrainsFlow, Drains}
+use Rattle.quic_pair.specs.Law.{MayDrain, DrainsBy, DrainsFlow, Drains}
 use Rattle.quic_pair.specs.From.{From, begun, next}
 use Rattle.quic_pair.proofs.Grown.{headline-from, past-after}
 use Rattle.quic_pair.proofs.Readable.{readable-so}

@@ -1,5 +1,5 @@
 -- No step withholds what was due.
-use Rattle.std.proofs.Common.{◌≡◌, ◌⊎◌, ℕ, Bool, true, false, eqb, List, [], ◌∷◌, ◌++◌, length, Option, Some, None, Result, Ok, Err, refl, sym, ap, ◌∙◌, subst, inl, inr, arith, ◌+◌, ◌≤◌, ◌<◌}
+use Rattle.std.proofs.Common.{◌≡◌, ◌⊎◌, ℕ, Bool, true, false, eqb, List, [], ◌∷◌, ◌++◌, length, Option, Some, None, Result, Ok, Err, refl, sym, ap, ◌∙◌, subst, inl, inr, arith, ◌<◌}
 use Rattle.std.specs.Prelude.{◌||◌, ◌&&◌, not, ◌==◌, ◌-◌, min, nat_le, is_none, is_ok, if◌then◌else◌}
 use Rattle.std.specs.List.{concat}
 use Rattle.std.proofs.lemmas.Bool.Decides.{nat_tests}
@@ -64,7 +64,7 @@ use Rattle.quic_steps.specs.declared.steps.PairError.TheVariants.{UnknownId}
 use Rattle.quic_pair.specs.declared.sent.Sent.{Sent}
 use Rattle.quic_pair.specs.Replies.{Answer, opened_reply, written_reply, chunks_reply, handled_reply, code_reply, read_reply, done_reply, received_reply, last_of}
 use Rattle.quic_pair.specs.State.{PairState, OnEnd, peer, the_end, with_end, with_sent}
-use Rattle.quic_pair.specs.Calls.{Opens, OnGiven, Writes, WritesChunksOrNone, ResetsOn, StopsOn, ReadsOn, ReadsSo, SetsReceiveWindow, SetsMaxConcurrent, AcksResets, none, more}
+use Rattle.quic_pair.specs.Calls.{OnGiven, ReadsSo, AcksResets, none, more}
 use Rattle.quic_pair.specs.Steps.{Next, Emitted, HandsOver, Delivers, AcksFrame, LosesControl, AcksControl, HasPayload}
 use Rattle.quic_pair.specs.History.{History, past_of}
 use Rattle.quic_pair.specs.From.{From}

@@ -9,7 +9,7 @@ use Rattle.quic_wire.specs.declared.frame.Frame.{Frame}
 use Rattle.quic_wire.specs.declared.frame.Frame.TheVariants as frames
 use Rattle.quic_wire.specs.declared.frame.StreamMeta.{StreamMeta}
 use Rattle.quic_wire.specs.Text.{text}
-use Rattle.quic_wire.specs.Frames.{BeginsFrames, AreFrames}
+use Rattle.quic_wire.specs.Frames.{BeginsFrames}
 use Rattle.quic_wire.proofs.Joins.{join}
 use Rattle.quic_datagrams.specs.declared.stats.FrameStats.{FrameStats}
 use Rattle.quic_sending.specs.declared.send.Send.{Send}
@@ -33,7 +33,7 @@ use Rattle.quic_endpoint.specs.Emitting.{PayloadView, place_at, EmitsAt, whole}
 use Rattle.quic_pair.specs.Payloads.{is_control}
 use Rattle.quic_pair.specs.Due.{IsFull, AsksAllOf}
 use Rattle.quic_pair.proofs.Joined.{Stands}
-use Rattle.quic_pair.proofs.PayloadPages.{Page, page-control}
+use Rattle.quic_pair.proofs.PayloadPages.{page-control}
 
 -- ---- frames beside STREAM
 

@@ -1,15 +1,14 @@
 -- What linked ends promise is what a caller knows.
-use Rattle.std.proofs.Common.{◌≡◌, ℕ, zero, suc, Bool, true, List, [], ◌∷◌, ◌++◌, length, ◌<◌, ◌+◌, ◌-◌, Some, refl, sym, ap, ◌∙◌, subst, arith}
-use Rattle.std.specs.List.{concat, slice_index}
-use Rattle.quic_assembler.specs.Piece.{IsByteAt, lies}
-use Rattle.quic_receiving.specs.Data.{Carries, IsAllGiven}
-use Rattle.quic_sending.specs.Buffer.{total_length}
+use Rattle.std.proofs.Common.{◌≡◌, ℕ, suc, Bool, true, List, [], ◌∷◌, length, ◌<◌, ◌+◌, ◌-◌, refl, sym, ap, ◌∙◌, subst, arith}
+use Rattle.std.specs.List.{slice_index}
+use Rattle.quic_assembler.specs.Piece.{lies}
+use Rattle.quic_receiving.specs.Data.{IsAllGiven}
 use Rattle.quic_sending.proofs.Cuts.{length-concat}
 use Rattle.quic_wire.specs.declared.frame.Stream.{Stream}
-use Rattle.quic_history.specs.History.{ReadChunk, slices, EachOnce}
-use Rattle.quic_link.specs.Endpoints.{Endpoint, IsOneOf, sent_on, came_on, written_on}
+use Rattle.quic_history.specs.History.{ReadChunk, slices}
+use Rattle.quic_link.specs.Endpoints.{Endpoint, sent_on, came_on}
 use Rattle.quic_link.specs.Truths.{AreBytesOf, amount_on}
-use Rattle.quic_link.specs.Promises.{TellsTruth, Promises, CameWhole, CameAt, EndCame, given_in_order}
+use Rattle.quic_link.specs.Promises.{TellsTruth, CameWhole, given_in_order}
 use Rattle.quic_link.proofs.Promised.{promised}
 use Rattle.quic_link.proofs.Readers.{InRows}
 use Rattle.quic_link.proofs.Joint.{agrees}
@@ -18,9 +17,9 @@ use Rattle.quic_steps.specs.declared.steps.End.TheVariants.{A, B}
 use Rattle.quic_steps.specs.declared.steps.Config.{Config}
 use Rattle.quic_pair.specs.declared.sent.Sent.{Sent}
 use Rattle.quic_pair.specs.State.{PairState}
-use Rattle.quic_pair.specs.History.{Past, Flow}
-use Rattle.quic_pair.specs.Headline.{Headline, IsFaithful, IsDelivered, IsBeginningOf, AreInOrder, SomeStream, HasOffset, HasEnd}
-use Rattle.quic_pair.proofs.Joined.{Knows, IsLike, Seen, Joined}
+use Rattle.quic_pair.specs.History.{Past}
+use Rattle.quic_pair.specs.Headline.{Headline, IsFaithful, IsDelivered, IsBeginningOf, AreInOrder, HasOffset}
+use Rattle.quic_pair.proofs.Joined.{Knows, IsLike, Joined}
 
 -- ---- bytes at their places are a beginning
 

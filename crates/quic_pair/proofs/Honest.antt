@@ -1,13 +1,12 @@
 -- What every frame between two ends says is true.
-use Rattle.std.proofs.Common.{◌≡◌, ℕ, Bool, true, List, length, ◌≤◌, ◌+◌, Some, refl, sym, ap, ◌∙◌, subst}
+use Rattle.std.proofs.Common.{◌≡◌, ℕ, length, ◌≤◌, ◌+◌, Some, refl, sym, ap, ◌∙◌, subst}
 use Rattle.std.specs.Prelude.{slice_get}
-use Rattle.std.specs.List.{concat}
 use Rattle.quic_sending.proofs.Cuts.{length-concat}
 use Rattle.quic_wire.specs.declared.frame.Frame.{Frame}
 use Rattle.quic_wire.specs.declared.frame.Frame.TheVariants as frames
 use Rattle.quic_wire.specs.declared.frame.Stream.{Stream}
 use Rattle.quic_history.specs.World.{World, remote_of}
-use Rattle.quic_link.specs.Endpoints.{Endpoint, IsOneOf, sent_on, written_on}
+use Rattle.quic_link.specs.Endpoints.{Endpoint, sent_on}
 use Rattle.quic_link.specs.Truths.{AreBytesOf, IsFrameTrue, IsTrueData, amount_on}
 use Rattle.quic_link.specs.Promises.{Promises}
 use Rattle.quic_link.proofs.Promised.{promised}

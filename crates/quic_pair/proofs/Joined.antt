@@ -1,5 +1,5 @@
 -- What is kept of a pair: its ends are linked ends, each with what it has to send, and the steps tell what they did.
-use Rattle.std.proofs.Common.{◌≡◌, ℕ, Bool, true, false, List, length, ◌+◌, Some, Ok, refl}
+use Rattle.std.proofs.Common.{◌≡◌, ℕ, Bool, true, List, Some, Ok}
 use Rattle.std.specs.Prelude.{slice_get}
 use Rattle.quic_values.specs.declared.ids.Side.TheVariants.{Client, Server}
 use Rattle.quic_wire.specs.declared.frame.Frame.{Frame}
@@ -14,7 +14,7 @@ use Rattle.quic_link.specs.Promises.{CameWhole, WasReadUnordered}
 use Rattle.quic_link.specs.Asked.{AreAsked}
 use Rattle.quic_endpoint.specs.Ends.{EndState}
 use Rattle.quic_steps.specs.declared.steps.End.{End}
-use Rattle.quic_steps.specs.declared.steps.End.TheVariants.{A, B}
+use Rattle.quic_steps.specs.declared.steps.End.TheVariants.{A}
 use Rattle.quic_steps.specs.declared.steps.Config.{Config}
 use Rattle.quic_pair.specs.declared.sent.Sent.{Sent}
 use Rattle.quic_pair.specs.Payloads.{is_accepted, meta_of}

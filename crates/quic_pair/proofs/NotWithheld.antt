@@ -1,6 +1,6 @@
 -- Nothing permitted is withheld on the sending side, by what the steps tell.
 use Rattle.std.proofs.Common.{◌≡◌, ◌⊎◌, ℕ, Bool, true, false, List, [], ◌∷◌, ◌++◌, length, Option, Some, None, Result, Ok, Err, refl, sym, ap, ◌∙◌, subst, inl, inr, arith, ◌≤◌, ◌<◌}
-use Rattle.std.specs.Prelude.{◌==◌, ◌&&◌, ◌+◌, ◌-◌, ◌^◌, not, min, max, nat_lt, if◌then◌else◌}
+use Rattle.std.specs.Prelude.{◌==◌, ◌&&◌, ◌-◌, ◌^◌, not, min, max, nat_lt, if◌then◌else◌}
 use Rattle.std.specs.List.{concat}
 use Rattle.std.proofs.lemmas.Bool.Decides.{nat_tests}
 use Rattle.quic_values.specs.declared.ids.Side.{Side}
@@ -16,15 +16,14 @@ use Rattle.quic_sending.specs.declared.send.WriteError.{WriteError}
 use Rattle.quic_sending.specs.declared.send.WriteError.TheVariants as write_error
 use Rattle.quic_sending.proofs.Cuts.{length-concat}
 use Rattle.quic_flows.specs.Flow.{SendFlow, takes_data, retained, new_flow, with_least_limit}
-use Rattle.quic_outgoing.specs.Outgoing.{own_of, first_of, with_params}
+use Rattle.quic_outgoing.specs.Outgoing.{own_of, first_of}
 use Rattle.quic_outgoing.specs.Senders.{is_local, first_limit}
 use Rattle.quic_queue.specs.SendOrder.{line}
-use Rattle.quic_history.specs.World.{World, Made, start, is_own, remote_of}
-use Rattle.quic_history.specs.Sends.{with_out}
+use Rattle.quic_history.specs.World.{World, Made, start, remote_of}
 use Rattle.quic_history.specs.Acknowledged.{was_given}
-use Rattle.quic_history.specs.Flows.{room_on, refusal_where, refusal_on, refusal_told, has_send_side, has_side_in, is_answered_on, HasRest, stands}
+use Rattle.quic_history.specs.Flows.{room_on, refusal_where, refusal_told, has_send_side, has_side_in, is_answered_on, HasRest, stands}
 use Rattle.quic_history.specs.SendEvents.{GaveLimits}
-use Rattle.quic_history.specs.History.{Event, Sending, From, since, flow, moved_streams, taken_in_all, greatest_limit, last_send_window, opened_in_all, greatest_count, retained_in_all, total_over, room_in_connection, room_in_window, write_room, is_sent_on, why_not, send_tale, WritesSo}
+use Rattle.quic_history.specs.History.{Sending, since, flow, moved_streams, taken_in_all, greatest_limit, opened_in_all, greatest_count, retained_in_all, total_over, room_in_connection, room_in_window, write_room, is_sent_on, why_not, send_tale, WritesSo}
 use Rattle.quic_history.proofs.Beginnings.{begins}
 use Rattle.quic_history.proofs.FlowHistory.{known-by}
 use Rattle.quic_history.proofs.Histories.{next as next-call}
@@ -41,20 +40,19 @@ use Rattle.quic_steps.specs.declared.steps.End.TheVariants.{A, B}
 use Rattle.quic_steps.specs.declared.steps.Step.{Step}
 use Rattle.quic_steps.specs.declared.steps.Step.TheVariants as steps
 use Rattle.quic_steps.specs.declared.steps.Reply.TheVariants.{Payload}
-use Rattle.quic_pair.specs.declared.sent.Sent.{Sent}
 use Rattle.quic_pair.specs.Replies.{Answer, opened_reply, written_reply, chunks_reply}
-use Rattle.quic_pair.specs.State.{PairState, OnEnd, the_end, with_end}
-use Rattle.quic_pair.specs.Calls.{Opens, OnGiven, Writes, WritesChunksOrNone}
-use Rattle.quic_pair.specs.Steps.{Next, Emitted}
+use Rattle.quic_pair.specs.State.{PairState, OnEnd, the_end}
+use Rattle.quic_pair.specs.Calls.{OnGiven, Writes, WritesChunksOrNone}
+use Rattle.quic_pair.specs.Steps.{Next}
 use Rattle.quic_pair.specs.Due.{IsFull}
 use Rattle.quic_pair.specs.From.{From as FromPair, begun, next, IsNew, made_of, end_begun}
 use Rattle.quic_pair.specs.History.{History, past_of}
 use Rattle.quic_pair.specs.Readable.{side_of}
-use Rattle.quic_pair.specs.Tale.{Tale, Told, begun as told_begun, tale_begun, tales_begun, retained_by, first_count}
+use Rattle.quic_pair.specs.Tale.{Tale, begun as told_begun, tale_begun, tale_first, tales_begun, retained_by, first_count}
 use Rattle.quic_pair.specs.Withheld.{NotWithheld, DoesAsPermitted, LeavesNone, WritesTold, RefusesData, OnlyReceives, room_told}
 use Rattle.quic_pair.proofs.Joined.{Joined}
 use Rattle.quic_pair.proofs.Grown.{joined-from}
-use Rattle.quic_pair.proofs.Counted.{Counted, TellsSo}
+use Rattle.quic_pair.proofs.Counted.{Counted}
 use Rattle.quic_pair.proofs.Recounted.{Recounted, made_at}
 use Rattle.quic_pair.proofs.CountedCalls.{counts-open, counts-accept, counts-write, counts-chunks, counts-finish, counts-reset, counts-stop, counts-priority, counts-read, counts-code, counts-send-window, counts-receive-window, counts-concurrent, counts-poll}
 use Rattle.quic_pair.proofs.CountedPayloads.{counts-emit}
@@ -94,9 +92,9 @@ counted_begun s t own other bi uni small others_bi others_uni =
 recounted_new : (a b : Config) (v : PairState) → IsNew a b v → Recounted a b [] v
 recounted_new a b v n =
     let P : PairState → Type 0 = λ u. Recounted a b [] u in
-    subst P (sym n.is) (record { tale = tales_begun a b; told = told_begun; counted = both })
+    subst P (sym n.is) (record { tales = tales_begun a b; told = told_begun; counted = both; count = refl })
   where
-    both : (who : End) → Counted (made_at a b who) (the_end (record { a = end_begun (made_of Client a) (made_of Server b); b = end_begun (made_of Server b) (made_of Client a); sent = [] }) who).streams (tales_begun a b who)
+    both : (who : End) → Counted (made_at a b who) (the_end (record { a = end_begun (made_of Client a) (made_of Server b); b = end_begun (made_of Server b) (made_of Client a); sent = [] }) who).streams (tale_first a b who)
     both A = counted_begun Client Server a b n.few_bi.0 n.few_uni.0 n.small.0 n.few_bi.1 n.few_uni.1
     both B = counted_begun Server Client b a n.few_bi.1 n.few_uni.1 n.small.1 n.few_bi.0 n.few_uni.0
 
@@ -309,9 +307,9 @@ module _ (a b : Config) (h : History) (old new : PairState) (r : Recounted a b h
   end = the_end old who
 
   abbrev tale : Tale
-  tale = r.tale who
+  tale = r.tales.of who
 
-  opens_so : (dir : Dir) (f : EndState) (answer : Result (Option ℕ) OutOfMemory) → OpensAt end dir answer f → DoesAsPermitted r.tale (steps.Open who dir) (opened_reply answer)
+  opens_so : (dir : Dir) (f : EndState) (answer : Result (Option ℕ) OutOfMemory) → OpensAt end dir answer f → DoesAsPermitted r.tales (steps.Open who dir) (opened_reply answer)
   opens_so dir f (Ok (Some id)) o = tt
   opens_so dir f (Ok None) o = elim o.0.0 [
     | inl closed ↦ cc
@@ -350,19 +348,19 @@ module _ (a b : Config) (h : History) (old new : PairState) (r : Recounted a b h
       let P : Answer → Type 0 = λ q. WritesTold tale who id (length (concat chunks)) q in
       elim d.does [
         | inl k ↦ elim k.1 [
-            | inl w ↦ (
-                let Q : ℕ → Type 0 = λ n. WritesTold tale who id n (chunks_reply w.answer) in
-                subst P (sym w.reply_is) (subst Q (sym (length-concat chunks)) (chunks_told (made_at a b who) end.streams tale (r.counted who) who (side_made a b who) id k.0 chunks w.answer (writes_so id chunks d.end w.answer w.writes)))
-                )
-            | inr w ↦ subst P (sym w.0) tt
-          ]
+          | inl w ↦ (
+              let Q : ℕ → Type 0 = λ n. WritesTold tale who id n (chunks_reply w.answer) in
+              subst P (sym w.reply_is) (subst Q (sym (length-concat chunks)) (chunks_told (made_at a b who) end.streams tale (r.counted who) who (side_made a b who) id k.0 chunks w.answer (writes_so id chunks d.end w.answer w.writes)))
+              )
+          | inr w ↦ subst P (sym w.0) tt
+        ]
         | inr k ↦ subst P (sym k.1) tt
       ]
 
-does_so : (a b : Config) (h : History) (old new : PairState) (r : Recounted a b h old) (step : Step) (reply : Answer) → Next old step reply new → DoesAsPermitted r.tale step reply
+does_so : (a b : Config) (h : History) (old new : PairState) (r : Recounted a b h old) (step : Step) (reply : Answer) → Next old step reply new → DoesAsPermitted r.tales step reply
 does_so a b h old new r (steps.Open who dir) reply n =
     let o = n.does in
-    let P : Answer → Type 0 = λ q. DoesAsPermitted r.tale (steps.Open who dir) q in
+    let P : Answer → Type 0 = λ q. DoesAsPermitted r.tales (steps.Open who dir) q in
     subst P (sym o.reply_is) (opens_so a b h old new r who dir n.end o.answer o.opens)
 does_so a b h old new r (steps.Write who id bytes) reply n = write_does a b h old new r who id bytes reply n
 does_so a b h old new r (steps.WriteChunks who id chunks) reply n = chunks_does a b h old new r who id chunks reply n
@@ -376,11 +374,11 @@ none_left m w t c id e k =
     let none : stands id (line w.queue) ≡ false = ap (stands id) e in
     let l = sym there ∙ none in cc
 
-leaves_so : (a b : Config) (h g : History) (old new : PairState) (r : Recounted a b g new) (step : Step) (reply : Answer) → FromPair a b h old → Next old step reply new → LeavesNone r.tale step reply
+leaves_so : (a b : Config) (h g : History) (old new : PairState) (r : Recounted a b g new) (step : Step) (reply : Answer) → FromPair a b h old → Next old step reply new → LeavesNone r.tales step reply
 leaves_so a b h g old new r (steps.Emit who most fair) (Ok (Payload number bytes)) f n =
     let full : IsFull most bytes.items (the_end new who) = asks-for a b h old new (steps.Emit who most fair) (Ok (Payload number bytes)) f n in
     λ id rest. elim full.streams [
-      | inl none ↦ absurd (none_left (made_at a b who) (the_end new who).streams (r.tale who) (r.counted who) id none rest)
+      | inl none ↦ absurd (none_left (made_at a b who) (the_end new who).streams (r.tales.of who) (r.counted who) id none rest)
       | inr fills ↦ fills
     ]
 leaves_so a b h g old new r _ reply f n = tt
@@ -390,4 +388,4 @@ pub not-withheld : (a b : Config) (h : History) (old new : PairState) (step : St
 not-withheld a b h old new step reply f n =
     let r = recounted f in
     let s = recounted (next step reply f n) in
-    record { before = r.tale; behind = s.tale; told_before = r.told; told_behind = s.told; does = does_so a b h old new r step reply n; leaves = leaves_so a b h (h ++ (step, reply) ∷ []) old new s step reply f n }
+    record { before = r.tales; behind = s.tales; told_before = r.told; told_behind = s.told; does = does_so a b h old new r step reply n; leaves = leaves_so a b h (h ++ (step, reply) ∷ []) old new s step reply f n }

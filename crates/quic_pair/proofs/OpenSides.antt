@@ -1,14 +1,11 @@
 -- Streams that frames speak of have a sending side at the end that sends on them.
-use Rattle.std.proofs.Common.{◌≡◌, ◌⊎◌, ℕ, Bool, true, false, List, [], ◌∷◌, Option, Some, None, Ok, refl, sym, ap, ◌∙◌, subst, inl, inr, arith, ◌<◌, ◌≤◌}
-use Rattle.std.specs.Prelude.{not, nat_lt, nat_le, if◌then◌else◌}
+use Rattle.std.proofs.Common.{◌≡◌, ℕ, Bool, true, false, List, Option, None, Ok, refl, sym, ap, ◌∙◌, subst, inl, inr, arith, ◌<◌, ◌≤◌}
+use Rattle.std.specs.Prelude.{not, nat_lt, if◌then◌else◌}
 use Rattle.std.proofs.lemmas.Bool.Decides.{nat_tests}
 use Rattle.quic_values.specs.declared.ids.Side.{Side}
 use Rattle.quic_values.specs.declared.ids.Dir.{Dir}
 use Rattle.quic_values.specs.declared.ids.Dir.TheVariants.{Bi, Uni}
-use Rattle.quic_values.specs.Ids.{dir_of, index_of, other_side}
-use Rattle.quic_wire.specs.declared.frame.Frame.{Frame}
-use Rattle.quic_wire.specs.declared.frame.Frame.TheVariants as frames
-use Rattle.quic_receiving.specs.Half.{Half}
+use Rattle.quic_values.specs.Ids.{dir_of, index_of}
 use Rattle.quic_outgoing.specs.Outgoing.{own_of}
 use Rattle.quic_outgoing.specs.Senders.{is_local}
 use Rattle.quic_history.specs.World.{World, is_own, remote_of, id_refusal, own_refusal}

@@ -1,12 +1,13 @@
 -- What the steps of a pair tell is what calls of its ends tell.
-use Rattle.std.proofs.Common.{◌≡◌, ◌⊎◌, ℕ, Bool, true, false, List, [], ◌∷◌, ◌++◌, Option, Some, None, Result, Ok, Err, refl, sym, ap, ◌∙◌, subst, inl, inr}
-use Rattle.std.specs.Prelude.{slice_get}
+use Rattle.std.proofs.Common.{◌≡◌, ℕ, List, [], ◌∷◌, ◌++◌, Some, Ok, Err, refl, sym, ap, ◌∙◌, subst, inl, inr, arith}
+use Rattle.std.specs.Prelude.{length, ◌+◌}
+use Rattle.std.proofs.lemmas.List.{length-append}
 use Rattle.quic_values.specs.declared.ids.Side.TheVariants.{Client, Server}
 use Rattle.quic_wire.specs.declared.frame.Frame.{Frame}
 use Rattle.quic_wire.specs.declared.frame.StreamMeta.{StreamMeta}
 use Rattle.quic_wire.specs.Frames.{AreFrames}
 use Rattle.quic_flows.specs.Flow.{SendMove}
-use Rattle.quic_history.specs.World.{World, Made}
+use Rattle.quic_history.specs.World.{Made}
 use Rattle.quic_history.specs.SendEvents.{GaveLimits, OpenedOwn, RaisedData, RaisedCount, RaisedLimit, StoppedOwn, SetWindow, WroteOwn, FinishedOwn, ResetOwn, AckedOwn, LostOwn, ResetAckedOwn, TookTurn}
 use Rattle.quic_history.specs.History.{Event, Sending, Rejected, SentAgain}
 use Rattle.quic_endpoint.specs.Ends.{EndState}
@@ -19,10 +20,10 @@ use Rattle.quic_steps.specs.declared.steps.Reply.TheVariants.{Done, DoneTransmit
 use Rattle.quic_pair.specs.declared.sent.Sent.{Sent}
 use Rattle.quic_pair.specs.Payloads.{IsFrameAt, IsStreamAt}
 use Rattle.quic_pair.specs.Replies.{Answer}
-use Rattle.quic_pair.specs.State.{PairState, peer, the_end, with_end, with_sent}
+use Rattle.quic_pair.specs.State.{PairState, the_end, with_end, with_sent}
 use Rattle.quic_pair.specs.From.{made_of}
 use Rattle.quic_pair.specs.History.{History, FramePlace}
-use Rattle.quic_pair.specs.Tale.{Tale, Told, begun, next, StepTells, told_of, WasPayload, WasFrame, WasStream, HearsOne, Reported, SendsOne, AcksFirst}
+use Rattle.quic_pair.specs.Tale.{Tale, Tales, Told, begun, next, StepTells, told_of, WasPayload, WasFrame, WasStream, HearsOne, Reported, SendsOne, AcksFirst}
 use Rattle.quic_pair.proofs.PayloadKnows.{StaySent, stay-sent}
 use Rattle.quic_pair.proofs.Counted.{Counted, IsUntold}
 
@@ -47,7 +48,7 @@ module _ (sent more : List Sent) (stay : StaySent sent more) where
       let P : List ℕ → Type 0 = λ bytes. IsStreamAt bytes at.1 meta in
       record { payload = k.0; is = k.1; writer = k.2 ∙ w.writer; stream_is = subst P (sym k.3) w.stream_is }
 
-  module _ (t u : End → Tale) where
+  module _ (t u : Tales) where
     heard_stays : (at : FramePlace) → HearsOne sent at t u → HearsOne more at t u
     heard_stays at k = record { who = k.who; frame = k.frame; stood = frame_stays k.who at k.frame k.stood; is = k.is }
 
@@ -55,13 +56,13 @@ module _ (sent more : List Sent) (stay : StaySent sent more) where
     report_stays at deed k = record { who = k.who; meta = k.meta; stood = stream_stays k.who at k.meta k.stood; is = k.is }
 
     sending_stays : (who : End) → SendsOne sent who t u → SendsOne more who t u
-    sending_stays who k = record { number = k.number; all = k.all; stood = payload_stays who k.number k.all k.stood; is = k.is }
+    sending_stays who k = record { all = k.all; stood = payload_stays who t.payloads k.all k.stood; is = k.is }
 
     acks_stay : (number : ℕ) → AcksFirst sent number t u → AcksFirst more number t u
     acks_stay number k = record { who = k.who; all = k.all; stood = payload_stays k.who number k.all k.stood; first = k.first; rest = k.rest; are = k.are; is = k.is }
 
     step_stays : (step : Step) (reply : Answer) → StepTells sent step reply t u → StepTells more step reply t u
-    unfolding sending_stays acks_stay
+    unfolding acks_stay
     step_stays (steps.Emit who most fair) (Ok (Payload number bytes)) k = (sending_stays who k.0, k.1)
     step_stays (steps.Emit who most fair) (Err error) k = elim k [ inl e ↦ inl e | inr s ↦ inr (sending_stays who s) ]
     step_stays (steps.Deliver number index) (Ok Done) k = heard_stays (number, index) k
@@ -72,7 +73,7 @@ module _ (sent more : List Sent) (stay : StaySent sent more) where
     step_stays (steps.AckControl number) (Err error) k = elim k [ inl e ↦ inl e | inr s ↦ inr (acks_stay number s) ]
     step_stays _ _ k = k
 
-pub told-stays : {a b : Config} {sent more : List Sent} {h : History} {t : End → Tale} → StaySent sent more → Told a b sent h t → Told a b more h t
+pub told-stays : {a b : Config} {sent more : List Sent} {h : History} {t : Tales} → StaySent sent more → Told a b sent h t → Told a b more h t
 told-stays stay begun = begun
 told-stays {a} {b} {sent} {more} stay (next {h} {t} {u} step reply k s) = next step reply (told-stays stay k) (step_stays sent more stay t u step reply s)
 
@@ -84,23 +85,24 @@ made_at a b A = made_of Client a
 made_at a b B = made_of Server b
 
 pub record Recounted (a b : Config) (h : History) (v : PairState) : Type 0 where
-  pub tale : End → Tale
-  pub told : Told a b v.sent h tale
-  pub counted : (who : End) → Counted (made_at a b who) (the_end v who).streams (tale who)
+  pub tales : Tales
+  pub told : Told a b v.sent h tales
+  pub counted : (who : End) → Counted (made_at a b who) (the_end v who).streams (tales.of who)
+  pub count : tales.payloads ≡ length v.sent
 
 -- the tale of an end that is told more, and that of the other
-pub told-here : (who : End) (change : Tale → Tale) (t : End → Tale) → told_of who change t who ≡ change (t who)
+pub told-here : (who : End) (change : Tale → Tale) (t : Tales) → (told_of who change t).of who ≡ change (t.of who)
 told-here A change t = refl
 told-here B change t = refl
 
 module _ (a b : Config) (h : History) (old : PairState) (r : Recounted a b h old) (step : Step) (reply : Answer) where
-  counted_by : (who : End) (change : Tale → Tale) (f : EndState) (sents : List Sent) → Counted (made_at a b who) f.streams (change (r.tale who)) → (k : End) → Counted (made_at a b k) (the_end (with_sent (with_end old who f) sents) k).streams (told_of who change r.tale k)
+  counted_by : (who : End) (change : Tale → Tale) (f : EndState) (sents : List Sent) → Counted (made_at a b who) f.streams (change (r.tales.of who)) → (k : End) → Counted (made_at a b k) (the_end (with_sent (with_end old who f) sents) k).streams ((told_of who change r.tales).of k)
   counted_by A change f sents c A = c
   counted_by A change f sents c B = r.counted B
   counted_by B change f sents c A = r.counted A
   counted_by B change f sents c B = c
 
-  counted_as : (who : End) (f : EndState) (sents : List Sent) → Counted (made_at a b who) f.streams (r.tale who) → (k : End) → Counted (made_at a b k) (the_end (with_sent (with_end old who f) sents) k).streams (r.tale k)
+  counted_as : (who : End) (f : EndState) (sents : List Sent) → Counted (made_at a b who) f.streams (r.tales.of who) → (k : End) → Counted (made_at a b k) (the_end (with_sent (with_end old who f) sents) k).streams (r.tales.of k)
   counted_as A f sents c A = c
   counted_as A f sents c B = r.counted B
   counted_as B f sents c A = r.counted A
@@ -111,38 +113,52 @@ module _ (a b : Config) (h : History) (old : PairState) (r : Recounted a b h old
   sents_of B f sents = refl
 
   -- a step tells more of one end
-  pub recount : (who : End) (change : Tale → Tale) (f : EndState) (sents : List Sent) (new : PairState) → new ≡ with_sent (with_end old who f) sents → StaySent old.sent sents → Counted (made_at a b who) f.streams (change (r.tale who))
-      → StepTells sents step reply r.tale (told_of who change r.tale) → Recounted a b (h ++ (step, reply) ∷ []) new
-  recount who change f sents new is stay c s =
+  pub recount : (who : End) (change : Tale → Tale) (f : EndState) (sents : List Sent) (new : PairState) → new ≡ with_sent (with_end old who f) sents → StaySent old.sent sents → length sents ≡ length old.sent → Counted (made_at a b who) f.streams (change (r.tales.of who))
+      → StepTells sents step reply r.tales (told_of who change r.tales) → Recounted a b (h ++ (step, reply) ∷ []) new
+  recount who change f sents new is stay size c s =
       let P : PairState → Type 0 = λ v. Recounted a b (h ++ (step, reply) ∷ []) v in
-      let Q : List Sent → Type 0 = λ l. Told a b l (h ++ (step, reply) ∷ []) (told_of who change r.tale) in
-      subst P (sym is) (record { tale = told_of who change r.tale; told = subst Q (sym (sents_of who f sents)) (next step reply (told-stays stay r.told) s); counted = counted_by who change f sents c })
+      let Q : List Sent → Type 0 = λ l. Told a b l (h ++ (step, reply) ∷ []) (told_of who change r.tales) in
+      subst P (sym is) (record { tales = told_of who change r.tales; told = subst Q (sym (sents_of who f sents)) (next step reply (told-stays stay r.told) s); counted = counted_by who change f sents c; count = r.count ∙ sym size ∙ sym (ap length (sents_of who f sents)) })
+
+  -- one sends a payload
+  pub recount-sent : (who : End) (change : Tale → Tale) (f : EndState) (s : Sent) (new : PairState) → new ≡ with_sent (with_end old who f) (old.sent ++ s ∷ []) → StaySent old.sent (old.sent ++ s ∷ []) → Counted (made_at a b who) f.streams (change (r.tales.of who))
+      → StepTells (old.sent ++ s ∷ []) step reply r.tales (record (told_of who change r.tales) { payloads = r.tales.payloads + 1 }) → Recounted a b (h ++ (step, reply) ∷ []) new
+  recount-sent who change f s new is stay c k =
+      let sents = old.sent ++ s ∷ [] in
+      let P : PairState → Type 0 = λ v. Recounted a b (h ++ (step, reply) ∷ []) v in
+      let u : Tales = record (told_of who change r.tales) { payloads = r.tales.payloads + 1 } in
+      let Q : List Sent → Type 0 = λ l. Told a b l (h ++ (step, reply) ∷ []) u in
+      let before = r.count in
+      let longer = length-append old.sent (s ∷ []) in
+      let size : r.tales.payloads + 1 ≡ length sents = omega (arith, before, longer) in
+      subst P (sym is)
+      (record { tales = u; told = subst Q (sym (sents_of who f sents)) (next step reply (told-stays stay r.told) k); counted = counted_by who change f sents c; count = size ∙ sym (ap length (sents_of who f sents)) })
 
   -- one tells nothing, though an end was called
-  pub recount-as : (who : End) (f : EndState) (sents : List Sent) (new : PairState) → new ≡ with_sent (with_end old who f) sents → StaySent old.sent sents → Counted (made_at a b who) f.streams (r.tale who)
-      → StepTells sents step reply r.tale r.tale → Recounted a b (h ++ (step, reply) ∷ []) new
-  recount-as who f sents new is stay c s =
+  pub recount-as : (who : End) (f : EndState) (sents : List Sent) (new : PairState) → new ≡ with_sent (with_end old who f) sents → StaySent old.sent sents → length sents ≡ length old.sent → Counted (made_at a b who) f.streams (r.tales.of who)
+      → StepTells sents step reply r.tales r.tales → Recounted a b (h ++ (step, reply) ∷ []) new
+  recount-as who f sents new is stay size c s =
       let P : PairState → Type 0 = λ v. Recounted a b (h ++ (step, reply) ∷ []) v in
-      let Q : List Sent → Type 0 = λ l. Told a b l (h ++ (step, reply) ∷ []) r.tale in
-      subst P (sym is) (record { tale = r.tale; told = subst Q (sym (sents_of who f sents)) (next step reply (told-stays stay r.told) s); counted = counted_as who f sents c })
+      let Q : List Sent → Type 0 = λ l. Told a b l (h ++ (step, reply) ∷ []) r.tales in
+      subst P (sym is) (record { tales = r.tales; told = subst Q (sym (sents_of who f sents)) (next step reply (told-stays stay r.told) s); counted = counted_as who f sents c; count = r.count ∙ sym size ∙ sym (ap length (sents_of who f sents)) })
 
   -- one changes nothing
-  pub recount-same : (new : PairState) → new ≡ old → StepTells old.sent step reply r.tale r.tale → Recounted a b (h ++ (step, reply) ∷ []) new
+  pub recount-same : (new : PairState) → new ≡ old → StepTells old.sent step reply r.tales r.tales → Recounted a b (h ++ (step, reply) ∷ []) new
   recount-same new is s =
       let P : PairState → Type 0 = λ v. Recounted a b (h ++ (step, reply) ∷ []) v in
-      subst P (sym is) (record { tale = r.tale; told = next step reply r.told s; counted = r.counted })
+      subst P (sym is) (record { tales = r.tales; told = next step reply r.told s; counted = r.counted; count = r.count })
 
   same_sent : (who : End) (f : EndState) → with_end old who f ≡ with_sent (with_end old who f) old.sent
   same_sent A f = refl
   same_sent B f = refl
 
   -- and those of an application send no payload
-  pub recount-end : (who : End) (change : Tale → Tale) (f : EndState) (new : PairState) → new ≡ with_end old who f → Counted (made_at a b who) f.streams (change (r.tale who))
-      → StepTells old.sent step reply r.tale (told_of who change r.tale) → Recounted a b (h ++ (step, reply) ∷ []) new
-  recount-end who change f new is c s = recount who change f old.sent new (is ∙ same_sent who f) (stay-sent old.sent) c s
+  pub recount-end : (who : End) (change : Tale → Tale) (f : EndState) (new : PairState) → new ≡ with_end old who f → Counted (made_at a b who) f.streams (change (r.tales.of who))
+      → StepTells old.sent step reply r.tales (told_of who change r.tales) → Recounted a b (h ++ (step, reply) ∷ []) new
+  recount-end who change f new is c s = recount who change f old.sent new (is ∙ same_sent who f) (stay-sent old.sent) refl c s
 
-  pub recount-called : (who : End) (f : EndState) (new : PairState) → new ≡ with_end old who f → Counted (made_at a b who) f.streams (r.tale who) → StepTells old.sent step reply r.tale r.tale → Recounted a b (h ++ (step, reply) ∷ []) new
-  recount-called who f new is c s = recount-as who f old.sent new (is ∙ same_sent who f) (stay-sent old.sent) c s
+  pub recount-called : (who : End) (f : EndState) (new : PairState) → new ≡ with_end old who f → Counted (made_at a b who) f.streams (r.tales.of who) → StepTells old.sent step reply r.tales r.tales → Recounted a b (h ++ (step, reply) ∷ []) new
+  recount-called who f new is c s = recount-as who f old.sent new (is ∙ same_sent who f) (stay-sent old.sent) refl c s
 
 -- ---- calls that tell nothing of what an end sends
 

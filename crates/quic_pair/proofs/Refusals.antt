@@ -1,5 +1,5 @@
 -- Why nothing is found at a place.
-use Rattle.std.proofs.Common.{◌≡◌, ◌⊎◌, ℕ, List, Some, Result, Ok, Err, refl, ap, sym, ◌∙◌, inl, inr}
+use Rattle.std.proofs.Common.{◌≡◌, ◌⊎◌, ℕ, List, Some, Result, Ok, Err, refl, inl, inr}
 use Rattle.std.specs.Prelude.{slice_get, IfErr}
 use Rattle.quic_steps.specs.declared.steps.PairError.{PairError}
 use Rattle.quic_steps.specs.declared.steps.PairError.TheVariants as refusals

@@ -1,16 +1,11 @@
 -- A stop that a writer is told of came.
-use Rattle.std.proofs.Common.{◌≡◌, ◌⊎◌, ℕ, Bool, true, false, eqb, List, [], ◌∷◌, ◌++◌, Option, Some, None, Result, Ok, Err, refl, sym, ap, ◌∙◌, subst, inl, inr}
+use Rattle.std.proofs.Common.{◌≡◌, ◌⊎◌, ℕ, Bool, true, false, List, [], ◌∷◌, ◌++◌, Option, Some, None, Ok, refl, sym, ap, ◌∙◌, subst, inl, inr}
 use Rattle.std.specs.Prelude.{◌==◌, ◌&&◌, ◌^◌, ◌-◌, if◌then◌else◌, min, is_none, unwrap_or}
 use Rattle.std.proofs.lemmas.Option.{same_Some}
-use Rattle.quic_values.specs.declared.ids.Side.{Side}
-use Rattle.quic_values.specs.declared.memory.OutOfMemory.{OutOfMemory}
 use Rattle.quic_wire.specs.declared.event.StreamEvent.{StreamEvent}
 use Rattle.quic_wire.specs.declared.event.StreamEvent.TheVariants as stream_event
-use Rattle.quic_receiving.specs.declared.transmit.ShouldTransmit.{ShouldTransmit}
 use Rattle.quic_sending.specs.declared.send.Send.{Send}
-use Rattle.quic_sending.specs.declared.send.WriteError.{WriteError}
 use Rattle.quic_sending.specs.declared.send.WriteError.TheVariants as write_error
-use Rattle.quic_sending.specs.declared.send.FinishError.{FinishError}
 use Rattle.quic_sending.specs.declared.send.FinishError.TheVariants as finish_error
 use Rattle.quic_sending.specs.Sending.{is_ready, finish_refusal}
 use Rattle.quic_outgoing.specs.Calls.{end_refusal}
@@ -19,8 +14,8 @@ use Rattle.quic_flows.specs.Flow.{SendMove, SendFlow, WasWritten, WasFinished, W
 use Rattle.quic_history.specs.World.{World, Made}
 use Rattle.quic_history.specs.Early.{with_unsent}
 use Rattle.quic_history.specs.Flows.{room_on, refusal_where, refusal_told, told_if, TakesQueued, send_moved, has_send_side}
-use Rattle.quic_history.specs.SendEvents.{SendEvent, GaveLimits, RaisedData, RaisedCount, RaisedLimit, StoppedOwn, WroteOwn, FinishedOwn, ResetOwn, AckedOwn, LostOwn, ResetAckedOwn, TookTurn, Polled}
-use Rattle.quic_history.specs.History.{Event, Received, ReceivedReset, Sending, Rejected, SentAgain, From, flow, send_tale, since, opened_in_all, told_by, QueuesSo, AreQueued}
+use Rattle.quic_history.specs.SendEvents.{RaisedCount, RaisedLimit, StoppedOwn, WroteOwn, FinishedOwn, ResetOwn, AckedOwn, LostOwn, ResetAckedOwn, TookTurn, Polled}
+use Rattle.quic_history.specs.History.{Event, Received, ReceivedReset, Sending, Rejected, SentAgain, From, flow, send_tale, since, opened_in_all, QueuesSo, AreQueued}
 use Rattle.quic_link.specs.Endpoints.{IsOneOf}
 use Rattle.quic_link.proofs.Basics.{same_id, either-of, only}
 use Rattle.quic_link.proofs.Growth.{held-told}

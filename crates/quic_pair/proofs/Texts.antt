@@ -1,5 +1,5 @@
 -- Frames at their places, and the marks with which they are marked.
-use Rattle.std.proofs.Common.{◌≡◌, ◌⊎◌, ℕ, List, [], Bool, false, Option, Some, None, refl, ap, sym, subst, ◌∙◌, inl, inr, arith, length, ◌<◌, ◌≤◌, ◌+◌, ◌^◌}
+use Rattle.std.proofs.Common.{◌≡◌, ◌⊎◌, ℕ, List, [], Bool, false, Option, Some, None, ap, sym, subst, ◌∙◌, inl, inr, arith, length, ◌≤◌}
 use Rattle.std.specs.Prelude.{All, slice_get, replicate}
 use Rattle.std.specs.Global.{Vec}
 use Rattle.std.proofs.lemmas.Option.{slice_get_within, get_or_from_slice_get}
@@ -7,10 +7,10 @@ use Rattle.std.proofs.lemmas.List.{length-replicate}
 use Rattle.quic_wire.specs.declared.frame.Frame.{Frame}
 use Rattle.quic_wire.specs.declared.frame.Frame.TheVariants as frames
 use Rattle.quic_wire.specs.declared.frame.StreamMeta.{StreamMeta}
-use Rattle.quic_wire.specs.Frames.{AreFrames, IsFrameWithin}
+use Rattle.quic_wire.specs.Frames.{IsFrameWithin}
 use Rattle.quic_wire.proofs.Joins.{same}
 use Rattle.quic_endpoint.specs.Receiving.{data_length}
-use Rattle.quic_pair.specs.Payloads.{SentText, AreRead, AreMarks, IsFrameAt, IsStreamAt, LacksFrame, LacksStream, IsReadyToMark, AreFreshMarks, IsStreamOf, LacksStreamOf}
+use Rattle.quic_pair.specs.Payloads.{AreRead, AreMarks, IsFrameAt, IsStreamAt, LacksFrame, LacksStream, IsReadyToMark, AreFreshMarks, IsStreamOf, LacksStreamOf}
 
 -- what holds of all holds of one
 pub all-at : {X : Type 0} (P : X → Type 0) (xs : List X) (n : ℕ) (x : X) → All P xs → slice_get xs n ≡ Some x → P x

@@ -17,7 +17,7 @@ use Rattle.quic_endpoint.specs.Ends.{EndState, with_world, with_window_set, Open
 use Rattle.quic_endpoint.specs.Reports.{AcksResetAt}
 use Rattle.quic_steps.specs.declared.steps.PairError.TheVariants.{UnknownId}
 use Rattle.quic_steps.specs.declared.steps.Reply.TheVariants.{Done, Expanded}
-use Rattle.quic_pair.specs.Replies.{Answer, wants_memory, accepted_reply, opened_reply, written_reply, chunks_reply, finished_reply, handled_reply, code_reply, read_reply, unread_reply, event_reply, done_reply}
+use Rattle.quic_pair.specs.Replies.{Answer, wants_memory, accepted_reply, opened_reply, written_reply, chunks_reply, finished_reply, handled_reply, code_reply, read_reply, event_reply, done_reply}
 
 -- a stream is opened
 pub record Opens (e : EndState) (dir : Dir) (reply : Answer) (f : EndState) : Type 0 where

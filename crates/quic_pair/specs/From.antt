@@ -1,10 +1,10 @@
 -- The steps that may have led to a pair.
-use Rattle.std.specs.Prelude.{◌≡◌, ◌<◌, ◌^◌, ◌≤◌, ℕ, [], ◌∷◌, ◌++◌}
+use Rattle.std.specs.Prelude.{◌≡◌, ◌<◌, ◌^◌, ◌≤◌, [], ◌∷◌, ◌++◌}
 use Rattle.quic_values.specs.declared.ids.Side.{Side}
 use Rattle.quic_values.specs.declared.ids.Side.TheVariants.{Client, Server}
 use Rattle.quic_outgoing.specs.Outgoing.{with_params}
 use Rattle.quic_retransmits.specs.Pending.{nothing}
-use Rattle.quic_history.specs.World.{World, Made, made_with, start}
+use Rattle.quic_history.specs.World.{Made, made_with, start}
 use Rattle.quic_history.specs.Sends.{with_out}
 use Rattle.quic_link.specs.Endpoints.{limits_of}
 use Rattle.quic_endpoint.specs.Ends.{EndState}

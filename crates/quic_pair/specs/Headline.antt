@@ -1,7 +1,6 @@
 -- What holds between two ends, whatever frames are lost, repeated or reordered.
 use Rattle.std.specs.Prelude.{ℕ, ◌≡◌, ◌<◌, ◌+◌, true, List, [], ◌∷◌, ◌++◌, length, slice_get, Some}
 use Rattle.quic_assembler.specs.Piece.{lies, IsByteAt}
-use Rattle.quic_wire.specs.declared.frame.Frame.{Frame}
 use Rattle.quic_wire.specs.declared.frame.Frame.TheVariants as frames
 use Rattle.quic_wire.specs.declared.frame.Stream.{Stream}
 use Rattle.quic_receiving.specs.Data.{Carries, IsAllGiven}

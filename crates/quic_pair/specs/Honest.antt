@@ -1,6 +1,5 @@
 -- What every frame between two ends says is true.
 use Rattle.std.specs.Prelude.{ℕ, ◌≡◌, ◌+◌, ◌≤◌, true, List, length, slice_get, Some}
-use Rattle.quic_assembler.specs.Piece.{IsByteAt}
 use Rattle.quic_wire.specs.Frames.{AreFrames}
 use Rattle.quic_wire.specs.declared.frame.Frame.{Frame}
 use Rattle.quic_wire.specs.declared.frame.Frame.TheVariants as frames

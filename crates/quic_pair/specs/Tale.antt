@@ -1,6 +1,6 @@
 -- What the steps of a pair tell of what its ends send: of each stream what was written, permitted, stopped, sent, lost and
 -- acknowledged, and of all streams how much was written and how much may be.
-use Rattle.std.specs.Prelude.{ℕ, Bool, true, false, ◌≡◌, ◌⊎◌, ◌==◌, ◌+◌, max, List, [], ◌∷◌, ◌++◌, length, slice_get, Some, Result, Ok, Err, if◌then◌else◌}
+use Rattle.std.specs.Prelude.{ℕ, ◌≡◌, ◌⊎◌, ◌==◌, ◌+◌, max, List, [], ◌∷◌, ◌++◌, length, slice_get, Some, Ok, Err, if◌then◌else◌}
 use Rattle.quic_values.specs.declared.ids.Dir.{Dir}
 use Rattle.quic_values.specs.declared.ids.Dir.TheVariants.{Bi, Uni}
 use Rattle.quic_sending.specs.Source.{slice_lists}
@@ -45,7 +45,7 @@ abbrev pub first_count : Config → Dir → ℕ
 first_count c Bi = c.max_remote_bi
 first_count c Uni = c.max_remote_uni
 
--- before the first step: an end was given the limits of the other
+-- what is told before the first step: an end was given the limits of the other
 abbrev pub tale_begun : Config → Config → Tale
 tale_begun own other = record {
   flow = λ q. new_flow other.stream_receive_window;
@@ -57,10 +57,21 @@ tale_begun own other = record {
   count = first_count other;
 }
 
--- so of both ends
-abbrev pub tales_begun : Config → Config → End → Tale
-tales_begun a b A = tale_begun a b
-tales_begun a b B = tale_begun b a
+-- so of each of both ends
+abbrev pub tale_first : Config → Config → End → Tale
+tale_first a b A = tale_begun a b
+tale_first a b B = tale_begun b a
+
+-- what is told of both ends
+-- of: of each
+-- payloads: how many payloads were sent
+pub record Tales : Type 0 where
+  pub of : End → Tale
+  pub payloads : ℕ
+
+-- before the first step
+abbrev pub tales_begun : Config → Config → Tales
+tales_begun a b = record { of = tale_first a b; payloads = 0 }
 
 -- how many of the written bytes are retained, of all streams
 abbrev pub retained_by : Tale → ℕ
@@ -129,32 +140,31 @@ pub record WasStream (sent : List Sent) (who : End) (at : FramePlace) (meta : St
 -- ---- steps
 
 -- more is told of one end
-abbrev pub told_of : End → (Tale → Tale) → (End → Tale) → End → Tale
-told_of who change t end = if is_same_end end who then change (t end) else t end
+abbrev pub told_of : End → (Tale → Tale) → Tales → Tales
+told_of who change t = record t { of = λ end. if is_same_end end who then change (t.of end) else t.of end }
 
 -- a frame was accepted
-pub record HearsOne (sent : List Sent) (at : FramePlace) (t u : End → Tale) : Type 0 where
+pub record HearsOne (sent : List Sent) (at : FramePlace) (t u : Tales) : Type 0 where
   pub who : End
   pub frame : Frame
   pub stood : WasFrame sent who at frame
   pub is : u ≡ told_of (peer who) (with_frame_heard frame) t
 
 -- something became of a STREAM frame
-pub record Reported (sent : List Sent) (at : FramePlace) (deed : StreamMeta → SendMove) (t u : End → Tale) : Type 0 where
+pub record Reported (sent : List Sent) (at : FramePlace) (deed : StreamMeta → SendMove) (t u : Tales) : Type 0 where
   pub who : End
   pub meta : StreamMeta
   pub stood : WasStream sent who at meta
   pub is : u ≡ told_of who (with_deed meta.id (deed meta)) t
 
--- a payload was sent
-pub record SendsOne (sent : List Sent) (who : End) (t u : End → Tale) : Type 0 where
-  pub number : ℕ
+-- the next payload was sent
+pub record SendsOne (sent : List Sent) (who : End) (t u : Tales) : Type 0 where
   pub all : List Frame
-  pub stood : WasPayload sent who number all
-  pub is : u ≡ told_of who (with_frames_sent all) t
+  pub stood : WasPayload sent who t.payloads all
+  pub is : u ≡ record (told_of who (with_frames_sent all) t) { payloads = t.payloads + 1 }
 
 -- the first resets of a payload, or all of them, were acknowledged
-pub record AcksFirst (sent : List Sent) (number : ℕ) (t u : End → Tale) : Type 0 where
+pub record AcksFirst (sent : List Sent) (number : ℕ) (t u : Tales) : Type 0 where
   pub who : End
   pub all : List Frame
   pub stood : WasPayload sent who number all
@@ -164,7 +174,7 @@ pub record AcksFirst (sent : List Sent) (number : ℕ) (t u : End → Tale) : Ty
   pub is : u ≡ told_of who (with_resets_acked first) t
 
 -- all of them were
-abbrev pub AcksEach : {sent : List Sent} {number : ℕ} {t u : End → Tale} → AcksFirst sent number t u → Type 0
+abbrev pub AcksEach : {sent : List Sent} {number : ℕ} {t u : Tales} → AcksFirst sent number t u → Type 0
 AcksEach k = k.rest ≡ []
 
 -- a STREAM frame was acknowledged, and one was lost
@@ -176,14 +186,14 @@ was_lost m = WasLost m.offsets.start m.offsets.end m.fin
 
 -- what a step and its reply tell, among all that was sent. An `Emit` that wants memory may have sent a payload, and an
 -- `AckControl` may have reported the first of its resets
-abbrev pub StepTells : List Sent → Step → Answer → (End → Tale) → (End → Tale) → Type 0
+abbrev pub StepTells : List Sent → Step → Answer → Tales → Tales → Type 0
 StepTells sent (steps.Open who dir) (Ok (Id id)) t u = u ≡ told_of who (with_one_opened dir) t
 StepTells sent (steps.Write who id bytes) (Ok (Wrote count)) t u = u ≡ told_of who (with_bytes_taken id count (slice_lists bytes)) t
 StepTells sent (steps.WriteChunks who id chunks) (Ok (WroteChunks written)) t u = u ≡ told_of who (with_bytes_taken id written.bytes chunks) t
 StepTells sent (steps.Finish who id) (Ok Done) t u = u ≡ told_of who (with_deed id WasFinished) t
 StepTells sent (steps.Reset who id code) (Ok Done) t u = u ≡ told_of who (with_deed id (WasGivenUp code)) t
 StepTells sent (steps.SetSendWindow who window) (Ok Done) t u = u ≡ told_of who (with_window_of window) t
-StepTells sent (steps.Emit who most fair) (Ok (Payload number bytes)) t u = (k : SendsOne sent who t u) × (k.number ≡ number)
+StepTells sent (steps.Emit who most fair) (Ok (Payload number bytes)) t u = SendsOne sent who t u × (t.payloads ≡ number)
 StepTells sent (steps.Emit who most fair) (Err error) t u = (u ≡ t) ⊎ SendsOne sent who t u
 StepTells sent (steps.Deliver number index) (Ok Done) t u = HearsOne sent (number, index) t u
 StepTells sent (steps.Deliver number index) (Ok DoneTransmit) t u = HearsOne sent (number, index) t u
@@ -194,6 +204,6 @@ StepTells sent (steps.AckControl number) (Err error) t u = (u ≡ t) ⊎ AcksFir
 StepTells sent _ reply t u = u ≡ t
 
 -- what all steps with their replies tell
-pub data Told (a b : Config) (sent : List Sent) : History → (End → Tale) → Type 0 where
+pub data Told (a b : Config) (sent : List Sent) : History → Tales → Type 0 where
   begun : Told a b sent [] (tales_begun a b)
-  next : {h : History} {t u : End → Tale} (step : Step) (reply : Answer) → Told a b sent h t → StepTells sent step reply t u → Told a b sent (h ++ (step, reply) ∷ []) u
+  next : {h : History} {t u : Tales} (step : Step) (reply : Answer) → Told a b sent h t → StepTells sent step reply t u → Told a b sent (h ++ (step, reply) ∷ []) u

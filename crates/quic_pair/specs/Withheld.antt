@@ -1,8 +1,7 @@
 -- Nothing permitted is withheld on the sending side, by what the steps before tell.
-use Rattle.std.specs.Prelude.{ℕ, Bool, true, false, ◌≡◌, ◌⊎◌, ◌<◌, ◌≤◌, ◌+◌, ◌-◌, ◌==◌, ◌||◌, min, List, ◌∷◌, [], ◌++◌, length, Some, Ok, Err}
+use Rattle.std.specs.Prelude.{ℕ, true, false, ◌≡◌, ◌⊎◌, ◌<◌, ◌≤◌, ◌+◌, ◌-◌, min, List, ◌∷◌, [], ◌++◌, length, Some, Ok}
 use Rattle.std.specs.List.{concat}
-use Rattle.quic_values.specs.declared.ids.Dir.{Dir}
-use Rattle.quic_values.specs.declared.ids.Dir.TheVariants.{Bi, Uni}
+use Rattle.quic_values.specs.declared.ids.Dir.TheVariants.{Uni}
 use Rattle.quic_values.specs.Ids.{dir_of}
 use Rattle.quic_flows.specs.Flow.{SendFlow, takes_data}
 use Rattle.quic_outgoing.specs.Senders.{is_local}
@@ -14,9 +13,9 @@ use Rattle.quic_steps.specs.declared.steps.Step.TheVariants as steps
 use Rattle.quic_steps.specs.declared.steps.Reply.TheVariants.{Nothing, Wrote, WroteChunks, Blocked, Stopped, Closed, Payload}
 use Rattle.quic_pair.specs.declared.sent.Sent.{Sent}
 use Rattle.quic_pair.specs.Replies.{Answer}
-use Rattle.quic_pair.specs.Readable.{OnlySends, side_of}
+use Rattle.quic_pair.specs.Readable.{side_of}
 use Rattle.quic_pair.specs.History.{History}
-use Rattle.quic_pair.specs.Tale.{Tale, Told, retained_by}
+use Rattle.quic_pair.specs.Tale.{Tale, Tales, Told, retained_by}
 
 -- how many bytes may be written on a stream: the least of what the limit of the connection leaves, the send window, and the
 -- limit of the stream (RFC 9000 sections 4.1 and 4.2)
@@ -41,24 +40,24 @@ WritesTold t who id count (Ok Closed) = OnlyReceives who id ⊎ RefusesData (t.f
 WritesTold t who id count _ = Unit {0}
 
 -- what a step is permitted it does: no stream is opened only where as many were as the peer permits (section 4.6)
-abbrev pub DoesAsPermitted : (End → Tale) → Step → Answer → Type 0
-DoesAsPermitted t (steps.Open who dir) (Ok Nothing) = (t who).count dir ≤ (t who).opened dir
-DoesAsPermitted t (steps.Write who id bytes) reply = WritesTold (t who) who id (length bytes) reply
-DoesAsPermitted t (steps.WriteChunks who id chunks) reply = WritesTold (t who) who id (length (concat chunks)) reply
+abbrev pub DoesAsPermitted : Tales → Step → Answer → Type 0
+DoesAsPermitted t (steps.Open who dir) (Ok Nothing) = (t.of who).count dir ≤ (t.of who).opened dir
+DoesAsPermitted t (steps.Write who id bytes) reply = WritesTold (t.of who) who id (length bytes) reply
+DoesAsPermitted t (steps.WriteChunks who id chunks) reply = WritesTold (t.of who) who id (length (concat chunks)) reply
 DoesAsPermitted t _ reply = Unit {0}
 
 -- after a payload, something is left to be sent on a stream only where the longest beginning of a STREAM frame does not fit
 -- into what the payload leaves (section 19.8)
-abbrev pub LeavesNone : (End → Tale) → Step → Answer → Type 0
-LeavesNone u (steps.Emit who most fair) (Ok (Payload number bytes)) = (id : ℕ) → HasRest ((u who).flow id) → most ≤ length bytes.items + 25
+abbrev pub LeavesNone : Tales → Step → Answer → Type 0
+LeavesNone u (steps.Emit who most fair) (Ok (Payload number bytes)) = (id : ℕ) → HasRest ((u.of who).flow id) → most ≤ length bytes.items + 25
 LeavesNone u _ reply = Unit {0}
 
 -- a step withholds nothing on the sending side that is permitted, by what the steps tell
 -- before: what those before it tell
 -- behind: what they and this one do
 pub record NotWithheld (a b : Config) (h : History) (old new : List Sent) (step : Step) (reply : Answer) : Type 0 where
-  pub before : End → Tale
-  pub behind : End → Tale
+  pub before : Tales
+  pub behind : Tales
   pub told_before : Told a b old h before
   pub told_behind : Told a b new (h ++ (step, reply) ∷ []) behind
   pub does : DoesAsPermitted before step reply

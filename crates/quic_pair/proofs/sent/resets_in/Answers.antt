@@ -1,5 +1,5 @@
 use Rattle.std.proofs.Common.{◌≡◌, ◌<◌, ◌++◌, ◌∙◌, [], ◌∷◌, length, ap, sym, rules, Some}
-use Rattle.std.specs.Prelude.{slice_get, take}
+use Rattle.std.specs.Prelude.{take}
 use Rattle.std.proofs.lemmas.Option.{slice_get-get_or}
 use Rattle.quic_pair.specs.Payloads.{resets_in}
 use Rattle.quic_pair.proofs.Lists.{take_more, resets_more}
