@@ -2,12 +2,17 @@
 
 use crate::framing::{append_message, take_message};
 use anyhow::{Context, Result};
-use quic_pair::{Config, End, Pair, Reply, Step};
+use quic_pair::{Config, End, Pair, PairError, Reply, Step};
 use quic_values::{Bytes, Dir, StreamId, VarInt};
 use quic_wire::{Frame, StreamEvent, decode};
 use std::alloc::Global;
 use std::collections::{BTreeSet, VecDeque};
 use std::io::Write;
+
+// One step, of which the program looks at the reply alone.
+fn step(pair: &mut Pair, step: Step) -> Result<Reply, PairError> {
+    pair.step(step)
+}
 
 // A stream: what the client has still to write, what the server has of a message, and the numbers of those to come.
 #[derive(Drop)]
@@ -56,10 +61,10 @@ impl Queue {
     /// Opens a stream of this priority (RFC 9000 section 2.3). `false`: no more are permitted.
     pub fn open(&mut self, priority: i32) -> Result<bool> {
         let (who, dir) = (End::A, Dir::Uni);
-        let Reply::Id(id) = self.pair.step(Step::Open { who, dir })? else {
+        let Reply::Id(id) = step(&mut self.pair, Step::Open { who, dir })? else {
             return Ok(false);
         };
-        self.pair.step(Step::SetPriority { who, id, priority })?;
+        step(&mut self.pair, Step::SetPriority { who, id, priority })?;
         self.lanes.push(Lane {
             id,
             waiting: Bytes::new(self.alloc),
@@ -91,7 +96,7 @@ impl Queue {
                 break;
             }
             for report in self.reports.drain(..) {
-                self.pair.step(report)?;
+                step(&mut self.pair, report)?;
             }
         }
         Ok(writeln!(output, "whole messages: {}", self.whole.len())?)
@@ -100,19 +105,33 @@ impl Queue {
     // An end accepts and reads each stream that was opened, and does what each event asks for.
     fn act<W: Write>(&mut self, who: End, output: &mut W) -> Result<()> {
         for _ in 0..u64::MAX {
-            let mut reply = self.pair.step(Step::Accept { who, dir: Dir::Uni })?;
+            let mut reply = step(&mut self.pair, Step::Accept { who, dir: Dir::Uni })?;
             if reply == Reply::Nothing {
-                reply = self.pair.step(Step::Poll { who })?;
+                reply = step(&mut self.pair, Step::Poll { who })?;
             }
-            match reply {
-                Reply::Id(id) => self.read(id, output)?,
-                Reply::Event(StreamEvent::Readable { id }) => self.read(id, output)?,
-                Reply::Event(StreamEvent::Writable { id }) => self.write(id.index() as usize)?,
-                Reply::Event(_) => {}
-                _ => break,
+            if !self.meet(reply, output)? {
+                break;
             }
         }
         Ok(())
+    }
+
+    // Does what an answer asks for. `false`: there is nothing more to be told.
+    fn meet<W: Write>(&mut self, reply: Reply, output: &mut W) -> Result<bool> {
+        match reply {
+            Reply::Id(id) => self.read(id, output)?,
+            Reply::Event(event) => self.hear(event, output)?,
+            _ => return Ok(false),
+        }
+        Ok(true)
+    }
+
+    fn hear<W: Write>(&mut self, event: StreamEvent, output: &mut W) -> Result<()> {
+        match event {
+            StreamEvent::Readable { id } => self.read(id, output),
+            StreamEvent::Writable { id } => self.write(id.index() as usize),
+            _ => Ok(()),
+        }
     }
 
     // Writes until the stream is blocked, and then an event tells when there is room.
@@ -124,7 +143,7 @@ impl Queue {
                 break;
             }
             let bytes = lane.waiting.try_clone()?;
-            match self.pair.step(Step::Write { who, id, bytes })? {
+            match step(&mut self.pair, Step::Write { who, id, bytes })? {
                 Reply::Wrote(count) => lane.waiting.advance(count.min(lane.waiting.len())),
                 _ => break,
             }
@@ -144,7 +163,7 @@ impl Queue {
             max: usize::MAX,
             times: u16::MAX,
         };
-        if let Reply::Read { chunks, .. } = self.pair.step(read)? {
+        if let Reply::Read { chunks, .. } = step(&mut self.pair, read)? {
             for chunk in &chunks {
                 lane.partial.extend_from_slice(chunk.bytes.as_slice())?;
             }
@@ -172,7 +191,7 @@ impl Queue {
                 max_size: 60,
                 fair: true,
             };
-            let Reply::Payload { number, bytes } = self.pair.step(emit)? else {
+            let Reply::Payload { number, bytes } = step(&mut self.pair, emit)? else {
                 break;
             };
             let frames = decode(self.alloc, bytes.as_slice())?;
@@ -192,7 +211,7 @@ impl Queue {
         for (index, frame) in frames.iter().enumerate() {
             if !lost {
                 let frame = index;
-                self.pair.step(Step::Deliver { payload, frame })?;
+                step(&mut self.pair, Step::Deliver { payload, frame })?;
             }
             if let Frame::Stream(frame) = frame {
                 let (len, stream) = (frame.bytes.len(), frame.id.index());
