@@ -66,7 +66,10 @@ fn along(number: u64, fourth: u64, pixels: u64) -> u64 {
 // Lines across, with numbers at their ends.
 fn draw_axes<W: Write>(steps: u64, bytes: u64, output: &mut W) -> io::Result<()> {
     let ((in_steps, of_steps), (in_bytes, of_bytes)) = (unit(steps), unit(bytes));
-    writeln!(output, "<text x='440' y='535'>{of_steps}steps</text>")?;
+    writeln!(
+        output,
+        "<text x='440' y='535' text-anchor='middle'>{of_steps}steps</text>"
+    )?;
     writeln!(output, "<text x='30' y='45'>{of_bytes}bytes</text>")?;
     for index in 0..5u64 {
         let (x, y) = (90 + 175 * index, 480 - 105 * index);
@@ -78,7 +81,10 @@ fn draw_axes<W: Write>(steps: u64, bytes: u64, output: &mut W) -> io::Result<()>
             .saturating_mul(index)
             .checked_div(in_bytes)
             .unwrap_or(0);
-        writeln!(output, "<path d='M90 {y}h700M{x} 60v420' stroke='#ddd'/>")?;
+        writeln!(
+            output,
+            "<path d='M90 {y}h700M{x} 60v420' stroke='#ddd' stroke-width='1'/>"
+        )?;
         writeln!(
             output,
             "<text x='{x}' y='505' text-anchor='middle'>{step}</text>"
@@ -94,7 +100,10 @@ fn draw_axes<W: Write>(steps: u64, bytes: u64, output: &mut W) -> io::Result<()>
 /// Draws rows as an SVG picture, and how the run ended, in a word or two.
 pub fn write_picture<W: Write>(rows: &[Row], words: &str, output: &mut W) -> io::Result<()> {
     let last = rows.last().copied().unwrap_or_default();
-    let (steps, bytes) = (fourth(last.step), fourth(last.credit.max(last.carried)));
+    let (steps, bytes) = (
+        fourth(last.step),
+        fourth(last.credit.max(last.sent_again())),
+    );
     writeln!(
         output,
         "<svg xmlns='http://www.w3.org/2000/svg' width='1000' height='550'>"
@@ -103,7 +112,7 @@ pub fn write_picture<W: Write>(rows: &[Row], words: &str, output: &mut W) -> io:
     writeln!(output, "<g font-family='sans-serif' stroke-width='2'>")?;
     writeln!(
         output,
-        "<text x='290' y='30'>given {} bytes, {words}</text>",
+        "<text x='440' y='30' text-anchor='middle'>given {} bytes, {words}</text>",
         last.given
     )?;
     draw_axes(steps, bytes, output)?;

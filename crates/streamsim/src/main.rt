@@ -45,7 +45,10 @@ impl Plan {
             "reorder 1 in" => &mut self.reorder,
             _ => return None,
         };
-        *place = number.parse::<u64>().ok()?;
+        *place = number
+            .parse::<u64>()
+            .ok()
+            .filter(|number| *number < 1 << 62)?;
         Some(())
     }
 }
@@ -55,10 +58,12 @@ impl Plan {
 pub fn serve<R: Read + Drop, W: Write>(
     rt: &impl Eprint,
     alloc: Global,
-    input: R,
+    mut input: R,
     output: &mut W,
 ) -> Result<u8> {
-    let text = io::read_to_string(alloc, input)?;
+    let mut bytes = Vec::new(alloc);
+    input.read_to_end(&mut bytes)?;
+    let text = String::from_utf8_lossy(alloc, bytes.as_slice())?;
     let mut plan = Plan::default();
     for (index, line) in text.as_str().lines().enumerate() {
         if plan.take(line).is_none() {

@@ -31,6 +31,7 @@ fn a_line_of_another_form_is_malformed(rt: HostRuntime) -> Result<(), Fail> {
         "seed one",
         "bytes -1",
         "bytes 18446744073709551616",
+        "stream-window 4611686018427387904",
         "payload 1200 ",
         "Bytes 1",
         "window 1",
@@ -44,6 +45,20 @@ fn a_line_of_another_form_is_malformed(rt: HostRuntime) -> Result<(), Fail> {
         let input = format!(in rt.alloc(); "seed 1\n{line}\nseed 2\n")?;
         output_of(&rt, rt.alloc(), input.as_str(), "malformed 2", 2)?;
     }
+    Ok(())
+}
+
+#[test]
+fn a_line_that_is_no_text_is_malformed(rt: HostRuntime) -> Result<(), Fail> {
+    let mut output = Vec::new(rt.alloc());
+    let status = serve(
+        &rt,
+        rt.alloc(),
+        b"seed 1\nseed \xff2\n".as_slice(),
+        &mut output,
+    )?;
+    assert_eq!(rt; status, 2);
+    assert_eq!(rt; output.as_slice(), b"malformed 2\n".as_slice());
     Ok(())
 }
 
