@@ -8,8 +8,7 @@ mod tests;
 
 use anyhow::Result;
 use std::alloc::Global;
-use std::io;
-use std::io::{Read, Write};
+use std::io::{self, Read, Write};
 use std::process::ExitCode;
 
 /// How much is sent, and over which network. One payload in so many is lost or late, none where that is 0.

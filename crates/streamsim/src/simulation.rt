@@ -6,12 +6,11 @@ use quic_endpoint::{Endpoint, Payload};
 use quic_sending::WriteError;
 use quic_streams::progress::LastAnswer;
 use quic_values::{Dir, Side, StreamId, VarInt};
-use quic_wire::frame::StreamMeta;
 use quic_wire::{Frame, decode};
 use rand_core::{Rng, SeedableRng};
 use rand_xoshiro::Xoshiro256PlusPlus;
 use std::alloc::Global;
-use std::io::Write;
+use std::io::{self, Write};
 use stream_chart::{Row, Samples, write_picture, write_table};
 
 // So many steps pass until a payload arrives.
@@ -26,44 +25,23 @@ struct Flight {
     is_lost: bool,
 }
 
-// The network, and what came of it so far.
+// The network, and what came of it: `right` are the bytes that were given as they were written.
 #[derive(Drop)]
 struct Simulation {
     plan: Plan,
     alloc: Global,
+    id: StreamId,
     draws: Xoshiro256PlusPlus,
     flights: Vec<Flight>,
+    samples: Samples,
     row: Row,
-    // How many of the given bytes are those that were written at their offsets.
     right: u64,
+    is_read: bool,
 }
 
 // The byte that is written at an offset.
 fn byte_at(offset: u64) -> u8 {
-    (offset.wrapping_mul(0x9e37_79b9_7f4a_7c15) >> 56) as u8
-}
-
-fn length(meta: &StreamMeta) -> u64 {
-    meta.offsets.end.saturating_sub(meta.offsets.start)
-}
-
-// Hands in a frame, which came in a payload of so many bytes.
-fn receive(end: &mut Endpoint, frame: Frame, size: usize) -> Result<()> {
-    let len = match &frame {
-        Frame::Stream(stream) => stream.bytes.len().max(size),
-        _ => size,
-    };
-    end.receive(frame, len)?;
-    Ok(())
-}
-
-// What a payload carried is to be sent again.
-fn lose(end: &mut Endpoint, payload: Payload) -> Result<()> {
-    end.lose_control(&payload.control)?;
-    for meta in payload.streams {
-        end.lose_stream(meta)?;
-    }
-    Ok(())
+    offset.wrapping_mul(0x9e37_79b9_7f4a_7c15).to_be_bytes()[0]
 }
 
 impl Simulation {
@@ -76,10 +54,14 @@ impl Simulation {
                 break;
             };
             let flight = self.flights.swap_remove(place);
-            if flight.is_lost {
-                lose(from, flight.payload)?;
-            } else {
-                self.arrive(from, to, flight.payload)?;
+            let (payload, is_lost) = (flight.payload, flight.is_lost);
+            if !is_lost {
+                self.arrive(from, to, payload)?;
+                continue;
+            }
+            from.lose_control(&payload.control)?;
+            for meta in payload.streams {
+                from.lose_stream(meta)?;
             }
         }
         Ok(())
@@ -87,10 +69,15 @@ impl Simulation {
 
     fn arrive(&mut self, from: &mut Endpoint, to: &mut Endpoint, payload: Payload) -> Result<()> {
         for frame in decode(self.alloc, payload.bytes.as_slice())? {
-            receive(to, frame, payload.bytes.len())?;
+            let len = match &frame {
+                Frame::Stream(stream) => stream.bytes.len().max(payload.bytes.len()),
+                _ => payload.bytes.len(),
+            };
+            to.receive(frame, len)?;
         }
         for meta in payload.streams {
-            self.row.acknowledged = self.row.acknowledged.saturating_add(length(&meta));
+            let count = meta.offsets.end.saturating_sub(meta.offsets.start);
+            self.row.acknowledged = self.row.acknowledged.saturating_add(count);
             from.ack_stream(meta)?;
         }
         Ok(())
@@ -101,19 +88,19 @@ impl Simulation {
         let (payload, answer) = from.emit(self.plan.payload as usize, true);
         answer?;
         for meta in payload.streams.as_slice() {
-            self.row.carried = self.row.carried.saturating_add(length(meta));
+            let count = meta.offsets.end.saturating_sub(meta.offsets.start);
+            self.row.carried = self.row.carried.saturating_add(count);
             self.row.sent = self.row.sent.max(meta.offsets.end);
         }
         let is_lost = self.draws.next_u64().checked_rem(self.plan.loss) == Some(0);
         let is_late = self.draws.next_u64().checked_rem(self.plan.reorder) == Some(0);
         let late = self.draws.next_u64() % if is_late { 2 * DELAY } else { 1 };
         let wait = if is_lost { 3 * DELAY } else { DELAY + late };
-        let step = self.row.step.saturating_add(wait);
         if !payload.bytes.is_empty() {
             let flight = Flight {
                 sender,
                 payload,
-                step,
+                step: self.row.step.saturating_add(wait),
                 is_lost,
             };
             self.flights.push(flight)?;
@@ -123,24 +110,71 @@ impl Simulation {
     }
 
     // The client writes what is taken, and ends the stream behind all bytes.
-    fn write(&mut self, client: &mut Endpoint, id: StreamId) -> Result<()> {
+    fn write(&mut self, client: &mut Endpoint) -> Result<()> {
         let room = client.streams().write_limit().min(65_536);
         let next = self.row.written.saturating_add(room).min(self.plan.bytes);
         let bytes: Vec<u8> = (self.row.written..next).map(byte_at).collect(self.alloc)?;
-        match client.write(id, bytes.as_slice()) {
+        match client.write(self.id, bytes.as_slice()) {
             Ok(count) => self.row.written = self.row.written.saturating_add(count as u64),
             Err(WriteError::Blocked) | Err(WriteError::ClosedStream) => return Ok(()),
             Err(error) => return Err(error.into()),
         }
         if self.row.written == self.plan.bytes {
-            client.finish(id)?;
+            client.finish(self.id)?;
         }
         Ok(())
     }
 
+    // One step of both ends.
+    fn step(&mut self, client: &mut Endpoint, server: &mut Endpoint) -> Result<()> {
+        self.deliver(Side::Client, client, server)?;
+        self.deliver(Side::Server, server, client)?;
+        self.is_read = self.is_read || self.read(server)?;
+        self.write(client)?;
+        self.send(Side::Server, server)?;
+        self.send(Side::Client, client)?;
+        self.row.credit = server.streams().local_max_data();
+        Ok(())
+    }
+
+    // Step after step, until all was read and acknowledged, or nothing is on its way.
+    fn go(&mut self, rt: &impl Eprint, client: &mut Endpoint, server: &mut Endpoint) -> Result<()> {
+        let (bytes, tenth) = (self.plan.bytes, self.plan.bytes / 10 + 1);
+        for step in 0..bytes.saturating_mul(10).saturating_add(20_000) {
+            let before = self.row.given;
+            self.row.step = step;
+            self.step(client, server)?;
+            if self.row.given / tenth > before / tenth {
+                eprintln!(rt; "given {} of {bytes} bytes by step {step}", self.row.given)?;
+            }
+            if self.is_read && self.row.acknowledged == bytes || self.flights.is_empty() {
+                break;
+            }
+            self.samples.offer(self.row)?;
+        }
+        Ok(self.samples.end(self.row)?)
+    }
+
+    // Writes what was counted and how it ended, and answers the status.
+    fn tell<W: Write>(&self, output: &mut W) -> io::Result<u8> {
+        let (given, rows) = (self.row.given, self.samples.rows());
+        let is_whole = self.is_read && given == self.plan.bytes;
+        let (status, words) = match (self.right == given, is_whole) {
+            (true, true) => (0, "as written"),
+            (false, _) => (3, "not as written"),
+            (true, false) => (4, "and no more"),
+        };
+        if self.plan.is_picture {
+            write_picture(rows, words, output)?;
+        } else {
+            write_table(rows, words, output)?;
+        }
+        Ok(status)
+    }
+
     // The server reads what came, which is compared with what was written. Whether the end was told.
-    fn read(&mut self, server: &mut Endpoint, id: StreamId) -> Result<bool> {
-        let some = server.read(id, true, usize::MAX, 32)?;
+    fn read(&mut self, server: &mut Endpoint) -> Result<bool> {
+        let some = server.read(self.id, true, usize::MAX, 32)?;
         for chunk in &some.chunks {
             for (index, byte) in chunk.bytes.as_slice().iter().enumerate() {
                 let offset = chunk.offset.wrapping_add(index as u64);
@@ -171,45 +205,17 @@ fn connect(alloc: Global, plan: &Plan) -> Result<(Endpoint, StreamId, Endpoint)>
 /// Runs what is planned, tells of its progress on standard error, and answers the status.
 pub fn run<W: Write>(rt: &impl Eprint, alloc: Global, plan: Plan, output: &mut W) -> Result<u8> {
     let (mut client, id, mut server) = connect(alloc, &plan)?;
-    let (mut samples, mut is_read) = (Samples::new(alloc), false);
     let mut simulation = Simulation {
         plan,
         alloc,
+        id,
         draws: Xoshiro256PlusPlus::seed_from_u64(plan.seed),
         flights: Vec::new(alloc),
+        samples: Samples::new(alloc),
         row: Row::default(),
         right: 0,
+        is_read: false,
     };
-    for step in 0..plan.bytes.saturating_mul(10).saturating_add(20_000) {
-        let before = simulation.row.given;
-        simulation.row.step = step;
-        simulation.deliver(Side::Client, &mut client, &mut server)?;
-        simulation.deliver(Side::Server, &mut server, &mut client)?;
-        is_read = is_read || simulation.read(&mut server, id)?;
-        simulation.write(&mut client, id)?;
-        simulation.send(Side::Server, &mut server)?;
-        simulation.send(Side::Client, &mut client)?;
-        simulation.row.credit = server.streams().local_max_data();
-        let (given, tenth) = (simulation.row.given, plan.bytes / 10 + 1);
-        if given / tenth > before / tenth {
-            eprintln!(rt; "given {given} of {} bytes by step {step}", plan.bytes)?;
-        }
-        if is_read && simulation.row.acknowledged == plan.bytes || simulation.flights.is_empty() {
-            break;
-        }
-        samples.offer(simulation.row)?;
-    }
-    samples.end(simulation.row)?;
-    let given = simulation.row.given;
-    let (status, words) = match (simulation.right == given, is_read && given == plan.bytes) {
-        (true, true) => (0, "as written"),
-        (false, _) => (3, "not as written"),
-        (true, false) => (4, "and no more"),
-    };
-    if plan.is_picture {
-        write_picture(samples.rows(), words, output)?;
-    } else {
-        write_table(samples.rows(), words, output)?;
-    }
-    Ok(status)
+    simulation.go(rt, &mut client, &mut server)?;
+    Ok(simulation.tell(output)?)
 }
