@@ -2,6 +2,7 @@
 //! which network, standard output what came of it, as a table or as a picture.
 #![tactic(auto)]
 
+mod ends;
 mod simulation;
 #[cfg(test)]
 mod tests;

@@ -1,6 +1,6 @@
 //! A client writes on a stream, a server reads it, and a network loses and reorders their payloads.
 
-use crate::Plan;
+use crate::{Plan, ends};
 use anyhow::{Context, Result};
 use quic_endpoint::{Endpoint, Payload};
 use quic_sending::WriteError;
@@ -55,38 +55,31 @@ impl Simulation {
             };
             let flight = self.flights.swap_remove(place);
             let (payload, is_lost) = (flight.payload, flight.is_lost);
-            if !is_lost {
+            if is_lost {
+                ends::lose(from, payload)?;
+            } else {
                 self.arrive(from, to, payload)?;
-                continue;
-            }
-            from.lose_control(&payload.control)?;
-            for meta in payload.streams {
-                from.lose_stream(meta)?;
             }
         }
         Ok(())
     }
 
     fn arrive(&mut self, from: &mut Endpoint, to: &mut Endpoint, payload: Payload) -> Result<()> {
-        for frame in decode(self.alloc, payload.bytes.as_slice())? {
-            let len = match &frame {
-                Frame::Stream(stream) => stream.bytes.len().max(payload.bytes.len()),
-                _ => payload.bytes.len(),
-            };
-            to.receive(frame, len)?;
+        let frames = decode(self.alloc, payload.bytes.as_slice())?;
+        for frame in frames {
+            ends::receive(to, frame, payload.bytes.len())?;
         }
         for meta in payload.streams {
             let count = meta.offsets.end.saturating_sub(meta.offsets.start);
             self.row.acknowledged = self.row.acknowledged.saturating_add(count);
-            from.ack_stream(meta)?;
+            ends::ack(from, meta)?;
         }
         Ok(())
     }
 
     // Sends a payload, if there is something to send. Lets pass what the end tells.
     fn send(&mut self, sender: Side, from: &mut Endpoint) -> Result<()> {
-        let (payload, answer) = from.emit(self.plan.payload as usize, true);
-        answer?;
+        let payload = ends::emit(from, self.plan.payload as usize)?;
         for meta in payload.streams.as_slice() {
             let count = meta.offsets.end.saturating_sub(meta.offsets.start);
             self.row.carried = self.row.carried.saturating_add(count);
@@ -105,22 +98,22 @@ impl Simulation {
             };
             self.flights.push(flight)?;
         }
-        (0..u64::MAX).any(|_| from.poll().is_none());
+        (0..u64::MAX).any(|_| ends::tells_none(from));
         Ok(())
     }
 
     // The client writes what is taken, and ends the stream behind all bytes.
     fn write(&mut self, client: &mut Endpoint) -> Result<()> {
-        let room = client.streams().write_limit().min(65_536);
+        let room = ends::room(client).min(65_536);
         let next = self.row.written.saturating_add(room).min(self.plan.bytes);
         let bytes: Vec<u8> = (self.row.written..next).map(byte_at).collect(self.alloc)?;
-        match client.write(self.id, bytes.as_slice()) {
+        match ends::write(client, self.id, bytes.as_slice()) {
             Ok(count) => self.row.written = self.row.written.saturating_add(count as u64),
             Err(WriteError::Blocked) | Err(WriteError::ClosedStream) => return Ok(()),
             Err(error) => return Err(error.into()),
         }
         if self.row.written == self.plan.bytes {
-            client.finish(self.id)?;
+            ends::finish(client, self.id)?;
         }
         Ok(())
     }
@@ -133,7 +126,7 @@ impl Simulation {
         self.write(client)?;
         self.send(Side::Server, server)?;
         self.send(Side::Client, client)?;
-        self.row.credit = server.streams().local_max_data();
+        self.row.credit = ends::credit(server);
         Ok(())
     }
 
@@ -174,7 +167,7 @@ impl Simulation {
 
     // The server reads what came, which is compared with what was written. Whether the end was told.
     fn read(&mut self, server: &mut Endpoint) -> Result<bool> {
-        let some = server.read(self.id, true, usize::MAX, 32)?;
+        let some = ends::read(server, self.id)?;
         for chunk in &some.chunks {
             for (index, byte) in chunk.bytes.as_slice().iter().enumerate() {
                 let offset = chunk.offset.wrapping_add(index as u64);
@@ -195,10 +188,10 @@ fn connect(alloc: Global, plan: &Plan) -> Result<(Endpoint, StreamId, Endpoint)>
     let server = Endpoint::new(alloc, Side::Server, one, one, 0, window, each)?;
     let mut client = Endpoint::new(alloc, Side::Client, one, one, plan.send_window, one, one)?;
     let (dir, count) = (Dir::Uni, 1);
-    client.receive(Frame::MaxStreams { dir, count }, 0)?;
+    ends::receive(&mut client, Frame::MaxStreams { dir, count }, 0)?;
     let id = client.open(dir)?.context("no stream is permitted")?;
-    client.receive(Frame::MaxStreamData { id, offset }, 0)?;
-    client.receive(Frame::MaxData(window), 0)?;
+    ends::receive(&mut client, Frame::MaxStreamData { id, offset }, 0)?;
+    ends::receive(&mut client, Frame::MaxData(window), 0)?;
     Ok((client, id, server))
 }
 
