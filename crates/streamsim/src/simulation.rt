@@ -1,0 +1,214 @@
+//! A client writes on a stream, a server reads it, and a network loses and reorders their payloads.
+
+use crate::{Plan, ends};
+use anyhow::{Context, Result};
+use quic_endpoint::{Endpoint, Payload};
+use quic_sending::WriteError;
+use quic_streams::progress::LastAnswer;
+use quic_values::{Dir, Side, StreamId, VarInt};
+use quic_wire::{Frame, decode};
+use rand_core::{Rng, SeedableRng};
+use rand_xoshiro::Xoshiro256PlusPlus;
+use std::alloc::Global;
+use std::io::{self, Write};
+use stream_chart::{Row, Samples, write_picture, write_table};
+
+// So many steps pass until a payload arrives.
+const DELAY: u64 = 10;
+
+// A payload that arrives in a step, or of which its sender hears then that it was lost.
+#[derive(Drop)]
+struct Flight {
+    sender: Side,
+    payload: Payload,
+    step: u64,
+    is_lost: bool,
+}
+
+// The network, and what came of it: `right` are the bytes that were given as they were written.
+#[derive(Drop)]
+struct Simulation {
+    plan: Plan,
+    alloc: Global,
+    id: StreamId,
+    draws: Xoshiro256PlusPlus,
+    flights: Vec<Flight>,
+    samples: Samples,
+    row: Row,
+    right: u64,
+    is_read: bool,
+}
+
+// The byte that is written at an offset.
+fn byte_at(offset: u64) -> u8 {
+    offset.wrapping_mul(0x9e37_79b9_7f4a_7c15).to_be_bytes()[0]
+}
+
+impl Simulation {
+    // What an end sent and arrives by now is handed on and acknowledged, and what was lost is reported.
+    fn deliver(&mut self, sender: Side, from: &mut Endpoint, to: &mut Endpoint) -> Result<()> {
+        for _ in 0..u64::MAX {
+            let now = self.row.step;
+            let is_due = |flight: &Flight| flight.sender == sender && flight.step <= now;
+            let Some(place) = self.flights.iter().position(is_due) else {
+                break;
+            };
+            let flight = self.flights.swap_remove(place);
+            let (payload, is_lost) = (flight.payload, flight.is_lost);
+            if is_lost {
+                ends::lose(from, payload)?;
+            } else {
+                self.arrive(from, to, payload)?;
+            }
+        }
+        Ok(())
+    }
+
+    fn arrive(&mut self, from: &mut Endpoint, to: &mut Endpoint, payload: Payload) -> Result<()> {
+        let frames = decode(self.alloc, payload.bytes.as_slice())?;
+        for frame in frames {
+            ends::receive(to, frame, payload.bytes.len())?;
+        }
+        for meta in payload.streams {
+            let count = meta.offsets.end.saturating_sub(meta.offsets.start);
+            self.row.acknowledged = self.row.acknowledged.saturating_add(count);
+            ends::ack(from, meta)?;
+        }
+        Ok(())
+    }
+
+    // Sends a payload, if there is something to send. Lets pass what the end tells.
+    fn send(&mut self, sender: Side, from: &mut Endpoint) -> Result<()> {
+        let payload = ends::emit(from, self.plan.payload as usize)?;
+        for meta in payload.streams.as_slice() {
+            let count = meta.offsets.end.saturating_sub(meta.offsets.start);
+            self.row.carried = self.row.carried.saturating_add(count);
+            self.row.sent = self.row.sent.max(meta.offsets.end);
+        }
+        let is_lost = self.draws.next_u64().checked_rem(self.plan.loss) == Some(0);
+        let is_late = self.draws.next_u64().checked_rem(self.plan.reorder) == Some(0);
+        let late = self.draws.next_u64() % if is_late { 2 * DELAY } else { 1 };
+        let wait = if is_lost { 3 * DELAY } else { DELAY + late };
+        if !payload.bytes.is_empty() {
+            let flight = Flight {
+                sender,
+                payload,
+                step: self.row.step.saturating_add(wait),
+                is_lost,
+            };
+            self.flights.push(flight)?;
+        }
+        (0..u64::MAX).any(|_| ends::tells_none(from));
+        Ok(())
+    }
+
+    // The client writes what is taken, and ends the stream behind all bytes.
+    fn write(&mut self, client: &mut Endpoint) -> Result<()> {
+        let room = ends::room(client).min(65_536);
+        let next = self.row.written.saturating_add(room).min(self.plan.bytes);
+        let bytes: Vec<u8> = (self.row.written..next).map(byte_at).collect(self.alloc)?;
+        match ends::write(client, self.id, bytes.as_slice()) {
+            Ok(count) => self.row.written = self.row.written.saturating_add(count as u64),
+            Err(WriteError::Blocked) | Err(WriteError::ClosedStream) => return Ok(()),
+            Err(error) => return Err(error.into()),
+        }
+        if self.row.written == self.plan.bytes {
+            ends::finish(client, self.id)?;
+        }
+        Ok(())
+    }
+
+    // One step of both ends.
+    fn step(&mut self, client: &mut Endpoint, server: &mut Endpoint) -> Result<()> {
+        self.deliver(Side::Client, client, server)?;
+        self.deliver(Side::Server, server, client)?;
+        self.is_read = self.is_read || self.read(server)?;
+        self.write(client)?;
+        self.send(Side::Server, server)?;
+        self.send(Side::Client, client)?;
+        self.row.credit = ends::credit(server);
+        Ok(())
+    }
+
+    // Step after step, until all was read and acknowledged, or nothing is on its way.
+    fn go(&mut self, rt: &impl Eprint, client: &mut Endpoint, server: &mut Endpoint) -> Result<()> {
+        let (bytes, tenth) = (self.plan.bytes, self.plan.bytes / 10 + 1);
+        for step in 0..bytes.saturating_mul(10).saturating_add(20_000) {
+            let before = self.row.given;
+            self.row.step = step;
+            self.step(client, server)?;
+            if self.row.given / tenth > before / tenth {
+                eprintln!(rt; "given {} of {bytes} bytes by step {step}", self.row.given)?;
+            }
+            if self.is_read && self.row.acknowledged == bytes || self.flights.is_empty() {
+                break;
+            }
+            self.samples.offer(self.row)?;
+        }
+        Ok(self.samples.end(self.row)?)
+    }
+
+    // Writes what was counted and how it ended, and answers the status.
+    fn tell<W: Write>(&self, output: &mut W) -> io::Result<u8> {
+        let (given, rows) = (self.row.given, self.samples.rows());
+        let is_whole = self.is_read && given == self.plan.bytes;
+        let (status, words) = match (self.right == given, is_whole) {
+            (true, true) => (0, "as written"),
+            (false, _) => (3, "not as written"),
+            (true, false) => (4, "and no more"),
+        };
+        if self.plan.is_picture {
+            write_picture(rows, words, output)?;
+        } else {
+            write_table(rows, words, output)?;
+        }
+        Ok(status)
+    }
+
+    // The server reads what came, which is compared with what was written. Whether the end was told.
+    fn read(&mut self, server: &mut Endpoint) -> Result<bool> {
+        let some = ends::read(server, self.id)?;
+        for chunk in &some.chunks {
+            for (index, byte) in chunk.bytes.as_slice().iter().enumerate() {
+                let offset = chunk.offset.wrapping_add(index as u64);
+                let is_right = offset == self.row.given && *byte == byte_at(offset);
+                self.right = self.right.saturating_add(u64::from(is_right));
+                self.row.given = self.row.given.saturating_add(1);
+            }
+        }
+        Ok(some.last == LastAnswer::Ended)
+    }
+}
+
+// A client with a stream, and a server. The limits of the server come as frames, and not in a handshake.
+fn connect(alloc: Global, plan: &Plan) -> Result<(Endpoint, StreamId, Endpoint)> {
+    let (one, offset) = (VarInt::from(1u32), plan.stream_window);
+    let window = VarInt::from_u64(plan.receive_window).context("receive-window")?;
+    let each = VarInt::from_u64(offset).context("stream-window")?;
+    let server = Endpoint::new(alloc, Side::Server, one, one, 0, window, each)?;
+    let mut client = Endpoint::new(alloc, Side::Client, one, one, plan.send_window, one, one)?;
+    let (dir, count) = (Dir::Uni, 1);
+    ends::receive(&mut client, Frame::MaxStreams { dir, count }, 0)?;
+    let id = client.open(dir)?.context("no stream is permitted")?;
+    ends::receive(&mut client, Frame::MaxStreamData { id, offset }, 0)?;
+    ends::receive(&mut client, Frame::MaxData(window), 0)?;
+    Ok((client, id, server))
+}
+
+/// Runs what is planned, tells of its progress on standard error, and answers the status.
+pub fn run<W: Write>(rt: &impl Eprint, alloc: Global, plan: Plan, output: &mut W) -> Result<u8> {
+    let (mut client, id, mut server) = connect(alloc, &plan)?;
+    let mut simulation = Simulation {
+        plan,
+        alloc,
+        id,
+        draws: Xoshiro256PlusPlus::seed_from_u64(plan.seed),
+        flights: Vec::new(alloc),
+        samples: Samples::new(alloc),
+        row: Row::default(),
+        right: 0,
+        is_read: false,
+    };
+    simulation.go(rt, &mut client, &mut server)?;
+    Ok(simulation.tell(output)?)
+}
