@@ -1,13 +1,90 @@
 //! What is queued is told and leaves one after another, and what is sent is noted.
 
-use super::{filled, id};
+use super::{filled, id, merge_thin};
 use quic_retransmits::{Retransmits, ThinRetransmits};
 use quic_values::Dir;
 use quic_wire::frame::{Crypto, Datagram, ResetStream, StopSending, Stream};
-use quic_wire::{Bytes, Frame, OutOfMemory, VarInt};
+use quic_wire::{Bytes, Frame, OutOfMemory, StreamId, VarInt};
 use std::alloc::Global;
 use std::process::Abort;
 use std::test::Fail;
+
+// The calls, with nothing of what they promise: a test looks at what they answer and leave.
+trait Calls {
+    fn told_reset(&self) -> Option<(StreamId, VarInt)>;
+
+    fn told_stop(&self) -> Option<StopSending>;
+
+    fn told_window(&self) -> Option<StreamId>;
+
+    fn told_stream_blocked(&self) -> Option<StreamId>;
+
+    fn told_max_streams(&self, dir: Dir) -> bool;
+
+    fn reset_leaves(&mut self);
+
+    fn stop_leaves(&mut self);
+
+    fn window_leaves(&mut self, id: StreamId);
+
+    fn stream_blocked_leaves(&mut self, id: StreamId);
+
+    fn max_data_leaves(&mut self);
+
+    fn data_blocked_leaves(&mut self);
+
+    fn max_streams_leave(&mut self, dir: Dir);
+}
+
+impl Calls for Retransmits {
+    fn told_reset(&self) -> Option<(StreamId, VarInt)> {
+        self.next_reset()
+    }
+
+    fn told_stop(&self) -> Option<StopSending> {
+        self.next_stop()
+    }
+
+    fn told_window(&self) -> Option<StreamId> {
+        self.next_window()
+    }
+
+    fn told_stream_blocked(&self) -> Option<StreamId> {
+        self.next_stream_blocked()
+    }
+
+    fn told_max_streams(&self, dir: Dir) -> bool {
+        self.has_max_streams(dir)
+    }
+
+    fn reset_leaves(&mut self) {
+        self.settle_reset();
+    }
+
+    fn stop_leaves(&mut self) {
+        self.settle_stop();
+    }
+
+    fn window_leaves(&mut self, id: StreamId) {
+        self.settle_window(id);
+    }
+
+    fn stream_blocked_leaves(&mut self, id: StreamId) {
+        self.settle_stream_blocked(id);
+    }
+
+    fn max_data_leaves(&mut self) {
+        self.settle_max_data();
+    }
+
+    fn data_blocked_leaves(&mut self) {
+        self.settle_data_blocked();
+    }
+
+    fn max_streams_leave(&mut self, dir: Dir) {
+        self.settle_max_streams(dir);
+    }
+}
 
 // How many streams wait.
 const COUNTS: [u32; 10] = [0, 1, 2, 3, 255, 256, 257, 1023, 1024, 1025];
@@ -85,40 +162,44 @@ fn queued(alloc: Global, count: u32) -> Result<Retransmits, OutOfMemory> {
     Ok(set)
 }
 
+fn note(thin: &mut ThinRetransmits, frame: &Frame) -> Result<(), OutOfMemory> {
+    thin.note(frame)
+}
+
 fn noted(alloc: Global, frames: &[Frame]) -> Result<Retransmits, Fail> {
     let mut thin = ThinRetransmits::new(alloc);
     for frame in frames {
-        thin.note(frame)?;
+        note(&mut thin, frame)?;
     }
     let mut set = Retransmits::new(alloc);
-    set.merge_thin(thin).map_err(|_| OutOfMemory)?;
+    merge_thin(&mut set, thin)?;
     Ok(set)
 }
 
 // The RESET_STREAM and the STOP_SENDING of this stream are told, and leave.
 fn lists_give(rt: &impl Abort, set: &mut Retransmits, number: u32) {
-    assert_eq!(rt; set.next_reset(), Some((id(number), reset_code(number))));
-    set.settle_reset();
-    assert_eq!(rt; set.next_stop(), Some(stop(number)));
-    set.settle_stop();
+    assert_eq!(rt; set.told_reset(), Some((id(number), reset_code(number))));
+    set.reset_leaves();
+    assert_eq!(rt; set.told_stop(), Some(stop(number)));
+    set.stop_leaves();
 }
 
 #[test]
 fn nothing_is_told_where_nothing_is_queued(rt: HostRuntime) {
     let mut set = Retransmits::new(rt.alloc());
-    assert_eq!(rt; set.next_reset(), None);
-    assert_eq!(rt; set.next_stop(), None);
-    assert_eq!(rt; set.next_window(), None);
-    assert_eq!(rt; set.next_stream_blocked(), None);
-    assert!(rt; !set.has_max_streams(Dir::Bi) && !set.has_max_streams(Dir::Uni));
-    set.settle_reset();
-    set.settle_stop();
-    set.settle_window(id(0));
-    set.settle_stream_blocked(id(0));
-    set.settle_max_data();
-    set.settle_data_blocked();
-    set.settle_max_streams(Dir::Bi);
-    set.settle_max_streams(Dir::Uni);
+    assert_eq!(rt; set.told_reset(), None);
+    assert_eq!(rt; set.told_stop(), None);
+    assert_eq!(rt; set.told_window(), None);
+    assert_eq!(rt; set.told_stream_blocked(), None);
+    assert!(rt; !set.told_max_streams(Dir::Bi) && !set.told_max_streams(Dir::Uni));
+    set.reset_leaves();
+    set.stop_leaves();
+    set.window_leaves(id(0));
+    set.stream_blocked_leaves(id(0));
+    set.max_data_leaves();
+    set.data_blocked_leaves();
+    set.max_streams_leave(Dir::Bi);
+    set.max_streams_leave(Dir::Uni);
     assert_eq!(rt; counts(&set), [0; 14]);
 }
 
@@ -129,11 +210,11 @@ fn resets_and_stops_leave_from_the_back(rt: HostRuntime) -> Result<(), Fail> {
         queue(&mut set, number)?;
     }
     for number in [8, 0, 3] {
-        assert_eq!(rt; set.next_reset(), Some((id(number), reset_code(number))));
-        assert_eq!(rt; set.next_stop(), Some(stop(number)));
+        assert_eq!(rt; set.told_reset(), Some((id(number), reset_code(number))));
+        assert_eq!(rt; set.told_stop(), Some(stop(number)));
         lists_give(&rt, &mut set, number);
     }
-    assert_eq!(rt; (set.next_reset(), set.next_stop()), (None, None));
+    assert_eq!(rt; (set.told_reset(), set.told_stop()), (None, None));
     assert_eq!(rt; counts(&set), [0, 0, 3, 3, 0, 0, 0, 0, 0, 0, 0, 0, 0, 0]);
     Ok(())
 }
@@ -144,13 +225,13 @@ fn what_is_queued_between_leaves_first(rt: HostRuntime) -> Result<(), Fail> {
     let mut set = Retransmits::new(rt.alloc());
     queue(&mut set, 1)?;
     queue(&mut set, 2)?;
-    set.settle_reset();
-    set.settle_stop();
+    set.reset_leaves();
+    set.stop_leaves();
     queue(&mut set, 7)?;
     for number in [7, 1] {
         lists_give(&rt, &mut set, number);
     }
-    assert_eq!(rt; (set.next_reset(), set.next_stop()), (None, None));
+    assert_eq!(rt; (set.told_reset(), set.told_stop()), (None, None));
     Ok(())
 }
 
@@ -158,26 +239,26 @@ fn what_is_queued_between_leaves_first(rt: HostRuntime) -> Result<(), Fail> {
 fn each_settles_one_of_its_kind(rt: HostRuntime) -> Result<(), Fail> {
     let mut set = two_of_each(rt.alloc())?;
     assert_eq!(rt; counts(&set), TWO_OF_EACH);
-    set.settle_reset();
+    set.reset_leaves();
     assert_eq!(rt; counts(&set), [1, 2, 2, 2, 1, 1, 1, 1, 2, 2, 2, 2, 0, 0]);
-    set.settle_stop();
+    set.stop_leaves();
     assert_eq!(rt; counts(&set), [1, 1, 2, 2, 1, 1, 1, 1, 2, 2, 2, 2, 0, 0]);
-    set.settle_window(id(9));
+    set.window_leaves(id(9));
     assert_eq!(rt; counts(&set), [1, 1, 1, 2, 1, 1, 1, 1, 2, 2, 2, 2, 0, 0]);
-    set.settle_stream_blocked(id(4));
+    set.stream_blocked_leaves(id(4));
     assert_eq!(rt; counts(&set), [1, 1, 1, 1, 1, 1, 1, 1, 2, 2, 2, 2, 0, 0]);
-    set.settle_max_data();
+    set.max_data_leaves();
     assert_eq!(rt; counts(&set), [1, 1, 1, 1, 0, 1, 1, 1, 2, 2, 2, 2, 0, 0]);
-    set.settle_data_blocked();
+    set.data_blocked_leaves();
     assert_eq!(rt; counts(&set), [1, 1, 1, 1, 0, 0, 1, 1, 2, 2, 2, 2, 0, 0]);
-    set.settle_max_streams(Dir::Uni);
+    set.max_streams_leave(Dir::Uni);
     assert_eq!(rt; counts(&set), [1, 1, 1, 1, 0, 0, 1, 0, 2, 2, 2, 2, 0, 0]);
-    set.settle_max_streams(Dir::Bi);
+    set.max_streams_leave(Dir::Bi);
     assert_eq!(rt; counts(&set), [1, 1, 1, 1, 0, 0, 0, 0, 2, 2, 2, 2, 0, 0]);
-    assert_eq!(rt; set.next_reset(), Some((id(4), VarInt::from(4u32))));
-    assert_eq!(rt; set.next_stop().map(|frame| frame.id), Some(id(4)));
-    assert_eq!(rt; set.next_window(), Some(id(4)));
-    assert_eq!(rt; set.next_stream_blocked(), Some(id(9)));
+    assert_eq!(rt; set.told_reset(), Some((id(4), VarInt::from(4u32))));
+    assert_eq!(rt; set.told_stop().map(|frame| frame.id), Some(id(4)));
+    assert_eq!(rt; set.told_window(), Some(id(4)));
+    assert_eq!(rt; set.told_stream_blocked(), Some(id(9)));
     Ok(())
 }
 
@@ -185,19 +266,19 @@ fn each_settles_one_of_its_kind(rt: HostRuntime) -> Result<(), Fail> {
 #[test]
 fn what_is_not_pending_does_not_leave(rt: HostRuntime) -> Result<(), Fail> {
     let mut set = two_of_each(rt.alloc())?;
-    set.settle_window(id(5));
-    set.settle_stream_blocked(id(5));
+    set.window_leaves(id(5));
+    set.stream_blocked_leaves(id(5));
     assert_eq!(rt; counts(&set), TWO_OF_EACH);
-    set.settle_window(id(4));
-    set.settle_window(id(4));
-    set.settle_stream_blocked(id(9));
-    set.settle_stream_blocked(id(9));
+    set.window_leaves(id(4));
+    set.window_leaves(id(4));
+    set.stream_blocked_leaves(id(9));
+    set.stream_blocked_leaves(id(9));
     assert_eq!(rt;
-        (set.max_stream_data.len(), set.next_window()),
+        (set.max_stream_data.len(), set.told_window()),
         (1, Some(id(9)))
     );
     assert_eq!(rt;
-        (set.stream_data_blocked.len(), set.next_stream_blocked()),
+        (set.stream_data_blocked.len(), set.told_stream_blocked()),
         (1, Some(id(4)))
     );
     Ok(())
@@ -208,15 +289,15 @@ fn directions_are_told_apart(rt: HostRuntime) {
     let mut set = Retransmits::new(rt.alloc());
     for [bi, uni] in [[false, true], [true, false], [true, true]] {
         set.max_stream_id = [bi, uni];
-        assert_eq!(rt; set.has_max_streams(Dir::Bi), bi);
-        assert_eq!(rt; set.has_max_streams(Dir::Uni), uni);
-        set.settle_max_streams(Dir::Bi);
-        assert!(rt; !set.has_max_streams(Dir::Bi));
-        assert_eq!(rt; set.has_max_streams(Dir::Uni), uni);
+        assert_eq!(rt; set.told_max_streams(Dir::Bi), bi);
+        assert_eq!(rt; set.told_max_streams(Dir::Uni), uni);
+        set.max_streams_leave(Dir::Bi);
+        assert!(rt; !set.told_max_streams(Dir::Bi));
+        assert_eq!(rt; set.told_max_streams(Dir::Uni), uni);
         set.max_stream_id = [bi, uni];
-        set.settle_max_streams(Dir::Uni);
-        assert_eq!(rt; set.has_max_streams(Dir::Bi), bi);
-        assert!(rt; !set.has_max_streams(Dir::Uni));
+        set.max_streams_leave(Dir::Uni);
+        assert_eq!(rt; set.told_max_streams(Dir::Bi), bi);
+        assert!(rt; !set.told_max_streams(Dir::Uni));
     }
 }
 
@@ -247,12 +328,12 @@ fn a_stream_is_in_a_set_once(rt: HostRuntime) -> Result<(), Fail> {
     queue(&mut set, 6)?;
     queue(&mut set, 6)?;
     assert_eq!(rt; counts(&set), [2, 2, 1, 1, 0, 0, 0, 0, 0, 0, 0, 0, 0, 0]);
-    assert_eq!(rt; set.next_window(), Some(id(6)));
-    assert_eq!(rt; set.next_stream_blocked(), Some(id(6)));
-    set.settle_window(id(6));
-    set.settle_stream_blocked(id(6));
+    assert_eq!(rt; set.told_window(), Some(id(6)));
+    assert_eq!(rt; set.told_stream_blocked(), Some(id(6)));
+    set.window_leaves(id(6));
+    set.stream_blocked_leaves(id(6));
     assert_eq!(rt;
-        (set.next_window(), set.next_stream_blocked()),
+        (set.told_window(), set.told_stream_blocked()),
         (None, None)
     );
     Ok(())
@@ -260,15 +341,15 @@ fn a_stream_is_in_a_set_once(rt: HostRuntime) -> Result<(), Fail> {
 
 // A stream of each set is told, and leaves.
 fn sets_give(rt: &impl Abort, set: &mut Retransmits) -> Result<(), Fail> {
-    let window = set.next_window().ok_or("no MAX_STREAM_DATA is told")?;
+    let window = set.told_window().ok_or("no MAX_STREAM_DATA is told")?;
     assert!(rt; set.max_stream_data.contains(&window), "{window}");
-    set.settle_window(window);
+    set.window_leaves(window);
     assert!(rt; !set.max_stream_data.contains(&window), "{window}");
     let blocked = set
-        .next_stream_blocked()
+        .told_stream_blocked()
         .ok_or("no STREAM_DATA_BLOCKED is told")?;
     assert!(rt; set.stream_data_blocked.contains(&blocked), "{blocked}");
-    set.settle_stream_blocked(blocked);
+    set.stream_blocked_leaves(blocked);
     assert!(rt; !set.stream_data_blocked.contains(&blocked), "{blocked}");
     Ok(())
 }
@@ -284,9 +365,9 @@ fn drains(rt: &impl Abort, alloc: Global, count: u32) -> Result<(), Fail> {
         assert_eq!(rt; counts(&set), counted, "{number} of {count}");
     }
     assert_eq!(rt; counts(&set), [0, 0, 0, 0, 1, 1, 1, 1, 0, 0, 0, 0, 0, 0]);
-    assert_eq!(rt; (set.next_reset(), set.next_stop()), (None, None));
+    assert_eq!(rt; (set.told_reset(), set.told_stop()), (None, None));
     assert_eq!(rt;
-        (set.next_window(), set.next_stream_blocked()),
+        (set.told_window(), set.told_stream_blocked()),
         (None, None)
     );
     Ok(())
@@ -314,24 +395,24 @@ fn frames_are_noted_as_they_were_sent(rt: HostRuntime) -> Result<(), Fail> {
     let alloc = rt.alloc();
     let set = noted(alloc, &[reset(4)])?;
     assert_eq!(rt; counts(&set), [1, 0, 0, 0, 0, 0, 0, 0, 0, 0, 0, 0, 0, 0]);
-    assert_eq!(rt; set.next_reset(), Some((id(4), reset_code(4))));
+    assert_eq!(rt; set.told_reset(), Some((id(4), reset_code(4))));
     let set = noted(alloc, &[Frame::StopSending(stop(5))])?;
     assert_eq!(rt; counts(&set), [0, 1, 0, 0, 0, 0, 0, 0, 0, 0, 0, 0, 0, 0]);
-    assert_eq!(rt; set.next_stop(), Some(stop(5)));
+    assert_eq!(rt; set.told_stop(), Some(stop(5)));
     let window = Frame::MaxStreamData {
         id: id(6),
         offset: 900,
     };
     let set = noted(alloc, &[window])?;
     assert_eq!(rt; counts(&set), [0, 0, 1, 0, 0, 0, 0, 0, 0, 0, 0, 0, 0, 0]);
-    assert_eq!(rt; set.next_window(), Some(id(6)));
+    assert_eq!(rt; set.told_window(), Some(id(6)));
     let blocked = Frame::StreamDataBlocked {
         id: id(7),
         offset: 900,
     };
     let set = noted(alloc, &[blocked])?;
     assert_eq!(rt; counts(&set), [0, 0, 0, 1, 0, 0, 0, 0, 0, 0, 0, 0, 0, 0]);
-    assert_eq!(rt; set.next_stream_blocked(), Some(id(7)));
+    assert_eq!(rt; set.told_stream_blocked(), Some(id(7)));
     Ok(())
 }
 
@@ -348,10 +429,10 @@ fn limits_of_the_connection_are_noted_as_flags(rt: HostRuntime) -> Result<(), Fa
     assert_eq!(rt; counts(&set), [0, 0, 0, 0, 0, 1, 0, 0, 0, 0, 0, 0, 0, 0]);
     let set = noted(alloc, &[max_streams(Dir::Bi)])?;
     assert_eq!(rt; counts(&set), [0, 0, 0, 0, 0, 0, 1, 0, 0, 0, 0, 0, 0, 0]);
-    assert!(rt; set.has_max_streams(Dir::Bi) && !set.has_max_streams(Dir::Uni));
+    assert!(rt; set.told_max_streams(Dir::Bi) && !set.told_max_streams(Dir::Uni));
     let set = noted(alloc, &[max_streams(Dir::Uni)])?;
     assert_eq!(rt; counts(&set), [0, 0, 0, 0, 0, 0, 0, 1, 0, 0, 0, 0, 0, 0]);
-    assert!(rt; set.has_max_streams(Dir::Uni) && !set.has_max_streams(Dir::Bi));
+    assert!(rt; set.told_max_streams(Dir::Uni) && !set.told_max_streams(Dir::Bi));
     Ok(())
 }
 
@@ -395,7 +476,7 @@ fn other_frames_are_not_noted(rt: HostRuntime) -> Result<(), Fail> {
     let mut thin = ThinRetransmits::new(alloc);
     *thin.get_or_create()? = two_of_each(alloc)?;
     for frame in &others(alloc) {
-        thin.note(frame)?;
+        note(&mut thin, frame)?;
         assert_eq!(rt; thin.get().map(counts), Some(TWO_OF_EACH), "{frame:?}");
     }
     Ok(())
@@ -427,36 +508,39 @@ fn notes_join_what_was_noted(rt: HostRuntime) -> Result<(), Fail> {
 
 // Sends what is told of one stream: it is noted, and leaves.
 fn send(set: &mut Retransmits, thin: &mut ThinRetransmits) -> Result<(), Fail> {
-    let (id, error_code) = set.next_reset().ok_or("no RESET_STREAM is told")?;
-    thin.note(&Frame::ResetStream(ResetStream {
-        id,
-        error_code,
-        final_offset: VarInt::from(77u32),
-    }))?;
-    set.settle_reset();
-    let frame = set.next_stop().ok_or("no STOP_SENDING is told")?;
-    thin.note(&Frame::StopSending(frame))?;
-    set.settle_stop();
-    let id = set.next_window().ok_or("no MAX_STREAM_DATA is told")?;
-    thin.note(&Frame::MaxStreamData { id, offset: 900 })?;
-    set.settle_window(id);
+    let (id, error_code) = set.told_reset().ok_or("no RESET_STREAM is told")?;
+    note(
+        thin,
+        &Frame::ResetStream(ResetStream {
+            id,
+            error_code,
+            final_offset: VarInt::from(77u32),
+        }),
+    )?;
+    set.reset_leaves();
+    let frame = set.told_stop().ok_or("no STOP_SENDING is told")?;
+    note(thin, &Frame::StopSending(frame))?;
+    set.stop_leaves();
+    let id = set.told_window().ok_or("no MAX_STREAM_DATA is told")?;
+    note(thin, &Frame::MaxStreamData { id, offset: 900 })?;
+    set.window_leaves(id);
     let id = set
-        .next_stream_blocked()
+        .told_stream_blocked()
         .ok_or("no STREAM_DATA_BLOCKED is told")?;
-    thin.note(&Frame::StreamDataBlocked { id, offset: 900 })?;
-    set.settle_stream_blocked(id);
+    note(thin, &Frame::StreamDataBlocked { id, offset: 900 })?;
+    set.stream_blocked_leaves(id);
     Ok(())
 }
 
 fn send_flags(set: &mut Retransmits, thin: &mut ThinRetransmits) -> Result<(), OutOfMemory> {
-    thin.note(&Frame::MaxData(VarInt::from(9u32)))?;
-    set.settle_max_data();
-    thin.note(&max_streams(Dir::Bi))?;
-    set.settle_max_streams(Dir::Bi);
-    thin.note(&max_streams(Dir::Uni))?;
-    set.settle_max_streams(Dir::Uni);
-    thin.note(&Frame::DataBlocked { offset: 9 })?;
-    set.settle_data_blocked();
+    note(thin, &Frame::MaxData(VarInt::from(9u32)))?;
+    set.max_data_leaves();
+    note(thin, &max_streams(Dir::Bi))?;
+    set.max_streams_leave(Dir::Bi);
+    note(thin, &max_streams(Dir::Uni))?;
+    set.max_streams_leave(Dir::Uni);
+    note(thin, &Frame::DataBlocked { offset: 9 })?;
+    set.data_blocked_leaves();
     Ok(())
 }
 
@@ -469,7 +553,7 @@ fn comes_back(rt: &impl Abort, alloc: Global, count: u32) -> Result<(), Fail> {
     }
     send_flags(&mut set, &mut thin)?;
     assert_eq!(rt; counts(&set), [0; 14], "of {count}");
-    set.merge_thin(thin).map_err(|_| OutOfMemory)?;
+    merge_thin(&mut set, thin)?;
     let all = count as usize;
     let counted = [all, all, all, all, 1, 1, 1, 1, 0, 0, 0, 0, 0, 0];
     assert_eq!(rt; counts(&set), counted, "of {count}");
@@ -490,8 +574,8 @@ fn what_was_sent_and_lost_is_pending_again(rt: HostRuntime) -> Result<(), Fail> 
 }
 
 fn notes_again(thin: &mut ThinRetransmits, frame: &Frame) -> Result<(), OutOfMemory> {
-    if thin.note(frame).is_err() {
-        thin.note(frame)?;
+    if note(thin, frame).is_err() {
+        note(thin, frame)?;
     }
     Ok(())
 }
