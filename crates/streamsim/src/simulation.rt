@@ -140,7 +140,8 @@ impl Simulation {
             if self.row.given / tenth > before / tenth {
                 eprintln!(rt; "given {} of {bytes} bytes by step {step}", self.row.given)?;
             }
-            if self.is_read && self.row.acknowledged == bytes || self.flights.is_empty() {
+            let is_idle = self.flights.is_empty() && self.row.given == before;
+            if is_idle || self.is_read && self.row.acknowledged == bytes {
                 break;
             }
             self.samples.offer(self.row)?;

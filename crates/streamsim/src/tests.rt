@@ -93,6 +93,7 @@ fn all_is_given_whatever_is_lost_and_late(rt: HostRuntime) -> Result<(), Fail> {
         "loss 1 in 3\n",
         "reorder 1 in 2\n",
         "loss 1 in 2\nreorder 1 in 3\n",
+        "payload 60\nloss 1 in 3\n",
     ] {
         for seed in 1..4 {
             let input = format!(in alloc; "{SETTINGS}{network}seed {seed}\nbytes 30000\n")?;
