@@ -42,7 +42,7 @@ fn a_line_of_another_form_is_malformed(rt: HostRuntime) -> Result<(), Fail> {
         " picture",
         "",
     ] {
-        let input = format!(in rt.alloc(); "seed 1\n{line}\nseed 2\n")?;
+        let input = format!(in rt.alloc(); "picture\n{line}\nseed 2\n")?;
         output_of(&rt, rt.alloc(), input.as_str(), "malformed 2", 2)?;
     }
     Ok(())
@@ -54,7 +54,7 @@ fn a_line_that_is_no_text_is_malformed(rt: HostRuntime) -> Result<(), Fail> {
     let status = serve(
         &rt,
         rt.alloc(),
-        b"seed 1\nseed \xff2\n".as_slice(),
+        b"picture\nseed \xff2\n".as_slice(),
         &mut output,
     )?;
     assert_eq!(rt; status, 2);
