@@ -2,39 +2,31 @@
 
 ghost use Rattle.quic_wire.specs.Frames.{IsFrameWithin};
 
+use anyhow::{Result, ensure};
 use quic_receiving::ShouldTransmit;
 use quic_streams::state::StreamsState;
 use quic_streams::stats::FrameStats;
 use quic_streams::{PeerLimits, Retransmits, StreamMetaVec, ThinRetransmits};
-use quic_values::{Dir, OutOfMemory, Side, StreamId, VarInt};
-use quic_wire::frame::StopSending;
-use quic_wire::{Frame, ReceiveError, TransportError, decode};
+use quic_values::{Dir, OutOfMemory, Side, VarInt};
+use quic_wire::{Frame, TransportError, decode};
 use std::alloc::Global;
 use std::collections::BTreeMap;
-use std::io::Write;
 
-const PAYLOAD_SIZE: usize = 40;
-
-/// What a payload carried.
-#[derive(Drop)]
-pub struct SentPayload {
-    control: ThinRetransmits,
-    streams: StreamMetaVec,
-}
-
-/// One end: its streams, what it has to send beside their data, and the payloads whose fate it does not know.
+/// One end: its streams, what is pending beside their data, what was sent and not heard of, and its application's text.
 #[derive(Drop)]
 pub struct Connection {
     pub side: Side,
     pub streams: StreamsState,
     pub pending: Retransmits,
-    pub sent: BTreeMap<u64, SentPayload>,
+    pub sent: BTreeMap<u64, (ThinRetransmits, StreamMetaVec)>,
+    pub left: &'static [u8],
+    pub read: Vec<u8>,
     pub alloc: Global,
 }
 
 impl Connection {
     /// An end that permits what its peer permits. From a handshake the peer's limits come as transport parameters.
-    pub fn new(alloc: Global, side: Side) -> Result<Self, OutOfMemory> {
+    pub fn new(alloc: Global, side: Side, text: &'static str) -> Result<Self> {
         let (count, window, each) = (VarInt::from(4u32), VarInt::from(48u32), VarInt::from(32u32));
         let mut streams = StreamsState::new(alloc, side, count, count, 64, window, each)?;
         streams.set_params(&PeerLimits {
@@ -50,12 +42,14 @@ impl Connection {
             streams,
             pending: Retransmits::new(alloc),
             sent: BTreeMap::new(alloc),
+            left: text.as_bytes(),
+            read: Vec::new(alloc),
             alloc,
         })
     }
 
-    /// A payload came: each of its frames is handed on.
-    pub fn receive(&mut self, payload: &[u8]) -> anyhow::Result<()> {
+    /// A payload came: each of its frames is handed on. An error closes the connection.
+    pub fn receive(&mut self, payload: &[u8]) -> Result<()> {
         let frames = decode(self.alloc, payload)?;
         for frame in frames {
             let answer = self.take_frame(frame, payload.len())?;
@@ -65,81 +59,36 @@ impl Connection {
         Ok(())
     }
 
-    // Hands a frame on. An error closes the connection.
-    fn take_frame(&mut self, frame: Frame, size: usize) -> Result<ShouldTransmit, ReceiveError>
+    fn take_frame(&mut self, frame: Frame, size: usize) -> Result<ShouldTransmit>
         requires { IsFrameWithin size frame }
     {
         match frame {
-            Frame::Stream(frame) => self.streams.received(frame, size),
-            Frame::ResetStream(frame) => self.streams.received_reset(frame),
-            Frame::StopSending(frame) => self.take_stop(&frame),
-            Frame::MaxData(limit) => {
-                self.streams.received_max_data(limit);
-                Ok(ShouldTransmit(false))
-            }
-            Frame::MaxStreamData { id, offset } => {
-                self.streams.received_max_stream_data(id, offset)?;
-                Ok(ShouldTransmit(false))
-            }
-            Frame::MaxStreams { dir, count } => {
-                self.streams.received_max_streams(dir, count)?;
-                Ok(ShouldTransmit(false))
-            }
-            Frame::StreamDataBlocked { id, .. } => self.check_receiving(id),
-            _ => Ok(ShouldTransmit(false)),
+            Frame::Stream(frame) => Ok(self.streams.received(frame, size)?),
+            Frame::ResetStream(frame) => Ok(self.streams.received_reset(frame)?),
+            frame => take_notice(&mut self.streams, self.side, &frame),
         }
     }
 
-    // STOP_SENDING is for a stream on which this end sends (RFC 9000 section 19.5).
-    fn take_stop(&mut self, stop: &StopSending) -> Result<ShouldTransmit, ReceiveError> {
-        let wrong = if stop.id.initiator() == self.side {
-            self.streams.is_local_unopened(stop.id)
-        } else {
-            stop.id.dir() == Dir::Uni
-        };
-        if wrong {
-            return Err(TransportError::stream_state_error("nothing to stop").into());
-        }
-        self.streams
-            .received_stop_sending(stop.id, stop.error_code)?;
-        Ok(ShouldTransmit(false))
-    }
-
-    // STREAM_DATA_BLOCKED is for a stream on which the peer sends (section 19.13).
-    fn check_receiving(&self, id: StreamId) -> Result<ShouldTransmit, ReceiveError> {
-        if id.initiator() == self.side && id.dir() == Dir::Uni {
-            return Err(TransportError::stream_state_error("nothing is received").into());
-        }
-        Ok(ShouldTransmit(false))
-    }
-
-    /// Writes what is to be sent into a payload, and remembers what it carries. `None`: there is nothing to send.
-    pub fn send(&mut self, number: u64) -> Result<Option<Vec<u8>>, OutOfMemory> {
-        let mut payload = Vec::new(self.alloc);
+    /// Writes what is to be sent into a payload of at most 40 bytes, and remembers what it carries.
+    pub fn send(&mut self, number: u64) -> Result<Vec<u8>> {
+        let (mut payload, mut counts) = (Vec::new(self.alloc), FrameStats::new());
         let mut control = ThinRetransmits::new(self.alloc);
-        let mut streams = StreamMetaVec::new(self.alloc);
-        self.streams.write_control_frames(
-            &mut payload,
-            &mut self.pending,
-            &mut control,
-            &mut FrameStats::new(),
-            PAYLOAD_SIZE,
-        )?;
-        self.streams
-            .write_stream_frames(&mut payload, &mut streams, PAYLOAD_SIZE, true)?;
-        if payload.is_empty() {
-            return Ok(None);
+        let mut frames = StreamMetaVec::new(self.alloc);
+        let (state, pending, size) = (&mut self.streams, &mut self.pending, 40);
+        state.write_control_frames(&mut payload, pending, &mut control, &mut counts, size)?;
+        state.write_stream_frames(&mut payload, &mut frames, size, true)?;
+        if !payload.is_empty() {
+            self.sent.insert(number, (control, frames))?;
         }
-        self.sent.insert(number, SentPayload { control, streams })?;
-        Ok(Some(payload))
+        Ok(payload)
     }
 
     /// A payload was acknowledged: what it carried need not be kept.
-    pub fn acknowledged(&mut self, payload: SentPayload) -> Result<(), OutOfMemory> {
-        for frame in payload.streams {
+    pub fn acknowledged(&mut self, control: ThinRetransmits, frames: StreamMetaVec) -> Result<()> {
+        for frame in frames {
             self.streams.received_ack_of(frame)?;
         }
-        if let Some(control) = payload.control.get() {
+        if let Some(control) = control.get() {
             for (id, _) in &control.reset_stream {
                 self.streams.reset_acked(*id)?;
             }
@@ -149,26 +98,32 @@ impl Connection {
     }
 
     /// A payload was lost: what it carried is to be sent again.
-    pub fn lost(&mut self, payload: SentPayload) -> Result<(), OutOfMemory> {
-        for frame in payload.streams {
+    pub fn lost(&mut self, control: ThinRetransmits, frames: StreamMetaVec) -> Result<()> {
+        for frame in frames {
             self.streams.retransmit(frame)?;
         }
-        self.pending
-            .merge_thin(payload.control)
-            .or(Err(OutOfMemory))
+        Ok(self.pending.merge_thin(control).or(Err(OutOfMemory))?)
     }
+}
 
-    /// Writes the frames of a payload down.
-    pub fn write_frames<W: Write>(&self, payload: &[u8], output: &mut W) -> anyhow::Result<()> {
-        for frame in &decode(self.alloc, payload)? {
-            match frame {
-                Frame::Stream(stream) => {
-                    let (start, len, fin) = (stream.offset, stream.bytes.len(), stream.fin);
-                    write!(output, " Stream({len} bytes at {start}, fin: {fin}),")?;
-                }
-                _ => write!(output, " {frame:?},")?,
-            }
+// Hands on a frame that calls for no answer. STOP_SENDING is for a stream on which this end sends, STREAM_DATA_BLOCKED for
+// one on which its peer does (RFC 9000 sections 19.5 and 19.13).
+fn take_notice(streams: &mut StreamsState, side: Side, frame: &Frame) -> Result<ShouldTransmit> {
+    let wrong = TransportError::stream_state_error("no such frame for this stream");
+    match frame {
+        Frame::StopSending(stop) => {
+            let is_own = stop.id.initiator() == side;
+            ensure!(is_own || stop.id.dir() == Dir::Bi, wrong);
+            ensure!(!is_own || !streams.is_local_unopened(stop.id), wrong);
+            streams.received_stop_sending(stop.id, stop.error_code)?;
         }
-        Ok(())
+        Frame::MaxData(limit) => streams.received_max_data(*limit),
+        Frame::MaxStreamData { id, offset } => streams.received_max_stream_data(*id, *offset)?,
+        Frame::MaxStreams { dir, count } => streams.received_max_streams(*dir, *count)?,
+        Frame::StreamDataBlocked { id, .. } => {
+            ensure!(id.initiator() != side || id.dir() == Dir::Bi, wrong);
+        }
+        _ => {}
     }
+    Ok(ShouldTransmit(false))
 }

@@ -1,91 +1,89 @@
-//! Two ends of a connection, each driven as a connection layer drives its one end. Standard input says which
-//! payloads the network loses, standard output what each end does.
+//! Two ends of a connection. Standard input says which payloads the network loses, standard output what each end does.
 #![tactic(auto)]
 
-mod application;
 mod connection;
 #[cfg(test)]
 mod tests;
 
-use crate::application::Application;
 use crate::connection::Connection;
-use anyhow::{Result, ensure};
-use quic_values::Side;
+use anyhow::{Context, Result, ensure};
+use quic_receiving::ReadableError;
+use quic_sending::WriteError;
+use quic_streams::recv_stream::RecvStream;
+use quic_streams::send_stream::SendStream;
+use quic_streams::streams::{ConnState, Streams};
+use quic_values::{Dir, Side, StreamId};
+use quic_wire::{Frame, StreamEvent, decode};
 use std::alloc::Global;
-use std::collections::BTreeSet;
-use std::io;
-use std::io::{Read, Write};
+use std::collections::{BTreeMap, BTreeSet};
+use std::io::{self, Read, Write};
+use std::mem;
 use std::process::ExitCode;
 
-const TEXT: &[u8] =
-    b"Those bytes come again that stood in a payload which was lost, and no others.";
-
-// The number in a line `lose N`.
-fn lost_number(line: &str) -> Option<u64> {
-    line.strip_prefix("lose ")?.parse::<u64>().ok()
-}
+const TEXT: &str = "Those bytes come again that stood in a payload which was lost, and no others.";
 
 /// Sends a text with the losses that the input names, and gives the status: 0 where it came whole, 2 at a line that
 /// names no payload, 3 where a payload that it names was never sent.
 pub fn serve<R: Read + Drop, W: Write>(alloc: Global, input: R, output: &mut W) -> Result<u8> {
     let text = io::read_to_string(alloc, input)?;
     let mut losses = BTreeSet::new(alloc);
-    for (index, line) in text.as_str().lines().enumerate() {
-        let Some(lost) = lost_number(line) else {
-            writeln!(output, "malformed {}", index.saturating_add(1))?;
+    for (number, line) in (1..u64::MAX).zip(text.as_str().lines()) {
+        let Ok(lost) = line.strip_prefix("lose ").unwrap_or("").parse::<u64>() else {
+            writeln!(output, "malformed {number}")?;
             return Ok(2);
         };
         losses.insert(lost)?;
     }
-    let sent = exchange(alloc, &losses, output)?;
-    match losses.last() {
-        Some(last) if *last >= sent => {
-            writeln!(output, "unsent {last}")?;
-            Ok(3)
-        }
-        _ => Ok(0),
-    }
-}
-
-// Lets two ends act in turn until neither sends. Answers how many payloads they sent: these have the numbers from 0
-// on, over both ends.
-fn exchange<W: Write>(alloc: Global, losses: &BTreeSet<u64>, output: &mut W) -> Result<u64> {
-    let mut client = Application::new(alloc, Side::Client, TEXT)?;
-    let mut server = Application::new(alloc, Side::Server, b"")?;
-    client.begin(output)?;
+    let mut client = Connection::new(alloc, Side::Client, TEXT)?;
+    let mut server = Connection::new(alloc, Side::Server, "")?;
+    let opened = Streams::new(&mut client.streams, ConnState::Open).open(Dir::Uni)?;
+    client.write(opened.context("no stream is permitted")?, output)?;
     let mut sent = 0;
     for _ in 0..u64::MAX {
         let before = sent;
-        sent = turn(losses, &mut client, &mut server.end, sent, output)?;
-        sent = turn(losses, &mut server, &mut client.end, sent, output)?;
+        sent = turn(&losses, &mut client, &mut server, sent, output)?;
+        sent = turn(&losses, &mut server, &mut client, sent, output)?;
         if sent == before {
             break;
         }
     }
-    ensure!(
-        server.read.as_slice() == TEXT,
-        "the text did not come whole"
-    );
+    let is_whole = server.read.as_slice() == TEXT.as_bytes();
+    ensure!(is_whole, "the text did not come whole");
     writeln!(output, "the text came whole")?;
-    Ok(sent)
+    if let Some(unsent) = losses.range(sent..).last() {
+        writeln!(output, "unsent {unsent}")?;
+        return Ok(3);
+    }
+    Ok(0)
 }
 
 // One end's turn: it hears what became of the payloads of its last turn, acts, and sends.
 fn turn<W: Write>(
     losses: &BTreeSet<u64>,
-    from: &mut Application,
+    from: &mut Connection,
     to: &mut Connection,
     sent: u64,
     output: &mut W,
 ) -> Result<u64> {
-    hear(losses, &mut from.end, output)?;
+    for (number, (control, frames)) in mem::replace(&mut from.sent, BTreeMap::new(from.alloc)) {
+        if losses.contains(&number) {
+            writeln!(output, "{} hears that {number} was lost", from.side)?;
+            from.lost(control, frames)?;
+        } else {
+            writeln!(output, "{} hears that {number} arrived", from.side)?;
+            from.acknowledged(control, frames)?;
+        }
+    }
     from.act(output)?;
     for number in sent..u64::MAX {
-        let Some(payload) = from.end.send(number)? else {
+        let payload = from.send(number)?;
+        if payload.is_empty() {
             return Ok(number);
-        };
-        write!(output, "{} sends {number}:", from.end.side)?;
-        from.end.write_frames(payload.as_slice(), output)?;
+        }
+        write!(output, "{} sends {number}:", from.side)?;
+        for frame in &decode(from.alloc, payload.as_slice())? {
+            write_frame(frame, output)?;
+        }
         if losses.contains(&number) {
             writeln!(output, " lost")?;
         } else {
@@ -96,25 +94,78 @@ fn turn<W: Write>(
     Ok(u64::MAX)
 }
 
-// Reports to an end what became of the payloads that it sent.
-fn hear<W: Write>(losses: &BTreeSet<u64>, end: &mut Connection, output: &mut W) -> Result<()> {
-    for _ in 0..u64::MAX {
-        let Some((number, payload)) = end.sent.pop_first() else {
-            break;
-        };
-        let lost = losses.contains(&number);
-        let fate = if lost { "was lost" } else { "arrived" };
-        writeln!(output, "{} hears that {number} {fate}", end.side)?;
-        if lost {
-            end.lost(payload)?;
-        } else {
-            end.acknowledged(payload)?;
+fn write_frame<W: Write>(frame: &Frame, output: &mut W) -> io::Result<()> {
+    let Frame::Stream(stream) = frame else {
+        return write!(output, " {frame:?},");
+    };
+    let (start, len, fin) = (stream.offset, stream.bytes.len(), stream.fin);
+    write!(output, " Stream({len} bytes at {start}, fin: {fin}),")
+}
+
+// What the application of an end does: one writes a text, the other reads it.
+impl Connection {
+    // Does what each event asks for, until there is none.
+    fn act<W: Write>(&mut self, output: &mut W) -> Result<()> {
+        for _ in 0..u64::MAX {
+            let Some(event) = self.streams.poll() else {
+                break;
+            };
+            writeln!(output, "{} is told {event:?}", self.side)?;
+            match event {
+                StreamEvent::Opened { dir } => self.accept(dir, output)?,
+                StreamEvent::Readable { id } => self.read(id, output)?,
+                StreamEvent::Writable { id } => self.write(id, output)?,
+                _ => {}
+            }
         }
+        Ok(())
     }
-    Ok(())
+
+    // Accepts each stream that was opened. Data may have come with it.
+    fn accept<W: Write>(&mut self, dir: Dir, output: &mut W) -> Result<()> {
+        for _ in 0..self.streams.next_remote(dir) {
+            if let Some(id) = Streams::new(&mut self.streams, ConnState::Open).accept(dir) {
+                self.read(id, output)?;
+            }
+        }
+        Ok(())
+    }
+
+    // Reads what came. The stream is closed where an earlier event led to all that this one tells of.
+    fn read<W: Write>(&mut self, id: StreamId, output: &mut W) -> Result<()> {
+        let mut stream = RecvStream::new(id, &mut self.streams, &mut self.pending);
+        let some = match stream.read_some(true, usize::MAX, 100) {
+            Ok(some) => some,
+            Err(ReadableError::ClosedStream) => return Ok(()),
+            Err(error) => return Err(error.into()),
+        };
+        for chunk in &some.chunks {
+            self.read.extend_from_slice(chunk.bytes.as_slice())?;
+        }
+        let (count, last) = (self.read.len(), some.last);
+        Ok(writeln!(output, "{} has read {count}, {last:?}", self.side)?)
+    }
+
+    // Writes until the stream is blocked, and then an event tells when there is room; or ends it.
+    fn write<W: Write>(&mut self, id: StreamId, output: &mut W) -> Result<()> {
+        for _ in 0..u64::MAX {
+            let (streams, pending) = (&mut self.streams, &mut self.pending);
+            let mut stream = SendStream::new(id, streams, pending, ConnState::Open);
+            match stream.write(self.left) {
+                Ok(count) => self.left = self.left.get(count..).unwrap_or(&[]),
+                Err(WriteError::Blocked) => break,
+                Err(error) => return Err(error.into()),
+            }
+            if self.left.is_empty() {
+                stream.finish()?;
+                break;
+            }
+        }
+        let (side, count) = (self.side, self.left.len());
+        Ok(writeln!(output, "{side} has {count} left to write")?)
+    }
 }
 
 fn main(rt: HostRuntime) -> Result<ExitCode> {
-    let mut output = io::writer(&rt);
-    Ok(ExitCode::from(serve(rt.alloc(), rt.reader(), &mut output)?))
+    Ok(ExitCode::from(serve(rt.alloc(), rt.reader(), &mut io::writer(&rt))?))
 }

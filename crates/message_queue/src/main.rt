@@ -8,24 +8,19 @@ mod queue;
 mod tests;
 
 use crate::queue::Queue;
-use anyhow::Result;
+use anyhow::{Error, Result};
 use std::alloc::Global;
 use std::io::{self, Read, Write};
 use std::process::ExitCode;
 
-// What a line asks for: a stream of this priority, a message on a stream, the loss of a payload.
-enum Line<'a> {
-    Stream(i32),
-    Message(usize, &'a str),
-    Lose(u64),
-}
-
-fn parse_line(line: &str) -> Option<Line<'_>> {
+// Does what a line asks for. `None`: it has another form. `false`: there is no such stream, there may be no more, or the
+// payload is lost already.
+fn take_line(queue: &mut Queue, number: usize, line: &str) -> Option<Result<bool>> {
     let (verb, rest) = line.split_once(' ')?;
     match (verb, rest.split_once(' ')) {
-        ("stream", None) => Some(Line::Stream(rest.parse().ok()?)),
-        ("message", Some((stream, text))) => Some(Line::Message(stream.parse().ok()?, text)),
-        ("lose", None) => Some(Line::Lose(rest.parse().ok()?)),
+        ("stream", None) => Some(queue.open(rest.parse().ok()?)),
+        ("message", Some((stream, text))) => Some(queue.push(stream.parse().ok()?, number, text)),
+        ("lose", None) => Some(queue.losses.insert(rest.parse().ok()?).map_err(Error::from)),
         _ => None,
     }
 }
@@ -36,12 +31,7 @@ pub fn serve<R: Read + Drop, W: Write>(alloc: Global, input: R, output: &mut W) 
     let text = io::read_to_string(alloc, input)?;
     let mut queue = Queue::new(alloc)?;
     for (number, line) in (1..usize::MAX).zip(text.as_str().lines()) {
-        let taken = match parse_line(line) {
-            Some(Line::Stream(priority)) => queue.open(priority)?,
-            Some(Line::Message(stream, text)) => queue.push(stream, number, text)?,
-            Some(Line::Lose(payload)) => queue.losses.insert(payload)?,
-            None => false,
-        };
+        let taken = take_line(&mut queue, number, line).unwrap_or(Ok(false))?;
         if !taken {
             writeln!(output, "malformed {number}")?;
             return Ok(2);

@@ -105,25 +105,17 @@ impl Queue {
     // An end accepts and reads each stream that was opened, and does what each event asks for.
     fn act<W: Write>(&mut self, who: End, output: &mut W) -> Result<()> {
         for _ in 0..u64::MAX {
-            let mut reply = step(&mut self.pair, Step::Accept { who, dir: Dir::Uni })?;
-            if reply == Reply::Nothing {
-                reply = step(&mut self.pair, Step::Poll { who })?;
-            }
-            if !self.meet(reply, output)? {
-                break;
+            let reply = match step(&mut self.pair, Step::Accept { who, dir: Dir::Uni })? {
+                Reply::Nothing => step(&mut self.pair, Step::Poll { who })?,
+                reply => reply,
+            };
+            match reply {
+                Reply::Id(id) => self.read(id, output)?,
+                Reply::Event(event) => self.hear(event, output)?,
+                _ => break,
             }
         }
         Ok(())
-    }
-
-    // Does what an answer asks for. `false`: there is nothing more to be told.
-    fn meet<W: Write>(&mut self, reply: Reply, output: &mut W) -> Result<bool> {
-        match reply {
-            Reply::Id(id) => self.read(id, output)?,
-            Reply::Event(event) => self.hear(event, output)?,
-            _ => return Ok(false),
-        }
-        Ok(true)
     }
 
     fn hear<W: Write>(&mut self, event: StreamEvent, output: &mut W) -> Result<()> {
@@ -194,21 +186,20 @@ impl Queue {
             let Reply::Payload { number, bytes } = step(&mut self.pair, emit)? else {
                 break;
             };
-            let frames = decode(self.alloc, bytes.as_slice())?;
-            if frames.is_empty() {
+            if bytes.is_empty() {
                 break;
             }
             write!(output, "{who:?} sends {sent}:")?;
-            self.carry(number, &frames, output)?;
+            self.carry(number, bytes.as_slice(), output)?;
             self.sent = sent + 1;
         }
         Ok(())
     }
 
     // A payload arrives or is lost. Its writer is told of each STREAM frame, and of those beside them together.
-    fn carry<W: Write>(&mut self, payload: usize, frames: &[Frame], output: &mut W) -> Result<()> {
+    fn carry<W: Write>(&mut self, payload: usize, bytes: &[u8], output: &mut W) -> Result<()> {
         let lost = self.losses.contains(&self.sent);
-        for (index, frame) in frames.iter().enumerate() {
+        for (index, frame) in decode(self.alloc, bytes)?.iter().enumerate() {
             if !lost {
                 let frame = index;
                 step(&mut self.pair, Step::Deliver { payload, frame })?;

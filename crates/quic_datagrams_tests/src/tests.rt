@@ -34,23 +34,38 @@ fn datagram(alloc: Global, len: usize, value: u8) -> Result<Datagram, OutOfMemor
     })
 }
 
-// Queues a datagram, and says why not. Where memory ran out, it is asked once more.
-fn send(
+// The calls, with nothing of what they promise: a test looks at what they answer and leave.
+fn empty(alloc: Global) -> DatagramState {
+    DatagramState::new(alloc)
+}
+
+fn try_send(
     state: &mut DatagramState,
     limits: DatagramLimits,
     bytes: Bytes,
     drop: bool,
-) -> Option<SendDatagramError> {
-    match Datagrams::new(state, limits).send(bytes, drop) {
-        Err(SendDatagramError::OutOfMemory(back)) => {
-            Datagrams::new(state, limits).send(back, drop).err()
-        }
-        outcome => outcome.err(),
-    }
+) -> Result<(), SendDatagramError> {
+    Datagrams::new(state, limits).send(bytes, drop)
 }
 
 fn space(state: &mut DatagramState, limits: DatagramLimits) -> usize {
     Datagrams::new(state, limits).send_buffer_space()
+}
+
+fn max_size(state: &mut DatagramState, limits: DatagramLimits) -> Option<usize> {
+    Datagrams::new(state, limits).max_size()
+}
+
+fn read(state: &mut DatagramState, limits: DatagramLimits) -> Option<Bytes> {
+    Datagrams::new(state, limits).recv()
+}
+
+fn drop_oversized(state: &mut DatagramState, limits: DatagramLimits) -> bool {
+    Datagrams::new(state, limits).drop_oversized()
+}
+
+fn drop_longer(state: &mut DatagramState, max_size: usize) -> bool {
+    state.drop_oversized(max_size)
 }
 
 fn receive(
@@ -73,8 +88,25 @@ fn write(
     state.write(buf, max_size)
 }
 
-fn drop_oversized(state: &mut DatagramState, limits: DatagramLimits) -> bool {
-    Datagrams::new(state, limits).drop_oversized()
+fn no_frames() -> FrameStats {
+    FrameStats::new()
+}
+
+fn record(stats: &mut FrameStats, frame: &Frame) {
+    stats.record(frame);
+}
+
+// Queues a datagram, and says why not. Where memory ran out, it is asked once more.
+fn send(
+    state: &mut DatagramState,
+    limits: DatagramLimits,
+    bytes: Bytes,
+    drop: bool,
+) -> Option<SendDatagramError> {
+    match try_send(state, limits, bytes, drop) {
+        Err(SendDatagramError::OutOfMemory(back)) => try_send(state, limits, back, drop).err(),
+        outcome => outcome.err(),
+    }
 }
 
 // The first byte and the length of each received datagram, the oldest first.
@@ -190,7 +222,7 @@ fn drops_oversized(
 #[test]
 fn oldest_received_go_first(rt: HostRuntime) -> Result<(), Fail> {
     let alloc = rt.alloc();
-    let mut state = DatagramState::new(alloc);
+    let mut state = empty(alloc);
     let window = Some(64);
     is_violation(&rt, &mut state, datagram(alloc, 33, 1)?, window);
     is_received(&rt, &mut state, datagram(alloc, 10, 2)?, window, true);
@@ -203,7 +235,7 @@ fn oldest_received_go_first(rt: HostRuntime) -> Result<(), Fail> {
 // An empty datagram counts 32.
 #[test]
 fn received_at_the_edge_of_the_window(rt: HostRuntime) -> Result<(), Fail> {
-    let mut state = DatagramState::new(rt.alloc());
+    let mut state = empty(rt.alloc());
     for window in [Some(31), None] {
         is_violation(&rt, &mut state, datagram(rt.alloc(), 0, 0)?, window);
     }
@@ -213,7 +245,7 @@ fn received_at_the_edge_of_the_window(rt: HostRuntime) -> Result<(), Fail> {
         is_received(&rt, &mut state, empty, Some(32), was_empty);
     }
     holds(&rt, &state, 32, 0);
-    let oldest = Datagrams::new(&mut state, LIMITS).recv();
+    let oldest = read(&mut state, LIMITS);
     assert_eq!(rt; oldest.map(|bytes| bytes.len()), Some(0));
     assert_eq!(rt; recv(&mut state), None);
     Ok(())
@@ -222,8 +254,8 @@ fn received_at_the_edge_of_the_window(rt: HostRuntime) -> Result<(), Fail> {
 #[test]
 fn send_under_limits(rt: HostRuntime) -> Result<(), Fail> {
     let alloc = rt.alloc();
-    let mut state = DatagramState::new(alloc);
-    assert_eq!(rt; Datagrams::new(&mut state, LIMITS).max_size(), Some(40));
+    let mut state = empty(alloc);
+    assert_eq!(rt; max_size(&mut state, LIMITS), Some(40));
     has_space(&rt, &mut state, LIMITS, 32);
     let long = bytes(alloc, 33, 1)?;
     let too_large = SendDatagramError::TooLarge;
@@ -240,7 +272,7 @@ fn send_under_limits(rt: HostRuntime) -> Result<(), Fail> {
 // What keeps every datagram out, of no bytes too.
 #[test]
 fn limits_that_refuse_all(rt: HostRuntime) -> Result<(), Fail> {
-    let mut state = DatagramState::new(rt.alloc());
+    let mut state = empty(rt.alloc());
     let off = DatagramLimits {
         receive: None,
         max: None,
@@ -264,7 +296,7 @@ fn limits_that_refuse_all(rt: HostRuntime) -> Result<(), Fail> {
 
 #[test]
 fn send_at_the_edge_of_the_buffer(rt: HostRuntime) -> Result<(), Fail> {
-    let mut state = DatagramState::new(rt.alloc());
+    let mut state = empty(rt.alloc());
     let enough = DatagramLimits { send: 32, ..LIMITS };
     is_queued(&rt, &mut state, enough, Bytes::new(rt.alloc()), false);
     has_space(&rt, &mut state, enough, 0);
@@ -276,7 +308,7 @@ fn send_at_the_edge_of_the_buffer(rt: HostRuntime) -> Result<(), Fail> {
 #[test]
 fn make_space_for_accounts_for_new_datagram(rt: HostRuntime) -> Result<(), Fail> {
     let alloc = rt.alloc();
-    let mut state = DatagramState::new(alloc);
+    let mut state = empty(alloc);
     let limits = DatagramLimits { send: 74, ..LIMITS };
     is_queued(&rt, &mut state, limits, bytes(alloc, 7, 1)?, false);
     is_queued(&rt, &mut state, limits, bytes(alloc, 2, 2)?, false);
@@ -292,7 +324,7 @@ fn make_space_for_accounts_for_new_datagram(rt: HostRuntime) -> Result<(), Fail>
 
 #[test]
 fn make_space_for_accounts_for_empty_datagram_metadata(rt: HostRuntime) -> Result<(), Fail> {
-    let mut state = DatagramState::new(rt.alloc());
+    let mut state = empty(rt.alloc());
     is_queued(&rt, &mut state, LIMITS, Bytes::new(rt.alloc()), false);
     is_queued(&rt, &mut state, LIMITS, Bytes::new(rt.alloc()), false);
     is_blocked(&rt, &mut state, LIMITS, Bytes::new(rt.alloc()))?;
@@ -304,13 +336,13 @@ fn make_space_for_accounts_for_empty_datagram_metadata(rt: HostRuntime) -> Resul
 #[test]
 fn drop_oversized_keeps_datagrams_at_limit(rt: HostRuntime) -> Result<(), Fail> {
     let alloc = rt.alloc();
-    let mut state = DatagramState::new(alloc);
+    let mut state = empty(alloc);
     let wide = DatagramLimits { send: 85, ..LIMITS };
     is_queued(&rt, &mut state, wide, bytes(alloc, 10, 1)?, false);
     is_queued(&rt, &mut state, wide, bytes(alloc, 11, 2)?, false);
-    assert!(rt; state.drop_oversized(10));
+    assert!(rt; drop_longer(&mut state, 10));
     holds(&rt, &state, 0, 42);
-    assert!(rt; !state.drop_oversized(10));
+    assert!(rt; !drop_longer(&mut state, 10));
     Ok(())
 }
 
@@ -318,7 +350,7 @@ fn drop_oversized_keeps_datagrams_at_limit(rt: HostRuntime) -> Result<(), Fail> 
 #[test]
 fn drop_oversized_wakes_a_blocked_sender(rt: HostRuntime) -> Result<(), Fail> {
     let alloc = rt.alloc();
-    let mut state = DatagramState::new(alloc);
+    let mut state = empty(alloc);
     let narrow = DatagramLimits {
         max: Some(10),
         ..LIMITS
@@ -347,7 +379,7 @@ fn fits(rt: &impl Abort, state: &DatagramState, max_size: usize, wanted: bool) {
 #[test]
 fn write_needs_the_room(rt: HostRuntime) -> Result<(), Fail> {
     let alloc = rt.alloc();
-    let mut state = DatagramState::new(alloc);
+    let mut state = empty(alloc);
     fits(&rt, &state, 100, false);
     let hi = Bytes::copy_from_slice(alloc, b"hi")?;
     is_queued(&rt, &mut state, LIMITS, hi, false);
@@ -366,7 +398,7 @@ fn write_needs_the_room(rt: HostRuntime) -> Result<(), Fail> {
 #[test]
 fn refused_send_drops_nothing(rt: HostRuntime) -> Result<(), Fail> {
     let alloc = rt.alloc();
-    let mut state = DatagramState::new(alloc);
+    let mut state = empty(alloc);
     let limits = DatagramLimits {
         send: 4 * 33,
         ..LIMITS
@@ -375,7 +407,7 @@ fn refused_send_drops_nothing(rt: HostRuntime) -> Result<(), Fail> {
         is_queued(&rt, &mut state, limits, bytes(alloc, 1, value)?, false);
     }
     let fifth = bytes(alloc, 1, 5)?;
-    match Datagrams::new(&mut state, limits).send(fifth, true) {
+    match try_send(&mut state, limits, fifth, true) {
         Err(SendDatagramError::OutOfMemory(back)) => {
             assert_eq!(rt; back.as_slice(), [5].as_slice());
             holds(&rt, &state, 0, 4 * 33);
@@ -397,7 +429,7 @@ fn refused_send_drops_nothing(rt: HostRuntime) -> Result<(), Fail> {
 #[test]
 fn refused_received_drops_nothing(rt: HostRuntime) -> Result<(), Fail> {
     let alloc = rt.alloc();
-    let mut state = DatagramState::new(alloc);
+    let mut state = empty(alloc);
     let window = Some(4 * 33);
     for value in 1..5 {
         let first = state.incoming.is_empty();
@@ -416,7 +448,7 @@ fn refused_received_drops_nothing(rt: HostRuntime) -> Result<(), Fail> {
 #[test]
 fn refused_write_keeps_the_datagram(rt: HostRuntime) -> Result<(), Fail> {
     let alloc = rt.alloc();
-    let mut state = DatagramState::new(alloc);
+    let mut state = empty(alloc);
     is_queued(&rt, &mut state, LIMITS, bytes(alloc, 30, 1)?, false);
     let mut buf = Vec::with_capacity(alloc, 1)?;
     buf.push(0x30)?;
@@ -466,7 +498,7 @@ fn pass(
 #[test]
 fn no_size_up_to_65537_is_refused(rt: HostRuntime) -> Result<(), Fail> {
     let alloc = rt.alloc();
-    let mut state = DatagramState::new(alloc);
+    let mut state = empty(alloc);
     for power in 0..17u32 {
         let middle = 1usize << power;
         for len in [middle.saturating_sub(1), middle, middle.saturating_add(1)] {
@@ -484,7 +516,7 @@ fn no_size_up_to_65537_is_refused(rt: HostRuntime) -> Result<(), Fail> {
 #[test]
 fn no_number_up_to_65537_is_refused(rt: HostRuntime) -> Result<(), Fail> {
     let alloc = rt.alloc();
-    let mut state = DatagramState::new(alloc);
+    let mut state = empty(alloc);
     for number in 0..65_537u64 {
         let bytes = Bytes::copy_from_slice(alloc, &number.to_be_bytes())?;
         is_queued(&rt, &mut state, AMPLE, bytes.try_clone()?, false);
@@ -528,16 +560,16 @@ fn texts_of_errors(rt: HostRuntime) -> Result<(), Fail> {
 
 #[test]
 fn counters_stop(rt: HostRuntime) -> Result<(), Fail> {
-    let mut stats = FrameStats::new();
+    let mut stats = no_frames();
     for _ in 0..300 {
-        stats.record(&Frame::HandshakeDone);
+        record(&mut stats, &Frame::HandshakeDone);
     }
     assert_eq!(rt; stats.handshake_done, 255);
     stats.ping = u64::MAX;
-    stats.record(&Frame::Ping);
+    record(&mut stats, &Frame::Ping);
     assert_eq!(rt; stats.ping, u64::MAX);
-    stats.record(&Frame::Padding);
-    stats.record(&Frame::StreamsBlocked { dir: Dir::Uni });
+    record(&mut stats, &Frame::Padding);
+    record(&mut stats, &Frame::StreamsBlocked { dir: Dir::Uni });
     assert_eq!(rt;
         (stats.streams_blocked_bidi, stats.streams_blocked_uni),
         (0, 1)
@@ -648,12 +680,12 @@ fn other_frames(alloc: Global) -> Result<Vec<Frame>, OutOfMemory> {
 #[test]
 fn each_kind_is_counted_once(rt: HostRuntime) -> Result<(), Fail> {
     let alloc = rt.alloc();
-    let mut stats = FrameStats::new();
+    let mut stats = no_frames();
     for frame in frames_of_streams(alloc)?.iter() {
-        stats.record(frame);
+        record(&mut stats, frame);
     }
     for frame in other_frames(alloc)?.iter() {
-        stats.record(frame);
+        record(&mut stats, frame);
     }
     let text = format!(in alloc; "{stats:?}")?;
     assert_eq!(rt; text.as_str().matches(": 1").count(), 24);

@@ -7,12 +7,15 @@ mod sizes;
 mod transmitting;
 mod worked;
 
-use quic_outgoing::{OutgoingStreams, PeerLimits};
+use quic_outgoing::{OutgoingStreams, PeerLimits, WrittenFrame, Wrote};
 use quic_receiving::HandleError;
 use quic_retransmits::Retransmits;
-use quic_sending::{ByteSlice, BytesArray, FinishError, WriteError, Written};
-use quic_values::{Bytes, Dir, Side, StreamId, VarInt};
+use quic_sending::{
+    ByteSlice, BytesArray, BytesSource, ClosedStream, FinishError, WriteError, Written,
+};
+use quic_values::{Bytes, Dir, OutOfMemory, Side, StreamId, VarInt};
 use std::alloc::Global;
+use std::ops::Range;
 use std::process::Abort;
 
 fn id(number: u32) -> StreamId {
@@ -72,18 +75,141 @@ struct Subject {
     pub pending: Retransmits,
 }
 
+// The calls, with nothing of what they promise: a test looks at what they answer and leave.
+fn none(alloc: Global, side: Side) -> OutgoingStreams {
+    OutgoingStreams::new(alloc, side, 1 << 20)
+}
+
+fn set_params(state: &mut OutgoingStreams, limits: &PeerLimits) {
+    state.set_params(limits);
+}
+
+fn write<S: BytesSource>(
+    subject: &mut Subject,
+    stream: StreamId,
+    source: &mut S,
+) -> Result<Wrote, WriteError> {
+    subject.state.write(&mut subject.pending, stream, source)
+}
+
+fn try_finish(subject: &mut Subject, stream: StreamId) -> Result<Option<i32>, FinishError> {
+    subject.state.finish(stream)
+}
+
+fn try_reset(subject: &mut Subject, stream: StreamId, code: VarInt) -> Result<(), HandleError> {
+    subject.state.reset(&mut subject.pending, stream, code)
+}
+
+fn try_open(subject: &mut Subject, dir: Dir) -> Result<Option<StreamId>, OutOfMemory> {
+    subject.state.open(dir)
+}
+
+fn set_priority(subject: &mut Subject, stream: u32, priority: i32) -> Result<(), HandleError> {
+    subject.state.set_priority(id(stream), priority)
+}
+
+fn priority(subject: &Subject, stream: u32) -> Result<i32, ClosedStream> {
+    subject.state.priority(id(stream))
+}
+
+fn try_stop(subject: &mut Subject, stream: u32, code: VarInt) -> Result<bool, OutOfMemory> {
+    subject.state.stop(id(stream), code)
+}
+
+fn stop_reason(subject: &Subject, stream: u32) -> Result<Option<VarInt>, ClosedStream> {
+    subject.state.stopped(id(stream))
+}
+
+fn stream_blocked(subject: &Subject, stream: u32) -> Option<VarInt> {
+    subject.state.stream_data_blocked_limit(id(stream))
+}
+
+fn raise_streams(subject: &mut Subject, dir: Dir, count: u64) -> bool {
+    matches!(subject.state.raise_streams(dir, count), Ok(true))
+}
+
+fn raise_stream(subject: &mut Subject, stream: u32, offset: u64) -> Result<bool, OutOfMemory> {
+    subject.state.raise_stream(id(stream), offset)
+}
+
+fn holds(subject: &Subject, stream: u32) -> bool {
+    subject.state.contains(id(stream))
+}
+
+fn is_unopened(subject: &Subject, stream: u32) -> bool {
+    subject.state.is_local_unopened(id(stream))
+}
+
+fn limit(subject: &Subject) -> u64 {
+    subject.state.write_limit()
+}
+
+fn can_send_blocked(subject: &Subject) -> bool {
+    subject.state.can_send_data_blocked()
+}
+
+fn poll(subject: &mut Subject) -> Option<StreamId> {
+    subject.state.poll_writable()
+}
+
+fn raise_data(subject: &mut Subject, limit: VarInt) {
+    subject.state.raise_data(limit);
+}
+
+fn set_window(subject: &mut Subject, window: u64) {
+    subject.state.set_send_window(window);
+}
+
+fn remove(subject: &mut Subject, stream: u32) {
+    subject.state.remove(id(stream));
+}
+
+fn ack(
+    subject: &mut Subject,
+    stream: u32,
+    offsets: Range<u64>,
+    fin: bool,
+) -> Result<bool, OutOfMemory> {
+    subject.state.ack(id(stream), offsets, fin)
+}
+
+fn lose(
+    subject: &mut Subject,
+    stream: u32,
+    offsets: Range<u64>,
+    fin: bool,
+) -> Result<Option<i32>, OutOfMemory> {
+    subject.state.lose(id(stream), offsets, fin)
+}
+
+// The next frame of a stream that is held, behind nothing in a payload of at most so many bytes.
+fn next_frame(
+    subject: &mut Subject,
+    stream: u32,
+    max_size: usize,
+    buf: &mut Vec<u8>,
+) -> Option<WrittenFrame> {
+    let stream = id(stream);
+    if !buf.is_empty() || max_size <= 25 || !subject.state.contains(stream) {
+        return None;
+    }
+    subject.state.write_frame(stream, max_size, buf).ok()
+}
+
 // An end whose peer permits so many streams of each direction, bytes in all, and bytes on each stream.
 fn end(alloc: Global, side: Side, streams: u32, data: u32, stream_data: u32) -> Subject {
-    let mut state = OutgoingStreams::new(alloc, side, 1 << 20);
+    let mut state = none(alloc, side);
+    let streams = VarInt::from(streams);
     let stream_data = VarInt::from(stream_data);
-    state.set_params(&PeerLimits {
+    let limits = PeerLimits {
         initial_max_data: VarInt::from(data),
-        initial_max_streams_bidi: VarInt::from(streams),
-        initial_max_streams_uni: VarInt::from(streams),
+        initial_max_streams_bidi: streams,
+        initial_max_streams_uni: streams,
         initial_max_stream_data_uni: stream_data,
         initial_max_stream_data_bidi_local: stream_data,
         initial_max_stream_data_bidi_remote: stream_data,
-    });
+    };
+    set_params(&mut state, &limits);
     Subject {
         state,
         pending: Retransmits::new(alloc),
@@ -100,11 +226,7 @@ fn refused(error: WriteError) -> Answer {
 }
 
 fn write_bytes(alloc: Global, subject: &mut Subject, stream: StreamId, bytes: &[u8]) -> Answer {
-    let mut source = ByteSlice::from_slice(alloc, bytes);
-    let answer = subject
-        .state
-        .write(&mut subject.pending, stream, &mut source);
-    match answer {
+    match write(subject, stream, &mut ByteSlice::from_slice(alloc, bytes)) {
         Ok(wrote) => Answer::Took(wrote.written.bytes, wrote.queue_at.is_some()),
         Err(error) => refused(error),
     }
@@ -116,18 +238,14 @@ fn write_chunks(
     stream: StreamId,
     chunks: &mut [Bytes],
 ) -> Written {
-    let mut source = BytesArray::from_chunks(alloc, chunks);
-    match subject
-        .state
-        .write(&mut subject.pending, stream, &mut source)
-    {
+    match write(subject, stream, &mut BytesArray::from_chunks(alloc, chunks)) {
         Ok(wrote) => wrote.written,
         Err(_) => Written::default(),
     }
 }
 
 fn finish(subject: &mut Subject, stream: StreamId) -> Answer {
-    match subject.state.finish(stream) {
+    match try_finish(subject, stream) {
         Ok(queue_at) => Answer::Done(queue_at.is_some()),
         Err(error) => not_finished(error),
     }
@@ -142,10 +260,7 @@ fn not_finished(error: FinishError) -> Answer {
 }
 
 fn reset(subject: &mut Subject, stream: StreamId, code: u32) -> Answer {
-    let answer = subject
-        .state
-        .reset(&mut subject.pending, stream, VarInt::from(code));
-    match answer {
+    match try_reset(subject, stream, VarInt::from(code)) {
         Ok(()) => Answer::Done(false),
         Err(HandleError::ClosedStream) => Answer::Closed,
         Err(HandleError::OutOfMemory) => Answer::NoMemory,
@@ -159,16 +274,8 @@ fn written(alloc: Global, subject: &mut Subject, stream: u32, count: usize) -> A
     write_bytes(alloc, subject, id(stream), bytes)
 }
 
-fn set_priority(subject: &mut Subject, stream: u32, priority: i32) -> bool {
-    subject.state.set_priority(id(stream), priority).is_ok()
-}
-
-fn priority(subject: &Subject, stream: u32) -> Option<i32> {
-    subject.state.priority(id(stream)).ok()
-}
-
 fn stopped(subject: &Subject, stream: u32) -> Option<u64> {
-    match subject.state.stopped(id(stream)) {
+    match stop_reason(subject, stream) {
         Ok(Some(code)) => Some(code.into_inner()),
         Ok(None) => None,
         Err(_) => None,
@@ -176,40 +283,39 @@ fn stopped(subject: &Subject, stream: u32) -> Option<u64> {
 }
 
 fn blocked_limit(subject: &Subject, stream: u32) -> Option<u64> {
-    match subject.state.stream_data_blocked_limit(id(stream)) {
-        Some(limit) => Some(limit.into_inner()),
-        None => None,
-    }
+    stream_blocked(subject, stream).map(VarInt::into_inner)
 }
 
 fn stop(subject: &mut Subject, stream: u32, code: u32) -> bool {
-    matches!(subject.state.stop(id(stream), VarInt::from(code)), Ok(true))
-}
-
-fn raise_streams(subject: &mut Subject, dir: Dir, count: u64) -> bool {
-    matches!(subject.state.raise_streams(dir, count), Ok(true))
-}
-
-fn raise_stream(subject: &mut Subject, stream: u32, offset: u64) -> bool {
-    matches!(subject.state.raise_stream(id(stream), offset), Ok(true))
+    try_stop(subject, stream, VarInt::from(code)) == Ok(true)
 }
 
 fn open(subject: &mut Subject, dir: Dir) -> Option<StreamId> {
-    match subject.state.open(dir) {
-        Ok(opened) => opened,
-        Err(_) => None,
+    try_open(subject, dir).unwrap_or(None)
+}
+
+// Whether the next frame of a stream carries this, and the end.
+fn sends(
+    alloc: Global,
+    subject: &mut Subject,
+    stream: u32,
+    offsets: Range<u64>,
+    fin: bool,
+) -> bool {
+    match next_frame(subject, stream, 1200, &mut Vec::new(alloc)) {
+        Some(frame) => frame.meta.offsets == offsets && frame.meta.fin == fin,
+        None => false,
     }
 }
 
 // Takes a step, of which the state tells what it has to tell.
 fn ask(rt: &impl Abort, subject: &Subject, step: Step) {
-    let state = &subject.state;
     match step {
         Step::Stopped(stream, code) => assert_eq!(rt; stopped(subject, stream), code),
-        Step::Limit(limit) => assert_eq!(rt; state.write_limit(), limit),
+        Step::Limit(count) => assert_eq!(rt; limit(subject), count),
         Step::Blocked(can, queued) => {
             assert_eq!(rt;
-                (state.can_send_data_blocked(), subject.pending.data_blocked),
+                (can_send_blocked(subject), subject.pending.data_blocked),
                 (can, queued)
             );
         }
@@ -220,9 +326,9 @@ fn ask(rt: &impl Abort, subject: &Subject, step: Step) {
                 queued
             );
         }
-        Step::Priority(stream, number) => assert_eq!(rt; priority(subject, stream), number),
-        Step::Holds(stream, held) => assert_eq!(rt; state.contains(id(stream)), held),
-        Step::Unopened(stream, is) => assert_eq!(rt; state.is_local_unopened(id(stream)), is),
+        Step::Priority(stream, number) => assert_eq!(rt; priority(subject, stream).ok(), number),
+        Step::Holds(stream, held) => assert_eq!(rt; holds(subject, stream), held),
+        Step::Unopened(stream, is) => assert_eq!(rt; is_unopened(subject, stream), is),
         Step::Resets(count) => assert_eq!(rt; subject.pending.reset_stream.len(), count),
         _ => {}
     }
@@ -241,14 +347,16 @@ fn take(rt: &impl Abort, alloc: Global, subject: &mut Subject, step: Step) {
         }
         Step::Stop(stream, code, first) => assert_eq!(rt; stop(subject, stream, code), first),
         Step::Streams(dir, count, rose) => assert_eq!(rt; raise_streams(subject, dir, count), rose),
-        Step::Data(limit) => subject.state.raise_data(VarInt::from(limit)),
+        Step::Data(limit) => raise_data(subject, VarInt::from(limit)),
         Step::StreamData(stream, offset, tells) => {
-            assert_eq!(rt; raise_stream(subject, stream, offset), tells);
+            assert_eq!(rt; raise_stream(subject, stream, offset) == Ok(true), tells);
         }
-        Step::Poll(told) => assert_eq!(rt; subject.state.poll_writable(), told.map(id)),
-        Step::Window(window) => subject.state.set_send_window(window),
-        Step::SetPriority(stream, number) => assert!(rt; set_priority(subject, stream, number)),
-        Step::Remove(stream) => subject.state.remove(id(stream)),
+        Step::Poll(told) => assert_eq!(rt; poll(subject), told.map(id)),
+        Step::Window(window) => set_window(subject, window),
+        Step::SetPriority(stream, number) => assert!(rt;
+            set_priority(subject, stream, number).is_ok()
+        ),
+        Step::Remove(stream) => remove(subject, stream),
         other => ask(rt, subject, other),
     }
 }

@@ -3,7 +3,7 @@ mod reads;
 mod sizes;
 mod texts;
 
-use quic_receiving::{ClosedStream, ReadError, Recv, ShouldTransmit};
+use quic_receiving::{Chunk, ClosedStream, ReadError, Recv, ShouldTransmit};
 use quic_values::{Bytes, Dir, OutOfMemory, Side, StreamId, VarInt};
 use quic_wire::frame::Stream;
 use quic_wire::{ReceiveError, TransportError};
@@ -42,7 +42,7 @@ enum Why {
 }
 
 // A call on a half, and what it has to answer.
-#[derive(Clone, Copy, Debug)]
+#[derive(Clone, Copy)]
 enum Step {
     // What the connection received, and what it permits, from here on.
     Credit(u64, u64),
@@ -72,6 +72,67 @@ struct Subject {
     max_data: u64,
 }
 
+// The calls, with nothing of what they promise: a test looks at what they answer and leave.
+fn half(rt: &impl Abort, alloc: Global, limit: u64) -> Recv {
+    assert!(rt; limit < 1 << 62);
+    Recv::new(alloc, limit)
+}
+
+fn try_ingest(
+    rt: &impl Abort,
+    subject: &mut Subject,
+    frame: Stream,
+    payload_len: usize,
+) -> Result<(u64, bool), ReceiveError> {
+    assert!(rt; frame.bytes.len() <= payload_len);
+    assert!(rt; subject.half.reset_code().is_none());
+    let (received, max_data) = (subject.received, subject.max_data);
+    subject.half.ingest(frame, payload_len, received, max_data)
+}
+
+fn try_reset(subject: &mut Subject, code: VarInt, size: VarInt) -> Result<bool, TransportError> {
+    let (received, max_data) = (subject.received, subject.max_data);
+    subject.half.reset(code, size, received, max_data)
+}
+
+// Asks for a mode, which has to be given, and reads in it.
+fn next(
+    rt: &impl Abort,
+    half: &mut Recv,
+    most: usize,
+    ordered: bool,
+) -> Result<Option<Chunk>, ReadError> {
+    half.ensure_ordering(ordered)
+        .expect(rt, "the mode of reading");
+    half.next(most, ordered)
+}
+
+fn stop(half: &mut Recv) -> Result<(u64, ShouldTransmit), ClosedStream> {
+    half.stop()
+}
+
+fn window(half: &Recv, size: u64) -> (u64, ShouldTransmit) {
+    half.max_stream_data(size)
+}
+
+fn record_sent(rt: &impl Abort, half: &mut Recv, limit: u64) {
+    assert!(rt; limit < 1 << 62);
+    half.record_sent_max_stream_data(limit);
+}
+
+fn bytes_read(half: &Recv) -> u64 {
+    half.bytes_read()
+}
+
+fn stream(offset: u64, bytes: Bytes, fin: bool) -> Stream {
+    Stream {
+        id: StreamId::new(Side::Server, Dir::Uni, 0),
+        offset,
+        fin,
+        bytes,
+    }
+}
+
 fn ingest(
     rt: &impl Abort,
     alloc: Global,
@@ -81,16 +142,8 @@ fn ingest(
     payload_len: usize,
     fin: bool,
 ) -> Result<Answer, OutOfMemory> {
-    let frame = Stream {
-        id: StreamId::new(Side::Server, Dir::Uni, 0),
-        offset,
-        fin,
-        bytes: Bytes::copy_from_slice(alloc, bytes)?,
-    };
-    assert!(rt; frame.bytes.len() <= payload_len);
-    assert!(rt; subject.half.reset_code().is_none());
-    let (received, max_data) = (subject.received, subject.max_data);
-    match subject.half.ingest(frame, payload_len, received, max_data) {
+    let frame = stream(offset, Bytes::copy_from_slice(alloc, bytes)?, fin);
+    match try_ingest(rt, subject, frame, payload_len) {
         Ok((count, false)) => Ok(Answer::New(count)),
         Ok((count, true)) => Ok(Answer::Closes(count)),
         Err(ReceiveError::Transport(error)) => Ok(Answer::Fails(error.code)),
@@ -100,9 +153,7 @@ fn ingest(
 
 fn reset(rt: &impl Abort, subject: &mut Subject, code: u32, size: u64) -> Answer {
     let size = VarInt::from_u64(size).expect(rt, "a final size");
-    let (received, max_data) = (subject.received, subject.max_data);
-    let code = VarInt::from(code);
-    match subject.half.reset(code, size, received, max_data) {
+    match try_reset(subject, VarInt::from(code), size) {
         Ok(true) => Answer::First,
         Ok(false) => Answer::Again,
         Err(error) => Answer::Fails(error.code),
@@ -126,9 +177,7 @@ fn read(
 ) -> Result<(Vec<u8>, Why), OutOfMemory> {
     let mut bytes = Vec::new(alloc);
     for _turn in 0..1000 {
-        half.ensure_ordering(ordered)
-            .expect(rt, "the mode of reading");
-        match half.next(4, ordered) {
+        match next(rt, half, 4, ordered) {
             Ok(Some(chunk)) => bytes.extend_from_slice(chunk.bytes.as_slice())?,
             Ok(None) => return Ok((bytes, Why::Ended)),
             Err(error) => return Ok((bytes, why_of(error))),
@@ -198,21 +247,20 @@ fn take(
 fn ask(rt: &impl Abort, half: &mut Recv, step: Step) {
     match step {
         Step::Stop(credit, transmit) => {
-            assert_eq!(rt; half.stop(), Ok((credit, ShouldTransmit(transmit))));
+            assert_eq!(rt; stop(half), Ok((credit, ShouldTransmit(transmit))));
         }
         Step::StopAgain => {
-            assert_eq!(rt; half.stop(), Err(ClosedStream));
+            assert_eq!(rt; stop(half), Err(ClosedStream));
         }
-        Step::Window(window, limit, transmit) => {
-            let answer = half.max_stream_data(window);
-            assert_eq!(rt; answer, (limit, ShouldTransmit(transmit)));
+        Step::Window(size, limit, transmit) => {
+            let wanted = (limit, ShouldTransmit(transmit));
+            assert_eq!(rt; window(half, size), wanted);
         }
         Step::Sent(limit) => {
-            assert!(rt; limit < 1 << 62);
-            half.record_sent_max_stream_data(limit);
+            record_sent(rt, half, limit);
         }
         Step::Is(end, read, unknown) => {
-            let is = (half.end(), half.bytes_read(), half.final_offset_unknown());
+            let is = (half.end(), bytes_read(half), half.final_offset_unknown());
             assert_eq!(rt; is, (end, read, unknown));
         }
         _ => {}
@@ -221,9 +269,8 @@ fn ask(rt: &impl Abort, half: &mut Recv, step: Step) {
 
 // Takes steps on a half whose peer may send so many bytes.
 fn run(rt: &impl Abort, alloc: Global, limit: u64, steps: &[Step]) -> Result<Subject, OutOfMemory> {
-    assert!(rt; limit < 1 << 62);
     let mut subject = Subject {
-        half: Recv::new(alloc, limit),
+        half: half(rt, alloc, limit),
         received: 0,
         max_data: 1 << 20,
     };

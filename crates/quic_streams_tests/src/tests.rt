@@ -2,6 +2,7 @@
 
 mod acknowledging;
 mod amounts;
+mod calls;
 mod control;
 mod early;
 mod pending;
@@ -12,15 +13,16 @@ mod sending;
 mod sizes;
 mod transmitting;
 
-use quic_receiving::{HandleError, ReadError, ReadableError, ShouldTransmit};
+use calls::{Subject, finalize, next_chunk};
+use quic_receiving::{Chunk, HandleError, ReadError, ReadableError, ShouldTransmit};
 use quic_streams::Retransmits;
 use quic_streams::batches::ReadSome;
 use quic_streams::progress::LastAnswer;
 use quic_streams::reading::Chunks;
 use quic_streams::recv_stream::RecvStream;
-use quic_streams::state::StreamsState;
 use quic_values::{Bytes, Dir, OutOfMemory, Side, StreamId, VarInt};
-use quic_wire::{ReceiveError, StreamEvent, TransportError, frame};
+use quic_wire::frame::{ResetStream, Stream};
+use quic_wire::{ReceiveError, StreamEvent, TransportError};
 use std::alloc::Global;
 use std::process::Abort;
 
@@ -72,7 +74,7 @@ enum Told {
 }
 
 // Reads of at most so many bytes, so many times.
-#[derive(Clone, Copy, Debug)]
+#[derive(Clone, Copy)]
 struct Reads(pub usize, pub u32);
 
 // What reads came to: how many bytes were given, why no more, and whether to transmit at the end.
@@ -80,7 +82,7 @@ struct Reads(pub usize, pub u32);
 struct Given(pub usize, pub Last, pub bool);
 
 // A call, mostly on the stream of an id, and what it has to answer.
-#[derive(Clone, Copy, Debug)]
+#[derive(Clone, Copy)]
 enum Step {
     // So many bytes at an offset.
     Data(u32, u64, usize, Answer),
@@ -113,15 +115,6 @@ enum Step {
 // The code of each stop.
 const STOP_CODE: u32 = 9;
 
-#[derive(Drop)]
-struct Subject {
-    pub state: StreamsState,
-    pub pending: Retransmits,
-    pub window: u64,
-    // Whether reads are one call.
-    pub in_one: bool,
-}
-
 // A client that permits so many streams of each direction.
 fn client(
     alloc: Global,
@@ -129,21 +122,14 @@ fn client(
     window: u32,
     stream_window: u32,
 ) -> Result<Subject, OutOfMemory> {
-    let state = StreamsState::new(
+    Subject::new(
         alloc,
         Side::Client,
-        VarInt::from(streams),
-        VarInt::from(streams),
+        streams,
         u64::from(WINDOW),
         VarInt::from(window),
         VarInt::from(stream_window),
-    )?;
-    Ok(Subject {
-        state,
-        pending: Retransmits::new(alloc),
-        window: u64::from(window),
-        in_one: false,
-    })
+    )
 }
 
 // The bytes of every stream: each tells its place.
@@ -165,13 +151,12 @@ fn answer_of(answer: Result<ShouldTransmit, ReceiveError>) -> Answer {
 
 // What want of memory has to leave as it was.
 fn counts(subject: &Subject) -> [u64; 5] {
-    let state = &subject.state;
     [
-        state.local_max_data(),
-        state.data_recvd(),
-        state.max_remote(Dir::Bi),
-        state.max_remote(Dir::Uni),
-        state.next_remote(Dir::Uni),
+        subject.local_max_data(),
+        subject.data_recvd(),
+        subject.max_remote(Dir::Bi),
+        subject.max_remote(Dir::Uni),
+        subject.next_remote(Dir::Uni),
     ]
 }
 
@@ -183,14 +168,13 @@ fn receive(
     count: usize,
     fin: bool,
 ) -> Result<Answer, OutOfMemory> {
-    let frame = frame::Stream {
+    let frame = Stream {
         id: id(stream),
         offset,
         fin,
         bytes: pattern(alloc, offset, count)?,
     };
-    let len = frame.bytes.len();
-    Ok(answer_of(subject.state.received(frame, len)))
+    Ok(answer_of(subject.received(frame)))
 }
 
 // Takes a frame, and once more where memory was wanting.
@@ -213,13 +197,11 @@ fn data(
 }
 
 fn reset_once(subject: &mut Subject, stream: u32, code: u32, size: VarInt) -> Answer {
-    answer_of(
-        subject.state.received_reset(frame::ResetStream {
-            id: id(stream),
-            error_code: VarInt::from(code),
-            final_offset: size,
-        }),
-    )
+    answer_of(subject.received_reset(ResetStream {
+        id: id(stream),
+        error_code: VarInt::from(code),
+        final_offset: size,
+    }))
 }
 
 fn reset(rt: &impl Abort, subject: &mut Subject, stream: u32, code: u32, size: u64) -> Answer {
@@ -241,6 +223,13 @@ fn last_of(error: ReadError) -> Last {
     }
 }
 
+// A chunk has the bytes of its place. Answers how many.
+fn length_of(rt: &impl Abort, alloc: Global, chunk: &Chunk) -> Result<usize, OutOfMemory> {
+    let expected = pattern(alloc, chunk.offset, chunk.bytes.len())?;
+    assert_eq!(rt; chunk.bytes.as_slice(), expected.as_slice());
+    Ok(chunk.bytes.len())
+}
+
 // Goes on with a reader. The end is asked for twice.
 fn go_on(
     rt: &impl Abort,
@@ -251,19 +240,15 @@ fn go_on(
     let Reads(most, times) = reads;
     let mut given = 0usize;
     for _turn in 0..times {
-        match chunks.next(most) {
-            Ok(Some(chunk)) => {
-                let expected = pattern(alloc, chunk.offset, chunk.bytes.len())?;
-                assert_eq!(rt; chunk.bytes.as_slice(), expected.as_slice());
-                given = given.saturating_add(chunk.bytes.len());
-            }
+        match next_chunk(chunks, most) {
+            Ok(Some(chunk)) => given = given.saturating_add(length_of(rt, alloc, &chunk)?),
             Ok(None) => {
-                assert!(rt; matches!(chunks.next(most), Ok(None)));
+                assert!(rt; matches!(next_chunk(chunks, most), Ok(None)));
                 return Ok((given, Last::Ended));
             }
             Err(error) => {
                 if let ReadError::Reset(_) = error {
-                    assert!(rt; matches!(chunks.next(most), Err(ReadError::Reset(_))));
+                    assert!(rt; matches!(next_chunk(chunks, most), Err(ReadError::Reset(_))));
                 }
                 return Ok((given, last_of(error)));
             }
@@ -293,35 +278,25 @@ fn read_by_reader(
     let Subject {
         mut state,
         mut pending,
+        conn,
         window,
         in_one,
     } = subject;
     let given = match RecvStream::new(id(stream), &mut state, &mut pending).read(ordered) {
         Ok(mut chunks) => {
             let (bytes, last) = go_on(rt, alloc, &mut chunks, reads)?;
-            Given(bytes, last, chunks.finalize().should_transmit())
+            Given(bytes, last, finalize(chunks))
         }
         Err(error) => Given(0, refusal_of(error), false),
     };
     let subject = Subject {
         state,
         pending,
+        conn,
         window,
         in_one,
     };
     Ok((subject, given))
-}
-
-fn read_some(
-    subject: &mut Subject,
-    stream: u32,
-    ordered: bool,
-    most: usize,
-    times: u16,
-) -> Result<ReadSome, ReadableError> {
-    RecvStream::new(id(stream), &mut subject.state, &mut subject.pending).read_some(
-        ordered, most, times,
-    )
 }
 
 fn last_in_one(last: LastAnswer) -> Last {
@@ -332,6 +307,15 @@ fn last_in_one(last: LastAnswer) -> Last {
         LastAnswer::Memory => Last::NoMemory,
         LastAnswer::More => Last::Asked,
     }
+}
+
+fn given_in_one(rt: &impl Abort, alloc: Global, read: &ReadSome) -> Result<Given, OutOfMemory> {
+    let mut bytes = 0usize;
+    for chunk in &read.chunks {
+        bytes = bytes.saturating_add(length_of(rt, alloc, chunk)?);
+    }
+    let transmit = read.transmit.should_transmit();
+    Ok(Given(bytes, last_in_one(read.last), transmit))
 }
 
 // The same in one call.
@@ -346,20 +330,8 @@ fn read_in_one(
     let mut subject = subject;
     let Reads(most, times) = reads;
     let times = u16::try_from(times).unwrap_or(u16::MAX);
-    let given = match read_some(&mut subject, stream, ordered, most, times) {
-        Ok(read) => {
-            let mut bytes = 0usize;
-            for chunk in &read.chunks {
-                let expected = pattern(alloc, chunk.offset, chunk.bytes.len())?;
-                assert_eq!(rt; chunk.bytes.as_slice(), expected.as_slice());
-                bytes = bytes.saturating_add(chunk.bytes.len());
-            }
-            Given(
-                bytes,
-                last_in_one(read.last),
-                read.transmit.should_transmit(),
-            )
-        }
+    let given = match subject.read_some(stream, ordered, most, times) {
+        Ok(read) => given_in_one(rt, alloc, &read)?,
         Err(error) => Given(0, refusal_of(error), false),
     };
     Ok((subject, given))
@@ -401,13 +373,11 @@ fn read(
 // Stops a stream, once more where memory was wanting. Whether it was open.
 fn stop(rt: &impl Abort, subject: &mut Subject, stream: u32) -> bool {
     let before = counts(subject);
-    let code = VarInt::from(STOP_CODE);
-    let mut stream = RecvStream::new(id(stream), &mut subject.state, &mut subject.pending);
-    let first = stream.stop(code);
+    let first = subject.stop(stream, STOP_CODE);
     if first != Err(HandleError::OutOfMemory) {
         return first.is_ok();
     }
-    let second = stream.stop(code);
+    let second = subject.stop(stream, STOP_CODE);
     if second.is_err() {
         assert_eq!(rt; counts(subject), before);
     }
@@ -415,8 +385,7 @@ fn stop(rt: &impl Abort, subject: &mut Subject, stream: u32) -> bool {
 }
 
 fn ask_code_once(subject: &mut Subject, stream: u32) -> Told {
-    let mut stream = RecvStream::new(id(stream), &mut subject.state, &mut subject.pending);
-    match stream.received_reset() {
+    match subject.reset_code(stream) {
         Ok(Some(code)) => Told::Code(code.into_inner()),
         Ok(None) => Told::Nothing,
         Err(HandleError::ClosedStream) => Told::Closed,
@@ -479,10 +448,19 @@ fn take(
 
 // What the application is told next, but that a stream was opened.
 fn next_told(subject: &mut Subject) -> Option<StreamEvent> {
-    match subject.state.poll() {
-        Some(StreamEvent::Opened { .. }) => subject.state.poll(),
+    match subject.poll() {
+        Some(StreamEvent::Opened { .. }) => subject.poll(),
         event => event,
     }
+}
+
+// The application is told that it may read these streams, and nothing else.
+fn tells_readable(rt: &impl Abort, subject: &mut Subject, streams: &[u32]) {
+    for stream in streams {
+        let event = Some(StreamEvent::Readable { id: id(*stream) });
+        assert_eq!(rt; next_told(subject), event);
+    }
+    assert_eq!(rt; next_told(subject), None);
 }
 
 // The steps that need no memory of their own.
@@ -499,34 +477,44 @@ fn ask(rt: &impl Abort, subject: &mut Subject, step: Step) {
             assert_eq!(rt; ask_code(subject, stream), answer, "reset of {stream}");
         }
         Step::Credit(credits, due) => {
-            let is = subject.state.add_read_credits(credits);
+            let is = subject.add_read_credits(credits);
             assert_eq!(rt; is, ShouldTransmit(due));
         }
-        Step::Readable(streams) => {
-            for stream in streams {
-                let event = Some(StreamEvent::Readable { id: id(*stream) });
-                assert_eq!(rt; next_told(subject), event);
-            }
-            assert_eq!(rt; next_told(subject), None);
-        }
+        Step::Readable(streams) => tells_readable(rt, subject, streams),
         _ => shows(rt, subject, step),
     }
 }
 
 // The steps that only look.
 fn shows(rt: &impl Abort, subject: &Subject, step: Step) {
-    let state = &subject.state;
     match step {
         Step::Is(credit, received) => {
-            let given = state.local_max_data().saturating_sub(subject.window);
-            assert_eq!(rt; (given, state.data_recvd()), (credit, received));
+            let given = subject.local_max_data().saturating_sub(subject.window);
+            assert_eq!(rt; (given, subject.data_recvd()), (credit, received));
         }
         Step::Remote(bi, uni, opened) => {
-            let is = (state.max_remote(Dir::Bi), state.max_remote(Dir::Uni));
+            let is = (subject.max_remote(Dir::Bi), subject.max_remote(Dir::Uni));
             assert_eq!(rt; is, (bi, uni));
-            assert_eq!(rt; state.next_remote(Dir::Uni), opened);
+            assert_eq!(rt; subject.next_remote(Dir::Uni), opened);
         }
         _ => waits(rt, &subject.pending, step),
+    }
+}
+
+// MAX_STREAM_DATA is to be sent for these streams.
+fn has_windows(rt: &impl Abort, pending: &Retransmits, streams: &[u32]) {
+    assert_eq!(rt; pending.max_stream_data.len(), streams.len());
+    for stream in streams {
+        assert!(rt; pending.max_stream_data.contains(&id(*stream)));
+    }
+}
+
+// STOP_SENDING is to be sent for these streams.
+fn has_stops(rt: &impl Abort, pending: &Retransmits, streams: &[u32]) {
+    assert_eq!(rt; pending.stop_sending.len(), streams.len());
+    for (frame, stream) in pending.stop_sending.iter().zip(streams) {
+        let is = (frame.id, frame.error_code);
+        assert_eq!(rt; is, (id(*stream), VarInt::from(STOP_CODE)));
     }
 }
 
@@ -535,19 +523,8 @@ fn waits(rt: &impl Abort, pending: &Retransmits, step: Step) {
     match step {
         Step::MaxData(due) => assert_eq!(rt; pending.max_data, due),
         Step::MaxStreams(bi, uni) => assert_eq!(rt; pending.max_stream_id, [bi, uni]),
-        Step::Windows(streams) => {
-            assert_eq!(rt; pending.max_stream_data.len(), streams.len());
-            for stream in streams {
-                assert!(rt; pending.max_stream_data.contains(&id(*stream)));
-            }
-        }
-        Step::Stops(streams) => {
-            assert_eq!(rt; pending.stop_sending.len(), streams.len());
-            for (frame, stream) in pending.stop_sending.iter().zip(streams) {
-                let is = (frame.id, frame.error_code);
-                assert_eq!(rt; is, (id(*stream), VarInt::from(STOP_CODE)));
-            }
-        }
+        Step::Windows(streams) => has_windows(rt, pending, streams),
+        Step::Stops(streams) => has_stops(rt, pending, streams),
         _ => {}
     }
 }

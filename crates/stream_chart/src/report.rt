@@ -1,6 +1,6 @@
 //! Rows as a table, and as a picture.
 
-use crate::samples::Row;
+use crate::samples::{Row, Samples};
 use std::io;
 use std::io::Write;
 
@@ -18,8 +18,19 @@ impl Row {
     }
 }
 
-/// Writes rows as a table, and how the run ended, in a word or two.
-pub fn write_table<W: Write>(rows: &[Row], words: &str, output: &mut W) -> io::Result<()> {
+impl Samples {
+    /// Writes the rows as a table or as a picture, and how the run ended, in a word or two.
+    pub fn write<W: Write>(&self, is_picture: bool, words: &str, output: &mut W) -> io::Result<()> {
+        if is_picture {
+            write_picture(self.rows(), words, output)
+        } else {
+            write_table(self.rows(), words, output)
+        }
+    }
+}
+
+// Writes rows as a table.
+fn write_table<W: Write>(rows: &[Row], words: &str, output: &mut W) -> io::Result<()> {
     write!(output, "{:>9}", "step")?;
     for (name, _, _) in Row::default().columns() {
         write!(output, " {name:>12}")?;
@@ -97,8 +108,8 @@ fn draw_axes<W: Write>(steps: u64, bytes: u64, output: &mut W) -> io::Result<()>
     Ok(())
 }
 
-/// Draws rows as an SVG picture, and how the run ended, in a word or two.
-pub fn write_picture<W: Write>(rows: &[Row], words: &str, output: &mut W) -> io::Result<()> {
+// Draws rows as an SVG picture.
+fn write_picture<W: Write>(rows: &[Row], words: &str, output: &mut W) -> io::Result<()> {
     let last = rows.last().copied().unwrap_or_default();
     let (steps, bytes) = (
         fourth(last.step),

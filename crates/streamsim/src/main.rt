@@ -2,7 +2,6 @@
 //! which network, standard output what came of it, as a table or as a picture.
 #![tactic(auto)]
 
-mod ends;
 mod simulation;
 #[cfg(test)]
 mod tests;
@@ -11,47 +10,7 @@ use anyhow::Result;
 use std::alloc::Global;
 use std::io::{self, Read, Write};
 use std::process::ExitCode;
-
-/// How much is sent, and over which network. One payload in so many is lost or late, none where that is 0.
-#[derive(Clone, Copy, Debug, Default)]
-pub struct Plan {
-    seed: u64,
-    bytes: u64,
-    payload: u64,
-    receive_window: u64,
-    stream_window: u64,
-    send_window: u64,
-    loss: u64,
-    reorder: u64,
-    is_picture: bool,
-}
-
-impl Plan {
-    // Takes a line: `picture`, or a name and a number.
-    fn take(&mut self, line: &str) -> Option<()> {
-        if line == "picture" {
-            self.is_picture = true;
-            return Some(());
-        }
-        let (name, number) = line.rsplit_once(' ')?;
-        let place = match name {
-            "seed" => &mut self.seed,
-            "bytes" => &mut self.bytes,
-            "payload" => &mut self.payload,
-            "receive-window" => &mut self.receive_window,
-            "stream-window" => &mut self.stream_window,
-            "send-window" => &mut self.send_window,
-            "loss 1 in" => &mut self.loss,
-            "reorder 1 in" => &mut self.reorder,
-            _ => return None,
-        };
-        *place = number
-            .parse::<u64>()
-            .ok()
-            .filter(|number| *number < 1 << 62)?;
-        Some(())
-    }
-}
+use stream_chart::Plan;
 
 /// Does what the input asks for, and gives the status: 0 where all bytes were given as they were written, 2 at a
 /// malformed line, 3 where other bytes were given, 4 where not all were.
@@ -65,9 +24,9 @@ pub fn serve<R: Read + Drop, W: Write>(
     input.read_to_end(&mut bytes)?;
     let text = String::from_utf8_lossy(alloc, bytes.as_slice())?;
     let mut plan = Plan::default();
-    for (index, line) in text.as_str().lines().enumerate() {
+    for (number, line) in (1..u64::MAX).zip(text.as_str().lines()) {
         if plan.take(line).is_none() {
-            writeln!(output, "malformed {}", index.saturating_add(1))?;
+            writeln!(output, "malformed {number}")?;
             return Ok(2);
         }
     }

@@ -1,17 +1,19 @@
 //! A client writes on a stream, a server reads it, and a network loses and reorders their payloads.
 
-use crate::{Plan, ends};
 use anyhow::{Context, Result};
 use quic_endpoint::{Endpoint, Payload};
+use quic_receiving::ReadableError;
 use quic_sending::WriteError;
+use quic_streams::batches::ReadSome;
 use quic_streams::progress::LastAnswer;
-use quic_values::{Dir, Side, StreamId, VarInt};
-use quic_wire::{Frame, decode};
+use quic_values::{Dir, OutOfMemory, Side, StreamId, VarInt};
+use quic_wire::frame::StreamMeta;
+use quic_wire::{Frame, ReceiveError, decode};
 use rand_core::{Rng, SeedableRng};
 use rand_xoshiro::Xoshiro256PlusPlus;
 use std::alloc::Global;
-use std::io::{self, Write};
-use stream_chart::{Row, Samples, write_picture, write_table};
+use std::io::Write;
+use stream_chart::{Plan, Row, Samples};
 
 // So many steps pass until a payload arrives.
 const DELAY: u64 = 10;
@@ -44,6 +46,57 @@ fn byte_at(offset: u64) -> u8 {
     offset.wrapping_mul(0x9e37_79b9_7f4a_7c15).to_be_bytes()[0]
 }
 
+// How many bytes a frame carries.
+fn length(meta: &StreamMeta) -> u64 {
+    meta.offsets.end.saturating_sub(meta.offsets.start)
+}
+
+// Calls of an end. A function without a contract hides what they promise, which no proof here needs.
+fn receive(end: &mut Endpoint, frame: Frame, size: usize) -> Result<(), ReceiveError> {
+    let len = match &frame {
+        Frame::Stream(stream) => stream.bytes.len().max(size),
+        _ => size,
+    };
+    end.receive(frame, len)?;
+    Ok(())
+}
+
+fn emit(end: &mut Endpoint, size: usize) -> Result<Payload, OutOfMemory> {
+    let (payload, answer) = end.emit(size, true);
+    answer.and(Ok(payload))
+}
+
+fn lose_control(end: &mut Endpoint, payload: &Payload) -> Result<(), OutOfMemory> {
+    end.lose_control(&payload.control)
+}
+
+fn report(end: &mut Endpoint, meta: StreamMeta, is_lost: bool) -> Result<(), OutOfMemory> {
+    if is_lost {
+        end.lose_stream(meta)
+    } else {
+        end.ack_stream(meta)
+    }
+}
+
+fn arrive(alloc: Global, payload: &Payload, to: &mut Endpoint) -> Result<()> {
+    for frame in decode(alloc, payload.bytes.as_slice())? {
+        receive(to, frame, payload.bytes.len())?;
+    }
+    Ok(())
+}
+
+fn tells_none(end: &mut Endpoint) -> bool {
+    end.poll().is_none()
+}
+
+fn write(end: &mut Endpoint, id: StreamId, bytes: &[u8]) -> Result<usize, WriteError> {
+    end.write(id, bytes)
+}
+
+fn read(end: &mut Endpoint, id: StreamId) -> Result<ReadSome, ReadableError> {
+    end.read(id, true, usize::MAX, 32)
+}
+
 impl Simulation {
     // What an end sent and arrives by now is handed on and acknowledged, and what was lost is reported.
     fn deliver(&mut self, sender: Side, from: &mut Endpoint, to: &mut Endpoint) -> Result<()> {
@@ -56,33 +109,25 @@ impl Simulation {
             let flight = self.flights.swap_remove(place);
             let (payload, is_lost) = (flight.payload, flight.is_lost);
             if is_lost {
-                ends::lose(from, payload)?;
+                lose_control(from, &payload)?;
             } else {
-                self.arrive(from, to, payload)?;
+                arrive(self.alloc, &payload, to)?;
             }
-        }
-        Ok(())
-    }
-
-    fn arrive(&mut self, from: &mut Endpoint, to: &mut Endpoint, payload: Payload) -> Result<()> {
-        let frames = decode(self.alloc, payload.bytes.as_slice())?;
-        for frame in frames {
-            ends::receive(to, frame, payload.bytes.len())?;
-        }
-        for meta in payload.streams {
-            let count = meta.offsets.end.saturating_sub(meta.offsets.start);
-            self.row.acknowledged = self.row.acknowledged.saturating_add(count);
-            ends::ack(from, meta)?;
+            for meta in payload.streams {
+                if !is_lost {
+                    self.row.acknowledged = self.row.acknowledged.saturating_add(length(&meta));
+                }
+                report(from, meta, is_lost)?;
+            }
         }
         Ok(())
     }
 
     // Sends a payload, if there is something to send. Lets pass what the end tells.
     fn send(&mut self, sender: Side, from: &mut Endpoint) -> Result<()> {
-        let payload = ends::emit(from, self.plan.payload as usize)?;
+        let payload = emit(from, self.plan.payload as usize)?;
         for meta in payload.streams.as_slice() {
-            let count = meta.offsets.end.saturating_sub(meta.offsets.start);
-            self.row.carried = self.row.carried.saturating_add(count);
+            self.row.carried = self.row.carried.saturating_add(length(meta));
             self.row.sent = self.row.sent.max(meta.offsets.end);
         }
         let is_lost = self.draws.next_u64().checked_rem(self.plan.loss) == Some(0);
@@ -98,24 +143,37 @@ impl Simulation {
             };
             self.flights.push(flight)?;
         }
-        (0..u64::MAX).any(|_| ends::tells_none(from));
+        (0..u64::MAX).any(|_| tells_none(from));
         Ok(())
     }
 
     // The client writes what is taken, and ends the stream behind all bytes.
     fn write(&mut self, client: &mut Endpoint) -> Result<()> {
-        let room = ends::room(client).min(65_536);
+        let room = client.streams().write_limit().min(65_536);
         let next = self.row.written.saturating_add(room).min(self.plan.bytes);
         let bytes: Vec<u8> = (self.row.written..next).map(byte_at).collect(self.alloc)?;
-        match ends::write(client, self.id, bytes.as_slice()) {
+        match write(client, self.id, bytes.as_slice()) {
             Ok(count) => self.row.written = self.row.written.saturating_add(count as u64),
             Err(WriteError::Blocked) | Err(WriteError::ClosedStream) => return Ok(()),
             Err(error) => return Err(error.into()),
         }
         if self.row.written == self.plan.bytes {
-            ends::finish(client, self.id)?;
+            client.finish(self.id)?;
         }
         Ok(())
+    }
+
+    // The server reads what came, which is compared with what was written. Whether the end was told.
+    fn read(&mut self, server: &mut Endpoint) -> Result<bool> {
+        let some = read(server, self.id)?;
+        for chunk in &some.chunks {
+            for (offset, byte) in (chunk.offset..u64::MAX).zip(chunk.bytes.as_slice()) {
+                let is_right = offset == self.row.given && *byte == byte_at(offset);
+                self.right = self.right.saturating_add(u64::from(is_right));
+                self.row.given = self.row.given.saturating_add(1);
+            }
+        }
+        Ok(some.last == LastAnswer::Ended)
     }
 
     // One step of both ends.
@@ -126,7 +184,7 @@ impl Simulation {
         self.write(client)?;
         self.send(Side::Server, server)?;
         self.send(Side::Client, client)?;
-        self.row.credit = ends::credit(server);
+        self.row.credit = server.streams().local_max_data();
         Ok(())
     }
 
@@ -150,34 +208,15 @@ impl Simulation {
     }
 
     // Writes what was counted and how it ended, and answers the status.
-    fn tell<W: Write>(&self, output: &mut W) -> io::Result<u8> {
-        let (given, rows) = (self.row.given, self.samples.rows());
-        let is_whole = self.is_read && given == self.plan.bytes;
-        let (status, words) = match (self.right == given, is_whole) {
+    fn tell<W: Write>(&self, output: &mut W) -> Result<u8> {
+        let is_whole = self.is_read && self.row.given == self.plan.bytes;
+        let (status, words) = match (self.right == self.row.given, is_whole) {
             (true, true) => (0, "as written"),
             (false, _) => (3, "not as written"),
             (true, false) => (4, "and no more"),
         };
-        if self.plan.is_picture {
-            write_picture(rows, words, output)?;
-        } else {
-            write_table(rows, words, output)?;
-        }
+        self.samples.write(self.plan.is_picture, words, output)?;
         Ok(status)
-    }
-
-    // The server reads what came, which is compared with what was written. Whether the end was told.
-    fn read(&mut self, server: &mut Endpoint) -> Result<bool> {
-        let some = ends::read(server, self.id)?;
-        for chunk in &some.chunks {
-            for (index, byte) in chunk.bytes.as_slice().iter().enumerate() {
-                let offset = chunk.offset.wrapping_add(index as u64);
-                let is_right = offset == self.row.given && *byte == byte_at(offset);
-                self.right = self.right.saturating_add(u64::from(is_right));
-                self.row.given = self.row.given.saturating_add(1);
-            }
-        }
-        Ok(some.last == LastAnswer::Ended)
     }
 }
 
@@ -189,10 +228,10 @@ fn connect(alloc: Global, plan: &Plan) -> Result<(Endpoint, StreamId, Endpoint)>
     let server = Endpoint::new(alloc, Side::Server, one, one, 0, window, each)?;
     let mut client = Endpoint::new(alloc, Side::Client, one, one, plan.send_window, one, one)?;
     let (dir, count) = (Dir::Uni, 1);
-    ends::receive(&mut client, Frame::MaxStreams { dir, count }, 0)?;
+    receive(&mut client, Frame::MaxStreams { dir, count }, 0)?;
     let id = client.open(dir)?.context("no stream is permitted")?;
-    ends::receive(&mut client, Frame::MaxStreamData { id, offset }, 0)?;
-    ends::receive(&mut client, Frame::MaxData(window), 0)?;
+    receive(&mut client, Frame::MaxStreamData { id, offset }, 0)?;
+    receive(&mut client, Frame::MaxData(window), 0)?;
     Ok((client, id, server))
 }
 
@@ -211,5 +250,5 @@ pub fn run<W: Write>(rt: &impl Eprint, alloc: Global, plan: Plan, output: &mut W
         is_read: false,
     };
     simulation.go(rt, &mut client, &mut server)?;
-    Ok(simulation.tell(output)?)
+    simulation.tell(output)
 }

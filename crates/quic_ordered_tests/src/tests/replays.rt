@@ -1,9 +1,10 @@
 ghost use Rattle.std.specs.Prelude.{◌<◌};
 
-use quic_assembler::{Assembler, Chunk, Op, replay};
+use quic_assembler::{Assembler, Chunk, Op, ReplayError, replay};
 use quic_ordered::OrderedAssembler;
 use quic_values::Bytes;
 use std::alloc::Global;
+use std::process::Abort;
 use std::test::Fail;
 
 // A number that looks random, from the one before.
@@ -60,6 +61,24 @@ fn steps(alloc: Global, seed: u64, count: u64, span: u64) -> Result<Vec<Op>, Fai
     Ok(ops)
 }
 
+// What a body that holds nothing comes to with these calls: the outcome, what was given, and how many bytes were read.
+type Replayed = (Result<(), ReplayError>, Vec<Chunk>, u64);
+
+// The calls, with nothing of what they promise: a test looks at what they answer and leave.
+fn replay_ordered(alloc: Global, ops: &[Op]) -> Replayed {
+    let mut body = OrderedAssembler::new(alloc);
+    let mut chunks = Vec::new(alloc);
+    let outcome = replay(&mut body, ops, &mut chunks);
+    (outcome, chunks, body.bytes_read())
+}
+
+fn replay_heap(alloc: Global, ops: &[Op]) -> Replayed {
+    let mut body = Assembler::new(alloc);
+    let mut chunks = Vec::new(alloc);
+    let outcome = replay(&mut body, ops, &mut chunks);
+    (outcome, chunks, body.bytes_read())
+}
+
 fn joined(alloc: Global, chunks: &[Chunk]) -> Result<Vec<u8>, Fail> {
     let mut bytes = Vec::new(alloc);
     for chunk in chunks {
@@ -73,22 +92,31 @@ fn both_bodies_give_the_same_bytes(rt: HostRuntime) -> Result<(), Fail> {
     let alloc = rt.alloc();
     for seed in 0..60u64 {
         let ops = steps(alloc, seed, 40 + 5 * seed, 200 + 40 * seed)?;
-        let mut chunks = Vec::new(alloc);
-        let mut others = Vec::new(alloc);
-        let mut body = OrderedAssembler::new(alloc);
-        let mut heap = Assembler::new(alloc);
-        assert_eq!(rt; replay(&mut body, &ops, &mut chunks), Ok(()));
-        assert_eq!(rt; replay(&mut heap, &ops, &mut others), Ok(()));
+        let (outcome, chunks, read) = replay_ordered(alloc, &ops);
+        let (heap_outcome, heap_chunks, heap_read) = replay_heap(alloc, &ops);
+        assert_eq!(rt; outcome, Ok(()));
+        assert_eq!(rt; heap_outcome, Ok(()));
         let bytes = joined(alloc, &chunks)?;
-        assert_eq!(rt; bytes, joined(alloc, &others)?);
+        assert_eq!(rt; bytes, joined(alloc, &heap_chunks)?);
         assert!(rt; bytes.len() as u64 >= 200 + 40 * seed);
-        assert_eq!(rt; body.bytes_read(), bytes.len() as u64);
-        assert_eq!(rt; heap.bytes_read(), bytes.len() as u64);
+        assert_eq!(rt; read, bytes.len() as u64);
+        assert_eq!(rt; heap_read, bytes.len() as u64);
         for (index, byte) in bytes.iter().enumerate() {
             assert_eq!(rt; *byte, byte_at(index as u64));
         }
     }
     Ok(())
+}
+
+// The bytes of a chunk are those of the stream, and none was given before.
+fn note_given(rt: &impl Abort, chunk: &Chunk, given: &mut [bool]) {
+    for (index, byte) in chunk.bytes.as_slice().iter().enumerate() {
+        let offset = chunk.offset.wrapping_add(index as u64);
+        let place = offset as usize;
+        assert_eq!(rt; *byte, byte_at(offset));
+        assert!(rt; place < given.len() && !given[place]);
+        given[place] = true;
+    }
 }
 
 #[test]
@@ -101,18 +129,11 @@ fn both_bodies_give_each_byte_once_in_unordered_mode(rt: HostRuntime) -> Result<
         for op in steps(alloc, seed, 5 * seed, span)? {
             ops.push(op)?;
         }
-        let mut chunks = Vec::new(alloc);
-        let mut body = OrderedAssembler::new(alloc);
-        assert_eq!(rt; replay(&mut body, &ops, &mut chunks), Ok(()));
+        let (outcome, chunks, _) = replay_ordered(alloc, &ops);
+        assert_eq!(rt; outcome, Ok(()));
         let mut given = vec![in alloc; false; span as usize + 40]?;
         for chunk in &chunks {
-            for (index, byte) in chunk.bytes.as_slice().iter().enumerate() {
-                let offset = chunk.offset.wrapping_add(index as u64);
-                let place = offset as usize;
-                assert_eq!(rt; *byte, byte_at(offset));
-                assert!(rt; place < given.len() && !given[place]);
-                given[place] = true;
-            }
+            note_given(&rt, chunk, &mut given);
         }
         assert!(rt; given.iter().take(span as usize).all(|given| *given));
     }

@@ -1,33 +1,12 @@
 // Acknowledgements and losses of frames.
-use super::{Answer, Step, Subject, end, id, run};
+use super::{Answer, Step, Subject, ack, end, holds, id, limit, lose, run, sends};
 use quic_values::{Dir, Side};
-use std::alloc::Global;
-use std::ops::Range;
 use std::process::Abort;
 use std::rt::HostRuntime;
 use std::test::Fail;
 
-// Whether the next frame of a stream carries this, and the end.
-fn sends(
-    alloc: Global,
-    subject: &mut Subject,
-    stream: u32,
-    offsets: Range<u64>,
-    fin: bool,
-) -> bool {
-    let stream = id(stream);
-    if !subject.state.contains(stream) {
-        return false;
-    }
-    let mut buf = Vec::new(alloc);
-    match subject.state.write_frame(stream, 1200, &mut buf) {
-        Ok(frame) => frame.meta.offsets == offsets && frame.meta.fin == fin,
-        Err(_) => false,
-    }
-}
-
 // Each report is made once more where memory was wanting, which has to leave all as it was.
-fn ack(
+fn acked(
     rt: &impl Abort,
     subject: &mut Subject,
     stream: u32,
@@ -35,19 +14,19 @@ fn ack(
     end: u64,
     fin: bool,
 ) -> bool {
-    let before = subject.state.write_limit();
-    match subject.state.ack(id(stream), start..end, fin) {
+    let before = limit(subject);
+    match ack(subject, stream, start..end, fin) {
         Ok(done) => done,
         Err(_) => {
-            assert_eq!(rt; subject.state.write_limit(), before);
-            assert!(rt; subject.state.contains(id(stream)));
-            matches!(subject.state.ack(id(stream), start..end, fin), Ok(true))
+            assert_eq!(rt; limit(subject), before);
+            assert!(rt; holds(subject, stream));
+            ack(subject, stream, start..end, fin) == Ok(true)
         }
     }
 }
 
 // The priority at which the stream is to be queued, if it is.
-fn lose(
+fn lost(
     rt: &impl Abort,
     subject: &mut Subject,
     stream: u32,
@@ -55,14 +34,22 @@ fn lose(
     end: u64,
     fin: bool,
 ) -> Option<i32> {
-    match subject.state.lose(id(stream), start..end, fin) {
+    match lose(subject, stream, start..end, fin) {
         Ok(queue_at) => queue_at,
         Err(_) => {
-            let again = subject.state.lose(id(stream), start..end, fin);
+            let again = lose(subject, stream, start..end, fin);
             assert!(rt; again.is_ok());
             again.unwrap_or(None)
         }
     }
+}
+
+fn is_reset(subject: &Subject, stream: u32) -> bool {
+    subject.state.is_reset(id(stream))
+}
+
+fn reset_acked(subject: &mut Subject, stream: u32) -> bool {
+    subject.state.reset_acked(id(stream))
 }
 
 #[test]
@@ -78,14 +65,14 @@ fn what_is_acknowledged_is_released(rt: HostRuntime) -> Result<(), Fail> {
     ];
     run(&rt, alloc, &mut subject, &steps);
     // Nothing was sent yet.
-    assert_eq!(&rt; ack(&rt, &mut subject, 2, 0, 4, false), false);
+    assert_eq!(&rt; acked(&rt, &mut subject, 2, 0, 4, false), false);
     run(&rt, alloc, &mut subject, &[Step::Limit(0)]);
     assert!(&rt; sends(alloc, &mut subject, 2, 0..8, false));
-    assert_eq!(&rt; ack(&rt, &mut subject, 2, 4, 8, false), false);
+    assert_eq!(&rt; acked(&rt, &mut subject, 2, 4, 8, false), false);
     run(&rt, alloc, &mut subject, &[Step::Limit(0)]);
-    assert_eq!(&rt; ack(&rt, &mut subject, 2, 0, 9, false), false);
+    assert_eq!(&rt; acked(&rt, &mut subject, 2, 0, 9, false), false);
     run(&rt, alloc, &mut subject, &[Step::Limit(0)]);
-    assert_eq!(&rt; ack(&rt, &mut subject, 2, 0, 4, false), false);
+    assert_eq!(&rt; acked(&rt, &mut subject, 2, 0, 4, false), false);
     run(&rt, alloc, &mut subject, &[Step::Limit(8)]);
     Ok(())
 }
@@ -102,13 +89,13 @@ fn complete_streams_are_let_go(rt: HostRuntime) -> Result<(), Fail> {
     run(&rt, alloc, &mut subject, &steps);
     assert!(&rt; sends(alloc, &mut subject, 2, 0..8, true));
     // The end alone is not all.
-    assert_eq!(&rt; ack(&rt, &mut subject, 2, 8, 8, true), false);
-    assert_eq!(&rt; ack(&rt, &mut subject, 2, 4, 8, false), false);
+    assert_eq!(&rt; acked(&rt, &mut subject, 2, 8, 8, true), false);
+    assert_eq!(&rt; acked(&rt, &mut subject, 2, 4, 8, false), false);
     run(&rt, alloc, &mut subject, &[Step::Holds(2, true)]);
-    assert_eq!(&rt; ack(&rt, &mut subject, 2, 0, 4, false), true);
+    assert_eq!(&rt; acked(&rt, &mut subject, 2, 0, 4, false), true);
     run(&rt, alloc, &mut subject, &[Step::Holds(2, false)]);
-    assert_eq!(&rt; ack(&rt, &mut subject, 2, 0, 4, false), false);
-    assert_eq!(&rt; lose(&rt, &mut subject, 2, 0, 4, true), None);
+    assert_eq!(&rt; acked(&rt, &mut subject, 2, 0, 4, false), false);
+    assert_eq!(&rt; lost(&rt, &mut subject, 2, 0, 4, true), None);
     Ok(())
 }
 
@@ -123,11 +110,11 @@ fn what_is_lost_is_due_again(rt: HostRuntime) -> Result<(), Fail> {
     ];
     run(&rt, alloc, &mut subject, &steps);
     // It is queued, since nothing was sent.
-    assert_eq!(&rt; lose(&rt, &mut subject, 2, 0, 0, false), None);
+    assert_eq!(&rt; lost(&rt, &mut subject, 2, 0, 0, false), None);
     assert!(&rt; sends(alloc, &mut subject, 2, 0..8, false));
-    assert_eq!(&rt; lose(&rt, &mut subject, 2, 0, 9, false), None);
-    assert_eq!(&rt; lose(&rt, &mut subject, 2, 2, 4, false), Some(7));
-    assert_eq!(&rt; lose(&rt, &mut subject, 2, 0, 2, false), None);
+    assert_eq!(&rt; lost(&rt, &mut subject, 2, 0, 9, false), None);
+    assert_eq!(&rt; lost(&rt, &mut subject, 2, 2, 4, false), Some(7));
+    assert_eq!(&rt; lost(&rt, &mut subject, 2, 0, 2, false), None);
     assert!(&rt; sends(alloc, &mut subject, 2, 0..4, false));
     run(
         &rt,
@@ -136,8 +123,8 @@ fn what_is_lost_is_due_again(rt: HostRuntime) -> Result<(), Fail> {
         &[Step::Finish(2, Answer::Done(true))],
     );
     assert!(&rt; sends(alloc, &mut subject, 2, 8..8, true));
-    assert_eq!(&rt; lose(&rt, &mut subject, 2, 8, 8, true), Some(7));
-    assert_eq!(&rt; lose(&rt, &mut subject, 2, 8, 8, true), None);
+    assert_eq!(&rt; lost(&rt, &mut subject, 2, 8, 8, true), Some(7));
+    assert_eq!(&rt; lost(&rt, &mut subject, 2, 8, 8, true), None);
     Ok(())
 }
 
@@ -150,20 +137,20 @@ fn acknowledged_resets_let_go(rt: HostRuntime) -> Result<(), Fail> {
         Step::Write(2, 8, Answer::Took(8, true)),
     ];
     run(&rt, alloc, &mut subject, &steps);
-    assert!(&rt; !subject.state.reset_acked(id(2)));
+    assert!(&rt; !reset_acked(&mut subject, 2));
     run(
         &rt,
         alloc,
         &mut subject,
         &[Step::Reset(2, 1, Answer::Done(false)), Step::Holds(2, true)],
     );
-    assert!(&rt; subject.state.is_reset(id(2)));
-    assert_eq!(&rt; ack(&rt, &mut subject, 2, 0, 8, true), false);
-    assert_eq!(&rt; lose(&rt, &mut subject, 2, 0, 8, true), None);
+    assert!(&rt; is_reset(&subject, 2));
+    assert_eq!(&rt; acked(&rt, &mut subject, 2, 0, 8, true), false);
+    assert_eq!(&rt; lost(&rt, &mut subject, 2, 0, 8, true), None);
     run(&rt, alloc, &mut subject, &[Step::Holds(2, true)]);
-    assert!(&rt; subject.state.reset_acked(id(2)));
+    assert!(&rt; reset_acked(&mut subject, 2));
     run(&rt, alloc, &mut subject, &[Step::Holds(2, false)]);
-    assert!(&rt; !subject.state.reset_acked(id(2)));
-    assert!(&rt; !subject.state.is_reset(id(2)));
+    assert!(&rt; !reset_acked(&mut subject, 2));
+    assert!(&rt; !is_reset(&subject, 2));
     Ok(())
 }

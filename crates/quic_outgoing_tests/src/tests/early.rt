@@ -1,29 +1,26 @@
 // An early start that is rejected, or sent again.
-use super::{Answer, Step, Subject, end, id, run};
-use quic_values::{Dir, Side};
-use std::alloc::Global;
-use std::ops::Range;
-use std::process::Abort;
+use super::{Answer, Step, Subject, end, id, lose, run, sends};
+use quic_values::{Dir, OutOfMemory, Side};
 use std::rt::HostRuntime;
 use std::test::Fail;
 
-// Whether the next frame of a stream carries this, and the end.
-fn sends(
-    alloc: Global,
-    subject: &mut Subject,
-    stream: u32,
-    offsets: Range<u64>,
-    fin: bool,
-) -> bool {
-    let stream = id(stream);
-    if !subject.state.contains(stream) {
-        return false;
-    }
-    let mut buf = Vec::new(alloc);
-    match subject.state.write_frame(stream, 1200, &mut buf) {
-        Ok(frame) => frame.meta.offsets == offsets && frame.meta.fin == fin,
-        Err(_) => false,
-    }
+// Room for the half of a stream that the peer opened.
+fn permit(subject: &mut Subject, stream: u32) -> Result<(), OutOfMemory> {
+    subject.state.reserve(1)?;
+    subject.state.permit(id(stream));
+    Ok(())
+}
+
+fn reject_early(subject: &mut Subject) {
+    subject.state.reject_early();
+}
+
+fn queue_unsent(subject: &Subject, stream: u32) -> Option<i32> {
+    subject.state.queue_unsent(id(stream))
+}
+
+fn unsend_all(subject: &mut Subject) {
+    subject.state.unsend_all();
 }
 
 const OPENED: [Step; 7] = [
@@ -40,8 +37,7 @@ const OPENED: [Step; 7] = [
 fn a_rejected_start_leaves_the_window(rt: HostRuntime) -> Result<(), Fail> {
     let alloc = rt.alloc();
     let mut subject = end(alloc, Side::Client, 2, 10, 9);
-    subject.state.reserve(1)?;
-    subject.state.permit(id(1));
+    permit(&mut subject, 1)?;
     run(&rt, alloc, &mut subject, &OPENED);
     run(
         &rt,
@@ -49,7 +45,7 @@ fn a_rejected_start_leaves_the_window(rt: HostRuntime) -> Result<(), Fail> {
         &mut subject,
         &[Step::Write(2, 1, Answer::Blocked), Step::Window(7)],
     );
-    subject.state.reject_early();
+    reject_early(&mut subject);
     let steps = [
         Step::Holds(0, false),
         Step::Holds(2, false),
@@ -79,15 +75,15 @@ fn what_was_sent_counts_as_not_sent(rt: HostRuntime) -> Result<(), Fail> {
     run(&rt, alloc, &mut subject, &[Step::Open(Dir::Uni, Some(10))]);
     assert!(&rt; sends(alloc, &mut subject, 2, 0..8, false));
     assert!(&rt; sends(alloc, &mut subject, 6, 0..0, true));
-    assert!(&rt; subject.state.lose(id(2), 2..4, false).is_ok());
-    assert_eq!(&rt; subject.state.queue_unsent(id(2)), None);
-    assert_eq!(&rt; subject.state.queue_unsent(id(0)), None);
-    assert_eq!(&rt; subject.state.queue_unsent(id(6)), Some(0));
-    assert_eq!(&rt; subject.state.queue_unsent(id(10)), None);
-    assert_eq!(&rt; subject.state.queue_unsent(id(14)), None);
+    assert!(&rt; lose(&mut subject, 2, 2..4, false).is_ok());
+    assert_eq!(&rt; queue_unsent(&subject, 2), None);
+    assert_eq!(&rt; queue_unsent(&subject, 0), None);
+    assert_eq!(&rt; queue_unsent(&subject, 6), Some(0));
+    assert_eq!(&rt; queue_unsent(&subject, 10), None);
+    assert_eq!(&rt; queue_unsent(&subject, 14), None);
     assert!(&rt; sends(alloc, &mut subject, 2, 2..4, false));
-    assert_eq!(&rt; subject.state.queue_unsent(id(2)), Some(5));
-    subject.state.unsend_all();
+    assert_eq!(&rt; queue_unsent(&subject, 2), Some(5));
+    unsend_all(&mut subject);
     assert!(&rt; sends(alloc, &mut subject, 2, 0..8, false));
     assert!(&rt; sends(alloc, &mut subject, 0, 0..2, false));
     assert!(&rt; sends(alloc, &mut subject, 6, 0..0, true));

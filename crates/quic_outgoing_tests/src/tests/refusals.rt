@@ -1,20 +1,30 @@
 // What want of memory leaves as it was. Run with each allocation refused in turn.
-use super::{Answer, Subject, end, finish, id, reset, written};
+use super::{
+    Answer, Subject, can_send_blocked, end, finish, holds, id, limit, raise_data, reset, try_open,
+    written,
+};
 use quic_values::{Dir, Side, VarInt};
 use std::alloc::Global;
 use std::process::Abort;
 use std::rt::HostRuntime;
 use std::test::Fail;
 
+fn opened(subject: &Subject) -> u64 {
+    subject.state.opened(Dir::Bi)
+}
+
+fn max_streams(subject: &Subject) -> u64 {
+    subject.state.max_streams(Dir::Bi)
+}
+
 // What want of memory has to leave as it was.
 fn counts(subject: &Subject, stream: u32) -> [u64; 6] {
-    let state = &subject.state;
     [
-        state.write_limit(),
-        state.opened(Dir::Bi),
-        state.max_streams(Dir::Bi),
-        u64::from(state.contains(id(stream))),
-        u64::from(state.can_send_data_blocked()),
+        limit(subject),
+        opened(subject),
+        max_streams(subject),
+        u64::from(holds(subject, stream)),
+        u64::from(can_send_blocked(subject)),
         subject.pending.reset_stream.len() as u64,
     ]
 }
@@ -35,9 +45,9 @@ fn refusals_change_nothing(rt: HostRuntime) -> Result<(), Fail> {
     let alloc = rt.alloc();
     let mut subject = end(alloc, Side::Client, 1, 4, 10);
     let before = counts(&subject, 0);
-    if subject.state.open(Dir::Bi).is_err() {
+    if try_open(&mut subject, Dir::Bi).is_err() {
         assert_eq!(&rt; counts(&subject, 0), before);
-        assert!(&rt; matches!(subject.state.open(Dir::Bi), Ok(Some(_))));
+        assert!(&rt; matches!(try_open(&mut subject, Dir::Bi), Ok(Some(_))));
     }
     assert_eq!(&rt;
         write_again(&rt, alloc, &mut subject, 6),
@@ -52,7 +62,7 @@ fn refusals_change_nothing(rt: HostRuntime) -> Result<(), Fail> {
         assert_eq!(&rt; counts(&subject, 0), before);
         assert_eq!(&rt; reset(&mut subject, id(0), 1), Answer::Done(false));
     }
-    subject.state.raise_data(VarInt::MAX);
+    raise_data(&mut subject, VarInt::MAX);
     assert_eq!(&rt; subject.pending.reset_stream.len(), 1);
     Ok(())
 }

@@ -1,6 +1,6 @@
 // With ample memory no size is refused.
-use super::{Answer, Step, Subject, end, id, open, take, write_bytes};
-use quic_values::{Dir, Side, VarInt};
+use super::{Answer, Step, Subject, end, id, open, raise_data, take, write_bytes};
+use quic_values::{Dir, OutOfMemory, Side, VarInt};
 use std::alloc::Global;
 use std::process::Abort;
 use std::rt::HostRuntime;
@@ -74,17 +74,23 @@ fn many_streams_wait_and_are_told(rt: HostRuntime) {
     }
     take(&rt, alloc, &mut subject, Step::Poll(None));
     assert!(&rt; open(&mut subject, Dir::Bi).is_none());
-    subject.state.raise_data(VarInt::MAX);
+    raise_data(&mut subject, VarInt::MAX);
+}
+
+// Permits the first three streams at once, and then one more.
+fn permit_four(subject: &mut Subject) -> Result<(), OutOfMemory> {
+    subject.state.reserve(4)?;
+    subject.state.permit_more(0, 3);
+    subject.state.reserve(1)?;
+    subject.state.permit(id(12));
+    Ok(())
 }
 
 #[test]
 fn streams_of_the_peer_are_permitted(rt: HostRuntime) -> Result<(), Fail> {
     let alloc = rt.alloc();
     let mut subject = end(alloc, Side::Server, 0, 100, 9);
-    subject.state.reserve(4)?;
-    subject.state.permit_more(0, 3);
-    subject.state.reserve(1)?;
-    subject.state.permit(id(12));
+    permit_four(&mut subject)?;
     take(
         &rt,
         alloc,

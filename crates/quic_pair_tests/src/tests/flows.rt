@@ -75,12 +75,14 @@ pub fn other(who: End) -> End {
     }
 }
 
-// A byte that was written, whether a read gave it, and whether it stood in a frame that was accepted.
+// A byte that was written, whether a read gave it, and whether it stood in a frame that was accepted, and in one that was
+// reported acknowledged.
 #[derive(Clone, Copy)]
 pub struct Place {
     pub byte: u8,
     pub given: bool,
     pub arrived: bool,
+    pub acked: bool,
 }
 
 // What one end sends on one stream.
@@ -96,7 +98,13 @@ pub struct Flow {
     pub ordered: u64,
     pub unordered: bool,
     pub end_arrived: bool,
+    pub end_acked: bool,
     pub complete: bool,
+    // The frame that gave it up was reported acknowledged.
+    pub reset_acked: bool,
+    // A read told the end, or that it was given up.
+    pub ended: bool,
+    pub reset_told: bool,
 }
 
 impl Flow {
@@ -111,7 +119,11 @@ impl Flow {
             ordered: 0,
             unordered: false,
             end_arrived: false,
+            end_acked: false,
             complete: false,
+            reset_acked: false,
+            ended: false,
+            reset_told: false,
         }
     }
 
@@ -128,12 +140,13 @@ impl Flow {
 
     // The first so many bytes of some were taken.
     pub fn write(&mut self, offered: &[u8], count: usize) -> Result<(), Wrong> {
-        check(count <= offered.len() && !self.finished, Wrong::Taken)?;
+        check(count <= offered.len() && !self.is_over(), Wrong::Taken)?;
         for byte in offered.iter().take(count) {
             self.places.push(Place {
                 byte: *byte,
                 given: false,
                 arrived: false,
+                acked: false,
             })?;
         }
         Ok(())
@@ -167,6 +180,19 @@ impl Flow {
         }
         if frame.fin {
             self.end_arrived = true;
+        }
+    }
+
+    // A frame was reported acknowledged.
+    pub fn acknowledge(&mut self, frame: &Stream) {
+        for index in 0..frame.bytes.len() {
+            let at = frame.offset.wrapping_add(index as u64) as usize;
+            if let Some(place) = self.places.get_mut(at) {
+                place.acked = true;
+            }
+        }
+        if frame.fin {
+            self.end_acked = true;
         }
     }
 
@@ -205,6 +231,29 @@ impl Flow {
 
     pub fn is_all_arrived(&self) -> bool {
         self.end_arrived && self.places.iter().all(|place| place.arrived)
+    }
+
+    pub fn is_all_acked(&self) -> bool {
+        self.end_acked && self.places.iter().all(|place| place.acked)
+    }
+
+    pub fn is_reset(&self) -> bool {
+        !self.resets.is_empty()
+    }
+
+    // Its writer ended it or gave it up.
+    pub fn is_over(&self) -> bool {
+        self.finished || self.is_reset()
+    }
+
+    // Nothing of it is left to be acknowledged.
+    pub fn is_settled(&self) -> bool {
+        self.is_all_acked() || self.reset_acked
+    }
+
+    // Its reader stopped it, or was told its end or that it was given up.
+    pub fn is_left(&self) -> bool {
+        !self.stops.is_empty() || self.ended || self.reset_told
     }
 
     // There is nothing to read, and no end to tell.

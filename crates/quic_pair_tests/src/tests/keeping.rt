@@ -4,7 +4,7 @@ use super::flows::{Flow, Wrong, check, is_among, other};
 use quic_assembler::Chunk;
 use quic_pair::{End, Last, PairError, Reply, Step};
 use quic_values::{ChunkList, Dir, Side, StreamId, VarInt};
-use quic_wire::{Frame, ReceiveError, StreamEvent, TransportError, decode};
+use quic_wire::{Frame, StreamEvent, decode};
 use std::alloc::Global;
 
 // A frame that was sent, whether it was accepted, and whether that was reported.
@@ -234,6 +234,7 @@ impl Record {
             Step::Poll { who } => self.poll(*who, reply),
             Step::Deliver { payload, frame } => self.deliver(*payload, *frame, reply),
             Step::AckStream { payload, index } => self.report(*payload, *index, reply),
+            Step::AckControl { payload } => self.report_control(*payload, reply),
             Step::Read { .. } => self.read(step, reply),
             Step::Emit { .. } => self.emit(alloc, step, reply),
             _ => check(*reply == Reply::Done, Wrong::Shape),
@@ -284,10 +285,19 @@ impl Record {
         Ok(())
     }
 
-    // A call on a half that is not there.
-    fn closed(&mut self, reply: &Reply) -> Result<(), Wrong> {
+    // A call on a half that may be so.
+    fn closed(&mut self, reply: &Reply, may_be: bool) -> Result<(), Wrong> {
         self.tally.closed = more(self.tally.closed);
-        check(*reply == Reply::Closed, Wrong::Stream)
+        check(*reply == Reply::Closed && may_be, Wrong::Stream)
+    }
+
+    // A call of the reader on a stream on which nothing comes, or that it left.
+    fn left(&mut self, who: End, id: StreamId, reply: &Reply) -> Result<(), Wrong> {
+        let may_be = match flow_of(&mut self.flows, other(who), id) {
+            Some(flow) => flow.is_left(),
+            None => true,
+        };
+        self.closed(reply, may_be)
     }
 }
 
@@ -347,7 +357,13 @@ impl Record {
                 Ok(())
             }
             Reply::Stopped(code) => self.stopped(who, id, *code),
-            _ => self.closed(reply),
+            _ => {
+                let may_be = match flow_of(&mut self.flows, who, id) {
+                    Some(flow) => flow.is_over(),
+                    None => true,
+                };
+                self.closed(reply, may_be)
+            }
         }
     }
 
@@ -363,8 +379,9 @@ impl Record {
         match reply {
             Reply::Done => match flow_of(&mut self.flows, who, id) {
                 Some(flow) => {
+                    let was_over = flow.is_over();
                     flow.finished = true;
-                    Ok(())
+                    check(!was_over, Wrong::Stream)
                 }
                 None => Err(Wrong::Stream),
             },
@@ -374,20 +391,31 @@ impl Record {
     }
 
     fn reset(&mut self, who: End, id: StreamId, code: VarInt, reply: &Reply) -> Result<(), Wrong> {
-        if *reply != Reply::Done {
-            return self.closed(reply);
-        }
-        match flow_of(&mut self.flows, who, id) {
-            Some(flow) => Ok(flow.resets.push(code)?),
-            None => Err(Wrong::Stream),
-        }
+        let may_be = match flow_of(&mut self.flows, who, id) {
+            Some(flow) => {
+                let was_reset = flow.is_reset();
+                if *reply == Reply::Done {
+                    flow.resets.push(code)?;
+                    return check(!was_reset, Wrong::Stream);
+                }
+                was_reset || flow.is_all_acked()
+            }
+            None => true,
+        };
+        self.closed(reply, may_be)
     }
 
     fn set_priority(&mut self, who: End, id: StreamId, reply: &Reply) -> Result<(), Wrong> {
-        if *reply != Reply::Done {
-            return self.closed(reply);
-        }
-        check(flow_of(&mut self.flows, who, id).is_some(), Wrong::Stream)
+        let may_be = match flow_of(&mut self.flows, who, id) {
+            Some(flow) => {
+                if *reply == Reply::Done {
+                    return Ok(());
+                }
+                flow.is_settled()
+            }
+            None => true,
+        };
+        self.closed(reply, may_be)
     }
 }
 
@@ -396,10 +424,13 @@ impl Record {
 impl Record {
     fn stop(&mut self, who: End, id: StreamId, code: VarInt, reply: &Reply) -> Result<(), Wrong> {
         if *reply != Reply::Done {
-            return self.closed(reply);
+            return self.left(who, id, reply);
         }
         match flow_of(&mut self.flows, other(who), id) {
-            Some(flow) => Ok(flow.stops.push(code)?),
+            Some(flow) => {
+                check(!flow.is_left(), Wrong::Stream)?;
+                Ok(flow.stops.push(code)?)
+            }
             None => Err(Wrong::Stream),
         }
     }
@@ -407,7 +438,12 @@ impl Record {
     fn told_reset(&mut self, who: End, id: StreamId, code: VarInt) -> Result<(), Wrong> {
         self.tally.resets = more(self.tally.resets);
         match flow_of(&mut self.flows, other(who), id) {
-            Some(flow) => check(is_among(&flow.resets, code), Wrong::ResetCode),
+            Some(flow) => {
+                let was_left = flow.is_left();
+                flow.reset_told = true;
+                check(!was_left, Wrong::Stream)?;
+                check(is_among(&flow.resets, code), Wrong::ResetCode)
+            }
             None => Err(Wrong::Stream),
         }
     }
@@ -416,7 +452,7 @@ impl Record {
         match reply {
             Reply::Nothing => Ok(()),
             Reply::Code(code) => self.told_reset(who, id, *code),
-            _ => self.closed(reply),
+            _ => self.left(who, id, reply),
         }
     }
 
@@ -453,7 +489,7 @@ impl Record {
                 self.told_last(*who, *id, *ordered, *last)
             }
             Reply::Illegal => self.illegal(*who, *id, *ordered),
-            _ => self.closed(reply),
+            _ => self.left(*who, *id, reply),
         }
     }
 
@@ -468,6 +504,7 @@ impl Record {
         let Some(flow) = flow_of(&mut self.flows, other(who), id) else {
             return Err(Wrong::Stream);
         };
+        check(!flow.is_left(), Wrong::Stream)?;
         check(!ordered || !flow.unordered, Wrong::Shape)?;
         flow.unordered = !ordered;
         for chunk in chunks {
@@ -502,6 +539,7 @@ impl Record {
             }
             Last::Ended => {
                 tally.ends = more(tally.ends);
+                flow.ended = true;
                 check(flow.finished && flow.is_all_given(), Wrong::Ended)
             }
             Last::Memory => Err(Wrong::Memory),
@@ -589,9 +627,8 @@ impl Record {
     fn deliver(&mut self, payload: usize, index: usize, reply: &Reply) -> Result<(), Wrong> {
         match reply {
             Reply::Done | Reply::DoneTransmit => self.arrive(payload, index),
-            Reply::Fault(ReceiveError::Transport(error)) => {
-                check(error.code == TransportError::INTERNAL_ERROR, Wrong::Fault)
-            }
+            // A session has fewer frames than an honest end may be refused.
+            Reply::Fault(_) => Err(Wrong::Fault),
             _ => Err(Wrong::Shape),
         }
     }
@@ -620,9 +657,33 @@ impl Record {
 
     // A STREAM frame was reported acknowledged.
     fn report(&mut self, payload: usize, index: usize, reply: &Reply) -> Result<(), Wrong> {
-        if let Some(found) = self.payloads.get_mut(payload) {
-            if let Some(carried) = found.frames.get_mut(index) {
-                carried.reported = true;
+        let Some(found) = self.payloads.get_mut(payload) else {
+            return Err(Wrong::NotRefused);
+        };
+        let writer = found.writer;
+        let Some(carried) = found.frames.get_mut(index) else {
+            return Err(Wrong::NotRefused);
+        };
+        carried.reported = true;
+        if let Frame::Stream(stream) = &carried.frame {
+            if let Some(flow) = flow_of(&mut self.flows, writer, stream.id) {
+                flow.acknowledge(stream);
+            }
+        }
+        check(*reply == Reply::Done, Wrong::Shape)
+    }
+
+    // The frames of a payload beside STREAM were reported acknowledged.
+    fn report_control(&mut self, payload: usize, reply: &Reply) -> Result<(), Wrong> {
+        let Some(found) = self.payloads.get(payload) else {
+            return Err(Wrong::NotRefused);
+        };
+        let writer = found.writer;
+        for carried in found.frames.iter() {
+            if let Frame::ResetStream(reset) = &carried.frame {
+                if let Some(flow) = flow_of(&mut self.flows, writer, reset.id) {
+                    flow.reset_acked = true;
+                }
             }
         }
         check(*reply == Reply::Done, Wrong::Shape)

@@ -1,5 +1,5 @@
 // With ample memory no size is refused.
-use super::{Answer, ReadError, Subject, ingest, run};
+use super::{Answer, ReadError, Subject, bytes_read, ingest, next, run};
 use std::alloc::{AllocError, Global};
 use std::process::Abort;
 use std::test::Fail;
@@ -25,11 +25,7 @@ fn read(
     most: usize,
     given: &mut Vec<u8>,
 ) -> Result<(), AllocError> {
-    subject
-        .half
-        .ensure_ordering(true)
-        .expect(rt, "ordered reads");
-    match subject.half.next(most, true) {
+    match next(rt, &mut subject.half, most, true) {
         Ok(Some(chunk)) => given.extend_from_slice(chunk.bytes.as_slice()),
         answer => {
             assert_eq!(rt; answer, Err(ReadError::Blocked));
@@ -48,7 +44,7 @@ fn pass(
 ) -> Result<(), Fail> {
     assert!(rt; size < 1 << 20);
     let bytes = draw(alloc, seed, size)?;
-    let start = subject.half.bytes_read();
+    let start = bytes_read(&subject.half);
     let answer = ingest(rt, alloc, subject, start, bytes.as_slice(), size, false)?;
     assert_eq!(rt; answer, Answer::New(size as u64), "{size} bytes");
     let mut given = Vec::new(alloc);

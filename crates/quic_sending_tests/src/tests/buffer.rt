@@ -1,6 +1,7 @@
+use super::{ack, buffered, empty, get, lose, next, poll, reserve, write};
 use quic_sending::SendBuffer;
 use quic_sending::send_buffer::cut_to_frame;
-use quic_values::{Bytes, OutOfMemory};
+use quic_values::OutOfMemory;
 use std::alloc::Global;
 use std::ops::Range;
 use std::process::Abort;
@@ -21,6 +22,19 @@ enum Step {
     NoneAcked(bool),
 }
 
+// The calls, with nothing of what they promise: a test looks at what they answer and leave.
+fn none_acked(buffer: &SendBuffer) -> bool {
+    buffer.none_acked()
+}
+
+fn has_unsent_data(buffer: &SendBuffer) -> bool {
+    buffer.has_unsent_data()
+}
+
+fn discard(buffer: &mut SendBuffer) {
+    buffer.discard();
+}
+
 fn take(
     rt: &impl Abort,
     alloc: Global,
@@ -28,34 +42,18 @@ fn take(
     step: Step,
 ) -> Result<(), OutOfMemory> {
     match step {
-        Step::Write(bytes) => {
-            let piece = Bytes::copy_from_slice(alloc, bytes)?;
-            assert!(rt; piece.len() < 1 << 40 && buffer.offset() < 1 << 40);
-            buffer.write(piece)?;
-        }
+        Step::Write(bytes) => write(rt, alloc, buffer, bytes)?,
         Step::Poll(max_len, start, end, length) => {
-            assert!(rt; max_len >= 16);
-            let answer = buffer.poll_transmit(max_len)?;
-            assert_eq!(rt; answer, (start..end, length));
+            assert_eq!(rt; poll(rt, buffer, max_len)?, (start..end, length));
         }
-        Step::Ack(start, end) => {
-            assert!(rt; end <= buffer.unsent());
-            buffer.ack(start..end)?;
-        }
-        Step::Lose(start, end) => {
-            assert!(rt; end <= buffer.unsent());
-            buffer.retransmit(start..end)?;
-        }
-        Step::Get(start, end, bytes) => {
-            assert_eq!(rt; buffer.get(start..end), bytes);
-        }
+        Step::Ack(start, end) => ack(rt, buffer, start..end)?,
+        Step::Lose(start, end) => lose(rt, buffer, start..end)?,
+        Step::Get(start, end, bytes) => assert_eq!(rt; get(buffer, start..end), bytes),
         Step::Unacked(bytes) => {
             assert_eq!(rt; unacked(alloc, buffer)?.as_slice(), bytes);
         }
-        Step::Buffered(count) => {
-            assert_eq!(rt; buffer.buffered(), count);
-        }
-        Step::NoneAcked(none) => assert_eq!(rt; buffer.none_acked(), none),
+        Step::Buffered(count) => assert_eq!(rt; buffered(buffer), count),
+        Step::NoneAcked(none) => assert_eq!(rt; none_acked(buffer), none),
     }
     Ok(())
 }
@@ -65,7 +63,7 @@ fn unacked(alloc: Global, buffer: &SendBuffer) -> Result<Vec<u8>, OutOfMemory> {
     let mut all = Vec::new(alloc);
     let mut covered = 0;
     for at in 0..end {
-        let part = buffer.get(at..end);
+        let part = get(buffer, at..end);
         if at >= covered && !part.is_empty() {
             all.extend_from_slice(part)?;
             covered = at.saturating_add(part.len() as u64);
@@ -85,33 +83,47 @@ struct Seen {
     next: (u64, u64, bool),
 }
 
-fn see(buffer: &SendBuffer) -> Seen {
-    let (range, has_length) = buffer.next_transmit(58);
+fn see(rt: &impl Abort, buffer: &SendBuffer) -> Seen {
+    let (range, has_length) = next(rt, buffer, 58);
     Seen {
         offset: buffer.offset(),
         unsent: buffer.unsent(),
         prefix: buffer.acked_prefix(),
-        buffered: buffer.buffered(),
+        buffered: buffered(buffer),
         next: (range.start, range.end, has_length),
     }
 }
 
+fn is_unchanged(rt: &impl Abort, buffer: &SendBuffer, before: Seen, step: Step) {
+    assert_eq!(rt; see(rt, buffer), before, "{step:?}");
+}
+
 // A step that finds no memory changes nothing. It is taken again, and it and those behind it have to answer as if
 // nothing had happened.
+fn take_again(
+    rt: &impl Abort,
+    alloc: Global,
+    buffer: &mut SendBuffer,
+    step: Step,
+) -> Result<(), OutOfMemory> {
+    let before = see(rt, buffer);
+    if take(rt, alloc, buffer, step).is_err() {
+        is_unchanged(rt, buffer, before, step);
+        take(rt, alloc, buffer, step)?;
+    }
+    Ok(())
+}
+
 fn run_again(rt: &impl Abort, alloc: Global, steps: &[Step]) -> Result<SendBuffer, OutOfMemory> {
-    let mut buffer = SendBuffer::new(alloc);
+    let mut buffer = empty(alloc);
     for step in steps {
-        let before = see(&buffer);
-        if take(rt, alloc, &mut buffer, *step).is_err() {
-            assert_eq!(rt; see(&buffer), before, "{step:?}");
-            take(rt, alloc, &mut buffer, *step)?;
-        }
+        take_again(rt, alloc, &mut buffer, *step)?;
     }
     Ok(buffer)
 }
 
 fn run(rt: &impl Abort, alloc: Global, steps: &[Step]) -> Result<SendBuffer, OutOfMemory> {
-    let mut buffer = SendBuffer::new(alloc);
+    let mut buffer = empty(alloc);
     for step in steps {
         take(rt, alloc, &mut buffer, *step)?;
     }
@@ -240,7 +252,7 @@ const LOSSES: [Step; 7] = [
 #[test]
 fn retransmit(rt: HostRuntime) -> Result<(), Fail> {
     let mut buffer = run(&rt, rt.alloc(), &LOSSES)?;
-    assert_eq!(rt; buffer.poll_transmit(16)?, (16..23, true));
+    assert_eq!(rt; poll(&rt, &mut buffer, 16)?, (16..23, true));
     Ok(())
 }
 
@@ -260,7 +272,7 @@ const REORDERED: [Step; 10] = [
 #[test]
 fn acknowledged_is_not_sent_again(rt: HostRuntime) -> Result<(), Fail> {
     let buffer = run(&rt, rt.alloc(), &REORDERED)?;
-    assert_eq!(rt; buffer.has_unsent_data(), false);
+    assert_eq!(rt; has_unsent_data(&buffer), false);
     Ok(())
 }
 
@@ -300,18 +312,16 @@ fn retains_whole_pieces(rt: HostRuntime) -> Result<(), Fail> {
     Ok(())
 }
 
-// The frame writer's copy of a range.
-fn copy(
+// The frame writer's copy of a range, behind a text.
+fn append(
     rt: &impl Abort,
-    alloc: Global,
     buffer: &SendBuffer,
     range: Range<u64>,
-) -> Result<Vec<u8>, OutOfMemory> {
+    text: &mut Vec<u8>,
+) -> Result<(), OutOfMemory> {
     assert!(rt; buffer.acked_prefix() <= range.start && range.start <= range.end);
     assert!(rt; range.end <= buffer.offset());
-    let mut text = b"> ".to_vec(alloc)?;
-    buffer.append_range(range, &mut text)?;
-    Ok(text)
+    buffer.append_range(range, text)
 }
 
 #[test]
@@ -325,7 +335,8 @@ fn a_range_of_several_pieces_is_copied(rt: HostRuntime) -> Result<(), Fail> {
             Step::Write(b"ld!"),
         ],
     )?;
-    let text = copy(&rt, rt.alloc(), &buffer, 1..12)?;
+    let mut text = b"> ".to_vec(rt.alloc())?;
+    append(&rt, &buffer, 1..12, &mut text)?;
     assert_eq!(rt; text.as_slice(), b"> ello, world".as_slice());
     Ok(())
 }
@@ -337,10 +348,10 @@ fn discarded_bytes_are_gone(rt: HostRuntime) -> Result<(), Fail> {
         rt.alloc(),
         &[Step::Write(b"Hello, world!"), Step::Poll(58, 0, 13, true)],
     )?;
-    buffer.reserve(1)?;
-    buffer.discard();
+    reserve(&mut buffer, 1)?;
+    discard(&mut buffer);
     assert_eq!(rt;
-        (buffer.offset(), buffer.buffered(), buffer.has_unsent_data()),
+        (buffer.offset(), buffered(&buffer), has_unsent_data(&buffer)),
         (13, 0, false)
     );
     Ok(())
@@ -391,26 +402,14 @@ fn reserve_again(
     buffer: &mut SendBuffer,
     pieces: usize,
 ) -> Result<(), OutOfMemory> {
-    let before = see(buffer);
-    match buffer.reserve(pieces) {
+    let before = see(rt, buffer);
+    match reserve(buffer, pieces) {
         Ok(()) => Ok(()),
         Err(_) => {
-            assert_eq!(rt; see(buffer), before);
-            buffer.reserve(pieces)
+            assert_eq!(rt; see(rt, buffer), before);
+            reserve(buffer, pieces)
         }
     }
-}
-
-fn append(
-    buffer: &SendBuffer,
-    start: u64,
-    end: u64,
-    text: &mut Vec<u8>,
-) -> Result<(), OutOfMemory> {
-    if buffer.acked_prefix() <= start && start <= end && end <= buffer.offset() {
-        buffer.append_range(start..end, text)?;
-    }
-    Ok(())
 }
 
 // The bytes from one offset up to another. Where memory is refused, nothing changed and nothing was copied.
@@ -421,12 +420,12 @@ fn append_again(
     start: u64,
     end: u64,
 ) -> Result<Vec<u8>, OutOfMemory> {
-    let before = see(buffer);
+    let before = see(rt, buffer);
     let mut text = Vec::new(alloc);
-    if append(buffer, start, end, &mut text).is_err() {
+    if append(rt, buffer, start..end, &mut text).is_err() {
         assert_eq!(rt; text.len(), 0);
-        assert_eq!(rt; see(buffer), before);
-        append(buffer, start, end, &mut text)?;
+        assert_eq!(rt; see(rt, buffer), before);
+        append(rt, buffer, start..end, &mut text)?;
     }
     Ok(text)
 }
@@ -437,6 +436,6 @@ fn each_refused_change_changes_nothing(rt: HostRuntime) -> Result<(), Fail> {
     reserve_again(&rt, &mut buffer, 20)?;
     let text = append_again(&rt, rt.alloc(), &buffer, 18, 29)?;
     assert_eq!(rt; text.as_slice(), b"extra data!".as_slice());
-    assert_eq!(rt; buffer.has_unsent_data(), false);
+    assert_eq!(rt; has_unsent_data(&buffer), false);
     Ok(())
 }

@@ -1,3 +1,4 @@
+use super::{are_left, buffered, chunks_of, get, poll};
 use quic_sending::source::{ByteSlice, BytesArray, BytesSource};
 use quic_sending::{ClosedStream, FinishError, Send, WriteError, Written};
 use quic_values::{Bytes, OutOfMemory, VarInt};
@@ -8,11 +9,32 @@ use std::ops::Range;
 use std::process::Abort;
 use std::test::Fail;
 
-fn half(alloc: Global, limit: u32) -> Send {
-    Send::new(alloc, VarInt::from(limit))
+// The calls, with nothing of what they promise: a test looks at what they answer and leave.
+fn limited(alloc: Global, limit: VarInt) -> Send {
+    Send::new(alloc, limit)
 }
 
-fn write(send: &mut Send, source: &mut ByteSlice, limit: u64) -> Result<Written, WriteError> {
+fn stopped(send: &mut Send, code: VarInt) -> bool {
+    send.try_stop(code)
+}
+
+fn slice_source<'a>(alloc: Global, text: &'a [u8]) -> ByteSlice<'a> {
+    ByteSlice::from_slice(alloc, text)
+}
+
+fn chunk_source<'a>(alloc: Global, chunks: &'a mut [Bytes]) -> BytesArray<'a> {
+    BytesArray::from_chunks(alloc, chunks)
+}
+
+fn offset(send: &Send) -> u64 {
+    send.offset()
+}
+
+fn write<S: BytesSource>(
+    send: &mut Send,
+    source: &mut S,
+    limit: u64,
+) -> Result<Written, WriteError> {
     send.write(source, limit)
 }
 
@@ -24,12 +46,30 @@ fn raise(send: &mut Send, limit: u64) -> bool {
     send.increase_max_data(limit)
 }
 
-fn stop(send: &mut Send, code: u32) -> bool {
-    send.try_stop(VarInt::from(code))
+fn reset(send: &mut Send) {
+    send.reset();
 }
 
-fn get(send: &Send, range: Range<u64>) -> &[u8] {
-    send.pending.get(range)
+fn is_pending(send: &Send) -> bool {
+    send.is_pending()
+}
+
+fn ack(
+    rt: &impl Abort,
+    send: &mut Send,
+    offsets: Range<u64>,
+    fin: bool,
+) -> Result<bool, OutOfMemory> {
+    assert!(rt; offsets.end <= send.pending.unsent());
+    send.ack(offsets, fin)
+}
+
+fn half(alloc: Global, limit: u32) -> Send {
+    limited(alloc, VarInt::from(limit))
+}
+
+fn stop(send: &mut Send, code: u32) -> bool {
+    stopped(send, VarInt::from(code))
 }
 
 // A write takes so many bytes, with which so many chunks end.
@@ -48,9 +88,13 @@ fn written(bytes: usize, chunks: usize) -> Written {
     Written { bytes, chunks }
 }
 
+fn is_refused(rt: &impl Abort, outcome: Result<Written, WriteError>, wanted: WriteError) {
+    assert_eq!(rt; outcome, Err(wanted));
+}
+
 // What is kept from an offset on, up to an end or to that of its piece.
 fn keeps(rt: &impl Abort, send: &Send, range: Range<u64>, wanted: &[u8]) {
-    assert_eq!(rt; get(send, range), wanted);
+    assert_eq!(rt; get(&send.pending, range), wanted);
 }
 
 fn raises(rt: &impl Abort, send: &mut Send, limit: u64, wanted: bool) {
@@ -76,21 +120,11 @@ fn completes(
 // A half to which a text was written and sent.
 fn sent(rt: &impl Abort, alloc: Global, text: &[u8]) -> Result<Send, WriteError> {
     let mut send = half(alloc, 100);
-    let written = write(&mut send, &mut ByteSlice::from_slice(alloc, text), 100)?;
+    let written = write(&mut send, &mut slice_source(alloc, text), 100)?;
     assert_eq!(rt; written.bytes, text.len());
-    let (range, _) = send.pending.poll_transmit(50)?;
-    assert_eq!(rt; range.end, send.offset());
+    let (range, _) = poll(rt, &mut send.pending, 50)?;
+    assert_eq!(rt; range.end, offset(&send));
     Ok(send)
-}
-
-fn ack(
-    rt: &impl Abort,
-    send: &mut Send,
-    offsets: Range<u64>,
-    fin: bool,
-) -> Result<bool, OutOfMemory> {
-    assert!(rt; offsets.end <= send.pending.unsent());
-    send.ack(offsets, fin)
 }
 
 fn write_chunks(
@@ -99,22 +133,7 @@ fn write_chunks(
     chunks: &mut [Bytes],
     limit: u64,
 ) -> Result<Written, WriteError> {
-    send.write(&mut BytesArray::from_chunks(alloc, chunks), limit)
-}
-
-// Chunks of these texts.
-fn chunks_of(alloc: Global, texts: &[&[u8]]) -> Result<Vec<Bytes>, OutOfMemory> {
-    let mut chunks = Vec::new(alloc);
-    for text in texts {
-        chunks.push(Bytes::copy_from_slice(alloc, text)?)?;
-    }
-    Ok(chunks)
-}
-
-fn are_left(rt: &impl Abort, chunks: &[Bytes], texts: &[&[u8]]) {
-    for (chunk, text) in chunks.iter().zip(texts) {
-        assert_eq!(rt; chunk.as_slice(), *text);
-    }
+    write(send, &mut BytesArray::from_chunks(alloc, chunks), limit)
 }
 
 // What a write of these chunks takes under a stream limit, and what is left of them.
@@ -130,10 +149,10 @@ fn shows_write(
     let mut send = half(alloc, limit);
     let outcome = write_chunks(alloc, &mut send, chunks.as_mut_slice(), 1000);
     assert_eq!(rt; outcome?, written);
-    assert_eq!(rt; send.offset(), u64::from(limit));
+    assert_eq!(rt; offset(&send), u64::from(limit));
     are_left(rt, &chunks, left);
     let outcome = write_chunks(alloc, &mut send, chunks.as_mut_slice(), 1000);
-    assert_eq!(rt; outcome, Err(WriteError::Blocked));
+    is_refused(rt, outcome, WriteError::Blocked);
     Ok(())
 }
 
@@ -158,6 +177,11 @@ fn write_takes_what_the_limit_leaves(rt: HostRuntime) -> Result<(), Fail> {
     Ok(())
 }
 
+// So many bytes were written, and all are kept.
+fn has_just(rt: &impl Abort, send: &Send, count: u64) {
+    assert_eq!(rt; (offset(send), buffered(&send.pending)), (count, count));
+}
+
 // A write that finds no memory leaves the source and the half as they were: the next one takes all.
 fn write_again<S: BytesSource>(
     rt: &impl Abort,
@@ -165,16 +189,14 @@ fn write_again<S: BytesSource>(
     source: &mut S,
     limit: u64,
 ) -> Result<Written, WriteError> {
-    let offset = send.offset();
-    match send.write(source, limit) {
-        Err(error) => {
-            assert_eq!(rt; error, WriteError::OutOfMemory);
-            assert_eq!(rt; send.offset(), offset);
-            assert_eq!(rt; send.pending.buffered(), offset);
-            send.write(source, limit)
-        }
-        written => written,
+    let before = offset(send);
+    let outcome = write(send, source, limit);
+    if outcome.is_ok() {
+        return outcome;
     }
+    is_refused(rt, outcome, WriteError::OutOfMemory);
+    has_just(rt, send, before);
+    write(send, source, limit)
 }
 
 fn takes_again<S: BytesSource>(
@@ -194,9 +216,9 @@ fn refused_memory_changes_no_source(rt: HostRuntime) -> Result<(), Fail> {
         return Ok(());
     };
     let mut send = half(rt.alloc(), 100);
-    let mut source = BytesArray::from_chunks(rt.alloc(), chunks.as_mut_slice());
+    let mut source = chunk_source(rt.alloc(), chunks.as_mut_slice());
     takes_again(&rt, &mut send, &mut source, 7, written(7, 2))?;
-    let mut source = ByteSlice::from_slice(rt.alloc(), b"rld!");
+    let mut source = slice_source(rt.alloc(), b"rld!");
     takes_again(&rt, &mut send, &mut source, 3, written(3, 0))?;
     keeps(&rt, &send, 0..10, b"Hello ");
     keeps(&rt, &send, 6..10, b"W");
@@ -207,7 +229,7 @@ fn refused_memory_changes_no_source(rt: HostRuntime) -> Result<(), Fail> {
 #[test]
 fn write_takes_at_most_the_limit_handed_in(rt: HostRuntime) -> Result<(), Fail> {
     let mut send = half(rt.alloc(), 100);
-    let mut source = ByteSlice::from_slice(rt.alloc(), b"Hello, world!");
+    let mut source = slice_source(rt.alloc(), b"Hello, world!");
     takes(&rt, &mut send, &mut source, 5, written(5, 0))?;
     takes(&rt, &mut send, &mut source, 100, written(8, 1))?;
     takes(&rt, &mut send, &mut source, 100, written(0, 0))?;
@@ -220,9 +242,9 @@ fn write_takes_at_most_the_limit_handed_in(rt: HostRuntime) -> Result<(), Fail> 
 #[test]
 fn complete_needs_every_byte(rt: HostRuntime) -> Result<(), Fail> {
     let mut send = sent(&rt, rt.alloc(), b"abc")?;
-    assert_eq!(rt; send.is_pending(), false);
+    assert_eq!(rt; is_pending(&send), false);
     finish(&mut send)?;
-    assert_eq!(rt; send.is_pending(), true);
+    assert_eq!(rt; is_pending(&send), true);
     completes(&rt, &mut send, 3..3, true, false)?;
     completes(&rt, &mut send, 0..3, false, true)?;
     Ok(())
@@ -231,11 +253,11 @@ fn complete_needs_every_byte(rt: HostRuntime) -> Result<(), Fail> {
 #[test]
 fn nothing_is_complete_after_a_reset(rt: HostRuntime) -> Result<(), Fail> {
     let mut send = sent(&rt, rt.alloc(), b"abc")?;
-    send.reset();
-    assert!(rt; send.is_reset() && !send.is_pending());
+    reset(&mut send);
+    assert!(rt; send.is_reset() && !is_pending(&send));
     completes(&rt, &mut send, 0..3, true, false)?;
     finish_gives(&rt, &mut send, Err(FinishError::ClosedStream));
-    assert_eq!(rt; send.offset(), 3);
+    assert_eq!(rt; offset(&send), 3);
     Ok(())
 }
 
@@ -245,9 +267,9 @@ fn the_first_stop_counts(rt: HostRuntime) -> Result<(), Fail> {
     assert!(rt; stop(&mut send, 7));
     assert!(rt; !stop(&mut send, 8));
     let code = VarInt::from(7);
-    let mut source = ByteSlice::from_slice(rt.alloc(), b"abc");
+    let mut source = slice_source(rt.alloc(), b"abc");
     let outcome = write(&mut send, &mut source, 3);
-    assert_eq!(rt; outcome, Err(WriteError::Stopped(code)));
+    is_refused(&rt, outcome, WriteError::Stopped(code));
     finish_gives(&rt, &mut send, Err(FinishError::Stopped(code)));
     Ok(())
 }
@@ -256,7 +278,7 @@ fn the_first_stop_counts(rt: HostRuntime) -> Result<(), Fail> {
 fn a_larger_limit_unblocks(rt: HostRuntime) -> Result<(), Fail> {
     let mut send = half(rt.alloc(), 3);
     raises(&rt, &mut send, 5, false);
-    let mut source = ByteSlice::from_slice(rt.alloc(), b"abcdefgh");
+    let mut source = slice_source(rt.alloc(), b"abcdefgh");
     takes(&rt, &mut send, &mut source, 100, written(5, 0))?;
     raises(&rt, &mut send, 5, false);
     raises(&rt, &mut send, u64::MAX, true);

@@ -1,3 +1,4 @@
+use super::{are_left, chunks_of};
 use quic_sending::source::{ByteSlice, BytesArray, BytesSource};
 use quic_values::{Bytes, OutOfMemory};
 use std::alloc::Global;
@@ -43,14 +44,6 @@ fn take_chunks(alloc: Global, chunks: &mut [Bytes], limit: usize) -> Result<Take
     take_out(alloc, &mut BytesArray::from_chunks(alloc, chunks), limit)
 }
 
-fn chunks(alloc: Global, texts: &[&[u8]]) -> Result<Vec<Bytes>, OutOfMemory> {
-    let mut all = Vec::new(alloc);
-    for text in texts {
-        all.push(Bytes::copy_from_slice(alloc, text)?)?;
-    }
-    Ok(all)
-}
-
 // The chunks, what is taken of them at a limit, and what is left.
 fn shows_rest(
     rt: &impl Abort,
@@ -60,13 +53,11 @@ fn shows_rest(
     ended: usize,
     rest: &[&[u8]],
 ) -> Result<(), OutOfMemory> {
-    let mut all = chunks(alloc, texts)?;
+    let mut all = chunks_of(alloc, texts)?;
     let taken = take_chunks(alloc, all.as_mut_slice(), limit)?;
     assert_eq!(rt; taken.bytes.len(), limit);
     assert_eq!(rt; taken.ended, ended);
-    for (chunk, text) in all.iter().zip(rest) {
-        assert_eq!(rt; chunk.as_slice(), *text);
-    }
+    are_left(rt, &all, rest);
     Ok(())
 }
 
@@ -86,7 +77,7 @@ fn bytes_array(rt: HostRuntime) -> Result<(), Fail> {
         b"GHJIJKLMNOPQRSTUVWXYZ",
     ];
     for limit in 0..FULL.len() + 1 {
-        let mut all = chunks(rt.alloc(), &texts)?;
+        let mut all = chunks_of(rt.alloc(), &texts)?;
         let taken = take_chunks(rt.alloc(), all.as_mut_slice(), limit)?;
         assert_eq!(rt; taken.bytes.as_slice(), FULL.get(..limit).ok_or("long")?);
         if limit == FULL.len() {

@@ -1,11 +1,8 @@
 // Acknowledgements and losses of what an end sent.
-use super::sending::queued;
-use super::{Answer, Subject, WINDOW, client, counts, id, receive};
-use quic_streams::PeerLimits;
-use quic_streams::recv_stream::RecvStream;
-use quic_streams::send_stream::SendStream;
-use quic_streams::streams::{ConnState, Streams};
-use quic_values::{Dir, OutOfMemory, StreamId, VarInt};
+use super::calls::Subject;
+use super::sending::{self, Done, Event, Step, open_one, take};
+use super::{Answer, counts, early, id, receive};
+use quic_values::{Dir, OutOfMemory, Side};
 use quic_wire::{StreamEvent, frame};
 use std::alloc::Global;
 use std::process::Abort;
@@ -14,38 +11,14 @@ use std::test::Fail;
 
 // A client that permits its peer one stream of each direction, and may itself open so many.
 fn end(alloc: Global, streams: u32) -> Result<Subject, OutOfMemory> {
-    let mut subject = client(alloc, 1, WINDOW, WINDOW)?;
-    let limit = VarInt::from(100u32);
-    let streams = VarInt::from(streams);
-    subject.state.set_params(&PeerLimits {
-        initial_max_data: limit,
-        initial_max_streams_bidi: streams,
-        initial_max_streams_uni: streams,
-        initial_max_stream_data_uni: limit,
-        initial_max_stream_data_bidi_local: limit,
-        initial_max_stream_data_bidi_remote: limit,
-    });
-    Ok(subject)
+    sending::end(alloc, Side::Client, streams, 100, 100)
 }
 
-fn open(subject: &mut Subject) -> Option<StreamId> {
-    match Streams::new(&mut subject.state, ConnState::Open).open(Dir::Uni) {
-        Ok(opened) => opened,
-        Err(_) => None,
-    }
-}
-
-fn sending(subject: &mut Subject, stream: u32) -> SendStream<'_> {
-    SendStream::new(
-        id(stream),
-        &mut subject.state,
-        &mut subject.pending,
-        ConnState::Open,
-    )
-}
-
-fn is_open(subject: &mut Subject, stream: u32) -> bool {
-    sending(subject, stream).priority().is_ok()
+// Takes steps on a client that may open so many streams of each direction.
+fn run(rt: &impl Abort, alloc: Global, streams: u32, steps: &[Step]) -> Result<(), Fail> {
+    let mut subject = end(alloc, streams)?;
+    take(rt, alloc, &mut subject, steps)?;
+    Ok(())
 }
 
 fn meta(stream: u32, end: u64, fin: bool) -> frame::StreamMeta {
@@ -59,268 +32,294 @@ fn meta(stream: u32, end: u64, fin: bool) -> frame::StreamMeta {
 // Each report is made once more where memory was wanting, which has to leave all as it was.
 fn ack(rt: &impl Abort, subject: &mut Subject, stream: u32, end: u64, fin: bool) {
     let before = counts(subject);
-    if subject
-        .state
-        .received_ack_of(meta(stream, end, fin))
-        .is_err()
-    {
+    if subject.received_ack_of(meta(stream, end, fin)).is_err() {
         assert_eq!(rt; counts(subject), before);
-        let answer = subject.state.received_ack_of(meta(stream, end, fin));
+        let answer = subject.received_ack_of(meta(stream, end, fin));
         assert!(rt; answer.is_ok());
     }
 }
 
 fn lose(rt: &impl Abort, subject: &mut Subject, stream: u32, end: u64, fin: bool) {
     let before = counts(subject);
-    if subject.state.retransmit(meta(stream, end, fin)).is_err() {
+    if subject.retransmit(meta(stream, end, fin)).is_err() {
         assert_eq!(rt; counts(subject), before);
-        assert!(rt; subject.state.retransmit(meta(stream, end, fin)).is_ok());
+        assert!(rt; subject.retransmit(meta(stream, end, fin)).is_ok());
     }
 }
 
 fn reset_acked(rt: &impl Abort, subject: &mut Subject, stream: u32) {
     let before = counts(subject);
-    if subject.state.reset_acked(id(stream)).is_err() {
+    if subject.reset_acked(stream).is_err() {
         assert_eq!(rt; counts(subject), before);
-        assert!(rt; is_open(subject, stream));
-        assert!(rt; subject.state.reset_acked(id(stream)).is_ok());
+        assert!(rt; subject.priority(stream).is_some());
+        assert!(rt; subject.reset_acked(stream).is_ok());
     }
 }
 
-fn stop(rt: &impl Abort, subject: &mut Subject, stream: u32) {
-    let stopped = RecvStream::new(id(stream), &mut subject.state, &mut subject.pending).stop(
-        VarInt::from(9u32),
-    );
-    assert!(rt; stopped.is_ok());
-}
-
-// A stream of the peer comes with its end, and is stopped.
-fn stop_unread(
+// The peer opens a stream with a byte and its end.
+pub(super) fn comes_whole(
     rt: &impl Abort,
     alloc: Global,
     subject: &mut Subject,
     stream: u32,
 ) -> Result<(), OutOfMemory> {
-    assert_eq!(rt;
-        receive(alloc, subject, stream, 0, 1, true)?,
-        Answer::Taken(false)
-    );
-    stop(rt, subject, stream);
+    let answer = receive(alloc, subject, stream, 0, 1, true)?;
+    assert_eq!(rt; answer, Answer::Taken(false));
     Ok(())
 }
+
+// Reports of the peer, and what they change.
+pub(super) fn report(rt: &impl Abort, subject: &mut Subject, step: Step) {
+    match step {
+        Step::Acked(stream, end, fin) => ack(rt, subject, stream, end, fin),
+        Step::Lost(stream, end, fin) => lose(rt, subject, stream, end, fin),
+        Step::ResetAcked(stream) => reset_acked(rt, subject, stream),
+        Step::Unread(stream) => assert!(rt; subject.stop(stream, 9).is_ok()),
+        Step::SendStreams(count) => assert_eq!(rt; subject.send_streams(), count),
+        Step::MaxRemote(dir, count) => assert_eq!(rt; subject.max_remote(dir), count),
+        Step::Due(is) => assert_eq!(rt; subject.queue_max_stream_id(), is),
+        Step::CanSend(is) => assert_eq!(rt; subject.can_send_stream_data(), is),
+        other => early::start(rt, subject, other),
+    }
+}
+
+const COMPLETE: [Step; 11] = [
+    Step::Open(Dir::Uni, Some(2)),
+    Step::Finish(2, Done::Is),
+    // Of what was not sent a report does not count.
+    Step::Acked(2, 9, true),
+    Step::Poll(None),
+    Step::Acked(2, 0, false),
+    Step::Poll(None),
+    Step::Acked(2, 0, true),
+    Step::Poll(Some(Event::Finished(2))),
+    Step::Priority(2, None),
+    Step::Acked(2, 0, true),
+    Step::Poll(None),
+];
 
 #[test]
 fn complete_streams_are_finished(rt: HostRuntime) -> Result<(), Fail> {
-    let alloc = rt.alloc();
-    let mut subject = end(alloc, 2)?;
-    assert_eq!(&rt; open(&mut subject), Some(id(2)));
-    assert!(&rt; sending(&mut subject, 2).finish().is_ok());
-    // Of what was not sent a report does not count.
-    ack(&rt, &mut subject, 2, 9, true);
-    assert_eq!(&rt; subject.state.poll(), None);
-    ack(&rt, &mut subject, 2, 0, false);
-    assert_eq!(&rt; subject.state.poll(), None);
-    ack(&rt, &mut subject, 2, 0, true);
-    assert_eq!(&rt;
-        subject.state.poll(),
-        Some(StreamEvent::Finished { id: id(2) })
-    );
-    assert!(&rt; !is_open(&mut subject, 2));
-    ack(&rt, &mut subject, 2, 0, true);
-    assert_eq!(&rt; subject.state.poll(), None);
-    Ok(())
+    run(&rt, rt.alloc(), 2, &COMPLETE)
 }
+
+const END_ALONE: [Step; 8] = [
+    Step::Open(Dir::Uni, Some(2)),
+    Step::Write(2, 4, Done::Took(4)),
+    Step::Finish(2, Done::Is),
+    Step::Acked(2, 0, true),
+    Step::Poll(None),
+    Step::Priority(2, Some(0)),
+    // A stream that no end opened.
+    Step::Acked(1001, 0, true),
+    Step::Poll(None),
+];
 
 #[test]
 fn the_end_alone_is_not_all(rt: HostRuntime) -> Result<(), Fail> {
-    let alloc = rt.alloc();
-    let mut subject = end(alloc, 2)?;
-    assert_eq!(&rt; open(&mut subject), Some(id(2)));
-    assert!(&rt; matches!(sending(&mut subject, 2).write(b"four"), Ok(4)));
-    assert!(&rt; sending(&mut subject, 2).finish().is_ok());
-    ack(&rt, &mut subject, 2, 0, true);
-    assert_eq!(&rt; subject.state.poll(), None);
-    assert!(&rt; is_open(&mut subject, 2));
-    // A stream that no end opened.
-    ack(&rt, &mut subject, 1001, 0, true);
-    assert_eq!(&rt; subject.state.poll(), None);
-    Ok(())
+    run(&rt, rt.alloc(), 2, &END_ALONE)
 }
+
+const FREED: [Step; 14] = [
+    Step::Whole(1),
+    Step::Finish(1, Done::Is),
+    Step::Acked(1, 0, true),
+    Step::MaxRemote(Dir::Bi, 1),
+    Step::Unread(1),
+    Step::MaxRemote(Dir::Bi, 2),
+    Step::Whole(5),
+    Step::Unread(5),
+    Step::MaxRemote(Dir::Bi, 2),
+    Step::Finish(5, Done::Is),
+    Step::Acked(5, 0, true),
+    Step::MaxRemote(Dir::Bi, 3),
+    Step::Due(true),
+    Step::Priority(9, Some(0)),
+];
 
 #[test]
 fn freed_streams_of_the_peer_make_room(rt: HostRuntime) -> Result<(), Fail> {
-    let alloc = rt.alloc();
-    let mut subject = end(alloc, 2)?;
-    assert_eq!(&rt;
-        receive(alloc, &mut subject, 1, 0, 1, true)?,
-        Answer::Taken(false)
-    );
-    assert!(&rt; sending(&mut subject, 1).finish().is_ok());
-    ack(&rt, &mut subject, 1, 0, true);
-    assert_eq!(&rt; subject.state.max_remote(Dir::Bi), 1);
-    stop(&rt, &mut subject, 1);
-    assert_eq!(&rt; subject.state.max_remote(Dir::Bi), 2);
-    assert_eq!(&rt;
-        receive(alloc, &mut subject, 5, 0, 1, true)?,
-        Answer::Taken(false)
-    );
-    stop(&rt, &mut subject, 5);
-    assert_eq!(&rt; subject.state.max_remote(Dir::Bi), 2);
-    assert!(&rt; sending(&mut subject, 5).finish().is_ok());
-    ack(&rt, &mut subject, 5, 0, true);
-    assert_eq!(&rt; subject.state.max_remote(Dir::Bi), 3);
-    assert!(&rt; subject.state.queue_max_stream_id(&mut subject.pending));
-    assert!(&rt; is_open(&mut subject, 9));
-    Ok(())
+    run(&rt, rt.alloc(), 2, &FREED)
 }
+
+const RESETS: [Step; 15] = [
+    Step::Open(Dir::Uni, Some(2)),
+    Step::ResetAcked(2),
+    Step::Priority(2, Some(0)),
+    Step::Reset(2, 3, Done::Is),
+    Step::Acked(2, 0, true),
+    Step::Priority(2, Some(0)),
+    Step::ResetAcked(2),
+    Step::Priority(2, None),
+    Step::Poll(None),
+    // A stream of the peer.
+    Step::Whole(1),
+    Step::Unread(1),
+    Step::Reset(1, 3, Done::Is),
+    Step::MaxRemote(Dir::Bi, 1),
+    Step::ResetAcked(1),
+    Step::MaxRemote(Dir::Bi, 2),
+];
 
 #[test]
 fn acknowledged_resets_free(rt: HostRuntime) -> Result<(), Fail> {
-    let alloc = rt.alloc();
-    let mut subject = end(alloc, 2)?;
-    assert_eq!(&rt; open(&mut subject), Some(id(2)));
-    reset_acked(&rt, &mut subject, 2);
-    assert!(&rt; is_open(&mut subject, 2));
-    assert!(&rt; sending(&mut subject, 2).reset(VarInt::from(3u32)).is_ok());
-    ack(&rt, &mut subject, 2, 0, true);
-    assert!(&rt; is_open(&mut subject, 2));
-    reset_acked(&rt, &mut subject, 2);
-    assert!(&rt; !is_open(&mut subject, 2));
-    assert_eq!(&rt; subject.state.poll(), None);
-    // A stream of the peer.
-    assert_eq!(&rt;
-        receive(alloc, &mut subject, 1, 0, 1, true)?,
-        Answer::Taken(false)
-    );
-    stop(&rt, &mut subject, 1);
-    assert!(&rt; sending(&mut subject, 1).reset(VarInt::from(3u32)).is_ok());
-    assert_eq!(&rt; subject.state.max_remote(Dir::Bi), 1);
-    reset_acked(&rt, &mut subject, 1);
-    assert_eq!(&rt; subject.state.max_remote(Dir::Bi), 2);
-    Ok(())
+    run(&rt, rt.alloc(), 2, &RESETS)
 }
+
+const LOST: [Step; 6] = [
+    Step::Open(Dir::Uni, Some(2)),
+    Step::Finish(2, Done::Is),
+    // The end waits to be sent as it is.
+    Step::Lost(2, 0, true),
+    Step::Lost(2, 9, true),
+    Step::Lost(1001, 0, true),
+    Step::Queued(&[2]),
+];
 
 #[test]
 fn lost_frames_queue_once(rt: HostRuntime) -> Result<(), Fail> {
-    let alloc = rt.alloc();
-    let mut subject = end(alloc, 2)?;
-    assert_eq!(&rt; open(&mut subject), Some(id(2)));
-    assert!(&rt; sending(&mut subject, 2).finish().is_ok());
-    // The end waits to be sent as it is.
-    lose(&rt, &mut subject, 2, 0, true);
-    lose(&rt, &mut subject, 2, 9, true);
-    lose(&rt, &mut subject, 1001, 0, true);
-    queued(&rt, alloc, &mut subject, &[2])?;
-    Ok(())
+    run(&rt, rt.alloc(), 2, &LOST)
 }
 
-fn send_streams(subject: &mut Subject) -> usize {
-    Streams::new(&mut subject.state, ConnState::Open).send_streams()
-}
+const COUNTED: [Step; 14] = [
+    Step::SendStreams(0),
+    Step::Open(Dir::Uni, Some(2)),
+    Step::Open(Dir::Uni, None),
+    Step::SendStreams(1),
+    Step::Open(Dir::Bi, Some(0)),
+    Step::SendStreams(2),
+    // The peer opens one of each direction.
+    Step::Whole(1),
+    Step::Whole(3),
+    Step::SendStreams(2),
+    Step::Accept(Dir::Uni, Some(3)),
+    Step::SendStreams(2),
+    Step::Accept(Dir::Bi, Some(1)),
+    Step::Accept(Dir::Bi, None),
+    Step::SendStreams(3),
+];
 
-fn accept(subject: &mut Subject, dir: Dir) -> Option<StreamId> {
-    Streams::new(&mut subject.state, ConnState::Open).accept(dir)
-}
+// What is acknowledged to the end counts no more.
+const DISCOUNTED: [Step; 12] = [
+    Step::Finish(1, Done::Is),
+    Step::Finish(2, Done::Is),
+    Step::Reset(0, 3, Done::Is),
+    Step::SendStreams(3),
+    Step::Acked(2, 0, true),
+    Step::SendStreams(2),
+    Step::Acked(2, 0, true),
+    Step::SendStreams(2),
+    Step::Acked(1, 0, true),
+    Step::SendStreams(1),
+    Step::ResetAcked(0),
+    Step::SendStreams(0),
+];
 
 #[test]
 fn opened_and_accepted_streams_count(rt: HostRuntime) -> Result<(), Fail> {
     let alloc = rt.alloc();
     let mut subject = end(alloc, 1)?;
-    assert_eq!(&rt; send_streams(&mut subject), 0);
-    assert_eq!(&rt; open(&mut subject), Some(id(2)));
-    assert_eq!(&rt; open(&mut subject), None);
-    assert_eq!(&rt; send_streams(&mut subject), 1);
-    let opened = Streams::new(&mut subject.state, ConnState::Open).open(Dir::Bi);
-    assert!(&rt; matches!(opened, Ok(Some(stream)) if stream == id(0)));
-    assert_eq!(&rt; send_streams(&mut subject), 2);
-    // The peer opens one of each direction.
-    let both = receive(alloc, &mut subject, 1, 0, 1, true)?;
-    assert_eq!(&rt; both, Answer::Taken(false));
-    let one = receive(alloc, &mut subject, 3, 0, 1, true)?;
-    assert_eq!(&rt; one, Answer::Taken(false));
-    assert_eq!(&rt; send_streams(&mut subject), 2);
-    assert_eq!(&rt; accept(&mut subject, Dir::Uni), Some(id(3)));
-    assert_eq!(&rt; send_streams(&mut subject), 2);
-    assert_eq!(&rt; accept(&mut subject, Dir::Bi), Some(id(1)));
-    assert_eq!(&rt; accept(&mut subject, Dir::Bi), None);
-    assert_eq!(&rt; send_streams(&mut subject), 3);
-    // What is acknowledged to the end counts no more.
-    assert!(&rt; sending(&mut subject, 1).finish().is_ok());
-    assert!(&rt; sending(&mut subject, 2).finish().is_ok());
-    assert!(&rt; sending(&mut subject, 0).reset(VarInt::from(3u32)).is_ok());
-    assert_eq!(&rt; send_streams(&mut subject), 3);
-    ack(&rt, &mut subject, 2, 0, true);
-    assert_eq!(&rt; send_streams(&mut subject), 2);
-    ack(&rt, &mut subject, 2, 0, true);
-    assert_eq!(&rt; send_streams(&mut subject), 2);
-    ack(&rt, &mut subject, 1, 0, true);
-    assert_eq!(&rt; send_streams(&mut subject), 1);
-    reset_acked(&rt, &mut subject, 0);
-    assert_eq!(&rt; send_streams(&mut subject), 0);
+    take(&rt, alloc, &mut subject, &COUNTED)?;
+    take(&rt, alloc, &mut subject, &DISCOUNTED)?;
     Ok(())
 }
 
+const NOT_ACCEPTED: [Step; 8] = [
+    Step::Open(Dir::Uni, Some(2)),
+    Step::Whole(1),
+    Step::Finish(1, Done::Is),
+    Step::SendStreams(1),
+    Step::Acked(1, 0, true),
+    Step::SendStreams(1),
+    // Its send half is gone when it is accepted.
+    Step::Accept(Dir::Bi, Some(1)),
+    Step::SendStreams(1),
+];
+
 #[test]
 fn streams_that_were_not_accepted_do_not_count(rt: HostRuntime) -> Result<(), Fail> {
-    let alloc = rt.alloc();
-    let mut subject = end(alloc, 1)?;
-    assert_eq!(&rt; open(&mut subject), Some(id(2)));
-    let opened = receive(alloc, &mut subject, 1, 0, 1, true)?;
-    assert_eq!(&rt; opened, Answer::Taken(false));
-    assert!(&rt; sending(&mut subject, 1).finish().is_ok());
-    assert_eq!(&rt; send_streams(&mut subject), 1);
-    ack(&rt, &mut subject, 1, 0, true);
-    assert_eq!(&rt; send_streams(&mut subject), 1);
-    // Its send half is gone when it is accepted.
-    assert_eq!(&rt; accept(&mut subject, Dir::Bi), Some(id(1)));
-    assert_eq!(&rt; send_streams(&mut subject), 1);
-    Ok(())
+    run(&rt, rt.alloc(), 1, &NOT_ACCEPTED)
 }
 
 const MANY: u32 = 65_537;
 
+// Opens the stream, and ends it.
+fn open_and_end(rt: &impl Abort, subject: &mut Subject, stream: u32) {
+    assert!(rt; open_one(subject, Dir::Uni, stream));
+    assert!(rt; subject.retransmit(meta(stream, 0, false)).is_ok());
+    assert!(rt; subject.finish(stream).is_ok());
+}
+
+fn is_told_finished(subject: &mut Subject, stream: u32) -> bool {
+    subject.poll() == Some(StreamEvent::Finished { id: id(stream) })
+}
+
+fn is_told_nothing(subject: &mut Subject) -> bool {
+    subject.poll().is_none()
+}
+
+// Opens so many streams, and has their ends acknowledged.
+fn finish_many(rt: &impl Abort, subject: &mut Subject, count: u32) {
+    for index in 0..count {
+        open_and_end(rt, subject, index.wrapping_mul(4).wrapping_add(2));
+    }
+    for index in 0..count {
+        let stream = index.wrapping_mul(4).wrapping_add(2);
+        assert!(rt; subject.received_ack_of(meta(stream, 0, true)).is_ok());
+    }
+    for index in 0..count {
+        let stream = index.wrapping_mul(4).wrapping_add(2);
+        assert!(rt; is_told_finished(subject, stream), "stream {stream}");
+    }
+    assert!(rt; is_told_nothing(subject));
+}
+
 #[test]
 fn every_number_of_streams_is_finished(rt: HostRuntime) -> Result<(), Fail> {
-    let alloc = rt.alloc();
-    let mut subject = end(alloc, MANY)?;
-    for index in 0..MANY {
-        let stream = index.wrapping_mul(4).wrapping_add(2);
-        assert_eq!(&rt; open(&mut subject), Some(id(stream)));
-        assert!(&rt; subject.state.retransmit(meta(stream, 0, false)).is_ok());
-        assert!(&rt; sending(&mut subject, stream).finish().is_ok());
-    }
-    for index in 0..MANY {
-        let stream = index.wrapping_mul(4).wrapping_add(2);
-        assert!(&rt; subject.state.received_ack_of(meta(stream, 0, true)).is_ok());
-    }
-    for index in 0..MANY {
-        let stream = index.wrapping_mul(4).wrapping_add(2);
-        let finished = StreamEvent::Finished { id: id(stream) };
-        assert_eq!(&rt; subject.state.poll(), Some(finished));
-    }
-    assert_eq!(&rt; subject.state.poll(), None);
+    let mut subject = end(rt.alloc(), MANY)?;
+    finish_many(&rt, &mut subject, MANY);
     Ok(())
 }
+
+// A stream of the peer comes with its end, is stopped, and is reset by this end too.
+fn replace(
+    rt: &impl Abort,
+    alloc: Global,
+    subject: &mut Subject,
+    stream: u32,
+) -> Result<(), OutOfMemory> {
+    comes_whole(rt, alloc, subject, stream)?;
+    assert!(rt; subject.stop(stream, 9).is_ok());
+    assert!(rt; subject.reset(stream, 3).is_ok());
+    assert!(rt; subject.reset_acked(stream).is_ok());
+    subject.pending.reset_stream.clear();
+    Ok(())
+}
+
+// So many streams of the peer, one after another.
+fn replace_many(
+    rt: &impl Abort,
+    alloc: Global,
+    subject: &mut Subject,
+    count: u32,
+) -> Result<(), OutOfMemory> {
+    for index in 0..count {
+        let stream = index.wrapping_mul(4).wrapping_add(1);
+        replace(rt, alloc, subject, stream)?;
+    }
+    Ok(())
+}
+
+const REPLACED: [Step; 2] = [
+    Step::MaxRemote(Dir::Bi, MANY as u64 + 1),
+    Step::Uses(Dir::Bi, 1, 0),
+];
 
 #[test]
 fn every_number_of_streams_is_replaced(rt: HostRuntime) -> Result<(), Fail> {
     let alloc = rt.alloc();
     let mut subject = end(alloc, 0)?;
-    for index in 0..MANY {
-        let stream = index.wrapping_mul(4).wrapping_add(1);
-        stop_unread(&rt, alloc, &mut subject, stream)?;
-        assert!(&rt;
-            sending(&mut subject, stream)
-                .reset(VarInt::from(3u32))
-                .is_ok()
-        );
-        assert!(&rt; subject.state.reset_acked(id(stream)).is_ok());
-        subject.pending.reset_stream.clear();
-    }
-    assert_eq!(&rt;
-        subject.state.max_remote(Dir::Bi),
-        u64::from(MANY).wrapping_add(1)
-    );
-    assert_eq!(&rt; subject.state.max_concurrent(Dir::Bi), 1);
+    replace_many(&rt, alloc, &mut subject, MANY)?;
+    take(&rt, alloc, &mut subject, &REPLACED)?;
     Ok(())
 }

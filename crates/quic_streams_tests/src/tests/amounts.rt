@@ -1,10 +1,8 @@
 // Bytes of a stream and entries beside STREAM, in sizes on both sides of powers of two.
+use super::calls::{Subject, merge, nothing_pending};
 use super::control::{Payload, new_payload, write_control};
-use super::sending::{end, open_one, permit, reset_one, write_one};
-use super::{Subject, WINDOW, client, id, pattern};
-use quic_streams::recv_stream::RecvStream;
-use quic_streams::send_stream::SendStream;
-use quic_streams::streams::ConnState;
+use super::sending::{end, open_one, reset_one, write_one};
+use super::{WINDOW, client, id, pattern};
 use quic_streams::{Retransmits, StreamMetaVec};
 use quic_values::{Dir, OutOfMemory, Side, VarInt};
 use quic_wire::StreamEvent;
@@ -78,6 +76,23 @@ fn put_frame(bytes: &mut Vec<u8>, part: &Part<'_>, max: usize) -> Result<usize, 
     Ok(end)
 }
 
+// Writes a payload of at most so many bytes. Answers where its frame ends.
+fn send_payload(
+    rt: &impl Abort,
+    alloc: Global,
+    subject: &mut Subject,
+    sent: &mut StreamMetaVec,
+    part: &Part<'_>,
+    max: usize,
+) -> Result<usize, OutOfMemory> {
+    let (mut buf, mut frame) = (Vec::new(alloc), Vec::new(alloc));
+    subject.write_stream_frames(&mut buf, sent, max, true)?;
+    let end = put_frame(&mut frame, part, max)?;
+    let size = part.content.len();
+    assert!(rt; buf.as_slice() == frame.as_slice(), "{size} bytes");
+    Ok(end)
+}
+
 // Writes payloads of at most so many bytes until nothing is left of a part.
 fn send(
     rt: &impl Abort,
@@ -90,20 +105,13 @@ fn send(
     let mut part = part;
     let size = part.content.len();
     for _ in 0..5u32 {
-        let mut buf = Vec::new(alloc);
-        let mut frame = Vec::new(alloc);
-        subject
-            .state
-            .write_stream_frames(&mut buf, sent, max, true)?;
-        let end = put_frame(&mut frame, &part, max)?;
-        assert!(rt; buf.as_slice() == frame.as_slice(), "{size} bytes");
-        part.first = end;
-        if end == part.end {
+        part.first = send_payload(rt, alloc, subject, sent, &part, max)?;
+        if part.first == part.end {
             break;
         }
     }
     assert_eq!(rt; part.first, part.end, "{size} bytes");
-    assert!(rt; !subject.state.can_send_stream_data());
+    assert!(rt; !subject.can_send_stream_data());
     Ok(())
 }
 
@@ -132,17 +140,17 @@ fn lose_and_ack(
         end: meta.offsets.end as usize,
         ..part
     };
-    assert!(rt; subject.state.retransmit(copy_of(meta)).is_ok());
+    assert!(rt; subject.retransmit(copy_of(meta)).is_ok());
     let max = part.content.len().saturating_add(40);
     send(rt, alloc, subject, sent, lost, max)?;
     for meta in sent.as_slice() {
-        assert!(rt; subject.state.received_ack_of(copy_of(meta)).is_ok());
+        assert!(rt; subject.received_ack_of(copy_of(meta)).is_ok());
     }
     let finished = StreamEvent::Finished {
         id: id(part.stream),
     };
-    assert_eq!(rt; subject.state.poll(), Some(finished));
-    assert_eq!(rt; subject.state.poll(), None);
+    assert_eq!(rt; subject.poll(), Some(finished));
+    assert_eq!(rt; subject.poll(), None);
     Ok(())
 }
 
@@ -157,17 +165,12 @@ fn pass(
 ) -> Result<(), Fail> {
     let content = pattern(alloc, 0, size)?;
     assert!(rt; open_one(subject, Dir::Uni, stream));
-    let mut half = SendStream::new(
-        id(stream),
-        &mut subject.state,
-        &mut subject.pending,
-        ConnState::Open,
-    );
     // A write of nothing would queue the stream as well.
     if size > 0 {
-        assert_eq!(rt; half.write(content.as_slice()), Ok(size), "{size} bytes");
+        let written = subject.write(stream, content.as_slice());
+        assert_eq!(rt; written, Ok(size), "{size} bytes");
     }
-    assert!(rt; half.finish().is_ok());
+    assert!(rt; subject.finish(stream).is_ok());
     let part = Part {
         stream,
         content: content.as_slice(),
@@ -206,21 +209,18 @@ fn every_size_is_sent_lost_and_acknowledged(rt: HostRuntime) -> Result<(), Fail>
     Ok(())
 }
 
-// Queues an entry of each of four kinds for so many streams: those of number 0, 4, 8 and so on, and those behind them.
-fn queue_entries(rt: &impl Abort, subject: &mut Subject, count: u32) -> Result<(), OutOfMemory> {
-    for index in 0..count {
-        let first = index.wrapping_mul(4);
-        assert!(rt; open_one(subject, Dir::Bi, first));
-        assert_eq!(rt; write_one(subject, first, 2), Some(1));
-        assert_eq!(rt; write_one(subject, first, 1), None);
-        subject.pending.max_stream_data.insert(id(first))?;
-        let own = first.wrapping_add(2);
-        assert!(rt; open_one(subject, Dir::Uni, own));
-        assert!(rt; reset_one(subject, own, 7));
-        let theirs = id(first.wrapping_add(3));
-        let mut half = RecvStream::new(theirs, &mut subject.state, &mut subject.pending);
-        assert!(rt; half.stop(VarInt::from(9u32)).is_ok());
-    }
+// Queues an entry of each of four kinds: for streams 0, 2 and 3, or those so many times 4 behind them.
+fn queue_entry(rt: &impl Abort, subject: &mut Subject, index: u32) -> Result<(), OutOfMemory> {
+    let first = index.wrapping_mul(4);
+    assert!(rt; open_one(subject, Dir::Bi, first));
+    assert_eq!(rt; write_one(subject, first, 2), Some(1));
+    assert_eq!(rt; write_one(subject, first, 1), None);
+    subject.queue_window(first)?;
+    let own = first.wrapping_add(2);
+    assert!(rt; open_one(subject, Dir::Uni, own));
+    assert!(rt; reset_one(subject, own, 7));
+    let theirs = first.wrapping_add(3);
+    assert!(rt; subject.stop(theirs, 9).is_ok());
     Ok(())
 }
 
@@ -240,8 +240,8 @@ fn length_of_entries(count: u32) -> usize {
     length
 }
 
-// Whether what was noted has each entry once, the lists from their back.
-fn are_noted(rt: &impl Abort, noted: &Retransmits, count: u32) {
+// RESET_STREAM was noted of each stream once, from the back.
+fn resets_are_noted(rt: &impl Abort, noted: &Retransmits, count: u32) {
     let mut left = count;
     for (stream, code) in &noted.reset_stream {
         left = left.wrapping_sub(1);
@@ -249,13 +249,23 @@ fn are_noted(rt: &impl Abort, noted: &Retransmits, count: u32) {
         assert_eq!(rt; (*stream, *code), (own, VarInt::from(7u32)));
     }
     assert_eq!(rt; left, 0);
-    left = count;
+}
+
+// And STOP_SENDING.
+fn stops_are_noted(rt: &impl Abort, noted: &Retransmits, count: u32) {
+    let mut left = count;
     for frame in &noted.stop_sending {
         left = left.wrapping_sub(1);
         let theirs = id(left.wrapping_mul(4).wrapping_add(3));
         assert_eq!(rt; (frame.id, frame.error_code), (theirs, VarInt::from(9u32)));
     }
     assert_eq!(rt; left, 0);
+}
+
+// Whether what was noted has each entry once.
+fn are_noted(rt: &impl Abort, noted: &Retransmits, count: u32) {
+    resets_are_noted(rt, noted, count);
+    stops_are_noted(rt, noted, count);
     for index in 0..count {
         let first = id(index.wrapping_mul(4));
         assert!(rt; noted.max_stream_data.contains(&first));
@@ -272,7 +282,38 @@ fn nothing_is_left(rt: &impl Abort, pending: &Retransmits) {
     assert_eq!(rt; pending.max_stream_id, [false, false]);
 }
 
-// Writes the entries into payloads of at most so many bytes, until one has none.
+// How many frames and bytes were written, and what was noted.
+#[derive(Drop)]
+struct Written {
+    frames: u64,
+    length: usize,
+    noted: Retransmits,
+}
+
+// Writes the next payload of at most so many bytes. Answers whether it has none.
+fn write_entry(
+    rt: &impl Abort,
+    alloc: Global,
+    subject: &mut Subject,
+    written: &mut Written,
+    max: usize,
+) -> bool {
+    let mut payload = new_payload(alloc);
+    assert!(rt; write_control(subject, &mut payload, max));
+    let Payload { bytes, sent, stats } = payload;
+    assert!(rt; bytes.len() <= max);
+    written.frames = written
+        .frames
+        .saturating_add(stats.reset_stream)
+        .saturating_add(stats.stop_sending)
+        .saturating_add(stats.max_stream_data)
+        .saturating_add(stats.stream_data_blocked);
+    written.length = written.length.saturating_add(bytes.len());
+    assert!(rt; merge(&mut written.noted, sent));
+    bytes.is_empty()
+}
+
+// Queues entries for so many streams, and writes them into payloads of at most so many bytes, until one has none.
 fn write_entries(
     rt: &impl Abort,
     alloc: Global,
@@ -280,30 +321,24 @@ fn write_entries(
     max: usize,
 ) -> Result<(), OutOfMemory> {
     let mut subject = client(alloc, count, WINDOW, WINDOW)?;
-    permit(&mut subject.state, count, WINDOW, 1);
-    queue_entries(rt, &mut subject, count)?;
-    let mut noted = Retransmits::new(alloc);
-    let (mut frames, mut length) = (0u64, 0usize);
+    subject.permit(count, WINDOW, 1);
+    for index in 0..count {
+        queue_entry(rt, &mut subject, index)?;
+    }
+    let mut written = Written {
+        frames: 0,
+        length: 0,
+        noted: nothing_pending(alloc),
+    };
     for _ in 0..count.saturating_mul(4).saturating_add(1) {
-        let mut payload = new_payload(alloc);
-        assert!(rt; write_control(&mut subject, &mut payload, max));
-        let Payload { bytes, sent, stats } = payload;
-        assert!(rt; bytes.len() <= max);
-        frames = frames
-            .saturating_add(stats.reset_stream)
-            .saturating_add(stats.stop_sending)
-            .saturating_add(stats.max_stream_data)
-            .saturating_add(stats.stream_data_blocked);
-        length = length.saturating_add(bytes.len());
-        assert!(rt; noted.merge_thin(sent).is_ok());
-        if bytes.is_empty() {
+        if write_entry(rt, alloc, &mut subject, &mut written, max) {
             break;
         }
     }
-    assert_eq!(rt; frames, u64::from(count).saturating_mul(4));
-    assert_eq!(rt; length, length_of_entries(count));
+    assert_eq!(rt; written.frames, u64::from(count).saturating_mul(4));
+    assert_eq!(rt; written.length, length_of_entries(count));
     nothing_is_left(rt, &subject.pending);
-    are_noted(rt, &noted, count);
+    are_noted(rt, &written.noted, count);
     Ok(())
 }
 

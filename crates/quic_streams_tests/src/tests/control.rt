@@ -1,7 +1,7 @@
 // Frames beside STREAM, and the bytes that they have to be.
-use super::sending::{end, open_one, permit, reset_one, write_one};
-use super::{Answer, Given, Last, Reads, Step, Subject, WINDOW, client, id, run};
-use quic_streams::state::StreamsState;
+use super::calls::{Subject, nothing_noted};
+use super::sending::{Done, Step as SendStep, end, take};
+use super::{Answer, Given, Last, Reads, Step, WINDOW, client, id, run};
 use quic_streams::stats::FrameStats;
 use quic_streams::{Retransmits, ThinRetransmits};
 use quic_values::{Dir, OutOfMemory, Side, VarInt};
@@ -21,20 +21,16 @@ pub(super) struct Payload {
 pub(super) fn new_payload(alloc: Global) -> Payload {
     Payload {
         bytes: Vec::new(alloc),
-        sent: ThinRetransmits::new(alloc),
+        sent: nothing_noted(alloc),
         stats: FrameStats::new(),
     }
 }
 
 pub(super) fn write_control(subject: &mut Subject, payload: &mut Payload, max_size: usize) -> bool {
-    let answer = subject.state.write_control_frames(
-        &mut payload.bytes,
-        &mut subject.pending,
-        &mut payload.sent,
-        &mut payload.stats,
-        max_size,
-    );
-    answer.is_ok()
+    let (bytes, sent) = (&mut payload.bytes, &mut payload.sent);
+    subject
+        .write_control_frames(bytes, sent, &mut payload.stats, max_size)
+        .is_ok()
 }
 
 // The frames of a new payload. They are asked for again where memory was wanting: none is lost, and none comes twice.
@@ -57,21 +53,27 @@ pub(super) fn writes(
     assert_eq!(rt; written.bytes.as_slice(), bytes);
 }
 
+const RESET_AND_BLOCKED: [SendStep; 4] = [
+    SendStep::Open(Dir::Uni, Some(2)),
+    SendStep::Write(2, 3, Done::Took(2)),
+    SendStep::Write(2, 1, Done::Blocked),
+    SendStep::Reset(2, 7, Done::Is),
+];
+
 #[test]
 fn a_reset_ends_where_was_written_and_a_blocked_connection_is_told(
     rt: HostRuntime,
 ) -> Result<(), Fail> {
     let alloc = rt.alloc();
     let mut subject = end(alloc, Side::Client, 1, 2, 10)?;
-    assert!(&rt; open_one(&mut subject, Dir::Uni, 2));
-    assert_eq!(&rt; write_one(&mut subject, 2, 3), Some(2));
-    assert_eq!(&rt; write_one(&mut subject, 2, 1), None);
-    assert!(&rt; reset_one(&mut subject, 2, 7));
+    take(&rt, alloc, &mut subject, &RESET_AND_BLOCKED)?;
     let written = control(alloc, &mut subject, 100);
+    let stats = written.stats;
     assert_eq!(&rt; written.bytes.as_slice(), [4, 2, 7, 2, 0x14, 2].as_slice());
-    assert_eq!(&rt; written.stats.reset_stream, 1);
-    assert_eq!(&rt; written.stats.data_blocked, 1);
-    assert_eq!(&rt; written.stats.max_data, 0);
+    assert_eq!(&rt;
+        (stats.reset_stream, stats.data_blocked, stats.max_data),
+        (1, 1, 0)
+    );
     let Some(sent) = written.sent.get() else {
         return Err(Fail::from("nothing was noted"));
     };
@@ -79,8 +81,7 @@ fn a_reset_ends_where_was_written_and_a_blocked_connection_is_told(
         sent.reset_stream.as_slice(),
         [(id(2), VarInt::from(7u32))].as_slice()
     );
-    assert!(&rt; sent.data_blocked);
-    assert!(&rt; !sent.max_data);
+    assert_eq!(&rt; (sent.data_blocked, sent.max_data), (true, false));
     writes(&rt, alloc, &mut subject, 100, &[]);
     Ok(())
 }
@@ -91,13 +92,17 @@ const READ_ONE: [Step; 3] = [
     Step::Windows(&[3]),
 ];
 
+const LIMIT_OF_A_STREAM: [SendStep; 3] = [
+    SendStep::Writes(17, &[]),
+    SendStep::Writes(18, &[0x11, 3, 9]),
+    SendStep::Writes(100, &[]),
+];
+
 #[test]
 fn a_limit_of_a_stream_waits_for_its_room(rt: HostRuntime) -> Result<(), Fail> {
     let alloc = rt.alloc();
     let mut subject = run(&rt, alloc, client(alloc, 128, WINDOW, 8)?, &READ_ONE)?;
-    writes(&rt, alloc, &mut subject, 17, &[]);
-    writes(&rt, alloc, &mut subject, 18, &[0x11, 3, 9]);
-    writes(&rt, alloc, &mut subject, 100, &[]);
+    take(&rt, alloc, &mut subject, &LIMIT_OF_A_STREAM)?;
     Ok(())
 }
 
@@ -110,38 +115,27 @@ const READ_ALL: [Step; 3] = [
 #[test]
 fn the_greatest_limit_of_a_stream_is_announced(rt: HostRuntime) -> Result<(), Fail> {
     let alloc = rt.alloc();
-    let state = StreamsState::new(
-        alloc,
-        Side::Client,
-        VarInt::from(4u32),
-        VarInt::from(4u32),
-        0,
-        VarInt::MAX,
-        VarInt::MAX,
-    )?;
-    let subject = Subject {
-        state,
-        pending: Retransmits::new(alloc),
-        window: 0,
-        in_one: false,
-    };
+    let subject = Subject::new(alloc, Side::Client, 4, 0, VarInt::MAX, VarInt::MAX)?;
     let mut subject = run(&rt, alloc, subject, &READ_ALL)?;
-    subject.pending.max_stream_data.insert(id(3))?;
+    subject.queue_window(3)?;
     let most = [0x11, 3, 255, 255, 255, 255, 255, 255, 255, 255];
     writes(&rt, alloc, &mut subject, 18, &most);
     Ok(())
 }
 
+const MORE_STREAMS: [SendStep; 5] = [
+    SendStep::Concurrent(Dir::Uni, 3, 3),
+    SendStep::Due(true),
+    SendStep::Writes(9, &[]),
+    SendStep::Writes(10, &[0x13, 3]),
+    SendStep::Due(false),
+];
+
 #[test]
 fn more_streams_are_announced_once(rt: HostRuntime) -> Result<(), Fail> {
     let alloc = rt.alloc();
     let mut subject = end(alloc, Side::Client, 1, 2, 10)?;
-    let three = VarInt::from(3u32);
-    subject.state.set_max_concurrent(Dir::Uni, three)?;
-    assert!(&rt; subject.state.queue_max_stream_id(&mut subject.pending));
-    writes(&rt, alloc, &mut subject, 9, &[]);
-    writes(&rt, alloc, &mut subject, 10, &[0x13, 3]);
-    assert!(&rt; !subject.state.queue_max_stream_id(&mut subject.pending));
+    take(&rt, alloc, &mut subject, &MORE_STREAMS)?;
     Ok(())
 }
 
@@ -171,14 +165,18 @@ const EACH: [u8; 21] = [
     4, 2, 9, 2, 5, 7, 9, 5, 3, 9, 0x10, 8, 0x11, 3, 8, 0x12, 1, 0x13, 1, 0x14, 2,
 ];
 
+const BLOCKED: [SendStep; 3] = [
+    SendStep::Open(Dir::Uni, Some(2)),
+    SendStep::Write(2, 3, Done::Took(2)),
+    SendStep::Write(2, 1, Done::Blocked),
+];
+
 #[test]
 fn kinds_come_in_their_order_and_the_useless_is_dropped(rt: HostRuntime) -> Result<(), Fail> {
     let alloc = rt.alloc();
     let mut subject = client(alloc, 1, 8, 8)?;
-    permit(&mut subject.state, 1, 2, 10);
-    assert!(&rt; open_one(&mut subject, Dir::Uni, 2));
-    assert_eq!(&rt; write_one(&mut subject, 2, 3), Some(2));
-    assert_eq!(&rt; write_one(&mut subject, 2, 1), None);
+    subject.permit(1, 2, 10);
+    take(&rt, alloc, &mut subject, &BLOCKED)?;
     one_of_each(&mut subject)?;
     let written = control(alloc, &mut subject, 1200);
     assert_eq!(&rt; written.bytes.as_slice(), EACH.as_slice());
@@ -189,19 +187,30 @@ fn kinds_come_in_their_order_and_the_useless_is_dropped(rt: HostRuntime) -> Resu
     Ok(())
 }
 
+// The next payload of at most 30 bytes. Answers how many limits it announces.
+fn limits_written(rt: &impl Abort, alloc: Global, subject: &mut Subject) -> u64 {
+    let written = control(alloc, subject, 30);
+    assert!(rt; written.bytes.len() <= 30);
+    written.stats.max_stream_data
+}
+
+// Queues the limits of so many streams.
+fn queue_windows(subject: &mut Subject, count: u32) -> Result<(), OutOfMemory> {
+    for index in 0..count {
+        subject.queue_window(index.wrapping_mul(4).wrapping_add(3))?;
+    }
+    Ok(())
+}
+
 // Many entries go into payloads of a few bytes, each once.
 #[test]
 fn entries_go_into_payload_after_payload(rt: HostRuntime) -> Result<(), Fail> {
     let alloc = rt.alloc();
     let mut subject = client(alloc, 128, WINDOW, 64)?;
-    for stream in 0..128u32 {
-        subject.pending.max_stream_data.insert(id(stream * 4 + 3))?;
-    }
+    queue_windows(&mut subject, 128)?;
     let mut frames = 0u64;
     for _ in 0..64u32 {
-        let written = control(alloc, &mut subject, 30);
-        assert!(&rt; written.bytes.len() <= 30);
-        frames = frames.saturating_add(written.stats.max_stream_data);
+        frames = frames.saturating_add(limits_written(&rt, alloc, &mut subject));
     }
     assert_eq!(&rt; frames, 128);
     assert!(&rt; subject.pending.max_stream_data.is_empty());

@@ -1,62 +1,29 @@
 // An early start that is rejected, or sent again.
-use super::control::{new_payload, write_control};
-use super::sending::{Done, Event, Step, call, end, hand_in, permit};
-use super::{Answer, STREAM_STATE, Subject, WINDOW, client, id};
-use quic_streams::StreamMetaVec;
-use quic_streams::send_stream::SendStream;
-use quic_streams::streams::ConnState;
-use quic_values::{Dir, OutOfMemory, Side, VarInt};
+use super::calls::Subject;
+use super::sending::{Done, Event, Step, end, take};
+use super::{Answer, STREAM_STATE, WINDOW, client, id};
+use quic_values::{Dir, Side};
 use quic_wire::frame::StreamMeta;
-use std::alloc::Global;
 use std::process::Abort;
 use std::rt::HostRuntime;
 use std::test::Fail;
 
-fn run(
-    rt: &impl Abort,
-    alloc: Global,
-    subject: &mut Subject,
-    steps: &[Step],
-) -> Result<(), OutOfMemory> {
-    for step in steps {
-        match *step {
-            Step::MaxData(..) | Step::Data(..) | Step::Queued(..) => hand_in(
-                rt, alloc, subject, *step,
-            )?,
-            other => call(rt, subject, ConnState::Open, other),
-        }
-    }
-    Ok(())
-}
-
-// The next payload of control frames.
-fn announces(
-    rt: &impl Abort,
-    alloc: Global,
-    subject: &mut Subject,
-    bytes: &[u8],
-) -> Result<(), OutOfMemory> {
-    let mut payload = new_payload(alloc);
-    if !write_control(subject, &mut payload, 100) {
-        return Err(OutOfMemory);
-    }
-    assert_eq!(rt; payload.bytes.as_slice(), bytes);
-    Ok(())
-}
+const ANNOUNCED_ANEW: [Step; 8] = [
+    Step::Rejected,
+    Step::Due(false),
+    Step::Concurrent(Dir::Uni, 3, 3),
+    Step::Due(true),
+    Step::Writes(100, &[0x13, 3]),
+    Step::Rejected,
+    Step::Due(true),
+    Step::Writes(100, &[0x12, 1, 0x13, 3]),
+];
 
 #[test]
 fn counts_of_streams_are_announced_anew(rt: HostRuntime) -> Result<(), Fail> {
     let alloc = rt.alloc();
     let mut subject = client(alloc, 1, WINDOW, WINDOW)?;
-    subject.state.zero_rtt_rejected();
-    assert!(&rt; !subject.state.queue_max_stream_id(&mut subject.pending));
-    let three = VarInt::from(3u32);
-    subject.state.set_max_concurrent(Dir::Uni, three)?;
-    assert!(&rt; subject.state.queue_max_stream_id(&mut subject.pending));
-    announces(&rt, alloc, &mut subject, &[0x13, 3])?;
-    subject.state.zero_rtt_rejected();
-    assert!(&rt; subject.state.queue_max_stream_id(&mut subject.pending));
-    announces(&rt, alloc, &mut subject, &[0x12, 1, 0x13, 3])?;
+    take(&rt, alloc, &mut subject, &ANNOUNCED_ANEW)?;
     Ok(())
 }
 
@@ -114,105 +81,86 @@ const AFRESH: [Step; 16] = [
 fn streams_begin_anew_where_an_early_start_is_rejected(rt: HostRuntime) -> Result<(), Fail> {
     let alloc = rt.alloc();
     let mut subject = end(alloc, Side::Client, 2, 10, 10)?;
-    run(&rt, alloc, &mut subject, &EARLY)?;
-    subject.state.zero_rtt_rejected();
-    run(&rt, alloc, &mut subject, &REJECTED)?;
-    permit(&mut subject.state, 2, 20, 15);
-    run(&rt, alloc, &mut subject, &AFRESH)?;
-    Ok(())
-}
-
-fn half(subject: &mut Subject, stream: u32) -> SendStream<'_> {
-    SendStream::new(
-        id(stream),
-        &mut subject.state,
-        &mut subject.pending,
-        ConnState::Open,
-    )
-}
-
-// The next payload of STREAM frames, of at most so many bytes.
-fn sends(
-    rt: &impl Abort,
-    alloc: Global,
-    subject: &mut Subject,
-    max_size: usize,
-    bytes: &[u8],
-) -> Result<(), OutOfMemory> {
-    let (mut buf, mut sent) = (Vec::new(alloc), StreamMetaVec::new(alloc));
-    subject
-        .state
-        .write_stream_frames(&mut buf, &mut sent, max_size, true)?;
-    assert_eq!(rt; buf.as_slice(), bytes);
+    take(&rt, alloc, &mut subject, &EARLY)?;
+    subject.zero_rtt_rejected();
+    take(&rt, alloc, &mut subject, &REJECTED)?;
+    subject.permit(2, 20, 15);
+    take(&rt, alloc, &mut subject, &AFRESH)?;
     Ok(())
 }
 
 // All is sent again, at the second time where memory was wanting.
 fn send_again(rt: &impl Abort, subject: &mut Subject) {
-    let could = subject.state.can_send_stream_data();
-    if subject.state.retransmit_all_for_0rtt().is_err() {
-        assert_eq!(rt; subject.state.can_send_stream_data(), could);
-        assert!(rt; subject.state.retransmit_all_for_0rtt().is_ok());
+    let could = subject.can_send_stream_data();
+    if subject.retransmit_all_for_0rtt().is_err() {
+        assert_eq!(rt; subject.can_send_stream_data(), could);
+        assert!(rt; subject.retransmit_all_for_0rtt().is_ok());
     }
 }
 
-// A client that sent on four streams, and gave one up. Of the last it sent a part.
-fn client_that_sent(rt: &impl Abort, alloc: Global) -> Result<Subject, Fail> {
-    let mut subject = end(alloc, Side::Client, 4, WINDOW, WINDOW)?;
-    let steps = [
-        Step::Open(Dir::Uni, Some(2)),
-        Step::Open(Dir::Uni, Some(6)),
-        Step::Open(Dir::Uni, Some(10)),
-        Step::Open(Dir::Uni, Some(14)),
-        Step::Open(Dir::Bi, Some(0)),
-        Step::Open(Dir::Bi, Some(4)),
-    ];
-    run(rt, alloc, &mut subject, &steps)?;
-    assert_eq!(rt; half(&mut subject, 0).write(b"ab"), Ok(2));
-    assert_eq!(rt; half(&mut subject, 2).write(b"cde"), Ok(3));
-    assert!(rt; half(&mut subject, 2).finish().is_ok());
-    assert!(rt; half(&mut subject, 6).finish().is_ok());
-    assert_eq!(rt; half(&mut subject, 14).write(b"x"), Ok(1));
-    sends(
-        rt,
-        alloc,
-        &mut subject,
+// What is called of an early start, and bytes that are written.
+pub(super) fn start(rt: &impl Abort, subject: &mut Subject, step: Step) {
+    match step {
+        Step::Rejected => subject.zero_rtt_rejected(),
+        Step::SendAgain => send_again(rt, subject),
+        Step::Puts(stream, bytes) => {
+            assert_eq!(rt; subject.write(stream, bytes), Ok(bytes.len()));
+        }
+        _ => {}
+    }
+}
+
+const FIRST_PART: &[u8] = b"\x08\x0affffffffffffffffffffffffffff";
+
+// A client sends on four streams, and gives one up. Of the last it sends a part.
+const SENT: [Step; 15] = [
+    Step::Open(Dir::Uni, Some(2)),
+    Step::Open(Dir::Uni, Some(6)),
+    Step::Open(Dir::Uni, Some(10)),
+    Step::Open(Dir::Uni, Some(14)),
+    Step::Open(Dir::Bi, Some(0)),
+    Step::Open(Dir::Bi, Some(4)),
+    Step::Puts(0, b"ab"),
+    Step::Puts(2, b"cde"),
+    Step::Finish(2, Done::Is),
+    Step::Finish(6, Done::Is),
+    Step::Puts(14, b"x"),
+    Step::Sends(
         100,
         b"\x0a\x00\x02ab\x0b\x02\x03cde\x0b\x06\x00\x0a\x0e\x01x",
-    )?;
-    assert!(rt; half(&mut subject, 14).reset(VarInt::from(7u32)).is_ok());
-    assert_eq!(rt; half(&mut subject, 10).write(&[b'f'; 29]), Ok(29));
-    let mut first = [b'f'; 30];
-    first[0] = 0x08;
-    first[1] = 0x0a;
-    sends(rt, alloc, &mut subject, 30, &first)?;
-    Ok(subject)
-}
+    ),
+    Step::Reset(14, 7, Done::Is),
+    Step::Puts(10, &[b'f'; 29]),
+    Step::Sends(30, FIRST_PART),
+];
 
 const AGAIN: &[u8] =
     b"\x0a\x0a\x1dfffffffffffffffffffffffffffff\x0a\x00\x02ab\x0b\x02\x03cde\x0b\x06\x00";
 
+const SENT_AGAIN: [Step; 3] = [
+    Step::SendAgain,
+    Step::Sends(100, AGAIN),
+    Step::Sends(100, b""),
+];
+
+const LOST_AND_SENT_AGAIN: [Step; 2] = [
+    Step::SendAgain,
+    Step::Sends(39, b"\x0b\x02\x03cde\x0a\x00\x02ab\x0b\x06\x00"),
+];
+
 #[test]
 fn all_that_was_sent_early_is_sent_again(rt: HostRuntime) -> Result<(), Fail> {
     let alloc = rt.alloc();
-    let mut subject = client_that_sent(&rt, alloc)?;
-    send_again(&rt, &mut subject);
-    sends(&rt, alloc, &mut subject, 100, AGAIN)?;
-    sends(&rt, alloc, &mut subject, 100, b"")?;
+    let mut subject = end(alloc, Side::Client, 4, WINDOW, WINDOW)?;
+    take(&rt, alloc, &mut subject, &SENT)?;
+    take(&rt, alloc, &mut subject, &SENT_AGAIN)?;
     // A range that was lost, of a stream that is queued then.
     let lost = StreamMeta {
         id: id(2),
         offsets: 1..3,
         fin: true,
     };
-    subject.state.retransmit(lost)?;
-    send_again(&rt, &mut subject);
-    sends(
-        &rt,
-        alloc,
-        &mut subject,
-        39,
-        b"\x0b\x02\x03cde\x0a\x00\x02ab\x0b\x06\x00",
-    )?;
+    subject.retransmit(lost)?;
+    take(&rt, alloc, &mut subject, &LOST_AND_SENT_AGAIN)?;
     Ok(())
 }

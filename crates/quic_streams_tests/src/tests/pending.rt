@@ -1,12 +1,13 @@
 // What counts of what is pending: a frame that would be dropped does not.
-use super::sending::{end, open_one, write_one};
-use super::{Answer, Subject, WINDOW, client, data, id};
-use quic_streams::pending::PendingFrames;
+use super::calls::{Subject, nothing_noted, nothing_pending};
+use super::sending::{Done, Step, end, take};
+use super::{WINDOW, client, id};
 use quic_streams::{IssuedCid, Retransmits, ThinRetransmits};
 use quic_values::{Bytes, Dir, OutOfMemory, Side, VarInt};
 use quic_wire::frame::{Crypto, StopSending};
 use std::alloc::Global;
 use std::net::{IpAddr, Ipv4Addr, SocketAddr};
+use std::process::Abort;
 use std::test::Fail;
 
 // One entry of a kind that counts in any state.
@@ -41,36 +42,49 @@ fn put(alloc: Global, pending: &mut Retransmits, kind: u32) -> Result<(), OutOfM
     Ok(())
 }
 
+fn put_thin(alloc: Global, thin: &mut ThinRetransmits, kind: u32) -> Result<(), OutOfMemory> {
+    put(alloc, thin.get_or_create()?, kind)
+}
+
+// An entry of a kind counts, in either set.
+fn counts_alone(
+    rt: &impl Abort,
+    alloc: Global,
+    subject: &Subject,
+    kind: u32,
+) -> Result<(), OutOfMemory> {
+    let mut pending = nothing_pending(alloc);
+    put(alloc, &mut pending, kind)?;
+    assert!(rt; !subject.has_nothing_of(&pending), "kind {kind}");
+    let mut thin = nothing_noted(alloc);
+    put_thin(alloc, &mut thin, kind)?;
+    assert!(rt; !subject.has_nothing_of_thin(&thin), "kind {kind}");
+    Ok(())
+}
+
 #[test]
 fn what_is_pending_in_any_state_counts(rt: HostRuntime) -> Result<(), Fail> {
     let alloc = rt.alloc();
     let subject = client(alloc, 1, WINDOW, WINDOW)?;
-    let state = &subject.state;
-    assert!(&rt; subject.pending.is_empty(state));
-    assert!(&rt; ThinRetransmits::new(alloc).is_empty(state));
+    assert!(&rt; subject.has_nothing_of(&subject.pending));
+    let mut thin = nothing_noted(alloc);
+    assert!(&rt; subject.has_nothing_of_thin(&thin));
     for kind in 0..11u32 {
-        let mut pending = Retransmits::new(alloc);
-        put(alloc, &mut pending, kind)?;
-        assert!(&rt; !pending.is_empty(state), "kind {kind}");
-        let mut thin = ThinRetransmits::new(alloc);
-        let lent = thin.get_or_create()?;
-        put(alloc, lent, kind)?;
-        assert!(&rt; !thin.is_empty(state), "kind {kind}");
+        counts_alone(&rt, alloc, &subject, kind)?;
     }
-    let mut thin = ThinRetransmits::new(alloc);
     let _ = thin.get_or_create()?;
-    assert!(&rt; thin.is_empty(state));
+    assert!(&rt; subject.has_nothing_of_thin(&thin));
     Ok(())
 }
 
 // Whether nothing counts of what is pending but these.
 fn counts_not(
     alloc: Global,
-    subject: &mut Subject,
+    subject: &Subject,
     kind: u32,
     streams: &[u32],
 ) -> Result<bool, OutOfMemory> {
-    let mut pending = Retransmits::new(alloc);
+    let mut pending = nothing_pending(alloc);
     pending.data_blocked = kind == 0;
     for stream in streams {
         match kind {
@@ -78,39 +92,74 @@ fn counts_not(
             _ => pending.stream_data_blocked.insert(id(*stream))?,
         };
     }
-    Ok(pending.is_empty(&subject.state))
+    Ok(subject.has_nothing_of(&pending))
 }
+
+// A kind, streams for which it is pending, and whether nothing of it counts.
+type Case = (u32, &'static [u32], bool);
+
+fn counts(
+    rt: &impl Abort,
+    alloc: Global,
+    subject: &Subject,
+    cases: &[Case],
+) -> Result<(), OutOfMemory> {
+    for (kind, streams, nothing) in cases {
+        let is = counts_not(alloc, subject, *kind, streams)?;
+        assert_eq!(rt; is, *nothing, "kind {kind}");
+    }
+    Ok(())
+}
+
+const OPENED: [Step; 2] = [Step::Open(Dir::Uni, Some(2)), Step::Open(Dir::Uni, Some(6))];
+
+const STREAM_BLOCKED: [Step; 2] = [
+    Step::Write(6, 3, Done::Took(2)),
+    Step::Write(6, 1, Done::Blocked),
+];
+
+const BLOCKED: [Step; 2] = [
+    Step::Write(2, 3, Done::Took(2)),
+    Step::Write(2, 1, Done::Blocked),
+];
+
+const AT_FIRST: [Case; 2] = [(0, &[], true), (2, &[2, 6, 10], true)];
+
+const WHILE_STREAM_BLOCKED: [Case; 3] = [
+    (2, &[2, 10], true),
+    (2, &[2, 6, 10], false),
+    (0, &[], true),
+];
 
 #[test]
 fn limits_count_while_they_hold_data_back(rt: HostRuntime) -> Result<(), Fail> {
     let alloc = rt.alloc();
     let mut subject = end(alloc, Side::Client, 2, 4, 2)?;
-    assert!(&rt; open_one(&mut subject, Dir::Uni, 2) && open_one(&mut subject, Dir::Uni, 6));
-    assert!(&rt; counts_not(alloc, &mut subject, 0, &[])?);
-    assert!(&rt; counts_not(alloc, &mut subject, 2, &[2, 6, 10])?);
-    assert_eq!(&rt; write_one(&mut subject, 6, 3), Some(2));
-    assert_eq!(&rt; write_one(&mut subject, 6, 1), None);
-    assert!(&rt; counts_not(alloc, &mut subject, 2, &[2, 10])?);
-    assert!(&rt; !counts_not(alloc, &mut subject, 2, &[2, 6, 10])?);
-    assert!(&rt; counts_not(alloc, &mut subject, 0, &[])?);
-    assert_eq!(&rt; write_one(&mut subject, 2, 3), Some(2));
-    assert_eq!(&rt; write_one(&mut subject, 2, 1), None);
-    assert!(&rt; !counts_not(alloc, &mut subject, 0, &[])?);
-    subject.state.received_max_data(VarInt::from(5u32));
-    assert!(&rt; counts_not(alloc, &mut subject, 0, &[])?);
+    take(&rt, alloc, &mut subject, &OPENED)?;
+    counts(&rt, alloc, &subject, &AT_FIRST)?;
+    take(&rt, alloc, &mut subject, &STREAM_BLOCKED)?;
+    counts(&rt, alloc, &subject, &WHILE_STREAM_BLOCKED)?;
+    take(&rt, alloc, &mut subject, &BLOCKED)?;
+    counts(&rt, alloc, &subject, &[(0, &[], false)])?;
+    subject.received_max_data(5);
+    counts(&rt, alloc, &subject, &[(0, &[], true)])?;
     Ok(())
 }
 
 // The peer's streams 1 and 3 are permitted, the last one with its final size; 2 is this end's alone.
+const WINDOWS: [Case; 3] = [
+    (1, &[], true),
+    (1, &[2, 3, 5, 7], true),
+    (1, &[2, 3, 1, 7], false),
+];
+
+const WHOLE: [Step; 2] = [Step::Open(Dir::Uni, Some(2)), Step::Whole(3)];
+
 #[test]
 fn windows_count_where_more_may_come(rt: HostRuntime) -> Result<(), Fail> {
     let alloc = rt.alloc();
     let mut subject = end(alloc, Side::Client, 2, 4, 2)?;
-    assert!(&rt; open_one(&mut subject, Dir::Uni, 2));
-    let taken = data(&rt, alloc, &mut subject, 3, 0, 1, true)?;
-    assert_eq!(&rt; taken, Answer::Taken(false));
-    assert!(&rt; counts_not(alloc, &mut subject, 1, &[])?);
-    assert!(&rt; counts_not(alloc, &mut subject, 1, &[2, 3, 5, 7])?);
-    assert!(&rt; !counts_not(alloc, &mut subject, 1, &[2, 3, 1, 7])?);
+    take(&rt, alloc, &mut subject, &WHOLE)?;
+    counts(&rt, alloc, &subject, &WINDOWS)?;
     Ok(())
 }

@@ -1,6 +1,5 @@
-use super::{
-    Answer, Given, Last, Reads, Step, Subject, Told, WINDOW, client, id, run, run_on_client,
-};
+use super::calls::{Subject, finalize, next_chunk};
+use super::{Answer, Given, Last, Reads, Step, Told, WINDOW, client, id, run, run_on_client};
 use quic_streams::recv_stream::RecvStream;
 use quic_values::OutOfMemory;
 use std::alloc::Global;
@@ -161,55 +160,65 @@ fn one_byte_came(rt: &impl Abort, alloc: Global) -> Result<Subject, OutOfMemory>
     run(rt, alloc, client(alloc, 128, WINDOW, 8)?, &ONE_BYTE)
 }
 
-#[test]
-fn a_reader_that_is_finalized_gives_credit(rt: HostRuntime) -> Result<(), Fail> {
+// What becomes of a reader.
+#[derive(Clone, Copy)]
+enum Ending {
+    Finalized,
+    Dropped,
+    Leaked,
+}
+
+// Reads the byte that came, and ends the reader. Answers whether to transmit, where that is told.
+fn read_byte(
+    rt: &impl Abort,
+    subject: Subject,
+    ending: Ending,
+) -> Result<(Subject, Option<bool>), Fail> {
     let Subject {
         mut state,
         mut pending,
+        conn,
         window,
         in_one,
-    } = one_byte_came(&rt, rt.alloc())?;
+    } = subject;
     let mut stream = RecvStream::new(id(3), &mut state, &mut pending);
     let mut chunks = stream.read(true)?;
-    assert!(rt; chunks.next(1)?.is_some());
-    assert!(rt; chunks.finalize().should_transmit());
-    let _ = run(
-        &rt,
-        rt.alloc(),
-        Subject {
-            state,
-            pending,
-            window,
-            in_one,
-        },
-        &ONE_BYTE_READ,
-    )?;
+    assert!(rt; next_chunk(&mut chunks, 1)?.is_some());
+    let transmit = match ending {
+        Ending::Finalized => Some(finalize(chunks)),
+        Ending::Dropped => {
+            drop(chunks);
+            None
+        }
+        Ending::Leaked => {
+            forget(chunks);
+            None
+        }
+    };
+    let subject = Subject {
+        state,
+        pending,
+        conn,
+        window,
+        in_one,
+    };
+    Ok((subject, transmit))
+}
+
+#[test]
+fn a_reader_that_is_finalized_gives_credit(rt: HostRuntime) -> Result<(), Fail> {
+    let subject = one_byte_came(&rt, rt.alloc())?;
+    let (subject, transmit) = read_byte(&rt, subject, Ending::Finalized)?;
+    assert_eq!(&rt; transmit, Some(true));
+    let _ = run(&rt, rt.alloc(), subject, &ONE_BYTE_READ)?;
     Ok(())
 }
 
 #[test]
 fn a_reader_that_is_dropped_gives_credit(rt: HostRuntime) -> Result<(), Fail> {
-    let Subject {
-        mut state,
-        mut pending,
-        window,
-        in_one,
-    } = one_byte_came(&rt, rt.alloc())?;
-    let mut stream = RecvStream::new(id(3), &mut state, &mut pending);
-    let mut chunks = stream.read(true)?;
-    assert!(rt; chunks.next(1)?.is_some());
-    drop(chunks);
-    let _ = run(
-        &rt,
-        rt.alloc(),
-        Subject {
-            state,
-            pending,
-            window,
-            in_one,
-        },
-        &ONE_BYTE_READ,
-    )?;
+    let subject = one_byte_came(&rt, rt.alloc())?;
+    let (subject, _) = read_byte(&rt, subject, Ending::Dropped)?;
+    let _ = run(&rt, rt.alloc(), subject, &ONE_BYTE_READ)?;
     Ok(())
 }
 
@@ -226,26 +235,8 @@ const LEAKED: [Step; 7] = [
 
 #[test]
 fn a_reader_that_is_leaked_leaves_the_stream(rt: HostRuntime) -> Result<(), Fail> {
-    let Subject {
-        mut state,
-        mut pending,
-        window,
-        in_one,
-    } = one_byte_came(&rt, rt.alloc())?;
-    let mut stream = RecvStream::new(id(3), &mut state, &mut pending);
-    let mut chunks = stream.read(true)?;
-    assert!(rt; chunks.next(1)?.is_some());
-    forget(chunks);
-    let _ = run(
-        &rt,
-        rt.alloc(),
-        Subject {
-            state,
-            pending,
-            window,
-            in_one,
-        },
-        &LEAKED,
-    )?;
+    let subject = one_byte_came(&rt, rt.alloc())?;
+    let (subject, _) = read_byte(&rt, subject, Ending::Leaked)?;
+    let _ = run(&rt, rt.alloc(), subject, &LEAKED)?;
     Ok(())
 }

@@ -1,13 +1,12 @@
 // What want of memory leaves as it was, and that the same call then succeeds. Run with each allocation refused in turn.
+use super::calls::Subject;
 use super::control::{new_payload, write_control};
 use super::sending::{
-    Done, Event, Step, call, expected, finish, open, permit, reset, set_priority, taken, write,
+    Done, Event, Step, call, expected, finish, open, reset, set_priority, taken, write,
 };
-use super::{Answer, Subject, WINDOW, client, id};
+use super::{Answer, WINDOW, client, id};
 use quic_sending::WriteError;
 use quic_streams::StreamMetaVec;
-use quic_streams::send_stream::SendStream;
-use quic_streams::streams::{ConnState, Streams};
 use quic_values::{Bytes, Dir, OutOfMemory, VarInt};
 use quic_wire::frame::StreamMeta;
 use std::alloc::Global;
@@ -16,8 +15,6 @@ use std::rt::HostRuntime;
 use std::test::Fail;
 
 const TAKEN: Answer = Answer::Taken(false);
-
-const OPEN: ConnState = ConnState::Open;
 
 // What is told of the sending side of a stream.
 #[derive(Clone, Copy, Debug, PartialEq, Eq)]
@@ -41,31 +38,26 @@ struct Told {
 }
 
 fn told_of(subject: &mut Subject, stream: u32) -> Half {
-    let is_unopened = subject.state.is_local_unopened(id(stream));
-    let is_flow_controlled = subject.state.can_send_flow_control(id(stream));
-    let limit = subject.state.stream_data_blocked_limit(id(stream));
-    let half = sending(subject, stream);
     Half {
-        priority: half.priority().ok(),
-        stopped: half.stopped().unwrap_or(None),
-        limit,
-        is_unopened,
-        is_flow_controlled,
+        priority: subject.priority(stream),
+        stopped: subject.stopped(stream).unwrap_or(None),
+        limit: subject.stream_data_blocked_limit(stream),
+        is_unopened: subject.is_local_unopened(stream),
+        is_flow_controlled: subject.can_send_flow_control(stream),
     }
 }
 
 fn numbers_of(subject: &Subject) -> [u64; 10] {
-    let state = &subject.state;
     [
-        state.write_limit(),
-        state.local_max_data(),
-        state.data_recvd(),
-        state.max_remote(Dir::Bi),
-        state.max_remote(Dir::Uni),
-        state.max_concurrent(Dir::Bi),
-        state.max_concurrent(Dir::Uni),
-        u64::from(state.is_local_unopened(id(2))),
-        u64::from(state.is_local_unopened(id(6))),
+        subject.write_limit(),
+        subject.local_max_data(),
+        subject.data_recvd(),
+        subject.max_remote(Dir::Bi),
+        subject.max_remote(Dir::Uni),
+        subject.max_concurrent(Dir::Bi),
+        subject.max_concurrent(Dir::Uni),
+        u64::from(subject.is_local_unopened(2)),
+        u64::from(subject.is_local_unopened(6)),
         subject.pending.reset_stream.len() as u64,
     ]
 }
@@ -74,30 +66,24 @@ fn all_of(subject: &mut Subject) -> Told {
     let first = told_of(subject, 0);
     let second = told_of(subject, 2);
     let third = told_of(subject, 6);
-    let streams = Streams::new(&mut subject.state, OPEN);
     let open = [
-        streams.remote_open_streams(Dir::Bi),
-        streams.remote_open_streams(Dir::Uni),
+        subject.remote_open_streams(Dir::Bi),
+        subject.remote_open_streams(Dir::Uni),
     ];
-    let numbers = numbers_of(subject);
     let flags = [
-        subject.state.can_send_stream_data(),
-        subject.state.can_send_data_blocked(),
+        subject.can_send_stream_data(),
+        subject.can_send_data_blocked(),
         subject.pending.data_blocked,
         subject.pending.stream_data_blocked.is_empty(),
     ];
     Told {
-        numbers,
+        numbers: numbers_of(subject),
         open,
         flags,
         first,
         second,
         third,
     }
-}
-
-fn sending(subject: &mut Subject, stream: u32) -> SendStream<'_> {
-    SendStream::new(id(stream), &mut subject.state, &mut subject.pending, OPEN)
 }
 
 // Whether a call came to what it has to. `None`: memory was wanting.
@@ -127,51 +113,43 @@ fn is_done(answer: Result<(), OutOfMemory>) -> Option<bool> {
 // Makes a call that may want memory.
 fn make(subject: &mut Subject, step: Step) -> Option<bool> {
     match step {
-        Step::Open(dir, stream) => match open(subject, dir, OPEN) {
+        Step::Open(dir, stream) => match open(subject, dir) {
             Some(u64::MAX) => None,
             opened => Some(opened == expected(stream)),
         },
-        Step::Write(stream, count, done) => came_to(write(subject, stream, count, OPEN), done),
-        Step::Finish(stream, done) => came_to(finish(subject, stream, OPEN), done),
-        Step::Reset(stream, code, done) => came_to(reset(subject, stream, code, OPEN), done),
+        Step::Write(stream, count, done) => came_to(write(subject, stream, count), done),
+        Step::Finish(stream, done) => came_to(finish(subject, stream), done),
+        Step::Reset(stream, code, done) => came_to(reset(subject, stream, code), done),
         Step::SetPriority(stream, priority) => {
-            came_to(set_priority(subject, stream, priority, OPEN), Done::Is)
+            came_to(set_priority(subject, stream, priority), Done::Is)
         }
-        Step::Stop(stream, code) => {
-            let code = VarInt::from(code);
-            is_done(subject.state.received_stop_sending(id(stream), code))
-        }
+        Step::Stop(stream, code) => is_done(subject.received_stop_sending(stream, code)),
         Step::MaxStreams(dir, count, answer) => {
-            answers(
-                taken(subject.state.received_max_streams(dir, count)),
-                answer,
-            )
+            answers(taken(subject.received_max_streams(dir, count)), answer)
         }
         Step::MaxStreamData(stream, limit, answer) => {
-            let is = subject.state.received_max_stream_data(id(stream), limit);
+            let is = subject.received_max_stream_data(stream, limit);
             answers(taken(is), answer)
         }
-        Step::Concurrent(dir, count, _) => {
-            is_done(subject.state.set_max_concurrent(dir, VarInt::from(count)))
-        }
+        Step::Concurrent(dir, count, _) => is_done(subject.set_max_concurrent(dir, count)),
         _ => Some(false),
     }
 }
 
 // Makes a call, and once more where memory was wanting.
-fn make_again(rt: &impl Abort, subject: &mut Subject, step: Step) {
+fn make_again(rt: &impl Abort, subject: &mut Subject, step: Step, place: usize) {
     let before = all_of(subject);
     let first = make(subject, step);
     if first.is_some() {
-        assert_eq!(rt; first, Some(true), "{step:?}");
+        assert_eq!(rt; first, Some(true), "step {place}");
         return;
     }
-    assert_eq!(rt; all_of(subject), before, "{step:?}");
-    assert_eq!(rt; make(subject, step), Some(true), "{step:?}");
+    assert_eq!(rt; all_of(subject), before, "step {place}");
+    assert_eq!(rt; make(subject, step), Some(true), "step {place}");
 }
 
 fn run(rt: &impl Abort, subject: &mut Subject, steps: &[Step]) {
-    for step in steps {
+    for (place, step) in steps.iter().enumerate() {
         match *step {
             Step::Open(..)
             | Step::Write(..)
@@ -181,9 +159,9 @@ fn run(rt: &impl Abort, subject: &mut Subject, steps: &[Step]) {
             | Step::Stop(..)
             | Step::MaxStreams(..)
             | Step::MaxStreamData(..)
-            | Step::Concurrent(..) => make_again(rt, subject, *step),
-            Step::MaxData(limit) => subject.state.received_max_data(VarInt::from(limit)),
-            other => call(rt, subject, OPEN, other),
+            | Step::Concurrent(..) => make_again(rt, subject, *step, place),
+            Step::MaxData(limit) => subject.received_max_data(limit),
+            other => call(rt, subject, other),
         }
     }
 }
@@ -200,11 +178,11 @@ fn write_chunks(rt: &impl Abort, alloc: Global, subject: &mut Subject) -> Result
         chunks.push(Bytes::copy_from_slice(alloc, text)?)?;
     }
     let before = all_of(subject);
-    let mut written = sending(subject, 6).write_chunks(&mut chunks);
+    let mut written = subject.write_chunks(6, &mut chunks);
     if written == Err(WriteError::OutOfMemory) {
         assert_eq!(rt; all_of(subject), before);
         assert!(rt; have_lengths(&chunks, [0, 2, 4]));
-        written = sending(subject, 6).write_chunks(&mut chunks);
+        written = subject.write_chunks(6, &mut chunks);
     }
     assert!(rt; matches!(written, Ok(w) if w.bytes == 4 && w.chunks == 2));
     assert!(rt; have_lengths(&chunks, [0, 0, 2]));
@@ -220,21 +198,20 @@ fn send(
     ends: &[usize],
 ) -> Result<(), OutOfMemory> {
     let (mut buf, mut sent) = (Vec::new(alloc), StreamMetaVec::new(alloc));
-    let state = &mut subject.state;
-    if state
+    if subject
         .write_stream_frames(&mut buf, &mut sent, 100, true)
         .is_err()
     {
         assert!(rt; bytes.starts_with(buf.as_slice()));
         let end = ends.get(sent.as_slice().len());
         assert_eq!(rt; end, Some(&buf.len()));
-        assert!(rt; state.can_send_stream_data());
-        let again = state.write_stream_frames(&mut buf, &mut sent, 100, true);
+        assert!(rt; subject.can_send_stream_data());
+        let again = subject.write_stream_frames(&mut buf, &mut sent, 100, true);
         assert!(rt; again.is_ok());
     }
     assert_eq!(rt; buf.as_slice(), bytes);
     assert_eq!(rt; sent.as_slice().len().saturating_add(1), ends.len());
-    assert!(rt; !state.can_send_stream_data());
+    assert!(rt; !subject.can_send_stream_data());
     Ok(())
 }
 
@@ -255,13 +232,12 @@ fn meta(stream: u32, start: u64, end: u64, fin: bool) -> StreamMeta {
 }
 
 fn report_once(subject: &mut Subject, report: Report) -> bool {
-    let state = &mut subject.state;
     let result = match report {
         Report::Acked(stream, start, end, fin) => {
-            state.received_ack_of(meta(stream, start, end, fin))
+            subject.received_ack_of(meta(stream, start, end, fin))
         }
-        Report::Lost(stream, start, end) => state.retransmit(meta(stream, start, end, false)),
-        Report::ResetAcked(stream) => state.reset_acked(id(stream)),
+        Report::Lost(stream, start, end) => subject.retransmit(meta(stream, start, end, false)),
+        Report::ResetAcked(stream) => subject.reset_acked(stream),
     };
     result.is_ok()
 }
@@ -277,9 +253,9 @@ fn take_report(rt: &impl Abort, subject: &mut Subject, report: Report) {
 // All counts as not sent.
 fn send_again(rt: &impl Abort, subject: &mut Subject) {
     let before = all_of(subject);
-    if subject.state.retransmit_all_for_0rtt().is_err() {
+    if subject.retransmit_all_for_0rtt().is_err() {
         assert_eq!(rt; all_of(subject), before);
-        assert!(rt; subject.state.retransmit_all_for_0rtt().is_ok());
+        assert!(rt; subject.retransmit_all_for_0rtt().is_ok());
     }
 }
 
@@ -334,7 +310,7 @@ const WRITTEN: [Step; 20] = [
 // A client that wrote on three streams.
 fn client_that_wrote(rt: &impl Abort, alloc: Global) -> Result<Subject, OutOfMemory> {
     let mut subject = client(alloc, 0, WINDOW, WINDOW)?;
-    permit(&mut subject.state, 1, 10, 4);
+    subject.permit(1, 10, 4);
     run(rt, &mut subject, &OPENED);
     write_chunks(rt, alloc, &mut subject)?;
     run(rt, &mut subject, &WRITTEN);
@@ -362,7 +338,7 @@ fn send_and_ack(rt: &impl Abort, alloc: Global, subject: &mut Subject) -> Result
     take_report(rt, subject, Report::Acked(14, 0, 0, false));
     take_report(rt, subject, Report::Lost(2, 0, 4));
     send(rt, alloc, subject, b"\x0a\x02\x04thir", &[0, 7])?;
-    subject.state.set_send_window(10);
+    subject.set_send_window(10);
     take_report(rt, subject, Report::Acked(2, 2, 4, false));
     run(rt, subject, &[Step::Limit(0)]);
     take_report(rt, subject, Report::Acked(2, 0, 2, false));
@@ -381,8 +357,8 @@ fn refused_calls_change_nothing_and_then_succeed(rt: HostRuntime) -> Result<(), 
     let mut subject = client_that_wrote(&rt, alloc)?;
     send_and_ack(&rt, alloc, &mut subject)?;
     run(&rt, &mut subject, &STOPPED);
-    assert!(&rt; subject.state.queue_max_stream_id(&mut subject.pending));
-    subject.pending.max_stream_data.insert(id(0))?;
+    assert!(&rt; subject.queue_max_stream_id());
+    subject.queue_window(0)?;
     let mut payload = new_payload(alloc);
     if !write_control(&mut subject, &mut payload, 100) {
         assert!(&rt; CONTROL.starts_with(payload.bytes.as_slice()));

@@ -1,10 +1,10 @@
-use super::{Answer, STREAM_LIMIT, STREAM_STATE, Subject, WINDOW, client, id, receive};
+use super::calls::Subject;
+use super::control::writes;
+use super::{Answer, STREAM_LIMIT, STREAM_STATE, WINDOW, acknowledging, client, id, receive};
 use quic_receiving::HandleError;
 use quic_sending::{FinishError, WriteError};
-use quic_streams::send_stream::SendStream;
-use quic_streams::state::StreamsState;
-use quic_streams::streams::{ConnState, Streams};
-use quic_streams::{PeerLimits, Retransmits, StreamMetaVec};
+use quic_streams::StreamMetaVec;
+use quic_streams::streams::ConnState;
 use quic_values::{Bytes, Dir, OutOfMemory, Side, StreamId, VarInt};
 use quic_wire::{ReceiveError, StreamEvent, TransportError};
 use std::alloc::Global;
@@ -35,7 +35,7 @@ pub(super) enum Done {
 }
 
 // A call, mostly on the stream of an id, and what it has to answer.
-#[derive(Clone, Copy, Debug)]
+#[derive(Clone, Copy)]
 pub(super) enum Step {
     Open(Dir, Option<u32>),
     Accept(Dir, Option<u32>),
@@ -78,6 +78,32 @@ pub(super) enum Step {
     Resets(usize),
     // The connection is closed from here on.
     Close,
+    // The peer opens a stream with a byte and its end.
+    Whole(u32),
+    // The stream is not read on.
+    Unread(u32),
+    // So many first bytes of a stream, and maybe its end, were acknowledged or lost.
+    Acked(u32, u64, bool),
+    Lost(u32, u64, bool),
+    ResetAcked(u32),
+    // How many send halves are held of streams that were opened or accepted.
+    SendStreams(usize),
+    // How many streams of a direction the peer may open in all.
+    MaxRemote(Dir, u64),
+    // Whether MAX_STREAMS was due. It is queued then.
+    Due(bool),
+    // Whether a stream has something to be sent.
+    CanSend(bool),
+    // The early start is rejected.
+    Rejected,
+    // All is to be sent again.
+    SendAgain,
+    // These bytes are written, all of them.
+    Puts(u32, &'static [u8]),
+    // The next payload of STREAM frames, of at most so many bytes.
+    Sends(usize, &'static [u8]),
+    // The next payload of control frames.
+    Writes(usize, &'static [u8]),
 }
 
 const TEXT: &[u8] = b"thirty two bytes of written text";
@@ -92,35 +118,10 @@ pub(super) fn end(
     data: u32,
     stream_data: u32,
 ) -> Result<Subject, OutOfMemory> {
-    let mut state = StreamsState::new(
-        alloc,
-        side,
-        VarInt::from(1u32),
-        VarInt::from(1u32),
-        u64::from(WINDOW),
-        VarInt::from(WINDOW),
-        VarInt::from(WINDOW),
-    )?;
-    permit(&mut state, streams, data, stream_data);
-    Ok(Subject {
-        state,
-        pending: Retransmits::new(alloc),
-        window: u64::from(WINDOW),
-        in_one: false,
-    })
-}
-
-// The peer permits so many streams of each direction, bytes in all, and bytes on each stream.
-pub(super) fn permit(state: &mut StreamsState, streams: u32, data: u32, stream_data: u32) {
-    let limit = VarInt::from(stream_data);
-    state.set_params(&PeerLimits {
-        initial_max_data: VarInt::from(data),
-        initial_max_streams_bidi: VarInt::from(streams),
-        initial_max_streams_uni: VarInt::from(streams),
-        initial_max_stream_data_uni: limit,
-        initial_max_stream_data_bidi_local: limit,
-        initial_max_stream_data_bidi_remote: limit,
-    });
+    let window = VarInt::from(WINDOW);
+    let mut subject = Subject::new(alloc, side, 1, u64::from(WINDOW), window, window)?;
+    subject.permit(streams, data, stream_data);
+    Ok(subject)
 }
 
 fn number(id: StreamId) -> u64 {
@@ -140,25 +141,21 @@ fn event_of(event: StreamEvent) -> Event {
     }
 }
 
-fn sending(subject: &mut Subject, stream: u32, conn: ConnState) -> SendStream<'_> {
-    SendStream::new(id(stream), &mut subject.state, &mut subject.pending, conn)
-}
-
 // Opens a stream, which has to have this id.
 pub(super) fn open_one(subject: &mut Subject, dir: Dir, stream: u32) -> bool {
-    open(subject, dir, ConnState::Open) == Some(u64::from(stream))
+    open(subject, dir) == Some(u64::from(stream))
 }
 
 // Writes so many bytes. Answers how many were taken, if any might be.
 pub(super) fn write_one(subject: &mut Subject, stream: u32, count: usize) -> Option<usize> {
-    match write(subject, stream, count, ConnState::Open) {
+    match write(subject, stream, count) {
         Done::Took(count) => Some(count),
         _ => None,
     }
 }
 
 pub(super) fn reset_one(subject: &mut Subject, stream: u32, code: u32) -> bool {
-    reset(subject, stream, code, ConnState::Open) == Done::Is
+    reset(subject, stream, code) == Done::Is
 }
 
 fn refused_write(error: WriteError) -> Done {
@@ -170,9 +167,9 @@ fn refused_write(error: WriteError) -> Done {
     }
 }
 
-pub(super) fn write(subject: &mut Subject, stream: u32, count: usize, conn: ConnState) -> Done {
+pub(super) fn write(subject: &mut Subject, stream: u32, count: usize) -> Done {
     let bytes = TEXT.get(..count).unwrap_or(TEXT);
-    match sending(subject, stream, conn).write(bytes) {
+    match subject.write(stream, bytes) {
         Ok(count) => Done::Took(count),
         Err(error) => refused_write(error),
     }
@@ -186,8 +183,8 @@ fn refused_finish(error: FinishError) -> Done {
     }
 }
 
-pub(super) fn finish(subject: &mut Subject, stream: u32, conn: ConnState) -> Done {
-    match sending(subject, stream, conn).finish() {
+pub(super) fn finish(subject: &mut Subject, stream: u32) -> Done {
+    match subject.finish(stream) {
         Ok(()) => Done::Is,
         Err(error) => refused_finish(error),
     }
@@ -201,29 +198,20 @@ fn handled(answer: Result<(), HandleError>) -> Done {
     }
 }
 
-pub(super) fn reset(subject: &mut Subject, stream: u32, code: u32, conn: ConnState) -> Done {
-    handled(sending(subject, stream, conn).reset(VarInt::from(code)))
+pub(super) fn reset(subject: &mut Subject, stream: u32, code: u32) -> Done {
+    handled(subject.reset(stream, code))
 }
 
-pub(super) fn set_priority(
-    subject: &mut Subject,
-    stream: u32,
-    priority: i32,
-    conn: ConnState,
-) -> Done {
-    handled(sending(subject, stream, conn).set_priority(priority))
+pub(super) fn set_priority(subject: &mut Subject, stream: u32, priority: i32) -> Done {
+    handled(subject.set_priority(stream, priority))
 }
 
-fn code(subject: &mut Subject, stream: u32, conn: ConnState) -> Option<u64> {
-    match sending(subject, stream, conn).stopped() {
-        Ok(Some(code)) => Some(code.into_inner()),
-        Ok(None) => None,
-        Err(_) => Some(u64::MAX),
+fn code(subject: &mut Subject, stream: u32) -> Option<u64> {
+    match subject.stopped(stream) {
+        Some(Some(code)) => Some(code.into_inner()),
+        Some(None) => None,
+        None => Some(u64::MAX),
     }
-}
-
-fn priority(subject: &mut Subject, stream: u32, conn: ConnState) -> Option<i32> {
-    sending(subject, stream, conn).priority().ok()
 }
 
 pub(super) fn taken(answer: Result<(), ReceiveError>) -> Answer {
@@ -234,34 +222,30 @@ pub(super) fn taken(answer: Result<(), ReceiveError>) -> Answer {
     }
 }
 
-pub(super) fn open(subject: &mut Subject, dir: Dir, conn: ConnState) -> Option<u64> {
-    match Streams::new(&mut subject.state, conn).open(dir) {
+pub(super) fn open(subject: &mut Subject, dir: Dir) -> Option<u64> {
+    match subject.open(dir) {
         Ok(Some(id)) => Some(number(id)),
         Ok(None) => None,
         Err(_) => Some(u64::MAX),
     }
 }
 
-fn accept(subject: &mut Subject, dir: Dir, conn: ConnState) -> Option<u64> {
-    match Streams::new(&mut subject.state, conn).accept(dir) {
+fn accept(subject: &mut Subject, dir: Dir) -> Option<u64> {
+    match subject.accept(dir) {
         Some(id) => Some(number(id)),
         None => None,
     }
 }
 
-fn remote_open(subject: &mut Subject, dir: Dir) -> u64 {
-    Streams::new(&mut subject.state, ConnState::Open).remote_open_streams(dir)
-}
-
 fn polled(subject: &mut Subject) -> Option<Event> {
-    match subject.state.poll() {
+    match subject.poll() {
         Some(event) => Some(event_of(event)),
         None => None,
     }
 }
 
 fn limit_of(subject: &Subject, stream: u32) -> Option<u64> {
-    match subject.state.stream_data_blocked_limit(id(stream)) {
+    match subject.stream_data_blocked_limit(stream) {
         Some(limit) => Some(limit.into_inner()),
         None => None,
     }
@@ -282,35 +266,29 @@ pub(super) fn queued(
     streams: &[u32],
 ) -> Result<(), OutOfMemory> {
     let (mut buf, mut sent) = (Vec::new(alloc), StreamMetaVec::new(alloc));
-    subject
-        .state
-        .write_stream_frames(&mut buf, &mut sent, 1200, true)?;
+    subject.write_stream_frames(&mut buf, &mut sent, 1200, true)?;
     assert_eq!(rt; sent.len(), streams.len());
     for (frame, stream) in sent.iter().zip(streams) {
         assert_eq!(rt; frame.id, id(*stream));
     }
-    assert!(rt; !subject.state.can_send_stream_data());
+    assert!(rt; !subject.can_send_stream_data());
     Ok(())
 }
 
 // What the application calls.
-pub(super) fn call(rt: &impl Abort, subject: &mut Subject, conn: ConnState, step: Step) {
+pub(super) fn call(rt: &impl Abort, subject: &mut Subject, step: Step) {
     match step {
-        Step::Open(dir, stream) => assert_eq!(rt; open(subject, dir, conn), expected(stream)),
-        Step::Accept(dir, stream) => assert_eq!(rt; accept(subject, dir, conn), expected(stream)),
+        Step::Open(dir, stream) => assert_eq!(rt; open(subject, dir), expected(stream)),
+        Step::Accept(dir, stream) => assert_eq!(rt; accept(subject, dir), expected(stream)),
         Step::Poll(event) => assert_eq!(rt; polled(subject), event),
-        Step::Write(stream, count, done) => {
-            assert_eq!(rt; write(subject, stream, count, conn), done);
-        }
-        Step::Finish(stream, done) => assert_eq!(rt; finish(subject, stream, conn), done),
-        Step::Reset(stream, code, done) => {
-            assert_eq!(rt; reset(subject, stream, code, conn), done);
-        }
-        Step::Code(stream, was) => assert_eq!(rt; code(subject, stream, conn), was),
+        Step::Write(stream, count, done) => assert_eq!(rt; write(subject, stream, count), done),
+        Step::Finish(stream, done) => assert_eq!(rt; finish(subject, stream), done),
+        Step::Reset(stream, code, done) => assert_eq!(rt; reset(subject, stream, code), done),
+        Step::Code(stream, was) => assert_eq!(rt; code(subject, stream), was),
         Step::SetPriority(stream, priority) => {
-            assert_eq!(rt; set_priority(subject, stream, priority, conn), Done::Is);
+            assert_eq!(rt; set_priority(subject, stream, priority), Done::Is);
         }
-        Step::Priority(stream, was) => assert_eq!(rt; priority(subject, stream, conn), was),
+        Step::Priority(stream, was) => assert_eq!(rt; subject.priority(stream), was),
         other => ask(rt, subject, other),
     }
 }
@@ -319,21 +297,17 @@ pub(super) fn call(rt: &impl Abort, subject: &mut Subject, conn: ConnState, step
 fn ask(rt: &impl Abort, subject: &mut Subject, step: Step) {
     match step {
         Step::Uses(dir, uses, open) => {
-            assert_eq!(rt; subject.state.max_concurrent(dir), uses);
-            assert_eq!(rt; remote_open(subject, dir), open);
+            assert_eq!(rt; subject.max_concurrent(dir), uses);
+            assert_eq!(rt; subject.remote_open_streams(dir), open);
         }
-        Step::Limit(limit) => assert_eq!(rt; subject.state.write_limit(), limit),
+        Step::Limit(limit) => assert_eq!(rt; subject.write_limit(), limit),
         Step::Blocked(is_queued, may) => {
             assert_eq!(rt; subject.pending.data_blocked, is_queued);
-            assert_eq!(rt; subject.state.can_send_data_blocked(), may);
+            assert_eq!(rt; subject.can_send_data_blocked(), may);
         }
         Step::StreamBlocked(stream, limit) => assert_eq!(rt; limit_of(subject, stream), limit),
-        Step::Flow(stream, is) => {
-            assert_eq!(rt; subject.state.can_send_flow_control(id(stream)), is);
-        }
-        Step::Unopened(stream, is) => {
-            assert_eq!(rt; subject.state.is_local_unopened(id(stream)), is);
-        }
+        Step::Flow(stream, is) => assert_eq!(rt; subject.can_send_flow_control(stream), is),
+        Step::Unopened(stream, is) => assert_eq!(rt; subject.is_local_unopened(stream), is),
         Step::Resets(count) => assert_eq!(rt; subject.pending.reset_stream.len(), count),
         other => set(rt, subject, other),
     }
@@ -343,30 +317,55 @@ fn ask(rt: &impl Abort, subject: &mut Subject, step: Step) {
 fn set(rt: &impl Abort, subject: &mut Subject, step: Step) {
     match step {
         Step::Concurrent(dir, count, uses) => {
-            assert!(rt;
-                subject
-                    .state
-                    .set_max_concurrent(dir, VarInt::from(count))
-                    .is_ok()
-            );
-            assert_eq!(rt; subject.state.max_concurrent(dir), uses);
+            assert!(rt; subject.set_max_concurrent(dir, count).is_ok());
+            assert_eq!(rt; subject.max_concurrent(dir), uses);
         }
         Step::Window(window, transmit) => {
-            let window = VarInt::from(window);
-            assert_eq!(rt; subject.state.set_receive_window(window), transmit);
+            assert_eq!(rt; subject.set_receive_window(window), transmit);
         }
         Step::Credit(count, transmit, limit) => {
-            let answer = subject.state.add_read_credits(count).should_transmit();
+            let answer = subject.add_read_credits(count).should_transmit();
             assert_eq!(rt; answer, transmit);
-            assert_eq!(rt; subject.state.local_max_data(), limit);
+            assert_eq!(rt; subject.local_max_data(), limit);
         }
-        Step::SendWindow(window) => subject.state.set_send_window(window),
-        _ => {}
+        Step::SendWindow(window) => subject.set_send_window(window),
+        Step::Close => subject.conn = ConnState::Closed,
+        other => acknowledging::report(rt, subject, other),
     }
 }
 
-// The frames that are handed in, and those that leave.
-pub(super) fn hand_in(
+// The next payload of STREAM frames has these bytes.
+pub(super) fn sends(
+    rt: &impl Abort,
+    alloc: Global,
+    subject: &mut Subject,
+    max_size: usize,
+    bytes: &[u8],
+) -> Result<(), OutOfMemory> {
+    let (mut buf, mut sent) = (Vec::new(alloc), StreamMetaVec::new(alloc));
+    subject.write_stream_frames(&mut buf, &mut sent, max_size, true)?;
+    assert_eq!(rt; buf.as_slice(), bytes);
+    Ok(())
+}
+
+// The frames that leave.
+fn leave(
+    rt: &impl Abort,
+    alloc: Global,
+    subject: &mut Subject,
+    step: Step,
+) -> Result<(), OutOfMemory> {
+    match step {
+        Step::Queued(streams) => queued(rt, alloc, subject, streams)?,
+        Step::Sends(max_size, bytes) => sends(rt, alloc, subject, max_size, bytes)?,
+        Step::Writes(max_size, bytes) => writes(rt, alloc, subject, max_size, bytes),
+        _ => {}
+    }
+    Ok(())
+}
+
+// The frames that are handed in.
+fn hand_in(
     rt: &impl Abort,
     alloc: Global,
     subject: &mut Subject,
@@ -374,30 +373,44 @@ pub(super) fn hand_in(
 ) -> Result<(), OutOfMemory> {
     match step {
         Step::Stop(stream, code) => {
-            let code = VarInt::from(code);
-            assert!(rt;
-                subject
-                    .state
-                    .received_stop_sending(id(stream), code)
-                    .is_ok()
-            );
+            assert!(rt; subject.received_stop_sending(stream, code).is_ok());
         }
-        Step::MaxData(limit) => subject.state.received_max_data(VarInt::from(limit)),
+        Step::MaxData(limit) => subject.received_max_data(limit),
         Step::MaxStreams(dir, count, answer) => {
-            assert_eq!(rt;
-                taken(subject.state.received_max_streams(dir, count)),
-                answer
-            );
+            assert_eq!(rt; taken(subject.received_max_streams(dir, count)), answer);
         }
         Step::MaxStreamData(stream, limit, answer) => {
-            let was = subject.state.received_max_stream_data(id(stream), limit);
-            assert_eq!(rt; taken(was), answer);
+            let is = subject.received_max_stream_data(stream, limit);
+            assert_eq!(rt; taken(is), answer);
         }
         Step::Data(stream, count, answer) => {
             assert_eq!(rt; receive(alloc, subject, stream, 0, count, false)?, answer);
         }
-        Step::Queued(streams) => queued(rt, alloc, subject, streams)?,
-        _ => {}
+        Step::Whole(stream) => acknowledging::comes_whole(rt, alloc, subject, stream)?,
+        other => leave(rt, alloc, subject, other)?,
+    }
+    Ok(())
+}
+
+pub(super) fn take(
+    rt: &impl Abort,
+    alloc: Global,
+    subject: &mut Subject,
+    steps: &[Step],
+) -> Result<(), OutOfMemory> {
+    for step in steps {
+        match *step {
+            Step::Stop(..)
+            | Step::MaxData(..)
+            | Step::MaxStreams(..)
+            | Step::MaxStreamData(..)
+            | Step::Data(..)
+            | Step::Queued(..)
+            | Step::Whole(..)
+            | Step::Sends(..)
+            | Step::Writes(..) => hand_in(rt, alloc, subject, *step)?,
+            other => call(rt, subject, other),
+        }
     }
     Ok(())
 }
@@ -409,20 +422,7 @@ fn run(
     steps: &[Step],
 ) -> Result<(), OutOfMemory> {
     let mut subject = subject;
-    let mut conn = ConnState::Open;
-    for step in steps {
-        match *step {
-            Step::Close => conn = ConnState::Closed,
-            Step::Stop(..)
-            | Step::MaxData(..)
-            | Step::MaxStreams(..)
-            | Step::MaxStreamData(..)
-            | Step::Data(..)
-            | Step::Queued(..) => hand_in(rt, alloc, &mut subject, *step)?,
-            other => call(rt, &mut subject, conn, other),
-        }
-    }
-    Ok(())
+    take(rt, alloc, &mut subject, steps)
 }
 
 const COUNTS: [Step; 13] = [
@@ -723,12 +723,12 @@ fn chunk(alloc: Global, bytes: &[u8]) -> Result<Bytes, OutOfMemory> {
 fn chunks_are_taken_whole_or_cut(rt: HostRuntime) -> Result<(), Fail> {
     let alloc = rt.alloc();
     let mut subject = end(alloc, Side::Client, 1, 100, 7)?;
-    assert_eq!(&rt; open(&mut subject, Dir::Uni, ConnState::Open), Some(2));
+    assert_eq!(&rt; open(&mut subject, Dir::Uni), Some(2));
     let mut chunks = Vec::with_capacity(alloc, 3)?;
     chunks.push(chunk(alloc, b"")?)?;
     chunks.push(chunk(alloc, b"Hello ")?)?;
     chunks.push(chunk(alloc, b"Wo")?)?;
-    let written = match sending(&mut subject, 2, ConnState::Open).write_chunks(&mut chunks) {
+    let written = match subject.write_chunks(2, &mut chunks) {
         Ok(written) => (written.bytes, written.chunks),
         Err(_) => (0, 0),
     };

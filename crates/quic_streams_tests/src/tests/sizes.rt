@@ -1,5 +1,6 @@
 // With ample memory no size is refused.
-use super::{Answer, Subject, WINDOW, client, data, id, pattern, read_some};
+use super::calls::Subject;
+use super::{Answer, WINDOW, client, data, pattern};
 use quic_streams::progress::LastAnswer;
 use quic_values::Dir;
 use std::alloc::Global;
@@ -17,7 +18,7 @@ fn pass(
     let answer = data(rt, alloc, subject, 3, offset, size, false)?;
     assert_eq!(rt; answer, Answer::Taken(false), "{size} bytes");
     let most = size.div_ceil(2);
-    let read = read_some(subject, 3, true, most, 3)?;
+    let read = subject.read_some(3, true, most, 3)?;
     assert_eq!(rt; read.last, LastAnswer::Blocked, "{size} bytes");
     let mut bytes = Vec::new(alloc);
     for chunk in &read.chunks {
@@ -43,19 +44,30 @@ fn every_size_is_taken_and_read(rt: HostRuntime) -> Result<(), Fail> {
     Ok(())
 }
 
+// Takes a stream of three bytes, and reads it byte by byte.
+fn pass_stream(
+    rt: &impl Abort,
+    alloc: Global,
+    subject: &mut Subject,
+    stream: u32,
+) -> Result<(), Fail> {
+    let answer = data(rt, alloc, subject, stream, 0, 3, true)?;
+    assert_eq!(rt; answer, Answer::Taken(false), "stream {stream}");
+    let read = subject.read_some(stream, false, 1, u16::MAX)?;
+    assert_eq!(rt; read.chunks.len(), 3, "stream {stream}");
+    assert_eq!(rt; read.last, LastAnswer::Ended, "stream {stream}");
+    Ok(())
+}
+
 #[test]
 fn every_number_of_streams_and_chunks_is_served(rt: HostRuntime) -> Result<(), Fail> {
     let alloc = rt.alloc();
     let mut subject = client(alloc, 1025, WINDOW, WINDOW)?;
     for index in 0..1025u32 {
         let stream = index.wrapping_mul(4).wrapping_add(3);
-        let answer = data(&rt, alloc, &mut subject, stream, 0, 3, true)?;
-        assert_eq!(&rt; answer, Answer::Taken(false), "stream {stream}");
-        let read = read_some(&mut subject, stream, false, 1, u16::MAX)?;
-        assert_eq!(&rt; read.chunks.len(), 3, "stream {stream}");
-        assert_eq!(&rt; read.last, LastAnswer::Ended, "stream {stream}");
+        pass_stream(&rt, alloc, &mut subject, stream)?;
     }
     assert_eq!(&rt; subject.pending.max_stream_id, [false, true]);
-    assert!(&rt; subject.state.max_remote(Dir::Uni) == 2050);
+    assert!(&rt; subject.max_remote(Dir::Uni) == 2050);
     Ok(())
 }

@@ -1,42 +1,33 @@
 // STREAM frames of several streams.
-use super::sending::{end, open_one, reset_one, write_one};
-use super::{Subject, WINDOW, id};
-use quic_streams::send_stream::SendStream;
-use quic_streams::state::StreamsState;
-use quic_streams::streams::{ConnState, Streams};
-use quic_streams::{PeerLimits, Retransmits, StreamMetaVec};
+use super::WINDOW;
+use super::calls::Subject;
+use super::sending::{Done, Step, end, open_one, take};
+use quic_streams::StreamMetaVec;
 use quic_values::{Dir, OutOfMemory, Side, VarInt};
-use quic_wire::frame::StreamMeta;
 use std::alloc::Global;
 use std::process::Abort;
 use std::rt::HostRuntime;
 use std::test::Fail;
 
+// Opens a stream, and writes a byte at a priority.
+fn write_at(rt: &impl Abort, subject: &mut Subject, stream: u32, priority: i32, byte: u8) {
+    assert!(rt; open_one(subject, Dir::Uni, stream));
+    assert!(rt; subject.set_priority(stream, priority).is_ok());
+    assert_eq!(rt; subject.write(stream, &[byte]), Ok(1));
+}
+
 #[test]
 fn higher_priorities_first(rt: HostRuntime) -> Result<(), Fail> {
     let alloc = rt.alloc();
     let much = VarInt::from(1000u32);
-    let none = VarInt::from(0u32);
-    let mut state = StreamsState::new(alloc, Side::Client, none, none, 1000, much, much)?;
-    let mut pending = Retransmits::new(alloc);
-    state.set_params(&PeerLimits {
-        initial_max_data: much,
-        initial_max_streams_bidi: much,
-        initial_max_streams_uni: much,
-        initial_max_stream_data_uni: much,
-        initial_max_stream_data_bidi_local: much,
-        initial_max_stream_data_bidi_remote: much,
-    });
+    let mut subject = Subject::new(alloc, Side::Client, 0, 1000, much, much)?;
+    subject.permit(1000, 1000, 1000);
     for (stream, priority, byte) in [(2u32, i32::MIN, b'a'), (6, i32::MAX, b'b'), (10, 0, b'c')] {
-        let opened = Streams::new(&mut state, ConnState::Open).open(Dir::Uni)?;
-        assert_eq!(rt; opened, Some(id(stream)));
-        let mut half = SendStream::new(id(stream), &mut state, &mut pending, ConnState::Open);
-        assert!(rt; half.set_priority(priority).is_ok());
-        assert_eq!(rt; half.write(&[byte]), Ok(1));
+        write_at(&rt, &mut subject, stream, priority, byte);
     }
     let mut buf = Vec::new(alloc);
     let mut sent = StreamMetaVec::new(alloc);
-    state.write_stream_frames(&mut buf, &mut sent, 60, true)?;
+    subject.write_stream_frames(&mut buf, &mut sent, 60, true)?;
     let text: &[u8] = &[
         0x0a, 0x06, 0x01, b'b', 0x0a, 0x0a, 0x01, b'c', 0x0a, 0x02, 0x01, b'a',
     ];
@@ -45,26 +36,26 @@ fn higher_priorities_first(rt: HostRuntime) -> Result<(), Fail> {
     Ok(())
 }
 
+const WHILE_NOT_RESET: [Step; 12] = [
+    Step::Open(Dir::Uni, Some(2)),
+    Step::CanSend(false),
+    Step::Write(2, 3, Done::Took(3)),
+    Step::CanSend(true),
+    Step::Reset(2, 7, Done::Is),
+    Step::CanSend(false),
+    Step::Open(Dir::Uni, Some(6)),
+    Step::Write(6, 1, Done::Took(1)),
+    Step::CanSend(true),
+    Step::Queued(&[6]),
+    Step::CanSend(false),
+    Step::Sends(60, b""),
+];
+
 #[test]
 fn data_can_be_sent_while_a_queued_stream_is_not_reset(rt: HostRuntime) -> Result<(), Fail> {
     let alloc = rt.alloc();
     let mut subject = end(alloc, Side::Client, 2, 10, 10)?;
-    assert!(rt; open_one(&mut subject, Dir::Uni, 2));
-    assert!(rt; !subject.state.can_send_stream_data());
-    assert_eq!(rt; write_one(&mut subject, 2, 3), Some(3));
-    assert!(rt; subject.state.can_send_stream_data());
-    assert!(rt; reset_one(&mut subject, 2, 7));
-    assert!(rt; !subject.state.can_send_stream_data());
-    assert!(rt; open_one(&mut subject, Dir::Uni, 6));
-    assert_eq!(rt; write_one(&mut subject, 6, 1), Some(1));
-    assert!(rt; subject.state.can_send_stream_data());
-    let mut buf = Vec::new(alloc);
-    let mut sent = StreamMetaVec::new(alloc);
-    subject
-        .state
-        .write_stream_frames(&mut buf, &mut sent, 60, true)?;
-    assert_eq!(rt; sent.as_slice().len(), 1);
-    assert!(rt; !subject.state.can_send_stream_data());
+    take(&rt, alloc, &mut subject, &WHILE_NOT_RESET)?;
     Ok(())
 }
 
@@ -76,109 +67,97 @@ fn two_streams(rt: &impl Abort, alloc: Global) -> Result<Subject, OutOfMemory> {
     Ok(subject)
 }
 
-fn half(subject: &mut Subject, stream: u32) -> SendStream<'_> {
-    SendStream::new(
-        id(stream),
-        &mut subject.state,
-        &mut subject.pending,
-        ConnState::Open,
-    )
-}
+// A payload: its size at most, a head, and then one byte so many times.
+#[derive(Clone, Copy)]
+struct Payload(pub usize, pub &'static [u8], pub u8, pub usize);
 
-// Whether the next payload is a head, and then one byte so many times.
+// The next payload, of streams that take turns where that is fair.
 fn sends(
+    rt: &impl Abort,
     alloc: Global,
     subject: &mut Subject,
-    max_size: usize,
     fair: bool,
-    (head, byte, count): (&[u8], u8, usize),
-) -> Result<bool, OutOfMemory> {
+    payload: Payload,
+) -> Result<(), OutOfMemory> {
+    let Payload(max_size, head, byte, count) = payload;
     let mut buf = Vec::new(alloc);
     let mut sent = StreamMetaVec::new(alloc);
-    subject
-        .state
-        .write_stream_frames(&mut buf, &mut sent, max_size, fair)?;
+    subject.write_stream_frames(&mut buf, &mut sent, max_size, fair)?;
     let bytes = buf.as_slice();
-    Ok(
-        bytes.len() == head.len().saturating_add(count)
-            && bytes.starts_with(head)
-            && bytes.iter().skip(head.len()).all(|b| *b == byte),
-    )
+    assert_eq!(rt; bytes.len(), head.len().saturating_add(count));
+    assert!(rt; bytes.starts_with(head));
+    assert!(rt; bytes.iter().skip(head.len()).all(|b| *b == byte));
+    Ok(())
 }
 
-#[test]
-fn streams_take_turns_only_where_that_is_fair(rt: HostRuntime) -> Result<(), Fail> {
-    let alloc = rt.alloc();
-    for fair in [true, false] {
-        let mut subject = two_streams(&rt, alloc)?;
-        assert_eq!(&rt; half(&mut subject, 2).write(&[b'a'; 30]), Ok(30));
-        assert_eq!(&rt; half(&mut subject, 6).write(&[b'b'; 30]), Ok(30));
-        let first: (&[u8], u8, usize) = (&[0x08, 0x02], b'a', 28);
-        let rest: (&[u8], u8, usize) = (&[0x0e, 0x02, 0x1c, 0x02], b'a', 2);
-        let other: (&[u8], u8, usize) = (&[0x08, 0x06], b'b', 28);
-        let last: (&[u8], u8, usize) = (&[0x0e, 0x06, 0x1c, 0x02], b'b', 2);
-        let payloads = if fair {
-            [first, other, rest, last]
-        } else {
-            [first, rest, other, last]
-        };
-        for payload in payloads {
-            assert!(&rt; sends(alloc, &mut subject, 30, fair, payload)?);
-        }
-        assert!(&rt; sends(alloc, &mut subject, 30, fair, (&[], 0, 0))?);
+const FIRST: Payload = Payload(30, &[0x08, 0x02], b'a', 28);
+
+const REST: Payload = Payload(30, &[0x0e, 0x02, 0x1c, 0x02], b'a', 2);
+
+const OTHER: Payload = Payload(30, &[0x08, 0x06], b'b', 28);
+
+const LAST: Payload = Payload(30, &[0x0e, 0x06, 0x1c, 0x02], b'b', 2);
+
+const NOTHING: Payload = Payload(30, &[], 0, 0);
+
+const WRITTEN: [Step; 2] = [Step::Puts(2, &[b'a'; 30]), Step::Puts(6, &[b'b'; 30])];
+
+// Two streams of thirty bytes.
+fn send_both(
+    rt: &impl Abort,
+    alloc: Global,
+    fair: bool,
+    payloads: &[Payload],
+) -> Result<(), OutOfMemory> {
+    let mut subject = two_streams(rt, alloc)?;
+    take(rt, alloc, &mut subject, &WRITTEN)?;
+    for payload in payloads {
+        sends(rt, alloc, &mut subject, fair, *payload)?;
     }
     Ok(())
 }
 
 #[test]
+fn streams_take_turns_only_where_that_is_fair(rt: HostRuntime) -> Result<(), Fail> {
+    let alloc = rt.alloc();
+    send_both(&rt, alloc, true, &[FIRST, OTHER, REST, LAST, NOTHING])?;
+    send_both(&rt, alloc, false, &[FIRST, REST, OTHER, LAST, NOTHING])?;
+    Ok(())
+}
+
+const LOST: [Step; 2] = [Step::Puts(2, &[b'a'; 60]), Step::CanSend(true)];
+
+const WHOLE: Payload = Payload(70, &[0x0a, 0x02, 0x3c], b'a', 60);
+
+const PARTS: [Payload; 2] = [
+    Payload(40, &[0x08, 0x02], b'a', 38),
+    Payload(40, &[0x0e, 0x02, 0x26, 0x16], b'a', 22),
+];
+
+#[test]
 fn a_lost_range_is_cut(rt: HostRuntime) -> Result<(), Fail> {
     let alloc = rt.alloc();
     let mut subject = two_streams(&rt, alloc)?;
-    assert_eq!(&rt; half(&mut subject, 2).write(&[b'a'; 60]), Ok(60));
-    assert!(&rt;
-        sends(
-            alloc,
-            &mut subject,
-            70,
-            true,
-            (&[0x0a, 0x02, 0x3c], b'a', 60)
-        )?
-    );
-    let lost = StreamMeta {
-        id: id(2),
-        offsets: 0..60,
-        fin: false,
-    };
-    assert!(&rt; subject.state.retransmit(lost).is_ok());
-    assert!(&rt; sends(alloc, &mut subject, 40, true, (&[0x08, 0x02], b'a', 38))?);
-    assert!(&rt;
-        sends(
-            alloc,
-            &mut subject,
-            40,
-            true,
-            (&[0x0e, 0x02, 0x26, 0x16], b'a', 22)
-        )?
-    );
+    take(&rt, alloc, &mut subject, &LOST)?;
+    sends(&rt, alloc, &mut subject, true, WHOLE)?;
+    take(&rt, alloc, &mut subject, &[Step::Lost(2, 60, false)])?;
+    for payload in PARTS {
+        sends(&rt, alloc, &mut subject, true, payload)?;
+    }
     Ok(())
 }
+
+const END_ALONE: [Step; 4] = [
+    Step::Puts(2, b"hi"),
+    Step::Sends(100, &[0x0a, 0x02, 0x02, 0x68, 0x69]),
+    Step::Finish(2, Done::Is),
+    Step::Sends(100, &[0x0f, 0x02, 0x02, 0x00]),
+];
 
 #[test]
 fn an_end_comes_alone_behind_its_bytes(rt: HostRuntime) -> Result<(), Fail> {
     let alloc = rt.alloc();
     let mut subject = two_streams(&rt, alloc)?;
-    assert_eq!(&rt; half(&mut subject, 2).write(b"hi"), Ok(2));
-    let hi: &[u8] = &[0x0a, 0x02, 0x02, 0x68, 0x69];
-    assert!(&rt; sends(alloc, &mut subject, 100, true, (hi, 0, 0))?);
-    assert!(&rt; half(&mut subject, 2).finish().is_ok());
-    assert!(&rt;
-        sends(
-            alloc,
-            &mut subject,
-            100,
-            true,
-            (&[0x0f, 0x02, 0x02, 0x00], 0, 0)
-        )?
-    );
+    take(&rt, alloc, &mut subject, &END_ALONE)?;
     Ok(())
 }
