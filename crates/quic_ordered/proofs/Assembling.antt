@@ -11,7 +11,7 @@ use Rattle.quic_values.specs.Runs.{contains}
 use Rattle.quic_assembler.specs.Laws.{done_below, held_or_not}
 use Rattle.quic_assembler.specs.Compact.{Compacts}
 use Rattle.quic_assembler.specs.Piece.{PieceView, Covers, RunHolds, cover_count, lies, run_end, advance_by, left_of, CoversMore}
-use Rattle.quic_assembler.specs.Reassembly.{Reassembly, floor, Holds, IsDone, IsHeld, Takes, SameHeld, TakesFresh, IsNext}
+use Rattle.quic_assembler.specs.Reassembly.{Reassembly, floor, Holds, IsDone, IsHeld, Takes, SameHeld, HoldsOnce, TakesFresh, IsNext}
 use Rattle.quic_assembler.proofs.Counts.{Any-here, Any-cons, Any-nil, Any-append, lies_below, lies_above, bit-le-one, count_of_any, any_of_count}
 use Rattle.quic_assembler.proofs.Runs.{RunHolds-cut, RunHolds-uncut, covers_from_holds, holds_from_covers}
 use Rattle.quic_assembler.proofs.Whole.{takes_nothing, below_is_done, keeps_fresh}
@@ -71,6 +71,33 @@ holds_same old new e s = record {
   keeps = λ at byte h. (omega (arith, h.0), s.keeps at byte h.1);
   origin = λ at byte h. (omega (arith, h.0), s.origin at byte h.1);
 }
+
+hold_low : (low : ℕ) (rs : List PieceView) (at byte : ℕ) → LieWithGaps low rs → Hold rs at byte → low ≤ at
+hold_low low [] at byte h w = absurd (Any-nil (RunHolds at byte) w)
+hold_low low (r ∷ rs) at byte h w =
+    let a = h.0 in
+    elim (Any-cons (RunHolds at byte) r rs w) [
+      | inl here ↦ omega (arith, a, here.0)
+      | inr there ↦ let i = hold_low (run_end r + 1) rs at byte h.2 there in omega (arith, a, i)
+    ]
+
+once_held : (low : ℕ) (rs : List PieceView) (at a b : ℕ) → LieWithGaps low rs → Hold rs at a → Hold rs at b → a ≡ b
+once_held low [] at a b h p q = absurd (Any-nil (RunHolds at a) p)
+once_held low (r ∷ rs) at a b h p q =
+    elim (Any-cons (RunHolds at a) r rs p) [
+      | inl here ↦ elim (Any-cons (RunHolds at b) r rs q) [
+        | inl also ↦ sym here.2 ∙ also.2
+        | inr there ↦ let i = hold_low (run_end r + 1) rs at b h.2 there in absurd (omega (arith, i, here.1))
+      ]
+      | inr there ↦ elim (Any-cons (RunHolds at b) r rs q) [
+        | inl here ↦ let i = hold_low (run_end r + 1) rs at a h.2 there in absurd (omega (arith, i, here.1))
+        | inr also ↦ once_held (run_end r + 1) rs at a b h.2 there also
+      ]
+    ]
+
+pub holds_once : (a : Reassembly) → LieWithGaps 0 a.runs → HoldsOnce (Holds a)
+unfolding Holds
+holds_once a h = λ at x y p q. once_held 0 a.runs at x y h p.1 q.1
 
 pub holds_left : (old new : Reassembly) → old.ordered ≡ true → new.ordered ≡ false → LieInOrder old.bytes_read old.runs → HoldSame old.runs new.runs → SameHeld (Holds old) (Holds new)
 unfolding Holds

@@ -11,3 +11,4 @@ pub mod Places
 pub mod Placed
 pub mod Fresh
 pub mod Assembling
+pub mod Fronts

@@ -6,11 +6,9 @@ use Rattle.std.specs.Map.{values_of}
 use Rattle.std.proofs.lemmas.Bool.{cases_lt, cases_eq}
 use Rattle.quic_assembler.specs.Piece.{PieceView, run_end}
 use Rattle.quic_assembler.proofs.Counts.{Any-here, Any-there, Any-cons, Any-nil, Any-append}
-use Rattle.quic_ordered.specs.Entries.{piece_at, IsLastPiece, NoPieceBegins, IsPieceMap}
+use Rattle.quic_ordered.specs.Entries.{piece_at}
 use Rattle.quic_ordered.specs.Rows.{LieInOrder, AreKeyed, Encloses, IsStore, Merges}
-use Rattle.quic_ordered.proofs.Held.{none_some}
-use Rattle.quic_ordered.proofs.Joining.{last_bounds}
-use Rattle.quic_ordered.proofs.Order.{found_head, found_low, key_at, at_head, at_tail}
+use Rattle.quic_ordered.proofs.Order.{lower, found_low, key_at, row_behind, at_head, at_tail}
 
 at_low : (low : ℕ) (xs : List PieceView) (j : ℕ) (e : PieceView) → LieInOrder low xs → j < length xs → low ≤ (slice_index_or xs j e).offset
 at_low low [] j e h lt = absurd (omega arith)
@@ -64,14 +62,6 @@ none_encloses xs n offset end r h some lt e below above short (k, x, fits, is, (
 
 -- ---- of a map
 
-values_any : (P : PieceView → Type 0) (es : List (ℕ × PieceView)) (q : ℕ) (v : PieceView) → piece_at es q ≡ Some v → P v → Any P (values_of es)
-values_any P [] q v found here = absurd (none_some None v refl found)
-values_any P (e ∷ es) q v found here =
-    elim (found_head e es q v found) [
-      | inl h ↦ Any-here P e.1 (values_of es) (subst P (sym h.1) here)
-      | inr there ↦ Any-there P e.1 (values_of es) (values_any P es q v there here)
-    ]
-
 any_found : (P : PieceView → Type 0) (es : List (ℕ × PieceView)) (rs : List PieceView) (low : ℕ) → AreKeyed es → LieInOrder low (values_of es ++ rs) → Any P (values_of es) → (q : ℕ) × (v : PieceView) × (piece_at es q ≡ Some v) × P v
 any_found P [] rs low k h any = absurd (Any-nil P any)
 any_found P (e ∷ es) rs low k h any =
@@ -86,7 +76,7 @@ any_found P (e ∷ es) rs low k h any =
           (m.0, m.1, at_tail e es m.0 (λ same. omega (arith, i.0, j)) ∙ m.2, m.3)
     ]
 
-any_front : (P : PieceView → Type 0) (xs ys : List PieceView) → Any P xs → Any P (xs ++ ys)
+pub any_front : (P : PieceView → Type 0) (xs ys : List PieceView) → Any P xs → Any P (xs ++ ys)
 any_front P [] ys h = absurd (Any-nil P h)
 any_front P (x ∷ xs) ys h =
     elim (Any-cons P x xs h) [
@@ -94,36 +84,25 @@ any_front P (x ∷ xs) ys h =
       | inr there ↦ Any-there P x (xs ++ ys) (any_front P xs ys there)
     ]
 
-any_behind : (P : PieceView → Type 0) (xs ys : List PieceView) → Any P ys → Any P (xs ++ ys)
+pub any_behind : (P : PieceView → Type 0) (xs ys : List PieceView) → Any P ys → Any P (xs ++ ys)
 any_behind P [] ys h = h
 any_behind P (x ∷ xs) ys h = Any-there P x (xs ++ ys) (any_behind P xs ys h)
-
-pub encloses_map : (es : List (ℕ × PieceView)) (rs : List PieceView) (offset end start last : ℕ) → IsLastPiece es start last offset → IsPieceMap es → end ≤ last → Any (Encloses offset end) (values_of es ++ rs)
-encloses_map es rs offset end start last l m le =
-    let k = m.key start l.run l.found in
-    let u = l.up_to in
-    let e = l.ends in
-    any_front (Encloses offset end) (values_of es) rs (values_any (Encloses offset end) es start l.run l.found (omega (arith, k, u), omega (arith, e, le)))
 
 pub encloses_row : (es : List (ℕ × PieceView)) (rs : List PieceView) (offset end : ℕ) → Any (Encloses offset end) rs → Any (Encloses offset end) (values_of es ++ rs)
 encloses_row es rs offset end h = any_behind (Encloses offset end) (values_of es) rs h
 
-pub encloses_none : (es : List (ℕ × PieceView)) (rs : List PieceView) (offset end : ℕ) → IsStore es rs → ((q : ℕ) (v : PieceView) → piece_at es q ≡ Some v → q ≤ offset → end ≤ run_end v → ⊥) → (Any (Encloses offset end) rs → ⊥) → Any (Encloses offset end) (values_of es ++ rs) → ⊥
-encloses_none es rs offset end s map_no row_no any =
+-- what a piece of the map has all of ends before the row
+pub enclosed_map : (es : List (ℕ × PieceView)) (rs : List PieceView) (offset end : ℕ) → IsStore es rs → (Any (Encloses offset end) rs → ⊥) → Any (Encloses offset end) (values_of es ++ rs)
+    → (q : ℕ) × (v : PieceView) × (piece_at es q ≡ Some v) × (q ≤ offset) × (end ≤ run_end v) × LieInOrder end rs
+enclosed_map es rs offset end s row_no any =
     elim (Any-append (Encloses offset end) (values_of es) rs any) [
       | inl a ↦
           let f = any_found (Encloses offset end) es rs 0 s.keyed s.order a in
           let k = key_at es f.0 f.1 s.keyed f.2 in
           let p = f.3 in
-          map_no f.0 f.1 f.2 (omega (arith, k, p.0)) p.1
-      | inr b ↦ row_no b
+          (f.0, f.1, f.2, omega (arith, k, p.0), p.1, lower end (run_end f.1) rs p.1 (row_behind es rs 0 f.0 f.1 s.order f.2))
+      | inr b ↦ absurd (row_no b)
     ]
-
-pub short_map : (es : List (ℕ × PieceView)) (offset end start last q : ℕ) (v : PieceView) → IsPieceMap es → IsLastPiece es start last offset → last < end → piece_at es q ≡ Some v → q ≤ offset → end ≤ run_end v → ⊥
-short_map es offset end start last q v m l short found le big = let b = last_bounds es start last offset q v m l found le in omega (arith, b, short, big)
-
-pub none_map : (es : List (ℕ × PieceView)) (offset end q : ℕ) (v : PieceView) → NoPieceBegins es 0 offset → piece_at es q ≡ Some v → q ≤ offset → end ≤ run_end v → ⊥
-none_map es offset end q v none found le big = none_some (piece_at es q) v (none q (omega arith) le) found
 
 -- ---- what is enclosed adds nothing
 

@@ -145,7 +145,7 @@ among_behind : (xs ys : List PieceView) (r : PieceView) → IsAmong ys r → IsA
 among_behind [] ys r h = h
 among_behind (x ∷ xs) ys r h = Any-there (λ (s : PieceView). s ≡ r) x (xs ++ ys) (among_behind xs ys r h)
 
-all_among : (xs ys : List PieceView) → All (IsAmong (xs ++ ys)) ys
+pub all_among : (xs ys : List PieceView) → All (IsAmong (xs ++ ys)) ys
 all_among xs [] = All-nil (IsAmong (xs ++ []))
 all_among xs (y ∷ ys) =
     All-cons (IsAmong (xs ++ (y ∷ ys))) y ys (among_behind xs (y ∷ ys) y (Any-here (λ (s : PieceView). s ≡ y) y ys refl))

@@ -182,6 +182,9 @@ store_allocated es rs s a b =
     let l = length-values_of es in
     (omega (arith, c, l, total_le (values_of es) a, total_le rs b), omega (arith, c, l, allocated_le (values_of es) a, allocated_le rs b))
 
+pub sums_fit : (rs : List PieceView) → All FitsWords rs → length rs ≤ 2 ^ 62 → (sum_by run_length rs ≤ 2 ^ 124) × (sum_by run_allocation rs ≤ 2 ^ 126)
+sums_fit rs all le = (omega (arith, total_le rs all, le), omega (arith, allocated_le rs all, le))
+
 pub rises_none : RiseByKey []
 unfolding IsStrictlySortedBy
 rises_none = tt

@@ -1,5 +1,5 @@
 -- Pieces in the order of their offsets.
-use Rattle.std.specs.Prelude.{ℕ, ◌≡◌, ◌+◌, ◌≤◌, ◌<◌, ◌^◌, ◌*◌, ◌/◌, ◌≢◌, ◌⊎◌, nat_le, List, [], ◌∷◌, ◌++◌, length, take, sum_by, cond, nat_lt}
+use Rattle.std.specs.Prelude.{ℕ, ◌≡◌, ◌+◌, ◌≤◌, ◌<◌, ◌^◌, ◌*◌, ◌/◌, ◌≢◌, ◌⊎◌, nat_le, List, [], ◌∷◌, ◌++◌, length, take, sum_by, cond, Option, option_to_list}
 use Rattle.std.specs.List.{Any, All}
 use Rattle.std.specs.Map.{keys_of, values_of}
 use Rattle.std.specs.Ordering.{nat_cmp}
@@ -57,9 +57,9 @@ pub record IsStore (es : List (ℕ × PieceView)) (rs : List PieceView) : Type 0
   pub keyed : AreKeyed es
   pub order : LieInOrder 0 (values_of es ++ rs)
 
--- what is left in a map of a piece of which the first bytes were given
-abbrev pub entry_left : ℕ → PieceView → List (ℕ × PieceView)
-entry_left most r = cond (nat_lt most (length r.bytes)) ((r.offset + most, advance_by most r) ∷ []) []
+-- a piece that is being read, if there is one, and behind it the others
+abbrev pub IsFronted : Option PieceView → List PieceView → Type 0
+IsFronted first rest = LieInOrder 0 (option_to_list first ++ rest)
 
 -- a piece that keeps much more memory alive than it has bytes is copied
 abbrev pub tidied : PieceView → PieceView

@@ -2,11 +2,11 @@
 ghost use Rattle.std.specs.Prelude.{◌≡◌, ℕ, ◌+◌, ◌-◌, ◌^◌, ◌<◌, ◌≤◌, ◌↔◌, ◌⊎◌, ◌||◌, true, false, [], ◌∷◌, length, max, OnOk, OnErr, IfOk, IsTrue, Ok, Err};
 ghost use Rattle.std.specs.List.{All, Any};
 ghost use Rattle.quic_assembler.specs.Piece.{PieceView, lies, sums_of};
-ghost use Rattle.quic_assembler.specs.Reassembly.{Reassembly, fresh, Holds, IsDone, is_done, IsHeld, IsWithin, HoldsMore, Takes, Gives, SameHeld, IsSameButHeld, HoldsNothing, HoldsOnce, MatchInsert, IfGiven, OnNothing, IsStale, IsNext, run_count, piece_count, LeavesOrder, is_wasteful};
+ghost use Rattle.quic_assembler.specs.Reassembly.{Reassembly, fresh, Holds, IsDone, is_done, IsHeld, IsWithin, HoldsMore, Takes, Gives, SameHeld, KeepsOffsets, IsSameButHeld, HoldsNothing, HoldsOnce, MatchInsert, IfGiven, OnNothing, IsStale, IsNext, run_count, piece_count, LeavesOrder, is_wasteful};
 ghost use Rattle.quic_ordered.specs.Assembly.{KeepsPiece, IsJoined, Relieves, Settled, FormMoreRuns};
 ghost use Rattle.quic_ordered.specs.Rows.{IsKeptOrOwn, GivesFirst, HoldSame, Encloses};
 
-use crate::store::OrderedPieces;
+use crate::pieces::OrderedPieces;
 use quic_assembler::{Chunk, EnsureError, InsertError, Reassemble};
 use quic_values::{Bytes, OutOfMemory, RangeSet};
 use std::alloc::Global;
@@ -51,6 +51,10 @@ impl OrderedAssembler {
     pub fn new(alloc: Global) -> Self
         ensures fresh { result ≡ fresh }
         ensures empty { HoldsNothing (Holds result) }
+        ensures bytes_read { result.bytes_read ≡ 0 }
+        ensures ordered { result.ordered ≡ true }
+        ensures highest { result.highest ≡ 0 }
+        ensures pieces { piece_count result ≡ 0 }
     {
         OrderedAssembler {
             pieces: OrderedPieces::new(alloc),
@@ -66,6 +70,10 @@ impl OrderedAssembler {
     pub fn reinit(&mut self)
         ensures fresh { self.new ≡ fresh }
         ensures empty { HoldsNothing (Holds self.new) }
+        ensures bytes_read { self.new.bytes_read ≡ 0 }
+        ensures ordered { self.new.ordered ≡ true }
+        ensures highest { self.new.highest ≡ 0 }
+        ensures pieces { piece_count self.new ≡ 0 }
     {
         self.pieces = OrderedPieces::new(self.alloc);
         self.received = RangeSet::new(self.alloc);
@@ -127,7 +135,8 @@ impl OrderedAssembler {
         ensures many { result ≡ Err InsertError.TooManyChunks → 1024 < piece_count self.new }
         ensures runs { result ≡ Err InsertError.TooManyChunks → FormMoreRuns 1024 (Holds self.new) }
         ensures few { OnOk result (IsStale self.old offset bytes ⊎ (piece_count self.new ≤ 2048)) }
-        ensures stale { IsStale self.old offset bytes → self.new.runs ≡ self.old.runs }
+        ensures stale { IsStale self.old offset bytes → piece_count self.new ≡ piece_count self.old }
+        ensures stale_runs { IsStale self.old offset bytes → self.new.runs ≡ self.old.runs }
         ensures stale_ok { IsStale self.old offset bytes → result ≡ Ok tt }
         ensures settled { MatchInsert result (IsStale self.old offset bytes ⊎ Settled self.old offset bytes allocation_size result self.new) (Unit {0}) }
         ensures pieces { IsTrue self.old.ordered → piece_count self.new ≤ piece_count self.old + 1 }
@@ -229,10 +238,13 @@ impl OrderedAssembler {
     /// Compacts what is held: pieces that touch are joined, and each other one that keeps more than a fifth more memory
     /// alive than it has bytes is copied. If refused, the same bytes are held, in as many pieces or fewer.
     pub fn defragment(&mut self) -> Result<(), OutOfMemory>
-        ensures held { SameHeld (Holds self.old) (Holds self.new) }
+        ensures held { KeepsOffsets (Holds self.old) (Holds self.new) }
+        ensures same { SameHeld (Holds self.old) (Holds self.new) }
+        ensures once { OnOk result (HoldsOnce (Holds self.new)) }
         ensures joined { OnOk result (IsJoined self.old.runs self.new.runs) }
         ensures runs { OnOk result ((n : ℕ) → n < piece_count self.new → FormMoreRuns n (Holds self.new)) }
-        ensures err { OnErr result (HoldSame self.old.runs self.new.runs) }
+        ensures err { OnErr result (SameHeld (Holds self.old) (Holds self.new)) }
+        ensures err_runs { OnErr result (HoldSame self.old.runs self.new.runs) }
         ensures memory { All (IsKeptOrOwn self.old.runs) self.new.runs }
         ensures pieces { piece_count self.new ≤ piece_count self.old }
         ensures others { IsSameButHeld self.old self.new }
@@ -261,7 +273,11 @@ impl OrderedAssembler {
         ensures none { OnNothing result (IsTrue ordered → IsHeld (Holds self.old) self.old.bytes_read → ⊥) }
         ensures none_unordered { OnNothing result (ordered ≡ false → HoldsNothing (Holds self.old)) }
         ensures none_same { OnNothing result (self.new ≡ self.old) }
+        ensures none_held { OnNothing result (SameHeld (Holds self.old) (Holds self.new)) }
+        ensures none_read { OnNothing result (self.new.bytes_read ≡ self.old.bytes_read) }
         ensures err { OnErr result (self.new ≡ self.old) }
+        ensures err_held { OnErr result (SameHeld (Holds self.old) (Holds self.new)) }
+        ensures err_read { OnErr result (self.new.bytes_read ≡ self.old.bytes_read) }
         ensures err_more { OnErr result (HoldsMore (Holds self.old) ordered self.old.bytes_read max_length) }
         ensures done { (at : ℕ) → self.old.ordered ≡ false → is_done self.new at ≡ is_done self.old at }
         ensures ordered { self.new.ordered ≡ self.old.ordered }
@@ -302,7 +318,9 @@ impl OrderedAssembler {
         ensures same { OnOk result (ordered ≡ self.old.ordered → self.new ≡ self.old) }
         ensures same_ok { ordered ≡ self.old.ordered → result ≡ Ok tt }
         ensures done { OnOk result (ordered ≡ false → self.old.ordered ≡ true → (at : ℕ) → IsDone self.new at ↔ ((at < self.old.bytes_read) ⊎ IsHeld (Holds self.old) at)) }
-        ensures held { SameHeld (Holds self.old) (Holds self.new) }
+        ensures held { KeepsOffsets (Holds self.old) (Holds self.new) }
+        ensures same_held { SameHeld (Holds self.old) (Holds self.new) }
+        ensures err { OnErr result (SameHeld (Holds self.old) (Holds self.new)) }
         ensures joined { OnOk result (ordered ≡ false → self.old.ordered ≡ true → IsJoined self.old.runs self.new.runs) }
         ensures err_others { OnErr result (IsSameButHeld self.old self.new) }
         ensures bytes_read { self.new.bytes_read ≡ self.old.bytes_read }

@@ -5,10 +5,11 @@ mod assembly;
 mod gaps;
 mod map;
 mod piece;
+mod pieces;
 mod placing;
 mod row;
 mod store;
 mod unreceived;
 
 pub use assembly::OrderedAssembler;
-pub use store::OrderedPieces;
+pub use pieces::OrderedPieces;

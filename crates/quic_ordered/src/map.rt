@@ -1,15 +1,15 @@
 // Pieces by the offsets at which they begin, with their sums.
-ghost use Rattle.std.specs.Prelude.{◌≡◌, ℕ, ◌+◌, ◌-◌, ◌^◌, ◌<◌, ◌≤◌, [], ◌∷◌, ◌++◌, length, sum_by, IfOk, OnOk, OnErr, IfSome, IfNone, IsSome, Some, None, is_some, if◌then◌else◌, take, IfErr};
+ghost use Rattle.std.specs.Prelude.{◌≡◌, ℕ, ◌+◌, ◌-◌, ◌^◌, ◌<◌, ◌≤◌, [], ◌∷◌, ◌++◌, length, sum_by, IfOk, OnOk, OnErr, IfSome, IfNone, IsSome, Some, None, is_some, if◌then◌else◌, IfErr};
 ghost use Rattle.std.specs.Map.{values_of, keys_of};
 ghost use Rattle.std.specs.List.{All};
 ghost use Rattle.std.specs.BTreeMap.{insert_entry};
 ghost use Rattle.std.specs.Ordering.{nat_cmp};
-ghost use Rattle.quic_assembler.specs.Piece.{PieceView, run_end, run_length, run_allocation, advance_by};
-ghost use Rattle.quic_ordered.specs.Entries.{piece_at, NoPieceBegins, IsLastPiece, IsFirstPiece, IsPieceMap};
+ghost use Rattle.quic_assembler.specs.Piece.{PieceView, run_end, run_length, run_allocation};
+ghost use Rattle.quic_ordered.specs.Entries.{piece_at, NoPieceBegins, IsLastPiece, IsFirstPiece};
 ghost use Rattle.quic_ordered.specs.Rows.{RiseByKey, FitsWords};
 
 use crate::piece::Piece;
-use quic_values::{Bytes, OutOfMemory};
+use quic_values::OutOfMemory;
 use std::alloc::Global;
 use std::collections::BTreeMap;
 use std::marker::Model;
@@ -145,10 +145,10 @@ impl PieceMap {
         old
     }
 
-    /// Puts a piece behind all others, or gives it back.
-    pub(crate) fn put_last(&mut self, piece: Piece) -> Result<(), Piece>
-        requires { All (λ key. key < piece.offset) (keys_of self.old) }
-        ensures put { OnOk result (self.new ≡ self.old ++ (piece.offset, piece) ∷ []) }
+    // Puts a piece where none begins, or gives it back.
+    fn put_new(&mut self, piece: Piece) -> Result<(), Piece>
+        requires { piece_at self.old piece.offset ≡ None }
+        ensures entries { OnOk result (self.new ≡ insert_entry nat_cmp self.old piece.offset piece) }
         ensures back { IfErr result (λ given. given ≡ piece) }
         ensures err { OnErr result (self.new ≡ self.old) }
         ensures rises { RiseByKey self.new }
@@ -167,18 +167,36 @@ impl PieceMap {
         }
     }
 
-    /// The first piece: where it begins, and how many bytes it has.
+    /// Puts a piece behind all others, or gives it back.
+    pub(crate) fn put_last(&mut self, piece: Piece) -> Result<(), Piece>
+        requires { All (λ key. key < piece.offset) (keys_of self.old) }
+        ensures put { OnOk result (self.new ≡ self.old ++ (piece.offset, piece) ∷ []) }
+        ensures back { IfErr result (λ given. given ≡ piece) }
+        ensures err { OnErr result (self.new ≡ self.old) }
+        ensures rises { RiseByKey self.new }
+    {
+        self.put_new(piece)
+    }
+
+    /// Puts a piece before all others, or gives it back.
+    pub(crate) fn put_first(&mut self, piece: Piece) -> Result<(), Piece>
+        requires { (q : ℕ) (v : PieceView) → piece_at self.old q ≡ Some v → piece.offset < q }
+        ensures put { OnOk result (self.new ≡ (piece.offset, piece) ∷ self.old) }
+        ensures back { IfErr result (λ given. given ≡ piece) }
+        ensures err { OnErr result (self.new ≡ self.old) }
+        ensures rises { RiseByKey self.new }
+    {
+        self.put_new(piece)
+    }
+
+    /// Where the first piece begins.
     #[inline]
-    pub(crate) fn first(&self) -> Option<(u64, usize)>
-        ensures some { IfSome result (λ r. (key : ℕ) × (piece : PieceView) × (rest : _) × (self.now ≡ (key, piece) ∷ rest) × (r.0 ≡ piece.offset) × (r.1 ≡ length piece.bytes)) }
+    pub(crate) fn first_offset(&self) -> Option<u64>
+        ensures some { IfSome result (λ offset. (key : ℕ) × (piece : PieceView) × (rest : _) × (self.now ≡ (key, piece) ∷ rest) × (offset ≡ piece.offset)) }
         ensures none { IfNone result (self.now ≡ []) }
-        ensures bound { IfSome result (λ r. r.0 + r.1 < 2 ^ 62) }
     {
         match self.pieces.first_key_value() {
-            Some((_, piece)) => {
-                let _end = piece.end();
-                Some((piece.offset(), piece.len()))
-            }
+            Some((_, piece)) => Some(piece.offset()),
             None => None,
         }
     }
@@ -191,41 +209,6 @@ impl PieceMap {
         match self.pieces.last_key_value() {
             Some((_, piece)) => Some(piece.end()),
             None => None,
-        }
-    }
-
-    // A copy of the first bytes of the first piece.
-    fn copy_first(&self, count: usize, alloc: Global) -> Result<Bytes, OutOfMemory>
-        requires { (key : ℕ) × (piece : PieceView) × (rest : _) × (self.now ≡ (key, piece) ∷ rest) × (count ≤ length piece.bytes) }
-        ensures { IfOk result (λ copy. (key : ℕ) (piece : PieceView) (rest : _) → self.now ≡ (key, piece) ∷ rest → copy ≡ take count piece.bytes) }
-    {
-        match self.pieces.first_key_value() {
-            Some((_, piece)) => Bytes::copy_from_slice(alloc, &piece.as_slice()[..count]),
-            None => unreachable!(),
-        }
-    }
-
-    /// Takes a copy of the first bytes of the first piece, which are then let go. If refused, all is as it was.
-    pub(crate) fn cut_first(&mut self, count: usize, alloc: Global) -> Result<Bytes, OutOfMemory>
-        requires apart { IsPieceMap self.old }
-        requires some { (key : ℕ) × (piece : PieceView) × (rest : _) × (self.old ≡ (key, piece) ∷ rest) × (0 < count) × (count < length piece.bytes) }
-        ensures cut { IfOk result (λ copy. (key : ℕ) (piece : PieceView) (rest : _) → self.old ≡ (key, piece) ∷ rest → (copy ≡ take count piece.bytes) × (self.new ≡ (piece.offset + count, advance_by count piece) ∷ rest)) }
-        ensures err { OnErr result (self.new ≡ self.old) }
-        ensures rises { RiseByKey self.new }
-    {
-        let _count = self.len();
-        let Some((offset, _)) = self.first() else {
-            unreachable!();
-        };
-        let copy = self.copy_first(count, alloc)?;
-        self.insert(Piece::new(offset + count as u64, Bytes::new(alloc), 0))?;
-        let Some(mut piece) = self.pop_first() else {
-            unreachable!();
-        };
-        piece.cut_below(offset + count as u64);
-        match self.insert(piece) {
-            Ok(_) => Ok(copy),
-            Err(_) => unreachable!(),
         }
     }
 

@@ -1,13 +1,13 @@
-// All that is held of one stream.
-ghost use Rattle.std.specs.Prelude.{◌≡◌, ℕ, ◌+◌, ◌-◌, ◌^◌, ◌<◌, ◌≤◌, ◌⊎◌, ◌||◌, [], ◌∷◌, ◌++◌, length, sum_by, IfOk, OnOk, OnErr, IfSome, IfNone, Some, None, Ok, true, false, take, min, nat_lt};
+// Pieces that do not overlap, in a map and a row.
+ghost use Rattle.std.specs.Prelude.{◌≡◌, ℕ, ◌+◌, ◌-◌, ◌^◌, ◌<◌, ◌≤◌, ◌⊎◌, ◌||◌, [], ◌∷◌, ◌++◌, length, sum_by, option_to_list, IfOk, OnOk, OnErr, IfErr, IfSome, IfNone, Some, None, Ok, true, false, min, nat_lt};
 ghost use Rattle.std.specs.Map.{values_of, keys_of};
 ghost use Rattle.std.specs.List.{All, Any};
 ghost use Rattle.std.specs.List.Sorted.{IsPermutation};
 ghost use Rattle.quic_values.specs.Runs.{contains, lies_in};
-ghost use Rattle.quic_assembler.specs.Piece.{PieceView, run_end, run_length, run_allocation, left_of, TakesSome, IsSome, cover_count, bit, lies};
-ghost use Rattle.quic_assembler.specs.Reassembly.{IfGiven, OnNothing, TakesFresh};
-ghost use Rattle.quic_ordered.specs.Rows.{FitsWords, RiseByKey, IsStore, LieInOrder, Merges, HoldSame, LieWithGaps, IsTidy, IsGathered, Encloses, GivesFirst, StemsFrom, StaysApart, IsKeptOrOwn, entry_left};
-ghost use Rattle.quic_ordered.specs.Entries.{IsPieceMap, piece_of};
+ghost use Rattle.quic_assembler.specs.Piece.{PieceView, run_end, run_length, run_allocation, IsSome, cover_count, bit, lies};
+ghost use Rattle.quic_assembler.specs.Reassembly.{TakesFresh};
+ghost use Rattle.quic_ordered.specs.Rows.{FitsWords, RiseByKey, IsStore, LieInOrder, Merges, HoldSame, LieWithGaps, IsTidy, IsGathered, Encloses, StemsFrom, StaysApart, IsKeptOrOwn};
+ghost use Rattle.quic_ordered.specs.Entries.{piece_of};
 
 use crate::gaps;
 use crate::map::PieceMap;
@@ -15,7 +15,6 @@ use crate::piece::Piece;
 use crate::placing::{place_all, take_out};
 use crate::row::PieceRow;
 use crate::unreceived::cut_all;
-use quic_assembler::Chunk;
 use quic_values::{Bytes, OutOfMemory, RangeSet};
 use std::alloc::Global;
 use std::marker::Model;
@@ -26,7 +25,7 @@ use std::ops::Range;
 /// What comes behind all that is held goes to the end of a row. Where a piece comes before that, the pieces of the row
 /// that begin below its end go over to a map by offset, and it is joined with those that it overlaps.
 #[derive(Drop)]
-pub struct OrderedPieces {
+pub(crate) struct PieceStore {
     // The first pieces, by their offsets.
     gaps: PieceMap,
     // The pieces behind them.
@@ -34,7 +33,7 @@ pub struct OrderedPieces {
     alloc: Global,
 }
 
-impl Model for OrderedPieces {
+impl Model for PieceStore {
     ghost use Rattle.std.specs.Prelude.{List, ◌++◌};
     ghost use Rattle.std.specs.Map.{values_of};
     ghost use Rattle.quic_assembler.specs.Piece.{PieceView};
@@ -53,6 +52,7 @@ fn clear_way(gaps: &mut PieceMap, row: &mut PieceRow, end: u64) -> Result<(), Ou
     ensures store { IsStore gaps.new row.new.runs }
     ensures same { values_of gaps.new ++ row.new.runs ≡ values_of gaps.old ++ row.old.runs }
     ensures clear { OnOk result (LieInOrder end row.new.runs) }
+    ensures kept { LieInOrder end row.old.runs → (result ≡ Ok tt) × (gaps.new ≡ gaps.old) × (row.new.runs ≡ row.old.runs) }
 {
     while let Some(piece) = row.pop_front() {
         if piece.offset() >= end {
@@ -109,62 +109,12 @@ fn put_in_front(row: &mut PieceRow, mut front: PieceRow)
     }
 }
 
-// Takes the first bytes of the first piece of the map.
-fn take_from_map(
-    gaps: &mut PieceMap,
-    available: usize,
-    max_length: usize,
-    alloc: Global,
-) -> Result<Bytes, OutOfMemory>
-    requires apart { IsPieceMap gaps.old }
-    requires first { (key : ℕ) × (first : PieceView) × (rest : _) × (gaps.old ≡ (key, first) ∷ rest) × (available ≡ length first.bytes) }
-    requires some { 0 < max_length }
-    ensures given { IfOk result (λ bytes. (key : ℕ) (first : PieceView) (rest : _) → gaps.old ≡ (key, first) ∷ rest → (bytes ≡ take max_length first.bytes) × (gaps.new ≡ entry_left max_length first ++ rest)) }
-    ensures rises { RiseByKey gaps.new }
-    ensures err { OnErr result (gaps.new ≡ gaps.old) }
-    ensures part { OnErr result (max_length < available) }
-{
-    if max_length < available {
-        let bytes = gaps.cut_first(max_length, alloc)?;
-        return Ok(bytes);
-    }
-    match gaps.pop_first() {
-        Some(piece) => Ok(piece.into_bytes()),
-        None => unreachable!(),
-    }
-}
-
-// Takes the first bytes of the first piece of the row.
-fn take_from_row(row: &mut PieceRow, max_length: usize) -> Result<Bytes, OutOfMemory>
-    requires { 0 < length row.old.runs }
-    ensures given { IfOk result (λ bytes. (first : PieceView) (rest : _) → row.old.runs ≡ first ∷ rest → (bytes ≡ take max_length first.bytes) × (row.new.runs ≡ left_of max_length first ++ rest)) }
-    ensures err { OnErr result (row.new.runs ≡ row.old.runs) }
-    ensures part { OnErr result ((first : PieceView) (rest : _) → row.old.runs ≡ first ∷ rest → max_length < length first.bytes) }
-{
-    let Some(mut piece) = row.pop_front() else {
-        unreachable!();
-    };
-    if piece.len() <= max_length {
-        return Ok(piece.into_bytes());
-    }
-    match piece.split_to(max_length) {
-        Ok(bytes) => {
-            row.put_front(piece);
-            Ok(bytes)
-        }
-        Err(refused) => {
-            row.put_front(piece);
-            Err(refused)
-        }
-    }
-}
-
-impl OrderedPieces {
+impl PieceStore {
     /// Holds nothing. Takes no memory.
-    pub fn new(alloc: Global) -> Self
+    pub(crate) fn new(alloc: Global) -> Self
         ensures { result ≡ [] }
     {
-        OrderedPieces {
+        PieceStore {
             gaps: PieceMap::new(alloc),
             row: PieceRow::new(alloc),
             alloc,
@@ -173,7 +123,7 @@ impl OrderedPieces {
 
     /// How many pieces are held.
     #[inline]
-    pub fn len(&self) -> usize
+    pub(crate) fn len(&self) -> usize
         ensures len { result ≡ length self.now }
         ensures small { result ≤ 2 ^ 62 }
         ensures fits { All FitsWords self.now }
@@ -184,7 +134,7 @@ impl OrderedPieces {
 
     /// The sum of the lengths.
     #[inline]
-    pub fn total(&self) -> u128
+    pub(crate) fn total(&self) -> u128
         ensures { result ≡ sum_by run_length self.now }
     {
         let _count = self.gaps.len() + self.row.len();
@@ -193,7 +143,7 @@ impl OrderedPieces {
 
     /// The sum of the allocation sizes.
     #[inline]
-    pub fn allocated(&self) -> u128
+    pub(crate) fn allocated(&self) -> u128
         ensures { result ≡ sum_by run_allocation self.now }
     {
         let _count = self.gaps.len() + self.row.len();
@@ -201,7 +151,7 @@ impl OrderedPieces {
     }
 
     /// Lets go of all.
-    pub fn clear(&mut self)
+    pub(crate) fn clear(&mut self)
         ensures { self.new ≡ [] }
     {
         self.gaps.clear();
@@ -221,24 +171,10 @@ impl OrderedPieces {
         }
     }
 
-    // Whether one of the pieces has all offsets from one up to another.
-    fn encloses(&self, offset: u64, end: u64) -> bool
-        requires { offset < end }
-        ensures yes { result ≡ true → Any (Encloses offset end) self.now }
-        ensures no { result ≡ false → Any (Encloses offset end) self.now → ⊥ }
-    {
-        if let Some((_, last_end)) = self.gaps.last_up_to(offset) {
-            if end <= last_end {
-                return true;
-            }
-        }
-        self.row.encloses(offset, end)
-    }
-
     /// Takes bytes that came at an offset, and that keep so much memory alive. They are joined with all pieces that
     /// they overlap; where two bytes meet the held one stays. Bytes that touch a piece and overlap none are a piece of
     /// their own. Bytes that lie within one piece want no memory.
-    pub fn insert(
+    pub(crate) fn insert(
         &mut self,
         offset: u64,
         bytes: Bytes,
@@ -259,9 +195,6 @@ impl OrderedPieces {
         if end == offset {
             return Ok(());
         }
-        if self.encloses(offset, end) {
-            return Ok(());
-        }
         self.hold(Piece::new(offset, bytes, allocation_size))
     }
 
@@ -274,10 +207,14 @@ impl OrderedPieces {
         ensures stays { OnOk result (All (StaysApart piece.offset (run_end piece) self.new) self.old) }
         ensures order { (low : ℕ) → low ≤ piece.offset → LieInOrder low self.old → LieInOrder low self.new }
         ensures pieces { length self.new ≤ length self.old + 1 }
+        ensures within { Any (Encloses piece.offset (run_end piece)) self.old → (result ≡ Ok tt) × (self.new ≡ self.old) }
         ensures err { OnErr result (self.new ≡ self.old) }
     {
         if self.is_behind(piece.offset()) {
             self.row.push_back(piece)?;
+            return Ok(());
+        }
+        if self.row.encloses(piece.offset(), piece.end()) {
             return Ok(());
         }
         clear_way(&mut self.gaps, &mut self.row, piece.end())?;
@@ -333,7 +270,7 @@ impl OrderedPieces {
     /// Takes of bytes that came at an offset, and that keep so much memory alive, what was not received, each longest
     /// run of it as a piece, and counts all of them as received. What is held was received. If refused, all is as it
     /// was.
-    pub fn insert_unreceived(
+    pub(crate) fn insert_unreceived(
         &mut self,
         offset: u64,
         bytes: Bytes,
@@ -362,59 +299,40 @@ impl OrderedPieces {
     }
 
     /// Where the first piece begins.
-    pub fn first_offset(&self) -> Option<u64>
+    pub(crate) fn first_offset(&self) -> Option<u64>
         ensures first { IfSome result (λ offset. (first : PieceView) × (rest : _) × (self.now ≡ first ∷ rest) × (offset ≡ first.offset)) }
         ensures none { IfNone result (self.now ≡ []) }
     {
-        match self.gaps.first() {
-            Some((offset, _)) => Some(offset),
+        match self.gaps.first_offset() {
+            Some(offset) => Some(offset),
             None => self.row.first_offset(),
         }
     }
 
-    // Takes the first bytes of the first piece.
-    fn take_some(&mut self, max_length: usize) -> Result<Bytes, OutOfMemory>
-        requires some { 0 < max_length }
-        requires held { 0 < length self.old }
-        ensures given { IfOk result (λ bytes. (first : PieceView) (rest : _) → self.old ≡ first ∷ rest → (bytes ≡ take max_length first.bytes) × (self.new ≡ left_of max_length first ++ rest)) }
-        ensures err { OnErr result (self.new ≡ self.old) }
-        ensures part { OnErr result ((first : PieceView) (rest : _) → self.old ≡ first ∷ rest → max_length < length first.bytes) }
+    // Takes the first piece out.
+    #[inline]
+    pub(crate) fn pop_first(&mut self) -> Option<Piece>
+        ensures popped { self.old ≡ option_to_list result ++ self.new }
+        ensures none { IfNone result (self.new ≡ []) }
     {
-        match self.gaps.first() {
-            Some((_, available)) => {
-                let bytes = take_from_map(&mut self.gaps, available, max_length, self.alloc)?;
-                Ok(bytes)
-            }
-            None => {
-                let bytes = take_from_row(&mut self.row, max_length)?;
-                Ok(bytes)
-            }
+        match self.gaps.pop_first() {
+            Some(piece) => Some(piece),
+            None => self.row.pop_front(),
         }
     }
 
-    /// Gives the first `max_length` bytes of the first piece, or all of it where it has fewer, and the offset at which
-    /// it begins. A piece that is given whole is not copied. If refused, all is as it was.
-    pub fn take_first(&mut self, max_length: usize) -> Result<Option<Chunk>, OutOfMemory>
-        ensures first { IfGiven result (λ chunk. GivesFirst max_length self.old chunk.offset chunk.bytes self.new) }
-        ensures takes { IfGiven result (λ chunk. TakesSome chunk.offset max_length chunk.bytes self.old self.new) }
-        ensures none { OnNothing result ((self.old ≡ []) × (self.new ≡ [])) }
+    // Puts a piece before all others, or gives it back.
+    pub(crate) fn put_first(&mut self, piece: Piece) -> Result<(), Piece>
+        requires { LieInOrder 0 (piece ∷ self.old) }
+        ensures put { OnOk result (self.new ≡ piece ∷ self.old) }
+        ensures back { IfErr result (λ given. given ≡ piece) }
         ensures err { OnErr result (self.new ≡ self.old) }
-        ensures err_part { OnErr result ((first : PieceView) (rest : _) → self.old ≡ first ∷ rest → max_length < length first.bytes) }
     {
-        let _count = self.len();
-        let Some(offset) = self.first_offset() else {
-            return Ok(None);
-        };
-        if max_length == 0 {
-            let bytes = Bytes::new(self.alloc);
-            return Ok(Some(Chunk { offset, bytes }));
-        }
-        let bytes = self.take_some(max_length)?;
-        Ok(Some(Chunk { offset, bytes }))
+        self.gaps.put_first(piece)
     }
 
     /// The offsets below a floor, and those of all pieces.
-    pub fn offsets(&mut self, floor: u64) -> Result<RangeSet, OutOfMemory>
+    pub(crate) fn offsets(&mut self, floor: u64) -> Result<RangeSet, OutOfMemory>
         ensures set { IfOk result (λ set. (at : ℕ) → bit (contains set at) ≡ min 1 (bit (nat_lt at floor) + cover_count at self.old)) }
         ensures same { self.new ≡ self.old }
     {
@@ -427,7 +345,7 @@ impl OrderedPieces {
 
     /// Joins all pieces that touch, and copies each other one that keeps more than a fifth more memory alive than it
     /// has bytes. If refused, the same bytes are held, in as many pieces or fewer.
-    pub fn compact(&mut self) -> Result<(), OutOfMemory>
+    pub(crate) fn compact(&mut self) -> Result<(), OutOfMemory>
         ensures same { HoldSame self.old self.new }
         ensures order { (low : ℕ) → LieInOrder low self.old → LieInOrder low self.new }
         ensures pieces { length self.new ≤ length self.old }

@@ -1,4 +1,4 @@
-use Rattle.std.proofs.Common.{arith, ◌∙◌, subst, List, ◌∷◌, ◌++◌}
+use Rattle.std.proofs.Common.{arith, ◌∙◌, sym, subst, List, ◌∷◌, ◌++◌}
 use Rattle.std.specs.Map.{values_of}
 use Rattle.quic_assembler.specs.Piece.{PieceView}
 use Rattle.quic_ordered.specs.Rows.{LieInOrder}
@@ -18,6 +18,10 @@ loop-piece-preserved c =
     record {
       store = moved _ _ _ _ c.in-Some.piece c.loop-piece.invariant.store e c.in_default-put_last.ensures.put c.in_default-put_last.ensures.rises;
       same = moved_same c.loop-piece.gaps c.put_last.new.self c.loop-piece.row.runs c.pop_front.new.self.runs c.in-Some.piece e c.in_default-put_last.ensures.put ∙ c.loop-piece.invariant.same;
+      kept = λ o.
+          let k = c.loop-piece.invariant.kept o in
+          let a = subst (LieInOrder c.args.end) (sym k.1 ∙ e) o in
+          absurd (omega (arith, a.0, c.if-offset-end.false, c.offset.ensures.value));
     }
 
 pub returns-then-offset-end-clause-clear : goal.returns-then-offset-end-clause-clear

@@ -1,12 +1,16 @@
 use Rattle.std.proofs.Common.{refl, arith}
-use Rattle.std.specs.Prelude.{Result, Ok, Err, OnOk}
-use Rattle.quic_assembler.proofs.Whole.{assembler_less, same_but_held}
-use Rattle.quic_ordered.proofs.Assembling.{count_same, holds_same, forms_runs}
+use Rattle.std.specs.Prelude.{Result, Ok, Err, OnOk, OnErr}
+use Rattle.quic_assembler.proofs.Whole.{assembler_less, same_but_held, offsets_of_same}
+use Rattle.quic_ordered.proofs.Assembling.{count_same, holds_same, holds_once, forms_runs}
 use Rattle.quic_ordered.proofs.assembly.OrderedAssembler.defragment.Goals as goal
 
 on_ok : {T E A B : Type 0} (r : Result T E) → OnOk r A → (A → B) → OnOk r B
 on_ok (Ok x) h f = f h
 on_ok (Err e) h f = tt
+
+on_err : {T E A : Type 0} (r : Result T E) → A → OnErr r A
+on_err (Ok x) a = tt
+on_err (Err e) a = a
 
 pub invariant_of-self : goal.invariant_of-self
 invariant_of-self c = record {
@@ -15,7 +19,16 @@ invariant_of-self c = record {
 }
 
 pub returns-clause-held : goal.returns-clause-held
-returns-clause-held c = rw (← c.self.view_is) (holds_same _ _ refl c.compact.ensures.same)
+returns-clause-held c = rw (← c.self.view_is) (offsets_of_same _ _ (holds_same _ _ refl c.compact.ensures.same))
+
+pub returns-clause-same : goal.returns-clause-same
+returns-clause-same c = rw (← c.self.view_is) (holds_same _ _ refl c.compact.ensures.same)
+
+pub returns-clause-err : goal.returns-clause-err
+returns-clause-err c = rw (← c.self.view_is) (on_err c.compact.result (holds_same _ _ refl c.compact.ensures.same))
+
+pub returns-clause-once : goal.returns-clause-once
+returns-clause-once c = on_ok c.compact.result c.compact.ensures.apart (λ h. holds_once _ h)
 
 pub returns-clause-others : goal.returns-clause-others
 returns-clause-others c = rw (← c.self.view_is) (same_but_held _ _ refl refl refl refl)

@@ -1,0 +1,99 @@
+use Rattle.std.specs.Map.{values_of}
+use Rattle.std.proofs.Common.{◌∙◌, ap, sym, subst, List, ℕ, ◌≡◌, ◌++◌, refl}
+use Rattle.std.specs.Prelude.{Some}
+use Rattle.quic_assembler.specs.Piece.{PieceView, run_end}
+use Rattle.quic_ordered.specs.Entries.{piece_at}
+use Rattle.quic_ordered.proofs.Stores.{pushed, pushed_merges, order_pushed, held_store, held_merges, order_held, map_of_store, pushed_stems, held_stems, pushed_whole, pushed_stay, held_whole, held_stay}
+use Rattle.quic_ordered.proofs.Order.{order_behind}
+use Rattle.quic_ordered.proofs.Places.{encloses_row, enclosed_map, merges_enclosed}
+use Rattle.quic_ordered.proofs.Fronts.{ok_or_err}
+use Rattle.quic_ordered.proofs.store.PieceStore.hold.Goals as goal
+
+pub invariant_of-self-then-is_behind : goal.invariant_of-self-then-is_behind
+invariant_of-self-then-is_behind c =
+    let ends = rw (← c.self.view_is, c.offset.ensures.value) at (c.is_behind.ensures c.if-is_behind.true) in
+    pushed _ _ _ c.args.piece c.self.invariant ends c.requires c.in_ok-push_back.ensures.ok
+
+pub returns-then-is_behind-clause-merges : goal.returns-then-is_behind-clause-merges
+returns-then-is_behind-clause-merges c = rw (← c.self.view_is) (pushed_merges (values_of c.self.inside.gaps) _ _ c.args.piece c.in_ok-push_back.ensures.ok)
+
+pub returns-then-is_behind-clause-order : goal.returns-then-is_behind-clause-order
+returns-then-is_behind-clause-order c =
+    let ends = rw (← c.self.view_is, c.offset.ensures.value) at (c.is_behind.ensures c.if-is_behind.true) in
+    rw (← c.self.view_is) (λ low le h. order_pushed low (values_of c.self.inside.gaps) _ _ c.args.piece h ends le c.requires c.in_ok-push_back.ensures.ok)
+
+pub hold-requires-clause-apart : goal.hold-requires-clause-apart
+hold-requires-clause-apart c = map_of_store _ _ c.in_ok-clear_way.ensures.store
+
+pub invariant_of-self-2 : goal.invariant_of-self-2
+invariant_of-self-2 c =
+    held_store _ _ _ c.args.piece c.in_ok-clear_way.ensures.store (rw c.end-2.ensures.value at c.in_ok-clear_way.ensures.clear) c.in_ok-hold.ensures.takes c.in_ok-hold.ensures.apart c.in_ok-hold.ensures.rises
+
+pub returns-clause-merges : goal.returns-clause-merges
+returns-clause-merges c =
+    let s = c.in_ok-clear_way.ensures.store in
+    let t = held_store _ _ _ c.args.piece s (rw c.end-2.ensures.value at c.in_ok-clear_way.ensures.clear) c.in_ok-hold.ensures.takes c.in_ok-hold.ensures.apart c.in_ok-hold.ensures.rises in
+    rw (← c.self.view_is, ← c.in_ok-clear_way.ensures.same) (held_merges c.clear_way.new.gaps c.hold.new.pieces c.clear_way.new.row.runs c.args.piece s t c.in_ok-hold.ensures.takes)
+
+pub returns-clause-order : goal.returns-clause-order
+returns-clause-order c =
+    let s = c.in_ok-clear_way.ensures.store in
+    rw (← c.self.view_is, ← c.in_ok-clear_way.ensures.same)
+    (λ low le h. order_held low c.clear_way.new.gaps c.hold.new.pieces c.clear_way.new.row.runs c.args.piece s.keyed h le (rw c.end-2.ensures.value at c.in_ok-clear_way.ensures.clear) c.in_ok-hold.ensures.takes c.in_ok-hold.ensures.apart c.in_ok-hold.ensures.rises)
+
+pub returns-then-is_behind-clause-stems : goal.returns-then-is_behind-clause-stems
+returns-then-is_behind-clause-stems c = rw (← c.self.view_is) (pushed_stems (values_of c.self.inside.gaps) _ _ c.args.piece c.in_ok-push_back.ensures.ok)
+
+pub returns-clause-stems : goal.returns-clause-stems
+returns-clause-stems c =
+    rw (← c.self.view_is, ← c.in_ok-clear_way.ensures.same) (held_stems c.clear_way.new.gaps c.hold.new.pieces c.clear_way.new.row.runs c.args.piece c.in_ok-hold.ensures.rises c.in_ok-hold.ensures.stems)
+
+pub returns-then-is_behind-clause-whole : goal.returns-then-is_behind-clause-whole
+returns-then-is_behind-clause-whole c = pushed_whole (values_of c.self.inside.gaps) _ _ c.args.piece c.in_ok-push_back.ensures.ok
+
+pub returns-then-is_behind-clause-stays : goal.returns-then-is_behind-clause-stays
+returns-then-is_behind-clause-stays c = rw (← c.self.view_is) (pushed_stay (values_of c.self.inside.gaps) _ _ c.args.piece c.in_ok-push_back.ensures.ok)
+
+pub returns-clause-whole : goal.returns-clause-whole
+returns-clause-whole c = held_whole c.hold.new.pieces c.clear_way.new.row.runs c.args.piece c.in_ok-hold.ensures.whole
+
+pub returns-clause-stays : goal.returns-clause-stays
+returns-clause-stays c =
+    rw (← c.self.view_is, ← c.in_ok-clear_way.ensures.same) (held_stay c.clear_way.new.gaps c.hold.new.pieces c.clear_way.new.row.runs c.args.piece c.in_ok-clear_way.ensures.store.rises c.in_ok-hold.ensures.stays)
+
+pub encloses-requires-clause-order : goal.encloses-requires-clause-order
+encloses-requires-clause-order c = order_behind 0 (values_of c.self.inside.gaps) c.self.inside.row.runs c.self.invariant.order
+
+pub returns-then-encloses-clause-merges : goal.returns-then-encloses-clause-merges
+returns-then-encloses-clause-merges c =
+    let any = rw (c.offset-2.ensures.value, c.end.ensures.value) at (c.encloses.ensures.yes c.if-encloses.true) in
+    rw (← c.self.view_is) (merges_enclosed _ c.args.piece (encloses_row c.self.inside.gaps c.self.inside.row.runs c.args.piece.offset (run_end c.args.piece) any))
+
+pub returns-then-encloses-clause-whole : goal.returns-then-encloses-clause-whole
+returns-then-encloses-clause-whole c =
+    let any = rw (c.offset-2.ensures.value, c.end.ensures.value) at (c.encloses.ensures.yes c.if-encloses.true) in
+    rw (← c.self.view_is) (encloses_row c.self.inside.gaps c.self.inside.row.runs c.args.piece.offset (run_end c.args.piece) any)
+
+-- what lies within a piece of the map wants no memory
+pub returns-in_err-clear_way-clause-within : goal.returns-in_err-clear_way-clause-within
+returns-in_err-clear_way-clause-within c = λ any.
+    let none = rw (c.offset-2.ensures.value, c.end.ensures.value) at (c.encloses.ensures.no c.if-encloses.false) in
+    let m = enclosed_map c.self.inside.gaps c.self.inside.row.runs c.args.piece.offset (run_end c.args.piece) c.self.invariant none (rw (← c.self.view_is) at any) in
+    let k = c.clear_way.ensures.kept (rw (← c.end-2.ensures.value) at m.5) in
+    absurd (ok_or_err c.clear_way.result _ _ k.0 c.in_err-clear_way.was)
+
+pub returns-in_err-hold-clause-within : goal.returns-in_err-hold-clause-within
+returns-in_err-hold-clause-within c = λ any.
+    let none = rw (c.offset-2.ensures.value, c.end.ensures.value) at (c.encloses.ensures.no c.if-encloses.false) in
+    let m = enclosed_map c.self.inside.gaps c.self.inside.row.runs c.args.piece.offset (run_end c.args.piece) c.self.invariant none (rw (← c.self.view_is) at any) in
+    let k = c.clear_way.ensures.kept (rw (← c.end-2.ensures.value) at m.5) in
+    let w = c.hold.ensures.within m.0 m.1 (subst (λ (es : List (ℕ × PieceView)). piece_at es m.0 ≡ Some m.1) (sym k.1) m.2) m.3 m.4 in
+    absurd (ok_or_err c.hold.result _ _ w.0 c.in_err-hold.was)
+
+pub returns-clause-within : goal.returns-clause-within
+returns-clause-within c = λ any.
+    let none = rw (c.offset-2.ensures.value, c.end.ensures.value) at (c.encloses.ensures.no c.if-encloses.false) in
+    let m = enclosed_map c.self.inside.gaps c.self.inside.row.runs c.args.piece.offset (run_end c.args.piece) c.self.invariant none (rw (← c.self.view_is) at any) in
+    let k = c.clear_way.ensures.kept (rw (← c.end-2.ensures.value) at m.5) in
+    let w = c.hold.ensures.within m.0 m.1 (subst (λ (es : List (ℕ × PieceView)). piece_at es m.0 ≡ Some m.1) (sym k.1) m.2) m.3 m.4 in
+    (refl, ap (λ (es : List (ℕ × PieceView)). values_of es ++ c.clear_way.new.row.runs) w.1 ∙ c.in_ok-clear_way.ensures.same ∙ c.self.view_is)
