@@ -4,8 +4,6 @@
 
 mod framing;
 mod queue;
-#[cfg(test)]
-mod tests;
 
 use crate::queue::Queue;
 use anyhow::{Error, Result};

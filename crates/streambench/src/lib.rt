@@ -1,31 +1,124 @@
-//! Measured work on streams and on the ends of a connection: one function for each case, which a program in any
-//! language can call, and whose answer is a number that tells whether the work was done. `docs/PERFORMANCE.md` says what
-//! each case does.
-//!
-//! All take `size`, how much is to be done; `src`, the content: 2^20 bytes, of which the first 65,536 come once more
-//! at the end; and `perm`, an order of the pieces: the numbers below 1024, each once. An answer of [`REFUSED`] says
-//! that memory was refused, that there is less content, or that `size` is 2^60 or more. Numbers of `perm` that are out
-//! of range are passed over.
+//! The cases of `stream_cases` as functions that a program in any language can call. Each takes what its case takes, by
+//! the C calling convention, and has its answer.
 #![tactic(auto)]
 
-mod connection;
-mod content;
-mod end;
-mod link;
-mod reassembly;
-mod refused;
-mod sending;
-#[cfg(test)]
-mod tests;
-mod yardstick;
+ghost use Rattle.std.specs.Prelude.{◌≡◌, length};
+ghost use Rattle.stream_cases.specs.Arguments.{CanRun};
 
-pub use connection::{streambench_case_g, streambench_case_h, streambench_case_i};
-pub use reassembly::{
-    streambench_case_a, streambench_case_b, streambench_case_c, streambench_case_c2,
-    streambench_case_d,
-};
-pub use refused::REFUSED;
-pub use sending::{
-    streambench_case_e, streambench_case_e2, streambench_case_f, streambench_case_j,
-};
-pub use yardstick::streambench_case_z;
+use std::alloc::Global;
+pub use stream_cases::REFUSED;
+
+/// Case z.
+#[unsafe(no_mangle)]
+pub extern "C" fn streambench_case_z(alloc: Global, size: usize, src: &[u8], perm: &[u32]) -> u64
+    ensures refused { ¬ CanRun size (length src.now) → result ≡ REFUSED }
+    ensures nothing { CanRun size (length src.now) → size ≡ 0 → result ≡ 0 }
+{
+    stream_cases::case_z(alloc, size, src, perm)
+}
+
+/// Case a.
+#[unsafe(no_mangle)]
+pub extern "C" fn streambench_case_a(alloc: Global, size: usize, src: &[u8], perm: &[u32]) -> u64
+    ensures refused { ¬ CanRun size (length src.now) → result ≡ REFUSED }
+    ensures nothing { CanRun size (length src.now) → size ≡ 0 → result ≡ 0 }
+{
+    stream_cases::case_a(alloc, size, src, perm)
+}
+
+/// Case b.
+#[unsafe(no_mangle)]
+pub extern "C" fn streambench_case_b(alloc: Global, size: usize, src: &[u8], perm: &[u32]) -> u64
+    ensures refused { ¬ CanRun size (length src.now) → result ≡ REFUSED }
+    ensures nothing { CanRun size (length src.now) → size ≡ 0 → result ≡ 0 }
+{
+    stream_cases::case_b(alloc, size, src, perm)
+}
+
+/// Case c.
+#[unsafe(no_mangle)]
+pub extern "C" fn streambench_case_c(alloc: Global, size: usize, src: &[u8], perm: &[u32]) -> u64
+    ensures refused { ¬ CanRun size (length src.now) → result ≡ REFUSED }
+    ensures nothing { CanRun size (length src.now) → size ≡ 0 → result ≡ 0 }
+{
+    stream_cases::case_c(alloc, size, src, perm)
+}
+
+/// Case c2.
+#[unsafe(no_mangle)]
+pub extern "C" fn streambench_case_c2(alloc: Global, size: usize, src: &[u8], perm: &[u32]) -> u64
+    ensures refused { ¬ CanRun size (length src.now) → result ≡ REFUSED }
+    ensures nothing { CanRun size (length src.now) → size ≡ 0 → result ≡ 0 }
+{
+    stream_cases::case_c2(alloc, size, src, perm)
+}
+
+/// Case d.
+#[unsafe(no_mangle)]
+pub extern "C" fn streambench_case_d(alloc: Global, size: usize, src: &[u8], perm: &[u32]) -> u64
+    ensures refused { ¬ CanRun size (length src.now) → result ≡ REFUSED }
+    ensures nothing { CanRun size (length src.now) → size ≡ 0 → result ≡ 0 }
+{
+    stream_cases::case_d(alloc, size, src, perm)
+}
+
+/// Case e.
+#[unsafe(no_mangle)]
+pub extern "C" fn streambench_case_e(alloc: Global, size: usize, src: &[u8], perm: &[u32]) -> u64
+    ensures refused { ¬ CanRun size (length src.now) → result ≡ REFUSED }
+    ensures nothing { CanRun size (length src.now) → size ≡ 0 → result ≡ 0 }
+{
+    stream_cases::case_e(alloc, size, src, perm)
+}
+
+/// Case e2.
+#[unsafe(no_mangle)]
+pub extern "C" fn streambench_case_e2(alloc: Global, size: usize, src: &[u8], perm: &[u32]) -> u64
+    ensures refused { ¬ CanRun size (length src.now) → result ≡ REFUSED }
+    ensures nothing { CanRun size (length src.now) → size ≡ 0 → result ≡ 0 }
+{
+    stream_cases::case_e2(alloc, size, src, perm)
+}
+
+/// Case f.
+#[unsafe(no_mangle)]
+pub extern "C" fn streambench_case_f(alloc: Global, size: usize, src: &[u8], perm: &[u32]) -> u64
+    ensures refused { ¬ CanRun size (length src.now) → result ≡ REFUSED }
+    ensures nothing { CanRun size (length src.now) → size ≡ 0 → result ≡ 0 }
+{
+    stream_cases::case_f(alloc, size, src, perm)
+}
+
+/// Case g.
+#[unsafe(no_mangle)]
+pub extern "C" fn streambench_case_g(alloc: Global, size: usize, src: &[u8], perm: &[u32]) -> u64
+    ensures { ¬ CanRun size (length src.now) → result ≡ REFUSED }
+{
+    stream_cases::case_g(alloc, size, src, perm)
+}
+
+/// Case h.
+#[unsafe(no_mangle)]
+pub extern "C" fn streambench_case_h(alloc: Global, size: usize, src: &[u8], perm: &[u32]) -> u64
+    ensures refused { ¬ CanRun size (length src.now) → result ≡ REFUSED }
+    ensures nothing { CanRun size (length src.now) → size ≡ 0 → result ≡ 0 }
+{
+    stream_cases::case_h(alloc, size, src, perm)
+}
+
+/// Case i.
+#[unsafe(no_mangle)]
+pub extern "C" fn streambench_case_i(alloc: Global, size: usize, src: &[u8], perm: &[u32]) -> u64
+    ensures { ¬ CanRun size (length src.now) → result ≡ REFUSED }
+{
+    stream_cases::case_i(alloc, size, src, perm)
+}
+
+/// Case j.
+#[unsafe(no_mangle)]
+pub extern "C" fn streambench_case_j(alloc: Global, size: usize, src: &[u8], perm: &[u32]) -> u64
+    ensures refused { ¬ CanRun size (length src.now) → result ≡ REFUSED }
+    ensures nothing { CanRun size (length src.now) → size ≡ 0 → result ≡ 0 }
+{
+    stream_cases::case_j(alloc, size, src, perm)
+}

@@ -3,8 +3,6 @@
 #![tactic(auto)]
 
 mod session;
-#[cfg(test)]
-mod tests;
 
 pub use quic_lines::{hex_bytes, hex_field};
 pub use session::serve;

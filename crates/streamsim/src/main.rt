@@ -3,8 +3,6 @@
 #![tactic(auto)]
 
 mod simulation;
-#[cfg(test)]
-mod tests;
 
 use anyhow::Result;
 use std::alloc::Global;

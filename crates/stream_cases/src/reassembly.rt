@@ -1,0 +1,253 @@
+ghost use Rattle.std.specs.Prelude.{◌≡◌, ◌+◌, ◌≤◌, ◌<◌, ◌^◌, length, Ok, IfOk, true, false};
+ghost use Rattle.stream_cases.specs.Arguments.{CanRun};
+
+use crate::content::{Content, PIECE, Seen};
+use crate::refused::{REFUSED, Refused};
+use quic_assembler::{Assembler, InsertError};
+use quic_values::OutOfMemory;
+use std::alloc::Global;
+
+// The pieces of a window, a little less than 2^20 bytes.
+const WINDOW_PIECES: u32 = 873;
+
+const WINDOW: usize = 873 * 1200;
+
+/// Pieces come in order, and each is read at once.
+pub fn case_a(alloc: Global, size: usize, src: &[u8], _perm: &[u32]) -> u64
+    ensures refused { ¬ CanRun size (length src.now) → result ≡ REFUSED }
+    ensures nothing { CanRun size (length src.now) → size ≡ 0 → result ≡ 0 }
+{
+    match Content::for_size(size, src) {
+        Some(content) => in_order(alloc, size, content).unwrap_or(REFUSED),
+        None => REFUSED,
+    }
+}
+
+/// Windows of 873 pieces come in the order of `perm`. Each is then read.
+pub fn case_b(alloc: Global, size: usize, src: &[u8], perm: &[u32]) -> u64
+    ensures refused { ¬ CanRun size (length src.now) → result ≡ REFUSED }
+    ensures nothing { CanRun size (length src.now) → size ≡ 0 → result ≡ 0 }
+{
+    match Content::for_size(size, src) {
+        Some(content) => in_windows(alloc, size, content, perm).unwrap_or(REFUSED),
+        None => REFUSED,
+    }
+}
+
+/// Single bytes come with gaps between them, until one is refused; `size` inserts in all.
+pub fn case_c(alloc: Global, size: usize, src: &[u8], _perm: &[u32]) -> u64
+    ensures refused { ¬ CanRun size (length src.now) → result ≡ REFUSED }
+    ensures nothing { CanRun size (length src.now) → size ≡ 0 → result ≡ 0 }
+{
+    match Content::for_size(size, src) {
+        Some(content) => with_gaps(alloc, size, content, 1).unwrap_or(REFUSED),
+        None => REFUSED,
+    }
+}
+
+/// As case c, but each byte keeps 1200 alive.
+pub fn case_c2(alloc: Global, size: usize, src: &[u8], _perm: &[u32]) -> u64
+    ensures refused { ¬ CanRun size (length src.now) → result ≡ REFUSED }
+    ensures nothing { CanRun size (length src.now) → size ≡ 0 → result ≡ 0 }
+{
+    match Content::for_size(size, src) {
+        Some(content) => with_gaps(alloc, size, content, PIECE).unwrap_or(REFUSED),
+        None => REFUSED,
+    }
+}
+
+/// Windows as in case b, in unordered mode: each piece comes twice, and one that overlaps two after every fourth.
+/// After every eighth all that is held is read.
+pub fn case_d(alloc: Global, size: usize, src: &[u8], perm: &[u32]) -> u64
+    ensures refused { ¬ CanRun size (length src.now) → result ≡ REFUSED }
+    ensures nothing { CanRun size (length src.now) → size ≡ 0 → result ≡ 0 }
+{
+    match Content::for_size(size, src) {
+        Some(content) => unordered(alloc, size, content, perm).unwrap_or(REFUSED),
+        None => REFUSED,
+    }
+}
+
+fn in_order(alloc: Global, size: usize, content: Content) -> Result<u64, Refused>
+    requires { size < 2 ^ 60 }
+    ensures { size ≡ 0 → result ≡ Ok 0 }
+{
+    let mut assembler = Assembler::new(alloc);
+    let mut seen = Seen::default();
+    for offset in (0..size).step_by(PIECE) {
+        let piece = content.piece(alloc, offset as u64, PIECE.min(size - offset))?;
+        assembler.insert(offset as u64, piece, PIECE)?;
+        read_all(&mut assembler, true, &mut seen)?;
+    }
+    Ok(seen.sum)
+}
+
+fn in_windows(alloc: Global, size: usize, content: Content, perm: &[u32]) -> Result<u64, Refused>
+    requires { size < 2 ^ 60 }
+    ensures { size ≡ 0 → result ≡ Ok 0 }
+{
+    let mut assembler = Assembler::new(alloc);
+    let mut seen = Seen::default();
+    for base in (0..size).step_by(WINDOW) {
+        for place in perm {
+            if *place < WINDOW_PIECES {
+                let offset = base as u64 + u64::from(*place) * PIECE as u64;
+                insert(alloc, &mut assembler, content, offset)?;
+            }
+        }
+        read_all(&mut assembler, true, &mut seen)?;
+    }
+    Ok(seen.sum)
+}
+
+fn unordered(alloc: Global, size: usize, content: Content, perm: &[u32]) -> Result<u64, Refused>
+    requires { size < 2 ^ 60 }
+    ensures { size ≡ 0 → result ≡ Ok 0 }
+{
+    if size == 0 {
+        return Ok(0);
+    }
+    let mut assembler = Assembler::new(alloc);
+    assembler.ensure_ordering(false)?;
+    let mut seen = Seen::default();
+    for base in (0..size).step_by(WINDOW) {
+        overlap(alloc, &mut assembler, content, base as u64, perm, &mut seen)?;
+    }
+    read_all(&mut assembler, false, &mut seen)?;
+    Ok(seen.sum.wrapping_add(seen.bytes))
+}
+
+// One window of case d.
+fn overlap(
+    alloc: Global,
+    assembler: &mut Assembler,
+    content: Content,
+    base: u64,
+    perm: &[u32],
+    seen: &mut Seen,
+) -> Result<(), Refused>
+    requires base { base < 2 ^ 60 }
+    requires mode { assembler.old.ordered ≡ false }
+    ensures { assembler.new.ordered ≡ false }
+{
+    let mut before = base;
+    let mut step = 0u32;
+    for place in perm {
+        if *place >= WINDOW_PIECES {
+            continue;
+        }
+        let offset = base + u64::from(*place) * PIECE as u64;
+        insert(alloc, assembler, content, offset)?;
+        insert(alloc, assembler, content, offset)?;
+        if step % 4 == 3 {
+            insert(alloc, assembler, content, before + PIECE as u64 / 2)?;
+        }
+        if step % 8 == 7 {
+            read_all(assembler, false, seen)?;
+        }
+        before = offset;
+        step = step.wrapping_add(1);
+    }
+    Ok(())
+}
+
+// Inserts a piece of content at its offset.
+#[inline]
+fn insert(
+    alloc: Global,
+    assembler: &mut Assembler,
+    content: Content,
+    offset: u64,
+) -> Result<(), Refused>
+    requires { offset < 2 ^ 61 }
+    ensures { assembler.new.ordered ≡ assembler.old.ordered }
+{
+    let piece = content.piece(alloc, offset, PIECE)?;
+    assembler.insert(offset, piece, PIECE)?;
+    Ok(())
+}
+
+// Reads until nothing is given.
+#[inline]
+fn read_all(assembler: &mut Assembler, ordered: bool, seen: &mut Seen) -> Result<(), OutOfMemory>
+    requires { ordered ≡ assembler.old.ordered }
+    ensures { assembler.new.ordered ≡ assembler.old.ordered }
+{
+    'reads: for _ in 0..u64::MAX {
+        let Some(chunk) = assembler.read(usize::MAX, ordered)? else {
+            break 'reads;
+        };
+        seen.see(chunk.offset, chunk.bytes.as_slice());
+    }
+    Ok(())
+}
+
+// A run of inserts.
+#[derive(Clone, Copy)]
+struct Inserts {
+    count: usize,
+    // Whether the last one was refused.
+    is_refused: bool,
+}
+
+fn with_gaps(
+    alloc: Global,
+    size: usize,
+    content: Content,
+    allocation_size: usize,
+) -> Result<u64, Refused>
+    requires size { size < 2 ^ 60 }
+    requires allocated { 1 ≤ allocation_size }
+    ensures { size ≡ 0 → result ≡ Ok 0 }
+{
+    let mut sum = 0u64;
+    let mut left = size;
+    while left > 0 {
+        let inserts = insert_until_refused(alloc, left, content, allocation_size)?;
+        if inserts.is_refused {
+            sum = sum.wrapping_add(1 << 32);
+        }
+        sum = sum.wrapping_add(2 * inserts.count as u64 + 1);
+        left -= inserts.count;
+    }
+    Ok(sum)
+}
+
+// Inserts single bytes at 1, 3, 5 and so on into a new assembler, until one is refused. Nothing can then be read.
+fn insert_until_refused(
+    alloc: Global,
+    most: usize,
+    content: Content,
+    allocation_size: usize,
+) -> Result<Inserts, Refused>
+    requires some { 0 < most }
+    requires size { most < 2 ^ 60 }
+    requires allocated { 1 ≤ allocation_size }
+    ensures { IfOk result (λ inserts. (0 < inserts.count) × (inserts.count ≤ most)) }
+{
+    let mut assembler = Assembler::new(alloc);
+    let mut count = most;
+    let mut is_refused = false;
+    for index in 0..most {
+        let offset = 2 * index as u64 + 1;
+        let byte = content.piece(alloc, offset, 1)?;
+        is_refused = answers_too_many(assembler.insert(offset, byte, allocation_size))?;
+        if is_refused {
+            count = index + 1;
+            break;
+        }
+    }
+    if assembler.read(usize::MAX, true)?.is_some() {
+        return Err(Refused);
+    }
+    Ok(Inserts { count, is_refused })
+}
+
+#[inline]
+fn answers_too_many(answer: Result<(), InsertError>) -> Result<bool, Refused> {
+    match answer {
+        Ok(()) => Ok(false),
+        Err(InsertError::TooManyChunks) => Ok(true),
+        Err(InsertError::CompactionMemory | InsertError::OutOfMemory) => Err(Refused),
+    }
+}

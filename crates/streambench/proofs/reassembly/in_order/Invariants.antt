@@ -1,9 +1,0 @@
-use Rattle.std.proofs.Common.{◌≡◌, true}
-use Rattle.streambench.proofs.reassembly.in_order.Given as goal
-
-abbrev pub invariant-loop-offset : goal.invariant-loop-offset
-invariant-loop-offset l =
-    record {
-      mode : l.assembler.ordered ≡ true;
-      nothing : l.size ≡ 0 → l.seen.sum ≡ 0;
-    }

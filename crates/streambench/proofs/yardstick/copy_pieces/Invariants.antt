@@ -1,5 +1,0 @@
-use Rattle.std.proofs.Common.{◌≡◌}
-use Rattle.streambench.proofs.yardstick.copy_pieces.Given as goal
-
-abbrev pub invariant-loop-offset : goal.invariant-loop-offset
-invariant-loop-offset l = l.size ≡ 0 → l.seen.sum ≡ 0

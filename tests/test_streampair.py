@@ -1,0 +1,253 @@
+"""Whole sessions of `streampair`, as `rt ci` leaves it: the replies to lines, and the status."""
+import os
+import random
+import subprocess
+import unittest
+
+from test_programs import program, run
+
+CONFIGS = "config a 4 4 1000 1000 1000\nconfig b 4 4 1000 1000 1000\n"
+
+
+class Sessions(unittest.TestCase):
+    def gives(self, lines, replies, status=0):
+        written, ended = run("streampair", lines)
+        self.assertEqual(written, replies)
+        self.assertEqual(ended, status)
+
+    def session_gives(self, lines, replies, status=0):
+        """The same behind the two configs and their `ok`."""
+        self.gives(CONFIGS + lines, "ok\nok\n" + replies, status)
+
+
+class Configs(Sessions):
+    def test_the_first_line_is_the_config_of_a(self):
+        self.gives("", "")
+        self.gives("config a 4 4 1000 1000 1000\n", "ok\n")
+        for line in ["config b 4 4 1000 1000 1000\n", "open a uni\n", "config a 4 4 1000 1000\n"]:
+            self.gives(line, "malformed 1\n", 2)
+        self.gives("config a 4 4 1 1 1\nconfig a 4 4 1 1 1\n", "ok\nmalformed 2\n", 2)
+
+    def test_the_numbers_of_a_config_have_limits(self):
+        for numbers in ["1152921504606846977 4 1 1 1", "4 4 1 4611686018427387904 1", "4 4 1 1 4611686018427387904"]:
+            self.gives(f"config a {numbers}\n", "malformed 1\n", 2)
+        self.gives("config a 1152921504606846976 4 18446744073709551615 4611686018427387903 1\n", "ok\n")
+
+
+class Lines(Sessions):
+    NO_STEPS = [
+        b"opens a uni",
+        b"open  a uni",
+        b"open a uni ",
+        b" open a uni",
+        b"open a uni\r",
+        b"open c uni",
+        b"open a both",
+        b"open a",
+        b"",
+        b"config a 4 4 1000 1000 1000",
+        b"write a 2 AA",
+        b"write a 2 a",
+        b"write a 2 0",
+        b"write a 2 ",
+        b"write a 2 gg",
+        b"write a 02 00",
+        b"write a +2 00",
+        b"write a 4611686018427387904 00",
+        b"chunks a 2 00,,00",
+        b"read b 2 o 1 0",
+        b"read b 2 o 1 65536",
+        b"read b 2 x 1 1",
+        b"read b 2 o 18446744073709551616 1",
+        b"priority a 2 -0",
+        b"priority a 2 2147483648",
+        b"priority a 2 -2147483649",
+        b"priority a 2 --1",
+        b"emit a 30 g",
+        b"max-concurrent a uni 1152921504606846977",
+        b"deliver 0",
+        b"deliver 0 18446744073709551616",
+        "open a un\u00ef".encode(),
+        b"open a un\xff",
+    ]
+
+    def test_lines_out_of_the_grammar_are_malformed(self):
+        for line in self.NO_STEPS:
+            with self.subTest(line):
+                self.gives(CONFIGS.encode() + line + b"\n", "ok\nok\nmalformed 3\n", 2)
+
+    def test_the_last_line_may_lack_its_line_feed(self):
+        self.session_gives("open a uni", "id 2\n")
+
+    def test_what_was_answered_stays_before_a_malformed_line(self):
+        self.session_gives("open a uni\nopen a uni x\nopen a uni\n", "id 2\nmalformed 4\n", 2)
+
+    def test_the_greatest_numbers_are_taken(self):
+        self.session_gives(
+            "open a uni\nemit a 18446744073709551615 u\npriority a 2 -2147483648\npriority a 2 2147483647\n"
+            "deliver 18446744073709551615 18446744073709551615\nfinish a 4611686018427387903\n",
+            "id 2\npayload 0 -\nok\nok\nrefused 1 NoSuchPayload\nrefused 4 UnknownId\n",
+        )
+
+    def test_each_refusal_has_its_number_and_name(self):
+        self.session_gives(
+            "deliver 0 0\nwrite a 2 00\nopen a uni\nwrite a 2 00\nemit a 100 f\ndeliver 0 1\n"
+            "lose-stream 0 1\nack-stream 0 1\nack-stream 0 0\nread b 2 o 1 1\n",
+            "refused 1 NoSuchPayload\nrefused 4 UnknownId\nid 2\nwrote 1\npayload 0 0a020100\n"
+            "refused 2 NoSuchFrame\nrefused 2 NoSuchFrame\nrefused 2 NoSuchFrame\n"
+            "refused 3 NotAccepted\nrefused 4 UnknownId\n",
+        )
+
+    def test_a_very_long_line_is_one_step(self):
+        self.gives(
+            "config a 1 0 1000000 1 1\nconfig b 1 0 1 1000000 1000000\nopen a uni\n"
+            f"write a 2 {'5a' * 100_000}\nopen a un{'i' * 100_000}",
+            "ok\nok\nid 2\nwrote 100000\nmalformed 5\n",
+            2,
+        )
+
+    def test_a_line_of_a_million_spaces_is_malformed(self):
+        """A line of many fields is refused without room for each of them."""
+        self.session_gives(" " * 1_000_000 + "\n", "malformed 3\n", 2)
+
+
+class Streams(Sessions):
+    def test_the_sessions_of_the_page_are_served(self):
+        self.session_gives(
+            "open a uni\nwrite a 2 6869\nfinish a 2\nemit a 100 f\nemit a 100 f\ndeliver 0 0\n"
+            "accept b uni\nread b 2 o 100 9\nlose-stream 0 0\nemit a 100 f\nack-stream 2 0\n"
+            "ack-stream 0 0\npoll a\nopen b uni\nwrite b 6 00\n",
+            "id 2\nwrote 2\nok\npayload 0 0b02026869\npayload 1 -\nok\nid 2\n"
+            "0:6869 end transmit\nok\npayload 2 0b02026869\nrefused 3 NotAccepted\nok\n"
+            "finished 2\nid 3\nrefused 4 UnknownId\n",
+        )
+        self.session_gives(
+            "open a bi\nwrite a 0 6869\nemit a 100 f\ndeliver 0 0\naccept b bi\nstop b 0 9\n"
+            "emit b 100 f\ndeliver 1 0\npoll a\nwrite a 0 6a\nreset a 0 9\nemit a 100 f\n"
+            "deliver 2 0\nack-control 2\n",
+            "id 0\nwrote 2\npayload 0 0a00026869\nok\nid 0\nok\npayload 1 050009\nok\n"
+            "stopped 0 9\nstopped 9\nok\npayload 2 04000902\nok\nok\n",
+        )
+
+    def test_a_stopped_stream_is_given_up(self):
+        self.session_gives(
+            "open a bi\nwrite a 0 6869\nemit a 100 f\ndeliver 0 0\npoll b\naccept b bi\n"
+            "stop b 0 9\nemit b 100 f\ndeliver 1 0\npoll a\nwrite a 0 6a\nreset a 0 9\n"
+            "emit a 100 f\nack-control 2\ndeliver 2 0\nack-control 2\nwrite a 0 6a\n"
+            "lose-control 1\nemit b 100 f\ndeliver 3 0\n",
+            "id 0\nwrote 2\npayload 0 0a00026869\nok\nopened bi\nid 0\nok\npayload 1 050009\n"
+            "ok\nstopped 0 9\nstopped 9\nok\npayload 2 04000902\nrefused 3 NotAccepted\nok\n"
+            "ok\nclosed\nok\npayload 3 050009\nok\n",
+        )
+
+    def test_credit_lets_more_be_written(self):
+        self.gives(
+            "config a 4 4 1000 1000 1000\nconfig b 4 4 1000 16 8\nopen a uni\n"
+            "write a 2 00010203040506070809\nwrite a 2 0809\nemit a 100 f\ndeliver 0 1\n"
+            "accept b uni\nread b 2 o 100 9\nemit b 100 f\ndeliver 1 1\npoll a\n"
+            "write a 2 0809\ndeliver 1 1\ndeliver 1 0\npoll a\n",
+            "ok\nok\nid 2\nwrote 8\nblocked\npayload 0 1502080a02080001020304050607\nok\n"
+            "id 2\n0:0001020304050607 blocked transmit\npayload 1 1018110210\nok\n"
+            "writable 2\nwrote 2\nok\nok\nnone\n",
+        )
+
+    def test_the_end_of_a_stopped_stream_makes_room(self):
+        self.session_gives(
+            "open a uni\nwrite a 2 68\nemit a 100 f\ndeliver 0 0\naccept b uni\nstop b 2 9\n"
+            "finish a 2\nemit a 100 f\ndeliver 1 0\nemit b 100 f\ndeliver 0 1\ndeliver 9 0\n"
+            "write b 6 68\n",
+            "id 2\nwrote 1\npayload 0 0a020168\nok\nid 2\nok\nok\npayload 1 0f020100\nok\n"
+            "payload 2 0502091305\nrefused 2 NoSuchFrame\nrefused 1 NoSuchPayload\n"
+            "refused 4 UnknownId\n",
+        )
+
+    def test_a_reset_is_told(self):
+        self.session_gives(
+            "open a uni\npriority a 2 -1\nchunks a 2 68,-,69\nemit a 100 u\ndeliver 0 0\n"
+            "accept b uni\nread b 2 u 100 9\nreset a 2 7\nemit a 100 f\ndeliver 1 0\n"
+            "received-reset b 2\nmax-concurrent b uni 5\nsend-window a 1000\n"
+            "receive-window b 1001\nemit b 100 f\n",
+            "id 2\nok\nwrote 2 chunks 3\npayload 0 0a02026869\nok\nid 2\n"
+            "0:6869 blocked quiet\nok\npayload 1 04020702\nok\ncode 7\nok\nok\nexpanded\n"
+            "payload 2 1043eb1306\n",
+        )
+
+    def test_a_frame_needs_its_room(self):
+        self.session_gives(
+            "open a uni\nwrite a 2 68\nemit a 25 f\nemit a 26 f\n",
+            "id 2\nwrote 1\npayload 0 -\npayload 1 0a020168\n",
+        )
+
+    def test_an_empty_write_is_sent_as_an_empty_frame(self):
+        self.session_gives(
+            "open a uni\nwrite a 2 -\nemit a 100 f\nemit a 100 f\n",
+            "id 2\nwrote 0\npayload 0 0a0200\npayload 1 -\n",
+        )
+
+    def test_limits_block_and_a_finished_stream_is_closed(self):
+        self.gives(
+            "config a 1 0 1000 1 1\nconfig b 1 0 1 4 3\nopen a uni\nwrite a 2 0001020304\n"
+            "write a 2 05\nfinish a 2\nfinish a 2\nwrite a 2 05\nwrite a 2 -\n",
+            "ok\nok\nid 2\nwrote 3\nblocked\nok\nclosed\nclosed\nclosed\n",
+        )
+
+
+def var_int(number):
+    """A number as a variable-length integer (RFC 9000 section 16), in hexadecimal."""
+    if number < 1 << 6:
+        return f"{number:02x}"
+    if number < 1 << 14:
+        return f"{number + 0x4000:04x}"
+    return f"{number + 0x8000_0000:08x}"
+
+
+class LongSessions(Sessions):
+    def test_a_session_of_five_thousand_lines_is_served(self):
+        self.session_gives("poll a\n" * 5000, "none\n" * 5000)
+
+    def test_a_session_of_a_thousand_lines_is_served(self):
+        """With ample memory nothing is refused: each power of two, and what lies beside it."""
+        windows = "4 4 18446744073709551615 4611686018427387903 4611686018427387903"
+        lines = [f"config a {windows}\nconfig b {windows}\nopen a uni\n"]
+        replies = ["ok\nok\nid 2\n"]
+        lines.append("write a 2 -\nemit a 100 f\ndeliver 0 0\naccept b uni\n")
+        replies.append("wrote 0\npayload 0 0a0200\nok\nid 2\n")
+        seeded, number, offset = random.Random(7), 1, 0
+        for turn in range(10):
+            for power in range(17):
+                size = max((1 << power) + turn % 3 - 1, 1)
+                field = seeded.randbytes(size).hex()
+                # one write goes across in one frame, is read and acknowledged
+                start = "0a02" if offset == 0 else f"0e02{var_int(offset)}"
+                lines.append(f"write a 2 {field}\nemit a 100000 f\ndeliver {number} 0\n")
+                replies.append(f"wrote {size}\npayload {number} {start}{var_int(size)}{field}\nok\n")
+                lines.append(f"read b 2 o 100000 1\nack-stream {number} 0\npoll a\n")
+                replies.append(f"{offset}:{field} more quiet\nok\nnone\n")
+                number, offset = number + 1, offset + size
+        written, status = run("streampair", "".join(lines))
+        self.assertTrue(written == "".join(replies))
+        self.assertEqual(status, 0)
+
+
+class Broken(unittest.TestCase):
+    """A reader or a writer that fails ends the session with status 1."""
+
+    def status(self, stdin, stdout):
+        given = {"input": stdin} if isinstance(stdin, bytes) else {"stdin": stdin}
+        return subprocess.run([program("streampair")], stdout=stdout, timeout=60, **given).returncode
+
+    def test_a_writer_that_fails_ends_the_session(self):
+        with open("/dev/full", "wb") as full:
+            for given in ["config a 4 4 1 1 1\n", CONFIGS, CONFIGS + "open a uni\n"]:
+                self.assertEqual(self.status(given.encode(), full), 1, given)
+
+    def test_a_reader_that_fails_ends_the_session(self):
+        folder = os.open(os.path.dirname(os.path.abspath(__file__)), os.O_RDONLY)
+        try:
+            self.assertEqual(self.status(folder, subprocess.DEVNULL), 1)
+        finally:
+            os.close(folder)
+
+
+if __name__ == "__main__":
+    unittest.main()
