@@ -1,6 +1,7 @@
 """Whole sessions of `streampair`, as `rt ci` leaves it: the replies to lines, and the status."""
 import os
 import random
+import socket
 import subprocess
 import unittest
 
@@ -247,6 +248,17 @@ class Broken(unittest.TestCase):
             self.assertEqual(self.status(folder, subprocess.DEVNULL), 1)
         finally:
             os.close(folder)
+
+    def test_what_was_answered_stays_before_a_reader_fails(self):
+        peer, stdin = socket.socketpair()
+        with stdin, subprocess.Popen([program("streampair")], stdin=stdin, stdout=subprocess.PIPE) as ran:
+            peer.sendall(b"config a 4 4 1 1 1\n")
+            self.assertEqual(ran.stdout.readline(), b"ok\n")
+            # a peer that closes with bytes unread resets the connection
+            stdin.sendall(b"unread")
+            peer.close()
+            self.assertEqual(ran.stdout.read(), b"")
+            self.assertEqual(ran.wait(60), 1)
 
 
 if __name__ == "__main__":
