@@ -11,7 +11,6 @@ use quic_streams::recv_stream::RecvStream;
 use quic_streams::send_stream::SendStream;
 use quic_streams::streams::{ConnState, Streams};
 use quic_values::{Dir, Side, StreamId};
-use quic_wire::frame::Stream;
 use quic_wire::{Frame, StreamEvent, decode};
 use std::alloc::Global;
 use std::collections::{BTreeMap, BTreeSet};
@@ -95,18 +94,12 @@ fn turn<W: Write>(
 
 fn write_frame<W: Write>(frame: &Frame, output: &mut W) -> io::Result<()> {
     match frame {
-        Frame::Stream(stream) => write_stream(stream, output),
-        other => write_other(other, output),
+        Frame::Stream(stream) => {
+            let (start, len, fin) = (stream.offset, stream.bytes.len(), stream.fin);
+            write!(output, " Stream({len} bytes at {start}, fin: {fin}),")
+        }
+        other => write!(output, " {other:?},"),
     }
-}
-
-fn write_stream<W: Write>(stream: &Stream, output: &mut W) -> io::Result<()> {
-    let (start, len, fin) = (stream.offset, stream.bytes.len(), stream.fin);
-    write!(output, " Stream({len} bytes at {start}, fin: {fin}),")
-}
-
-fn write_other<W: Write>(frame: &Frame, output: &mut W) -> io::Result<()> {
-    write!(output, " {frame:?},")
 }
 
 // What the application of an end does: one writes a text, the other reads it.

@@ -19,12 +19,12 @@ const MAX_CHUNKS: usize = 1024;
 
 const ALLOWED_WASTE: u128 = 32768;
 
-/// Puts the bytes of one stream into order. It begins in ordered mode: reads give the stream from its beginning on,
-/// without a gap. In unordered mode reads give what is held, each offset once.
+/// Puts the bytes of one stream into order, with its pieces in a heap, where they may overlap. It begins in ordered mode:
+/// reads give the stream from its beginning on, without a gap. In unordered mode reads give what is held, each offset once.
 ///
 /// Memory stays bounded: where too many pieces are held, or pieces keep too much memory alive, they are compacted.
 #[derive(Drop)]
-pub struct Assembler {
+pub struct HeapAssembler {
     pieces: Pieces,
     // In unordered mode the offsets ever received or read, else none.
     received: RangeSet,
@@ -36,7 +36,7 @@ pub struct Assembler {
     alloc: Global,
 }
 
-impl Model for Assembler {
+impl Model for HeapAssembler {
     ghost use Rattle.quic_assembler.specs.Reassembly.{Reassembly, IsAssembler};
 
     ghost Value = { Reassembly };
@@ -46,7 +46,7 @@ impl Model for Assembler {
     ghost invariant = { λ a. IsAssembler a.pieces.runs a.received a.ordered a.bytes_read };
 }
 
-impl Assembler {
+impl HeapAssembler {
     /// An assembler that holds nothing, in ordered mode. Takes no memory.
     pub fn new(alloc: Global) -> Self
         ensures fresh { result ≡ fresh }
@@ -56,7 +56,7 @@ impl Assembler {
         ensures highest { result.highest ≡ 0 }
         ensures pieces { piece_count result ≡ 0 }
     {
-        Assembler {
+        HeapAssembler {
             pieces: Pieces::new(alloc),
             received: RangeSet::new(alloc),
             ordered: true,
@@ -67,7 +67,7 @@ impl Assembler {
         }
     }
 
-    /// Makes it as [`Assembler::new`] does.
+    /// Makes it as [`HeapAssembler::new`] does.
     pub fn reinit(&mut self)
         ensures fresh { self.new ≡ fresh }
         ensures empty { HoldsNothing (Holds self.new) }
@@ -348,7 +348,7 @@ impl Assembler {
     }
 }
 
-impl Reassemble for Assembler {
+impl Reassemble for HeapAssembler {
     ghost use Rattle.std.specs.Prelude.{length, OnErr};
     ghost use Rattle.quic_assembler.specs.Piece.{TakesOff};
     ghost use Rattle.quic_assembler.specs.Reassembly.{Holds, is_done, piece_count, sums, Accounts, IfGiven, IsSameButHeld};
@@ -384,26 +384,26 @@ impl Reassemble for Assembler {
         bytes: Bytes,
         allocation_size: usize,
     ) -> Result<(), InsertError> {
-        Assembler::insert(self, offset, bytes, allocation_size)
+        HeapAssembler::insert(self, offset, bytes, allocation_size)
     }
 
     fn read(&mut self, max_length: usize, ordered: bool) -> Result<Option<Chunk>, OutOfMemory> {
-        Assembler::read(self, max_length, ordered)
+        HeapAssembler::read(self, max_length, ordered)
     }
 
     fn ensure_ordering(&mut self, ordered: bool) -> Result<(), EnsureError> {
-        Assembler::ensure_ordering(self, ordered)
+        HeapAssembler::ensure_ordering(self, ordered)
     }
 
     fn bytes_read(&self) -> u64 {
-        Assembler::bytes_read(self)
+        HeapAssembler::bytes_read(self)
     }
 
     fn clear(&mut self) {
-        Assembler::clear(self)
+        HeapAssembler::clear(self)
     }
 
     fn pieces(&self) -> usize {
-        Assembler::pieces(self)
+        HeapAssembler::pieces(self)
     }
 }

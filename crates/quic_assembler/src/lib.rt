@@ -1,4 +1,4 @@
-//! Puts the pieces of a stream that come in any order into order (RFC 9000, section 2.2).
+//! What a reassembler of a stream does (RFC 9000, section 2.2), and one that keeps its pieces in a heap.
 #![tactic(auto)]
 
 mod assembly;
@@ -10,7 +10,7 @@ mod reassemble;
 mod steps;
 mod unreceived;
 
-pub use assembly::Assembler;
+pub use assembly::HeapAssembler;
 pub use chunk::Chunk;
 pub use errors::{EnsureError, IllegalOrderedRead, InsertError};
 pub use reassemble::Reassemble;

@@ -1,16 +1,20 @@
 ghost use Rattle.std.specs.Prelude.{◌≡◌, IfOk};
 
-use quic_assembler::{Assembler, Chunk, EnsureError, InsertError, Op, ReplayError, replay};
+use quic_ordered::{Assembler, Chunk, EnsureError, HeapAssembler, InsertError};
 use quic_values::{Bytes, OutOfMemory};
 use std::alloc::Global;
 use std::process::Abort;
 use std::test::Fail;
 
+mod body;
 mod cases;
+mod joins;
 mod refusals;
 mod sizes;
 mod steps;
 mod worked;
+
+use body::Body;
 
 // A call on an assembler, and what it has to come to.
 #[derive(Clone, Copy, Debug)]
@@ -26,6 +30,8 @@ enum Step {
     // An ordered read, and one that gives nothing.
     Next(u64, &'static str),
     NoNext,
+    // An unordered read of at most so many bytes: the offset and the text.
+    Some(usize, u64, &'static str),
     // An unordered read, and one that gives nothing.
     Any(u64, &'static str),
     NoAny,
@@ -49,37 +55,37 @@ fn piece(alloc: Global, bytes: &[u8]) -> Result<Bytes, OutOfMemory>
 }
 
 // Inserts a text. With no memory nothing is changed, and it is inserted again; with none for compaction it is held.
-fn insert(
+fn insert<B: Body + Drop>(
     rt: &impl Abort,
-    a: &mut Assembler,
+    a: &mut B,
     alloc: Global,
     offset: u64,
     bytes: &[u8],
     allocation_size: usize,
 ) -> Result<Result<(), InsertError>, OutOfMemory> {
     assert!(rt; offset < 1 << 61 && bytes.len() < 1 << 61 && bytes.len() <= allocation_size);
-    let pieces = a.pieces();
-    let read = a.bytes_read();
+    let pieces = a.held();
+    let read = a.bytes_given();
     let first = piece(alloc, bytes)?;
-    let answer = a.insert(offset, first, allocation_size);
-    assert_eq!(rt; a.bytes_read(), read);
+    let answer = a.take_piece(offset, first, allocation_size);
+    assert_eq!(rt; a.bytes_given(), read);
     match answer {
         Err(InsertError::OutOfMemory) => {
-            assert_eq!(rt; a.pieces(), pieces);
+            assert_eq!(rt; a.held(), pieces);
             let second = piece(alloc, bytes)?;
-            Ok(a.insert(offset, second, allocation_size))
+            Ok(a.take_piece(offset, second, allocation_size))
         }
         Err(InsertError::CompactionMemory) => {
-            assert!(rt; a.pieces() > pieces);
+            assert!(rt; a.held() > 0);
             Ok(Ok(()))
         }
         _ => Ok(answer),
     }
 }
 
-fn fill(
+fn fill<B: Body + Drop>(
     rt: &impl Abort,
-    a: &mut Assembler,
+    a: &mut B,
     alloc: Global,
     places: (u64, u64, u64),
     text: &str,
@@ -88,14 +94,8 @@ fn fill(
     let (start, gap, count) = places;
     assert!(rt; start < 1 << 30 && gap < 1 << 10 && count < 1 << 20);
     for i in 0..count {
-        let answer = insert(
-            rt,
-            a,
-            alloc,
-            start + gap * i,
-            text.as_bytes(),
-            allocation_size,
-        )?;
+        let offset = start + gap * i;
+        let answer = insert(rt, a, alloc, offset, text.as_bytes(), allocation_size)?;
         if answer.is_err() {
             return Ok(answer);
         }
@@ -104,17 +104,15 @@ fn fill(
 }
 
 // Reads in a mode. With no memory nothing is given, and the next read is the same.
-fn read(a: &mut Assembler, max_length: usize, ordered: bool) -> Result<Option<Chunk>, Fail> {
-    a.ensure_ordering(ordered)?;
-    match a.read(max_length, ordered) {
+fn read<B: Body + Drop>(
+    a: &mut B,
+    max_length: usize,
+    ordered: bool,
+) -> Result<Option<Chunk>, Fail> {
+    match a.next(max_length, ordered) {
         Ok(given) => Ok(given),
-        Err(_) => Ok(read_again(a, max_length, ordered)?),
+        Err(_) => a.next(max_length, ordered),
     }
-}
-
-fn read_again(a: &mut Assembler, max_length: usize, ordered: bool) -> Result<Option<Chunk>, Fail> {
-    a.ensure_ordering(ordered)?;
-    Ok(a.read(max_length, ordered)?)
 }
 
 fn expect_chunk(
@@ -129,32 +127,32 @@ fn expect_chunk(
     Ok(())
 }
 
-// Compacts. With no memory all pieces are there.
-fn compact(rt: &impl Abort, a: &mut Assembler) -> Result<(), OutOfMemory> {
-    let pieces = a.pieces();
-    match a.defragment() {
+// Compacts. With no memory there are no more pieces.
+fn compact<B: Body + Drop>(rt: &impl Abort, a: &mut B) -> Result<(), OutOfMemory> {
+    let pieces = a.held();
+    match a.compact() {
         Ok(()) => Ok(()),
         Err(_) => {
-            assert_eq!(rt; a.pieces(), pieces);
-            a.defragment()
+            assert!(rt; a.held() <= pieces);
+            a.compact()
         }
     }
 }
 
 // Goes to unordered mode. With no memory ordered mode holds.
-fn leave_order(rt: &impl Abort, a: &mut Assembler) -> Result<(), EnsureError> {
-    let read = a.bytes_read();
-    match a.ensure_ordering(false) {
+fn leave_order<B: Body + Drop>(rt: &impl Abort, a: &mut B) -> Result<(), EnsureError> {
+    let read = a.bytes_given();
+    match a.ask_for(false) {
         Ok(()) => Ok(()),
         Err(_) => {
-            assert_eq!(rt; a.bytes_read(), read);
-            assert_eq!(rt; a.ensure_ordering(true), Ok(()));
-            a.ensure_ordering(false)
+            assert_eq!(rt; a.bytes_given(), read);
+            assert_eq!(rt; a.ask_for(true), Ok(()));
+            a.ask_for(false)
         }
     }
 }
 
-fn take(rt: &impl Abort, a: &mut Assembler, alloc: Global, step: Step) -> Result<(), Fail> {
+fn take<B: Body + Drop>(rt: &impl Abort, a: &mut B, alloc: Global, step: Step) -> Result<(), Fail> {
     match step {
         Step::Put(offset, text) => {
             let answer = insert(rt, a, alloc, offset, text.as_bytes(), text.len())?;
@@ -175,32 +173,46 @@ fn take(rt: &impl Abort, a: &mut Assembler, alloc: Global, step: Step) -> Result
     Ok(())
 }
 
-fn ask(rt: &impl Abort, a: &mut Assembler, step: Step) -> Result<(), Fail> {
+fn ask<B: Body + Drop>(rt: &impl Abort, a: &mut B, step: Step) -> Result<(), Fail> {
     match step {
         Step::Part(most, offset, text) => expect_chunk(rt, read(a, most, true)?, offset, text)?,
         Step::Next(offset, text) => expect_chunk(rt, read(a, usize::MAX, true)?, offset, text)?,
-        Step::NoNext => assert_eq!(rt; read(a, usize::MAX, true)?, None),
+        Step::NoNext => assert!(rt; read(a, usize::MAX, true)?.is_none()),
+        Step::Some(most, offset, text) => expect_chunk(rt, read(a, most, false)?, offset, text)?,
         Step::Any(offset, text) => expect_chunk(rt, read(a, usize::MAX, false)?, offset, text)?,
-        Step::NoAny => assert_eq!(rt; read(a, usize::MAX, false)?, None),
+        Step::NoAny => assert!(rt; read(a, usize::MAX, false)?.is_none()),
         Step::OrderedAgain => {
-            assert_eq!(rt;
-                a.ensure_ordering(true),
-                Err(EnsureError::IllegalOrderedRead)
-            );
+            assert_eq!(rt; a.ask_for(true), Err(EnsureError::IllegalOrderedRead));
         }
-        Step::Clear => a.clear(),
-        Step::Reinit => a.reinit(),
-        Step::Is(pieces, read) => assert_eq!(rt; (a.pieces(), a.bytes_read()), (pieces, read)),
+        Step::Clear => a.let_go(),
+        Step::Reinit => a.begin_again(),
+        Step::Is(pieces, read) => assert_eq!(rt; (a.held(), a.bytes_given()), (pieces, read)),
         _ => {}
     }
     Ok(())
 }
 
-// Takes steps on an assembler that holds nothing.
-fn run(rt: &impl Abort, alloc: Global, steps: &[Step]) -> Result<(), Fail> {
-    let mut a = Assembler::new(alloc);
+// Takes steps on a body that holds nothing.
+fn run_on<B: Body + Drop>(rt: &impl Abort, alloc: Global, steps: &[Step]) -> Result<(), Fail> {
+    let mut a = B::made(alloc);
     for step in steps {
         take(rt, &mut a, alloc, *step)?;
     }
     Ok(())
+}
+
+// Takes steps whose answers are those of both bodies.
+fn run(rt: &impl Abort, alloc: Global, steps: &[Step]) -> Result<(), Fail> {
+    run_on::<HeapAssembler>(rt, alloc, steps)?;
+    run_on::<Assembler>(rt, alloc, steps)
+}
+
+// Takes steps whose answers are those of the heap, where pieces may overlap.
+fn run_heap(rt: &impl Abort, alloc: Global, steps: &[Step]) -> Result<(), Fail> {
+    run_on::<HeapAssembler>(rt, alloc, steps)
+}
+
+// Takes steps whose answers are those of pieces that do not overlap.
+fn run_apart(rt: &impl Abort, alloc: Global, steps: &[Step]) -> Result<(), Fail> {
+    run_on::<Assembler>(rt, alloc, steps)
 }

@@ -25,7 +25,7 @@ const ALLOWED_WASTE: u128 = 32768;
 /// Memory stays bounded by what is held, not by what comes: bytes that lie within one held piece take none, and where
 /// too many pieces are held, or pieces keep too much memory alive, they are compacted.
 #[derive(Drop)]
-pub struct OrderedAssembler {
+pub struct Assembler {
     pieces: OrderedPieces,
     // In unordered mode the offsets ever received or read, else none.
     received: RangeSet,
@@ -35,7 +35,7 @@ pub struct OrderedAssembler {
     alloc: Global,
 }
 
-impl Model for OrderedAssembler {
+impl Model for Assembler {
     ghost use Rattle.quic_assembler.specs.Reassembly.{Reassembly};
     ghost use Rattle.quic_ordered.specs.Assembly.{IsApartAssembler};
 
@@ -46,7 +46,7 @@ impl Model for OrderedAssembler {
     ghost invariant = { λ a. IsApartAssembler a.pieces a.received a.ordered a.bytes_read };
 }
 
-impl OrderedAssembler {
+impl Assembler {
     /// An assembler that holds nothing, in ordered mode. Takes no memory.
     pub fn new(alloc: Global) -> Self
         ensures fresh { result ≡ fresh }
@@ -56,7 +56,7 @@ impl OrderedAssembler {
         ensures highest { result.highest ≡ 0 }
         ensures pieces { piece_count result ≡ 0 }
     {
-        OrderedAssembler {
+        Assembler {
             pieces: OrderedPieces::new(alloc),
             received: RangeSet::new(alloc),
             ordered: true,
@@ -66,7 +66,7 @@ impl OrderedAssembler {
         }
     }
 
-    /// Makes it as [`OrderedAssembler::new`] does.
+    /// Makes it as [`Assembler::new`] does.
     pub fn reinit(&mut self)
         ensures fresh { self.new ≡ fresh }
         ensures empty { HoldsNothing (Holds self.new) }
@@ -355,7 +355,7 @@ impl OrderedAssembler {
     }
 }
 
-impl Reassemble for OrderedAssembler {
+impl Reassemble for Assembler {
     ghost use Rattle.std.specs.Prelude.{OnErr};
     ghost use Rattle.quic_assembler.specs.Reassembly.{Holds, is_done, piece_count, IfGiven, IsSameButHeld};
     ghost use Rattle.quic_assembler.specs.Laws.{done_below, held_above, held_or_not};
@@ -392,26 +392,26 @@ impl Reassemble for OrderedAssembler {
         bytes: Bytes,
         allocation_size: usize,
     ) -> Result<(), InsertError> {
-        OrderedAssembler::insert(self, offset, bytes, allocation_size)
+        Assembler::insert(self, offset, bytes, allocation_size)
     }
 
     fn read(&mut self, max_length: usize, ordered: bool) -> Result<Option<Chunk>, OutOfMemory> {
-        OrderedAssembler::read(self, max_length, ordered)
+        Assembler::read(self, max_length, ordered)
     }
 
     fn ensure_ordering(&mut self, ordered: bool) -> Result<(), EnsureError> {
-        OrderedAssembler::ensure_ordering(self, ordered)
+        Assembler::ensure_ordering(self, ordered)
     }
 
     fn bytes_read(&self) -> u64 {
-        OrderedAssembler::bytes_read(self)
+        Assembler::bytes_read(self)
     }
 
     fn clear(&mut self) {
-        OrderedAssembler::clear(self)
+        Assembler::clear(self)
     }
 
     fn pieces(&self) -> usize {
-        OrderedAssembler::pieces(self)
+        Assembler::pieces(self)
     }
 }

@@ -11,5 +11,9 @@ mod row;
 mod store;
 mod unreceived;
 
-pub use assembly::OrderedAssembler;
+pub use assembly::Assembler;
 pub use pieces::OrderedPieces;
+pub use quic_assembler::{
+    Chunk, EnsureError, HeapAssembler, IllegalOrderedRead, InsertError, Op, Reassemble,
+    ReplayError, replay,
+};

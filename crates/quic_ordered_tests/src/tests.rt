@@ -5,7 +5,6 @@ use std::alloc::Global;
 use std::process::Abort;
 use std::test::Fail;
 
-mod assembling;
 mod replays;
 
 // The calls, with nothing of what they promise: a test looks at what they answer and leave.

@@ -2,8 +2,8 @@
 //! stream, the sources of bytes, the queues of datagrams and the counters of frames.
 #![tactic(auto)]
 
-pub use quic_assembler as assembler;
 pub use quic_datagrams::{datagrams, stats};
+pub use quic_ordered as assembler;
 pub use quic_sending::{send, send_buffer, source};
 
 #[cfg(test)]

@@ -3,7 +3,7 @@
 ghost use Rattle.std.specs.Prelude.{◌≡◌, ◌+◌, ◌-◌, ◌<◌, ◌≤◌, ◌^◌, ◌&&◌, ◌||◌, ℕ, length, not, true, false, None, Some, is_none, is_some, max, nat_lt, if◌then◌else◌, SomeIff, IfOk, IfErr, OnOk, Ok};
 ghost use Rattle.quic_receiving.specs.Half.{IsHalf, new_half, Refused, Taken, verdict, reset_verdict, is_unfit, is_beyond, is_open, is_all, window_end, is_window_due};
 ghost use Rattle.quic_values.specs.Offsets.{is_past};
-ghost use Rattle.quic_assembler.specs.Reassembly.{Accounts};
+ghost use Rattle.quic_ordered.specs.Assembly.{TellsPieces};
 ghost use Rattle.quic_receiving.specs.State.{known_size, reset_code_of};
 ghost use Rattle.quic_receiving.specs.Calls.{IsFresh, Ingests, buffer_answer, StopsHalf, Resets, Reads, Orders};
 
@@ -12,7 +12,8 @@ mod queries;
 use crate::errors::ReadError;
 use crate::state::RecvState;
 use crate::transmit::ShouldTransmit;
-use quic_assembler::{Assembler, Chunk, EnsureError, InsertError};
+use quic_assembler::{Chunk, EnsureError, InsertError};
+use quic_ordered::Assembler;
 use quic_sending::ClosedStream;
 use quic_values::VarInt;
 use quic_wire::{ReceiveError, TransportError, frame};
@@ -102,7 +103,7 @@ impl Recv {
         requires running { self.old.reset ≡ None }
         requires within { length frame.bytes ≤ payload_len }
         ensures ingests { Ingests self.old frame.offset frame.bytes frame.fin received max_data result self.new }
-        ensures accounts { self.old.stopped ≡ false → verdict self.old frame.offset (length frame.bytes) frame.fin received max_data ≡ Taken → Accounts self.old.buffer frame.offset frame.bytes payload_len (buffer_answer result) self.new.buffer }
+        ensures accounts { self.old.stopped ≡ false → verdict self.old frame.offset (length frame.bytes) frame.fin received max_data ≡ Taken → TellsPieces self.old.buffer frame.offset frame.bytes payload_len (buffer_answer result) self.new.buffer }
         ensures grows { self.old.end ≤ self.new.end }
         ensures permitted { self.old.end < self.new.end → received + (self.new.end - self.old.end) ≤ max_data }
         ensures sound { IsHalf self.new }

@@ -17,7 +17,7 @@ mod sending;
 mod yardstick;
 
 pub use connection::{case_g, case_h, case_i};
-pub use reassembly::{case_a, case_b, case_c, case_c2, case_d};
+pub use reassembly::{case_a, case_b, case_c, case_c2, case_d, case_k, case_l, case_m};
 pub use refused::REFUSED;
 pub use sending::{case_e, case_e2, case_f, case_j};
 pub use yardstick::case_z;

@@ -3,14 +3,21 @@ ghost use Rattle.stream_cases.specs.Arguments.{CanRun};
 
 use crate::content::{Content, PIECE, Seen};
 use crate::refused::{REFUSED, Refused};
-use quic_assembler::{Assembler, InsertError};
+use quic_ordered::{Assembler, InsertError};
 use quic_values::OutOfMemory;
 use std::alloc::Global;
 
-// The pieces of a window, a little less than 2^20 bytes.
+// The pieces of a window: of 1200 bytes each, a little less than 2^20 bytes.
 const WINDOW_PIECES: u32 = 873;
 
 const WINDOW: usize = 873 * 1200;
+
+// How long the pieces of windows are, and how many bytes a read asks for.
+#[derive(Clone, Copy)]
+struct Windows {
+    piece: usize,
+    read: usize,
+}
 
 /// Pieces come in order, and each is read at once.
 pub fn case_a(alloc: Global, size: usize, src: &[u8], _perm: &[u32]) -> u64
@@ -29,7 +36,47 @@ pub fn case_b(alloc: Global, size: usize, src: &[u8], perm: &[u32]) -> u64
     ensures nothing { CanRun size (length src.now) → size ≡ 0 → result ≡ 0 }
 {
     match Content::for_size(size, src) {
-        Some(content) => in_windows(alloc, size, content, perm).unwrap_or(REFUSED),
+        Some(content) => {
+            let windows = Windows {
+                piece: PIECE,
+                read: usize::MAX,
+            };
+            in_windows(alloc, size, content, perm, windows).unwrap_or(REFUSED)
+        }
+        None => REFUSED,
+    }
+}
+
+/// As case b, with reads of at most 333 bytes.
+pub fn case_k(alloc: Global, size: usize, src: &[u8], perm: &[u32]) -> u64
+    ensures refused { ¬ CanRun size (length src.now) → result ≡ REFUSED }
+    ensures nothing { CanRun size (length src.now) → size ≡ 0 → result ≡ 0 }
+{
+    match Content::for_size(size, src) {
+        Some(content) => {
+            let windows = Windows {
+                piece: PIECE,
+                read: 333,
+            };
+            in_windows(alloc, size, content, perm, windows).unwrap_or(REFUSED)
+        }
+        None => REFUSED,
+    }
+}
+
+/// As case b, with pieces of 100 bytes, each of which keeps 1200 alive.
+pub fn case_l(alloc: Global, size: usize, src: &[u8], perm: &[u32]) -> u64
+    ensures refused { ¬ CanRun size (length src.now) → result ≡ REFUSED }
+    ensures nothing { CanRun size (length src.now) → size ≡ 0 → result ≡ 0 }
+{
+    match Content::for_size(size, src) {
+        Some(content) => {
+            let windows = Windows {
+                piece: 100,
+                read: usize::MAX,
+            };
+            in_windows(alloc, size, content, perm, windows).unwrap_or(REFUSED)
+        }
         None => REFUSED,
     }
 }
@@ -56,6 +103,17 @@ pub fn case_c2(alloc: Global, size: usize, src: &[u8], _perm: &[u32]) -> u64
     }
 }
 
+/// As case c, but each byte keeps 2 alive.
+pub fn case_m(alloc: Global, size: usize, src: &[u8], _perm: &[u32]) -> u64
+    ensures refused { ¬ CanRun size (length src.now) → result ≡ REFUSED }
+    ensures nothing { CanRun size (length src.now) → size ≡ 0 → result ≡ 0 }
+{
+    match Content::for_size(size, src) {
+        Some(content) => with_gaps(alloc, size, content, 2).unwrap_or(REFUSED),
+        None => REFUSED,
+    }
+}
+
 /// Windows as in case b, in unordered mode: each piece comes twice, and one that overlaps two after every fourth.
 /// After every eighth all that is held is read.
 pub fn case_d(alloc: Global, size: usize, src: &[u8], perm: &[u32]) -> u64
@@ -77,25 +135,33 @@ fn in_order(alloc: Global, size: usize, content: Content) -> Result<u64, Refused
     for offset in (0..size).step_by(PIECE) {
         let piece = content.piece(alloc, offset as u64, PIECE.min(size - offset))?;
         assembler.insert(offset as u64, piece, PIECE)?;
-        read_all(&mut assembler, true, &mut seen)?;
+        read_all(&mut assembler, true, usize::MAX, &mut seen)?;
     }
     Ok(seen.sum)
 }
 
-fn in_windows(alloc: Global, size: usize, content: Content, perm: &[u32]) -> Result<u64, Refused>
-    requires { size < 2 ^ 60 }
+fn in_windows(
+    alloc: Global,
+    size: usize,
+    content: Content,
+    perm: &[u32],
+    windows: Windows,
+) -> Result<u64, Refused>
+    requires size { size < 2 ^ 60 }
+    requires some { 0 < windows.piece }
+    requires piece { windows.piece ≤ 1200 }
     ensures { size ≡ 0 → result ≡ Ok 0 }
 {
     let mut assembler = Assembler::new(alloc);
     let mut seen = Seen::default();
-    for base in (0..size).step_by(WINDOW) {
+    for base in (0..size).step_by(WINDOW_PIECES as usize * windows.piece) {
         for place in perm {
             if *place < WINDOW_PIECES {
-                let offset = base as u64 + u64::from(*place) * PIECE as u64;
-                insert(alloc, &mut assembler, content, offset)?;
+                let offset = base as u64 + u64::from(*place) * windows.piece as u64;
+                insert(alloc, &mut assembler, content, offset, windows.piece)?;
             }
         }
-        read_all(&mut assembler, true, &mut seen)?;
+        read_all(&mut assembler, true, windows.read, &mut seen)?;
     }
     Ok(seen.sum)
 }
@@ -113,7 +179,7 @@ fn unordered(alloc: Global, size: usize, content: Content, perm: &[u32]) -> Resu
     for base in (0..size).step_by(WINDOW) {
         overlap(alloc, &mut assembler, content, base as u64, perm, &mut seen)?;
     }
-    read_all(&mut assembler, false, &mut seen)?;
+    read_all(&mut assembler, false, usize::MAX, &mut seen)?;
     Ok(seen.sum.wrapping_add(seen.bytes))
 }
 
@@ -137,13 +203,13 @@ fn overlap(
             continue;
         }
         let offset = base + u64::from(*place) * PIECE as u64;
-        insert(alloc, assembler, content, offset)?;
-        insert(alloc, assembler, content, offset)?;
+        insert(alloc, assembler, content, offset, PIECE)?;
+        insert(alloc, assembler, content, offset, PIECE)?;
         if step % 4 == 3 {
-            insert(alloc, assembler, content, before + PIECE as u64 / 2)?;
+            insert(alloc, assembler, content, before + PIECE as u64 / 2, PIECE)?;
         }
         if step % 8 == 7 {
-            read_all(assembler, false, seen)?;
+            read_all(assembler, false, usize::MAX, seen)?;
         }
         before = offset;
         step = step.wrapping_add(1);
@@ -151,30 +217,37 @@ fn overlap(
     Ok(())
 }
 
-// Inserts a piece of content at its offset.
+// Inserts a piece of content at its offset. It keeps 1200 bytes alive.
 #[inline]
 fn insert(
     alloc: Global,
     assembler: &mut Assembler,
     content: Content,
     offset: u64,
+    len: usize,
 ) -> Result<(), Refused>
-    requires { offset < 2 ^ 61 }
+    requires offset { offset < 2 ^ 61 }
+    requires len { len ≤ 1200 }
     ensures { assembler.new.ordered ≡ assembler.old.ordered }
 {
-    let piece = content.piece(alloc, offset, PIECE)?;
+    let piece = content.piece(alloc, offset, len)?;
     assembler.insert(offset, piece, PIECE)?;
     Ok(())
 }
 
-// Reads until nothing is given.
+// Reads at most so many bytes at a time until nothing is given.
 #[inline]
-fn read_all(assembler: &mut Assembler, ordered: bool, seen: &mut Seen) -> Result<(), OutOfMemory>
+fn read_all(
+    assembler: &mut Assembler,
+    ordered: bool,
+    most: usize,
+    seen: &mut Seen,
+) -> Result<(), OutOfMemory>
     requires { ordered ≡ assembler.old.ordered }
     ensures { assembler.new.ordered ≡ assembler.old.ordered }
 {
     'reads: for _ in 0..u64::MAX {
-        let Some(chunk) = assembler.read(usize::MAX, ordered)? else {
+        let Some(chunk) = assembler.read(most, ordered)? else {
             break 'reads;
         };
         seen.see(chunk.offset, chunk.bytes.as_slice());

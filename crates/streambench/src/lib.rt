@@ -122,3 +122,30 @@ pub extern "C" fn streambench_case_j(alloc: Global, size: usize, src: &[u8], per
 {
     stream_cases::case_j(alloc, size, src, perm)
 }
+
+/// Case k.
+#[unsafe(no_mangle)]
+pub extern "C" fn streambench_case_k(alloc: Global, size: usize, src: &[u8], perm: &[u32]) -> u64
+    ensures refused { ¬ CanRun size (length src.now) → result ≡ REFUSED }
+    ensures nothing { CanRun size (length src.now) → size ≡ 0 → result ≡ 0 }
+{
+    stream_cases::case_k(alloc, size, src, perm)
+}
+
+/// Case l.
+#[unsafe(no_mangle)]
+pub extern "C" fn streambench_case_l(alloc: Global, size: usize, src: &[u8], perm: &[u32]) -> u64
+    ensures refused { ¬ CanRun size (length src.now) → result ≡ REFUSED }
+    ensures nothing { CanRun size (length src.now) → size ≡ 0 → result ≡ 0 }
+{
+    stream_cases::case_l(alloc, size, src, perm)
+}
+
+/// Case m.
+#[unsafe(no_mangle)]
+pub extern "C" fn streambench_case_m(alloc: Global, size: usize, src: &[u8], perm: &[u32]) -> u64
+    ensures refused { ¬ CanRun size (length src.now) → result ≡ REFUSED }
+    ensures nothing { CanRun size (length src.now) → size ≡ 0 → result ≡ 0 }
+{
+    stream_cases::case_m(alloc, size, src, perm)
+}

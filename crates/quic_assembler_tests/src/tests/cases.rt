@@ -1,4 +1,4 @@
-use super::{Fail, InsertError, Step, run};
+use super::{Fail, InsertError, Step, run, run_heap};
 
 const IN_ORDER: [Step; 11] = [
     Step::NoNext,
@@ -231,7 +231,7 @@ const WITH_GAPS: [Step; 2] = [
 
 #[test]
 fn takes_long_streams(rt: HostRuntime) -> Result<(), Fail> {
-    run(&rt, rt.alloc(), &IN_ITS_ORDER)?;
+    run_heap(&rt, rt.alloc(), &IN_ITS_ORDER)?;
     run(&rt, rt.alloc(), &NO_LOSS)?;
     run(&rt, rt.alloc(), &WITH_GAPS)
 }

@@ -1,5 +1,5 @@
 // With ample memory no size is refused.
-use super::{Assembler, Fail, insert, read};
+use super::{Assembler, Body, Fail, HeapAssembler, insert, read};
 use std::alloc::{AllocError, Global};
 use std::process::Abort;
 
@@ -18,16 +18,16 @@ fn draw(alloc: Global, seed: u32, count: usize) -> Result<Vec<u8>, AllocError> {
 }
 
 // Inserts so many bytes behind what was read, and reads them in two parts.
-fn pass(
+fn pass<B: Body + Drop>(
     rt: &impl Abort,
-    a: &mut Assembler,
+    a: &mut B,
     alloc: Global,
     size: usize,
     seed: u32,
 ) -> Result<(), Fail> {
     assert!(rt; size < 1 << 20);
     let bytes = draw(alloc, seed, size)?;
-    let start = a.bytes_read();
+    let start = a.bytes_given();
     assert_eq!(rt;
         insert(rt, a, alloc, start, bytes.as_slice(), size)?,
         Ok(()),
@@ -43,29 +43,32 @@ fn pass(
     Ok(())
 }
 
-#[test]
-fn takes_and_gives_every_size(rt: HostRuntime) -> Result<(), Fail> {
-    let alloc = rt.alloc();
-    let mut a = Assembler::new(alloc);
+fn pass_every_size<B: Body + Drop>(rt: &impl Abort, alloc: Global) -> Result<(), Fail> {
+    let mut a = B::made(alloc);
     let mut seed = 20_260_722;
     for power in 0..17u32 {
         let size = 1usize << power;
         for size in [size - 1, size, size + 1] {
             seed = next_seed(seed);
-            pass(&rt, &mut a, alloc, size, seed)?;
+            pass(rt, &mut a, alloc, size, seed)?;
         }
     }
     Ok(())
 }
 
 #[test]
-fn takes_any_number_of_pieces(rt: HostRuntime) -> Result<(), Fail> {
-    let alloc = rt.alloc();
-    let mut a = Assembler::new(alloc);
+fn takes_and_gives_every_size(rt: HostRuntime) -> Result<(), Fail> {
+    pass_every_size::<HeapAssembler>(&rt, rt.alloc())?;
+    pass_every_size::<Assembler>(&rt, rt.alloc())
+}
+
+// The last byte comes first.
+fn pass_backwards<B: Body + Drop>(rt: &impl Abort, alloc: Global) -> Result<(), Fail> {
+    let mut a = B::made(alloc);
     let bytes = draw(alloc, 20_260_722, 65_537)?;
     for (at, byte) in bytes.iter().enumerate().rev() {
         assert_eq!(rt;
-            insert(&rt, &mut a, alloc, at as u64, &[*byte], 1)?,
+            insert(rt, &mut a, alloc, at as u64, &[*byte], 1)?,
             Ok(()),
             "at {at}"
         );
@@ -78,4 +81,10 @@ fn takes_any_number_of_pieces(rt: HostRuntime) -> Result<(), Fail> {
     }
     assert_eq!(rt; given.as_slice(), bytes.as_slice());
     Ok(())
+}
+
+#[test]
+fn takes_any_number_of_pieces(rt: HostRuntime) -> Result<(), Fail> {
+    pass_backwards::<HeapAssembler>(&rt, rt.alloc())?;
+    pass_backwards::<Assembler>(&rt, rt.alloc())
 }

@@ -1,4 +1,5 @@
-use super::{Assembler, Bytes, Chunk, Fail, Op, OutOfMemory, ReplayError, replay};
+use super::{Bytes, Chunk, Fail, HeapAssembler, OutOfMemory};
+use quic_ordered::{Op, ReplayError, replay};
 use std::alloc::Global;
 use std::process::Abort;
 
@@ -20,7 +21,7 @@ fn assert_replay(
     answer: Result<(), ReplayError>,
     wanted: &[(u64, &str)],
 ) -> Result<(), Fail> {
-    let mut a = Assembler::new(alloc);
+    let mut a = HeapAssembler::new(alloc);
     let mut out: Vec<Chunk> = Vec::new(alloc);
     assert_eq!(rt; replay(&mut a, ops, &mut out), answer);
     assert_eq!(rt; out.len(), wanted.len());

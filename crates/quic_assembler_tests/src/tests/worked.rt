@@ -1,4 +1,4 @@
-use super::{Fail, InsertError, Step, run};
+use super::{Fail, InsertError, Step, run, run_heap};
 
 const OVERLAP: [Step; 5] = [
     Step::Put(0, "123"),
@@ -43,8 +43,8 @@ const READ_WITH_THE_MODE: [Step; 7] = [
 
 #[test]
 fn gives_each_byte_once(rt: HostRuntime) -> Result<(), Fail> {
-    run(&rt, rt.alloc(), &OVERLAP)?;
-    run(&rt, rt.alloc(), &OVERLAP_UNORDERED)?;
+    run_heap(&rt, rt.alloc(), &OVERLAP)?;
+    run_heap(&rt, rt.alloc(), &OVERLAP_UNORDERED)?;
     run(&rt, rt.alloc(), &NEW_ALONE)?;
     run(&rt, rt.alloc(), &READ_WITH_THE_MODE)
 }
@@ -72,7 +72,17 @@ const GAPS: [Step; 6] = [
     Step::Is(2049, 0),
 ];
 
-const LONG: &str =
+// What is read goes on where too many pieces are held.
+const SCATTERED: [Step; 6] = [
+    Step::Fill(1, 4, 2048, "gap", 3, Ok(())),
+    Step::Insert(8193, "gap", 3, Err(InsertError::TooManyChunks)),
+    Step::Is(2049, 0),
+    Step::Insert(0, "x", 1, Err(InsertError::TooManyChunks)),
+    Step::Next(0, "xgap"),
+    Step::NoNext,
+];
+
+pub(super) const LONG: &str =
     "0123456789abcdef0123456789abcdef0123456789abcdef0123456789abcdef0123456789abcdef0123456789abcdef0123456789abcdef0123456789abcdef";
 
 // 128 bytes and then one, 1015 times, all touching; then single bytes with gaps.
@@ -96,8 +106,9 @@ const REPEATS: [Step; 5] = [
 #[test]
 fn refuses_too_many_pieces(rt: HostRuntime) -> Result<(), Fail> {
     run(&rt, rt.alloc(), &GAPS)?;
-    run(&rt, rt.alloc(), &NOT_JOINED)?;
-    run(&rt, rt.alloc(), &REPEATS)
+    run(&rt, rt.alloc(), &SCATTERED)?;
+    run_heap(&rt, rt.alloc(), &NOT_JOINED)?;
+    run_heap(&rt, rt.alloc(), &REPEATS)
 }
 
 const MEMORY: [Step; 4] = [

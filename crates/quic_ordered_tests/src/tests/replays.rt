@@ -1,7 +1,7 @@
 ghost use Rattle.std.specs.Prelude.{◌<◌};
 
-use quic_assembler::{Assembler, Chunk, Op, ReplayError, replay};
-use quic_ordered::OrderedAssembler;
+use quic_assembler::{Chunk, HeapAssembler, Op, ReplayError, replay};
+use quic_ordered::Assembler;
 use quic_values::Bytes;
 use std::alloc::Global;
 use std::process::Abort;
@@ -66,14 +66,14 @@ type Replayed = (Result<(), ReplayError>, Vec<Chunk>, u64);
 
 // The calls, with nothing of what they promise: a test looks at what they answer and leave.
 fn replay_ordered(alloc: Global, ops: &[Op]) -> Replayed {
-    let mut body = OrderedAssembler::new(alloc);
+    let mut body = Assembler::new(alloc);
     let mut chunks = Vec::new(alloc);
     let outcome = replay(&mut body, ops, &mut chunks);
     (outcome, chunks, body.bytes_read())
 }
 
 fn replay_heap(alloc: Global, ops: &[Op]) -> Replayed {
-    let mut body = Assembler::new(alloc);
+    let mut body = HeapAssembler::new(alloc);
     let mut chunks = Vec::new(alloc);
     let outcome = replay(&mut body, ops, &mut chunks);
     (outcome, chunks, body.bytes_read())
@@ -90,15 +90,16 @@ fn joined(alloc: Global, chunks: &[Chunk]) -> Result<Vec<u8>, Fail> {
 #[test]
 fn both_bodies_give_the_same_bytes(rt: HostRuntime) -> Result<(), Fail> {
     let alloc = rt.alloc();
-    for seed in 0..60u64 {
-        let ops = steps(alloc, seed, 40 + 5 * seed, 200 + 40 * seed)?;
+    for seed in 0..2000u64 {
+        let size = seed % 60;
+        let ops = steps(alloc, seed, 40 + 5 * size, 200 + 40 * size)?;
         let (outcome, chunks, read) = replay_ordered(alloc, &ops);
         let (heap_outcome, heap_chunks, heap_read) = replay_heap(alloc, &ops);
         assert_eq!(rt; outcome, Ok(()));
         assert_eq!(rt; heap_outcome, Ok(()));
         let bytes = joined(alloc, &chunks)?;
         assert_eq!(rt; bytes, joined(alloc, &heap_chunks)?);
-        assert!(rt; bytes.len() as u64 >= 200 + 40 * seed);
+        assert!(rt; bytes.len() as u64 >= 200 + 40 * size);
         assert_eq!(rt; read, bytes.len() as u64);
         assert_eq!(rt; heap_read, bytes.len() as u64);
         for (index, byte) in bytes.iter().enumerate() {

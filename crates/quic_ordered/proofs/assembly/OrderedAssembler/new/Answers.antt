@@ -1,6 +1,0 @@
-use Rattle.std.proofs.Common.{rules}
-use Rattle.quic_assembler.proofs.Whole.{holds_nothing}
-use Rattle.quic_ordered.proofs.assembly.OrderedAssembler.new.Goals as goal
-
-pub returns-clause-empty : goal.returns-clause-empty
-returns-clause-empty c = holds_nothing _ (search rules)
