@@ -333,11 +333,17 @@ fn run_on_client(rt: &impl Abort, alloc: Global, steps: &[Step]) -> Result<(), F
     run(rt, alloc, &mut subject, steps)
 }
 
-// Where two frames differ at an offset, that of the first is read.
+// Where two frames differ at an offset, that of the first is read, wherever they begin.
 const OVERLAPPING: [Step; 3] = [
     Step::Data(3, 0, b"aaa", TAKEN),
     Step::Data(3, 1, b"bbb", TAKEN),
     Step::Read(3, 9, b"aaab", Last::Blocked),
+];
+
+const OVERLAPPING_BEFORE: [Step; 3] = [
+    Step::Data(3, 1, b"bbb", TAKEN),
+    Step::Data(3, 0, b"aaa", TAKEN),
+    Step::Read(3, 9, b"abbb", Last::Blocked),
 ];
 
 const SIZES: [Step; 6] = [
@@ -372,6 +378,7 @@ const STREAM_LIMITS: [Step; 4] = [
 fn frames_of_a_hostile_peer_are_answered(rt: HostRuntime) -> Result<(), Fail> {
     let alloc = rt.alloc();
     run_on_client(&rt, alloc, &OVERLAPPING)?;
+    run_on_client(&rt, alloc, &OVERLAPPING_BEFORE)?;
     run_on_client(&rt, alloc, &SIZES)?;
     run_on_client(&rt, alloc, &LOW_RESET)?;
     run_on_client(&rt, alloc, &LAST_STREAM)?;

@@ -108,7 +108,7 @@ fn read<B: Body + Drop>(
     a: &mut B,
     max_length: usize,
     ordered: bool,
-) -> Result<Option<Chunk>, Fail> {
+) -> Result<Option<Chunk>, EnsureError> {
     match a.next(max_length, ordered) {
         Ok(given) => Ok(given),
         Err(_) => a.next(max_length, ordered),

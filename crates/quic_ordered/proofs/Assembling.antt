@@ -10,8 +10,8 @@ use Rattle.std.proofs.lemmas.List.Elements.{All-nil, All-cons, All-weaker}
 use Rattle.quic_values.specs.Runs.{contains}
 use Rattle.quic_assembler.specs.Laws.{done_below, held_or_not}
 use Rattle.quic_assembler.specs.Compact.{Compacts}
-use Rattle.quic_assembler.specs.Piece.{PieceView, Covers, RunHolds, cover_count, lies, run_end, advance_by, left_of, CoversMore}
-use Rattle.quic_assembler.specs.Reassembly.{Reassembly, floor, Holds, IsDone, IsHeld, Takes, SameHeld, HoldsOnce, TakesFresh, IsNext}
+use Rattle.quic_assembler.specs.Piece.{PieceView, Sums, Covers, RunHolds, cover_count, lies, run_end, advance_by, left_of, CoversMore}
+use Rattle.quic_assembler.specs.Reassembly.{Reassembly, is_wasteful, floor, Holds, IsDone, IsHeld, Takes, SameHeld, HoldsOnce, TakesFresh, IsNext}
 use Rattle.quic_assembler.proofs.Counts.{Any-here, Any-cons, Any-nil, Any-append, lies_below, lies_above, bit-le-one, count_of_any, any_of_count}
 use Rattle.quic_assembler.proofs.Runs.{RunHolds-cut, RunHolds-uncut, covers_from_holds, holds_from_covers}
 use Rattle.quic_assembler.proofs.Whole.{takes_nothing, below_is_done, keeps_fresh}
@@ -25,6 +25,11 @@ use Rattle.quic_ordered.proofs.Taking.{same_head}
 use Rattle.quic_ordered.proofs.Places.{merges_empty}
 use Rattle.quic_ordered.proofs.Stores.{stems_all, stay_all}
 use Rattle.quic_ordered.proofs.Compacting.{held_above}
+
+-- pieces that keep little memory alive are not compacted
+pub little_wasteful : (s : Sums) (unread : ℕ) → s.pieces ≤ 2048 → s.allocated ≤ 32768 → is_wasteful s unread ≡ false
+unfolding is_wasteful
+little_wasteful s unread l m = grind (arith, nat_tests)
 
 pub true_not_false : (b : Bool) → b ≡ true → b ≡ false → ⊥
 true_not_false b e f = cc

@@ -1,6 +1,6 @@
 -- What was not received of a piece is held.
 use Rattle.std.proofs.Common.{◌≡◌, ℕ, ◌+◌, ◌-◌, ◌≤◌, ◌<◌, refl, sym, subst, List, [], ◌∷◌, ◌++◌, length, arith, Bool, true, false, cond, append_assoc}
-use Rattle.std.specs.Prelude.{nat_lt, not, ◌&&◌}
+use Rattle.std.specs.Prelude.{nat_lt, not, ◌&&◌, ◌||◌}
 use Rattle.std.specs.List.{All}
 use Rattle.std.specs.List.Sorted.{IsPermutation}
 use Rattle.std.proofs.lemmas.Bool.Decides.{nat_tests}
@@ -83,3 +83,18 @@ pub ends_parts : (received : List Range) (whole : PieceView) (parts : List Piece
 ends_parts received whole parts t some = ends_by parts (run_end whole) (λ at l.
     let b = bit_of_fresh (lies whole.offset (run_end whole) at) (contains received at) (omega (arith, l, t.count at)) in
     (lies_of_bit whole.offset (run_end whole) at b.0).1) some
+
+already_in : (b t : Bool) → bit (t && not b) ≡ 0 → b ≡ (b || t)
+already_in true t e = refl
+already_in false true e = absurd (omega (arith, e))
+already_in false false e = refl
+
+-- no part is left, so all of the piece was received before
+pub all_received : (received : List Range) (whole rest : PieceView) (fronts : List PieceView) → IsCut received whole rest fronts → NoneReceived received rest → length rest.bytes ≡ 0 → fronts ≡ [] → (n : ℕ) → contains received n ≡ (contains received n || lies whole.offset (run_end whole) n)
+all_received received whole rest fronts c none e f n =
+    let t = subst (λ (zs : List PieceView). TakesFresh received whole [] zs) f (parts_all received whole rest fronts c none e) in
+    already_in (contains received n) (lies whole.offset (run_end whole) n) (omega (arith, t.count n))
+
+-- nothing of it is held anew
+pub fresh_none : (received : List Range) (whole rest : PieceView) (fronts xs : List PieceView) → IsCut received whole rest fronts → NoneReceived received rest → length rest.bytes ≡ 0 → fronts ≡ [] → TakesFresh received whole xs xs
+fresh_none received whole rest fronts xs c none e f = fresh_all received whole rest fronts xs xs c none e (subst (λ (zs : List PieceView). IsPermutation (zs ++ xs) xs) (sym f) (IsPermutation-refl xs))

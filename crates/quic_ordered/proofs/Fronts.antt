@@ -1,5 +1,5 @@
 -- A piece that is being read, and behind it the others.
-use Rattle.std.proofs.Common.{inl, inr, ◌≡◌, ℕ, ◌+◌, ◌≤◌, ◌<◌, refl, sym, subst, ◌∙◌, List, [], ◌∷◌, ◌++◌, length, arith}
+use Rattle.std.proofs.Common.{inl, inr, ◌≡◌, ℕ, ◌≤◌, ◌<◌, refl, sym, subst, ◌∙◌, List, [], ◌∷◌, ◌++◌, arith}
 use Rattle.std.specs.Prelude.{Option, Some, None, option_to_list, Result, Ok, Err}
 use Rattle.std.specs.List.{All, Any}
 use Rattle.std.specs.Map.{values_of}

@@ -4,7 +4,7 @@ use Rattle.std.specs.List.{Any, All}
 use Rattle.std.specs.Map.{keys_of, values_of}
 use Rattle.std.specs.Ordering.{nat_cmp}
 use Rattle.std.specs.List.Sorted.{IsStrictlySortedBy}
-use Rattle.quic_assembler.specs.Piece.{PieceView, RunHolds, run_end, run_length, run_allocation, advance_by, left_of}
+use Rattle.quic_assembler.specs.Piece.{PieceView, RunHolds, run_end, run_length, run_allocation, left_of}
 
 -- pieces in a row, and how many there is room for
 pub record Row : Type 0 where

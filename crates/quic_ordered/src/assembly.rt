@@ -119,6 +119,7 @@ impl Assembler {
     /// With `TooManyChunks` and `CompactionMemory` the bytes are kept all the same; with `OutOfMemory` nothing
     /// changes. In ordered mode bytes that are empty, were read before or lie within one held piece want no memory.
     /// `TooManyChunks` comes only where the offsets that are held form more than 1024 runs without neighbours.
+    #[inline]
     pub fn insert(
         &mut self,
         offset: u64,
@@ -154,6 +155,7 @@ impl Assembler {
     }
 
     // Keeps what is not done.
+    #[inline]
     fn hold(&mut self, offset: u64, bytes: Bytes, allocation_size: usize) -> Result<(), OutOfMemory>
         requires { offset + length bytes < 2 ^ 62 }
         ensures ok { OnOk result (KeepsPiece self.old self.new offset bytes allocation_size) }
@@ -172,6 +174,7 @@ impl Assembler {
     }
 
     // In ordered mode keeps what lies above the bytes that were read.
+    #[inline]
     fn hold_unread(
         &mut self,
         offset: u64,
@@ -199,6 +202,7 @@ impl Assembler {
     }
 
     // Whether too many pieces are held, or they keep too much memory alive.
+    #[inline]
     fn is_wasteful(&self) -> bool
         ensures exact { result ≡ is_wasteful (sums_of self.now.runs) (self.now.highest - self.now.bytes_read) }
         ensures few { result ≡ false → piece_count self.now ≤ 2048 }
@@ -206,13 +210,18 @@ impl Assembler {
         if self.pieces.len() > COMPACT_THRESHOLD {
             return true;
         }
+        let allocated = self.pieces.allocated();
+        if allocated <= ALLOWED_WASTE {
+            return false;
+        }
         let unread = self.highest.saturating_sub(self.bytes_read) as u128;
         let used = self.pieces.total().min(unread);
-        let waste = self.pieces.allocated().saturating_sub(used);
+        let waste = allocated.saturating_sub(used);
         waste > ALLOWED_WASTE.max(used * 3 / 2)
     }
 
     // Compacts where that is due.
+    #[inline]
     fn relieve(&mut self) -> Result<(), InsertError>
         ensures relieved { Relieves result (is_wasteful (sums_of self.old.runs) (self.old.highest - self.old.bytes_read)) self.old.runs self.new.runs }
         ensures held { SameHeld (Holds self.old) (Holds self.new) }
@@ -259,6 +268,7 @@ impl Assembler {
     ///
     /// A piece that is given whole is not copied. Memory is wanted only to cut one, so only where more than `max_length`
     /// bytes in a row are at hand. If refused, or where nothing is given, all is as it was.
+    #[inline]
     pub fn read(&mut self, max_length: usize, ordered: bool) -> Result<Option<Chunk>, OutOfMemory>
         requires { ordered ≡ self.old.ordered }
         ensures first { IfGiven result (λ chunk. GivesFirst max_length self.old.runs chunk.offset chunk.bytes self.new.runs) }
@@ -297,6 +307,7 @@ impl Assembler {
     }
 
     // Whether there is a chunk to be read.
+    #[inline]
     fn has_next(&self, ordered: bool) -> bool
         requires { ordered ≡ self.now.ordered }
         ensures yes { result ≡ true → (first : PieceView) × (rest : _) × (self.now.runs ≡ first ∷ rest) × IsNext self.now first.offset }

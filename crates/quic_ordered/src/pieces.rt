@@ -39,6 +39,7 @@ impl Model for OrderedPieces {
 }
 
 // Whether a piece has all offsets from one up to another.
+#[inline]
 fn has_all(first: &Option<Piece>, offset: u64, end: u64) -> bool
     ensures yes { result ≡ true → Any (Encloses offset end) (option_to_list first.now) }
     ensures no { result ≡ false → Any (Encloses offset end) (option_to_list first.now) → ⊥ }
@@ -50,6 +51,7 @@ fn has_all(first: &Option<Piece>, offset: u64, end: u64) -> bool
 }
 
 // Whether a piece ends behind an offset.
+#[inline]
 fn reaches(first: &Option<Piece>, offset: u64) -> bool
     ensures no { result ≡ false → All (λ r. run_end r ≤ offset) (option_to_list first.now) }
     ensures yes { result ≡ true → All (λ r. run_end r ≤ offset) (option_to_list first.now) → ⊥ }
@@ -77,6 +79,7 @@ fn put_back(first: &mut Option<Piece>, rest: &mut PieceStore) -> Result<(), OutO
 }
 
 // Puts the piece that is being read back where it ends behind an offset.
+#[inline]
 fn make_way(
     first: &mut Option<Piece>,
     rest: &mut PieceStore,
@@ -94,6 +97,7 @@ fn make_way(
 }
 
 // Takes the first piece out.
+#[inline]
 fn take_piece(first: &mut Option<Piece>, rest: &mut PieceStore) -> Option<Piece>
     ensures taken { option_to_list first.old ++ rest.old ≡ option_to_list result ++ rest.new }
     ensures none { IfNone result (rest.new ≡ []) }
@@ -172,6 +176,7 @@ impl OrderedPieces {
     /// Takes bytes that came at an offset, and that keep so much memory alive. They are joined with all pieces that
     /// they overlap; where two bytes meet the held one stays. Bytes that touch a piece and overlap none are a piece of
     /// their own. Bytes that lie within one piece want no memory.
+    #[inline]
     pub fn insert(
         &mut self,
         offset: u64,
@@ -236,6 +241,7 @@ impl OrderedPieces {
 
     /// Gives the first `max_length` bytes of the first piece, or all of it where it has fewer, and the offset at which
     /// it begins. A piece that is given whole is not copied. If refused, all is as it was.
+    #[inline]
     pub fn take_first(&mut self, max_length: usize) -> Result<Option<Chunk>, OutOfMemory>
         ensures first { IfGiven result (λ chunk. GivesFirst max_length self.old chunk.offset chunk.bytes self.new) }
         ensures takes { IfGiven result (λ chunk. TakesSome chunk.offset max_length chunk.bytes self.old self.new) }

@@ -54,11 +54,13 @@ fn clear_way(gaps: &mut PieceMap, row: &mut PieceRow, end: u64) -> Result<(), Ou
     ensures clear { OnOk result (LieInOrder end row.new.runs) }
     ensures kept { LieInOrder end row.old.runs → (result ≡ Ok tt) × (gaps.new ≡ gaps.old) × (row.new.runs ≡ row.old.runs) }
 {
-    while let Some(piece) = row.pop_front() {
-        if piece.offset() >= end {
-            row.put_front(piece);
+    while let Some(offset) = row.first_offset() {
+        if offset >= end {
             break;
         }
+        let Some(piece) = row.pop_front() else {
+            unreachable!();
+        };
         if let Err(piece) = gaps.put_last(piece) {
             row.put_front(piece);
             return Err(OutOfMemory);
@@ -159,6 +161,7 @@ impl PieceStore {
     }
 
     // Whether nothing is held at an offset or behind it.
+    #[inline]
     fn is_behind(&self, offset: u64) -> bool
         ensures { result ≡ true → All (λ r. run_end r ≤ offset) self.now }
     {
@@ -174,6 +177,7 @@ impl PieceStore {
     /// Takes bytes that came at an offset, and that keep so much memory alive. They are joined with all pieces that
     /// they overlap; where two bytes meet the held one stays. Bytes that touch a piece and overlap none are a piece of
     /// their own. Bytes that lie within one piece want no memory.
+    #[inline]
     pub(crate) fn insert(
         &mut self,
         offset: u64,
@@ -199,6 +203,7 @@ impl PieceStore {
     }
 
     // Takes a piece.
+    #[inline]
     fn hold(&mut self, piece: Piece) -> Result<(), OutOfMemory>
         requires { 0 < length piece.bytes }
         ensures merges { OnOk result (Merges self.old piece self.new) }
@@ -289,6 +294,9 @@ impl PieceStore {
         let mut parts = Vec::new(self.alloc);
         cut_all(received, &mut rest, &mut parts)?;
         if rest.len() == 0 {
+            if parts.is_empty() {
+                return Ok(());
+            }
             return self.hold_parts(parts, received, range);
         }
         if parts.is_empty() && self.is_behind(rest.offset()) {
@@ -299,6 +307,7 @@ impl PieceStore {
     }
 
     /// Where the first piece begins.
+    #[inline]
     pub(crate) fn first_offset(&self) -> Option<u64>
         ensures first { IfSome result (λ offset. (first : PieceView) × (rest : _) × (self.now ≡ first ∷ rest) × (offset ≡ first.offset)) }
         ensures none { IfNone result (self.now ≡ []) }

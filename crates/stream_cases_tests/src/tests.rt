@@ -2,7 +2,7 @@ use std::alloc::{AllocError, Global};
 use std::test::Fail;
 use stream_cases::{
     REFUSED, case_a, case_b, case_c, case_c2, case_d, case_e, case_e2, case_f, case_g, case_h,
-    case_i, case_j, case_z,
+    case_i, case_j, case_k, case_l, case_m, case_z,
 };
 
 // Content in which every byte is 0. So the offsets 0, 256, 512 and so on add 1, 2, 3 and so on.
@@ -27,6 +27,9 @@ fn pieces_are_seen_once(rt: HostRuntime) -> Result<(), Fail> {
     let window = 4093 * 4094 / 2;
     assert_eq!(rt; case_b(alloc, 1, &src, &perm), window);
     assert_eq!(rt; case_d(alloc, 1, &src, &perm), window + 1_047_600);
+    assert_eq!(rt; case_k(alloc, 1, &src, &perm), window);
+    // 342 offsets below the 87,300 of a window of small pieces.
+    assert_eq!(rt; case_l(alloc, 1, &src, &perm), 342 * 343 / 2);
     Ok(())
 }
 
@@ -37,6 +40,7 @@ fn a_flood_of_bytes_is_refused(rt: HostRuntime) -> Result<(), Fail> {
     // Each assembler adds the next offset, and 2^32 where it refused the last byte.
     for (inserts, answer) in [(1, 3), (1200, 2401), (2049, (1 << 32) + 4099)] {
         assert_eq!(rt; case_c(alloc, inserts, &src, &perm), answer);
+        assert_eq!(rt; case_m(alloc, inserts, &src, &perm), answer);
     }
     for (inserts, answer) in [(1, 3), (1199, (1 << 32) + 2400), (2049, (1 << 32) + 4100)] {
         assert_eq!(rt; case_c2(alloc, inserts, &src, &perm), answer);

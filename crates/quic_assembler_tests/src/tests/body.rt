@@ -4,7 +4,6 @@ ghost use Rattle.std.specs.Prelude.{◌+◌, ◌<◌, ◌≤◌, ◌^◌, length
 use quic_ordered::{Assembler, Chunk, EnsureError, HeapAssembler, InsertError};
 use quic_values::{Bytes, OutOfMemory};
 use std::alloc::Global;
-use std::test::Fail;
 
 // The calls, with nothing of what they promise: a test looks at what they answer and leave.
 pub(super) trait Body {
@@ -20,7 +19,7 @@ pub(super) trait Body {
         requires allocated { length bytes ≤ allocation_size };
 
     // Asks for a mode, and reads in it.
-    fn next(&mut self, max_length: usize, ordered: bool) -> Result<Option<Chunk>, Fail>;
+    fn next(&mut self, max_length: usize, ordered: bool) -> Result<Option<Chunk>, EnsureError>;
 
     fn ask_for(&mut self, ordered: bool) -> Result<(), EnsureError>;
 
@@ -49,7 +48,7 @@ impl Body for HeapAssembler {
         self.insert(offset, bytes, allocation_size)
     }
 
-    fn next(&mut self, max_length: usize, ordered: bool) -> Result<Option<Chunk>, Fail> {
+    fn next(&mut self, max_length: usize, ordered: bool) -> Result<Option<Chunk>, EnsureError> {
         self.ensure_ordering(ordered)?;
         Ok(self.read(max_length, ordered)?)
     }
@@ -93,7 +92,7 @@ impl Body for Assembler {
         self.insert(offset, bytes, allocation_size)
     }
 
-    fn next(&mut self, max_length: usize, ordered: bool) -> Result<Option<Chunk>, Fail> {
+    fn next(&mut self, max_length: usize, ordered: bool) -> Result<Option<Chunk>, EnsureError> {
         self.ensure_ordering(ordered)?;
         Ok(self.read(max_length, ordered)?)
     }

@@ -1,4 +1,4 @@
-use Rattle.std.proofs.Common.{arith, ◌∙◌, ap, sym, subst, ℕ, ◌≤◌, ◌+◌, List, ◌++◌, length, option_to_list, inl, inr}
+use Rattle.std.proofs.Common.{arith, ◌∙◌, ap, sym, subst, ◌+◌, List, ◌++◌, length, option_to_list, inl, inr}
 use Rattle.std.specs.List.{Any, All}
 use Rattle.quic_assembler.specs.Piece.{PieceView}
 use Rattle.quic_assembler.proofs.Counts.{Any-append}

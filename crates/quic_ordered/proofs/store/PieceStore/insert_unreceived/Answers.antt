@@ -4,7 +4,7 @@ use Rattle.std.proofs.lemmas.List.{nil_from_length}
 use Rattle.std.proofs.lemmas.List.Elements.{All-push}
 use Rattle.quic_assembler.specs.Piece.{IsSome}
 use Rattle.quic_ordered.specs.Entries.{piece_of}
-use Rattle.quic_ordered.proofs.Fresh.{fresh_all, fresh_pushed, fresh_behind, parts_all, parts_pushed, once_parts, ends_parts}
+use Rattle.quic_ordered.proofs.Fresh.{fresh_all, fresh_pushed, fresh_behind, parts_all, parts_pushed, all_received, fresh_none, once_parts, ends_parts}
 use Rattle.quic_ordered.proofs.store.PieceStore.insert_unreceived.Goals as goal
 
 on_ok : {T E A B : Type 0} (r : Result T E) → OnOk r A → (A → B) → OnOk r B
@@ -56,3 +56,15 @@ pub returns-clause-fresh : goal.returns-clause-fresh
 returns-clause-fresh c =
     let cut = rw c.new-rest.ensures at c.in_ok-cut_all.ensures.cut in
     on_ok c.hold_parts-2.result c.hold_parts-2.ensures.ok (λ p. fresh_pushed _ (piece_of c.args.offset c.args.bytes c.args.allocation_size) _ _ _ _ _ cut c.in_ok-cut_all.ensures.none (omega (arith, c.if-len-eq0.false, c.len-2.ensures.value)) c.in_ok-push.ensures.items p)
+
+pub returns-then-is_empty-clause-fresh : goal.returns-then-is_empty-clause-fresh
+returns-then-is_empty-clause-fresh c =
+    let cut = rw c.new-rest.ensures at c.in_ok-cut_all.ensures.cut in
+    let none : c.cut_all.new.fronts.items ≡ [] = nil_from_length c.cut_all.new.fronts.items (search rules) in
+    fresh_none _ (piece_of c.args.offset c.args.bytes c.args.allocation_size) _ _ _ cut c.in_ok-cut_all.ensures.none (omega (arith, c.if-len-eq0.true, c.len-2.ensures.value)) none
+
+pub returns-then-is_empty-clause-received : goal.returns-then-is_empty-clause-received
+returns-then-is_empty-clause-received c = λ n.
+    let cut = rw c.new-rest.ensures at c.in_ok-cut_all.ensures.cut in
+    let none : c.cut_all.new.fronts.items ≡ [] = nil_from_length c.cut_all.new.fronts.items (search rules) in
+    all_received _ (piece_of c.args.offset c.args.bytes c.args.allocation_size) _ _ cut c.in_ok-cut_all.ensures.none (omega (arith, c.if-len-eq0.true, c.len-2.ensures.value)) none n

@@ -131,19 +131,19 @@ returns-in-Err-CompactionMemory-clause-sound c =
     (sound_frame old new f.offset f.bytes f.fin c.in_ok-end.end c.args.received c.args.max_data c.self.invariant end (rw (← c.self.view_is) at taken) kept (search rules))
 
 pub returns-in-Ok-clause-accounts : goal.returns-in-Ok-clause-accounts
-returns-in-Ok-clause-accounts c = let e = c.in-Ok.ensures in rw (← c.self.view_is) (λ s t. record { stale = e.stale_sums; settles = e.settles })
+returns-in-Ok-clause-accounts c = let e = c.in-Ok.ensures in rw (← c.self.view_is) (λ s t. record { stale = e.stale_runs; settled = e.settled; many = e.runs })
 
 pub returns-in-Err-TooManyChunks-clause-accounts : goal.returns-in-Err-TooManyChunks-clause-accounts
 returns-in-Err-TooManyChunks-clause-accounts c =
     let e = rw c.in-Err-TooManyChunks.field-0-is at c.in-Err-TooManyChunks.ensures in
-    rw (← c.self.view_is) (λ s t. record { stale = e.stale_sums; settles = e.settles })
+    rw (← c.self.view_is) (λ s t. record { stale = e.stale_runs; settled = e.settled; many = e.runs })
 
 pub returns-in-Err-CompactionMemory-clause-accounts : goal.returns-in-Err-CompactionMemory-clause-accounts
 returns-in-Err-CompactionMemory-clause-accounts c =
     let e = rw c.in-Err-CompactionMemory.field-0-is at c.in-Err-CompactionMemory.ensures in
-    rw (← c.self.view_is) (λ s t. record { stale = e.stale_sums; settles = e.settles })
+    rw (← c.self.view_is) (λ s t. record { stale = e.stale_runs; settled = e.settled; many = e.runs })
 
 pub returns-in-Err-OutOfMemory-clause-accounts : goal.returns-in-Err-OutOfMemory-clause-accounts
 returns-in-Err-OutOfMemory-clause-accounts c =
     let e = rw c.in-Err-OutOfMemory.field-0-is at c.in-Err-OutOfMemory.ensures in
-    rw (← c.self.view_is) (λ s t. record { stale = e.stale_sums; settles = e.settles })
+    rw (← c.self.view_is) (λ s t. record { stale = e.stale_runs; settled = e.settled; many = e.runs })
