@@ -10,9 +10,9 @@ use std::alloc::Global;
 use std::test::Fail;
 
 // What the first frame of a buffer carries.
-fn sent(alloc: Global, text: &[u8]) -> Result<Vec<u8>, OutOfMemory> {
+fn sent(alloc: Global) -> Result<Vec<u8>, OutOfMemory> {
     let mut sending = SendBuffer::new(alloc);
-    sending.write(Bytes::copy_from_slice(alloc, text)?)?;
+    sending.write(Bytes::copy_from_slice(alloc, b"first path")?)?;
     let (range, _) = sending.next_transmit(100);
     let mut frame = Vec::new(alloc);
     sending.append_range(range.start..range.end, &mut frame)?;
@@ -21,7 +21,7 @@ fn sent(alloc: Global, text: &[u8]) -> Result<Vec<u8>, OutOfMemory> {
 
 #[test]
 fn what_was_written_is_sent(rt: HostRuntime) -> Result<(), Fail> {
-    assert!(&rt; sent(rt.alloc(), b"first path")?.as_slice() == b"first path".as_slice());
+    assert!(&rt; sent(rt.alloc())?.as_slice() == b"first path".as_slice());
     Ok(())
 }
 
