@@ -16,7 +16,7 @@ use Rattle.quic_assembler.proofs.Counts.{Any-here, Any-cons, Any-nil, Any-append
 use Rattle.quic_assembler.proofs.Runs.{RunHolds-cut, RunHolds-uncut, covers_from_holds, holds_from_covers}
 use Rattle.quic_assembler.proofs.Whole.{takes_nothing, below_is_done, keeps_fresh}
 use Rattle.quic_ordered.specs.Entries.{piece_of}
-use Rattle.quic_ordered.specs.Rows.{LieInOrder, LieWithGaps, HoldSame, Hold, Merges, StemsFrom, StaysApart, GivesFirst}
+use Rattle.quic_ordered.specs.Rows.{LieInOrder, LieWithGaps, HoldSame, Hold, Merges, StemsFrom, StaysApart, JoinsAll, GivesFirst}
 use Rattle.quic_ordered.specs.Assembly.{EnclosesPiece, unread, JoinsUnread, KeepsPiece, FormMoreRuns}
 use Rattle.std.proofs.lemmas.Map.Keys.{sorted_from_strictly_increasing}
 use Rattle.quic_ordered.proofs.Order.{hold_behind}
@@ -125,7 +125,7 @@ joins_none old offset bytes size mid e l =
     subst (JoinsUnread old offset bytes size) (sym e) (record {
       merges = merges_empty old.runs p (unread_none old.bytes_read offset bytes size l);
       stems = stems_all old.runs p;
-      whole = λ some. absurd (omega (arith, some, unread_none old.bytes_read offset bytes size l));
+      joined = λ some. absurd (omega (arith, some, unread_none old.bytes_read offset bytes size l));
       stays = stay_all offset (offset + length bytes) old.runs;
       within = λ h. refl;
       pieces = omega arith;
@@ -172,8 +172,8 @@ stays_wider : (offset start end : ℕ) (new rs : List PieceView) → offset ≤ 
 stays_wider offset start end new rs l h = All-weaker (StaysApart start end new) (StaysApart offset end new) (λ r s w. s (elim w [ inl a ↦ inl (omega arith) | inr b ↦ inr b ])) rs h
 
 pub keeps_joined : (old new : Reassembly) (offset : ℕ) (bytes : List ℕ) (size start end : ℕ) (p : PieceView) → p ≡ unread old.bytes_read offset bytes size → old.ordered ≡ true → new.ordered ≡ true → new.bytes_read ≡ old.bytes_read → new.highest ≡ max old.highest (offset + length bytes)
-    → offset ≤ start → end ≡ offset + length bytes → Merges old.runs p new.runs → All (StemsFrom old.runs p) new.runs → All (StaysApart start end new.runs) old.runs → (0 < length p.bytes → Any (EnclosesPiece p) new.runs) → (Any (EnclosesPiece p) old.runs → new.runs ≡ old.runs) → length new.runs ≤ length old.runs + 1 → KeepsPiece old new offset bytes size
-keeps_joined old new offset bytes size start end p is o n e h from to merges stems stays whole within pieces =
+    → offset ≤ start → end ≡ offset + length bytes → Merges old.runs p new.runs → All (StemsFrom old.runs p) new.runs → All (StaysApart start end new.runs) old.runs → (0 < length p.bytes → JoinsAll old.runs p new.runs) → (Any (EnclosesPiece p) old.runs → new.runs ≡ old.runs) → length new.runs ≤ length old.runs + 1 → KeepsPiece old new offset bytes size
+keeps_joined old new offset bytes size start end p is o n e h from to merges stems stays joined within pieces =
     let m = subst (λ (q : PieceView). Merges old.runs q new.runs) is merges in
     record {
       held = takes_joined old new offset bytes size o n e m;
@@ -182,7 +182,7 @@ keeps_joined old new offset bytes size start end p is o n e h from to merges ste
         joins = λ f. record {
           merges = m;
           stems = subst (λ (q : PieceView). All (StemsFrom old.runs q) new.runs) is stems;
-          whole = subst (λ (q : PieceView). 0 < length q.bytes → Any (EnclosesPiece q) new.runs) is whole;
+          joined = subst (λ (q : PieceView). 0 < length q.bytes → JoinsAll old.runs q new.runs) is joined;
           within = subst (λ (q : PieceView). Any (EnclosesPiece q) old.runs → new.runs ≡ old.runs) is within;
           stays = subst (λ (k : ℕ). All (StaysApart offset k new.runs) old.runs) to (stays_wider offset start end new.runs old.runs from stays);
           pieces = pieces;

@@ -6,7 +6,8 @@ use Rattle.std.proofs.lemmas.List.{length-drop, length-take, get_or-take}
 use Rattle.std.proofs.lemmas.Bool.{cases_lt, cases_eq}
 use Rattle.quic_assembler.specs.Piece.{PieceView, run_end, RunHolds, cut_at}
 use Rattle.quic_assembler.proofs.Runs.{RunHolds-cut, RunHolds-uncut}
-use Rattle.quic_ordered.specs.Entries.{piece_at, MapHolds, MapHoldsNone, IsPieceMap, IsOutside, WritesOver, SpansAll, StillHolds, IsJoining, MapTakes, MapStems, HasWhole, MapKeepsApart, IsLastPiece, GrowsTo, piece_of}
+use Rattle.quic_ordered.specs.Entries.{piece_at, MapHolds, MapHoldsNone, IsPieceMap, IsOutside, WritesOver, SpansAll, StillHolds, IsJoining, MapTakes, MapStems, HasJoined, MapKeepsApart, IsLastPiece, GrowsTo, piece_of}
+use Rattle.quic_ordered.specs.Rows.{LiesApart, Encloses}
 use Rattle.quic_ordered.proofs.Held.{some_is, none_some, place, one_byte, held_once, held, covered}
 
 -- ---- another run is taken out and written over the base
@@ -417,10 +418,15 @@ join_stems es ms ms' new base start end d memory = λ q v found.
       | inr ne ↦ inl (was_there es ms ms' new base start end q v d ne found).0
     ]
 
--- ---- what a piece does not overlap stays, and one piece has all of it
+-- ---- what a piece does not overlap stays, and one piece has all that it overlaps
 
-pub put_whole : (es' : List (ℕ × PieceView)) (new : PieceView) → piece_at es' new.offset ≡ Some new → HasWhole es' new
-put_whole es' new mine = record { start = new.offset; run = new; found = mine; from = omega arith; to = omega arith }
+pub free_apart : (es : List (ℕ × PieceView)) (new : PieceView) → IsPieceMap es → Free es new → (q : ℕ) (v : PieceView) → piece_at es q ≡ Some v → LiesApart new v
+free_apart es new m free q v found =
+    let k = m.key q v found in
+    elim (free q v found) [
+      | inl below ↦ inl (omega arith)
+      | inr above ↦ inr (omega arith)
+    ]
 
 apart_key : (es : List (ℕ × PieceView)) (new : PieceView) (q : ℕ) (v : PieceView) → IsPieceMap es → 0 < length new.bytes → piece_at es q ≡ Some v → (run_end v ≤ new.offset) ⊎ (run_end new ≤ v.offset) → q ≡ new.offset → ⊥
 apart_key es new q v m some found (inl a) same = let k = m.key q v found in let s = m.some q v found in omega arith
@@ -429,13 +435,27 @@ apart_key es new q v m some found (inr a) same = let k = m.key q v found in let 
 pub put_keeps : (es es' : List (ℕ × PieceView)) (new : PieceView) → IsPieceMap es → 0 < length new.bytes → ((x : ℕ) → (x ≡ new.offset → ⊥) → piece_at es' x ≡ piece_at es x) → MapKeepsApart es new es'
 put_keeps es es' new m some others = λ q v found apart. others q (apart_key es new q v m some found apart) ∙ found
 
-pub join_whole : (es ms ms' : List (ℕ × PieceView)) (new base : PieceView) (start end : ℕ) → Done es ms ms' new base start end → HasWhole ms' new
-join_whole es ms ms' new base start end d =
+join_each : (es ms ms' : List (ℕ × PieceView)) (new base : PieceView) (start end q : ℕ) (v : PieceView) → Done es ms ms' new base start end → piece_at es q ≡ Some v → LiesApart new v ⊎ Encloses v.offset (run_end v) base
+join_each es ms ms' new base start end q v d found =
+    let jo = d.joins.offset in
+    let je = d.joins.ends in
+    let sf = d.spans.from in
+    let k = d.apart.key q v found in
+    elim (cases_lt q start) [
+      | inl lt ↦ let b = d.spans.below q v found lt in inl (inl (omega arith))
+      | inr ge ↦ elim (cases_lt q (run_end new)) [
+        | inl inside ↦ let i = d.spans.inside q v found inside in inr (omega arith, omega arith)
+        | inr above ↦ inl (inr (omega arith))
+      ]
+    ]
+
+pub join_has : (es ms ms' : List (ℕ × PieceView)) (new base : PieceView) (start end : ℕ) → Done es ms ms' new base start end → base.allocation_size ≡ length base.bytes → HasJoined es new ms'
+join_has es ms ms' new base start end d memory =
     let jo = d.joins.offset in
     let je = d.joins.ends in
     let sf = d.spans.from in
     let st = d.spans.to in
-    record { start = start; run = base; found = d.mine; from = omega arith; to = omega arith }
+    record { start = start; run = base; found = d.mine; has = (omega arith, omega arith); each = λ q v found. join_each es ms ms' new base start end q v d found; memory = memory }
 
 join_keeps_at : (es ms ms' : List (ℕ × PieceView)) (new base : PieceView) (start end q : ℕ) (v : PieceView) → Done es ms ms' new base start end → piece_at es q ≡ Some v → (run_end v ≤ new.offset) ⊎ (run_end new ≤ v.offset) → piece_at ms' q ≡ Some v
 join_keeps_at es ms ms' new base start end q v d found (inl a) =

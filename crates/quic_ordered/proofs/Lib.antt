@@ -5,6 +5,7 @@ pub mod Ends
 pub mod Order
 pub mod Firsts
 pub mod Stores
+pub mod Joined
 pub mod Taking
 pub mod Compacting
 pub mod Places

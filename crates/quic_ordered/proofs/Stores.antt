@@ -1,6 +1,6 @@
 -- A map, and behind it a row.
 use Rattle.std.proofs.Common.{inl, inr, Some, None, ◌≡◌, ℕ, ◌+◌, ◌≤◌, ◌<◌, refl, sym, ap, subst, ◌∙◌, List, [], ◌∷◌, ◌++◌, length, arith, append_assoc}
-use Rattle.std.specs.List.{All, Any}
+use Rattle.std.specs.List.{All}
 use Rattle.std.specs.Map.{values_of, keys_of}
 use Rattle.std.specs.Ordering.{nat_cmp}
 use Rattle.std.proofs.lemmas.Map.Keys.{sorted_tail}
@@ -9,8 +9,8 @@ use Rattle.quic_assembler.proofs.Counts.{Any-here, Any-there, Any-cons, Any-nil}
 use Rattle.quic_ordered.proofs.Held.{none_some}
 use Rattle.std.proofs.lemmas.List.{length-append}
 use Rattle.quic_assembler.specs.Piece.{PieceView, run_end}
-use Rattle.quic_ordered.specs.Entries.{IsPieceMap, MapTakes, MapStems, HasWhole, MapKeepsApart, piece_at}
-use Rattle.quic_ordered.specs.Rows.{RiseByKey, LieInOrder, AreKeyed, Merges, IsStore, IsAmong, StemsFrom, StaysApart, Encloses}
+use Rattle.quic_ordered.specs.Entries.{IsPieceMap, MapTakes, MapStems, MapKeepsApart, piece_at}
+use Rattle.quic_ordered.specs.Rows.{RiseByKey, LieInOrder, AreKeyed, Merges, IsStore, IsAmong, StemsFrom, StaysApart}
 use Rattle.quic_ordered.proofs.Order.{order_behind, order_push_all, ends_by_last, keyed_push, values_push, piece_map_of, merges_map, merges_push, hold_each, keyed_of, order_of, found_head, at_head, tail_at}
 
 -- all end by where the last piece of the row ends
@@ -139,7 +139,7 @@ pushed_stems vs rs rs' p e =
     let f : vs ++ rs' ≡ (vs ++ rs) ++ p ∷ [] = ap (λ (xs : List PieceView). vs ++ xs) e ∙ sym (append_assoc vs rs (p ∷ [])) in
     subst (All (StemsFrom (vs ++ rs) p)) (sym f) (All-push (StemsFrom (vs ++ rs) p) (vs ++ rs) p (stems_all (vs ++ rs) p) (inr (inl refl)))
 
--- ---- what stays, and what has all of a new piece
+-- ---- what stays
 
 among_behind : (xs ys : List PieceView) (r : PieceView) → IsAmong ys r → IsAmong (xs ++ ys) r
 among_behind [] ys r h = h
@@ -157,44 +157,16 @@ stay_of_among offset end new rs h = All-weaker (IsAmong new) (StaysApart offset 
 pub stay_all : (offset end : ℕ) (rs : List PieceView) → All (StaysApart offset end rs) rs
 stay_all offset end rs = stay_of_among offset end rs rs (all_among [] rs)
 
-stay_values : (P : PieceView → Type 0) (es : List (ℕ × PieceView)) → RiseByKey es → ((q : ℕ) (v : PieceView) → piece_at es q ≡ Some v → P v) → All P (values_of es)
-stay_values P [] rises each = All-nil P
-stay_values P (e ∷ es) rises each =
-    All-cons P e.1 (values_of es) (each e.0 e.1 (at_head e es)) (stay_values P es (sorted_tail nat_cmp e.0 (keys_of es) rises) (λ q v found. each q v (tail_at e es q v rises found)))
+pub each_value : (P : PieceView → Type 0) (es : List (ℕ × PieceView)) → RiseByKey es → ((q : ℕ) (v : PieceView) → piece_at es q ≡ Some v → P v) → All P (values_of es)
+each_value P [] rises each = All-nil P
+each_value P (e ∷ es) rises each =
+    All-cons P e.1 (values_of es) (each e.0 e.1 (at_head e es)) (each_value P es (sorted_tail nat_cmp e.0 (keys_of es) rises) (λ q v found. each q v (tail_at e es q v rises found)))
 
 pub held_stay : (es es' : List (ℕ × PieceView)) (rs : List PieceView) (new : PieceView) → RiseByKey es → MapKeepsApart es new es' → All (StaysApart new.offset (run_end new) (values_of es' ++ rs)) (values_of es ++ rs)
 held_stay es es' rs new rises keeps =
     All-append (StaysApart new.offset (run_end new) (values_of es' ++ rs)) (values_of es) rs
-    (stay_values (StaysApart new.offset (run_end new) (values_of es' ++ rs)) es rises (λ q v found apart. among_front (values_of es') rs v (among_found es' q v (keeps q v found apart))))
+    (each_value (StaysApart new.offset (run_end new) (values_of es' ++ rs)) es rises (λ q v found apart. among_front (values_of es') rs v (among_found es' q v (keeps q v found apart))))
     (stay_of_among new.offset (run_end new) (values_of es' ++ rs) rs (all_among (values_of es') rs))
-
-pub held_whole : (es : List (ℕ × PieceView)) (rs : List PieceView) (new : PieceView) → HasWhole es new → Any (Encloses new.offset (run_end new)) (values_of es ++ rs)
-held_whole es rs new w = whole_front (values_of es) rs (Encloses new.offset (run_end new)) (whole_found es w.start w.run (Encloses new.offset (run_end new)) w.found (w.from, w.to))
-  where
-    whole_front : (xs ys : List PieceView) (P : PieceView → Type 0) → Any P xs → Any P (xs ++ ys)
-    whole_front [] ys P h = absurd (Any-nil P h)
-    whole_front (x ∷ xs) ys P h =
-        elim (Any-cons P x xs h) [
-          | inl here ↦ Any-here P x (xs ++ ys) here
-          | inr there ↦ Any-there P x (xs ++ ys) (whole_front xs ys P there)
-        ]
-
-    whole_found : (es : List (ℕ × PieceView)) (q : ℕ) (v : PieceView) (P : PieceView → Type 0) → piece_at es q ≡ Some v → P v → Any P (values_of es)
-    whole_found [] q v P found here = absurd (none_some None v refl found)
-    whole_found (e ∷ es) q v P found here =
-        elim (found_head e es q v found) [
-          | inl h ↦ Any-here P e.1 (values_of es) (subst P (sym h.1) here)
-          | inr there ↦ Any-there P e.1 (values_of es) (whole_found es q v P there here)
-        ]
-
-pub pushed_whole : (vs rs rs' : List PieceView) (p : PieceView) → rs' ≡ rs ++ p ∷ [] → Any (Encloses p.offset (run_end p)) (vs ++ rs')
-pushed_whole vs rs rs' p e =
-    let f : vs ++ rs' ≡ (vs ++ rs) ++ p ∷ [] = ap (λ (xs : List PieceView). vs ++ xs) e ∙ sym (append_assoc vs rs (p ∷ [])) in
-    subst (Any (Encloses p.offset (run_end p))) (sym f) (whole_last (vs ++ rs))
-  where
-    whole_last : (xs : List PieceView) → Any (Encloses p.offset (run_end p)) (xs ++ p ∷ [])
-    whole_last [] = Any-here (Encloses p.offset (run_end p)) p [] (omega arith, omega arith)
-    whole_last (x ∷ xs) = Any-there (Encloses p.offset (run_end p)) x (xs ++ p ∷ []) (whole_last xs)
 
 pub pushed_stay : (vs rs rs' : List PieceView) (p : PieceView) → rs' ≡ rs ++ p ∷ [] → All (StaysApart p.offset (run_end p) (vs ++ rs')) (vs ++ rs)
 pushed_stay vs rs rs' p e =

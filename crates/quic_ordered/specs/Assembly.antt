@@ -9,7 +9,7 @@ use Rattle.quic_assembler.specs.declared.errors.InsertError.TheVariants.{TooMany
 use Rattle.quic_assembler.specs.Piece.{PieceView, sums_of, cut_at, lies, run_end}
 use Rattle.quic_assembler.specs.Reassembly.{Reassembly, Holds, IsDone, is_done, IsHeld, IsAssembler, IsStale, Takes, is_wasteful, with_piece, MatchInsert}
 use Rattle.quic_ordered.specs.Entries.{piece_of}
-use Rattle.quic_ordered.specs.Rows.{LieInOrder, LieWithGaps, IsTidy, HoldSame, Merges, StemsFrom, StaysApart, Encloses}
+use Rattle.quic_ordered.specs.Rows.{LieInOrder, LieWithGaps, IsTidy, HoldSame, Merges, StemsFrom, StaysApart, Encloses, JoinsAll}
 
 -- what is true of an assembler whose pieces do not overlap: in ordered mode they lie behind what was read
 pub record IsApartAssembler (runs : List PieceView) (received : List Range) (ordered : Bool) (bytes_read : ℕ) : Type 0 where
@@ -28,7 +28,7 @@ EnclosesPiece p r = Encloses p.offset (run_end p) r
 pub record JoinsUnread (old : Reassembly) (offset : ℕ) (bytes : List ℕ) (size : ℕ) (mid : List PieceView) : Type 0 where
   pub merges : Merges old.runs (unread old.bytes_read offset bytes size) mid
   pub stems : All (StemsFrom old.runs (unread old.bytes_read offset bytes size)) mid
-  pub whole : 0 < length (unread old.bytes_read offset bytes size).bytes → Any (EnclosesPiece (unread old.bytes_read offset bytes size)) mid
+  pub joined : 0 < length (unread old.bytes_read offset bytes size).bytes → JoinsAll old.runs (unread old.bytes_read offset bytes size) mid
   pub stays : All (StaysApart offset (offset + length bytes) mid) old.runs
   pub within : Any (EnclosesPiece (unread old.bytes_read offset bytes size)) old.runs → mid ≡ old.runs
   pub pieces : length mid ≤ length old.runs + 1

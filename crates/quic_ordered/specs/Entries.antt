@@ -5,6 +5,7 @@ use Rattle.std.specs.Map.{lookup}
 use Rattle.std.specs.BTreeMap.{is_at}
 use Rattle.std.specs.Ordering.{nat_cmp}
 use Rattle.quic_assembler.specs.Piece.{PieceView, run_end, RunHolds}
+use Rattle.quic_ordered.specs.Rows.{Encloses, LiesApart, Overlaps}
 
 -- a piece of which nothing is known but where it begins, its bytes, and the memory that they keep alive
 abbrev pub piece_of : ℕ → List ℕ → ℕ → PieceView
@@ -102,13 +103,22 @@ pub record IsJoining (es : List (ℕ × PieceView)) (new : PieceView) (start end
 abbrev pub MapStems : List (ℕ × PieceView) → PieceView → List (ℕ × PieceView) → Type 0
 MapStems es new es' = (q : ℕ) (v : PieceView) → piece_at es' q ≡ Some v → (piece_at es q ≡ Some v) ⊎ ((v ≡ new) ⊎ (v.allocation_size ≡ length v.bytes))
 
--- one piece of the map has all offsets of a run
-pub record HasWhole (es : List (ℕ × PieceView)) (new : PieceView) : Type 0 where
+-- some piece of the map is so
+abbrev pub MapHas : List (ℕ × PieceView) → (PieceView → Type 0) → Type 0
+MapHas es P = (q : ℕ) × (v : PieceView) × (piece_at es q ≡ Some v) × P v
+
+-- one piece of the map has all offsets of a run, and of each that the run overlapped, in memory of its own
+pub record HasJoined (es : List (ℕ × PieceView)) (new : PieceView) (es' : List (ℕ × PieceView)) : Type 0 where
   pub start : ℕ
   pub run : PieceView
-  pub found : piece_at es start ≡ Some run
-  pub from : run.offset ≤ new.offset
-  pub to : run_end new ≤ run_end run
+  pub found : piece_at es' start ≡ Some run
+  pub has : Encloses new.offset (run_end new) run
+  pub each : (q : ℕ) (v : PieceView) → piece_at es q ≡ Some v → LiesApart new v ⊎ Encloses v.offset (run_end v) run
+  pub memory : run.allocation_size ≡ length run.bytes
+
+-- a run overlaps none of the map and stands in it afterwards, or lies within one, or one has it and all that it overlaps
+abbrev pub MapJoins : List (ℕ × PieceView) → PieceView → List (ℕ × PieceView) → Type 0
+MapJoins es new es' = (((q : ℕ) (v : PieceView) → piece_at es q ≡ Some v → LiesApart new v) × (piece_at es' new.offset ≡ Some new)) ⊎ (MapHas es (Encloses new.offset (run_end new)) ⊎ (MapHas es (Overlaps new) × HasJoined es new es'))
 
 -- each piece that a run does not overlap stays
 abbrev pub MapKeepsApart : List (ℕ × PieceView) → PieceView → List (ℕ × PieceView) → Type 0

@@ -123,6 +123,24 @@ pub record GivesFirst (most : ℕ) (rs : List PieceView) (offset : ℕ) (bytes :
 abbrev pub StemsFrom : List PieceView → PieceView → PieceView → Type 0
 StemsFrom rs new r = IsAmong rs r ⊎ ((r ≡ new) ⊎ (r.allocation_size ≡ length r.bytes))
 
+-- a piece shares no offset with another
+abbrev pub LiesApart : PieceView → PieceView → Type 0
+LiesApart new r = (run_end r ≤ new.offset) ⊎ (run_end new ≤ r.offset)
+
+-- a piece shares an offset with another
+abbrev pub Overlaps : PieceView → PieceView → Type 0
+Overlaps new r = (new.offset < run_end r) × (r.offset < run_end new)
+
+-- a piece has all offsets of a new one, and of each of rs that the new one overlaps, in memory of its own
+pub record HasAllOf (rs : List PieceView) (new p : PieceView) : Type 0 where
+  pub has : Encloses new.offset (run_end new) p
+  pub each : All (λ r. LiesApart new r ⊎ Encloses r.offset (run_end r) p) rs
+  pub memory : p.allocation_size ≡ length p.bytes
+
+-- a new piece overlaps none of rs and is one of rs', or lies within one of rs, or one of rs' has it and all that it overlaps
+abbrev pub JoinsAll : List PieceView → PieceView → List PieceView → Type 0
+JoinsAll rs new rs' = (All (LiesApart new) rs × IsAmong rs' new) ⊎ (Any (Encloses new.offset (run_end new)) rs ⊎ (Any (Overlaps new) rs × Any (HasAllOf rs new) rs'))
+
 -- a piece stays, unless it overlaps the offsets from one up to another
 abbrev pub StaysApart : ℕ → ℕ → List PieceView → PieceView → Type 0
 StaysApart offset end rs r = (run_end r ≤ offset) ⊎ (end ≤ r.offset) → IsAmong rs r

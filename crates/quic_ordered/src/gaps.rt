@@ -1,7 +1,7 @@
 // A piece that is taken into a map of pieces.
 ghost use Rattle.std.specs.Prelude.{◌≡◌, ℕ, ◌+◌, ◌-◌, ◌^◌, ◌<◌, ◌≤◌, List, ◌⊎◌, [], length, IfOk, OnOk, OnErr, IfSome, IfNone, IsTrue, Some, None, Ok};
 ghost use Rattle.quic_assembler.specs.Piece.{PieceView, run_end, RunHolds};
-ghost use Rattle.quic_ordered.specs.Entries.{piece_at, NoPieceBegins, IsPieceMap, MapHolds, MapHoldsNone, IsLastPiece, IsFirstPiece, MapTakes, MapStems, HasWhole, MapKeepsApart, SpansAll, IsJoining};
+ghost use Rattle.quic_ordered.specs.Entries.{piece_at, NoPieceBegins, IsPieceMap, MapHolds, MapHoldsNone, IsLastPiece, IsFirstPiece, MapTakes, MapStems, MapJoins, HasJoined, MapKeepsApart, SpansAll, IsJoining};
 ghost use Rattle.quic_ordered.specs.Rows.{RiseByKey};
 
 use crate::map::PieceMap;
@@ -240,7 +240,7 @@ fn join(
     ensures rises { RiseByKey pieces.new }
     ensures takes { OnOk result (MapTakes pieces.old new.now pieces.new) }
     ensures stems { OnOk result (MapStems pieces.old new.now pieces.new) }
-    ensures whole { OnOk result (HasWhole pieces.new new.now) }
+    ensures joined { OnOk result (HasJoined pieces.old new.now pieces.new) }
     ensures stays { OnOk result (MapKeepsApart pieces.old new.now pieces.new) }
     ensures apart { OnOk result (IsPieceMap pieces.new) }
     ensures pieces { length pieces.new ≤ length pieces.old + 1 }
@@ -262,7 +262,7 @@ pub(crate) fn hold(pieces: &mut PieceMap, new: Piece, alloc: Global) -> Result<(
     ensures rises { RiseByKey pieces.new }
     ensures takes { OnOk result (MapTakes pieces.old new pieces.new) }
     ensures stems { OnOk result (MapStems pieces.old new pieces.new) }
-    ensures whole { OnOk result (HasWhole pieces.new new) }
+    ensures joined { OnOk result (MapJoins pieces.old new pieces.new) }
     ensures stays { OnOk result (MapKeepsApart pieces.old new pieces.new) }
     ensures apart { IsPieceMap pieces.new }
     ensures pieces { length pieces.new ≤ length pieces.old + 1 }

@@ -4,7 +4,7 @@ ghost use Rattle.std.specs.List.{All, Any};
 ghost use Rattle.quic_values.specs.Runs.{contains};
 ghost use Rattle.quic_assembler.specs.Piece.{PieceView, run_end, run_length, run_allocation, TakesSome, cover_count, bit, lies};
 ghost use Rattle.quic_assembler.specs.Reassembly.{IfGiven, OnNothing, TakesFresh};
-ghost use Rattle.quic_ordered.specs.Rows.{FitsWords, LieInOrder, Merges, HoldSame, LieWithGaps, IsTidy, Encloses, GivesFirst, StemsFrom, StaysApart, IsKeptOrOwn, IsFronted};
+ghost use Rattle.quic_ordered.specs.Rows.{FitsWords, LieInOrder, Merges, HoldSame, LieWithGaps, IsTidy, Encloses, JoinsAll, GivesFirst, StemsFrom, StaysApart, IsKeptOrOwn, IsFronted};
 ghost use Rattle.quic_ordered.specs.Entries.{piece_of};
 
 use crate::piece::Piece;
@@ -186,7 +186,7 @@ impl OrderedPieces {
         requires { offset + length bytes < 2 ^ 62 }
         ensures merges { OnOk result (Merges self.old (piece_of offset bytes allocation_size) self.new) }
         ensures stems { OnOk result (All (StemsFrom self.old (piece_of offset bytes allocation_size)) self.new) }
-        ensures whole { OnOk result (0 < length bytes → Any (Encloses offset (offset + length bytes)) self.new) }
+        ensures joined { OnOk result (0 < length bytes → JoinsAll self.old (piece_of offset bytes allocation_size) self.new) }
         ensures stays { OnOk result (All (StaysApart offset (offset + length bytes) self.new) self.old) }
         ensures order { (low : ℕ) → low ≤ offset → LieInOrder low self.old → LieInOrder low self.new }
         ensures pieces { length self.new ≤ length self.old + 1 }

@@ -6,7 +6,7 @@ ghost use Rattle.std.specs.List.Sorted.{IsPermutation};
 ghost use Rattle.quic_values.specs.Runs.{contains, lies_in};
 ghost use Rattle.quic_assembler.specs.Piece.{PieceView, run_end, run_length, run_allocation, IsSome, cover_count, bit, lies};
 ghost use Rattle.quic_assembler.specs.Reassembly.{TakesFresh};
-ghost use Rattle.quic_ordered.specs.Rows.{FitsWords, RiseByKey, IsStore, LieInOrder, Merges, HoldSame, LieWithGaps, IsTidy, IsGathered, Encloses, StemsFrom, StaysApart, IsKeptOrOwn};
+ghost use Rattle.quic_ordered.specs.Rows.{FitsWords, RiseByKey, IsStore, LieInOrder, Merges, HoldSame, LieWithGaps, IsTidy, IsGathered, Encloses, JoinsAll, StemsFrom, StaysApart, IsKeptOrOwn};
 ghost use Rattle.quic_ordered.specs.Entries.{piece_of};
 
 use crate::gaps;
@@ -187,7 +187,7 @@ impl PieceStore {
         requires { offset + length bytes < 2 ^ 62 }
         ensures merges { OnOk result (Merges self.old (piece_of offset bytes allocation_size) self.new) }
         ensures stems { OnOk result (All (StemsFrom self.old (piece_of offset bytes allocation_size)) self.new) }
-        ensures whole { OnOk result (0 < length bytes → Any (Encloses offset (offset + length bytes)) self.new) }
+        ensures joined { OnOk result (0 < length bytes → JoinsAll self.old (piece_of offset bytes allocation_size) self.new) }
         ensures stays { OnOk result (All (StaysApart offset (offset + length bytes) self.new) self.old) }
         ensures order { (low : ℕ) → low ≤ offset → LieInOrder low self.old → LieInOrder low self.new }
         ensures pieces { length self.new ≤ length self.old + 1 }
@@ -208,7 +208,7 @@ impl PieceStore {
         requires { 0 < length piece.bytes }
         ensures merges { OnOk result (Merges self.old piece self.new) }
         ensures stems { OnOk result (All (StemsFrom self.old piece) self.new) }
-        ensures whole { OnOk result (Any (Encloses piece.offset (run_end piece)) self.new) }
+        ensures joined { OnOk result (JoinsAll self.old piece self.new) }
         ensures stays { OnOk result (All (StaysApart piece.offset (run_end piece) self.new) self.old) }
         ensures order { (low : ℕ) → low ≤ piece.offset → LieInOrder low self.old → LieInOrder low self.new }
         ensures pieces { length self.new ≤ length self.old + 1 }

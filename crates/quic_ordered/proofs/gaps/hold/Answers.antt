@@ -1,6 +1,7 @@
-use Rattle.std.proofs.Common.{subst, arith}
+use Rattle.std.proofs.Common.{subst, arith, inl, inr}
 use Rattle.quic_ordered.specs.Entries.{SpansAll}
-use Rattle.quic_ordered.proofs.Joining.{spans_of, free_of, put_takes, put_apart, put_stems, put_whole, put_keeps, within_takes}
+use Rattle.quic_ordered.proofs.Joining.{spans_of, free_of, put_takes, put_apart, put_stems, free_apart, put_keeps, within_takes}
+use Rattle.quic_ordered.proofs.Firsts.{on_ok}
 use Rattle.quic_ordered.proofs.gaps.hold.Goals as goal
 
 pub returns-then-last_end-offset-clause-takes : goal.returns-then-last_end-offset-clause-takes
@@ -39,8 +40,34 @@ join-requires-clause-spans c =
 pub returns-then-last_end-offset-clause-stems : goal.returns-then-last_end-offset-clause-stems
 returns-then-last_end-offset-clause-stems c = put_stems _ _ c.args.new c.in_ok-insert-2.ensures.here c.in_ok-insert-2.ensures.others
 
-pub returns-then-last_end-offset-clause-whole : goal.returns-then-last_end-offset-clause-whole
-returns-then-last_end-offset-clause-whole c = put_whole _ c.args.new c.in_ok-insert-2.ensures.here
+pub returns-then-last_end-offset-clause-joined : goal.returns-then-last_end-offset-clause-joined
+returns-then-last_end-offset-clause-joined c =
+    let s = c.requires.some in
+    let o = c.offset-offset.ensures.value in
+    let e = c.end-end.ensures.value in
+    let free = free_of c.args.pieces.now c.args.new c.in-Some.last c.in-Some.last_end _ c.requires.apart c.in-Some.ensures.found (omega arith) (omega arith) in
+    inl (free_apart _ c.args.new c.requires.apart free, c.in_ok-insert-2.ensures.here)
+
+-- the last piece that begins below the end has all offsets, or overlaps
+pub returns-then-end-last_end-clause-joined : goal.returns-then-end-last_end-clause-joined
+returns-then-end-last_end-clause-joined c =
+    let o = c.offset-offset.ensures.value in
+    let e = c.end-end.ensures.value in
+    let l = c.in-Some.ensures.found in
+    let k = c.requires.apart.key c.in-Some.last l.run l.found in
+    let ends = l.ends in
+    inr (inl (c.in-Some.last, l.run, l.found, (omega arith, omega arith)))
+
+pub returns-clause-joined : goal.returns-clause-joined
+returns-clause-joined c =
+    let s = c.requires.some in
+    let o = c.offset-offset.ensures.value in
+    let e = c.end-end.ensures.value in
+    let l = c.in-Some.ensures.found in
+    let k = c.requires.apart.key c.in-Some.last l.run l.found in
+    let ends = l.ends in
+    let below = l.up_to in
+    on_ok c.join.result c.join.ensures.joined (λ j. inr (inr ((c.in-Some.last, l.run, l.found, (omega arith, omega arith)), j)))
 
 pub returns-then-last_end-offset-clause-stays : goal.returns-then-last_end-offset-clause-stays
 returns-then-last_end-offset-clause-stays c = put_keeps _ _ c.args.new c.requires.apart c.requires.some c.in_ok-insert-2.ensures.others

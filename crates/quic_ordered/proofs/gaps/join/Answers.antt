@@ -1,6 +1,6 @@
 use Rattle.std.proofs.Common.{sym, subst, ◌∙◌, ◌≡◌, ℕ, Some, None}
 use Rattle.quic_ordered.specs.Entries.{piece_at}
-use Rattle.quic_ordered.proofs.Joining.{takes, stays_apart, join_stems, join_whole, join_keeps}
+use Rattle.quic_ordered.proofs.Joining.{takes, stays_apart, join_stems, join_has, join_keeps}
 use Rattle.quic_ordered.proofs.gaps.join.Goals as goal
 
 pub unreachable-requires : goal.unreachable-requires
@@ -47,10 +47,10 @@ returns-clause-stems c =
       others = λ x ne. c.in-Ok.ensures.others x (λ same. ne (same ∙ j.offset));
     }) (c.absorb.ensures.memory ∙ c.in_ok-base.ensures.memory ∙ sym c.absorb.ensures.len)
 
-pub returns-clause-whole : goal.returns-clause-whole
-returns-clause-whole c =
+pub returns-clause-joined : goal.returns-clause-joined
+returns-clause-joined c =
     let j = c.absorb.ensures.joins _ c.requires.apart c.requires.spans c.in_ok-base.ensures.joins in
-    join_whole c.args.pieces.now c.absorb.new.pieces c.insert.new.self c.args.new.now c.absorb.new.base c.args.start c.args.end (record {
+    join_has c.args.pieces.now c.absorb.new.pieces c.insert.new.self c.args.new.now c.absorb.new.base c.args.start c.args.end (record {
       apart = c.requires.apart;
       some = c.requires.some;
       spans = c.requires.spans;
@@ -58,7 +58,7 @@ returns-clause-whole c =
       none = c.absorb.ensures.none;
       mine = subst (λ (k : ℕ). piece_at c.insert.new.self k ≡ Some c.absorb.new.base) j.offset c.in-Ok.ensures.here;
       others = λ x ne. c.in-Ok.ensures.others x (λ same. ne (same ∙ j.offset));
-    })
+    }) (c.absorb.ensures.memory ∙ c.in_ok-base.ensures.memory ∙ sym c.absorb.ensures.len)
 
 pub returns-clause-stays : goal.returns-clause-stays
 returns-clause-stays c =

@@ -22,4 +22,4 @@ returns-clause-ok c =
     let mode = rw (← c.self.view_is) at c.requires.mode in
     let is = unread_is c.self.inside.bytes_read c.args.offset c.max-start.result c.args.bytes c.advance.new.self c.args.allocation_size (omega arith) (rw c.advance.ensures refl) in
     let len : length c.advance.new.self ≡ length c.args.bytes - (c.max-start.result - c.args.offset) = ap length c.advance.ensures ∙ length-drop (c.max-start.result - c.args.offset) c.args.bytes in
-    rw (← c.self.view_is) (keeps_joined _ _ _ _ _ c.max-start.result _ _ is mode mode refl (omega arith) (omega arith) (omega (arith, len)) c.in_ok-insert.ensures.merges c.in_ok-insert.ensures.stems c.in_ok-insert.ensures.stays c.in_ok-insert.ensures.whole (λ h. (c.in_ok-insert.ensures.within h).1) c.in_ok-insert.ensures.pieces)
+    rw (← c.self.view_is) (keeps_joined _ _ _ _ _ c.max-start.result _ _ is mode mode refl (omega arith) (omega arith) (omega (arith, len)) c.in_ok-insert.ensures.merges c.in_ok-insert.ensures.stems c.in_ok-insert.ensures.stays c.in_ok-insert.ensures.joined (λ h. (c.in_ok-insert.ensures.within h).1) c.in_ok-insert.ensures.pieces)

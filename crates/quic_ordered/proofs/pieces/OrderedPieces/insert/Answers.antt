@@ -3,10 +3,11 @@ use Rattle.std.specs.List.{Any, All}
 use Rattle.quic_assembler.specs.Piece.{PieceView}
 use Rattle.quic_assembler.proofs.Counts.{Any-append}
 use Rattle.quic_ordered.specs.Entries.{piece_of}
-use Rattle.quic_ordered.specs.Rows.{LieInOrder, Merges, StemsFrom, StaysApart, Encloses}
+use Rattle.quic_ordered.specs.Rows.{LieInOrder, Merges, StemsFrom, StaysApart, Encloses, JoinsAll}
 use Rattle.quic_ordered.proofs.Firsts.{on_ok}
 use Rattle.quic_ordered.proofs.Fronts.{front_merges, front_stems, front_stays, front_order, front_clear, ok_or_err}
-use Rattle.quic_ordered.proofs.Places.{merges_enclosed, merges_empty, any_front, any_behind}
+use Rattle.quic_ordered.proofs.Joined.{front_joins}
+use Rattle.quic_ordered.proofs.Places.{merges_enclosed, merges_empty, any_front}
 use Rattle.quic_ordered.proofs.pieces.OrderedPieces.insert.Goals as goal
 use Rattle.quic_ordered.proofs.pieces.OrderedPieces.insert.Goals.{then-end-offset-via-then-end-offset, then-end-offset-via-else-end-offset+then-has_all}
 
@@ -48,9 +49,12 @@ returns-clause-stems c =
     let e = c.in_ok-make_way.ensures.same ∙ c.self.view_is in
     on_ok c.insert.result c.insert.ensures.stems (λ m. subst (λ (xs : List PieceView). All (StemsFrom xs new) (fs ++ c.insert.new.self)) e (front_stems fs c.make_way.new.rest c.insert.new.self new m))
 
-pub returns-clause-whole : goal.returns-clause-whole
-returns-clause-whole c =
-    on_ok c.insert.result c.insert.ensures.whole (λ w some. any_behind (Encloses c.args.offset (c.args.offset + length c.args.bytes)) (option_to_list c.make_way.new.first) c.insert.new.self (w some))
+pub returns-clause-joined : goal.returns-clause-joined
+returns-clause-joined c =
+    let fs = option_to_list c.make_way.new.first in
+    let new = piece_of c.args.offset c.args.bytes c.args.allocation_size in
+    let e = c.in_ok-make_way.ensures.same ∙ c.self.view_is in
+    on_ok c.insert.result c.insert.ensures.joined (λ j some. subst (λ (xs : List PieceView). JoinsAll xs new (fs ++ c.insert.new.self)) e (front_joins fs c.make_way.new.rest c.insert.new.self new c.in_ok-make_way.ensures.clear (j some)))
 
 pub returns-clause-stays : goal.returns-clause-stays
 returns-clause-stays c =

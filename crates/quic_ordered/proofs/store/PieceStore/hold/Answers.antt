@@ -1,9 +1,10 @@
 use Rattle.std.specs.Map.{values_of}
-use Rattle.std.proofs.Common.{◌∙◌, ap, sym, subst, List, ℕ, ◌≡◌, ◌++◌, refl}
+use Rattle.std.proofs.Common.{◌∙◌, ap, sym, subst, List, ℕ, ◌≡◌, ◌++◌, refl, inl, inr}
 use Rattle.std.specs.Prelude.{Some}
 use Rattle.quic_assembler.specs.Piece.{PieceView, run_end}
 use Rattle.quic_ordered.specs.Entries.{piece_at}
-use Rattle.quic_ordered.proofs.Stores.{pushed, pushed_merges, order_pushed, held_store, held_merges, order_held, map_of_store, pushed_stems, held_stems, pushed_whole, pushed_stay, held_whole, held_stay}
+use Rattle.quic_ordered.proofs.Stores.{pushed, pushed_merges, order_pushed, held_store, held_merges, order_held, map_of_store, pushed_stems, held_stems, pushed_stay, held_stay}
+use Rattle.quic_ordered.proofs.Joined.{pushed_joins, held_joins}
 use Rattle.quic_ordered.proofs.Order.{order_behind}
 use Rattle.quic_ordered.proofs.Places.{encloses_row, enclosed_map, merges_enclosed}
 use Rattle.quic_ordered.proofs.Fronts.{ok_or_err}
@@ -48,14 +49,18 @@ pub returns-clause-stems : goal.returns-clause-stems
 returns-clause-stems c =
     rw (← c.self.view_is, ← c.in_ok-clear_way.ensures.same) (held_stems c.clear_way.new.gaps c.hold.new.pieces c.clear_way.new.row.runs c.args.piece c.in_ok-hold.ensures.rises c.in_ok-hold.ensures.stems)
 
-pub returns-then-is_behind-clause-whole : goal.returns-then-is_behind-clause-whole
-returns-then-is_behind-clause-whole c = pushed_whole (values_of c.self.inside.gaps) _ _ c.args.piece c.in_ok-push_back.ensures.ok
+pub returns-then-is_behind-clause-joined : goal.returns-then-is_behind-clause-joined
+returns-then-is_behind-clause-joined c =
+    let ends = rw (← c.self.view_is, c.offset.ensures.value) at (c.is_behind.ensures c.if-is_behind.true) in
+    rw (← c.self.view_is) (pushed_joins (values_of c.self.inside.gaps) _ _ c.args.piece c.in_ok-push_back.ensures.ok ends)
 
 pub returns-then-is_behind-clause-stays : goal.returns-then-is_behind-clause-stays
 returns-then-is_behind-clause-stays c = rw (← c.self.view_is) (pushed_stay (values_of c.self.inside.gaps) _ _ c.args.piece c.in_ok-push_back.ensures.ok)
 
-pub returns-clause-whole : goal.returns-clause-whole
-returns-clause-whole c = held_whole c.hold.new.pieces c.clear_way.new.row.runs c.args.piece c.in_ok-hold.ensures.whole
+pub returns-clause-joined : goal.returns-clause-joined
+returns-clause-joined c =
+    rw (← c.self.view_is, ← c.in_ok-clear_way.ensures.same)
+    (held_joins c.clear_way.new.gaps c.hold.new.pieces c.clear_way.new.row.runs c.args.piece c.in_ok-clear_way.ensures.store.rises (rw c.end-2.ensures.value at c.in_ok-clear_way.ensures.clear) c.in_ok-hold.ensures.joined)
 
 pub returns-clause-stays : goal.returns-clause-stays
 returns-clause-stays c =
@@ -69,10 +74,10 @@ returns-then-encloses-clause-merges c =
     let any = rw (c.offset-2.ensures.value, c.end.ensures.value) at (c.encloses.ensures.yes c.if-encloses.true) in
     rw (← c.self.view_is) (merges_enclosed _ c.args.piece (encloses_row c.self.inside.gaps c.self.inside.row.runs c.args.piece.offset (run_end c.args.piece) any))
 
-pub returns-then-encloses-clause-whole : goal.returns-then-encloses-clause-whole
-returns-then-encloses-clause-whole c =
+pub returns-then-encloses-clause-joined : goal.returns-then-encloses-clause-joined
+returns-then-encloses-clause-joined c =
     let any = rw (c.offset-2.ensures.value, c.end.ensures.value) at (c.encloses.ensures.yes c.if-encloses.true) in
-    rw (← c.self.view_is) (encloses_row c.self.inside.gaps c.self.inside.row.runs c.args.piece.offset (run_end c.args.piece) any)
+    rw (← c.self.view_is) (inr (inl (encloses_row c.self.inside.gaps c.self.inside.row.runs c.args.piece.offset (run_end c.args.piece) any)))
 
 -- what lies within a piece of the map wants no memory
 pub returns-in_err-clear_way-clause-within : goal.returns-in_err-clear_way-clause-within

@@ -12,5 +12,5 @@ weaker : {T E A B : Type 0} (r : Result T E) → OnOk r A → (A → B) → OnOk
 weaker (Ok x) h f = f h
 weaker (Err e) h f = tt
 
-pub returns-clause-whole : goal.returns-clause-whole
-returns-clause-whole c = weaker c.hold.result c.hold.ensures.whole (λ h some. rw c.new.ensures at h)
+pub returns-clause-joined : goal.returns-clause-joined
+returns-clause-joined c = weaker c.hold.result c.hold.ensures.joined (λ h some. rw c.new.ensures at h)
