@@ -16,7 +16,7 @@ use Rattle.quic_assembler.proofs.Counts.{Any-here, Any-cons, Any-nil, Any-append
 use Rattle.quic_assembler.proofs.Runs.{RunHolds-cut, RunHolds-uncut, covers_from_holds, holds_from_covers}
 use Rattle.quic_assembler.proofs.Whole.{takes_nothing, below_is_done, keeps_fresh}
 use Rattle.quic_ordered.specs.Entries.{piece_of}
-use Rattle.quic_ordered.specs.Rows.{LieInOrder, LieWithGaps, HoldSame, Hold, Merges, StemsFrom, StaysApart, JoinsAll, GivesFirst}
+use Rattle.quic_ordered.specs.Rows.{AddsOnly, LieInOrder, LieWithGaps, HoldSame, Hold, Merges, StemsFrom, StaysApart, JoinsAll, GivesFirst}
 use Rattle.quic_ordered.specs.Assembly.{EnclosesPiece, unread, JoinsUnread, KeepsPiece, FormMoreRuns}
 use Rattle.std.proofs.lemmas.Map.Keys.{sorted_from_strictly_increasing}
 use Rattle.quic_ordered.proofs.Order.{hold_behind}
@@ -136,7 +136,7 @@ pub keeps_none : (old new : Reassembly) (offset : ℕ) (bytes : List ℕ) (size 
 keeps_none old new offset bytes size o n e r h l = record {
   held = takes_nothing old new offset bytes r (rw (o, n) e) (λ at w. below_is_done old at o (omega (arith, w.0, w.1)));
   done = λ at f. absurd (true_not_false old.ordered o f);
-  added = record { joins = λ f. joins_none old offset bytes size new.runs r l; sums = λ f. absurd (true_not_false old.ordered o f) };
+  added = record { joins = λ f. joins_none old offset bytes size new.runs r l; sums = λ f. absurd (true_not_false old.ordered o f); adds = λ f. absurd (true_not_false old.ordered o f) };
   highest = h;
   bytes_read = e;
   ordered = n ∙ sym o;
@@ -188,6 +188,7 @@ keeps_joined old new offset bytes size start end p is o n e h from to merges ste
           pieces = pieces;
         };
         sums = λ f. absurd (true_not_false old.ordered o f);
+        adds = λ f. absurd (true_not_false old.ordered o f);
       };
       highest = h;
       bytes_read = e;
@@ -197,13 +198,13 @@ keeps_joined old new offset bytes size start end p is o n e h from to merges ste
 -- ---- a piece in unordered mode
 
 pub keeps_unreceived : (old new : Reassembly) (offset : ℕ) (bytes : List ℕ) (size : ℕ) → old.ordered ≡ false → new.ordered ≡ old.ordered → new.bytes_read ≡ old.bytes_read → new.highest ≡ max old.highest (offset + length bytes)
-    → TakesFresh old.received (piece_of offset bytes size) old.runs new.runs → ((at : ℕ) → contains new.received at ≡ (contains old.received at || lies offset (offset + length bytes) at)) → KeepsPiece old new offset bytes size
-keeps_unreceived old new offset bytes size o n e h t c =
+    → TakesFresh old.received (piece_of offset bytes size) old.runs new.runs → ((at : ℕ) → contains new.received at ≡ (contains old.received at || lies offset (offset + length bytes) at)) → AddsOnly size old.runs new.runs → KeepsPiece old new offset bytes size
+keeps_unreceived old new offset bytes size o n e h t c adds =
     let k = keeps_fresh old new (piece_of offset bytes size) o n e h t c in
     record {
       held = k.held;
       done = k.done;
-      added = record { joins = λ f. absurd (true_not_false old.ordered f o); sums = λ f. k.sums };
+      added = record { joins = λ f. absurd (true_not_false old.ordered f o); sums = λ f. k.sums; adds = λ f. adds };
       highest = h;
       bytes_read = e;
       ordered = n;

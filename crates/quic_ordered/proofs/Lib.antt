@@ -11,5 +11,6 @@ pub mod Compacting
 pub mod Places
 pub mod Placed
 pub mod Fresh
+pub mod Added
 pub mod Assembling
 pub mod Fronts

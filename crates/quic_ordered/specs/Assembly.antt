@@ -9,7 +9,7 @@ use Rattle.quic_assembler.specs.declared.errors.InsertError.TheVariants.{TooMany
 use Rattle.quic_assembler.specs.Piece.{PieceView, sums_of, cut_at, lies, run_end}
 use Rattle.quic_assembler.specs.Reassembly.{Reassembly, Holds, IsDone, is_done, IsHeld, IsAssembler, IsStale, Takes, is_wasteful, with_piece, MatchInsert}
 use Rattle.quic_ordered.specs.Entries.{piece_of}
-use Rattle.quic_ordered.specs.Rows.{LieInOrder, LieWithGaps, IsTidy, HoldSame, Merges, StemsFrom, StaysApart, Encloses, JoinsAll}
+use Rattle.quic_ordered.specs.Rows.{LieInOrder, LieWithGaps, IsTidy, HoldSame, Merges, StemsFrom, StaysApart, Encloses, JoinsAll, AddsOnly}
 
 -- what is true of an assembler whose pieces do not overlap: in ordered mode they lie behind what was read
 pub record IsApartAssembler (runs : List PieceView) (received : List Range) (ordered : Bool) (bytes_read : ℕ) : Type 0 where
@@ -37,6 +37,7 @@ pub record JoinsUnread (old : Reassembly) (offset : ℕ) (bytes : List ℕ) (siz
 pub record AddsPiece (old : Reassembly) (offset : ℕ) (bytes : List ℕ) (size : ℕ) (mid : List PieceView) : Type 0 where
   pub joins : old.ordered ≡ true → JoinsUnread old offset bytes size mid
   pub sums : old.ordered ≡ false → sums_of mid ≡ with_piece old offset bytes size
+  pub adds : old.ordered ≡ false → AddsOnly size old.runs mid
 
 -- a piece was kept
 pub record KeepsPiece (old new : Reassembly) (offset : ℕ) (bytes : List ℕ) (size : ℕ) : Type 0 where

@@ -4,7 +4,7 @@ use Rattle.std.specs.List.{Any, All}
 use Rattle.std.specs.Map.{keys_of, values_of}
 use Rattle.std.specs.Ordering.{nat_cmp}
 use Rattle.std.specs.List.Sorted.{IsStrictlySortedBy}
-use Rattle.quic_assembler.specs.Piece.{PieceView, RunHolds, run_end, run_length, run_allocation, left_of}
+use Rattle.quic_assembler.specs.Piece.{PieceView, KeepsAlive, RunHolds, run_end, run_length, run_allocation, left_of}
 
 -- pieces in a row, and how many there is room for
 pub record Row : Type 0 where
@@ -144,3 +144,8 @@ JoinsAll rs new rs' = (All (LiesApart new) rs × IsAmong rs' new) ⊎ (Any (Encl
 -- a piece stays, unless it overlaps the offsets from one up to another
 abbrev pub StaysApart : ℕ → ℕ → List PieceView → PieceView → Type 0
 StaysApart offset end rs r = (run_end r ≤ offset) ⊎ (end ≤ r.offset) → IsAmong rs r
+
+-- pieces were added to rs, each of which keeps so much memory alive; all others stay as they were
+pub record AddsOnly (size : ℕ) (rs rs' : List PieceView) : Type 0 where
+  pub stay : All (IsAmong rs') rs
+  pub alive : All (λ r. IsAmong rs r ⊎ KeepsAlive size r) rs'

@@ -4,7 +4,7 @@ ghost use Rattle.std.specs.List.{All, Any};
 ghost use Rattle.quic_values.specs.Runs.{contains};
 ghost use Rattle.quic_assembler.specs.Piece.{PieceView, run_end, run_length, run_allocation, TakesSome, cover_count, bit, lies};
 ghost use Rattle.quic_assembler.specs.Reassembly.{IfGiven, OnNothing, TakesFresh};
-ghost use Rattle.quic_ordered.specs.Rows.{FitsWords, LieInOrder, Merges, HoldSame, LieWithGaps, IsTidy, Encloses, JoinsAll, GivesFirst, StemsFrom, StaysApart, IsKeptOrOwn, IsFronted};
+ghost use Rattle.quic_ordered.specs.Rows.{FitsWords, LieInOrder, Merges, HoldSame, LieWithGaps, IsTidy, Encloses, JoinsAll, AddsOnly, GivesFirst, StemsFrom, StaysApart, IsKeptOrOwn, IsFronted};
 ghost use Rattle.quic_ordered.specs.Entries.{piece_of};
 
 use crate::piece::Piece;
@@ -215,6 +215,7 @@ impl OrderedPieces {
         requires fits { offset + length bytes < 2 ^ 62 }
         requires once { (at : ℕ) → cover_count at self.old ≤ bit (contains received.old at) }
         ensures fresh { OnOk result (TakesFresh received.old (piece_of offset bytes allocation_size) self.old self.new) }
+        ensures adds { OnOk result (AddsOnly allocation_size self.old self.new) }
         ensures received { OnOk result ((n : ℕ) → contains received.new n ≡ (contains received.old n || lies offset (offset + length bytes) n)) }
         ensures err { OnErr result (self.new ≡ self.old) }
         ensures err_received { OnErr result (received.new ≡ received.old) }

@@ -6,7 +6,7 @@ ghost use Rattle.std.specs.List.Sorted.{IsPermutation};
 ghost use Rattle.quic_values.specs.Runs.{contains, lies_in};
 ghost use Rattle.quic_assembler.specs.Piece.{PieceView, run_end, run_length, run_allocation, IsSome, cover_count, bit, lies};
 ghost use Rattle.quic_assembler.specs.Reassembly.{TakesFresh};
-ghost use Rattle.quic_ordered.specs.Rows.{FitsWords, RiseByKey, IsStore, LieInOrder, Merges, HoldSame, LieWithGaps, IsTidy, IsGathered, Encloses, JoinsAll, StemsFrom, StaysApart, IsKeptOrOwn};
+ghost use Rattle.quic_ordered.specs.Rows.{FitsWords, RiseByKey, IsStore, LieInOrder, Merges, HoldSame, LieWithGaps, IsTidy, IsGathered, Encloses, JoinsAll, AddsOnly, StemsFrom, StaysApart, IsKeptOrOwn};
 ghost use Rattle.quic_ordered.specs.Entries.{piece_of};
 
 use crate::gaps;
@@ -285,6 +285,7 @@ impl PieceStore {
         requires fits { offset + length bytes < 2 ^ 62 }
         requires once { (at : ℕ) → cover_count at self.old ≤ bit (contains received.old at) }
         ensures fresh { OnOk result (TakesFresh received.old (piece_of offset bytes allocation_size) self.old self.new) }
+        ensures adds { OnOk result (AddsOnly allocation_size self.old self.new) }
         ensures received { OnOk result ((n : ℕ) → contains received.new n ≡ (contains received.old n || lies offset (offset + length bytes) n)) }
         ensures err { OnErr result (self.new ≡ self.old) }
         ensures err_received { OnErr result (received.new ≡ received.old) }

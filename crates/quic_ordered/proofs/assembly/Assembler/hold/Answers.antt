@@ -5,7 +5,7 @@ use Rattle.quic_ordered.proofs.Assembling.{keeps_unreceived, true_not_false}
 use Rattle.quic_ordered.proofs.assembly.Assembler.hold.Goals as goal
 
 pub returns-clause-ok : goal.returns-clause-ok
-returns-clause-ok c = rw (← c.self.view_is) (keeps_unreceived _ _ _ _ _ c.if-self.false refl refl (omega arith) c.in_ok-insert_unreceived.ensures.fresh c.in_ok-insert_unreceived.ensures.received)
+returns-clause-ok c = rw (← c.self.view_is) (keeps_unreceived _ _ _ _ _ c.if-self.false refl refl (omega arith) c.in_ok-insert_unreceived.ensures.fresh c.in_ok-insert_unreceived.ensures.received c.in_ok-insert_unreceived.ensures.adds)
 
 pub invariant_of-self-2 : goal.invariant_of-self-2
 invariant_of-self-2 c = record {
