@@ -11,8 +11,23 @@ use quic_streams::{PeerLimits, Retransmits};
 use quic_values::{Bytes, Dir, OutOfMemory, Side, StreamId, VarInt};
 use quic_wire::{ReceiveError, TransportError, frame};
 use std::alloc::Global;
+use std::fmt::Debug;
 use std::process::Abort;
 use std::test::Fail;
+
+// Both are the same, or the test fails and shows them.
+fn same<T: PartialEq + Debug + Drop>(rt: &impl Abort, found: T, wanted: T) {
+    assert_eq!(rt; found, wanted);
+}
+
+// The same of a case, which is shown too.
+fn same_for<C: Debug, T: PartialEq + Debug + Drop>(rt: &impl Abort, case: &C, found: T, wanted: T) {
+    assert_eq!(rt; found, wanted, "{case:?}");
+}
+
+fn is_true_for<C: Debug>(rt: &impl Abort, case: &C, holds: bool) {
+    assert!(rt; holds, "{case:?}");
+}
 
 // What a frame came to.
 #[derive(Clone, Copy, Debug, PartialEq, Eq)]
@@ -287,8 +302,8 @@ fn read(
     for chunk in &some.chunks {
         given.extend_from_slice(chunk.bytes.as_slice())?;
     }
-    assert_eq!(rt; given.as_slice(), bytes, "{stream}");
-    assert_eq!(rt; last_of(some.last), last, "{stream}");
+    same_for(rt, &stream, given.as_slice(), bytes);
+    same_for(rt, &stream, last_of(some.last), last);
     Ok(())
 }
 
@@ -302,9 +317,9 @@ fn take(
 ) -> Result<(), Fail> {
     let before = ask_all(alloc, subject)?;
     if let Some((answer, wanted)) = hand_in(alloc, subject, step)? {
-        assert_eq!(rt; answer, wanted, "{step:?}");
+        same_for(rt, &step, answer, wanted);
         if is_idle | leaves_all(answer) {
-            assert!(rt; ask_all(alloc, subject)? == before, "{step:?}");
+            is_true_for(rt, &step, ask_all(alloc, subject)? == before);
         }
         return Ok(());
     }
@@ -313,7 +328,7 @@ fn take(
             read(rt, alloc, subject, stream, times, bytes, last)
         }
         Step::Counted(count) => {
-            assert_eq!(rt; subject.state.data_recvd(), count);
+            same(rt, subject.state.data_recvd(), count);
             Ok(())
         }
         _ => Ok(()),
@@ -415,7 +430,7 @@ fn too_many_pieces_are_kept_and_counted(rt: HostRuntime) -> Result<(), Fail> {
     let mut subject = wide_client(alloc)?;
     for index in 0..2048u64 {
         let answer = receive(alloc, &mut subject, 3, 1 + 4 * index, b"gap", false)?;
-        assert_eq!(&rt; answer, TAKEN, "piece {index}");
+        same_for(&rt, &index, answer, TAKEN);
     }
     run(&rt, alloc, &mut subject, &CROWDED)
 }
@@ -520,12 +535,12 @@ fn permit(state: &mut StreamsState) {
 fn write(rt: &impl Abort, subject: &mut Subject) -> Result<(), Fail> {
     for (dir, stream) in [(Dir::Uni, 2), (Dir::Bi, 0)] {
         let opened = Streams::new(&mut subject.state, ConnState::Open).open(dir)?;
-        assert_eq!(rt; opened, Some(id(stream)));
+        same(rt, opened, Some(id(stream)));
     }
     let (state, pending) = (&mut subject.state, &mut subject.pending);
     let mut half = SendStream::new(id(2), state, pending, ConnState::Open);
-    assert_eq!(rt; half.write(ELEVEN), Ok(10));
-    assert_eq!(rt; half.write(FIVE), Err(WriteError::Blocked));
+    same(rt, half.write(ELEVEN), Ok(10));
+    same(rt, half.write(FIVE), Err(WriteError::Blocked));
     Ok(())
 }
 
@@ -540,7 +555,7 @@ fn busy_client(rt: &impl Abort, alloc: Global) -> Result<Subject, Fail> {
     for _ in 0..20u32 {
         let _ = subject.state.poll();
     }
-    assert_eq!(rt; subject.state.poll(), None);
+    same(rt, subject.state.poll(), None);
     Ok(subject)
 }
 
@@ -552,6 +567,6 @@ fn a_refused_frame_changes_nothing(rt: HostRuntime) -> Result<(), Fail> {
     for step in &IDLE {
         take(&rt, alloc, &mut subject, *step, true)?;
     }
-    assert_eq!(&rt; subject.state.poll(), None);
+    same(&rt, subject.state.poll(), None);
     run(&rt, alloc, &mut subject, &AFTERWARDS)
 }

@@ -3,6 +3,7 @@ ghost use Rattle.std.specs.Prelude.{◌≡◌, IfOk};
 use quic_ordered::{Assembler, Chunk, EnsureError, HeapAssembler, InsertError};
 use quic_values::{Bytes, OutOfMemory};
 use std::alloc::Global;
+use std::fmt::Debug;
 use std::process::Abort;
 use std::test::Fail;
 
@@ -15,6 +16,20 @@ mod steps;
 mod worked;
 
 use body::Body;
+
+// Both are the same, or the test fails and shows them.
+fn same<T: PartialEq + Debug + Drop>(rt: &impl Abort, found: T, wanted: T) {
+    assert_eq!(rt; found, wanted);
+}
+
+// The same of a case, which is shown too.
+fn same_for<C: Debug, T: PartialEq + Debug + Drop>(rt: &impl Abort, case: &C, found: T, wanted: T) {
+    assert_eq!(rt; found, wanted, "{case:?}");
+}
+
+fn is_true(rt: &impl Abort, holds: bool) {
+    assert!(rt; holds);
+}
 
 // A call on an assembler, and what it has to come to.
 #[derive(Clone, Copy, Debug)]
@@ -63,20 +78,23 @@ fn insert<B: Body + Drop>(
     bytes: &[u8],
     allocation_size: usize,
 ) -> Result<Result<(), InsertError>, OutOfMemory> {
-    assert!(rt; offset < 1 << 61 && bytes.len() < 1 << 61 && bytes.len() <= allocation_size);
+    is_true(
+        rt,
+        offset < 1 << 61 && bytes.len() < 1 << 61 && bytes.len() <= allocation_size,
+    );
     let pieces = a.held();
     let read = a.bytes_given();
     let first = piece(alloc, bytes)?;
     let answer = a.take_piece(offset, first, allocation_size);
-    assert_eq!(rt; a.bytes_given(), read);
+    same(rt, a.bytes_given(), read);
     match answer {
         Err(InsertError::OutOfMemory) => {
-            assert_eq!(rt; a.held(), pieces);
+            same(rt, a.held(), pieces);
             let second = piece(alloc, bytes)?;
             Ok(a.take_piece(offset, second, allocation_size))
         }
         Err(InsertError::CompactionMemory) => {
-            assert!(rt; a.held() > 0);
+            is_true(rt, a.held() > 0);
             Ok(Ok(()))
         }
         _ => Ok(answer),
@@ -92,7 +110,7 @@ fn fill<B: Body + Drop>(
     allocation_size: usize,
 ) -> Result<Result<(), InsertError>, OutOfMemory> {
     let (start, gap, count) = places;
-    assert!(rt; start < 1 << 30 && gap < 1 << 10 && count < 1 << 20);
+    is_true(rt, start < 1 << 30 && gap < 1 << 10 && count < 1 << 20);
     for i in 0..count {
         let offset = start + gap * i;
         let answer = insert(rt, a, alloc, offset, text.as_bytes(), allocation_size)?;
@@ -122,8 +140,8 @@ fn expect_chunk(
     text: &str,
 ) -> Result<(), Fail> {
     let chunk = given.ok_or("nothing was given")?;
-    assert_eq!(rt; chunk.offset, offset);
-    assert_eq!(rt; chunk.bytes.as_slice(), text.as_bytes());
+    same(rt, chunk.offset, offset);
+    same(rt, chunk.bytes.as_slice(), text.as_bytes());
     Ok(())
 }
 
@@ -133,7 +151,7 @@ fn compact<B: Body + Drop>(rt: &impl Abort, a: &mut B) -> Result<(), OutOfMemory
     match a.compact() {
         Ok(()) => Ok(()),
         Err(_) => {
-            assert!(rt; a.held() <= pieces);
+            is_true(rt, a.held() <= pieces);
             a.compact()
         }
     }
@@ -145,8 +163,8 @@ fn leave_order<B: Body + Drop>(rt: &impl Abort, a: &mut B) -> Result<(), EnsureE
     match a.ask_for(false) {
         Ok(()) => Ok(()),
         Err(_) => {
-            assert_eq!(rt; a.bytes_given(), read);
-            assert_eq!(rt; a.ask_for(true), Ok(()));
+            same(rt, a.bytes_given(), read);
+            same(rt, a.ask_for(true), Ok(()));
             a.ask_for(false)
         }
     }
@@ -156,15 +174,15 @@ fn take<B: Body + Drop>(rt: &impl Abort, a: &mut B, alloc: Global, step: Step) -
     match step {
         Step::Put(offset, text) => {
             let answer = insert(rt, a, alloc, offset, text.as_bytes(), text.len())?;
-            assert_eq!(rt; answer, Ok(()), "at {offset}");
+            same_for(rt, &offset, answer, Ok(()));
         }
         Step::Insert(offset, text, allocation_size, wanted) => {
             let answer = insert(rt, a, alloc, offset, text.as_bytes(), allocation_size)?;
-            assert_eq!(rt; answer, wanted, "at {offset}");
+            same_for(rt, &offset, answer, wanted);
         }
         Step::Fill(start, gap, count, text, allocation_size, wanted) => {
             let answer = fill(rt, a, alloc, (start, gap, count), text, allocation_size)?;
-            assert_eq!(rt; answer, wanted, "from {start}");
+            same_for(rt, &start, answer, wanted);
         }
         Step::Compact => compact(rt, a)?,
         Step::Unordered => leave_order(rt, a)?,
@@ -177,16 +195,16 @@ fn ask<B: Body + Drop>(rt: &impl Abort, a: &mut B, step: Step) -> Result<(), Fai
     match step {
         Step::Part(most, offset, text) => expect_chunk(rt, read(a, most, true)?, offset, text)?,
         Step::Next(offset, text) => expect_chunk(rt, read(a, usize::MAX, true)?, offset, text)?,
-        Step::NoNext => assert!(rt; read(a, usize::MAX, true)?.is_none()),
+        Step::NoNext => is_true(rt, read(a, usize::MAX, true)?.is_none()),
         Step::Some(most, offset, text) => expect_chunk(rt, read(a, most, false)?, offset, text)?,
         Step::Any(offset, text) => expect_chunk(rt, read(a, usize::MAX, false)?, offset, text)?,
-        Step::NoAny => assert!(rt; read(a, usize::MAX, false)?.is_none()),
+        Step::NoAny => is_true(rt, read(a, usize::MAX, false)?.is_none()),
         Step::OrderedAgain => {
-            assert_eq!(rt; a.ask_for(true), Err(EnsureError::IllegalOrderedRead));
+            same(rt, a.ask_for(true), Err(EnsureError::IllegalOrderedRead));
         }
         Step::Clear => a.let_go(),
         Step::Reinit => a.begin_again(),
-        Step::Is(pieces, read) => assert_eq!(rt; (a.held(), a.bytes_given()), (pieces, read)),
+        Step::Is(pieces, read) => same(rt, (a.held(), a.bytes_given()), (pieces, read)),
         _ => {}
     }
     Ok(())

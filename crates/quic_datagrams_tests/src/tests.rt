@@ -7,8 +7,18 @@ use quic_wire::{
     VarInt, decode,
 };
 use std::alloc::Global;
+use std::fmt::Debug;
 use std::process::Abort;
 use std::test::Fail;
+
+// Both are the same, or the test fails and shows them.
+fn same<T: PartialEq + Debug + Drop>(rt: &impl Abort, found: T, wanted: T) {
+    assert_eq!(rt; found, wanted);
+}
+
+fn is_true(rt: &impl Abort, holds: bool) {
+    assert!(rt; holds);
+}
 
 const LIMITS: DatagramLimits = DatagramLimits {
     receive: Some(100),
@@ -113,13 +123,14 @@ fn send(
 fn shows_received(rt: &impl Abort, state: &mut DatagramState, wanted: &[(u8, usize)]) {
     for (value, len) in wanted {
         let oldest = recv(state);
-        assert_eq!(rt; oldest.as_ref().map(|bytes| bytes.len()), Some(*len));
-        assert_eq!(rt;
+        same(rt, oldest.as_ref().map(|bytes| bytes.len()), Some(*len));
+        same(
+            rt,
             oldest.and_then(|bytes| bytes.as_slice().first().copied()),
-            Some(*value)
+            Some(*value),
         );
     }
-    assert!(rt; state.incoming.is_empty());
+    is_true(rt, state.incoming.is_empty());
 }
 
 fn code_of(refused: Result<bool, ReceiveError>) -> Option<u64> {
@@ -137,7 +148,7 @@ fn is_queued(
     bytes: Bytes,
     drop: bool,
 ) {
-    assert_eq!(rt; send(state, limits, bytes, drop), None);
+    same(rt, send(state, limits, bytes, drop), None);
 }
 
 fn is_refused(
@@ -148,7 +159,7 @@ fn is_refused(
     drop: bool,
     wanted: SendDatagramError,
 ) {
-    assert_eq!(rt; send(state, limits, bytes, drop), Some(wanted));
+    same(rt, send(state, limits, bytes, drop), Some(wanted));
 }
 
 // A datagram for which there is no room is given back.
@@ -160,18 +171,18 @@ fn is_blocked(
 ) -> Result<(), OutOfMemory> {
     let wanted = SendDatagramError::Blocked(bytes.try_clone()?);
     is_refused(rt, state, limits, bytes, false, wanted);
-    assert!(rt; state.send_blocked);
+    is_true(rt, state.send_blocked);
     Ok(())
 }
 
 fn has_space(rt: &impl Abort, state: &mut DatagramState, limits: DatagramLimits, wanted: usize) {
-    assert_eq!(rt; space(state, limits), wanted);
+    same(rt, space(state, limits), wanted);
 }
 
 // What those received and those that wait to be sent count.
 fn holds(rt: &impl Abort, state: &DatagramState, incoming: usize, outgoing: usize) {
-    assert_eq!(rt; state.incoming.memory_used(), incoming);
-    assert_eq!(rt; state.outgoing.memory_used(), outgoing);
+    same(rt, state.incoming.memory_used(), incoming);
+    same(rt, state.outgoing.memory_used(), outgoing);
 }
 
 fn is_received(
@@ -181,7 +192,7 @@ fn is_received(
     window: Option<usize>,
     was_empty: bool,
 ) {
-    assert_eq!(rt; receive(state, datagram, window), Ok(was_empty));
+    same(rt, receive(state, datagram, window), Ok(was_empty));
 }
 
 fn is_violation(
@@ -191,7 +202,7 @@ fn is_violation(
     window: Option<usize>,
 ) {
     let code = code_of(receive(state, datagram, window));
-    assert_eq!(rt; code, Some(TransportError::PROTOCOL_VIOLATION));
+    same(rt, code, Some(TransportError::PROTOCOL_VIOLATION));
 }
 
 // Whether the oldest datagram is written, and all that was written with it.
@@ -203,9 +214,9 @@ fn is_written(
     wanted: &[u8],
 ) -> Result<(), OutOfMemory> {
     let wrote = write(state, buf, max_size)?;
-    assert_eq!(rt; wrote, !wanted.is_empty());
+    same(rt, wrote, !wanted.is_empty());
     if wrote {
-        assert_eq!(rt; buf.as_slice(), wanted);
+        same(rt, buf.as_slice(), wanted);
     }
     Ok(())
 }
@@ -216,7 +227,7 @@ fn drops_oversized(
     limits: DatagramLimits,
     wanted: bool,
 ) {
-    assert_eq!(rt; drop_oversized(state, limits), wanted);
+    same(rt, drop_oversized(state, limits), wanted);
 }
 
 #[test]
@@ -239,15 +250,15 @@ fn received_at_the_edge_of_the_window(rt: HostRuntime) -> Result<(), Fail> {
     for window in [Some(31), None] {
         is_violation(&rt, &mut state, datagram(rt.alloc(), 0, 0)?, window);
     }
-    assert!(rt; state.incoming.is_empty());
+    is_true(&rt, state.incoming.is_empty());
     for was_empty in [true, false] {
         let empty = datagram(rt.alloc(), 0, 0)?;
         is_received(&rt, &mut state, empty, Some(32), was_empty);
     }
     holds(&rt, &state, 32, 0);
     let oldest = read(&mut state, LIMITS);
-    assert_eq!(rt; oldest.map(|bytes| bytes.len()), Some(0));
-    assert_eq!(rt; recv(&mut state), None);
+    same(&rt, oldest.map(|bytes| bytes.len()), Some(0));
+    same(&rt, recv(&mut state), None);
     Ok(())
 }
 
@@ -255,7 +266,7 @@ fn received_at_the_edge_of_the_window(rt: HostRuntime) -> Result<(), Fail> {
 fn send_under_limits(rt: HostRuntime) -> Result<(), Fail> {
     let alloc = rt.alloc();
     let mut state = empty(alloc);
-    assert_eq!(rt; max_size(&mut state, LIMITS), Some(40));
+    same(&rt, max_size(&mut state, LIMITS), Some(40));
     has_space(&rt, &mut state, LIMITS, 32);
     let long = bytes(alloc, 33, 1)?;
     let too_large = SendDatagramError::TooLarge;
@@ -300,7 +311,7 @@ fn send_at_the_edge_of_the_buffer(rt: HostRuntime) -> Result<(), Fail> {
     let enough = DatagramLimits { send: 32, ..LIMITS };
     is_queued(&rt, &mut state, enough, Bytes::new(rt.alloc()), false);
     has_space(&rt, &mut state, enough, 0);
-    assert!(rt; !state.send_blocked);
+    is_true(&rt, !state.send_blocked);
     is_blocked(&rt, &mut state, enough, Bytes::new(rt.alloc()))?;
     Ok(())
 }
@@ -340,9 +351,9 @@ fn drop_oversized_keeps_datagrams_at_limit(rt: HostRuntime) -> Result<(), Fail> 
     let wide = DatagramLimits { send: 85, ..LIMITS };
     is_queued(&rt, &mut state, wide, bytes(alloc, 10, 1)?, false);
     is_queued(&rt, &mut state, wide, bytes(alloc, 11, 2)?, false);
-    assert!(rt; drop_longer(&mut state, 10));
+    is_true(&rt, drop_longer(&mut state, 10));
     holds(&rt, &state, 0, 42);
-    assert!(rt; !drop_longer(&mut state, 10));
+    is_true(&rt, !drop_longer(&mut state, 10));
     Ok(())
 }
 
@@ -362,18 +373,18 @@ fn drop_oversized_wakes_a_blocked_sender(rt: HostRuntime) -> Result<(), Fail> {
     is_queued(&rt, &mut state, LIMITS, bytes(alloc, 11, 1)?, false);
     is_blocked(&rt, &mut state, LIMITS, bytes(alloc, 1, 2)?)?;
     drops_oversized(&rt, &mut state, off, false);
-    assert!(rt; state.send_blocked);
+    is_true(&rt, state.send_blocked);
     drops_oversized(&rt, &mut state, narrow, true);
-    assert!(rt; !state.send_blocked && state.outgoing.is_empty());
+    is_true(&rt, !state.send_blocked && state.outgoing.is_empty());
     is_queued(&rt, &mut state, LIMITS, bytes(alloc, 11, 3)?, false);
     drops_oversized(&rt, &mut state, narrow, false);
-    assert!(rt; state.outgoing.is_empty());
+    is_true(&rt, state.outgoing.is_empty());
     Ok(())
 }
 
 // Whether the oldest datagram fits so many bytes.
 fn fits(rt: &impl Abort, state: &DatagramState, max_size: usize, wanted: bool) {
-    assert_eq!(rt; state.outgoing.can_send_1rtt(max_size), wanted);
+    same(rt, state.outgoing.can_send_1rtt(max_size), wanted);
 }
 
 #[test]
@@ -387,10 +398,10 @@ fn write_needs_the_room(rt: HostRuntime) -> Result<(), Fail> {
     fits(&rt, &state, 4, true);
     let mut buf = Vec::new(alloc);
     is_written(&rt, &mut state, &mut buf, 3, &[])?;
-    assert!(rt; buf.is_empty() && !state.outgoing.is_empty());
+    is_true(&rt, buf.is_empty() && !state.outgoing.is_empty());
     is_written(&rt, &mut state, &mut buf, 4, b"\x31\x02hi")?;
     is_written(&rt, &mut state, &mut buf, 100, &[])?;
-    assert_eq!(rt; decode(alloc, buf.as_slice())?.len(), 1);
+    same(&rt, decode(alloc, buf.as_slice())?.len(), 1);
     Ok(())
 }
 
@@ -409,19 +420,20 @@ fn refused_send_drops_nothing(rt: HostRuntime) -> Result<(), Fail> {
     let fifth = bytes(alloc, 1, 5)?;
     match try_send(&mut state, limits, fifth, true) {
         Err(SendDatagramError::OutOfMemory(back)) => {
-            assert_eq!(rt; back.as_slice(), [5].as_slice());
+            same(&rt, back.as_slice(), [5].as_slice());
             holds(&rt, &state, 0, 4 * 33);
             is_queued(&rt, &mut state, limits, back, true);
         }
-        outcome => assert_eq!(rt; outcome.err(), None),
+        outcome => same(&rt, outcome.err(), None),
     }
     let mut buf = Vec::with_capacity(alloc, 12)?;
     for _ in 0..4 {
-        assert!(rt; write(&mut state, &mut buf, 12)?);
+        is_true(&rt, write(&mut state, &mut buf, 12)?);
     }
-    assert_eq!(rt;
+    same(
+        &rt,
         buf.as_slice(),
-        [0x31, 1, 2, 0x31, 1, 3, 0x31, 1, 4, 0x31, 1, 5].as_slice()
+        [0x31, 1, 2, 0x31, 1, 3, 0x31, 1, 4, 0x31, 1, 5].as_slice(),
     );
     Ok(())
 }
@@ -453,15 +465,15 @@ fn refused_write_keeps_the_datagram(rt: HostRuntime) -> Result<(), Fail> {
     let mut buf = Vec::with_capacity(alloc, 1)?;
     buf.push(0x30)?;
     match write(&mut state, &mut buf, 33) {
-        Ok(wrote) => assert!(rt; wrote),
+        Ok(wrote) => is_true(&rt, wrote),
         Err(OutOfMemory) => {
-            assert_eq!(rt; buf.as_slice(), [0x30].as_slice());
+            same(&rt, buf.as_slice(), [0x30].as_slice());
             holds(&rt, &state, 0, 62);
-            assert!(rt; write(&mut state, &mut buf, 33)?);
+            is_true(&rt, write(&mut state, &mut buf, 33)?);
         }
     }
-    assert_eq!(rt; buf.len(), 33);
-    assert!(rt; state.outgoing.is_empty());
+    same(&rt, buf.len(), 33);
+    is_true(&rt, state.outgoing.is_empty());
     Ok(())
 }
 
@@ -526,11 +538,12 @@ fn no_number_up_to_65537_is_refused(rt: HostRuntime) -> Result<(), Fail> {
     holds(&rt, &state, 65_537 * 40, 65_537 * 40);
     for number in 0..65_537u64 {
         let oldest = recv(&mut state);
-        assert!(rt;
-            oldest.is_some_and(|bytes| bytes.as_slice() == number.to_be_bytes().as_slice())
+        is_true(
+            &rt,
+            oldest.is_some_and(|bytes| bytes.as_slice() == number.to_be_bytes().as_slice()),
         );
     }
-    assert!(rt; state.incoming.is_empty());
+    is_true(&rt, state.incoming.is_empty());
     Ok(())
 }
 
@@ -553,7 +566,7 @@ fn texts_of_errors(rt: HostRuntime) -> Result<(), Fail> {
             "out of memory",
         ),
     ] {
-        assert_eq!(rt; error.to_string(alloc)?.as_str(), text);
+        same(&rt, error.to_string(alloc)?.as_str(), text);
     }
     Ok(())
 }
@@ -564,15 +577,16 @@ fn counters_stop(rt: HostRuntime) -> Result<(), Fail> {
     for _ in 0..300 {
         record(&mut stats, &Frame::HandshakeDone);
     }
-    assert_eq!(rt; stats.handshake_done, 255);
+    same(&rt, stats.handshake_done, 255);
     stats.ping = u64::MAX;
     record(&mut stats, &Frame::Ping);
-    assert_eq!(rt; stats.ping, u64::MAX);
+    same(&rt, stats.ping, u64::MAX);
     record(&mut stats, &Frame::Padding);
     record(&mut stats, &Frame::StreamsBlocked { dir: Dir::Uni });
-    assert_eq!(rt;
+    same(
+        &rt,
         (stats.streams_blocked_bidi, stats.streams_blocked_uni),
-        (0, 1)
+        (0, 1),
     );
     Ok(())
 }
@@ -613,7 +627,7 @@ fn counters_by_name(rt: HostRuntime) -> Result<(), Fail> {
         "RESET_STREAM: 18, RETIRE_CONNECTION_ID: 19, STREAM_DATA_BLOCKED: 20, STREAMS_BLOCKED_BIDI: 21, ",
         "STREAMS_BLOCKED_UNI: 22, STOP_SENDING: 23, STREAM: 24 }"
     );
-    assert_eq!(rt; format!(in rt.alloc(); "{stats:?}")?.as_str(), wanted);
+    same(&rt, format!(in rt.alloc(); "{stats:?}")?.as_str(), wanted);
     Ok(())
 }
 
@@ -688,7 +702,7 @@ fn each_kind_is_counted_once(rt: HostRuntime) -> Result<(), Fail> {
         record(&mut stats, frame);
     }
     let text = format!(in alloc; "{stats:?}")?;
-    assert_eq!(rt; text.as_str().matches(": 1").count(), 24);
-    assert_eq!(rt; text.as_str().matches(": ").count(), 24);
+    same(&rt, text.as_str().matches(": 1").count(), 24);
+    same(&rt, text.as_str().matches(": ").count(), 24);
     Ok(())
 }

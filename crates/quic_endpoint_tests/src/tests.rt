@@ -8,9 +8,19 @@ use quic_values::{Bytes, Dir, OutOfMemory, Side, StreamId, VarInt};
 use quic_wire::frame::StreamMeta;
 use quic_wire::{Frame, StreamEvent, decode};
 use std::alloc::Global;
+use std::fmt::Debug;
 use std::process::Abort;
 use std::rt::HostRuntime;
 use std::test::Fail;
+
+// Both are the same, or the test fails and shows them.
+fn same<T: PartialEq + Debug + Drop>(rt: &impl Abort, found: T, wanted: T) {
+    assert_eq!(rt; found, wanted);
+}
+
+fn is_true(rt: &impl Abort, holds: bool) {
+    assert!(rt; holds);
+}
 
 fn id(number: u32) -> StreamId {
     StreamId::from(VarInt::from(number))
@@ -75,8 +85,8 @@ fn hand(alloc: Global, payload: &Payload, index: usize, to: &mut Endpoint) -> Ha
 // Writes a payload of these bytes.
 fn emit(rt: &impl Abort, from: &mut Endpoint, fair: bool, expected: &[u8]) -> Payload {
     let (payload, answer) = from.emit(100, fair);
-    assert!(rt; answer.is_ok());
-    assert_eq!(rt; payload.bytes.as_slice(), expected);
+    is_true(rt, answer.is_ok());
+    same(rt, payload.bytes.as_slice(), expected);
     payload
 }
 
@@ -139,31 +149,34 @@ fn open(from: &mut Endpoint, dir: Dir) -> Option<StreamId> {
 fn a_stopped_stream_is_given_up(rt: HostRuntime) -> Result<(), Fail> {
     let alloc = rt.alloc();
     let (mut a, mut b) = ends(alloc, [1000, 1000])?;
-    assert_eq!(&rt; open(&mut a, Dir::Bi), Some(id(0)));
-    assert!(&rt; matches!(a.write(id(0), b"hi"), Ok(2)));
+    same(&rt, open(&mut a, Dir::Bi), Some(id(0)));
+    is_true(&rt, matches!(a.write(id(0), b"hi"), Ok(2)));
     let data = emit(&rt, &mut a, true, &[0x0a, 0, 2, 0x68, 0x69]);
-    assert_eq!(&rt; hand(alloc, &data, 0, &mut b), Handed::Taken(false));
-    assert_eq!(&rt; b.poll(), Some(StreamEvent::Opened { dir: Dir::Bi }));
-    assert_eq!(&rt; b.accept(Dir::Bi), Some(id(0)));
-    assert!(&rt; b.stop(id(0), code(9)).is_ok());
+    same(&rt, hand(alloc, &data, 0, &mut b), Handed::Taken(false));
+    same(&rt, b.poll(), Some(StreamEvent::Opened { dir: Dir::Bi }));
+    same(&rt, b.accept(Dir::Bi), Some(id(0)));
+    is_true(&rt, b.stop(id(0), code(9)).is_ok());
     let stop = emit(&rt, &mut b, true, &[0x05, 0, 9]);
-    assert_eq!(&rt; hand(alloc, &stop, 0, &mut a), Handed::Taken(false));
+    same(&rt, hand(alloc, &stop, 0, &mut a), Handed::Taken(false));
     let told = StreamEvent::Stopped {
         id: id(0),
         error_code: code(9),
     };
-    assert_eq!(&rt; a.poll(), Some(told));
-    assert_eq!(&rt; stopped(&mut a, 0), [Some(9), Some(9)]);
-    assert!(&rt; a.reset(id(0), code(9)).is_ok());
+    same(&rt, a.poll(), Some(told));
+    same(&rt, stopped(&mut a, 0), [Some(9), Some(9)]);
+    is_true(&rt, a.reset(id(0), code(9)).is_ok());
     let reset = emit(&rt, &mut a, true, &[0x04, 0, 9, 2]);
-    assert_eq!(&rt; hand(alloc, &reset, 0, &mut b), Handed::Taken(false));
-    assert!(&rt; a.ack_reset(id(0)).is_ok());
-    assert!(&rt; matches!(a.write(id(0), b"j"), Err(WriteError::ClosedStream)));
+    same(&rt, hand(alloc, &reset, 0, &mut b), Handed::Taken(false));
+    is_true(&rt, a.ack_reset(id(0)).is_ok());
+    is_true(
+        &rt,
+        matches!(a.write(id(0), b"j"), Err(WriteError::ClosedStream)),
+    );
     // The STOP_SENDING is lost, and sent again.
-    assert!(&rt; b.lose_control(&stop.control).is_ok());
+    is_true(&rt, b.lose_control(&stop.control).is_ok());
     let again = emit(&rt, &mut b, true, &[0x05, 0, 9]);
-    assert_eq!(&rt; hand(alloc, &again, 0, &mut a), Handed::Taken(false));
-    assert_eq!(&rt; a.poll(), None);
+    same(&rt, hand(alloc, &again, 0, &mut a), Handed::Taken(false));
+    same(&rt, a.poll(), None);
     Ok(())
 }
 
@@ -171,25 +184,31 @@ fn a_stopped_stream_is_given_up(rt: HostRuntime) -> Result<(), Fail> {
 fn credit_lets_more_be_written(rt: HostRuntime) -> Result<(), Fail> {
     let alloc = rt.alloc();
     let (mut a, mut b) = ends(alloc, [16, 8])?;
-    assert_eq!(&rt; open(&mut a, Dir::Uni), Some(id(2)));
-    assert!(&rt; matches!(a.write(id(2), &[0, 1, 2, 3, 4, 5, 6, 7, 8, 9]), Ok(8)));
-    assert!(&rt; matches!(a.write(id(2), &[8, 9]), Err(WriteError::Blocked)));
+    same(&rt, open(&mut a, Dir::Uni), Some(id(2)));
+    is_true(
+        &rt,
+        matches!(a.write(id(2), &[0, 1, 2, 3, 4, 5, 6, 7, 8, 9]), Ok(8)),
+    );
+    is_true(
+        &rt,
+        matches!(a.write(id(2), &[8, 9]), Err(WriteError::Blocked)),
+    );
     let expected = [0x15, 2, 8, 0x0a, 2, 8, 0, 1, 2, 3, 4, 5, 6, 7];
     let data = emit(&rt, &mut a, true, &expected);
-    assert_eq!(&rt; hand(alloc, &data, 0, &mut b), Handed::Taken(false));
-    assert_eq!(&rt; hand(alloc, &data, 1, &mut b), Handed::Taken(false));
-    assert_eq!(&rt; hand(alloc, &data, 2, &mut b), Handed::NoFrame);
-    assert_eq!(&rt; b.accept(Dir::Uni), Some(id(2)));
+    same(&rt, hand(alloc, &data, 0, &mut b), Handed::Taken(false));
+    same(&rt, hand(alloc, &data, 1, &mut b), Handed::Taken(false));
+    same(&rt, hand(alloc, &data, 2, &mut b), Handed::NoFrame);
+    same(&rt, b.accept(Dir::Uni), Some(id(2)));
     let given = (1, LastAnswer::Blocked, true);
-    assert_eq!(&rt; read(&mut b, 2, true), Some(given));
+    same(&rt, read(&mut b, 2, true), Some(given));
     let credit = emit(&rt, &mut b, true, &[0x10, 24, 0x11, 2, 16]);
-    assert_eq!(&rt; hand(alloc, &credit, 1, &mut a), Handed::Taken(false));
-    assert_eq!(&rt; a.poll(), Some(StreamEvent::Writable { id: id(2) }));
-    assert!(&rt; matches!(a.write(id(2), &[8, 9]), Ok(2)));
-    assert_eq!(&rt; hand(alloc, &credit, 1, &mut a), Handed::Taken(false));
-    assert_eq!(&rt; hand(alloc, &credit, 0, &mut a), Handed::Taken(false));
-    assert_eq!(&rt; a.poll(), None);
-    assert_eq!(&rt; a.streams().write_limit(), 14);
+    same(&rt, hand(alloc, &credit, 1, &mut a), Handed::Taken(false));
+    same(&rt, a.poll(), Some(StreamEvent::Writable { id: id(2) }));
+    is_true(&rt, matches!(a.write(id(2), &[8, 9]), Ok(2)));
+    same(&rt, hand(alloc, &credit, 1, &mut a), Handed::Taken(false));
+    same(&rt, hand(alloc, &credit, 0, &mut a), Handed::Taken(false));
+    same(&rt, a.poll(), None);
+    same(&rt, a.streams().write_limit(), 14);
     Ok(())
 }
 
@@ -197,21 +216,28 @@ fn credit_lets_more_be_written(rt: HostRuntime) -> Result<(), Fail> {
 fn the_end_of_a_stopped_stream_makes_room(rt: HostRuntime) -> Result<(), Fail> {
     let alloc = rt.alloc();
     let (mut a, mut b) = ends(alloc, [1000, 1000])?;
-    assert_eq!(&rt; open(&mut a, Dir::Uni), Some(id(2)));
-    assert!(&rt; matches!(a.write(id(2), b"h"), Ok(1)));
+    same(&rt, open(&mut a, Dir::Uni), Some(id(2)));
+    is_true(&rt, matches!(a.write(id(2), b"h"), Ok(1)));
     let data = emit(&rt, &mut a, true, &[0x0a, 2, 1, 0x68]);
-    assert_eq!(&rt; hand(alloc, &data, 0, &mut b), Handed::Taken(false));
-    assert!(&rt; !b.streams().was_given(id(2)));
-    assert_eq!(&rt; b.accept(Dir::Uni), Some(id(2)));
-    assert!(&rt; b.streams().was_given(id(2)));
-    assert!(&rt; b.stop(id(2), code(9)).is_ok());
-    assert!(&rt; a.finish(id(2)).is_ok());
+    same(&rt, hand(alloc, &data, 0, &mut b), Handed::Taken(false));
+    is_true(&rt, !b.streams().was_given(id(2)));
+    same(&rt, b.accept(Dir::Uni), Some(id(2)));
+    is_true(&rt, b.streams().was_given(id(2)));
+    is_true(&rt, b.stop(id(2), code(9)).is_ok());
+    is_true(&rt, a.finish(id(2)).is_ok());
     let last = emit(&rt, &mut a, true, &[0x0f, 2, 1, 0]);
-    assert_eq!(&rt; hand(alloc, &last, 0, &mut b), Handed::Taken(false));
+    same(&rt, hand(alloc, &last, 0, &mut b), Handed::Taken(false));
     let told = emit(&rt, &mut b, true, &[0x05, 2, 9, 0x13, 5]);
-    assert_eq!(&rt; hand(alloc, &told, 1, &mut a), Handed::Taken(false));
-    assert_eq!(&rt; a.poll(), Some(StreamEvent::Available { dir: Dir::Uni }));
-    assert!(&rt; matches!(b.stop(id(2), code(9)), Err(HandleError::ClosedStream)));
+    same(&rt, hand(alloc, &told, 1, &mut a), Handed::Taken(false));
+    same(
+        &rt,
+        a.poll(),
+        Some(StreamEvent::Available { dir: Dir::Uni }),
+    );
+    is_true(
+        &rt,
+        matches!(b.stop(id(2), code(9)), Err(HandleError::ClosedStream)),
+    );
     Ok(())
 }
 
@@ -219,8 +245,8 @@ fn the_end_of_a_stopped_stream_makes_room(rt: HostRuntime) -> Result<(), Fail> {
 fn a_reset_is_told(rt: HostRuntime) -> Result<(), Fail> {
     let alloc = rt.alloc();
     let (mut a, mut b) = ends(alloc, [1000, 1000])?;
-    assert_eq!(&rt; open(&mut a, Dir::Uni), Some(id(2)));
-    assert!(&rt; a.set_priority(id(2), -1).is_ok());
+    same(&rt, open(&mut a, Dir::Uni), Some(id(2)));
+    is_true(&rt, a.set_priority(id(2), -1).is_ok());
     let mut chunks = Vec::with_capacity(alloc, 3)?;
     for text in [b"h".as_slice(), b"".as_slice(), b"i".as_slice()] {
         chunks.push(Bytes::copy_from_slice(alloc, text)?)?;
@@ -229,23 +255,26 @@ fn a_reset_is_told(rt: HostRuntime) -> Result<(), Fail> {
         Ok(written) => (written.bytes, written.chunks),
         Err(_) => (0, 0),
     };
-    assert_eq!(&rt; written, (2, 3));
+    same(&rt, written, (2, 3));
     let data = emit(&rt, &mut a, false, &[0x0a, 2, 2, 0x68, 0x69]);
-    assert_eq!(&rt; hand(alloc, &data, 0, &mut b), Handed::Taken(false));
-    assert_eq!(&rt; b.accept(Dir::Uni), Some(id(2)));
+    same(&rt, hand(alloc, &data, 0, &mut b), Handed::Taken(false));
+    same(&rt, b.accept(Dir::Uni), Some(id(2)));
     let given = (1, LastAnswer::Blocked, false);
-    assert_eq!(&rt; read(&mut b, 2, false), Some(given));
+    same(&rt, read(&mut b, 2, false), Some(given));
     let ordered = b.read(id(2), true, 100, 9);
-    assert!(&rt; matches!(ordered, Err(ReadableError::IllegalOrderedRead)));
-    assert_eq!(&rt; told_reset(&mut b, 2), Some(0));
-    assert!(&rt; a.reset(id(2), code(7)).is_ok());
+    is_true(
+        &rt,
+        matches!(ordered, Err(ReadableError::IllegalOrderedRead)),
+    );
+    same(&rt, told_reset(&mut b, 2), Some(0));
+    is_true(&rt, a.reset(id(2), code(7)).is_ok());
     let reset = emit(&rt, &mut a, true, &[0x04, 2, 7, 2]);
-    assert_eq!(&rt; hand(alloc, &reset, 0, &mut b), Handed::Taken(false));
-    assert_eq!(&rt; told_reset(&mut b, 2), Some(7));
-    assert_eq!(&rt; told_reset(&mut b, 2), None);
+    same(&rt, hand(alloc, &reset, 0, &mut b), Handed::Taken(false));
+    same(&rt, told_reset(&mut b, 2), Some(7));
+    same(&rt, told_reset(&mut b, 2), None);
     // The stream made room for another.
     let counts = emit(&rt, &mut b, true, &[0x13, 5]);
-    assert_eq!(&rt; hand(alloc, &counts, 0, &mut a), Handed::Taken(false));
+    same(&rt, hand(alloc, &counts, 0, &mut a), Handed::Taken(false));
     Ok(())
 }
 
@@ -261,25 +290,25 @@ fn meta(stream: u32, end: u64, fin: bool) -> StreamMeta {
 fn a_lost_frame_is_sent_again(rt: HostRuntime) -> Result<(), Fail> {
     let alloc = rt.alloc();
     let (mut a, mut b) = ends(alloc, [1000, 1000])?;
-    assert_eq!(&rt; open(&mut a, Dir::Uni), Some(id(2)));
-    assert!(&rt; matches!(a.write(id(2), b"hi"), Ok(2)));
-    assert!(&rt; a.finish(id(2)).is_ok());
+    same(&rt, open(&mut a, Dir::Uni), Some(id(2)));
+    is_true(&rt, matches!(a.write(id(2), b"hi"), Ok(2)));
+    is_true(&rt, a.finish(id(2)).is_ok());
     let spelled = [0x0b, 2, 2, 0x68, 0x69];
     let lost = emit(&rt, &mut a, true, &spelled);
-    assert_eq!(&rt; lost.streams.len(), 1);
-    assert!(&rt; a.lose_stream(meta(2, 2, true)).is_ok());
+    same(&rt, lost.streams.len(), 1);
+    is_true(&rt, a.lose_stream(meta(2, 2, true)).is_ok());
     let data = emit(&rt, &mut a, true, &spelled);
-    assert_eq!(&rt; hand(alloc, &data, 0, &mut b), Handed::Taken(false));
-    assert!(&rt; a.ack_stream(meta(2, 2, true)).is_ok());
-    assert_eq!(&rt; a.poll(), Some(StreamEvent::Finished { id: id(2) }));
+    same(&rt, hand(alloc, &data, 0, &mut b), Handed::Taken(false));
+    is_true(&rt, a.ack_stream(meta(2, 2, true)).is_ok());
+    same(&rt, a.poll(), Some(StreamEvent::Finished { id: id(2) }));
     // The windows of both ends.
-    assert!(&rt; b.set_receive_window(code(2000)));
-    assert!(&rt; !b.set_receive_window(code(1000)));
-    assert!(&rt; b.set_max_concurrent(Dir::Bi, code(8)).is_ok());
+    is_true(&rt, b.set_receive_window(code(2000)));
+    is_true(&rt, !b.set_receive_window(code(1000)));
+    is_true(&rt, b.set_max_concurrent(Dir::Bi, code(8)).is_ok());
     let limits = emit(&rt, &mut b, true, &[0x10, 0x47, 0xd0, 0x12, 8]);
-    assert_eq!(&rt; hand(alloc, &limits, 0, &mut a), Handed::Taken(false));
-    assert_eq!(&rt; hand(alloc, &limits, 1, &mut a), Handed::Taken(false));
+    same(&rt, hand(alloc, &limits, 0, &mut a), Handed::Taken(false));
+    same(&rt, hand(alloc, &limits, 1, &mut a), Handed::Taken(false));
     a.set_send_window(10);
-    assert_eq!(&rt; a.streams().write_limit(), 10);
+    same(&rt, a.streams().write_limit(), 10);
     Ok(())
 }

@@ -2,10 +2,20 @@ use quic_assembler::Chunk;
 use quic_ordered::OrderedPieces;
 use quic_values::{Bytes, OutOfMemory};
 use std::alloc::Global;
+use std::fmt::Debug;
 use std::process::Abort;
 use std::test::Fail;
 
 mod replays;
+
+// Both are the same, or the test fails and shows them.
+fn same<T: PartialEq + Debug + Drop>(rt: &impl Abort, found: T, wanted: T) {
+    assert_eq!(rt; found, wanted);
+}
+
+fn is_true(rt: &impl Abort, holds: bool) {
+    assert!(rt; holds);
+}
 
 // The calls, with nothing of what they promise: a test looks at what they answer and leave.
 trait Calls {
@@ -59,7 +69,7 @@ fn insert(
     bytes: Bytes,
     allocation_size: usize,
 ) -> Result<(), OutOfMemory> {
-    assert!(rt; offset < 1 << 61 && bytes.len() < 1 << 61);
+    is_true(rt, offset < 1 << 61 && bytes.len() < 1 << 61);
     pieces.insert(offset, bytes, allocation_size)
 }
 
@@ -86,8 +96,8 @@ fn put(
 // A chunk is there, with this offset and these bytes.
 fn is_chunk(rt: &impl Abort, chunk: Option<Chunk>, offset: u64, text: &[u8]) -> Result<(), Fail> {
     let chunk = chunk.ok_or("nothing was given")?;
-    assert_eq!(rt; chunk.offset, offset);
-    assert_eq!(rt; chunk.bytes.as_slice(), text);
+    same(rt, chunk.offset, offset);
+    same(rt, chunk.bytes.as_slice(), text);
     Ok(())
 }
 
@@ -134,10 +144,10 @@ fn take(
         }
         Step::Compact => pieces.join_touching()?,
         Step::Clear => pieces.let_go(),
-        Step::Pieces(count) => assert_eq!(rt; pieces.held(), count),
-        Step::Total(count) => assert_eq!(rt; pieces.bytes_held(), count),
-        Step::Allocated(count) => assert_eq!(rt; pieces.memory_held(), count),
-        Step::Begins(offset) => assert_eq!(rt; pieces.begins_at(), offset),
+        Step::Pieces(count) => same(rt, pieces.held(), count),
+        Step::Total(count) => same(rt, pieces.bytes_held(), count),
+        Step::Allocated(count) => same(rt, pieces.memory_held(), count),
+        Step::Begins(offset) => same(rt, pieces.begins_at(), offset),
     }
     Ok(())
 }
@@ -239,9 +249,10 @@ fn overlap(rt: &impl Abort, pieces: &mut OrderedPieces, alloc: Global) -> Result
 fn hostile_overlaps_stay_one_piece(rt: HostRuntime) -> Result<(), Fail> {
     let mut pieces = empty(rt.alloc());
     overlap(&rt, &mut pieces, rt.alloc())?;
-    assert_eq!(rt;
+    same(
+        &rt,
         (pieces.held(), pieces.bytes_held(), pieces.memory_held()),
-        (1, 20_000, 20_000)
+        (1, 20_000, 20_000),
     );
     expect_first(&rt, &mut pieces, 3, 50, b"\x07\x07\x07")
 }

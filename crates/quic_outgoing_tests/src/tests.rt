@@ -15,8 +15,18 @@ use quic_sending::{
 };
 use quic_values::{Bytes, Dir, OutOfMemory, Side, StreamId, VarInt};
 use std::alloc::Global;
+use std::fmt::Debug;
 use std::ops::Range;
 use std::process::Abort;
+
+// Both are the same, or the test fails and shows them.
+fn same<T: PartialEq + Debug + Drop>(rt: &impl Abort, found: T, wanted: T) {
+    assert_eq!(rt; found, wanted);
+}
+
+fn is_true(rt: &impl Abort, holds: bool) {
+    assert!(rt; holds);
+}
 
 fn id(number: u32) -> StreamId {
     StreamId::from(VarInt::from(number))
@@ -311,25 +321,27 @@ fn sends(
 // Takes a step, of which the state tells what it has to tell.
 fn ask(rt: &impl Abort, subject: &Subject, step: Step) {
     match step {
-        Step::Stopped(stream, code) => assert_eq!(rt; stopped(subject, stream), code),
-        Step::Limit(count) => assert_eq!(rt; limit(subject), count),
+        Step::Stopped(stream, code) => same(rt, stopped(subject, stream), code),
+        Step::Limit(count) => same(rt, limit(subject), count),
         Step::Blocked(can, queued) => {
-            assert_eq!(rt;
+            same(
+                rt,
                 (can_send_blocked(subject), subject.pending.data_blocked),
-                (can, queued)
+                (can, queued),
             );
         }
         Step::StreamBlocked(stream, limit, queued) => {
-            assert_eq!(rt; blocked_limit(subject, stream), limit);
-            assert_eq!(rt;
+            same(rt, blocked_limit(subject, stream), limit);
+            same(
+                rt,
                 subject.pending.stream_data_blocked.contains(&id(stream)),
-                queued
+                queued,
             );
         }
-        Step::Priority(stream, number) => assert_eq!(rt; priority(subject, stream).ok(), number),
-        Step::Holds(stream, held) => assert_eq!(rt; holds(subject, stream), held),
-        Step::Unopened(stream, is) => assert_eq!(rt; is_unopened(subject, stream), is),
-        Step::Resets(count) => assert_eq!(rt; subject.pending.reset_stream.len(), count),
+        Step::Priority(stream, number) => same(rt, priority(subject, stream).ok(), number),
+        Step::Holds(stream, held) => same(rt, holds(subject, stream), held),
+        Step::Unopened(stream, is) => same(rt, is_unopened(subject, stream), is),
+        Step::Resets(count) => same(rt, subject.pending.reset_stream.len(), count),
         _ => {}
     }
 }
@@ -337,24 +349,25 @@ fn ask(rt: &impl Abort, subject: &Subject, step: Step) {
 // Takes a step that changes the state.
 fn take(rt: &impl Abort, alloc: Global, subject: &mut Subject, step: Step) {
     match step {
-        Step::Open(dir, opened) => assert_eq!(rt; open(subject, dir), opened.map(id)),
+        Step::Open(dir, opened) => same(rt, open(subject, dir), opened.map(id)),
         Step::Write(stream, count, answer) => {
-            assert_eq!(rt; written(alloc, subject, stream, count), answer);
+            same(rt, written(alloc, subject, stream, count), answer);
         }
-        Step::Finish(stream, answer) => assert_eq!(rt; finish(subject, id(stream)), answer),
+        Step::Finish(stream, answer) => same(rt, finish(subject, id(stream)), answer),
         Step::Reset(stream, code, answer) => {
-            assert_eq!(rt; reset(subject, id(stream), code), answer);
+            same(rt, reset(subject, id(stream), code), answer);
         }
-        Step::Stop(stream, code, first) => assert_eq!(rt; stop(subject, stream, code), first),
-        Step::Streams(dir, count, rose) => assert_eq!(rt; raise_streams(subject, dir, count), rose),
+        Step::Stop(stream, code, first) => same(rt, stop(subject, stream, code), first),
+        Step::Streams(dir, count, rose) => same(rt, raise_streams(subject, dir, count), rose),
         Step::Data(limit) => raise_data(subject, VarInt::from(limit)),
         Step::StreamData(stream, offset, tells) => {
-            assert_eq!(rt; raise_stream(subject, stream, offset) == Ok(true), tells);
+            same(rt, raise_stream(subject, stream, offset) == Ok(true), tells);
         }
-        Step::Poll(told) => assert_eq!(rt; poll(subject), told.map(id)),
+        Step::Poll(told) => same(rt, poll(subject), told.map(id)),
         Step::Window(window) => set_window(subject, window),
-        Step::SetPriority(stream, number) => assert!(rt;
-            set_priority(subject, stream, number).is_ok()
+        Step::SetPriority(stream, number) => is_true(
+            rt,
+            set_priority(subject, stream, number).is_ok(),
         ),
         Step::Remove(stream) => remove(subject, stream),
         other => ask(rt, subject, other),

@@ -3,6 +3,8 @@ use quic_assembler::Chunk;
 use quic_pair::{Config, End, Last, Pair, PairError, Reply, Step};
 use quic_wire::{Bytes, Dir, OutOfMemory, Side, StreamEvent, StreamId, VarInt};
 use std::alloc::Global;
+use std::fmt::Debug;
+use std::process::Abort;
 use std::test::Fail;
 
 mod draws;
@@ -12,6 +14,19 @@ mod kinds;
 mod network;
 mod sessions;
 mod twenty;
+
+// Both are the same, or the test fails and shows them.
+fn same<T: PartialEq + Debug + Drop>(rt: &impl Abort, found: T, wanted: T) {
+    assert_eq!(rt; found, wanted);
+}
+
+fn is_true_for<C: Debug>(rt: &impl Abort, case: &C, holds: bool) {
+    assert!(rt; holds, "{case:?}");
+}
+
+fn is_true(rt: &impl Abort, holds: bool) {
+    assert!(rt; holds);
+}
 
 fn config(window: u32) -> Config {
     Config {
@@ -79,8 +94,12 @@ fn finished_pair(alloc: Global, content: &[u8]) -> Result<Pair, Fail> {
 fn two_bytes_and_the_end_are_one_frame(rt: HostRuntime) -> Result<(), Fail> {
     let mut pair = finished_pair(rt.alloc(), b"hi")?;
     answer(&mut pair, emit(100))?;
-    assert_eq!(rt; pair.payload(0), Some(b"\x0b\x02\x02\x68\x69".as_slice()));
-    assert_eq!(rt; pair.payload(1), None);
+    same(
+        &rt,
+        pair.payload(0),
+        Some(b"\x0b\x02\x02\x68\x69".as_slice()),
+    );
+    same(&rt, pair.payload(1), None);
     Ok(())
 }
 
@@ -92,15 +111,15 @@ fn forty_bytes_fill_a_payload_and_go_on_in_the_next(rt: HostRuntime) -> Result<(
     let Some(first) = pair.payload(0) else {
         return Err(Fail::from("no first payload"));
     };
-    assert_eq!(rt; first.len(), 30);
-    assert_eq!(rt; &first[..2], b"\x08\x02".as_slice());
-    assert_eq!(rt; &first[2..], &NUMBERS[..28]);
+    same(&rt, first.len(), 30);
+    same(&rt, &first[..2], b"\x08\x02".as_slice());
+    same(&rt, &first[2..], &NUMBERS[..28]);
     let Some(second) = pair.payload(1) else {
         return Err(Fail::from("no second payload"));
     };
-    assert_eq!(rt; second.len(), 16);
-    assert_eq!(rt; &second[..4], b"\x0f\x02\x1c\x0c".as_slice());
-    assert_eq!(rt; &second[4..], &NUMBERS[28..]);
+    same(&rt, second.len(), 16);
+    same(&rt, &second[..4], b"\x0f\x02\x1c\x0c".as_slice());
+    same(&rt, &second[4..], &NUMBERS[28..]);
     Ok(())
 }
 
@@ -223,8 +242,8 @@ fn a_lost_payload_is_sent_again_and_all_is_delivered(rt: HostRuntime) -> Result<
     let mut pair = new_pair(rt.alloc(), 1000)?;
     let replies = replies_of(&mut pair, steps_with_a_loss(rt.alloc())?)?;
     let wanted = replies_with_a_loss(rt.alloc())?;
-    assert_eq!(rt; replies.len(), wanted.len());
-    assert!(rt; replies == wanted, "{replies:?}");
+    same(&rt, replies.len(), wanted.len());
+    is_true_for(&rt, &replies, replies == wanted);
     Ok(())
 }
 
@@ -236,7 +255,7 @@ fn each_step_alone_is_answered_as_in_a_run(rt: HostRuntime) -> Result<(), Fail> 
     for step in steps_with_a_loss(rt.alloc())? {
         replies.push(answer(&mut pair, step))?;
     }
-    assert!(rt; replies == wanted, "{replies:?}");
+    is_true_for(&rt, &replies, replies == wanted);
     Ok(())
 }
 

@@ -8,7 +8,23 @@ ghost use Rattle.quic_queue.specs.SendOrder.{line, ids_of};
 use quic_queue::{Entry, Next, SendQueue};
 use quic_values::{Dir, OutOfMemory, Side, StreamId};
 use std::collections::BTreeMap;
+use std::fmt::Debug;
+use std::process::Abort;
 use std::test::Fail;
+
+// Both are the same, or the test fails and shows them.
+fn same<T: PartialEq + Debug + Drop>(rt: &impl Abort, found: T, wanted: T) {
+    assert_eq!(rt; found, wanted);
+}
+
+// The same of a case, which is shown too.
+fn same_for<C: Debug, T: PartialEq + Debug + Drop>(rt: &impl Abort, case: &C, found: T, wanted: T) {
+    assert_eq!(rt; found, wanted, "{case:?}");
+}
+
+fn is_true(rt: &impl Abort, holds: bool) {
+    assert!(rt; holds);
+}
 
 fn stream(index: u32) -> StreamId {
     StreamId::new(Side::Client, Dir::Bi, u64::from(index))
@@ -79,10 +95,10 @@ fn extreme_priorities(rt: HostRuntime) -> Result<(), Fail> {
     put(&mut queue, 0, i32::MIN)?;
     put(&mut queue, 1, i32::MAX)?;
     put(&mut queue, 2, 0)?;
-    assert_eq!(rt; queue.take_first(), Some(entry(1, i32::MAX)));
-    assert_eq!(rt; queue.take_first(), Some(entry(2, 0)));
-    assert_eq!(rt; queue.take_first(), Some(entry(0, i32::MIN)));
-    assert_eq!(rt; queue.take_first(), None);
+    same(&rt, queue.take_first(), Some(entry(1, i32::MAX)));
+    same(&rt, queue.take_first(), Some(entry(2, 0)));
+    same(&rt, queue.take_first(), Some(entry(0, i32::MIN)));
+    same(&rt, queue.take_first(), None);
     Ok(())
 }
 
@@ -95,9 +111,9 @@ fn a_thousand_priorities(rt: HostRuntime) -> Result<(), Fail> {
     }
     for priority in (-500..500).rev() {
         let first = queue.take_first().ok_or("empty")?;
-        assert_eq!(rt; first.priority, priority);
+        same(&rt, first.priority, priority);
     }
-    assert!(rt; queue.is_empty());
+    is_true(&rt, queue.is_empty());
     Ok(())
 }
 
@@ -110,11 +126,11 @@ fn equal_priorities_as_they_were_put(rt: HostRuntime) -> Result<(), Fail> {
     for priority in (0..2u32).rev() {
         for place in 0..50u32 {
             let index = 2 * place + priority;
-            assert_eq!(rt; queue.first(), Some(entry(index, priority as i32)));
-            assert_eq!(rt; queue.take_first(), Some(entry(index, priority as i32)));
+            same(&rt, queue.first(), Some(entry(index, priority as i32)));
+            same(&rt, queue.take_first(), Some(entry(index, priority as i32)));
         }
     }
-    assert_eq!(rt; queue.first(), None);
+    same(&rt, queue.first(), None);
     Ok(())
 }
 
@@ -126,14 +142,14 @@ fn priorities_that_change(rt: HostRuntime) -> Result<(), Fail> {
     put(&mut queue, 1, 3)?;
     put(&mut queue, 2, 2)?;
     // Lowered.
-    assert_eq!(rt; put_anew(&mut queue, 2)?, Some(entry(0, 5)));
-    assert_eq!(rt; queue.first(), Some(entry(1, 3)));
+    same(&rt, put_anew(&mut queue, 2)?, Some(entry(0, 5)));
+    same(&rt, queue.first(), Some(entry(1, 3)));
     // Raised.
-    assert_eq!(rt; put_anew(&mut queue, 7)?, Some(entry(1, 3)));
-    assert_eq!(rt; let_go(&mut queue), Some(entry(1, 7)));
-    assert_eq!(rt; let_go(&mut queue), Some(entry(2, 2)));
-    assert_eq!(rt; let_go(&mut queue), Some(entry(0, 2)));
-    assert_eq!(rt; let_go(&mut queue), None);
+    same(&rt, put_anew(&mut queue, 7)?, Some(entry(1, 3)));
+    same(&rt, let_go(&mut queue), Some(entry(1, 7)));
+    same(&rt, let_go(&mut queue), Some(entry(2, 2)));
+    same(&rt, let_go(&mut queue), Some(entry(0, 2)));
+    same(&rt, let_go(&mut queue), None);
     Ok(())
 }
 
@@ -143,14 +159,14 @@ fn put_anew_at_the_same_priority(rt: HostRuntime) -> Result<(), Fail> {
     let mut queue = SendQueue::new(rt.alloc());
     put(&mut queue, 0, 5)?;
     for _ in 0..10_000 {
-        assert_eq!(rt; put_anew(&mut queue, 5)?, Some(entry(0, 5)));
+        same(&rt, put_anew(&mut queue, 5)?, Some(entry(0, 5)));
     }
     put(&mut queue, 1, 5)?;
-    assert_eq!(rt; put_anew(&mut queue, 5)?, Some(entry(0, 5)));
-    assert_eq!(rt; put_anew(&mut queue, 5)?, Some(entry(1, 5)));
-    assert_eq!(rt; queue.take_first(), Some(entry(0, 5)));
-    assert_eq!(rt; queue.take_first(), Some(entry(1, 5)));
-    assert!(rt; queue.is_empty());
+    same(&rt, put_anew(&mut queue, 5)?, Some(entry(0, 5)));
+    same(&rt, put_anew(&mut queue, 5)?, Some(entry(1, 5)));
+    same(&rt, queue.take_first(), Some(entry(0, 5)));
+    same(&rt, queue.take_first(), Some(entry(1, 5)));
+    is_true(&rt, queue.is_empty());
     Ok(())
 }
 
@@ -159,18 +175,18 @@ fn one_is_kept_back(rt: HostRuntime) -> Result<(), Fail> {
     let mut queue = SendQueue::new(rt.alloc());
     put(&mut queue, 0, 1)?;
     put(&mut queue, 1, 1)?;
-    assert_eq!(rt; keep_back(&mut queue), Some(entry(0, 1)));
+    same(&rt, keep_back(&mut queue), Some(entry(0, 1)));
     // It comes before a higher priority, and is still kept back after a further turn.
     put(&mut queue, 2, 9)?;
-    assert_eq!(rt; keep_back(&mut queue), Some(entry(0, 1)));
-    assert!(rt; has(&queue, stream(0)));
-    assert_eq!(rt; put_anew(&mut queue, 1)?, Some(entry(0, 1)));
-    assert_eq!(rt; queue.take_first(), Some(entry(2, 9)));
-    assert_eq!(rt; queue.take_first(), Some(entry(1, 1)));
-    assert_eq!(rt; keep_back(&mut queue), Some(entry(0, 1)));
-    assert!(rt; !queue.is_empty());
-    assert_eq!(rt; let_go(&mut queue), Some(entry(0, 1)));
-    assert!(rt; queue.is_empty());
+    same(&rt, keep_back(&mut queue), Some(entry(0, 1)));
+    is_true(&rt, has(&queue, stream(0)));
+    same(&rt, put_anew(&mut queue, 1)?, Some(entry(0, 1)));
+    same(&rt, queue.take_first(), Some(entry(2, 9)));
+    same(&rt, queue.take_first(), Some(entry(1, 1)));
+    same(&rt, keep_back(&mut queue), Some(entry(0, 1)));
+    is_true(&rt, !queue.is_empty());
+    same(&rt, let_go(&mut queue), Some(entry(0, 1)));
+    is_true(&rt, queue.is_empty());
     Ok(())
 }
 
@@ -179,20 +195,20 @@ fn one_is_kept_back(rt: HostRuntime) -> Result<(), Fail> {
 fn a_turn_is_given_up(rt: HostRuntime) -> Result<(), Fail> {
     let mut queue = SendQueue::new(rt.alloc());
     queue.reserve(4)?;
-    assert_eq!(rt; queue.first(), None);
-    assert!(rt; queue.is_empty());
+    same(&rt, queue.first(), None);
+    is_true(&rt, queue.is_empty());
     put(&mut queue, 0, 1)?;
     for priority in -3..4 {
         queue.reserve(priority)?;
-        assert_eq!(rt; queue.first(), Some(entry(0, 1)));
+        same(&rt, queue.first(), Some(entry(0, 1)));
     }
     queue.release();
     queue.release();
     queue.reserve(8)?;
-    assert_eq!(rt; queue.take_first(), Some(entry(0, 1)));
-    assert_eq!(rt; queue.take_first(), None);
+    same(&rt, queue.take_first(), Some(entry(0, 1)));
+    same(&rt, queue.take_first(), None);
     queue.put(stream(1), 8);
-    assert_eq!(rt; queue.take_first(), Some(entry(1, 8)));
+    same(&rt, queue.take_first(), Some(entry(1, 8)));
     Ok(())
 }
 
@@ -203,9 +219,9 @@ fn one_stream_many_times(rt: HostRuntime) -> Result<(), Fail> {
         put(&mut queue, 3, 0)?;
     }
     for _ in 0..10_000 {
-        assert_eq!(rt; queue.take_first(), Some(entry(3, 0)));
+        same(&rt, queue.take_first(), Some(entry(3, 0)));
     }
-    assert_eq!(rt; queue.take_first(), None);
+    same(&rt, queue.take_first(), None);
     Ok(())
 }
 
@@ -214,14 +230,14 @@ fn all_go(rt: HostRuntime) -> Result<(), Fail> {
     let mut queue = SendQueue::new(rt.alloc());
     put(&mut queue, 0, 1)?;
     put(&mut queue, 1, 2)?;
-    assert_eq!(rt; keep_back(&mut queue), Some(entry(1, 2)));
+    same(&rt, keep_back(&mut queue), Some(entry(1, 2)));
     queue.reserve(3)?;
     queue.clear();
-    assert!(rt; queue.is_empty());
-    assert_eq!(rt; queue.first(), None);
-    assert!(rt; !has(&queue, stream(0)));
+    is_true(&rt, queue.is_empty());
+    same(&rt, queue.first(), None);
+    is_true(&rt, !has(&queue, stream(0)));
     put(&mut queue, 2, 0)?;
-    assert_eq!(rt; queue.take_first(), Some(entry(2, 0)));
+    same(&rt, queue.take_first(), Some(entry(2, 0)));
     Ok(())
 }
 
@@ -231,14 +247,14 @@ fn asked_of_each_id(rt: HostRuntime) -> Result<(), Fail> {
     let mut queue = SendQueue::new(alloc);
     let mut offsets = BTreeMap::new(alloc);
     offsets.insert(stream(2), 7u64)?;
-    assert!(rt; !can_send(&queue, &offsets));
+    is_true(&rt, !can_send(&queue, &offsets));
     put(&mut queue, 0, 1)?;
     put(&mut queue, 1, 2)?;
-    assert!(rt; !can_send(&queue, &offsets));
+    is_true(&rt, !can_send(&queue, &offsets));
     put(&mut queue, 2, 0)?;
-    assert!(rt; can_send(&queue, &offsets));
-    assert!(rt; has(&queue, stream(0)) && has(&queue, stream(1)));
-    assert!(rt; !has(&queue, stream(3)));
+    is_true(&rt, can_send(&queue, &offsets));
+    is_true(&rt, has(&queue, stream(0)) && has(&queue, stream(1)));
+    is_true(&rt, !has(&queue, stream(3)));
     Ok(())
 }
 
@@ -250,8 +266,8 @@ fn refused_room_changes_nothing(rt: HostRuntime) -> Result<(), Fail> {
         put(&mut queue, index, (index / 10) as i32)?;
     }
     for index in 30..35u32 {
-        assert_eq!(rt; put_anew(&mut queue, 7)?, Some(entry(index, 3)));
-        assert_eq!(rt; put_anew(&mut queue, -7)?, Some(entry(index, 7)));
+        same(&rt, put_anew(&mut queue, 7)?, Some(entry(index, 3)));
+        same(&rt, put_anew(&mut queue, -7)?, Some(entry(index, 7)));
     }
     let order = [
         (35..40u32, 3),
@@ -262,10 +278,10 @@ fn refused_room_changes_nothing(rt: HostRuntime) -> Result<(), Fail> {
     ];
     for (indexes, priority) in order {
         for index in indexes {
-            assert_eq!(rt; queue.take_first(), Some(entry(index, priority)));
+            same(&rt, queue.take_first(), Some(entry(index, priority)));
         }
     }
-    assert_eq!(rt; queue.take_first(), None);
+    same(&rt, queue.take_first(), None);
     Ok(())
 }
 
@@ -279,12 +295,12 @@ fn no_number_up_to_65537_is_refused(rt: HostRuntime) -> Result<(), Fail> {
         queue.put(stream(index), -1);
     }
     for index in (0..65_537u32).rev() {
-        assert_eq!(rt; queue.take_first(), Some(entry(index, index as i32)));
+        same(&rt, queue.take_first(), Some(entry(index, index as i32)));
     }
     for index in 0..65_537u32 {
-        assert_eq!(rt; queue.take_first(), Some(entry(index, -1)));
+        same(&rt, queue.take_first(), Some(entry(index, -1)));
     }
-    assert!(rt; queue.is_empty());
+    is_true(&rt, queue.is_empty());
     Ok(())
 }
 
@@ -335,27 +351,27 @@ fn as_a_sorted_list(rt: HostRuntime) -> Result<(), Fail> {
                 put(&mut queue, index, priority)?;
                 list.put(entry(index, priority))?;
             }
-            7..=9 => assert_eq!(rt; queue.take_first(), list.take_first(), "at {index}"),
+            7..=9 => same_for(&rt, &index, queue.take_first(), list.take_first()),
             10 => {
                 list.kept = list.take_first();
-                assert_eq!(rt; keep_back(&mut queue), list.kept, "at {index}");
+                same_for(&rt, &index, keep_back(&mut queue), list.kept);
             }
-            11 => assert_eq!(rt; let_go(&mut queue), list.take_first(), "at {index}"),
+            11 => same_for(&rt, &index, let_go(&mut queue), list.take_first()),
             _ => {
                 let first = list.take_first();
-                assert_eq!(rt; put_anew(&mut queue, priority)?, first, "at {index}");
+                same_for(&rt, &index, put_anew(&mut queue, priority)?, first);
                 if let Some(first) = first {
                     list.put(Entry { priority, ..first })?;
                 }
             }
         }
-        assert_eq!(rt; queue.first(), list.first(), "at {index}");
-        assert_eq!(rt; queue.is_empty(), list.first().is_none(), "at {index}");
+        same_for(&rt, &index, queue.first(), list.first());
+        same_for(&rt, &index, queue.is_empty(), list.first().is_none());
     }
     for _ in 0..2000 {
-        assert_eq!(rt; queue.take_first(), list.take_first());
+        same(&rt, queue.take_first(), list.take_first());
     }
-    assert!(rt; queue.is_empty());
+    is_true(&rt, queue.is_empty());
     Ok(())
 }
 
@@ -373,16 +389,16 @@ fn a_copy_has_the_same_streams(rt: HostRuntime) -> Result<(), Fail> {
     for index in 0..100u32 {
         put(&mut queue, index, (index % 7) as i32 - 3)?;
     }
-    assert!(rt; keep_back(&mut queue).is_some());
+    is_true(&rt, keep_back(&mut queue).is_some());
     queue.reserve(9)?;
     let mut copy = copy_of(&queue)?;
     queue.release();
     put(&mut copy, 200, 9)?;
-    assert_eq!(rt; copy.take_first(), queue.take_first());
-    assert_eq!(rt; copy.take_first(), Some(entry(200, 9)));
+    same(&rt, copy.take_first(), queue.take_first());
+    same(&rt, copy.take_first(), Some(entry(200, 9)));
     for _ in 0..100 {
-        assert_eq!(rt; copy.take_first(), queue.take_first());
+        same(&rt, copy.take_first(), queue.take_first());
     }
-    assert!(rt; queue.is_empty() && copy.is_empty());
+    is_true(&rt, queue.is_empty() && copy.is_empty());
     Ok(())
 }

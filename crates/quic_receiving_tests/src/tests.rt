@@ -8,7 +8,22 @@ use quic_values::{Bytes, Dir, OutOfMemory, Side, StreamId, VarInt};
 use quic_wire::frame::Stream;
 use quic_wire::{ReceiveError, TransportError};
 use std::alloc::Global;
+use std::fmt::Debug;
 use std::process::Abort;
+
+// Both are the same, or the test fails and shows them.
+fn same<T: PartialEq + Debug + Drop>(rt: &impl Abort, found: T, wanted: T) {
+    assert_eq!(rt; found, wanted);
+}
+
+// The same of a case, which is shown too.
+fn same_for<C: Debug, T: PartialEq + Debug + Drop>(rt: &impl Abort, case: &C, found: T, wanted: T) {
+    assert_eq!(rt; found, wanted, "{case:?}");
+}
+
+fn is_true(rt: &impl Abort, holds: bool) {
+    assert!(rt; holds);
+}
 
 // What a frame came to.
 #[derive(Clone, Copy, Debug, PartialEq, Eq)]
@@ -74,7 +89,7 @@ struct Subject {
 
 // The calls, with nothing of what they promise: a test looks at what they answer and leave.
 fn half(rt: &impl Abort, alloc: Global, limit: u64) -> Recv {
-    assert!(rt; limit < 1 << 62);
+    is_true(rt, limit < 1 << 62);
     Recv::new(alloc, limit)
 }
 
@@ -84,8 +99,8 @@ fn try_ingest(
     frame: Stream,
     payload_len: usize,
 ) -> Result<(u64, bool), ReceiveError> {
-    assert!(rt; frame.bytes.len() <= payload_len);
-    assert!(rt; subject.half.reset_code().is_none());
+    is_true(rt, frame.bytes.len() <= payload_len);
+    is_true(rt, subject.half.reset_code().is_none());
     let (received, max_data) = (subject.received, subject.max_data);
     subject.half.ingest(frame, payload_len, received, max_data)
 }
@@ -116,7 +131,7 @@ fn window(half: &Recv, size: u64) -> (u64, ShouldTransmit) {
 }
 
 fn record_sent(rt: &impl Abort, half: &mut Recv, limit: u64) {
-    assert!(rt; limit < 1 << 62);
+    is_true(rt, limit < 1 << 62);
     half.record_sent_max_stream_data(limit);
 }
 
@@ -196,8 +211,8 @@ fn expect_read(
     why: Why,
 ) -> Result<(), OutOfMemory> {
     let (given, answer) = read(rt, alloc, half, ordered)?;
-    assert_eq!(rt; given.as_slice(), bytes);
-    assert_eq!(rt; answer, why);
+    same(rt, given.as_slice(), bytes);
+    same(rt, answer, why);
     Ok(())
 }
 
@@ -213,21 +228,23 @@ fn take(
             subject.max_data = max_data;
         }
         Step::Data(offset, bytes, answer) => {
-            assert_eq!(rt;
+            same_for(
+                rt,
+                &offset,
                 ingest(rt, alloc, subject, offset, bytes, bytes.len(), false)?,
                 answer,
-                "at {offset}"
             );
         }
         Step::Last(offset, bytes, answer) => {
-            assert_eq!(rt;
+            same_for(
+                rt,
+                &offset,
                 ingest(rt, alloc, subject, offset, bytes, bytes.len(), true)?,
                 answer,
-                "at {offset}"
             );
         }
         Step::Reset(code, size, answer) => {
-            assert_eq!(rt; reset(rt, subject, code, size), answer, "at {size}");
+            same_for(rt, &size, reset(rt, subject, code, size), answer);
         }
         Step::Ordered(bytes, why) => expect_read(rt, alloc, &mut subject.half, true, bytes, why)?,
         Step::Unordered(bytes, why) => expect_read(
@@ -247,21 +264,21 @@ fn take(
 fn ask(rt: &impl Abort, half: &mut Recv, step: Step) {
     match step {
         Step::Stop(credit, transmit) => {
-            assert_eq!(rt; stop(half), Ok((credit, ShouldTransmit(transmit))));
+            same(rt, stop(half), Ok((credit, ShouldTransmit(transmit))));
         }
         Step::StopAgain => {
-            assert_eq!(rt; stop(half), Err(ClosedStream));
+            same(rt, stop(half), Err(ClosedStream));
         }
         Step::Window(size, limit, transmit) => {
             let wanted = (limit, ShouldTransmit(transmit));
-            assert_eq!(rt; window(half, size), wanted);
+            same(rt, window(half, size), wanted);
         }
         Step::Sent(limit) => {
             record_sent(rt, half, limit);
         }
         Step::Is(end, read, unknown) => {
             let is = (half.end(), bytes_read(half), half.final_offset_unknown());
-            assert_eq!(rt; is, (end, read, unknown));
+            same(rt, is, (end, read, unknown));
         }
         _ => {}
     }

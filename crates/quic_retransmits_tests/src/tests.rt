@@ -4,11 +4,26 @@ use quic_retransmits::{IssuedCid, Retransmits, ThinRetransmits};
 use quic_wire::frame::{Crypto, StopSending};
 use quic_wire::{Bytes, OutOfMemory, ReceiveError, StreamId, TransportError, VarInt};
 use std::alloc::Global;
+use std::fmt::Debug;
 use std::net::{IpAddr, Ipv4Addr, SocketAddr};
 use std::process::Abort;
 use std::test::Fail;
 
 mod settling;
+
+// Both are the same, or the test fails and shows them.
+fn same<T: PartialEq + Debug + Drop>(rt: &impl Abort, found: T, wanted: T) {
+    assert_eq!(rt; found, wanted);
+}
+
+// The same of a case, which is shown too.
+fn same_for<C: Debug, T: PartialEq + Debug + Drop>(rt: &impl Abort, case: &C, found: T, wanted: T) {
+    assert_eq!(rt; found, wanted, "{case:?}");
+}
+
+fn is_true(rt: &impl Abort, holds: bool) {
+    assert!(rt; holds);
+}
 
 const FIRST: [u32; 1] = [0];
 
@@ -96,43 +111,51 @@ fn filled_thin(alloc: Global, numbers: &[u32]) -> Result<ThinRetransmits, OutOfM
 
 // The lists have what belongs to these numbers, in their order, crypto in its own, and the sets have just that.
 fn shows(rt: &impl Abort, set: &Retransmits, numbers: &[u32], crypto: &[u32]) {
-    assert_eq!(rt; set.reset_stream.len(), numbers.len());
-    assert_eq!(rt; set.stop_sending.len(), numbers.len());
-    assert_eq!(rt; set.max_stream_data.len(), numbers.len());
-    assert_eq!(rt; set.stream_data_blocked.len(), numbers.len());
-    assert_eq!(rt; set.new_cids.len(), numbers.len());
-    assert_eq!(rt; set.retire_cids.len(), numbers.len());
-    assert_eq!(rt; set.new_tokens.len(), numbers.len());
+    same(rt, set.reset_stream.len(), numbers.len());
+    same(rt, set.stop_sending.len(), numbers.len());
+    same(rt, set.max_stream_data.len(), numbers.len());
+    same(rt, set.stream_data_blocked.len(), numbers.len());
+    same(rt, set.new_cids.len(), numbers.len());
+    same(rt, set.retire_cids.len(), numbers.len());
+    same(rt, set.new_tokens.len(), numbers.len());
     for (place, number) in numbers.iter().enumerate() {
         let error_code = VarInt::from(*number);
         let id = id(*number);
-        assert_eq!(rt;
+        same(
+            rt,
             set.reset_stream.get(place).copied(),
-            Some((id, error_code))
+            Some((id, error_code)),
         );
-        assert_eq!(rt;
+        same(
+            rt,
             set.stop_sending.get(place).copied(),
-            Some(StopSending { id, error_code })
+            Some(StopSending { id, error_code }),
         );
-        assert!(rt; set.max_stream_data.contains(&id));
-        assert!(rt; set.stream_data_blocked.contains(&id));
-        assert_eq!(rt;
+        is_true(rt, set.max_stream_data.contains(&id));
+        is_true(rt, set.stream_data_blocked.contains(&id));
+        same(
+            rt,
             set.new_cids.get(place).map(|cid| cid.sequence),
-            Some(u64::from(*number))
+            Some(u64::from(*number)),
         );
-        assert_eq!(rt;
+        same(
+            rt,
             set.retire_cids.get(place).copied(),
-            Some(u64::from(*number))
+            Some(u64::from(*number)),
         );
-        assert_eq!(rt; set.new_tokens.get(place).copied(), Some(address(*number)));
+        same(
+            rt,
+            set.new_tokens.get(place).copied(),
+            Some(address(*number)),
+        );
     }
     shows_crypto(rt, set, crypto);
 }
 
 fn shows_crypto(rt: &impl Abort, set: &Retransmits, numbers: &[u32]) {
-    assert_eq!(rt; set.crypto.len(), numbers.len());
+    same(rt, set.crypto.len(), numbers.len());
     for (frame, number) in set.crypto.iter().zip(numbers) {
-        assert_eq!(rt; frame.offset, u64::from(*number));
+        same(rt, frame.offset, u64::from(*number));
     }
 }
 
@@ -173,14 +196,18 @@ fn lists_go_behind_and_sets_are_united(rt: HostRuntime) -> Result<(), Fail> {
     other.max_stream_id = [false, true];
     other.handshake_done = true;
     merge(&mut set, other)?;
-    assert_eq!(rt;
+    same(
+        &rt,
         set.reset_stream.as_slice(),
-        [(id(2), VarInt::from(7)), (id(6), VarInt::from(1))].as_slice()
+        [(id(2), VarInt::from(7)), (id(6), VarInt::from(1))].as_slice(),
     );
-    assert_eq!(rt; set.max_stream_data.len(), 2);
-    assert!(rt; set.max_stream_data.contains(&id(2)) && set.max_stream_data.contains(&id(6)));
-    assert_eq!(rt; set.max_stream_id, [true, true]);
-    assert!(rt; set.handshake_done && !set.max_data);
+    same(&rt, set.max_stream_data.len(), 2);
+    is_true(
+        &rt,
+        set.max_stream_data.contains(&id(2)) && set.max_stream_data.contains(&id(6)),
+    );
+    same(&rt, set.max_stream_id, [true, true]);
+    is_true(&rt, set.handshake_done && !set.max_data);
     Ok(())
 }
 
@@ -258,7 +285,10 @@ fn refused_clone_leaves_its_source(rt: HostRuntime) -> Result<(), Fail> {
 #[test]
 fn refused_thin_clone_leaves_its_source(rt: HostRuntime) -> Result<(), Fail> {
     let alloc = rt.alloc();
-    assert!(rt; copy_thin(&ThinRetransmits::new(alloc))?.get().is_none());
+    is_true(
+        &rt,
+        copy_thin(&ThinRetransmits::new(alloc))?.get().is_none(),
+    );
     let thin = filled_thin(alloc, &FIRST)?;
     let copy = match copy_thin(&thin) {
         Ok(copy) => copy,
@@ -272,15 +302,16 @@ fn refused_thin_clone_leaves_its_source(rt: HostRuntime) -> Result<(), Fail> {
 #[test]
 fn get_or_create_makes_one(rt: HostRuntime) -> Result<(), Fail> {
     let mut thin = ThinRetransmits::new(rt.alloc());
-    assert!(rt; thin.get().is_none());
+    is_true(&rt, thin.get().is_none());
     if thin.get_or_create().is_err() {
-        assert!(rt; thin.get().is_none());
+        is_true(&rt, thin.get().is_none());
     }
     thin.get_or_create()?.max_data = true;
     thin.get_or_create()?.data_blocked = true;
-    assert_eq!(rt;
+    same(
+        &rt,
         thin.get().map(|set| (set.max_data, set.data_blocked)),
-        Some((true, true))
+        Some((true, true)),
     );
     Ok(())
 }
@@ -296,17 +327,17 @@ fn code_of(refused: Result<(), ReceiveError>) -> Option<u64> {
 fn fifty_ids_wait_at_most(rt: HostRuntime) -> Result<(), Fail> {
     let refused = Some(TransportError::CONNECTION_ID_LIMIT_ERROR);
     let mut set = Retransmits::new(rt.alloc());
-    assert_eq!(rt; code_of(set.retire_cids(0..u64::MAX)), refused);
-    assert_eq!(rt; set.retire_cids.len(), 0);
+    same(&rt, code_of(set.retire_cids(0..u64::MAX)), refused);
+    same(&rt, set.retire_cids.len(), 0);
     if set.retire_cids(0..50) == Err(ReceiveError::OutOfMemory) {
-        assert_eq!(rt; set.retire_cids.len(), 0);
+        same(&rt, set.retire_cids.len(), 0);
         set.retire_cids(0..50)?;
     }
-    assert_eq!(rt; code_of(set.retire_cids(50..51)), refused);
+    same(&rt, code_of(set.retire_cids(50..51)), refused);
     set.retire_cids(7..7)?;
-    assert_eq!(rt; set.retire_cids.len(), 50);
+    same(&rt, set.retire_cids.len(), 50);
     for (waiting, number) in set.retire_cids.iter().zip(0..50u64) {
-        assert_eq!(rt; *waiting, number);
+        same(&rt, *waiting, number);
     }
     Ok(())
 }
@@ -326,33 +357,18 @@ fn pass(rt: &impl Abort, alloc: Global, count: u32) -> Result<(), OutOfMemory> {
     let many = numbers(alloc, 3, count)?;
     let mut set = filled(alloc, few.as_slice())?;
     merge(&mut set, filled(alloc, many.as_slice())?)?;
-    assert_eq!(rt;
-        set.new_tokens.len(),
-        count as usize + 3,
-        "{count} behind 3"
-    );
-    assert_eq!(rt;
-        set.max_stream_data.len(),
-        count as usize + 3,
-        "{count} behind 3"
-    );
+    same_for(rt, &count, set.new_tokens.len(), count as usize + 3);
+    same_for(rt, &count, set.max_stream_data.len(), count as usize + 3);
     let mut set = filled(alloc, many.as_slice())?;
     merge(&mut set, filled(alloc, few.as_slice())?)?;
     let set = copy(&set)?;
-    assert_eq!(rt;
-        set.new_tokens.len(),
-        count as usize + 3,
-        "3 behind {count}"
-    );
-    assert_eq!(rt;
-        set.new_tokens.last().copied(),
-        Some(address(2)),
-        "3 behind {count}"
-    );
-    assert_eq!(rt;
+    same_for(rt, &count, set.new_tokens.len(), count as usize + 3);
+    same_for(rt, &count, set.new_tokens.last().copied(), Some(address(2)));
+    same_for(
+        rt,
+        &count,
         set.crypto.front().map(|frame| frame.offset),
         Some(0),
-        "3 before {count}"
     );
     Ok(())
 }

@@ -1,6 +1,7 @@
 use quic_sending::SendBuffer;
 use quic_values::{Bytes, OutOfMemory};
 use std::alloc::Global;
+use std::fmt::Debug;
 use std::ops::Range;
 use std::process::Abort;
 
@@ -9,13 +10,27 @@ mod half;
 mod sizes;
 mod sources;
 
+// Both are the same, or the test fails and shows them.
+fn same<T: PartialEq + Debug + Drop>(rt: &impl Abort, found: T, wanted: T) {
+    assert_eq!(rt; found, wanted);
+}
+
+// The same of a case, which is shown too.
+fn same_for<C: Debug, T: PartialEq + Debug + Drop>(rt: &impl Abort, case: &C, found: T, wanted: T) {
+    assert_eq!(rt; found, wanted, "{case:?}");
+}
+
+fn is_true(rt: &impl Abort, holds: bool) {
+    assert!(rt; holds);
+}
+
 // The calls, with nothing of what they promise: a test looks at what they answer and leave.
 fn empty(alloc: Global) -> SendBuffer {
     SendBuffer::new(alloc)
 }
 
 fn write_piece(rt: &impl Abort, buffer: &mut SendBuffer, piece: Bytes) -> Result<(), OutOfMemory> {
-    assert!(rt; piece.len() < 1 << 40 && buffer.offset() < 1 << 40);
+    is_true(rt, piece.len() < 1 << 40 && buffer.offset() < 1 << 40);
     buffer.write(piece)
 }
 
@@ -24,22 +39,22 @@ fn poll(
     buffer: &mut SendBuffer,
     max_len: usize,
 ) -> Result<(Range<u64>, bool), OutOfMemory> {
-    assert!(rt; max_len >= 16);
+    is_true(rt, max_len >= 16);
     buffer.poll_transmit(max_len)
 }
 
 fn next(rt: &impl Abort, buffer: &SendBuffer, max_len: usize) -> (Range<u64>, bool) {
-    assert!(rt; max_len >= 16);
+    is_true(rt, max_len >= 16);
     buffer.next_transmit(max_len)
 }
 
 fn ack(rt: &impl Abort, buffer: &mut SendBuffer, range: Range<u64>) -> Result<(), OutOfMemory> {
-    assert!(rt; range.end <= buffer.unsent());
+    is_true(rt, range.end <= buffer.unsent());
     buffer.ack(range)
 }
 
 fn lose(rt: &impl Abort, buffer: &mut SendBuffer, range: Range<u64>) -> Result<(), OutOfMemory> {
-    assert!(rt; range.end <= buffer.unsent());
+    is_true(rt, range.end <= buffer.unsent());
     buffer.retransmit(range)
 }
 
@@ -80,6 +95,6 @@ fn chunks_of(alloc: Global, texts: &[&[u8]]) -> Result<Vec<Bytes>, OutOfMemory> 
 
 fn are_left(rt: &impl Abort, chunks: &[Bytes], texts: &[&[u8]]) {
     for (chunk, text) in chunks.iter().zip(texts) {
-        assert_eq!(rt; chunk.as_slice(), *text);
+        same(rt, chunk.as_slice(), *text);
     }
 }

@@ -24,7 +24,26 @@ use quic_values::{Bytes, Dir, OutOfMemory, Side, StreamId, VarInt};
 use quic_wire::frame::{ResetStream, Stream};
 use quic_wire::{ReceiveError, StreamEvent, TransportError};
 use std::alloc::Global;
+use std::fmt::Debug;
 use std::process::Abort;
+
+// Both are the same, or the test fails and shows them.
+fn same<T: PartialEq + Debug + Drop>(rt: &impl Abort, found: T, wanted: T) {
+    assert_eq!(rt; found, wanted);
+}
+
+// The same of a case, which is shown too.
+fn same_for<C: Debug, T: PartialEq + Debug + Drop>(rt: &impl Abort, case: &C, found: T, wanted: T) {
+    assert_eq!(rt; found, wanted, "{case:?}");
+}
+
+fn is_true_for<C: Debug>(rt: &impl Abort, case: &C, holds: bool) {
+    assert!(rt; holds, "{case:?}");
+}
+
+fn is_true(rt: &impl Abort, holds: bool) {
+    assert!(rt; holds);
+}
 
 const WINDOW: u32 = 1 << 20;
 
@@ -192,7 +211,7 @@ fn data(
     if answer != Answer::NoMemory {
         return Ok(answer);
     }
-    assert_eq!(rt; counts(subject), before);
+    same(rt, counts(subject), before);
     receive(alloc, subject, stream, offset, count, fin)
 }
 
@@ -211,7 +230,7 @@ fn reset(rt: &impl Abort, subject: &mut Subject, stream: u32, code: u32, size: u
     if answer != Answer::NoMemory {
         return answer;
     }
-    assert_eq!(rt; counts(subject), before);
+    same(rt, counts(subject), before);
     reset_once(subject, stream, code, size)
 }
 
@@ -226,7 +245,7 @@ fn last_of(error: ReadError) -> Last {
 // A chunk has the bytes of its place. Answers how many.
 fn length_of(rt: &impl Abort, alloc: Global, chunk: &Chunk) -> Result<usize, OutOfMemory> {
     let expected = pattern(alloc, chunk.offset, chunk.bytes.len())?;
-    assert_eq!(rt; chunk.bytes.as_slice(), expected.as_slice());
+    same(rt, chunk.bytes.as_slice(), expected.as_slice());
     Ok(chunk.bytes.len())
 }
 
@@ -243,12 +262,15 @@ fn go_on(
         match next_chunk(chunks, most) {
             Ok(Some(chunk)) => given = given.saturating_add(length_of(rt, alloc, &chunk)?),
             Ok(None) => {
-                assert!(rt; matches!(next_chunk(chunks, most), Ok(None)));
+                is_true(rt, matches!(next_chunk(chunks, most), Ok(None)));
                 return Ok((given, Last::Ended));
             }
             Err(error) => {
                 if let ReadError::Reset(_) = error {
-                    assert!(rt; matches!(next_chunk(chunks, most), Err(ReadError::Reset(_))));
+                    is_true(
+                        rt,
+                        matches!(next_chunk(chunks, most), Err(ReadError::Reset(_))),
+                    );
                 }
                 return Ok((given, last_of(error)));
             }
@@ -379,7 +401,7 @@ fn stop(rt: &impl Abort, subject: &mut Subject, stream: u32) -> bool {
     }
     let second = subject.stop(stream, STOP_CODE);
     if second.is_err() {
-        assert_eq!(rt; counts(subject), before);
+        same(rt, counts(subject), before);
     }
     second.is_ok()
 }
@@ -411,7 +433,7 @@ fn take_reads(
     given: Given,
 ) -> Result<Subject, OutOfMemory> {
     let (subject, is) = read(rt, alloc, subject, stream, ordered, reads)?;
-    assert_eq!(rt; is, given, "reads of {stream}");
+    same_for(rt, &stream, is, given);
     Ok(subject)
 }
 
@@ -431,11 +453,11 @@ fn take(
         }
         Step::Data(stream, offset, count, answer) => {
             let is = data(rt, alloc, &mut subject, stream, offset, count, false)?;
-            assert_eq!(rt; is, answer, "data at {offset} of {stream}");
+            same_for(rt, &(offset, stream), is, answer);
         }
         Step::Final(stream, offset, count, answer) => {
             let is = data(rt, alloc, &mut subject, stream, offset, count, true)?;
-            assert_eq!(rt; is, answer, "the last data at {offset} of {stream}");
+            same_for(rt, &(offset, stream), is, answer);
         }
         Step::Limit(stream, limit) => {
             let bytes = [0x11, stream, limit];
@@ -458,9 +480,9 @@ fn next_told(subject: &mut Subject) -> Option<StreamEvent> {
 fn tells_readable(rt: &impl Abort, subject: &mut Subject, streams: &[u32]) {
     for stream in streams {
         let event = Some(StreamEvent::Readable { id: id(*stream) });
-        assert_eq!(rt; next_told(subject), event);
+        same(rt, next_told(subject), event);
     }
-    assert_eq!(rt; next_told(subject), None);
+    same(rt, next_told(subject), None);
 }
 
 // The steps that need no memory of their own.
@@ -468,17 +490,17 @@ fn ask(rt: &impl Abort, subject: &mut Subject, step: Step) {
     match step {
         Step::Reset(stream, code, size, answer) => {
             let is = reset(rt, subject, stream, code, size);
-            assert_eq!(rt; is, answer, "reset of {stream} at {size}");
+            same_for(rt, &(stream, size), is, answer);
         }
         Step::Stop(stream, open) => {
-            assert_eq!(rt; stop(rt, subject, stream), open, "stop of {stream}");
+            same_for(rt, &stream, stop(rt, subject, stream), open);
         }
         Step::Told(stream, answer) => {
-            assert_eq!(rt; ask_code(subject, stream), answer, "reset of {stream}");
+            same_for(rt, &stream, ask_code(subject, stream), answer);
         }
         Step::Credit(credits, due) => {
             let is = subject.add_read_credits(credits);
-            assert_eq!(rt; is, ShouldTransmit(due));
+            same(rt, is, ShouldTransmit(due));
         }
         Step::Readable(streams) => tells_readable(rt, subject, streams),
         _ => shows(rt, subject, step),
@@ -490,12 +512,12 @@ fn shows(rt: &impl Abort, subject: &Subject, step: Step) {
     match step {
         Step::Is(credit, received) => {
             let given = subject.local_max_data().saturating_sub(subject.window);
-            assert_eq!(rt; (given, subject.data_recvd()), (credit, received));
+            same(rt, (given, subject.data_recvd()), (credit, received));
         }
         Step::Remote(bi, uni, opened) => {
             let is = (subject.max_remote(Dir::Bi), subject.max_remote(Dir::Uni));
-            assert_eq!(rt; is, (bi, uni));
-            assert_eq!(rt; subject.next_remote(Dir::Uni), opened);
+            same(rt, is, (bi, uni));
+            same(rt, subject.next_remote(Dir::Uni), opened);
         }
         _ => waits(rt, &subject.pending, step),
     }
@@ -503,26 +525,26 @@ fn shows(rt: &impl Abort, subject: &Subject, step: Step) {
 
 // MAX_STREAM_DATA is to be sent for these streams.
 fn has_windows(rt: &impl Abort, pending: &Retransmits, streams: &[u32]) {
-    assert_eq!(rt; pending.max_stream_data.len(), streams.len());
+    same(rt, pending.max_stream_data.len(), streams.len());
     for stream in streams {
-        assert!(rt; pending.max_stream_data.contains(&id(*stream)));
+        is_true(rt, pending.max_stream_data.contains(&id(*stream)));
     }
 }
 
 // STOP_SENDING is to be sent for these streams.
 fn has_stops(rt: &impl Abort, pending: &Retransmits, streams: &[u32]) {
-    assert_eq!(rt; pending.stop_sending.len(), streams.len());
+    same(rt, pending.stop_sending.len(), streams.len());
     for (frame, stream) in pending.stop_sending.iter().zip(streams) {
         let is = (frame.id, frame.error_code);
-        assert_eq!(rt; is, (id(*stream), VarInt::from(STOP_CODE)));
+        same(rt, is, (id(*stream), VarInt::from(STOP_CODE)));
     }
 }
 
 // What waits to be sent.
 fn waits(rt: &impl Abort, pending: &Retransmits, step: Step) {
     match step {
-        Step::MaxData(due) => assert_eq!(rt; pending.max_data, due),
-        Step::MaxStreams(bi, uni) => assert_eq!(rt; pending.max_stream_id, [bi, uni]),
+        Step::MaxData(due) => same(rt, pending.max_data, due),
+        Step::MaxStreams(bi, uni) => same(rt, pending.max_stream_id, [bi, uni]),
         Step::Windows(streams) => has_windows(rt, pending, streams),
         Step::Stops(streams) => has_stops(rt, pending, streams),
         _ => {}

@@ -2,19 +2,29 @@ use quic_values::{
     Bytes, ChunkList, Dir, MAX_STREAM_COUNT, OutOfMemory, RangeSet, Side, StreamId, VarInt,
 };
 use std::alloc::Global;
+use std::fmt::Debug;
 use std::ops::Range;
 use std::process::Abort;
 use std::test::Fail;
 
+// Both are the same, or the test fails and shows them.
+fn same<T: PartialEq + Debug + Drop>(rt: &impl Abort, found: T, wanted: T) {
+    assert_eq!(rt; found, wanted);
+}
+
+fn is_true(rt: &impl Abort, holds: bool) {
+    assert!(rt; holds);
+}
+
 // The runs of a set, lowest first, after which the set is empty.
 fn is_runs(rt: &impl Abort, set: &mut RangeSet, runs: &[Range<u64>]) {
     for run in runs {
-        assert_eq!(rt; set.min(), Some(run.start));
-        assert_eq!(rt; set.pop_min().as_ref(), Some(run));
+        same(rt, set.min(), Some(run.start));
+        same(rt, set.pop_min().as_ref(), Some(run));
     }
-    assert!(rt; set.is_empty());
-    assert_eq!(rt; set.pop_min(), None);
-    assert_eq!(rt; set.min(), None);
+    is_true(rt, set.is_empty());
+    same(rt, set.pop_min(), None);
+    same(rt, set.min(), None);
 }
 
 fn set_of(alloc: Global, runs: &[Range<u64>]) -> Result<RangeSet, OutOfMemory> {
@@ -28,13 +38,13 @@ fn set_of(alloc: Global, runs: &[Range<u64>]) -> Result<RangeSet, OutOfMemory> {
 #[test]
 fn runs_that_touch_are_joined(rt: HostRuntime) -> Result<(), Fail> {
     let mut set = set_of(rt.alloc(), &[0..2, 8..10])?;
-    assert!(rt; set.insert(2..4)?);
-    assert!(rt; set.insert(6..8)?);
-    assert!(rt; !set.insert(3..4)?);
-    assert!(rt; !set.insert(5..5)?);
+    is_true(&rt, set.insert(2..4)?);
+    is_true(&rt, set.insert(6..8)?);
+    is_true(&rt, !set.insert(3..4)?);
+    is_true(&rt, !set.insert(5..5)?);
     let mut copy = set.try_clone()?;
     is_runs(&rt, &mut set, &[0..4, 6..10]);
-    assert!(rt; copy.insert(4..6)?);
+    is_true(&rt, copy.insert(4..6)?);
     is_runs(&rt, &mut copy, &[0..10]);
     Ok(())
 }
@@ -42,13 +52,16 @@ fn runs_that_touch_are_joined(rt: HostRuntime) -> Result<(), Fail> {
 #[test]
 fn a_run_that_is_cut_keeps_both_ends(rt: HostRuntime) -> Result<(), Fail> {
     let mut set = set_of(rt.alloc(), &[0..10, 20..30])?;
-    assert!(rt; set.remove(3..5)?);
-    assert!(rt; set.remove(8..22)?);
-    assert!(rt; !set.remove(10..20)?);
-    assert!(rt; set.contains(2) && !set.contains(3) && !set.contains(4) && set.contains(5));
-    assert_eq!(rt; set.run_from(1), Some(1..3));
-    assert_eq!(rt; set.run_from(3), Some(5..8));
-    assert_eq!(rt; set.run_from(30), None);
+    is_true(&rt, set.remove(3..5)?);
+    is_true(&rt, set.remove(8..22)?);
+    is_true(&rt, !set.remove(10..20)?);
+    is_true(
+        &rt,
+        set.contains(2) && !set.contains(3) && !set.contains(4) && set.contains(5),
+    );
+    same(&rt, set.run_from(1), Some(1..3));
+    same(&rt, set.run_from(3), Some(5..8));
+    same(&rt, set.run_from(30), None);
     is_runs(&rt, &mut set, &[0..3, 5..8, 22..30]);
     Ok(())
 }
@@ -56,8 +69,8 @@ fn a_run_that_is_cut_keeps_both_ends(rt: HostRuntime) -> Result<(), Fail> {
 #[test]
 fn the_highest_numbers_are_kept(rt: HostRuntime) -> Result<(), Fail> {
     let mut set = set_of(rt.alloc(), &[u64::MAX - 1..u64::MAX])?;
-    assert!(rt; set.contains(u64::MAX - 1) && !set.contains(u64::MAX));
-    assert!(rt; set.remove(0..u64::MAX)?);
+    is_true(&rt, set.contains(u64::MAX - 1) && !set.contains(u64::MAX));
+    is_true(&rt, set.remove(0..u64::MAX)?);
     is_runs(&rt, &mut set, &[]);
     Ok(())
 }
@@ -97,14 +110,18 @@ fn ids_have_their_bits(rt: HostRuntime) -> Result<(), Fail> {
     ];
     for (side, dir, index, number, text) in samples {
         let id = StreamId::new(side, dir, index);
-        assert_eq!(rt; VarInt::from(id).into_inner(), number);
-        assert_eq!(rt; (id.initiator(), id.dir(), id.index()), (side, dir, index));
-        assert_eq!(rt; StreamId::from(VarInt::from(id)), id);
+        same(&rt, VarInt::from(id).into_inner(), number);
+        same(
+            &rt,
+            (id.initiator(), id.dir(), id.index()),
+            (side, dir, index),
+        );
+        same(&rt, StreamId::from(VarInt::from(id)), id);
         let printed = format!(in rt.alloc(); "{id}")?;
-        assert_eq!(rt; printed.as_str(), text);
+        same(&rt, printed.as_str(), text);
     }
-    assert_eq!(rt; !Side::Client, Side::Server);
-    assert!(rt; Side::Client.is_client() && !Side::Server.is_client());
+    same(&rt, !Side::Client, Side::Server);
+    is_true(&rt, Side::Client.is_client() && !Side::Server.is_client());
     Ok(())
 }
 
@@ -119,31 +136,31 @@ fn numbers_are_printed_as_digits(rt: HostRuntime) -> Result<(), Fail> {
     ];
     for (number, size, text) in samples {
         let number = VarInt::from_u64(number).ok_or("a number below 2^62")?;
-        assert_eq!(rt; number.size(), size);
+        same(&rt, number.size(), size);
         let printed = format!(in rt.alloc(); "{number}")?;
-        assert_eq!(rt; printed.as_str(), text);
+        same(&rt, printed.as_str(), text);
     }
-    assert_eq!(rt; VarInt::from_u64(1 << 62), None);
-    assert_eq!(rt; VarInt::MAX.into_inner(), 4_611_686_018_427_387_903);
+    same(&rt, VarInt::from_u64(1 << 62), None);
+    same(&rt, VarInt::MAX.into_inner(), 4_611_686_018_427_387_903);
     let printed = format!(in rt.alloc(); "{}", OutOfMemory)?;
-    assert_eq!(rt; printed.as_str(), "out of memory");
+    same(&rt, printed.as_str(), "out of memory");
     Ok(())
 }
 
 #[test]
 fn bytes_keep_what_was_not_let_go(rt: HostRuntime) -> Result<(), Fail> {
     let mut bytes = Bytes::from(Vec::from_slice(rt.alloc(), b"hello world")?);
-    assert_eq!(rt; bytes.len(), 11);
+    same(&rt, bytes.len(), 11);
     let front = bytes.split_to(2)?;
-    assert_eq!(rt; front.as_slice(), b"he".as_slice());
-    assert_eq!(rt; bytes.len(), 9);
+    same(&rt, front.as_slice(), b"he".as_slice());
+    same(&rt, bytes.len(), 9);
     bytes.advance(4);
     bytes.extend_from_slice(b"!")?;
     let copy = bytes.try_clone()?;
-    assert!(rt; copy == bytes && !bytes.is_empty());
+    is_true(&rt, copy == bytes && !bytes.is_empty());
     let content = bytes.into_vec();
-    assert_eq!(rt; content.as_slice(), b"world!".as_slice());
-    assert!(rt; Bytes::new(rt.alloc()).is_empty());
+    same(&rt, content.as_slice(), b"world!".as_slice());
+    is_true(&rt, Bytes::new(rt.alloc()).is_empty());
     Ok(())
 }
 
@@ -179,7 +196,7 @@ fn no_number_of_runs_is_refused(rt: HostRuntime) -> Result<(), Fail> {
         let middle = 1u64 << power;
         for wanted in [middle.saturating_sub(1), middle, middle.saturating_add(1)] {
             for index in count..wanted {
-                assert!(rt; insert(&mut set, start_of(index))?);
+                is_true(&rt, insert(&mut set, start_of(index))?);
             }
             count = wanted.max(count);
             let mut copy = set.try_clone()?;
@@ -187,13 +204,13 @@ fn no_number_of_runs_is_refused(rt: HostRuntime) -> Result<(), Fail> {
                 copy.contains(0) == (count > 0) && !copy.contains(3),
                 "{count} runs"
             );
-            assert_eq!(rt; cut(&mut copy, 0)?, count > 0);
+            same(&rt, cut(&mut copy, 0)?, count > 0);
         }
     }
     for index in 0..count {
-        assert!(rt; cut(&mut set, start_of(index))?);
+        is_true(&rt, cut(&mut set, start_of(index))?);
     }
-    assert!(rt; has_runs(&mut set, 131_074, 1));
+    is_true(&rt, has_runs(&mut set, 131_074, 1));
     Ok(())
 }
 
@@ -245,14 +262,14 @@ fn chunks_of(alloc: Global, chunks: &[&[u8]]) -> Result<ChunkList, OutOfMemory> 
 }
 
 fn has_chunks(rt: &impl Abort, list: &ChunkList, chunks: &[&[u8]]) {
-    assert_eq!(rt; list.len(), chunks.len());
+    same(rt, list.len(), chunks.len());
     for (index, chunk) in chunks.iter().enumerate() {
         match list.get(index) {
-            Some(bytes) => assert_eq!(rt; bytes, *chunk),
+            Some(bytes) => same(rt, bytes, *chunk),
             None => panic!(rt; "no chunk {index}"),
         }
     }
-    assert!(rt; list.get(chunks.len()).is_none());
+    is_true(rt, list.get(chunks.len()).is_none());
 }
 
 #[test]
@@ -266,13 +283,17 @@ fn chunks_keep_where_they_are_parted(rt: HostRuntime) -> Result<(), Fail> {
 #[test]
 fn lists_of_the_same_bytes_differ_where_they_are_parted(rt: HostRuntime) -> Result<(), Fail> {
     let list = chunks_of(rt.alloc(), &[b"ab", b"c"])?;
-    assert!(rt; list == chunks_of(rt.alloc(), &[b"ab", b"c"])?);
-    assert!(rt; list != chunks_of(rt.alloc(), &[b"a", b"bc"])?);
-    assert!(rt; list != chunks_of(rt.alloc(), &[b"ab", b"c", b""])?);
-    assert!(rt; !list.is_empty() && ChunkList::new(rt.alloc()).is_empty());
-    assert_eq!(rt;
+    is_true(&rt, list == chunks_of(rt.alloc(), &[b"ab", b"c"])?);
+    is_true(&rt, list != chunks_of(rt.alloc(), &[b"a", b"bc"])?);
+    is_true(&rt, list != chunks_of(rt.alloc(), &[b"ab", b"c", b""])?);
+    is_true(
+        &rt,
+        !list.is_empty() && ChunkList::new(rt.alloc()).is_empty(),
+    );
+    same(
+        &rt,
         format!(in rt.alloc(); "{list:?}")?.as_str(),
-        "[[97, 98], [99]]"
+        "[[97, 98], [99]]",
     );
     Ok(())
 }
@@ -305,7 +326,7 @@ fn no_number_of_chunks_is_refused(rt: HostRuntime) -> Result<(), Fail> {
                     None => panic!(rt; "no chunk {index} of {count}"),
                 }
             }
-            assert!(rt; list.len().checked_sub(1) == Some(count));
+            is_true(&rt, list.len().checked_sub(1) == Some(count));
             assert!(rt; joined.as_slice() == content.as_slice(), "{count} chunks");
         }
     }

@@ -7,8 +7,23 @@ use quic_wire::{
     VarInt, decode,
 };
 use std::alloc::Global;
+use std::fmt::Debug;
 use std::process::Abort;
 use std::test::Fail;
+
+// Both are the same, or the test fails and shows them.
+fn same<T: PartialEq + Debug + Drop>(rt: &impl Abort, found: T, wanted: T) {
+    assert_eq!(rt; found, wanted);
+}
+
+// The same of a case, which is shown too.
+fn same_for<C: Debug, T: PartialEq + Debug + Drop>(rt: &impl Abort, case: &C, found: T, wanted: T) {
+    assert_eq!(rt; found, wanted, "{case:?}");
+}
+
+fn is_true(rt: &impl Abort, holds: bool) {
+    assert!(rt; holds);
+}
 
 fn id(index: u64) -> StreamId {
     StreamId::new(Side::Client, Dir::Bi, index % 1024)
@@ -139,12 +154,12 @@ fn numbers_are_read_and_written_as_the_rfc_shows(rt: HostRuntime) -> Result<(), 
         payload.extend_from_slice(bytes)?;
         let frames = decode(rt.alloc(), &payload)?;
         let limit = VarInt::from_u64(number).ok_or("a number below 2^62")?;
-        assert_eq!(rt; frames.as_slice(), [Frame::MaxData(limit)].as_slice());
+        same(&rt, frames.as_slice(), [Frame::MaxData(limit)].as_slice());
         if shortest {
             let mut written = Vec::new(rt.alloc());
             limit.encode(&mut written)?;
-            assert_eq!(rt; written.as_slice(), bytes);
-            assert_eq!(rt; limit.size(), bytes.len());
+            same(&rt, written.as_slice(), bytes);
+            same(&rt, limit.size(), bytes.len());
         }
     }
     Ok(())
@@ -158,9 +173,10 @@ fn every_kind_is_read_in_every_length_of_field(rt: HostRuntime) -> Result<(), Fa
         put_kinds(&mut payload, length_bits)?;
         push_kinds(rt.alloc(), &mut expected)?;
     }
-    assert_eq!(rt;
+    same(
+        &rt,
         decode(rt.alloc(), &payload)?.as_slice(),
-        expected.as_slice()
+        expected.as_slice(),
     );
     let endings: [(u8, &[u8], u64, bool); 4] = [
         (0x08, &[8], 0, false),
@@ -173,17 +189,22 @@ fn every_kind_is_read_in_every_length_of_field(rt: HostRuntime) -> Result<(), Fa
             let mut whole = payload.clone()?;
             put_frame(&mut whole, length_bits, kind, numbers, b"to the end")?;
             let frames = decode(rt.alloc(), &whole)?;
-            assert_eq!(rt; frames.len(), 4 * KINDS + 1);
-            assert_eq!(rt;
-                frames[4 * KINDS],
-                stream(rt.alloc(), offset, fin, b"to the end")?
+            same(&rt, frames.len(), 4 * KINDS + 1);
+            same(
+                &rt,
+                &frames[4 * KINDS],
+                &stream(rt.alloc(), offset, fin, b"to the end")?,
             );
         }
     }
     put_frame(&mut payload, 0, 0x30, &[], b"to the end")?;
     let frames = decode(rt.alloc(), &payload)?;
-    assert_eq!(rt; frames.len(), 4 * KINDS + 1);
-    assert_eq!(rt; frames[4 * KINDS], datagram(rt.alloc(), b"to the end")?);
+    same(&rt, frames.len(), 4 * KINDS + 1);
+    same(
+        &rt,
+        &frames[4 * KINDS],
+        &datagram(rt.alloc(), b"to the end")?,
+    );
     Ok(())
 }
 
@@ -197,17 +218,17 @@ fn a_prefix_is_read_only_where_a_frame_ends(rt: HostRuntime) -> Result<(), Fail>
         for len in 0..=payload.len() {
             match decode(rt.alloc(), &payload[..len]) {
                 Ok(front) => {
-                    assert!(rt; front.len() <= frames.len());
-                    assert_eq!(rt; front.len(), read, "at {len}");
-                    assert_eq!(rt; front.as_slice(), &frames[..front.len()]);
+                    is_true(&rt, front.len() <= frames.len());
+                    same_for(&rt, &len, front.len(), read);
+                    same(&rt, front.as_slice(), &frames[..front.len()]);
                     read += 1;
                 }
                 Err(DecodeError::Malformed) => {}
                 Err(DecodeError::OutOfMemory) => return Err(OutOfMemory)?,
             }
-            assert!(rt; read <= len + 1);
+            is_true(&rt, read <= len + 1);
         }
-        assert_eq!(rt; read, KINDS + 1);
+        same(&rt, read, KINDS + 1);
     }
     Ok(())
 }
@@ -217,14 +238,18 @@ fn of_single_bytes_only_an_empty_datagram_is_a_frame(rt: HostRuntime) -> Result<
     for byte in 0..=255u8 {
         match decode(rt.alloc(), &[byte]) {
             Ok(frames) => {
-                assert_eq!(rt; byte, 0x30);
-                assert_eq!(rt; frames.as_slice(), [datagram(rt.alloc(), b"")?].as_slice());
+                same(&rt, byte, 0x30);
+                same(
+                    &rt,
+                    frames.as_slice(),
+                    [datagram(rt.alloc(), b"")?].as_slice(),
+                );
             }
             Err(DecodeError::Malformed) => assert_ne!(rt; byte, 0x30),
             Err(DecodeError::OutOfMemory) => return Err(OutOfMemory)?,
         }
     }
-    assert_eq!(rt; decode(rt.alloc(), &[])?.len(), 0);
+    same(&rt, decode(rt.alloc(), &[])?.len(), 0);
     Ok(())
 }
 
@@ -239,17 +264,17 @@ fn comes_back(
     match buf {
         [] => assert!(rt; false, "the byte was lost"),
         [first, rest @ ..] => {
-            assert_eq!(rt; *first, 0x30);
+            same(rt, *first, 0x30);
             if encoded.is_err() {
-                assert_eq!(rt; rest.len(), 0);
+                same(rt, rest.len(), 0);
                 return;
             }
             match decode(alloc, rest) {
                 Ok(frames) => {
-                    assert_eq!(rt; frames.len(), 1);
-                    assert!(rt; &frames[0] == frame);
+                    same(rt, frames.len(), 1);
+                    is_true(rt, &frames[0] == frame);
                 }
-                Err(error) => assert_eq!(rt; error, DecodeError::OutOfMemory),
+                Err(error) => same(rt, error, DecodeError::OutOfMemory),
             }
         }
     }
@@ -284,8 +309,8 @@ fn a_refused_allocation_is_answered(rt: HostRuntime) {
     let mut buf = Vec::new(alloc);
     if put_kinds(&mut buf, 2).is_ok() {
         match decode(alloc, &buf) {
-            Ok(frames) => assert_eq!(rt; frames.len(), KINDS),
-            Err(error) => assert_eq!(rt; error, DecodeError::OutOfMemory),
+            Ok(frames) => same(&rt, frames.len(), KINDS),
+            Err(error) => same(&rt, error, DecodeError::OutOfMemory),
         }
     }
 }
@@ -296,7 +321,7 @@ fn what_is_written_is_read_again(rt: HostRuntime) -> Result<(), Fail> {
         dir: Dir::Uni,
         count: 1 << 40,
     };
-    assert_eq!(rt; again(rt.alloc(), &frame)?.len(), 1);
+    same(&rt, again(rt.alloc(), &frame)?.len(), 1);
     Ok(())
 }
 
@@ -312,14 +337,14 @@ fn errors_print_their_texts(rt: HostRuntime) -> Result<(), Fail> {
     ];
     for (error, text) in errors {
         let printed = format!(in rt.alloc(); "{error}")?;
-        assert_eq!(rt; printed.as_str(), text);
+        same(&rt, printed.as_str(), text);
     }
     for (error, text) in [
         (DecodeError::Malformed, "malformed frame"),
         (DecodeError::OutOfMemory, "out of memory"),
     ] {
         let printed = format!(in rt.alloc(); "{error}")?;
-        assert_eq!(rt; printed.as_str(), text);
+        same(&rt, printed.as_str(), text);
     }
     Ok(())
 }
@@ -338,29 +363,29 @@ fn what_is_made_or_copied_is_there(rt: HostRuntime) -> Result<(), Fail> {
         (TransportError::new(77, "i"), 77),
     ];
     for (error, code) in codes {
-        assert_eq!(rt; error.code, code);
+        same(&rt, error.code, code);
     }
     let crypto = Crypto {
         offset: 5,
         bytes: Bytes::copy_from_slice(rt.alloc(), b"hello")?,
     };
-    assert_eq!(rt; crypto.try_clone()?, crypto);
+    same(&rt, crypto.try_clone()?, crypto);
     let meta = StreamMeta {
         id: id(2),
         offsets: 4..6,
         fin: false,
     };
-    assert_eq!(rt; meta.clone()?, meta);
+    same(&rt, &meta.clone()?, &meta);
     let mut buf = Vec::new(rt.alloc());
     meta.encode(true, &mut buf)?;
-    assert_eq!(rt; buf.as_slice(), [0x0e, 8, 4, 2].as_slice());
+    same(&rt, buf.as_slice(), [0x0e, 8, 4, 2].as_slice());
     let datagram = Datagram {
         bytes: Bytes::copy_from_slice(rt.alloc(), b"abc")?,
     };
-    assert_eq!(rt; (datagram.size(true), datagram.size(false)), (5, 4));
+    same(&rt, (datagram.size(true), datagram.size(false)), (5, 4));
     let mut buf = Vec::new(rt.alloc());
     datagram.encode(true, &mut buf)?;
-    assert_eq!(rt; buf.as_slice(), b"\x31\x03abc".as_slice());
+    same(&rt, buf.as_slice(), b"\x31\x03abc".as_slice());
     Ok(())
 }
 
@@ -422,9 +447,9 @@ fn no_size_up_to_65537_is_refused(rt: HostRuntime) -> Result<(), Fail> {
             let written = encoded(rt.alloc(), &content)?;
             assert!(rt; written.starts_with(&[0x0d, 8, 5]), "{size} bytes");
             assert!(rt; written.ends_with(&content), "{size} bytes");
-            assert_eq!(rt; written.len(), content.len().saturating_add(3));
+            same(&rt, written.len(), content.len().saturating_add(3));
             let many = decoded(rt.alloc(), &limits(rt.alloc(), size)?)?;
-            assert_eq!(rt; many.len(), size);
+            same(&rt, many.len(), size);
         }
     }
     Ok(())

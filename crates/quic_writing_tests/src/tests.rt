@@ -9,8 +9,19 @@ use quic_sending::ByteSlice;
 use quic_values::{Dir, OutOfMemory, Side, StreamId, VarInt};
 use quic_writing::{StreamMetaVec, write_stream_frames};
 use std::alloc::Global;
+use std::fmt::Debug;
+use std::process::Abort;
 use std::rt::HostRuntime;
 use std::test::Fail;
+
+// Both are the same, or the test fails and shows them.
+fn same<T: PartialEq + Debug + Drop>(rt: &impl Abort, found: T, wanted: T) {
+    assert_eq!(rt; found, wanted);
+}
+
+fn is_true(rt: &impl Abort, holds: bool) {
+    assert!(rt; holds);
+}
 
 #[derive(Drop)]
 struct Session {
@@ -120,22 +131,23 @@ fn two_streams(alloc: Global) -> Result<Session, OutOfMemory> {
 fn two_streams_in_turn(rt: HostRuntime) -> Result<(), Fail> {
     let mut session = two_streams(rt.alloc())?;
     fill(&mut session, 30, true)?;
-    assert!(rt; is_filled(&session, &[0x08, 0x02], b'a', 28));
+    is_true(&rt, is_filled(&session, &[0x08, 0x02], b'a', 28));
     let first = session.sent.as_slice();
-    assert_eq!(rt; first.len(), 1);
-    assert!(rt;
+    same(&rt, first.len(), 1);
+    is_true(
+        &rt,
         first
             .iter()
-            .all(|m| m.id == id(2) && m.offsets == (0..28) && !m.fin)
+            .all(|m| m.id == id(2) && m.offsets == (0..28) && !m.fin),
     );
     fill(&mut session, 30, true)?;
-    assert!(rt; is_filled(&session, &[0x08, 0x06], b'b', 28));
+    is_true(&rt, is_filled(&session, &[0x08, 0x06], b'b', 28));
     fill(&mut session, 30, true)?;
-    assert!(rt; is_filled(&session, &[0x0e, 0x02, 0x1c, 0x02], b'a', 2));
+    is_true(&rt, is_filled(&session, &[0x0e, 0x02, 0x1c, 0x02], b'a', 2));
     fill(&mut session, 30, true)?;
-    assert!(rt; is_filled(&session, &[0x0e, 0x06, 0x1c, 0x02], b'b', 2));
+    is_true(&rt, is_filled(&session, &[0x0e, 0x06, 0x1c, 0x02], b'b', 2));
     fill(&mut session, 30, true)?;
-    assert!(rt; is_filled(&session, &[], 0, 0));
+    is_true(&rt, is_filled(&session, &[], 0, 0));
     Ok(())
 }
 
@@ -143,13 +155,13 @@ fn two_streams_in_turn(rt: HostRuntime) -> Result<(), Fail> {
 fn one_stream_to_its_end(rt: HostRuntime) -> Result<(), Fail> {
     let mut session = two_streams(rt.alloc())?;
     fill(&mut session, 30, false)?;
-    assert!(rt; is_filled(&session, &[0x08, 0x02], b'a', 28));
+    is_true(&rt, is_filled(&session, &[0x08, 0x02], b'a', 28));
     fill(&mut session, 30, false)?;
-    assert!(rt; is_filled(&session, &[0x0e, 0x02, 0x1c, 0x02], b'a', 2));
+    is_true(&rt, is_filled(&session, &[0x0e, 0x02, 0x1c, 0x02], b'a', 2));
     fill(&mut session, 30, false)?;
-    assert!(rt; is_filled(&session, &[0x08, 0x06], b'b', 28));
+    is_true(&rt, is_filled(&session, &[0x08, 0x06], b'b', 28));
     fill(&mut session, 30, false)?;
-    assert!(rt; is_filled(&session, &[0x0e, 0x06, 0x1c, 0x02], b'b', 2));
+    is_true(&rt, is_filled(&session, &[0x0e, 0x06, 0x1c, 0x02], b'b', 2));
     Ok(())
 }
 
@@ -157,15 +169,15 @@ fn one_stream_to_its_end(rt: HostRuntime) -> Result<(), Fail> {
 #[test]
 fn a_new_priority_counts_from_the_next_turn_on(rt: HostRuntime) -> Result<(), Fail> {
     let mut session = two_streams(rt.alloc())?;
-    assert!(rt; session.streams.set_priority(id(2), -1).is_ok());
+    is_true(&rt, session.streams.set_priority(id(2), -1).is_ok());
     fill(&mut session, 30, true)?;
-    assert!(rt; is_filled(&session, &[0x08, 0x02], b'a', 28));
+    is_true(&rt, is_filled(&session, &[0x08, 0x02], b'a', 28));
     fill(&mut session, 30, true)?;
-    assert!(rt; is_filled(&session, &[0x08, 0x06], b'b', 28));
+    is_true(&rt, is_filled(&session, &[0x08, 0x06], b'b', 28));
     fill(&mut session, 30, true)?;
-    assert!(rt; is_filled(&session, &[0x0e, 0x06, 0x1c, 0x02], b'b', 2));
+    is_true(&rt, is_filled(&session, &[0x0e, 0x06, 0x1c, 0x02], b'b', 2));
     fill(&mut session, 30, true)?;
-    assert!(rt; is_filled(&session, &[0x0e, 0x02, 0x1c, 0x02], b'a', 2));
+    is_true(&rt, is_filled(&session, &[0x0e, 0x02, 0x1c, 0x02], b'a', 2));
     Ok(())
 }
 
@@ -174,31 +186,35 @@ fn an_end_behind_its_bytes(rt: HostRuntime) -> Result<(), Fail> {
     let mut session = client(rt.alloc(), 1)?;
     write(&mut session, 2, b'h', 2)?;
     fill(&mut session, 100, true)?;
-    assert!(rt; is_filled(&session, &[0x0a, 0x02, 0x02, b'h', b'h'], 0, 0));
+    is_true(
+        &rt,
+        is_filled(&session, &[0x0a, 0x02, 0x02, b'h', b'h'], 0, 0),
+    );
     finish(&mut session, 2)?;
     fill(&mut session, 100, true)?;
-    assert!(rt; is_filled(&session, &[0x0f, 0x02, 0x02, 0x00], 0, 0));
+    is_true(&rt, is_filled(&session, &[0x0f, 0x02, 0x02, 0x00], 0, 0));
     Ok(())
 }
 
 #[test]
 fn higher_priorities_first(rt: HostRuntime) -> Result<(), Fail> {
     let mut session = client(rt.alloc(), 3)?;
-    assert!(rt; session.streams.set_priority(id(2), i32::MIN).is_ok());
-    assert!(rt; session.streams.set_priority(id(6), i32::MAX).is_ok());
+    is_true(&rt, session.streams.set_priority(id(2), i32::MIN).is_ok());
+    is_true(&rt, session.streams.set_priority(id(6), i32::MAX).is_ok());
     write(&mut session, 2, b'a', 1)?;
     write(&mut session, 6, b'b', 1)?;
     write(&mut session, 10, b'c', 1)?;
     fill(&mut session, 60, true)?;
-    assert!(rt;
+    is_true(
+        &rt,
         is_filled(
             &session,
             &[
-                0x0a, 0x06, 0x01, b'b', 0x0a, 0x0a, 0x01, b'c', 0x0a, 0x02, 0x01, b'a'
+                0x0a, 0x06, 0x01, b'b', 0x0a, 0x0a, 0x01, b'c', 0x0a, 0x02, 0x01, b'a',
             ],
             0,
-            0
-        )
+            0,
+        ),
     );
     Ok(())
 }
@@ -208,11 +224,11 @@ fn a_reset_stream_is_let_go(rt: HostRuntime) -> Result<(), Fail> {
     let mut session = two_streams(rt.alloc())?;
     let code = VarInt::from(7);
     let reset = session.streams.reset(&mut session.pending, id(2), code);
-    assert!(rt; reset.is_ok());
+    is_true(&rt, reset.is_ok());
     session.streams.remove(id(6));
     fill(&mut session, 100, true)?;
-    assert!(rt; is_filled(&session, &[], 0, 0));
-    assert!(rt; session.queue.is_empty());
+    is_true(&rt, is_filled(&session, &[], 0, 0));
+    is_true(&rt, session.queue.is_empty());
     Ok(())
 }
 
@@ -221,9 +237,9 @@ fn no_frame_where_the_greatest_head_does_not_fit(rt: HostRuntime) -> Result<(), 
     let mut session = client(rt.alloc(), 1)?;
     write(&mut session, 2, b'a', 1)?;
     fill(&mut session, 25, true)?;
-    assert!(rt; is_filled(&session, &[], 0, 0));
+    is_true(&rt, is_filled(&session, &[], 0, 0));
     fill(&mut session, 26, true)?;
-    assert!(rt; is_filled(&session, &[0x0a, 0x02, 0x01], b'a', 1));
+    is_true(&rt, is_filled(&session, &[0x0a, 0x02, 0x01], b'a', 1));
     Ok(())
 }
 
@@ -242,7 +258,10 @@ fn a_thousand_priorities(rt: HostRuntime) -> Result<(), Fail> {
     for index in 0..MANY {
         let stream = index.wrapping_mul(4).wrapping_add(2);
         let priority = (rank(u64::from(index)) as i32).wrapping_sub(500);
-        assert!(rt; session.streams.set_priority(id(stream), priority).is_ok());
+        is_true(
+            &rt,
+            session.streams.set_priority(id(stream), priority).is_ok(),
+        );
         write(&mut session, stream, 1, 1)?;
     }
     let mut left = u64::from(MANY);
@@ -250,10 +269,10 @@ fn a_thousand_priorities(rt: HostRuntime) -> Result<(), Fail> {
         fill(&mut session, 100, true)?;
         for meta in session.sent.as_slice() {
             left = left.wrapping_sub(1);
-            assert_eq!(rt; rank(meta.id.index()), left);
+            same(&rt, rank(meta.id.index()), left);
         }
     }
-    assert_eq!(rt; left, 0);
-    assert!(rt; session.queue.is_empty());
+    same(&rt, left, 0);
+    is_true(&rt, session.queue.is_empty());
     Ok(())
 }

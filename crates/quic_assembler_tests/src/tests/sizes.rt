@@ -1,5 +1,5 @@
 // With ample memory no size is refused.
-use super::{Assembler, Body, Fail, HeapAssembler, insert, read};
+use super::{Assembler, Body, Fail, HeapAssembler, insert, is_true, read, same, same_for};
 use std::alloc::{AllocError, Global};
 use std::process::Abort;
 
@@ -25,13 +25,14 @@ fn pass<B: Body + Drop>(
     size: usize,
     seed: u32,
 ) -> Result<(), Fail> {
-    assert!(rt; size < 1 << 20);
+    is_true(rt, size < 1 << 20);
     let bytes = draw(alloc, seed, size)?;
     let start = a.bytes_given();
-    assert_eq!(rt;
+    same_for(
+        rt,
+        &size,
         insert(rt, a, alloc, start, bytes.as_slice(), size)?,
         Ok(()),
-        "{size} bytes"
     );
     let mut given = Vec::new(alloc);
     for most in [seed as usize % (size + 1), usize::MAX] {
@@ -39,7 +40,7 @@ fn pass<B: Body + Drop>(
             given.extend_from_slice(chunk.bytes.as_slice())?;
         }
     }
-    assert_eq!(rt; given.as_slice(), bytes.as_slice(), "{size} bytes");
+    same_for(rt, &size, given.as_slice(), bytes.as_slice());
     Ok(())
 }
 
@@ -67,10 +68,11 @@ fn pass_backwards<B: Body + Drop>(rt: &impl Abort, alloc: Global) -> Result<(), 
     let mut a = B::made(alloc);
     let bytes = draw(alloc, 20_260_722, 65_537)?;
     for (at, byte) in bytes.iter().enumerate().rev() {
-        assert_eq!(rt;
+        same_for(
+            rt,
+            &at,
             insert(rt, &mut a, alloc, at as u64, &[*byte], 1)?,
             Ok(()),
-            "at {at}"
         );
     }
     let mut given = Vec::new(alloc);
@@ -79,7 +81,7 @@ fn pass_backwards<B: Body + Drop>(rt: &impl Abort, alloc: Global) -> Result<(), 
             given.extend_from_slice(chunk.bytes.as_slice())?;
         }
     }
-    assert_eq!(rt; given.as_slice(), bytes.as_slice());
+    same(rt, given.as_slice(), bytes.as_slice());
     Ok(())
 }
 

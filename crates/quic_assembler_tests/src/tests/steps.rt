@@ -1,4 +1,4 @@
-use super::{Bytes, Chunk, Fail, HeapAssembler, OutOfMemory};
+use super::{Bytes, Chunk, Fail, HeapAssembler, OutOfMemory, same};
 use quic_ordered::{Op, ReplayError, replay};
 use std::alloc::Global;
 use std::process::Abort;
@@ -23,11 +23,11 @@ fn assert_replay(
 ) -> Result<(), Fail> {
     let mut a = HeapAssembler::new(alloc);
     let mut out: Vec<Chunk> = Vec::new(alloc);
-    assert_eq!(rt; replay(&mut a, ops, &mut out), answer);
-    assert_eq!(rt; out.len(), wanted.len());
+    same(rt, replay(&mut a, ops, &mut out), answer);
+    same(rt, out.len(), wanted.len());
     for (chunk, (offset, text)) in out.iter().zip(wanted) {
-        assert_eq!(rt; chunk.offset, *offset);
-        assert_eq!(rt; chunk.bytes.as_slice(), text.as_bytes());
+        same(rt, chunk.offset, *offset);
+        same(rt, chunk.bytes.as_slice(), text.as_bytes());
     }
     Ok(())
 }

@@ -1,5 +1,6 @@
 ghost use Rattle.std.specs.Prelude.{◌<◌};
 
+use super::{is_true, same};
 use quic_assembler::{Chunk, HeapAssembler, Op, ReplayError, replay};
 use quic_ordered::Assembler;
 use quic_values::Bytes;
@@ -95,15 +96,15 @@ fn both_bodies_give_the_same_bytes(rt: HostRuntime) -> Result<(), Fail> {
         let ops = steps(alloc, seed, 40 + 5 * size, 200 + 40 * size)?;
         let (outcome, chunks, read) = replay_ordered(alloc, &ops);
         let (heap_outcome, heap_chunks, heap_read) = replay_heap(alloc, &ops);
-        assert_eq!(rt; outcome, Ok(()));
-        assert_eq!(rt; heap_outcome, Ok(()));
+        same(&rt, outcome, Ok(()));
+        same(&rt, heap_outcome, Ok(()));
         let bytes = joined(alloc, &chunks)?;
-        assert_eq!(rt; bytes, joined(alloc, &heap_chunks)?);
-        assert!(rt; bytes.len() as u64 >= 200 + 40 * size);
-        assert_eq!(rt; read, bytes.len() as u64);
-        assert_eq!(rt; heap_read, bytes.len() as u64);
+        same(&rt, &bytes, &joined(alloc, &heap_chunks)?);
+        is_true(&rt, bytes.len() as u64 >= 200 + 40 * size);
+        same(&rt, read, bytes.len() as u64);
+        same(&rt, heap_read, bytes.len() as u64);
         for (index, byte) in bytes.iter().enumerate() {
-            assert_eq!(rt; *byte, byte_at(index as u64));
+            same(&rt, *byte, byte_at(index as u64));
         }
     }
     Ok(())
@@ -114,8 +115,8 @@ fn note_given(rt: &impl Abort, chunk: &Chunk, given: &mut [bool]) {
     for (index, byte) in chunk.bytes.as_slice().iter().enumerate() {
         let offset = chunk.offset.wrapping_add(index as u64);
         let place = offset as usize;
-        assert_eq!(rt; *byte, byte_at(offset));
-        assert!(rt; place < given.len() && !given[place]);
+        same(rt, *byte, byte_at(offset));
+        is_true(rt, place < given.len() && !given[place]);
         given[place] = true;
     }
 }
@@ -131,12 +132,12 @@ fn both_bodies_give_each_byte_once_in_unordered_mode(rt: HostRuntime) -> Result<
             ops.push(op)?;
         }
         let (outcome, chunks, _) = replay_ordered(alloc, &ops);
-        assert_eq!(rt; outcome, Ok(()));
+        same(&rt, outcome, Ok(()));
         let mut given = vec![in alloc; false; span as usize + 40]?;
         for chunk in &chunks {
             note_given(&rt, chunk, &mut given);
         }
-        assert!(rt; given.iter().take(span as usize).all(|given| *given));
+        is_true(&rt, given.iter().take(span as usize).all(|given| *given));
     }
     Ok(())
 }

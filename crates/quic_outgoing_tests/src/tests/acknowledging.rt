@@ -1,5 +1,5 @@
 // Acknowledgements and losses of frames.
-use super::{Answer, Step, Subject, ack, end, holds, id, limit, lose, run, sends};
+use super::{Answer, Step, Subject, ack, end, holds, id, is_true, limit, lose, run, same, sends};
 use quic_values::{Dir, Side};
 use std::process::Abort;
 use std::rt::HostRuntime;
@@ -18,8 +18,8 @@ fn acked(
     match ack(subject, stream, start..end, fin) {
         Ok(done) => done,
         Err(_) => {
-            assert_eq!(rt; limit(subject), before);
-            assert!(rt; holds(subject, stream));
+            same(rt, limit(subject), before);
+            is_true(rt, holds(subject, stream));
             ack(subject, stream, start..end, fin) == Ok(true)
         }
     }
@@ -38,7 +38,7 @@ fn lost(
         Ok(queue_at) => queue_at,
         Err(_) => {
             let again = lose(subject, stream, start..end, fin);
-            assert!(rt; again.is_ok());
+            is_true(rt, again.is_ok());
             again.unwrap_or(None)
         }
     }
@@ -65,14 +65,14 @@ fn what_is_acknowledged_is_released(rt: HostRuntime) -> Result<(), Fail> {
     ];
     run(&rt, alloc, &mut subject, &steps);
     // Nothing was sent yet.
-    assert_eq!(&rt; acked(&rt, &mut subject, 2, 0, 4, false), false);
+    same(&rt, acked(&rt, &mut subject, 2, 0, 4, false), false);
     run(&rt, alloc, &mut subject, &[Step::Limit(0)]);
-    assert!(&rt; sends(alloc, &mut subject, 2, 0..8, false));
-    assert_eq!(&rt; acked(&rt, &mut subject, 2, 4, 8, false), false);
+    is_true(&rt, sends(alloc, &mut subject, 2, 0..8, false));
+    same(&rt, acked(&rt, &mut subject, 2, 4, 8, false), false);
     run(&rt, alloc, &mut subject, &[Step::Limit(0)]);
-    assert_eq!(&rt; acked(&rt, &mut subject, 2, 0, 9, false), false);
+    same(&rt, acked(&rt, &mut subject, 2, 0, 9, false), false);
     run(&rt, alloc, &mut subject, &[Step::Limit(0)]);
-    assert_eq!(&rt; acked(&rt, &mut subject, 2, 0, 4, false), false);
+    same(&rt, acked(&rt, &mut subject, 2, 0, 4, false), false);
     run(&rt, alloc, &mut subject, &[Step::Limit(8)]);
     Ok(())
 }
@@ -87,15 +87,15 @@ fn complete_streams_are_let_go(rt: HostRuntime) -> Result<(), Fail> {
         Step::Finish(2, Answer::Done(false)),
     ];
     run(&rt, alloc, &mut subject, &steps);
-    assert!(&rt; sends(alloc, &mut subject, 2, 0..8, true));
+    is_true(&rt, sends(alloc, &mut subject, 2, 0..8, true));
     // The end alone is not all.
-    assert_eq!(&rt; acked(&rt, &mut subject, 2, 8, 8, true), false);
-    assert_eq!(&rt; acked(&rt, &mut subject, 2, 4, 8, false), false);
+    same(&rt, acked(&rt, &mut subject, 2, 8, 8, true), false);
+    same(&rt, acked(&rt, &mut subject, 2, 4, 8, false), false);
     run(&rt, alloc, &mut subject, &[Step::Holds(2, true)]);
-    assert_eq!(&rt; acked(&rt, &mut subject, 2, 0, 4, false), true);
+    same(&rt, acked(&rt, &mut subject, 2, 0, 4, false), true);
     run(&rt, alloc, &mut subject, &[Step::Holds(2, false)]);
-    assert_eq!(&rt; acked(&rt, &mut subject, 2, 0, 4, false), false);
-    assert_eq!(&rt; lost(&rt, &mut subject, 2, 0, 4, true), None);
+    same(&rt, acked(&rt, &mut subject, 2, 0, 4, false), false);
+    same(&rt, lost(&rt, &mut subject, 2, 0, 4, true), None);
     Ok(())
 }
 
@@ -110,21 +110,21 @@ fn what_is_lost_is_due_again(rt: HostRuntime) -> Result<(), Fail> {
     ];
     run(&rt, alloc, &mut subject, &steps);
     // It is queued, since nothing was sent.
-    assert_eq!(&rt; lost(&rt, &mut subject, 2, 0, 0, false), None);
-    assert!(&rt; sends(alloc, &mut subject, 2, 0..8, false));
-    assert_eq!(&rt; lost(&rt, &mut subject, 2, 0, 9, false), None);
-    assert_eq!(&rt; lost(&rt, &mut subject, 2, 2, 4, false), Some(7));
-    assert_eq!(&rt; lost(&rt, &mut subject, 2, 0, 2, false), None);
-    assert!(&rt; sends(alloc, &mut subject, 2, 0..4, false));
+    same(&rt, lost(&rt, &mut subject, 2, 0, 0, false), None);
+    is_true(&rt, sends(alloc, &mut subject, 2, 0..8, false));
+    same(&rt, lost(&rt, &mut subject, 2, 0, 9, false), None);
+    same(&rt, lost(&rt, &mut subject, 2, 2, 4, false), Some(7));
+    same(&rt, lost(&rt, &mut subject, 2, 0, 2, false), None);
+    is_true(&rt, sends(alloc, &mut subject, 2, 0..4, false));
     run(
         &rt,
         alloc,
         &mut subject,
         &[Step::Finish(2, Answer::Done(true))],
     );
-    assert!(&rt; sends(alloc, &mut subject, 2, 8..8, true));
-    assert_eq!(&rt; lost(&rt, &mut subject, 2, 8, 8, true), Some(7));
-    assert_eq!(&rt; lost(&rt, &mut subject, 2, 8, 8, true), None);
+    is_true(&rt, sends(alloc, &mut subject, 2, 8..8, true));
+    same(&rt, lost(&rt, &mut subject, 2, 8, 8, true), Some(7));
+    same(&rt, lost(&rt, &mut subject, 2, 8, 8, true), None);
     Ok(())
 }
 
@@ -137,20 +137,20 @@ fn acknowledged_resets_let_go(rt: HostRuntime) -> Result<(), Fail> {
         Step::Write(2, 8, Answer::Took(8, true)),
     ];
     run(&rt, alloc, &mut subject, &steps);
-    assert!(&rt; !reset_acked(&mut subject, 2));
+    is_true(&rt, !reset_acked(&mut subject, 2));
     run(
         &rt,
         alloc,
         &mut subject,
         &[Step::Reset(2, 1, Answer::Done(false)), Step::Holds(2, true)],
     );
-    assert!(&rt; is_reset(&subject, 2));
-    assert_eq!(&rt; acked(&rt, &mut subject, 2, 0, 8, true), false);
-    assert_eq!(&rt; lost(&rt, &mut subject, 2, 0, 8, true), None);
+    is_true(&rt, is_reset(&subject, 2));
+    same(&rt, acked(&rt, &mut subject, 2, 0, 8, true), false);
+    same(&rt, lost(&rt, &mut subject, 2, 0, 8, true), None);
     run(&rt, alloc, &mut subject, &[Step::Holds(2, true)]);
-    assert!(&rt; reset_acked(&mut subject, 2));
+    is_true(&rt, reset_acked(&mut subject, 2));
     run(&rt, alloc, &mut subject, &[Step::Holds(2, false)]);
-    assert!(&rt; !reset_acked(&mut subject, 2));
-    assert!(&rt; !is_reset(&subject, 2));
+    is_true(&rt, !reset_acked(&mut subject, 2));
+    is_true(&rt, !is_reset(&subject, 2));
     Ok(())
 }

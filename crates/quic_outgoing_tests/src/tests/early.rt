@@ -1,5 +1,5 @@
 // An early start that is rejected, or sent again.
-use super::{Answer, Step, Subject, end, id, lose, run, sends};
+use super::{Answer, Step, Subject, end, id, is_true, lose, run, same, sends};
 use quic_values::{Dir, OutOfMemory, Side};
 use std::rt::HostRuntime;
 use std::test::Fail;
@@ -73,19 +73,19 @@ fn what_was_sent_counts_as_not_sent(rt: HostRuntime) -> Result<(), Fail> {
     let mut subject = end(alloc, Side::Client, 3, 10, 9);
     run(&rt, alloc, &mut subject, &OPENED);
     run(&rt, alloc, &mut subject, &[Step::Open(Dir::Uni, Some(10))]);
-    assert!(&rt; sends(alloc, &mut subject, 2, 0..8, false));
-    assert!(&rt; sends(alloc, &mut subject, 6, 0..0, true));
-    assert!(&rt; lose(&mut subject, 2, 2..4, false).is_ok());
-    assert_eq!(&rt; queue_unsent(&subject, 2), None);
-    assert_eq!(&rt; queue_unsent(&subject, 0), None);
-    assert_eq!(&rt; queue_unsent(&subject, 6), Some(0));
-    assert_eq!(&rt; queue_unsent(&subject, 10), None);
-    assert_eq!(&rt; queue_unsent(&subject, 14), None);
-    assert!(&rt; sends(alloc, &mut subject, 2, 2..4, false));
-    assert_eq!(&rt; queue_unsent(&subject, 2), Some(5));
+    is_true(&rt, sends(alloc, &mut subject, 2, 0..8, false));
+    is_true(&rt, sends(alloc, &mut subject, 6, 0..0, true));
+    is_true(&rt, lose(&mut subject, 2, 2..4, false).is_ok());
+    same(&rt, queue_unsent(&subject, 2), None);
+    same(&rt, queue_unsent(&subject, 0), None);
+    same(&rt, queue_unsent(&subject, 6), Some(0));
+    same(&rt, queue_unsent(&subject, 10), None);
+    same(&rt, queue_unsent(&subject, 14), None);
+    is_true(&rt, sends(alloc, &mut subject, 2, 2..4, false));
+    same(&rt, queue_unsent(&subject, 2), Some(5));
     unsend_all(&mut subject);
-    assert!(&rt; sends(alloc, &mut subject, 2, 0..8, false));
-    assert!(&rt; sends(alloc, &mut subject, 0, 0..2, false));
-    assert!(&rt; sends(alloc, &mut subject, 6, 0..0, true));
+    is_true(&rt, sends(alloc, &mut subject, 2, 0..8, false));
+    is_true(&rt, sends(alloc, &mut subject, 0, 0..2, false));
+    is_true(&rt, sends(alloc, &mut subject, 6, 0..0, true));
     Ok(())
 }

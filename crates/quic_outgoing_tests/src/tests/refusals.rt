@@ -1,7 +1,7 @@
 // What want of memory leaves as it was. Run with each allocation refused in turn.
 use super::{
-    Answer, Subject, can_send_blocked, end, finish, holds, id, limit, raise_data, reset, try_open,
-    written,
+    Answer, Subject, can_send_blocked, end, finish, holds, id, is_true, limit, raise_data, reset,
+    same, try_open, written,
 };
 use quic_values::{Dir, Side, VarInt};
 use std::alloc::Global;
@@ -36,7 +36,7 @@ fn write_again(rt: &impl Abort, alloc: Global, subject: &mut Subject, count: usi
     if answer != Answer::NoMemory {
         return answer;
     }
-    assert_eq!(rt; counts(subject, 0), before);
+    same(rt, counts(subject, 0), before);
     written(alloc, subject, 0, count)
 }
 
@@ -46,23 +46,28 @@ fn refusals_change_nothing(rt: HostRuntime) -> Result<(), Fail> {
     let mut subject = end(alloc, Side::Client, 1, 4, 10);
     let before = counts(&subject, 0);
     if try_open(&mut subject, Dir::Bi).is_err() {
-        assert_eq!(&rt; counts(&subject, 0), before);
-        assert!(&rt; matches!(try_open(&mut subject, Dir::Bi), Ok(Some(_))));
+        same(&rt, counts(&subject, 0), before);
+        is_true(&rt, matches!(try_open(&mut subject, Dir::Bi), Ok(Some(_))));
     }
-    assert_eq!(&rt;
+    same(
+        &rt,
         write_again(&rt, alloc, &mut subject, 6),
-        Answer::Took(4, true)
+        Answer::Took(4, true),
     );
-    assert_eq!(&rt; write_again(&rt, alloc, &mut subject, 1), Answer::Blocked);
+    same(
+        &rt,
+        write_again(&rt, alloc, &mut subject, 1),
+        Answer::Blocked,
+    );
     if finish(&mut subject, id(0)) == Answer::NoMemory {
-        assert_eq!(&rt; finish(&mut subject, id(0)), Answer::Done(false));
+        same(&rt, finish(&mut subject, id(0)), Answer::Done(false));
     }
     let before = counts(&subject, 0);
     if reset(&mut subject, id(0), 1) == Answer::NoMemory {
-        assert_eq!(&rt; counts(&subject, 0), before);
-        assert_eq!(&rt; reset(&mut subject, id(0), 1), Answer::Done(false));
+        same(&rt, counts(&subject, 0), before);
+        same(&rt, reset(&mut subject, id(0), 1), Answer::Done(false));
     }
     raise_data(&mut subject, VarInt::MAX);
-    assert_eq!(&rt; subject.pending.reset_stream.len(), 1);
+    same(&rt, subject.pending.reset_stream.len(), 1);
     Ok(())
 }

@@ -1,5 +1,5 @@
 // With ample memory no size is refused.
-use super::{Answer, Step, Subject, end, id, open, raise_data, take, write_bytes};
+use super::{Answer, Step, Subject, end, id, is_true, open, raise_data, take, write_bytes};
 use quic_values::{Dir, OutOfMemory, Side, VarInt};
 use std::alloc::Global;
 use std::process::Abort;
@@ -73,7 +73,7 @@ fn many_streams_wait_and_are_told(rt: HostRuntime) {
         );
     }
     take(&rt, alloc, &mut subject, Step::Poll(None));
-    assert!(&rt; open(&mut subject, Dir::Bi).is_none());
+    is_true(&rt, open(&mut subject, Dir::Bi).is_none());
     raise_data(&mut subject, VarInt::MAX);
 }
 

@@ -1,5 +1,5 @@
 // Frames of one stream, some of whose bytes were lost.
-use super::{Step, Subject, end, id, lose, next_frame, take, write_bytes};
+use super::{Step, Subject, end, id, is_true, lose, next_frame, take, write_bytes};
 use quic_values::{Dir, Side};
 use std::alloc::Global;
 use std::rt::HostRuntime;
@@ -34,19 +34,29 @@ fn a_lost_range_that_is_cut(rt: HostRuntime) -> Result<(), Fail> {
     take(&rt, alloc, &mut subject, Step::Open(Dir::Uni, Some(2)));
     let bytes = vec![in alloc; b'a'; 60]?;
     let _ = write_bytes(alloc, &mut subject, id(2), bytes.as_slice());
-    assert!(rt; is_written(alloc, &mut subject, 70, &[0x0a, 0x02, 0x3c], 60, false));
-    assert!(rt; lose(&mut subject, 2, 0..60, false).is_ok());
-    assert!(rt; is_written(alloc, &mut subject, 40, &[0x08, 0x02], 38, true));
-    assert!(rt;
+    is_true(
+        &rt,
+        is_written(alloc, &mut subject, 70, &[0x0a, 0x02, 0x3c], 60, false),
+    );
+    is_true(&rt, lose(&mut subject, 2, 0..60, false).is_ok());
+    is_true(
+        &rt,
+        is_written(alloc, &mut subject, 40, &[0x08, 0x02], 38, true),
+    );
+    is_true(
+        &rt,
         is_written(
             alloc,
             &mut subject,
             40,
             &[0x0e, 0x02, 0x26, 0x16],
             22,
-            false
-        )
+            false,
+        ),
     );
-    assert!(rt; is_written(alloc, &mut subject, 40, &[0x0e, 0x02, 0x3c, 0x00], 0, false));
+    is_true(
+        &rt,
+        is_written(alloc, &mut subject, 40, &[0x0e, 0x02, 0x3c, 0x00], 0, false),
+    );
     Ok(())
 }

@@ -1,5 +1,5 @@
 // Rows of calls with their answers.
-use super::{Answer, Step, end, id, run, write_chunks};
+use super::{Answer, Step, end, id, run, same, write_chunks};
 use quic_sending::Written;
 use quic_values::{Bytes, Dir, Side};
 use std::rt::HostRuntime;
@@ -217,12 +217,12 @@ fn chunks_are_taken_whole(rt: HostRuntime) -> Result<(), Fail> {
         bytes: 7,
         chunks: 2,
     };
-    assert_eq!(&rt; written, expected);
+    same(&rt, written, expected);
     let mut left = Vec::new(alloc);
     for chunk in &chunks {
         left.extend_from_slice(chunk.as_slice())?;
         left.push(b'/')?;
     }
-    assert_eq!(&rt; left.as_slice(), b"//o/".as_slice());
+    same(&rt, left.as_slice(), b"//o/".as_slice());
     Ok(())
 }

@@ -5,7 +5,7 @@ ghost use Rattle.std.specs.List.{zip};
 ghost use Rattle.quic_pair.specs.State.{pair_state};
 ghost use Rattle.quic_pair.specs.From.{From};
 
-use super::{bytes, config};
+use super::{bytes, config, is_true, same};
 use quic_pair::{Config, End, Last, Pair, PairError, Reply, Step};
 use quic_values::{ChunkList, Dir, OutOfMemory, Side, StreamId, VarInt};
 use std::alloc::Global;
@@ -121,14 +121,14 @@ fn every_kind_of_step_is_answered(rt: HostRuntime) -> Result<(), Fail> {
     push_reader(&mut steps)?;
     push_control(&mut steps)?;
     let taken = take_all(alloc, config(1000), config(1000), steps)?;
-    assert_eq!(rt; taken.replies.len(), STEPS);
+    same(&rt, taken.replies.len(), STEPS);
     for (number, reply) in taken.replies.iter().enumerate() {
         assert!(rt; reply.is_ok(), "{number}");
     }
     let Some(Ok(Reply::Read { chunks, last, .. })) = taken.replies.get(10) else {
         return Err(Fail::from("nothing was read"));
     };
-    assert!(rt; chunks.len() == 1 && *last == Last::Blocked);
-    assert!(rt; taken.pair.end(End::B).was_given(stream()));
+    is_true(&rt, chunks.len() == 1 && *last == Last::Blocked);
+    is_true(&rt, taken.pair.end(End::B).was_given(stream()));
     Ok(())
 }

@@ -1,6 +1,6 @@
 //! Control frames that are lost or acknowledged, payloads of very many frames, and very many pieces.
 
-use super::{NUMBERS, answer, bytes, new_pair, stream};
+use super::{NUMBERS, answer, bytes, is_true, new_pair, same, stream};
 use quic_pair::{Config, End, Last, Pair, PairError, Reply, Step};
 use quic_values::{Bytes, Dir, StreamId, VarInt};
 use quic_wire::{ReceiveError, StreamEvent, TransportError};
@@ -106,17 +106,23 @@ const LIMITS: [u8; 7] = [0x10, 0x40, 0x8c, 0x11, 0x02, 0x40, 0x8c];
 #[test]
 fn lost_limits_go_again(rt: HostRuntime) -> Result<(), Fail> {
     let mut pair = read_pair(rt.alloc())?;
-    assert!(rt; has_bytes(&pair, 1, &LIMITS));
-    assert!(rt; is_refused(&mut pair, ack_control(1), PairError::NotAccepted));
+    is_true(&rt, has_bytes(&pair, 1, &LIMITS));
+    is_true(
+        &rt,
+        is_refused(&mut pair, ack_control(1), PairError::NotAccepted),
+    );
     take(&mut pair, lose_control(1))?;
     take(&mut pair, emit(End::B, 100))?;
-    assert!(rt; has_bytes(&pair, 2, &LIMITS));
+    is_true(&rt, has_bytes(&pair, 2, &LIMITS));
     take(&mut pair, deliver(2, 0))?;
     take(&mut pair, deliver(2, 1))?;
-    assert!(rt; is_replied(&mut pair, ack_control(2), Reply::Done));
-    assert!(rt; is_refused(&mut pair, ack_control(1), PairError::NotAccepted));
+    is_true(&rt, is_replied(&mut pair, ack_control(2), Reply::Done));
+    is_true(
+        &rt,
+        is_refused(&mut pair, ack_control(1), PairError::NotAccepted),
+    );
     take(&mut pair, emit(End::B, 100))?;
-    assert!(rt; has_bytes(&pair, 3, b""));
+    is_true(&rt, has_bytes(&pair, 3, b""));
     Ok(())
 }
 
@@ -133,7 +139,7 @@ fn limits_that_came_permit_more(rt: HostRuntime) -> Result<(), Fail> {
         bytes: Bytes::from(content),
     };
     // 140 are permitted, of which 40 were sent.
-    assert!(rt; is_replied(&mut pair, more, Reply::Wrote(100)));
+    is_true(&rt, is_replied(&mut pair, more, Reply::Wrote(100)));
     Ok(())
 }
 
@@ -143,10 +149,10 @@ fn an_end_knows_the_streams_that_it_was_given(rt: HostRuntime) -> Result<(), Fai
     write_first(&mut pair, rt.alloc(), &NUMBERS)?;
     take(&mut pair, emit(End::A, 100))?;
     take(&mut pair, deliver(0, 0))?;
-    assert!(rt; pair.end(End::A).was_given(stream()));
-    assert!(rt; !pair.end(End::B).was_given(stream()));
+    is_true(&rt, pair.end(End::A).was_given(stream()));
+    is_true(&rt, !pair.end(End::B).was_given(stream()));
     take(&mut pair, accept())?;
-    assert!(rt; pair.end(End::B).was_given(stream()));
+    is_true(&rt, pair.end(End::B).was_given(stream()));
     Ok(())
 }
 
@@ -167,16 +173,19 @@ fn reset_pair(alloc: Global) -> Result<Pair, Fail> {
 #[test]
 fn a_reset_goes_again_until_it_is_acknowledged(rt: HostRuntime) -> Result<(), Fail> {
     let mut pair = reset_pair(rt.alloc())?;
-    assert!(rt; has_bytes(&pair, 0, b"") && has_bytes(&pair, 1, &RESET));
-    assert!(rt; is_refused(&mut pair, ack_control(1), PairError::NotAccepted));
+    is_true(&rt, has_bytes(&pair, 0, b"") && has_bytes(&pair, 1, &RESET));
+    is_true(
+        &rt,
+        is_refused(&mut pair, ack_control(1), PairError::NotAccepted),
+    );
     take(&mut pair, deliver(1, 0))?;
     take(&mut pair, lose_control(1))?;
     take(&mut pair, emit(End::A, 100))?;
-    assert!(rt; has_bytes(&pair, 2, &RESET));
-    assert!(rt; is_replied(&mut pair, ack_control(1), Reply::Done));
+    is_true(&rt, has_bytes(&pair, 2, &RESET));
+    is_true(&rt, is_replied(&mut pair, ack_control(1), Reply::Done));
     take(&mut pair, lose_control(2))?;
     take(&mut pair, emit(End::A, 100))?;
-    assert!(rt; has_bytes(&pair, 3, b""));
+    is_true(&rt, has_bytes(&pair, 3, b""));
     Ok(())
 }
 
@@ -189,7 +198,10 @@ fn a_reset_that_came_is_told_with_its_code(rt: HostRuntime) -> Result<(), Fail> 
         who: End::B,
         id: stream(),
     };
-    assert!(rt; is_replied(&mut pair, told, Reply::Code(VarInt::from(7))));
+    is_true(
+        &rt,
+        is_replied(&mut pair, told, Reply::Code(VarInt::from(7))),
+    );
     Ok(())
 }
 
@@ -228,13 +240,13 @@ fn open_one(pair: &mut Pair, alloc: Global, index: u64) -> Result<(), Fail> {
 // A stream is accepted and read, and its writer is told that it is finished.
 fn read_one(rt: &impl Abort, pair: &mut Pair, index: u64) -> Result<(), Fail> {
     let id = nth(index);
-    assert!(rt; is_replied(pair, accept(), Reply::Id(id)));
+    is_true(rt, is_replied(pair, accept(), Reply::Id(id)));
     let Reply::Read { chunks, last, .. } = answer(pair, read(id))? else {
         return Err(Fail::from("nothing was read"));
     };
-    assert!(rt; last == Last::Ended && chunks.len() == 1);
+    is_true(rt, last == Last::Ended && chunks.len() == 1);
     let told = Reply::Event(StreamEvent::Finished { id });
-    assert!(rt; is_replied(pair, Step::Poll { who: End::A }, told));
+    is_true(rt, is_replied(pair, Step::Poll { who: End::A }, told));
     Ok(())
 }
 
@@ -251,7 +263,10 @@ fn two_thousand_frames_of_one_payload_come_across(rt: HostRuntime) -> Result<(),
             "{frame}"
         );
     }
-    assert!(rt; is_refused(&mut pair, deliver(0, 2000), PairError::NoSuchFrame));
+    is_true(
+        &rt,
+        is_refused(&mut pair, deliver(0, 2000), PairError::NoSuchFrame),
+    );
     for index in 0..2000usize {
         assert!(rt;
             is_replied(&mut pair, ack_stream(0, index), Reply::Done),
@@ -294,8 +309,8 @@ fn too_many_pieces_are_a_fault(rt: HostRuntime) -> Result<(), Fail> {
         assert!(rt; is_replied(&mut pair, step, Reply::Done), "{piece}");
     }
     let code = fault_of(&mut pair, deliver(2 * PIECES + 1, 0));
-    assert_eq!(rt; code, Some(TransportError::INTERNAL_ERROR));
+    same(&rt, code, Some(TransportError::INTERNAL_ERROR));
     let ack = ack_stream(2 * PIECES + 1, 0);
-    assert!(rt; is_refused(&mut pair, ack, PairError::NotAccepted));
+    is_true(&rt, is_refused(&mut pair, ack, PairError::NotAccepted));
     Ok(())
 }

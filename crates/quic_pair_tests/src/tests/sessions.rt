@@ -1,9 +1,9 @@
 //! Sessions of many steps that a seed draws, each answer held against a plain record.
 
-use super::answer;
 use super::draws::{Draws, draw};
 use super::flows::{Wrong, check};
 use super::keeping::{NOTHING, Record, Tally};
+use super::{answer, is_true_for};
 use quic_pair::{Pair, PairError, Reply};
 use std::alloc::Global;
 use std::process::Abort;
@@ -89,10 +89,10 @@ fn run_sessions(rt: &impl Abort, alloc: Global, first: u64, count: u64) -> Resul
         let seed = first.wrapping_add(index);
         match session(alloc, seed.wrapping_mul(7919), tally) {
             Ok(all) => tally = all,
-            Err(wrong) => assert!(rt; false, "session {seed}: {wrong:?}"),
+            Err(wrong) => is_true_for(rt, &(seed, wrong), false),
         }
     }
-    assert!(rt; is_wide(tally), "{tally:?}");
+    is_true_for(rt, &tally, is_wide(tally));
     Ok(())
 }
 

@@ -1,6 +1,6 @@
 //! Twenty streams of a few windows each, over a network that loses every third frame.
 
-use super::{answer, bytes};
+use super::{answer, bytes, is_true};
 use quic_pair::{Config, End, Last, Pair, PairError, Reply, Step};
 use quic_values::{Dir, Side, StreamId, VarInt};
 use quic_wire::{StreamEvent, decode};
@@ -270,8 +270,8 @@ fn twenty_streams_are_drained_though_every_third_frame_is_lost(
             break 'rounds;
         }
     }
-    assert!(rt; network.is_drained());
+    is_true(&rt, network.is_drained());
     // 6,000 bytes in payloads of 120 are more than 50 frames.
-    assert!(rt; network.lost > 50 / 3);
+    is_true(&rt, network.lost > 50 / 3);
     Ok(())
 }

@@ -1,4 +1,7 @@
-use super::{Answer, FINAL_SIZE, FLOW_CONTROL, INTERNAL, Step, Why, ingest, run, take};
+use super::{
+    Answer, FINAL_SIZE, FLOW_CONTROL, INTERNAL, Step, Why, ingest, is_true, run, same, same_for,
+    take,
+};
 use std::test::Fail;
 
 const GREATEST: u64 = (1 << 62) - 1;
@@ -102,7 +105,7 @@ const RESETS: [Step; 10] = [
 #[test]
 fn a_second_reset_changes_nothing(rt: HostRuntime) -> Result<(), Fail> {
     let subject = run(&rt, rt.alloc(), 4096, &RESETS)?;
-    assert!(rt; !subject.half.is_receiving());
+    is_true(&rt, !subject.half.is_receiving());
     Ok(())
 }
 
@@ -122,10 +125,13 @@ const STOPPED: [Step; 10] = [
 #[test]
 fn a_stopped_half_counts_without_storing(rt: HostRuntime) -> Result<(), Fail> {
     let mut subject = run(&rt, rt.alloc(), 8, &STOPPED)?;
-    assert!(rt; subject.half.is_stopped() && !subject.half.can_send_flow_control());
+    is_true(
+        &rt,
+        subject.half.is_stopped() && !subject.half.can_send_flow_control(),
+    );
     subject.half.reinit(8);
-    assert!(rt; subject.half.can_send_flow_control());
-    assert_eq!(rt; subject.half.end(), 0);
+    is_true(&rt, subject.half.can_send_flow_control());
+    same(&rt, subject.half.end(), 0);
     Ok(())
 }
 
@@ -171,7 +177,7 @@ fn data_keep_their_payload_alive(rt: HostRuntime) -> Result<(), Fail> {
             1055 => INTERNAL,
             _ => Answer::New(2),
         };
-        assert_eq!(rt; answer, wanted, "piece {index}");
+        same_for(&rt, &index, answer, wanted);
     }
     Ok(())
 }

@@ -1,4 +1,4 @@
-use super::{Answer, Step, Why, run};
+use super::{Answer, Step, Why, is_true, run, same};
 use quic_receiving::{EnsureError, Recv, RecvState, ShouldTransmit};
 use std::test::Fail;
 
@@ -34,9 +34,10 @@ const OUT_OF_ORDER: [Step; 5] = [
 #[test]
 fn unordered_reads_give_what_came(rt: HostRuntime) -> Result<(), Fail> {
     let mut subject = run(&rt, rt.alloc(), 100, &OUT_OF_ORDER)?;
-    assert_eq!(rt;
+    same(
+        &rt,
         subject.half.ensure_ordering(true),
-        Err(EnsureError::IllegalOrderedRead)
+        Err(EnsureError::IllegalOrderedRead),
     );
     Ok(())
 }
@@ -82,9 +83,12 @@ fn a_limit_is_told_once_it_gains_an_eighth(rt: HostRuntime) -> Result<(), Fail> 
 #[test]
 fn nothing_is_known_at_first(rt: HostRuntime) -> Result<(), Fail> {
     let half = Recv::new(rt.alloc(), 8);
-    assert_eq!(rt; RecvState::default(), RecvState::Recv { size: None });
-    assert!(rt; !ShouldTransmit::default().should_transmit());
-    assert!(rt; ShouldTransmit(true).should_transmit());
-    assert!(rt; half.is_receiving() && half.can_send_flow_control() && !half.is_stopped());
+    same(&rt, RecvState::default(), RecvState::Recv { size: None });
+    is_true(&rt, !ShouldTransmit::default().should_transmit());
+    is_true(&rt, ShouldTransmit(true).should_transmit());
+    is_true(
+        &rt,
+        half.is_receiving() && half.can_send_flow_control() && !half.is_stopped(),
+    );
     Ok(())
 }

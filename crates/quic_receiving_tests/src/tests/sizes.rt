@@ -1,5 +1,5 @@
 // With ample memory no size is refused.
-use super::{Answer, ReadError, Subject, bytes_read, ingest, next, run};
+use super::{Answer, ReadError, Subject, bytes_read, ingest, is_true, next, run, same, same_for};
 use std::alloc::{AllocError, Global};
 use std::process::Abort;
 use std::test::Fail;
@@ -28,7 +28,7 @@ fn read(
     match next(rt, &mut subject.half, most, true) {
         Ok(Some(chunk)) => given.extend_from_slice(chunk.bytes.as_slice()),
         answer => {
-            assert_eq!(rt; answer, Err(ReadError::Blocked));
+            same(rt, answer, Err(ReadError::Blocked));
             Ok(())
         }
     }
@@ -42,15 +42,15 @@ fn pass(
     size: usize,
     seed: u32,
 ) -> Result<(), Fail> {
-    assert!(rt; size < 1 << 20);
+    is_true(rt, size < 1 << 20);
     let bytes = draw(alloc, seed, size)?;
     let start = bytes_read(&subject.half);
     let answer = ingest(rt, alloc, subject, start, bytes.as_slice(), size, false)?;
-    assert_eq!(rt; answer, Answer::New(size as u64), "{size} bytes");
+    same_for(rt, &size, answer, Answer::New(size as u64));
     let mut given = Vec::new(alloc);
     read(rt, subject, seed as usize % (size + 1), &mut given)?;
     read(rt, subject, usize::MAX, &mut given)?;
-    assert_eq!(rt; given.as_slice(), bytes.as_slice(), "{size} bytes");
+    same_for(rt, &size, given.as_slice(), bytes.as_slice());
     Ok(())
 }
 
@@ -81,6 +81,6 @@ fn takes_any_number_of_frames(rt: HostRuntime) -> Result<(), Fail> {
     for _ in 0..3000 {
         read(&rt, &mut subject, usize::MAX, &mut given)?;
     }
-    assert_eq!(rt; given.as_slice(), bytes.as_slice());
+    same(&rt, given.as_slice(), bytes.as_slice());
     Ok(())
 }

@@ -1,6 +1,6 @@
 //! What is queued is told and leaves one after another, and what is sent is noted.
 
-use super::{filled, id, merge_thin};
+use super::{filled, id, is_true, merge_thin, same, same_for};
 use quic_retransmits::{Retransmits, ThinRetransmits};
 use quic_values::Dir;
 use quic_wire::frame::{Crypto, Datagram, ResetStream, StopSending, Stream};
@@ -178,20 +178,23 @@ fn noted(alloc: Global, frames: &[Frame]) -> Result<Retransmits, Fail> {
 
 // The RESET_STREAM and the STOP_SENDING of this stream are told, and leave.
 fn lists_give(rt: &impl Abort, set: &mut Retransmits, number: u32) {
-    assert_eq!(rt; set.told_reset(), Some((id(number), reset_code(number))));
+    same(rt, set.told_reset(), Some((id(number), reset_code(number))));
     set.reset_leaves();
-    assert_eq!(rt; set.told_stop(), Some(stop(number)));
+    same(rt, set.told_stop(), Some(stop(number)));
     set.stop_leaves();
 }
 
 #[test]
 fn nothing_is_told_where_nothing_is_queued(rt: HostRuntime) {
     let mut set = Retransmits::new(rt.alloc());
-    assert_eq!(rt; set.told_reset(), None);
-    assert_eq!(rt; set.told_stop(), None);
-    assert_eq!(rt; set.told_window(), None);
-    assert_eq!(rt; set.told_stream_blocked(), None);
-    assert!(rt; !set.told_max_streams(Dir::Bi) && !set.told_max_streams(Dir::Uni));
+    same(&rt, set.told_reset(), None);
+    same(&rt, set.told_stop(), None);
+    same(&rt, set.told_window(), None);
+    same(&rt, set.told_stream_blocked(), None);
+    is_true(
+        &rt,
+        !set.told_max_streams(Dir::Bi) && !set.told_max_streams(Dir::Uni),
+    );
     set.reset_leaves();
     set.stop_leaves();
     set.window_leaves(id(0));
@@ -200,7 +203,7 @@ fn nothing_is_told_where_nothing_is_queued(rt: HostRuntime) {
     set.data_blocked_leaves();
     set.max_streams_leave(Dir::Bi);
     set.max_streams_leave(Dir::Uni);
-    assert_eq!(rt; counts(&set), [0; 14]);
+    same(&rt, counts(&set), [0; 14]);
 }
 
 #[test]
@@ -210,12 +213,20 @@ fn resets_and_stops_leave_from_the_back(rt: HostRuntime) -> Result<(), Fail> {
         queue(&mut set, number)?;
     }
     for number in [8, 0, 3] {
-        assert_eq!(rt; set.told_reset(), Some((id(number), reset_code(number))));
-        assert_eq!(rt; set.told_stop(), Some(stop(number)));
+        same(
+            &rt,
+            set.told_reset(),
+            Some((id(number), reset_code(number))),
+        );
+        same(&rt, set.told_stop(), Some(stop(number)));
         lists_give(&rt, &mut set, number);
     }
-    assert_eq!(rt; (set.told_reset(), set.told_stop()), (None, None));
-    assert_eq!(rt; counts(&set), [0, 0, 3, 3, 0, 0, 0, 0, 0, 0, 0, 0, 0, 0]);
+    same(&rt, (set.told_reset(), set.told_stop()), (None, None));
+    same(
+        &rt,
+        counts(&set),
+        [0, 0, 3, 3, 0, 0, 0, 0, 0, 0, 0, 0, 0, 0],
+    );
     Ok(())
 }
 
@@ -231,34 +242,66 @@ fn what_is_queued_between_leaves_first(rt: HostRuntime) -> Result<(), Fail> {
     for number in [7, 1] {
         lists_give(&rt, &mut set, number);
     }
-    assert_eq!(rt; (set.told_reset(), set.told_stop()), (None, None));
+    same(&rt, (set.told_reset(), set.told_stop()), (None, None));
     Ok(())
 }
 
 #[test]
 fn each_settles_one_of_its_kind(rt: HostRuntime) -> Result<(), Fail> {
     let mut set = two_of_each(rt.alloc())?;
-    assert_eq!(rt; counts(&set), TWO_OF_EACH);
+    same(&rt, counts(&set), TWO_OF_EACH);
     set.reset_leaves();
-    assert_eq!(rt; counts(&set), [1, 2, 2, 2, 1, 1, 1, 1, 2, 2, 2, 2, 0, 0]);
+    same(
+        &rt,
+        counts(&set),
+        [1, 2, 2, 2, 1, 1, 1, 1, 2, 2, 2, 2, 0, 0],
+    );
     set.stop_leaves();
-    assert_eq!(rt; counts(&set), [1, 1, 2, 2, 1, 1, 1, 1, 2, 2, 2, 2, 0, 0]);
+    same(
+        &rt,
+        counts(&set),
+        [1, 1, 2, 2, 1, 1, 1, 1, 2, 2, 2, 2, 0, 0],
+    );
     set.window_leaves(id(9));
-    assert_eq!(rt; counts(&set), [1, 1, 1, 2, 1, 1, 1, 1, 2, 2, 2, 2, 0, 0]);
+    same(
+        &rt,
+        counts(&set),
+        [1, 1, 1, 2, 1, 1, 1, 1, 2, 2, 2, 2, 0, 0],
+    );
     set.stream_blocked_leaves(id(4));
-    assert_eq!(rt; counts(&set), [1, 1, 1, 1, 1, 1, 1, 1, 2, 2, 2, 2, 0, 0]);
+    same(
+        &rt,
+        counts(&set),
+        [1, 1, 1, 1, 1, 1, 1, 1, 2, 2, 2, 2, 0, 0],
+    );
     set.max_data_leaves();
-    assert_eq!(rt; counts(&set), [1, 1, 1, 1, 0, 1, 1, 1, 2, 2, 2, 2, 0, 0]);
+    same(
+        &rt,
+        counts(&set),
+        [1, 1, 1, 1, 0, 1, 1, 1, 2, 2, 2, 2, 0, 0],
+    );
     set.data_blocked_leaves();
-    assert_eq!(rt; counts(&set), [1, 1, 1, 1, 0, 0, 1, 1, 2, 2, 2, 2, 0, 0]);
+    same(
+        &rt,
+        counts(&set),
+        [1, 1, 1, 1, 0, 0, 1, 1, 2, 2, 2, 2, 0, 0],
+    );
     set.max_streams_leave(Dir::Uni);
-    assert_eq!(rt; counts(&set), [1, 1, 1, 1, 0, 0, 1, 0, 2, 2, 2, 2, 0, 0]);
+    same(
+        &rt,
+        counts(&set),
+        [1, 1, 1, 1, 0, 0, 1, 0, 2, 2, 2, 2, 0, 0],
+    );
     set.max_streams_leave(Dir::Bi);
-    assert_eq!(rt; counts(&set), [1, 1, 1, 1, 0, 0, 0, 0, 2, 2, 2, 2, 0, 0]);
-    assert_eq!(rt; set.told_reset(), Some((id(4), VarInt::from(4u32))));
-    assert_eq!(rt; set.told_stop().map(|frame| frame.id), Some(id(4)));
-    assert_eq!(rt; set.told_window(), Some(id(4)));
-    assert_eq!(rt; set.told_stream_blocked(), Some(id(9)));
+    same(
+        &rt,
+        counts(&set),
+        [1, 1, 1, 1, 0, 0, 0, 0, 2, 2, 2, 2, 0, 0],
+    );
+    same(&rt, set.told_reset(), Some((id(4), VarInt::from(4u32))));
+    same(&rt, set.told_stop().map(|frame| frame.id), Some(id(4)));
+    same(&rt, set.told_window(), Some(id(4)));
+    same(&rt, set.told_stream_blocked(), Some(id(9)));
     Ok(())
 }
 
@@ -268,18 +311,20 @@ fn what_is_not_pending_does_not_leave(rt: HostRuntime) -> Result<(), Fail> {
     let mut set = two_of_each(rt.alloc())?;
     set.window_leaves(id(5));
     set.stream_blocked_leaves(id(5));
-    assert_eq!(rt; counts(&set), TWO_OF_EACH);
+    same(&rt, counts(&set), TWO_OF_EACH);
     set.window_leaves(id(4));
     set.window_leaves(id(4));
     set.stream_blocked_leaves(id(9));
     set.stream_blocked_leaves(id(9));
-    assert_eq!(rt;
+    same(
+        &rt,
         (set.max_stream_data.len(), set.told_window()),
-        (1, Some(id(9)))
+        (1, Some(id(9))),
     );
-    assert_eq!(rt;
+    same(
+        &rt,
         (set.stream_data_blocked.len(), set.told_stream_blocked()),
-        (1, Some(id(4)))
+        (1, Some(id(4))),
     );
     Ok(())
 }
@@ -289,15 +334,15 @@ fn directions_are_told_apart(rt: HostRuntime) {
     let mut set = Retransmits::new(rt.alloc());
     for [bi, uni] in [[false, true], [true, false], [true, true]] {
         set.max_stream_id = [bi, uni];
-        assert_eq!(rt; set.told_max_streams(Dir::Bi), bi);
-        assert_eq!(rt; set.told_max_streams(Dir::Uni), uni);
+        same(&rt, set.told_max_streams(Dir::Bi), bi);
+        same(&rt, set.told_max_streams(Dir::Uni), uni);
         set.max_streams_leave(Dir::Bi);
-        assert!(rt; !set.told_max_streams(Dir::Bi));
-        assert_eq!(rt; set.told_max_streams(Dir::Uni), uni);
+        is_true(&rt, !set.told_max_streams(Dir::Bi));
+        same(&rt, set.told_max_streams(Dir::Uni), uni);
         set.max_stream_id = [bi, uni];
         set.max_streams_leave(Dir::Uni);
-        assert_eq!(rt; set.told_max_streams(Dir::Bi), bi);
-        assert!(rt; !set.told_max_streams(Dir::Uni));
+        same(&rt, set.told_max_streams(Dir::Bi), bi);
+        is_true(&rt, !set.told_max_streams(Dir::Uni));
     }
 }
 
@@ -311,13 +356,17 @@ fn only_what_is_due_is_queued(rt: HostRuntime) -> Result<(), Fail> {
     set.queue_stream_blocked(id(1), false);
     set.queue_max_data(false);
     set.queue_data_blocked(false);
-    assert_eq!(rt; counts(&set), [0; 14]);
+    same(&rt, counts(&set), [0; 14]);
     let mut set = queued(rt.alloc(), 2)?;
     set.queue_window(id(1), false);
     set.queue_stream_blocked(id(1), false);
     set.queue_max_data(false);
     set.queue_data_blocked(false);
-    assert_eq!(rt; counts(&set), [2, 2, 2, 2, 1, 1, 1, 1, 0, 0, 0, 0, 0, 0]);
+    same(
+        &rt,
+        counts(&set),
+        [2, 2, 2, 2, 1, 1, 1, 1, 0, 0, 0, 0, 0, 0],
+    );
     Ok(())
 }
 
@@ -327,14 +376,19 @@ fn a_stream_is_in_a_set_once(rt: HostRuntime) -> Result<(), Fail> {
     let mut set = Retransmits::new(rt.alloc());
     queue(&mut set, 6)?;
     queue(&mut set, 6)?;
-    assert_eq!(rt; counts(&set), [2, 2, 1, 1, 0, 0, 0, 0, 0, 0, 0, 0, 0, 0]);
-    assert_eq!(rt; set.told_window(), Some(id(6)));
-    assert_eq!(rt; set.told_stream_blocked(), Some(id(6)));
+    same(
+        &rt,
+        counts(&set),
+        [2, 2, 1, 1, 0, 0, 0, 0, 0, 0, 0, 0, 0, 0],
+    );
+    same(&rt, set.told_window(), Some(id(6)));
+    same(&rt, set.told_stream_blocked(), Some(id(6)));
     set.window_leaves(id(6));
     set.stream_blocked_leaves(id(6));
-    assert_eq!(rt;
+    same(
+        &rt,
         (set.told_window(), set.told_stream_blocked()),
-        (None, None)
+        (None, None),
     );
     Ok(())
 }
@@ -362,13 +416,14 @@ fn drains(rt: &impl Abort, alloc: Global, count: u32) -> Result<(), Fail> {
         sets_give(rt, &mut set)?;
         let left = number as usize;
         let counted = [left, left, left, left, 1, 1, 1, 1, 0, 0, 0, 0, 0, 0];
-        assert_eq!(rt; counts(&set), counted, "{number} of {count}");
+        same_for(rt, &(number, count), counts(&set), counted);
     }
-    assert_eq!(rt; counts(&set), [0, 0, 0, 0, 1, 1, 1, 1, 0, 0, 0, 0, 0, 0]);
-    assert_eq!(rt; (set.told_reset(), set.told_stop()), (None, None));
-    assert_eq!(rt;
+    same(rt, counts(&set), [0, 0, 0, 0, 1, 1, 1, 1, 0, 0, 0, 0, 0, 0]);
+    same(rt, (set.told_reset(), set.told_stop()), (None, None));
+    same(
+        rt,
         (set.told_window(), set.told_stream_blocked()),
-        (None, None)
+        (None, None),
     );
     Ok(())
 }
@@ -394,25 +449,41 @@ fn reset(number: u32) -> Frame {
 fn frames_are_noted_as_they_were_sent(rt: HostRuntime) -> Result<(), Fail> {
     let alloc = rt.alloc();
     let set = noted(alloc, &[reset(4)])?;
-    assert_eq!(rt; counts(&set), [1, 0, 0, 0, 0, 0, 0, 0, 0, 0, 0, 0, 0, 0]);
-    assert_eq!(rt; set.told_reset(), Some((id(4), reset_code(4))));
+    same(
+        &rt,
+        counts(&set),
+        [1, 0, 0, 0, 0, 0, 0, 0, 0, 0, 0, 0, 0, 0],
+    );
+    same(&rt, set.told_reset(), Some((id(4), reset_code(4))));
     let set = noted(alloc, &[Frame::StopSending(stop(5))])?;
-    assert_eq!(rt; counts(&set), [0, 1, 0, 0, 0, 0, 0, 0, 0, 0, 0, 0, 0, 0]);
-    assert_eq!(rt; set.told_stop(), Some(stop(5)));
+    same(
+        &rt,
+        counts(&set),
+        [0, 1, 0, 0, 0, 0, 0, 0, 0, 0, 0, 0, 0, 0],
+    );
+    same(&rt, set.told_stop(), Some(stop(5)));
     let window = Frame::MaxStreamData {
         id: id(6),
         offset: 900,
     };
     let set = noted(alloc, &[window])?;
-    assert_eq!(rt; counts(&set), [0, 0, 1, 0, 0, 0, 0, 0, 0, 0, 0, 0, 0, 0]);
-    assert_eq!(rt; set.told_window(), Some(id(6)));
+    same(
+        &rt,
+        counts(&set),
+        [0, 0, 1, 0, 0, 0, 0, 0, 0, 0, 0, 0, 0, 0],
+    );
+    same(&rt, set.told_window(), Some(id(6)));
     let blocked = Frame::StreamDataBlocked {
         id: id(7),
         offset: 900,
     };
     let set = noted(alloc, &[blocked])?;
-    assert_eq!(rt; counts(&set), [0, 0, 0, 1, 0, 0, 0, 0, 0, 0, 0, 0, 0, 0]);
-    assert_eq!(rt; set.told_stream_blocked(), Some(id(7)));
+    same(
+        &rt,
+        counts(&set),
+        [0, 0, 0, 1, 0, 0, 0, 0, 0, 0, 0, 0, 0, 0],
+    );
+    same(&rt, set.told_stream_blocked(), Some(id(7)));
     Ok(())
 }
 
@@ -424,15 +495,37 @@ fn max_streams(dir: Dir) -> Frame {
 fn limits_of_the_connection_are_noted_as_flags(rt: HostRuntime) -> Result<(), Fail> {
     let alloc = rt.alloc();
     let set = noted(alloc, &[Frame::MaxData(VarInt::from(9u32))])?;
-    assert_eq!(rt; counts(&set), [0, 0, 0, 0, 1, 0, 0, 0, 0, 0, 0, 0, 0, 0]);
+    same(
+        &rt,
+        counts(&set),
+        [0, 0, 0, 0, 1, 0, 0, 0, 0, 0, 0, 0, 0, 0],
+    );
     let set = noted(alloc, &[Frame::DataBlocked { offset: 9 }])?;
-    assert_eq!(rt; counts(&set), [0, 0, 0, 0, 0, 1, 0, 0, 0, 0, 0, 0, 0, 0]);
+    same(
+        &rt,
+        counts(&set),
+        [0, 0, 0, 0, 0, 1, 0, 0, 0, 0, 0, 0, 0, 0],
+    );
     let set = noted(alloc, &[max_streams(Dir::Bi)])?;
-    assert_eq!(rt; counts(&set), [0, 0, 0, 0, 0, 0, 1, 0, 0, 0, 0, 0, 0, 0]);
-    assert!(rt; set.told_max_streams(Dir::Bi) && !set.told_max_streams(Dir::Uni));
+    same(
+        &rt,
+        counts(&set),
+        [0, 0, 0, 0, 0, 0, 1, 0, 0, 0, 0, 0, 0, 0],
+    );
+    is_true(
+        &rt,
+        set.told_max_streams(Dir::Bi) && !set.told_max_streams(Dir::Uni),
+    );
     let set = noted(alloc, &[max_streams(Dir::Uni)])?;
-    assert_eq!(rt; counts(&set), [0, 0, 0, 0, 0, 0, 0, 1, 0, 0, 0, 0, 0, 0]);
-    assert!(rt; set.told_max_streams(Dir::Uni) && !set.told_max_streams(Dir::Bi));
+    same(
+        &rt,
+        counts(&set),
+        [0, 0, 0, 0, 0, 0, 0, 1, 0, 0, 0, 0, 0, 0],
+    );
+    is_true(
+        &rt,
+        set.told_max_streams(Dir::Uni) && !set.told_max_streams(Dir::Bi),
+    );
     Ok(())
 }
 
@@ -471,13 +564,13 @@ fn others(alloc: Global) -> [Frame; 16] {
 #[test]
 fn other_frames_are_not_noted(rt: HostRuntime) -> Result<(), Fail> {
     let alloc = rt.alloc();
-    assert_eq!(rt; counts(&noted(alloc, &others(alloc))?), [0; 14]);
-    assert_eq!(rt; counts(&noted(alloc, &[Frame::ImmediateAck])?), [0; 14]);
+    same(&rt, counts(&noted(alloc, &others(alloc))?), [0; 14]);
+    same(&rt, counts(&noted(alloc, &[Frame::ImmediateAck])?), [0; 14]);
     let mut thin = ThinRetransmits::new(alloc);
     *thin.get_or_create()? = two_of_each(alloc)?;
     for frame in &others(alloc) {
         note(&mut thin, frame)?;
-        assert_eq!(rt; thin.get().map(counts), Some(TWO_OF_EACH), "{frame:?}");
+        same_for(&rt, &frame, thin.get().map(counts), Some(TWO_OF_EACH));
     }
     Ok(())
 }
@@ -496,13 +589,17 @@ fn notes_join_what_was_noted(rt: HostRuntime) -> Result<(), Fail> {
     };
     let frames = [reset(4), window, reset(5), larger, reset(4)];
     let set = noted(alloc, &frames)?;
-    assert_eq!(rt; counts(&set), [3, 0, 1, 0, 0, 0, 0, 0, 0, 0, 0, 0, 0, 0]);
+    same(
+        &rt,
+        counts(&set),
+        [3, 0, 1, 0, 0, 0, 0, 0, 0, 0, 0, 0, 0, 0],
+    );
     let resets = [
         (id(4), reset_code(4)),
         (id(5), reset_code(5)),
         (id(4), reset_code(4)),
     ];
-    assert_eq!(rt; set.reset_stream.as_slice(), resets.as_slice());
+    same(&rt, set.reset_stream.as_slice(), resets.as_slice());
     Ok(())
 }
 
@@ -552,11 +649,11 @@ fn comes_back(rt: &impl Abort, alloc: Global, count: u32) -> Result<(), Fail> {
         send(&mut set, &mut thin)?;
     }
     send_flags(&mut set, &mut thin)?;
-    assert_eq!(rt; counts(&set), [0; 14], "of {count}");
+    same_for(rt, &count, counts(&set), [0; 14]);
     merge_thin(&mut set, thin)?;
     let all = count as usize;
     let counted = [all, all, all, all, 1, 1, 1, 1, 0, 0, 0, 0, 0, 0];
-    assert_eq!(rt; counts(&set), counted, "of {count}");
+    same_for(rt, &count, counts(&set), counted);
     for number in 0..count {
         lists_give(rt, &mut set, number);
         assert!(rt; set.max_stream_data.contains(&id(number)), "{number}");
@@ -593,6 +690,6 @@ fn refused_notes_change_nothing(rt: HostRuntime) -> Result<(), Fail> {
         notes_again(&mut thin, &Frame::StreamDataBlocked { id, offset: 1 })?;
     }
     let noted = [9, 9, 9, 9, 0, 0, 0, 0, 0, 0, 0, 0, 0, 0];
-    assert_eq!(rt; thin.get().map(counts), Some(noted));
+    same(&rt, thin.get().map(counts), Some(noted));
     Ok(())
 }

@@ -1,4 +1,4 @@
-use super::{ack, buffered, empty, get, lose, next, poll, reserve, write};
+use super::{ack, buffered, empty, get, is_true, lose, next, poll, reserve, same, same_for, write};
 use quic_sending::SendBuffer;
 use quic_sending::send_buffer::cut_to_frame;
 use quic_values::OutOfMemory;
@@ -44,16 +44,16 @@ fn take(
     match step {
         Step::Write(bytes) => write(rt, alloc, buffer, bytes)?,
         Step::Poll(max_len, start, end, length) => {
-            assert_eq!(rt; poll(rt, buffer, max_len)?, (start..end, length));
+            same(rt, poll(rt, buffer, max_len)?, (start..end, length));
         }
         Step::Ack(start, end) => ack(rt, buffer, start..end)?,
         Step::Lose(start, end) => lose(rt, buffer, start..end)?,
-        Step::Get(start, end, bytes) => assert_eq!(rt; get(buffer, start..end), bytes),
+        Step::Get(start, end, bytes) => same(rt, get(buffer, start..end), bytes),
         Step::Unacked(bytes) => {
-            assert_eq!(rt; unacked(alloc, buffer)?.as_slice(), bytes);
+            same(rt, unacked(alloc, buffer)?.as_slice(), bytes);
         }
-        Step::Buffered(count) => assert_eq!(rt; buffered(buffer), count),
-        Step::NoneAcked(none) => assert_eq!(rt; none_acked(buffer), none),
+        Step::Buffered(count) => same(rt, buffered(buffer), count),
+        Step::NoneAcked(none) => same(rt, none_acked(buffer), none),
     }
     Ok(())
 }
@@ -95,7 +95,7 @@ fn see(rt: &impl Abort, buffer: &SendBuffer) -> Seen {
 }
 
 fn is_unchanged(rt: &impl Abort, buffer: &SendBuffer, before: Seen, step: Step) {
-    assert_eq!(rt; see(rt, buffer), before, "{step:?}");
+    same_for(rt, &step, see(rt, buffer), before);
 }
 
 // A step that finds no memory changes nothing. It is taken again, and it and those behind it have to answer as if
@@ -196,9 +196,10 @@ const START_OFFSETS: [Step; 14] = [
 fn reserves_encoded_offset(rt: HostRuntime) -> Result<(), Fail> {
     let _ = run(&rt, rt.alloc(), &START_OFFSETS)?;
     // 8 bytes from 2^30 on, without a gigabyte of data.
-    assert_eq!(rt;
+    same(
+        &rt,
         cut_to_frame(1 << 30, 1 << 31, 1032),
-        ((1 << 30) + 1024, false)
+        ((1 << 30) + 1024, false),
     );
     Ok(())
 }
@@ -235,7 +236,7 @@ const SEGMENTS: [Step; 26] = [
 #[test]
 fn multiple_segments(rt: HostRuntime) -> Result<(), Fail> {
     let buffer = run(&rt, rt.alloc(), &SEGMENTS)?;
-    assert!(rt; buffer.is_fully_acked());
+    is_true(&rt, buffer.is_fully_acked());
     Ok(())
 }
 
@@ -252,7 +253,7 @@ const LOSSES: [Step; 7] = [
 #[test]
 fn retransmit(rt: HostRuntime) -> Result<(), Fail> {
     let mut buffer = run(&rt, rt.alloc(), &LOSSES)?;
-    assert_eq!(rt; poll(&rt, &mut buffer, 16)?, (16..23, true));
+    same(&rt, poll(&rt, &mut buffer, 16)?, (16..23, true));
     Ok(())
 }
 
@@ -272,7 +273,7 @@ const REORDERED: [Step; 10] = [
 #[test]
 fn acknowledged_is_not_sent_again(rt: HostRuntime) -> Result<(), Fail> {
     let buffer = run(&rt, rt.alloc(), &REORDERED)?;
-    assert_eq!(rt; has_unsent_data(&buffer), false);
+    same(&rt, has_unsent_data(&buffer), false);
     Ok(())
 }
 
@@ -291,7 +292,7 @@ const MIDDLE: [Step; 8] = [
 #[test]
 fn acknowledged_middle_of_a_lost_range(rt: HostRuntime) -> Result<(), Fail> {
     let buffer = run(&rt, rt.alloc(), &MIDDLE)?;
-    assert!(rt; buffer.is_fully_acked());
+    is_true(&rt, buffer.is_fully_acked());
     Ok(())
 }
 
@@ -319,8 +320,11 @@ fn append(
     range: Range<u64>,
     text: &mut Vec<u8>,
 ) -> Result<(), OutOfMemory> {
-    assert!(rt; buffer.acked_prefix() <= range.start && range.start <= range.end);
-    assert!(rt; range.end <= buffer.offset());
+    is_true(
+        rt,
+        buffer.acked_prefix() <= range.start && range.start <= range.end,
+    );
+    is_true(rt, range.end <= buffer.offset());
     buffer.append_range(range, text)
 }
 
@@ -337,7 +341,7 @@ fn a_range_of_several_pieces_is_copied(rt: HostRuntime) -> Result<(), Fail> {
     )?;
     let mut text = b"> ".to_vec(rt.alloc())?;
     append(&rt, &buffer, 1..12, &mut text)?;
-    assert_eq!(rt; text.as_slice(), b"> ello, world".as_slice());
+    same(&rt, text.as_slice(), b"> ello, world".as_slice());
     Ok(())
 }
 
@@ -350,9 +354,10 @@ fn discarded_bytes_are_gone(rt: HostRuntime) -> Result<(), Fail> {
     )?;
     reserve(&mut buffer, 1)?;
     discard(&mut buffer);
-    assert_eq!(rt;
+    same(
+        &rt,
         (buffer.offset(), buffered(&buffer), has_unsent_data(&buffer)),
-        (13, 0, false)
+        (13, 0, false),
     );
     Ok(())
 }
@@ -406,7 +411,7 @@ fn reserve_again(
     match reserve(buffer, pieces) {
         Ok(()) => Ok(()),
         Err(_) => {
-            assert_eq!(rt; see(rt, buffer), before);
+            same(rt, see(rt, buffer), before);
             reserve(buffer, pieces)
         }
     }
@@ -423,8 +428,8 @@ fn append_again(
     let before = see(rt, buffer);
     let mut text = Vec::new(alloc);
     if append(rt, buffer, start..end, &mut text).is_err() {
-        assert_eq!(rt; text.len(), 0);
-        assert_eq!(rt; see(rt, buffer), before);
+        same(rt, text.len(), 0);
+        same(rt, see(rt, buffer), before);
         append(rt, buffer, start..end, &mut text)?;
     }
     Ok(text)
@@ -435,7 +440,7 @@ fn each_refused_change_changes_nothing(rt: HostRuntime) -> Result<(), Fail> {
     let mut buffer = run_again(&rt, rt.alloc(), &CHANGES)?;
     reserve_again(&rt, &mut buffer, 20)?;
     let text = append_again(&rt, rt.alloc(), &buffer, 18, 29)?;
-    assert_eq!(rt; text.as_slice(), b"extra data!".as_slice());
-    assert_eq!(rt; has_unsent_data(&buffer), false);
+    same(&rt, text.as_slice(), b"extra data!".as_slice());
+    same(&rt, has_unsent_data(&buffer), false);
     Ok(())
 }

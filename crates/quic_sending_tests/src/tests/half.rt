@@ -1,4 +1,4 @@
-use super::{are_left, buffered, chunks_of, get, poll};
+use super::{are_left, buffered, chunks_of, get, is_true, poll, same};
 use quic_sending::source::{ByteSlice, BytesArray, BytesSource};
 use quic_sending::{ClosedStream, FinishError, Send, WriteError, Written};
 use quic_values::{Bytes, OutOfMemory, VarInt};
@@ -60,7 +60,7 @@ fn ack(
     offsets: Range<u64>,
     fin: bool,
 ) -> Result<bool, OutOfMemory> {
-    assert!(rt; offsets.end <= send.pending.unsent());
+    is_true(rt, offsets.end <= send.pending.unsent());
     send.ack(offsets, fin)
 }
 
@@ -80,7 +80,7 @@ fn takes(
     limit: u64,
     wanted: Written,
 ) -> Result<(), WriteError> {
-    assert_eq!(rt; write(send, source, limit)?, wanted);
+    same(rt, write(send, source, limit)?, wanted);
     Ok(())
 }
 
@@ -89,20 +89,20 @@ fn written(bytes: usize, chunks: usize) -> Written {
 }
 
 fn is_refused(rt: &impl Abort, outcome: Result<Written, WriteError>, wanted: WriteError) {
-    assert_eq!(rt; outcome, Err(wanted));
+    same(rt, outcome, Err(wanted));
 }
 
 // What is kept from an offset on, up to an end or to that of its piece.
 fn keeps(rt: &impl Abort, send: &Send, range: Range<u64>, wanted: &[u8]) {
-    assert_eq!(rt; get(&send.pending, range), wanted);
+    same(rt, get(&send.pending, range), wanted);
 }
 
 fn raises(rt: &impl Abort, send: &mut Send, limit: u64, wanted: bool) {
-    assert_eq!(rt; raise(send, limit), wanted);
+    same(rt, raise(send, limit), wanted);
 }
 
 fn finish_gives(rt: &impl Abort, send: &mut Send, wanted: Result<(), FinishError>) {
-    assert_eq!(rt; finish(send), wanted);
+    same(rt, finish(send), wanted);
 }
 
 // An acknowledgement completes the stream, or not.
@@ -113,7 +113,7 @@ fn completes(
     fin: bool,
     wanted: bool,
 ) -> Result<(), OutOfMemory> {
-    assert_eq!(rt; ack(rt, send, offsets, fin)?, wanted);
+    same(rt, ack(rt, send, offsets, fin)?, wanted);
     Ok(())
 }
 
@@ -121,9 +121,9 @@ fn completes(
 fn sent(rt: &impl Abort, alloc: Global, text: &[u8]) -> Result<Send, WriteError> {
     let mut send = half(alloc, 100);
     let written = write(&mut send, &mut slice_source(alloc, text), 100)?;
-    assert_eq!(rt; written.bytes, text.len());
+    same(rt, written.bytes, text.len());
     let (range, _) = poll(rt, &mut send.pending, 50)?;
-    assert_eq!(rt; range.end, offset(&send));
+    same(rt, range.end, offset(&send));
     Ok(send)
 }
 
@@ -148,8 +148,8 @@ fn shows_write(
     let mut chunks = chunks_of(alloc, texts)?;
     let mut send = half(alloc, limit);
     let outcome = write_chunks(alloc, &mut send, chunks.as_mut_slice(), 1000);
-    assert_eq!(rt; outcome?, written);
-    assert_eq!(rt; offset(&send), u64::from(limit));
+    same(rt, outcome?, written);
+    same(rt, offset(&send), u64::from(limit));
     are_left(rt, &chunks, left);
     let outcome = write_chunks(alloc, &mut send, chunks.as_mut_slice(), 1000);
     is_refused(rt, outcome, WriteError::Blocked);
@@ -179,7 +179,7 @@ fn write_takes_what_the_limit_leaves(rt: HostRuntime) -> Result<(), Fail> {
 
 // So many bytes were written, and all are kept.
 fn has_just(rt: &impl Abort, send: &Send, count: u64) {
-    assert_eq!(rt; (offset(send), buffered(&send.pending)), (count, count));
+    same(rt, (offset(send), buffered(&send.pending)), (count, count));
 }
 
 // A write that finds no memory leaves the source and the half as they were: the next one takes all.
@@ -206,7 +206,7 @@ fn takes_again<S: BytesSource>(
     limit: u64,
     wanted: Written,
 ) -> Result<(), WriteError> {
-    assert_eq!(rt; write_again(rt, send, source, limit)?, wanted);
+    same(rt, write_again(rt, send, source, limit)?, wanted);
     Ok(())
 }
 
@@ -242,9 +242,9 @@ fn write_takes_at_most_the_limit_handed_in(rt: HostRuntime) -> Result<(), Fail> 
 #[test]
 fn complete_needs_every_byte(rt: HostRuntime) -> Result<(), Fail> {
     let mut send = sent(&rt, rt.alloc(), b"abc")?;
-    assert_eq!(rt; is_pending(&send), false);
+    same(&rt, is_pending(&send), false);
     finish(&mut send)?;
-    assert_eq!(rt; is_pending(&send), true);
+    same(&rt, is_pending(&send), true);
     completes(&rt, &mut send, 3..3, true, false)?;
     completes(&rt, &mut send, 0..3, false, true)?;
     Ok(())
@@ -254,18 +254,18 @@ fn complete_needs_every_byte(rt: HostRuntime) -> Result<(), Fail> {
 fn nothing_is_complete_after_a_reset(rt: HostRuntime) -> Result<(), Fail> {
     let mut send = sent(&rt, rt.alloc(), b"abc")?;
     reset(&mut send);
-    assert!(rt; send.is_reset() && !is_pending(&send));
+    is_true(&rt, send.is_reset() && !is_pending(&send));
     completes(&rt, &mut send, 0..3, true, false)?;
     finish_gives(&rt, &mut send, Err(FinishError::ClosedStream));
-    assert_eq!(rt; offset(&send), 3);
+    same(&rt, offset(&send), 3);
     Ok(())
 }
 
 #[test]
 fn the_first_stop_counts(rt: HostRuntime) -> Result<(), Fail> {
     let mut send = half(rt.alloc(), 0);
-    assert!(rt; stop(&mut send, 7));
-    assert!(rt; !stop(&mut send, 8));
+    is_true(&rt, stop(&mut send, 7));
+    is_true(&rt, !stop(&mut send, 8));
     let code = VarInt::from(7);
     let mut source = slice_source(rt.alloc(), b"abc");
     let outcome = write(&mut send, &mut source, 3);
@@ -282,10 +282,10 @@ fn a_larger_limit_unblocks(rt: HostRuntime) -> Result<(), Fail> {
     takes(&rt, &mut send, &mut source, 100, written(5, 0))?;
     raises(&rt, &mut send, 5, false);
     raises(&rt, &mut send, u64::MAX, true);
-    assert_eq!(rt; send.max_data, VarInt::MAX);
+    same(&rt, send.max_data, VarInt::MAX);
     takes(&rt, &mut send, &mut source, 100, written(3, 1))?;
     finish_gives(&rt, &mut send, Ok(()));
-    assert_eq!(rt; send.is_writable(), false);
+    same(&rt, send.is_writable(), false);
     Ok(())
 }
 
@@ -295,7 +295,7 @@ fn shows(
     error: &impl Display,
     text: &str,
 ) -> Result<(), OutOfMemory> {
-    assert_eq!(rt; error.to_string(alloc)?.as_str(), text);
+    same(rt, error.to_string(alloc)?.as_str(), text);
     Ok(())
 }
 
@@ -326,9 +326,10 @@ fn error_texts(rt: HostRuntime) -> Result<(), Fail> {
     shows(&rt, alloc, &FinishError::ClosedStream, "closed stream")?;
     shows(&rt, alloc, &FinishError::from(OutOfMemory), "out of memory")?;
     shows(&rt, alloc, &ClosedStream, "closed stream")?;
-    assert_eq!(rt;
+    same(
+        &rt,
         io::Error::from(ClosedStream).kind(),
-        io::ErrorKind::NotConnected
+        io::ErrorKind::NotConnected,
     );
     Ok(())
 }

@@ -1,4 +1,4 @@
-use super::{ack, buffered, empty, get, lose, next, poll, reserve, write};
+use super::{ack, buffered, empty, get, lose, next, poll, reserve, same, write};
 use quic_sending::SendBuffer;
 use quic_values::OutOfMemory;
 use std::process::Abort;
@@ -21,8 +21,8 @@ fn ample_memory_suffices_for_many_pieces(rt: HostRuntime) -> Result<(), Fail> {
             reserve(&mut buffer, pieces as usize + 1)?;
         }
     }
-    assert_eq!(rt; buffered(&buffer), SIZES - 1);
-    assert_eq!(rt; get(&buffer, SIZES - 2..SIZES), b"a".as_slice());
+    same(&rt, buffered(&buffer), SIZES - 1);
+    same(&rt, get(&buffer, SIZES - 2..SIZES), b"a".as_slice());
     Ok(())
 }
 
@@ -39,10 +39,10 @@ fn exchange(rt: &impl Abort, buffer: &mut SendBuffer) -> Result<(), OutOfMemory>
         }
         place = place.wrapping_add(SEED) & mask;
     }
-    assert_eq!(rt; buffer.acked_prefix(), 0);
-    assert_eq!(rt; next(rt, buffer, 1 << 20), (0..1, true));
+    same(rt, buffer.acked_prefix(), 0);
+    same(rt, next(rt, buffer, 1 << 20), (0..1, true));
     ack(rt, buffer, 0..SIZES.wrapping_mul(2))?;
-    assert_eq!(rt; (buffer.is_fully_acked(), buffered(buffer)), (true, 0));
+    same(rt, (buffer.is_fully_acked(), buffered(buffer)), (true, 0));
     Ok(())
 }
 
@@ -52,7 +52,7 @@ fn ample_memory_suffices_for_many_ranges(rt: HostRuntime) -> Result<(), Fail> {
     let mut buffer = empty(rt.alloc());
     let bytes = vec![in rt.alloc(); 0u8; 2 * SIZES as usize]?;
     write(&rt, rt.alloc(), &mut buffer, &bytes)?;
-    assert_eq!(rt; poll(&rt, &mut buffer, 1 << 20)?, (0..2 * SIZES, true));
+    same(&rt, poll(&rt, &mut buffer, 1 << 20)?, (0..2 * SIZES, true));
     exchange(&rt, &mut buffer)?;
     Ok(())
 }

@@ -1,4 +1,4 @@
-use super::{are_left, chunks_of};
+use super::{are_left, chunks_of, same, same_for};
 use quic_sending::source::{ByteSlice, BytesArray, BytesSource};
 use quic_values::{Bytes, OutOfMemory};
 use std::alloc::Global;
@@ -55,8 +55,8 @@ fn shows_rest(
 ) -> Result<(), OutOfMemory> {
     let mut all = chunks_of(alloc, texts)?;
     let taken = take_chunks(alloc, all.as_mut_slice(), limit)?;
-    assert_eq!(rt; taken.bytes.len(), limit);
-    assert_eq!(rt; taken.ended, ended);
+    same(rt, taken.bytes.len(), limit);
+    same(rt, taken.ended, ended);
     are_left(rt, &all, rest);
     Ok(())
 }
@@ -79,11 +79,15 @@ fn bytes_array(rt: HostRuntime) -> Result<(), Fail> {
     for limit in 0..FULL.len() + 1 {
         let mut all = chunks_of(rt.alloc(), &texts)?;
         let taken = take_chunks(rt.alloc(), all.as_mut_slice(), limit)?;
-        assert_eq!(rt; taken.bytes.as_slice(), FULL.get(..limit).ok_or("long")?);
+        same(
+            &rt,
+            taken.bytes.as_slice(),
+            FULL.get(..limit).ok_or("long")?,
+        );
         if limit == FULL.len() {
-            assert_eq!(rt; (taken.pieces, taken.ended), (8, 11));
+            same(&rt, (taken.pieces, taken.ended), (8, 11));
         } else if limit > FULL.len() - 21 {
-            assert_eq!(rt; (taken.pieces, taken.ended), (8, 10), "at {limit}");
+            same_for(&rt, &limit, (taken.pieces, taken.ended), (8, 10));
         }
     }
     Ok(())
@@ -94,9 +98,13 @@ fn byte_slice(rt: HostRuntime) -> Result<(), Fail> {
     for limit in 0..FULL.len() + 1 {
         let mut slice = ByteSlice::from_slice(rt.alloc(), FULL);
         let taken = take_out(rt.alloc(), &mut slice, limit)?;
-        assert_eq!(rt; taken.bytes.as_slice(), FULL.get(..limit).ok_or("long")?);
-        assert_eq!(rt; taken.pieces, usize::from(limit != 0));
-        assert_eq!(rt; taken.ended, usize::from(limit == FULL.len()));
+        same(
+            &rt,
+            taken.bytes.as_slice(),
+            FULL.get(..limit).ok_or("long")?,
+        );
+        same(&rt, taken.pieces, usize::from(limit != 0));
+        same(&rt, taken.ended, usize::from(limit == FULL.len()));
     }
     Ok(())
 }

@@ -1,7 +1,7 @@
 // Acknowledgements and losses of what an end sent.
 use super::calls::Subject;
 use super::sending::{self, Done, Event, Step, open_one, take};
-use super::{Answer, counts, early, id, receive};
+use super::{Answer, counts, early, id, is_true, receive, same};
 use quic_values::{Dir, OutOfMemory, Side};
 use quic_wire::{StreamEvent, frame};
 use std::alloc::Global;
@@ -33,26 +33,26 @@ fn meta(stream: u32, end: u64, fin: bool) -> frame::StreamMeta {
 fn ack(rt: &impl Abort, subject: &mut Subject, stream: u32, end: u64, fin: bool) {
     let before = counts(subject);
     if subject.received_ack_of(meta(stream, end, fin)).is_err() {
-        assert_eq!(rt; counts(subject), before);
+        same(rt, counts(subject), before);
         let answer = subject.received_ack_of(meta(stream, end, fin));
-        assert!(rt; answer.is_ok());
+        is_true(rt, answer.is_ok());
     }
 }
 
 fn lose(rt: &impl Abort, subject: &mut Subject, stream: u32, end: u64, fin: bool) {
     let before = counts(subject);
     if subject.retransmit(meta(stream, end, fin)).is_err() {
-        assert_eq!(rt; counts(subject), before);
-        assert!(rt; subject.retransmit(meta(stream, end, fin)).is_ok());
+        same(rt, counts(subject), before);
+        is_true(rt, subject.retransmit(meta(stream, end, fin)).is_ok());
     }
 }
 
 fn reset_acked(rt: &impl Abort, subject: &mut Subject, stream: u32) {
     let before = counts(subject);
     if subject.reset_acked(stream).is_err() {
-        assert_eq!(rt; counts(subject), before);
-        assert!(rt; subject.priority(stream).is_some());
-        assert!(rt; subject.reset_acked(stream).is_ok());
+        same(rt, counts(subject), before);
+        is_true(rt, subject.priority(stream).is_some());
+        is_true(rt, subject.reset_acked(stream).is_ok());
     }
 }
 
@@ -64,7 +64,7 @@ pub(super) fn comes_whole(
     stream: u32,
 ) -> Result<(), OutOfMemory> {
     let answer = receive(alloc, subject, stream, 0, 1, true)?;
-    assert_eq!(rt; answer, Answer::Taken(false));
+    same(rt, answer, Answer::Taken(false));
     Ok(())
 }
 
@@ -74,11 +74,11 @@ pub(super) fn report(rt: &impl Abort, subject: &mut Subject, step: Step) {
         Step::Acked(stream, end, fin) => ack(rt, subject, stream, end, fin),
         Step::Lost(stream, end, fin) => lose(rt, subject, stream, end, fin),
         Step::ResetAcked(stream) => reset_acked(rt, subject, stream),
-        Step::Unread(stream) => assert!(rt; subject.stop(stream, 9).is_ok()),
-        Step::SendStreams(count) => assert_eq!(rt; subject.send_streams(), count),
-        Step::MaxRemote(dir, count) => assert_eq!(rt; subject.max_remote(dir), count),
-        Step::Due(is) => assert_eq!(rt; subject.queue_max_stream_id(), is),
-        Step::CanSend(is) => assert_eq!(rt; subject.can_send_stream_data(), is),
+        Step::Unread(stream) => is_true(rt, subject.stop(stream, 9).is_ok()),
+        Step::SendStreams(count) => same(rt, subject.send_streams(), count),
+        Step::MaxRemote(dir, count) => same(rt, subject.max_remote(dir), count),
+        Step::Due(is) => same(rt, subject.queue_max_stream_id(), is),
+        Step::CanSend(is) => same(rt, subject.can_send_stream_data(), is),
         other => early::start(rt, subject, other),
     }
 }
@@ -245,9 +245,9 @@ const MANY: u32 = 65_537;
 
 // Opens the stream, and ends it.
 fn open_and_end(rt: &impl Abort, subject: &mut Subject, stream: u32) {
-    assert!(rt; open_one(subject, Dir::Uni, stream));
-    assert!(rt; subject.retransmit(meta(stream, 0, false)).is_ok());
-    assert!(rt; subject.finish(stream).is_ok());
+    is_true(rt, open_one(subject, Dir::Uni, stream));
+    is_true(rt, subject.retransmit(meta(stream, 0, false)).is_ok());
+    is_true(rt, subject.finish(stream).is_ok());
 }
 
 fn is_told_finished(subject: &mut Subject, stream: u32) -> bool {
@@ -265,13 +265,13 @@ fn finish_many(rt: &impl Abort, subject: &mut Subject, count: u32) {
     }
     for index in 0..count {
         let stream = index.wrapping_mul(4).wrapping_add(2);
-        assert!(rt; subject.received_ack_of(meta(stream, 0, true)).is_ok());
+        is_true(rt, subject.received_ack_of(meta(stream, 0, true)).is_ok());
     }
     for index in 0..count {
         let stream = index.wrapping_mul(4).wrapping_add(2);
         assert!(rt; is_told_finished(subject, stream), "stream {stream}");
     }
-    assert!(rt; is_told_nothing(subject));
+    is_true(rt, is_told_nothing(subject));
 }
 
 #[test]
@@ -289,9 +289,9 @@ fn replace(
     stream: u32,
 ) -> Result<(), OutOfMemory> {
     comes_whole(rt, alloc, subject, stream)?;
-    assert!(rt; subject.stop(stream, 9).is_ok());
-    assert!(rt; subject.reset(stream, 3).is_ok());
-    assert!(rt; subject.reset_acked(stream).is_ok());
+    is_true(rt, subject.stop(stream, 9).is_ok());
+    is_true(rt, subject.reset(stream, 3).is_ok());
+    is_true(rt, subject.reset_acked(stream).is_ok());
     subject.pending.reset_stream.clear();
     Ok(())
 }

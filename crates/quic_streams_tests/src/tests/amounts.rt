@@ -2,7 +2,7 @@
 use super::calls::{Subject, merge, nothing_pending};
 use super::control::{Payload, new_payload, write_control};
 use super::sending::{end, open_one, reset_one, write_one};
-use super::{WINDOW, client, id, pattern};
+use super::{WINDOW, client, id, is_true, pattern, same, same_for};
 use quic_streams::{Retransmits, StreamMetaVec};
 use quic_values::{Dir, OutOfMemory, Side, VarInt};
 use quic_wire::StreamEvent;
@@ -110,8 +110,8 @@ fn send(
             break;
         }
     }
-    assert_eq!(rt; part.first, part.end, "{size} bytes");
-    assert!(rt; !subject.can_send_stream_data());
+    same_for(rt, &size, part.first, part.end);
+    is_true(rt, !subject.can_send_stream_data());
     Ok(())
 }
 
@@ -140,17 +140,17 @@ fn lose_and_ack(
         end: meta.offsets.end as usize,
         ..part
     };
-    assert!(rt; subject.retransmit(copy_of(meta)).is_ok());
+    is_true(rt, subject.retransmit(copy_of(meta)).is_ok());
     let max = part.content.len().saturating_add(40);
     send(rt, alloc, subject, sent, lost, max)?;
     for meta in sent.as_slice() {
-        assert!(rt; subject.received_ack_of(copy_of(meta)).is_ok());
+        is_true(rt, subject.received_ack_of(copy_of(meta)).is_ok());
     }
     let finished = StreamEvent::Finished {
         id: id(part.stream),
     };
-    assert_eq!(rt; subject.poll(), Some(finished));
-    assert_eq!(rt; subject.poll(), None);
+    same(rt, subject.poll(), Some(finished));
+    same(rt, subject.poll(), None);
     Ok(())
 }
 
@@ -164,13 +164,13 @@ fn pass(
     max: usize,
 ) -> Result<(), Fail> {
     let content = pattern(alloc, 0, size)?;
-    assert!(rt; open_one(subject, Dir::Uni, stream));
+    is_true(rt, open_one(subject, Dir::Uni, stream));
     // A write of nothing would queue the stream as well.
     if size > 0 {
         let written = subject.write(stream, content.as_slice());
-        assert_eq!(rt; written, Ok(size), "{size} bytes");
+        same_for(rt, &size, written, Ok(size));
     }
-    assert!(rt; subject.finish(stream).is_ok());
+    is_true(rt, subject.finish(stream).is_ok());
     let part = Part {
         stream,
         content: content.as_slice(),
@@ -179,10 +179,11 @@ fn pass(
     };
     let mut sent = StreamMetaVec::new(alloc);
     send(rt, alloc, subject, &mut sent, part, max)?;
-    assert_eq!(rt;
+    same_for(
+        rt,
+        &size,
         sent.as_slice().len() > 1,
         max < size.saturating_add(10),
-        "{size} bytes"
     );
     lose_and_ack(rt, alloc, subject, &mut sent, part)
 }
@@ -212,15 +213,15 @@ fn every_size_is_sent_lost_and_acknowledged(rt: HostRuntime) -> Result<(), Fail>
 // Queues an entry of each of four kinds: for streams 0, 2 and 3, or those so many times 4 behind them.
 fn queue_entry(rt: &impl Abort, subject: &mut Subject, index: u32) -> Result<(), OutOfMemory> {
     let first = index.wrapping_mul(4);
-    assert!(rt; open_one(subject, Dir::Bi, first));
-    assert_eq!(rt; write_one(subject, first, 2), Some(1));
-    assert_eq!(rt; write_one(subject, first, 1), None);
+    is_true(rt, open_one(subject, Dir::Bi, first));
+    same(rt, write_one(subject, first, 2), Some(1));
+    same(rt, write_one(subject, first, 1), None);
     subject.queue_window(first)?;
     let own = first.wrapping_add(2);
-    assert!(rt; open_one(subject, Dir::Uni, own));
-    assert!(rt; reset_one(subject, own, 7));
+    is_true(rt, open_one(subject, Dir::Uni, own));
+    is_true(rt, reset_one(subject, own, 7));
     let theirs = first.wrapping_add(3);
-    assert!(rt; subject.stop(theirs, 9).is_ok());
+    is_true(rt, subject.stop(theirs, 9).is_ok());
     Ok(())
 }
 
@@ -246,9 +247,9 @@ fn resets_are_noted(rt: &impl Abort, noted: &Retransmits, count: u32) {
     for (stream, code) in &noted.reset_stream {
         left = left.wrapping_sub(1);
         let own = id(left.wrapping_mul(4).wrapping_add(2));
-        assert_eq!(rt; (*stream, *code), (own, VarInt::from(7u32)));
+        same(rt, (*stream, *code), (own, VarInt::from(7u32)));
     }
-    assert_eq!(rt; left, 0);
+    same(rt, left, 0);
 }
 
 // And STOP_SENDING.
@@ -257,9 +258,13 @@ fn stops_are_noted(rt: &impl Abort, noted: &Retransmits, count: u32) {
     for frame in &noted.stop_sending {
         left = left.wrapping_sub(1);
         let theirs = id(left.wrapping_mul(4).wrapping_add(3));
-        assert_eq!(rt; (frame.id, frame.error_code), (theirs, VarInt::from(9u32)));
+        same(
+            rt,
+            (frame.id, frame.error_code),
+            (theirs, VarInt::from(9u32)),
+        );
     }
-    assert_eq!(rt; left, 0);
+    same(rt, left, 0);
 }
 
 // Whether what was noted has each entry once.
@@ -268,18 +273,24 @@ fn are_noted(rt: &impl Abort, noted: &Retransmits, count: u32) {
     stops_are_noted(rt, noted, count);
     for index in 0..count {
         let first = id(index.wrapping_mul(4));
-        assert!(rt; noted.max_stream_data.contains(&first));
-        assert!(rt; noted.stream_data_blocked.contains(&first));
+        is_true(rt, noted.max_stream_data.contains(&first));
+        is_true(rt, noted.stream_data_blocked.contains(&first));
     }
     let sets = (noted.max_stream_data.len(), noted.stream_data_blocked.len());
-    assert_eq!(rt; sets, (count as usize, count as usize));
+    same(rt, sets, (count as usize, count as usize));
 }
 
 fn nothing_is_left(rt: &impl Abort, pending: &Retransmits) {
-    assert!(rt; pending.reset_stream.is_empty() && pending.stop_sending.is_empty());
-    assert!(rt; pending.max_stream_data.is_empty() && pending.stream_data_blocked.is_empty());
-    assert!(rt; !pending.max_data && !pending.data_blocked);
-    assert_eq!(rt; pending.max_stream_id, [false, false]);
+    is_true(
+        rt,
+        pending.reset_stream.is_empty() && pending.stop_sending.is_empty(),
+    );
+    is_true(
+        rt,
+        pending.max_stream_data.is_empty() && pending.stream_data_blocked.is_empty(),
+    );
+    is_true(rt, !pending.max_data && !pending.data_blocked);
+    same(rt, pending.max_stream_id, [false, false]);
 }
 
 // How many frames and bytes were written, and what was noted.
@@ -299,9 +310,9 @@ fn write_entry(
     max: usize,
 ) -> bool {
     let mut payload = new_payload(alloc);
-    assert!(rt; write_control(subject, &mut payload, max));
+    is_true(rt, write_control(subject, &mut payload, max));
     let Payload { bytes, sent, stats } = payload;
-    assert!(rt; bytes.len() <= max);
+    is_true(rt, bytes.len() <= max);
     written.frames = written
         .frames
         .saturating_add(stats.reset_stream)
@@ -309,7 +320,7 @@ fn write_entry(
         .saturating_add(stats.max_stream_data)
         .saturating_add(stats.stream_data_blocked);
     written.length = written.length.saturating_add(bytes.len());
-    assert!(rt; merge(&mut written.noted, sent));
+    is_true(rt, merge(&mut written.noted, sent));
     bytes.is_empty()
 }
 
@@ -335,8 +346,8 @@ fn write_entries(
             break;
         }
     }
-    assert_eq!(rt; written.frames, u64::from(count).saturating_mul(4));
-    assert_eq!(rt; written.length, length_of_entries(count));
+    same(rt, written.frames, u64::from(count).saturating_mul(4));
+    same(rt, written.length, length_of_entries(count));
     nothing_is_left(rt, &subject.pending);
     are_noted(rt, &written.noted, count);
     Ok(())

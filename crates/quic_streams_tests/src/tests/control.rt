@@ -1,7 +1,7 @@
 // Frames beside STREAM, and the bytes that they have to be.
 use super::calls::{Subject, nothing_noted};
 use super::sending::{Done, Step as SendStep, end, take};
-use super::{Answer, Given, Last, Reads, Step, WINDOW, client, id, run};
+use super::{Answer, Given, Last, Reads, Step, WINDOW, client, id, is_true, run, same};
 use quic_streams::stats::FrameStats;
 use quic_streams::{Retransmits, ThinRetransmits};
 use quic_values::{Dir, OutOfMemory, Side, VarInt};
@@ -50,7 +50,7 @@ pub(super) fn writes(
     bytes: &[u8],
 ) {
     let written = control(alloc, subject, max_size);
-    assert_eq!(rt; written.bytes.as_slice(), bytes);
+    same(rt, written.bytes.as_slice(), bytes);
 }
 
 const RESET_AND_BLOCKED: [SendStep; 4] = [
@@ -69,19 +69,25 @@ fn a_reset_ends_where_was_written_and_a_blocked_connection_is_told(
     take(&rt, alloc, &mut subject, &RESET_AND_BLOCKED)?;
     let written = control(alloc, &mut subject, 100);
     let stats = written.stats;
-    assert_eq!(&rt; written.bytes.as_slice(), [4, 2, 7, 2, 0x14, 2].as_slice());
-    assert_eq!(&rt;
+    same(
+        &rt,
+        written.bytes.as_slice(),
+        [4, 2, 7, 2, 0x14, 2].as_slice(),
+    );
+    same(
+        &rt,
         (stats.reset_stream, stats.data_blocked, stats.max_data),
-        (1, 1, 0)
+        (1, 1, 0),
     );
     let Some(sent) = written.sent.get() else {
         return Err(Fail::from("nothing was noted"));
     };
-    assert_eq!(&rt;
+    same(
+        &rt,
         sent.reset_stream.as_slice(),
-        [(id(2), VarInt::from(7u32))].as_slice()
+        [(id(2), VarInt::from(7u32))].as_slice(),
     );
-    assert_eq!(&rt; (sent.data_blocked, sent.max_data), (true, false));
+    same(&rt, (sent.data_blocked, sent.max_data), (true, false));
     writes(&rt, alloc, &mut subject, 100, &[]);
     Ok(())
 }
@@ -179,10 +185,10 @@ fn kinds_come_in_their_order_and_the_useless_is_dropped(rt: HostRuntime) -> Resu
     take(&rt, alloc, &mut subject, &BLOCKED)?;
     one_of_each(&mut subject)?;
     let written = control(alloc, &mut subject, 1200);
-    assert_eq!(&rt; written.bytes.as_slice(), EACH.as_slice());
-    assert_eq!(&rt; written.stats.stop_sending, 2);
-    assert!(&rt; subject.pending.max_stream_data.is_empty());
-    assert!(&rt; subject.pending.stream_data_blocked.is_empty());
+    same(&rt, written.bytes.as_slice(), EACH.as_slice());
+    same(&rt, written.stats.stop_sending, 2);
+    is_true(&rt, subject.pending.max_stream_data.is_empty());
+    is_true(&rt, subject.pending.stream_data_blocked.is_empty());
     writes(&rt, alloc, &mut subject, 1200, &[]);
     Ok(())
 }
@@ -190,7 +196,7 @@ fn kinds_come_in_their_order_and_the_useless_is_dropped(rt: HostRuntime) -> Resu
 // The next payload of at most 30 bytes. Answers how many limits it announces.
 fn limits_written(rt: &impl Abort, alloc: Global, subject: &mut Subject) -> u64 {
     let written = control(alloc, subject, 30);
-    assert!(rt; written.bytes.len() <= 30);
+    is_true(rt, written.bytes.len() <= 30);
     written.stats.max_stream_data
 }
 
@@ -212,7 +218,7 @@ fn entries_go_into_payload_after_payload(rt: HostRuntime) -> Result<(), Fail> {
     for _ in 0..64u32 {
         frames = frames.saturating_add(limits_written(&rt, alloc, &mut subject));
     }
-    assert_eq!(&rt; frames, 128);
-    assert!(&rt; subject.pending.max_stream_data.is_empty());
+    same(&rt, frames, 128);
+    is_true(&rt, subject.pending.max_stream_data.is_empty());
     Ok(())
 }

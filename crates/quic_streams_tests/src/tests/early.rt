@@ -1,7 +1,7 @@
 // An early start that is rejected, or sent again.
 use super::calls::Subject;
 use super::sending::{Done, Event, Step, end, take};
-use super::{Answer, STREAM_STATE, WINDOW, client, id};
+use super::{Answer, STREAM_STATE, WINDOW, client, id, is_true, same};
 use quic_values::{Dir, Side};
 use quic_wire::frame::StreamMeta;
 use std::process::Abort;
@@ -93,8 +93,8 @@ fn streams_begin_anew_where_an_early_start_is_rejected(rt: HostRuntime) -> Resul
 fn send_again(rt: &impl Abort, subject: &mut Subject) {
     let could = subject.can_send_stream_data();
     if subject.retransmit_all_for_0rtt().is_err() {
-        assert_eq!(rt; subject.can_send_stream_data(), could);
-        assert!(rt; subject.retransmit_all_for_0rtt().is_ok());
+        same(rt, subject.can_send_stream_data(), could);
+        is_true(rt, subject.retransmit_all_for_0rtt().is_ok());
     }
 }
 
@@ -104,7 +104,7 @@ pub(super) fn start(rt: &impl Abort, subject: &mut Subject, step: Step) {
         Step::Rejected => subject.zero_rtt_rejected(),
         Step::SendAgain => send_again(rt, subject),
         Step::Puts(stream, bytes) => {
-            assert_eq!(rt; subject.write(stream, bytes), Ok(bytes.len()));
+            same(rt, subject.write(stream, bytes), Ok(bytes.len()));
         }
         _ => {}
     }

@@ -1,7 +1,7 @@
 // What counts of what is pending: a frame that would be dropped does not.
 use super::calls::{Subject, nothing_noted, nothing_pending};
 use super::sending::{Done, Step, end, take};
-use super::{WINDOW, client, id};
+use super::{WINDOW, client, id, is_true, same_for};
 use quic_streams::{IssuedCid, Retransmits, ThinRetransmits};
 use quic_values::{Bytes, Dir, OutOfMemory, Side, VarInt};
 use quic_wire::frame::{Crypto, StopSending};
@@ -66,14 +66,14 @@ fn counts_alone(
 fn what_is_pending_in_any_state_counts(rt: HostRuntime) -> Result<(), Fail> {
     let alloc = rt.alloc();
     let subject = client(alloc, 1, WINDOW, WINDOW)?;
-    assert!(&rt; subject.has_nothing_of(&subject.pending));
+    is_true(&rt, subject.has_nothing_of(&subject.pending));
     let mut thin = nothing_noted(alloc);
-    assert!(&rt; subject.has_nothing_of_thin(&thin));
+    is_true(&rt, subject.has_nothing_of_thin(&thin));
     for kind in 0..11u32 {
         counts_alone(&rt, alloc, &subject, kind)?;
     }
     let _ = thin.get_or_create()?;
-    assert!(&rt; subject.has_nothing_of_thin(&thin));
+    is_true(&rt, subject.has_nothing_of_thin(&thin));
     Ok(())
 }
 
@@ -106,7 +106,7 @@ fn counts(
 ) -> Result<(), OutOfMemory> {
     for (kind, streams, nothing) in cases {
         let is = counts_not(alloc, subject, *kind, streams)?;
-        assert_eq!(rt; is, *nothing, "kind {kind}");
+        same_for(rt, &kind, is, *nothing);
     }
     Ok(())
 }

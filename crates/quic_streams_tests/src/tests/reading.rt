@@ -1,5 +1,7 @@
 use super::calls::{Subject, finalize, next_chunk};
-use super::{Answer, Given, Last, Reads, Step, Told, WINDOW, client, id, run, run_on_client};
+use super::{
+    Answer, Given, Last, Reads, Step, Told, WINDOW, client, id, is_true, run, run_on_client, same,
+};
 use quic_streams::recv_stream::RecvStream;
 use quic_values::OutOfMemory;
 use std::alloc::Global;
@@ -183,7 +185,7 @@ fn read_byte(
     } = subject;
     let mut stream = RecvStream::new(id(3), &mut state, &mut pending);
     let mut chunks = stream.read(true)?;
-    assert!(rt; next_chunk(&mut chunks, 1)?.is_some());
+    is_true(rt, next_chunk(&mut chunks, 1)?.is_some());
     let transmit = match ending {
         Ending::Finalized => Some(finalize(chunks)),
         Ending::Dropped => {
@@ -209,7 +211,7 @@ fn read_byte(
 fn a_reader_that_is_finalized_gives_credit(rt: HostRuntime) -> Result<(), Fail> {
     let subject = one_byte_came(&rt, rt.alloc())?;
     let (subject, transmit) = read_byte(&rt, subject, Ending::Finalized)?;
-    assert_eq!(&rt; transmit, Some(true));
+    same(&rt, transmit, Some(true));
     let _ = run(&rt, rt.alloc(), subject, &ONE_BYTE_READ)?;
     Ok(())
 }

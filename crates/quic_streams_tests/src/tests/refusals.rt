@@ -4,7 +4,7 @@ use super::control::{new_payload, write_control};
 use super::sending::{
     Done, Event, Step, call, expected, finish, open, reset, set_priority, taken, write,
 };
-use super::{Answer, WINDOW, client, id};
+use super::{Answer, WINDOW, client, id, is_true, is_true_for, same, same_for};
 use quic_sending::WriteError;
 use quic_streams::StreamMetaVec;
 use quic_values::{Bytes, Dir, OutOfMemory, VarInt};
@@ -141,11 +141,11 @@ fn make_again(rt: &impl Abort, subject: &mut Subject, step: Step, place: usize) 
     let before = all_of(subject);
     let first = make(subject, step);
     if first.is_some() {
-        assert_eq!(rt; first, Some(true), "step {place}");
+        same_for(rt, &place, first, Some(true));
         return;
     }
-    assert_eq!(rt; all_of(subject), before, "step {place}");
-    assert_eq!(rt; make(subject, step), Some(true), "step {place}");
+    same_for(rt, &place, all_of(subject), before);
+    same_for(rt, &place, make(subject, step), Some(true));
 }
 
 fn run(rt: &impl Abort, subject: &mut Subject, steps: &[Step]) {
@@ -180,12 +180,15 @@ fn write_chunks(rt: &impl Abort, alloc: Global, subject: &mut Subject) -> Result
     let before = all_of(subject);
     let mut written = subject.write_chunks(6, &mut chunks);
     if written == Err(WriteError::OutOfMemory) {
-        assert_eq!(rt; all_of(subject), before);
-        assert!(rt; have_lengths(&chunks, [0, 2, 4]));
+        same(rt, all_of(subject), before);
+        is_true(rt, have_lengths(&chunks, [0, 2, 4]));
         written = subject.write_chunks(6, &mut chunks);
     }
-    assert!(rt; matches!(written, Ok(w) if w.bytes == 4 && w.chunks == 2));
-    assert!(rt; have_lengths(&chunks, [0, 0, 2]));
+    is_true(
+        rt,
+        matches!(written, Ok(w) if w.bytes == 4 && w.chunks == 2),
+    );
+    is_true(rt, have_lengths(&chunks, [0, 0, 2]));
     Ok(())
 }
 
@@ -202,16 +205,16 @@ fn send(
         .write_stream_frames(&mut buf, &mut sent, 100, true)
         .is_err()
     {
-        assert!(rt; bytes.starts_with(buf.as_slice()));
+        is_true(rt, bytes.starts_with(buf.as_slice()));
         let end = ends.get(sent.as_slice().len());
-        assert_eq!(rt; end, Some(&buf.len()));
-        assert!(rt; subject.can_send_stream_data());
+        same(rt, end, Some(&buf.len()));
+        is_true(rt, subject.can_send_stream_data());
         let again = subject.write_stream_frames(&mut buf, &mut sent, 100, true);
-        assert!(rt; again.is_ok());
+        is_true(rt, again.is_ok());
     }
-    assert_eq!(rt; buf.as_slice(), bytes);
-    assert_eq!(rt; sent.as_slice().len().saturating_add(1), ends.len());
-    assert!(rt; !subject.can_send_stream_data());
+    same(rt, buf.as_slice(), bytes);
+    same(rt, sent.as_slice().len().saturating_add(1), ends.len());
+    is_true(rt, !subject.can_send_stream_data());
     Ok(())
 }
 
@@ -245,8 +248,8 @@ fn report_once(subject: &mut Subject, report: Report) -> bool {
 fn take_report(rt: &impl Abort, subject: &mut Subject, report: Report) {
     let before = all_of(subject);
     if !report_once(subject, report) {
-        assert_eq!(rt; all_of(subject), before, "{report:?}");
-        assert!(rt; report_once(subject, report), "{report:?}");
+        same_for(rt, &report, all_of(subject), before);
+        is_true_for(rt, &report, report_once(subject, report));
     }
 }
 
@@ -254,8 +257,8 @@ fn take_report(rt: &impl Abort, subject: &mut Subject, report: Report) {
 fn send_again(rt: &impl Abort, subject: &mut Subject) {
     let before = all_of(subject);
     if subject.retransmit_all_for_0rtt().is_err() {
-        assert_eq!(rt; all_of(subject), before);
-        assert!(rt; subject.retransmit_all_for_0rtt().is_ok());
+        same(rt, all_of(subject), before);
+        is_true(rt, subject.retransmit_all_for_0rtt().is_ok());
     }
 }
 
@@ -357,20 +360,20 @@ fn refused_calls_change_nothing_and_then_succeed(rt: HostRuntime) -> Result<(), 
     let mut subject = client_that_wrote(&rt, alloc)?;
     send_and_ack(&rt, alloc, &mut subject)?;
     run(&rt, &mut subject, &STOPPED);
-    assert!(&rt; subject.queue_max_stream_id());
+    is_true(&rt, subject.queue_max_stream_id());
     subject.queue_window(0)?;
     let mut payload = new_payload(alloc);
     if !write_control(&mut subject, &mut payload, 100) {
-        assert!(&rt; CONTROL.starts_with(payload.bytes.as_slice()));
-        assert!(&rt; matches!(payload.bytes.len(), 0 | 4 | 10 | 12 | 14));
-        assert!(&rt; write_control(&mut subject, &mut payload, 100));
+        is_true(&rt, CONTROL.starts_with(payload.bytes.as_slice()));
+        is_true(&rt, matches!(payload.bytes.len(), 0 | 4 | 10 | 12 | 14));
+        is_true(&rt, write_control(&mut subject, &mut payload, 100));
     }
-    assert_eq!(&rt; payload.bytes.as_slice(), CONTROL);
+    same(&rt, payload.bytes.as_slice(), CONTROL);
     let stats = payload.stats;
-    assert_eq!(&rt; (stats.reset_stream, stats.max_stream_data), (1, 1));
-    assert_eq!(&rt; (stats.max_streams_bidi, stats.max_streams_uni), (1, 1));
-    assert!(&rt; payload.sent.get().is_some());
-    assert!(&rt; subject.pending.reset_stream.is_empty());
+    same(&rt, (stats.reset_stream, stats.max_stream_data), (1, 1));
+    same(&rt, (stats.max_streams_bidi, stats.max_streams_uni), (1, 1));
+    is_true(&rt, payload.sent.get().is_some());
+    is_true(&rt, subject.pending.reset_stream.is_empty());
     take_report(&rt, &mut subject, Report::ResetAcked(2));
     run(&rt, &mut subject, &[Step::Priority(2, None)]);
     Ok(())

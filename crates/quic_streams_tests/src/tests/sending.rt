@@ -1,6 +1,8 @@
 use super::calls::Subject;
 use super::control::writes;
-use super::{Answer, STREAM_LIMIT, STREAM_STATE, WINDOW, acknowledging, client, id, receive};
+use super::{
+    Answer, STREAM_LIMIT, STREAM_STATE, WINDOW, acknowledging, client, id, is_true, receive, same,
+};
 use quic_receiving::HandleError;
 use quic_sending::{FinishError, WriteError};
 use quic_streams::StreamMetaVec;
@@ -267,28 +269,28 @@ pub(super) fn queued(
 ) -> Result<(), OutOfMemory> {
     let (mut buf, mut sent) = (Vec::new(alloc), StreamMetaVec::new(alloc));
     subject.write_stream_frames(&mut buf, &mut sent, 1200, true)?;
-    assert_eq!(rt; sent.len(), streams.len());
+    same(rt, sent.len(), streams.len());
     for (frame, stream) in sent.iter().zip(streams) {
-        assert_eq!(rt; frame.id, id(*stream));
+        same(rt, frame.id, id(*stream));
     }
-    assert!(rt; !subject.can_send_stream_data());
+    is_true(rt, !subject.can_send_stream_data());
     Ok(())
 }
 
 // What the application calls.
 pub(super) fn call(rt: &impl Abort, subject: &mut Subject, step: Step) {
     match step {
-        Step::Open(dir, stream) => assert_eq!(rt; open(subject, dir), expected(stream)),
-        Step::Accept(dir, stream) => assert_eq!(rt; accept(subject, dir), expected(stream)),
-        Step::Poll(event) => assert_eq!(rt; polled(subject), event),
-        Step::Write(stream, count, done) => assert_eq!(rt; write(subject, stream, count), done),
-        Step::Finish(stream, done) => assert_eq!(rt; finish(subject, stream), done),
-        Step::Reset(stream, code, done) => assert_eq!(rt; reset(subject, stream, code), done),
-        Step::Code(stream, was) => assert_eq!(rt; code(subject, stream), was),
+        Step::Open(dir, stream) => same(rt, open(subject, dir), expected(stream)),
+        Step::Accept(dir, stream) => same(rt, accept(subject, dir), expected(stream)),
+        Step::Poll(event) => same(rt, polled(subject), event),
+        Step::Write(stream, count, done) => same(rt, write(subject, stream, count), done),
+        Step::Finish(stream, done) => same(rt, finish(subject, stream), done),
+        Step::Reset(stream, code, done) => same(rt, reset(subject, stream, code), done),
+        Step::Code(stream, was) => same(rt, code(subject, stream), was),
         Step::SetPriority(stream, priority) => {
-            assert_eq!(rt; set_priority(subject, stream, priority), Done::Is);
+            same(rt, set_priority(subject, stream, priority), Done::Is);
         }
-        Step::Priority(stream, was) => assert_eq!(rt; subject.priority(stream), was),
+        Step::Priority(stream, was) => same(rt, subject.priority(stream), was),
         other => ask(rt, subject, other),
     }
 }
@@ -297,18 +299,18 @@ pub(super) fn call(rt: &impl Abort, subject: &mut Subject, step: Step) {
 fn ask(rt: &impl Abort, subject: &mut Subject, step: Step) {
     match step {
         Step::Uses(dir, uses, open) => {
-            assert_eq!(rt; subject.max_concurrent(dir), uses);
-            assert_eq!(rt; subject.remote_open_streams(dir), open);
+            same(rt, subject.max_concurrent(dir), uses);
+            same(rt, subject.remote_open_streams(dir), open);
         }
-        Step::Limit(limit) => assert_eq!(rt; subject.write_limit(), limit),
+        Step::Limit(limit) => same(rt, subject.write_limit(), limit),
         Step::Blocked(is_queued, may) => {
-            assert_eq!(rt; subject.pending.data_blocked, is_queued);
-            assert_eq!(rt; subject.can_send_data_blocked(), may);
+            same(rt, subject.pending.data_blocked, is_queued);
+            same(rt, subject.can_send_data_blocked(), may);
         }
-        Step::StreamBlocked(stream, limit) => assert_eq!(rt; limit_of(subject, stream), limit),
-        Step::Flow(stream, is) => assert_eq!(rt; subject.can_send_flow_control(stream), is),
-        Step::Unopened(stream, is) => assert_eq!(rt; subject.is_local_unopened(stream), is),
-        Step::Resets(count) => assert_eq!(rt; subject.pending.reset_stream.len(), count),
+        Step::StreamBlocked(stream, limit) => same(rt, limit_of(subject, stream), limit),
+        Step::Flow(stream, is) => same(rt, subject.can_send_flow_control(stream), is),
+        Step::Unopened(stream, is) => same(rt, subject.is_local_unopened(stream), is),
+        Step::Resets(count) => same(rt, subject.pending.reset_stream.len(), count),
         other => set(rt, subject, other),
     }
 }
@@ -317,16 +319,16 @@ fn ask(rt: &impl Abort, subject: &mut Subject, step: Step) {
 fn set(rt: &impl Abort, subject: &mut Subject, step: Step) {
     match step {
         Step::Concurrent(dir, count, uses) => {
-            assert!(rt; subject.set_max_concurrent(dir, count).is_ok());
-            assert_eq!(rt; subject.max_concurrent(dir), uses);
+            is_true(rt, subject.set_max_concurrent(dir, count).is_ok());
+            same(rt, subject.max_concurrent(dir), uses);
         }
         Step::Window(window, transmit) => {
-            assert_eq!(rt; subject.set_receive_window(window), transmit);
+            same(rt, subject.set_receive_window(window), transmit);
         }
         Step::Credit(count, transmit, limit) => {
             let answer = subject.add_read_credits(count).should_transmit();
-            assert_eq!(rt; answer, transmit);
-            assert_eq!(rt; subject.local_max_data(), limit);
+            same(rt, answer, transmit);
+            same(rt, subject.local_max_data(), limit);
         }
         Step::SendWindow(window) => subject.set_send_window(window),
         Step::Close => subject.conn = ConnState::Closed,
@@ -344,7 +346,7 @@ pub(super) fn sends(
 ) -> Result<(), OutOfMemory> {
     let (mut buf, mut sent) = (Vec::new(alloc), StreamMetaVec::new(alloc));
     subject.write_stream_frames(&mut buf, &mut sent, max_size, true)?;
-    assert_eq!(rt; buf.as_slice(), bytes);
+    same(rt, buf.as_slice(), bytes);
     Ok(())
 }
 
@@ -373,18 +375,22 @@ fn hand_in(
 ) -> Result<(), OutOfMemory> {
     match step {
         Step::Stop(stream, code) => {
-            assert!(rt; subject.received_stop_sending(stream, code).is_ok());
+            is_true(rt, subject.received_stop_sending(stream, code).is_ok());
         }
         Step::MaxData(limit) => subject.received_max_data(limit),
         Step::MaxStreams(dir, count, answer) => {
-            assert_eq!(rt; taken(subject.received_max_streams(dir, count)), answer);
+            same(rt, taken(subject.received_max_streams(dir, count)), answer);
         }
         Step::MaxStreamData(stream, limit, answer) => {
             let is = subject.received_max_stream_data(stream, limit);
-            assert_eq!(rt; taken(is), answer);
+            same(rt, taken(is), answer);
         }
         Step::Data(stream, count, answer) => {
-            assert_eq!(rt; receive(alloc, subject, stream, 0, count, false)?, answer);
+            same(
+                rt,
+                receive(alloc, subject, stream, 0, count, false)?,
+                answer,
+            );
         }
         Step::Whole(stream) => acknowledging::comes_whole(rt, alloc, subject, stream)?,
         other => leave(rt, alloc, subject, other)?,
@@ -723,7 +729,7 @@ fn chunk(alloc: Global, bytes: &[u8]) -> Result<Bytes, OutOfMemory> {
 fn chunks_are_taken_whole_or_cut(rt: HostRuntime) -> Result<(), Fail> {
     let alloc = rt.alloc();
     let mut subject = end(alloc, Side::Client, 1, 100, 7)?;
-    assert_eq!(&rt; open(&mut subject, Dir::Uni), Some(2));
+    same(&rt, open(&mut subject, Dir::Uni), Some(2));
     let mut chunks = Vec::with_capacity(alloc, 3)?;
     chunks.push(chunk(alloc, b"")?)?;
     chunks.push(chunk(alloc, b"Hello ")?)?;
@@ -732,14 +738,15 @@ fn chunks_are_taken_whole_or_cut(rt: HostRuntime) -> Result<(), Fail> {
         Ok(written) => (written.bytes, written.chunks),
         Err(_) => (0, 0),
     };
-    assert_eq!(&rt; written, (7, 2));
+    same(&rt, written, (7, 2));
     let mut left = Vec::with_capacity(alloc, 3)?;
     for chunk in &chunks {
         left.push(chunk.as_slice())?;
     }
-    assert_eq!(&rt;
+    same(
+        &rt,
         left.as_slice(),
-        [b"".as_slice(), b"".as_slice(), b"o".as_slice()].as_slice()
+        [b"".as_slice(), b"".as_slice(), b"o".as_slice()].as_slice(),
     );
     Ok(())
 }

@@ -1,6 +1,6 @@
 // With ample memory no size is refused.
 use super::calls::Subject;
-use super::{Answer, WINDOW, client, data, pattern};
+use super::{Answer, WINDOW, client, data, is_true, pattern, same, same_for};
 use quic_streams::progress::LastAnswer;
 use quic_values::Dir;
 use std::alloc::Global;
@@ -16,16 +16,16 @@ fn pass(
     size: usize,
 ) -> Result<(), Fail> {
     let answer = data(rt, alloc, subject, 3, offset, size, false)?;
-    assert_eq!(rt; answer, Answer::Taken(false), "{size} bytes");
+    same_for(rt, &size, answer, Answer::Taken(false));
     let most = size.div_ceil(2);
     let read = subject.read_some(3, true, most, 3)?;
-    assert_eq!(rt; read.last, LastAnswer::Blocked, "{size} bytes");
+    same_for(rt, &size, read.last, LastAnswer::Blocked);
     let mut bytes = Vec::new(alloc);
     for chunk in &read.chunks {
         bytes.extend_from_slice(chunk.bytes.as_slice())?;
     }
     let expected = pattern(alloc, offset, size)?;
-    assert_eq!(rt; bytes.as_slice(), expected.as_slice(), "{size} bytes");
+    same_for(rt, &size, bytes.as_slice(), expected.as_slice());
     Ok(())
 }
 
@@ -52,10 +52,10 @@ fn pass_stream(
     stream: u32,
 ) -> Result<(), Fail> {
     let answer = data(rt, alloc, subject, stream, 0, 3, true)?;
-    assert_eq!(rt; answer, Answer::Taken(false), "stream {stream}");
+    same_for(rt, &stream, answer, Answer::Taken(false));
     let read = subject.read_some(stream, false, 1, u16::MAX)?;
-    assert_eq!(rt; read.chunks.len(), 3, "stream {stream}");
-    assert_eq!(rt; read.last, LastAnswer::Ended, "stream {stream}");
+    same_for(rt, &stream, read.chunks.len(), 3);
+    same_for(rt, &stream, read.last, LastAnswer::Ended);
     Ok(())
 }
 
@@ -67,7 +67,7 @@ fn every_number_of_streams_and_chunks_is_served(rt: HostRuntime) -> Result<(), F
         let stream = index.wrapping_mul(4).wrapping_add(3);
         pass_stream(&rt, alloc, &mut subject, stream)?;
     }
-    assert_eq!(&rt; subject.pending.max_stream_id, [false, true]);
-    assert!(&rt; subject.max_remote(Dir::Uni) == 2050);
+    same(&rt, subject.pending.max_stream_id, [false, true]);
+    is_true(&rt, subject.max_remote(Dir::Uni) == 2050);
     Ok(())
 }

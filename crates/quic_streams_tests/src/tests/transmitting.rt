@@ -1,7 +1,7 @@
 // STREAM frames of several streams.
-use super::WINDOW;
 use super::calls::Subject;
 use super::sending::{Done, Step, end, open_one, take};
+use super::{WINDOW, is_true, same};
 use quic_streams::StreamMetaVec;
 use quic_values::{Dir, OutOfMemory, Side, VarInt};
 use std::alloc::Global;
@@ -11,9 +11,9 @@ use std::test::Fail;
 
 // Opens a stream, and writes a byte at a priority.
 fn write_at(rt: &impl Abort, subject: &mut Subject, stream: u32, priority: i32, byte: u8) {
-    assert!(rt; open_one(subject, Dir::Uni, stream));
-    assert!(rt; subject.set_priority(stream, priority).is_ok());
-    assert_eq!(rt; subject.write(stream, &[byte]), Ok(1));
+    is_true(rt, open_one(subject, Dir::Uni, stream));
+    is_true(rt, subject.set_priority(stream, priority).is_ok());
+    same(rt, subject.write(stream, &[byte]), Ok(1));
 }
 
 #[test]
@@ -31,8 +31,8 @@ fn higher_priorities_first(rt: HostRuntime) -> Result<(), Fail> {
     let text: &[u8] = &[
         0x0a, 0x06, 0x01, b'b', 0x0a, 0x0a, 0x01, b'c', 0x0a, 0x02, 0x01, b'a',
     ];
-    assert!(rt; buf.as_slice() == text);
-    assert_eq!(rt; sent.as_slice().len(), 3);
+    is_true(&rt, buf.as_slice() == text);
+    same(&rt, sent.as_slice().len(), 3);
     Ok(())
 }
 
@@ -62,8 +62,8 @@ fn data_can_be_sent_while_a_queued_stream_is_not_reset(rt: HostRuntime) -> Resul
 // A client that opened two streams, with ample limits.
 fn two_streams(rt: &impl Abort, alloc: Global) -> Result<Subject, OutOfMemory> {
     let mut subject = end(alloc, Side::Client, 2, WINDOW, WINDOW)?;
-    assert!(rt; open_one(&mut subject, Dir::Uni, 2));
-    assert!(rt; open_one(&mut subject, Dir::Uni, 6));
+    is_true(rt, open_one(&mut subject, Dir::Uni, 2));
+    is_true(rt, open_one(&mut subject, Dir::Uni, 6));
     Ok(subject)
 }
 
@@ -84,9 +84,9 @@ fn sends(
     let mut sent = StreamMetaVec::new(alloc);
     subject.write_stream_frames(&mut buf, &mut sent, max_size, fair)?;
     let bytes = buf.as_slice();
-    assert_eq!(rt; bytes.len(), head.len().saturating_add(count));
-    assert!(rt; bytes.starts_with(head));
-    assert!(rt; bytes.iter().skip(head.len()).all(|b| *b == byte));
+    same(rt, bytes.len(), head.len().saturating_add(count));
+    is_true(rt, bytes.starts_with(head));
+    is_true(rt, bytes.iter().skip(head.len()).all(|b| *b == byte));
     Ok(())
 }
 
