@@ -10,6 +10,7 @@ use Rattle.quic_link.proofs.Ends.{Comes, comes-new, comes-acted, plain-call}
 use Rattle.quic_link.proofs.Growth.{grows}
 use Rattle.quic_link.proofs.Rooms.{RoomSo, room-kept, limits-honest}
 use Rattle.quic_link.proofs.TrueFrames.{AllTrue, true-acted, count-few}
+use Rattle.quic_link.proofs.Permits.{PermitsSo, permits-acted}
 use Rattle.quic_link.proofs.Streams.{StreamFits, fits-new, fits-grown, fits-moved, move-true, LimitSo, limits-sent, limits-came}
 use Rattle.quic_link.proofs.Acks.{AckedSo, acked-sent, acked-came}
 use Rattle.quic_link.proofs.Told.{AllToldTrue, told-first, told-second}
@@ -40,6 +41,7 @@ pub record Agrees (x y : Endpoint) : Type 0 where
   pub limits : (q : ℕ) → LimitSo y.made.window (sent_on x q) (came_on y q)
   pub acked : (q : ℕ) → AckedSo (sent_on x q) y.calls q
   pub events : AllToldTrue x y
+  pub permits : PermitsSo x
 
 -- ---- at first
 
@@ -81,6 +83,7 @@ agrees_new m n f few_uni few_bi small other = record {
   limits = λ q. omega arith;
   acked = λ q. record { came = λ k e. cc; end_came = λ e. cc; whole = λ e r. cc; stopped = λ code e. cc };
   events = λ g h. absurd h;
+  permits = λ q. omega arith;
 }
   where
     few : (d : Dir) → (remote_of (start m) d).max_remote ≤ 2 ^ 60
@@ -120,6 +123,7 @@ agrees-sent x y e v s r a =
       limits = limits-sent x y e v r.truth a.honest l s.limits;
       acked = acked-sent x y e v f r.truth a s.acked;
       events = told-first x y e v f r.truth a s.acked s.events;
+      permits = permits-acted x y v e a (true-acted x y e v f a s.truth) s.permits;
     }
 
 -- ---- and of the end that receives
@@ -145,6 +149,7 @@ agrees-came x y e v s r a =
       limits = limits-came x y e v plain s.limits;
       acked = λ q. acked-came (sent_on x q) y.calls q e (s.acked q);
       events = told-second x y e v s.events;
+      permits = s.permits;
     }
 
 -- both ways, however they came so far

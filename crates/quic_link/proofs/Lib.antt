@@ -5,6 +5,7 @@ pub mod Sums
 pub mod Rooms
 pub mod Texts
 pub mod TrueFrames
+pub mod Permits
 pub mod Streams
 pub mod Acks
 pub mod Told

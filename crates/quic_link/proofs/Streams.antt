@@ -222,7 +222,7 @@ limit_first m (Some limits) side q f t a k =
     subst P (sym a) x
 
 limit_true : (x y : Endpoint) (e : Event) → AllTrue y → IsHonest x y e → TrueLimit (came_on y) (send_move_of e)
-limit_true x y (Sending (RaisedLimit id limit (Ok u))) t k = t (frames.MaxStreamData id limit) k
+limit_true x y (Sending (RaisedLimit id limit (Ok u))) t k = (t (frames.MaxStreamData id limit) k).0
 limit_true x y (Sending (RaisedLimit id limit (Err error))) t k = tt
 limit_true x y (Sending (StoppedOwn id code (Ok u))) t k = tt
 limit_true x y (Sending (StoppedOwn id code (Err error))) t k = tt

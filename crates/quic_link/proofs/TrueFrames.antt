@@ -1,6 +1,6 @@
 -- Every frame that an end wrote is true of it, at the time and later.
 use Rattle.std.proofs.Common.{◌≡◌, ℕ, Bool, true, false, List, [], ◌∷◌, length, Option, Some, None, Ok, Err, refl, sym, ap, ◌∙◌, subst, inl, inr, arith, ◌+◌, ◌≤◌, ◌^◌}
-use Rattle.std.specs.Prelude.{◌++◌, ◌==◌, ◌&&◌, if◌then◌else◌}
+use Rattle.std.specs.Prelude.{◌++◌, ◌==◌, ◌&&◌, ◌-◌, max, min, if◌then◌else◌}
 use Rattle.std.specs.Option.{option_map}
 use Rattle.quic_values.specs.declared.ids.Dir.{Dir}
 use Rattle.quic_wire.specs.declared.frame.Frame.{Frame}
@@ -11,17 +11,22 @@ use Rattle.quic_sending.specs.Buffer.{total_length}
 use Rattle.quic_sending.proofs.Cuts.{length-concat}
 use Rattle.quic_sending.proofs.Pieces.{total-append}
 use Rattle.quic_retransmits.specs.Pending.{Pending}
-use Rattle.quic_flows.specs.Flow.{takes_data, state_told}
+use Rattle.quic_flows.specs.Flow.{SendFlow, SendMove, WasWritten, WasFinished, WasGivenUp, WasAskedToStop, WasPermitted, WasCarried, WasAcked, WasLost, WasResetAcked, takes_data, state_told, with_send_move}
 use Rattle.quic_outgoing.specs.Outgoing.{Outgoing}
 use Rattle.quic_outgoing.specs.Transmitting.{is_data_sent}
 use Rattle.quic_writing.specs.Appended.{frame_with}
 use Rattle.quic_history.specs.World.{World, Made, count_of, remote_of, sends}
 use Rattle.quic_history.specs.declared.control.ControlKind.{ControlKind}
 use Rattle.quic_history.specs.declared.control.ControlKind.TheVariants as kinds
-use Rattle.quic_history.specs.Control.{SettlesEntry, reset_frame, announced_end}
+use Rattle.quic_history.specs.Control.{SettlesEntry, reset_frame, window_frame, stream_blocked_frame}
 use Rattle.quic_history.specs.Carrying.{CarriesFrame}
 use Rattle.quic_history.specs.SendEvents.{TookTurn}
-use Rattle.quic_history.specs.History.{Event, Move, Framed, WasReset, WasRead, WasStopped, WasTold, WasAnnounced, Settled, Sending, Step, From, Trace, trace, move_of, moved, with_move, with_kept_frame, is_kept, is_closed, is_freed, before, counts, joint_move_of}
+use Rattle.quic_history.specs.History.{Event, Move, Framed, WasReset, WasRead, WasStopped, WasTold, WasAnnounced, Settled, Sending, Step, From, Trace, trace, move_of, moved, with_move, with_kept_frame, is_kept, is_closed, is_freed, before, counts, joint_move_of, StreamFrom, flow, send_move_of, limits_in}
+use Rattle.quic_history.specs.World.{id_refusal}
+use Rattle.quic_history.specs.Flows.{send_moved, with_first_limits}
+use Rattle.quic_values.specs.declared.ids.Side.{Side}
+use Rattle.quic_outgoing.specs.declared.limits.PeerLimits.{PeerLimits}
+use Rattle.quic_receiving.specs.Half.{Half, is_open, window_end}
 use Rattle.quic_receiving.specs.declared.errors.ReadError.TheVariants as read_error
 use Rattle.quic_history.proofs.Credits.{limit-fits}
 use Rattle.quic_history.proofs.Limits.{goes}
@@ -57,6 +62,60 @@ announced_move (WasAnnounced limit) t = omega arith
 announced_moved : (o : Option (ℕ × Move)) (q : ℕ) (t : Trace) → t.announced ≤ (moved o q t).announced
 announced_moved None q t = omega arith
 announced_moved (Some m) q t = announced_if t (with_move m.1 t) t (q == m.0) (announced_move m.1 t) (omega arith)
+
+read_if : (t a b : Trace) (k : Bool) → t.read ≤ a.read → t.read ≤ b.read → t.read ≤ (if k then a else b).read
+read_if t a b true g h = g
+read_if t a b false g h = h
+
+read_move : (m : Move) (t : Trace) → t.read ≤ (with_move m t).read
+read_move (Framed offset bytes fin answer) t =
+    read_if t (with_kept_frame offset bytes fin t) t (is_kept answer) (read_if t t _ (is_closed t) (omega arith) (omega arith)) (omega arith)
+read_move (WasReset code final) t = read_if t t _ (is_closed t) (omega arith) (omega arith)
+read_move (WasRead ordered (Ok (Some chunk))) t = omega arith
+read_move (WasRead ordered (Ok None)) t = omega arith
+read_move (WasRead ordered (Err read_error.Blocked)) t = omega arith
+read_move (WasRead ordered (Err (read_error.Reset code))) t = omega arith
+read_move (WasRead ordered (Err read_error.OutOfMemory)) t = omega arith
+read_move WasStopped t = omega arith
+read_move WasTold t = omega arith
+read_move (WasAnnounced limit) t = omega arith
+
+read_moved : (o : Option (ℕ × Move)) (q : ℕ) (t : Trace) → t.read ≤ (moved o q t).read
+read_moved None q t = omega arith
+read_moved (Some m) q t = read_if t (with_move m.1 t) t (q == m.0) (read_move m.1 t) (omega arith)
+
+-- reads take nothing back
+read-grows : (e : Event) (h : List Event) → joint_move_of e ≡ None → (q : ℕ) → (trace h q).read ≤ (trace (e ∷ h) q).read
+read-grows e h plain q = rw plain (read_moved (move_of e) q (trace h q))
+
+permitted_if : (t a b : SendFlow) (k : Bool) → t.limit ≤ a.limit → t.limit ≤ b.limit → t.limit ≤ (if k then a else b).limit
+permitted_if t a b true g h = g
+permitted_if t a b false g h = h
+
+permitted_move : (m : SendMove) (t : SendFlow) → t.limit ≤ (with_send_move m t).limit
+permitted_move (WasWritten pieces) t = omega arith
+permitted_move WasFinished t = omega arith
+permitted_move (WasGivenUp code) t = omega arith
+permitted_move (WasAskedToStop code) t = omega arith
+permitted_move (WasPermitted limit) t =
+    let l : t.limit ≤ max t.limit (min limit (2 ^ 62 - 1)) = omega arith in
+    permitted_if t _ t (takes_data t.reset t.finished) l (omega arith)
+permitted_move (WasCarried first behind fin) t = let l : t.limit ≤ t.limit = omega arith in permitted_if t _ t _ l l
+permitted_move (WasAcked first behind fin) t = let l : t.limit ≤ t.limit = omega arith in permitted_if t _ t _ l l
+permitted_move (WasLost first behind fin) t = let l : t.limit ≤ t.limit = omega arith in permitted_if t _ t _ l l
+permitted_move WasResetAcked t = omega arith
+
+permitted_moved : (o : Option (ℕ × SendMove)) (there : ℕ → Bool) (q : ℕ) (t : SendFlow) → t.limit ≤ (send_moved o there q t).limit
+permitted_moved None there q t = omega arith
+permitted_moved (Some m) there q t = permitted_if t (with_send_move m.1 t) t (q == m.0 && there q) (permitted_move m.1 t) (omega arith)
+
+permitted_first : (l : Option PeerLimits) (side : Side) (q : ℕ) (t k : SendFlow) → t.limit ≤ k.limit → t.limit ≤ (with_first_limits l side q k).limit
+permitted_first None side q t k g = g
+permitted_first (Some limits) side q t k g = omega arith
+
+-- nor does the limit that the peer gave for a stream fall
+permitted-grows : (m : Made) (e : Event) (h : List Event) → joint_move_of e ≡ None → (q : ℕ) → (flow m h q).limit ≤ (flow m (e ∷ h) q).limit
+permitted-grows m e h plain q = rw plain (permitted_first (limits_in e) m.side q (flow m h q) _ (permitted_moved (send_move_of e) _ q (flow m h q)))
 
 -- the limit of a stream that was announced does not fall
 pub announced-grows : (e : Event) (h : List Event) → joint_move_of e ≡ None → (q : ℕ) → (trace h q).announced ≤ (trace (e ∷ h) q).announced
@@ -124,9 +183,16 @@ module _ (x y : Endpoint) (e : Event) (v : World) (f : Comes x) (a : MayAct x y 
       (g.reset r.error_code t.0, t.1 ∙ sym (amount-stays r.id (ap (λ (o : Option ℕ). takes_data o (sent_on x r.id).finished) t.0)))
   true-kept (frames.StopSending s) t = inr t
   true-kept (frames.MaxData limit) t = let k = limit-grows x.made x.calls x.world f.from e v a.step in omega arith
-  true-kept (frames.MaxStreamData id limit) t = let k = announced-grows e x.calls (plain-call x y e a.honest) id in omega arith
+  true-kept (frames.MaxStreamData id limit) t =
+      let k = announced-grows e x.calls (plain-call x y e a.honest) id in
+      let l = read-grows e x.calls (plain-call x y e a.honest) id in
+      let b = t.0 in
+      let c = t.1 in
+      (omega arith, omega arith)
   true-kept (frames.MaxStreams d count) t = let k = count-grows x.made x.calls x.world f.from e v a.step d in omega arith
-  true-kept _ t = tt
+  true-kept (frames.DataBlocked limit) t = omega arith
+  true-kept (frames.StreamDataBlocked id limit) t = let k = permitted-grows x.made e x.calls (plain-call x y e a.honest) id in omega arith
+  true-kept _ t = t
 
 -- ---- a STREAM frame
 
@@ -198,20 +264,46 @@ module _ (x y : Endpoint) (v : World) (f : Comes x) where
       let old : IsFrameTrue x r = (asked.0, told.cuts.written) in
       true-kept x y (Settled kind (Some r)) v f b r old)
 
-  window_true : (kind : ControlKind) (id : ℕ) (o : Option ℕ) (g : Frame) → Some g ≡ option_map (frames.MaxStreamData id) o → IsTrueThen x v kind g
-  window_true kind id None g k = cc
-  window_true kind id (Some limit) g k = then_at x v kind g (frames.MaxStreamData id limit) (some_same g _ k) (λ asked. announced_here kind id limit (trace x.calls id))
+  window_true : (kind : ControlKind) (id : ℕ) (o : Option Half) (g : Frame) → x.world.receive id ≡ o → Some g ≡ window_frame x.world.window id o → IsTrueThen x v kind g
+  window_true kind id None g held k = cc
+  window_true kind id (Some h) g held k = by_test (is_open h) k
     where
-      announced_here : (kind : ControlKind) (id limit : ℕ) (t : Trace) → limit ≤ (moved (move_of (Settled kind (Some (frames.MaxStreamData id limit)))) id t).announced
-      announced_here kind id limit t = rw (itself id) (omega arith)
+      announced_here : (limit : ℕ) (t : Trace) → limit ≤ (moved (move_of (Settled kind (Some (frames.MaxStreamData id limit)))) id t).announced
+      announced_here limit t = rw (itself id) (omega arith)
 
-  blocked_true : (kind : ControlKind) (id : ℕ) (o : Option ℕ) (g : Frame) → Some g ≡ option_map (frames.StreamDataBlocked id) o → IsTrueThen x v kind g
-  blocked_true kind id None g k = cc
-  blocked_true kind id (Some limit) g k = then_at x v kind g (frames.StreamDataBlocked id limit) (some_same g _ k) (λ asked. tt)
+      read_here : (limit : ℕ) (t : Trace) → (moved (move_of (Settled kind (Some (frames.MaxStreamData id limit)))) id t).read ≡ t.read
+      read_here limit t = rw (itself id) refl
 
-  data_blocked_true : (kind : ControlKind) (b : Bool) (n : ℕ) (g : Frame) → Some g ≡ (if b then Some (frames.DataBlocked n) else None) → IsTrueThen x v kind g
-  data_blocked_true kind true n g k = then_at x v kind g (frames.DataBlocked n) (some_same g _ k) (λ asked. tt)
-  data_blocked_true kind false n g k = cc
+      is_read : (n : ℕ) (t : Trace) (r : Option ℕ) → StreamFrom n t r (Some h) → h.buffer.bytes_read ≡ t.read
+      is_read n t None s = s.read
+      is_read n t (Some error) s = absurd s
+
+      by_test : (b : Bool) → Some g ≡ option_map (frames.MaxStreamData id) (if b then Some (window_end h x.world.window) else None) → IsTrueThen x v kind g
+      by_test false k = cc
+      by_test true k = then_at x v kind g (frames.MaxStreamData id (window_end h x.world.window)) (some_same g _ k) (λ asked.
+          let limit = window_end h x.world.window in
+          let from : StreamFrom x.world.window (trace x.calls id) (id_refusal x.world id) (Some h) = rw held at (f.facts.streams id) in
+          let r = is_read x.world.window (trace x.calls id) (id_refusal x.world id) from in
+          let same = read_here limit (trace x.calls id) in
+          let made = f.window in
+          (announced_here limit (trace x.calls id), omega arith))
+
+  blocked_true : (kind : ControlKind) (id : ℕ) (o : Option Send) (g : Frame) → x.world.out.halves id ≡ o → Some g ≡ stream_blocked_frame id o → MayAct x y (Settled kind (Some g)) v → IsTrueThen x v kind g
+  blocked_true kind id None g held k a = cc
+  blocked_true kind id (Some s) g held k a = by_test _ k
+    where
+      by_test : (b : Bool) → Some g ≡ option_map (frames.StreamDataBlocked id) (if b then Some s.max_data else None) → IsTrueThen x v kind g
+      by_test false k = cc
+      by_test true k =
+          let is = some_same g (frames.StreamDataBlocked id s.max_data) k in
+          let P : Frame → Type 0 = λ j. MayAct x y (Settled kind (Some j)) v in
+          let told = held-told x.made x.calls x.world v f.from id s held in
+          let limit = told.limit in
+          then_at x v kind g (frames.StreamDataBlocked id s.max_data) is (λ asked. true-kept x y (Settled kind (Some (frames.StreamDataBlocked id s.max_data))) v f (subst P is a) (frames.StreamDataBlocked id s.max_data) (omega arith))
+
+  data_blocked_true : (kind : ControlKind) (b : Bool) (g : Frame) → Some g ≡ (if b then Some (frames.DataBlocked x.world.out.budget.max_data) else None) → IsTrueThen x v kind g
+  data_blocked_true kind true g k = then_at x v kind g (frames.DataBlocked x.world.out.budget.max_data) (some_same g _ k) (λ asked. let l = f.sent.limit in omega arith)
+  data_blocked_true kind false g k = cc
 
   settled_true : (kind : ControlKind) (p q : Pending) (g : Frame) → MayAct x y (Settled kind (Some g)) v → SettlesEntry kind x.world p (Some g) v q → IsTrueThen x v kind g
   settled_true kinds.ResetStream p q g a s = reset_true kinds.ResetStream s.id s.code (x.world.out.halves s.id) g refl s.frame a
@@ -220,13 +312,13 @@ module _ (x y : Endpoint) (v : World) (f : Comes x) where
       let is = some_same g _ s.frame in
       let k = limit-grows x.made x.calls x.world f.from (Settled kinds.MaxData (Some g)) v a.step in
       then_at x v kinds.MaxData g _ is (λ asked. omega arith)
-  settled_true kinds.MaxStreamData p q g a s = window_true kinds.MaxStreamData s.id (announced_end x.world.window (x.world.receive s.id)) g s.frame
+  settled_true kinds.MaxStreamData p q g a s = window_true kinds.MaxStreamData s.id (x.world.receive s.id) g refl s.frame
   settled_true (kinds.MaxStreams d) p q g a s =
       let is = some_same g _ s.frame in
       let k = count-grows x.made x.calls x.world f.from (Settled (kinds.MaxStreams d) (Some g)) v a.step d in
       then_at x v (kinds.MaxStreams d) g _ is (λ asked. k)
-  settled_true kinds.DataBlocked p q g a s = data_blocked_true kinds.DataBlocked _ _ g s.frame
-  settled_true kinds.StreamDataBlocked p q g a s = blocked_true kinds.StreamDataBlocked s.id _ g s.frame
+  settled_true kinds.DataBlocked p q g a s = data_blocked_true kinds.DataBlocked _ g s.frame
+  settled_true kinds.StreamDataBlocked p q g a s = blocked_true kinds.StreamDataBlocked s.id (x.world.out.halves s.id) g refl s.frame a
 
 -- ---- every frame
 

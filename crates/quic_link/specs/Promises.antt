@@ -19,7 +19,7 @@ use Rattle.quic_receiving.specs.declared.errors.ReadableError.TheVariants as rea
 use Rattle.quic_sending.specs.declared.send.WriteError.TheVariants as write_error
 use Rattle.quic_sending.specs.declared.send.FinishError.TheVariants as finish_error
 use Rattle.quic_history.specs.SendEvents.{RaisedCount, RaisedLimit, WroteOwn, FinishedOwn, Polled}
-use Rattle.quic_history.specs.History.{Event, Received, ReceivedReset, Began, Gave, ToldReset, Sending, From, Trace, ReadChunk, slices, EachOnce, is_kept}
+use Rattle.quic_history.specs.History.{Event, Received, ReceivedReset, Began, Gave, ToldReset, Sending, From, Trace, ReadChunk, slices, EachOnce, is_kept, greatest_limit}
 use Rattle.quic_link.specs.Endpoints.{Endpoint, IsOneOf, MayAct, sent_on, came_on, written_on, WasStoppedWith, WasAskedFor, WasGiven, GaveId}
 use Rattle.quic_link.specs.Truths.{AreBytesOf, IsFrameTrue, amount_on}
 
@@ -180,9 +180,14 @@ IsTrueAnswer x y _ = Unit {0}
 abbrev pub AnswersTrue : Endpoint → Endpoint → Type 0
 AnswersTrue x y = (e : Event) (v : World) → MayAct x y e v → IsTrueAnswer x y e
 
+-- the limits that x was given are those that y enforces, or lower: on a stream what was read and the window
+pub record IsPermitted (x y : Endpoint) : Type 0 where
+  pub all : greatest_limit x.calls ≤ y.world.credit.local_max_data
+  pub each : (q : ℕ) → (sent_on x q).limit ≤ (came_on y q).read + y.made.window
+
 -- what holds of two ends as x sends and y receives: x may come from its calls, and its application was given what `open`
 -- and `accept` answered; every frame that x wrote is true of it, was asked for, and is welcome; no call is refused; what
--- is told and answered is true, and what was kept may be read
+-- is told and answered is true, what was kept may be read, and the limits of x are within those of y
 pub record Promises (x y : Endpoint) : Type 0 where
   pub comes : From x.made x.calls x.world
   pub given : (id : ℕ) → WasGiven x.world id ↔ GaveId x.calls id
@@ -193,3 +198,4 @@ pub record Promises (x y : Endpoint) : Type 0 where
   pub truth : (q : ℕ) → TellsTruth x y q
   pub readable : AreReadable x y
   pub answers : AnswersTrue x y
+  pub limits : IsPermitted x y

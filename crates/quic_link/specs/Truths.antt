@@ -6,6 +6,7 @@ use Rattle.quic_wire.specs.declared.frame.Stream.{Stream}
 use Rattle.quic_assembler.specs.Piece.{IsByteAt}
 use Rattle.quic_sending.specs.Buffer.{total_length}
 use Rattle.quic_history.specs.World.{remote_of}
+use Rattle.quic_history.specs.History.{greatest_limit}
 use Rattle.quic_link.specs.Endpoints.{Endpoint, sent_on, came_on, written_on, WasStoppedWith}
 
 -- bytes from an offset on are those of a whole at their places
@@ -24,12 +25,16 @@ pub record IsTrueData (x : Endpoint) (s : Stream) : Type 0 where
   pub ends : s.fin ≡ true → s.offset + length s.bytes ≡ amount_on x s.id
 
 -- a frame is true of the end that wrote it (RFC 9000 sections 4.1, 4.5, 4.6 and 19): a reset and a stop were asked for
--- with their codes, a final size is what was written, and a limit is not above the one that is enforced
+-- with their codes, and a final size is what was written; a limit is not above the one that is enforced, which on a stream
+-- is what was read and the window; and what is said to be used up is not above the limit that was given. No frame of
+-- another kind is written
 abbrev pub IsFrameTrue : Endpoint → Frame → Type 0
 IsFrameTrue x (frames.Stream s) = IsTrueData x s
 IsFrameTrue x (frames.ResetStream f) = ((sent_on x f.id).reset ≡ Some f.error_code) × (f.final_offset ≡ amount_on x f.id)
 IsFrameTrue x (frames.StopSending f) = WasStoppedWith x.calls f.id f.error_code
 IsFrameTrue x (frames.MaxData limit) = limit ≤ x.world.credit.local_max_data
-IsFrameTrue x (frames.MaxStreamData id limit) = limit ≤ (came_on x id).announced
+IsFrameTrue x (frames.MaxStreamData id limit) = (limit ≤ (came_on x id).announced) × (limit ≤ (came_on x id).read + x.made.window)
 IsFrameTrue x (frames.MaxStreams d count) = count ≤ (remote_of x.world d).max_remote
-IsFrameTrue x _ = Unit {0}
+IsFrameTrue x (frames.DataBlocked limit) = limit ≤ greatest_limit x.calls
+IsFrameTrue x (frames.StreamDataBlocked id limit) = limit ≤ (sent_on x id).limit
+IsFrameTrue x _ = ⊥

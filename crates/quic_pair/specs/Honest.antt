@@ -1,10 +1,12 @@
 -- What every frame between two ends says is true.
-use Rattle.std.specs.Prelude.{ℕ, ◌≡◌, ◌+◌, ◌≤◌, true, List, length, slice_get, Some}
+use Rattle.std.specs.Prelude.{ℕ, ◌≡◌, ◌+◌, ◌≤◌, true, List, [], ◌∷◌, length, slice_get, Some}
 use Rattle.quic_wire.specs.Frames.{AreFrames}
 use Rattle.quic_wire.specs.declared.frame.Frame.{Frame}
 use Rattle.quic_wire.specs.declared.frame.Frame.TheVariants as frames
 use Rattle.quic_wire.specs.declared.frame.Stream.{Stream}
 use Rattle.quic_history.specs.World.{remote_of}
+use Rattle.quic_history.specs.History.{ReadChunk}
+use Rattle.quic_endpoint.specs.Ends.{EndState}
 use Rattle.quic_link.specs.Endpoints.{IsOneOf}
 use Rattle.quic_link.specs.Truths.{AreBytesOf}
 use Rattle.quic_steps.specs.declared.steps.End.{End}
@@ -20,16 +22,29 @@ pub record IsHonestData (f : Flow) (s : Stream) : Type 0 where
   pub finished : s.fin ≡ true → f.finished ≡ true
   pub ends : s.fin ≡ true → s.offset + length s.bytes ≡ length f.written
 
--- a frame of an end is true: a reset and a stop were asked for with their codes, a final size is what was written, and the
--- limits of MAX_DATA and MAX_STREAMS are not above those that are enforced (RFC 9000 sections 4.1, 4.5, 4.6, 19.4 and 19.5);
--- of frames of other kinds this says nothing
+-- how many bytes some chunks have
+abbrev pub amount_given : List ReadChunk → ℕ
+amount_given [] = 0
+amount_given (c ∷ cs) = amount_given cs + length c.bytes
+
+-- the most that an end permits on a stream, of which it knows this: what its reads gave and the window (RFC 9000 section 4.1)
+abbrev pub greatest_permitted : Flow → EndState → ℕ
+greatest_permitted f e = amount_given f.given + e.streams.window
+
+-- a frame of an end is true: a reset and a stop were asked for with their codes, and a final size is what was written; the
+-- limits of MAX_DATA, MAX_STREAM_DATA and MAX_STREAMS are not above those that are enforced, and those of DATA_BLOCKED and
+-- STREAM_DATA_BLOCKED not above those that the other end enforces (RFC 9000 sections 4.1, 4.5, 4.6, 19.4, 19.5 and 19.9 to
+-- 19.13). No frame of another kind is sent
 abbrev pub IsHonestFrame : Past → PairState → End → Frame → Type 0
 IsHonestFrame p v who (frames.Stream s) = IsHonestData (p.flow who s.id) s
 IsHonestFrame p v who (frames.ResetStream f) = IsOneOf f.error_code (p.flow who f.id).resets × (f.final_offset ≡ length (p.flow who f.id).written)
 IsHonestFrame p v who (frames.StopSending f) = IsOneOf f.error_code (p.flow (peer who) f.id).stops
 IsHonestFrame p v who (frames.MaxData limit) = limit ≤ (the_end v who).streams.credit.local_max_data
 IsHonestFrame p v who (frames.MaxStreams dir count) = count ≤ (remote_of (the_end v who).streams dir).max_remote
-IsHonestFrame p v who _ = Unit {0}
+IsHonestFrame p v who (frames.MaxStreamData id limit) = limit ≤ greatest_permitted (p.flow (peer who) id) (the_end v who)
+IsHonestFrame p v who (frames.DataBlocked limit) = limit ≤ (the_end v (peer who)).streams.credit.local_max_data
+IsHonestFrame p v who (frames.StreamDataBlocked id limit) = limit ≤ greatest_permitted (p.flow who id) (the_end v (peer who))
+IsHonestFrame p v who _ = ⊥
 
 -- the bytes of a payload spell its frames, and each of them is true
 pub record IsHonestPayload (p : Past) (v : PairState) (s : Sent) : Type 0 where

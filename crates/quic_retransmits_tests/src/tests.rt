@@ -120,6 +120,7 @@ fn shows(rt: &impl Abort, set: &Retransmits, numbers: &[u32], crypto: &[u32]) {
     same(rt, set.new_tokens.len(), numbers.len());
     for (place, number) in numbers.iter().enumerate() {
         let error_code = VarInt::from(*number);
+        let sequence = Some(u64::from(*number));
         let id = id(*number);
         same(
             rt,
@@ -136,13 +137,9 @@ fn shows(rt: &impl Abort, set: &Retransmits, numbers: &[u32], crypto: &[u32]) {
         same(
             rt,
             set.new_cids.get(place).map(|cid| cid.sequence),
-            Some(u64::from(*number)),
+            sequence,
         );
-        same(
-            rt,
-            set.retire_cids.get(place).copied(),
-            Some(u64::from(*number)),
-        );
+        same(rt, set.retire_cids.get(place).copied(), sequence);
         same(
             rt,
             set.new_tokens.get(place).copied(),
