@@ -1,7 +1,5 @@
 //! One end of a connection: what a connection layer keeps of its streams, and when it calls them.
 
-ghost use Rattle.quic_wire.specs.Frames.{IsFrameWithin};
-
 use anyhow::{Result, ensure};
 use quic_receiving::ShouldTransmit;
 use quic_streams::state::StreamsState;
@@ -52,21 +50,15 @@ impl Connection {
     pub fn receive(&mut self, payload: &[u8]) -> Result<()> {
         let frames = decode(self.alloc, payload)?;
         for frame in frames {
-            let answer = self.take_frame(frame, payload.len())?;
+            let answer = match frame {
+                Frame::Stream(frame) => self.streams.received(frame, payload.len())?,
+                Frame::ResetStream(frame) => self.streams.received_reset(frame)?,
+                frame => take_notice(&mut self.streams, self.side, &frame)?,
+            };
             self.pending.queue_max_data(answer.should_transmit());
             self.streams.queue_max_stream_id(&mut self.pending);
         }
         Ok(())
-    }
-
-    fn take_frame(&mut self, frame: Frame, size: usize) -> Result<ShouldTransmit>
-        requires { IsFrameWithin size frame }
-    {
-        match frame {
-            Frame::Stream(frame) => Ok(self.streams.received(frame, size)?),
-            Frame::ResetStream(frame) => Ok(self.streams.received_reset(frame)?),
-            frame => take_notice(&mut self.streams, self.side, &frame),
-        }
     }
 
     /// Writes what is to be sent into a payload of at most 40 bytes, and remembers what it carries.
