@@ -78,10 +78,7 @@ fn insert<B: Body + Drop>(
     bytes: &[u8],
     allocation_size: usize,
 ) -> Result<Result<(), InsertError>, OutOfMemory> {
-    is_true(
-        rt,
-        offset < 1 << 61 && bytes.len() < 1 << 61 && bytes.len() <= allocation_size,
-    );
+    assert!(rt; offset < 1 << 61 && bytes.len() < 1 << 61 && bytes.len() <= allocation_size);
     let pieces = a.held();
     let read = a.bytes_given();
     let first = piece(alloc, bytes)?;
@@ -110,7 +107,7 @@ fn fill<B: Body + Drop>(
     allocation_size: usize,
 ) -> Result<Result<(), InsertError>, OutOfMemory> {
     let (start, gap, count) = places;
-    is_true(rt, start < 1 << 30 && gap < 1 << 10 && count < 1 << 20);
+    assert!(rt; start < 1 << 30 && gap < 1 << 10 && count < 1 << 20);
     for i in 0..count {
         let offset = start + gap * i;
         let answer = insert(rt, a, alloc, offset, text.as_bytes(), allocation_size)?;

@@ -69,7 +69,7 @@ fn insert(
     bytes: Bytes,
     allocation_size: usize,
 ) -> Result<(), OutOfMemory> {
-    is_true(rt, offset < 1 << 61 && bytes.len() < 1 << 61);
+    assert!(rt; offset < 1 << 61 && bytes.len() < 1 << 61);
     pieces.insert(offset, bytes, allocation_size)
 }
 

@@ -111,13 +111,13 @@ fn forty_bytes_fill_a_payload_and_go_on_in_the_next(rt: HostRuntime) -> Result<(
     let Some(first) = pair.payload(0) else {
         return Err(Fail::from("no first payload"));
     };
-    same(&rt, first.len(), 30);
+    assert_eq!(rt; first.len(), 30);
     same(&rt, &first[..2], b"\x08\x02".as_slice());
     same(&rt, &first[2..], &NUMBERS[..28]);
     let Some(second) = pair.payload(1) else {
         return Err(Fail::from("no second payload"));
     };
-    same(&rt, second.len(), 16);
+    assert_eq!(rt; second.len(), 16);
     same(&rt, &second[..4], b"\x0f\x02\x1c\x0c".as_slice());
     same(&rt, &second[4..], &NUMBERS[28..]);
     Ok(())

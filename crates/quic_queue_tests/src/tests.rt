@@ -17,11 +17,6 @@ fn same<T: PartialEq + Debug + Drop>(rt: &impl Abort, found: T, wanted: T) {
     assert_eq!(rt; found, wanted);
 }
 
-// The same of a case, which is shown too.
-fn same_for<C: Debug, T: PartialEq + Debug + Drop>(rt: &impl Abort, case: &C, found: T, wanted: T) {
-    assert_eq!(rt; found, wanted, "{case:?}");
-}
-
 fn is_true(rt: &impl Abort, holds: bool) {
     assert!(rt; holds);
 }
@@ -351,27 +346,27 @@ fn as_a_sorted_list(rt: HostRuntime) -> Result<(), Fail> {
                 put(&mut queue, index, priority)?;
                 list.put(entry(index, priority))?;
             }
-            7..=9 => same_for(&rt, &index, queue.take_first(), list.take_first()),
+            7..=9 => assert_eq!(rt; queue.take_first(), list.take_first(), "at {index}"),
             10 => {
                 list.kept = list.take_first();
-                same_for(&rt, &index, keep_back(&mut queue), list.kept);
+                assert_eq!(rt; keep_back(&mut queue), list.kept, "at {index}");
             }
-            11 => same_for(&rt, &index, let_go(&mut queue), list.take_first()),
+            11 => assert_eq!(rt; let_go(&mut queue), list.take_first(), "at {index}"),
             _ => {
                 let first = list.take_first();
-                same_for(&rt, &index, put_anew(&mut queue, priority)?, first);
+                assert_eq!(rt; put_anew(&mut queue, priority)?, first, "at {index}");
                 if let Some(first) = first {
                     list.put(Entry { priority, ..first })?;
                 }
             }
         }
-        same_for(&rt, &index, queue.first(), list.first());
-        same_for(&rt, &index, queue.is_empty(), list.first().is_none());
+        assert_eq!(rt; queue.first(), list.first(), "at {index}");
+        assert_eq!(rt; queue.is_empty(), list.first().is_none(), "at {index}");
     }
     for _ in 0..2000 {
-        same(&rt, queue.take_first(), list.take_first());
+        assert_eq!(rt; queue.take_first(), list.take_first());
     }
-    is_true(&rt, queue.is_empty());
+    assert!(rt; queue.is_empty());
     Ok(())
 }
 

@@ -89,7 +89,7 @@ struct Subject {
 
 // The calls, with nothing of what they promise: a test looks at what they answer and leave.
 fn half(rt: &impl Abort, alloc: Global, limit: u64) -> Recv {
-    is_true(rt, limit < 1 << 62);
+    assert!(rt; limit < 1 << 62);
     Recv::new(alloc, limit)
 }
 
@@ -99,8 +99,8 @@ fn try_ingest(
     frame: Stream,
     payload_len: usize,
 ) -> Result<(u64, bool), ReceiveError> {
-    is_true(rt, frame.bytes.len() <= payload_len);
-    is_true(rt, subject.half.reset_code().is_none());
+    assert!(rt; frame.bytes.len() <= payload_len);
+    assert!(rt; subject.half.reset_code().is_none());
     let (received, max_data) = (subject.received, subject.max_data);
     subject.half.ingest(frame, payload_len, received, max_data)
 }
@@ -131,7 +131,7 @@ fn window(half: &Recv, size: u64) -> (u64, ShouldTransmit) {
 }
 
 fn record_sent(rt: &impl Abort, half: &mut Recv, limit: u64) {
-    is_true(rt, limit < 1 << 62);
+    assert!(rt; limit < 1 << 62);
     half.record_sent_max_stream_data(limit);
 }
 

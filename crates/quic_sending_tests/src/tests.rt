@@ -30,7 +30,7 @@ fn empty(alloc: Global) -> SendBuffer {
 }
 
 fn write_piece(rt: &impl Abort, buffer: &mut SendBuffer, piece: Bytes) -> Result<(), OutOfMemory> {
-    is_true(rt, piece.len() < 1 << 40 && buffer.offset() < 1 << 40);
+    assert!(rt; piece.len() < 1 << 40 && buffer.offset() < 1 << 40);
     buffer.write(piece)
 }
 
@@ -39,22 +39,22 @@ fn poll(
     buffer: &mut SendBuffer,
     max_len: usize,
 ) -> Result<(Range<u64>, bool), OutOfMemory> {
-    is_true(rt, max_len >= 16);
+    assert!(rt; max_len >= 16);
     buffer.poll_transmit(max_len)
 }
 
 fn next(rt: &impl Abort, buffer: &SendBuffer, max_len: usize) -> (Range<u64>, bool) {
-    is_true(rt, max_len >= 16);
+    assert!(rt; max_len >= 16);
     buffer.next_transmit(max_len)
 }
 
 fn ack(rt: &impl Abort, buffer: &mut SendBuffer, range: Range<u64>) -> Result<(), OutOfMemory> {
-    is_true(rt, range.end <= buffer.unsent());
+    assert!(rt; range.end <= buffer.unsent());
     buffer.ack(range)
 }
 
 fn lose(rt: &impl Abort, buffer: &mut SendBuffer, range: Range<u64>) -> Result<(), OutOfMemory> {
-    is_true(rt, range.end <= buffer.unsent());
+    assert!(rt; range.end <= buffer.unsent());
     buffer.retransmit(range)
 }
 

@@ -218,7 +218,7 @@ fn a_prefix_is_read_only_where_a_frame_ends(rt: HostRuntime) -> Result<(), Fail>
         for len in 0..=payload.len() {
             match decode(rt.alloc(), &payload[..len]) {
                 Ok(front) => {
-                    is_true(&rt, front.len() <= frames.len());
+                    assert!(rt; front.len() <= frames.len());
                     same_for(&rt, &len, front.len(), read);
                     same(&rt, front.as_slice(), &frames[..front.len()]);
                     read += 1;
@@ -271,7 +271,7 @@ fn comes_back(
             }
             match decode(alloc, rest) {
                 Ok(frames) => {
-                    same(rt, frames.len(), 1);
+                    assert_eq!(rt; frames.len(), 1);
                     is_true(rt, &frames[0] == frame);
                 }
                 Err(error) => same(rt, error, DecodeError::OutOfMemory),

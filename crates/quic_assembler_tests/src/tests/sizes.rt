@@ -25,7 +25,7 @@ fn pass<B: Body + Drop>(
     size: usize,
     seed: u32,
 ) -> Result<(), Fail> {
-    is_true(rt, size < 1 << 20);
+    assert!(rt; size < 1 << 20);
     let bytes = draw(alloc, seed, size)?;
     let start = a.bytes_given();
     same_for(

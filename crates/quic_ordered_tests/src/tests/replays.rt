@@ -116,7 +116,7 @@ fn note_given(rt: &impl Abort, chunk: &Chunk, given: &mut [bool]) {
         let offset = chunk.offset.wrapping_add(index as u64);
         let place = offset as usize;
         same(rt, *byte, byte_at(offset));
-        is_true(rt, place < given.len() && !given[place]);
+        assert!(rt; place < given.len() && !given[place]);
         given[place] = true;
     }
 }

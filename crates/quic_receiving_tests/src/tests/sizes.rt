@@ -42,7 +42,7 @@ fn pass(
     size: usize,
     seed: u32,
 ) -> Result<(), Fail> {
-    is_true(rt, size < 1 << 20);
+    assert!(rt; size < 1 << 20);
     let bytes = draw(alloc, seed, size)?;
     let start = bytes_read(&subject.half);
     let answer = ingest(rt, alloc, subject, start, bytes.as_slice(), size, false)?;

@@ -320,11 +320,8 @@ fn append(
     range: Range<u64>,
     text: &mut Vec<u8>,
 ) -> Result<(), OutOfMemory> {
-    is_true(
-        rt,
-        buffer.acked_prefix() <= range.start && range.start <= range.end,
-    );
-    is_true(rt, range.end <= buffer.offset());
+    assert!(rt; buffer.acked_prefix() <= range.start && range.start <= range.end);
+    assert!(rt; range.end <= buffer.offset());
     buffer.append_range(range, text)
 }
 

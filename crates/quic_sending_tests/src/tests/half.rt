@@ -60,7 +60,7 @@ fn ack(
     offsets: Range<u64>,
     fin: bool,
 ) -> Result<bool, OutOfMemory> {
-    is_true(rt, offsets.end <= send.pending.unsent());
+    assert!(rt; offsets.end <= send.pending.unsent());
     send.ack(offsets, fin)
 }
 
