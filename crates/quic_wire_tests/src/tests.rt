@@ -16,11 +16,6 @@ fn same<T: PartialEq + Debug + Drop>(rt: &impl Abort, found: T, wanted: T) {
     assert_eq!(rt; found, wanted);
 }
 
-// The same of a case, which is shown too.
-fn same_for<C: Debug, T: PartialEq + Debug + Drop>(rt: &impl Abort, case: &C, found: T, wanted: T) {
-    assert_eq!(rt; found, wanted, "{case:?}");
-}
-
 fn is_true(rt: &impl Abort, holds: bool) {
     assert!(rt; holds);
 }
@@ -173,10 +168,9 @@ fn every_kind_is_read_in_every_length_of_field(rt: HostRuntime) -> Result<(), Fa
         put_kinds(&mut payload, length_bits)?;
         push_kinds(rt.alloc(), &mut expected)?;
     }
-    same(
-        &rt,
+    assert_eq!(rt;
         decode(rt.alloc(), &payload)?.as_slice(),
-        expected.as_slice(),
+        expected.as_slice()
     );
     let endings: [(u8, &[u8], u64, bool); 4] = [
         (0x08, &[8], 0, false),
@@ -189,22 +183,17 @@ fn every_kind_is_read_in_every_length_of_field(rt: HostRuntime) -> Result<(), Fa
             let mut whole = payload.clone()?;
             put_frame(&mut whole, length_bits, kind, numbers, b"to the end")?;
             let frames = decode(rt.alloc(), &whole)?;
-            same(&rt, frames.len(), 4 * KINDS + 1);
-            same(
-                &rt,
-                &frames[4 * KINDS],
-                &stream(rt.alloc(), offset, fin, b"to the end")?,
+            assert_eq!(rt; frames.len(), 4 * KINDS + 1);
+            assert_eq!(rt;
+                frames[4 * KINDS],
+                stream(rt.alloc(), offset, fin, b"to the end")?
             );
         }
     }
     put_frame(&mut payload, 0, 0x30, &[], b"to the end")?;
     let frames = decode(rt.alloc(), &payload)?;
-    same(&rt, frames.len(), 4 * KINDS + 1);
-    same(
-        &rt,
-        &frames[4 * KINDS],
-        &datagram(rt.alloc(), b"to the end")?,
-    );
+    assert_eq!(rt; frames.len(), 4 * KINDS + 1);
+    assert_eq!(rt; frames[4 * KINDS], datagram(rt.alloc(), b"to the end")?);
     Ok(())
 }
 
@@ -219,16 +208,16 @@ fn a_prefix_is_read_only_where_a_frame_ends(rt: HostRuntime) -> Result<(), Fail>
             match decode(rt.alloc(), &payload[..len]) {
                 Ok(front) => {
                     assert!(rt; front.len() <= frames.len());
-                    same_for(&rt, &len, front.len(), read);
-                    same(&rt, front.as_slice(), &frames[..front.len()]);
+                    assert_eq!(rt; front.len(), read, "at {len}");
+                    assert_eq!(rt; front.as_slice(), &frames[..front.len()]);
                     read += 1;
                 }
                 Err(DecodeError::Malformed) => {}
                 Err(DecodeError::OutOfMemory) => return Err(OutOfMemory)?,
             }
-            is_true(&rt, read <= len + 1);
+            assert!(rt; read <= len + 1);
         }
-        same(&rt, read, KINDS + 1);
+        assert_eq!(rt; read, KINDS + 1);
     }
     Ok(())
 }
