@@ -14,3 +14,4 @@ pub mod Fresh
 pub mod Added
 pub mod Assembling
 pub mod Fronts
+pub mod Sweeping

@@ -23,11 +23,11 @@ use Rattle.quic_ordered.proofs.Joining.{Free}
 
 -- ---- two maps with the same pieces at the same offsets are one
 
-none_of : (o : Option PieceView) → ((v : PieceView) → o ≡ Some v → ⊥) → o ≡ None
+pub none_of : (o : Option PieceView) → ((v : PieceView) → o ≡ Some v → ⊥) → o ≡ None
 none_of None h = refl
 none_of (Some v) h = absurd (h v refl)
 
-one_entry : (e f : ℕ × PieceView) → e.0 ≡ f.0 → e.1 ≡ f.1 → e ≡ f
+pub one_entry : (e f : ℕ × PieceView) → e.0 ≡ f.0 → e.1 ≡ f.1 → e ≡ f
 one_entry (a, b) (c, d) p q = cc
 
 after_not : (e : ℕ × PieceView) (es : List (ℕ × PieceView)) (q : ℕ) → RiseByKey (e ∷ es) → q ≡ e.0 → piece_at es q ≡ None
@@ -194,7 +194,7 @@ ends_behind rs (p ∷ ps) end h below =
     All-cons (λ (v : PieceView). LieInOrder (run_end v) rs) p ps (lower (run_end p) end rs (All-head (λ (p : PieceView). run_end p ≤ end) p ps below) h)
     (ends_behind rs ps end h (All-tail (λ (p : PieceView). run_end p ≤ end) p ps below))
 
-value_at : (P : PieceView → Type 0) (es : List (ℕ × PieceView)) (q : ℕ) (v : PieceView) → All P (values_of es) → piece_at es q ≡ Some v → P v
+pub value_at : (P : PieceView → Type 0) (es : List (ℕ × PieceView)) (q : ℕ) (v : PieceView) → All P (values_of es) → piece_at es q ≡ Some v → P v
 value_at P [] q v all found = absurd (none_some (piece_at [] q) v refl found)
 value_at P (e ∷ es) q v all found =
     elim (found_head e es q v found) [

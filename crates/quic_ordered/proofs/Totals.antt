@@ -1,8 +1,8 @@
 -- The sums of what pieces come to.
-use Rattle.std.proofs.Common.{◌≡◌, ℕ, ◌+◌, ◌-◌, ◌*◌, ◌^◌, ◌≤◌, ◌<◌, ap, ◌∙◌, List, [], ◌∷◌, ◌++◌, length, arith, sum_by, Option, Some, None, length-append}
+use Rattle.std.proofs.Common.{◌≡◌, ℕ, ◌+◌, ◌-◌, ◌*◌, ◌^◌, ◌≤◌, ◌<◌, ap, sym, ◌∙◌, List, [], ◌∷◌, ◌++◌, length, arith, sum_by, Option, Some, None, length-append}
 use Rattle.std.specs.List.{All}
 use Rattle.std.specs.Option.{unwrap_or, option_map}
-use Rattle.std.specs.Map.{values_of, lookup, remove_entry}
+use Rattle.std.specs.Map.{values_of, lookup, remove_entry, set_value}
 use Rattle.std.specs.BTreeMap.{is_at, insert_entry}
 use Rattle.std.specs.Ordering.{nat_cmp}
 use Rattle.std.specs.Cmp.{nat_cmp_total}
@@ -10,9 +10,11 @@ use Rattle.std.proofs.lemmas.List.Sums.{sum_by-cons, sum_by-append}
 use Rattle.std.proofs.lemmas.List.Elements.{All-head, All-tail, All-push, All-cons, All-pop, All-rest, All-append}
 use Rattle.std.specs.List.Sorted.{IsStrictlySortedBy}
 use Rattle.std.proofs.lemmas.List.{map-append}
-use Rattle.std.proofs.lemmas.Map.Entries.{sum_by-insert_entry, sum_by-remove_entry, length-values_of}
-use Rattle.std.proofs.lemmas.Map.Views.{All-values-insert_entry, All-map-remove_entry}
+use Rattle.std.proofs.lemmas.Map.Entries.{sum_by-insert_entry, sum_by-remove_entry, sum_by-set_value, length-values_of}
+use Rattle.std.proofs.lemmas.Map.Views.{All-values-insert_entry, All-values-set_value, All-map-remove_entry}
+use Rattle.std.proofs.lemmas.Map.Steps.{set_value_same}
 use Rattle.quic_assembler.specs.Piece.{PieceView, run_end, run_length, run_allocation}
+use Rattle.quic_ordered.specs.Entries.{piece_at}
 use Rattle.quic_ordered.specs.Rows.{AreSums, FitsWords, RiseByKey, IsSummedMap, IsStore, LieInOrder}
 
 total_le : (rs : List PieceView) → All FitsWords rs → sum_by run_length rs ≤ length rs * 2 ^ 62
@@ -188,3 +190,25 @@ sums_fit rs all le = (omega (arith, total_le rs all, le), omega (arith, allocate
 pub rises_none : RiseByKey []
 unfolding IsStrictlySortedBy
 rises_none = tt
+
+-- a piece took the place of another
+pub replaced : (t a t' a' : ℕ) (es es' : List (ℕ × PieceView)) (k : ℕ) (v w : PieceView) → IsSummedMap t a es → es' ≡ set_value (is_at (nat_cmp k)) es w → piece_at es k ≡ Some v → FitsWords w → RiseByKey es'
+    → t' ≡ t + length w.bytes - length v.bytes → a' ≡ a + w.allocation_size - v.allocation_size → IsSummedMap t' a' es'
+replaced t a t' a' es es' k v w s e found fits rises u x =
+    let l = inserted_le t a es k v v s (sym found) in
+    let y = sum_by-set_value run_length (is_at (nat_cmp k)) es v w found in
+    let z = sum_by-set_value run_allocation (is_at (nat_cmp k)) es v w found in
+    let i = ap (λ (xs : List (ℕ × PieceView)). sum_by run_length (values_of xs)) e in
+    let j = ap (λ (xs : List (ℕ × PieceView)). sum_by run_allocation (values_of xs)) e in
+    record {
+      rises = rises;
+      sums = record {
+        total_is = omega (arith, y, i, u, s.sums.total_is, l);
+        allocated_is = omega (arith, z, j, x, s.sums.allocated_is, l);
+        sound = rw e (All-values-set_value (is_at (nat_cmp k)) FitsWords es w s.sums.sound fits);
+      };
+    }
+
+-- what stood there was put back
+pub put_same : (es es' : List (ℕ × PieceView)) (k : ℕ) (v w : PieceView) → es' ≡ set_value (is_at (nat_cmp k)) es w → piece_at es k ≡ Some v → w ≡ v → es' ≡ es
+put_same es es' k v w e found same = e ∙ (ap (set_value (is_at (nat_cmp k)) es) same ∙ set_value_same (is_at (nat_cmp k)) es v found)

@@ -1,3 +1,4 @@
 pub mod Assembly
 pub mod Entries
 pub mod Rows
+pub mod Sweeping

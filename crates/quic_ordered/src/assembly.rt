@@ -119,7 +119,7 @@ impl Assembler {
     /// With `TooManyChunks` and `CompactionMemory` the bytes are kept all the same; with `OutOfMemory` nothing
     /// changes. In ordered mode bytes that are empty, were read before or lie within one held piece want no memory.
     /// `TooManyChunks` comes only where the offsets that are held form more than 1024 runs without neighbours.
-    #[inline]
+    #[inline(always)]
     pub fn insert(
         &mut self,
         offset: u64,
@@ -155,7 +155,7 @@ impl Assembler {
     }
 
     // Keeps what is not done.
-    #[inline]
+    #[inline(always)]
     fn hold(&mut self, offset: u64, bytes: Bytes, allocation_size: usize) -> Result<(), OutOfMemory>
         requires { offset + length bytes < 2 ^ 62 }
         ensures ok { OnOk result (KeepsPiece self.old self.new offset bytes allocation_size) }
@@ -174,7 +174,7 @@ impl Assembler {
     }
 
     // In ordered mode keeps what lies above the bytes that were read.
-    #[inline]
+    #[inline(always)]
     fn hold_unread(
         &mut self,
         offset: u64,
@@ -202,7 +202,7 @@ impl Assembler {
     }
 
     // Whether too many pieces are held, or they keep too much memory alive.
-    #[inline]
+    #[inline(always)]
     fn is_wasteful(&self) -> bool
         ensures exact { result ≡ is_wasteful (sums_of self.now.runs) (self.now.highest - self.now.bytes_read) }
         ensures few { result ≡ false → piece_count self.now ≤ 2048 }
@@ -221,7 +221,7 @@ impl Assembler {
     }
 
     // Compacts where that is due.
-    #[inline]
+    #[inline(always)]
     fn relieve(&mut self) -> Result<(), InsertError>
         ensures relieved { Relieves result (is_wasteful (sums_of self.old.runs) (self.old.highest - self.old.bytes_read)) self.old.runs self.new.runs }
         ensures held { SameHeld (Holds self.old) (Holds self.new) }
@@ -246,6 +246,7 @@ impl Assembler {
 
     /// Compacts what is held: pieces that touch are joined, and each other one that keeps more than a fifth more memory
     /// alive than it has bytes is copied. If refused, the same bytes are held, in as many pieces or fewer.
+    #[inline(never)]
     pub fn defragment(&mut self) -> Result<(), OutOfMemory>
         ensures held { KeepsOffsets (Holds self.old) (Holds self.new) }
         ensures same { SameHeld (Holds self.old) (Holds self.new) }
@@ -268,7 +269,7 @@ impl Assembler {
     ///
     /// A piece that is given whole is not copied. Memory is wanted only to cut one, so only where more than `max_length`
     /// bytes in a row are at hand. If refused, or where nothing is given, all is as it was.
-    #[inline]
+    #[inline(always)]
     pub fn read(&mut self, max_length: usize, ordered: bool) -> Result<Option<Chunk>, OutOfMemory>
         requires { ordered ≡ self.old.ordered }
         ensures first { IfGiven result (λ chunk. GivesFirst max_length self.old.runs chunk.offset chunk.bytes self.new.runs) }
@@ -307,7 +308,7 @@ impl Assembler {
     }
 
     // Whether there is a chunk to be read.
-    #[inline]
+    #[inline(always)]
     fn has_next(&self, ordered: bool) -> bool
         requires { ordered ≡ self.now.ordered }
         ensures yes { result ≡ true → (first : PieceView) × (rest : _) × (self.now.runs ≡ first ∷ rest) × IsNext self.now first.offset }

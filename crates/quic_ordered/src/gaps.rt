@@ -72,7 +72,7 @@ fn base_of(
 }
 
 // Puts a piece back at an offset, at which an empty one kept its place, or takes that out.
-fn put_back(pieces: &mut PieceMap, offset: u64, piece: Option<Piece>)
+pub(crate) fn put_back(pieces: &mut PieceMap, offset: u64, piece: Option<Piece>)
     requires slot { piece_at pieces.old offset ≡ None → ⊥ }
     requires at { IfSome piece (λ p. p.offset ≡ offset) }
     ensures here { piece_at pieces.new offset ≡ piece }
@@ -80,10 +80,9 @@ fn put_back(pieces: &mut PieceMap, offset: u64, piece: Option<Piece>)
     ensures rises { RiseByKey pieces.new }
 {
     match piece {
-        Some(piece) => match pieces.insert(piece) {
-            Ok(_) => {}
-            Err(_) => unreachable!(),
-        },
+        Some(piece) => {
+            pieces.replace(piece);
+        }
         None => {
             pieces.remove(offset);
         }
@@ -91,7 +90,7 @@ fn put_back(pieces: &mut PieceMap, offset: u64, piece: Option<Piece>)
 }
 
 // Takes out the piece that begins at an offset, and leaves an empty one there.
-fn lift(pieces: &mut PieceMap, offset: u64, alloc: Global) -> Piece
+pub(crate) fn lift(pieces: &mut PieceMap, offset: u64, alloc: Global) -> Piece
     requires here { (v : PieceView) × (piece_at pieces.old offset ≡ Some v) }
     requires bound { offset < 2 ^ 62 }
     ensures value { piece_at pieces.old offset ≡ Some result }
@@ -100,11 +99,7 @@ fn lift(pieces: &mut PieceMap, offset: u64, alloc: Global) -> Piece
     ensures len { length pieces.new ≡ length pieces.old }
     ensures rises { RiseByKey pieces.new }
 {
-    match pieces.insert(Piece::new(offset, Bytes::new(alloc), 0)) {
-        Ok(Some(piece)) => piece,
-        Ok(None) => unreachable!(),
-        Err(_) => unreachable!(),
-    }
+    pieces.replace(Piece::new(offset, Bytes::new(alloc), 0))
 }
 
 // The piece that begins at `start`, grown up to `end`, with the bytes of the new one behind its own. In the map an

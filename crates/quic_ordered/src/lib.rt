@@ -2,6 +2,7 @@
 #![tactic(auto)]
 
 mod assembly;
+mod compaction;
 mod gaps;
 mod map;
 mod piece;

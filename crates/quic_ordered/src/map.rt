@@ -6,13 +6,24 @@ ghost use Rattle.std.specs.BTreeMap.{insert_entry};
 ghost use Rattle.std.specs.Ordering.{nat_cmp};
 ghost use Rattle.quic_assembler.specs.Piece.{PieceView, run_end, run_length, run_allocation};
 ghost use Rattle.quic_ordered.specs.Entries.{piece_at, NoPieceBegins, IsLastPiece, IsFirstPiece};
-ghost use Rattle.quic_ordered.specs.Rows.{RiseByKey, FitsWords};
+ghost use Rattle.std.specs.Option.{option_map};
+ghost use Rattle.quic_ordered.specs.Rows.{RiseByKey, FitsWords, tidied, joined_with};
+ghost use Rattle.quic_ordered.specs.Sweeping.{IsNextPiece};
 
 use crate::piece::Piece;
 use quic_values::OutOfMemory;
 use std::alloc::Global;
 use std::collections::BTreeMap;
 use std::marker::Model;
+use std::mem;
+
+/// Where a piece begins and ends, and whether it keeps at most a fifth more memory alive than it has bytes.
+#[derive(Clone, Copy)]
+pub(crate) struct Place {
+    pub start: u64,
+    pub end: u64,
+    pub little: bool,
+}
 
 #[derive(Drop)]
 pub(crate) struct PieceMap {
@@ -104,6 +115,29 @@ impl PieceMap {
         }
     }
 
+    /// The first piece that begins at `n` or behind it.
+    pub(crate) fn next_from(&self, n: u64) -> Option<Place>
+        ensures found { IfSome result (λ place. IsNextPiece self.now place.start place.end place.little n) }
+        ensures none { IfNone result ((q : ℕ) → n ≤ q → piece_at self.now q ≡ None) }
+        ensures bound { IfSome result (λ place. place.end < 2 ^ 62) }
+    {
+        match self.pieces.range(n..).next() {
+            Some((start, piece)) => Some(Place {
+                start: *start,
+                end: piece.end(),
+                little: piece.is_little(),
+            }),
+            None => None,
+        }
+    }
+
+    /// The piece that begins at an offset.
+    pub(crate) fn get(&self, offset: u64) -> Option<&Piece>
+        ensures { option_map (λ piece. piece.now) result ≡ piece_at self.now offset }
+    {
+        self.pieces.get(&offset)
+    }
+
     /// Puts a piece at its offset, and gives the one that stood there. Memory is wanted only where none did.
     pub(crate) fn insert(&mut self, piece: Piece) -> Result<Option<Piece>, OutOfMemory>
         ensures old { IfOk result (λ old. old ≡ piece_at self.old piece.offset) }
@@ -127,6 +161,76 @@ impl PieceMap {
             self.allocated -= first.allocation_size() as u128;
         }
         Ok(old)
+    }
+
+    /// Puts a piece in the place of the one that begins at its offset, and gives that.
+    pub(crate) fn replace(&mut self, piece: Piece) -> Piece
+        requires { piece_at self.old piece.offset ≡ None → ⊥ }
+        ensures old { piece_at self.old piece.offset ≡ Some result }
+        ensures here { piece_at self.new piece.offset ≡ Some piece }
+        ensures others { (q : ℕ) → (q ≡ piece.offset → ⊥) → piece_at self.new q ≡ piece_at self.old q }
+        ensures len { length self.new ≡ length self.old }
+        ensures rises { RiseByKey self.new }
+    {
+        let _count = self.pieces.len();
+        let offset = piece.offset();
+        let length = piece.len() as u128;
+        let allocated = piece.allocation_size() as u128;
+        match self.pieces.get_mut(&offset) {
+            Some(place) => {
+                let old = mem::replace(place, piece);
+                self.total = self.total + length - old.len() as u128;
+                self.allocated = self.allocated + allocated - old.allocation_size() as u128;
+                old
+            }
+            None => unreachable!(),
+        }
+    }
+
+    /// Copies the piece that begins at an offset where it keeps much more memory alive than it has bytes. If refused,
+    /// all is as it was.
+    pub(crate) fn tidy(&mut self, offset: u64) -> Result<(), OutOfMemory>
+        requires { piece_at self.old offset ≡ None → ⊥ }
+        ensures tidied { OnOk result ((v : PieceView) → piece_at self.old offset ≡ Some v → piece_at self.new offset ≡ Some (tidied v)) }
+        ensures others { (q : ℕ) → (q ≡ offset → ⊥) → piece_at self.new q ≡ piece_at self.old q }
+        ensures err { OnErr result (self.new ≡ self.old) }
+        ensures rises { RiseByKey self.new }
+    {
+        let _count = self.pieces.len();
+        match self.pieces.get_mut(&offset) {
+            Some(piece) => {
+                let before = piece.allocation_size() as u128;
+                let done = piece.tidy();
+                let _end = piece.end();
+                self.allocated = self.allocated + piece.allocation_size() as u128 - before;
+                done
+            }
+            None => unreachable!(),
+        }
+    }
+
+    /// Appends the bytes of another to the piece that begins at an offset and ends where they begin. If refused, all is
+    /// as it was.
+    pub(crate) fn append(&mut self, offset: u64, next: &Piece) -> Result<(), OutOfMemory>
+        requires { (v : PieceView) × (piece_at self.old offset ≡ Some v) × (run_end v ≡ next.now.offset) }
+        ensures joined { OnOk result ((v : PieceView) → piece_at self.old offset ≡ Some v → piece_at self.new offset ≡ Some (joined_with v next.now)) }
+        ensures others { (q : ℕ) → (q ≡ offset → ⊥) → piece_at self.new q ≡ piece_at self.old q }
+        ensures err { OnErr result (self.new ≡ self.old) }
+        ensures rises { RiseByKey self.new }
+    {
+        let _count = self.pieces.len();
+        let length = next.len() as u128;
+        match self.pieces.get_mut(&offset) {
+            Some(piece) => {
+                let before = piece.allocation_size() as u128;
+                piece.append(next)?;
+                let _end = piece.end();
+                self.total += length;
+                self.allocated = self.allocated + piece.allocation_size() as u128 - before;
+                Ok(())
+            }
+            None => unreachable!(),
+        }
     }
 
     /// Takes the piece that begins at an offset out.

@@ -1,5 +1,5 @@
 // A piece of a stream that is held.
-ghost use Rattle.std.specs.Prelude.{◌≡◌, ◌+◌, ◌-◌, ◌*◌, ◌/◌, ◌^◌, ◌<◌, ◌≤◌, ◌++◌, length, take, drop, vec_len, false, IfOk, OnOk, OnErr};
+ghost use Rattle.std.specs.Prelude.{◌≡◌, ◌+◌, ◌-◌, ◌*◌, ◌/◌, ◌^◌, ◌<◌, ◌≤◌, ◌++◌, length, take, drop, vec_len, nat_le, false, IfOk, OnOk, OnErr};
 ghost use Rattle.quic_assembler.specs.Piece.{PieceView, run_end, advance_by, cut_at, HoldsSame};
 ghost use Rattle.quic_ordered.specs.Entries.{piece_of, WritesOver, GrowsTo};
 ghost use Rattle.quic_ordered.specs.Rows.{joined_with, tidied};
@@ -55,10 +55,11 @@ impl Piece {
         requires { offset + length bytes < 2 ^ 62 }
         ensures { result ≡ piece_of offset bytes allocation_size }
     {
+        let (content, start) = bytes.into_parts();
         Piece {
             offset,
-            content: bytes.into_vec(),
-            start: 0,
+            content,
+            start,
             allocation_size,
         }
     }
@@ -117,6 +118,7 @@ impl Piece {
     }
 
     /// Takes a copy of the first `count` bytes, which are then let go. If refused, all is as it was.
+    #[inline(never)]
     pub(crate) fn split_to(&mut self, count: usize) -> Result<Bytes, OutOfMemory>
         requires { count ≤ length self.old.bytes }
         ensures front { IfOk result (λ front. front ≡ take count self.old.bytes) }
@@ -244,18 +246,31 @@ impl Piece {
         Ok(())
     }
 
-    /// Copies the bytes where they keep much more memory alive. If refused, all is as it was.
+    /// Whether the bytes keep at most a fifth more memory alive than they take.
+    #[inline]
+    pub(crate) fn is_little(&self) -> bool
+        ensures { result ≡ nat_le self.now.allocation_size (length self.now.bytes * 6 / 5) }
+    {
+        let length = self.content.len() - self.start;
+        self.allocation_size <= length || self.allocation_size as u128 <= length as u128 * 6 / 5
+    }
+
+    /// Where the bytes keep much more memory alive than they take, they are copied, unless their memory has no more room
+    /// than for them. If refused, all is as it was.
+    #[inline]
     pub(crate) fn tidy(&mut self) -> Result<(), OutOfMemory>
         ensures ok { OnOk result (self.new ≡ tidied self.old) }
         ensures err { OnErr result (self.new ≡ self.old) }
     {
-        let length = self.content.len() - self.start;
-        if self.allocation_size as u128 <= length as u128 * 6 / 5 {
+        if self.is_little() {
             return Ok(());
         }
-        let alloc = *self.content.allocator();
-        self.content = Vec::from_slice(alloc, &self.content.as_slice()[self.start..])?;
-        self.start = 0;
+        let length = self.content.len() - self.start;
+        if self.content.capacity() > length {
+            let alloc = *self.content.allocator();
+            self.content = Vec::from_slice(alloc, &self.content.as_slice()[self.start..])?;
+            self.start = 0;
+        }
         self.allocation_size = length;
         Ok(())
     }

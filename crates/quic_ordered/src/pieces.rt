@@ -16,8 +16,8 @@ use std::marker::Model;
 
 /// Pieces of one stream, none of which overlaps another. Contracts see them by rising offset.
 ///
-/// A piece of which a part was read stands apart, before all others, so that the next read finds it at once. Where
-/// bytes come that overlap it or lie before it, it goes back to the others.
+/// A piece of which a part was read stands apart, before all others, so that the next read finds it at once, and so
+/// does one that came where nothing was held. Where bytes come that overlap it or lie before it, it goes to the others.
 #[derive(Drop)]
 pub struct OrderedPieces {
     // The piece that is being read.
@@ -39,7 +39,7 @@ impl Model for OrderedPieces {
 }
 
 // Whether a piece has all offsets from one up to another.
-#[inline]
+#[inline(always)]
 fn has_all(first: &Option<Piece>, offset: u64, end: u64) -> bool
     ensures yes { result ≡ true → Any (Encloses offset end) (option_to_list first.now) }
     ensures no { result ≡ false → Any (Encloses offset end) (option_to_list first.now) → ⊥ }
@@ -51,7 +51,7 @@ fn has_all(first: &Option<Piece>, offset: u64, end: u64) -> bool
 }
 
 // Whether a piece ends behind an offset.
-#[inline]
+#[inline(always)]
 fn reaches(first: &Option<Piece>, offset: u64) -> bool
     ensures no { result ≡ false → All (λ r. run_end r ≤ offset) (option_to_list first.now) }
     ensures yes { result ≡ true → All (λ r. run_end r ≤ offset) (option_to_list first.now) → ⊥ }
@@ -63,6 +63,7 @@ fn reaches(first: &Option<Piece>, offset: u64) -> bool
 }
 
 // Puts the piece that is being read back to the others.
+#[inline(never)]
 fn put_back(first: &mut Option<Piece>, rest: &mut PieceStore) -> Result<(), OutOfMemory>
     requires { IsFronted first.old rest.old }
     ensures same { option_to_list first.new ++ rest.new ≡ option_to_list first.old ++ rest.old }
@@ -79,7 +80,7 @@ fn put_back(first: &mut Option<Piece>, rest: &mut PieceStore) -> Result<(), OutO
 }
 
 // Puts the piece that is being read back where it ends behind an offset.
-#[inline]
+#[inline(always)]
 fn make_way(
     first: &mut Option<Piece>,
     rest: &mut PieceStore,
@@ -97,7 +98,7 @@ fn make_way(
 }
 
 // Takes the first piece out.
-#[inline]
+#[inline(always)]
 fn take_piece(first: &mut Option<Piece>, rest: &mut PieceStore) -> Option<Piece>
     ensures taken { option_to_list first.old ++ rest.old ≡ option_to_list result ++ rest.new }
     ensures none { IfNone result (rest.new ≡ []) }
@@ -121,7 +122,7 @@ impl OrderedPieces {
     }
 
     /// How many pieces are held.
-    #[inline]
+    #[inline(always)]
     pub fn len(&self) -> usize
         ensures len { result ≡ length self.now }
         ensures small { result ≤ 2 ^ 62 }
@@ -153,7 +154,7 @@ impl OrderedPieces {
     }
 
     /// The sum of the allocation sizes.
-    #[inline]
+    #[inline(always)]
     pub fn allocated(&self) -> u128
         ensures { result ≡ sum_by run_allocation self.now }
     {
@@ -176,7 +177,7 @@ impl OrderedPieces {
     /// Takes bytes that came at an offset, and that keep so much memory alive. They are joined with all pieces that
     /// they overlap; where two bytes meet the held one stays. Bytes that touch a piece and overlap none are a piece of
     /// their own. Bytes that lie within one piece want no memory.
-    #[inline]
+    #[inline(always)]
     pub fn insert(
         &mut self,
         offset: u64,
@@ -198,13 +199,28 @@ impl OrderedPieces {
         if end == offset || has_all(&self.first, offset, end) {
             return Ok(());
         }
+        if self.len() == 0 {
+            self.hold_alone(Piece::new(offset, bytes, allocation_size));
+            return Ok(());
+        }
         make_way(&mut self.first, &mut self.rest, offset)?;
         self.rest.insert(offset, bytes, allocation_size)
+    }
+
+    // Takes a piece where nothing is held.
+    #[inline(always)]
+    fn hold_alone(&mut self, piece: Piece)
+        requires none { self.old ≡ [] }
+        requires some { 0 < length piece.bytes }
+        ensures { self.new ≡ piece ∷ [] }
+    {
+        self.first = Some(piece);
     }
 
     /// Takes of bytes that came at an offset, and that keep so much memory alive, what was not received, each longest
     /// run of it as a piece, and counts all of them as received. What is held was received. If refused, all is as it
     /// was.
+    #[inline(never)]
     pub fn insert_unreceived(
         &mut self,
         offset: u64,
@@ -229,7 +245,7 @@ impl OrderedPieces {
     }
 
     /// Where the first piece begins.
-    #[inline]
+    #[inline(always)]
     pub fn first_offset(&self) -> Option<u64>
         ensures first { IfSome result (λ offset. (first : PieceView) × (rest : _) × (self.now ≡ first ∷ rest) × (offset ≡ first.offset)) }
         ensures none { IfNone result (self.now ≡ []) }
@@ -242,7 +258,7 @@ impl OrderedPieces {
 
     /// Gives the first `max_length` bytes of the first piece, or all of it where it has fewer, and the offset at which
     /// it begins. A piece that is given whole is not copied. If refused, all is as it was.
-    #[inline]
+    #[inline(always)]
     pub fn take_first(&mut self, max_length: usize) -> Result<Option<Chunk>, OutOfMemory>
         ensures first { IfGiven result (λ chunk. GivesFirst max_length self.old chunk.offset chunk.bytes self.new) }
         ensures takes { IfGiven result (λ chunk. TakesSome chunk.offset max_length chunk.bytes self.old self.new) }

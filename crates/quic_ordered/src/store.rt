@@ -9,6 +9,7 @@ ghost use Rattle.quic_assembler.specs.Reassembly.{TakesFresh};
 ghost use Rattle.quic_ordered.specs.Rows.{FitsWords, RiseByKey, IsStore, LieInOrder, Merges, HoldSame, LieWithGaps, IsTidy, IsGathered, Encloses, JoinsAll, AddsOnly, StemsFrom, StaysApart, IsKeptOrOwn};
 ghost use Rattle.quic_ordered.specs.Entries.{piece_of};
 
+use crate::compaction::compact;
 use crate::gaps;
 use crate::map::PieceMap;
 use crate::piece::Piece;
@@ -177,7 +178,7 @@ impl PieceStore {
     /// Takes bytes that came at an offset, and that keep so much memory alive. They are joined with all pieces that
     /// they overlap; where two bytes meet the held one stays. Bytes that touch a piece and overlap none are a piece of
     /// their own. Bytes that lie within one piece want no memory.
-    #[inline]
+    #[inline(never)]
     pub(crate) fn insert(
         &mut self,
         offset: u64,
@@ -320,7 +321,7 @@ impl PieceStore {
     }
 
     // Takes the first piece out.
-    #[inline]
+    #[inline(always)]
     pub(crate) fn pop_first(&mut self) -> Option<Piece>
         ensures popped { self.old ≡ option_to_list result ++ self.new }
         ensures none { IfNone result (self.new ≡ []) }
@@ -338,7 +339,14 @@ impl PieceStore {
         ensures back { IfErr result (λ given. given ≡ piece) }
         ensures err { OnErr result (self.new ≡ self.old) }
     {
-        self.gaps.put_first(piece)
+        if self.gaps.len() > 0 {
+            return self.gaps.put_first(piece);
+        }
+        if self.row.reserve(1).is_err() {
+            return Err(piece);
+        }
+        self.row.put_front(piece);
+        Ok(())
     }
 
     /// The offsets below a floor, and those of all pieces.
@@ -355,7 +363,39 @@ impl PieceStore {
 
     /// Joins all pieces that touch, and copies each other one that keeps more than a fifth more memory alive than it
     /// has bytes. If refused, the same bytes are held, in as many pieces or fewer.
+    ///
+    /// Where most pieces are in the map, they are joined where they lie, and those of the row go to them. Else all go to
+    /// the row.
     pub(crate) fn compact(&mut self) -> Result<(), OutOfMemory>
+        ensures same { HoldSame self.old self.new }
+        ensures order { (low : ℕ) → LieInOrder low self.old → LieInOrder low self.new }
+        ensures pieces { length self.new ≤ length self.old }
+        ensures apart { OnOk result (LieWithGaps 0 self.new) }
+        ensures tidy { OnOk result (All IsTidy self.new) }
+        ensures memory { All (IsKeptOrOwn self.old) self.new }
+    {
+        if self.gaps.len() <= self.row.len() {
+            return self.compact_row();
+        }
+        self.compact_map()
+    }
+
+    // The same, with all pieces in the map.
+    fn compact_map(&mut self) -> Result<(), OutOfMemory>
+        ensures same { HoldSame self.old self.new }
+        ensures order { (low : ℕ) → LieInOrder low self.old → LieInOrder low self.new }
+        ensures pieces { length self.new ≤ length self.old }
+        ensures apart { OnOk result (LieWithGaps 0 self.new) }
+        ensures tidy { OnOk result (All IsTidy self.new) }
+        ensures memory { All (IsKeptOrOwn self.old) self.new }
+    {
+        clear_way(&mut self.gaps, &mut self.row, u64::MAX)?;
+        let _count = self.row.len();
+        compact(&mut self.gaps, self.alloc)
+    }
+
+    // The same, with all pieces in the row.
+    fn compact_row(&mut self) -> Result<(), OutOfMemory>
         ensures same { HoldSame self.old self.new }
         ensures order { (low : ℕ) → LieInOrder low self.old → LieInOrder low self.new }
         ensures pieces { length self.new ≤ length self.old }

@@ -31,6 +31,7 @@ impl OutgoingStreams {
     }
 
     // The same, each way out.
+    #[inline]
     fn take_ack(
         &mut self,
         id: StreamId,
@@ -48,6 +49,7 @@ impl OutgoingStreams {
     }
 
     // A frame is acknowledged on a half that was taken out.
+    #[inline]
     fn ack_half(
         &mut self,
         id: StreamId,

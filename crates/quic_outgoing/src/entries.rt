@@ -109,6 +109,7 @@ impl SendEntries {
     }
 
     // Whether this end opens the stream itself.
+    #[inline]
     pub(crate) fn is_local(&self, id: StreamId) -> bool
         ensures { result ≡ is_local self.now.side id }
     {
@@ -116,6 +117,7 @@ impl SendEntries {
     }
 
     /// Makes room for so many more.
+    #[inline]
     pub(crate) fn reserve(&mut self, additional: usize) -> Result<(), OutOfMemory>
         ensures halves { senders self.new ≡ senders self.old }
         ensures side { self.new.side ≡ self.old.side }
@@ -146,6 +148,7 @@ impl SendEntries {
     }
 
     // The limit that a stream begins with.
+    #[inline]
     pub(crate) fn first_limit(&self, id: StreamId) -> VarInt
         ensures { result ≡ first_limit self.now.side self.now.first id }
     {
@@ -153,6 +156,7 @@ impl SendEntries {
     }
 
     /// Takes a half out, to be put back or removed. It is made where nothing was written yet.
+    #[inline]
     pub(crate) fn take(&mut self, id: StreamId) -> Result<Option<Box<Send>>, OutOfMemory>
         ensures half { IfOk result (λ half. option_map (λ b. bare b.value) half ≡ senders self.old id) }
         ensures limit { IfOk result (λ half. IfSome half (λ b. first_limit self.old.side self.old.first id ≤ b.value.max_data)) }
@@ -298,6 +302,7 @@ impl SendEntries {
     }
 
     /// Puts a half back.
+    #[inline]
     pub(crate) fn put(&mut self, id: StreamId, half: Box<Send>)
         requires there { is_some (senders self.old id) ≡ true }
         requires limit { first_limit self.old.side self.old.first id ≤ half.value.max_data }

@@ -29,6 +29,7 @@ pub struct WrittenFrame {
 #[tactic(auto, unfolding(crate::specs::Shown::view_of, crate::specs::Shown::permit_room), using(crate::proofs::SenderMaps::sender_steps, crate::proofs::Histories::continues))]
 impl OutgoingStreams {
     /// The priority of a stream on which data may be sent. `None`: it is not held, or it was reset.
+    #[inline]
     pub fn sending_priority(&self, id: StreamId) -> Option<i32>
         ensures { result ≡ sending_priority ((view_of self.now).halves id) }
     {
@@ -38,6 +39,7 @@ impl OutgoingStreams {
     /// Appends the next STREAM frame of a held stream to a payload of at most `max_size` bytes (RFC 9000 section 19.8),
     /// also where nothing is to be sent on it: the front of the lowest range that was lost or, where none was, of the
     /// bytes that were never sent. They count as sent then. If refused, nothing changes.
+    #[inline]
     pub fn write_frame(
         &mut self,
         id: StreamId,
@@ -57,6 +59,7 @@ impl OutgoingStreams {
 #[tactic(auto, unfolding(crate::specs::Seen::senders))]
 impl SendEntries {
     // The priority of a stream on which data may be sent.
+    #[inline]
     fn sending_priority(&self, id: StreamId) -> Option<i32>
         ensures { result ≡ sending_priority (senders self.now id) }
     {
@@ -74,6 +77,7 @@ impl SendEntries {
     }
 
     // Appends the next frame of a held stream. If refused, nothing changes.
+    #[inline]
     fn write_frame(
         &mut self,
         id: StreamId,
@@ -98,6 +102,7 @@ impl SendEntries {
 }
 
 // Takes the half of an entry out, to be put back. It is made where nothing was written yet.
+#[inline]
 fn take_half(
     alloc: Global,
     limit: VarInt,
@@ -116,6 +121,7 @@ fn take_half(
 }
 
 // Appends the next frame of an entry's half. If refused, nothing changes.
+#[inline]
 fn append_of_entry(
     alloc: Global,
     limit: VarInt,
@@ -171,6 +177,7 @@ fn append_frame(
 }
 
 // The room for a frame behind its type and its id.
+#[inline]
 fn room_behind_id(id: StreamId, max_size: usize, len: usize) -> usize
     requires { len + 25 < max_size }
     ensures room { result ≡ max_size - len - 1 - size_of id }
@@ -180,6 +187,7 @@ fn room_behind_id(id: StreamId, max_size: usize, len: usize) -> usize
 }
 
 // Whether the stream of a half is finished and ends at an offset.
+#[inline]
 fn is_end(half: &Send, offset: u64) -> bool
     ensures { result ≡ (is_data_sent half.now.state && (offset == half.now.pending.offset)) }
 {
@@ -187,6 +195,7 @@ fn is_end(half: &Send, offset: u64) -> bool
 }
 
 // Whether the end is still to be sent, once a frame was written that has it or not.
+#[inline]
 fn left_pending(pending: bool, fin: bool) -> bool
     ensures { result ≡ (pending && not fin) }
 {

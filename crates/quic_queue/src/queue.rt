@@ -58,6 +58,7 @@ impl Model for SendQueue {
 }
 
 // The first id of the highest priority that has one.
+#[inline]
 fn first_entry(levels: &Levels) -> Option<Entry>
     ensures first { result ≡ slice_get (entries_of levels.now.entries) 0 }
     ensures highest { IfSome result (λ e. NoneIsHigher e.priority (entries_of levels.now.entries)) }
@@ -82,6 +83,7 @@ fn copy_of(levels: &Levels) -> Result<Levels, OutOfMemory>
 }
 
 // Makes room for one id more at a priority.
+#[inline]
 fn make_room(levels: &mut Levels, alloc: Global, priority: i32) -> Result<(), OutOfMemory>
     ensures shown { entries_of levels.new.entries ≡ entries_of levels.old.entries }
     ensures others { KeepsOtherLevels levels.old priority levels.new }
@@ -114,6 +116,7 @@ fn drop_if_empty(levels: &mut Levels, priority: i32)
 }
 
 // Puts an id behind the others of a priority.
+#[inline]
 fn push_at(levels: &mut Levels, priority: i32, id: StreamId)
     requires { HasRoom levels.old priority }
     ensures shown { entries_of levels.new.entries ≡ put (entries_of levels.old.entries) (record { priority = priority; id = id }) }
@@ -127,6 +130,7 @@ fn push_at(levels: &mut Levels, priority: i32, id: StreamId)
 }
 
 // Takes the first id of the highest priority out.
+#[inline]
 fn pop_at(levels: &mut Levels, priority: i32)
     requires { IsFirstPriority levels.old.entries priority }
     ensures shown { entries_of levels.new.entries ≡ drop 1 (entries_of levels.old.entries) }
@@ -196,6 +200,7 @@ impl SendQueue {
 
     /// Makes room for one stream of a priority, in place of the room that was there. Nothing changes if memory runs
     /// out, and none is taken where there is room for this priority.
+    #[inline]
     pub fn reserve(&mut self, priority: i32) -> Result<(), OutOfMemory>
         ensures ok { OnOk result (self.new ≡ record self.old { reserved = Some priority }) }
         ensures err { OnErr result (self.new ≡ self.old) }
@@ -211,6 +216,7 @@ impl SendQueue {
     }
 
     /// Lets the room go that was made and not used.
+    #[inline]
     pub fn release(&mut self)
         ensures { self.new ≡ record self.old { reserved = None } }
     {
@@ -220,6 +226,7 @@ impl SendQueue {
     }
 
     /// Puts a stream behind those of its priority, for which there is room.
+    #[inline]
     pub fn put(&mut self, id: StreamId, priority: i32)
         requires { self.old.reserved ≡ Some priority }
         ensures { self.new ≡ with_entry self.old (record { priority = priority; id = id }) }
@@ -229,6 +236,7 @@ impl SendQueue {
     }
 
     /// The next stream: the one that was kept back, or else the first of the highest priority.
+    #[inline]
     pub fn first(&self) -> Option<Entry>
         ensures first { result ≡ first self.now }
         ensures highest { self.now.kept ≡ None → IfSome result (λ e. NoneIsHigher e.priority self.now.waiting) }
@@ -240,6 +248,7 @@ impl SendQueue {
     }
 
     /// Takes the next stream out. Room that was made stays.
+    #[inline]
     pub fn take_first(&mut self) -> Option<Entry>
         ensures entry { result ≡ first self.old }
         ensures rest { self.new ≡ without_first self.old }
@@ -265,6 +274,7 @@ impl SendQueue {
 
     /// Ends the turn of the next stream. Takes no memory: room to put it anew is made before its frame is begun. Room
     /// that was made and not used is let go.
+    #[inline]
     pub fn end_turn(&mut self, entry: Entry, next: Next)
         requires is_first { first self.old ≡ Some entry }
         requires room { IsReserved self.old next }

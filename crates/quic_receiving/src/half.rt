@@ -93,6 +93,7 @@ impl Recv {
     /// half. Where too many pieces are held (an internal error), or there is no memory to compact them, the frame is
     /// kept and counts all the same: the new bytes are then what `end` grew by. Other refusals change nothing. The data
     /// keep the whole payload alive, so that this is their allocation size.
+    #[inline]
     pub fn ingest(
         &mut self,
         frame: frame::Stream,
@@ -137,6 +138,7 @@ impl Recv {
     }
 
     // Where a frame ends, or the error that it is.
+    #[inline]
     fn judge(
         &self,
         offset: u64,
@@ -165,6 +167,7 @@ impl Recv {
     }
 
     // Whether data up to an offset go above a limit.
+    #[inline]
     fn is_beyond(&self, end: u64, received: u64, max_data: u64) -> bool
         ensures { result ≡ is_beyond self.now.end self.now.sent_max end received max_data }
     {
@@ -230,6 +233,7 @@ impl Recv {
     /// The limit to announce in a MAX_STREAM_DATA frame (RFC 9000 section 4.1) where `window` bytes may wait to be
     /// read, and whether it is worth a frame: more data may come and are wanted, and the limit is above the last one
     /// sent by an eighth of the window or more. Where it is not, it is sent again only for a frame that was lost.
+    #[inline]
     pub fn max_stream_data(&self, window: u64) -> (u64, ShouldTransmit)
         ensures limit { result.0 ≡ window_end self.now window }
         ensures due { result.1.0 ≡ is_window_due self.now window }
@@ -267,6 +271,7 @@ impl Recv {
     ///
     /// Of a stream that was reset nothing is given (RFC 9000 section 3.2). Memory is wanted only to cut a chunk, so only
     /// where more than `max_length` bytes in a row are at hand.
+    #[inline]
     pub fn next(&mut self, max_length: usize, ordered: bool) -> Result<Option<Chunk>, ReadError>
         requires { ordered ≡ self.old.buffer.ordered }
         ensures reads { Reads self.old max_length result self.new }
@@ -279,6 +284,7 @@ impl Recv {
     }
 
     // The next bytes of a half that was not reset.
+    #[inline]
     fn next_held(&mut self, max_length: usize, ordered: bool) -> Result<Option<Chunk>, ReadError>
         requires mode { ordered ≡ self.old.buffer.ordered }
         requires running { self.old.reset ≡ None }
@@ -296,6 +302,7 @@ impl Recv {
 }
 
 // Counts a frame that ends there.
+#[inline]
 fn count(state: &mut RecvState, high: &mut u64, end: u64, fin: bool)
     requires { reset_code_of state.old ≡ None }
     ensures high { high.new ≡ max high.old end }
@@ -309,6 +316,7 @@ fn count(state: &mut RecvState, high: &mut u64, end: u64, fin: bool)
 }
 
 // Where a frame ends, unless that is 2^62 or more.
+#[inline]
 fn end_of(offset: u64, count: usize) -> Option<u64>
     ensures { SomeIff result (offset + count < 2 ^ 62) (offset + count) }
 {
@@ -320,6 +328,7 @@ fn end_of(offset: u64, count: usize) -> Option<u64>
 }
 
 // Whether a frame that ends there lies past a final size, or ends the stream elsewhere.
+#[inline]
 fn is_past(final_size: Option<u64>, end: u64, fin: bool) -> bool
     ensures { result ≡ is_past final_size end fin }
 {
@@ -340,6 +349,7 @@ fn is_unfit(final_size: Option<u64>, high: u64, size: u64) -> bool
 }
 
 // Whether so many bytes are all that there are.
+#[inline]
 fn is_all(final_size: Option<u64>, count: u64) -> bool
     ensures { result ≡ is_all final_size count }
 {

@@ -220,3 +220,9 @@ all-entries most (k ∷ ks) a r b (inr w) = turns_entries w.1
 pub done-on-ok : (most : ℕ) (a : PayloadPlace) (r : Result (Unit {0}) OutOfMemory) (b : PayloadPlace) → WritesKinds most control_order a r b → OnOk r ((k : ControlKind) → IsKindDone k most b)
 done-on-ok most a (Ok x) b w = all-done most a x b w
 done-on-ok most a (Err e) b w = tt
+
+-- ---- where nothing is pending, nothing is written
+
+pub nothing_written : (most : ℕ) (ks : List ControlKind) (a : PayloadPlace) → ((k : ControlKind) → HasNoneOf k a.pending) → WritesKinds most ks a (Ok tt) a
+nothing_written most [] a n = refl
+nothing_written most (k ∷ ks) a n = inl (a, record { turns = none; done = inl (n k) }, nothing_written most ks a n)

@@ -1,6 +1,6 @@
 //! The frames beside STREAM that an end writes.
 
-ghost use Rattle.std.specs.Prelude.{◌≡◌, ◌<◌, ◌≤◌, ◌+◌, ◌^◌, ℕ, List, true, Ok, IfSome, IfOk, OnOk, OnErr, length};
+ghost use Rattle.std.specs.Prelude.{◌≡◌, ◌<◌, ◌≤◌, ◌+◌, ◌^◌, ℕ, List, true, false, Ok, IfSome, IfOk, OnOk, OnErr, length};
 ghost use Rattle.quic_retransmits.specs.Pending.{shown_pending as listed};
 ghost use Rattle.quic_retransmits.specs.Settling.{entry_count};
 ghost use Rattle.quic_limits.specs.Remote.{streams_announced};
@@ -59,6 +59,9 @@ impl StreamsState {
         ensures writes { WritesKinds max_size control_order (place_of self.old pending.old buf.old sent.old counters.old) result (place_of self.new pending.new buf.new sent.new counters.new) }
         ensures refused { OnErr result (LeavesKind max_size (place_of self.new pending.new buf.new sent.new counters.new)) }
     {
+        if !has_control(pending) {
+            return Ok(());
+        }
         let alloc = self.receive.alloc;
         let mut payload = ControlPayload {
             bytes: mem::replace(buf, Vec::new(alloc)),
@@ -342,4 +345,18 @@ impl StreamsState {
         self.write_kind(&ControlKind::StreamDataBlocked, pending, payload, max_size)?;
         Ok(())
     }
+}
+
+// Whether something is pending of a kind that is written here.
+fn has_control(pending: &Retransmits) -> bool
+    ensures { result ≡ false → (kind : ControlKind) → HasNoneOf kind (listed pending.now) }
+{
+    let [bi, uni] = pending.max_stream_id;
+    if pending.max_data || pending.data_blocked || bi || uni {
+        return true;
+    }
+    if !pending.reset_stream.is_empty() || !pending.stop_sending.is_empty() {
+        return true;
+    }
+    pending.next_window().is_some() || pending.next_stream_blocked().is_some()
 }

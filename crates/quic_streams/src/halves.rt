@@ -41,6 +41,7 @@ impl ReceiveHalves {
     }
 
     /// Makes room for so many more.
+    #[inline]
     pub(crate) fn reserve(&mut self, additional: usize) -> Result<(), OutOfMemory>
         ensures held { held self.new ≡ held self.old }
         ensures window { self.new.window ≡ self.old.window }
@@ -92,6 +93,7 @@ impl ReceiveHalves {
     }
 
     /// Whether the half of a stream is held.
+    #[inline]
     pub(crate) fn contains(&self, id: StreamId) -> bool
         ensures { result ≡ is_some (held self.now id) }
     {
@@ -110,6 +112,7 @@ impl ReceiveHalves {
     }
 
     /// Takes a half out, to be put back or removed. It is made where nothing came yet.
+    #[inline]
     pub(crate) fn take(&mut self, id: StreamId) -> Result<Option<Box<Recv>>, OutOfMemory>
         ensures half { IfOk result (λ half. option_map (λ b. b.value) half ≡ held self.old id) }
         ensures held { IfOk result (λ half. held self.new ≡ taken (held self.old) id self.old.window (held self.old id)) }
@@ -132,6 +135,7 @@ impl ReceiveHalves {
     }
 
     /// Whether MAX_STREAM_DATA is worth a frame on a stream.
+    #[inline]
     pub(crate) fn is_window_due(&self, id: StreamId) -> bool
         ensures { result ≡ is_due_in self.now.window (held self.now id) }
     {
@@ -193,6 +197,7 @@ impl ReceiveHalves {
     }
 
     /// Puts a half back.
+    #[inline]
     pub(crate) fn put(&mut self, id: StreamId, half: Box<Recv>)
         requires { is_some (held self.old id) ≡ true }
         ensures held { held self.new ≡ with_half (held self.old) id (Some half.value) }

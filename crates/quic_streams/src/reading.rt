@@ -247,6 +247,7 @@ impl StreamsState {
 
     // Reads the half of a stream that was opened for a reader which read so many bytes. It is freed at its end and
     // after a reset.
+    #[inline]
     pub(crate) fn read_half(
         &mut self,
         id: StreamId,
@@ -271,6 +272,7 @@ impl StreamsState {
 
     // Reads a half that was taken out.
     #[tactic(auto, using(quic_history::proofs::WorldSteps::world_steps, quic_history::proofs::ReadingSteps::reader_runs, quic_history::proofs::ReadingSteps::reader_mode))]
+    #[inline]
     fn read_from(
         &mut self,
         id: StreamId,

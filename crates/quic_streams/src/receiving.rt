@@ -38,6 +38,7 @@ impl StreamsState {
     }
 
     // The same, each way out.
+    #[inline]
     fn receive_frame(
         &mut self,
         frame: frame::Stream,
@@ -62,6 +63,7 @@ impl StreamsState {
     }
 
     // Takes a STREAM frame on a half that was taken out.
+    #[inline]
     fn ingest_on(
         &mut self,
         half: Box<Recv>,
@@ -201,6 +203,7 @@ impl StreamsState {
 #[tactic(auto, unfolding(crate::specs::Shown::shown, crate::specs::Room::rooms))]
 impl StreamsState {
     /// Gives credit for bytes that were consumed (RFC 9000 section 4.2). Answers whether MAX_DATA is to be sent.
+    #[inline]
     pub fn add_read_credits(&mut self, credits: u64) -> ShouldTransmit
         ensures credit { shown self.new ≡ with_credit (shown self.old) credits }
         ensures due { result.0 ≡ is_max_data_due (shown self.new).credit }

@@ -81,6 +81,7 @@ impl StreamsState {
     }
 
     // Whether this end opened a stream, or is to open it.
+    #[inline]
     pub(crate) fn is_own(&self, id: StreamId) -> bool
         ensures { result ≡ is_own (shown self.now) id }
     {
@@ -88,6 +89,7 @@ impl StreamsState {
     }
 
     // The error of a frame on a stream that the peer may not send on, or may not open.
+    #[inline]
     pub(crate) fn validate_receive_id(&self, id: StreamId) -> Result<(), TransportError>
         ensures ok { OnOk result (id_refusal (shown self.now) id ≡ None) }
         ensures err { IfErr result (λ error. id_refusal (shown self.now) id ≡ Some error.code) }
@@ -124,6 +126,7 @@ impl StreamsState {
     }
 
     // Makes room for a stream that takes the place of a freed one.
+    #[inline]
     pub(crate) fn make_stream_room(&mut self) -> Result<(), OutOfMemory>
         ensures same { shown self.new ≡ shown self.old }
         ensures rooms { OnOk result (1 ≤ rooms self.new) }
@@ -134,6 +137,7 @@ impl StreamsState {
     }
 
     // Makes the room that a frame may need: for an event, and for a stream that takes the place of a freed one.
+    #[inline]
     pub(crate) fn make_room(&mut self) -> Result<(), OutOfMemory>
         ensures same { shown self.new ≡ shown self.old }
         ensures rooms { OnOk result (1 ≤ rooms self.new) }
@@ -145,6 +149,7 @@ impl StreamsState {
     }
 
     // Takes a receive half out, to be put back or freed. It is made where nothing came yet.
+    #[inline]
     pub(crate) fn take_half(&mut self, id: StreamId) -> Result<Option<Box<Recv>>, OutOfMemory>
         ensures half { IfOk result (λ half. option_map (λ b. b.value) half ≡ (shown self.old).receive id) }
         ensures taken { IfOk result (λ half. IfSome half (λ _. shown self.new ≡ with_receive (shown self.old) id (Some (new_half (shown self.old).window)))) }
@@ -158,6 +163,7 @@ impl StreamsState {
     }
 
     // Puts a receive half back.
+    #[inline]
     pub(crate) fn put_half(&mut self, id: StreamId, half: Box<Recv>)
         requires { is_some ((shown self.old).receive id) ≡ true }
         ensures put { shown self.new ≡ with_receive (shown self.old) id (Some half.value) }
@@ -168,6 +174,7 @@ impl StreamsState {
     }
 
     // Whether MAX_STREAM_DATA is worth a frame on a stream.
+    #[inline]
     pub(crate) fn is_window_due(&self, id: StreamId) -> bool
         ensures { result ≡ is_due_in (shown self.now).window ((shown self.now).receive id) }
     {
@@ -182,6 +189,7 @@ impl StreamsState {
     }
 
     // How many bytes of all streams were received, and how many are permitted.
+    #[inline]
     pub(crate) fn received_of_permitted(&self) -> (u64, u64)
         ensures received { result.0 ≡ (shown self.now).credit.data_recvd }
         ensures permitted { result.1 ≡ (shown self.now).credit.local_max_data }
@@ -190,6 +198,7 @@ impl StreamsState {
     }
 
     // Counts bytes that lie above what was received before.
+    #[inline]
     pub(crate) fn count(&mut self, new_bytes: u64)
         requires { (shown self.old).credit.data_recvd + new_bytes < 2 ^ 64 }
         ensures counted { shown self.new ≡ with_counted (shown self.old) new_bytes }
@@ -262,6 +271,7 @@ impl StreamsState {
     }
 
     // The application is to be told that it may read.
+    #[inline]
     fn tell_readable(&mut self, id: StreamId, readable: bool)
         requires { HasEventRoom self.old }
         ensures told { shown self.new ≡ told_readable (shown self.old) id readable }
@@ -287,6 +297,7 @@ impl StreamsState {
     }
 
     // A frame came on a stream.
+    #[inline]
     pub(crate) fn notice(&mut self, id: StreamId, readable: bool)
         requires event { HasEventRoom self.old }
         requires known { id_refusal (shown self.old) id ≡ None }
@@ -308,6 +319,7 @@ impl StreamsState {
 }
 
 // Whether two ends are one.
+#[inline]
 fn is_same_side(a: Side, b: Side) -> bool
     ensures { result ≡ is_same_side a b }
 {

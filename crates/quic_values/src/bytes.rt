@@ -1,4 +1,4 @@
-ghost use Rattle.std.specs.Prelude.{◌≡◌, ◌==◌, ◌≤◌, ◌++◌, [], length, take, drop, IfOk, OnErr, OnOk};
+ghost use Rattle.std.specs.Prelude.{◌≡◌, ◌==◌, ◌≤◌, ◌++◌, [], length, take, drop, vec_len, IfOk, OnErr, OnOk};
 
 use crate::memory::OutOfMemory;
 use std::alloc::Global;
@@ -105,16 +105,38 @@ impl Bytes {
         Ok(())
     }
 
+    /// The vector, and how many bytes at its front were let go. Nothing is moved.
+    #[inline(always)]
+    pub fn into_parts(self) -> (Vec<u8>, usize)
+        ensures rest { drop result.1 result.0.items ≡ self }
+        ensures within { result.1 ≤ vec_len result.0 }
+    {
+        let Bytes { content, start } = self;
+        (content, start)
+    }
+
     /// Gives the vector back, without memory. What was let go is moved out of it first.
+    #[inline(always)]
     pub fn into_vec(self) -> Vec<u8>
         ensures { result.items ≡ self }
     {
-        let Bytes { mut content, start } = self;
-        if start > 0 {
-            content.drain(..start);
+        let (content, start) = self.into_parts();
+        if start == 0 {
+            return content;
         }
-        content
+        without_front(content, start)
     }
+}
+
+// What is behind so many bytes, moved to the front.
+#[inline(never)]
+fn without_front(content: Vec<u8>, count: usize) -> Vec<u8>
+    requires { count ≤ vec_len content }
+    ensures { result.items ≡ drop count content.items }
+{
+    let mut content = content;
+    content.drain(..count);
+    content
 }
 
 impl From<Vec<u8>> for Bytes {

@@ -160,6 +160,10 @@ fn bytes_keep_what_was_not_let_go(rt: HostRuntime) -> Result<(), Fail> {
     is_true(&rt, copy == bytes && !bytes.is_empty());
     let content = bytes.into_vec();
     same(&rt, content.as_slice(), b"world!".as_slice());
+    let mut cut = copy;
+    cut.advance(2);
+    let (whole, gone) = cut.into_parts();
+    same(&rt, whole.get(gone..), Some(b"rld!".as_slice()));
     is_true(&rt, Bytes::new(rt.alloc()).is_empty());
     Ok(())
 }

@@ -4,3 +4,4 @@ pub mod Read
 pub mod Joins
 pub mod Written
 pub mod Within
+pub mod Whole

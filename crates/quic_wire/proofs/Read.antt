@@ -88,12 +88,12 @@ two_takes bytes x fits e =
     subst (λ (y : ℕ × ℕ × List ℕ). TakesTwo bytes y.0 y.1 y.2) (some_is made x b.2)
     (record { begins = (a.0.1, t0.begins, t1.begins); fits = t1.fits; shorter = omega (arith, t0.shorter, t1.shorter) })
 
-record TakesOffset (with_offset : Bool) (bytes : List ℕ) (n : ℕ) (rest : List ℕ) : Type 0 where
-  begins : BeginsOffset with_offset bytes n rest
-  fits : IsBytes rest
-  shorter : length rest ≤ length bytes
+pub record TakesOffset (with_offset : Bool) (bytes : List ℕ) (n : ℕ) (rest : List ℕ) : Type 0 where
+  pub begins : BeginsOffset with_offset bytes n rest
+  pub fits : IsBytes rest
+  pub shorter : length rest ≤ length bytes
 
-offset_takes : (with_offset : Bool) (bytes : List ℕ) (n : ℕ) (rest : List ℕ) → IsBytes bytes → offset_at with_offset bytes ≡ Some (n, rest) → TakesOffset with_offset bytes n rest
+pub offset_takes : (with_offset : Bool) (bytes : List ℕ) (n : ℕ) (rest : List ℕ) → IsBytes bytes → offset_at with_offset bytes ≡ Some (n, rest) → TakesOffset with_offset bytes n rest
 unfolding offset_at
 offset_takes true bytes n rest fits e =
     let h = number_takes bytes n rest fits e in record { begins = h.begins; fits = h.fits; shorter = omega (arith, h.shorter) }
@@ -103,15 +103,15 @@ offset_takes false bytes n rest fits e =
     let rest-is : bytes ≡ rest = ap (λ (p : ℕ × List ℕ). p.1) is in
     record { begins = (sym n-is, rest-is); fits = rw (← rest-is) fits; shorter = rw (← rest-is) (omega arith) }
 
-record TakesContent (with_length : Bool) (bytes xs rest : List ℕ) : Type 0 where
-  begins : BeginsContent with_length bytes xs rest
-  fits : IsBytes rest
-  shorter : length rest ≤ length bytes
+pub record TakesContent (with_length : Bool) (bytes xs rest : List ℕ) : Type 0 where
+  pub begins : BeginsContent with_length bytes xs rest
+  pub fits : IsBytes rest
+  pub shorter : length rest ≤ length bytes
 
 IsBytes-nil : IsBytes []
 IsBytes-nil i = omega arith
 
-content_takes : (with_length : Bool) (bytes xs rest : List ℕ) → IsBytes bytes → content_at with_length bytes ≡ Some (xs, rest) → TakesContent with_length bytes xs rest
+pub content_takes : (with_length : Bool) (bytes xs rest : List ℕ) → IsBytes bytes → content_at with_length bytes ≡ Some (xs, rest) → TakesContent with_length bytes xs rest
 unfolding content_at
 content_takes true bytes xs rest fits e =
     let a = bind_some (number_at bytes) (λ n. split_at n.0 n.1) (xs, rest) e in

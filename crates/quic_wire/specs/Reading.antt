@@ -1,5 +1,5 @@
 -- Reading from left to right.
-use Rattle.std.specs.Prelude.{◌≡◌, ℕ, ◌^◌, ◌%◌, ◌&&◌, Bool, List, [], ◌∷◌, length, take, drop, Option, Some, None, Result, Ok, Err, nat_lt, nat_le, ◌==◌, if◌then◌else◌, option_and_then}
+use Rattle.std.specs.Prelude.{◌≡◌, ℕ, ◌++◌, ◌^◌, ◌%◌, ◌&&◌, Bool, List, [], ◌∷◌, length, take, drop, Option, Some, None, Result, Ok, Err, nat_lt, nat_le, ◌==◌, if◌then◌else◌, option_and_then}
 use Rattle.std.specs.Int.{Width, w16, w32, w64, byte_len, from_be_bytes}
 use Rattle.quic_values.specs.declared.ids.Dir.{Dir}
 use Rattle.quic_values.specs.declared.ids.Dir.TheVariants as dirs
@@ -118,3 +118,7 @@ frame_at (kind ∷ bytes) =
     else if kind == 0x15 then stream_data_blocked_at bytes
     else if nat_le 0x30 kind && nat_le kind 0x31 then datagram_at kind bytes
     else None
+
+-- some bytes are the last of others
+abbrev pub AreLast : List ℕ → List ℕ → Type 0
+AreLast rest bytes = (front : List ℕ) × (bytes ≡ front ++ rest)

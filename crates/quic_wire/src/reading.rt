@@ -1,8 +1,9 @@
-ghost use Rattle.std.specs.Prelude.{◌≡◌, ◌^◌, ◌<◌, All, List, length, IfOk, IsErrOf, Ok, Some, ℕ};
+ghost use Rattle.std.specs.Prelude.{◌≡◌, ◌^◌, ◌<◌, ◌≤◌, All, List, [], drop, length, IfOk, IfSome, IsErrOf, Ok, Some, ℕ};
 ghost use Rattle.std.specs.Int.{w16, w32, w64};
 ghost use Rattle.quic_wire.specs.declared.frame.Frame.{Frame as FrameValue};
-ghost use Rattle.quic_wire.specs.Frames.{AreFrames, IsFrameWithin, has_bit};
-ghost use Rattle.quic_wire.specs.Reading.{ReadsAs, wide_at, number_at, two_at, offset_at, content_at, reset_at, stop_at, stream_at, max_data_at, max_stream_data_at, max_streams_at, data_blocked_at, stream_data_blocked_at, datagram_at, frame_at};
+ghost use Rattle.quic_wire.specs.Frames.{AreFrames, BeginsWith, IsFrameWithin, has_bit};
+ghost use Rattle.quic_wire.specs.declared.frame.Frame.TheVariants as FrameValues;
+ghost use Rattle.quic_wire.specs.Reading.{AreLast, ReadsAs, wide_at, number_at, two_at, offset_at, content_at, reset_at, stop_at, stream_at, max_data_at, max_stream_data_at, max_streams_at, data_blocked_at, stream_data_blocked_at, datagram_at, frame_at};
 
 use crate::frame::{Datagram, DecodeError, Frame, ResetStream, StopSending, Stream};
 use quic_values::{Bytes, Dir, StreamId, VarInt};
@@ -217,6 +218,61 @@ fn frame_at(alloc: Global, bytes: &[u8]) -> Result<(Frame, &[u8]), DecodeError>
     }
 }
 
+// A STREAM frame that takes a whole payload, without its data, and how many bytes come before these.
+#[derive(Clone, Copy)]
+struct WholeStream {
+    id: StreamId,
+    offset: u64,
+    fin: bool,
+    skip: usize,
+}
+
+// The data of a frame that ends with them, if it ends there.
+#[tactic(auto, unfolding(crate::specs::Reading::content_at))]
+fn whole_content(with_length: bool, bytes: &[u8]) -> Option<&[u8]>
+    ensures read { IfSome result (λ rest. content_at with_length bytes.now ≡ Some (rest.now, [])) }
+    ensures behind { IfSome result (λ rest. AreLast rest.now bytes.now) }
+{
+    if !with_length {
+        return Some(bytes);
+    }
+    let Ok((length, rest)) = number_at(bytes) else {
+        return None;
+    };
+    if rest.len() as u64 != length {
+        return None;
+    }
+    Some(rest)
+}
+
+// The STREAM frame that bytes are as a whole, if they are one.
+fn whole_stream(bytes: &[u8]) -> Option<WholeStream>
+    ensures begins { IfSome result (λ w. BeginsWith bytes.now (FrameValues.Stream (record { id = w.id; offset = w.offset; fin = w.fin; bytes = drop w.skip bytes.now })) []) }
+    ensures within { IfSome result (λ w. w.skip ≤ length bytes.now) }
+{
+    let [kind, fields @ ..] = bytes else {
+        return None;
+    };
+    if *kind < 0x08 || *kind > 0x0f {
+        return None;
+    }
+    let Ok((id, after)) = number_at(fields) else {
+        return None;
+    };
+    let Ok((offset, rest)) = offset_at(*kind & 0x04 != 0, after) else {
+        return None;
+    };
+    let Some(content) = whole_content(*kind & 0x02 != 0, rest) else {
+        return None;
+    };
+    Some(WholeStream {
+        id: StreamId::from(VarInt::new(id)),
+        offset,
+        fin: *kind & 0x01 != 0,
+        skip: bytes.len() - content.len(),
+    })
+}
+
 /// The frames that a payload consists of (RFC 9000 section 12.4). It is `Malformed` where the payload is no join of
 /// the frames that are read here: RESET_STREAM, STOP_SENDING, STREAM, MAX_DATA, MAX_STREAM_DATA, MAX_STREAMS,
 /// DATA_BLOCKED, STREAM_DATA_BLOCKED and DATAGRAM. A payload without bytes has no frames.
@@ -238,4 +294,27 @@ pub fn decode(alloc: Global, payload: &[u8]) -> Result<Vec<Frame>, DecodeError>
         rest = after;
     }
     Ok(frames)
+}
+
+/// The frames of a payload, as [`decode`] gives them. Where the payload is one STREAM frame, its data keep the memory of
+/// the payload, and no byte is copied.
+pub fn decode_owned(alloc: Global, payload: Vec<u8>) -> Result<Vec<Frame>, DecodeError>
+    ensures found { IfOk result (λ frames. AreFrames payload.items frames.items) }
+    ensures only { (fs : List FrameValue) → AreFrames payload.items fs → ReadsAs (λ frames. frames.items) result (Some fs) }
+    ensures within { IfOk result (λ frames. All (IsFrameWithin (length payload.items)) frames.items) }
+    ensures malformed { IsErrOf result DecodeError.Malformed → (fs : List FrameValue) → ¬ AreFrames payload.items fs }
+{
+    let Some(whole) = whole_stream(&payload) else {
+        return decode(alloc, &payload);
+    };
+    let mut bytes = Bytes::from(payload);
+    bytes.advance(whole.skip);
+    let mut one = Vec::new(alloc);
+    one.push(Frame::Stream(Stream {
+        id: whole.id,
+        offset: whole.offset,
+        fin: whole.fin,
+        bytes,
+    }))?;
+    Ok(one)
 }

@@ -4,7 +4,7 @@ ghost use Rattle.quic_wire.specs.Text.{CanEncode};
 use quic_wire::frame::{Crypto, Datagram, ResetStream, StopSending, Stream, StreamMeta};
 use quic_wire::{
     Bytes, DecodeError, Dir, Frame, OutOfMemory, ReceiveError, Side, StreamId, TransportError,
-    VarInt, decode,
+    VarInt, decode, decode_owned,
 };
 use std::alloc::Global;
 use std::fmt::Debug;
@@ -222,6 +222,50 @@ fn a_prefix_is_read_only_where_a_frame_ends(rt: HostRuntime) -> Result<(), Fail>
     Ok(())
 }
 
+// The same frames, or the same refusal, whether a payload is lent or given away.
+fn is_same_given_away(rt: &impl Abort, alloc: Global, payload: &[u8]) -> Result<(), Fail> {
+    let given = decode_owned(alloc, Vec::from_slice(alloc, payload)?);
+    match (decode(alloc, payload), given) {
+        (Ok(lent), Ok(given)) => is_true(rt, lent.as_slice() == given.as_slice()),
+        (Err(lent), Err(given)) => same(rt, lent, given),
+        (Ok(_), Err(error)) | (Err(error), Ok(_)) => same(rt, error, DecodeError::OutOfMemory),
+    }
+    Ok(())
+}
+
+#[test]
+fn a_payload_that_is_given_away_has_the_same_frames(rt: HostRuntime) -> Result<(), Fail> {
+    let alloc = rt.alloc();
+    let rows: [(u8, &[u8], u64, bool); 8] = [
+        (0x08, &[8], 0, false),
+        (0x09, &[8], 0, true),
+        (0x0a, &[8, 4], 0, false),
+        (0x0b, &[8, 4], 0, true),
+        (0x0c, &[8, 5], 5, false),
+        (0x0d, &[8, 5], 5, true),
+        (0x0e, &[8, 5, 4], 5, false),
+        (0x0f, &[8, 5, 4], 5, true),
+    ];
+    for length_bits in 0..4 {
+        for (kind, numbers, offset, fin) in rows {
+            let mut payload = Vec::new(alloc);
+            put_frame(&mut payload, length_bits, kind, numbers, b"data")?;
+            let frames = decode_owned(alloc, payload.clone()?)?;
+            let wanted = [stream(alloc, offset, fin, b"data")?];
+            same(&rt, frames.as_slice(), wanted.as_slice());
+            for len in 0..payload.len() {
+                is_same_given_away(&rt, alloc, payload.get(..len).unwrap_or_default())?;
+            }
+            put_frame(&mut payload, length_bits, 0x10, &[33], b"")?;
+            is_same_given_away(&rt, alloc, &payload)?;
+        }
+        let mut payload = Vec::new(alloc);
+        put_kinds(&mut payload, length_bits)?;
+        is_same_given_away(&rt, alloc, &payload)?;
+    }
+    Ok(())
+}
+
 #[test]
 fn of_single_bytes_only_an_empty_datagram_is_a_frame(rt: HostRuntime) -> Result<(), Fail> {
     for byte in 0..=255u8 {
@@ -424,6 +468,10 @@ fn decoded(alloc: Global, payload: &[u8]) -> Result<Vec<Frame>, DecodeError> {
     decode(alloc, payload)
 }
 
+fn decoded_whole(alloc: Global, payload: Vec<u8>) -> Result<Vec<Frame>, DecodeError> {
+    decode_owned(alloc, payload)
+}
+
 #[test]
 fn no_size_up_to_65537_is_refused(rt: HostRuntime) -> Result<(), Fail> {
     for power in 0..17u32 {
@@ -433,6 +481,8 @@ fn no_size_up_to_65537_is_refused(rt: HostRuntime) -> Result<(), Fail> {
             let wanted = [stream(rt.alloc(), 5, true, &content)?];
             let frames = decoded(rt.alloc(), &spelled(rt.alloc(), &content)?)?;
             assert!(rt; frames.as_slice() == wanted.as_slice(), "{size} bytes");
+            let given = decoded_whole(rt.alloc(), spelled(rt.alloc(), &content)?)?;
+            assert!(rt; given.as_slice() == wanted.as_slice(), "{size} bytes");
             let written = encoded(rt.alloc(), &content)?;
             assert!(rt; written.starts_with(&[0x0d, 8, 5]), "{size} bytes");
             assert!(rt; written.ends_with(&content), "{size} bytes");

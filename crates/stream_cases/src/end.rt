@@ -14,7 +14,7 @@ use quic_streams::stats::FrameStats;
 use quic_streams::streams::{ConnState, Streams};
 use quic_streams::{PeerLimits, Retransmits, StreamMetaVec, ThinRetransmits};
 use quic_values::{Dir, Side, StreamId, VarInt};
-use quic_wire::{Frame, StreamEvent, decode};
+use quic_wire::{Frame, StreamEvent, decode_owned};
 use std::alloc::Global;
 
 // Each window, and each limit of the peer but the number of streams.
@@ -162,9 +162,10 @@ impl End {
     }
 
     /// Takes a payload of the peer.
-    pub(crate) fn deliver(&mut self, payload: &[u8]) -> Result<(), Refused> {
-        for frame in decode(self.alloc, payload)? {
-            self.take(frame, payload.len())?;
+    pub(crate) fn deliver(&mut self, payload: Vec<u8>) -> Result<(), Refused> {
+        let payload_len = payload.len();
+        for frame in decode_owned(self.alloc, payload)? {
+            self.take(frame, payload_len)?;
         }
         let _ = self.streams.queue_max_stream_id(&mut self.pending);
         Ok(())

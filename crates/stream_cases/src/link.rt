@@ -106,7 +106,7 @@ impl Link {
             self.tally.to_server.see_next(&bytes);
             self.tally.payloads = self.tally.payloads.wrapping_add(1);
             if !lost {
-                self.server.deliver(&bytes)?;
+                self.server.deliver(bytes)?;
             }
             self.flight.push(InFlight { sent, lost })?;
         }
@@ -160,7 +160,7 @@ impl Link {
                 break 'payloads;
             }
             self.tally.to_client.see_next(&bytes);
-            self.client.deliver(&bytes)?;
+            self.client.deliver(bytes)?;
             self.server.acknowledge(sent)?;
         }
         Ok(())

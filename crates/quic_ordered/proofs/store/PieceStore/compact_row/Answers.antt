@@ -1,5 +1,5 @@
 use Rattle.quic_ordered.proofs.Compacting.{order_gathered_all, order_gathered_front, kept_gathered_all, kept_gathered_front}
-use Rattle.quic_ordered.proofs.store.PieceStore.compact.Goals as goal
+use Rattle.quic_ordered.proofs.store.PieceStore.compact_row.Goals as goal
 
 pub returns-in-Ok-clause-order : goal.returns-in-Ok-clause-order
 returns-in-Ok-clause-order c =
