@@ -20,8 +20,8 @@ use std::alloc::Global;
 // Each window, and each limit of the peer but the number of streams.
 const LIMIT: u32 = 1 << 20;
 
-// The most chunks that are read at once.
-const BATCH: u16 = 64;
+// The most chunks that are read at once. Their list is a small piece of memory.
+const BATCH: u16 = 24;
 
 /// An end, with what it has to send beside the data of streams.
 #[derive(Drop)]

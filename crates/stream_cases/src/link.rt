@@ -6,6 +6,7 @@ use crate::refused::Refused;
 use quic_values::{Side, StreamId};
 use quic_wire::StreamEvent;
 use std::alloc::Global;
+use std::collections::VecDeque;
 
 // The most payloads of the client in a turn.
 const BURST: usize = 32;
@@ -53,7 +54,7 @@ pub(crate) struct Link {
     network: Network,
     // How many bytes each stream has at most, where there are several.
     stream_len: u64,
-    flight: Vec<InFlight>,
+    flight: VecDeque<InFlight>,
     // The streams on which the server has something to read, in the order in which it was told.
     readable: Vec<StreamId>,
     tally: Tally,
@@ -72,7 +73,7 @@ impl Link {
             server: End::new(alloc, Side::Server, streams)?,
             network,
             stream_len,
-            flight: Vec::with_capacity(alloc, BURST)?,
+            flight: VecDeque::with_capacity(alloc, BURST)?,
             readable: Vec::new(alloc),
             tally: Tally::default(),
         })
@@ -108,7 +109,7 @@ impl Link {
             if !lost {
                 self.server.deliver(bytes)?;
             }
-            self.flight.push(InFlight { sent, lost })?;
+            self.flight.push_back(InFlight { sent, lost })?;
         }
         Ok(())
     }
@@ -167,7 +168,10 @@ impl Link {
     }
 
     fn report(&mut self) -> Result<(), Refused> {
-        for payload in self.flight.drain(..) {
+        for _ in 0..self.flight.len() {
+            let Some(payload) = self.flight.pop_front() else {
+                break;
+            };
             if payload.lost {
                 self.client.lose(payload.sent)?;
             } else {
