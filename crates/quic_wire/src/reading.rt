@@ -296,8 +296,8 @@ pub fn decode(alloc: Global, payload: &[u8]) -> Result<Vec<Frame>, DecodeError>
     Ok(frames)
 }
 
-/// The frames of a payload, as [`decode`] gives them. Where the payload is one STREAM frame, its data keep the memory of
-/// the payload, and no byte is copied.
+/// The frames of a payload, as [`decode`] gives them. Where the payload is one STREAM frame, and its vector has room for
+/// some fifth more bytes at most, the data of the frame keep that memory, and no byte is copied.
 pub fn decode_owned(alloc: Global, payload: Vec<u8>) -> Result<Vec<Frame>, DecodeError>
     ensures found { IfOk result (λ frames. AreFrames payload.items frames.items) }
     ensures only { (fs : List FrameValue) → AreFrames payload.items fs → ReadsAs (λ frames. frames.items) result (Some fs) }
@@ -307,6 +307,9 @@ pub fn decode_owned(alloc: Global, payload: Vec<u8>) -> Result<Vec<Frame>, Decod
     let Some(whole) = whole_stream(&payload) else {
         return decode(alloc, &payload);
     };
+    if payload.capacity() / 6 > payload.len() / 5 {
+        return decode(alloc, &payload);
+    }
     let mut bytes = Bytes::from(payload);
     bytes.advance(whole.skip);
     let mut one = Vec::new(alloc);
