@@ -15,3 +15,5 @@ pub mod Added
 pub mod Assembling
 pub mod Fronts
 pub mod Sweeping
+pub mod Chains
+pub mod Passing

@@ -22,15 +22,15 @@ use Rattle.quic_ordered.proofs.Compacting.{gathered_none, gathered_step, tidied_
 
 -- ---- entries of a map in order
 
-values_append : (xs ys : List (ℕ × PieceView)) → values_of (xs ++ ys) ≡ values_of xs ++ values_of ys
+pub values_append : (xs ys : List (ℕ × PieceView)) → values_of (xs ++ ys) ≡ values_of xs ++ values_of ys
 values_append [] ys = refl
 values_append (x ∷ xs) ys = ap (λ (vs : List PieceView). x.1 ∷ vs) (values_append xs ys)
 
-keyed_front : (xs ys : List (ℕ × PieceView)) → AreKeyed (xs ++ ys) → AreKeyed xs
+pub keyed_front : (xs ys : List (ℕ × PieceView)) → AreKeyed (xs ++ ys) → AreKeyed xs
 keyed_front [] ys k = tt
 keyed_front (x ∷ xs) ys k = (k.0, keyed_front xs ys k.1)
 
-keyed_behind : (xs ys : List (ℕ × PieceView)) → AreKeyed (xs ++ ys) → AreKeyed ys
+pub keyed_behind : (xs ys : List (ℕ × PieceView)) → AreKeyed (xs ++ ys) → AreKeyed ys
 keyed_behind [] ys k = k
 keyed_behind (x ∷ xs) ys k = keyed_behind xs ys k.1
 
@@ -45,7 +45,7 @@ all_above k low (e ∷ es) keyed h lt =
     let b = keyed.0 in
     (less k e.0 (omega arith), all_above k (run_end e.1) es keyed.1 h.2 (omega arith))
 
-rises_of : (low : ℕ) (es : List (ℕ × PieceView)) → AreKeyed es → LieInOrder low (values_of es) → RiseByKey es
+pub rises_of : (low : ℕ) (es : List (ℕ × PieceView)) → AreKeyed es → LieInOrder low (values_of es) → RiseByKey es
 unfolding IsStrictlySortedBy
 rises_of low [] keyed h = tt
 rises_of low (e ∷ es) keyed h =
@@ -53,7 +53,7 @@ rises_of low (e ∷ es) keyed h =
     let b = h.1 in
     (all_above e.0 (run_end e.1) es keyed.1 h.2 (omega arith), rises_of (run_end e.1) es keyed.1 h.2)
 
-found_above : (low : ℕ) (es : List (ℕ × PieceView)) (q : ℕ) (v : PieceView) → AreKeyed es → LieInOrder low (values_of es) → piece_at es q ≡ Some v → low ≤ q
+pub found_above : (low : ℕ) (es : List (ℕ × PieceView)) (q : ℕ) (v : PieceView) → AreKeyed es → LieInOrder low (values_of es) → piece_at es q ≡ Some v → low ≤ q
 found_above low [] q v keyed h found = absurd (none_some None v refl found)
 found_above low (e ∷ es) q v keyed h found =
     let a = h.0 in
@@ -69,7 +69,7 @@ skipped : (xs : List (ℕ × PieceView)) (k : ℕ) (v : PieceView) (ys : List (�
 skipped [] k v ys q ne = at_tail (k, v) ys q ne
 skipped (x ∷ xs) k v ys q ne = ap (λ (o : Option PieceView). cond (is_at (nat_cmp q) x.0) (Some x.1) o) (skipped xs k v ys q ne)
 
-found_here : (low : ℕ) (xs : List (ℕ × PieceView)) (k : ℕ) (v : PieceView) (ys : List (ℕ × PieceView)) → AreKeyed (xs ++ ((k, v) ∷ ys)) → LieInOrder low (values_of (xs ++ ((k, v) ∷ ys))) → piece_at (xs ++ ((k, v) ∷ ys)) k ≡ Some v
+pub found_here : (low : ℕ) (xs : List (ℕ × PieceView)) (k : ℕ) (v : PieceView) (ys : List (ℕ × PieceView)) → AreKeyed (xs ++ ((k, v) ∷ ys)) → LieInOrder low (values_of (xs ++ ((k, v) ∷ ys))) → piece_at (xs ++ ((k, v) ∷ ys)) k ≡ Some v
 found_here low [] k v ys keyed h = at_head (k, v) ys
 found_here low (x ∷ xs) k v ys keyed h =
     let i = found_here (run_end x.1) xs k v ys keyed.1 h.2 in
@@ -92,7 +92,7 @@ found_none low (x ∷ xs) k v ys keyed h =
     let b = h.1 in
     at_tail x (xs ++ ys) k (λ s. omega arith) ∙ found_none (run_end x.1) xs k v ys keyed.1 h.2
 
-found_in : (xs ys : List (ℕ × PieceView)) (q : ℕ) (v : PieceView) → piece_at (xs ++ ys) q ≡ Some v → (piece_at xs q ≡ Some v) ⊎ (piece_at ys q ≡ Some v)
+pub found_in : (xs ys : List (ℕ × PieceView)) (q : ℕ) (v : PieceView) → piece_at (xs ++ ys) q ≡ Some v → (piece_at xs q ≡ Some v) ⊎ (piece_at ys q ≡ Some v)
 found_in [] ys q v found = inr found
 found_in (x ∷ xs) ys q v found =
     elim (found_head x (xs ++ ys) q v found) [
@@ -111,14 +111,14 @@ found_in (x ∷ xs) ys q v found =
 
 -- ---- the order of what is swept
 
-swept_order : (all : List PieceView) (last : Option ℕ) (end : ℕ) (es : List (ℕ × PieceView)) (s : IsSwept all last end es) → LieInOrder 0 (values_of (s.done ++ s.rest))
+pub swept_order : (all : List PieceView) (last : Option ℕ) (end : ℕ) (es : List (ℕ × PieceView)) (s : IsSwept all last end es) → LieInOrder 0 (values_of (s.done ++ s.rest))
 swept_order all last end es s = subst (LieInOrder 0) (sym (values_append s.done s.rest)) s.gathered.order
 
-swept_keyed : (all : List PieceView) (last : Option ℕ) (end : ℕ) (es : List (ℕ × PieceView)) (s : IsSwept all last end es) → AreKeyed (s.done ++ s.rest)
+pub swept_keyed : (all : List PieceView) (last : Option ℕ) (end : ℕ) (es : List (ℕ × PieceView)) (s : IsSwept all last end es) → AreKeyed (s.done ++ s.rest)
 swept_keyed all last end es s = subst AreKeyed s.is s.keyed
 
 -- what is done ends by `end`
-done_ends : (last : Option ℕ) (end : ℕ) (done : List (ℕ × PieceView)) → EndsWith last end done → LieInOrder 0 (values_of done) → All (λ (r : PieceView). run_end r ≤ end) (values_of done)
+pub done_ends : (last : Option ℕ) (end : ℕ) (done : List (ℕ × PieceView)) → EndsWith last end done → LieInOrder 0 (values_of done) → All (λ (r : PieceView). run_end r ≤ end) (values_of done)
 done_ends None end done at h = subst (λ (es : List (ℕ × PieceView)). All (λ (r : PieceView). run_end r ≤ end) (values_of es)) (sym at.0) (All-nil (λ (r : PieceView). run_end r ≤ end))
 done_ends (Some base) end done at h =
     let e : values_of done ≡ values_of at.0 ++ at.1 ∷ [] = ap (λ (es : List (ℕ × PieceView)). values_of es) at.2 ∙ values_append at.0 ((base, at.1) ∷ []) in
@@ -130,7 +130,7 @@ begins_behind low [] last p rest h = h.2.0
 begins_behind low (x ∷ xs) last p rest h = begins_behind (run_end x) xs last p rest h.2
 
 -- what is left begins from `end` on
-rest_begins : (last : Option ℕ) (end : ℕ) (done : List (ℕ × PieceView)) (p : PieceView) (rest : List PieceView) → EndsWith last end done → LieInOrder 0 (values_of done ++ (p ∷ rest)) → end ≤ p.offset
+pub rest_begins : (last : Option ℕ) (end : ℕ) (done : List (ℕ × PieceView)) (p : PieceView) (rest : List PieceView) → EndsWith last end done → LieInOrder 0 (values_of done ++ (p ∷ rest)) → end ≤ p.offset
 rest_begins None end done p rest at h = let m = at.1 in omega arith
 rest_begins (Some base) end done p rest at h =
     let e : values_of done ≡ values_of at.0 ++ at.1 ∷ [] = ap (λ (es : List (ℕ × PieceView)). values_of es) at.2 ∙ values_append at.0 ((base, at.1) ∷ []) in
@@ -139,7 +139,7 @@ rest_begins (Some base) end done p rest at h =
     omega arith
 
 -- a piece from `end` on is not done
-not_done : (all : List PieceView) (last : Option ℕ) (end : ℕ) (es : List (ℕ × PieceView)) (s : IsSwept all last end es) (q : ℕ) (v : PieceView) → end ≤ q → piece_at s.done q ≡ Some v → ⊥
+pub not_done : (all : List PieceView) (last : Option ℕ) (end : ℕ) (es : List (ℕ × PieceView)) (s : IsSwept all last end es) (q : ℕ) (v : PieceView) → end ≤ q → piece_at s.done q ≡ Some v → ⊥
 not_done all last end es s q v le found =
     let order = order_front 0 (values_of s.done) (values_of s.rest) s.gathered.order in
     let ends = value_at (λ (r : PieceView). run_end r ≤ end) s.done q v (done_ends last end s.done s.at order) found in
@@ -252,9 +252,15 @@ puts (Some base) end done p at apart =
     some_none : (x : ℕ) → Some x ≡ None → ⊥
     some_none x k = cc
 
-pub swept_put : (all : List PieceView) (last : Option ℕ) (end : ℕ) (es es' : List (ℕ × PieceView)) (start stop : ℕ) (little : Bool) → IsSwept all last end es → IsNextPiece es start stop little end → RiseByKey es'
-    → ((v : PieceView) → piece_at es start ≡ Some v → piece_at es' start ≡ Some (tidied v)) → ((q : ℕ) → (q ≡ start → ⊥) → piece_at es' q ≡ piece_at es q) → (last ≡ None) ⊎ (end ≢ start) → IsSwept all (Some start) stop es'
-swept_put all last end es es' start stop little s n rises here others apart =
+-- a map in which one step more is done
+pub record Steps (all : List PieceView) (base stop : ℕ) : Type 0 where
+  pub map : List (ℕ × PieceView)
+  pub swept : IsSwept all (Some base) stop map
+  pub rises : RiseByKey map
+
+pub put_list : (all : List PieceView) (last : Option ℕ) (end : ℕ) (es : List (ℕ × PieceView)) (start stop : ℕ) (little : Bool) → IsSwept all last end es → (n : IsNextPiece es start stop little end) → (last ≡ None) ⊎ (end ≢ start)
+    → (t : Steps all start stop) × (piece_at t.map start ≡ Some (tidied n.run)) × ((q : ℕ) → (q ≡ start → ⊥) → piece_at t.map q ≡ piece_at es q)
+put_list all last end es start stop little s n apart =
     let l = next_left all last end es start stop little s n in
     let left = l.0 in
     let run = n.run in
@@ -269,25 +275,38 @@ swept_put all last end es es' start stop little s n rises here others apart =
       | inr ne ↦ inr (λ same. ne (same ∙ key))
     ])) in
     let done' = s.done ++ (start, tidied run) ∷ [] in
+    let map = s.done ++ ((start, tidied run) ∷ left) in
     let v : values_of done' ≡ values_of s.done ++ tidied run ∷ [] = values_append s.done ((start, tidied run) ∷ []) in
-    let a : done' ++ left ≡ s.done ++ ((start, tidied run) ∷ left) = append_assoc s.done ((start, tidied run) ∷ []) left in
-    let keyed' : AreKeyed (s.done ++ ((start, tidied run) ∷ left)) = keyed_join s.done ((start, tidied run) ∷ left) (keyed_front s.done ((start, run) ∷ left) keyed) (t.0 ∙ key, (keyed_behind s.done ((start, run) ∷ left) keyed).1) in
+    let a : done' ++ left ≡ map = append_assoc s.done ((start, tidied run) ∷ []) left in
+    let keyed' : AreKeyed map = keyed_join s.done ((start, tidied run) ∷ left) (keyed_front s.done ((start, run) ∷ left) keyed) (t.0 ∙ key, (keyed_behind s.done ((start, run) ∷ left) keyed).1) in
     let gathered : IsGathered all (values_of done') (values_of left) = subst (λ (vs : List PieceView). IsGathered all vs (values_of left)) (sym v) step in
-    let order' : LieInOrder 0 (values_of (s.done ++ ((start, tidied run) ∷ left))) = subst (λ (xs : List (ℕ × PieceView)). LieInOrder 0 (values_of xs)) a (subst (LieInOrder 0) (sym (values_append done' left)) gathered.order) in
-    let found : piece_at es start ≡ Some run = n.found in
-    let same : es' ≡ s.done ++ ((start, tidied run) ∷ left) = same_map es' (s.done ++ ((start, tidied run) ∷ left)) rises (rises_of 0 (s.done ++ ((start, tidied run) ∷ left)) keyed' order') (λ q.
+    let order' : LieInOrder 0 (values_of map) = subst (λ (xs : List (ℕ × PieceView)). LieInOrder 0 (values_of xs)) a (subst (LieInOrder 0) (sym (values_append done' left)) gathered.order) in (
+      record {
+        map = map;
+        swept = record {
+          done = done';
+          rest = left;
+          is = sym a;
+          keyed = keyed';
+          gathered = gathered;
+          at = (s.done, tidied run, refl, (let m = n.ends in let o = t.0 in let b = ap (λ (bs : List ℕ). length bs) t.1 in omega arith));
+        };
+        rises = rises_of 0 map keyed' order';
+      },
+      found_here 0 s.done start (tidied run) left keyed' order',
+      λ q ne. skipped s.done start (tidied run) left q ne ∙ (sym (skipped s.done start run left q ne) ∙ ap (λ (xs : List (ℕ × PieceView)). piece_at xs q) (sym is)),
+    )
+
+pub swept_put : (all : List PieceView) (last : Option ℕ) (end : ℕ) (es es' : List (ℕ × PieceView)) (start stop : ℕ) (little : Bool) → IsSwept all last end es → IsNextPiece es start stop little end → RiseByKey es'
+    → ((v : PieceView) → piece_at es start ≡ Some v → piece_at es' start ≡ Some (tidied v)) → ((q : ℕ) → (q ≡ start → ⊥) → piece_at es' q ≡ piece_at es q) → (last ≡ None) ⊎ (end ≢ start) → IsSwept all (Some start) stop es'
+swept_put all last end es es' start stop little s n rises here others apart =
+    let p = put_list all last end es start stop little s n apart in
+    let same : es' ≡ p.0.map = same_map es' p.0.map rises p.0.rises (λ q.
     elim (cases_eq q start) [
-      | inl e ↦ ap (piece_at es') e ∙ (here run found ∙ (sym (found_here 0 s.done start (tidied run) left keyed' order') ∙ ap (piece_at (s.done ++ ((start, tidied run) ∷ left))) (sym e)))
-      | inr ne ↦ others q ne ∙ (ap (λ (xs : List (ℕ × PieceView)). piece_at xs q) is ∙ (skipped s.done start run left q ne ∙ sym (skipped s.done start (tidied run) left q ne)))
+      | inl e ↦ ap (piece_at es') e ∙ (here n.run n.found ∙ (sym p.1 ∙ ap (piece_at p.0.map) (sym e)))
+      | inr ne ↦ others q ne ∙ sym (p.2 q ne)
     ]) in
-    record {
-      done = done';
-      rest = left;
-      is = same ∙ sym a;
-      keyed = subst AreKeyed (sym same) keyed';
-      gathered = gathered;
-      at = (s.done, tidied run, refl, (let m = n.ends in let o = t.0 in let b = ap (λ (bs : List ℕ). length bs) t.1 in omega arith));
-    }
+    subst (IsSwept all (Some start) stop) (sym same) p.0.swept
 
 -- a piece that keeps little memory alive stays as it is
 pub little_same : (es : List (ℕ × PieceView)) (start stop end : ℕ) → IsNextPiece es start stop true end → (v : PieceView) → piece_at es start ≡ Some v → piece_at es start ≡ Some (tidied v)
@@ -296,10 +315,10 @@ little_same es start stop end n v found =
     let t : nat_le v.allocation_size (length v.bytes * 6 / 5) ≡ true = subst (λ (r : PieceView). nat_le r.allocation_size (length r.bytes * 6 / 5) ≡ true) one (sym n.is_little) in
     found ∙ sym (ap (λ (b : Bool). Some (cond b v (record v { allocation_size = length v.bytes }))) t)
 
-pub swept_join : (all : List PieceView) (base end : ℕ) (es es' : List (ℕ × PieceView)) (start stop : ℕ) (little : Bool) → IsSwept all (Some base) end es → IsNextPiece es start stop little end → end ≡ start → RiseByKey es'
-    → ((v w : PieceView) → piece_at es base ≡ Some v → piece_at es start ≡ Some w → piece_at es' base ≡ Some (joined_with v w)) → piece_at es' start ≡ None
-    → ((q : ℕ) → (q ≡ base → ⊥) → (q ≡ start → ⊥) → piece_at es' q ≡ piece_at es q) → IsSwept all (Some base) stop es'
-swept_join all base end es es' start stop little s n touch rises here gone others =
+pub join_list : (all : List PieceView) (base end : ℕ) (es : List (ℕ × PieceView)) (start stop : ℕ) (little : Bool) → IsSwept all (Some base) end es → (n : IsNextPiece es start stop little end) → end ≡ start
+    → (t : Steps all base stop) × ((v : PieceView) → piece_at es base ≡ Some v → piece_at t.map base ≡ Some (joined_with v n.run)) × (piece_at t.map start ≡ None)
+    × ((q : ℕ) → (q ≡ base → ⊥) → (q ≡ start → ⊥) → piece_at t.map q ≡ piece_at es q)
+join_list all base end es start stop little s n touch =
     let l = next_left all (Some base) end es start stop little s n in
     let left = l.0 in
     let run = n.run in
@@ -319,37 +338,38 @@ swept_join all base end es es' start stop little s n touch rises here gone other
     let j : JoinsLast (values_of s.done) run (values_of front ++ joined ∷ []) = record { case = inr (values_of front, piece, v, inl (sym ends ∙ (touch ∙ sym key-run), refl)) } in
     let step = gathered_step all (values_of s.done) (values_of front ++ joined ∷ []) (values_of left) run g j in
     let done' = front ++ (base, joined) ∷ [] in
+    let map = front ++ ((base, joined) ∷ left) in
     let w : values_of done' ≡ values_of front ++ joined ∷ [] = values_append front ((base, joined) ∷ []) in
-    let a : done' ++ left ≡ front ++ ((base, joined) ∷ left) = append_assoc front ((base, joined) ∷ []) left in
+    let a : done' ++ left ≡ map = append_assoc front ((base, joined) ∷ []) left in
     let gathered : IsGathered all (values_of done') (values_of left) = subst (λ (vs : List PieceView). IsGathered all vs (values_of left)) (sym w) step in
-    let keyed' : AreKeyed (front ++ ((base, joined) ∷ left)) = keyed_join front ((base, joined) ∷ left) (keyed_front front ((base, piece) ∷ ((start, run) ∷ left)) keyed) (key, behind.1.1) in
-    let order' : LieInOrder 0 (values_of (front ++ ((base, joined) ∷ left))) = subst (λ (xs : List (ℕ × PieceView)). LieInOrder 0 (values_of xs)) a (subst (LieInOrder 0) (sym (values_append done' left)) gathered.order) in
+    let keyed' : AreKeyed map = keyed_join front ((base, joined) ∷ left) (keyed_front front ((base, piece) ∷ ((start, run) ∷ left)) keyed) (key, behind.1.1) in
+    let order' : LieInOrder 0 (values_of map) = subst (λ (xs : List (ℕ × PieceView)). LieInOrder 0 (values_of xs)) a (subst (LieInOrder 0) (sym (values_append done' left)) gathered.order) in
     let found = ap (λ (xs : List (ℕ × PieceView)). piece_at xs base) is ∙ found_here 0 front base piece ((start, run) ∷ left) keyed order in
-    let some = (swept_base all base end es s).4 in
     let apart : start ≡ base → ⊥ = λ e. let b = swept_base all base end es s in omega (arith, b.2, b.3, b.4, touch, e) in
     let two : front ++ ((base, piece) ∷ ((start, run) ∷ left)) ≡ (front ++ (base, piece) ∷ []) ++ ((start, run) ∷ left) = sym (append_assoc front ((base, piece) ∷ []) ((start, run) ∷ left)) in
-    let none : piece_at (front ++ ((base, joined) ∷ left)) start ≡ None =
+    let none : piece_at map start ≡ None =
     skipped front base joined left start apart
     ∙ (sym (skipped front base piece left start apart)
     ∙ (ap (λ (xs : List (ℕ × PieceView)). piece_at xs start) (sym (append_assoc front ((base, piece) ∷ []) left))
-    ∙ found_none 0 (front ++ (base, piece) ∷ []) start run left (subst AreKeyed two keyed) (subst (λ (xs : List (ℕ × PieceView)). LieInOrder 0 (values_of xs)) two order))) in
-    let same : es' ≡ front ++ ((base, joined) ∷ left) = same_map es' (front ++ ((base, joined) ∷ left)) rises (rises_of 0 (front ++ ((base, joined) ∷ left)) keyed' order') (λ q.
-    elim (cases_eq q base) [
-      | inl e ↦ ap (piece_at es') e ∙ (here piece run found n.found ∙ (sym (found_here 0 front base joined left keyed' order') ∙ ap (piece_at (front ++ ((base, joined) ∷ left))) (sym e)))
-      | inr ne ↦ elim (cases_eq q start) [
-        | inl e ↦ ap (piece_at es') e ∙ (gone ∙ (sym none ∙ ap (piece_at (front ++ ((base, joined) ∷ left))) (sym e)))
-        | inr ns ↦ others q ne ns ∙ (ap (λ (xs : List (ℕ × PieceView)). piece_at xs q) is
-            ∙ (skipped front base piece ((start, run) ∷ left) q ne ∙ (skipped front start run left q ns ∙ sym (skipped front base joined left q ne))))
-      ]
-    ]) in
-    record {
-      done = done';
-      rest = left;
-      is = same ∙ sym a;
-      keyed = subst AreKeyed (sym same) keyed';
-      gathered = gathered;
-      at = (front, joined, refl, (let m = n.ends in omega (arith, m, len, ends, touch, key-run)));
-    }
+    ∙ found_none 0 (front ++ (base, piece) ∷ []) start run left (subst AreKeyed two keyed) (subst (λ (xs : List (ℕ × PieceView)). LieInOrder 0 (values_of xs)) two order))) in (
+      record {
+        map = map;
+        swept = record {
+          done = done';
+          rest = left;
+          is = sym a;
+          keyed = keyed';
+          gathered = gathered;
+          at = (front, joined, refl, (let m = n.ends in omega (arith, m, len, ends, touch, key-run)));
+        };
+        rises = rises_of 0 map keyed' order';
+      },
+      λ u at. found_here 0 front base joined left keyed' order' ∙ ap (λ (p : PieceView). Some (joined_with p run)) (some_is (piece_at es base) piece u found at),
+      none,
+      λ q ne ns. skipped front base joined left q ne
+          ∙ (sym (skipped front base piece ((start, run) ∷ left) q ne ∙ skipped front start run left q ns)
+          ∙ ap (λ (xs : List (ℕ × PieceView)). piece_at xs q) (sym is)),
+    )
 
 -- ---- a map, and behind it no row
 

@@ -72,7 +72,7 @@ fn base_of(
 }
 
 // Puts a piece back at an offset, at which an empty one kept its place, or takes that out.
-pub(crate) fn put_back(pieces: &mut PieceMap, offset: u64, piece: Option<Piece>)
+fn put_back(pieces: &mut PieceMap, offset: u64, piece: Option<Piece>)
     requires slot { piece_at pieces.old offset ≡ None → ⊥ }
     requires at { IfSome piece (λ p. p.offset ≡ offset) }
     ensures here { piece_at pieces.new offset ≡ piece }
@@ -90,7 +90,7 @@ pub(crate) fn put_back(pieces: &mut PieceMap, offset: u64, piece: Option<Piece>)
 }
 
 // Takes out the piece that begins at an offset, and leaves an empty one there.
-pub(crate) fn lift(pieces: &mut PieceMap, offset: u64, alloc: Global) -> Piece
+fn lift(pieces: &mut PieceMap, offset: u64, alloc: Global) -> Piece
     requires here { (v : PieceView) × (piece_at pieces.old offset ≡ Some v) }
     requires bound { offset < 2 ^ 62 }
     ensures value { piece_at pieces.old offset ≡ Some result }

@@ -1,14 +1,13 @@
 // Pieces by the offsets at which they begin, with their sums.
-ghost use Rattle.std.specs.Prelude.{◌≡◌, ℕ, ◌+◌, ◌-◌, ◌^◌, ◌<◌, ◌≤◌, [], ◌∷◌, ◌++◌, length, sum_by, IfOk, OnOk, OnErr, IfSome, IfNone, IsSome, Some, None, is_some, if◌then◌else◌, IfErr};
+ghost use Rattle.std.specs.Prelude.{List, ◌≡◌, ℕ, ◌+◌, ◌-◌, ◌^◌, ◌<◌, ◌≤◌, [], ◌∷◌, ◌++◌, length, sum_by, IfOk, OnOk, OnErr, IfSome, IfNone, IsSome, Some, None, is_some, if◌then◌else◌, IfErr};
 ghost use Rattle.std.specs.Map.{values_of, keys_of};
 ghost use Rattle.std.specs.List.{All};
 ghost use Rattle.std.specs.BTreeMap.{insert_entry};
 ghost use Rattle.std.specs.Ordering.{nat_cmp};
 ghost use Rattle.quic_assembler.specs.Piece.{PieceView, run_end, run_length, run_allocation};
-ghost use Rattle.quic_ordered.specs.Entries.{piece_at, NoPieceBegins, IsLastPiece, IsFirstPiece};
-ghost use Rattle.std.specs.Option.{option_map};
+ghost use Rattle.quic_ordered.specs.Entries.{piece_at, piece_of, NoPieceBegins, IsLastPiece, IsFirstPiece};
 ghost use Rattle.quic_ordered.specs.Rows.{RiseByKey, FitsWords, tidied, joined_with};
-ghost use Rattle.quic_ordered.specs.Sweeping.{IsNextPiece};
+ghost use Rattle.quic_ordered.specs.Sweeping.{IsSwept, IsNextRun};
 
 use crate::piece::Piece;
 use quic_values::OutOfMemory;
@@ -17,12 +16,36 @@ use std::collections::BTreeMap;
 use std::marker::Model;
 use std::mem;
 
-/// Where a piece begins and ends, and whether it keeps at most a fifth more memory alive than it has bytes.
+/// A piece, and behind it those that touch, one behind another, from its end on up to an offset.
 #[derive(Clone, Copy)]
-pub(crate) struct Place {
-    pub start: u64,
+pub(crate) struct Run {
+    pub base: u64,
+    pub from: u64,
+    pub stop: u64,
+}
+
+/// Where the last piece that is done begins and ends, and what is to be done next, if something is.
+#[derive(Clone, Copy)]
+pub(crate) struct Passed {
+    pub last: Option<u64>,
     pub end: u64,
-    pub little: bool,
+    pub next: Option<Run>,
+}
+
+impl Run {
+    fn new(base: u64, from: u64, stop: u64) -> Self
+        ensures { result ≡ record { base = base; from = from; stop = stop } }
+    {
+        Run { base, from, stop }
+    }
+}
+
+impl Passed {
+    fn new(last: Option<u64>, end: u64, next: Option<Run>) -> Self
+        ensures { result ≡ record { last = last; end = end; next = next } }
+    {
+        Passed { last, end, next }
+    }
 }
 
 #[derive(Drop)]
@@ -115,27 +138,50 @@ impl PieceMap {
         }
     }
 
-    /// The first piece that begins at `n` or behind it.
-    pub(crate) fn next_from(&self, n: u64) -> Option<Place>
-        ensures found { IfSome result (λ place. IsNextPiece self.now place.start place.end place.little n) }
-        ensures none { IfNone result ((q : ℕ) → n ≤ q → piece_at self.now q ≡ None) }
-        ensures bound { IfSome result (λ place. place.end < 2 ^ 62) }
+    /// Passes over the pieces from `end` on that are to stay as they are, up to the first that touches the one before it
+    /// or keeps much memory alive. Copies the bytes of those that touch it, one behind another.
+    pub(crate) fn pass_over(
+        &self,
+        last: Option<u64>,
+        end: u64,
+        bytes: &mut Vec<u8>,
+    ) -> Result<Passed, OutOfMemory>
+        requires { (all : List PieceView) × IsSwept all last end self.now }
+        ensures swept { IfOk result (λ passed. (all : List PieceView) → IsSwept all last end self.now → IsSwept all passed.last passed.end self.now) }
+        ensures found { IfOk result (λ passed. IfSome passed.next (λ run. IsNextRun self.now passed.last passed.end run.base run.from run.stop bytes.new.items)) }
+        ensures none { IfOk result (λ passed. IfNone passed.next ((q : ℕ) → passed.end ≤ q → piece_at self.now q ≡ None)) }
+        ensures on { IfOk result (λ passed. end ≤ passed.end) }
     {
-        match self.pieces.range(n..).next() {
-            Some((start, piece)) => Some(Place {
-                start: *start,
-                end: piece.end(),
-                little: piece.is_little(),
-            }),
-            None => None,
+        bytes.clear();
+        let (mut last, mut floor) = (last, end);
+        let mut found: Option<Run> = None;
+        for (start, piece) in self.pieces.range(end..) {
+            let stop = piece.end();
+            match found {
+                None => match last {
+                    Some(base) if floor == *start => {
+                        bytes.extend_from_slice(piece.as_slice())?;
+                        found = Some(Run::new(base, floor, stop));
+                    }
+                    _ => {
+                        if piece.is_little() {
+                            last = Some(*start);
+                            floor = stop;
+                        } else {
+                            found = Some(Run::new(*start, stop, stop));
+                        }
+                    }
+                },
+                Some(run) => {
+                    if run.stop != *start {
+                        return Ok(Passed::new(last, floor, found));
+                    }
+                    bytes.extend_from_slice(piece.as_slice())?;
+                    found = Some(Run { stop, ..run });
+                }
+            }
         }
-    }
-
-    /// The piece that begins at an offset.
-    pub(crate) fn get(&self, offset: u64) -> Option<&Piece>
-        ensures { option_map (λ piece. piece.now) result ≡ piece_at self.now offset }
-    {
-        self.pieces.get(&offset)
+        Ok(Passed::new(last, floor, found))
     }
 
     /// Puts a piece at its offset, and gives the one that stood there. Memory is wanted only where none did.
@@ -209,21 +255,20 @@ impl PieceMap {
         }
     }
 
-    /// Appends the bytes of another to the piece that begins at an offset and ends where they begin. If refused, all is
-    /// as it was.
-    pub(crate) fn append(&mut self, offset: u64, next: &Piece) -> Result<(), OutOfMemory>
-        requires { (v : PieceView) × (piece_at self.old offset ≡ Some v) × (run_end v ≡ next.now.offset) }
-        ensures joined { OnOk result ((v : PieceView) → piece_at self.old offset ≡ Some v → piece_at self.new offset ≡ Some (joined_with v next.now)) }
+    /// Appends bytes to the piece that begins at an offset. If refused, all is as it was.
+    pub(crate) fn append(&mut self, offset: u64, bytes: &[u8]) -> Result<(), OutOfMemory>
+        requires { (v : PieceView) × (piece_at self.old offset ≡ Some v) × (run_end v + length bytes.now < 2 ^ 62) }
+        ensures joined { OnOk result ((v : PieceView) → piece_at self.old offset ≡ Some v → piece_at self.new offset ≡ Some (joined_with v (piece_of 0 bytes.now 0))) }
         ensures others { (q : ℕ) → (q ≡ offset → ⊥) → piece_at self.new q ≡ piece_at self.old q }
         ensures err { OnErr result (self.new ≡ self.old) }
         ensures rises { RiseByKey self.new }
     {
         let _count = self.pieces.len();
-        let length = next.len() as u128;
+        let length = bytes.len() as u128;
         match self.pieces.get_mut(&offset) {
             Some(piece) => {
                 let before = piece.allocation_size() as u128;
-                piece.append(next)?;
+                piece.append_bytes(bytes)?;
                 let _end = piece.end();
                 self.total += length;
                 self.allocated = self.allocated + piece.allocation_size() as u128 - before;
@@ -234,6 +279,7 @@ impl PieceMap {
     }
 
     /// Takes the piece that begins at an offset out.
+    #[inline]
     pub(crate) fn remove(&mut self, offset: u64) -> Option<Piece>
         ensures value { result ≡ piece_at self.old offset }
         ensures gone { piece_at self.new offset ≡ None }

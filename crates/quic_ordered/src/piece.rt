@@ -49,6 +49,17 @@ fn copy_behind(room: usize, bytes: &[u8], alloc: Global) -> Result<Vec<u8>, OutO
     Ok(content)
 }
 
+// Bytes, and others behind them.
+fn joined(first: &[u8], second: &[u8], alloc: Global) -> Result<Vec<u8>, OutOfMemory>
+    requires { length first.now + length second.now < 2 ^ 64 }
+    ensures { IfOk result (λ v. v.items ≡ first.now ++ second.now) }
+{
+    let mut content = Vec::with_capacity(alloc, first.len() + second.len())?;
+    content.extend_from_slice(first)?;
+    content.extend_from_slice(second)?;
+    Ok(content)
+}
+
 impl Piece {
     #[inline]
     pub(crate) fn new(offset: u64, bytes: Bytes, allocation_size: usize) -> Self
@@ -242,6 +253,22 @@ impl Piece {
     {
         let _end = next.end();
         self.content.extend_from_slice(next.as_slice())?;
+        self.allocation_size = self.content.len() - self.start;
+        Ok(())
+    }
+
+    /// Appends bytes. If refused, all is as it was. Where it keeps much more memory alive than its bytes take, it moves.
+    pub(crate) fn append_bytes(&mut self, bytes: &[u8]) -> Result<(), OutOfMemory>
+        requires { run_end self.old + length bytes.now < 2 ^ 62 }
+        ensures ok { OnOk result (self.new ≡ joined_with self.old (piece_of 0 bytes.now 0)) }
+        ensures err { OnErr result (self.new ≡ self.old) }
+    {
+        if self.is_little() {
+            self.content.extend_from_slice(bytes)?;
+        } else {
+            self.content = joined(self.as_slice(), bytes, *self.content.allocator())?;
+            self.start = 0;
+        }
         self.allocation_size = self.content.len() - self.start;
         Ok(())
     }

@@ -1,20 +1,64 @@
-use Rattle.std.proofs.Common.{arith}
+use Rattle.std.proofs.Common.{◌≡◌, Option, Some, None, arith, subst, refl}
+use Rattle.std.specs.Prelude.{IfSome, IfNone}
 use Rattle.std.specs.Map.{values_of}
-use Rattle.quic_ordered.proofs.Sweeping.{swept_none, swept_all, next_ends}
+use Rattle.quic_ordered.specs.declared.map.Run.{Run}
+use Rattle.quic_ordered.specs.Sweeping.{IsNextRun}
+use Rattle.quic_ordered.proofs.Sweeping.{swept_none, swept_all}
+use Rattle.quic_ordered.proofs.Chains.{swept_map, run_base, run_on, run_done}
 use Rattle.quic_ordered.proofs.compaction.compact.Goals as goal
 
-pub loop-next-init : goal.loop-next-init
-loop-next-init c = record { swept = swept_none c.args.pieces.now c.requires.keyed c.requires.order; rises = c.len-count.ensures.rises }
+left_none : {A : Type 0} {P : Type 0} (o : Option A) → ((x : A) → o ≡ Some x → ⊥) → IfNone o P → P
+left_none None not h = h
+left_none (Some x) not h = absurd (not x refl)
 
-pub loop-next-smaller : goal.loop-next-smaller
-loop-next-smaller c =
-    let n = c.in-Some.ensures.found in
-    let e = next_ends (values_of c.args.pieces.now) c.loop-next.last c.loop-next.end c.loop-next.pieces c.in-Some.next.start c.in-Some.next.end c.in-Some.next.little c.loop-next.invariant.swept n in
-    let b = c.in-Some.ensures.bound in
-    omega (arith, e.0, e.1, b)
+pub loop-bytes-init : goal.loop-bytes-init
+loop-bytes-init c = record { swept = swept_none c.args.pieces.now c.requires.keyed c.requires.order; rises = c.len-count.ensures.rises }
 
-pub returns-clause-apart : goal.returns-clause-apart
-returns-clause-apart c = (swept_all (values_of c.args.pieces.now) c.loop-next.last c.loop-next.end c.loop-next.pieces c.loop-next.invariant.swept c.in_default.ensures.none).0
+pub join_run-requires-clause-map : goal.join_run-requires-clause-map
+join_run-requires-clause-map c = swept_map (values_of c.args.pieces.now) c.loop-bytes.last c.loop-bytes.end c.loop-bytes.pieces c.loop-bytes.invariant.swept
 
-pub returns-clause-tidy : goal.returns-clause-tidy
-returns-clause-tidy c = (swept_all (values_of c.args.pieces.now) c.loop-next.last c.loop-next.end c.loop-next.pieces c.loop-next.invariant.swept c.in_default.ensures.none).1
+pub join_run-requires-clause-base : goal.join_run-requires-clause-base
+join_run-requires-clause-base c =
+    let p = c.in_ok-passed.passed in
+    let es = c.loop-bytes.pieces in
+    let bytes = c.pass_over.new.bytes.items in
+    let r = subst (λ (o : Option Run). IfSome o (λ run. IsNextRun es p.last p.end run.base run.from run.stop bytes)) c.in-Some.is c.in_ok-passed.ensures.found in
+    let s = c.in_ok-passed.ensures.swept (values_of c.args.pieces.now) c.loop-bytes.invariant.swept in
+    run_base (values_of c.args.pieces.now) p.last p.end es c.in-Some.run'.base c.in-Some.run'.from c.in-Some.run'.stop bytes s r
+
+pub loop-bytes-smaller : goal.loop-bytes-smaller
+loop-bytes-smaller c =
+    let p = c.in_ok-passed.passed in
+    let es = c.loop-bytes.pieces in
+    let bytes = c.pass_over.new.bytes.items in
+    let r = subst (λ (o : Option Run). IfSome o (λ run. IsNextRun es p.last p.end run.base run.from run.stop bytes)) c.in-Some.is c.in_ok-passed.ensures.found in
+    let s = c.in_ok-passed.ensures.swept (values_of c.args.pieces.now) c.loop-bytes.invariant.swept in
+    let more = run_on (values_of c.args.pieces.now) p.last p.end es c.in-Some.run'.base c.in-Some.run'.from c.in-Some.run'.stop bytes s r in
+    let on = c.in_ok-passed.ensures.on in
+    let bound = r.bound in
+    omega (arith, more, on, bound)
+
+pub loop-bytes-preserved : goal.loop-bytes-preserved
+loop-bytes-preserved c =
+    let p = c.in_ok-passed.passed in
+    let es = c.loop-bytes.pieces in
+    let bytes = c.pass_over.new.bytes.items in
+    let r = subst (λ (o : Option Run). IfSome o (λ run. IsNextRun es p.last p.end run.base run.from run.stop bytes)) c.in-Some.is c.in_ok-passed.ensures.found in
+    let s = c.in_ok-passed.ensures.swept (values_of c.args.pieces.now) c.loop-bytes.invariant.swept in
+    let j = c.in_ok-join_run.ensures.joined in
+    record {
+      swept = run_done (values_of c.args.pieces.now) p.last p.end es c.join_run.new.pieces c.in-Some.run'.base c.in-Some.run'.from c.in-Some.run'.stop bytes j.0 s r c.loop-bytes.invariant.rises c.join_run.ensures.rises j.1 j.2 j.3;
+      rises = c.join_run.ensures.rises;
+    }
+
+pub returns-in_default-clause-apart : goal.returns-in_default-clause-apart
+returns-in_default-clause-apart c =
+    let p = c.in_ok-passed.passed in
+    let s = c.in_ok-passed.ensures.swept (values_of c.args.pieces.now) c.loop-bytes.invariant.swept in
+    (swept_all (values_of c.args.pieces.now) p.last p.end c.loop-bytes.pieces s (left_none p.next (λ x e. c.in_default.not-Some x e) c.in_ok-passed.ensures.none)).0
+
+pub returns-in_default-clause-tidy : goal.returns-in_default-clause-tidy
+returns-in_default-clause-tidy c =
+    let p = c.in_ok-passed.passed in
+    let s = c.in_ok-passed.ensures.swept (values_of c.args.pieces.now) c.loop-bytes.invariant.swept in
+    (swept_all (values_of c.args.pieces.now) p.last p.end c.loop-bytes.pieces s (left_none p.next (λ x e. c.in_default.not-Some x e) c.in_ok-passed.ensures.none)).1
