@@ -4,7 +4,7 @@ use Rattle.std.specs.Prelude.{int_lt}
 use Rattle.std.specs.declared.cmp.Ordering.{Ordering}
 use Rattle.std.specs.declared.cmp.Ordering.TheVariants.{Less, Equal, Greater}
 use Rattle.std.specs.declared.cmp.Reverse.{Reverse}
-use Rattle.std.specs.Ordering.{is_eq, int_cmp, ordering_reverse}
+use Rattle.std.specs.Ordering.{is_eq, is_gt, int_cmp, ordering_reverse}
 use Rattle.std.specs.Cmp.{int_cmp_total}
 use Rattle.std.specs.BTreeMap.{is_at}
 use Rattle.std.proofs.lemmas.Map.Lookups.{exact_signed}
@@ -54,3 +54,11 @@ at-itself p k e = rw e (rw (not_below_itself p) refl)
 
 pub at-lower : (p : ℤ) (k : Reverse ℤ) → int_lt p k.0 ≡ true → at p k ≡ false
 at-lower p k e = rw (not_lower p k.0 e, e) refl
+
+equal_or_greater : (a b : Bool) → is_gt (cond a Less (cond b Greater Equal)) ≡ false → a ≡ false → b ≡ false
+equal_or_greater true b h e = cc
+equal_or_greater false true h e = cc
+equal_or_greater false false h e = refl
+
+pub not_greater : (x y : ℤ) → is_gt (int_cmp x y) ≡ false → int_lt y x ≡ false
+not_greater x y h = by_test (int_lt x y) (λ t. not_lower x y t) (λ t. equal_or_greater (int_lt x y) (int_lt y x) h t)

@@ -7,14 +7,16 @@ use Rattle.std.specs.declared.cmp.Reverse.{Reverse}
 use Rattle.std.specs.Ordering.{match_ordering}
 use Rattle.std.specs.BTreeMap.{insert_entry}
 use Rattle.std.specs.Map.{lookup, set_value, remove_entry, keys_of}
-use Rattle.std.specs.List.{AllByRecursion, list_any}
+use Rattle.std.specs.List.{All, AllByRecursion, list_any}
+use Rattle.std.specs.BTreeMap.Range.{IsLeBy}
+use Rattle.std.proofs.lemmas.Map.{keys-set_value}
 use Rattle.std.specs.List.Sorted.{IsStrictlySortedBy}
 use Rattle.std.proofs.lemmas.List.{map-append, append_assoc}
-use Rattle.std.proofs.lemmas.List.Elements.{All-from_recursion}
+use Rattle.std.proofs.lemmas.List.Elements.{All-from_recursion, recursion_from_All}
 use Rattle.quic_queue.specs.declared.queue.Entry.{Entry}
 use Rattle.quic_queue.specs.SendOrder.{put, ids_of, NoneIsHigher}
 use Rattle.quic_queue.specs.Levels.{Ids, falling, entries_at, entries_of, IsFirstPriority}
-use Rattle.quic_queue.proofs.Comparing.{by_test, at, at-is, at-itself, at-lower, lower, not_lower, not_below_itself}
+use Rattle.quic_queue.proofs.Comparing.{by_test, at, at-is, at-itself, at-lower, lower, not_lower, not_below_itself, not_greater}
 
 abbrev pub Level : Type 0
 Level = Reverse ℤ × Ids
@@ -196,6 +198,32 @@ first_has_ids es p v falls is found =
     let same : Some there.0 ≡ Some v = sym (rw first.2 at there.1) ∙ found in
     rw (ap (λ (i : Ids). i.items) (sym (some_is there.0 v same))) there.2
 
+-- ---- the first entry goes behind the others of its level
+
+set_again : (p : ℤ) (es : List Level) (u w : Ids) → set_value (at p) (set_value (at p) es u) w ≡ set_value (at p) es w
+set_again p [] u w = refl
+set_again p (e ∷ es) u w =
+    let more = set_again p es u w in
+    by_test (at p e.0) (λ t. rw (t, t) refl) (λ t. rw (t, t) (ap (λ (l : List Level). e ∷ l) more))
+
+found_again : (p : ℤ) (es : List Level) (v u : Ids) → lookup (at p) es ≡ Some v → lookup (at p) (set_value (at p) es u) ≡ Some u
+found_again p [] v u found = absurd cc
+found_again p (e ∷ es) v u found =
+    let more = found_again p es v u in
+    by_test (at p e.0)
+    (λ t. rw (t, t) refl)
+    (λ t. let f : lookup (at p) es ≡ Some v = rw t at found in rw (t, t) (more f))
+
+pub entries_of-turn : (p : ℤ) (es : List Level) (id : ℕ) (v u w : Ids) → IsStrictlySortedBy falling (keys_of es) → slice_get (entries_of es) 0 ≡ Some (record { priority = p; id = id })
+    → lookup (at p) es ≡ Some v → u.items ≡ drop 1 v.items → w.items ≡ u.items ++ id ∷ []
+    → entries_of (set_value (at p) es w) ≡ put (drop 1 (entries_of es)) (record { priority = p; id = id })
+entries_of-turn p es id v u w falls first found popped pushed =
+    let x : Entry = record { priority = p; id = id } in
+    let still = subst (IsStrictlySortedBy falling) (sym (keys-set_value (at p) es u)) falls in
+    ap entries_of (sym (set_again p es u w))
+    ∙ entries_of-push p (set_value (at p) es u) u w id still (found_again p es v u found) pushed
+    ∙ ap (λ l. put l x) (entries_of-pop p es x v u falls first refl found popped)
+
 -- ---- a test of each id
 
 any_first : (a b c d : Bool) → b ≡ (c || d) → (a || b) ≡ ((a || c) || d)
@@ -237,3 +265,40 @@ none_higher (e ∷ es) x falls first = at_items e.1.items refl (none_higher es x
 pub first_is_highest : (es : List Level) (o : Option Entry) → IsStrictlySortedBy falling (keys_of es) → o ≡ slice_get (entries_of es) 0 → IfSome o (λ e. NoneIsHigher e.priority (entries_of es))
 first_is_highest es None falls first = tt
 first_is_highest es (Some x) falls first = All-from_recursion (λ (y : Entry). int_lt x.priority y.priority ≡ false) (entries_of es) (none_higher es x falls (sym first))
+
+-- ---- the first level
+
+pub first_shown : (es : List Level) (k : Reverse ℤ) (v : Ids) (id : ℕ) → slice_get es 0 ≡ Some (k, v) → slice_get v.items 0 ≡ Some id
+    → slice_get (entries_of es) 0 ≡ Some (record { priority = k.0; id = id })
+first_shown [] k v id there some = absurd cc
+first_shown (e ∷ es) k v id there some = shown e.1.items refl
+  where
+    same : e ≡ (k, v)
+    same = some_is e (k, v) there
+
+    shown : (ids : List ℕ) → e.1.items ≡ ids → slice_get (entries_at e ++ entries_of es) 0 ≡ Some (record { priority = k.0; id = id })
+    shown [] is =
+        let none : v.items ≡ [] = ap (λ (l : Level). l.1.items) (sym same) ∙ is in
+        let f : None ≡ Some id = rw none at some in
+        absurd cc
+    shown (i ∷ ids) is =
+        let here : v.items ≡ i ∷ ids = ap (λ (l : Level). l.1.items) (sym same) ∙ is in
+        let f : Some i ≡ Some id = rw here at some in
+        rw is (ap (λ (l : Level). Some (record { priority = l.0.0; id = i })) same ∙ ap (λ (j : ℕ). Some (record { priority = k.0; id = j })) (some_is i id f))
+
+pub none_shown : (es : List Level) → length es ≡ 0 → slice_get (entries_of es) 0 ≡ None
+none_shown [] h = refl
+none_shown (e ∷ es) h = absurd (omega arith)
+
+none_above : (k : ℤ) (es : List Level) → AllByRecursion (IsLeBy falling (record { 0 = k })) (keys_of es) → AllByRecursion (λ (y : Entry). int_lt k y.priority ≡ false) (entries_of es)
+none_above k [] h = tt
+none_above k (e ∷ es) h = each e.1.items (not_greater e.0.0 k h.0) (none_above k es h.1)
+  where
+    each : (ids : List ℕ) → int_lt k e.0.0 ≡ false → AllByRecursion (λ (y : Entry). int_lt k y.priority ≡ false) (entries_of es) → AllByRecursion (λ (y : Entry). int_lt k y.priority ≡ false) (map (λ id. record { priority = e.0.0; id = id }) ids ++ entries_of es)
+    each [] l rest = rest
+    each (id ∷ ids) l rest = (l, each ids l rest)
+
+-- no entry is above the first level
+pub first_level_is_highest : (k : ℤ) (es : List Level) → All (IsLeBy falling (record { 0 = k })) (keys_of es) → NoneIsHigher k (entries_of es)
+first_level_is_highest k es h =
+    All-from_recursion (λ (y : Entry). int_lt k y.priority ≡ false) (entries_of es) (none_above k es (recursion_from_All (IsLeBy falling (record { 0 = k })) (keys_of es) h))

@@ -1,9 +1,9 @@
 //! The send queue: the streams that have something to send, the highest priority first.
 
-ghost use Rattle.std.specs.Prelude.{◌≡◌, ◌==◌, Some, None, Bool, IsOk, IfOk, OnOk, OnErr, IfSome, length, slice_get, drop, ℕ, ℤ};
+ghost use Rattle.std.specs.Prelude.{◌≡◌, ◌==◌, Some, None, Bool, true, false, IsOk, IfOk, OnOk, OnErr, IfSome, IsSomeAnd, length, slice_get, drop, ℕ, ℤ};
 ghost use Rattle.std.specs.List.{list_any};
 ghost use Rattle.quic_queue.specs.SendOrder.{empty_queue, put, with_entry, line, first, without_first, settled, IsReserved, NoneIsHigher, Tells, ids_of};
-ghost use Rattle.quic_queue.specs.Levels.{HasRoom, IsFilled, IsFirstPriority, KeepsOtherLevels, entries_of, ids_at};
+ghost use Rattle.quic_queue.specs.Levels.{HasNoIds, HasRoom, IsFilled, IsFirstPriority, KeepsOtherLevels, entries_of, ids_at};
 
 use quic_values::{OutOfMemory, StreamId};
 use std::alloc::Global;
@@ -57,9 +57,25 @@ impl Model for SendQueue {
     ghost invariant = { λ a. AreLevels a.levels a.reserved };
 }
 
-// The first id of the highest priority that has one.
+// The first id of the highest priority that has one. Mostly the first level has one.
 #[inline]
 fn first_entry(levels: &Levels) -> Option<Entry>
+    ensures first { result ≡ slice_get (entries_of levels.now.entries) 0 }
+    ensures highest { IfSome result (λ e. NoneIsHigher e.priority (entries_of levels.now.entries)) }
+{
+    let (priority, ids) = levels.first_key_value()?;
+    match ids.front() {
+        Some(id) => Some(Entry {
+            priority: priority.0,
+            id: *id,
+        }),
+        None => first_of_all(levels),
+    }
+}
+
+// The first id of the highest priority that has one, where the first level may have none.
+#[inline(never)]
+fn first_of_all(levels: &Levels) -> Option<Entry>
     ensures first { result ≡ slice_get (entries_of levels.now.entries) 0 }
     ensures highest { IfSome result (λ e. NoneIsHigher e.priority (entries_of levels.now.entries)) }
 {
@@ -115,6 +131,17 @@ fn drop_if_empty(levels: &mut Levels, priority: i32)
     }
 }
 
+// Drops a priority, which has no ids.
+#[inline]
+fn drop_empty(levels: &mut Levels, priority: i32)
+    requires { HasNoIds levels.old priority }
+    ensures shown { entries_of levels.new.entries ≡ entries_of levels.old.entries }
+    ensures others { KeepsOtherLevels levels.old priority levels.new }
+    ensures filled { IsFilled levels.new priority }
+{
+    levels.remove(&Reverse(priority));
+}
+
 // Puts an id behind the others of a priority.
 #[inline]
 fn push_at(levels: &mut Levels, priority: i32, id: StreamId)
@@ -129,17 +156,37 @@ fn push_at(levels: &mut Levels, priority: i32, id: StreamId)
     }
 }
 
-// Takes the first id of the highest priority out.
+// Takes the first id of the highest priority out, and says whether any of that priority are left.
 #[inline]
-fn pop_at(levels: &mut Levels, priority: i32)
+fn pop_at(levels: &mut Levels, priority: i32) -> bool
     requires { IsFirstPriority levels.old.entries priority }
     ensures shown { entries_of levels.new.entries ≡ drop 1 (entries_of levels.old.entries) }
     ensures others { KeepsOtherLevels levels.old priority levels.new }
     ensures room { HasRoom levels.new priority }
+    ensures left { result ≡ true → IsFilled levels.new priority }
+    ensures none_left { result ≡ false → HasNoIds levels.new priority }
 {
     match levels.get_mut(&Reverse(priority)) {
         Some(ids) => {
             ids.pop_front();
+            !ids.is_empty()
+        }
+        None => unreachable!(),
+    }
+}
+
+// Puts the first id of the highest priority behind the others of that priority.
+#[inline]
+fn turn_at(levels: &mut Levels, priority: i32, id: StreamId)
+    requires { slice_get (entries_of levels.old.entries) 0 ≡ Some (record { priority = priority; id = id }) }
+    ensures shown { entries_of levels.new.entries ≡ put (drop 1 (entries_of levels.old.entries)) (record { priority = priority; id = id }) }
+    ensures others { KeepsOtherLevels levels.old priority levels.new }
+    ensures filled { IsFilled levels.new priority }
+{
+    match levels.get_mut(&Reverse(priority)) {
+        Some(ids) => {
+            ids.pop_front();
+            ids.push_back_reserved(id);
         }
         None => unreachable!(),
     }
@@ -257,14 +304,42 @@ impl SendQueue {
             return Some(entry);
         }
         let entry = first_entry(&self.levels)?;
-        pop_at(&mut self.levels, entry.priority);
-        if self.reserved != Some(entry.priority) {
-            drop_if_empty(&mut self.levels, entry.priority);
-        }
+        self.take_at(entry.priority);
         Some(entry)
     }
 
+    // Takes the first stream out, whose priority is given, where none is kept back. Room that was made stays.
+    #[inline]
+    fn take_at(&mut self, priority: i32)
+        requires none_kept { self.old.kept ≡ None }
+        requires is_first { IsSomeAnd (slice_get self.old.waiting 0) (λ e. e.priority ≡ priority) }
+        ensures { self.new ≡ without_first self.old }
+    {
+        let any_left = pop_at(&mut self.levels, priority);
+        if !any_left && self.reserved != Some(priority) {
+            drop_empty(&mut self.levels, priority);
+        }
+    }
+
+    // Takes the first stream out, whose priority is given, where none is kept back. Room that was made is let go.
+    #[inline]
+    fn let_go_at(&mut self, priority: i32)
+        requires none_kept { self.old.kept ≡ None }
+        requires is_first { IsSomeAnd (slice_get self.old.waiting 0) (λ e. e.priority ≡ priority) }
+        ensures { self.new ≡ record (without_first self.old) { reserved = None } }
+    {
+        let any_left = pop_at(&mut self.levels, priority);
+        if !any_left {
+            drop_empty(&mut self.levels, priority);
+        }
+        match self.reserved.take() {
+            Some(former) if former != priority => drop_if_empty(&mut self.levels, former),
+            _ => {}
+        }
+    }
+
     /// The stream comes before all others, where none is kept back. Takes no memory.
+    #[inline]
     pub fn keep_back(&mut self, entry: Entry)
         requires { self.old.kept ≡ None }
         ensures { self.new ≡ record self.old { kept = Some entry } }
@@ -280,7 +355,34 @@ impl SendQueue {
         requires room { IsReserved self.old next }
         ensures { self.new ≡ settled (without_first self.old) entry next }
     {
-        let _ = self.take_first();
+        if self.kept.take().is_some() {
+            self.settle(entry, next);
+            return;
+        }
+        match next {
+            Next::PutAnew(priority) if priority == entry.priority => {
+                turn_at(&mut self.levels, entry.priority, entry.id);
+                self.reserved = None;
+            }
+            Next::PutAnew(priority) => {
+                self.take_at(entry.priority);
+                self.put(entry.id, priority);
+            }
+            Next::LetGo => self.let_go_at(entry.priority),
+            Next::KeepBack => {
+                self.let_go_at(entry.priority);
+                self.keep_back(entry);
+            }
+        }
+    }
+
+    // What becomes of a stream that was taken out.
+    #[inline]
+    fn settle(&mut self, entry: Entry, next: Next)
+        requires none_kept { self.old.kept ≡ None }
+        requires room { IsReserved self.old next }
+        ensures { self.new ≡ settled self.old entry next }
+    {
         match next {
             Next::LetGo => self.release(),
             Next::PutAnew(priority) => self.put(entry.id, priority),
@@ -301,6 +403,7 @@ impl SendQueue {
     }
 
     /// Whether no stream is in the queue.
+    #[inline]
     pub fn is_empty(&self) -> bool
         ensures { result ≡ (length (line self.now) == 0) }
     {

@@ -1,13 +1,24 @@
-use Rattle.std.proofs.Common.{rules, ◌≡◌, Some, w32, to_z, of_z, arith}
+use Rattle.std.proofs.Common.{rules, ◌≡◌, Some, sym, w32, to_z, of_z, arith}
 use Rattle.std.specs.Prelude.{slice_get}
 use Rattle.std.proofs.lemmas.Grind.{common_steps}
-use Rattle.quic_queue.specs.declared.queue.Entry.{Entry}
+use Rattle.quic_queue.specs.SendOrder.{NoneIsHigher}
 use Rattle.quic_queue.specs.Levels.{entries_of}
-use Rattle.quic_queue.proofs.Lines.{first_is_highest}
+use Rattle.quic_queue.proofs.Lines.{first_shown, first_level_is_highest}
 use Rattle.quic_queue.proofs.queue.first_entry.Goals as goal
 
-pub returns-in-Some-front-clause-highest : goal.returns-in-Some-front-clause-highest
-returns-in-Some-front-clause-highest c =
-    let e : Entry = record { priority = to_z w32 (of_z w32 c.in-Some.priority.now.0); id = c.in-Some-front.id.now } in
-    let first : Some e ≡ slice_get (entries_of c.args.levels.now.entries) 0 = first_of (search rules, grind (arith, common_steps)) in
-    first_is_highest c.args.levels.now.entries (Some e) c.into_iter-priority-iterator.ensures.into_iter_gives.5 first
+pub returns-in-Some-clause-first : goal.returns-in-Some-clause-first
+returns-in-Some-clause-first c =
+    let m = c.args.levels.now in
+    let k = c.in_ok-priority.priority.now in
+    let whole : to_z w32 (of_z w32 k.0) ≡ k.0 = search rules in
+    let some : slice_get c.in_ok-priority.ids.now.items 0 ≡ Some c.in-Some.id.now = first_of (search rules, grind (arith, common_steps)) in
+    let shown = first_shown m.entries k c.in_ok-priority.ids.now c.in-Some.id.now c.in_ok-priority.ensures.first some in
+    rw whole (sym shown)
+
+pub returns-in-Some-clause-highest : goal.returns-in-Some-clause-highest
+returns-in-Some-clause-highest c =
+    let m = c.args.levels.now in
+    let k = c.in_ok-priority.priority.now in
+    let whole : to_z w32 (of_z w32 k.0) ≡ k.0 = search rules in
+    let highest : NoneIsHigher k.0 (entries_of m.entries) = first_level_is_highest k.0 m.entries c.in_ok-priority.ensures.all_from in
+    rw whole highest

@@ -1,6 +1,6 @@
 use Rattle.std.proofs.Common.{◌≡◌}
 use Rattle.quic_queue.specs.Levels.{entries_of}
-use Rattle.quic_queue.proofs.queue.first_entry.Given as goal
+use Rattle.quic_queue.proofs.queue.first_of_all.Given as goal
 
 abbrev pub invariant-loop-priority : goal.invariant-loop-priority
 invariant-loop-priority l =

@@ -1,0 +1,67 @@
+use Rattle.std.proofs.Common.{arith, sym, ap, ◌∙◌, refl}
+use Rattle.std.proofs.lemmas.Int.{to_z-of_z}
+use Rattle.quic_queue.specs.declared.queue.Entry.{Entry}
+use Rattle.quic_queue.specs.Levels.{entries_of, IsFirstPriority}
+use Rattle.quic_queue.proofs.Lines.{entries_of-turn, first_found, first_has_ids}
+use Rattle.quic_queue.proofs.Changes.{is_filled, room_after, written}
+use Rattle.quic_queue.proofs.queue.turn_at.Goals as goal
+
+pub push_back_reserved-requires : goal.push_back_reserved-requires
+push_back_reserved-requires c =
+    let fits = c.ranges.priority in
+    let m = c.args.levels.now in
+    let p = c.args.priority in
+    let v = c.in-Some.ids.now in
+    let u = c.pop_front.new.self in
+    let there = simp to_z-of_z at c.in-Some.ensures.value in
+    let is : IsFirstPriority m.entries p = rw c.requires refl in
+    let some = first_has_ids m.entries p v c.get_mut.ensures.ordered is (sym there) in
+    room_after v u some c.pop_front.ensures.rest c.pop_front.ensures.capacity
+
+pub unreachable-requires : goal.unreachable-requires
+unreachable-requires c =
+    let fits = c.ranges.priority in
+    let m = c.args.levels.now in
+    let p = c.args.priority in
+    let x : Entry = record { priority = p; id = c.args.id } in
+    let none = simp to_z-of_z at c.in-None.ensures.value in
+    let found = first_found m.entries x c.get_mut.ensures.ordered c.requires in
+    let there = found.1 in
+    cc
+
+pub returns-clause-shown : goal.returns-clause-shown
+returns-clause-shown c =
+    let fits = c.ranges.priority in
+    let m = c.args.levels.now in
+    let p = c.args.priority in
+    let v = c.in-Some.ids.now in
+    let u = c.pop_front.new.self in
+    let w = c.push_back_reserved.new.self in
+    let there = simp to_z-of_z at c.in-Some.ensures.value in
+    let holds = simp to_z-of_z at (c.get_mut.follows.holds w) in
+    ap entries_of holds.0
+    ∙ entries_of-turn p m.entries c.args.id v u w c.get_mut.ensures.ordered c.requires (sym there) c.pop_front.ensures.rest c.push_back_reserved.ensures.items
+
+pub returns-clause-others : goal.returns-clause-others
+returns-clause-others c =
+    let fits = c.ranges.priority in
+    let m = c.args.levels.now in
+    let p = c.args.priority in
+    let v = c.in-Some.ids.now in
+    let w = c.push_back_reserved.new.self in
+    let n = c.get_mut.follows.lender w in
+    let there = simp to_z-of_z at c.in-Some.ensures.value in
+    let holds = simp to_z-of_z at (c.get_mut.follows.holds w) in
+    (written m n p v w there holds.3).0
+
+pub returns-clause-filled : goal.returns-clause-filled
+returns-clause-filled c =
+    let fits = c.ranges.priority in
+    let m = c.args.levels.now in
+    let p = c.args.priority in
+    let v = c.in-Some.ids.now in
+    let w = c.push_back_reserved.new.self in
+    let n = c.get_mut.follows.lender w in
+    let there = simp to_z-of_z at c.in-Some.ensures.value in
+    let holds = simp to_z-of_z at (c.get_mut.follows.holds w) in
+    is_filled n p w (written m n p v w there holds.3).1 (omega (arith, c.push_back_reserved.ensures.len))
