@@ -1,5 +1,6 @@
 pub mod ControlRuns
 pub mod HeldMaps
+pub mod InPlace
 pub mod Results
 pub mod TurnRuns
 pub mod Unsent

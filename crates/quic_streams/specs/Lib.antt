@@ -6,3 +6,4 @@ pub mod Writing
 pub mod Payload
 pub mod Transmitting
 pub mod Waiting
+pub mod InPlace

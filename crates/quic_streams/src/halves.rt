@@ -1,17 +1,23 @@
 //! The receive halves of a connection's streams.
 
-ghost use Rattle.std.specs.Prelude.{true, ◌≡◌, ◌+◌, ◌<◌, ◌≤◌, ◌^◌, Some, None, IsSome, IfSome, IfOk, OnOk, OnErr, is_some};
+ghost use Rattle.std.specs.Prelude.{ℕ, true, ◌≡◌, ◌+◌, ◌<◌, ◌≤◌, length, ◌^◌, Some, None, IsSome, IfSome, IfOk, OnOk, OnErr, is_some};
 ghost use Rattle.std.specs.Option.{option_map};
 ghost use Rattle.quic_receiving.specs.Half.{new_half};
+ghost use Rattle.quic_receiving.specs.Calls.{Reads};
 ghost use Rattle.quic_streams.specs.Held.{held, half_in, room};
+ghost use Rattle.quic_streams.specs.InPlace.{mode_of, IsInMode, ReadsIn, AsksHalf, AsksIn, IngestsOn, IngestsIn};
+ghost use Rattle.quic_history.specs.Reading.{is_reading};
 ghost use Rattle.quic_history.specs.Halves.{with_half, with_first, with_more, taken, is_due_in, TellsCode};
 ghost use Rattle.quic_outgoing.specs.Senders.{are_one_end};
 ghost use Rattle.quic_history.specs.Early.{without_own};
 ghost use Rattle.quic_history.specs.Permitting.{is_flow_controlled};
 ghost use Rattle.quic_history.specs.Control.{announced_end, after_announced, with_announced};
 
-use quic_receiving::{ClosedStream, Recv};
+use quic_assembler::{Chunk, EnsureError};
+use quic_history::progress::Progress;
+use quic_receiving::{ClosedStream, ReadError, ReadableError, Recv};
 use quic_values::{Dir, OutOfMemory, Side, StreamId, VarInt};
+use quic_wire::{ReceiveError, frame};
 use std::alloc::Global;
 use std::collections::HashMap;
 
@@ -24,6 +30,16 @@ pub struct ReceiveHalves {
     window: VarInt,
     // `None` is a half to which nothing came.
     entries: HashMap<StreamId, Option<Box<Recv>>>,
+}
+
+/// What came of a frame that reached a half.
+#[derive(Drop)]
+pub struct Ingested {
+    pub(crate) answer: Result<(u64, bool), ReceiveError>,
+    // By how much the highest offset received grew.
+    pub(crate) grown: u64,
+    // Whether the half is stopped.
+    pub(crate) stopped: bool,
 }
 
 #[tactic(auto, unfolding(crate::specs::Held::held, quic_history::specs::Halves::with_half))]
@@ -131,6 +147,71 @@ impl ReceiveHalves {
                 let half = Box::new(self.alloc, Recv::new(self.alloc, self.window.into_inner()))?;
                 Ok(Some(half))
             }
+        }
+    }
+
+    /// Reads a half that is held in this mode, where it lies.
+    #[inline]
+    pub(crate) fn read(
+        &mut self,
+        id: StreamId,
+        max_length: usize,
+        ordered: bool,
+    ) -> Result<Option<Chunk>, ReadError>
+        requires { IsInMode (held self.old id) ordered }
+        ensures reads { ReadsIn (held self.old) id max_length ordered result (held self.new) }
+        ensures window { self.new.window ≡ self.old.window }
+        ensures room { room self.new ≡ room self.old }
+    {
+        match self.entries.get_mut(&id) {
+            None => unreachable!(),
+            Some(entry) => read_on(entry, max_length, ordered),
+        }
+    }
+
+    /// Asks a half for a mode, where it lies.
+    #[inline]
+    pub(crate) fn ask(&mut self, id: StreamId, ordered: bool) -> Result<(), ReadableError>
+        ensures asks { AsksIn (held self.old) id ordered result (held self.new) }
+        ensures reading { OnOk result (is_reading Progress.Readable (held self.new id) ordered 0 ≡ true) }
+        ensures window { self.new.window ≡ self.old.window }
+        ensures room { room self.new ≡ room self.old }
+    {
+        match self.entries.get_mut(&id) {
+            None => Err(ReadableError::ClosedStream),
+            Some(entry) => ask_on(self.alloc, self.window, entry, ordered),
+        }
+    }
+
+    /// Takes a STREAM frame on its half, where that lies. `None`: it is dropped, since the half is not held or was
+    /// reset. `received` of `permitted` bytes came on all streams.
+    #[inline]
+    pub(crate) fn ingest(
+        &mut self,
+        frame: frame::Stream,
+        payload_len: usize,
+        received: u64,
+        permitted: u64,
+    ) -> Result<Option<Ingested>, OutOfMemory>
+        requires { length frame.bytes ≤ payload_len }
+        ensures ingests { IfOk result (λ taken. IngestsIn (held self.old) frame.id frame.offset frame.bytes frame.fin received permitted taken (held self.new)) }
+        ensures err { OnErr result (held self.new ≡ held self.old) }
+        ensures window { self.new.window ≡ self.old.window }
+        ensures room { room self.new ≡ room self.old }
+    {
+        let id = frame.id;
+        let (alloc, window) = (self.alloc, self.window);
+        match self.entries.get_mut(&id) {
+            None => Ok(None),
+            Some(entry) => ingest_on(
+                alloc,
+                window,
+                entry,
+                frame,
+                payload_len,
+                received,
+                permitted,
+            ),
         }
     }
 
@@ -254,4 +335,131 @@ fn announce_on(entry: &mut Option<Box<Recv>>, window: VarInt)
         let limit = half.max_stream_data(window.into_inner()).0;
         half.record_sent_max_stream_data(limit);
     }
+}
+
+// Reads the half of an entry. Of one to which nothing came there is nothing to read.
+#[inline]
+fn read_on(
+    entry: &mut Option<Box<Recv>>,
+    max_length: usize,
+    ordered: bool,
+) -> Result<Option<Chunk>, ReadError>
+    requires { mode_of entry.old ≡ ordered }
+    ensures reads { (window : ℕ) → Reads (half_in window entry.old) max_length result (half_in window entry.new) }
+    ensures mode { mode_of entry.new ≡ ordered }
+    ensures bound { (window : ℕ) → (half_in window entry.new).buffer.bytes_read < 2 ^ 64 }
+{
+    match entry {
+        None => Err(ReadError::Blocked),
+        Some(half) => {
+            let answer = half.next(max_length, ordered);
+            // All that was read came, so its count is a `u64`.
+            let _read = half.bytes_read();
+            answer
+        }
+    }
+}
+
+// Makes the half of an entry to which nothing came.
+#[inline]
+fn make_half(
+    alloc: Global,
+    window: VarInt,
+    entry: &mut Option<Box<Recv>>,
+) -> Result<(), OutOfMemory>
+    ensures same { half_in window entry.new ≡ half_in window entry.old }
+    ensures made { OnOk result (is_some entry.new ≡ true) }
+{
+    if entry.is_none() {
+        let half = Box::new(alloc, Recv::new(alloc, window.into_inner()))?;
+        *entry = Some(half);
+    }
+    Ok(())
+}
+
+// Asks the half of an entry for a mode.
+#[inline]
+fn ask_on(
+    alloc: Global,
+    window: VarInt,
+    entry: &mut Option<Box<Recv>>,
+    ordered: bool,
+) -> Result<(), ReadableError>
+    ensures asks { AsksHalf (half_in window entry.old) ordered result (half_in window entry.new) }
+    ensures reading { OnOk result (is_reading Progress.Readable (Some (half_in window entry.new)) ordered 0 ≡ true) }
+{
+    // A new half is read in order.
+    if ordered && entry.is_none() {
+        return Ok(());
+    }
+    if make_half(alloc, window, entry).is_err() {
+        return Err(ReadableError::OutOfMemory);
+    }
+    match entry {
+        None => unreachable!(),
+        Some(half) => ask_half(half, ordered),
+    }
+}
+
+// Asks a half for a mode.
+#[inline]
+fn ask_half(half: &mut Recv, ordered: bool) -> Result<(), ReadableError>
+    ensures asks { AsksHalf half.old ordered result half.new }
+    ensures reading { OnOk result (is_reading Progress.Readable (Some half.new) ordered 0 ≡ true) }
+{
+    if half.is_stopped() {
+        return Err(ReadableError::ClosedStream);
+    }
+    match half.ensure_ordering(ordered) {
+        Ok(()) => Ok(()),
+        Err(EnsureError::IllegalOrderedRead) => Err(ReadableError::IllegalOrderedRead),
+        Err(EnsureError::OutOfMemory) => Err(ReadableError::OutOfMemory),
+    }
+}
+
+// Takes a STREAM frame on the half of an entry.
+#[inline]
+fn ingest_on(
+    alloc: Global,
+    window: VarInt,
+    entry: &mut Option<Box<Recv>>,
+    frame: frame::Stream,
+    payload_len: usize,
+    received: u64,
+    permitted: u64,
+) -> Result<Option<Ingested>, OutOfMemory>
+    requires { length frame.bytes ≤ payload_len }
+    ensures ingests { IfOk result (λ taken. IngestsOn (half_in window entry.old) frame.offset frame.bytes frame.fin received permitted taken (half_in window entry.new)) }
+    ensures err { OnErr result (half_in window entry.new ≡ half_in window entry.old) }
+{
+    make_half(alloc, window, entry)?;
+    match entry {
+        None => unreachable!(),
+        Some(half) => Ok(ingest_half(half, frame, payload_len, received, permitted)),
+    }
+}
+
+// Takes a STREAM frame on a half.
+#[inline]
+fn ingest_half(
+    half: &mut Recv,
+    frame: frame::Stream,
+    payload_len: usize,
+    received: u64,
+    permitted: u64,
+) -> Option<Ingested>
+    requires { length frame.bytes ≤ payload_len }
+    ensures { IngestsOn half.old frame.offset frame.bytes frame.fin received permitted result half.new }
+{
+    if !half.is_receiving() {
+        return None;
+    }
+    let high = half.end();
+    let stopped = half.is_stopped();
+    let answer = half.ingest(frame, payload_len, received, permitted);
+    Some(Ingested {
+        answer,
+        grown: half.end() - high,
+        stopped,
+    })
 }

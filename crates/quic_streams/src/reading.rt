@@ -1,8 +1,8 @@
 //! Reading of streams.
 
-ghost use Rattle.std.specs.Prelude.{◌≡◌, ◌+◌, ◌<◌, ◌≤◌, ◌^◌, true, is_some, Some, Err, OnOk, List, ◌∷◌};
+ghost use Rattle.std.specs.Prelude.{◌≡◌, ◌+◌, ◌<◌, ◌≤◌, ◌^◌, true, Err, OnOk, List, ◌∷◌};
 ghost use Rattle.quic_streams.specs.Shown.{shown};
-ghost use Rattle.quic_history.specs.World.{Made, with_credit, with_receive};
+ghost use Rattle.quic_history.specs.World.{Made, with_credit};
 ghost use Rattle.quic_retransmits.specs.Pending.{shown_pending as listed};
 ghost use Rattle.quic_history.specs.Reading.{Begins, Nexts, ReadsHalf, is_reading, needed, pending_after, is_transmit_due, is_window_queued, progress_after, given_by};
 ghost use Rattle.quic_history.specs.History.{Event, Ended, From, given, with_next};
@@ -10,9 +10,9 @@ ghost use Rattle.quic_streams.specs.Room.{rooms};
 ghost use Rattle.quic_retransmits.specs.Queueing.{window_rooms};
 
 use crate::state::StreamsState;
-use quic_assembler::{Chunk, EnsureError};
+use quic_assembler::Chunk;
 use quic_history::progress::Progress;
-use quic_receiving::{ReadError, ReadableError, Recv, ShouldTransmit};
+use quic_receiving::{ReadError, ReadableError, ShouldTransmit};
 use quic_retransmits::Retransmits;
 use quic_values::{StreamId, VarInt};
 
@@ -206,11 +206,7 @@ impl StreamsState {
         if self.make_stream_room().is_err() {
             return Err(ReadableError::OutOfMemory);
         }
-        match self.take_half(id) {
-            Err(_) => Err(ReadableError::OutOfMemory),
-            Ok(None) => Err(ReadableError::ClosedStream),
-            Ok(Some(half)) => self.ask(id, half, ordered),
-        }
+        self.ask_in_place(id, ordered)
     }
 
     // Whether MAX_STREAM_DATA is to be queued at the end of a reader.
@@ -221,27 +217,6 @@ impl StreamsState {
             Progress::Readable => self.is_window_due(id),
             Progress::Reset(_) => false,
             Progress::Finished => false,
-        }
-    }
-
-    // Asks a half that was taken out for a mode.
-    fn ask(&mut self, id: StreamId, half: Box<Recv>, ordered: bool) -> Result<(), ReadableError>
-        requires { is_some ((shown self.old).receive id) ≡ true }
-        ensures begins { Begins (with_receive (shown self.old) id (Some half.value)) id ordered result (shown self.new) }
-        ensures reading { OnOk result (is_reading Progress.Readable ((shown self.new).receive id) ordered 0 ≡ true) }
-        ensures rooms { rooms self.new ≡ rooms self.old }
-    {
-        let mut half = half;
-        if half.is_stopped() {
-            self.put_half(id, half);
-            return Err(ReadableError::ClosedStream);
-        }
-        let answer = half.ensure_ordering(ordered);
-        self.put_half(id, half);
-        match answer {
-            Ok(()) => Ok(()),
-            Err(EnsureError::IllegalOrderedRead) => Err(ReadableError::IllegalOrderedRead),
-            Err(EnsureError::OutOfMemory) => Err(ReadableError::OutOfMemory),
         }
     }
 
@@ -262,38 +237,7 @@ impl StreamsState {
         ensures rooms { needed (progress_after result) ≤ rooms self.new }
         ensures bound { read + given_by result < 2 ^ 64 }
     {
-        match self.take_half(id) {
-            // Nothing came on a half that was not made yet.
-            Err(_) => Err(ReadError::Blocked),
-            Ok(None) => unreachable!(),
-            Ok(Some(half)) => self.read_from(id, half, max_length, ordered, read),
-        }
-    }
-
-    // Reads a half that was taken out.
-    #[tactic(auto, using(quic_history::proofs::WorldSteps::world_steps, quic_history::proofs::ReadingSteps::reader_runs, quic_history::proofs::ReadingSteps::reader_mode))]
-    #[inline]
-    fn read_from(
-        &mut self,
-        id: StreamId,
-        half: Box<Recv>,
-        max_length: usize,
-        ordered: bool,
-        read: u64,
-    ) -> Result<Option<Chunk>, ReadError>
-        requires there { is_some ((shown self.old).receive id) ≡ true }
-        requires reading { is_reading Progress.Readable (Some half.value) ordered read ≡ true }
-        requires rooms { 1 ≤ rooms self.old }
-        ensures reads { ReadsHalf (with_receive (shown self.old) id (Some half.value)) id max_length ordered result (shown self.new) }
-        ensures reading { is_reading (progress_after result) ((shown self.new).receive id) ordered (read + given_by result) ≡ true }
-        ensures rooms { needed (progress_after result) ≤ rooms self.new }
-        ensures bound { read + given_by result < 2 ^ 64 }
-    {
-        let mut half = half;
-        let answer = half.next(max_length, ordered);
-        // All that was read came, so the count of it is no more than the highest offset.
-        let _read = half.bytes_read();
-        self.put_half(id, half);
+        let answer = self.read_in_place(id, max_length, ordered);
         if progress_after(&answer).is_ended() {
             self.free_receive(id);
         }

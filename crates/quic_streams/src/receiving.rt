@@ -1,16 +1,18 @@
 //! What the peer sends: frames with data and resets, and the credit that it is given.
 
-ghost use Rattle.std.specs.Prelude.{ℕ, List, ◌∷◌, ◌≡◌, ◌==◌, ◌≤◌, ◌||◌, ◌&&◌, not, length, true, is_some, Some, None, if◌then◌else◌};
+ghost use Rattle.std.specs.Prelude.{ℕ, List, ◌∷◌, ◌≡◌, ◌==◌, ◌+◌, ◌<◌, ◌≤◌, ◌^◌, ◌||◌, ◌&&◌, not, length, true, is_some, Some, None, if◌then◌else◌};
 ghost use Rattle.quic_limits.specs.Credit.{is_max_data_due};
 ghost use Rattle.quic_limits.specs.Remote.{is_max_streams_due};
 ghost use Rattle.quic_streams.specs.Room.{rooms, HasEventRoom};
 ghost use Rattle.quic_retransmits.specs.Queueing.{window_rooms};
+ghost use Rattle.quic_streams.specs.InPlace.{TellsFrame};
 ghost use Rattle.quic_streams.specs.Shown.{shown};
 ghost use Rattle.quic_history.specs.World.{Made, id_refusal, with_freed, with_credit, with_receive};
 ghost use Rattle.quic_history.specs.History.{Event, Received, ReceivedReset, AddedCredits, From};
 ghost use Rattle.quic_retransmits.specs.Pending.{shown_pending as listed};
 ghost use Rattle.quic_history.specs.Receiving.{Receives, ReceivesReset, with_max_streams, with_rest};
 
+use crate::halves::Ingested;
 use crate::state::StreamsState;
 use quic_receiving::{Recv, ShouldTransmit};
 use quic_retransmits::Retransmits;
@@ -55,43 +57,27 @@ impl StreamsState {
             return Err(ReceiveError::OutOfMemory);
         }
         let (received, permitted) = self.received_of_permitted();
-        match self.take_half(id) {
+        match self.ingest_in_place(frame, payload_len, received, permitted) {
             Err(_) => Err(ReceiveError::OutOfMemory),
             Ok(None) => Ok(ShouldTransmit(false)),
-            Ok(Some(half)) => self.ingest_on(half, frame, payload_len, received, permitted),
+            Ok(Some(taken)) => self.tell_frame(id, taken),
         }
     }
 
-    // Takes a STREAM frame on a half that was taken out.
+    // Counts what a frame brought that reached a half, and tells of it.
     #[inline]
-    fn ingest_on(
-        &mut self,
-        half: Box<Recv>,
-        frame: frame::Stream,
-        payload_len: usize,
-        received: u64,
-        permitted: u64,
-    ) -> Result<ShouldTransmit, ReceiveError>
-        requires within { length frame.bytes ≤ payload_len }
-        requires known { id_refusal (shown self.old) frame.id ≡ None }
-        requires there { is_some ((shown self.old).receive frame.id) ≡ true }
-        requires received { received ≡ (shown self.old).credit.data_recvd }
-        requires permitted { permitted ≡ (shown self.old).credit.local_max_data }
+    fn tell_frame(&mut self, id: StreamId, taken: Ingested) -> Result<ShouldTransmit, ReceiveError>
+        requires known { id_refusal (shown self.old) id ≡ None }
+        requires count { (shown self.old).credit.data_recvd + taken.grown < 2 ^ 64 }
         requires events { HasEventRoom self.old }
         requires rooms { 1 ≤ rooms self.old }
-        ensures { Receives (with_receive (shown self.old) frame.id (Some half.value)) frame.id frame.offset frame.bytes frame.fin result (shown self.new) }
+        ensures { TellsFrame (shown self.old) id taken.stopped taken.grown taken.answer result (shown self.new) }
     {
-        let id = frame.id;
-        let mut half = half;
-        if !half.is_receiving() {
-            self.put_half(id, half);
-            return Ok(ShouldTransmit(false));
-        }
-        let high = half.end();
-        let answer = half.ingest(frame, payload_len, received, permitted);
-        let grown = half.end() - high;
-        let stopped = half.is_stopped();
-        self.put_half(id, half);
+        let Ingested {
+            answer,
+            grown,
+            stopped,
+        } = taken;
         self.count(grown);
         match answer {
             Err(error) => Err(error),

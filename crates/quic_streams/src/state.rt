@@ -1,9 +1,11 @@
 //! The streams of one end of a connection.
 
-ghost use Rattle.std.specs.Prelude.{[], ◌≡◌, ◌+◌, ◌-◌, ◌<◌, ◌≤◌, ◌^◌, IfOk, IfErr, IfSome, OnOk, OnErr, IfNone, Some, None, is_some, true, false};
+ghost use Rattle.std.specs.Prelude.{[], ◌≡◌, ◌+◌, ◌-◌, ◌<◌, ◌≤◌, ◌^◌, IfOk, IfErr, IfSome, OnOk, OnErr, IfNone, Some, None, is_some, true, false, length};
 ghost use Rattle.std.specs.Option.{option_map};
 ghost use Rattle.quic_receiving.specs.Half.{new_half};
 ghost use Rattle.quic_streams.specs.Held.{room};
+ghost use Rattle.quic_streams.specs.InPlace.{IsInMode, ReadsIn, AsksIn, IngestsIn, ChangesHalves};
+ghost use Rattle.quic_history.specs.Reading.{is_reading};
 ghost use Rattle.quic_history.specs.Halves.{is_due_in, TellsCode};
 ghost use Rattle.quic_outgoing.specs.Shown.{view_of, permit_room};
 ghost use Rattle.quic_streams.specs.Room.{rooms, HasEventRoom};
@@ -12,13 +14,15 @@ ghost use Rattle.quic_history.specs.World.{made_with, World, start, id_refusal, 
 ghost use Rattle.quic_history.specs.Sends.{is_permitted};
 ghost use Rattle.quic_streams.specs.Shown.{shown};
 
-use crate::halves::ReceiveHalves;
+use crate::halves::{Ingested, ReceiveHalves};
+use quic_assembler::Chunk;
+use quic_history::progress::Progress;
 use quic_limits::{ReceiveCredit, RemoteStreams};
 use quic_outgoing::OutgoingStreams;
 use quic_queue::SendQueue;
-use quic_receiving::{ClosedStream, Recv};
+use quic_receiving::{ClosedStream, ReadError, ReadableError, Recv};
 use quic_values::{Dir, OutOfMemory, Side, StreamId, VarInt};
-use quic_wire::{StreamEvent, TransportError};
+use quic_wire::{StreamEvent, TransportError, frame};
 use std::alloc::Global;
 use std::collections::VecDeque;
 
@@ -171,6 +175,53 @@ impl StreamsState {
         ensures rooms { rooms self.new ≡ rooms self.old }
     {
         self.receive.put(id, half);
+    }
+
+    // Reads a receive half that is in this mode, where it lies.
+    #[inline]
+    pub(crate) fn read_in_place(
+        &mut self,
+        id: StreamId,
+        max_length: usize,
+        ordered: bool,
+    ) -> Result<Option<Chunk>, ReadError>
+        requires { IsInMode ((shown self.old).receive id) ordered }
+        ensures reads { ReadsIn (shown self.old).receive id max_length ordered result (shown self.new).receive }
+        ensures halves { ChangesHalves (shown self.old) (shown self.new) }
+        ensures events { HasEventRoom self.old → HasEventRoom self.new }
+        ensures rooms { rooms self.new ≡ rooms self.old }
+    {
+        self.receive.read(id, max_length, ordered)
+    }
+
+    // Asks a receive half for a mode, where it lies.
+    #[inline]
+    pub(crate) fn ask_in_place(&mut self, id: StreamId, ordered: bool) -> Result<(), ReadableError>
+        ensures asks { AsksIn (shown self.old).receive id ordered result (shown self.new).receive }
+        ensures reading { OnOk result (is_reading Progress.Readable ((shown self.new).receive id) ordered 0 ≡ true) }
+        ensures halves { ChangesHalves (shown self.old) (shown self.new) }
+        ensures rooms { rooms self.new ≡ rooms self.old }
+    {
+        self.receive.ask(id, ordered)
+    }
+
+    // Takes a STREAM frame on its receive half, where that lies. `None` where it is dropped.
+    #[inline]
+    pub(crate) fn ingest_in_place(
+        &mut self,
+        frame: frame::Stream,
+        payload_len: usize,
+        received: u64,
+        permitted: u64,
+    ) -> Result<Option<Ingested>, OutOfMemory>
+        requires { length frame.bytes ≤ payload_len }
+        ensures ingests { IfOk result (λ taken. IngestsIn (shown self.old).receive frame.id frame.offset frame.bytes frame.fin received permitted taken (shown self.new).receive) }
+        ensures err { OnErr result (shown self.new ≡ shown self.old) }
+        ensures halves { ChangesHalves (shown self.old) (shown self.new) }
+        ensures events { HasEventRoom self.old → HasEventRoom self.new }
+        ensures rooms { rooms self.new ≡ rooms self.old }
+    {
+        self.receive.ingest(frame, payload_len, received, permitted)
     }
 
     // Whether MAX_STREAM_DATA is worth a frame on a stream.

@@ -1,5 +1,25 @@
-use Rattle.quic_history.proofs.ReadingSteps.{unmade}
+use Rattle.std.proofs.Common.{rules}
+use Rattle.quic_streams.specs.Shown.{shown}
+use Rattle.quic_streams.proofs.InPlace.{reader-in-mode, read-ended, read-going, still-reading}
 use Rattle.quic_streams.proofs.state.StreamsState.read_half.Goals as goal
 
-pub returns-in-Err-clause-reads : goal.returns-in-Err-clause-reads
-returns-in-Err-clause-reads c = unmade _ _ c.args.id c.args.max_length _ c.args.ordered c.args.read c.in-Err.ensures.err c.in-Err.ensures.err_new c.requires.reading
+pub read_in_place-answer-requires : goal.read_in_place-answer-requires
+read_in_place-answer-requires c = reader-in-mode _ c.args.ordered c.args.read c.requires.reading
+
+pub returns-then-is_ended-clause-reads : goal.returns-then-is_ended-clause-reads
+returns-then-is_ended-clause-reads c =
+    let a = c.read_in_place-answer in
+    read-ended (shown c.args.self.now) (shown a.new.self) c.args.id c.args.max_length c.args.ordered c.args.read a.result
+    c.requires.reading a.ensures.reads a.ensures.halves (shown c.free_receive.new.self) (search rules) c.free_receive.ensures
+
+pub returns-else-is_ended-clause-reads : goal.returns-else-is_ended-clause-reads
+returns-else-is_ended-clause-reads c =
+    let a = c.read_in_place-answer in
+    read-going (shown c.args.self.now) (shown a.new.self) c.args.id c.args.max_length c.args.ordered c.args.read a.result
+    c.requires.reading a.ensures.reads a.ensures.halves (search rules)
+
+pub returns-else-is_ended-clause-reading : goal.returns-else-is_ended-clause-reading
+returns-else-is_ended-clause-reading c =
+    let a = c.read_in_place-answer in
+    still-reading (shown c.args.self.now) (shown a.new.self) c.args.id c.args.max_length c.args.ordered c.args.read a.result
+    c.requires.reading a.ensures.reads a.ensures.halves
