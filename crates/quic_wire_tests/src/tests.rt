@@ -472,6 +472,34 @@ fn decoded_whole(alloc: Global, payload: Vec<u8>) -> Result<Vec<Frame>, DecodeEr
     decode_owned(alloc, payload)
 }
 
+// How much memory the data of a payload keep that is a single frame and has so much room, and how many bytes lie before
+// them in it.
+fn kept(alloc: Global, room: usize) -> Result<(usize, usize), Fail> {
+    let mut payload = Vec::with_capacity(alloc, room)?;
+    put_frame(
+        &mut payload,
+        0,
+        0x0d,
+        &[8, 5],
+        b"some of the data of a stream",
+    )?;
+    let mut frames = decode_owned(alloc, payload)?;
+    match frames.pop() {
+        Some(Frame::Stream(frame)) => {
+            let (memory, before) = frame.bytes.into_parts();
+            Ok((memory.capacity(), before))
+        }
+        _ => Ok((0, 0)),
+    }
+}
+
+#[test]
+fn only_a_payload_with_little_room_is_kept(rt: HostRuntime) -> Result<(), Fail> {
+    same(&rt, kept(rt.alloc(), 31)?, (31, 3));
+    same(&rt, kept(rt.alloc(), 65_536)?, (28, 0));
+    Ok(())
+}
+
 #[test]
 fn no_size_up_to_65537_is_refused(rt: HostRuntime) -> Result<(), Fail> {
     for power in 0..17u32 {
