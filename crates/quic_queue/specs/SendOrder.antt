@@ -1,5 +1,5 @@
 -- The streams that have something to send, as callers of the queue see them.
-use Rattle.std.specs.Prelude.{◌≡◌, ℕ, ℤ, Bool, false, List, [], ◌∷◌, map, drop, Option, Some, None, is_some, slice_get, All, if◌then◌else◌, int_lt}
+use Rattle.std.specs.Prelude.{◌≡◌, ◌⊎◌, ℕ, ℤ, Bool, false, List, [], ◌∷◌, map, drop, Option, Some, None, is_some, slice_get, All, if◌then◌else◌, int_lt}
 use Rattle.quic_queue.specs.declared.queue.Entry.{Entry}
 use Rattle.quic_queue.specs.declared.queue.Next.{Next}
 use Rattle.quic_queue.specs.declared.queue.Next.TheVariants.{LetGo, PutAnew, KeepBack}
@@ -60,3 +60,10 @@ abbrev pub IsReserved : SendOrder → Next → Type 0
 IsReserved q LetGo = Unit {0}
 IsReserved q (PutAnew p) = q.reserved ≡ Some p
 IsReserved q KeepBack = Unit {0}
+
+-- there is room where the next entry is put anew: it was made for that priority or, where none is kept back and the
+-- entry keeps its priority, its own place serves
+abbrev pub HasPlace : SendOrder → Entry → Next → Type 0
+HasPlace q e LetGo = Unit {0}
+HasPlace q e (PutAnew p) = (q.reserved ≡ Some p) ⊎ ((q.kept ≡ None) × (p ≡ e.priority))
+HasPlace q e KeepBack = Unit {0}

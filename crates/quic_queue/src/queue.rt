@@ -1,8 +1,8 @@
 //! The send queue: the streams that have something to send, the highest priority first.
 
-ghost use Rattle.std.specs.Prelude.{◌≡◌, ◌==◌, Some, None, Bool, true, false, IsOk, IfOk, OnOk, OnErr, IfSome, IsSomeAnd, length, slice_get, drop, ℕ, ℤ};
+ghost use Rattle.std.specs.Prelude.{◌≡◌, ◌==◌, Some, None, Bool, true, false, not, is_some, IsOk, IfOk, OnOk, OnErr, IfSome, IsSomeAnd, length, slice_get, drop, ℕ, ℤ};
 ghost use Rattle.std.specs.List.{list_any};
-ghost use Rattle.quic_queue.specs.SendOrder.{empty_queue, put, with_entry, line, first, without_first, settled, IsReserved, NoneIsHigher, Tells, ids_of};
+ghost use Rattle.quic_queue.specs.SendOrder.{empty_queue, put, with_entry, line, first, without_first, settled, IsReserved, HasPlace, NoneIsHigher, Tells, ids_of};
 ghost use Rattle.quic_queue.specs.Levels.{HasNoIds, HasRoom, IsFilled, IsFirstPriority, KeepsOtherLevels, entries_of, ids_at};
 
 use quic_values::{OutOfMemory, StreamId};
@@ -294,6 +294,14 @@ impl SendQueue {
         }
     }
 
+    /// Whether no stream is kept back.
+    #[inline]
+    pub fn keeps_none(&self) -> bool
+        ensures { result ≡ not (is_some self.now.kept) }
+    {
+        self.kept.is_none()
+    }
+
     /// Takes the next stream out. Room that was made stays.
     #[inline]
     pub fn take_first(&mut self) -> Option<Entry>
@@ -347,12 +355,13 @@ impl SendQueue {
         self.kept = Some(entry);
     }
 
-    /// Ends the turn of the next stream. Takes no memory: room to put it anew is made before its frame is begun. Room
-    /// that was made and not used is let go.
+    /// Ends the turn of the next stream. Takes no memory: room to put it anew is made before its frame is begun, but where
+    /// none is kept back and the stream keeps its priority, its own place serves. Room that was made and not used is let
+    /// go.
     #[inline]
     pub fn end_turn(&mut self, entry: Entry, next: Next)
         requires is_first { first self.old ≡ Some entry }
-        requires room { IsReserved self.old next }
+        requires room { HasPlace self.old entry next }
         ensures { self.new ≡ settled (without_first self.old) entry next }
     {
         if self.kept.take().is_some() {
@@ -362,7 +371,10 @@ impl SendQueue {
         match next {
             Next::PutAnew(priority) if priority == entry.priority => {
                 turn_at(&mut self.levels, entry.priority, entry.id);
-                self.reserved = None;
+                match self.reserved.take() {
+                    Some(former) if former != priority => drop_if_empty(&mut self.levels, former),
+                    _ => {}
+                }
             }
             Next::PutAnew(priority) => {
                 self.take_at(entry.priority);
