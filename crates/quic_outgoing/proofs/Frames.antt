@@ -1,13 +1,13 @@
 -- Lemmas on the frames that are written of a stream.
-use Rattle.std.proofs.Common.{◌≡◌, ℕ, Bool, true, false, List, refl, ap, ◌∙◌}
-use Rattle.std.specs.Prelude.{MatchBool, Result, Ok, Err, IfOk, OnErr}
+use Rattle.std.proofs.Common.{◌≡◌, ℕ, ℤ, Bool, true, false, List, refl, ap, ◌∙◌}
+use Rattle.std.specs.Prelude.{MatchBool, Option, Some, None, Result, Ok, Err, IfOk, OnErr}
 use Rattle.quic_sending.specs.Buffer.{Buffered, IsSound}
 use Rattle.quic_sending.specs.declared.send.Send.{Send}
 use Rattle.quic_outgoing.specs.declared.transmitting.WrittenFrame.{WrittenFrame}
 use Rattle.quic_outgoing.specs.Senders.{bare, raised}
 use Rattle.quic_values.specs.declared.memory.OutOfMemory.{OutOfMemory}
 use Rattle.quic_outgoing.specs.Outgoing.{Outgoing}
-use Rattle.quic_outgoing.specs.Transmitting.{AppendsFrame, TransmitsFrame, Transmits}
+use Rattle.quic_outgoing.specs.Transmitting.{AppendsFrame, TransmitsFrame, Transmits, SendsAt, TransmitsAt}
 
 pub by_answer : {P Q : Type 0} (b : Bool) → (b ≡ true → P) → (b ≡ false → Q) → MatchBool b P Q
 by_answer true p q = p refl
@@ -61,3 +61,9 @@ pub transmits : (u v : Outgoing) (id most : ℕ) (bytes new : List ℕ) (r : Res
     → v ≡ record u { halves = v.halves } → Transmits u id most bytes r v new
 transmits u v id most bytes new (Ok frame) h halves same is = (h, is)
 transmits u v id most bytes new (Err e) h halves same is = (is ∙ ap (λ f. record u { halves = f }) halves, same)
+
+pub transmits_at : (u v : Outgoing) (id : ℕ) (priority : ℤ) (most : ℕ) (bytes new : List ℕ) (r : Result (Option WrittenFrame) OutOfMemory)
+    → SendsAt u.halves id priority most bytes r v.halves new → v ≡ record u { halves = v.halves } → TransmitsAt u id priority most bytes r v new
+transmits_at u v id priority most bytes new (Ok (Some frame)) h is = (h.0, (h.1, is))
+transmits_at u v id priority most bytes new (Ok None) h is = (h.0, is ∙ ap (λ f. record u { halves = f }) h.1, h.2)
+transmits_at u v id priority most bytes new (Err e) h is = (h.0, (is ∙ ap (λ f. record u { halves = f }) h.1, h.2))

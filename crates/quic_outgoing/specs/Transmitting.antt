@@ -1,5 +1,5 @@
 -- The STREAM frames of a stream, one at a time (RFC 9000 section 19.8).
-use Rattle.std.specs.Prelude.{◌≡◌, ℕ, ℤ, ◌+◌, ◌-◌, ◌≤◌, Bool, true, false, not, ◌&&◌, ◌==◌, if◌then◌else◌, max, List, ◌++◌, length, take, drop, Option, Some, None, Result, Ok, Err, MatchBool, []}
+use Rattle.std.specs.Prelude.{◌≡◌, ◌≢◌, ℕ, ℤ, ◌+◌, ◌-◌, ◌≤◌, Bool, true, false, not, ◌&&◌, ◌==◌, if◌then◌else◌, max, List, ◌++◌, length, take, drop, Option, Some, None, Result, Ok, Err, MatchBool, []}
 use Rattle.std.specs.List.{concat}
 use Rattle.quic_values.specs.Numbers.{size_of}
 use Rattle.quic_values.specs.Runs.{lies_in}
@@ -72,3 +72,16 @@ pub record TransmitsFrame (f : SendersById) (id most : ℕ) (bytes : List ℕ) (
 abbrev pub Transmits : Outgoing → ℕ → ℕ → List ℕ → Result WrittenFrame OutOfMemory → Outgoing → List ℕ → Type 0
 Transmits u id most bytes (Ok frame) v new = TransmitsFrame u.halves id most bytes frame v.halves new × (v ≡ record u { halves = v.halves })
 Transmits u id most bytes (Err e) v new = (v ≡ u) × (new ≡ bytes)
+
+-- one frame of a stream is written where data may be sent on it and its priority is this one: else, and for want of memory,
+-- none
+abbrev pub SendsAt : SendersById → ℕ → ℤ → ℕ → List ℕ → Result (Option WrittenFrame) OutOfMemory → SendersById → List ℕ → Type 0
+SendsAt f id priority most bytes (Ok (Some frame)) g new = (sending_priority (f id) ≡ Some priority) × TransmitsFrame f id most bytes frame g new
+SendsAt f id priority most bytes (Ok None) g new = (sending_priority (f id) ≢ Some priority) × (g ≡ f) × (new ≡ bytes)
+SendsAt f id priority most bytes (Err e) g new = (sending_priority (f id) ≡ Some priority) × (g ≡ f) × (new ≡ bytes)
+
+-- the same, and nothing else of the sending side changes
+abbrev pub TransmitsAt : Outgoing → ℕ → ℤ → ℕ → List ℕ → Result (Option WrittenFrame) OutOfMemory → Outgoing → List ℕ → Type 0
+TransmitsAt u id priority most bytes (Ok (Some frame)) v new = (sending_priority (u.halves id) ≡ Some priority) × Transmits u id most bytes (Ok frame) v new
+TransmitsAt u id priority most bytes (Ok None) v new = (sending_priority (u.halves id) ≢ Some priority) × (v ≡ u) × (new ≡ bytes)
+TransmitsAt u id priority most bytes (Err e) v new = (sending_priority (u.halves id) ≡ Some priority) × Transmits u id most bytes (Err e) v new

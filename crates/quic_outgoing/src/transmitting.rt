@@ -1,13 +1,13 @@
 //! STREAM frames, one at a time.
 
-ghost use Rattle.std.specs.Prelude.{◌≡◌, ◌+◌, ◌-◌, ◌<◌, ◌≤◌, ◌^◌, ◌++◌, ◌&&◌, ◌==◌, not, ℕ, List, [], IfOk, OnOk, OnErr, is_some, true, false, Some, length, vec_len, vec_capacity};
+ghost use Rattle.std.specs.Prelude.{◌≡◌, ◌≢◌, ◌+◌, ◌-◌, ◌<◌, ◌≤◌, ◌^◌, ◌++◌, ◌&&◌, ◌==◌, not, ℕ, List, [], IfOk, IfErr, IfSome, OnOk, OnErr, Ok, Err, is_some, true, false, Some, length, vec_len, vec_capacity};
 ghost use Rattle.quic_values.specs.Numbers.{size_of};
 ghost use Rattle.quic_wire.specs.Frames.{BeginsWith};
 ghost use Rattle.quic_wire.specs.Text.{meta_text, stream_of};
 ghost use Rattle.quic_outgoing.specs.Senders.{bare, raised};
 ghost use Rattle.quic_outgoing.specs.Seen.{senders, sender_room, sender_in};
 ghost use Rattle.quic_outgoing.specs.History.{Transmitted, Continues};
-ghost use Rattle.quic_outgoing.specs.Transmitting.{AppendsFrame, TransmitsFrame, Transmits, sending_priority, is_data_sent};
+ghost use Rattle.quic_outgoing.specs.Transmitting.{AppendsFrame, TransmitsFrame, Transmits, SendsAt, TransmitsAt, sending_priority, is_data_sent};
 ghost use Rattle.quic_outgoing.specs.Shown.{view_of, permit_room};
 
 use crate::entries::SendEntries;
@@ -54,6 +54,25 @@ impl OutgoingStreams {
     {
         self.halves.write_frame(id, max_size, buf)
     }
+
+    /// The same of a stream on which data may be sent and whose priority is this one. `None`: data may not be sent on it,
+    /// or its priority is another, and nothing changes.
+    #[inline]
+    pub fn write_frame_at(
+        &mut self,
+        id: StreamId,
+        priority: i32,
+        max_size: usize,
+        buf: &mut Vec<u8>,
+    ) -> Result<Option<WrittenFrame>, OutOfMemory>
+        requires room { length buf.old.items + 25 < max_size }
+        ensures transmits { TransmitsAt (view_of self.old) id priority max_size buf.old.items result (view_of self.new) buf.new.items }
+        ensures from { IfOk result (λ answer. IfSome answer (λ frame. Continues (view_of self.old) (Transmitted id max_size (Ok frame)) (view_of self.new))) }
+        ensures refused { IfErr result (λ e. Continues (view_of self.old) (Transmitted id max_size (Err e)) (view_of self.new)) }
+        ensures room { permit_room self.new ≡ permit_room self.old }
+    {
+        self.halves.write_frame_at(id, priority, max_size, buf)
+    }
 }
 
 #[tactic(auto, unfolding(crate::specs::Seen::senders))]
@@ -98,6 +117,45 @@ impl SendEntries {
             None => unreachable!(),
             Some(entry) => append_of_entry(self.alloc, limit, entry, id, max_size, buf),
         }
+    }
+
+    // Appends the next frame of a stream whose priority is this one. `None`: data may not be sent on it, or its priority is
+    // another. If `None` or refused, nothing changes.
+    #[inline]
+    fn write_frame_at(
+        &mut self,
+        id: StreamId,
+        priority: i32,
+        max_size: usize,
+        buf: &mut Vec<u8>,
+    ) -> Result<Option<WrittenFrame>, OutOfMemory>
+        requires room { length buf.old.items + 25 < max_size }
+        ensures sends { SendsAt (senders self.old) id priority max_size buf.old.items result (senders self.new) buf.new.items }
+        ensures side { self.new.side ≡ self.old.side }
+        ensures first { self.new.first ≡ self.old.first }
+        ensures room { sender_room self.new ≡ sender_room self.old }
+    {
+        let first_limit = self.first_limit(id);
+        let Some(entry) = self.entries.get_mut(&id) else {
+            return Ok(None);
+        };
+        if !is_sending_at(entry, priority) {
+            return Ok(None);
+        }
+        let frame = append_of_entry(self.alloc, first_limit, entry, id, max_size, buf)?;
+        Ok(Some(frame))
+    }
+}
+
+// Whether data may be sent on the stream of an entry, and its priority is this one.
+#[inline]
+fn is_sending_at(entry: &Option<Box<Send>>, priority: i32) -> bool
+    ensures yes { result ≡ true → (limit : ℕ) → sending_priority (Some (sender_in limit entry.now)) ≡ Some priority }
+    ensures no { result ≡ false → (limit : ℕ) → sending_priority (Some (sender_in limit entry.now)) ≢ Some priority }
+{
+    match entry {
+        None => priority == 0,
+        Some(half) => half.priority == priority && !half.is_reset(),
     }
 }
 
