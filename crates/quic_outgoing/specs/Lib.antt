@@ -4,6 +4,7 @@ pub mod Outgoing
 pub mod Calls
 pub mod Writing
 pub mod Acknowledging
+pub mod Reports
 pub mod Shown
 pub mod History
 pub mod Transmitting

@@ -1,17 +1,21 @@
 //! Acknowledgements and losses of the frames of a stream.
 
-ghost use Rattle.std.specs.Prelude.{◌≡◌, ◌≤◌, ◌&&◌, ◌||◌, not, is_some, true, Some};
+ghost use Rattle.std.specs.Prelude.{◌≡◌, ◌≤◌, ◌&&◌, ◌||◌, not, is_some, true, IfOk, OnErr};
 ghost use Rattle.quic_sending.specs.Sending.{is_ready};
-ghost use Rattle.quic_outgoing.specs.Senders.{bare, first_limit};
-ghost use Rattle.quic_outgoing.specs.Outgoing.{with_send_half};
+ghost use Rattle.quic_outgoing.specs.Senders.{bare};
+ghost use Rattle.quic_outgoing.specs.Seen.{senders, sender_room, sender_in};
 ghost use Rattle.quic_outgoing.specs.Acknowledging.{AcksStream, LosesOnStream, is_given_up, without_given_up};
+ghost use Rattle.quic_outgoing.specs.Reports.{AcksOn, AcksIn, LosesOn, LosesIn};
 ghost use Rattle.quic_outgoing.specs.History.{AckedFrame, LostFrame, ResetAcked, Continues};
 ghost use Rattle.quic_outgoing.specs.Shown.{view_of, permit_room};
 
 use crate::closing::queue_at;
+use crate::entries::SendEntries;
 use crate::outgoing::OutgoingStreams;
+use crate::transmitting::take_half;
 use quic_sending::Send;
-use quic_values::{OutOfMemory, StreamId};
+use quic_values::{OutOfMemory, StreamId, VarInt};
+use std::alloc::Global;
 use std::ops::Range;
 
 #[tactic(auto, unfolding(crate::specs::Shown::view_of, crate::specs::Shown::permit_room), using(crate::proofs::SenderMaps::sender_steps, crate::proofs::Histories::continues))]
@@ -41,47 +45,15 @@ impl OutgoingStreams {
         ensures acks { AcksStream (view_of self.old) id offsets fin result (view_of self.new) }
         ensures room { permit_room self.old ≤ permit_room self.new }
     {
-        match self.halves.take(id) {
+        match self.halves.ack(id, offsets, fin) {
             Err(_) => Err(OutOfMemory),
             Ok(None) => Ok(false),
-            Ok(Some(half)) => self.ack_half(id, half, offsets, fin),
-        }
-    }
-
-    // A frame is acknowledged on a half that was taken out.
-    #[inline]
-    fn ack_half(
-        &mut self,
-        id: StreamId,
-        half: Box<Send>,
-        offsets: Range<u64>,
-        fin: bool,
-    ) -> Result<bool, OutOfMemory>
-        requires there { is_some ((view_of self.old).halves id) ≡ true }
-        requires held { first_limit (view_of self.old).side (view_of self.old).first id ≤ half.value.max_data }
-        ensures acks { AcksStream (with_send_half (view_of self.old) id (Some (bare half.value))) id offsets fin result (view_of self.new) }
-        ensures room { permit_room self.old ≤ permit_room self.new }
-    {
-        let mut half = half;
-        if half.is_reset() || offsets.end > half.pending.unsent() {
-            self.halves.put(id, half);
-            return Ok(false);
-        }
-        let retained = half.pending.buffered();
-        match half.ack(offsets, fin) {
-            Err(_) => {
-                self.halves.put(id, half);
-                Err(OutOfMemory)
-            }
-            Ok(done) => {
-                self.budget
-                    .release(retained.saturating_sub(half.pending.buffered()));
-                if done {
+            Ok(Some(acked)) => {
+                self.budget.release(acked.released);
+                if acked.is_complete {
                     self.halves.remove(id);
-                } else {
-                    self.halves.put(id, half);
                 }
-                Ok(done)
+                Ok(acked.is_complete)
             }
         }
     }
@@ -105,6 +77,7 @@ impl OutgoingStreams {
     }
 
     // The same, each way out.
+    #[inline]
     fn take_loss(
         &mut self,
         id: StreamId,
@@ -113,43 +86,7 @@ impl OutgoingStreams {
     ) -> Result<Option<i32>, OutOfMemory>
         ensures { LosesOnStream (view_of self.old) id offsets fin result (view_of self.new) }
     {
-        match self.halves.take(id) {
-            Err(_) => Err(OutOfMemory),
-            Ok(None) => Ok(None),
-            Ok(Some(half)) => self.lose_on_half(id, half, offsets, fin),
-        }
-    }
-
-    // A frame is lost of a half that was taken out.
-    fn lose_on_half(
-        &mut self,
-        id: StreamId,
-        half: Box<Send>,
-        offsets: Range<u64>,
-        fin: bool,
-    ) -> Result<Option<i32>, OutOfMemory>
-        requires there { is_some ((view_of self.old).halves id) ≡ true }
-        requires held { first_limit (view_of self.old).side (view_of self.old).first id ≤ half.value.max_data }
-        ensures { LosesOnStream (with_send_half (view_of self.old) id (Some (bare half.value))) id offsets fin result (view_of self.new) }
-    {
-        let mut half = half;
-        if half.is_reset() || offsets.end > half.pending.unsent() {
-            self.halves.put(id, half);
-            return Ok(None);
-        }
-        let queue_at = queue_at(&half);
-        let fin_pending = is_end_due(&half, fin);
-        match half.pending.retransmit(offsets) {
-            Err(_) => {
-                self.halves.put(id, half);
-                Err(OutOfMemory)
-            }
-            Ok(()) => {
-                half.fin_pending = fin_pending;
-                self.halves.put(id, half);
-                Ok(queue_at)
-            }
-        }
+        self.halves.lose(id, offsets, fin)
     }
 
     /// Whether a stream was reset and its half is still held.
@@ -173,6 +110,131 @@ impl OutgoingStreams {
         }
         given_up
     }
+}
+
+// What the acknowledgement of a frame did to a half.
+#[derive(Clone, Copy)]
+pub(crate) struct Acked {
+    // How many bytes are retained no more.
+    released: u64,
+    // Whether the end and every byte are acknowledged.
+    is_complete: bool,
+}
+
+#[tactic(auto, unfolding(crate::specs::Seen::senders))]
+impl SendEntries {
+    // A frame is acknowledged on the half of a stream, where it lies. `None`: its report does not count.
+    #[inline]
+    fn ack(
+        &mut self,
+        id: StreamId,
+        offsets: Range<u64>,
+        fin: bool,
+    ) -> Result<Option<Acked>, OutOfMemory>
+        ensures ok { IfOk result (λ acked. AcksIn (senders self.old) id offsets fin acked (senders self.new)) }
+        ensures err { OnErr result (senders self.new ≡ senders self.old) }
+        ensures held { OnErr result (is_some (senders self.old id) ≡ true) }
+        ensures side { self.new.side ≡ self.old.side }
+        ensures first { self.new.first ≡ self.old.first }
+        ensures room { sender_room self.new ≡ sender_room self.old }
+    {
+        let limit = self.first_limit(id);
+        match self.entries.get_mut(&id) {
+            None => Ok(None),
+            Some(entry) => ack_of_entry(self.alloc, limit, entry, offsets, fin),
+        }
+    }
+
+    // A frame is lost of the half of a stream, where it lies. Answers the priority at which the stream is to be queued.
+    #[inline]
+    fn lose(
+        &mut self,
+        id: StreamId,
+        offsets: Range<u64>,
+        fin: bool,
+    ) -> Result<Option<i32>, OutOfMemory>
+        ensures ok { IfOk result (λ queue. LosesIn (senders self.old) id offsets fin queue (senders self.new)) }
+        ensures err { OnErr result (senders self.new ≡ senders self.old) }
+        ensures held { OnErr result (is_some (senders self.old id) ≡ true) }
+        ensures side { self.new.side ≡ self.old.side }
+        ensures first { self.new.first ≡ self.old.first }
+        ensures room { sender_room self.new ≡ sender_room self.old }
+    {
+        let limit = self.first_limit(id);
+        match self.entries.get_mut(&id) {
+            None => Ok(None),
+            Some(entry) => loss_of_entry(self.alloc, limit, entry, offsets, fin),
+        }
+    }
+}
+
+// A frame is acknowledged on the half of an entry.
+#[inline]
+fn ack_of_entry(
+    alloc: Global,
+    limit: VarInt,
+    entry: &mut Option<Box<Send>>,
+    offsets: Range<u64>,
+    fin: bool,
+) -> Result<Option<Acked>, OutOfMemory>
+    ensures ok { IfOk result (λ acked. AcksOn offsets fin (sender_in limit entry.old) acked (sender_in limit entry.new)) }
+    ensures err { OnErr result (sender_in limit entry.new ≡ sender_in limit entry.old) }
+{
+    let mut half = take_half(alloc, limit, entry)?;
+    let acked = ack_on(&mut half, offsets, fin);
+    *entry = Some(half);
+    acked
+}
+
+// A frame is acknowledged on a half.
+#[inline]
+fn ack_on(half: &mut Send, offsets: Range<u64>, fin: bool) -> Result<Option<Acked>, OutOfMemory>
+    ensures ok { IfOk result (λ acked. AcksOn offsets fin (bare half.old) acked (bare half.new)) }
+    ensures err { OnErr result (half.new ≡ half.old) }
+{
+    if half.is_reset() || offsets.end > half.pending.unsent() {
+        return Ok(None);
+    }
+    let retained = half.pending.buffered();
+    let is_complete = half.ack(offsets, fin)?;
+    Ok(Some(Acked {
+        released: retained.saturating_sub(half.pending.buffered()),
+        is_complete,
+    }))
+}
+
+// A frame is lost of the half of an entry.
+#[inline]
+fn loss_of_entry(
+    alloc: Global,
+    limit: VarInt,
+    entry: &mut Option<Box<Send>>,
+    offsets: Range<u64>,
+    fin: bool,
+) -> Result<Option<i32>, OutOfMemory>
+    ensures ok { IfOk result (λ queue. LosesOn offsets fin (sender_in limit entry.old) queue (sender_in limit entry.new)) }
+    ensures err { OnErr result (sender_in limit entry.new ≡ sender_in limit entry.old) }
+{
+    let mut half = take_half(alloc, limit, entry)?;
+    let queue_at = lose_on(&mut half, offsets, fin);
+    *entry = Some(half);
+    queue_at
+}
+
+// A frame is lost of a half.
+#[inline]
+fn lose_on(half: &mut Send, offsets: Range<u64>, fin: bool) -> Result<Option<i32>, OutOfMemory>
+    ensures ok { IfOk result (λ queue. LosesOn offsets fin half.old queue half.new) }
+    ensures err { OnErr result (half.new ≡ half.old) }
+{
+    if half.is_reset() || offsets.end > half.pending.unsent() {
+        return Ok(None);
+    }
+    let queue_at = queue_at(half);
+    let fin_pending = is_end_due(half, fin);
+    half.pending.retransmit(offsets)?;
+    half.fin_pending = fin_pending;
+    Ok(queue_at)
 }
 
 // Whether the end of a half is to be sent, once a frame was lost that had it or not.

@@ -161,7 +161,7 @@ fn is_sending_at(entry: &Option<Box<Send>>, priority: i32) -> bool
 
 // Takes the half of an entry out, to be put back. It is made where nothing was written yet.
 #[inline]
-fn take_half(
+pub(crate) fn take_half(
     alloc: Global,
     limit: VarInt,
     entry: &mut Option<Box<Send>>,

@@ -1,6 +1,6 @@
 //! Acknowledgements and losses of what this end sent.
 
-ghost use Rattle.std.specs.Prelude.{ℕ, List, ◌∷◌, ◌≡◌, ◌≤◌};
+ghost use Rattle.std.specs.Prelude.{ℕ, List, ◌∷◌, ◌≡◌, ◌≤◌, OnOk, OnErr, is_some, true, false};
 ghost use Rattle.quic_streams.specs.Room.{rooms, HasEventRoom};
 ghost use Rattle.quic_streams.specs.Shown.{shown};
 ghost use Rattle.quic_history.specs.World.{Made};
@@ -36,15 +36,27 @@ impl StreamsState {
         if !self.is_permitted(id) {
             return Ok(());
         }
-        if !self.outgoing.contains(id) {
-            return Ok(());
+        if self.make_room().is_err() {
+            return self.refuse_held(id);
         }
-        self.make_room()?;
         if self.outgoing.ack(id, frame.offsets, frame.fin)? {
             self.free_send(id);
             self.events.push_back_reserved(StreamEvent::Finished { id });
         }
         Ok(())
+    }
+
+    // Memory lacks for the report of a frame. Of a stream that is freed none is refused.
+    #[inline(never)]
+    fn refuse_held(&self, id: StreamId) -> Result<(), OutOfMemory>
+        ensures freed { OnOk result (is_some ((shown self.now).out.halves id) ≡ false) }
+        ensures held { OnErr result (is_some ((shown self.now).out.halves id) ≡ true) }
+    {
+        if self.outgoing.contains(id) {
+            Err(OutOfMemory)
+        } else {
+            Ok(())
+        }
     }
 
     /// A STREAM frame was lost (RFC 9000 section 13.3): those of its data that are not acknowledged are to be sent again,

@@ -1,6 +1,6 @@
 //! The receive halves of a connection's streams.
 
-ghost use Rattle.std.specs.Prelude.{ℕ, true, ◌≡◌, ◌+◌, ◌<◌, ◌≤◌, length, ◌^◌, Some, None, IsSome, IfSome, IfOk, OnOk, OnErr, is_some};
+ghost use Rattle.std.specs.Prelude.{ℕ, true, ◌≡◌, ◌+◌, ◌<◌, ◌≤◌, length, ◌^◌, Some, None, IsSome, IfSome, IfOk, OnOk, OnErr, is_some, false};
 ghost use Rattle.std.specs.Option.{option_map};
 ghost use Rattle.quic_receiving.specs.Half.{new_half};
 ghost use Rattle.quic_receiving.specs.Calls.{Reads};
@@ -361,7 +361,7 @@ fn read_on(
 }
 
 // Makes the half of an entry to which nothing came.
-#[inline]
+#[inline(always)]
 fn make_half(
     alloc: Global,
     window: VarInt,
@@ -370,10 +370,25 @@ fn make_half(
     ensures same { half_in window entry.new ≡ half_in window entry.old }
     ensures made { OnOk result (is_some entry.new ≡ true) }
 {
-    if entry.is_none() {
-        let half = Box::new(alloc, Recv::new(alloc, window.into_inner()))?;
-        *entry = Some(half);
+    if entry.is_some() {
+        return Ok(());
     }
+    put_new_half(alloc, window, entry)
+}
+
+// Puts a new half into an entry to which nothing came.
+#[inline(never)]
+fn put_new_half(
+    alloc: Global,
+    window: VarInt,
+    entry: &mut Option<Box<Recv>>,
+) -> Result<(), OutOfMemory>
+    requires { is_some entry.old ≡ false }
+    ensures same { half_in window entry.new ≡ half_in window entry.old }
+    ensures made { OnOk result (is_some entry.new ≡ true) }
+{
+    let half = Box::new(alloc, Recv::new(alloc, window.into_inner()))?;
+    *entry = Some(half);
     Ok(())
 }
 
