@@ -206,6 +206,22 @@ fn next_frame(
     subject.state.write_frame(stream, max_size, buf).ok()
 }
 
+// The same of a stream whose priority is this one. `Ok(None)`: it is not, or nothing may be sent on the stream.
+fn next_frame_at(
+    subject: &mut Subject,
+    stream: u32,
+    priority: i32,
+    max_size: usize,
+    buf: &mut Vec<u8>,
+) -> Result<Option<WrittenFrame>, OutOfMemory> {
+    if !buf.is_empty() || max_size <= 25 {
+        return Ok(None);
+    }
+    subject
+        .state
+        .write_frame_at(id(stream), priority, max_size, buf)
+}
+
 // An end whose peer permits so many streams of each direction, bytes in all, and bytes on each stream.
 fn end(alloc: Global, side: Side, streams: u32, data: u32, stream_data: u32) -> Subject {
     let mut state = none(alloc, side);

@@ -55,6 +55,18 @@ fn put_anew(queue: &mut SendQueue, priority: i32) -> Result<Option<Entry>, OutOf
     Ok(first)
 }
 
+// The turn of the next stream, which is put anew at the priority that it has, with no room made for it.
+fn turn(queue: &mut SendQueue) -> Option<Entry> {
+    if !queue.keeps_none() {
+        return None;
+    }
+    let first = queue.first();
+    if let Some(entry) = queue.first() {
+        queue.end_turn(entry, Next::PutAnew(entry.priority));
+    }
+    first
+}
+
 // The turn of the next stream, which is kept back.
 fn keep_back(queue: &mut SendQueue) -> Option<Entry> {
     let first = queue.first();
@@ -161,6 +173,33 @@ fn put_anew_at_the_same_priority(rt: HostRuntime) -> Result<(), Fail> {
     same(&rt, put_anew(&mut queue, 5)?, Some(entry(1, 5)));
     same(&rt, queue.take_first(), Some(entry(0, 5)));
     same(&rt, queue.take_first(), Some(entry(1, 5)));
+    is_true(&rt, queue.is_empty());
+    Ok(())
+}
+
+// A stream that keeps its priority needs no room, whatever room there is.
+#[test]
+fn put_anew_where_no_room_was_made(rt: HostRuntime) -> Result<(), Fail> {
+    let mut queue = SendQueue::new(rt.alloc());
+    same(&rt, turn(&mut queue), None);
+    put(&mut queue, 0, 5)?;
+    same(&rt, turn(&mut queue), Some(entry(0, 5)));
+    put(&mut queue, 1, 5)?;
+    put(&mut queue, 2, 3)?;
+    same(&rt, turn(&mut queue), Some(entry(0, 5)));
+    // Room at a priority of another stream, of this one and of none.
+    for priority in [3, 5, 9] {
+        queue.reserve(priority)?;
+        same(&rt, turn(&mut queue), Some(entry(1, 5)));
+        queue.reserve(priority)?;
+        same(&rt, turn(&mut queue), Some(entry(0, 5)));
+    }
+    is_true(&rt, queue.keeps_none());
+    same(&rt, keep_back(&mut queue), Some(entry(1, 5)));
+    is_true(&rt, !queue.keeps_none());
+    same(&rt, let_go(&mut queue), Some(entry(1, 5)));
+    same(&rt, let_go(&mut queue), Some(entry(0, 5)));
+    same(&rt, let_go(&mut queue), Some(entry(2, 3)));
     is_true(&rt, queue.is_empty());
     Ok(())
 }

@@ -1,11 +1,11 @@
 -- What a turn does to the queue.
-use Rattle.std.proofs.Common.{◌≡◌, ℤ, ◌+◌, ◌≤◌, Bool, true, false, List, [], ◌∷◌, drop, length, Option, Some, None, refl, sym, ap, suc, cond, arith}
+use Rattle.std.proofs.Common.{◌≡◌, ℤ, ◌+◌, ◌≤◌, Bool, true, false, List, [], ◌∷◌, drop, length, Option, Some, None, refl, sym, ap, inl, inr, suc, cond, arith}
 use Rattle.std.specs.Prelude.{slice_get, int_lt}
 use Rattle.std.proofs.lemmas.Option.{none-some}
 use Rattle.quic_queue.specs.declared.queue.Entry.{Entry}
 use Rattle.quic_queue.specs.declared.queue.Next.{Next}
 use Rattle.quic_queue.specs.declared.queue.Next.TheVariants.{LetGo, PutAnew, KeepBack}
-use Rattle.quic_queue.specs.SendOrder.{SendOrder, put, line, first, without_first, settled, IsReserved}
+use Rattle.quic_queue.specs.SendOrder.{SendOrder, put, line, first, without_first, settled, HasPlace}
 use Rattle.quic_writing.specs.Writer.{unreserved, next_of}
 
 -- the room does not show in what becomes of the first stream
@@ -16,10 +16,16 @@ settled-unreserved q r e (PutAnew p) same = ap (λ (x : SendOrder). settled (wit
 settled-unreserved q r e KeepBack same = ap (λ (x : SendOrder). settled (without_first x) e KeepBack) same
 
 -- there is room where a stream is put anew
-pub has-place : (q : SendOrder) (fair : Bool) (priority : ℤ) (has_more : Bool) → (fair ≡ true → q.reserved ≡ Some priority) → IsReserved q (next_of fair priority has_more)
-has-place q fair priority false place = tt
-has-place q true priority true place = place refl
-has-place q false priority true place = tt
+pub has-place : (q : SendOrder) (e : Entry) (fair : Bool) (priority : ℤ) (has_more : Bool) → (fair ≡ true → q.reserved ≡ Some priority) → HasPlace q e (next_of fair priority has_more)
+has-place q e fair priority false place = tt
+has-place q e true priority true place = inl (place refl)
+has-place q e false priority true place = tt
+
+-- the place of a stream that keeps its priority serves, where none is kept back
+pub own-place : (q : SendOrder) (e : Entry) (fair : Bool) (has_more : Bool) → (fair ≡ true → q.kept ≡ None) → HasPlace q e (next_of fair e.priority has_more)
+own-place q e fair false place = tt
+own-place q e true true place = inr (place refl, refl)
+own-place q e false true place = tt
 
 pub first-unreserved : (q r : SendOrder) → unreserved r ≡ unreserved q → first r ≡ first q
 first-unreserved q r same = ap (λ (x : SendOrder). first x) same

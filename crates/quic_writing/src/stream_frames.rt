@@ -79,17 +79,72 @@ fn take_turn(
     let Some(entry) = queue.first() else {
         return Ok(false);
     };
-    let Some(priority) = streams.sending_priority(entry.id) else {
-        queue.end_turn(entry, Next::LetGo);
+    if take_common_turn(streams, queue, &entry, buf, sent, max_size, fair)? {
         return Ok(true);
+    }
+    take_other_turn(streams, queue, &entry, buf, sent, max_size, fair)?;
+    Ok(true)
+}
+
+// Serves the first stream in the queue where it has the priority at which it was put, and its own place serves if it is put
+// anew. Else answers `false`, and nothing changes.
+#[inline]
+fn take_common_turn(
+    streams: &mut OutgoingStreams,
+    queue: &mut SendQueue,
+    entry: &Entry,
+    buf: &mut Vec<u8>,
+    sent: &mut StreamMetaVec,
+    max_size: usize,
+    fair: bool,
+) -> Result<bool, OutOfMemory>
+    requires is_first { first queue.old ≡ Some entry.now }
+    requires room { length buf.old.items + 25 < max_size }
+    ensures turn { IfOk result (λ served. served ≡ true → TakesTurn max_size fair (writer (view_of streams.old) queue.old buf.old.items sent.old.items) (writer (view_of streams.new) queue.new buf.new.items sent.new.items)) }
+    ensures passed { IfOk result (λ served. served ≡ false → writer (view_of streams.new) queue.new buf.new.items sent.new.items ≡ writer (view_of streams.old) queue.old buf.old.items sent.old.items) }
+    ensures err { OnErr result (writer (view_of streams.new) queue.new buf.new.items sent.new.items ≡ writer (view_of streams.old) queue.old buf.old.items sent.old.items) }
+{
+    if fair && !queue.keeps_none() {
+        return Ok(false);
+    }
+    sent.reserve(1)?;
+    let written = streams.write_frame_at(entry.id, entry.priority, max_size, buf)?;
+    let Some(frame) = written else {
+        return Ok(false);
+    };
+    let next = next_of(fair, entry.priority, frame.has_more);
+    queue.end_turn(*entry, next);
+    sent.push_reserved(frame.meta);
+    Ok(true)
+}
+
+// Serves the first stream in the queue, at whatever priority it has now, or lets it go.
+#[inline(never)]
+fn take_other_turn(
+    streams: &mut OutgoingStreams,
+    queue: &mut SendQueue,
+    entry: &Entry,
+    buf: &mut Vec<u8>,
+    sent: &mut StreamMetaVec,
+    max_size: usize,
+    fair: bool,
+) -> Result<(), OutOfMemory>
+    requires is_first { first queue.old ≡ Some entry.now }
+    requires room { length buf.old.items + 25 < max_size }
+    ensures turn { OnOk result (TakesTurn max_size fair (writer (view_of streams.old) queue.old buf.old.items sent.old.items) (writer (view_of streams.new) queue.new buf.new.items sent.new.items)) }
+    ensures err { OnErr result (writer (view_of streams.new) queue.new buf.new.items sent.new.items ≡ writer (view_of streams.old) queue.old buf.old.items sent.old.items) }
+{
+    let Some(priority) = streams.sending_priority(entry.id) else {
+        queue.end_turn(*entry, Next::LetGo);
+        return Ok(());
     };
     reserve_place(queue, fair, priority)?;
     sent.reserve(1)?;
     let frame = streams.write_frame(entry.id, max_size, buf)?;
     let next = next_of(fair, priority, frame.has_more);
-    queue.end_turn(entry, next);
+    queue.end_turn(*entry, next);
     sent.push_reserved(frame.meta);
-    Ok(true)
+    Ok(())
 }
 
 // Makes the room to put a stream anew, where that may be.
@@ -104,6 +159,7 @@ fn reserve_place(queue: &mut SendQueue, fair: bool, priority: i32) -> Result<(),
 }
 
 // What becomes of a stream at the end of its turn.
+#[inline]
 fn next_of(fair: bool, priority: i32, has_more: bool) -> Next
     ensures { result ≡ next_of fair priority has_more }
 {

@@ -181,6 +181,44 @@ fn a_new_priority_counts_from_the_next_turn_on(rt: HostRuntime) -> Result<(), Fa
     Ok(())
 }
 
+// The same where a stream that has more is kept back: it keeps its place at the old priority too.
+#[test]
+fn a_new_priority_of_a_stream_that_is_kept_back(rt: HostRuntime) -> Result<(), Fail> {
+    let mut session = two_streams(rt.alloc())?;
+    is_true(&rt, session.streams.set_priority(id(2), -1).is_ok());
+    fill(&mut session, 30, false)?;
+    is_true(&rt, is_filled(&session, &[0x08, 0x02], b'a', 28));
+    fill(&mut session, 30, false)?;
+    is_true(&rt, is_filled(&session, &[0x0e, 0x02, 0x1c, 0x02], b'a', 2));
+    fill(&mut session, 30, false)?;
+    is_true(&rt, is_filled(&session, &[0x08, 0x06], b'b', 28));
+    Ok(())
+}
+
+// A stream that was kept back is put anew at the end of a fair turn, at the priority that it has then.
+#[test]
+fn a_fair_turn_of_a_stream_that_was_kept_back(rt: HostRuntime) -> Result<(), Fail> {
+    for priority in [0, 1] {
+        let mut session = client(rt.alloc(), 2)?;
+        write(&mut session, 2, b'a', 60)?;
+        write(&mut session, 6, b'b', 30)?;
+        fill(&mut session, 30, false)?;
+        is_true(&rt, is_filled(&session, &[0x08, 0x02], b'a', 28));
+        is_true(&rt, !session.queue.keeps_none());
+        is_true(&rt, session.streams.set_priority(id(2), priority).is_ok());
+        fill(&mut session, 30, true)?;
+        is_true(&rt, is_filled(&session, &[0x0c, 0x02, 0x1c], b'a', 27));
+        is_true(&rt, session.queue.keeps_none());
+        fill(&mut session, 30, true)?;
+        if priority == 0 {
+            is_true(&rt, is_filled(&session, &[0x08, 0x06], b'b', 28));
+        } else {
+            is_true(&rt, is_filled(&session, &[0x0e, 0x02, 0x37, 0x05], b'a', 5));
+        }
+    }
+    Ok(())
+}
+
 #[test]
 fn an_end_behind_its_bytes(rt: HostRuntime) -> Result<(), Fail> {
     let mut session = client(rt.alloc(), 1)?;
