@@ -1,6 +1,6 @@
 -- Reports of frames that count.
-use Rattle.std.proofs.Common.{◌≡◌, ◌≤◌, ℕ, ℤ, Bool, true, false, cond, ◌&&◌, ◌||◌, not, Option, Some, None, refl, sym, ap, ◌∙◌, ◌-◌, List, arith}
-use Rattle.std.specs.Prelude.{◌==◌, ◌↔◌, IsTrue, MatchBool, nat_le, if◌then◌else◌, Ok}
+use Rattle.std.proofs.Common.{◌≡◌, ◌≤◌, ℕ, ℤ, Bool, true, false, ◌&&◌, ◌||◌, not, Option, Some, None, refl, ap, ◌∙◌, ◌-◌, List, arith}
+use Rattle.std.specs.Prelude.{◌==◌, ◌↔◌, IsTrue, MatchBool, nat_le}
 use Rattle.std.proofs.lemmas.Bool.Decides.{nat_tests}
 use Rattle.std.specs.declared.ops.Range.{Range}
 use Rattle.quic_values.specs.Runs.{lies_in}

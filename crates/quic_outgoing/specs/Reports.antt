@@ -21,7 +21,7 @@ AcksOn offsets fin s None t = (were_sent (Some s) offsets ≡ false) × (t ≡ s
 AcksOn offsets fin s (Some acked) t = AcksSent offsets fin s acked t
 
 -- a frame that was sent is acknowledged on the half of a stream
-pub record AcksAt (f : SendersById) (id : ℕ) (offsets : Range ℕ) (fin : Bool) (acked : Acked) (g : SendersById) : Type 0 where
+pub record AcksHeld (f : SendersById) (id : ℕ) (offsets : Range ℕ) (fin : Bool) (acked : Acked) (g : SendersById) : Type 0 where
   pub half : Send
   pub after : Send
   pub is_held : f id ≡ Some half
@@ -31,14 +31,14 @@ pub record AcksAt (f : SendersById) (id : ℕ) (offsets : Range ℕ) (fin : Bool
 -- what came of the report on the halves that a frame was acknowledged
 abbrev pub AcksIn : SendersById → ℕ → Range ℕ → Bool → Option Acked → SendersById → Type 0
 AcksIn f id offsets fin None g = (were_sent (f id) offsets ≡ false) × (g ≡ f)
-AcksIn f id offsets fin (Some acked) g = AcksAt f id offsets fin acked g
+AcksIn f id offsets fin (Some acked) g = AcksHeld f id offsets fin acked g
 
 -- what came of the report on a half that a frame was lost: nothing, where it does not count
 abbrev pub LosesOn : Range ℕ → Bool → Send → Option ℤ → Send → Type 0
 LosesOn offsets fin s queue t = MatchBool (were_sent (Some s) offsets) (QueuesAt s queue × LosesOffsets offsets fin s t) ((queue ≡ None) × (t ≡ s))
 
 -- a frame that was sent is lost of the half of a stream
-pub record LosesAt (f : SendersById) (id : ℕ) (offsets : Range ℕ) (fin : Bool) (queue : Option ℤ) (g : SendersById) : Type 0 where
+pub record LosesHeld (f : SendersById) (id : ℕ) (offsets : Range ℕ) (fin : Bool) (queue : Option ℤ) (g : SendersById) : Type 0 where
   pub half : Send
   pub after : Send
   pub is_held : f id ≡ Some half
@@ -48,4 +48,4 @@ pub record LosesAt (f : SendersById) (id : ℕ) (offsets : Range ℕ) (fin : Boo
 
 -- what came of the report on the halves that a frame was lost
 abbrev pub LosesIn : SendersById → ℕ → Range ℕ → Bool → Option ℤ → SendersById → Type 0
-LosesIn f id offsets fin queue g = MatchBool (were_sent (f id) offsets) (LosesAt f id offsets fin queue g) ((queue ≡ None) × (g ≡ f))
+LosesIn f id offsets fin queue g = MatchBool (were_sent (f id) offsets) (LosesHeld f id offsets fin queue g) ((queue ≡ None) × (g ≡ f))

@@ -63,7 +63,7 @@ IsReserved q KeepBack = Unit {0}
 
 -- there is room where the next entry is put anew: it was made for that priority or, where none is kept back and the
 -- entry keeps its priority, its own place serves
-abbrev pub HasPlace : SendOrder → Entry → Next → Type 0
-HasPlace q e LetGo = Unit {0}
-HasPlace q e (PutAnew p) = (q.reserved ≡ Some p) ⊎ ((q.kept ≡ None) × (p ≡ e.priority))
-HasPlace q e KeepBack = Unit {0}
+abbrev pub HasTurnPlace : SendOrder → Entry → Next → Type 0
+HasTurnPlace q e LetGo = Unit {0}
+HasTurnPlace q e (PutAnew p) = (q.reserved ≡ Some p) ⊎ ((q.kept ≡ None) × (p ≡ e.priority))
+HasTurnPlace q e KeepBack = Unit {0}

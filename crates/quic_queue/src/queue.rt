@@ -2,7 +2,7 @@
 
 ghost use Rattle.std.specs.Prelude.{◌≡◌, ◌==◌, Some, None, Bool, true, false, not, is_some, IsOk, IfOk, OnOk, OnErr, IfSome, IsSomeAnd, length, slice_get, drop, ℕ, ℤ};
 ghost use Rattle.std.specs.List.{list_any};
-ghost use Rattle.quic_queue.specs.SendOrder.{empty_queue, put, with_entry, line, first, without_first, settled, IsReserved, HasPlace, NoneIsHigher, Tells, ids_of};
+ghost use Rattle.quic_queue.specs.SendOrder.{empty_queue, put, with_entry, line, first, without_first, settled, IsReserved, HasTurnPlace, NoneIsHigher, Tells, ids_of};
 ghost use Rattle.quic_queue.specs.Levels.{HasNoIds, HasRoom, IsFilled, IsFirstPriority, KeepsOtherLevels, entries_of, ids_at};
 
 use quic_values::{OutOfMemory, StreamId};
@@ -361,7 +361,7 @@ impl SendQueue {
     #[inline]
     pub fn end_turn(&mut self, entry: Entry, next: Next)
         requires is_first { first self.old ≡ Some entry }
-        requires room { HasPlace self.old entry next }
+        requires room { HasTurnPlace self.old entry next }
         ensures { self.new ≡ settled (without_first self.old) entry next }
     {
         if self.kept.take().is_some() {

@@ -5,7 +5,7 @@ use Rattle.std.proofs.lemmas.Option.{none-some}
 use Rattle.quic_queue.specs.declared.queue.Entry.{Entry}
 use Rattle.quic_queue.specs.declared.queue.Next.{Next}
 use Rattle.quic_queue.specs.declared.queue.Next.TheVariants.{LetGo, PutAnew, KeepBack}
-use Rattle.quic_queue.specs.SendOrder.{SendOrder, put, line, first, without_first, settled, HasPlace}
+use Rattle.quic_queue.specs.SendOrder.{SendOrder, put, line, first, without_first, settled, HasTurnPlace}
 use Rattle.quic_writing.specs.Writer.{unreserved, next_of}
 
 -- the room does not show in what becomes of the first stream
@@ -16,13 +16,13 @@ settled-unreserved q r e (PutAnew p) same = ap (λ (x : SendOrder). settled (wit
 settled-unreserved q r e KeepBack same = ap (λ (x : SendOrder). settled (without_first x) e KeepBack) same
 
 -- there is room where a stream is put anew
-pub has-place : (q : SendOrder) (e : Entry) (fair : Bool) (priority : ℤ) (has_more : Bool) → (fair ≡ true → q.reserved ≡ Some priority) → HasPlace q e (next_of fair priority has_more)
+pub has-place : (q : SendOrder) (e : Entry) (fair : Bool) (priority : ℤ) (has_more : Bool) → (fair ≡ true → q.reserved ≡ Some priority) → HasTurnPlace q e (next_of fair priority has_more)
 has-place q e fair priority false place = tt
 has-place q e true priority true place = inl (place refl)
 has-place q e false priority true place = tt
 
 -- the place of a stream that keeps its priority serves, where none is kept back
-pub own-place : (q : SendOrder) (e : Entry) (fair : Bool) (has_more : Bool) → (fair ≡ true → q.kept ≡ None) → HasPlace q e (next_of fair e.priority has_more)
+pub own-place : (q : SendOrder) (e : Entry) (fair : Bool) (has_more : Bool) → (fair ≡ true → q.kept ≡ None) → HasTurnPlace q e (next_of fair e.priority has_more)
 own-place q e fair false place = tt
 own-place q e true true place = inr (place refl, refl)
 own-place q e false true place = tt
