@@ -53,8 +53,32 @@ impl RecvStream<'_> {
         ensures from_refused { IfErr result (λ error. (m : Made) (h : List Event) → From m h (shown self.old.state.now)
             → From m (Began self.old.id ordered (Err error) ∷ h) (shown self.new.state.now)) }
     {
+        let list = Vec::new(self.state.receive.alloc);
+        self.read_some_into(ordered, max_length, times, list)
+    }
+
+    /// The same, in the memory of a list that is given: what the list had is dropped first, and a caller that gives back
+    /// the list of its last read asks for no memory for a list again. A refusal drops the list.
+    pub fn read_some_into(
+        &mut self,
+        ordered: bool,
+        max_length: usize,
+        times: u16,
+        list: Vec<Chunk>,
+    ) -> Result<ReadSome, ReadableError>
+        ensures same_state { self.new.state.ghost_name ≡ self.old.state.ghost_name }
+        ensures same_pending { self.new.pending.ghost_name ≡ self.old.pending.ghost_name }
+        ensures id { self.new.id ≡ self.old.id }
+        ensures reads { IfOk result (λ r. ReadsSome (shown self.old.state.now) self.old.id max_length times ordered (listed self.old.pending.now) r.chunks.items r.last r.transmit.0 (shown self.new.state.now) (listed self.new.pending.now)) }
+        ensures refused { IfErr result (λ error. Begins (shown self.old.state.now) self.old.id ordered (Err error) (shown self.new.state.now)) }
+        ensures refused_pending { IfErr result (λ error. listed self.new.pending.now ≡ listed self.old.pending.now) }
+        ensures from { IfOk result (λ r. (m : Made) (h : List Event) → From m h (shown self.old.state.now)
+            → From m (with_reads self.old.id max_length ordered r.chunks.items r.last h) (shown self.new.state.now)) }
+        ensures from_refused { IfErr result (λ error. (m : Made) (h : List Event) → From m h (shown self.old.state.now)
+            → From m (Began self.old.id ordered (Err error) ∷ h) (shown self.new.state.now)) }
+    {
         self.state
-            .read_some(self.pending, self.id, ordered, max_length, times)
+            .read_some(self.pending, self.id, ordered, max_length, times, list)
     }
 }
 
@@ -67,15 +91,17 @@ impl StreamsState {
         ordered: bool,
         max_length: usize,
         times: u16,
+        list: Vec<Chunk>,
     ) -> Result<ReadSome, ReadableError>
         ensures reads { IfOk result (λ r. ReadsSome (shown self.old) id max_length times ordered (listed pending.old) r.chunks.items r.last r.transmit.0 (shown self.new) (listed pending.new)) }
         ensures refused { IfErr result (λ error. Begins (shown self.old) id ordered (Err error) (shown self.new)) }
         ensures refused_pending { IfErr result (λ error. listed pending.new ≡ listed pending.old) }
     {
-        let room = match Vec::with_capacity(self.receive.alloc, times as usize) {
-            Ok(room) => room,
-            Err(_) => return Err(ReadableError::OutOfMemory),
-        };
+        let mut room = list;
+        room.clear();
+        if room.reserve(times as usize).is_err() {
+            return Err(ReadableError::OutOfMemory);
+        }
         self.begin(pending, id, ordered)?;
         let (chunks, last, read) = self.read_chunks(id, ordered, max_length, times, room);
         let transmit = finish(self, pending, id, last.progress(), read);

@@ -273,6 +273,24 @@ fn whole_stream(bytes: &[u8]) -> Option<WholeStream>
     })
 }
 
+// What `decode` answers, in a list that is given empty.
+fn decode_into(alloc: Global, payload: &[u8], empty: Vec<Frame>) -> Result<Vec<Frame>, DecodeError>
+    requires { empty.items ≡ [] }
+    ensures found { IfOk result (λ frames. AreFrames payload.now frames.items) }
+    ensures only { (fs : List FrameValue) → AreFrames payload.now fs → ReadsAs (λ frames. frames.items) result (Some fs) }
+    ensures within { IfOk result (λ frames. All (IsFrameWithin (length payload.now)) frames.items) }
+    ensures malformed { IsErrOf result DecodeError.Malformed → (fs : List FrameValue) → ¬ AreFrames payload.now fs }
+{
+    let mut frames = empty;
+    let mut rest = payload;
+    while !rest.is_empty() {
+        let (frame, after) = frame_at(alloc, rest)?;
+        frames.push(frame)?;
+        rest = after;
+    }
+    Ok(frames)
+}
+
 /// The frames that a payload consists of (RFC 9000 section 12.4). It is `Malformed` where the payload is no join of
 /// the frames that are read here: RESET_STREAM, STOP_SENDING, STREAM, MAX_DATA, MAX_STREAM_DATA, MAX_STREAMS,
 /// DATA_BLOCKED, STREAM_DATA_BLOCKED and DATAGRAM. A payload without bytes has no frames.
@@ -286,14 +304,7 @@ pub fn decode(alloc: Global, payload: &[u8]) -> Result<Vec<Frame>, DecodeError>
     // Only what spells no frames is malformed.
     ensures malformed { IsErrOf result DecodeError.Malformed → (fs : List FrameValue) → ¬ AreFrames payload.now fs }
 {
-    let mut frames = Vec::new(alloc);
-    let mut rest = payload;
-    while !rest.is_empty() {
-        let (frame, after) = frame_at(alloc, rest)?;
-        frames.push(frame)?;
-        rest = after;
-    }
-    Ok(frames)
+    decode_into(alloc, payload, Vec::new(alloc))
 }
 
 /// The frames of a payload, as [`decode`] gives them. Where the payload is one STREAM frame, and its vector has room for
@@ -304,20 +315,36 @@ pub fn decode_owned(alloc: Global, payload: Vec<u8>) -> Result<Vec<Frame>, Decod
     ensures within { IfOk result (λ frames. All (IsFrameWithin (length payload.items)) frames.items) }
     ensures malformed { IsErrOf result DecodeError.Malformed → (fs : List FrameValue) → ¬ AreFrames payload.items fs }
 {
+    decode_owned_into(alloc, payload, Vec::new(alloc))
+}
+
+/// What [`decode_owned`] answers, in the memory of a list that is given: what the list had is dropped first, and a caller
+/// that gives back the list of the last payload asks for no memory for a list again.
+pub fn decode_owned_into(
+    alloc: Global,
+    payload: Vec<u8>,
+    list: Vec<Frame>,
+) -> Result<Vec<Frame>, DecodeError>
+    ensures found { IfOk result (λ frames. AreFrames payload.items frames.items) }
+    ensures only { (fs : List FrameValue) → AreFrames payload.items fs → ReadsAs (λ frames. frames.items) result (Some fs) }
+    ensures within { IfOk result (λ frames. All (IsFrameWithin (length payload.items)) frames.items) }
+    ensures malformed { IsErrOf result DecodeError.Malformed → (fs : List FrameValue) → ¬ AreFrames payload.items fs }
+{
+    let mut frames = list;
+    frames.clear();
     let Some(whole) = whole_stream(&payload) else {
-        return decode(alloc, &payload);
+        return decode_into(alloc, &payload, frames);
     };
     if payload.capacity() / 6 > payload.len() / 5 {
-        return decode(alloc, &payload);
+        return decode_into(alloc, &payload, frames);
     }
     let mut bytes = Bytes::from(payload);
     bytes.advance(whole.skip);
-    let mut one = Vec::new(alloc);
-    one.push(Frame::Stream(Stream {
+    frames.push(Frame::Stream(Stream {
         id: whole.id,
         offset: whole.offset,
         fin: whole.fin,
         bytes,
     }))?;
-    Ok(one)
+    Ok(frames)
 }

@@ -4,6 +4,7 @@ ghost use Rattle.std.specs.Prelude.{◌≤◌};
 
 use crate::content::{PIECE, Seen};
 use crate::refused::Refused;
+use quic_assembler::Chunk;
 use quic_receiving::ReadableError;
 use quic_sending::WriteError;
 use quic_streams::progress::LastAnswer;
@@ -14,8 +15,9 @@ use quic_streams::stats::FrameStats;
 use quic_streams::streams::{ConnState, Streams};
 use quic_streams::{PeerLimits, Retransmits, StreamMetaVec, ThinRetransmits};
 use quic_values::{Dir, Side, StreamId, VarInt};
-use quic_wire::{Frame, StreamEvent, decode_owned};
+use quic_wire::{Frame, StreamEvent, decode_owned_into};
 use std::alloc::Global;
+use std::mem;
 
 // Each window, and each limit of the peer but the number of streams.
 const LIMIT: u32 = 1 << 20;
@@ -29,6 +31,9 @@ pub(crate) struct End {
     streams: StreamsState,
     pending: Retransmits,
     counters: FrameStats,
+    // The list of the last payload's frames and that of the last read's chunks, whose memory is used again.
+    frames: Vec<Frame>,
+    chunks: Vec<Chunk>,
     alloc: Global,
 }
 
@@ -74,6 +79,8 @@ impl End {
             streams: state,
             pending: Retransmits::new(alloc),
             counters: FrameStats::new(),
+            frames: Vec::new(alloc),
+            chunks: Vec::new(alloc),
             alloc,
         })
     }
@@ -121,8 +128,9 @@ impl End {
     ) -> Result<Option<Read>, Refused> {
         let mut read = Read { seen, ended: false };
         'batches: for _ in 0..u64::MAX {
+            let list = mem::replace(&mut self.chunks, Vec::new(self.alloc));
             let mut stream = RecvStream::new(id, &mut self.streams, &mut self.pending);
-            let batch = match stream.read_some(true, usize::MAX, BATCH) {
+            let batch = match stream.read_some_into(true, usize::MAX, BATCH, list) {
                 Ok(batch) => batch,
                 Err(ReadableError::ClosedStream) => return Ok(None),
                 Err(_) => return Err(Refused),
@@ -131,6 +139,8 @@ impl End {
                 read.seen
                     .see(first.wrapping_add(chunk.offset), chunk.bytes.as_slice());
             }
+            self.chunks = batch.chunks;
+            self.chunks.clear();
             match batch.last {
                 LastAnswer::More => {}
                 LastAnswer::Blocked => break 'batches,
@@ -164,9 +174,12 @@ impl End {
     /// Takes a payload of the peer.
     pub(crate) fn deliver(&mut self, payload: Vec<u8>) -> Result<(), Refused> {
         let payload_len = payload.len();
-        for frame in decode_owned(self.alloc, payload)? {
+        let list = mem::replace(&mut self.frames, Vec::new(self.alloc));
+        let mut frames = decode_owned_into(self.alloc, payload, list)?;
+        for frame in frames.drain(..) {
             self.take(frame, payload_len)?;
         }
+        self.frames = frames;
         let _ = self.streams.queue_max_stream_id(&mut self.pending);
         Ok(())
     }

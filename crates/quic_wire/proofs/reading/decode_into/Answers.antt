@@ -7,7 +7,7 @@ use Rattle.quic_wire.specs.Frames.{AreFrames}
 use Rattle.quic_wire.proofs.Read.{frame_takes}
 use Rattle.quic_wire.proofs.Joins.{first_is, fails_then}
 use Rattle.quic_wire.proofs.Within.{all_within}
-use Rattle.quic_wire.proofs.reading.decode.Goals as goal
+use Rattle.quic_wire.proofs.reading.decode_into.Goals as goal
 
 not_empty : (bytes : List ℕ) → false ≡ eqb (length bytes) 0 → 0 < length bytes
 not_empty bytes e = let ne = eqb-false (length bytes) 0 (sym e) in omega arith

@@ -9,7 +9,7 @@ use Rattle.quic_history.proofs.Batches.{from-reads}
 use Rattle.quic_streams.specs.Shown.{shown}
 use Rattle.quic_streams.specs.declared.batches.ReadSome.{ReadSome}
 use Rattle.quic_streams.proofs.Results.{map_ok, map_err}
-use Rattle.quic_streams.proofs.recv_stream.RecvStream.read_some.Goals as goal
+use Rattle.quic_streams.proofs.recv_stream.RecvStream.read_some_into.Goals as goal
 
 pub returns-clause-from : goal.returns-clause-from
 returns-clause-from c =
