@@ -13,7 +13,8 @@ pub by_answer : {P Q : Type 0} (b : Bool) → (b ≡ true → P) → (b ≡ fals
 by_answer true p q = p refl
 by_answer false p q = q refl
 
-sound-bare : (b : Buffered) → IsSound b → IsSound (record b { room = 0 })
+-- what holds of a buffer does not depend on the room
+pub sound-bare : (b : Buffered) → IsSound b → IsSound (record b { room = 0 })
 sound-bare b h = record {
   lengths = h.lengths;
   filled = h.filled;

@@ -20,7 +20,7 @@ use Rattle.quic_receiving.specs.declared.errors.HandleError.{HandleError}
 use Rattle.quic_receiving.specs.declared.errors.HandleError.TheVariants as handle_error
 use Rattle.quic_retransmits.specs.Pending.{Pending}
 use Rattle.quic_retransmits.specs.Queueing.{with_reset_stream}
-use Rattle.quic_outgoing.specs.Senders.{SendersById}
+use Rattle.quic_outgoing.specs.Senders.{SendersById, with_sender}
 use Rattle.quic_outgoing.specs.Outgoing.{Outgoing, own_of, with_own, with_send_half, fresh_sender, waiting, is_stuck, marked}
 
 -- a stream is opened where one more may be. For want of memory nothing is
@@ -96,6 +96,11 @@ abbrev pub QueuesAt : Send → Option ℤ → Type 0
 QueuesAt s None = HasMore s
 QueuesAt s (Some priority) = HasNoMore s × (priority ≡ s.priority)
 
+-- the same of a stream: none is told of one that is not held
+abbrev pub QueuesStreamAt : Option Send → Option ℤ → Type 0
+QueuesStreamAt None queue = queue ≡ None
+QueuesStreamAt (Some s) queue = QueuesAt s queue
+
 -- why a stream is not finished
 abbrev pub end_refusal : Option Send → Option FinishError
 end_refusal None = Some finish_error.ClosedStream
@@ -104,6 +109,18 @@ end_refusal (Some s) = finish_refusal s
 -- a half of which the end is to be sent
 abbrev pub finished : Send → Send
 finished s = record s { state = DataSent false; fin_pending = true }
+
+-- a half is finished
+abbrev pub Finishes : Send → Option ℤ → Send → Type 0
+Finishes s queue t = (finish_refusal s ≡ None) × QueuesAt s queue × (t ≡ finished s)
+
+-- and the half of a stream
+abbrev pub FinishesIn : SendersById → ℕ → Option ℤ → SendersById → Type 0
+FinishesIn f id queue g = (s : Send) × (f id ≡ Some s) × (finish_refusal s ≡ None) × QueuesAt s queue × (g ≡ with_sender f id (Some (finished s)))
+
+-- why a stream is not finished, or memory is wanting
+abbrev pub IsEndRefused : Option Send → FinishError → Type 0
+IsEndRefused o e = (end_refusal o ≡ Some e) ⊎ (e ≡ finish_error.OutOfMemory)
 
 -- a stream is finished, or refused; want of memory needs no other reason
 abbrev pub FinishesStream : Outgoing → ℕ → Result (Option ℤ) FinishError → Outgoing → Type 0

@@ -1,5 +1,5 @@
 -- Writes on a stream.
-use Rattle.std.specs.Prelude.{◌≡◌, ℕ, Bool, ◌||◌, not, min, List, length, ◌+◌, Option, Some, None, Result, Ok, Err, if◌then◌else◌}
+use Rattle.std.specs.Prelude.{◌≡◌, ◌⊎◌, ℕ, Bool, ◌||◌, not, min, List, length, ◌+◌, Option, Some, None, Result, Ok, Err, if◌then◌else◌}
 use Rattle.quic_limits.specs.SendingCredit.{writable, with_written, with_blocked, is_blocked_due, is_limit}
 use Rattle.quic_sending.specs.declared.send.Send.{Send}
 use Rattle.quic_sending.specs.declared.send.WriteError.{WriteError}
@@ -10,6 +10,7 @@ use Rattle.quic_sending.specs.Source.{Appends, rest_of}
 use Rattle.quic_retransmits.specs.Pending.{Pending}
 use Rattle.quic_retransmits.specs.Queueing.{with_id}
 use Rattle.quic_outgoing.specs.declared.writing.Wrote.{Wrote}
+use Rattle.quic_outgoing.specs.Senders.{SendersById, with_sender}
 use Rattle.quic_outgoing.specs.Outgoing.{Outgoing, with_send_half, waiting, is_stuck}
 use Rattle.quic_outgoing.specs.Calls.{QueuesAt}
 
@@ -39,6 +40,29 @@ abbrev pub told_blocked : Outgoing → ℕ → Option Send → Pending → Pendi
 told_blocked u id None p = p
 told_blocked u id (Some s) p = if is_stuck u then record p { data_blocked = p.data_blocked || is_blocked_due u.budget }
     else record p { stream_data_blocked = with_id p.stream_data_blocked id (is_limit_news s) }
+
+-- a write of at most so many bytes took the first bytes of these lists on a half
+pub record TakesBytes (most : ℕ) (s : Send) (lists : List (List ℕ)) (wrote : Wrote) (left : List (List ℕ)) (t : Send) : Type 0 where
+  pub free : write_refusal s ≡ None
+  pub bytes : wrote.written.bytes ≡ min (permitted s most) (total_length lists)
+  pub chunks : wrote.written.chunks + length left ≡ length lists
+  pub queue : QueuesAt s wrote.queue_at
+  pub appends : Appends (permitted s most) lists s.pending t.pending
+  pub others : t ≡ record s { pending = t.pending }
+  pub rest : left ≡ rest_of (permitted s most) lists
+
+-- and on the half of a stream
+pub record TakesBytesIn (most : ℕ) (f : SendersById) (id : ℕ) (lists : List (List ℕ)) (wrote : Wrote) (left : List (List ℕ)) (g : SendersById) : Type 0 where
+  pub half : Send
+  pub after : Send
+  pub is_held : f id ≡ Some half
+  pub takes : TakesBytes most half lists wrote left after
+  pub is : g ≡ with_sender f id (Some after)
+
+-- why nothing is taken by a half: there is none, it refuses, or memory is wanting
+abbrev pub IsRefusedBy : Option Send → WriteError → Type 0
+IsRefusedBy None e = e ≡ write_error.ClosedStream
+IsRefusedBy (Some s) e = (write_refusal s ≡ Some e) ⊎ (e ≡ write_error.OutOfMemory)
 
 -- a write took the first bytes of these lists
 pub record TakesBytesOf (u : Outgoing) (id : ℕ) (lists : List (List ℕ)) (wrote : Wrote) (left : List (List ℕ)) (v : Outgoing) : Type 0 where

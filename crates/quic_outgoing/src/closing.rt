@@ -1,16 +1,20 @@
 //! The end of a stream, and its priority.
 
-ghost use Rattle.std.specs.Prelude.{◌≡◌, ◌≤◌, ◌<◌};
+ghost use Rattle.std.specs.Prelude.{◌≡◌, ◌≤◌, ◌<◌, Some, IfOk, IfErr, OnErr};
 ghost use Rattle.quic_outgoing.specs.History.{Finished, Reset, SetPriority, Continues};
 ghost use Rattle.quic_retransmits.specs.Pending.{shown_pending};
-ghost use Rattle.quic_outgoing.specs.Calls.{QueuesAt, FinishesStream, ResetsStream, SetsPriority, told_of_half};
+ghost use Rattle.quic_outgoing.specs.Seen.{senders, sender_room, sender_in};
+ghost use Rattle.quic_outgoing.specs.Calls.{QueuesAt, QueuesStreamAt, Finishes, FinishesIn, IsEndRefused, FinishesStream, ResetsStream, SetsPriority, told_of_half};
 ghost use Rattle.quic_outgoing.specs.Shown.{view_of, permit_room};
 
+use crate::entries::SendEntries;
 use crate::outgoing::OutgoingStreams;
+use crate::transmitting::take_half;
 use quic_receiving::HandleError;
 use quic_retransmits::Retransmits;
 use quic_sending::{ClosedStream, FinishError, Send};
 use quic_values::{StreamId, VarInt};
+use std::alloc::Global;
 
 #[tactic(auto, unfolding(crate::specs::Shown::view_of, crate::specs::Shown::permit_room), using(crate::proofs::SenderMaps::sender_steps, crate::proofs::Histories::continues))]
 impl OutgoingStreams {
@@ -20,20 +24,7 @@ impl OutgoingStreams {
         ensures finishes { FinishesStream (view_of self.old) id result (view_of self.new) }
         ensures from { Continues (view_of self.old) (Finished id result) (view_of self.new) }
     {
-        match self.halves.take(id) {
-            Err(_) => Err(FinishError::OutOfMemory),
-            Ok(None) => Err(FinishError::ClosedStream),
-            Ok(Some(half)) => {
-                let mut half = half;
-                let queue_at = queue_at(&half);
-                let answer = half.finish();
-                self.halves.put(id, half);
-                match answer {
-                    Err(error) => Err(error),
-                    Ok(()) => Ok(queue_at),
-                }
-            }
-        }
+        self.halves.finish(id)
     }
 
     /// Gives a stream up: what is retained of it is let go, and RESET_STREAM is queued with this code (RFC 9000 section
@@ -104,6 +95,66 @@ impl OutgoingStreams {
     {
         self.halves.priority(id)
     }
+
+    /// The priority at which a stream is to be queued where something comes to be sent on it. `None`: something is already,
+    /// or the stream is not held.
+    #[inline]
+    pub fn queue_place(&self, id: StreamId) -> Option<i32>
+        ensures { QueuesStreamAt ((view_of self.now).halves id) result }
+    {
+        self.halves.queue_place(id)
+    }
+}
+
+#[tactic(auto, unfolding(crate::specs::Seen::senders))]
+impl SendEntries {
+    // Ends a stream, on its half where that lies. If refused, nothing changes.
+    #[inline]
+    fn finish(&mut self, id: StreamId) -> Result<Option<i32>, FinishError>
+        ensures ok { IfOk result (λ queue. FinishesIn (senders self.old) id queue (senders self.new)) }
+        ensures err { IfErr result (λ error. IsEndRefused (senders self.old id) error) }
+        ensures halves { OnErr result (senders self.new ≡ senders self.old) }
+        ensures side { self.new.side ≡ self.old.side }
+        ensures first { self.new.first ≡ self.old.first }
+        ensures room { sender_room self.new ≡ sender_room self.old }
+    {
+        let limit = self.first_limit(id);
+        match self.entries.get_mut(&id) {
+            None => Err(FinishError::ClosedStream),
+            Some(entry) => finish_entry(self.alloc, limit, entry),
+        }
+    }
+
+    // The priority at which a stream is to be queued, where nothing is to be sent on it.
+    #[inline]
+    fn queue_place(&self, id: StreamId) -> Option<i32>
+        ensures { QueuesStreamAt (senders self.now id) result }
+    {
+        match self.entries.get(&id) {
+            None => None,
+            Some(None) => Some(0),
+            Some(Some(half)) => queue_at(half),
+        }
+    }
+}
+
+// Ends the stream of an entry. If refused, nothing changes.
+#[inline]
+fn finish_entry(
+    alloc: Global,
+    limit: VarInt,
+    entry: &mut Option<Box<Send>>,
+) -> Result<Option<i32>, FinishError>
+    ensures ok { IfOk result (λ queue. Finishes (sender_in limit entry.old) queue (sender_in limit entry.new)) }
+    ensures err { IfErr result (λ error. IsEndRefused (Some (sender_in limit entry.old)) error) }
+    ensures half { OnErr result (sender_in limit entry.new ≡ sender_in limit entry.old) }
+{
+    let mut half = take_half(alloc, limit, entry)?;
+    let queue_at = queue_at(&half);
+    let answer = half.finish();
+    *entry = Some(half);
+    answer?;
+    Ok(queue_at)
 }
 
 // The priority at which a stream is to be queued, where nothing was to be sent on it.

@@ -63,7 +63,7 @@ impl FirstLimits {
 }
 
 // The greater number.
-fn greater(a: VarInt, b: VarInt) -> VarInt
+pub(crate) fn greater(a: VarInt, b: VarInt) -> VarInt
     ensures { result ≡ max a b }
 {
     if a.into_inner() < b.into_inner() {

@@ -1,20 +1,23 @@
 //! Writes on a stream.
 
-ghost use Rattle.std.specs.Prelude.{◌≡◌, ◌≤◌, ◌<◌, is_some, true, false, Some};
-ghost use Rattle.quic_limits.specs.SendingCredit.{writable};
-ghost use Rattle.quic_sending.specs.Sending.{write_refusal, IsWriteRefusal};
+ghost use Rattle.std.specs.Prelude.{◌≡◌, ◌≤◌, ◌<◌, is_some, true, false, Some, IfOk, IfErr, OnErr};
+ghost use Rattle.quic_sending.specs.Sending.{write_refusal};
 ghost use Rattle.quic_retransmits.specs.Pending.{shown_pending};
 ghost use Rattle.quic_outgoing.specs.Senders.{bare, first_limit};
 ghost use Rattle.quic_outgoing.specs.Outgoing.{is_stuck, with_send_half};
-ghost use Rattle.quic_outgoing.specs.Writing.{WritesOn, RefusesWrite};
+ghost use Rattle.quic_outgoing.specs.Seen.{senders, sender_room, sender_in};
+ghost use Rattle.quic_outgoing.specs.Writing.{WritesOn, RefusesWrite, TakesBytes, TakesBytesIn, IsRefusedBy, refusal_of_write};
 ghost use Rattle.quic_outgoing.specs.History.{Writing, Continues};
 ghost use Rattle.quic_outgoing.specs.Shown.{view_of, permit_room};
 
 use crate::closing::queue_at;
+use crate::entries::{SendEntries, greater};
 use crate::outgoing::OutgoingStreams;
+use crate::transmitting::take_half;
 use quic_retransmits::Retransmits;
 use quic_sending::{BytesSource, Send, WriteError, Written};
-use quic_values::StreamId;
+use quic_values::{StreamId, VarInt};
+use std::alloc::Global;
 
 /// What a write took, and what is to be queued for it.
 #[derive(Clone, Copy, Debug, PartialEq, Eq)]
@@ -48,6 +51,7 @@ impl OutgoingStreams {
     }
 
     // The same, each way out.
+    #[inline]
     fn write_source<S: BytesSource>(
         &mut self,
         pending: &mut Retransmits,
@@ -60,10 +64,13 @@ impl OutgoingStreams {
         if limit == 0 {
             return Err(self.wait(pending, id));
         }
-        match self.halves.take(id) {
-            Err(_) => Err(WriteError::OutOfMemory),
-            Ok(None) => Err(WriteError::ClosedStream),
-            Ok(Some(half)) => self.write_half(pending, id, half, source, limit),
+        match self.halves.write(id, source, limit) {
+            Ok(wrote) => {
+                self.budget.sent(wrote.written.bytes as u64);
+                Ok(wrote)
+            }
+            Err(WriteError::Blocked) => Err(self.block(pending, id)),
+            Err(error) => Err(error),
         }
     }
 
@@ -86,56 +93,21 @@ impl OutgoingStreams {
         }
     }
 
-    // Writes on a half that was taken out.
-    fn write_half<S: BytesSource>(
-        &mut self,
-        pending: &mut Retransmits,
-        id: StreamId,
-        half: Box<Send>,
-        source: &mut S,
-        limit: u64,
-    ) -> Result<Wrote, WriteError>
-        requires there { is_some ((view_of self.old).halves id) ≡ true }
-        requires held { first_limit (view_of self.old).side (view_of self.old).first id ≤ half.value.max_data }
-        requires limit { limit ≡ writable (view_of self.old).budget }
-        requires some { is_stuck (view_of self.old) ≡ false }
-        ensures { WritesOn (with_send_half (view_of self.old) id (Some (bare half.value))) id (S.lists source.old) (shown_pending pending.old) result (view_of self.new) (S.lists source.new) (shown_pending pending.new) }
-    {
-        let mut half = half;
-        let queue_at = queue_at(&half);
-        match half.write(source, limit) {
-            Ok(written) => {
-                self.halves.put(id, half);
-                self.budget.sent(written.bytes as u64);
-                Ok(Wrote { written, queue_at })
-            }
-            Err(error) => Err(self.refuse(pending, id, half, error)),
-        }
-    }
-
-    // A half refused a write. Answers why nothing is taken.
-    fn refuse(
-        &mut self,
-        pending: &mut Retransmits,
-        id: StreamId,
-        half: Box<Send>,
-        error: WriteError,
-    ) -> WriteError
-        requires there { is_some ((view_of self.old).halves id) ≡ true }
-        requires held { first_limit (view_of self.old).side (view_of self.old).first id ≤ half.value.max_data }
-        requires some { is_stuck (view_of self.old) ≡ false }
-        requires refused { IsWriteRefusal half.value error }
-        ensures { RefusesWrite (with_send_half (view_of self.old) id (Some (bare half.value))) id (shown_pending pending.old) result (view_of self.new) (shown_pending pending.new) }
-    {
-        if matches!(error, WriteError::Blocked) {
-            return self.block(pending, id, half);
-        }
-        self.halves.put(id, half);
-        error
-    }
-
     // The limit of a stream leaves nothing, and the peer is told. Answers why nothing is taken.
-    fn block(&mut self, pending: &mut Retransmits, id: StreamId, half: Box<Send>) -> WriteError
+    fn block(&mut self, pending: &mut Retransmits, id: StreamId) -> WriteError
+        requires some { is_stuck (view_of self.old) ≡ false }
+        requires blocked { refusal_of_write (view_of self.old) ((view_of self.old).halves id) ≡ Some WriteError.Blocked }
+        ensures { RefusesWrite (view_of self.old) id (shown_pending pending.old) result (view_of self.new) (shown_pending pending.new) }
+    {
+        match self.halves.take(id) {
+            Err(_) => WriteError::OutOfMemory,
+            Ok(None) => WriteError::ClosedStream,
+            Ok(Some(half)) => self.block_half(pending, id, half),
+        }
+    }
+
+    // The same, with the half that was taken out.
+    fn block_half(&mut self, pending: &mut Retransmits, id: StreamId, half: Box<Send>) -> WriteError
         requires there { is_some ((view_of self.old).halves id) ≡ true }
         requires held { first_limit (view_of self.old).side (view_of self.old).first id ≤ half.value.max_data }
         requires some { is_stuck (view_of self.old) ≡ false }
@@ -157,4 +129,68 @@ impl OutgoingStreams {
         pending.queue_stream_blocked(id, !told);
         WriteError::Blocked
     }
+}
+
+#[tactic(auto, unfolding(crate::specs::Seen::senders))]
+impl SendEntries {
+    // Writes on the half of a stream, where it lies. If refused, nothing changes.
+    #[inline]
+    fn write<S: BytesSource>(
+        &mut self,
+        id: StreamId,
+        source: &mut S,
+        limit: u64,
+    ) -> Result<Wrote, WriteError>
+        ensures ok { IfOk result (λ wrote. TakesBytesIn limit (senders self.old) id (S.lists source.old) wrote (S.lists source.new) (senders self.new)) }
+        ensures err { IfErr result (λ error. IsRefusedBy (senders self.old id) error) }
+        ensures halves { OnErr result (senders self.new ≡ senders self.old) }
+        ensures lists { OnErr result (S.lists source.new ≡ S.lists source.old) }
+        ensures side { self.new.side ≡ self.old.side }
+        ensures first { self.new.first ≡ self.old.first }
+        ensures room { sender_room self.new ≡ sender_room self.old }
+    {
+        let first_limit = self.first_limit(id);
+        match self.entries.get_mut(&id) {
+            None => Err(WriteError::ClosedStream),
+            Some(entry) => write_of_entry(self.alloc, first_limit, entry, source, limit),
+        }
+    }
+}
+
+// Writes on the half of an entry. If refused, nothing changes.
+#[inline]
+fn write_of_entry<S: BytesSource>(
+    alloc: Global,
+    first_limit: VarInt,
+    entry: &mut Option<Box<Send>>,
+    source: &mut S,
+    limit: u64,
+) -> Result<Wrote, WriteError>
+    ensures ok { IfOk result (λ wrote. TakesBytes limit (sender_in first_limit entry.old) (S.lists source.old) wrote (S.lists source.new) (sender_in first_limit entry.new)) }
+    ensures err { IfErr result (λ error. IsRefusedBy (Some (sender_in first_limit entry.old)) error) }
+    ensures half { OnErr result (sender_in first_limit entry.new ≡ sender_in first_limit entry.old) }
+    ensures lists { OnErr result (S.lists source.new ≡ S.lists source.old) }
+{
+    let mut half = take_half(alloc, first_limit, entry)?;
+    half.max_data = greater(half.max_data, first_limit);
+    let wrote = write_on(&mut half, source, limit);
+    *entry = Some(half);
+    wrote
+}
+
+// Writes on a half. If refused, nothing changes but the room for further pieces.
+#[inline]
+fn write_on<S: BytesSource>(
+    half: &mut Send,
+    source: &mut S,
+    limit: u64,
+) -> Result<Wrote, WriteError>
+    ensures ok { IfOk result (λ wrote. TakesBytes limit half.old (S.lists source.old) wrote (S.lists source.new) half.new) }
+    ensures err { IfErr result (λ error. IsRefusedBy (Some half.old) error) }
+    ensures half { OnErr result (bare half.new ≡ bare half.old) }
+    ensures lists { OnErr result (S.lists source.new ≡ S.lists source.old) }
+{
+    let queue_at = queue_at(half);
+    let written = half.write(source, limit)?;
+    Ok(Wrote { written, queue_at })
 }

@@ -3,6 +3,7 @@ use Rattle.std.specs.Prelude.{◌≡◌, ℕ, ℤ, Option, Some, None, Result, O
 use Rattle.quic_sending.specs.declared.send.Send.{Send}
 use Rattle.quic_sending.specs.declared.send.Written.{Written}
 use Rattle.quic_sending.specs.declared.send.WriteError.{WriteError}
+use Rattle.quic_outgoing.specs.Calls.{HasNoMore}
 use Rattle.quic_outgoing.specs.Shown.{view_of}
 use Rattle.quic_streams.specs.declared.state.StreamsState.{StreamsState}
 
@@ -11,10 +12,10 @@ abbrev pub IsWrittenAs : Result ℕ WriteError → (Result Written WriteError �
 IsWrittenAs (Ok n) P = (written : Written) × (written.bytes ≡ n) × P (Ok written)
 IsWrittenAs (Err e) P = P (Err e)
 
--- there is room in the queue at the priority of a half, if there is one
+-- there is room in the queue at the priority of a half, if there is one and nothing is to be sent on it
 abbrev pub IsPlaceOf : Option Send → Option ℤ → Type 0
 IsPlaceOf None reserved = Unit {0}
-IsPlaceOf (Some s) reserved = reserved ≡ Some s.priority
+IsPlaceOf (Some s) reserved = HasNoMore s → reserved ≡ Some s.priority
 
 abbrev pub HasPlace : StreamsState → ℕ → Type 0
 HasPlace s id = IsPlaceOf ((view_of s.outgoing).halves id) s.queue.reserved

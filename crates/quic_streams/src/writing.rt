@@ -74,19 +74,21 @@ impl StreamsState {
         }
     }
 
-    // Makes the room to queue a stream at its priority. One that is not there has none.
+    // Makes the room to queue a stream at its priority, where it is held and nothing is to be sent on it.
+    #[inline]
     pub(crate) fn reserve_place(&mut self, id: StreamId) -> Result<(), OutOfMemory>
         ensures same { shown self.new ≡ shown self.old }
         ensures ok { OnOk result (HasPlace self.new id) }
         ensures held { OnErr result (is_some ((shown self.old).out.halves id) ≡ true) }
     {
-        match self.outgoing.priority(id) {
-            Err(_) => Ok(()),
-            Ok(priority) => self.queue.reserve(priority),
+        match self.outgoing.queue_place(id) {
+            None => Ok(()),
+            Some(priority) => self.queue.reserve(priority),
         }
     }
 
     // Queues a stream at its priority where that is asked for, in room that was made.
+    #[inline]
     pub(crate) fn queue_at(&mut self, id: StreamId, priority: Option<i32>)
         requires { HasPlaceAt self.old priority }
         ensures { shown self.new ≡ with_queued (shown self.old) id priority }
