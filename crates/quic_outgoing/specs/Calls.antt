@@ -111,12 +111,12 @@ abbrev pub finished : Send → Send
 finished s = record s { state = DataSent false; fin_pending = true }
 
 -- a half is finished
-abbrev pub Finishes : Send → Option ℤ → Send → Type 0
-Finishes s queue t = (finish_refusal s ≡ None) × QueuesAt s queue × (t ≡ finished s)
+abbrev pub EndsHalf : Send → Option ℤ → Send → Type 0
+EndsHalf s queue t = (finish_refusal s ≡ None) × QueuesAt s queue × (t ≡ finished s)
 
 -- and the half of a stream
-abbrev pub FinishesIn : SendersById → ℕ → Option ℤ → SendersById → Type 0
-FinishesIn f id queue g = (s : Send) × (f id ≡ Some s) × (finish_refusal s ≡ None) × QueuesAt s queue × (g ≡ with_sender f id (Some (finished s)))
+abbrev pub EndsHalfIn : SendersById → ℕ → Option ℤ → SendersById → Type 0
+EndsHalfIn f id queue g = (s : Send) × (f id ≡ Some s) × (finish_refusal s ≡ None) × QueuesAt s queue × (g ≡ with_sender f id (Some (finished s)))
 
 -- why a stream is not finished, or memory is wanting
 abbrev pub IsEndRefused : Option Send → FinishError → Type 0

@@ -4,7 +4,7 @@ ghost use Rattle.std.specs.Prelude.{◌≡◌, ◌≤◌, ◌<◌, Some, IfOk, I
 ghost use Rattle.quic_outgoing.specs.History.{Finished, Reset, SetPriority, Continues};
 ghost use Rattle.quic_retransmits.specs.Pending.{shown_pending};
 ghost use Rattle.quic_outgoing.specs.Seen.{senders, sender_room, sender_in};
-ghost use Rattle.quic_outgoing.specs.Calls.{QueuesAt, QueuesStreamAt, Finishes, FinishesIn, IsEndRefused, FinishesStream, ResetsStream, SetsPriority, told_of_half};
+ghost use Rattle.quic_outgoing.specs.Calls.{QueuesAt, QueuesStreamAt, EndsHalf, EndsHalfIn, IsEndRefused, FinishesStream, ResetsStream, SetsPriority, told_of_half};
 ghost use Rattle.quic_outgoing.specs.Shown.{view_of, permit_room};
 
 use crate::entries::SendEntries;
@@ -111,7 +111,7 @@ impl SendEntries {
     // Ends a stream, on its half where that lies. If refused, nothing changes.
     #[inline]
     fn finish(&mut self, id: StreamId) -> Result<Option<i32>, FinishError>
-        ensures ok { IfOk result (λ queue. FinishesIn (senders self.old) id queue (senders self.new)) }
+        ensures ok { IfOk result (λ queue. EndsHalfIn (senders self.old) id queue (senders self.new)) }
         ensures err { IfErr result (λ error. IsEndRefused (senders self.old id) error) }
         ensures halves { OnErr result (senders self.new ≡ senders self.old) }
         ensures side { self.new.side ≡ self.old.side }
@@ -145,7 +145,7 @@ fn finish_entry(
     limit: VarInt,
     entry: &mut Option<Box<Send>>,
 ) -> Result<Option<i32>, FinishError>
-    ensures ok { IfOk result (λ queue. Finishes (sender_in limit entry.old) queue (sender_in limit entry.new)) }
+    ensures ok { IfOk result (λ queue. EndsHalf (sender_in limit entry.old) queue (sender_in limit entry.new)) }
     ensures err { IfErr result (λ error. IsEndRefused (Some (sender_in limit entry.old)) error) }
     ensures half { OnErr result (sender_in limit entry.new ≡ sender_in limit entry.old) }
 {
