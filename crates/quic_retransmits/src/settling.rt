@@ -11,6 +11,7 @@ use quic_wire::frame::StopSending;
 
 impl Retransmits {
     // Notes a frame that is sent. A refusal changes nothing.
+    #[inline]
     pub(crate) fn note(&mut self, frame: &Frame) -> Result<(), OutOfMemory>
         ensures ok { OnOk result (shown_pending self.new ≡ noted (shown_pending self.old) frame.now) }
         ensures err { OnErr result (shown_pending self.new ≡ shown_pending self.old) }
@@ -38,6 +39,7 @@ impl Retransmits {
     }
 
     /// The RESET_STREAM that is written next, the last one that was queued: the stream, and why it is given up.
+    #[inline]
     pub fn next_reset(&self) -> Option<(StreamId, VarInt)>
         ensures { IsLastIn (shown_pending self.now).reset_stream result }
     {
@@ -48,6 +50,7 @@ impl Retransmits {
     }
 
     /// That RESET_STREAM leaves what is pending. Nothing changes where there is none.
+    #[inline]
     pub fn settle_reset(&mut self)
         ensures settled { (id code : ℕ) (front : List (ℕ × ℕ)) → (shown_pending self.old).reset_stream ≡ front ++ (id, code) ∷ [] → shown_pending self.new ≡ record (shown_pending self.old) { reset_stream = front } }
         ensures fewer { (id code : ℕ) (front : List (ℕ × ℕ)) → (shown_pending self.old).reset_stream ≡ front ++ (id, code) ∷ [] → entry_count self.new < entry_count self.old }
@@ -57,6 +60,7 @@ impl Retransmits {
     }
 
     /// The STOP_SENDING that is written next, the last one that was queued.
+    #[inline]
     pub fn next_stop(&self) -> Option<StopSending>
         ensures { IsLastIn (shown_pending self.now).stop_sending result }
     {
@@ -64,6 +68,7 @@ impl Retransmits {
     }
 
     /// That STOP_SENDING leaves what is pending. Nothing changes where there is none.
+    #[inline]
     pub fn settle_stop(&mut self)
         ensures settled { (frame : StopSending) (front : List StopSending) → (shown_pending self.old).stop_sending ≡ front ++ frame ∷ [] → shown_pending self.new ≡ record (shown_pending self.old) { stop_sending = front } }
         ensures fewer { (frame : StopSending) (front : List StopSending) → (shown_pending self.old).stop_sending ≡ front ++ frame ∷ [] → entry_count self.new < entry_count self.old }
@@ -73,6 +78,7 @@ impl Retransmits {
     }
 
     /// A stream for which MAX_STREAM_DATA is pending.
+    #[inline]
     pub fn next_window(&self) -> Option<StreamId>
         ensures { IsSomeIn (shown_pending self.now).max_stream_data result }
     {
@@ -80,6 +86,7 @@ impl Retransmits {
     }
 
     /// The MAX_STREAM_DATA of a stream leaves what is pending.
+    #[inline]
     pub fn settle_window(&mut self, id: StreamId)
         ensures settled { shown_pending self.new ≡ record (shown_pending self.old) { max_stream_data = without_id (shown_pending self.old).max_stream_data id } }
         ensures fewer { (shown_pending self.old).max_stream_data id ≡ true → entry_count self.new < entry_count self.old }
@@ -88,6 +95,7 @@ impl Retransmits {
     }
 
     /// A stream for which STREAM_DATA_BLOCKED is pending.
+    #[inline]
     pub fn next_stream_blocked(&self) -> Option<StreamId>
         ensures { IsSomeIn (shown_pending self.now).stream_data_blocked result }
     {
@@ -95,6 +103,7 @@ impl Retransmits {
     }
 
     /// The STREAM_DATA_BLOCKED of a stream leaves what is pending.
+    #[inline]
     pub fn settle_stream_blocked(&mut self, id: StreamId)
         ensures settled { shown_pending self.new ≡ record (shown_pending self.old) { stream_data_blocked = without_id (shown_pending self.old).stream_data_blocked id } }
         ensures fewer { (shown_pending self.old).stream_data_blocked id ≡ true → entry_count self.new < entry_count self.old }
@@ -103,6 +112,7 @@ impl Retransmits {
     }
 
     /// MAX_DATA leaves what is pending.
+    #[inline]
     pub fn settle_max_data(&mut self)
         ensures settled { shown_pending self.new ≡ record (shown_pending self.old) { max_data = false } }
         ensures fewer { (shown_pending self.old).max_data ≡ true → entry_count self.new < entry_count self.old }
@@ -111,6 +121,7 @@ impl Retransmits {
     }
 
     /// DATA_BLOCKED leaves what is pending.
+    #[inline]
     pub fn settle_data_blocked(&mut self)
         ensures settled { shown_pending self.new ≡ record (shown_pending self.old) { data_blocked = false } }
         ensures fewer { (shown_pending self.old).data_blocked ≡ true → entry_count self.new < entry_count self.old }
@@ -119,6 +130,7 @@ impl Retransmits {
     }
 
     /// Whether MAX_STREAMS of a direction is pending.
+    #[inline]
     pub fn has_max_streams(&self, dir: Dir) -> bool
         ensures { result ≡ max_streams_in (shown_pending self.now) dir }
     {
@@ -129,6 +141,7 @@ impl Retransmits {
     }
 
     /// MAX_STREAMS of a direction leaves what is pending.
+    #[inline]
     pub fn settle_max_streams(&mut self, dir: Dir)
         ensures settled { shown_pending self.new ≡ without_max_streams (shown_pending self.old) dir }
         ensures fewer { max_streams_in (shown_pending self.old) dir ≡ true → entry_count self.new < entry_count self.old }
@@ -143,6 +156,7 @@ impl Retransmits {
 impl ThinRetransmits {
     /// Notes a frame that is sent, so that it can be sent again where it is lost (RFC 9000 section 13.3). Takes memory
     /// where nothing was noted before, and for a further stream. A refusal changes nothing.
+    #[inline]
     pub fn note(&mut self, frame: &Frame) -> Result<(), OutOfMemory>
         ensures ok { OnOk result (noted_in self.new ≡ noted (noted_in self.old) frame.now) }
         ensures err { OnErr result (shown_if self.new ≡ shown_if self.old) }

@@ -76,6 +76,7 @@ impl StreamsState {
     }
 
     // The RESET_STREAM of a stream whose half is held.
+    #[inline]
     fn reset_frame(&self, id: StreamId, error_code: VarInt) -> Option<Frame>
         ensures frame { result ≡ reset_frame id error_code ((shown self.now).out.halves id) }
         ensures kind { IfSome result (IsOfKind ControlKind.ResetStream) }
@@ -91,6 +92,7 @@ impl StreamsState {
     }
 
     // The MAX_STREAM_DATA of a stream on which more data may come and are wanted.
+    #[inline]
     fn window_frame(&self, id: StreamId) -> Option<Frame>
         ensures frame { result ≡ window_frame (shown self.now).window id ((shown self.now).receive id) }
         ensures kind { IfSome result (IsOfKind ControlKind.MaxStreamData) }
@@ -102,6 +104,7 @@ impl StreamsState {
     }
 
     // The DATA_BLOCKED for the limit that is held, if it was queued for that.
+    #[inline]
     fn data_blocked_frame(&self) -> Option<Frame>
         ensures frame { result ≡ data_blocked_frame (shown self.now) }
         ensures kind { IfSome result (IsOfKind ControlKind.DataBlocked) }
@@ -114,6 +117,7 @@ impl StreamsState {
     }
 
     // The STREAM_DATA_BLOCKED for the limit that a stream holds, if it was queued for that.
+    #[inline]
     fn stream_blocked_frame(&self, id: StreamId) -> Option<Frame>
         ensures frame { result ≡ stream_blocked_frame id ((shown self.now).out.halves id) }
         ensures kind { IfSome result (IsOfKind ControlKind.StreamDataBlocked) }
@@ -128,6 +132,7 @@ impl StreamsState {
     }
 
     // That count was announced.
+    #[inline]
     fn announce_streams(&mut self, dir: Dir)
         ensures { shown self.new ≡ with_remote (shown self.old) dir (streams_announced (remote_of (shown self.old) dir)) }
     {
@@ -138,6 +143,7 @@ impl StreamsState {
     }
 
     // The RESET_STREAM that was queued last is written, or dropped where its half was freed.
+    #[inline]
     fn settle_reset(
         &mut self,
         pending: &mut Retransmits,
@@ -156,6 +162,7 @@ impl StreamsState {
     }
 
     // The STOP_SENDING that was queued last is written.
+    #[inline]
     fn settle_stop(
         &mut self,
         pending: &mut Retransmits,
@@ -174,6 +181,7 @@ impl StreamsState {
     }
 
     // MAX_DATA is written with the limit that is enforced.
+    #[inline]
     fn settle_max_data(
         &mut self,
         pending: &mut Retransmits,
@@ -194,6 +202,7 @@ impl StreamsState {
     }
 
     // The MAX_STREAM_DATA of a stream is written, or dropped where it is of no use.
+    #[inline]
     fn settle_window(
         &mut self,
         pending: &mut Retransmits,
@@ -213,6 +222,7 @@ impl StreamsState {
     }
 
     // MAX_STREAMS of a direction is written with the count that is enforced.
+    #[inline]
     fn settle_max_streams(
         &mut self,
         pending: &mut Retransmits,
@@ -235,6 +245,7 @@ impl StreamsState {
     }
 
     // DATA_BLOCKED is written, or dropped where the limit is not held any more.
+    #[inline]
     fn settle_data_blocked(
         &mut self,
         pending: &mut Retransmits,
@@ -253,6 +264,7 @@ impl StreamsState {
     }
 
     // The STREAM_DATA_BLOCKED of a stream is written, or dropped where its limit is not held any more.
+    #[inline]
     fn settle_stream_blocked(
         &mut self,
         pending: &mut Retransmits,
@@ -274,6 +286,7 @@ impl StreamsState {
     }
 
     // An entry of a kind leaves what is pending, if there is one.
+    #[inline(always)]
     fn settle(
         &mut self,
         kind: &ControlKind,
@@ -296,6 +309,7 @@ impl StreamsState {
     }
 
     // Entries of a kind leave what is pending while the longest frame of the kind fits below the maximum.
+    #[inline(always)]
     fn write_kind(
         &mut self,
         kind: &ControlKind,

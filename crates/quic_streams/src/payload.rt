@@ -22,6 +22,7 @@ pub(crate) struct ControlPayload {
 
 impl ControlPayload {
     // Appends a frame. A refusal changes nothing.
+    #[inline(always)]
     pub(crate) fn append(&mut self, frame: &Frame) -> Result<(), OutOfMemory>
         requires kind { CanEncode frame.now }
         requires short { size_bound frame.now ≤ ResetStream.SIZE_BOUND }
@@ -40,6 +41,7 @@ impl ControlPayload {
     }
 
     // Appends a frame of a kind, if there is one. A refusal changes nothing.
+    #[inline(always)]
     pub(crate) fn append_if(
         &mut self,
         kind: &ControlKind,

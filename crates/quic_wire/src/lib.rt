@@ -15,4 +15,4 @@ pub use laws::{all_spelled_so, frames_join, number_sizes, same_frames, spelled_s
 pub use quic_values::{
     Bytes, Dir, MAX_STREAM_COUNT, Oom, OutOfMemory, RangeSet, Side, StreamId, VarInt, same_set,
 };
-pub use reading::{decode, decode_owned};
+pub use reading::{decode, decode_owned, decode_owned_into};

@@ -4,7 +4,7 @@ ghost use Rattle.quic_wire.specs.Text.{CanEncode};
 use quic_wire::frame::{Crypto, Datagram, ResetStream, StopSending, Stream, StreamMeta};
 use quic_wire::{
     Bytes, DecodeError, Dir, Frame, OutOfMemory, ReceiveError, Side, StreamId, TransportError,
-    VarInt, decode, decode_owned,
+    VarInt, decode, decode_owned, decode_owned_into,
 };
 use std::alloc::Global;
 use std::fmt::Debug;
@@ -262,6 +262,28 @@ fn a_payload_that_is_given_away_has_the_same_frames(rt: HostRuntime) -> Result<(
         let mut payload = Vec::new(alloc);
         put_kinds(&mut payload, length_bits)?;
         is_same_given_away(&rt, alloc, &payload)?;
+    }
+    Ok(())
+}
+
+#[test]
+fn the_list_of_the_last_payload_is_used_again(rt: HostRuntime) -> Result<(), Fail> {
+    let alloc = rt.alloc();
+    let mut list = Vec::with_capacity(alloc, 4 * KINDS)?;
+    let room = list.capacity();
+    for length_bits in 0..4 {
+        let mut payload = Vec::new(alloc);
+        put_kinds(&mut payload, length_bits)?;
+        let wanted = decode(alloc, &payload)?;
+        let frames = decode_owned_into(alloc, payload, list)?;
+        same(&rt, frames.as_slice(), wanted.as_slice());
+        let mut payload = Vec::new(alloc);
+        put_frame(&mut payload, length_bits, 0x0d, &[8, 5], b"data")?;
+        let frames = decode_owned_into(alloc, payload, frames)?;
+        let wanted = [stream(alloc, 5, true, b"data")?];
+        same(&rt, frames.as_slice(), wanted.as_slice());
+        same(&rt, frames.capacity(), room);
+        list = frames;
     }
     Ok(())
 }

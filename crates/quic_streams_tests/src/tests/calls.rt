@@ -212,6 +212,17 @@ impl Subject {
         self.receiving(stream).read_some(ordered, most, times)
     }
 
+    pub(super) fn read_some_into(
+        &mut self,
+        stream: u32,
+        most: usize,
+        times: u16,
+        list: Vec<Chunk>,
+    ) -> Result<ReadSome, ReadableError> {
+        self.receiving(stream)
+            .read_some_into(true, most, times, list)
+    }
+
     pub(super) fn add_read_credits(&mut self, credits: u64) -> ShouldTransmit {
         self.state.add_read_credits(credits)
     }

@@ -71,3 +71,30 @@ fn every_number_of_streams_and_chunks_is_served(rt: HostRuntime) -> Result<(), F
     is_true(&rt, subject.max_remote(Dir::Uni) == 2050);
     Ok(())
 }
+
+#[test]
+fn the_list_of_the_last_read_is_used_again(rt: HostRuntime) -> Result<(), Fail> {
+    let alloc = rt.alloc();
+    let mut subject = client(alloc, 1, WINDOW, WINDOW)?;
+    let mut list = Vec::with_capacity(alloc, 9)?;
+    let room = list.capacity();
+    let mut offset = 0u64;
+    for size in 1..20usize {
+        let answer = data(&rt, alloc, &mut subject, 3, offset, size, false)?;
+        same_for(&rt, &size, answer, Answer::Taken(false));
+        let read = subject.read_some_into(3, 2, 9, list)?;
+        let chunks = read.chunks;
+        same_for(&rt, &size, chunks.len(), size.div_ceil(2).min(9));
+        same_for(&rt, &size, chunks.capacity(), room);
+        let mut bytes = Vec::new(alloc);
+        for chunk in &chunks {
+            bytes.extend_from_slice(chunk.bytes.as_slice())?;
+        }
+        let expected = pattern(alloc, offset, size.min(18))?;
+        same_for(&rt, &size, bytes.as_slice(), expected.as_slice());
+        same_for(&rt, &size, read.last == LastAnswer::More, size > 16);
+        offset = offset.wrapping_add(size as u64);
+        list = chunks;
+    }
+    Ok(())
+}
