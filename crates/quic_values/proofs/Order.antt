@@ -131,7 +131,7 @@ IsRunOf-first low r rs runs = record {
 pub below_first : (low n : ℕ) (r : Run) (rs : List Run) → AreRuns low (r ∷ rs) → n < r.0 → contains (r ∷ rs) n ≡ false
 below_first low n r rs runs lt = contains_below r.0 n (r ∷ rs) (omega arith, runs.1, runs.2) lt
 
-first_is : (rs : List Run) (r : Run) → slice_get rs 0 ≡ Some r → (t : List Run) × (rs ≡ r ∷ t)
+pub first_is : (rs : List Run) (r : Run) → slice_get rs 0 ≡ Some r → (t : List Run) × (rs ≡ r ∷ t)
 first_is [] r e = absurd cc
 first_is (x ∷ t) r e = (t, cc)
 

@@ -1,5 +1,5 @@
-ghost use Rattle.std.specs.Prelude.{List, ◌≡◌, ◌+◌, ◌<◌, ◌≤◌, ◌↔◌, ℕ, [], IsTrue, IfSome, IfNone, IsSome, IsSomeAnd, ◌-◌, OnOk, OnErr, IfOk, None, Some, ◌||◌, ◌&&◌, not, true, false, MatchOption};
-ghost use Rattle.std.specs.BTreeMap.{get};
+ghost use Rattle.std.specs.Prelude.{List, ◌≡◌, ◌+◌, ◌<◌, ◌≤◌, ◌↔◌, ℕ, [], IsTrue, IfSome, IfNone, IsSome, IsSomeAnd, ◌-◌, OnOk, OnErr, IfOk, None, Some, ◌||◌, ◌&&◌, not, true, false, MatchOption, length};
+ghost use Rattle.std.specs.BTreeMap.{get, insert_entry};
 ghost use Rattle.std.specs.Ordering.{nat_cmp};
 ghost use Rattle.quic_values.specs.Runs.{Run, contains, is_in, lies_in, without, AreRuns, IsRunOf, EndBefore, EndBy, IsLast, NoneBegins, EndUpTo, with_right, with_left, end_at};
 
@@ -63,6 +63,32 @@ fn remove_runs(runs: &mut BTreeMap<u64, u64>, from: u64, to: u64)
     }
 }
 
+// Removes the runs that begin between two numbers, both included. `last` begins up to the second, and none behind it does.
+fn clear_runs(runs: &mut BTreeMap<u64, u64>, last: u64, from: u64, to: u64)
+    requires up_to { last ≤ to }
+    requires last { NoneBegins runs.now.entries (last + 1) to }
+    ensures { runs.new.entries ≡ without runs.old.entries from to }
+{
+    if last < from {
+        return;
+    }
+    runs.remove(&last);
+    if from < last {
+        remove_runs(runs, from, to);
+    }
+}
+
+// Puts a run where none begins behind its start up to its end.
+fn put_alone(runs: &mut BTreeMap<u64, u64>, start: u64, end: u64) -> Result<(), OutOfMemory>
+    requires { NoneBegins runs.now.entries (start + 1) end }
+    ensures ok { OnOk result (runs.new.entries ≡ insert_entry nat_cmp runs.old.entries start end) }
+    ensures alone { OnOk result (NoneBegins runs.new.entries (start + 1) end) }
+    ensures err { OnErr result (runs.new.entries ≡ runs.old.entries) }
+{
+    runs.insert(start, end)?;
+    Ok(())
+}
+
 // Where the run begins that a run from `n` on is joined to: `n` itself, where no run reaches it.
 fn start_of(runs: &BTreeMap<u64, u64>, n: u64) -> u64
     requires { AreRuns 0 runs.now.entries }
@@ -114,6 +140,24 @@ fn start_over(runs: &BTreeMap<u64, u64>, n: u64) -> Option<u64>
     }
 }
 
+// The beginning of the run that begins before `n` and goes on behind it. `last` begins the run that reaches `end`, behind `n`.
+fn left_over(runs: &BTreeMap<u64, u64>, last: u64, end: u64, n: u64) -> Option<u64>
+    requires runs { AreRuns 0 runs.now.entries }
+    requires found { end_at runs.now.entries last ≡ Some end }
+    requires behind { n < end }
+    ensures found { IfSome result (λ s. (e : ℕ) × (end_at runs.now.entries s ≡ Some e) × (s < n) × (n < e)) }
+    ensures up_to { IfSome result (λ s. s ≤ last) }
+    ensures none { IfNone result (EndUpTo runs.now.entries n) }
+{
+    if n < last {
+        start_over(runs, n)
+    } else if last < n {
+        Some(last)
+    } else {
+        None
+    }
+}
+
 // Adds a run, unless it is empty.
 fn keep_right(runs: &mut BTreeMap<u64, u64>, start: u64, end: u64) -> Result<(), OutOfMemory>
     ensures ok { OnOk result (runs.new.entries ≡ with_right runs.old.entries start end) }
@@ -130,6 +174,7 @@ fn keep_right(runs: &mut BTreeMap<u64, u64>, start: u64, end: u64) -> Result<(),
 fn keep_left(runs: &mut BTreeMap<u64, u64>, start: Option<u64>, end: u64) -> Result<(), OutOfMemory>
     ensures ok { OnOk result (runs.new.entries ≡ with_left runs.old.entries start end) }
     ensures err { OnErr result (IsSomeAnd start (λ s. end_at runs.old.entries s ≡ None)) }
+    ensures others { OnOk result ((q : ℕ) → IfSome start (λ s. s < q) → end_at runs.new.entries q ≡ end_at runs.old.entries q) }
 {
     match start {
         Some(start) => {
@@ -179,6 +224,30 @@ impl RangeSet {
         if range.start >= range.end {
             return Ok(false);
         }
+        match last_up_to(&self.runs, range.end) {
+            Some((start, _)) if range.start < start => self.insert_among(range),
+            Some((start, end)) if range.start <= end => {
+                if range.end <= end {
+                    return Ok(false);
+                }
+                put_alone(&mut self.runs, start, range.end)?;
+                Ok(true)
+            }
+            _ => {
+                put_alone(&mut self.runs, range.start, range.end)?;
+                Ok(true)
+            }
+        }
+    }
+
+    // As `insert`, where a run may begin behind the start of the range.
+    fn insert_among(&mut self, range: Range<u64>) -> Result<bool, OutOfMemory>
+        requires some { range.start < range.end }
+        ensures set { OnOk result ((n : ℕ) → contains self.new n ≡ (contains self.old n || lies_in range n)) }
+        ensures changed { IfOk result (λ changed. IsTrue changed → (n : ℕ) × (lies_in range n ≡ true) × (contains self.old n ≡ false)) }
+        ensures same { IfOk result (λ changed. changed ≡ false → self.new ≡ self.old) }
+        ensures err { OnErr result (self.new ≡ self.old) }
+    {
         if first_outside(&self.runs, range.start) >= range.end {
             return Ok(false);
         }
@@ -199,16 +268,16 @@ impl RangeSet {
         if range.start >= range.end {
             return Ok(false);
         }
-        let Some((_, end)) = last_up_to(&self.runs, range.end - 1) else {
+        let Some((last, end)) = last_up_to(&self.runs, range.end - 1) else {
             return Ok(false);
         };
         if end <= range.start {
             return Ok(false);
         }
-        let left = start_over(&self.runs, range.start);
+        let left = left_over(&self.runs, last, end, range.start);
         keep_right(&mut self.runs, range.end, end)?;
         keep_left(&mut self.runs, left, range.start)?;
-        remove_runs(&mut self.runs, range.start, range.end - 1);
+        clear_runs(&mut self.runs, last, range.start, range.end - 1);
         Ok(true)
     }
 
@@ -230,6 +299,18 @@ impl RangeSet {
         }
     }
 
+    /// The lowest run.
+    pub fn peek_min(&self) -> Option<Range<u64>>
+        ensures run { IfSome result (λ r. IsRunOf self.now r) }
+        ensures lowest { IfSome result (λ r. (n : ℕ) → n < r.start → contains self.now n ≡ false) }
+        ensures none { IfNone result ((n : ℕ) → contains self.now n ≡ false) }
+    {
+        match self.runs.first_key_value() {
+            Some((start, end)) => Some(*start..*end),
+            None => None,
+        }
+    }
+
     /// Takes the lowest run out.
     pub fn pop_min(&mut self) -> Option<Range<u64>>
         ensures run { IfSome result (λ r. IsRunOf self.old r) }
@@ -237,6 +318,7 @@ impl RangeSet {
         ensures others { IfSome result (λ r. (n : ℕ) → contains self.new n ≡ (contains self.old n && not (lies_in r n))) }
         ensures none { IfNone result ((n : ℕ) → contains self.old n ≡ false) }
         ensures same { IfNone result (self.new ≡ self.old) }
+        ensures fewer { IfSome result (λ _. length self.old ≡ length self.new + 1) }
     {
         let (start, end) = self.runs.pop_first()?;
         Some(start..end)

@@ -20,11 +20,13 @@ fn is_true(rt: &impl Abort, holds: bool) {
 fn is_runs(rt: &impl Abort, set: &mut RangeSet, runs: &[Range<u64>]) {
     for run in runs {
         same(rt, set.min(), Some(run.start));
+        same(rt, set.peek_min().as_ref(), Some(run));
         same(rt, set.pop_min().as_ref(), Some(run));
     }
     is_true(rt, set.is_empty());
     same(rt, set.pop_min(), None);
     same(rt, set.min(), None);
+    same(rt, set.peek_min(), None);
 }
 
 fn set_of(alloc: Global, runs: &[Range<u64>]) -> Result<RangeSet, OutOfMemory> {
