@@ -29,7 +29,7 @@ any_found (e ∷ es) q v P found here =
     ]
 
 -- the pieces of a row that begins where a new piece ends
-apart_row : (low : ℕ) (rs : List PieceView) (new : PieceView) → run_end new ≤ low → LieInOrder low rs → All (LiesApart new) rs
+pub apart_row : (low : ℕ) (rs : List PieceView) (new : PieceView) → run_end new ≤ low → LieInOrder low rs → All (LiesApart new) rs
 apart_row low [] new le h = All-nil (LiesApart new)
 apart_row low (r ∷ rs) new le h = let a = h.0 in All-cons (LiesApart new) r rs (inr (omega (arith, a, le))) (apart_row (run_end r) rs new (omega (arith, a, le)) h.2)
 

@@ -17,3 +17,4 @@ pub mod Fronts
 pub mod Sweeping
 pub mod Chains
 pub mod Passing
+pub mod Between

@@ -10,7 +10,7 @@ use Rattle.quic_ordered.specs.Entries.{piece_at}
 use Rattle.quic_ordered.specs.Rows.{LieInOrder, AreKeyed, Encloses, IsStore, Merges}
 use Rattle.quic_ordered.proofs.Order.{lower, found_low, key_at, row_behind, at_head, at_tail}
 
-at_low : (low : ℕ) (xs : List PieceView) (j : ℕ) (e : PieceView) → LieInOrder low xs → j < length xs → low ≤ (slice_index_or xs j e).offset
+pub at_low : (low : ℕ) (xs : List PieceView) (j : ℕ) (e : PieceView) → LieInOrder low xs → j < length xs → low ≤ (slice_index_or xs j e).offset
 at_low low [] j e h lt = absurd (omega arith)
 at_low low (x ∷ xs) zero e h lt = h.0
 at_low low (x ∷ xs) (suc j) e h lt = let i = at_low (run_end x) xs j e h.2 (omega arith) in let a = h.0 in omega (arith, i)

@@ -151,7 +151,7 @@ all_among xs (y ∷ ys) =
     All-cons (IsAmong (xs ++ (y ∷ ys))) y ys (among_behind xs (y ∷ ys) y (Any-here (λ (s : PieceView). s ≡ y) y ys refl))
     (subst (λ (zs : List PieceView). All (IsAmong zs) ys) (append_assoc xs (y ∷ []) ys) (all_among (xs ++ y ∷ []) ys))
 
-stay_of_among : (offset end : ℕ) (new rs : List PieceView) → All (IsAmong new) rs → All (StaysApart offset end new) rs
+pub stay_of_among : (offset end : ℕ) (new rs : List PieceView) → All (IsAmong new) rs → All (StaysApart offset end new) rs
 stay_of_among offset end new rs h = All-weaker (IsAmong new) (StaysApart offset end new) (λ r a apart. a) rs h
 
 pub stay_all : (offset end : ℕ) (rs : List PieceView) → All (StaysApart offset end rs) rs

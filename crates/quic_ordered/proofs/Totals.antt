@@ -1,13 +1,13 @@
 -- The sums of what pieces come to.
-use Rattle.std.proofs.Common.{◌≡◌, ℕ, ◌+◌, ◌-◌, ◌*◌, ◌^◌, ◌≤◌, ◌<◌, ap, sym, ◌∙◌, List, [], ◌∷◌, ◌++◌, length, arith, sum_by, Option, Some, None, length-append}
+use Rattle.std.proofs.Common.{◌≡◌, ℕ, ◌+◌, ◌-◌, ◌*◌, ◌^◌, ◌≤◌, ◌<◌, ap, sym, ◌∙◌, List, [], ◌∷◌, ◌++◌, length, take, drop, arith, sum_by, Option, Some, None, length-append}
 use Rattle.std.specs.List.{All}
 use Rattle.std.specs.Option.{unwrap_or, option_map}
 use Rattle.std.specs.Map.{values_of, lookup, remove_entry, set_value}
 use Rattle.std.specs.BTreeMap.{is_at, insert_entry}
 use Rattle.std.specs.Ordering.{nat_cmp}
 use Rattle.std.specs.Cmp.{nat_cmp_total}
-use Rattle.std.proofs.lemmas.List.Sums.{sum_by-cons, sum_by-append}
-use Rattle.std.proofs.lemmas.List.Elements.{All-head, All-tail, All-push, All-cons, All-pop, All-rest, All-append}
+use Rattle.std.proofs.lemmas.List.Sums.{sum_by-cons, sum_by-append, sum_by-insert}
+use Rattle.std.proofs.lemmas.List.Elements.{All-head, All-tail, All-push, All-cons, All-pop, All-rest, All-append, All-take, All-drop}
 use Rattle.std.specs.List.Sorted.{IsStrictlySortedBy}
 use Rattle.std.proofs.lemmas.List.{map-append}
 use Rattle.std.proofs.lemmas.Map.Entries.{sum_by-insert_entry, sum_by-remove_entry, sum_by-set_value, length-values_of}
@@ -41,6 +41,16 @@ sums_back t a t' a' rs p s f e g = record {
   allocated_is = omega (arith, sum_by-append run_allocation rs (p ∷ []), sum_by-cons run_allocation p [], s.allocated_is);
   sound = All-push FitsWords rs p s.sound f;
 }
+
+pub sums_put : (t a t' a' n : ℕ) (rs : List PieceView) (p : PieceView) → AreSums t a rs → FitsWords p → t' ≡ t + length p.bytes → a' ≡ a + p.allocation_size → AreSums t' a' (take n rs ++ p ∷ drop n rs)
+sums_put t a t' a' n rs p s f e g =
+    let u : sum_by run_length (take n rs ++ p ∷ drop n rs) ≡ sum_by run_length rs + length p.bytes = sum_by-insert run_length rs n p in
+    let v : sum_by run_allocation (take n rs ++ p ∷ drop n rs) ≡ sum_by run_allocation rs + p.allocation_size = sum_by-insert run_allocation rs n p in
+    record {
+      total_is = omega (arith, u, s.total_is);
+      allocated_is = omega (arith, v, s.allocated_is);
+      sound = All-append FitsWords (take n rs) (p ∷ drop n rs) (All-take FitsWords n rs s.sound) (All-cons FitsWords p (drop n rs) f (All-drop FitsWords n rs s.sound));
+    }
 
 pub sums_front : (t a t' a' : ℕ) (rs : List PieceView) (p : PieceView) → AreSums t a rs → FitsWords p → t' ≡ t + length p.bytes → a' ≡ a + p.allocation_size → AreSums t' a' (p ∷ rs)
 sums_front t a t' a' rs p s f e g = record {

@@ -1,5 +1,5 @@
 // Pieces in a row, with their sums.
-ghost use Rattle.std.specs.Prelude.{◌≡◌, ℕ, ◌+◌, ◌-◌, ◌^◌, ◌<◌, ◌≤◌, [], ◌∷◌, ◌++◌, length, sum_by, option_to_list, IfOk, OnOk, OnErr, IfSome, IfNone, IsSome, Some, None, IfErr, slice_index_or, true, false, min};
+ghost use Rattle.std.specs.Prelude.{◌≡◌, ℕ, ◌+◌, ◌-◌, ◌^◌, ◌<◌, ◌≤◌, [], ◌∷◌, ◌++◌, length, sum_by, option_to_list, IfOk, OnOk, OnErr, IfSome, IfNone, IsSome, Some, None, IfErr, slice_index_or, true, false, min, take, drop};
 ghost use Rattle.std.specs.List.{All, Any};
 ghost use Rattle.quic_assembler.specs.Piece.{PieceView, run_end, run_length, run_allocation, bit, cover_count};
 ghost use Rattle.quic_values.specs.Runs.{contains};
@@ -10,6 +10,9 @@ use quic_values::{OutOfMemory, RangeSet};
 use std::alloc::Global;
 use std::collections::VecDeque;
 use std::marker::Model;
+
+// The most pieces that are moved to make a place for one.
+const MOST_MOVED: usize = 32;
 
 #[derive(Drop)]
 pub(crate) struct PieceRow {
@@ -150,6 +153,43 @@ impl PieceRow {
             return false;
         }
         end <= self.pieces[count - 1].end()
+    }
+
+    /// How many pieces lie before the offsets from one up to another, where no piece has any of them, and few have to be
+    /// moved to put one there.
+    pub(crate) fn place_for(&self, offset: u64, end: u64) -> Option<usize>
+        requires { LieInOrder 0 self.now.runs }
+        ensures fits { IfSome result (λ n. n ≤ length self.now.runs) }
+        ensures before { IfSome result (λ n. All (λ r. run_end r ≤ offset) (take n self.now.runs)) }
+        ensures behind { IfSome result (λ n. LieInOrder end (drop n self.now.runs)) }
+    {
+        let index = self.count_up_to(offset);
+        let behind = self.pieces.len() - index;
+        if index.min(behind) > MOST_MOVED {
+            return None;
+        }
+        if index > 0 && self.pieces[index - 1].end() > offset {
+            return None;
+        }
+        if behind > 0 && self.pieces[index].offset() < end {
+            return None;
+        }
+        Some(index)
+    }
+
+    /// Puts a piece behind so many others.
+    pub(crate) fn put_at(&mut self, index: usize, piece: Piece) -> Result<(), OutOfMemory>
+        requires { index ≤ length self.old.runs }
+        ensures ok { OnOk result (self.new.runs ≡ take index self.old.runs ++ piece ∷ drop index self.old.runs) }
+        ensures err { OnErr result (self.new.runs ≡ self.old.runs) }
+    {
+        let _count = self.pieces.len();
+        let length = piece.len() as u128;
+        let allocated = piece.allocation_size() as u128;
+        self.pieces.insert(index, piece)?;
+        self.total += length;
+        self.allocated += allocated;
+        Ok(())
     }
 
     #[inline]

@@ -147,13 +147,11 @@ fn first_lost(called_lost: &mut RangeSet, later: &RecentSet, prefix: u64) -> Ran
         ≡ contains (minus called_lost.old ((0, prefix) ∷ later.now)) n }
     ensures lowest { IsLowestOrNone (minus called_lost.new ((0, prefix) ∷ later.now)) result }
 {
-    let mut reached = 0;
-    while let Some(run) = called_lost.run_from(reached) {
+    while let Some(run) = called_lost.peek_min() {
         let gap = later.first_gap(run.start.max(prefix)..run.end);
         if gap.start < gap.end {
             return gap;
         }
-        reached = run.end;
         called_lost.pop_min();
     }
     0..0

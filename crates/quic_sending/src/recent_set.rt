@@ -105,6 +105,9 @@ impl RecentSet {
 fn gap_of(set: &RangeSet, start: u64, end: u64) -> Range<u64>
     ensures { IsGap set.now (range_of (start, end)) result }
 {
+    if set.is_empty() {
+        return start..end;
+    }
     let mut at = start;
     let mut next = set.run_from(at);
     if let Some(run) = &next

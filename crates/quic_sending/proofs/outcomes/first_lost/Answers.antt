@@ -3,12 +3,12 @@ use Rattle.quic_sending.proofs.Answered.{IsLowest-gap, IsLowest-none, minus-pop_
 use Rattle.quic_sending.proofs.outcomes.first_lost.Goals as goal
 
 pub returns-then-gap-clause-lowest : goal.returns-then-gap-clause-lowest
-returns-then-gap-clause-lowest c = IsLowest-gap c.loop-run.called_lost c.args.later.now c.args.prefix c.in-Some.run' _ c.first_gap-gap.result c.in-Some.ensures.run (λ n l. search rules) (search rules) (search rules) c.first_gap-gap.ensures (omega arith)
+returns-then-gap-clause-lowest c = IsLowest-gap c.loop-run.called_lost c.args.later.now c.args.prefix c.in-Some.run' _ c.first_gap-gap.result c.in-Some.ensures.run c.in-Some.ensures.lowest (search rules) (search rules) c.first_gap-gap.ensures (omega arith)
 
 pub loop-run-preserved : goal.loop-run-preserved
 loop-run-preserved c =
-    let step = minus-pop_min c.pop_min.result c.loop-run.called_lost c.pop_min.new.self c.args.later.now c.args.prefix c.in-Some.run' _ c.first_gap-gap.result c.in-Some.ensures.run (λ n l. search rules) c.pop_min.ensures.run c.pop_min.ensures.lowest c.pop_min.ensures.others c.pop_min.ensures.none (search rules) (search rules) c.first_gap-gap.ensures (omega arith) in
-    record { below = step.0; same = λ n. step.1 n ∙ c.loop-run.invariant.same n }
+    let step = minus-pop_min c.pop_min.result c.loop-run.called_lost c.pop_min.new.self c.args.later.now c.args.prefix c.in-Some.run' _ c.first_gap-gap.result c.in-Some.ensures.run c.in-Some.ensures.lowest c.pop_min.ensures.run c.pop_min.ensures.lowest c.pop_min.ensures.others c.pop_min.ensures.none (search rules) (search rules) c.first_gap-gap.ensures (omega arith) in
+    λ n. step.1 n ∙ c.loop-run.invariant n
 
 pub returns-clause-lowest : goal.returns-clause-lowest
-returns-clause-lowest c = IsLowest-none c.loop-run.called_lost c.args.later.now c.args.prefix c.loop-run.reached c.loop-run.invariant.below c.in_default.ensures.none
+returns-clause-lowest c = IsLowest-none c.loop-run.called_lost c.args.later.now c.args.prefix 0 (λ n lt. absurd (omega arith)) (λ n ge. c.in_default.ensures.none n)

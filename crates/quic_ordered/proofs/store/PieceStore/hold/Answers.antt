@@ -1,5 +1,5 @@
 use Rattle.std.specs.Map.{values_of}
-use Rattle.std.proofs.Common.{◌∙◌, ap, sym, subst, List, ℕ, ◌≡◌, ◌++◌, refl, inl, inr}
+use Rattle.std.proofs.Common.{◌∙◌, ap, sym, subst, List, ℕ, ◌≡◌, ◌++◌, refl, inl, inr, arith}
 use Rattle.std.specs.Prelude.{Some}
 use Rattle.quic_assembler.specs.Piece.{PieceView, run_end}
 use Rattle.quic_ordered.specs.Entries.{piece_at}
@@ -8,6 +8,7 @@ use Rattle.quic_ordered.proofs.Joined.{pushed_joins, held_joins}
 use Rattle.quic_ordered.proofs.Order.{order_behind}
 use Rattle.quic_ordered.proofs.Places.{encloses_row, enclosed_map, merges_enclosed}
 use Rattle.quic_ordered.proofs.Fronts.{ok_or_err}
+use Rattle.quic_ordered.proofs.Between.{is_put, none_encloses_place}
 use Rattle.quic_ordered.proofs.store.PieceStore.hold.Goals as goal
 
 pub invariant_of-self-then-is_behind : goal.invariant_of-self-then-is_behind
@@ -102,3 +103,41 @@ returns-clause-within c = λ any.
     let k = c.clear_way.ensures.kept (rw (← c.end-2.ensures.value) at m.5) in
     let w = c.hold.ensures.within m.0 m.1 (subst (λ (es : List (ℕ × PieceView)). piece_at es m.0 ≡ Some m.1) (sym k.1) m.2) m.3 m.4 in
     (refl, ap (λ (es : List (ℕ × PieceView)). values_of es ++ c.clear_way.new.row.runs) w.1 ∙ c.in_ok-clear_way.ensures.same ∙ c.self.view_is)
+
+-- a piece that was put between those of the row
+pub invariant_of-self-in-Some : goal.invariant_of-self-in-Some
+invariant_of-self-in-Some c =
+    let put = is_put (values_of c.self.inside.gaps) c.self.inside.row.runs c.put_at.new.self.runs c.in-Some.index c.args.piece c.in-Some.ensures.before c.in-Some.ensures.behind c.requires c.in_ok-put_at.ensures.ok in
+    record { rises = c.self.invariant.rises; keyed = c.self.invariant.keyed; order = put.order 0 (omega arith) c.self.invariant.order }
+
+pub returns-in-Some-clause-merges : goal.returns-in-Some-clause-merges
+returns-in-Some-clause-merges c =
+    rw (← c.self.view_is) (is_put (values_of c.self.inside.gaps) c.self.inside.row.runs c.put_at.new.self.runs c.in-Some.index c.args.piece c.in-Some.ensures.before c.in-Some.ensures.behind c.requires c.in_ok-put_at.ensures.ok).merges
+
+pub returns-in-Some-clause-stems : goal.returns-in-Some-clause-stems
+returns-in-Some-clause-stems c =
+    rw (← c.self.view_is) (is_put (values_of c.self.inside.gaps) c.self.inside.row.runs c.put_at.new.self.runs c.in-Some.index c.args.piece c.in-Some.ensures.before c.in-Some.ensures.behind c.requires c.in_ok-put_at.ensures.ok).stems
+
+pub returns-in-Some-clause-joined : goal.returns-in-Some-clause-joined
+returns-in-Some-clause-joined c =
+    rw (← c.self.view_is) (is_put (values_of c.self.inside.gaps) c.self.inside.row.runs c.put_at.new.self.runs c.in-Some.index c.args.piece c.in-Some.ensures.before c.in-Some.ensures.behind c.requires c.in_ok-put_at.ensures.ok).joins
+
+pub returns-in-Some-clause-stays : goal.returns-in-Some-clause-stays
+returns-in-Some-clause-stays c =
+    rw (← c.self.view_is) (is_put (values_of c.self.inside.gaps) c.self.inside.row.runs c.put_at.new.self.runs c.in-Some.index c.args.piece c.in-Some.ensures.before c.in-Some.ensures.behind c.requires c.in_ok-put_at.ensures.ok).stay
+
+pub returns-in-Some-clause-order : goal.returns-in-Some-clause-order
+returns-in-Some-clause-order c =
+    rw (← c.self.view_is) (λ low le h. (is_put (values_of c.self.inside.gaps) c.self.inside.row.runs c.put_at.new.self.runs c.in-Some.index c.args.piece c.in-Some.ensures.before c.in-Some.ensures.behind c.requires c.in_ok-put_at.ensures.ok).order low le h)
+
+pub returns-in-Some-clause-pieces : goal.returns-in-Some-clause-pieces
+returns-in-Some-clause-pieces c =
+    rw (← c.self.view_is) (is_put (values_of c.self.inside.gaps) c.self.inside.row.runs c.put_at.new.self.runs c.in-Some.index c.args.piece c.in-Some.ensures.before c.in-Some.ensures.behind c.requires c.in_ok-put_at.ensures.ok).pieces
+
+pub returns-in-Some-clause-within : goal.returns-in-Some-clause-within
+returns-in-Some-clause-within c = λ any.
+    absurd ((is_put (values_of c.self.inside.gaps) c.self.inside.row.runs c.put_at.new.self.runs c.in-Some.index c.args.piece c.in-Some.ensures.before c.in-Some.ensures.behind c.requires c.in_ok-put_at.ensures.ok).none (rw (← c.self.view_is) at any))
+
+pub returns-in_err-put_at-clause-within : goal.returns-in_err-put_at-clause-within
+returns-in_err-put_at-clause-within c = λ any.
+    absurd (none_encloses_place (values_of c.self.inside.gaps) c.self.inside.row.runs c.in-Some.index c.args.piece c.in-Some.ensures.before c.in-Some.ensures.behind c.requires (rw (← c.self.view_is) at any))
