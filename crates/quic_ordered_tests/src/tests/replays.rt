@@ -111,6 +111,44 @@ fn both_bodies_give_the_same_bytes(rt: HostRuntime) -> Result<(), Fail> {
 }
 
 // The bytes of a chunk are those of the stream, and none was given before.
+// A prime, so that each step from piece to piece comes to all of them.
+const PIECES: u64 = 257;
+
+const LENGTH: u64 = 3;
+
+// All pieces of a stream, in steps of so many pieces, and then reads.
+fn in_steps(alloc: Global, step: u64) -> Result<Vec<Op>, Fail> {
+    let mut ops = Vec::new(alloc);
+    for index in 0..PIECES {
+        let offset = index.wrapping_mul(step) % PIECES * LENGTH;
+        ops.push(Op::Insert {
+            offset,
+            bytes: bytes_at(alloc, offset, LENGTH)?,
+            allocation_size: LENGTH as usize,
+        })?;
+    }
+    for _ in 0..PIECES {
+        ops.push(Op::Read { max_length: 10_000 })?;
+    }
+    Ok(ops)
+}
+
+#[test]
+fn pieces_come_in_any_order(rt: HostRuntime) -> Result<(), Fail> {
+    let alloc = rt.alloc();
+    for step in 1..PIECES {
+        let (outcome, chunks, read) = replay_ordered(alloc, &in_steps(alloc, step)?);
+        same(&rt, outcome, Ok(()));
+        same(&rt, read, PIECES * LENGTH);
+        let bytes = joined(alloc, &chunks)?;
+        same(&rt, bytes.len() as u64, PIECES * LENGTH);
+        for (index, byte) in bytes.iter().enumerate() {
+            same(&rt, *byte, byte_at(index as u64));
+        }
+    }
+    Ok(())
+}
+
 fn note_given(rt: &impl Abort, chunk: &Chunk, given: &mut [bool]) {
     for (index, byte) in chunk.bytes.as_slice().iter().enumerate() {
         let offset = chunk.offset.wrapping_add(index as u64);
