@@ -3,14 +3,14 @@ use Rattle.std.proofs.Common.{inl, inr, ◌≡◌, ◌⊎◌, ℕ, ◌+◌, ◌-
 use Rattle.std.specs.Prelude.{slice_index_or}
 use Rattle.std.specs.List.{All, Any}
 use Rattle.std.specs.Map.{values_of}
-use Rattle.std.proofs.lemmas.List.{length-append, append-nil}
+use Rattle.std.proofs.lemmas.List.{length-append}
 use Rattle.std.proofs.lemmas.List.Elements.{All-nil, All-cons, All-head, All-tail, All-append, All-weaker}
 use Rattle.quic_assembler.specs.Piece.{PieceView, run_end}
 use Rattle.quic_assembler.proofs.Counts.{Any-here, Any-there, Any-cons, Any-nil}
 use Rattle.quic_ordered.specs.Rows.{LieInOrder, Merges, IsAmong, StemsFrom, StaysApart, LiesApart, Encloses, JoinsAll}
 use Rattle.quic_ordered.proofs.Joined.{apart_row}
 use Rattle.quic_ordered.proofs.Places.{at_low, any_behind}
-use Rattle.quic_ordered.proofs.Stores.{stems_all, stay_of_among, all_among, all_end_map}
+use Rattle.quic_ordered.proofs.Stores.{stems_all, stay_of_among, all_among}
 
 -- ---- a place in a row
 
@@ -41,25 +41,6 @@ none_behind [] zero end le = tt
 none_behind [] (suc n) end le = tt
 none_behind (x ∷ xs) zero end le = absurd (omega arith)
 none_behind (x ∷ xs) (suc n) end le = none_behind xs n end (omega arith)
-
--- the pieces before one that ends by an offset end by it too
-begin_low : (low : ℕ) (vs rs : List PieceView) (r : PieceView) → LieInOrder low (vs ++ r ∷ rs) → low ≤ run_end r
-begin_low low [] rs r h = let a = h.0 in omega (arith, a)
-begin_low low (v ∷ vs) rs r h = let a = h.0 in let b = begin_low (run_end v) vs rs r h.2 in omega (arith, a, b)
-
-ends_front : (low : ℕ) (vs rs : List PieceView) (r : PieceView) (offset : ℕ) → LieInOrder low (vs ++ r ∷ rs) → run_end r ≤ offset → All (λ (r : PieceView). run_end r ≤ offset) vs
-ends_front low [] rs r offset h le = All-nil (λ (r : PieceView). run_end r ≤ offset)
-ends_front low (v ∷ vs) rs r offset h le =
-    All-cons (λ (r : PieceView). run_end r ≤ offset) v vs (let b = begin_low (run_end v) vs rs r h.2 in omega (arith, b, le)) (ends_front (run_end v) vs rs r offset h.2 le)
-
-pub all_before : (vs rs : List PieceView) (n offset : ℕ) → LieInOrder 0 (vs ++ rs) → 0 < n → n ≤ length rs → All (λ (r : PieceView). run_end r ≤ offset) (take n rs) → All (λ (r : PieceView). run_end r ≤ offset) (vs ++ take n rs)
-all_before vs [] n offset h some fits ends = absurd (omega arith)
-all_before vs (r ∷ rs) zero offset h some fits ends = absurd (omega arith)
-all_before vs (r ∷ rs) (suc n) offset h some fits ends =
-    All-append (λ (r : PieceView). run_end r ≤ offset) vs (r ∷ take n rs) (ends_front 0 vs rs r offset h (All-head (λ (r : PieceView). run_end r ≤ offset) r (take n rs) ends)) ends
-
-pub map_before : (vs rs : List PieceView) (n offset : ℕ) → n ≡ 0 → All (λ (r : PieceView). run_end r ≤ offset) vs → All (λ (r : PieceView). run_end r ≤ offset) (vs ++ take n rs)
-map_before vs rs n offset e ends = All-append (λ (r : PieceView). run_end r ≤ offset) vs (take n rs) ends (none_to rs n offset e)
 
 -- ---- lists between which a piece is put
 
@@ -144,11 +125,6 @@ is_put vs rs rs' n p ends rest some is =
       none = λ any. h.none (subst (Any (Encloses p.offset (run_end p))) (sym old) any);
       pieces = let a = ap (λ (xs : List PieceView). length xs) old in let b = ap (λ (xs : List PieceView). length xs) new in omega (arith, h.pieces, a, b);
     }
-
--- the pieces of a map end by where the last of them does
-pub map_ends : (es others : List (ℕ × PieceView)) (key : ℕ) (last : PieceView) (n : ℕ) → LieInOrder 0 (values_of es) → es ≡ others ++ (key, last) ∷ [] → run_end last ≤ n → All (λ (r : PieceView). run_end r ≤ n) (values_of es)
-map_ends es others key last n h e le =
-    subst (All (λ (r : PieceView). run_end r ≤ n)) (append-nil (values_of es)) (all_end_map es others [] key last n (subst (LieInOrder 0) (sym (append-nil (values_of es))) h) refl e le)
 
 -- where a piece can be put none encloses it
 pub none_encloses_place : (vs rs : List PieceView) (n : ℕ) (p : PieceView) → All (λ (r : PieceView). run_end r ≤ p.offset) (vs ++ take n rs) → LieInOrder (run_end p) (drop n rs) → 0 < length p.bytes → Any (Encloses p.offset (run_end p)) (vs ++ rs) → ⊥

@@ -24,8 +24,8 @@ use std::ops::Range;
 /// Pieces of one stream, none of which overlaps another. Contracts see them by rising offset.
 ///
 /// What comes behind all that is held goes to the end of a row, and what overlaps nothing and comes near one end of the
-/// row is put between its pieces. Where another piece comes, the pieces of the row that begin below its end go over to a
-/// map by offset, and it is joined with those that it overlaps.
+/// row is put between its pieces, while nothing is in the map. Where another piece comes, the pieces of the row that begin
+/// below its end go over to a map by offset, and it is joined with those that it overlaps.
 #[derive(Drop)]
 pub(crate) struct PieceStore {
     // The first pieces, by their offsets.
@@ -71,29 +71,18 @@ fn clear_way(gaps: &mut PieceMap, row: &mut PieceRow, end: u64) -> Result<(), Ou
     Ok(())
 }
 
-// Whether all pieces of the map end by an offset.
-fn ends_by(gaps: &PieceMap, offset: u64) -> bool
-    requires { LieInOrder 0 (values_of gaps.now) }
-    ensures { result ≡ true → All (λ r. run_end r ≤ offset) (values_of gaps.now) }
-{
-    match gaps.last_end() {
-        Some(end) => end <= offset,
-        None => true,
-    }
-}
-
-// Behind how many pieces of the row a piece can be put that overlaps none of all, if few have to be moved.
+// Behind how many pieces of the row a piece can be put that overlaps none of all, if few have to be moved. It is `None`
+// where there are others in the map: then most pieces come in no order.
 fn place_in_row(gaps: &PieceMap, row: &PieceRow, piece: &Piece) -> Option<usize>
     requires { IsStore gaps.now row.now.runs }
     ensures fits { IfSome result (λ n. n ≤ length row.now.runs) }
     ensures before { IfSome result (λ n. All (λ r. run_end r ≤ piece.now.offset) (values_of gaps.now ++ take n row.now.runs)) }
     ensures behind { IfSome result (λ n. LieInOrder (run_end piece.now) (drop n row.now.runs)) }
 {
-    let index = row.place_for(piece.offset(), piece.end())?;
-    if index == 0 && !ends_by(gaps, piece.offset()) {
+    if gaps.len() > 0 {
         return None;
     }
-    Some(index)
+    row.place_for(piece.offset(), piece.end())
 }
 
 // Moves all pieces of the map into the row.
