@@ -7,12 +7,8 @@ use std::fmt::Debug;
 use std::process::Abort;
 use std::test::Fail;
 
-mod draws;
-mod flows;
-mod keeping;
 mod kinds;
 mod network;
-mod sessions;
 mod twenty;
 
 // Both are the same, or the test fails and shows them.

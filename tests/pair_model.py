@@ -1,0 +1,804 @@
+"""A model of two ends and the network between them, as `streampair` has them. It knows what was written, sent,
+delivered, acknowledged and read, and by docs/rules.md, docs/limits.md and RFC 9000 how each line may be answered then."""
+import bisect
+import collections
+
+ENDS = ("a", "b")
+OTHER = {"a": "b", "b": "a"}
+DIRECTIONS = ("bi", "uni")
+ON_STREAMS = ("write", "chunks", "finish", "reset", "stop", "priority", "read", "received-reset")
+REFUSALS = {
+    "NoSuchPayload": "refused 1 NoSuchPayload",
+    "NoSuchFrame": "refused 2 NoSuchFrame",
+    "NotAccepted": "refused 3 NotAccepted",
+    "UnknownId": "refused 4 UnknownId",
+}
+
+
+def check(holds, why):
+    if not holds:
+        raise AssertionError(why)
+
+
+def check_same(found, wanted):
+    check(found == wanted, f"found {found}, wanted {wanted}")
+
+
+def bytes_of(field):
+    return b"" if field == "-" else bytes.fromhex(field)
+
+
+# ---- stream ids (RFC 9000 section 2.1)
+
+
+def stream_id(opener, direction, index):
+    return 4 * index + 2 * DIRECTIONS.index(direction) + ENDS.index(opener)
+
+
+def opener_of(id):
+    return ENDS[id % 2]
+
+
+def direction_of(id):
+    return DIRECTIONS[id // 2 % 2]
+
+
+# ---- frames (RFC 9000 sections 16 and 19)
+
+Stream = collections.namedtuple("Stream", "id offset data fin has_length")
+ResetStream = collections.namedtuple("ResetStream", "id code final_size")
+StopSending = collections.namedtuple("StopSending", "id code")
+MaxData = collections.namedtuple("MaxData", "limit")
+MaxStreamData = collections.namedtuple("MaxStreamData", "id limit")
+MaxStreams = collections.namedtuple("MaxStreams", "direction count")
+DataBlocked = collections.namedtuple("DataBlocked", "limit")
+StreamDataBlocked = collections.namedtuple("StreamDataBlocked", "id limit")
+CONTROL_FRAMES = {
+    0x04: ResetStream,
+    0x05: StopSending,
+    0x10: MaxData,
+    0x11: MaxStreamData,
+    0x14: DataBlocked,
+    0x15: StreamDataBlocked,
+}
+MAX_STREAMS = {0x12: "bi", 0x13: "uni"}
+# How many bytes the head of a STREAM frame takes at most, and a RESET_STREAM frame, which is the longest of the others.
+GREATEST_HEAD = 25
+
+
+class Decoder:
+    """Reads the frames of a payload, whose numbers have to be the shortest."""
+
+    def __init__(self, data):
+        self.data, self.at = data, 0
+
+    def take(self, size):
+        check(self.at + size <= len(self.data), "a payload ends within a frame")
+        self.at += size
+        return self.data[self.at - size : self.at]
+
+    def number(self):
+        first = self.take(1)
+        size = 1 << (first[0] >> 6)
+        number = int.from_bytes(first + self.take(size - 1), "big") % (1 << (8 * size - 2))
+        check(size == 1 or number >= 1 << (4 * size - 2), f"{number} is spelled in {size} bytes")
+        return number
+
+    def stream(self, kind):
+        id = self.number()
+        offset = self.number() if kind & 4 else 0
+        check(offset or not kind & 4, "an offset of 0 is spelled")
+        size = self.number() if kind & 2 else len(self.data) - self.at
+        return Stream(id, offset, self.take(size), bool(kind & 1), bool(kind & 2))
+
+    def frame(self):
+        kind = self.number()
+        if 0x08 <= kind <= 0x0F:
+            return self.stream(kind)
+        if kind in MAX_STREAMS:
+            return MaxStreams(MAX_STREAMS[kind], self.number())
+        check(kind in CONTROL_FRAMES, f"a frame of type {kind}")
+        frame = CONTROL_FRAMES[kind]
+        return frame(*(self.number() for _ in frame._fields))
+
+    def frames(self):
+        found = []
+        while self.at < len(self.data):
+            found.append(self.frame())
+        return found
+
+
+class Sent:
+    """A frame of a payload."""
+
+    def __init__(self, frame):
+        self.frame = frame
+        self.is_stream = isinstance(frame, Stream)
+        self.accepted = False
+        self.reported = False
+
+
+Payload = collections.namedtuple("Payload", "writer sent")
+
+# ---- the two halves of a stream
+
+UNSENT, SENT, LOST, ACKNOWLEDGED = range(4)
+AFTER_LOSS = bytes.maketrans(bytes([SENT]), bytes([LOST]))
+
+
+class SendHalf:
+    """What one end sends on a stream (RFC 9000 section 3.1)."""
+
+    def __init__(self, limit):
+        self.limit = limit
+        self.written = bytearray()
+        # what became of each byte, and where a piece of a write ends
+        self.fates = bytearray()
+        self.cuts = [0]
+        self.finished = False
+        self.end_sent = False
+        self.end_acknowledged = False
+        self.reset = None
+        # how many RESET_STREAM frames are to be sent
+        self.resets_due = 0
+        self.stopped = None
+        self.freed = False
+
+    def is_over(self):
+        return self.finished or self.reset is not None
+
+    def is_held_for_data(self):
+        return not self.freed and self.reset is None
+
+    def write(self, pieces):
+        for piece in filter(None, pieces):
+            self.written += piece
+            self.cuts.append(len(self.written))
+        self.fates.extend(bytes([UNSENT]) * (len(self.written) - len(self.fates)))
+
+    def retained(self):
+        """How many bytes the pieces have that the acknowledged prefix does not wholly cover."""
+        if not self.is_held_for_data():
+            return 0
+        prefix = len(self.fates) - len(self.fates.lstrip(bytes([ACKNOWLEDGED])))
+        return len(self.written) - self.cuts[bisect.bisect_right(self.cuts, prefix) - 1]
+
+    def has_rest(self):
+        """Whether bytes or the end are left to be sent."""
+        if not self.is_held_for_data():
+            return False
+        end = self.finished and not self.end_sent and not self.end_acknowledged
+        return end or UNSENT in self.fates or LOST in self.fates
+
+    def next_offset(self):
+        """The lowest offset that was lost or, where none was, that was never sent."""
+        for fate in (LOST, UNSENT):
+            if fate in self.fates:
+                return self.fates.index(fate)
+        return len(self.written)
+
+    def send(self, frame):
+        end = frame.offset + len(frame.data)
+        check(self.is_held_for_data(), "a frame of a stream that was given up, or is done")
+        check(end <= len(self.written), "a frame behind what was written")
+        check_same(frame.data, bytes(self.written[frame.offset : end]))
+        check_same(frame.fin, self.finished and end == len(self.written))
+        check_same(frame.offset, self.next_offset())
+        check(len(set(self.fates[frame.offset : end])) <= 1, "bytes are sent with others that were not lost")
+        self.fates[frame.offset : end] = bytes([SENT]) * len(frame.data)
+        self.end_sent = self.end_sent or frame.fin
+
+    def lose(self, frame):
+        end = frame.offset + len(frame.data)
+        self.fates[frame.offset : end] = self.fates[frame.offset : end].translate(AFTER_LOSS)
+        self.end_sent = self.end_sent and not frame.fin
+
+    def acknowledge(self, frame):
+        end = frame.offset + len(frame.data)
+        self.fates[frame.offset : end] = bytes([ACKNOWLEDGED]) * len(frame.data)
+        self.end_acknowledged = self.end_acknowledged or frame.fin
+
+    def is_acknowledged(self):
+        return self.end_acknowledged and self.fates.count(ACKNOWLEDGED) == len(self.fates)
+
+
+class ReceiveHalf:
+    """What one end receives on a stream (RFC 9000 section 3.2)."""
+
+    def __init__(self):
+        # of each offset whether its byte came, and whether it was read
+        self.arrived = bytearray()
+        self.given = bytearray()
+        self.highest = 0
+        self.final_size = None
+        self.reset = None
+        self.read = 0
+        # how many bytes ordered reads gave
+        self.ordered = 0
+        self.unordered = False
+        self.stop = None
+        # how many STOP_SENDING frames are to be sent
+        self.stops_due = 0
+        # a frame of the stream came
+        self.heard = False
+        # the end or the reset was told
+        self.told = False
+
+    def is_closed(self):
+        return self.stop is not None or self.told
+
+    def is_freed(self):
+        return self.told or self.stop is not None and self.final_size is not None
+
+    def arrive(self, offset, end):
+        more = bytes(max(end - len(self.arrived), 0))
+        self.arrived += more
+        self.given += more
+        self.arrived[offset:end] = b"\1" * (end - offset)
+
+    def give(self, offset, data, ordered, written):
+        end = offset + len(data)
+        check_same(data, bytes(written[offset:end]))
+        check(0 not in self.arrived[offset:end] and end <= len(self.arrived), "bytes are read that did not come")
+        check(1 not in self.given[offset:end], "bytes are read twice")
+        if ordered:
+            check_same(offset, self.ordered)
+            self.ordered = end
+        self.given[offset:end] = b"\1" * len(data)
+        self.read += len(data)
+
+    def is_at_end(self):
+        return self.final_size is not None and self.given.count(1) == self.final_size
+
+    def has_more(self, ordered):
+        """Whether there is a byte to read next."""
+        if ordered:
+            return self.ordered < len(self.arrived) and self.arrived[self.ordered] == 1
+        return self.arrived.count(1) > self.given.count(1)
+
+
+def unreadable(half, ordered):
+    """Why nothing may be read on a half, if it is there."""
+    if half is None or half.is_closed():
+        return "closed"
+    return "illegal" if ordered and half.unordered else None
+
+
+# ---- the two ends
+
+
+class Remote:
+    """The streams of one direction that the peer may open (RFC 9000 section 4.6)."""
+
+    def __init__(self, count):
+        self.permitted = count
+        self.concurrent = count
+        self.freed = set()
+        self.opened = 0
+        self.accepted = 0
+        self.is_opening_due = False
+
+    def open_up_to(self, index):
+        if index >= self.opened:
+            self.opened = index + 1
+            self.is_opening_due = True
+
+    def set_concurrent(self, count):
+        self.concurrent = count
+        self.permitted = max(self.permitted, len(self.freed) + count)
+
+    def free(self, id):
+        """Another takes its place where the peer may use too few."""
+        if id not in self.freed:
+            self.freed.add(id)
+            self.permitted += self.permitted - len(self.freed) < self.concurrent
+
+
+class End:
+    """One end: its streams, and the limits that it gives and holds (RFC 9000 section 4)."""
+
+    def __init__(self, name, config, peer):
+        self.name = name
+        unidirectional, bidirectional, self.send_window, self.receive_window, self.stream_window = config
+        self.remote = {"uni": Remote(unidirectional), "bi": Remote(bidirectional)}
+        self.credit, self.debt = self.receive_window, 0
+        self.counts = {"uni": peer[0], "bi": peer[1]}
+        self.limit, self.stream_limit = peer[3], peer[4]
+        self.opened = {"uni": 0, "bi": 0}
+        self.known = []
+        self.send, self.receive = {}, {}
+        # finished, stopped and available are told in this order
+        self.events = collections.deque()
+
+    def add_stream(self, id):
+        if direction_of(id) == "bi" or opener_of(id) == self.name:
+            self.send[id] = SendHalf(self.stream_limit)
+        if direction_of(id) == "bi" or opener_of(id) != self.name:
+            self.receive[id] = ReceiveHalf()
+
+    def has_rest(self):
+        """Whether bytes, ends, resets or stops are left to be sent."""
+        sends = any(half.has_rest() or half.resets_due for half in self.send.values())
+        return sends or any(half.stops_due for half in self.receive.values())
+
+    def write_room(self):
+        written = sum(len(half.written) for half in self.send.values())
+        retained = sum(half.retained() for half in self.send.values())
+        return min(self.limit - written, self.send_window - retained)
+
+    def consume(self, count):
+        """Bytes pay what was taken off the window, and then raise the limit."""
+        paid = min(self.debt, count)
+        self.debt -= paid
+        self.credit += count - paid
+
+    def set_receive_window(self, window):
+        self.credit += max(window - self.receive_window, 0)
+        self.debt += max(self.receive_window - window, 0)
+        self.receive_window = window
+
+    def free_if_over(self, id):
+        """A stream that the peer opened is over once both its halves are."""
+        sends, receives = self.send.get(id), self.receive.get(id)
+        if opener_of(id) != self.name and receives.is_freed() and (sends is None or sends.freed):
+            self.remote[direction_of(id)].free(id)
+
+    def free(self, id):
+        """Nothing is left to be acknowledged of what is sent on a stream."""
+        self.send[id].freed = True
+        self.send[id].resets_due = 0
+        self.free_if_over(id)
+
+    def tell_end(self, id):
+        """The end of what is received on a stream, or its reset, was told."""
+        self.receive[id].told = True
+        self.free_if_over(id)
+
+    # -- reports of frames that were sent
+
+    def lose_stream(self, frame):
+        half = self.send[frame.id]
+        if half.is_held_for_data():
+            half.lose(frame)
+
+    def lose_control(self, frame):
+        if isinstance(frame, ResetStream):
+            self.send[frame.id].resets_due += not self.send[frame.id].freed
+        elif isinstance(frame, StopSending):
+            self.receive[frame.id].stops_due += 1
+
+    def acknowledge_stream(self, frame):
+        half = self.send[frame.id]
+        if half.is_held_for_data():
+            half.acknowledge(frame)
+            if half.is_acknowledged():
+                self.events.append(f"finished {frame.id}")
+                self.free(frame.id)
+
+    def acknowledge_control(self, frame):
+        if isinstance(frame, ResetStream):
+            self.free(frame.id)
+
+    # -- frames that come
+
+    def accept(self, frame):
+        """A frame of the peer, of which DATA_BLOCKED and STREAM_DATA_BLOCKED change nothing."""
+        accept = {
+            Stream: self.accept_data,
+            ResetStream: self.accept_reset,
+            StopSending: self.accept_stop,
+            MaxData: self.accept_limit,
+            MaxStreamData: self.accept_stream_limit,
+            MaxStreams: self.accept_count,
+        }.get(type(frame))
+        if accept:
+            accept(frame)
+
+    def note_opened(self, id):
+        if opener_of(id) != self.name:
+            self.remote[direction_of(id)].open_up_to(id // 4)
+
+    def receiving(self, id):
+        """The half that receives on a stream, of which a frame came."""
+        self.note_opened(id)
+        half = self.receive[id]
+        half.heard = True
+        return half
+
+    def accept_data(self, frame):
+        half = self.receiving(frame.id)
+        if half.is_freed() or half.reset is not None:
+            return
+        end = frame.offset + len(frame.data)
+        fresh = max(end - half.highest, 0)
+        half.highest += fresh
+        if frame.fin:
+            half.final_size = end
+        if half.stop is None:
+            half.arrive(frame.offset, end)
+        else:
+            self.consume(fresh)
+            self.free_if_over(frame.id)
+
+    def accept_reset(self, frame):
+        half = self.receiving(frame.id)
+        if half.is_freed() or half.reset is not None:
+            return
+        self.consume(frame.final_size - (half.read if half.stop is None else half.highest))
+        half.highest = half.final_size = frame.final_size
+        half.reset = frame.code
+        self.free_if_over(frame.id)
+
+    def accept_stop(self, frame):
+        self.note_opened(frame.id)
+        half = self.send[frame.id]
+        if not half.freed and half.stopped is None:
+            half.stopped = frame.code
+            self.events.append(f"stopped {frame.id} {frame.code}")
+
+    def accept_limit(self, frame):
+        self.limit = max(self.limit, frame.limit)
+
+    def accept_stream_limit(self, frame):
+        self.note_opened(frame.id)
+        half = self.send[frame.id]
+        half.limit = max(half.limit, frame.limit)
+
+    def accept_count(self, frame):
+        if frame.count > self.counts[frame.direction]:
+            self.counts[frame.direction] = frame.count
+            self.events.append(f"available {frame.direction}")
+
+    # -- frames that leave, which have to be true
+
+    def emit(self, frame):
+        {
+            Stream: self.emit_data,
+            ResetStream: self.emit_reset,
+            StopSending: self.emit_stop,
+            MaxData: self.emit_limit,
+            MaxStreamData: self.emit_stream_limit,
+            MaxStreams: self.emit_count,
+            DataBlocked: self.emit_blocked,
+            StreamDataBlocked: self.emit_stream_blocked,
+        }[type(frame)](frame)
+
+    def emit_data(self, frame):
+        self.send[frame.id].send(frame)
+
+    def emit_reset(self, frame):
+        half = self.send[frame.id]
+        check(half.resets_due > 0, "a reset that is not due")
+        half.resets_due -= 1
+        check_same((frame.code, frame.final_size), (half.reset, len(half.written)))
+
+    def emit_stop(self, frame):
+        half = self.receive[frame.id]
+        check(half.stops_due > 0, "a stop that is not due")
+        half.stops_due -= 1
+        check_same(frame.code, half.stop)
+
+    def emit_limit(self, frame):
+        check_same(frame.limit, self.credit)
+
+    def emit_stream_limit(self, frame):
+        half = self.receive[frame.id]
+        check(half.final_size is None and half.stop is None, "a limit where no more is to come")
+        check_same(frame.limit, half.read + self.stream_window)
+
+    def emit_count(self, frame):
+        check_same(frame.count, self.remote[frame.direction].permitted)
+
+    def emit_blocked(self, frame):
+        check_same(frame.limit, self.limit)
+
+    def emit_stream_blocked(self, frame):
+        half = self.send[frame.id]
+        check(not half.is_over() and half.stopped is None, "blocked on a stream that is over")
+        check_same(frame.limit, half.limit)
+
+
+def front_of(chunks, count):
+    """The first bytes of some chunks, cut as these are, and how many chunks are taken whole."""
+    pieces = []
+    for whole, chunk in enumerate(chunks):
+        if len(chunk) > count:
+            return [*pieces, chunk[:count]], whole
+        pieces.append(chunk)
+        count -= len(chunk)
+    return pieces, len(chunks)
+
+
+class Model:
+    """Two ends and the network between them, which takes the lines of a session with their replies."""
+
+    def __init__(self, configs, tally):
+        self.ends = {name: End(name, configs[name], configs[OTHER[name]]) for name in ENDS}
+        self.payloads = []
+        self.tally = tally
+        # the replies of which the model does not know each word
+        self.judges = {
+            "poll": self.take_poll,
+            "read": self.take_read,
+            "emit": self.take_emit,
+            "deliver": self.take_deliver,
+        }
+
+    # -- refusals
+
+    def refusal_of_frame(self, number, index):
+        if number >= len(self.payloads):
+            return "NoSuchPayload"
+        return None if index < len(self.payloads[number].sent) else "NoSuchFrame"
+
+    def refusal_of_report(self, verb, number, index):
+        refusal = self.refusal_of_frame(number, index)
+        if refusal:
+            return refusal
+        sent = self.payloads[number].sent[index]
+        if not sent.is_stream:
+            return "NoSuchFrame"
+        return "NotAccepted" if verb == "ack-stream" and not sent.accepted else None
+
+    def refusal_of_control(self, verb, number):
+        if number >= len(self.payloads):
+            return "NoSuchPayload"
+        accepted = all(sent.accepted for sent in self.payloads[number].sent if not sent.is_stream)
+        return "NotAccepted" if verb == "ack-control" and not accepted else None
+
+    def refusal(self, verb, fields):
+        if verb in ON_STREAMS:
+            return None if int(fields[1]) in self.ends[fields[0]].known else "UnknownId"
+        if verb == "deliver":
+            return self.refusal_of_frame(*map(int, fields))
+        if verb in ("lose-stream", "ack-stream"):
+            return self.refusal_of_report(verb, *map(int, fields))
+        if verb in ("lose-control", "ack-control"):
+            return self.refusal_of_control(verb, *map(int, fields))
+        return None
+
+    def take(self, line, reply):
+        """Raises AssertionError where the line is not to be replied so."""
+        verb, *fields = line.split(" ")
+        refusal = self.refusal(verb, fields)
+        take = None if refusal else self.judges.get(verb)
+        if take:
+            take(reply, *fields)
+            return
+        wanted = REFUSALS[refusal] if refusal else getattr(self, verb.replace("-", "_"))(*fields)
+        self.tally[refusal or wanted.split(" ")[0]] += 1
+        check_same(reply, wanted)
+
+    # -- streams
+
+    def open(self, name, direction):
+        end = self.ends[name]
+        if end.opened[direction] == end.counts[direction]:
+            return "none"
+        id = stream_id(name, direction, end.opened[direction])
+        end.opened[direction] += 1
+        end.known.append(id)
+        for each in self.ends.values():
+            each.add_stream(id)
+        return f"id {id}"
+
+    def accept(self, name, direction):
+        end = self.ends[name]
+        remote = end.remote[direction]
+        if remote.accepted == remote.opened:
+            return "none"
+        id = stream_id(OTHER[name], direction, remote.accepted)
+        remote.accepted += 1
+        end.known.append(id)
+        return f"id {id}"
+
+    def max_concurrent(self, name, direction, count):
+        self.ends[name].remote[direction].set_concurrent(int(count))
+        return "ok"
+
+    def take_poll(self, reply, name):
+        end = self.ends[name]
+        kind, *fields = reply.split(" ")
+        self.tally[kind] += 1
+        if kind == "none":
+            check(not end.events, "an event is withheld")
+            check(not any(remote.is_opening_due for remote in end.remote.values()), "an opening is withheld")
+        elif kind == "opened":
+            remote = end.remote[fields[0]]
+            check(remote.is_opening_due, "no stream was opened")
+            remote.is_opening_due = False
+        elif kind == "readable":
+            check(end.receive[int(fields[0])].heard, "nothing came on the stream")
+        elif kind == "writable":
+            check(int(fields[0]) in end.send, "the end does not send on the stream")
+        else:
+            check(end.events, "nothing is to be told")
+            check_same(reply, end.events.popleft())
+
+    # -- writers
+
+    def unwritable(self, end, id):
+        """Why nothing may be written, in the order in which that is looked at."""
+        half = end.send.get(id)
+        if half is None or half.freed:
+            return "closed"
+        if end.write_room() <= 0:
+            return "blocked"
+        if half.is_over():
+            return "closed"
+        if half.stopped is not None:
+            return f"stopped {half.stopped}"
+        return None if half.limit > len(half.written) else "blocked"
+
+    def written(self, name, id, chunks):
+        """How many bytes and whole chunks are written, or why none."""
+        end = self.ends[name]
+        why_not = self.unwritable(end, id)
+        if why_not:
+            return None, None, why_not
+        half = end.send[id]
+        count = min(sum(map(len, chunks)), end.write_room(), half.limit - len(half.written))
+        pieces, whole = front_of(chunks, count)
+        half.write(pieces)
+        return count, whole, None
+
+    def write(self, name, id, field):
+        count, _, why_not = self.written(name, int(id), [bytes_of(field)])
+        return why_not or f"wrote {count}"
+
+    def chunks(self, name, id, fields):
+        count, whole, why_not = self.written(name, int(id), [bytes_of(field) for field in fields.split(",")])
+        return why_not or f"wrote {count} chunks {whole}"
+
+    def finish(self, name, id):
+        half = self.ends[name].send.get(int(id))
+        if half is None or half.freed:
+            return "closed"
+        if half.stopped is not None:
+            return f"stopped {half.stopped}"
+        if half.is_over():
+            return "closed"
+        half.finished = True
+        return "ok"
+
+    def reset(self, name, id, code):
+        half = self.ends[name].send.get(int(id))
+        if half is None or half.freed or half.reset is not None:
+            return "closed"
+        half.reset = int(code)
+        half.resets_due = 1
+        return "ok"
+
+    def priority(self, name, id, _priority):
+        half = self.ends[name].send.get(int(id))
+        return "closed" if half is None or half.freed else "ok"
+
+    def send_window(self, name, window):
+        self.ends[name].send_window = int(window)
+        return "ok"
+
+    # -- readers
+
+    def stop(self, name, id, code):
+        end, id = self.ends[name], int(id)
+        half = end.receive.get(id)
+        if half is None or half.is_closed():
+            return "closed"
+        half.stop = int(code)
+        if half.reset is None:
+            half.stops_due = 1
+            end.consume(half.highest - half.read)
+        end.free_if_over(id)
+        return "ok"
+
+    def received_reset(self, name, id):
+        end, id = self.ends[name], int(id)
+        half = end.receive.get(id)
+        if half is None or half.is_closed():
+            return "closed"
+        if half.reset is None:
+            return "none"
+        end.tell_end(id)
+        return f"code {half.reset}"
+
+    def receive_window(self, name, window):
+        end = self.ends[name]
+        is_larger = int(window) > end.receive_window
+        end.set_receive_window(int(window))
+        return "expanded" if is_larger else "not expanded"
+
+    def take_read(self, reply, name, id, order, most, times):
+        end, id, ordered = self.ends[name], int(id), order == "o"
+        half = end.receive.get(id)
+        why_not = unreadable(half, ordered)
+        if why_not:
+            self.tally[why_not] += 1
+            check_same(reply, why_not)
+            return
+        half.unordered = not ordered
+        *chunks, transmit = reply.split(" ")
+        check(transmit in ("transmit", "quiet"), "whether there is something to send is not told")
+        count = sum(":" in chunk for chunk in chunks)
+        check(count <= int(times), "more chunks than were asked for")
+        for chunk in chunks[:count]:
+            self.take_chunk(end, id, ordered, int(most), chunk)
+        self.take_last(end, id, ordered, " ".join(chunks[count:]), count == int(times))
+
+    def take_chunk(self, end, id, ordered, most, chunk):
+        self.tally["ordered chunk" if ordered else "unordered chunk"] += 1
+        offset, field = chunk.split(":")
+        data = bytes_of(field)
+        check(min(most, 1) <= len(data) <= most, f"a chunk of {len(data)} bytes")
+        half = end.receive[id]
+        check(half.reset is None, "a chunk behind a reset")
+        half.give(int(offset), data, ordered, self.ends[OTHER[end.name]].send[id].written)
+        end.consume(len(data))
+
+    def take_last(self, end, id, ordered, last, is_full):
+        """How a read ends."""
+        half = end.receive[id]
+        if is_full:
+            check_same(last, "more")
+        elif half.reset is not None:
+            self.tally["reset"] += 1
+            check_same(last, f"reset {half.reset}")
+            end.tell_end(id)
+        elif half.is_at_end():
+            self.tally["end"] += 1
+            check_same(last, "end")
+            end.tell_end(id)
+        else:
+            self.tally["blocked read"] += 1
+            check_same(last, "blocked")
+            check(not half.has_more(ordered), "a read is blocked where there is something to read")
+
+    # -- the network
+
+    def take_emit(self, reply, name, most, _fairness):
+        end = self.ends[name]
+        kind, number, field = reply.split(" ")
+        data = bytes_of(field)
+        check_same((kind, int(number)), ("payload", len(self.payloads)))
+        check(len(data) <= int(most), "a payload is too long")
+        frames = Decoder(data).frames()
+        for frame in frames:
+            end.emit(frame)
+        is_stream = [isinstance(frame, Stream) for frame in frames]
+        check(is_stream == sorted(is_stream), "a STREAM frame before one of another kind")
+        has_length = not any(is_stream) or frames[-1].has_length
+        check(has_length or len(data) == int(most), "a frame without a length does not fill its payload")
+        is_full = int(most) - len(data) <= GREATEST_HEAD
+        check(is_full or not end.has_rest(), "what fits is not sent")
+        self.payloads.append(Payload(name, [Sent(frame) for frame in frames]))
+
+    def take_deliver(self, reply, number, index):
+        payload = self.payloads[int(number)]
+        sent = payload.sent[int(index)]
+        check(reply in ("ok", "ok transmit"), "a frame of an honest end is refused")
+        self.tally["repeated delivery"] += sent.accepted
+        sent.accepted = True
+        self.ends[OTHER[payload.writer]].accept(sent.frame)
+
+    def lose_stream(self, number, index):
+        payload = self.payloads[int(number)]
+        self.ends[payload.writer].lose_stream(payload.sent[int(index)].frame)
+        return "ok"
+
+    def ack_stream(self, number, index):
+        payload = self.payloads[int(number)]
+        sent = payload.sent[int(index)]
+        sent.reported = True
+        self.ends[payload.writer].acknowledge_stream(sent.frame)
+        return "ok"
+
+    def lose_control(self, number):
+        payload = self.payloads[int(number)]
+        for sent in payload.sent:
+            self.ends[payload.writer].lose_control(sent.frame)
+        return "ok"
+
+    def ack_control(self, number):
+        payload = self.payloads[int(number)]
+        for sent in payload.sent:
+            self.ends[payload.writer].acknowledge_control(sent.frame)
+        return "ok"

@@ -1,0 +1,249 @@
+"""Sessions of `streampair` that a seed draws, each reply held against the model of `pair_model`."""
+import collections
+import contextlib
+import random
+import subprocess
+import threading
+import unittest
+
+from pair_model import DIRECTIONS, ENDS, Model, check, check_same
+from test_programs import program
+
+SESSIONS = 1000
+STEPS = 200
+# How often each kind of answer has to come in all sessions together, at least.
+LEAST = {
+    "ordered chunk": 1000,
+    "unordered chunk": 1000,
+    "blocked read": 1000,
+    "end": 200,
+    "reset": 40,
+    "code": 10,
+    "stopped": 40,
+    "finished": 200,
+    "blocked": 200,
+    "closed": 200,
+    "illegal": 40,
+    "repeated delivery": 1000,
+    "NoSuchPayload": 100,
+    "NoSuchFrame": 200,
+    "NotAccepted": 200,
+    "UnknownId": 200,
+}
+
+
+class Draws:
+    """Lines among those that may come next, each drawn once the replies to those before are known."""
+
+    def __init__(self, seed, tally):
+        self.random = random.Random(seed)
+        self.configs = {name: self.config() for name in ENDS}
+        self.model = Model(self.configs, tally)
+
+    def of(self, *some):
+        return self.random.choice(some)
+
+    def once_in(self, times):
+        return self.random.randrange(times) == 0
+
+    def config(self):
+        return (
+            self.of(0, 1, 2, 3, 8, 20),
+            self.of(0, 1, 2, 3, 8, 20),
+            self.of(10, 60, 300, 2000, 100_000),
+            self.of(16, 100, 1000, 5000, 100_000),
+            self.of(8, 50, 200, 1000, 50_000),
+        )
+
+    def config_lines(self):
+        return [f"config {name} {' '.join(map(str, config))}" for name, config in self.configs.items()]
+
+    def data(self):
+        bound = self.of(1, 400, *[60] * 6)
+        return self.random.randbytes(self.random.randrange(bound)).hex() or "-"
+
+    def direction(self):
+        return self.of(*DIRECTIONS)
+
+    def code(self):
+        return self.random.randrange(1000)
+
+    # -- what a line may name
+
+    def stream(self, name, reads=False):
+        """A stream that an end was given, and may write on, or read; now and then any other."""
+        end = self.model.ends[name]
+        halves = end.receive if reads else end.send
+        ids = [id for id in end.known if id in halves]
+        return self.random.choice(ids) if ids and not self.once_in(20) else self.random.randrange(24)
+
+    def any_frame(self):
+        """The number of a payload, and that of a frame; now and then there is none."""
+        payloads = self.model.payloads
+        if self.once_in(20):
+            return self.random.randrange(len(payloads) + 1), self.random.randrange(3)
+        numbers = [number for number, payload in enumerate(payloads) if payload.sent]
+        if not numbers:
+            return 0, 0
+        number = self.random.choice(numbers)
+        return number, self.random.randrange(len(payloads[number].sent))
+
+    def frame(self, is_sought):
+        """One of the first frames that are sought, or any."""
+        skip = self.of(0, 0, 0, 1, 2, 5)
+        if self.once_in(4):
+            return self.any_frame()
+        for number, payload in enumerate(self.model.payloads):
+            for index, sent in enumerate(payload.sent):
+                if is_sought(sent):
+                    if skip == 0:
+                        return number, index
+                    skip -= 1
+        return self.any_frame()
+
+    # -- lines
+
+    def write(self, name):
+        return f"write {name} {self.stream(name)} {self.data()}"
+
+    def chunks(self, name):
+        chunks = [self.data() for _ in range(self.of(1, 2, 3))]
+        return f"chunks {name} {self.stream(name)} {','.join(chunks)}"
+
+    def read(self, name):
+        id = self.stream(name, reads=True)
+        is_ordered = (id % 3 != 0) != self.once_in(10)
+        return f"read {name} {id} {'o' if is_ordered else 'u'} {self.of(0, 1, 7, 50, 1000)} {self.of(1, 3, 20, 20)}"
+
+    def emit(self, name):
+        return f"emit {name} {self.of(0, 12, 26, 27, 30, 60, 200, 1200)} {self.of('f', 'u')}"
+
+    def deliver(self, _name):
+        number, index = self.frame(lambda sent: not sent.accepted)
+        return f"deliver {number} {index}"
+
+    def ack_stream(self, _name):
+        number, index = self.frame(lambda sent: sent.is_stream and sent.accepted and not sent.reported)
+        return f"ack-stream {number} {index}"
+
+    def lose_stream(self, _name):
+        number, index = self.frame(lambda sent: sent.is_stream and not sent.accepted)
+        return f"lose-stream {number} {index}"
+
+    def poll(self, name):
+        return f"poll {name}"
+
+    def open(self, name):
+        return f"open {name} {self.direction()}"
+
+    def accept(self, name):
+        return f"accept {name} {self.direction()}"
+
+    def finish(self, name):
+        return f"finish {name} {self.stream(name)}"
+
+    def seldom(self, name):
+        return self.of(
+            lambda: f"reset {name} {self.stream(name)} {self.code()}",
+            lambda: f"stop {name} {self.stream(name, reads=True)} {self.code()}",
+            lambda: f"priority {name} {self.stream(name)} {self.of(-1, 0, 1, 2**31 - 1)}",
+            lambda: f"received-reset {name} {self.stream(name, reads=True)}",
+            lambda: f"send-window {name} {self.of(0, 30, 500, 20_000)}",
+            lambda: f"receive-window {name} {self.of(10, 90, 900, 40_000)}",
+            lambda: f"max-concurrent {name} {self.direction()} {self.random.randrange(6)}",
+            lambda: f"lose-control {self.any_frame()[0]}",
+            lambda: f"lose-control {self.any_frame()[0]}",
+            lambda: f"ack-control {self.any_frame()[0]}",
+            lambda: f"ack-control {self.any_frame()[0]}",
+        )()
+
+    EARLY = {
+        emit: 12,
+        deliver: 22,
+        write: 11,
+        chunks: 4,
+        read: 12,
+        ack_stream: 5,
+        lose_stream: 4,
+        poll: 5,
+        open: 5,
+        accept: 6,
+        finish: 3,
+        seldom: 11,
+    }
+    # towards the end all is to come across
+    LATE = {emit: 15, deliver: 35, read: 15, ack_stream: 15, poll: 8, finish: 7, lose_stream: 2, seldom: 3}
+
+    def line(self, step):
+        name = self.of(*ENDS)
+        if step < 12 and self.once_in(2):
+            return self.open(name)
+        weights = self.EARLY if step < 120 else self.LATE
+        draw = self.random.choices(list(weights), weights.values())[0]
+        return draw(self, name)
+
+
+class Program:
+    """A running `streampair`, which answers each line at once."""
+
+    def __init__(self):
+        self.ran = subprocess.Popen([program("streampair")], stdin=subprocess.PIPE, stdout=subprocess.PIPE)
+        self.watchdog = threading.Timer(60, self.ran.kill)
+
+    def __enter__(self):
+        self.watchdog.start()
+        return self
+
+    def __exit__(self, *_):
+        self.status()
+        self.ran.stdout.close()
+
+    def status(self):
+        """Ends the input, and returns the status."""
+        with contextlib.suppress(BrokenPipeError):
+            self.ran.stdin.close()
+        self.ran.wait()
+        self.watchdog.cancel()
+        return self.ran.returncode
+
+    def reply_to(self, line):
+        self.ran.stdin.write(f"{line}\n".encode())
+        self.ran.stdin.flush()
+        reply = self.ran.stdout.readline().decode()
+        check(reply.endswith("\n"), "there is no reply")
+        return reply[:-1]
+
+
+def run_session(seed, tally):
+    """Has the model take each line of a session with its reply."""
+    draws = Draws(seed, tally)
+    said = []
+    with Program() as running:
+
+        def reply_to(line):
+            said.append(line)
+            said.append(f"> {running.reply_to(line)}")
+            return said[-1][2:]
+
+        try:
+            for line in draws.config_lines():
+                check_same(reply_to(line), "ok")
+            for step in range(STEPS):
+                line = draws.line(step)
+                draws.model.take(line, reply_to(line))
+            check_same(running.status(), 0)
+        except (AssertionError, LookupError, ValueError, BrokenPipeError) as wrong:
+            raise AssertionError("\n".join([f"seed {seed}", *said, repr(wrong)])) from wrong
+
+
+class SeededSessions(unittest.TestCase):
+    def test_each_reply_of_a_session_is_as_the_model_says(self):
+        tally = collections.Counter()
+        for seed in range(SESSIONS):
+            run_session(seed, tally)
+        for kind, least in LEAST.items():
+            self.assertGreater(tally[kind], least, kind)
+
+
+if __name__ == "__main__":
+    unittest.main()
