@@ -6,7 +6,8 @@ import subprocess
 import threading
 import unittest
 
-from pair_model import DIRECTIONS, ENDS, Model, check, check_same
+from frames import DIRECTIONS, check, check_same
+from pair_model import ENDS, Model
 from test_programs import program
 
 SESSIONS = 1000
