@@ -8,8 +8,6 @@ use std::process::Abort;
 use std::test::Fail;
 
 mod kinds;
-mod network;
-mod twenty;
 
 // Both are the same, or the test fails and shows them.
 fn same<T: PartialEq + Debug + Drop>(rt: &impl Abort, found: T, wanted: T) {
@@ -116,6 +114,19 @@ fn forty_bytes_fill_a_payload_and_go_on_in_the_next(rt: HostRuntime) -> Result<(
     assert_eq!(rt; second.len(), 16);
     same(&rt, &second[..4], b"\x0f\x02\x1c\x0c".as_slice());
     same(&rt, &second[4..], &NUMBERS[28..]);
+    Ok(())
+}
+
+#[test]
+fn an_end_knows_the_streams_that_it_was_given(rt: HostRuntime) -> Result<(), Fail> {
+    let mut pair = finished_pair(rt.alloc(), &NUMBERS)?;
+    answer(&mut pair, emit(100))?;
+    answer(&mut pair, deliver(0))?;
+    is_true(&rt, pair.end(End::A).was_given(stream()));
+    is_true(&rt, !pair.end(End::B).was_given(stream()));
+    let who = End::B;
+    answer(&mut pair, Step::Accept { who, dir: Dir::Uni })?;
+    is_true(&rt, pair.end(End::B).was_given(stream()));
     Ok(())
 }
 

@@ -1,0 +1,266 @@
+"""Sessions of `streampair` whose network loses frames, carries very many of them, or leaves gaps."""
+import collections
+import unittest
+
+from frames import check_same
+from pair_model import ENDS, Model, stream_id
+from test_sessions import Program
+from test_streampair import CONFIGS, Sessions, var_int
+
+WIDE = "2000 0 1000000 1000000 1000000"
+WIDE_CONFIGS = f"config a {WIDE}\nconfig b {WIDE}\n"
+
+
+class Limits(Sessions):
+    """The server read 40 bytes of a stream, and wrote MAX_DATA and MAX_STREAM_DATA, both of 140."""
+
+    NUMBERS = bytes(range(40)).hex()
+    LIMITS = "10408c1102408c"
+    LINES = (
+        "config a 4 4 100 100 100\nconfig b 4 4 100 100 100\n"
+        f"open a uni\nwrite a 2 {NUMBERS}\nemit a 100 f\ndeliver 0 0\n"
+        "accept b uni\nread b 2 o 100 9\nemit b 100 f\n"
+    )
+    REPLIES = (
+        f"ok\nok\nid 2\nwrote 40\npayload 0 0a0228{NUMBERS}\nok\n"
+        f"id 2\n0:{NUMBERS} blocked transmit\npayload 1 {LIMITS}\n"
+    )
+
+    def test_lost_limits_go_again(self):
+        self.gives(
+            self.LINES + "ack-control 1\nlose-control 1\nemit b 100 f\ndeliver 2 0\ndeliver 2 1\n"
+            "ack-control 2\nack-control 1\nemit b 100 f\n",
+            self.REPLIES + f"refused 3 NotAccepted\nok\npayload 2 {self.LIMITS}\nok\nok\n"
+            "ok\nrefused 3 NotAccepted\npayload 3 -\n",
+        )
+
+    def test_limits_that_came_permit_more(self):
+        # 140 are permitted, of which 40 were sent
+        self.gives(
+            self.LINES + f"ack-stream 0 0\ndeliver 1 0\ndeliver 1 1\nwrite a 2 {'07' * 200}\n",
+            self.REPLIES + "ok\nok\nok\nwrote 100\n",
+        )
+
+
+class Resets(Sessions):
+    """The client wrote two bytes and gave the stream up, which no payload of 25 bytes tells, but one of 26."""
+
+    RESET = "04020702"
+    LINES = CONFIGS + "open a uni\nwrite a 2 6869\nreset a 2 7\nemit a 25 f\nemit a 26 f\n"
+    REPLIES = f"ok\nok\nid 2\nwrote 2\nok\npayload 0 -\npayload 1 {RESET}\n"
+
+    def test_a_reset_goes_again_until_it_is_acknowledged(self):
+        self.gives(
+            self.LINES + "ack-control 1\ndeliver 1 0\nlose-control 1\nemit a 100 f\n"
+            "ack-control 1\nlose-control 2\nemit a 100 f\n",
+            self.REPLIES + f"refused 3 NotAccepted\nok\nok\npayload 2 {self.RESET}\nok\nok\npayload 3 -\n",
+        )
+
+    def test_a_reset_that_came_is_told_with_its_code(self):
+        self.gives(
+            self.LINES + "deliver 1 0\naccept b uni\nreceived-reset b 2\n",
+            self.REPLIES + "ok\nid 2\ncode 7\n",
+        )
+
+
+class ManyFrames(Sessions):
+    STREAMS = 2000
+    # MAX_STREAMS is due once more than an eighth of them is over
+    BEFORE_DUE = STREAMS // 8
+    # how many pieces with gaps between them are held, at most
+    PIECES = 2048
+    WRITTEN = 100_000
+
+    def gives_all(self, steps):
+        """Takes pairs of a line and its reply, behind the two configs."""
+        lines = "".join(f"{line}\n" for line, _ in steps)
+        replies = "".join(f"{reply}\n" for _, reply in steps)
+        self.gives(WIDE_CONFIGS + lines, "ok\nok\n" + replies)
+
+    def streams(self):
+        """The ids of the streams, and the byte on each, in hexadecimal."""
+        return [(stream_id("a", "uni", index), f"{index % 256:02x}") for index in range(self.STREAMS)]
+
+    def writers(self):
+        for id, byte in self.streams():
+            yield "open a uni", f"id {id}"
+            yield f"write a {id} {byte}", "wrote 1"
+            yield f"finish a {id}", "ok"
+        frames = "".join(f"0b{var_int(id)}01{byte}" for id, byte in self.streams())
+        yield "emit a 100000 f", f"payload 0 {frames}"
+
+    def network(self):
+        for frame in range(self.STREAMS):
+            yield f"deliver 0 {frame}", "ok"
+        yield f"deliver 0 {self.STREAMS}", "refused 2 NoSuchFrame"
+        for frame in range(self.STREAMS):
+            yield f"ack-stream 0 {frame}", "ok"
+
+    def readers(self):
+        for index, (id, byte) in enumerate(self.streams()):
+            transmit = "quiet" if index < self.BEFORE_DUE else "transmit"
+            yield "accept b uni", f"id {id}"
+            yield f"read b {id} o 100 9", f"0:{byte} end {transmit}"
+            yield "poll a", f"finished {id}"
+
+    def test_two_thousand_frames_of_one_payload_come_across(self):
+        self.gives_all([*self.writers(), *self.network(), *self.readers()])
+
+    def small_payloads(self, count):
+        """Each is one frame without a length, which fills it."""
+        offset = 0
+        for number in range(count):
+            head = f"0c02{var_int(offset)}" if offset else "0802"
+            size = 26 - len(head) // 2
+            yield "emit a 26 f", f"payload {number} {head}{'07' * size}"
+            offset += size
+
+    def test_too_many_pieces_are_a_fault(self):
+        last = 2 * self.PIECES + 1
+        self.gives_all(
+            [
+                ("open a uni", "id 2"),
+                (f"write a 2 {'07' * self.WRITTEN}", f"wrote {self.WRITTEN}"),
+                *self.small_payloads(last + 1),
+                *((f"deliver {number} 0", "ok") for number in range(1, last, 2)),
+                (f"deliver {last} 0", "error INTERNAL_ERROR"),
+                (f"ack-stream {last} 0", "refused 3 NotAccepted"),
+            ]
+        )
+
+
+class Progress:
+    """What was done with one stream of the client."""
+
+    LENGTH = 300
+
+    def __init__(self, index):
+        self.id = stream_id("a", "uni", index)
+        self.content = bytes((17 * index + 3 * offset) % 251 for offset in range(self.LENGTH))
+        self.written = 0
+        self.finished = False
+        self.read = b""
+        self.ended = False
+        self.told = False
+
+    def is_drained(self):
+        return self.read == self.content and self.ended and self.told
+
+
+class Network:
+    """Loses every third frame and reports it so; the others it delivers and acknowledges."""
+
+    # four streams at a time, of which 90 bytes each may be unread, and of all together 250
+    CONFIG = (4, 0, 10_000, 250, 90)
+    STREAMS = 20
+
+    def __init__(self, running):
+        self.running = running
+        self.model = Model({name: self.CONFIG for name in ENDS}, collections.Counter())
+        self.streams = [Progress(index) for index in range(self.STREAMS)]
+        self.opened = 0
+        self.accepted = 0
+        self.frames = 0
+        self.lost = 0
+        for name in ENDS:
+            check_same(running.reply_to(f"config {name} {' '.join(map(str, self.CONFIG))}"), "ok")
+
+    def take(self, line):
+        """The reply to a line, which the model takes with it."""
+        reply = self.running.reply_to(line)
+        self.model.take(line, reply)
+        return reply
+
+    def write_all(self):
+        """The client opens what it may, and writes what it may."""
+        for index, stream in enumerate(self.streams):
+            if index == self.opened:
+                if self.take("open a uni") == "none":
+                    return
+                self.opened += 1
+            if not stream.finished:
+                self.write(stream)
+
+    def write(self, stream):
+        reply = self.take(f"write a {stream.id} {stream.content[stream.written:].hex()}")
+        if reply.startswith("wrote "):
+            stream.written += int(reply.split(" ")[1])
+        if stream.written == len(stream.content):
+            self.take(f"finish a {stream.id}")
+            stream.finished = True
+
+    def carry(self, name):
+        """Some payloads of an end go across, until it has nothing more to send."""
+        for _ in range(10):
+            _, number, field = self.take(f"emit {name} 120 f").split(" ")
+            if field == "-":
+                return
+            self.carry_payload(int(number))
+
+    def carry_payload(self, number):
+        is_control_lost = False
+        for index in range(len(self.model.payloads[number].sent)):
+            self.frames += 1
+            if self.frames % 3 == 0:
+                self.lost += 1
+                is_control_lost |= self.take(f"lose-stream {number} {index}") == "refused 2 NoSuchFrame"
+            else:
+                self.take(f"deliver {number} {index}")
+                self.take(f"ack-stream {number} {index}")
+        if is_control_lost:
+            self.take(f"lose-control {number}")
+
+    def read_all(self):
+        """The server takes the streams that came, and reads what is there."""
+        for index, stream in enumerate(self.streams):
+            if index == self.accepted:
+                if self.take("accept b uni") == "none":
+                    return
+                self.accepted += 1
+            if not stream.ended:
+                self.read(stream)
+
+    def read(self, stream):
+        *chunks, last, _ = self.take(f"read b {stream.id} o 50 1000").split(" ")
+        stream.read += b"".join(bytes.fromhex(chunk.split(":")[1]) for chunk in chunks)
+        stream.ended = last == "end"
+
+    def poll_all(self):
+        """The client is told which streams are finished."""
+        for event in iter(lambda: self.take("poll a"), "none"):
+            for stream in self.streams:
+                stream.told |= event == f"finished {stream.id}"
+
+    def is_drained(self):
+        return all(stream.is_drained() for stream in self.streams)
+
+    def round(self):
+        self.write_all()
+        self.carry("a")
+        self.read_all()
+        self.carry("b")
+        self.poll_all()
+
+
+class TwentyStreams(unittest.TestCase):
+    ROUNDS = 200
+
+    def test_they_are_drained_though_every_third_frame_is_lost(self):
+        with Program() as running:
+            network = Network(running)
+            for _ in range(self.ROUNDS):
+                network.round()
+                if network.is_drained():
+                    break
+            self.assertEqual(running.status(), 0)
+        for stream in network.streams:
+            with self.subTest(stream.id):
+                self.assertEqual(stream.read, stream.content)
+                self.assertTrue(stream.ended)
+                self.assertTrue(stream.told)
+        # 6,000 bytes in payloads of 120 are more than 50 frames
+        self.assertGreater(network.lost, 50 // 3)
+
+
+if __name__ == "__main__":
+    unittest.main()
