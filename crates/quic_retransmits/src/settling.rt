@@ -164,9 +164,9 @@ impl ThinRetransmits {
         if let Some(retransmits) = &mut self.retransmits {
             return retransmits.note(frame);
         }
-        let mut first = Retransmits::new(self.alloc);
+        let mut first = Box::new(self.alloc, Retransmits::new(self.alloc))?;
         first.note(frame)?;
-        self.retransmits = Some(Box::new(self.alloc, first)?);
+        self.retransmits = Some(first);
         Ok(())
     }
 }

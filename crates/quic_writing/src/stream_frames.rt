@@ -1,6 +1,7 @@
 //! STREAM frames of all streams, in the order of their priorities.
 
 ghost use Rattle.std.specs.Prelude.{◌≡◌, ◌+◌, ◌<◌, ◌≤◌, ◌⊎◌, ℕ, List, [], IfOk, OnOk, OnErr, Some, true, false, length};
+ghost use Rattle.smallvec.specs.SmallVec.{HasRoomFor};
 ghost use Rattle.quic_outgoing.specs.Shown.{view_of};
 ghost use Rattle.quic_outgoing.specs.Transmitting.{sending_priority};
 ghost use Rattle.quic_queue.specs.SendOrder.{first, line};
@@ -13,8 +14,11 @@ use quic_values::OutOfMemory;
 use quic_wire::frame::{Stream, StreamMeta};
 use smallvec::SmallVec;
 
+// For how many frames more room is made at once in a payload that has some.
+const FURTHER_FRAMES: usize = 4;
+
 /// The STREAM frames of a payload, without their data.
-pub type StreamMetaVec = SmallVec<StreamMeta, 4>;
+pub type StreamMetaVec = SmallVec<StreamMeta, 1>;
 
 /// Appends STREAM frames (RFC 9000 section 19.8) to a payload of at most `max_size` bytes, and to `sent` what each of
 /// them carries, as long as a stream is queued and a frame with the greatest head still fits.
@@ -107,7 +111,7 @@ fn take_common_turn(
     if fair && !queue.keeps_none() {
         return Ok(false);
     }
-    sent.reserve(1)?;
+    reserve_frame(sent)?;
     let written = streams.write_frame_at(entry.id, entry.priority, max_size, buf)?;
     let Some(frame) = written else {
         return Ok(false);
@@ -139,11 +143,22 @@ fn take_other_turn(
         return Ok(());
     };
     reserve_place(queue, fair, priority)?;
-    sent.reserve(1)?;
+    reserve_frame(sent)?;
     let frame = streams.write_frame(entry.id, max_size, buf)?;
     let next = next_of(fair, priority, frame.has_more);
     queue.end_turn(*entry, next);
     sent.push_reserved(frame.meta);
+    Ok(())
+}
+
+// Makes the room to note a frame. Where some were noted there may be several more, so that there is room for these too.
+#[inline]
+fn reserve_frame(sent: &mut StreamMetaVec) -> Result<(), OutOfMemory>
+    ensures same { sent.new.items ≡ sent.old.items }
+    ensures room { OnOk result (HasRoomFor sent.new 1) }
+{
+    let more = if sent.is_empty() { 1 } else { FURTHER_FRAMES };
+    sent.reserve(more)?;
     Ok(())
 }
 
