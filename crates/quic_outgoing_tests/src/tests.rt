@@ -350,7 +350,7 @@ fn ask(rt: &impl Abort, subject: &Subject, step: Step) {
             same(rt, blocked_limit(subject, stream), limit);
             same(
                 rt,
-                subject.pending.stream_data_blocked.contains(&id(stream)),
+                subject.pending.stream_data_blocked.contains(id(stream)),
                 queued,
             );
         }

@@ -1,3 +1,4 @@
+pub mod Ids
 pub mod Pending
 pub mod Queueing
 pub mod Settling

@@ -1,28 +1,18 @@
 -- What is to be sent, again or for the first time, beside the data of streams.
-use Rattle.std.specs.Prelude.{◌≡◌, ℕ, ◌+◌, ◌<◌, ◌≤◌, Bool, false, ◌||◌, ◌==◌, List, [], ◌∷◌, ◌++◌, slice_index_or, vec_len, zero, suc, Option, Some, None}
-use Rattle.std.specs.HashSet.{HashSet, contains, hash_set_len, spare}
+use Rattle.std.specs.Prelude.{◌≡◌, ℕ, ◌+◌, ◌<◌, ◌≤◌, Bool, false, ◌||◌, List, [], ◌∷◌, ◌++◌, slice_index_or, vec_len, zero, suc, Option, Some, None}
 use Rattle.std.specs.Vec.{vec_capacity}
 use Rattle.std.specs.Option.{option_map}
 use Rattle.std.specs.VecDeque.{deque_len, deque_capacity}
-use Rattle.std.specs.declared.hash.FoldHasher.{FoldHasher}
-use Rattle.std.specs.declared.hash.BuildHasherDefault.{BuildHasherDefault}
 use Rattle.std.specs.declared.net.SocketAddr.{SocketAddr}
 use Rattle.quic_wire.specs.declared.frame.StopSending.{StopSending}
 use Rattle.quic_wire.specs.declared.frame.Crypto.{Crypto}
 use Rattle.quic_wire.specs.declared.error.ReceiveError.{ReceiveError}
 use Rattle.quic_wire.specs.declared.error.ReceiveError.TheVariants as receive_error
 use Rattle.quic_wire.specs.declared.error.TheConstants.TransportError.{CONNECTION_ID_LIMIT_ERROR}
+use Rattle.quic_retransmits.specs.Ids.{is_in_ids, id_entries, id_rooms}
 use Rattle.quic_retransmits.specs.declared.retransmits.IssuedCid.{IssuedCid}
 use Rattle.quic_retransmits.specs.declared.retransmits.Retransmits.{Retransmits}
 use Rattle.quic_retransmits.specs.declared.retransmits.ThinRetransmits.{ThinRetransmits}
-
--- a set of stream ids
-abbrev pub IdSet : Type 0
-IdSet = HashSet ℕ (BuildHasherDefault FoldHasher)
-
--- whether an id is in a set
-abbrev pub is_in_ids : IdSet → ℕ → Bool
-is_in_ids ids id = contains ◌==◌ ids id
 
 -- lists in the order of their elements, and sets as functions that say what is in them
 pub record Pending : Type 0 where
@@ -114,8 +104,8 @@ shown_if t = option_map (λ b. shown_pending b.value) t.retransmits
 pub record HasRoomFor (a b : Retransmits) : Type 0 where
   pub reset_stream : vec_len a.reset_stream + vec_len b.reset_stream ≤ vec_capacity a.reset_stream
   pub stop_sending : vec_len a.stop_sending + vec_len b.stop_sending ≤ vec_capacity a.stop_sending
-  pub max_stream_data : hash_set_len b.max_stream_data ≤ spare a.max_stream_data
-  pub stream_data_blocked : hash_set_len b.stream_data_blocked ≤ spare a.stream_data_blocked
+  pub max_stream_data : id_entries b.max_stream_data ≤ id_rooms a.max_stream_data
+  pub stream_data_blocked : id_entries b.stream_data_blocked ≤ id_rooms a.stream_data_blocked
   pub crypto : deque_len a.crypto + deque_len b.crypto ≤ deque_capacity a.crypto
   pub new_cids : vec_len a.new_cids + vec_len b.new_cids ≤ vec_capacity a.new_cids
   pub retire_cids : vec_len a.retire_cids + vec_len b.retire_cids ≤ vec_capacity a.retire_cids

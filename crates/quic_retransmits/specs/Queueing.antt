@@ -1,9 +1,8 @@
 -- What calls queue to be sent, and the room for it.
 use Rattle.std.specs.Prelude.{ℕ, Bool, ◌-◌, ◌==◌, ◌&&◌, ◌||◌, vec_len, if◌then◌else◌, List, [], ◌∷◌, ◌++◌}
-use Rattle.std.specs.HashSet.{spare}
 use Rattle.std.specs.Vec.{vec_capacity}
 use Rattle.quic_wire.specs.declared.frame.StopSending.{StopSending}
-use Rattle.quic_retransmits.specs.Pending.{is_in_ids}
+use Rattle.quic_retransmits.specs.Ids.{id_places}
 use Rattle.quic_retransmits.specs.declared.retransmits.Retransmits.{Retransmits}
 
 -- a set of ids, with one more where that is due
@@ -16,7 +15,7 @@ with_stop_sending frames id code due = if due then frames ++ record { id = id; e
 
 -- how many places there are for an id to be queued for MAX_STREAM_DATA
 abbrev pub window_rooms : Retransmits → ℕ → ℕ
-window_rooms r id = if is_in_ids r.max_stream_data id then 1 else spare r.max_stream_data
+window_rooms r id = id_places r.max_stream_data id
 
 -- how many more STOP_SENDING frames can be queued without new memory
 abbrev pub stop_rooms : Retransmits → ℕ
@@ -28,7 +27,7 @@ with_reset_stream frames id code = frames ++ (id, code) ∷ []
 
 -- how many places there are for an id to be queued for STREAM_DATA_BLOCKED
 abbrev pub blocked_rooms : Retransmits → ℕ → ℕ
-blocked_rooms r id = if is_in_ids r.stream_data_blocked id then 1 else spare r.stream_data_blocked
+blocked_rooms r id = id_places r.stream_data_blocked id
 
 -- how many more RESET_STREAM frames can be queued without new memory
 abbrev pub reset_rooms : Retransmits → ℕ

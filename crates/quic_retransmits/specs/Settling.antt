@@ -1,6 +1,5 @@
 -- What is written of what is to be sent: it leaves what is pending, and is noted as sent.
 use Rattle.std.specs.Prelude.{◌≡◌, ℕ, ◌+◌, Bool, true, false, not, ◌==◌, ◌&&◌, ◌||◌, vec_len, slice_index_or, if◌then◌else◌, List, [], ◌∷◌, ◌++◌, Option, Some, None, unwrap_or}
-use Rattle.std.specs.HashSet.{hash_set_len}
 use Rattle.quic_values.specs.declared.ids.Dir.{Dir}
 use Rattle.quic_values.specs.declared.ids.Dir.TheVariants.{Bi, Uni}
 use Rattle.quic_wire.specs.declared.frame.Frame.{Frame}
@@ -8,6 +7,7 @@ use Rattle.quic_wire.specs.declared.frame.Frame.TheVariants as frames
 use Rattle.quic_retransmits.specs.declared.retransmits.Retransmits.{Retransmits}
 use Rattle.quic_retransmits.specs.declared.retransmits.ThinRetransmits.{ThinRetransmits}
 use Rattle.quic_retransmits.specs.Pending.{Pending, nothing, shown_if}
+use Rattle.quic_retransmits.specs.Ids.{id_entries}
 use Rattle.quic_retransmits.specs.Queueing.{with_id}
 
 -- a frame was sent: what is to be sent again where it is lost. Frames of other kinds are noted elsewhere, or nowhere
@@ -46,7 +46,7 @@ one_if b = if b then 1 else 0
 
 -- how many entries are pending of the kinds that are written one after another
 abbrev pub entry_count : Retransmits → ℕ
-entry_count r = vec_len r.reset_stream + vec_len r.stop_sending + hash_set_len r.max_stream_data + hash_set_len r.stream_data_blocked
+entry_count r = vec_len r.reset_stream + vec_len r.stop_sending + id_entries r.max_stream_data + id_entries r.stream_data_blocked
     + one_if r.max_data + one_if r.data_blocked + one_if (slice_index_or r.max_stream_id 0 false) + one_if (slice_index_or r.max_stream_id 1 false)
 
 -- whether MAX_STREAMS of a direction is pending

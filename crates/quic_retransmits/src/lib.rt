@@ -4,5 +4,7 @@
 mod queueing;
 pub mod retransmits;
 mod settling;
+pub mod stream_ids;
 
 pub use retransmits::{IssuedCid, Retransmits, ThinRetransmits};
+pub use stream_ids::StreamIds;

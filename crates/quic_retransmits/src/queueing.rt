@@ -15,8 +15,7 @@ impl Retransmits {
         ensures same { shown_pending self.new ≡ shown_pending self.old }
         ensures ok { OnOk result (1 ≤ window_rooms self.new id) }
     {
-        self.max_stream_data.reserve(1)?;
-        Ok(())
+        self.max_stream_data.reserve_for(id)
     }
 
     /// Queues MAX_STREAM_DATA for a stream where that is due, in room that was made.
@@ -26,7 +25,7 @@ impl Retransmits {
         ensures room { 1 ≤ window_rooms self.old id → 1 ≤ window_rooms self.new id }
     {
         if due {
-            let _ = self.max_stream_data.insert(id);
+            self.max_stream_data.insert_reserved(id);
         }
     }
 
@@ -70,8 +69,7 @@ impl Retransmits {
         ensures same { shown_pending self.new ≡ shown_pending self.old }
         ensures ok { OnOk result (1 ≤ blocked_rooms self.new id) }
     {
-        self.stream_data_blocked.reserve(1)?;
-        Ok(())
+        self.stream_data_blocked.reserve_for(id)
     }
 
     /// Queues STREAM_DATA_BLOCKED for a stream where that is due, in room that was made.
@@ -80,7 +78,7 @@ impl Retransmits {
         ensures { shown_pending self.new ≡ record (shown_pending self.old) { stream_data_blocked = with_id (shown_pending self.old).stream_data_blocked id due } }
     {
         if due {
-            let _ = self.stream_data_blocked.insert(id);
+            self.stream_data_blocked.insert_reserved(id);
         }
     }
 

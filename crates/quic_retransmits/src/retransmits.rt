@@ -3,13 +3,13 @@
 ghost use Rattle.std.specs.Prelude.{◌≡◌, ◌+◌, ◌-◌, ◌<◌, ◌≤◌, ◌++◌, ◌||◌, ℕ, [], OnOk, OnErr, IfOk, IfErr, false, true, length, vec_len};
 ghost use Rattle.std.specs.Vec.{vec_capacity};
 ghost use Rattle.std.specs.VecDeque.{deque_len, deque_capacity};
-ghost use Rattle.std.specs.HashSet.{spare, hash_set_len};
-ghost use Rattle.quic_retransmits.specs.Pending.{shown_pending, nothing, merged, is_in_ids, shown_if, merged_if, collected, HasRoomFor, numbers_from, IsRetireRefusal};
+ghost use Rattle.quic_retransmits.specs.Pending.{shown_pending, nothing, merged, shown_if, merged_if, collected, HasRoomFor, numbers_from, IsRetireRefusal};
 
+use crate::stream_ids::StreamIds;
 use quic_wire::frame::{Crypto, StopSending};
 use quic_wire::{Bytes, OutOfMemory, ReceiveError, StreamId, TransportError, VarInt};
 use std::alloc::Global;
-use std::collections::{HashSet, VecDeque};
+use std::collections::VecDeque;
 use std::net::SocketAddr;
 use std::ops::Range;
 
@@ -47,8 +47,8 @@ pub struct Retransmits {
     /// The id of each stream that is given up, and why.
     pub reset_stream: Vec<(StreamId, VarInt)>,
     pub stop_sending: Vec<StopSending>,
-    pub max_stream_data: HashSet<StreamId>,
-    pub stream_data_blocked: HashSet<StreamId>,
+    pub max_stream_data: StreamIds,
+    pub stream_data_blocked: StreamIds,
     pub crypto: VecDeque<Crypto>,
     pub new_cids: Vec<IssuedCid>,
     /// The sequence numbers of the peer's ids that are no longer used.
@@ -70,8 +70,8 @@ impl Retransmits {
             max_stream_id: [false; 2],
             reset_stream: Vec::new(alloc),
             stop_sending: Vec::new(alloc),
-            max_stream_data: HashSet::new(alloc),
-            stream_data_blocked: HashSet::new(alloc),
+            max_stream_data: StreamIds::new(alloc),
+            stream_data_blocked: StreamIds::new(alloc),
             crypto: VecDeque::new(alloc),
             new_cids: Vec::new(alloc),
             retire_cids: Vec::new(alloc),
@@ -144,8 +144,8 @@ impl Retransmits {
             max_stream_id: self.max_stream_id,
             reset_stream: Vec::from_slice(alloc, self.reset_stream.as_slice())?,
             stop_sending: Vec::from_slice(alloc, self.stop_sending.as_slice())?,
-            max_stream_data: clone_ids(alloc, &self.max_stream_data)?,
-            stream_data_blocked: clone_ids(alloc, &self.stream_data_blocked)?,
+            max_stream_data: self.max_stream_data.copy(alloc)?,
+            stream_data_blocked: self.stream_data_blocked.copy(alloc)?,
             crypto: clone_crypto(alloc, &self.crypto)?,
             new_cids: clone_cids(alloc, self.new_cids.as_slice())?,
             retire_cids: Vec::from_slice(alloc, self.retire_cids.as_slice())?,
@@ -161,11 +161,10 @@ impl Retransmits {
     {
         self.reset_stream.reserve(other.reset_stream.len())?;
         self.stop_sending.reserve(other.stop_sending.len())?;
-        reserve_ids(&mut self.max_stream_data, other.max_stream_data.len())?;
-        reserve_ids(
-            &mut self.stream_data_blocked,
-            other.stream_data_blocked.len(),
-        )?;
+        self.max_stream_data
+            .reserve(other.max_stream_data.entries())?;
+        self.stream_data_blocked
+            .reserve(other.stream_data_blocked.entries())?;
         self.crypto.reserve(other.crypto.len())?;
         self.new_cids.reserve(other.new_cids.len())?;
         self.retire_cids.reserve(other.retire_cids.len())?;
@@ -198,8 +197,8 @@ impl Retransmits {
         self.max_stream_id = [bi | max_stream_id[0], uni | max_stream_id[1]];
         append_all(&mut self.reset_stream, reset_stream);
         append_all(&mut self.stop_sending, stop_sending);
-        add_all(&mut self.max_stream_data, &max_stream_data);
-        add_all(&mut self.stream_data_blocked, &stream_data_blocked);
+        self.max_stream_data.add_all(&max_stream_data);
+        self.stream_data_blocked.add_all(&stream_data_blocked);
         put_in_front(&mut self.crypto, crypto);
         append_all(&mut self.new_cids, new_cids);
         append_all(&mut self.retire_cids, retire_cids);
@@ -243,14 +242,6 @@ fn push_numbers(list: &mut Vec<u64>, start: u64, end: u64)
     }
 }
 
-fn reserve_ids(ids: &mut HashSet<StreamId>, additional: usize) -> Result<(), OutOfMemory>
-    ensures same { is_in_ids ids.new ≡ is_in_ids ids.old }
-    ensures ok { OnOk result (additional ≤ spare ids.new) }
-{
-    ids.reserve(additional)?;
-    Ok(())
-}
-
 // Appends a list for which room was made.
 fn append_all<T: Drop>(list: &mut Vec<T>, more: Vec<T>)
     requires { vec_len list.old + vec_len more ≤ vec_capacity list.old }
@@ -269,25 +260,6 @@ fn put_in_front(queue: &mut VecDeque<Crypto>, front: VecDeque<Crypto>)
     while let Some(last) = front.pop_back() {
         queue.push_front_reserved(last);
     }
-}
-
-// Adds ids for which room was made.
-fn add_all(ids: &mut HashSet<StreamId>, more: &HashSet<StreamId>)
-    requires { hash_set_len more.now ≤ spare ids.old }
-    ensures { is_in_ids ids.new ≡ (λ id. is_in_ids ids.old id || is_in_ids more.now id) }
-{
-    for id in more.iter() {
-        let _ = ids.insert(*id);
-    }
-}
-
-fn clone_ids(alloc: Global, ids: &HashSet<StreamId>) -> Result<HashSet<StreamId>, OutOfMemory>
-    ensures { IfOk result (λ copy. is_in_ids copy ≡ is_in_ids ids.now) }
-{
-    let mut copy = HashSet::new(alloc);
-    reserve_ids(&mut copy, ids.len())?;
-    add_all(&mut copy, ids);
-    Ok(copy)
 }
 
 fn clone_crypto(alloc: Global, queue: &VecDeque<Crypto>) -> Result<VecDeque<Crypto>, OutOfMemory>

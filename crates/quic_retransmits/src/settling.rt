@@ -82,7 +82,7 @@ impl Retransmits {
     pub fn next_window(&self) -> Option<StreamId>
         ensures { IsSomeIn (shown_pending self.now).max_stream_data result }
     {
-        self.max_stream_data.iter().next().copied()
+        self.max_stream_data.some()
     }
 
     /// The MAX_STREAM_DATA of a stream leaves what is pending.
@@ -91,7 +91,7 @@ impl Retransmits {
         ensures settled { shown_pending self.new ≡ record (shown_pending self.old) { max_stream_data = without_id (shown_pending self.old).max_stream_data id } }
         ensures fewer { (shown_pending self.old).max_stream_data id ≡ true → entry_count self.new < entry_count self.old }
     {
-        let _ = self.max_stream_data.remove(&id);
+        self.max_stream_data.remove(id);
     }
 
     /// A stream for which STREAM_DATA_BLOCKED is pending.
@@ -99,7 +99,7 @@ impl Retransmits {
     pub fn next_stream_blocked(&self) -> Option<StreamId>
         ensures { IsSomeIn (shown_pending self.now).stream_data_blocked result }
     {
-        self.stream_data_blocked.iter().next().copied()
+        self.stream_data_blocked.some()
     }
 
     /// The STREAM_DATA_BLOCKED of a stream leaves what is pending.
@@ -108,7 +108,7 @@ impl Retransmits {
         ensures settled { shown_pending self.new ≡ record (shown_pending self.old) { stream_data_blocked = without_id (shown_pending self.old).stream_data_blocked id } }
         ensures fewer { (shown_pending self.old).stream_data_blocked id ≡ true → entry_count self.new < entry_count self.old }
     {
-        let _ = self.stream_data_blocked.remove(&id);
+        self.stream_data_blocked.remove(id);
     }
 
     /// MAX_DATA leaves what is pending.

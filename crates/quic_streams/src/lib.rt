@@ -23,5 +23,5 @@ pub use pending::PendingFrames;
 pub use quic_history::progress;
 pub use quic_outgoing::PeerLimits;
 pub use quic_pieces::{assembler, datagrams, send, send_buffer, source, stats};
-pub use quic_retransmits::{IssuedCid, Retransmits, ThinRetransmits};
+pub use quic_retransmits::{IssuedCid, Retransmits, StreamIds, ThinRetransmits};
 pub use quic_writing::StreamMetaVec;

@@ -1,13 +1,15 @@
 //! Whether anything that is pending could be sent.
 
-ghost use Rattle.std.specs.Prelude.{◌≡◌, ℕ, Bool, unwrap_or, is_some};
+ghost use Rattle.std.specs.Prelude.{◌≡◌, ◌==◌, ℕ, Bool, unwrap_or, is_some};
+ghost use Rattle.std.specs.HashSet.{contains};
 ghost use Rattle.quic_queue.specs.SendOrder.{Tells};
-ghost use Rattle.quic_retransmits.specs.Pending.{Pending, shown_pending, shown_if, is_in_ids, nothing};
+ghost use Rattle.quic_retransmits.specs.Pending.{Pending, shown_pending, shown_if, nothing};
+ghost use Rattle.quic_retransmits.specs.Ids.{is_in_ids};
 ghost use Rattle.quic_streams.specs.Shown.{shown};
 ghost use Rattle.quic_streams.specs.Waiting.{TellsAny, TellsEmpty, has_lasting, window_counts, limit_counts};
 
 use crate::state::StreamsState;
-use quic_retransmits::{Retransmits, ThinRetransmits};
+use quic_retransmits::{Retransmits, StreamIds, ThinRetransmits};
 use quic_values::StreamId;
 use std::collections::HashSet;
 
@@ -43,9 +45,21 @@ impl PendingFrames for ThinRetransmits {
 }
 
 // Whether any id of a set passes a test.
-fn any_id<F: Fn(StreamId) -> bool>(ids: &HashSet<StreamId>, test: &F) -> bool
+fn any_id<F: Fn(StreamId) -> bool>(ids: &StreamIds, test: &F) -> bool
     requires { F.IsAlwaysCallable test.now }
     ensures { (p : ℕ → Bool) → Tells (F.post test.now) p → TellsAny (is_in_ids ids.now) p result }
+{
+    if let Some(first) = ids.first
+        && test(first)
+    {
+        return true;
+    }
+    any_other(&ids.others, test)
+}
+
+fn any_other<F: Fn(StreamId) -> bool>(ids: &HashSet<StreamId>, test: &F) -> bool
+    requires { F.IsAlwaysCallable test.now }
+    ensures { (p : ℕ → Bool) → Tells (F.post test.now) p → TellsAny (contains ◌==◌ ids.now) p result }
 {
     for id in ids.iter() {
         if test(*id) {
@@ -68,14 +82,14 @@ impl StreamsState {
     }
 
     // Whether MAX_STREAM_DATA is of use on any of some streams.
-    fn has_window(&self, ids: &HashSet<StreamId>) -> bool
+    fn has_window(&self, ids: &StreamIds) -> bool
         ensures { TellsAny (is_in_ids ids.now) (window_counts (shown self.now)) result }
     {
         any_id(ids, &|id| self.can_send_flow_control(id))
     }
 
     // Whether STREAM_DATA_BLOCKED is of use on any of some streams.
-    fn has_limit(&self, ids: &HashSet<StreamId>) -> bool
+    fn has_limit(&self, ids: &StreamIds) -> bool
         ensures { TellsAny (is_in_ids ids.now) (limit_counts (shown self.now)) result }
     {
         any_id(ids, &|id| self.stream_data_blocked_limit(id).is_some())

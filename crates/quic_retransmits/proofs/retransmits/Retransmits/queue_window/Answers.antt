@@ -1,9 +1,6 @@
-use Rattle.std.proofs.Common.{ap}
-use Rattle.quic_retransmits.specs.Pending.{shown_pending}
-use Rattle.quic_retransmits.proofs.Sets.{OnOk-here, fits, with_one}
+use Rattle.quic_retransmits.specs.Ids.{is_in_ids, id_rooms}
+use Rattle.quic_retransmits.proofs.Sets.{placed}
 use Rattle.quic_retransmits.proofs.retransmits.Retransmits.queue_window.Goals as goal
 
-pub returns-then-due-clause-queued : goal.returns-then-due-clause-queued
-returns-then-due-clause-queued c =
-    let here = OnOk-here _ (fits c.insert.result _ _ (c.requires c.if-due.true) c.insert.ensures.succeeds c.insert.ensures.absent) c.insert.ensures.updates in
-    rw c.if-due.true (ap (λ ids. record (shown_pending c.args.self.now) { max_stream_data = ids }) (with_one _ _ c.args.id here.0))
+pub returns-then-due-clause-room : goal.returns-then-due-clause-room
+returns-then-due-clause-room c = λ _. placed (is_in_ids c.insert_reserved.new.self) (is_in_ids c.args.self.now.max_stream_data) c.args.id (id_rooms c.insert_reserved.new.self) c.insert_reserved.ensures.set

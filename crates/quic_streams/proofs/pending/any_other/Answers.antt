@@ -2,7 +2,7 @@ use Rattle.std.proofs.Common.{◌≡◌, ◌∙◌, ℕ, Bool, true, false, eqb,
 use Rattle.std.specs.Prelude.{◌==◌, ◌||◌}
 use Rattle.std.specs.List.{list_any}
 use Rattle.quic_history.proofs.Totals.{by_cases, same}
-use Rattle.quic_streams.proofs.pending.any_id.Goals as goal
+use Rattle.quic_streams.proofs.pending.any_other.Goals as goal
 
 later : (a b : Bool) → b ≡ true → (a || b) ≡ true
 later true b e = refl

@@ -1,7 +1,0 @@
-use Rattle.std.proofs.Common.{ap}
-use Rattle.quic_retransmits.specs.Pending.{shown_pending, is_in_ids}
-use Rattle.quic_retransmits.proofs.Sets.{same_ids}
-use Rattle.quic_retransmits.proofs.retransmits.Retransmits.reserve_window.Goals as goal
-
-pub returns-clause-same : goal.returns-clause-same
-returns-clause-same c = ap (λ ids. record (shown_pending c.args.self.now) { max_stream_data = ids }) (same_ids (is_in_ids c.reserve.new.self) (is_in_ids c.args.self.now.max_stream_data) c.reserve.ensures.keys.2)
