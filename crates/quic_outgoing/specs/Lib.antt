@@ -5,6 +5,7 @@ pub mod Calls
 pub mod Writing
 pub mod Acknowledging
 pub mod Reports
+pub mod Waits
 pub mod Shown
 pub mod History
 pub mod Transmitting

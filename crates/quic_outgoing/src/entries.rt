@@ -267,40 +267,6 @@ impl SendEntries {
         }
     }
 
-    // Takes a half out to be put back, where something was written.
-    fn take_used(&mut self, id: StreamId) -> Option<Box<Send>>
-        ensures half { IfSome result (λ b. senders self.old id ≡ Some (raised (first_limit self.old.side self.old.first id) (bare b.value))) }
-        ensures halves { OnSome result (senders self.new ≡ with_sender (senders self.old) id (Some (new_sender (first_limit self.old.side self.old.first id)))) }
-        ensures none { IfNone result (senders self.new ≡ senders self.old) }
-        ensures unused { IfNone result ((senders self.old id ≡ None) ⊎ (senders self.old id ≡ Some (new_sender (first_limit self.old.side self.old.first id)))) }
-        ensures side { self.new.side ≡ self.old.side }
-        ensures first { self.new.first ≡ self.old.first }
-        ensures room { sender_room self.new ≡ sender_room self.old }
-    {
-        match self.entries.get_mut(&id) {
-            None => None,
-            Some(entry) => entry.take(),
-        }
-    }
-
-    /// A stream waits no more.
-    pub(crate) fn unmark(&mut self, id: StreamId)
-        ensures halves { senders self.new ≡ unmarked (senders self.old) id }
-        ensures side { self.new.side ≡ self.old.side }
-        ensures first { self.new.first ≡ self.old.first }
-        ensures room { sender_room self.new ≡ sender_room self.old }
-    {
-        match self.take_used(id) {
-            None => {}
-            Some(half) => {
-                let mut half = half;
-                half.max_data = greater(half.max_data, self.first_limit(id));
-                half.connection_blocked = false;
-                self.put(id, half);
-            }
-        }
-    }
-
     /// Puts a half back.
     #[inline]
     pub(crate) fn put(&mut self, id: StreamId, half: Box<Send>)

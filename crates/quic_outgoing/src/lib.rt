@@ -11,6 +11,7 @@ mod peer;
 mod permits;
 mod polling;
 mod transmitting;
+mod waiting;
 mod writing;
 
 pub use entries::FirstLimits;

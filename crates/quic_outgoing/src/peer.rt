@@ -1,15 +1,13 @@
 //! What the peer says of streams on which this end sends.
 
-ghost use Rattle.std.specs.Prelude.{◌≡◌, ◌≤◌, ◌<◌, is_some, true, vec_len};
+ghost use Rattle.std.specs.Prelude.{◌≡◌};
 ghost use Rattle.std.specs.Option.{option_map};
-ghost use Rattle.std.specs.Vec.{vec_capacity};
-ghost use Rattle.quic_outgoing.specs.Senders.{bare, first_limit};
-ghost use Rattle.quic_outgoing.specs.Outgoing.{with_send_half, waiting};
 ghost use Rattle.quic_outgoing.specs.Calls.{RaisesStream, StopsSending, told_of_half, blocked_limit};
 ghost use Rattle.quic_outgoing.specs.History.{WasStopped, GaveStream, Continues};
 ghost use Rattle.quic_outgoing.specs.Shown.{view_of, permit_room};
 
 use crate::outgoing::OutgoingStreams;
+use crate::waiting::join_waiting;
 use quic_sending::{ClosedStream, Send};
 use quic_values::{OutOfMemory, StreamId, VarInt};
 
@@ -71,35 +69,14 @@ impl OutgoingStreams {
         ensures { RaisesStream (view_of self.old) id offset result (view_of self.new) }
     {
         self.blocked.reserve(1)?;
-        match self.halves.take(id) {
+        let stuck = self.write_limit() == 0;
+        match self.halves.raise(id, offset, stuck) {
             Err(_) => Err(OutOfMemory),
             Ok(None) => Ok(false),
-            Ok(Some(half)) => {
-                let mut half = half;
-                let woken = half.increase_max_data(offset);
-                let stuck = self.write_limit() == 0;
-                if woken && stuck {
-                    self.wait_with(id, half);
-                } else {
-                    self.halves.put(id, half);
-                }
-                Ok(woken && !stuck)
+            Ok(Some(raised)) => {
+                join_waiting(&mut self.blocked, id, raised.joins);
+                Ok(raised.is_woken && !stuck)
             }
         }
-    }
-
-    // Puts a half back, whose stream waits, for which there is room.
-    pub(crate) fn wait_with(&mut self, id: StreamId, half: Box<Send>)
-        requires there { is_some ((view_of self.old).halves id) ≡ true }
-        requires limit { first_limit (view_of self.old).side (view_of self.old).first id ≤ half.value.max_data }
-        requires room { vec_len self.old.blocked < vec_capacity self.old.blocked }
-        ensures { view_of self.new ≡ waiting (view_of self.old) id (bare half.value) }
-    {
-        let mut half = half;
-        if !half.connection_blocked {
-            half.connection_blocked = true;
-            self.blocked.push_reserved(id);
-        }
-        self.halves.put(id, half);
     }
 }

@@ -14,6 +14,7 @@ use crate::closing::queue_at;
 use crate::entries::{SendEntries, greater};
 use crate::outgoing::OutgoingStreams;
 use crate::transmitting::take_half;
+use crate::waiting::join_waiting;
 use quic_retransmits::Retransmits;
 use quic_sending::{BytesSource, Send, WriteError, Written};
 use quic_values::{StreamId, VarInt};
@@ -82,11 +83,11 @@ impl OutgoingStreams {
         if self.blocked.reserve(1).is_err() {
             return WriteError::OutOfMemory;
         }
-        match self.halves.take(id) {
+        match self.halves.wait(id) {
             Err(_) => WriteError::OutOfMemory,
             Ok(None) => WriteError::ClosedStream,
-            Ok(Some(half)) => {
-                self.wait_with(id, half);
+            Ok(Some(joins)) => {
+                join_waiting(&mut self.blocked, id, joins);
                 pending.queue_data_blocked(self.budget.note_blocked());
                 WriteError::Blocked
             }

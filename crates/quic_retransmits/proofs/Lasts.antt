@@ -1,5 +1,5 @@
 -- The last of a list.
-use Rattle.std.proofs.Common.{◌≡◌, ◌-◌, ◌∙◌, ℕ, List, [], ◌∷◌, ◌++◌, length, sym, ap, Option, Some, None, zero, suc, arith, refl}
+use Rattle.std.proofs.Common.{◌≡◌, ◌-◌, ◌∙◌, ℕ, List, [], ◌∷◌, ◌++◌, length, sym, ap, Some, suc, arith}
 use Rattle.std.specs.Prelude.{slice_get}
 
 same-last : {T : Type 0} (a b : T) → Some a ≡ Some b → a ≡ b

@@ -3,7 +3,7 @@ use Rattle.std.proofs.Common.{◌≡◌, ℕ, Bool, true, false, cond, refl, ari
 use Rattle.std.specs.Prelude.{◌+◌, ◌||◌, ◌&&◌, ◌==◌, not, Option, Some, None, is_none, Result, Ok, Err, OnOk, OnErr, IsOk}
 use Rattle.std.specs.List.{list_any}
 use Rattle.std.proofs.lemmas.Bool.Decides.{nat_tests}
-use Rattle.quic_retransmits.specs.Ids.{is_first, free_first}
+use Rattle.quic_retransmits.specs.Ids.{has_own_place, own_rooms}
 use Rattle.quic_retransmits.specs.Queueing.{with_id}
 use Rattle.quic_retransmits.specs.Settling.{without_id}
 
@@ -57,14 +57,14 @@ without_one new old id h = λ i. λ q. (h q ∙ ap (λ b. cond b false (old q)) 
 
 -- one id in the place of its own, and others
 abbrev pub both : Option ℕ → (ℕ → Bool) → ℕ → Bool
-both first others = λ q. is_first first q || others q
+both first others = λ q. has_own_place first q || others q
 
 -- a set whose ids elsewhere stay
 pub same_elsewhere : (first : Option ℕ) (a b : ℕ → Bool) → ((q : ℕ) → a q ≡ b q) → both first a ≡ both first b
-same_elsewhere first a b h = λ i q. is_first first q || h q i
+same_elsewhere first a b h = λ i q. has_own_place first q || h q i
 
 -- the places for an id that has none, where another one stands in the place of its own
-pub places_elsewhere : (first : Option ℕ) (id : ℕ) (held : Bool) (places : ℕ) → is_none first ≡ false → is_first first id ≡ false → 1 ≤ cond (is_first first id || held) 1 (places + free_first first) → 1 ≤ cond held 1 places
+pub places_elsewhere : (first : Option ℕ) (id : ℕ) (held : Bool) (places : ℕ) → is_none first ≡ false → has_own_place first id ≡ false → 1 ≤ cond (has_own_place first id || held) 1 (places + own_rooms first) → 1 ≤ cond held 1 places
 places_elsewhere None id held places none other room = cc
 places_elsewhere (Some first) id true places none other room = omega arith
 places_elsewhere (Some first) id false places none other room = let room = rw other at room in omega (arith, room)
@@ -78,7 +78,7 @@ add-elsewhere false false false = refl
 
 -- one more id elsewhere
 pub with_one_elsewhere : (first : Option ℕ) (new old : ℕ → Bool) (id : ℕ) → ((q : ℕ) → new q ≡ cond (id == q) true (old q)) → both first new ≡ with_id (both first old) id true
-with_one_elsewhere first new old id h = λ i q. (ap (λ b. is_first first q || b) (h q ∙ ap (λ b. cond b true (old q)) (==-comm id q)) ∙ add-elsewhere (is_first first q) (old q) (q == id)) i
+with_one_elsewhere first new old id h = λ i q. (ap (λ b. has_own_place first q || b) (h q ∙ ap (λ b. cond b true (old q)) (==-comm id q)) ∙ add-elsewhere (has_own_place first q) (old q) (q == id)) i
 
 stays-out : (b : Bool) → false ≡ cond b false false
 stays-out true = refl
@@ -100,14 +100,14 @@ drop-both false false true = refl
 drop-both false false false = refl
 
 -- an id leaves both places
-pub without_either : (left first : Option ℕ) (new old : ℕ → Bool) (id : ℕ) → is_first left ≡ without_id (is_first first) id → ((q : ℕ) → new q ≡ cond (id == q) false (old q)) → both left new ≡ without_id (both first old) id
+pub without_either : (left first : Option ℕ) (new old : ℕ → Bool) (id : ℕ) → has_own_place left ≡ without_id (has_own_place first) id → ((q : ℕ) → new q ≡ cond (id == q) false (old q)) → both left new ≡ without_id (both first old) id
 without_either left first new old id l h = λ i q.
     (ap (λ b. b || new q) (ap (λ (ids : ℕ → Bool). ids q) l)
-    ∙ ap (λ b. (is_first first q && not (q == id)) || b) (h q ∙ ap (λ b. cond b false (old q)) (==-comm id q))
-    ∙ drop-both (is_first first q) (old q) (q == id)) i
+    ∙ ap (λ b. (has_own_place first q && not (q == id)) || b) (h q ∙ ap (λ b. cond b false (old q)) (==-comm id q))
+    ∙ drop-both (has_own_place first q) (old q) (q == id)) i
 
 -- an id leaves the place of its own where no others are
-pub without_first : (left first : Option ℕ) (others : ℕ → Bool) (id : ℕ) → is_first left ≡ without_id (is_first first) id → ((q : ℕ) → others q ≡ false) → both left others ≡ without_id (both first others) id
+pub without_first : (left first : Option ℕ) (others : ℕ → Bool) (id : ℕ) → has_own_place left ≡ without_id (has_own_place first) id → ((q : ℕ) → others q ≡ false) → both left others ≡ without_id (both first others) id
 without_first left first others id l none = without_either left first others others id l (λ q. rw (none q) (stays-out (id == q)))
 
 -- what leaves one place or both leaves fewer
@@ -126,8 +126,8 @@ abbrev pub either : (ℕ → Bool) → (ℕ → Bool) → ℕ → Bool
 either a b = λ q. a q || b q
 
 -- ids are added from both places
-pub with_both : (old : ℕ → Bool) (first : Option ℕ) (others : ℕ → Bool) → either (either old (is_first first)) others ≡ either old (both first others)
-with_both old first others = λ i q. or-assoc (old q) (is_first first q) (others q) i
+pub with_both : (old : ℕ → Bool) (first : Option ℕ) (others : ℕ → Bool) → either (either old (has_own_place first)) others ≡ either old (both first others)
+with_both old first others = λ i q. or-assoc (old q) (has_own_place first q) (others q) i
 
 -- an id that was to be added is in the set
 pub added-next : (k id : ℕ) (old new rest : Bool) → new ≡ (old || (true && (id == k))) → (new || rest) ≡ (old || ((id == k) || rest))

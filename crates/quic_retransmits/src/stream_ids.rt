@@ -2,7 +2,7 @@
 
 ghost use Rattle.std.specs.Prelude.{◌≡◌, ◌+◌, ◌<◌, ◌≤◌, ◌==◌, ◌||◌, true, false, OnOk, IfOk, IsTrue, ◌↔◌};
 ghost use Rattle.std.specs.HashSet.{contains, hash_set_len};
-ghost use Rattle.quic_retransmits.specs.Ids.{is_first, one_first, is_in_ids, id_count, id_entries, id_rooms, id_places};
+ghost use Rattle.quic_retransmits.specs.Ids.{has_own_place, own_entries, is_in_ids, id_count, id_entries, id_rooms, id_places};
 ghost use Rattle.quic_retransmits.specs.Queueing.{with_id};
 ghost use Rattle.quic_retransmits.specs.Settling.{without_id, IsSomeIn};
 
@@ -36,7 +36,7 @@ impl StreamIds {
     pub fn contains(&self, id: StreamId) -> bool
         ensures { result ≡ is_in_ids self.now id }
     {
-        self.is_first(id) || self.others.contains(&id)
+        self.stands_first(id) || self.others.contains(&id)
     }
 
     /// How many ids there are.
@@ -64,8 +64,8 @@ impl StreamIds {
 
     // Whether an id stands in `first`.
     #[inline]
-    fn is_first(&self, id: StreamId) -> bool
-        ensures { result ≡ is_first self.now.first id }
+    fn stands_first(&self, id: StreamId) -> bool
+        ensures { result ≡ has_own_place self.now.first id }
     {
         match self.first {
             Some(first) => id == first,
@@ -104,7 +104,7 @@ impl StreamIds {
         ensures same { is_in_ids self.new ≡ is_in_ids self.old }
         ensures ok { OnOk result (1 ≤ id_places self.new id) }
     {
-        if self.first.is_some() && !self.is_first(id) {
+        if self.first.is_some() && !self.stands_first(id) {
             self.others.reserve(1)?;
         }
         Ok(())
@@ -119,7 +119,7 @@ impl StreamIds {
     {
         if self.first.is_none() {
             self.first = Some(id);
-        } else if !self.is_first(id) {
+        } else if !self.stands_first(id) {
             let _ = self.others.insert(id);
         }
     }
@@ -139,12 +139,12 @@ impl StreamIds {
     // Takes an id out of `first`, if it stands there.
     #[inline]
     fn clear_first(&mut self, id: StreamId)
-        ensures first { is_first self.new.first ≡ without_id (is_first self.old.first) id }
+        ensures first { has_own_place self.new.first ≡ without_id (has_own_place self.old.first) id }
         ensures others { self.new.others ≡ self.old.others }
-        ensures no_more { one_first self.new.first ≤ one_first self.old.first }
-        ensures fewer { is_first self.old.first id ≡ true → one_first self.new.first < one_first self.old.first }
+        ensures no_more { own_entries self.new.first ≤ own_entries self.old.first }
+        ensures fewer { has_own_place self.old.first id ≡ true → own_entries self.new.first < own_entries self.old.first }
     {
-        if self.is_first(id) {
+        if self.stands_first(id) {
             self.first = None;
         }
     }
@@ -169,9 +169,9 @@ impl StreamIds {
     }
 
     fn add_first(&mut self, first: Option<StreamId>)
-        requires { one_first first ≤ id_rooms self.old }
-        ensures set { is_in_ids self.new ≡ (λ id. is_in_ids self.old id || is_first first id) }
-        ensures room { id_rooms self.old ≤ id_rooms self.new + one_first first }
+        requires { own_entries first ≤ id_rooms self.old }
+        ensures set { is_in_ids self.new ≡ (λ id. is_in_ids self.old id || has_own_place first id) }
+        ensures room { id_rooms self.old ≤ id_rooms self.new + own_entries first }
     {
         if let Some(first) = first {
             self.insert_reserved(first);

@@ -73,13 +73,23 @@ fn copy_thin(thin: &ThinRetransmits) -> Result<ThinRetransmits, OutOfMemory> {
     thin.clone()
 }
 
+fn add_window(set: &mut Retransmits, id: StreamId) -> Result<(), OutOfMemory> {
+    set.reserve_window(id)?;
+    set.queue_window(id, true);
+    Ok(())
+}
+
+fn add_stream_blocked(set: &mut Retransmits, id: StreamId) -> Result<(), OutOfMemory> {
+    set.reserve_stream_blocked(id)?;
+    set.queue_stream_blocked(id, true);
+    Ok(())
+}
+
 // A set with something for each number in each list and in each set.
 fn filled(alloc: Global, numbers: &[u32]) -> Result<Retransmits, OutOfMemory> {
     let mut set = Retransmits::new(alloc);
     set.reset_stream.reserve(numbers.len())?;
     set.stop_sending.reserve(numbers.len())?;
-    set.max_stream_data.reserve(numbers.len())?;
-    set.stream_data_blocked.reserve(numbers.len())?;
     set.crypto.reserve(numbers.len())?;
     set.new_cids.reserve(numbers.len())?;
     set.retire_cids.reserve(numbers.len())?;
@@ -89,8 +99,8 @@ fn filled(alloc: Global, numbers: &[u32]) -> Result<Retransmits, OutOfMemory> {
         let id = id(*number);
         set.reset_stream.push((id, error_code))?;
         set.stop_sending.push(StopSending { id, error_code })?;
-        set.max_stream_data.insert(id)?;
-        set.stream_data_blocked.insert(id)?;
+        add_window(&mut set, id)?;
+        add_stream_blocked(&mut set, id)?;
         set.crypto.push_back(crypto(alloc, *number))?;
         set.new_cids.push(IssuedCid {
             sequence: u64::from(*number),
@@ -132,8 +142,8 @@ fn shows(rt: &impl Abort, set: &Retransmits, numbers: &[u32], crypto: &[u32]) {
             set.stop_sending.get(place).copied(),
             Some(StopSending { id, error_code }),
         );
-        is_true(rt, set.max_stream_data.contains(&id));
-        is_true(rt, set.stream_data_blocked.contains(&id));
+        is_true(rt, set.max_stream_data.contains(id));
+        is_true(rt, set.stream_data_blocked.contains(id));
         same(
             rt,
             set.new_cids.get(place).map(|cid| cid.sequence),
@@ -184,12 +194,12 @@ fn lists_go_behind_and_sets_are_united(rt: HostRuntime) -> Result<(), Fail> {
     let alloc = rt.alloc();
     let mut set = Retransmits::new(alloc);
     set.reset_stream.push((id(2), VarInt::from(7)))?;
-    set.max_stream_data.insert(id(2))?;
+    add_window(&mut set, id(2))?;
     set.max_stream_id = [true, false];
     let mut other = Retransmits::new(alloc);
     other.reset_stream.push((id(6), VarInt::from(1)))?;
-    other.max_stream_data.insert(id(2))?;
-    other.max_stream_data.insert(id(6))?;
+    add_window(&mut other, id(2))?;
+    add_window(&mut other, id(6))?;
     other.max_stream_id = [false, true];
     other.handshake_done = true;
     merge(&mut set, other)?;
@@ -201,7 +211,7 @@ fn lists_go_behind_and_sets_are_united(rt: HostRuntime) -> Result<(), Fail> {
     same(&rt, set.max_stream_data.len(), 2);
     is_true(
         &rt,
-        set.max_stream_data.contains(&id(2)) && set.max_stream_data.contains(&id(6)),
+        set.max_stream_data.contains(id(2)) && set.max_stream_data.contains(id(6)),
     );
     same(&rt, set.max_stream_id, [true, true]);
     is_true(&rt, set.handshake_done && !set.max_data);

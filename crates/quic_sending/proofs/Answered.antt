@@ -1,5 +1,5 @@
 -- Lemmas on acknowledged and lost offsets.
-use Rattle.std.proofs.Common.{◌≡◌, ◌∙◌, ℕ, ◌<◌, ◌≤◌, ◌⊎◌, inl, inr, true, false, ◌||◌, ◌&&◌, not, List, [], ◌∷◌, ◌++◌, max, min, refl, arith, Option, Some, None}
+use Rattle.std.proofs.Common.{◌≡◌, ◌∙◌, ℕ, ◌<◌, ◌≤◌, ◌⊎◌, inl, inr, true, false, ◌||◌, ◌&&◌, not, List, [], ◌∷◌, ◌++◌, max, min, nat_lt, refl, arith, Option, Some, None}
 use Rattle.std.proofs.lemmas.Bool.{cases_lt, both_ways}
 use Rattle.std.specs.Option.{IfSome, IfNone}
 use Rattle.std.proofs.lemmas.Bool.Decides.{nat_tests}
@@ -187,7 +187,7 @@ minus-lose called called' later prefix start range from lost n =
     grind (arith, nat_tests)
 
 -- a front of the lowest lost run is sent again
-pub minus-resend : (called called' later : List Run) (prefix limit : ℕ) (range : Range ℕ) → IsLowestRun (minus called ((0, prefix) ∷ later)) range.start limit → ((n : ℕ) → contains called' n ≡ (contains called n && not (is_in (0, range.end) n))) → (n : ℕ) → contains (minus called' ((0, prefix) ∷ later)) n ≡ (contains (minus called ((0, prefix) ∷ later)) n && not (lies_in range n))
+pub minus-resend : (called called' later : List Run) (prefix limit : ℕ) (range : Range ℕ) → IsLowestRun (minus called ((0, prefix) ∷ later)) range.start limit → ((n : ℕ) → contains called' n ≡ (contains called n && not (nat_lt n range.end))) → (n : ℕ) → contains (minus called' ((0, prefix) ∷ later)) n ≡ (contains (minus called ((0, prefix) ∷ later)) n && not (lies_in range n))
 minus-resend called called' later prefix limit range lowest lost n =
     let old = is_lost-at called later prefix n in
     let new = is_lost-at called' later prefix n in
@@ -232,3 +232,32 @@ minus-same called called' later prefix start end lost n l =
     let new = is_lost-at called' later prefix n in
     let at = lost n in
     grind (arith, nat_tests)
+
+-- of the lowest run a part is left where less of it goes
+pub IsLowest-cut : (s s' : List Run) (run range : Range ℕ) (limit : ℕ) → IsLowestOrNone s run → IsLowestRun s range.start limit → run.start < range.end → range.end < run.end → ((n : ℕ) → contains s' n ≡ (contains s n && not (lies_in range n))) → IsLowestOrNone s' (record { start = range.end; end = run.end })
+IsLowest-cut s s' run range limit is front some less new =
+    record {
+      run = λ _. record {
+        run = record { some = less; inside = λ n l h. inside n l h; end = end };
+        lowest = λ n l. low n l;
+      };
+      none = λ none. absurd (omega arith);
+    }
+  where
+    lowest : IsLowestRun s run.start run.end
+    lowest = is.run (omega arith)
+
+    starts : range.start ≤ run.start
+    starts =
+        let at = lowest.run.inside run.start in
+        let under = front.lowest run.start in
+        grind (arith, nat_tests)
+
+    inside : (n : ℕ) → range.end ≤ n → n < run.end → contains s' n ≡ true
+    inside n l h = let at = new n in let old = lowest.run.inside n (omega arith) h in grind (arith, nat_tests)
+
+    end : contains s' run.end ≡ false
+    end = let at = new run.end in let old = lowest.run.end in grind (arith, nat_tests)
+
+    low : (n : ℕ) → n < range.end → contains s' n ≡ false
+    low n l = let b = starts in let at = new n in let old = lowest.lowest n in grind (arith, nat_tests)

@@ -112,7 +112,11 @@ impl Outcomes {
         ensures same { self.new ≡ record self.old { lost = self.new.lost } }
         ensures err { OnErr result (self.new ≡ self.old) }
     {
-        self.called_lost.remove(0..range.end)?;
+        remove_below(&mut self.called_lost, range.end)?;
+        if self.next_lost.start < range.end && range.end < self.next_lost.end {
+            self.next_lost = range.end..self.next_lost.end;
+            return Ok(());
+        }
         self.next_lost = first_lost(&mut self.called_lost, &self.later, self.prefix);
         Ok(())
     }
@@ -137,6 +141,22 @@ impl Outcomes {
         self.next_lost = first_lost(&mut self.called_lost, &self.later, self.prefix);
         Ok(())
     }
+}
+
+// Takes the numbers below one out of a set. A lowest run that ends there goes as a whole, which takes no search.
+fn remove_below(set: &mut RangeSet, end: u64) -> Result<(), OutOfMemory>
+    ensures set { OnOk result ((n : ℕ) → contains set.new n ≡ (contains set.old n && not (nat_lt n end))) }
+    ensures err { OnErr result (set.new ≡ set.old) }
+{
+    let Some(run) = set.peek_min() else {
+        return Ok(());
+    };
+    if run.end == end {
+        set.pop_min();
+        return Ok(());
+    }
+    set.remove(run.start..end)?;
+    Ok(())
 }
 
 // The lowest range of offsets that were called lost and are not acknowledged, or an empty one. The runs before it are

@@ -396,15 +396,15 @@ fn a_stream_is_in_a_set_once(rt: HostRuntime) -> Result<(), Fail> {
 // A stream of each set is told, and leaves.
 fn sets_give(rt: &impl Abort, set: &mut Retransmits) -> Result<(), Fail> {
     let window = set.told_window().ok_or("no MAX_STREAM_DATA is told")?;
-    assert!(rt; set.max_stream_data.contains(&window), "{window}");
+    assert!(rt; set.max_stream_data.contains(window), "{window}");
     set.window_leaves(window);
-    assert!(rt; !set.max_stream_data.contains(&window), "{window}");
+    assert!(rt; !set.max_stream_data.contains(window), "{window}");
     let blocked = set
         .told_stream_blocked()
         .ok_or("no STREAM_DATA_BLOCKED is told")?;
-    assert!(rt; set.stream_data_blocked.contains(&blocked), "{blocked}");
+    assert!(rt; set.stream_data_blocked.contains(blocked), "{blocked}");
     set.stream_blocked_leaves(blocked);
-    assert!(rt; !set.stream_data_blocked.contains(&blocked), "{blocked}");
+    assert!(rt; !set.stream_data_blocked.contains(blocked), "{blocked}");
     Ok(())
 }
 
@@ -656,8 +656,8 @@ fn comes_back(rt: &impl Abort, alloc: Global, count: u32) -> Result<(), Fail> {
     same_for(rt, &count, counts(&set), counted);
     for number in 0..count {
         lists_give(rt, &mut set, number);
-        assert!(rt; set.max_stream_data.contains(&id(number)), "{number}");
-        assert!(rt; set.stream_data_blocked.contains(&id(number)), "{number}");
+        assert!(rt; set.max_stream_data.contains(id(number)), "{number}");
+        assert!(rt; set.stream_data_blocked.contains(id(number)), "{number}");
     }
     Ok(())
 }

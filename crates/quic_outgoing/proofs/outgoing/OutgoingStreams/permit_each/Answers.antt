@@ -1,7 +1,7 @@
 use Rattle.std.proofs.Common.{◌≡◌, ℕ, sym, ap, ◌∙◌, arith, Some, ◌+◌}
 use Rattle.quic_values.specs.declared.ids.Dir.TheVariants.{Bi}
 use Rattle.quic_values.specs.Ids.{stream_id, other_side}
-use Rattle.quic_outgoing.specs.Outgoing.{Outgoing, with_send_half, with_more_streams, fresh_sender}
+use Rattle.quic_outgoing.specs.Outgoing.{Outgoing, with_send_half, fresh_sender}
 use Rattle.quic_outgoing.specs.Shown.{view_of}
 use Rattle.quic_outgoing.proofs.PeerStreams.{more-none, more-one}
 use Rattle.quic_outgoing.proofs.outgoing.OutgoingStreams.permit_each.Goals as goal

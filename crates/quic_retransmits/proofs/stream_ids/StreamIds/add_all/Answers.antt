@@ -1,4 +1,4 @@
-use Rattle.std.proofs.Common.{◌≡◌, ◌∙◌, ℕ, Bool, ap}
+use Rattle.std.proofs.Common.{◌∙◌, ℕ, Bool, ap}
 use Rattle.std.specs.Prelude.{◌||◌, ◌==◌}
 use Rattle.std.specs.HashSet.{contains}
 use Rattle.quic_retransmits.specs.Ids.{is_in_ids}

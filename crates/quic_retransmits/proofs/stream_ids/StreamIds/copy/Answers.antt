@@ -1,4 +1,4 @@
-use Rattle.std.proofs.Common.{◌≡◌, ◌∙◌, ℕ, Bool, ap}
+use Rattle.std.proofs.Common.{◌∙◌, ℕ, Bool, ap}
 use Rattle.std.specs.Prelude.{◌||◌}
 use Rattle.quic_retransmits.specs.Ids.{is_in_ids}
 use Rattle.quic_retransmits.proofs.stream_ids.StreamIds.copy.Goals as goal

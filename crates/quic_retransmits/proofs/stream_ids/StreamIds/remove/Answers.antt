@@ -1,7 +1,7 @@
 use Rattle.std.proofs.Common.{◌≡◌, ℕ, false, rules}
 use Rattle.std.specs.Prelude.{◌==◌}
 use Rattle.std.specs.HashSet.{contains}
-use Rattle.quic_retransmits.specs.Ids.{is_first}
+use Rattle.quic_retransmits.specs.Ids.{has_own_place}
 use Rattle.quic_retransmits.proofs.Sets.{without_either, without_first, fewer_either, none_among}
 use Rattle.quic_retransmits.proofs.stream_ids.StreamIds.remove.Goals as goal
 
@@ -12,7 +12,7 @@ returns-then-not-is_empty-clause-set c =
 
 pub returns-then-not-is_empty-clause-fewer : goal.returns-then-not-is_empty-clause-fewer
 returns-then-not-is_empty-clause-fewer c = λ here.
-    fewer_either (is_first c.args.self.now.first c.args.id) (contains ◌==◌ c.args.self.now.others c.args.id) _ _ _ _ here c.clear_first.ensures.no_more c.clear_first.ensures.fewer
+    fewer_either (has_own_place c.args.self.now.first c.args.id) (contains ◌==◌ c.args.self.now.others c.args.id) _ _ _ _ here c.clear_first.ensures.no_more c.clear_first.ensures.fewer
     (rw (← c.clear_first.ensures.others, ← c.remove.ensures.test) c.remove.ensures.len)
 
 pub returns-else-not-is_empty-clause-set : goal.returns-else-not-is_empty-clause-set

@@ -1,0 +1,154 @@
+//! Streams that wait, and limits that are given for them, on their halves where these lie.
+
+ghost use Rattle.std.specs.Prelude.{◌≡◌, ◌<◌, ◌∷◌, ◌++◌, [], ℕ, false, IfOk, OnErr, if◌then◌else◌, vec_len};
+ghost use Rattle.std.specs.Vec.{vec_capacity};
+ghost use Rattle.quic_outgoing.specs.Seen.{senders, sender_room, sender_in};
+ghost use Rattle.quic_outgoing.specs.Outgoing.{marked};
+ghost use Rattle.quic_outgoing.specs.Calls.{unmarked};
+ghost use Rattle.quic_outgoing.specs.Waits.{WaitsOn, WaitsIn, RaisesOn, RaisesIn};
+
+use crate::entries::{SendEntries, greater};
+use crate::transmitting::take_half;
+use quic_sending::Send;
+use quic_values::{OutOfMemory, StreamId, VarInt};
+use std::alloc::Global;
+
+// What a limit that was given did to a half.
+#[derive(Clone, Copy)]
+pub(crate) struct Raised {
+    // Whether the half can be written on again that was written up to its limit.
+    pub(crate) is_woken: bool,
+    // Whether its stream is to be put on the list of those that wait.
+    pub(crate) joins: bool,
+}
+
+#[tactic(auto, unfolding(crate::specs::Seen::senders))]
+impl SendEntries {
+    /// A stream waits. Answers whether it is to be put on the list of those that do, or that none is held.
+    #[inline]
+    pub(crate) fn wait(&mut self, id: StreamId) -> Result<Option<bool>, OutOfMemory>
+        ensures ok { IfOk result (λ joins. WaitsIn (senders self.old) id joins (senders self.new)) }
+        ensures err { OnErr result (senders self.new ≡ senders self.old) }
+        ensures side { self.new.side ≡ self.old.side }
+        ensures first { self.new.first ≡ self.old.first }
+        ensures room { sender_room self.new ≡ sender_room self.old }
+    {
+        let limit = self.first_limit(id);
+        match self.entries.get_mut(&id) {
+            None => Ok(None),
+            Some(entry) => {
+                let joins = wait_of_entry(self.alloc, limit, entry)?;
+                Ok(Some(joins))
+            }
+        }
+    }
+
+    /// A stream waits no more.
+    #[inline]
+    pub(crate) fn unmark(&mut self, id: StreamId)
+        ensures halves { senders self.new ≡ unmarked (senders self.old) id }
+        ensures side { self.new.side ≡ self.old.side }
+        ensures first { self.new.first ≡ self.old.first }
+        ensures room { sender_room self.new ≡ sender_room self.old }
+    {
+        match self.entries.get_mut(&id) {
+            None => {}
+            Some(entry) => unmark_entry(entry),
+        }
+    }
+
+    /// The peer gave a limit for a stream. Where nothing may be written, one that was woken waits. `None`: none is held.
+    #[inline]
+    pub(crate) fn raise(
+        &mut self,
+        id: StreamId,
+        offset: u64,
+        stuck: bool,
+    ) -> Result<Option<Raised>, OutOfMemory>
+        ensures ok { IfOk result (λ raised. RaisesIn (senders self.old) id offset stuck raised (senders self.new)) }
+        ensures err { OnErr result (senders self.new ≡ senders self.old) }
+        ensures side { self.new.side ≡ self.old.side }
+        ensures first { self.new.first ≡ self.old.first }
+        ensures room { sender_room self.new ≡ sender_room self.old }
+    {
+        let limit = self.first_limit(id);
+        match self.entries.get_mut(&id) {
+            None => Ok(None),
+            Some(entry) => {
+                let raised = raise_of_entry(self.alloc, limit, entry, offset, stuck)?;
+                Ok(Some(raised))
+            }
+        }
+    }
+}
+
+// Puts a stream behind those that wait, where it is not among them, in room that was made.
+#[inline]
+pub(crate) fn join_waiting(blocked: &mut Vec<StreamId>, id: StreamId, joins: bool)
+    requires { vec_len blocked.old < vec_capacity blocked.old }
+    ensures { blocked.new.items ≡ (if joins then blocked.old.items ++ id ∷ [] else blocked.old.items) }
+{
+    if joins {
+        blocked.push_reserved(id);
+    }
+}
+
+// The stream of an entry waits. Answers whether it is to be put on the list of those that do.
+#[inline]
+fn wait_of_entry(
+    alloc: Global,
+    limit: VarInt,
+    entry: &mut Option<Box<Send>>,
+) -> Result<bool, OutOfMemory>
+    ensures ok { IfOk result (λ joins. WaitsOn (sender_in limit entry.old) joins (sender_in limit entry.new)) }
+    ensures err { OnErr result (sender_in limit entry.new ≡ sender_in limit entry.old) }
+{
+    let mut half = take_half(alloc, limit, entry)?;
+    let joins = !half.connection_blocked;
+    half.connection_blocked = true;
+    *entry = Some(half);
+    Ok(joins)
+}
+
+// The stream of an entry waits no more.
+#[inline]
+fn unmark_entry(entry: &mut Option<Box<Send>>)
+    ensures { (limit : ℕ) → sender_in limit entry.new ≡ marked false (sender_in limit entry.old) }
+{
+    if let Some(half) = entry {
+        half.connection_blocked = false;
+    }
+}
+
+// The half of an entry is given a limit.
+#[inline]
+fn raise_of_entry(
+    alloc: Global,
+    limit: VarInt,
+    entry: &mut Option<Box<Send>>,
+    offset: u64,
+    stuck: bool,
+) -> Result<Raised, OutOfMemory>
+    ensures ok { IfOk result (λ raised. RaisesOn offset stuck (sender_in limit entry.old) raised (sender_in limit entry.new)) }
+    ensures err { OnErr result (sender_in limit entry.new ≡ sender_in limit entry.old) }
+{
+    let mut half = take_half(alloc, limit, entry)?;
+    half.max_data = greater(half.max_data, limit);
+    let raised = raise_on(&mut half, offset, stuck);
+    *entry = Some(half);
+    Ok(raised)
+}
+
+// A half is given a limit.
+#[inline]
+fn raise_on(half: &mut Send, offset: u64, stuck: bool) -> Raised
+    ensures { RaisesOn offset stuck half.old result half.new }
+{
+    let is_woken = half.increase_max_data(offset);
+    let waits = is_woken && stuck;
+    let joins = waits && !half.connection_blocked;
+    if waits {
+        half.connection_blocked = true;
+    }
+    Raised { is_woken, joins }
+}
