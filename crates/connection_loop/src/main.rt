@@ -24,15 +24,39 @@ const TEXT: &str = "Those bytes come again that stood in a payload which was los
 /// Sends a text with the losses that the input names, and gives the status: 0 where it came whole, 2 at a line that
 /// names no payload, 3 where a payload that it names was never sent.
 pub fn serve<R: Read + Drop, W: Write>(alloc: Global, input: R, output: &mut W) -> Result<u8> {
+    let Some(losses) = read_losses(alloc, input, output)? else {
+        return Ok(2);
+    };
+    let sent = send_text(alloc, &losses, output)?;
+    writeln!(output, "the text came whole")?;
+    if let Some(unsent) = losses.range(sent..).last() {
+        writeln!(output, "unsent {unsent}")?;
+        return Ok(3);
+    }
+    Ok(0)
+}
+
+// The payloads that the lines of the input name, or `None` once it is told which line names none.
+fn read_losses<R: Read + Drop, W: Write>(
+    alloc: Global,
+    input: R,
+    output: &mut W,
+) -> Result<Option<BTreeSet<u64>>> {
     let text = io::read_to_string(alloc, input)?;
     let mut losses = BTreeSet::new(alloc);
     for (number, line) in (1..u64::MAX).zip(text.as_str().lines()) {
         let Ok(lost) = line.strip_prefix("lose ").unwrap_or("").parse::<u64>() else {
             writeln!(output, "malformed {number}")?;
-            return Ok(2);
+            return Ok(None);
         };
         losses.insert(lost)?;
     }
+    Ok(Some(losses))
+}
+
+// Sends the text from a client to a server, in turns of both until nothing is left to be sent. Answers how many payloads
+// that took.
+fn send_text<W: Write>(alloc: Global, losses: &BTreeSet<u64>, output: &mut W) -> Result<u64> {
     let mut client = Connection::new(alloc, Side::Client, TEXT)?;
     let mut server = Connection::new(alloc, Side::Server, "")?;
     let opened = Streams::new(&mut client.streams, ConnState::Open).open(Dir::Uni)?;
@@ -40,20 +64,15 @@ pub fn serve<R: Read + Drop, W: Write>(alloc: Global, input: R, output: &mut W) 
     let mut sent = 0;
     for _ in 0..u64::MAX {
         let before = sent;
-        sent = turn(&losses, &mut client, &mut server, sent, output)?;
-        sent = turn(&losses, &mut server, &mut client, sent, output)?;
+        sent = turn(losses, &mut client, &mut server, sent, output)?;
+        sent = turn(losses, &mut server, &mut client, sent, output)?;
         if sent == before {
             break;
         }
     }
     let is_whole = server.read.as_slice() == TEXT.as_bytes();
     ensure!(is_whole, "the text did not come whole");
-    writeln!(output, "the text came whole")?;
-    if let Some(unsent) = losses.range(sent..).last() {
-        writeln!(output, "unsent {unsent}")?;
-        return Ok(3);
-    }
-    Ok(0)
+    Ok(sent)
 }
 
 // One end's turn: it hears what became of the payloads of its last turn, acts, and sends.

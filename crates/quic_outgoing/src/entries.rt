@@ -1,9 +1,9 @@
 //! The send halves of a connection's streams.
 
-ghost use Rattle.std.specs.Prelude.{ℕ, ◌≡◌, ◌⊎◌, ◌+◌, ◌<◌, ◌≤◌, Some, None, IfOk, IfSome, IfNone, OnSome, OnOk, OnErr, is_some, true, false, max};
+ghost use Rattle.std.specs.Prelude.{ℕ, ◌≡◌, ◌+◌, ◌<◌, ◌≤◌, Some, None, IfOk, IfSome, IfNone, OnOk, OnErr, is_some, true, false, max};
 ghost use Rattle.std.specs.Option.{option_map};
-ghost use Rattle.quic_outgoing.specs.Senders.{bare, raised, new_sender, with_sender, first_limit, first_for, are_one_end, is_local, no_limits, joined, raised_by};
-ghost use Rattle.quic_outgoing.specs.Calls.{told_of_half, blocked_limit, can_take, unmarked};
+ghost use Rattle.quic_outgoing.specs.Senders.{bare, new_sender, with_sender, first_limit, first_for, are_one_end, is_local, no_limits, joined, raised_by};
+ghost use Rattle.quic_outgoing.specs.Calls.{told_of_half, blocked_limit, can_take};
 ghost use Rattle.quic_outgoing.specs.Acknowledging.{is_given_up};
 ghost use Rattle.quic_outgoing.specs.Early.{of_peer_anew, own_unsent, has_content, as_unsent, NoneAcked, QueuesUnsent};
 ghost use Rattle.quic_outgoing.specs.Seen.{unsent_box};

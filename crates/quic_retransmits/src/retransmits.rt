@@ -1,6 +1,6 @@
 //! What is to be sent, again or for the first time, beside the data of streams.
 
-ghost use Rattle.std.specs.Prelude.{◌≡◌, ◌+◌, ◌-◌, ◌<◌, ◌≤◌, ◌++◌, ◌||◌, ℕ, [], OnOk, OnErr, IfOk, IfErr, false, true, length, vec_len};
+ghost use Rattle.std.specs.Prelude.{◌≡◌, ◌+◌, ◌-◌, ◌<◌, ◌≤◌, ◌++◌, ◌||◌, OnOk, OnErr, IfOk, IfErr, false, length, vec_len};
 ghost use Rattle.std.specs.Vec.{vec_capacity};
 ghost use Rattle.std.specs.VecDeque.{deque_len, deque_capacity};
 ghost use Rattle.quic_retransmits.specs.Pending.{shown_pending, nothing, merged, shown_if, merged_if, collected, HasRoomFor, numbers_from, IsRetireRefusal};

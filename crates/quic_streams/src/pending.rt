@@ -1,6 +1,6 @@
 //! Whether anything that is pending could be sent.
 
-ghost use Rattle.std.specs.Prelude.{◌≡◌, ◌==◌, ℕ, Bool, unwrap_or, is_some};
+ghost use Rattle.std.specs.Prelude.{◌≡◌, ◌==◌, ℕ, Bool, unwrap_or};
 ghost use Rattle.std.specs.HashSet.{contains};
 ghost use Rattle.quic_queue.specs.SendOrder.{Tells};
 ghost use Rattle.quic_retransmits.specs.Pending.{Pending, shown_pending, shown_if, nothing};

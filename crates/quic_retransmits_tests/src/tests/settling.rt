@@ -393,6 +393,34 @@ fn a_stream_is_in_a_set_once(rt: HostRuntime) -> Result<(), Fail> {
     Ok(())
 }
 
+// An id that is queued again where it stands among the others, after the one before them left, is there once.
+#[test]
+fn an_id_in_both_places_is_one(rt: HostRuntime) -> Result<(), Fail> {
+    let mut set = Retransmits::new(rt.alloc());
+    queue(&mut set, 1)?;
+    queue(&mut set, 2)?;
+    set.window_leaves(id(1));
+    set.stream_blocked_leaves(id(1));
+    queue(&mut set, 2)?;
+    same(
+        &rt,
+        counts(&set),
+        [3, 3, 1, 1, 0, 0, 0, 0, 0, 0, 0, 0, 0, 0],
+    );
+    set.window_leaves(id(2));
+    set.stream_blocked_leaves(id(2));
+    is_true(
+        &rt,
+        set.max_stream_data.is_empty() && set.stream_data_blocked.is_empty(),
+    );
+    same(
+        &rt,
+        (set.told_window(), set.told_stream_blocked()),
+        (None, None),
+    );
+    Ok(())
+}
+
 // A stream of each set is told, and leaves.
 fn sets_give(rt: &impl Abort, set: &mut Retransmits) -> Result<(), Fail> {
     let window = set.told_window().ok_or("no MAX_STREAM_DATA is told")?;
