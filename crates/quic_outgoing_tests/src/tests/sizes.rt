@@ -26,6 +26,23 @@ fn every_size_is_taken(rt: HostRuntime) -> Result<(), Fail> {
     Ok(())
 }
 
+// Each limit that is greater than the one before lets the stream be written again that reached it.
+#[test]
+fn every_limit_is_taken(rt: HostRuntime) {
+    let alloc = rt.alloc();
+    for shift in 0..64u32 {
+        let mut subject = end(alloc, Side::Client, 1, 9, 0);
+        let limit = u64::MAX >> shift;
+        for step in [
+            Step::Open(Dir::Uni, Some(2)),
+            Step::Write(2, 1, Answer::Blocked),
+            Step::StreamData(2, limit, true),
+        ] {
+            take(&rt, alloc, &mut subject, step);
+        }
+    }
+}
+
 const MANY: u32 = 100_000;
 
 // Opens so many streams, and writes a byte on each.
