@@ -1,8 +1,10 @@
 //! Writes, ends and resets of a stream, on the state.
 
-ghost use Rattle.std.specs.Prelude.{ℕ, ℤ, List, ◌∷◌, ◌≡◌, ◌≤◌, OnErr, OnOk, IfOk, None, Some, Ok, is_some, true};
+ghost use Rattle.std.specs.Prelude.{ℕ, ℤ, List, ◌∷◌, ◌≡◌, ◌≤◌, OnErr, OnOk, IfOk, None, Some, Ok, is_some, true, false};
 ghost use Rattle.quic_sending.specs.Source.{slice_lists};
 ghost use Rattle.quic_retransmits.specs.Pending.{shown_pending as listed};
+ghost use Rattle.quic_outgoing.specs.Outgoing.{is_stuck};
+ghost use Rattle.quic_outgoing.specs.Shown.{view_of};
 ghost use Rattle.quic_streams.specs.Connection.{is_shut};
 ghost use Rattle.quic_streams.specs.Shown.{shown};
 ghost use Rattle.quic_streams.specs.Writing.{IsWrittenAs, HasPlace, HasPlaceAt};
@@ -61,7 +63,7 @@ impl StreamsState {
         if matches!(conn, ConnState::Closed) {
             return Err(WriteError::Blocked);
         }
-        self.reserve_place(id)?;
+        self.reserve_write_place(id)?;
         match self.outgoing.write(pending, id, source) {
             Err(error) => {
                 self.queue.release();
@@ -72,6 +74,18 @@ impl StreamsState {
                 Ok(wrote.written)
             }
         }
+    }
+
+    // Makes the room to queue a stream that is to be written, unless nothing may be written on any.
+    #[inline]
+    fn reserve_write_place(&mut self, id: StreamId) -> Result<(), OutOfMemory>
+        ensures same { shown self.new ≡ shown self.old }
+        ensures ok { OnOk result (is_stuck (view_of self.old.outgoing) ≡ false → HasPlace self.new id) }
+    {
+        if self.outgoing.write_limit() == 0 {
+            return Ok(());
+        }
+        self.reserve_place(id)
     }
 
     // Makes the room to queue a stream at its priority, where it is held and nothing is to be sent on it.

@@ -151,14 +151,15 @@ fn take_other_turn(
     Ok(())
 }
 
-// Makes the room to note a frame. Where some were noted there may be several more, so that there is room for these too.
+// Makes the room to note a frame, and where there is none for several more.
 #[inline]
 fn reserve_frame(sent: &mut StreamMetaVec) -> Result<(), OutOfMemory>
     ensures same { sent.new.items ≡ sent.old.items }
     ensures room { OnOk result (HasRoomFor sent.new 1) }
 {
-    let more = if sent.is_empty() { 1 } else { FURTHER_FRAMES };
-    sent.reserve(more)?;
+    if sent.len() == sent.capacity() {
+        sent.reserve(FURTHER_FRAMES)?;
+    }
     Ok(())
 }
 
