@@ -1,11 +1,11 @@
 -- What a change at one priority does to the levels.
-use Rattle.std.proofs.Common.{◌≡◌, ◌≢◌, ℕ, ℤ, ◌<◌, ◌≤◌, ◌-◌, Bool, true, false, not, List, [], ◌∷◌, Some, None, length, drop, refl, sym, ap, ◌∙◌, arith, length-drop}
+use Rattle.std.proofs.Common.{◌≡◌, ◌≢◌, ℕ, ℤ, ◌<◌, ◌≤◌, ◌-◌, true, false, List, [], ◌∷◌, Some, None, length, drop, refl, sym, ap, ◌∙◌, arith, length-drop}
 use Rattle.std.specs.Prelude.{◌==◌}
 use Rattle.std.proofs.lemmas.Bool.Decides.{nat_tests}
-use Rattle.std.specs.Prelude.{Option, IsSome, IsSomeAnd, is_some, Result, Ok, Err, OnErr}
+use Rattle.std.specs.Prelude.{Option, IsSome, is_some, Result, Ok, Err, OnErr}
 use Rattle.std.specs.VecDeque.{deque_len, deque_capacity}
 use Rattle.std.specs.BTreeMap.{UpdatesBy}
-use Rattle.quic_queue.specs.Levels.{Ids, Levels, falling, ids_at, HasNoIds, HasRoom, IsFilled, KeepsOtherLevels}
+use Rattle.quic_queue.specs.Levels.{Ids, Levels, falling, ids_at, HasRoom, IsFilled, KeepsOtherLevels}
 use Rattle.quic_queue.proofs.Comparing.{by_test, at, at-is}
 
 at-other : (p q : ℤ) → q ≢ p → at p (record { 0 = q }) ≡ false
@@ -31,16 +31,6 @@ filled_there m p ids there some = rw there at some
 
 pub is_gone : (m : Levels) (p : ℤ) → ids_at m p ≡ None → IsFilled m p
 is_gone m p there = rw there tt
-
-pub has_none : (m : Levels) (p : ℤ) (ids : Ids) → ids_at m p ≡ Some ids → ids.items ≡ [] → HasNoIds m p
-has_none m p ids there none = rw there none
-
-pub none_there : (m : Levels) (p : ℤ) → HasNoIds m p → (ids : Ids) × (ids_at m p ≡ Some ids) × (ids.items ≡ [])
-none_there m p h = told (ids_at m p) refl h
-  where
-    told : (o : Option Ids) → ids_at m p ≡ o → IsSomeAnd o (λ ids. ids.items ≡ []) → (ids : Ids) × (ids_at m p ≡ Some ids) × (ids.items ≡ [])
-    told None e k = absurd k
-    told (Some ids) e k = (ids, e, k)
 
 -- what a write through a loan leaves
 pub written : (m n : Levels) (p : ℤ) (v w : Ids) → Some v ≡ ids_at m p → (IsSome (ids_at m p) → UpdatesBy falling (falling (record { 0 = p })) m n (Some w)) → KeepsOtherLevels m p n × (ids_at n p ≡ Some w)
@@ -70,21 +60,6 @@ no_items ids e =
 
 pub some_items : (ids : Ids) → (deque_len ids == 0) ≡ false → 0 < deque_len ids
 some_items ids e = grind (arith, nat_tests, e)
-
-not_true : (b : Bool) → not b ≡ true → b ≡ false
-not_true true h = cc
-not_true false h = refl
-
-not_false : (b : Bool) → not b ≡ false → b ≡ true
-not_false true h = refl
-not_false false h = cc
-
--- what an answer says whether any ids are left
-pub left_filled : (n : Levels) (p : ℤ) (w : Ids) (empty : Bool) → ids_at n p ≡ Some w → empty ≡ (deque_len w == 0) → not empty ≡ true → IsFilled n p
-left_filled n p w empty there is h = is_filled n p w there (some_items w (sym is ∙ not_true empty h))
-
-pub left_none : (n : Levels) (p : ℤ) (w : Ids) (empty : Bool) → ids_at n p ≡ Some w → empty ≡ (deque_len w == 0) → not empty ≡ false → HasNoIds n p
-left_none n p w empty there is h = has_none n p w there (no_items w (sym is ∙ not_false empty h))
 
 -- one id less leaves room
 pub room_after : (v w : Ids) → 0 < length v.items → w.items ≡ drop 1 v.items → deque_capacity w ≡ deque_capacity v → deque_len w < deque_capacity w

@@ -42,14 +42,10 @@ HasRoom levels priority = IsSomeAnd (ids_at levels priority) (λ ids. deque_len 
 abbrev pub IsFilled : Levels → ℤ → Type 0
 IsFilled levels priority = IfSome (ids_at levels priority) (λ ids. 0 < deque_len ids)
 
--- a priority is there and has no ids
-abbrev pub HasNoIds : Levels → ℤ → Type 0
-HasNoIds levels priority = IsSomeAnd (ids_at levels priority) (λ ids. ids.items ≡ [])
-
--- there is room at the reserved priority, and each other has ids
-pub record AreLevels (levels : Levels) (reserved : Option ℤ) : Type 0 where
+-- there is room at the reserved priority, and each other has ids, but for the idle one
+pub record AreLevels (levels : Levels) (reserved idle : Option ℤ) : Type 0 where
   pub room : (priority : ℤ) → reserved ≡ Some priority → HasRoom levels priority
-  pub filled : (priority : ℤ) → reserved ≢ Some priority → IsFilled levels priority
+  pub filled : (priority : ℤ) → reserved ≢ Some priority → idle ≢ Some priority → IsFilled levels priority
 
 -- at each other priority stands what stood there
 abbrev pub KeepsOtherLevels : Levels → ℤ → Levels → Type 0

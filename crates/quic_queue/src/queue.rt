@@ -1,9 +1,9 @@
 //! The send queue: the streams that have something to send, the highest priority first.
 
-ghost use Rattle.std.specs.Prelude.{◌≡◌, ◌==◌, Some, None, Bool, true, false, not, is_some, IsOk, IfOk, OnOk, OnErr, IfSome, IsSomeAnd, length, slice_get, drop, ℕ, ℤ};
+ghost use Rattle.std.specs.Prelude.{◌≡◌, ◌≢◌, ◌==◌, Some, None, Bool, true, false, not, is_some, IsOk, IfOk, OnOk, OnErr, IfSome, IsSomeAnd, length, slice_get, drop, ℕ, ℤ};
 ghost use Rattle.std.specs.List.{list_any};
 ghost use Rattle.quic_queue.specs.SendOrder.{empty_queue, put, with_entry, line, first, without_first, settled, IsReserved, HasTurnPlace, NoneIsHigher, Tells, ids_of};
-ghost use Rattle.quic_queue.specs.Levels.{HasNoIds, HasRoom, IsFilled, IsFirstPriority, KeepsOtherLevels, entries_of, ids_at};
+ghost use Rattle.quic_queue.specs.Levels.{HasRoom, IsFilled, IsFirstPriority, KeepsOtherLevels, entries_of, ids_at};
 
 use quic_values::{OutOfMemory, StreamId};
 use std::alloc::Global;
@@ -37,12 +37,14 @@ type Levels = BTreeMap<Reverse<i32>, VecDeque<StreamId>>;
 #[derive(Drop)]
 pub struct SendQueue {
     alloc: Global,
-    // The ids of each priority, the highest first. Only the reserved one may have none.
+    // The ids of each priority, the highest first. Only the reserved one and the idle one may have none.
     levels: Levels,
     // Comes before all others.
     kept: Option<Entry>,
     // The priority for which there is room.
     reserved: Option<i32>,
+    // The priority whose ids went last, the memory of which is used again.
+    idle: Option<i32>,
 }
 
 impl Model for SendQueue {
@@ -54,7 +56,7 @@ impl Model for SendQueue {
 
     ghost view = { λ a. record { waiting = entries_of a.levels.entries; kept = a.kept; reserved = a.reserved } };
 
-    ghost invariant = { λ a. AreLevels a.levels a.reserved };
+    ghost invariant = { λ a. AreLevels a.levels a.reserved a.idle };
 }
 
 // The first id of the highest priority that has one. Mostly the first level has one.
@@ -131,15 +133,15 @@ fn drop_if_empty(levels: &mut Levels, priority: i32)
     }
 }
 
-// Drops a priority, which has no ids.
-#[inline]
-fn drop_empty(levels: &mut Levels, priority: i32)
-    requires { HasNoIds levels.old priority }
+// Drops a priority that has no ids, if one is given.
+fn drop_if_there(levels: &mut Levels, former: Option<i32>)
     ensures shown { entries_of levels.new.entries ≡ entries_of levels.old.entries }
-    ensures others { KeepsOtherLevels levels.old priority levels.new }
-    ensures filled { IsFilled levels.new priority }
+    ensures others { (other : ℤ) → former ≢ Some other → ids_at levels.new other ≡ ids_at levels.old other }
+    ensures filled { (other : ℤ) → former ≡ Some other → IsFilled levels.new other }
 {
-    levels.remove(&Reverse(priority));
+    if let Some(former) = former {
+        drop_if_empty(levels, former);
+    }
 }
 
 // Puts an id behind the others of a priority.
@@ -156,20 +158,17 @@ fn push_at(levels: &mut Levels, priority: i32, id: StreamId)
     }
 }
 
-// Takes the first id of the highest priority out, and says whether any of that priority are left.
+// Takes the first id of the highest priority out.
 #[inline]
-fn pop_at(levels: &mut Levels, priority: i32) -> bool
+fn pop_at(levels: &mut Levels, priority: i32)
     requires { IsFirstPriority levels.old.entries priority }
     ensures shown { entries_of levels.new.entries ≡ drop 1 (entries_of levels.old.entries) }
     ensures others { KeepsOtherLevels levels.old priority levels.new }
     ensures room { HasRoom levels.new priority }
-    ensures left { result ≡ true → IsFilled levels.new priority }
-    ensures none_left { result ≡ false → HasNoIds levels.new priority }
 {
     match levels.get_mut(&Reverse(priority)) {
         Some(ids) => {
             ids.pop_front();
-            !ids.is_empty()
         }
         None => unreachable!(),
     }
@@ -228,6 +227,7 @@ impl SendQueue {
             levels: BTreeMap::new(alloc),
             kept: None,
             reserved: None,
+            idle: None,
         }
     }
 
@@ -240,6 +240,7 @@ impl SendQueue {
             drop_if_empty(&mut levels, priority);
         }
         let mut copy = SendQueue::new(self.alloc);
+        copy.idle = self.idle;
         copy.levels = levels;
         copy.kept = self.kept;
         Ok(copy)
@@ -316,16 +317,18 @@ impl SendQueue {
         Some(entry)
     }
 
-    // Takes the first stream out, whose priority is given, where none is kept back. Room that was made stays.
+    // Takes the first stream out, whose priority is given, where none is kept back. Room that was made stays, and so does
+    // the memory of the priority.
     #[inline]
     fn take_at(&mut self, priority: i32)
         requires none_kept { self.old.kept ≡ None }
         requires is_first { IsSomeAnd (slice_get self.old.waiting 0) (λ e. e.priority ≡ priority) }
         ensures { self.new ≡ without_first self.old }
     {
-        let any_left = pop_at(&mut self.levels, priority);
-        if !any_left && self.reserved != Some(priority) {
-            drop_empty(&mut self.levels, priority);
+        pop_at(&mut self.levels, priority);
+        let former = self.idle.replace(priority);
+        if former != Some(priority) && former != self.reserved {
+            drop_if_there(&mut self.levels, former);
         }
     }
 
@@ -336,14 +339,8 @@ impl SendQueue {
         requires is_first { IsSomeAnd (slice_get self.old.waiting 0) (λ e. e.priority ≡ priority) }
         ensures { self.new ≡ record (without_first self.old) { reserved = None } }
     {
-        let any_left = pop_at(&mut self.levels, priority);
-        if !any_left {
-            drop_empty(&mut self.levels, priority);
-        }
-        match self.reserved.take() {
-            Some(former) if former != priority => drop_if_empty(&mut self.levels, former),
-            _ => {}
-        }
+        self.take_at(priority);
+        self.release();
     }
 
     /// The stream comes before all others, where none is kept back. Takes no memory.
@@ -412,6 +409,7 @@ impl SendQueue {
         self.levels.clear();
         self.kept = None;
         self.reserved = None;
+        self.idle = None;
     }
 
     /// Whether no stream is in the queue.

@@ -2,7 +2,7 @@ use Rattle.std.proofs.Common.{sym, ap, ◌∙◌}
 use Rattle.std.proofs.lemmas.Int.{to_z-of_z}
 use Rattle.quic_queue.specs.Levels.{entries_of}
 use Rattle.quic_queue.proofs.Lines.{entries_of-pop, first_found, first_priority, first_has_ids}
-use Rattle.quic_queue.proofs.Changes.{has_room, left_filled, left_none, room_after, written}
+use Rattle.quic_queue.proofs.Changes.{has_room, room_after, written}
 use Rattle.quic_queue.proofs.queue.pop_at.Goals as goal
 
 pub unreachable-requires : goal.unreachable-requires
@@ -53,27 +53,3 @@ returns-clause-room c =
     let holds = simp to_z-of_z at (c.get_mut.follows.holds w) in
     let some = first_has_ids m.entries p v c.get_mut.ensures.ordered c.requires (sym there) in
     has_room n p w (written m n p v w there holds.3).1 (room_after v w some c.pop_front.ensures.rest c.pop_front.ensures.capacity)
-
-pub returns-clause-left : goal.returns-clause-left
-returns-clause-left c =
-    let fits = c.ranges.priority in
-    let m = c.args.levels.now in
-    let p = c.args.priority in
-    let v = c.in-Some.ids.now in
-    let w = c.pop_front.new.self in
-    let n = c.get_mut.follows.lender w in
-    let there = simp to_z-of_z at c.in-Some.ensures.value in
-    let holds = simp to_z-of_z at (c.get_mut.follows.holds w) in
-    left_filled n p w c.is_empty.result (written m n p v w there holds.3).1 c.is_empty.ensures
-
-pub returns-clause-none_left : goal.returns-clause-none_left
-returns-clause-none_left c =
-    let fits = c.ranges.priority in
-    let m = c.args.levels.now in
-    let p = c.args.priority in
-    let v = c.in-Some.ids.now in
-    let w = c.pop_front.new.self in
-    let n = c.get_mut.follows.lender w in
-    let there = simp to_z-of_z at c.in-Some.ensures.value in
-    let holds = simp to_z-of_z at (c.get_mut.follows.holds w) in
-    left_none n p w c.is_empty.result (written m n p v w there holds.3).1 c.is_empty.ensures
