@@ -523,11 +523,25 @@ fn shows(rt: &impl Abort, subject: &Subject, step: Step) {
     }
 }
 
+// MAX_STREAM_DATA is to be sent for one more stream.
+fn add_window(pending: &mut Retransmits, stream: u32) -> Result<(), OutOfMemory> {
+    pending.reserve_window(id(stream))?;
+    pending.queue_window(id(stream), true);
+    Ok(())
+}
+
+// STREAM_DATA_BLOCKED is to be sent for one more stream.
+fn add_stream_blocked(pending: &mut Retransmits, stream: u32) -> Result<(), OutOfMemory> {
+    pending.reserve_stream_blocked(id(stream))?;
+    pending.queue_stream_blocked(id(stream), true);
+    Ok(())
+}
+
 // MAX_STREAM_DATA is to be sent for these streams.
 fn has_windows(rt: &impl Abort, pending: &Retransmits, streams: &[u32]) {
     same(rt, pending.max_stream_data.len(), streams.len());
     for stream in streams {
-        is_true(rt, pending.max_stream_data.contains(&id(*stream)));
+        is_true(rt, pending.max_stream_data.contains(id(*stream)));
     }
 }
 

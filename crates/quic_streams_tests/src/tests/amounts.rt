@@ -273,8 +273,8 @@ fn are_noted(rt: &impl Abort, noted: &Retransmits, count: u32) {
     stops_are_noted(rt, noted, count);
     for index in 0..count {
         let first = id(index.wrapping_mul(4));
-        is_true(rt, noted.max_stream_data.contains(&first));
-        is_true(rt, noted.stream_data_blocked.contains(&first));
+        is_true(rt, noted.max_stream_data.contains(first));
+        is_true(rt, noted.stream_data_blocked.contains(first));
     }
     let sets = (noted.max_stream_data.len(), noted.stream_data_blocked.len());
     same(rt, sets, (count as usize, count as usize));

@@ -1,5 +1,5 @@
 // The calls on one end, with nothing of what they promise: a test looks at what they answer and leave.
-use super::id;
+use super::{add_window, id};
 use quic_receiving::{Chunk, HandleError, ReadError, ReadableError, ShouldTransmit};
 use quic_sending::{FinishError, WriteError, Written};
 use quic_streams::batches::ReadSome;
@@ -316,8 +316,7 @@ impl Subject {
 
     // MAX_STREAM_DATA is to be sent for a stream.
     pub(super) fn queue_window(&mut self, stream: u32) -> Result<(), OutOfMemory> {
-        self.pending.max_stream_data.insert(id(stream))?;
-        Ok(())
+        add_window(&mut self.pending, stream)
     }
 
     pub(super) fn has_nothing_of(&self, pending: &Retransmits) -> bool {

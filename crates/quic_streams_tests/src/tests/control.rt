@@ -1,7 +1,10 @@
 // Frames beside STREAM, and the bytes that they have to be.
 use super::calls::{Subject, nothing_noted};
 use super::sending::{Done, Step as SendStep, end, take};
-use super::{Answer, Given, Last, Reads, Step, WINDOW, client, id, is_true, run, same};
+use super::{
+    Answer, Given, Last, Reads, Step, WINDOW, add_stream_blocked, add_window, client, id, is_true,
+    run, same,
+};
 use quic_streams::stats::FrameStats;
 use quic_streams::{Retransmits, ThinRetransmits};
 use quic_values::{Dir, OutOfMemory, Side, VarInt};
@@ -159,11 +162,11 @@ fn one_of_each(subject: &mut Subject) -> Result<(), OutOfMemory> {
         })?;
     }
     pending.max_data = true;
-    pending.max_stream_data.insert(id(3))?;
-    pending.max_stream_data.insert(id(11))?;
+    add_window(pending, 3)?;
+    add_window(pending, 11)?;
     pending.max_stream_id = [true; 2];
     pending.data_blocked = true;
-    pending.stream_data_blocked.insert(id(2))?;
+    add_stream_blocked(pending, 2)?;
     Ok(())
 }
 

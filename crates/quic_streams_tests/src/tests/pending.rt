@@ -1,7 +1,7 @@
 // What counts of what is pending: a frame that would be dropped does not.
 use super::calls::{Subject, nothing_noted, nothing_pending};
 use super::sending::{Done, Step, end, take};
-use super::{WINDOW, client, id, is_true, same_for};
+use super::{WINDOW, add_stream_blocked, add_window, client, id, is_true, same_for};
 use quic_streams::{IssuedCid, Retransmits, ThinRetransmits};
 use quic_values::{Bytes, Dir, OutOfMemory, Side, VarInt};
 use quic_wire::frame::{Crypto, StopSending};
@@ -88,9 +88,9 @@ fn counts_not(
     pending.data_blocked = kind == 0;
     for stream in streams {
         match kind {
-            1 => pending.max_stream_data.insert(id(*stream))?,
-            _ => pending.stream_data_blocked.insert(id(*stream))?,
-        };
+            1 => add_window(&mut pending, *stream)?,
+            _ => add_stream_blocked(&mut pending, *stream)?,
+        }
     }
     Ok(subject.has_nothing_of(&pending))
 }
