@@ -525,15 +525,17 @@ fn shows(rt: &impl Abort, subject: &Subject, step: Step) {
 
 // MAX_STREAM_DATA is to be sent for one more stream.
 fn add_window(pending: &mut Retransmits, stream: u32) -> Result<(), OutOfMemory> {
-    pending.reserve_window(id(stream))?;
-    pending.queue_window(id(stream), true);
+    let id = id(stream);
+    pending.reserve_window(id)?;
+    pending.queue_window(id, true);
     Ok(())
 }
 
 // STREAM_DATA_BLOCKED is to be sent for one more stream.
 fn add_stream_blocked(pending: &mut Retransmits, stream: u32) -> Result<(), OutOfMemory> {
-    pending.reserve_stream_blocked(id(stream))?;
-    pending.queue_stream_blocked(id(stream), true);
+    let id = id(stream);
+    pending.reserve_stream_blocked(id)?;
+    pending.queue_stream_blocked(id, true);
     Ok(())
 }
 
