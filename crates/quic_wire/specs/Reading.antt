@@ -7,6 +7,7 @@ use Rattle.quic_wire.specs.declared.frame.DecodeError.{DecodeError}
 use Rattle.quic_wire.specs.declared.frame.DecodeError.TheVariants as errors
 use Rattle.quic_wire.specs.declared.frame.Frame.{Frame}
 use Rattle.quic_wire.specs.declared.frame.Frame.TheVariants as frames
+use Rattle.quic_wire.specs.declared.reading.LastStream.{LastStream}
 use Rattle.quic_wire.specs.Frames.{has_bit}
 
 infixl 10 ◌>>=◌
@@ -122,3 +123,12 @@ frame_at (kind ∷ bytes) =
 -- some bytes are the last of others
 abbrev pub AreLast : List ℕ → List ℕ → Type 0
 AreLast rest bytes = (front : List ℕ) × (bytes ≡ front ++ rest)
+
+-- the STREAM frame whose data are the last bytes of a payload, behind those that are skipped
+abbrev pub last_frame : LastStream → List ℕ → Frame
+last_frame w payload = frames.Stream (record { id = w.id; offset = w.offset; fin = w.fin; bytes = drop w.skip payload })
+
+-- frames, and the one that ends a payload where there is one
+abbrev pub with_last : List Frame → Option LastStream → List ℕ → List Frame
+with_last fs None payload = fs
+with_last fs (Some w) payload = fs ++ (last_frame w payload ∷ [])

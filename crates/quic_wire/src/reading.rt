@@ -1,9 +1,9 @@
-ghost use Rattle.std.specs.Prelude.{◌≡◌, ◌^◌, ◌<◌, ◌≤◌, All, List, [], drop, length, IfOk, IfSome, IsErrOf, Ok, Some, ℕ};
+ghost use Rattle.std.specs.Prelude.{◌≡◌, ◌+◌, ◌^◌, ◌<◌, ◌≤◌, All, List, [], None, length, IfOk, IfSome, IsErrOf, Some, false, ℕ};
 ghost use Rattle.std.specs.Int.{w16, w32, w64};
 ghost use Rattle.quic_wire.specs.declared.frame.Frame.{Frame as FrameValue};
 ghost use Rattle.quic_wire.specs.Frames.{AreFrames, BeginsWith, IsFrameWithin, has_bit};
 ghost use Rattle.quic_wire.specs.declared.frame.Frame.TheVariants as FrameValues;
-ghost use Rattle.quic_wire.specs.Reading.{AreLast, ReadsAs, wide_at, number_at, two_at, offset_at, content_at, reset_at, stop_at, stream_at, max_data_at, max_stream_data_at, max_streams_at, data_blocked_at, stream_data_blocked_at, datagram_at, frame_at};
+ghost use Rattle.quic_wire.specs.Reading.{AreLast, ReadsAs, last_frame, with_last, wide_at, number_at, two_at, offset_at, content_at, reset_at, stop_at, stream_at, max_data_at, max_stream_data_at, max_streams_at, data_blocked_at, stream_data_blocked_at, datagram_at, frame_at};
 
 use crate::frame::{Datagram, DecodeError, Frame, ResetStream, StopSending, Stream};
 use quic_values::{Bytes, Dir, StreamId, VarInt};
@@ -218,13 +218,38 @@ fn frame_at(alloc: Global, bytes: &[u8]) -> Result<(Frame, &[u8]), DecodeError>
     }
 }
 
-// A STREAM frame that takes a whole payload, without its data, and how many bytes come before these.
+// A STREAM frame that ends with a payload, without its data, and how many bytes come before these.
 #[derive(Clone, Copy)]
-struct WholeStream {
+struct LastStream {
     id: StreamId,
     offset: u64,
     fin: bool,
     skip: usize,
+}
+
+impl LastStream {
+    // The same frame, with more bytes before its data.
+    fn behind(self, more: usize) -> LastStream
+        requires { self.skip + more < 2 ^ 64 }
+        ensures { result ≡ record { id = self.id; offset = self.offset; fin = self.fin; skip = self.skip + more } }
+    {
+        LastStream { skip: self.skip + more, ..self }
+    }
+
+    // The frame, with its data out of the payload that they end.
+    fn with_payload(self, payload: Vec<u8>) -> Frame
+        requires { self.skip ≤ length payload.items }
+        ensures { result ≡ last_frame self payload.items }
+    {
+        let mut bytes = Bytes::from(payload);
+        bytes.advance(self.skip);
+        Frame::Stream(Stream {
+            id: self.id,
+            offset: self.offset,
+            fin: self.fin,
+            bytes,
+        })
+    }
 }
 
 // The data of a frame that ends with them, if it ends there.
@@ -246,8 +271,8 @@ fn whole_content(with_length: bool, bytes: &[u8]) -> Option<&[u8]>
 }
 
 // The STREAM frame that bytes are as a whole, if they are one.
-fn whole_stream(bytes: &[u8]) -> Option<WholeStream>
-    ensures begins { IfSome result (λ w. BeginsWith bytes.now (FrameValues.Stream (record { id = w.id; offset = w.offset; fin = w.fin; bytes = drop w.skip bytes.now })) []) }
+fn whole_stream(bytes: &[u8]) -> Option<LastStream>
+    ensures begins { IfSome result (λ w. BeginsWith bytes.now (last_frame w bytes.now) []) }
     ensures within { IfSome result (λ w. w.skip ≤ length bytes.now) }
 {
     let [kind, fields @ ..] = bytes else {
@@ -265,7 +290,7 @@ fn whole_stream(bytes: &[u8]) -> Option<WholeStream>
     let Some(content) = whole_content(*kind & 0x02 != 0, rest) else {
         return None;
     };
-    Some(WholeStream {
+    Some(LastStream {
         id: StreamId::from(VarInt::new(id)),
         offset,
         fin: *kind & 0x01 != 0,
@@ -273,22 +298,34 @@ fn whole_stream(bytes: &[u8]) -> Option<WholeStream>
     })
 }
 
-// What `decode` answers, in a list that is given empty.
-fn decode_into(alloc: Global, payload: &[u8], empty: Vec<Frame>) -> Result<Vec<Frame>, DecodeError>
+// What `decode` answers, in a list that is given empty; where `keeps` is set, a STREAM frame that ends with the payload
+// is handed out beside the list, its data not yet taken from the payload.
+fn decode_front(
+    alloc: Global,
+    payload: &[u8],
+    keeps: bool,
+    empty: Vec<Frame>,
+) -> Result<(Vec<Frame>, Option<LastStream>), DecodeError>
     requires { empty.items ≡ [] }
-    ensures found { IfOk result (λ frames. AreFrames payload.now frames.items) }
-    ensures only { (fs : List FrameValue) → AreFrames payload.now fs → ReadsAs (λ frames. frames.items) result (Some fs) }
-    ensures within { IfOk result (λ frames. All (IsFrameWithin (length payload.now)) frames.items) }
+    ensures found { IfOk result (λ d. AreFrames payload.now (with_last d.0.items d.1 payload.now)) }
+    ensures only { (fs : List FrameValue) → AreFrames payload.now fs → ReadsAs (λ d. with_last d.0.items d.1 payload.now) result (Some fs) }
+    ensures whole { keeps ≡ false → IfOk result (λ d. d.1 ≡ None) }
+    ensures within { IfOk result (λ d. IfSome d.1 (λ w. w.skip ≤ length payload.now)) }
     ensures malformed { IsErrOf result DecodeError.Malformed → (fs : List FrameValue) → ¬ AreFrames payload.now fs }
 {
     let mut frames = empty;
     let mut rest = payload;
     while !rest.is_empty() {
+        if keeps {
+            if let Some(last) = whole_stream(rest) {
+                return Ok((frames, Some(last.behind(payload.len() - rest.len()))));
+            }
+        }
         let (frame, after) = frame_at(alloc, rest)?;
         frames.push(frame)?;
         rest = after;
     }
-    Ok(frames)
+    Ok((frames, None))
 }
 
 /// The frames that a payload consists of (RFC 9000 section 12.4). It is `Malformed` where the payload is no join of
@@ -304,11 +341,12 @@ pub fn decode(alloc: Global, payload: &[u8]) -> Result<Vec<Frame>, DecodeError>
     // Only what spells no frames is malformed.
     ensures malformed { IsErrOf result DecodeError.Malformed → (fs : List FrameValue) → ¬ AreFrames payload.now fs }
 {
-    decode_into(alloc, payload, Vec::new(alloc))
+    let (frames, _) = decode_front(alloc, payload, false, Vec::new(alloc))?;
+    Ok(frames)
 }
 
-/// The frames of a payload, as [`decode`] gives them. Where the payload is one STREAM frame, and its vector has room for
-/// some fifth more bytes at most, the data of the frame keep that memory, and no byte is copied.
+/// The frames of a payload, as [`decode`] gives them. Where the last one is a STREAM frame, and the vector of the payload
+/// has room for some fifth more bytes at most, the data of that frame keep this memory, and none of their bytes is copied.
 pub fn decode_owned(alloc: Global, payload: Vec<u8>) -> Result<Vec<Frame>, DecodeError>
     ensures found { IfOk result (λ frames. AreFrames payload.items frames.items) }
     ensures only { (fs : List FrameValue) → AreFrames payload.items fs → ReadsAs (λ frames. frames.items) result (Some fs) }
@@ -332,19 +370,11 @@ pub fn decode_owned_into(
 {
     let mut frames = list;
     frames.clear();
-    let Some(whole) = whole_stream(&payload) else {
-        return decode_into(alloc, &payload, frames);
+    let keeps = payload.capacity() / 6 <= payload.len() / 5;
+    let (mut frames, last) = decode_front(alloc, &payload, keeps, frames)?;
+    let Some(last) = last else {
+        return Ok(frames);
     };
-    if payload.capacity() / 6 > payload.len() / 5 {
-        return decode_into(alloc, &payload, frames);
-    }
-    let mut bytes = Bytes::from(payload);
-    bytes.advance(whole.skip);
-    frames.push(Frame::Stream(Stream {
-        id: whole.id,
-        offset: whole.offset,
-        fin: whole.fin,
-        bytes,
-    }))?;
+    frames.push(last.with_payload(payload))?;
     Ok(frames)
 }

@@ -6,8 +6,9 @@ use Rattle.quic_wire.specs.declared.frame.Frame.{Frame}
 use Rattle.quic_wire.specs.Frames.{AreFrames}
 use Rattle.quic_wire.proofs.Read.{frame_takes}
 use Rattle.quic_wire.proofs.Joins.{first_is, fails_then}
-use Rattle.quic_wire.proofs.Within.{all_within}
-use Rattle.quic_wire.proofs.reading.decode_into.Goals as goal
+use Rattle.quic_wire.specs.Reading.{last_frame}
+use Rattle.quic_wire.proofs.Whole.{behind_both, behind_frame, behind_length, same_frame, only_frame}
+use Rattle.quic_wire.proofs.reading.decode_front.Goals as goal
 
 not_empty : (bytes : List ℕ) → false ≡ eqb (length bytes) 0 → 0 < length bytes
 not_empty bytes e = let ne = eqb-false (length bytes) 0 (sym e) in omega arith
@@ -36,6 +37,7 @@ loop-rest-preserved c =
     rw c.in_ok-push.ensures.items
     (record {
       fits = t.fits;
+      last = behind_both c.args.payload.now c.loop-rest.rest.now c.in_ok-frame.after.now c.loop-rest.invariant.last (behind_frame c.loop-rest.rest.now f c.in_ok-frame.after.now t.begins);
       found = λ fs is. rw append_assoc (c.loop-rest.invariant.found (f ∷ fs) (c.in_ok-frame.after.now, t.begins, is));
       only = λ fs is.
           let h = c.loop-rest.invariant.only fs is in
@@ -59,7 +61,24 @@ returns-in_err-frame-clause-malformed c = λ is fs are.
     let h = rw is at (returns-in_err-frame-clause-only c fs are) in
     absurd cc
 
-pub returns-clause-within : goal.returns-clause-within
-returns-clause-within c =
-    let is = returns-clause-found c in
-    all_within (length c.args.payload.now) c.args.payload.now c.loop-rest.frames.items [] (omega arith) is
+pub overflow_sub-payload : goal.overflow_sub-payload
+overflow_sub-payload c = behind_length c.loop-rest.rest.now c.args.payload.now c.loop-rest.invariant.last
+
+pub returns-in-Some-clause-found : goal.returns-in-Some-clause-found
+returns-in-Some-clause-found c =
+    let w = c.in-Some.last in
+    rw (c.behind.ensures, same_frame w c.loop-rest.rest.now c.args.payload.now c.loop-rest.invariant.last)
+    (c.loop-rest.invariant.found (last_frame w c.loop-rest.rest.now ∷ []) ([], c.in-Some.ensures.begins, refl))
+
+pub returns-in-Some-clause-only : goal.returns-in-Some-clause-only
+returns-in-Some-clause-only c = λ fs is.
+    let w = c.in-Some.last in
+    let h = c.loop-rest.invariant.only fs is in
+    let one = only_frame c.loop-rest.rest.now (last_frame w c.loop-rest.rest.now) h.0 c.in-Some.ensures.begins h.2 in
+    rw (c.behind.ensures, same_frame w c.loop-rest.rest.now c.args.payload.now c.loop-rest.invariant.last)
+    (ap some (h.1 ∙ ap (λ gs. c.loop-rest.frames.items ++ gs) one))
+
+pub returns-in-Some-clause-within : goal.returns-in-Some-clause-within
+returns-in-Some-clause-within c =
+    let l = behind_length c.loop-rest.rest.now c.args.payload.now c.loop-rest.invariant.last in
+    rw c.behind.ensures (omega (arith, l, c.in-Some.ensures.within))
