@@ -15,7 +15,7 @@ use Rattle.std.proofs.lemmas.List.{map-append, append_assoc}
 use Rattle.std.proofs.lemmas.List.Elements.{All-from_recursion, recursion_from_All}
 use Rattle.quic_queue.specs.declared.queue.Entry.{Entry}
 use Rattle.quic_queue.specs.SendOrder.{put, ids_of, NoneIsHigher}
-use Rattle.quic_queue.specs.Levels.{Ids, falling, entries_at, entries_of, IsFirstPriority}
+use Rattle.quic_queue.specs.Levels.{Ids, falling, entries_at, entries_of, FirstIsEmpty, IsFirstPriority}
 use Rattle.quic_queue.proofs.Comparing.{by_test, at, at-is, at-itself, at-lower, lower, not_lower, not_below_itself, not_greater}
 
 abbrev pub Level : Type 0
@@ -302,3 +302,9 @@ none_above k (e ∷ es) h = each e.1.items (not_greater e.0.0 k h.0) (none_above
 pub first_level_is_highest : (k : ℤ) (es : List Level) → All (IsLeBy falling (record { 0 = k })) (keys_of es) → NoneIsHigher k (entries_of es)
 first_level_is_highest k es h =
     All-from_recursion (λ (y : Entry). int_lt k y.priority ≡ false) (entries_of es) (none_above k es (recursion_from_All (IsLeBy falling (record { 0 = k })) (keys_of es) h))
+
+-- the only level has no ids, so there are no entries
+pub only_empty : (levels : List (Reverse ℤ × Ids)) → length levels ≡ 1 → FirstIsEmpty levels → entries_of levels ≡ []
+only_empty [] one empty = refl
+only_empty (level ∷ []) one empty = rw empty refl
+only_empty (level ∷ next ∷ levels) one empty = absurd (omega (arith, one))

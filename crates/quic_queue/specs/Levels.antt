@@ -54,3 +54,7 @@ KeepsOtherLevels levels priority after = (other : ℤ) → other ≢ priority �
 -- the first entry has this priority
 abbrev pub IsFirstPriority : List (Reverse ℤ × Ids) → ℤ → Type 0
 IsFirstPriority levels priority = IsSomeAnd (slice_get (entries_of levels) 0) (λ e. e.priority ≡ priority)
+
+-- the first level, if there is one, has no ids
+abbrev pub FirstIsEmpty : List (Reverse ℤ × Ids) → Type 0
+FirstIsEmpty levels = IfSome (slice_get levels 0) (λ level. level.1.items ≡ [])

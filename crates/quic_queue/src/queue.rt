@@ -3,7 +3,7 @@
 ghost use Rattle.std.specs.Prelude.{◌≡◌, ◌≢◌, ◌==◌, Some, None, Bool, true, false, not, is_some, IsOk, IfOk, OnOk, OnErr, IfSome, IsSomeAnd, length, slice_get, drop, ℕ, ℤ};
 ghost use Rattle.std.specs.List.{list_any};
 ghost use Rattle.quic_queue.specs.SendOrder.{empty_queue, put, with_entry, line, first, without_first, settled, IsReserved, HasTurnPlace, NoneIsHigher, Tells, ids_of};
-ghost use Rattle.quic_queue.specs.Levels.{HasRoom, IsFilled, IsFirstPriority, KeepsOtherLevels, entries_of, ids_at};
+ghost use Rattle.quic_queue.specs.Levels.{FirstIsEmpty, HasRoom, IsFilled, IsFirstPriority, KeepsOtherLevels, entries_of, ids_at};
 
 use quic_values::{OutOfMemory, StreamId};
 use std::alloc::Global;
@@ -43,7 +43,7 @@ pub struct SendQueue {
     kept: Option<Entry>,
     // The priority for which there is room.
     reserved: Option<i32>,
-    // The priority whose ids went last, the memory of which is used again.
+    // The priority from which an id was taken last, the memory of which is used again.
     idle: Option<i32>,
 }
 
@@ -71,8 +71,21 @@ fn first_entry(levels: &Levels) -> Option<Entry>
             priority: priority.0,
             id: *id,
         }),
-        None => first_of_all(levels),
+        None => first_behind(levels),
     }
+}
+
+// The first id of the highest priority that has one, where the first level has none.
+#[inline]
+fn first_behind(levels: &Levels) -> Option<Entry>
+    requires { FirstIsEmpty levels.now.entries }
+    ensures first { result ≡ slice_get (entries_of levels.now.entries) 0 }
+    ensures highest { IfSome result (λ e. NoneIsHigher e.priority (entries_of levels.now.entries)) }
+{
+    if levels.len() == 1 {
+        return None;
+    }
+    first_of_all(levels)
 }
 
 // The first id of the highest priority that has one, where the first level may have none.
