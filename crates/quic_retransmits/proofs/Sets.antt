@@ -28,33 +28,6 @@ fits (Ok x) held places room succeeds absent = refl
 fits (Err e) true places room succeeds absent = cc
 fits (Err e) false places room succeeds absent = succeeds room
 
-add-due : (b : Bool) (o : Bool) → cond b true o ≡ (o || (true && b))
-add-due true true = refl
-add-due true false = refl
-add-due false true = refl
-add-due false false = refl
-
-add-none : (o b : Bool) → o ≡ (o || (false && b))
-add-none true b = refl
-add-none false b = refl
-
--- a set with one more id
-pub with_one : (new old : ℕ → Bool) (id : ℕ) → ((q : ℕ) → new q ≡ cond (id == q) true (old q)) → new ≡ (λ q. old q || (true && (q == id)))
-with_one new old id h = λ i. λ q. (h q ∙ ap (λ b. cond b true (old q)) (==-comm id q) ∙ add-due (q == id) (old q)) i
-
-pub with_none : (old : ℕ → Bool) (id : ℕ) → old ≡ (λ q. old q || (false && (q == id)))
-with_none old id = λ i. λ q. add-none (old q) (q == id) i
-
-take-one : (b o : Bool) → cond b false o ≡ (o && not b)
-take-one true true = refl
-take-one true false = refl
-take-one false true = refl
-take-one false false = refl
-
--- a set without one id
-pub without_one : (new old : ℕ → Bool) (id : ℕ) → ((q : ℕ) → new q ≡ cond (id == q) false (old q)) → new ≡ (λ q. old q && not (q == id))
-without_one new old id h = λ i. λ q. (h q ∙ ap (λ b. cond b false (old q)) (==-comm id q) ∙ take-one (q == id) (old q)) i
-
 -- one id in the place of its own, and others
 abbrev pub both : Option ℕ → (ℕ → Bool) → ℕ → Bool
 both first others = λ q. has_own_place first q || others q

@@ -10,7 +10,7 @@ use quic_values::{OutOfMemory, StreamId};
 use std::alloc::Global;
 use std::collections::HashSet;
 
-/// A set of stream ids. A set of one takes no memory.
+/// A set of stream ids. The first id that is put into it takes no memory.
 #[derive(Drop)]
 pub struct StreamIds {
     /// One of them, if it stands here.
