@@ -2,7 +2,10 @@
 use Rattle.std.proofs.Common.{◌≡◌, ◌≢◌, ℕ, ℤ, ◌<◌, ◌≤◌, ◌-◌, true, false, List, [], ◌∷◌, Some, None, length, drop, refl, sym, ap, ◌∙◌, arith, length-drop}
 use Rattle.std.specs.Prelude.{◌==◌}
 use Rattle.std.proofs.lemmas.Bool.Decides.{nat_tests}
-use Rattle.std.specs.Prelude.{Option, IsSome, is_some, Result, Ok, Err, OnErr}
+use Rattle.std.specs.Prelude.{Option, IsSome, is_some, Result, Ok, Err, OnErr, Bool, not, ◌++◌}
+use Rattle.std.specs.Ordering.{int_eq}
+use Rattle.std.specs.Option.{option_eq, option_to_list}
+use Rattle.std.specs.Cmp.{signed_Decides}
 use Rattle.std.specs.VecDeque.{deque_len, deque_capacity}
 use Rattle.std.specs.BTreeMap.{UpdatesBy}
 use Rattle.quic_queue.specs.Levels.{Ids, Levels, falling, ids_at, HasRoom, IsFilled, KeepsOtherLevels}
@@ -69,3 +72,36 @@ room_after v w some rest same =
     let fits : deque_len v ≤ deque_capacity v = v.small.1 in
     let less : length w.items ≡ length v.items - 1 = ap length rest ∙ length-drop 1 v.items in
     omega arith
+
+pub on_err_with : {T E : Type 0} (P Q : Type 0) (r : Result T E) → OnErr r P → Q → OnErr r (Q × P)
+on_err_with P Q (Ok x) p q = tt
+on_err_with P Q (Err e) p q = (q, p)
+
+-- one id less
+pub fewer_after : (v w : Ids) → w.items ≡ drop 1 v.items → deque_len w ≤ deque_len v
+fewer_after v w rest =
+    let before : deque_len v ≡ length v.items = v.ok.0 in
+    let after : deque_len w ≡ length w.items = w.ok.0 in
+    let less : length w.items ≡ length v.items - 1 = ap length rest ∙ length-drop 1 v.items in
+    omega arith
+
+-- an id that was taken out was there
+pub some_taken : (o : Option ℕ) (l rest : List ℕ) → l ≡ option_to_list o ++ rest → is_some o ≡ true → 0 < length l
+some_taken None l rest is some = cc
+some_taken (Some id) l rest is some = rw is (omega arith)
+
+-- whether a priority is a given one
+pub is_another : (o : Option ℤ) (p : ℤ) → true ≡ not (option_eq int_eq o (Some p)) → o ≢ Some p
+is_another o p h e =
+    let same : int_eq p p ≡ true = (signed_Decides p p).1 refl in
+    let f : true ≡ not (option_eq int_eq (Some p) (Some p)) = rw e at h in
+    let g = rw same at f in
+    cc
+
+pub is_that : (o : Option ℤ) (p : ℤ) → false ≡ not (option_eq int_eq o (Some p)) → o ≡ Some p
+is_that None p h = cc
+is_that (Some q) p h = ap (λ (k : ℤ). Some k) ((signed_Decides q p).0 (tested (int_eq q p) h))
+  where
+    tested : (b : Bool) → false ≡ not b → b ≡ true
+    tested true e = refl
+    tested false e = cc

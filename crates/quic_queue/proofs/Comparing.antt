@@ -34,7 +34,7 @@ less false false e = cc
 pub lower : (x y : ℤ) → int_cmp x y ≡ Less → int_lt x y ≡ true
 lower x y e = less (int_lt x y) (int_lt y x) e
 
-less_of : (a b : Bool) → a ≡ true → cond a Less (cond b Greater Equal) ≡ Less
+pub less_of : (a b : Bool) → a ≡ true → cond a Less (cond b Greater Equal) ≡ Less
 less_of a b e = rw e refl
 
 greater : (a b : Bool) → cond a Less (cond b Greater Equal) ≡ Greater → a ≡ false

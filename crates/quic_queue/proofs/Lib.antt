@@ -2,3 +2,4 @@ pub mod Comparing
 pub mod Lines
 pub mod Changes
 pub mod Copies
+pub mod Tops

@@ -21,7 +21,7 @@ use Rattle.quic_queue.proofs.Comparing.{by_test, at, at-is, at-itself, at-lower,
 abbrev pub Level : Type 0
 Level = Reverse ℤ × Ids
 
-some_is : {X : Type 0} (x y : X) → Some x ≡ Some y → x ≡ y
+pub some_is : {X : Type 0} (x y : X) → Some x ≡ Some y → x ≡ y
 some_is x y e = cc
 
 -- ---- what does not show
@@ -103,13 +103,13 @@ put-first : (l : List Entry) (x : Entry) → AllByRecursion (λ (y : Entry). int
 put-first [] x h = refl
 put-first (y ∷ l) x h = let t = h.0 in rw t refl
 
-put-past : (k : ℤ) (ids : List ℕ) (l : List Entry) (x : Entry) → int_lt k x.priority ≡ false
+pub put-past : (k : ℤ) (ids : List ℕ) (l : List Entry) (x : Entry) → int_lt k x.priority ≡ false
     → put (map (λ id. record { priority = k; id = id }) ids ++ l) x ≡ map (λ id. record { priority = k; id = id }) ids ++ put l x
 put-past k [] l x h = refl
 put-past k (id ∷ ids) l x h = let more = put-past k ids l x h in rw h (ap (λ (t : List Entry). record { priority = k; id = id } ∷ t) more)
 
 -- behind those of its level
-put_here : (k : ℤ) (ids after : List ℕ) (id : ℕ) (l : List Entry) → after ≡ ids ++ id ∷ [] → AllByRecursion (λ (y : Entry). int_lt y.priority k ≡ true) l
+pub put_here : (k : ℤ) (ids after : List ℕ) (id : ℕ) (l : List Entry) → after ≡ ids ++ id ∷ [] → AllByRecursion (λ (y : Entry). int_lt y.priority k ≡ true) l
     → map (λ i. record { priority = k; id = i }) after ++ l ≡ put (map (λ i. record { priority = k; id = i }) ids ++ l) (record { priority = k; id = id })
 put_here k ids after id l same below =
     let x : Entry = record { priority = k; id = id } in
@@ -242,11 +242,11 @@ any_later p e es all is here = ap (λ l. list_any p (ids_of (entries_of l))) is 
 
 -- ---- the first entry is of the highest priority
 
-not_above : (k : ℤ) (l : List Entry) → AllByRecursion (λ (y : Entry). int_lt y.priority k ≡ true) l → AllByRecursion (λ (y : Entry). int_lt k y.priority ≡ false) l
+pub not_above : (k : ℤ) (l : List Entry) → AllByRecursion (λ (y : Entry). int_lt y.priority k ≡ true) l → AllByRecursion (λ (y : Entry). int_lt k y.priority ≡ false) l
 not_above k [] h = tt
 not_above k (y ∷ l) h = (not_lower y.priority k h.0, not_above k l h.1)
 
-level_not_above : (k : ℤ) (ids : List ℕ) (l : List Entry) → AllByRecursion (λ (y : Entry). int_lt k y.priority ≡ false) l → AllByRecursion (λ (y : Entry). int_lt k y.priority ≡ false) (map (λ id. record { priority = k; id = id }) ids ++ l)
+pub level_not_above : (k : ℤ) (ids : List ℕ) (l : List Entry) → AllByRecursion (λ (y : Entry). int_lt k y.priority ≡ false) l → AllByRecursion (λ (y : Entry). int_lt k y.priority ≡ false) (map (λ id. record { priority = k; id = id }) ids ++ l)
 level_not_above k [] l h = h
 level_not_above k (id ∷ ids) l h = (not_below_itself k, level_not_above k ids l h)
 

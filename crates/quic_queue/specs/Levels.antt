@@ -1,5 +1,5 @@
 -- The ids of each priority, and what the queue shows of them.
-use Rattle.std.specs.Prelude.{◌≡◌, ◌≢◌, ℕ, ℤ, ◌<◌, List, [], ◌∷◌, ◌++◌, map, Option, Some, IsSomeAnd, IfSome, slice_get}
+use Rattle.std.specs.Prelude.{◌≡◌, ◌≢◌, ℕ, ℤ, ◌<◌, List, [], ◌∷◌, ◌++◌, map, Option, Some, IsSomeAnd, IfSome, slice_get, int_lt, true}
 use Rattle.std.specs.Global.{Global}
 use Rattle.std.specs.declared.cmp.Reverse.{Reverse}
 use Rattle.std.specs.declared.collections.VecDeque.{VecDeque}
@@ -8,6 +8,7 @@ use Rattle.std.specs.Ordering.{int_cmp}
 use Rattle.std.specs.declared.cmp.Ordering.{Ordering}
 use Rattle.std.specs.BTreeMap.{BTreeMap, get}
 use Rattle.quic_queue.specs.declared.queue.Entry.{Entry}
+use Rattle.quic_queue.specs.declared.queue.TopLevel.{TopLevel}
 
 -- the ids of one priority, as they were put
 abbrev pub Ids : Type 0
@@ -42,10 +43,24 @@ HasRoom levels priority = IsSomeAnd (ids_at levels priority) (λ ids. deque_len 
 abbrev pub IsFilled : Levels → ℤ → Type 0
 IsFilled levels priority = IfSome (ids_at levels priority) (λ ids. 0 < deque_len ids)
 
--- there is room at the reserved priority, and each other has ids, but for the idle one
-pub record AreLevels (levels : Levels) (reserved idle : Option ℤ) : Type 0 where
-  pub room : (priority : ℤ) → reserved ≡ Some priority → HasRoom levels priority
-  pub filled : (priority : ℤ) → reserved ≢ Some priority → idle ≢ Some priority → IsFilled levels priority
+-- a priority is above those of all levels
+abbrev pub IsAbove : ℤ → Levels → Type 0
+IsAbove priority levels = (other : ℤ) → IfSome (ids_at levels other) (λ ids. int_lt other priority ≡ true)
+
+-- the entries of the top level and of those below it, the next one first
+abbrev pub waiting_of : TopLevel → Levels → List Entry
+waiting_of top lower = entries_of ((record { 0 = top.priority }, top.ids) ∷ lower.entries)
+
+-- one more id finds room at a priority, in the top level or below it
+pub record HasRoomAt (top : TopLevel) (lower : Levels) (priority : ℤ) : Type 0 where
+  pub top_room : priority ≡ top.priority → deque_len top.ids < deque_capacity top.ids
+  pub lower_room : priority ≢ top.priority → HasRoom lower priority
+
+-- the top level is above the others, there is room at the reserved priority, and each other level below the top has ids
+pub record AreLevels (top : TopLevel) (lower : Levels) (reserved : Option ℤ) : Type 0 where
+  pub above : IsAbove top.priority lower
+  pub room : (priority : ℤ) → reserved ≡ Some priority → HasRoomAt top lower priority
+  pub filled : (priority : ℤ) → reserved ≢ Some priority → IsFilled lower priority
 
 -- at each other priority stands what stood there
 abbrev pub KeepsOtherLevels : Levels → ℤ → Levels → Type 0
@@ -58,3 +73,7 @@ IsFirstPriority levels priority = IsSomeAnd (slice_get (entries_of levels) 0) (�
 -- the first level, if there is one, has no ids
 abbrev pub FirstIsEmpty : List (Reverse ℤ × Ids) → Type 0
 FirstIsEmpty levels = IfSome (slice_get levels 0) (λ level. level.1.items ≡ [])
+
+-- where one more id found room at another priority, it still does
+abbrev pub KeepsRoomAtOthers : TopLevel → Levels → ℤ → TopLevel → Levels → Type 0
+KeepsRoomAtOthers top lower priority top' lower' = (other : ℤ) → other ≢ priority → HasRoomAt top lower other → HasRoomAt top' lower' other

@@ -1,15 +1,16 @@
 //! The send queue: the streams that have something to send, the highest priority first.
 
-ghost use Rattle.std.specs.Prelude.{◌≡◌, ◌≢◌, ◌==◌, Some, None, Bool, true, false, not, is_some, IsOk, IfOk, OnOk, OnErr, IfSome, IsSomeAnd, length, slice_get, drop, ℕ, ℤ};
+ghost use Rattle.std.specs.Prelude.{◌≡◌, ◌≢◌, ◌==◌, int_lt, Some, None, Bool, true, false, not, is_some, IsOk, IfOk, OnOk, OnErr, IfSome, IsSomeAnd, length, slice_get, drop, ℕ, ℤ};
 ghost use Rattle.std.specs.List.{list_any};
 ghost use Rattle.quic_queue.specs.SendOrder.{empty_queue, put, with_entry, line, first, without_first, settled, IsReserved, HasTurnPlace, NoneIsHigher, Tells, ids_of};
-ghost use Rattle.quic_queue.specs.Levels.{FirstIsEmpty, HasRoom, IsFilled, IsFirstPriority, KeepsOtherLevels, entries_of, ids_at};
+ghost use Rattle.quic_queue.specs.Levels.{FirstIsEmpty, HasRoom, HasRoomAt, IsAbove, IsFilled, IsFirstPriority, KeepsOtherLevels, KeepsRoomAtOthers, entries_of, waiting_of};
 
 use quic_values::{OutOfMemory, StreamId};
 use std::alloc::Global;
 use std::cmp::Reverse;
 use std::collections::{BTreeMap, VecDeque};
 use std::marker::Model;
+use std::mem;
 
 /// A stream in the queue.
 #[derive(Clone, Copy, Debug, PartialEq, Eq)]
@@ -32,19 +33,26 @@ pub enum Next {
 
 type Levels = BTreeMap<Reverse<i32>, VecDeque<StreamId>>;
 
+// The ids of a priority that stands apart from the others: mostly a queue has one.
+#[derive(Drop)]
+struct TopLevel {
+    priority: i32,
+    ids: VecDeque<StreamId>,
+}
+
 /// The streams that have something to send. Those of a higher priority come first, and those of equal priority as they
 /// were put. A stream may stand in it more than once.
 #[derive(Drop)]
 pub struct SendQueue {
     alloc: Global,
-    // The ids of each priority, the highest first. Only the reserved one and the idle one may have none.
-    levels: Levels,
+    // The highest priority. It may have no ids, and keeps its memory then.
+    top: TopLevel,
+    // The ids of each lower priority, the highest first. Only the reserved one may have none.
+    lower: Levels,
     // Comes before all others.
     kept: Option<Entry>,
     // The priority for which there is room.
     reserved: Option<i32>,
-    // The priority from which an id was taken last, the memory of which is used again.
-    idle: Option<i32>,
 }
 
 impl Model for SendQueue {
@@ -52,16 +60,31 @@ impl Model for SendQueue {
 
     ghost Value = { SendOrder };
 
-    ghost use Rattle.quic_queue.specs.Levels.{entries_of, AreLevels};
+    ghost use Rattle.quic_queue.specs.Levels.{waiting_of, AreLevels};
 
-    ghost view = { λ a. record { waiting = entries_of a.levels.entries; kept = a.kept; reserved = a.reserved } };
+    ghost view = { λ a. record { waiting = waiting_of a.top a.lower; kept = a.kept; reserved = a.reserved } };
 
-    ghost invariant = { λ a. AreLevels a.levels a.reserved a.idle };
+    ghost invariant = { λ a. AreLevels a.top a.lower a.reserved };
 }
 
-// The first id of the highest priority that has one. Mostly the first level has one.
+// The first id of the highest priority that has one. Mostly it is of the top level.
 #[inline]
-fn first_entry(levels: &Levels) -> Option<Entry>
+fn first_entry(top: &TopLevel, lower: &Levels) -> Option<Entry>
+    requires { IsAbove top.now.priority lower.now }
+    ensures first { result ≡ slice_get (waiting_of top.now lower.now) 0 }
+    ensures highest { IfSome result (λ e. NoneIsHigher e.priority (waiting_of top.now lower.now)) }
+{
+    match top.ids.front() {
+        Some(id) => Some(Entry {
+            priority: top.priority,
+            id: *id,
+        }),
+        None => first_below(lower),
+    }
+}
+
+// The first id of the highest priority that has one, below the top level. Mostly the first level has one.
+fn first_below(levels: &Levels) -> Option<Entry>
     ensures first { result ≡ slice_get (entries_of levels.now.entries) 0 }
     ensures highest { IfSome result (λ e. NoneIsHigher e.priority (entries_of levels.now.entries)) }
 {
@@ -76,7 +99,6 @@ fn first_entry(levels: &Levels) -> Option<Entry>
 }
 
 // The first id of the highest priority that has one, where the first level has none.
-#[inline]
 fn first_behind(levels: &Levels) -> Option<Entry>
     requires { FirstIsEmpty levels.now.entries }
     ensures first { result ≡ slice_get (entries_of levels.now.entries) 0 }
@@ -105,17 +127,108 @@ fn first_of_all(levels: &Levels) -> Option<Entry>
     None
 }
 
+// The same ids.
+fn copy_of_ids(ids: &VecDeque<StreamId>) -> Result<VecDeque<StreamId>, OutOfMemory>
+    ensures { IfOk result (λ copy. copy.items ≡ ids.now.items) }
+{
+    Ok(ids.clone()?)
+}
+
 // The same ids of each priority.
 fn copy_of(levels: &Levels) -> Result<Levels, OutOfMemory>
     ensures shown { IfOk result (λ copy. entries_of copy.entries ≡ entries_of levels.now.entries) }
     ensures filled { IfOk result (λ copy. (priority : ℤ) → IsFilled levels.now priority → IsFilled copy priority) }
+    ensures above { IfOk result (λ copy. (q : ℤ) → IsAbove q levels.now → IsAbove q copy) }
 {
     Ok(levels.clone()?)
 }
 
 // Makes room for one id more at a priority.
 #[inline]
-fn make_room(levels: &mut Levels, alloc: Global, priority: i32) -> Result<(), OutOfMemory>
+fn make_room(
+    top: &mut TopLevel,
+    lower: &mut Levels,
+    alloc: Global,
+    priority: i32,
+) -> Result<(), OutOfMemory>
+    requires { IsAbove top.old.priority lower.old }
+    ensures shown { waiting_of top.new lower.new ≡ waiting_of top.old lower.old }
+    ensures above { IsAbove top.new.priority lower.new }
+    ensures ok { OnOk result (HasRoomAt top.new lower.new priority) }
+    ensures err { OnErr result (KeepsRoomAtOthers top.old lower.old priority top.new lower.new × (IsFilled lower.old priority → IsFilled lower.new priority)) }
+    ensures filled { (other : ℤ) → other ≢ priority → IsFilled lower.old other → IsFilled lower.new other }
+    ensures unneeded { HasRoomAt top.old lower.old priority → IsOk result }
+{
+    if priority != top.priority {
+        return make_other_room(top, lower, alloc, priority);
+    }
+    top.ids.reserve(1)?;
+    Ok(())
+}
+
+// Makes room for one id more at a priority that is not the top one. Where the top level has no ids, and no other is above
+// the priority, it is the top one then.
+#[inline(never)]
+fn make_other_room(
+    top: &mut TopLevel,
+    lower: &mut Levels,
+    alloc: Global,
+    priority: i32,
+) -> Result<(), OutOfMemory>
+    requires above { IsAbove top.old.priority lower.old }
+    requires apart { priority ≢ top.old.priority }
+    ensures shown { waiting_of top.new lower.new ≡ waiting_of top.old lower.old }
+    ensures above { IsAbove top.new.priority lower.new }
+    ensures ok { OnOk result (HasRoomAt top.new lower.new priority) }
+    ensures err { OnErr result (KeepsRoomAtOthers top.old lower.old priority top.new lower.new × (IsFilled lower.old priority → IsFilled lower.new priority)) }
+    ensures filled { (other : ℤ) → other ≢ priority → IsFilled lower.old other → IsFilled lower.new other }
+    ensures unneeded { HasRoomAt top.old lower.old priority → IsOk result }
+{
+    if priority > top.priority {
+        return rise_to(top, lower, alloc, priority);
+    }
+    if top.ids.is_empty() && lower.is_empty() {
+        top.ids.reserve(1)?;
+        top.priority = priority;
+        return Ok(());
+    }
+    make_room_at(lower, alloc, priority)
+}
+
+// Makes a higher priority the top one, with room for one id more.
+fn rise_to(
+    top: &mut TopLevel,
+    lower: &mut Levels,
+    alloc: Global,
+    priority: i32,
+) -> Result<(), OutOfMemory>
+    requires above { IsAbove top.old.priority lower.old }
+    requires higher { int_lt top.old.priority priority ≡ true }
+    ensures shown { waiting_of top.new lower.new ≡ waiting_of top.old lower.old }
+    ensures above { IsAbove top.new.priority lower.new }
+    ensures ok { OnOk result (HasRoomAt top.new lower.new priority) }
+    ensures err { OnErr result (((other : ℤ) → HasRoomAt top.old lower.old other → HasRoomAt top.new lower.new other) × ((other : ℤ) → IsFilled lower.old other → IsFilled lower.new other)) }
+    ensures filled { (other : ℤ) → other ≢ priority → IsFilled lower.old other → IsFilled lower.new other }
+{
+    if top.ids.is_empty() {
+        top.ids.reserve(1)?;
+        top.priority = priority;
+        return Ok(());
+    }
+    let ids = VecDeque::with_capacity(alloc, 1)?;
+    let former = mem::replace(&mut top.ids, ids);
+    if let Err(refused) = lower.insert(Reverse(top.priority), former) {
+        let (_, former) = refused.value;
+        top.ids = former;
+        return Err(OutOfMemory);
+    }
+    top.priority = priority;
+    Ok(())
+}
+
+// Makes room for one id more at a priority below the top one.
+#[inline]
+fn make_room_at(levels: &mut Levels, alloc: Global, priority: i32) -> Result<(), OutOfMemory>
     ensures shown { entries_of levels.new.entries ≡ entries_of levels.old.entries }
     ensures others { KeepsOtherLevels levels.old priority levels.new }
     ensures ok { OnOk result (HasRoom levels.new priority) }
@@ -136,6 +249,7 @@ fn make_room(levels: &mut Levels, alloc: Global, priority: i32) -> Result<(), Ou
 fn drop_if_empty(levels: &mut Levels, priority: i32)
     ensures shown { entries_of levels.new.entries ≡ entries_of levels.old.entries }
     ensures others { KeepsOtherLevels levels.old priority levels.new }
+    ensures above { (q : ℤ) → IsAbove q levels.old → IsAbove q levels.new }
     ensures filled { IsFilled levels.new priority }
 {
     let Some(ids) = levels.get(&Reverse(priority)) else {
@@ -146,23 +260,13 @@ fn drop_if_empty(levels: &mut Levels, priority: i32)
     }
 }
 
-// Drops a priority that has no ids, if one is given.
-fn drop_if_there(levels: &mut Levels, former: Option<i32>)
-    ensures shown { entries_of levels.new.entries ≡ entries_of levels.old.entries }
-    ensures others { (other : ℤ) → former ≢ Some other → ids_at levels.new other ≡ ids_at levels.old other }
-    ensures filled { (other : ℤ) → former ≡ Some other → IsFilled levels.new other }
-{
-    if let Some(former) = former {
-        drop_if_empty(levels, former);
-    }
-}
-
 // Puts an id behind the others of a priority.
 #[inline]
 fn push_at(levels: &mut Levels, priority: i32, id: StreamId)
     requires { HasRoom levels.old priority }
     ensures shown { entries_of levels.new.entries ≡ put (entries_of levels.old.entries) (record { priority = priority; id = id }) }
     ensures others { KeepsOtherLevels levels.old priority levels.new }
+    ensures above { (q : ℤ) → IsAbove q levels.old → IsAbove q levels.new }
     ensures filled { IsFilled levels.new priority }
 {
     match levels.get_mut(&Reverse(priority)) {
@@ -177,6 +281,7 @@ fn pop_at(levels: &mut Levels, priority: i32)
     requires { IsFirstPriority levels.old.entries priority }
     ensures shown { entries_of levels.new.entries ≡ drop 1 (entries_of levels.old.entries) }
     ensures others { KeepsOtherLevels levels.old priority levels.new }
+    ensures above { (q : ℤ) → IsAbove q levels.old → IsAbove q levels.new }
     ensures room { HasRoom levels.new priority }
 {
     match levels.get_mut(&Reverse(priority)) {
@@ -193,6 +298,7 @@ fn turn_at(levels: &mut Levels, priority: i32, id: StreamId)
     requires { slice_get (entries_of levels.old.entries) 0 ≡ Some (record { priority = priority; id = id }) }
     ensures shown { entries_of levels.new.entries ≡ put (drop 1 (entries_of levels.old.entries)) (record { priority = priority; id = id }) }
     ensures others { KeepsOtherLevels levels.old priority levels.new }
+    ensures above { (q : ℤ) → IsAbove q levels.old → IsAbove q levels.new }
     ensures filled { IsFilled levels.new priority }
 {
     match levels.get_mut(&Reverse(priority)) {
@@ -217,7 +323,18 @@ fn any_in<F: Fn(StreamId) -> bool>(ids: &VecDeque<StreamId>, test: &F) -> bool
     false
 }
 
-// Whether any id of any priority passes a test.
+// Whether any id of the top level or below it passes a test.
+fn any_waiting<F: Fn(StreamId) -> bool>(top: &TopLevel, lower: &Levels, test: &F) -> bool
+    requires { F.IsAlwaysCallable test.now }
+    ensures { (p : ℕ → Bool) → Tells (F.post test.now) p → result ≡ list_any p (ids_of (waiting_of top.now lower.now)) }
+{
+    if any_in(&top.ids, test) {
+        return true;
+    }
+    any_at(lower, test)
+}
+
+// Whether any id of any priority below the top level passes a test.
 fn any_at<F: Fn(StreamId) -> bool>(levels: &Levels, test: &F) -> bool
     requires { F.IsAlwaysCallable test.now }
     ensures { (p : ℕ → Bool) → Tells (F.post test.now) p → result ≡ list_any p (ids_of (entries_of levels.now.entries)) }
@@ -237,10 +354,13 @@ impl SendQueue {
     {
         SendQueue {
             alloc,
-            levels: BTreeMap::new(alloc),
+            top: TopLevel {
+                priority: 0,
+                ids: VecDeque::new(alloc),
+            },
+            lower: BTreeMap::new(alloc),
             kept: None,
             reserved: None,
-            idle: None,
         }
     }
 
@@ -248,15 +368,21 @@ impl SendQueue {
     pub fn copy(&self) -> Result<SendQueue, OutOfMemory>
         ensures { IfOk result (λ copy. copy ≡ record self.now { reserved = None }) }
     {
-        let mut levels = copy_of(&self.levels)?;
+        let ids = copy_of_ids(&self.top.ids)?;
+        let mut lower = copy_of(&self.lower)?;
         if let Some(priority) = self.reserved {
-            drop_if_empty(&mut levels, priority);
+            drop_if_empty(&mut lower, priority);
         }
-        let mut copy = SendQueue::new(self.alloc);
-        copy.idle = self.idle;
-        copy.levels = levels;
-        copy.kept = self.kept;
-        Ok(copy)
+        Ok(SendQueue {
+            alloc: self.alloc,
+            top: TopLevel {
+                priority: self.top.priority,
+                ids,
+            },
+            lower,
+            kept: self.kept,
+            reserved: None,
+        })
     }
 
     /// Makes room for one stream of a priority, in place of the room that was there. Nothing changes if memory runs
@@ -267,10 +393,10 @@ impl SendQueue {
         ensures err { OnErr result (self.new ≡ self.old) }
         ensures unneeded { self.old.reserved ≡ Some priority → IsOk result }
     {
-        make_room(&mut self.levels, self.alloc, priority)?;
+        make_room(&mut self.top, &mut self.lower, self.alloc, priority)?;
         if let Some(former) = self.reserved.replace(priority) {
             if former != priority {
-                drop_if_empty(&mut self.levels, former);
+                drop_if_empty(&mut self.lower, former);
             }
         }
         Ok(())
@@ -282,7 +408,7 @@ impl SendQueue {
         ensures { self.new ≡ record self.old { reserved = None } }
     {
         if let Some(former) = self.reserved.take() {
-            drop_if_empty(&mut self.levels, former);
+            drop_if_empty(&mut self.lower, former);
         }
     }
 
@@ -292,8 +418,12 @@ impl SendQueue {
         requires { self.old.reserved ≡ Some priority }
         ensures { self.new ≡ with_entry self.old (record { priority = priority; id = id }) }
     {
-        push_at(&mut self.levels, priority, id);
         self.reserved = None;
+        if priority == self.top.priority {
+            self.top.ids.push_back_reserved(id);
+            return;
+        }
+        push_at(&mut self.lower, priority, id);
     }
 
     /// The next stream: the one that was kept back, or else the first of the highest priority.
@@ -304,7 +434,7 @@ impl SendQueue {
     {
         match self.kept {
             Some(entry) => Some(entry),
-            None => first_entry(&self.levels),
+            None => first_entry(&self.top, &self.lower),
         }
     }
 
@@ -325,23 +455,25 @@ impl SendQueue {
         if let Some(entry) = self.kept.take() {
             return Some(entry);
         }
-        let entry = first_entry(&self.levels)?;
+        let entry = first_entry(&self.top, &self.lower)?;
         self.take_at(entry.priority);
         Some(entry)
     }
 
     // Takes the first stream out, whose priority is given, where none is kept back. Room that was made stays, and so does
-    // the memory of the priority.
+    // the memory of the top level.
     #[inline]
     fn take_at(&mut self, priority: i32)
         requires none_kept { self.old.kept ≡ None }
         requires is_first { IsSomeAnd (slice_get self.old.waiting 0) (λ e. e.priority ≡ priority) }
         ensures { self.new ≡ without_first self.old }
     {
-        pop_at(&mut self.levels, priority);
-        let former = self.idle.replace(priority);
-        if former != Some(priority) && former != self.reserved {
-            drop_if_there(&mut self.levels, former);
+        if self.top.ids.pop_front().is_some() {
+            return;
+        }
+        pop_at(&mut self.lower, priority);
+        if self.reserved != Some(priority) {
+            drop_if_empty(&mut self.lower, priority);
         }
     }
 
@@ -379,13 +511,7 @@ impl SendQueue {
             return;
         }
         match next {
-            Next::PutAnew(priority) if priority == entry.priority => {
-                turn_at(&mut self.levels, entry.priority, entry.id);
-                match self.reserved.take() {
-                    Some(former) if former != priority => drop_if_empty(&mut self.levels, former),
-                    _ => {}
-                }
-            }
+            Next::PutAnew(priority) if priority == entry.priority => self.turn(entry),
             Next::PutAnew(priority) => {
                 self.take_at(entry.priority);
                 self.put(entry.id, priority);
@@ -396,6 +522,21 @@ impl SendQueue {
                 self.keep_back(entry);
             }
         }
+    }
+
+    // Puts the first stream behind the others of its priority, where none is kept back. Room that was made is let go.
+    #[inline]
+    fn turn(&mut self, entry: Entry)
+        requires none_kept { self.old.kept ≡ None }
+        requires is_first { first self.old ≡ Some entry }
+        ensures { self.new ≡ with_entry (without_first self.old) entry }
+    {
+        self.release();
+        if self.top.ids.pop_front().is_none() {
+            turn_at(&mut self.lower, entry.priority, entry.id);
+            return;
+        }
+        self.top.ids.push_back_reserved(entry.id);
     }
 
     // What becomes of a stream that was taken out.
@@ -419,10 +560,10 @@ impl SendQueue {
     pub fn clear(&mut self)
         ensures { self.new ≡ empty_queue }
     {
-        self.levels.clear();
+        self.top.ids.clear();
+        self.lower.clear();
         self.kept = None;
         self.reserved = None;
-        self.idle = None;
     }
 
     /// Whether no stream is in the queue.
@@ -443,6 +584,6 @@ impl SendQueue {
                 return true;
             }
         }
-        any_at(&self.levels, &test)
+        any_waiting(&self.top, &self.lower, &test)
     }
 }

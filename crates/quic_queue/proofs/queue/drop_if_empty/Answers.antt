@@ -3,6 +3,7 @@ use Rattle.std.proofs.lemmas.Int.{to_z-of_z}
 use Rattle.quic_queue.specs.Levels.{entries_of}
 use Rattle.quic_queue.proofs.Lines.{entries_of-remove}
 use Rattle.quic_queue.proofs.Changes.{others_stay, is_filled, is_gone, no_items, some_items}
+use Rattle.quic_queue.proofs.Tops.{above_rest}
 use Rattle.quic_queue.proofs.queue.drop_if_empty.Goals as goal
 
 pub returns-then-is_empty-clause-shown : goal.returns-then-is_empty-clause-shown
@@ -47,3 +48,11 @@ returns-in_default-clause-filled c =
     let told = simp to_z-of_z at c.get.ensures.value in
     let none = rw c.in_default.is at told in
     is_gone m p (sym none)
+
+pub returns-then-is_empty-clause-above : goal.returns-then-is_empty-clause-above
+returns-then-is_empty-clause-above c = λ q above.
+    let fits = c.ranges.priority in
+    let m = c.args.levels.now in
+    let p = c.args.priority in
+    let updates = simp to_z-of_z at c.remove.ensures.updates in
+    above_rest q p m c.remove.new.self above (others_stay m c.remove.new.self p None updates) updates.1

@@ -4,6 +4,7 @@ use Rattle.quic_queue.specs.declared.queue.Entry.{Entry}
 use Rattle.quic_queue.specs.Levels.{entries_of, IsFirstPriority}
 use Rattle.quic_queue.proofs.Lines.{entries_of-turn, first_found, first_has_ids}
 use Rattle.quic_queue.proofs.Changes.{is_filled, room_after, written}
+use Rattle.quic_queue.proofs.Tops.{still_above, there_below}
 use Rattle.quic_queue.proofs.queue.turn_at.Goals as goal
 
 pub push_back_reserved-requires : goal.push_back_reserved-requires
@@ -65,3 +66,15 @@ returns-clause-filled c =
     let there = simp to_z-of_z at c.in-Some.ensures.value in
     let holds = simp to_z-of_z at (c.get_mut.follows.holds w) in
     is_filled n p w (written m n p v w there holds.3).1 (omega (arith, c.push_back_reserved.ensures.len))
+
+pub returns-clause-above : goal.returns-clause-above
+returns-clause-above c = λ q above.
+    let fits = c.ranges.priority in
+    let m = c.args.levels.now in
+    let p = c.args.priority in
+    let v = c.in-Some.ids.now in
+    let w = c.push_back_reserved.new.self in
+    let n = c.get_mut.follows.lender w in
+    let there = simp to_z-of_z at c.in-Some.ensures.value in
+    let holds = simp to_z-of_z at (c.get_mut.follows.holds w) in
+    still_above q p m n above (written m n p v w there holds.3).0 (there_below q p m v above (sym there))

@@ -4,7 +4,7 @@ use Rattle.std.proofs.lemmas.Int.{to_z-of_z}
 use Rattle.quic_queue.specs.Levels.{Levels, falling, entries_of}
 use Rattle.quic_queue.proofs.Lines.{entries_of-set_same, entries_of-insert}
 use Rattle.quic_queue.proofs.Changes.{others_stay, has_room, room_there, no_room, filled_still, written, on_err}
-use Rattle.quic_queue.proofs.queue.make_room.Goals as goal
+use Rattle.quic_queue.proofs.queue.make_room_at.Goals as goal
 
 pub returns-in_err-reserve-in-Some-clause-shown : goal.returns-in_err-reserve-in-Some-clause-shown
 returns-in_err-reserve-in-Some-clause-shown c =
