@@ -1,6 +1,7 @@
 //! Sending on one stream: written bytes until they are acknowledged.
 #![tactic(auto)]
 
+mod lost_set;
 mod outcomes;
 mod piece_queue;
 mod recent_set;

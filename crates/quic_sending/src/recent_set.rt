@@ -122,9 +122,9 @@ fn gap_of(set: &RangeSet, start: u64, end: u64) -> Range<u64>
     }
 }
 
-// Takes out the runs that touch the numbers below one. The answer is up to where there are no gaps with them.
+/// Takes out the runs that touch the numbers below one. The answer is up to where there are no gaps with them.
 #[inline]
-fn join_runs(set: &mut RangeSet, low: u64) -> u64
+pub(crate) fn join_runs(set: &mut RangeSet, low: u64) -> u64
     ensures { Joins low result set.old set.new }
 {
     let mut reached = 0;
