@@ -1,10 +1,11 @@
-ghost use Rattle.std.specs.Prelude.{◌≡◌, ◌+◌, ◌<◌, ◌≤◌, ℕ, [], ◌∷◌, ◌&&◌, ◌||◌, not, true, false, IfOk, OnOk, OnErr, nat_lt, List};
+ghost use Rattle.std.specs.Prelude.{◌≡◌, ◌+◌, ◌<◌, ◌≤◌, ℕ, [], ◌∷◌, ◌&&◌, ◌||◌, not, true, false, IfOk, OnOk, OnErr, List};
 ghost use Rattle.quic_values.specs.Runs.{Run, contains, lies_in};
 ghost use Rattle.quic_sending.specs.Ranges.{IsLowestRun};
 ghost use Rattle.quic_sending.specs.Outcomes.{Answered, is_answered, minus, IsLowestOrNone};
 
+use crate::lost_set::LostSet;
 use crate::recent_set::RecentSet;
-use quic_values::{OutOfMemory, RangeSet};
+use quic_values::OutOfMemory;
 use std::alloc::Global;
 use std::marker::Model;
 use std::ops::Range;
@@ -18,7 +19,7 @@ pub(crate) struct Outcomes {
     // The acknowledged offsets above the prefix.
     later: RecentSet,
     // The offsets that were lost and not sent again, also such as were acknowledged since.
-    called_lost: RangeSet,
+    called_lost: LostSet,
     // The lowest lost range, or an empty one.
     next_lost: Range<u64>,
 }
@@ -47,7 +48,7 @@ impl Outcomes {
         Outcomes {
             prefix,
             later: RecentSet::new(alloc),
-            called_lost: RangeSet::new(alloc),
+            called_lost: LostSet::new(alloc),
             next_lost: 0..0,
         }
     }
@@ -101,24 +102,22 @@ impl Outcomes {
     pub(crate) fn lose_nothing(&mut self, alloc: Global)
         ensures { self.new ≡ record self.old { lost = [] } }
     {
-        self.called_lost = RangeSet::new(alloc);
+        self.called_lost = LostSet::new(alloc);
         self.next_lost = 0..0;
     }
 
-    /// The front of the lowest lost range up to an offset is sent again.
-    pub(crate) fn resend(&mut self, range: Range<u64>) -> Result<(), OutOfMemory>
+    /// The front of the lowest lost range up to an offset is sent again. Takes no memory.
+    pub(crate) fn resend(&mut self, range: Range<u64>)
         requires front { (limit : ℕ) × IsLowestRun self.old.lost range.start limit × (range.end ≤ limit) }
-        ensures lost { OnOk result ((n : ℕ) → contains self.new.lost n ≡ (contains self.old.lost n && not (lies_in range n))) }
+        ensures lost { (n : ℕ) → contains self.new.lost n ≡ (contains self.old.lost n && not (lies_in range n)) }
         ensures same { self.new ≡ record self.old { lost = self.new.lost } }
-        ensures err { OnErr result (self.new ≡ self.old) }
     {
-        remove_below(&mut self.called_lost, range.end)?;
+        self.called_lost.remove_below(range.end);
         if self.next_lost.start < range.end && range.end < self.next_lost.end {
             self.next_lost = range.end..self.next_lost.end;
-            return Ok(());
+            return;
         }
         self.next_lost = first_lost(&mut self.called_lost, &self.later, self.prefix);
-        Ok(())
     }
 
     /// The offsets of a range are acknowledged.
@@ -143,25 +142,9 @@ impl Outcomes {
     }
 }
 
-// Takes the numbers below one out of a set. A lowest run that ends there goes as a whole, which takes no search.
-fn remove_below(set: &mut RangeSet, end: u64) -> Result<(), OutOfMemory>
-    ensures set { OnOk result ((n : ℕ) → contains set.new n ≡ (contains set.old n && not (nat_lt n end))) }
-    ensures err { OnErr result (set.new ≡ set.old) }
-{
-    let Some(run) = set.peek_min() else {
-        return Ok(());
-    };
-    if run.end == end {
-        set.pop_min();
-        return Ok(());
-    }
-    set.remove(run.start..end)?;
-    Ok(())
-}
-
 // The lowest range of offsets that were called lost and are not acknowledged, or an empty one. The runs before it are
 // let go.
-fn first_lost(called_lost: &mut RangeSet, later: &RecentSet, prefix: u64) -> Range<u64>
+fn first_lost(called_lost: &mut LostSet, later: &RecentSet, prefix: u64) -> Range<u64>
     ensures same { (n : ℕ) →
         contains (minus called_lost.new ((0, prefix) ∷ later.now)) n
         ≡ contains (minus called_lost.old ((0, prefix) ∷ later.now)) n }

@@ -302,7 +302,7 @@ impl SendBuffer {
         let next = self.next_range();
         let (end, has_length) = cut_to_frame(next.start, next.end, max_len);
         if next.start < self.unsent {
-            self.outcomes.resend(next.start..end)?;
+            self.outcomes.resend(next.start..end);
         } else {
             self.pieces.seek(next.start);
             self.unsent = end;
@@ -336,7 +336,7 @@ impl SendBuffer {
         ensures sound { IsSound self.new }
     {
         if range.start < self.unsent {
-            self.outcomes.resend(range)?;
+            self.outcomes.resend(range);
             return Ok(());
         }
         self.pieces.seek(range.start);
