@@ -219,12 +219,8 @@ fn append_frame(
         offsets: range.start..range.end,
         fin,
     };
-    let len = buf.len();
     append_head(&meta, with_length, buf)?;
-    if let Err(error) = half.pending.mark_sent(range.start..range.end) {
-        buf.truncate(len);
-        return Err(error);
-    }
+    half.pending.mark_sent(range.start..range.end);
     match half.pending.append_range(range.start..range.end, buf) {
         Ok(()) => {}
         Err(_) => unreachable!(),

@@ -286,28 +286,20 @@ impl SendBuffer {
     /// and whether the frame has a length (RFC 9000 section 19.8). The range is then sent, and not
     /// lost.
     #[inline]
-    pub fn poll_transmit(&mut self, max_len: usize) -> Result<(Range<u64>, bool), OutOfMemory>
+    pub fn poll_transmit(&mut self, max_len: usize) -> (Range<u64>, bool)
         requires { 16 ≤ max_len }
-        ensures ok { IfOk result (λ r. (e : ℕ) × IsNextRange self.old r.0.start e × (r.0.end
-            ≡ frame_end r.0.start e max_len) × (r.1 ≡ has_length r.0.start e max_len)) }
-        ensures within { IfOk result (λ r. (self.old.prefix ≤ r.0.start) × (r.0.start ≤ r.0.end)
-            × (r.0.end ≤ self.old.offset)) }
-        ensures lost { IfOk result (λ r. (n : ℕ) →
-            is_lost self.new n ≡ (is_lost self.old n && not (lies_in r.0 n))) }
-        ensures sent { IfOk result (λ r. self.new.unsent ≡ max self.old.unsent r.0.end) }
+        ensures next { (e : ℕ) × IsNextRange self.old result.0.start e × (result.0.end
+            ≡ frame_end result.0.start e max_len) × (result.1 ≡ has_length result.0.start e max_len) }
+        ensures within { (self.old.prefix ≤ result.0.start) × (result.0.start ≤ result.0.end)
+            × (result.0.end ≤ self.old.offset) }
+        ensures lost { (n : ℕ) → is_lost self.new n ≡ (is_lost self.old n && not (lies_in result.0 n)) }
+        ensures sent { self.new.unsent ≡ max self.old.unsent result.0.end }
         ensures same { self.new ≡ record self.old { lost = self.new.lost; unsent = self.new.unsent } }
-        ensures err { OnErr result (self.new ≡ self.old) }
         ensures sound { IsSound self.new }
     {
-        let next = self.next_range();
-        let (end, has_length) = cut_to_frame(next.start, next.end, max_len);
-        if next.start < self.unsent {
-            self.outcomes.resend(next.start..end);
-        } else {
-            self.pieces.seek(next.start);
-            self.unsent = end;
-        }
-        Ok((next.start..end, has_length))
+        let (range, has_length) = self.next_transmit(max_len);
+        self.mark_sent(range.start..range.end);
+        (range, has_length)
     }
 
     /// What `poll_transmit` would answer. Nothing changes.
@@ -327,21 +319,19 @@ impl SendBuffer {
 
     /// A front of the range that is to be sent next was sent, and is not lost any more.
     #[inline]
-    pub fn mark_sent(&mut self, range: Range<u64>) -> Result<(), OutOfMemory>
+    pub fn mark_sent(&mut self, range: Range<u64>)
         requires { IsFrontOfNext self.old range.start range.end }
-        ensures lost { OnOk result ((n : ℕ) → is_lost self.new n ≡ (is_lost self.old n && not (lies_in range n))) }
-        ensures sent { OnOk result (self.new.unsent ≡ max self.old.unsent range.end) }
+        ensures lost { (n : ℕ) → is_lost self.new n ≡ (is_lost self.old n && not (lies_in range n)) }
+        ensures sent { self.new.unsent ≡ max self.old.unsent range.end }
         ensures same { self.new ≡ record self.old { lost = self.new.lost; unsent = self.new.unsent } }
-        ensures err { OnErr result (self.new ≡ self.old) }
         ensures sound { IsSound self.new }
     {
         if range.start < self.unsent {
             self.outcomes.resend(range);
-            return Ok(());
+            return;
         }
         self.pieces.seek(range.start);
         self.unsent = range.end;
-        Ok(())
     }
 
     /// All that was written counts as not sent, and nothing as lost.

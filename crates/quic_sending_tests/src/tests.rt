@@ -34,11 +34,7 @@ fn write_piece(rt: &impl Abort, buffer: &mut SendBuffer, piece: Bytes) -> Result
     buffer.write(piece)
 }
 
-fn poll(
-    rt: &impl Abort,
-    buffer: &mut SendBuffer,
-    max_len: usize,
-) -> Result<(Range<u64>, bool), OutOfMemory> {
+fn poll(rt: &impl Abort, buffer: &mut SendBuffer, max_len: usize) -> (Range<u64>, bool) {
     assert!(rt; max_len >= 16);
     buffer.poll_transmit(max_len)
 }

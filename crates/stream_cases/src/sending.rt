@@ -178,7 +178,7 @@ fn drain(buffer: &mut SendBuffer, frames: &mut Frames) -> Result<u64, OutOfMemor
         if !buffer.has_unsent_data() {
             break;
         }
-        let (range, has_length) = buffer.poll_transmit(PIECE)?;
+        let (range, has_length) = buffer.poll_transmit(PIECE);
         frames.bytes.clear();
         buffer.append_range(range.start..range.end, &mut frames.bytes)?;
         seen.see(range.start, &frames.bytes);

@@ -122,7 +122,7 @@ fn sent(rt: &impl Abort, alloc: Global, text: &[u8]) -> Result<Send, WriteError>
     let mut send = half(alloc, 100);
     let written = write(&mut send, &mut slice_source(alloc, text), 100)?;
     same(rt, written.bytes, text.len());
-    let (range, _) = poll(rt, &mut send.pending, 50)?;
+    let (range, _) = poll(rt, &mut send.pending, 50);
     same(rt, range.end, offset(&send));
     Ok(send)
 }
