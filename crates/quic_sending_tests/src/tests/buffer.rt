@@ -296,6 +296,32 @@ fn acknowledged_middle_of_a_lost_range(rt: HostRuntime) -> Result<(), Fail> {
     Ok(())
 }
 
+// Lost ranges in a mixed order: below the lowest, behind it, and over the gap between two. They are sent again from the
+// lowest on.
+const APART: [Step; 14] = [
+    Step::Write(b"Hello, world with extra data!"),
+    Step::Poll(58, 0, 29, true),
+    Step::Lose(16, 18),
+    Step::Lose(24, 26),
+    Step::Lose(4, 6),
+    Step::Lose(10, 12),
+    Step::Poll(58, 4, 6, true),
+    Step::Lose(11, 17),
+    Step::Poll(58, 10, 18, true),
+    Step::Lose(2, 3),
+    Step::Lose(3, 4),
+    Step::Poll(58, 2, 4, true),
+    Step::Poll(58, 24, 26, true),
+    Step::Poll(58, 29, 29, true),
+];
+
+#[test]
+fn lost_ranges_are_sent_from_the_lowest_on(rt: HostRuntime) -> Result<(), Fail> {
+    let buffer = run(&rt, rt.alloc(), &APART)?;
+    same(&rt, has_unsent_data(&buffer), false);
+    Ok(())
+}
+
 const WHOLE_PIECES: [Step; 8] = [
     Step::Write(b"twenty-four bytes in all"),
     Step::Poll(58, 0, 24, true),
