@@ -1,8 +1,6 @@
 -- The top level, and those below it.
 use Rattle.std.proofs.Common.{◌≡◌, ◌≢◌, ℕ, ℤ, ◌<◌, ◌≤◌, true, false, List, [], ◌∷◌, ◌++◌, map, drop, length, Some, None, refl, sym, ap, ◌∙◌, arith}
 use Rattle.std.specs.Prelude.{Option, int_lt, slice_get, IfSome, IsSomeAnd}
-use Rattle.std.specs.declared.cmp.Ordering.TheVariants.{Less}
-use Rattle.std.specs.declared.cmp.Reverse.{Reverse}
 use Rattle.std.specs.VecDeque.{deque_len, deque_capacity}
 use Rattle.std.specs.BTreeMap.{insert_entry}
 use Rattle.std.specs.Map.{lookup, keys_of}
@@ -22,11 +20,12 @@ always (Some x) p = p
 below : (q : ℤ) (es : List Level) → ((p : ℤ) → IfSome (lookup (at p) es) (λ v. int_lt p q ≡ true)) → AreBelow q (keys_of es)
 below q [] h = tt
 below q (e ∷ es) h =
-    let here : int_lt e.0.0 q ≡ true = rw (at-itself e.0.0 e.0 refl) at (h e.0.0) in
-    (less_of (int_lt e.0.0 q) (int_lt q e.0.0) here,
-     below q es (λ p. by_test (at p e.0)
-       (λ t. always (lookup (at p) es) (ap (λ (k : ℤ). int_lt k q) (sym (at-is p e.0 t)) ∙ here))
-       (λ t. rw t at (h p))))
+    let here : int_lt e.0.0 q ≡ true = rw (at-itself e.0.0 e.0 refl) at (h e.0.0) in (
+      less_of (int_lt e.0.0 q) (int_lt q e.0.0) here,
+      below q es (λ p. by_test (at p e.0)
+          (λ t. always (lookup (at p) es) (ap (λ (k : ℤ). int_lt k q) (sym (at-is p e.0 t)) ∙ here))
+          (λ t. rw t at (h p))),
+    )
 
 -- all levels are below a priority that is above them
 pub all_below : (q : ℤ) (m : Levels) → IsAbove q m → AreBelow q (keys_of m.entries)

@@ -129,6 +129,6 @@ abbrev pub last_frame : LastStream → List ℕ → Frame
 last_frame w payload = frames.Stream (record { id = w.id; offset = w.offset; fin = w.fin; bytes = drop w.skip payload })
 
 -- frames, and the one that ends a payload where there is one
-abbrev pub with_last : List Frame → Option LastStream → List ℕ → List Frame
-with_last fs None payload = fs
-with_last fs (Some w) payload = fs ++ (last_frame w payload ∷ [])
+abbrev pub with_last_frame : List Frame → Option LastStream → List ℕ → List Frame
+with_last_frame fs None payload = fs
+with_last_frame fs (Some w) payload = fs ++ (last_frame w payload ∷ [])

@@ -3,7 +3,7 @@ ghost use Rattle.std.specs.Int.{w16, w32, w64};
 ghost use Rattle.quic_wire.specs.declared.frame.Frame.{Frame as FrameValue};
 ghost use Rattle.quic_wire.specs.Frames.{AreFrames, BeginsWith, IsFrameWithin, has_bit};
 ghost use Rattle.quic_wire.specs.declared.frame.Frame.TheVariants as FrameValues;
-ghost use Rattle.quic_wire.specs.Reading.{AreLast, ReadsAs, last_frame, with_last, wide_at, number_at, two_at, offset_at, content_at, reset_at, stop_at, stream_at, max_data_at, max_stream_data_at, max_streams_at, data_blocked_at, stream_data_blocked_at, datagram_at, frame_at};
+ghost use Rattle.quic_wire.specs.Reading.{AreLast, ReadsAs, last_frame, with_last_frame, wide_at, number_at, two_at, offset_at, content_at, reset_at, stop_at, stream_at, max_data_at, max_stream_data_at, max_streams_at, data_blocked_at, stream_data_blocked_at, datagram_at, frame_at};
 
 use crate::frame::{Datagram, DecodeError, Frame, ResetStream, StopSending, Stream};
 use quic_values::{Bytes, Dir, StreamId, VarInt};
@@ -233,7 +233,10 @@ impl LastStream {
         requires { self.skip + more < 2 ^ 64 }
         ensures { result ≡ record { id = self.id; offset = self.offset; fin = self.fin; skip = self.skip + more } }
     {
-        LastStream { skip: self.skip + more, ..self }
+        LastStream {
+            skip: self.skip + more,
+            ..self
+        }
     }
 
     // The frame, with its data out of the payload that they end.
@@ -307,8 +310,8 @@ fn decode_front(
     empty: Vec<Frame>,
 ) -> Result<(Vec<Frame>, Option<LastStream>), DecodeError>
     requires { empty.items ≡ [] }
-    ensures found { IfOk result (λ d. AreFrames payload.now (with_last d.0.items d.1 payload.now)) }
-    ensures only { (fs : List FrameValue) → AreFrames payload.now fs → ReadsAs (λ d. with_last d.0.items d.1 payload.now) result (Some fs) }
+    ensures found { IfOk result (λ d. AreFrames payload.now (with_last_frame d.0.items d.1 payload.now)) }
+    ensures only { (fs : List FrameValue) → AreFrames payload.now fs → ReadsAs (λ d. with_last_frame d.0.items d.1 payload.now) result (Some fs) }
     ensures whole { keeps ≡ false → IfOk result (λ d. d.1 ≡ None) }
     ensures within { IfOk result (λ d. IfSome d.1 (λ w. w.skip ≤ length payload.now)) }
     ensures malformed { IsErrOf result DecodeError.Malformed → (fs : List FrameValue) → ¬ AreFrames payload.now fs }

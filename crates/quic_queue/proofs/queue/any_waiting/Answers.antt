@@ -1,4 +1,4 @@
-use Rattle.std.proofs.Common.{◌≡◌, ◌∷◌, refl, sym, ◌∙◌}
+use Rattle.std.proofs.Common.{◌∷◌, refl, sym, ◌∙◌}
 use Rattle.quic_queue.proofs.Lines.{any_here, any_later}
 use Rattle.quic_queue.proofs.queue.any_waiting.Goals as goal
 

@@ -1,4 +1,4 @@
-use Rattle.std.proofs.Common.{◌≡◌, refl, arith, length}
+use Rattle.std.proofs.Common.{refl, arith}
 use Rattle.std.proofs.lemmas.Bool.Decides.{nat_tests}
 use Rattle.quic_queue.proofs.Lines.{only_empty}
 use Rattle.quic_queue.proofs.queue.first_behind.Goals as goal

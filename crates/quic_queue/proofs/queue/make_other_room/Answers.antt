@@ -1,4 +1,3 @@
-use Rattle.std.proofs.Common.{◌≡◌}
 use Rattle.std.proofs.lemmas.Int.{to_z-of_z}
 use Rattle.quic_queue.specs.Levels.{IsFilled, KeepsRoomAtOthers}
 use Rattle.quic_queue.proofs.Changes.{on_err_with}

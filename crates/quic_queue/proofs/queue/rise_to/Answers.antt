@@ -1,7 +1,7 @@
-use Rattle.std.proofs.Common.{rules, ◌≡◌, ◌<◌, ◌∷◌, arith, w32, to_z, of_z, Some, sym, ap, ◌∙◌}
+use Rattle.std.proofs.Common.{rules, ◌≡◌, ◌<◌, ◌∷◌, w32, to_z, of_z, Some, sym, ap, ◌∙◌}
 use Rattle.std.proofs.lemmas.Int.{to_z-of_z}
 use Rattle.std.specs.VecDeque.{deque_len}
-use Rattle.quic_queue.specs.Levels.{Levels, entries_of, KeepsOtherLevels}
+use Rattle.quic_queue.specs.Levels.{entries_of}
 use Rattle.quic_queue.proofs.Changes.{others_stay, some_items}
 use Rattle.quic_queue.proofs.Tops.{inserted_above, above_both, still_filled}
 use Rattle.quic_queue.proofs.queue.rise_to.Goals as goal

@@ -1,5 +1,4 @@
-use Rattle.std.proofs.Common.{List, [], length, Some, Option, ap, arith}
-use Rattle.quic_wire.specs.declared.frame.Frame.{Frame}
+use Rattle.std.proofs.Common.{[], length, arith}
 use Rattle.quic_wire.proofs.Within.{all_within}
 use Rattle.quic_wire.proofs.reading.decode_owned_into.Goals as goal
 

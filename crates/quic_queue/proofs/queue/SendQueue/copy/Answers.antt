@@ -1,6 +1,6 @@
-use Rattle.std.proofs.Common.{rules, ◌≡◌, ◌∙◌, Some, None, ℤ, List, sym, ap, w32, to_z, of_z}
+use Rattle.std.proofs.Common.{rules, ◌≡◌, ◌∙◌, None, ℤ, List, sym, ap, w32, to_z, of_z}
 use Rattle.quic_queue.specs.declared.queue.Entry.{Entry}
-use Rattle.quic_queue.specs.Levels.{IsFilled, IsAbove, entries_of, waiting_of}
+use Rattle.quic_queue.specs.Levels.{IsFilled, IsAbove, entries_of}
 use Rattle.quic_queue.proofs.Lines.{some_is}
 use Rattle.quic_queue.proofs.Tops.{kept_in_copy, same_or, same_waiting}
 use Rattle.quic_queue.proofs.queue.SendQueue.copy.Goals as goal
@@ -20,11 +20,11 @@ invariant_of-result c =
     ] in
     let all : (p : ℤ) → IsFilled c.match-self.lower p = elim c.match-self.branch [
       | in-Some w ↦
-        let q = w.in-Some.priority in
-        let whole : to_z w32 (of_z w32 q) ≡ q = search rules in
-        let others = rw whole at w.drop_if_empty.ensures.others in
-        let gone = rw whole at w.drop_if_empty.ensures.filled in
-        rw w.lower-is (λ p. same_or q p (λ is. rw is gone) (λ ne. rw (others p ne) (filled p (inv.filled p (λ e. ne (sym (some_is q p (sym w.in-Some.is ∙ e))))))))
+          let q = w.in-Some.priority in
+          let whole : to_z w32 (of_z w32 q) ≡ q = search rules in
+          let others = rw whole at w.drop_if_empty.ensures.others in
+          let gone = rw whole at w.drop_if_empty.ensures.filled in
+          rw w.lower-is (λ p. same_or q p (λ is. rw is gone) (λ ne. rw (others p ne) (filled p (inv.filled p (λ e. ne (sym (some_is q p (sym w.in-Some.is ∙ e))))))))
       | in_default w ↦ rw w.lower-is (λ p. filled p (inv.filled p (w.in_default.not-Some p)))
     ] in
     rw whole (kept_in_copy (record { priority = tp; ids = c.in_ok-ids.ids }) c.match-self.lower above all)

@@ -28,8 +28,8 @@ returns-then-priority-self c =
     let whole : to_z w32 (of_z w32 tp) ≡ tp = search rules in
     let is : p ≡ tp = sym (to_z-of_z w32 p c.ranges.priority) ∙ ap (to_z w32) c.if-priority-self.true ∙ whole in
     let chain : waiting_of (record { priority = tp; ids = c.push_back_reserved.new.self }) a.lower ≡ put (waiting_of a.top a.lower) (record { priority = p; id = c.args.id }) =
-        top_push a.top (record { priority = tp; ids = c.push_back_reserved.new.self }) a.lower c.args.id c.self.invariant.above refl c.push_back_reserved.ensures.items
-        ∙ ap (λ k. put (waiting_of a.top a.lower) (record { priority = k; id = c.args.id })) (sym is) in
+    top_push a.top (record { priority = tp; ids = c.push_back_reserved.new.self }) a.lower c.args.id c.self.invariant.above refl c.push_back_reserved.ensures.items
+    ∙ ap (λ k. put (waiting_of a.top a.lower) (record { priority = k; id = c.args.id })) (sym is) in
     rw (← c.self.view_is) (ap (λ (l : List Entry). record { waiting = l; kept = a.kept; reserved = None }) chain)
 
 pub returns : goal.returns

@@ -1,4 +1,4 @@
-use Rattle.std.proofs.Common.{◌≡◌, ◌∙◌, arith, Some, sym}
+use Rattle.std.proofs.Common.{◌∙◌, arith, sym}
 use Rattle.std.proofs.lemmas.Int.{to_z-of_z}
 use Rattle.quic_queue.proofs.Changes.{fewer_after, is_another, is_that}
 use Rattle.quic_queue.proofs.Tops.{served_top, served_lower, both_others}

@@ -1,5 +1,5 @@
-use Rattle.std.proofs.Common.{◌≡◌, ◌<◌, ◌∙◌, List, drop, length, sym, ap, refl, None, Some, true}
-use Rattle.std.specs.Prelude.{is_some, slice_get}
+use Rattle.std.proofs.Common.{◌≡◌, ◌∙◌, List, drop, sym, ap, refl, None, Some}
+use Rattle.std.specs.Prelude.{slice_get}
 use Rattle.quic_queue.specs.declared.queue.Entry.{Entry}
 use Rattle.quic_queue.specs.SendOrder.{SendOrder, put}
 use Rattle.quic_queue.specs.Levels.{waiting_of}
@@ -24,7 +24,7 @@ returns c =
     let first : slice_get (waiting_of a.top a.lower) 0 ≡ Some e = rw waits (rw c.requires.none_kept at c.requires.is_first) in
     let same : e.priority ≡ tp = top_first tp v a.lower e some first in
     let chain : waiting_of (record { priority = tp; ids = w }) a.lower ≡ put (drop 1 s.waiting) e =
-        top_push (record { priority = tp; ids = u }) (record { priority = tp; ids = w }) a.lower e.id c.self.invariant.above refl c.push_back_reserved.ensures.items
-        ∙ ap (λ l. put l (record { priority = tp; id = e.id })) (top_pop tp v u a.lower some c.pop_front.ensures.rest ∙ ap (drop 1) waits)
-        ∙ ap (λ p. put (drop 1 s.waiting) (record { priority = p; id = e.id })) (sym same) in
+    top_push (record { priority = tp; ids = u }) (record { priority = tp; ids = w }) a.lower e.id c.self.invariant.above refl c.push_back_reserved.ensures.items
+    ∙ ap (λ l. put l (record { priority = tp; id = e.id })) (top_pop tp v u a.lower some c.pop_front.ensures.rest ∙ ap (drop 1) waits)
+    ∙ ap (λ p. put (drop 1 s.waiting) (record { priority = p; id = e.id })) (sym same) in
     rw (c.requires.none_kept, kept, reserved) (ap (λ (l : List Entry). record { waiting = l; kept = None; reserved = None }) chain)
