@@ -328,6 +328,13 @@ fn no_number_up_to_65537_is_refused(rt: HostRuntime) -> Result<(), Fail> {
         queue.reserve(-1)?;
         queue.put(stream(index), -1);
     }
+    for index in 0..65_537u32 {
+        queue.reserve(70_000)?;
+        queue.put(stream(index), 70_000);
+    }
+    for index in 0..65_537u32 {
+        same(&rt, queue.take_first(), Some(entry(index, 70_000)));
+    }
     for index in (0..65_537u32).rev() {
         same(&rt, queue.take_first(), Some(entry(index, index as i32)));
     }
@@ -366,6 +373,11 @@ impl SortedList {
     }
 }
 
+// A priority from -4 to 3, in no order.
+fn small_priority(state: u64) -> i32 {
+    (state >> 32 & 7) as i32 - 4
+}
+
 #[test]
 fn as_a_sorted_list(rt: HostRuntime) -> Result<(), Fail> {
     let alloc = rt.alloc();
@@ -379,7 +391,7 @@ fn as_a_sorted_list(rt: HostRuntime) -> Result<(), Fail> {
         state = state
             .wrapping_mul(0x5851_f42d_4c95_7f2d)
             .wrapping_add(0x1405_7b7e_f767_814f);
-        let priority = (state >> 32 & 7) as i32 - 4;
+        let priority = small_priority(state);
         match state >> 60 {
             0..=6 => {
                 put(&mut queue, index, priority)?;
