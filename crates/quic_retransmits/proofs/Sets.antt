@@ -1,5 +1,5 @@
 -- Lemmas on sets of ids.
-use Rattle.std.proofs.Common.{◌≡◌, ℕ, Bool, true, false, cond, refl, arith, ap, List, [], ◌∷◌, length, ◌∙◌, ◌≤◌, ◌<◌}
+use Rattle.std.proofs.Common.{◌≡◌, ℕ, Bool, true, false, cond, refl, sym, arith, ap, List, [], ◌∷◌, length, ◌∙◌, ◌≤◌, ◌<◌}
 use Rattle.std.specs.Prelude.{◌+◌, ◌||◌, ◌&&◌, ◌==◌, not, Option, Some, None, is_none, Result, Ok, Err, OnOk, OnErr, IsOk}
 use Rattle.std.specs.List.{list_any}
 use Rattle.std.proofs.lemmas.Bool.Decides.{nat_tests}
@@ -113,3 +113,7 @@ held-one false id places = grind (arith, nat_tests)
 -- an id that was added has its place
 pub placed : (new old : ℕ → Bool) (id places : ℕ) → new ≡ with_id old id true → 1 ≤ cond (new id) 1 places
 placed new old id places is = rw is (held-one (old id) id places)
+
+-- where no ids come none is new
+pub without_more : (ids none : ℕ → Bool) → ((id : ℕ) → none id ≡ false) → ids ≡ either ids none
+without_more ids none h = λ i id. (or-false (ids id) ∙ ap (λ b. ids id || b) (sym (h id))) i

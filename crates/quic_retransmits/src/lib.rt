@@ -1,6 +1,7 @@
 //! What is to be sent, again or for the first time, beside the data of streams.
 #![tactic(auto)]
 
+mod id_table;
 mod queueing;
 pub mod retransmits;
 mod settling;

@@ -1,11 +1,12 @@
 //! Sets of stream ids, of which one has a place of its own.
 
-ghost use Rattle.std.specs.Prelude.{◌≡◌, ◌+◌, ◌<◌, ◌≤◌, ◌==◌, ◌||◌, true, false, OnOk, IfOk, IsTrue, ◌↔◌};
+ghost use Rattle.std.specs.Prelude.{◌≡◌, ◌+◌, ◌<◌, ◌≤◌, ◌==◌, ◌||◌, not, true, false, OnOk, OnErr, IfOk, IsTrue, ◌↔◌};
 ghost use Rattle.std.specs.HashSet.{contains, hash_set_len};
 ghost use Rattle.quic_retransmits.specs.Ids.{has_own_place, own_entries, is_in_ids, id_count, id_entries, id_rooms, id_places};
 ghost use Rattle.quic_retransmits.specs.Queueing.{with_id};
 ghost use Rattle.quic_retransmits.specs.Settling.{without_id, IsSomeIn};
 
+use crate::id_table::IdTable;
 use quic_values::{OutOfMemory, StreamId};
 use std::alloc::Global;
 use std::collections::HashSet;
@@ -14,9 +15,9 @@ use std::collections::HashSet;
 #[derive(Drop)]
 pub struct StreamIds {
     /// One of them, if it stands here.
-    pub first: Option<StreamId>,
+    pub(crate) first: Option<StreamId>,
     /// Those that stand elsewhere. The id in `first` may stand here too: it is one id.
-    pub others: HashSet<StreamId>,
+    pub(crate) others: IdTable,
 }
 
 impl StreamIds {
@@ -27,7 +28,7 @@ impl StreamIds {
     {
         StreamIds {
             first: None,
-            others: HashSet::new(alloc),
+            others: IdTable::new(alloc),
         }
     }
 
@@ -36,7 +37,7 @@ impl StreamIds {
     pub fn contains(&self, id: StreamId) -> bool
         ensures { result ≡ is_in_ids self.now id }
     {
-        self.stands_first(id) || self.others.contains(&id)
+        self.stands_first(id) || self.others.contains(id)
     }
 
     /// How many ids there are.
@@ -45,7 +46,7 @@ impl StreamIds {
     {
         match self.first {
             Some(first) => {
-                if self.others.contains(&first) {
+                if self.others.contains(first) {
                     self.others.len()
                 } else {
                     self.others.len() + 1
@@ -120,8 +121,20 @@ impl StreamIds {
         if self.first.is_none() {
             self.first = Some(id);
         } else if !self.stands_first(id) {
-            let _ = self.others.insert(id);
+            self.others.insert_reserved(id);
         }
+    }
+
+    /// Puts an id in, and says whether it is new. A refusal changes nothing.
+    pub fn insert(&mut self, id: StreamId) -> Result<bool, OutOfMemory>
+        ensures ok { OnOk result (is_in_ids self.new ≡ with_id (is_in_ids self.old) id true) }
+        ensures added { IfOk result (λ added. added ≡ not (is_in_ids self.old id)) }
+        ensures err { OnErr result (is_in_ids self.new ≡ is_in_ids self.old) }
+    {
+        let added = !self.contains(id);
+        self.reserve_for(id)?;
+        self.insert_reserved(id);
+        Ok(added)
     }
 
     // Takes an id out, wherever it stands.
@@ -131,9 +144,7 @@ impl StreamIds {
         ensures fewer { is_in_ids self.old id ≡ true → id_entries self.new < id_entries self.old }
     {
         self.clear_first(id);
-        if !self.others.is_empty() {
-            let _ = self.others.remove(&id);
-        }
+        self.others.remove(id);
     }
 
     // Takes an id out of `first`, if it stands there.
@@ -156,16 +167,19 @@ impl StreamIds {
     {
         match self.first {
             Some(first) => Some(first),
-            None => self.others.iter().next().copied(),
+            None => self.others.some(),
         }
     }
+
     // Adds the ids of another set, in room that was made.
     pub(crate) fn add_all(&mut self, more: &StreamIds)
         requires { id_entries more.now ≤ id_rooms self.old }
         ensures { is_in_ids self.new ≡ (λ id. is_in_ids self.old id || is_in_ids more.now id) }
     {
         self.add_first(more.first);
-        self.add_others(&more.others);
+        if let Some(table) = more.others.table() {
+            self.add_others(table);
+        }
     }
 
     fn add_first(&mut self, first: Option<StreamId>)

@@ -1,6 +1,6 @@
 //! Sets of what is to be sent. Where memory runs out, a test shows that all is as it was, and asks once more.
 
-use quic_retransmits::{IssuedCid, Retransmits, ThinRetransmits};
+use quic_retransmits::{IssuedCid, Retransmits, StreamIds, ThinRetransmits};
 use quic_wire::frame::{Crypto, StopSending};
 use quic_wire::{Bytes, OutOfMemory, ReceiveError, StreamId, TransportError, VarInt};
 use std::alloc::Global;
@@ -83,6 +83,10 @@ fn add_stream_blocked(set: &mut Retransmits, id: StreamId) -> Result<(), OutOfMe
     set.reserve_stream_blocked(id)?;
     set.queue_stream_blocked(id, true);
     Ok(())
+}
+
+fn add_id(ids: &mut StreamIds, id: StreamId) -> Result<bool, OutOfMemory> {
+    ids.insert(id)
 }
 
 // A set with something for each number in each list and in each set.
@@ -320,6 +324,31 @@ fn get_or_create_makes_one(rt: HostRuntime) -> Result<(), Fail> {
         thin.get().map(|set| (set.max_data, set.data_blocked)),
         Some((true, true)),
     );
+    Ok(())
+}
+
+// An id is new the first time that it is put in. Where memory runs out it is not there, and is asked for once more.
+#[test]
+fn an_id_is_new_once(rt: HostRuntime) -> Result<(), Fail> {
+    let mut ids = StreamIds::new(rt.alloc());
+    for (count, number) in (0usize..).zip(&ALL) {
+        let next = id(*number);
+        same_for(&rt, number, ids.contains(next), false);
+        let added = match add_id(&mut ids, next) {
+            Ok(added) => added,
+            Err(OutOfMemory) => {
+                same_for(&rt, number, ids.contains(next), false);
+                add_id(&mut ids, next)?
+            }
+        };
+        same_for(&rt, number, added, true);
+        same_for(&rt, number, ids.len(), count + 1);
+        same_for(&rt, number, add_id(&mut ids, next)?, false);
+        same_for(&rt, number, ids.len(), count + 1);
+    }
+    for number in &ALL {
+        same_for(&rt, number, ids.contains(id(*number)), true);
+    }
     Ok(())
 }
 
