@@ -1,5 +1,6 @@
-// Stream ids in a table of their own.
-ghost use Rattle.std.specs.Prelude.{◌≡◌, ◌+◌, ◌<◌, ◌≤◌, ◌^◌, ◌==◌, ℕ, true, false, if◌then◌else◌, OnOk, IfSome, IfNone};
+//! Stream ids in a table of their own.
+
+ghost use Rattle.std.specs.Prelude.{◌≡◌, ◌+◌, ◌<◌, ◌≤◌, ◌^◌, ◌==◌, ℕ, true, false, if◌then◌else◌, OnOk, IfSome, IfNone, IsTrue, ◌↔◌};
 ghost use Rattle.std.specs.HashSet.{contains, hash_set_len};
 ghost use Rattle.quic_retransmits.specs.Ids.{is_in_table, table_count, table_room};
 ghost use Rattle.quic_retransmits.specs.Settling.{IsSomeIn};
@@ -10,7 +11,7 @@ use std::collections::HashSet;
 
 /// Stream ids in a table, which is made when room is first wanted in it.
 #[derive(Drop)]
-pub(crate) struct IdTable {
+pub struct IdTable {
     table: Option<Box<HashSet<StreamId>>>,
     alloc: Global,
 }
@@ -27,7 +28,7 @@ impl IdTable {
 
     /// Whether an id is there.
     #[inline]
-    pub(crate) fn contains(&self, id: StreamId) -> bool
+    pub fn contains(&self, id: StreamId) -> bool
         ensures { result ≡ is_in_table self.now id }
     {
         match &self.table {
@@ -38,7 +39,7 @@ impl IdTable {
 
     /// How many ids there are.
     #[inline]
-    pub(crate) fn len(&self) -> usize
+    pub fn len(&self) -> usize
         ensures len { result ≡ table_count self.now }
         ensures small { result < 2 ^ 63 }
     {
@@ -50,7 +51,7 @@ impl IdTable {
 
     /// The table, if it was made.
     #[inline]
-    pub(crate) fn table(&self) -> Option<&HashSet<StreamId>>
+    pub fn table(&self) -> Option<&HashSet<StreamId>>
         ensures same { IfSome result (λ t. contains ◌==◌ t.now ≡ is_in_table self.now) }
         ensures count { IfSome result (λ t. hash_set_len t.now ≡ table_count self.now) }
         ensures none { IfNone result ((id : ℕ) → is_in_table self.now id ≡ false) }
@@ -59,6 +60,13 @@ impl IdTable {
             Some(table) => Some(table),
             None => None,
         }
+    }
+
+    /// Whether there is no id.
+    pub fn is_empty(&self) -> bool
+        ensures { IsTrue result ↔ (table_count self.now ≡ 0) }
+    {
+        self.len() == 0
     }
 
     /// Makes room for so many more.

@@ -15,9 +15,9 @@ use std::collections::HashSet;
 #[derive(Drop)]
 pub struct StreamIds {
     /// One of them, if it stands here.
-    pub(crate) first: Option<StreamId>,
+    pub first: Option<StreamId>,
     /// Those that stand elsewhere. The id in `first` may stand here too: it is one id.
-    pub(crate) others: IdTable,
+    pub others: IdTable,
 }
 
 impl StreamIds {

@@ -4,12 +4,12 @@ ghost use Rattle.std.specs.Prelude.{◌≡◌, ◌==◌, ℕ, Bool, unwrap_or};
 ghost use Rattle.std.specs.HashSet.{contains};
 ghost use Rattle.quic_queue.specs.SendOrder.{Tells};
 ghost use Rattle.quic_retransmits.specs.Pending.{Pending, shown_pending, shown_if, nothing};
-ghost use Rattle.quic_retransmits.specs.Ids.{is_in_ids};
+ghost use Rattle.quic_retransmits.specs.Ids.{is_in_ids, is_in_table};
 ghost use Rattle.quic_streams.specs.Shown.{shown};
 ghost use Rattle.quic_streams.specs.Waiting.{TellsAny, TellsEmpty, has_lasting, window_counts, limit_counts};
 
 use crate::state::StreamsState;
-use quic_retransmits::{Retransmits, StreamIds, ThinRetransmits};
+use quic_retransmits::{IdTable, Retransmits, StreamIds, ThinRetransmits};
 use quic_values::StreamId;
 use std::collections::HashSet;
 
@@ -54,7 +54,17 @@ fn any_id<F: Fn(StreamId) -> bool>(ids: &StreamIds, test: &F) -> bool
     {
         return true;
     }
-    any_other(&ids.others, test)
+    any_elsewhere(&ids.others, test)
+}
+
+fn any_elsewhere<F: Fn(StreamId) -> bool>(ids: &IdTable, test: &F) -> bool
+    requires { F.IsAlwaysCallable test.now }
+    ensures { (p : ℕ → Bool) → Tells (F.post test.now) p → TellsAny (is_in_table ids.now) p result }
+{
+    match ids.table() {
+        Some(table) => any_other(table, test),
+        None => false,
+    }
 }
 
 fn any_other<F: Fn(StreamId) -> bool>(ids: &HashSet<StreamId>, test: &F) -> bool
