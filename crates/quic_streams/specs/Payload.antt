@@ -29,8 +29,8 @@ pub record Sheet : Type 0 where
   pub sent : Pending
   pub stats : FrameStats
 
-abbrev pub sheet_of : ControlPayload → Sheet
-sheet_of c = record { bytes = c.bytes.items; sent = noted_in c.sent; stats = c.stats }
+abbrev pub sheet_of : ControlPayload → FrameStats → Sheet
+sheet_of c stats = record { bytes = c.bytes.items; sent = noted_in c.sent; stats = stats }
 
 -- a frame more: its spelling behind what was there, noted as sent, and counted
 abbrev pub with_frame_written : Sheet → Frame → Sheet

@@ -66,12 +66,10 @@ impl StreamsState {
         let mut payload = ControlPayload {
             bytes: mem::replace(buf, Vec::new(alloc)),
             sent: mem::replace(sent, ThinRetransmits::new(alloc)),
-            stats: *counters,
         };
-        let result = self.write_kinds(pending, &mut payload, max_size);
+        let result = self.write_kinds(pending, &mut payload, counters, max_size);
         *buf = payload.bytes;
         *sent = payload.sent;
-        *counters = payload.stats;
         result
     }
 
@@ -148,15 +146,20 @@ impl StreamsState {
         &mut self,
         pending: &mut Retransmits,
         payload: &mut ControlPayload,
+        counters: &mut FrameStats,
     ) -> Result<bool, OutOfMemory>
-        ensures tries { Tries ControlKind.ResetStream (record { end = shown self.old; pending = listed pending.old; sheet = sheet_of payload.old }) result (record { end = shown self.new; pending = listed pending.new; sheet = sheet_of payload.new }) }
+        ensures tries { Tries ControlKind.ResetStream (record { end = shown self.old; pending = listed pending.old; sheet = sheet_of payload.old counters.old }) result (record { end = shown self.new; pending = listed pending.new; sheet = sheet_of payload.new counters.new }) }
         ensures fewer { IfOk result (λ some. some ≡ true → entry_count pending.new < entry_count pending.old) }
         ensures wanted { OnErr result (HasNoneOf ControlKind.ResetStream (listed pending.old) → ⊥) }
     {
         let Some((id, error_code)) = pending.next_reset() else {
             return Ok(false);
         };
-        payload.append_if(&ControlKind::ResetStream, self.reset_frame(id, error_code))?;
+        payload.append_if(
+            &ControlKind::ResetStream,
+            self.reset_frame(id, error_code),
+            counters,
+        )?;
         pending.settle_reset();
         Ok(true)
     }
@@ -167,15 +170,20 @@ impl StreamsState {
         &mut self,
         pending: &mut Retransmits,
         payload: &mut ControlPayload,
+        counters: &mut FrameStats,
     ) -> Result<bool, OutOfMemory>
-        ensures tries { Tries ControlKind.StopSending (record { end = shown self.old; pending = listed pending.old; sheet = sheet_of payload.old }) result (record { end = shown self.new; pending = listed pending.new; sheet = sheet_of payload.new }) }
+        ensures tries { Tries ControlKind.StopSending (record { end = shown self.old; pending = listed pending.old; sheet = sheet_of payload.old counters.old }) result (record { end = shown self.new; pending = listed pending.new; sheet = sheet_of payload.new counters.new }) }
         ensures fewer { IfOk result (λ some. some ≡ true → entry_count pending.new < entry_count pending.old) }
         ensures wanted { OnErr result (HasNoneOf ControlKind.StopSending (listed pending.old) → ⊥) }
     {
         let Some(stop) = pending.next_stop() else {
             return Ok(false);
         };
-        payload.append_if(&ControlKind::StopSending, Some(Frame::StopSending(stop)))?;
+        payload.append_if(
+            &ControlKind::StopSending,
+            Some(Frame::StopSending(stop)),
+            counters,
+        )?;
         pending.settle_stop();
         Ok(true)
     }
@@ -186,8 +194,9 @@ impl StreamsState {
         &mut self,
         pending: &mut Retransmits,
         payload: &mut ControlPayload,
+        counters: &mut FrameStats,
     ) -> Result<bool, OutOfMemory>
-        ensures tries { Tries ControlKind.MaxData (record { end = shown self.old; pending = listed pending.old; sheet = sheet_of payload.old }) result (record { end = shown self.new; pending = listed pending.new; sheet = sheet_of payload.new }) }
+        ensures tries { Tries ControlKind.MaxData (record { end = shown self.old; pending = listed pending.old; sheet = sheet_of payload.old counters.old }) result (record { end = shown self.new; pending = listed pending.new; sheet = sheet_of payload.new counters.new }) }
         ensures fewer { IfOk result (λ some. some ≡ true → entry_count pending.new < entry_count pending.old) }
         ensures wanted { OnErr result (HasNoneOf ControlKind.MaxData (listed pending.old) → ⊥) }
     {
@@ -195,7 +204,7 @@ impl StreamsState {
             return Ok(false);
         }
         let limit = self.credit.max_data();
-        payload.append_if(&ControlKind::MaxData, Some(Frame::MaxData(limit)))?;
+        payload.append_if(&ControlKind::MaxData, Some(Frame::MaxData(limit)), counters)?;
         self.credit.announce();
         pending.settle_max_data();
         Ok(true)
@@ -207,15 +216,16 @@ impl StreamsState {
         &mut self,
         pending: &mut Retransmits,
         payload: &mut ControlPayload,
+        counters: &mut FrameStats,
     ) -> Result<bool, OutOfMemory>
-        ensures tries { Tries ControlKind.MaxStreamData (record { end = shown self.old; pending = listed pending.old; sheet = sheet_of payload.old }) result (record { end = shown self.new; pending = listed pending.new; sheet = sheet_of payload.new }) }
+        ensures tries { Tries ControlKind.MaxStreamData (record { end = shown self.old; pending = listed pending.old; sheet = sheet_of payload.old counters.old }) result (record { end = shown self.new; pending = listed pending.new; sheet = sheet_of payload.new counters.new }) }
         ensures fewer { IfOk result (λ some. some ≡ true → entry_count pending.new < entry_count pending.old) }
         ensures wanted { OnErr result (HasNoneOf ControlKind.MaxStreamData (listed pending.old) → ⊥) }
     {
         let Some(id) = pending.next_window() else {
             return Ok(false);
         };
-        payload.append_if(&ControlKind::MaxStreamData, self.window_frame(id))?;
+        payload.append_if(&ControlKind::MaxStreamData, self.window_frame(id), counters)?;
         self.receive.announce(id);
         pending.settle_window(id);
         Ok(true)
@@ -227,9 +237,10 @@ impl StreamsState {
         &mut self,
         pending: &mut Retransmits,
         payload: &mut ControlPayload,
+        counters: &mut FrameStats,
         dir: Dir,
     ) -> Result<bool, OutOfMemory>
-        ensures tries { Tries (ControlKind.MaxStreams dir) (record { end = shown self.old; pending = listed pending.old; sheet = sheet_of payload.old }) result (record { end = shown self.new; pending = listed pending.new; sheet = sheet_of payload.new }) }
+        ensures tries { Tries (ControlKind.MaxStreams dir) (record { end = shown self.old; pending = listed pending.old; sheet = sheet_of payload.old counters.old }) result (record { end = shown self.new; pending = listed pending.new; sheet = sheet_of payload.new counters.new }) }
         ensures fewer { IfOk result (λ some. some ≡ true → entry_count pending.new < entry_count pending.old) }
         ensures wanted { OnErr result (HasNoneOf (ControlKind.MaxStreams dir) (listed pending.old) → ⊥) }
     {
@@ -238,7 +249,7 @@ impl StreamsState {
         }
         let count = self.max_remote(dir);
         let frame = Frame::MaxStreams { dir, count };
-        payload.append_if(&ControlKind::MaxStreams(dir), Some(frame))?;
+        payload.append_if(&ControlKind::MaxStreams(dir), Some(frame), counters)?;
         self.announce_streams(dir);
         pending.settle_max_streams(dir);
         Ok(true)
@@ -250,15 +261,20 @@ impl StreamsState {
         &mut self,
         pending: &mut Retransmits,
         payload: &mut ControlPayload,
+        counters: &mut FrameStats,
     ) -> Result<bool, OutOfMemory>
-        ensures tries { Tries ControlKind.DataBlocked (record { end = shown self.old; pending = listed pending.old; sheet = sheet_of payload.old }) result (record { end = shown self.new; pending = listed pending.new; sheet = sheet_of payload.new }) }
+        ensures tries { Tries ControlKind.DataBlocked (record { end = shown self.old; pending = listed pending.old; sheet = sheet_of payload.old counters.old }) result (record { end = shown self.new; pending = listed pending.new; sheet = sheet_of payload.new counters.new }) }
         ensures fewer { IfOk result (λ some. some ≡ true → entry_count pending.new < entry_count pending.old) }
         ensures wanted { OnErr result (HasNoneOf ControlKind.DataBlocked (listed pending.old) → ⊥) }
     {
         if !pending.data_blocked {
             return Ok(false);
         }
-        payload.append_if(&ControlKind::DataBlocked, self.data_blocked_frame())?;
+        payload.append_if(
+            &ControlKind::DataBlocked,
+            self.data_blocked_frame(),
+            counters,
+        )?;
         pending.settle_data_blocked();
         Ok(true)
     }
@@ -269,8 +285,9 @@ impl StreamsState {
         &mut self,
         pending: &mut Retransmits,
         payload: &mut ControlPayload,
+        counters: &mut FrameStats,
     ) -> Result<bool, OutOfMemory>
-        ensures tries { Tries ControlKind.StreamDataBlocked (record { end = shown self.old; pending = listed pending.old; sheet = sheet_of payload.old }) result (record { end = shown self.new; pending = listed pending.new; sheet = sheet_of payload.new }) }
+        ensures tries { Tries ControlKind.StreamDataBlocked (record { end = shown self.old; pending = listed pending.old; sheet = sheet_of payload.old counters.old }) result (record { end = shown self.new; pending = listed pending.new; sheet = sheet_of payload.new counters.new }) }
         ensures fewer { IfOk result (λ some. some ≡ true → entry_count pending.new < entry_count pending.old) }
         ensures wanted { OnErr result (HasNoneOf ControlKind.StreamDataBlocked (listed pending.old) → ⊥) }
     {
@@ -280,6 +297,7 @@ impl StreamsState {
         payload.append_if(
             &ControlKind::StreamDataBlocked,
             self.stream_blocked_frame(id),
+            counters,
         )?;
         pending.settle_stream_blocked(id);
         Ok(true)
@@ -292,19 +310,24 @@ impl StreamsState {
         kind: &ControlKind,
         pending: &mut Retransmits,
         payload: &mut ControlPayload,
+        counters: &mut FrameStats,
     ) -> Result<bool, OutOfMemory>
-        ensures tries { Tries kind.now (record { end = shown self.old; pending = listed pending.old; sheet = sheet_of payload.old }) result (record { end = shown self.new; pending = listed pending.new; sheet = sheet_of payload.new }) }
+        ensures tries { Tries kind.now (record { end = shown self.old; pending = listed pending.old; sheet = sheet_of payload.old counters.old }) result (record { end = shown self.new; pending = listed pending.new; sheet = sheet_of payload.new counters.new }) }
         ensures fewer { IfOk result (λ some. some ≡ true → entry_count pending.new < entry_count pending.old) }
         ensures wanted { OnErr result (HasNoneOf kind.now (listed pending.old) → ⊥) }
     {
         match kind {
-            ControlKind::ResetStream => self.settle_reset(pending, payload),
-            ControlKind::StopSending => self.settle_stop(pending, payload),
-            ControlKind::MaxData => self.settle_max_data(pending, payload),
-            ControlKind::MaxStreamData => self.settle_window(pending, payload),
-            ControlKind::MaxStreams(dir) => self.settle_max_streams(pending, payload, *dir),
-            ControlKind::DataBlocked => self.settle_data_blocked(pending, payload),
-            ControlKind::StreamDataBlocked => self.settle_stream_blocked(pending, payload),
+            ControlKind::ResetStream => self.settle_reset(pending, payload, counters),
+            ControlKind::StopSending => self.settle_stop(pending, payload, counters),
+            ControlKind::MaxData => self.settle_max_data(pending, payload, counters),
+            ControlKind::MaxStreamData => self.settle_window(pending, payload, counters),
+            ControlKind::MaxStreams(dir) => self.settle_max_streams(
+                pending, payload, counters, *dir,
+            ),
+            ControlKind::DataBlocked => self.settle_data_blocked(pending, payload, counters),
+            ControlKind::StreamDataBlocked => self.settle_stream_blocked(
+                pending, payload, counters,
+            ),
         }
     }
 
@@ -315,14 +338,15 @@ impl StreamsState {
         kind: &ControlKind,
         pending: &mut Retransmits,
         payload: &mut ControlPayload,
+        counters: &mut FrameStats,
         max_size: usize,
     ) -> Result<(), OutOfMemory>
-        ensures turns { SettlesSome kind.now max_size (record { end = shown self.old; pending = listed pending.old; sheet = sheet_of payload.old }) (record { end = shown self.new; pending = listed pending.new; sheet = sheet_of payload.new }) }
-        ensures done { OnOk result (IsKindDone kind.now max_size (record { end = shown self.new; pending = listed pending.new; sheet = sheet_of payload.new })) }
-        ensures refused { OnErr result (IsKindDone kind.now max_size (record { end = shown self.new; pending = listed pending.new; sheet = sheet_of payload.new }) → ⊥) }
+        ensures turns { SettlesSome kind.now max_size (record { end = shown self.old; pending = listed pending.old; sheet = sheet_of payload.old counters.old }) (record { end = shown self.new; pending = listed pending.new; sheet = sheet_of payload.new counters.new }) }
+        ensures done { OnOk result (IsKindDone kind.now max_size (record { end = shown self.new; pending = listed pending.new; sheet = sheet_of payload.new counters.new })) }
+        ensures refused { OnErr result (IsKindDone kind.now max_size (record { end = shown self.new; pending = listed pending.new; sheet = sheet_of payload.new counters.new }) → ⊥) }
     {
         while payload.bytes.len() + kind.size_bound() < max_size {
-            if !self.settle(kind, pending, payload)? {
+            if !self.settle(kind, pending, payload, counters)? {
                 break;
             }
         }
@@ -334,29 +358,62 @@ impl StreamsState {
         &mut self,
         pending: &mut Retransmits,
         payload: &mut ControlPayload,
+        counters: &mut FrameStats,
         max_size: usize,
     ) -> Result<(), OutOfMemory>
-        ensures writes { WritesKinds max_size control_order (record { end = shown self.old; pending = listed pending.old; sheet = sheet_of payload.old }) result (record { end = shown self.new; pending = listed pending.new; sheet = sheet_of payload.new }) }
-        ensures refused { OnErr result (LeavesKind max_size (record { end = shown self.new; pending = listed pending.new; sheet = sheet_of payload.new })) }
+        ensures writes { WritesKinds max_size control_order (record { end = shown self.old; pending = listed pending.old; sheet = sheet_of payload.old counters.old }) result (record { end = shown self.new; pending = listed pending.new; sheet = sheet_of payload.new counters.new }) }
+        ensures refused { OnErr result (LeavesKind max_size (record { end = shown self.new; pending = listed pending.new; sheet = sheet_of payload.new counters.new })) }
     {
-        self.write_kind(&ControlKind::ResetStream, pending, payload, max_size)?;
-        self.write_kind(&ControlKind::StopSending, pending, payload, max_size)?;
-        self.write_kind(&ControlKind::MaxData, pending, payload, max_size)?;
-        self.write_kind(&ControlKind::MaxStreamData, pending, payload, max_size)?;
+        self.write_kind(
+            &ControlKind::ResetStream,
+            pending,
+            payload,
+            counters,
+            max_size,
+        )?;
+        self.write_kind(
+            &ControlKind::StopSending,
+            pending,
+            payload,
+            counters,
+            max_size,
+        )?;
+        self.write_kind(&ControlKind::MaxData, pending, payload, counters, max_size)?;
+        self.write_kind(
+            &ControlKind::MaxStreamData,
+            pending,
+            payload,
+            counters,
+            max_size,
+        )?;
         self.write_kind(
             &ControlKind::MaxStreams(Dir::Bi),
             pending,
             payload,
+            counters,
             max_size,
         )?;
         self.write_kind(
             &ControlKind::MaxStreams(Dir::Uni),
             pending,
             payload,
+            counters,
             max_size,
         )?;
-        self.write_kind(&ControlKind::DataBlocked, pending, payload, max_size)?;
-        self.write_kind(&ControlKind::StreamDataBlocked, pending, payload, max_size)?;
+        self.write_kind(
+            &ControlKind::DataBlocked,
+            pending,
+            payload,
+            counters,
+            max_size,
+        )?;
+        self.write_kind(
+            &ControlKind::StreamDataBlocked,
+            pending,
+            payload,
+            counters,
+            max_size,
+        )?;
         Ok(())
     }
 }

@@ -12,22 +12,25 @@ use quic_values::OutOfMemory;
 use quic_wire::Frame;
 use quic_wire::frame::ResetStream;
 
-// A payload, what was noted of its frames, and how many there were.
+// A payload, and what was noted of its frames.
 #[derive(Drop)]
 pub(crate) struct ControlPayload {
     pub(crate) bytes: Vec<u8>,
     pub(crate) sent: ThinRetransmits,
-    pub(crate) stats: FrameStats,
 }
 
 impl ControlPayload {
-    // Appends a frame. A refusal changes nothing.
+    // Appends a frame, and counts it. A refusal changes nothing.
     #[inline(always)]
-    pub(crate) fn append(&mut self, frame: &Frame) -> Result<(), OutOfMemory>
+    pub(crate) fn append(
+        &mut self,
+        frame: &Frame,
+        counters: &mut FrameStats,
+    ) -> Result<(), OutOfMemory>
         requires kind { CanEncode frame.now }
         requires short { size_bound frame.now ≤ ResetStream.SIZE_BOUND }
-        ensures ok { OnOk result (sheet_of self.new ≡ with_frame_written (sheet_of self.old) frame.now) }
-        ensures err { OnErr result (sheet_of self.new ≡ sheet_of self.old) }
+        ensures ok { OnOk result (sheet_of self.new counters.new ≡ with_frame_written (sheet_of self.old counters.old) frame.now) }
+        ensures err { OnErr result (sheet_of self.new counters.new ≡ sheet_of self.old counters.old) }
         ensures fits { OnOk result (FitsIn (size_bound frame.now) frame.now) }
     {
         self.bytes.reserve(ResetStream::SIZE_BOUND)?;
@@ -36,24 +39,25 @@ impl ControlPayload {
             Ok(()) => {}
             Err(_) => unreachable!(),
         }
-        self.stats.record(frame);
+        counters.record(frame);
         Ok(())
     }
 
-    // Appends a frame of a kind, if there is one. A refusal changes nothing.
+    // Appends a frame of a kind, and counts it, if there is one. A refusal changes nothing.
     #[inline(always)]
     pub(crate) fn append_if(
         &mut self,
         kind: &ControlKind,
         frame: Option<Frame>,
+        counters: &mut FrameStats,
     ) -> Result<(), OutOfMemory>
         requires { IfSome frame (IsOfKind kind.now) }
-        ensures ok { OnOk result (sheet_of self.new ≡ with_frame_written_if (sheet_of self.old) frame) }
-        ensures err { OnErr result (sheet_of self.new ≡ sheet_of self.old) }
+        ensures ok { OnOk result (sheet_of self.new counters.new ≡ with_frame_written_if (sheet_of self.old counters.old) frame) }
+        ensures err { OnErr result (sheet_of self.new counters.new ≡ sheet_of self.old counters.old) }
         ensures fits { OnOk result (IfSome frame (FitsIn (kind_bound kind.now))) }
     {
         match frame {
-            Some(frame) => self.append(&frame),
+            Some(frame) => self.append(&frame, counters),
             None => Ok(()),
         }
     }
