@@ -1,6 +1,7 @@
 -- What was written and read so far, as lines are answered.
 use Rattle.std.proofs.Common.{◌≡◌, ℕ, ◌+◌, ◌<◌, List, [], ◌∷◌, ◌++◌, Option, Some, None, length, refl, sym, ap, ◌∙◌, subst, arith, append_assoc, append-nil}
-use Rattle.std.specs.Prelude.{IfSome}
+use Rattle.std.specs.Prelude.{IfSome, IfErr, Result, Ok, Err}
+use Rattle.std.specs.Result.{IsErrAnd}
 use Rattle.std.specs.Str.{IsAscii}
 use Rattle.std.specs.declared.io.BufReader.{BufReader}
 use Rattle.std.specs.Io.Buffered.{reader_inner, reader_buffer, reader_capacity, reader_remaining}
@@ -10,7 +11,9 @@ use Rattle.streampair.specs.declared.session.Session.{Session}
 use Rattle.streampair.specs.declared.session.Session.TheVariants.{Start}
 use Rattle.streampair.specs.declared.session.Stop.{Stop}
 use Rattle.streampair.specs.declared.session.Stop.TheVariants.{Malformed, NoPair, Failed}
-use Rattle.streampair.specs.Session.{Answers, AnswersLine, StopsWith, MeansNothing, Serves, begin, line, IsServed, StopsAt, IsMalformed, malformed_line}
+use Rattle.quic_lines.specs.declared.lines.LineError.{LineError}
+use Rattle.quic_lines.specs.declared.lines.LineError.TheVariants as lines
+use Rattle.streampair.specs.Session.{Answers, AnswersLine, StopsWith, MeansNothing, Serves, begin, line, IsServed, StopsAt, IsMalformed, malformed_line, stop_of}
 
 -- one write after the other
 pub Appends-join : (a b c : Option (List ℕ)) (xs ys : List ℕ) → Appends a b xs → Appends b c ys → Appends a c (xs ++ ys)
@@ -174,3 +177,13 @@ IsMalformed-unknown (Some all) old new h = record {
   number = h.number;
   served = record { lines = h.served.lines; text = h.served.text; session = h.served.session; rest = h.served.rest; serves = h.served.serves; some = h.served.some; nothing = h.served.nothing; number_is = h.served.number_is; writes = tt };
 }
+
+-- a line that is not taken stops the session
+pub not_taken : (number : ℕ) (session : Session) (text : List ℕ) (out : Option (List ℕ)) (error : LineError) → (error ≡ lines.Malformed → MeansNothing session text) → StopsWith number session text out out (stop_of error number)
+not_taken number session text out lines.Malformed none = (refl, refl, none refl)
+not_taken number session text out lines.OutOfMemory none = tt
+
+-- where a write fails nothing is promised
+pub gives_up : {T : Type 0} (r : Result T Stop) (number : ℕ) (session : Session) (text : List ℕ) (old new : Option (List ℕ)) → IsErrAnd r (λ stop. stop ≡ Failed) → IfErr r (StopsWith number session text old new)
+gives_up (Ok x) number session text old new failed = tt
+gives_up (Err stop) number session text old new failed = rw failed tt
