@@ -1,6 +1,6 @@
 //! Stream ids in a table of their own.
 
-ghost use Rattle.std.specs.Prelude.{◌≡◌, ◌+◌, ◌<◌, ◌≤◌, ◌^◌, ◌==◌, ℕ, true, false, if◌then◌else◌, OnOk, IfSome, IfNone, IsTrue, ◌↔◌};
+ghost use Rattle.std.specs.Prelude.{◌≡◌, ◌+◌, ◌<◌, ◌≤◌, ◌^◌, ◌==◌, ℕ, true, false, if◌then◌else◌, OnOk, IsOk, IfSome, IfNone, IsTrue, ◌↔◌};
 ghost use Rattle.std.specs.HashSet.{contains, hash_set_len};
 ghost use Rattle.quic_retransmits.specs.Ids.{is_in_table, table_count, table_room};
 ghost use Rattle.quic_retransmits.specs.Settling.{IsSomeIn};
@@ -73,6 +73,7 @@ impl IdTable {
     pub(crate) fn reserve(&mut self, additional: usize) -> Result<(), OutOfMemory>
         ensures same { (id : ℕ) → is_in_table self.new id ≡ is_in_table self.old id }
         ensures ok { OnOk result (additional ≤ table_room self.new) }
+        ensures roomy { 1 ≤ additional → additional ≤ table_room self.old → IsOk result }
     {
         match &mut self.table {
             Some(table) => table.reserve(additional)?,

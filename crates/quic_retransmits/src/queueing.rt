@@ -1,6 +1,6 @@
 //! What reads, stops, writes and resets queue to be sent.
 
-ghost use Rattle.std.specs.Prelude.{◌≡◌, ◌≤◌, ◌||◌, ℕ, true, OnOk};
+ghost use Rattle.std.specs.Prelude.{◌≡◌, ◌≤◌, ◌||◌, ℕ, true, OnOk, IsOk};
 ghost use Rattle.quic_retransmits.specs.Pending.{shown_pending};
 ghost use Rattle.quic_retransmits.specs.Queueing.{with_id, with_stop_sending, with_reset_stream};
 ghost use Rattle.quic_retransmits.specs.Queueing.{window_rooms, stop_rooms, blocked_rooms, reset_rooms};
@@ -14,6 +14,7 @@ impl Retransmits {
     pub fn reserve_window(&mut self, id: StreamId) -> Result<(), OutOfMemory>
         ensures same { shown_pending self.new ≡ shown_pending self.old }
         ensures ok { OnOk result (1 ≤ window_rooms self.new id) }
+        ensures roomy { 1 ≤ window_rooms self.old id → IsOk result }
     {
         self.max_stream_data.reserve_for(id)
     }
@@ -41,6 +42,7 @@ impl Retransmits {
     pub fn reserve_stop(&mut self) -> Result<(), OutOfMemory>
         ensures same { shown_pending self.new ≡ shown_pending self.old }
         ensures ok { OnOk result (1 ≤ stop_rooms self.new) }
+        ensures roomy { 1 ≤ stop_rooms self.old → IsOk result }
     {
         self.stop_sending.reserve(1)?;
         Ok(())
@@ -68,6 +70,7 @@ impl Retransmits {
     pub fn reserve_stream_blocked(&mut self, id: StreamId) -> Result<(), OutOfMemory>
         ensures same { shown_pending self.new ≡ shown_pending self.old }
         ensures ok { OnOk result (1 ≤ blocked_rooms self.new id) }
+        ensures roomy { 1 ≤ blocked_rooms self.old id → IsOk result }
     {
         self.stream_data_blocked.reserve_for(id)
     }
@@ -86,6 +89,7 @@ impl Retransmits {
     pub fn reserve_reset(&mut self) -> Result<(), OutOfMemory>
         ensures same { shown_pending self.new ≡ shown_pending self.old }
         ensures ok { OnOk result (1 ≤ reset_rooms self.new) }
+        ensures roomy { 1 ≤ reset_rooms self.old → IsOk result }
     {
         self.reset_stream.reserve(1)?;
         Ok(())

@@ -1,6 +1,6 @@
 //! Sets of stream ids, of which one has a place of its own.
 
-ghost use Rattle.std.specs.Prelude.{◌≡◌, ◌+◌, ◌<◌, ◌≤◌, ◌==◌, ◌||◌, not, true, false, OnOk, OnErr, IfOk, IsTrue, ◌↔◌};
+ghost use Rattle.std.specs.Prelude.{◌≡◌, ◌+◌, ◌<◌, ◌≤◌, ◌==◌, ◌||◌, not, true, false, OnOk, OnErr, IfOk, IsOk, IsTrue, ◌↔◌};
 ghost use Rattle.std.specs.HashSet.{contains, hash_set_len};
 ghost use Rattle.quic_retransmits.specs.Ids.{has_own_place, own_entries, is_in_ids, id_count, id_entries, id_rooms, id_places};
 ghost use Rattle.quic_retransmits.specs.Queueing.{with_id};
@@ -104,8 +104,9 @@ impl StreamIds {
     pub(crate) fn reserve_for(&mut self, id: StreamId) -> Result<(), OutOfMemory>
         ensures same { is_in_ids self.new ≡ is_in_ids self.old }
         ensures ok { OnOk result (1 ≤ id_places self.new id) }
+        ensures roomy { 1 ≤ id_places self.old id → IsOk result }
     {
-        if self.first.is_some() && !self.stands_first(id) {
+        if self.first.is_some() && !self.contains(id) {
             self.others.reserve(1)?;
         }
         Ok(())
@@ -125,10 +126,12 @@ impl StreamIds {
         }
     }
 
-    /// Puts an id in, and says whether it is new. A refusal changes nothing.
+    /// Puts an id in, and says whether it is new. It is refused only where no place is left for it, and then nothing
+    /// changes.
     pub fn insert(&mut self, id: StreamId) -> Result<bool, OutOfMemory>
         ensures ok { OnOk result (is_in_ids self.new ≡ with_id (is_in_ids self.old) id true) }
         ensures added { IfOk result (λ added. added ≡ not (is_in_ids self.old id)) }
+        ensures roomy { 1 ≤ id_places self.old id → IsOk result }
         ensures err { OnErr result (is_in_ids self.new ≡ is_in_ids self.old) }
     {
         let added = !self.contains(id);

@@ -1,10 +1,11 @@
 //! Sending on one stream: written bytes until they are acknowledged.
 #![tactic(auto)]
 
-mod lost_set;
+mod lowest_apart;
 mod outcomes;
 mod piece_queue;
 mod recent_set;
+mod runs;
 pub mod send;
 pub mod send_buffer;
 pub mod source;

@@ -3,12 +3,16 @@ ghost use Rattle.quic_values.specs.Runs.{Run, contains, lies_in};
 ghost use Rattle.quic_sending.specs.Ranges.{IsLowestRun};
 ghost use Rattle.quic_sending.specs.Outcomes.{Answered, is_answered, minus, IsLowestOrNone};
 
-use crate::lost_set::LostSet;
+use crate::lowest_apart::LowestApart;
 use crate::recent_set::RecentSet;
-use quic_values::OutOfMemory;
+use crate::runs::Runs;
+use quic_values::{OutOfMemory, RangeSet};
 use std::alloc::Global;
 use std::marker::Model;
 use std::ops::Range;
+
+/// A set of offsets, the two lowest runs of which take no memory.
+type LostSet = LowestApart<LowestApart<RangeSet>>;
 
 /// What became of the offsets that were sent: which are acknowledged, and which are lost. Each call changes one set,
 /// so that want of memory changes nothing.
@@ -48,7 +52,7 @@ impl Outcomes {
         Outcomes {
             prefix,
             later: RecentSet::new(alloc),
-            called_lost: LostSet::new(alloc),
+            called_lost: LostSet::empty(alloc),
             next_lost: 0..0,
         }
     }
@@ -90,7 +94,7 @@ impl Outcomes {
         if start >= range.end {
             return Ok(());
         }
-        self.called_lost.insert(start..range.end)?;
+        self.called_lost.add(start..range.end)?;
         if self.next_lost.start < self.next_lost.end && self.next_lost.end < start {
             return Ok(());
         }
@@ -102,11 +106,12 @@ impl Outcomes {
     pub(crate) fn lose_nothing(&mut self, alloc: Global)
         ensures { self.new ≡ record self.old { lost = [] } }
     {
-        self.called_lost = LostSet::new(alloc);
+        self.called_lost = LostSet::empty(alloc);
         self.next_lost = 0..0;
     }
 
     /// The front of the lowest lost range up to an offset is sent again. Takes no memory.
+    #[inline]
     pub(crate) fn resend(&mut self, range: Range<u64>)
         requires front { (limit : ℕ) × IsLowestRun self.old.lost range.start limit × (range.end ≤ limit) }
         ensures lost { (n : ℕ) → contains self.new.lost n ≡ (contains self.old.lost n && not (lies_in range n)) }
@@ -144,18 +149,19 @@ impl Outcomes {
 
 // The lowest range of offsets that were called lost and are not acknowledged, or an empty one. The runs before it are
 // let go.
+#[inline]
 fn first_lost(called_lost: &mut LostSet, later: &RecentSet, prefix: u64) -> Range<u64>
     ensures same { (n : ℕ) →
         contains (minus called_lost.new ((0, prefix) ∷ later.now)) n
         ≡ contains (minus called_lost.old ((0, prefix) ∷ later.now)) n }
     ensures lowest { IsLowestOrNone (minus called_lost.new ((0, prefix) ∷ later.now)) result }
 {
-    while let Some(run) = called_lost.peek_min() {
+    while let Some(run) = called_lost.lowest() {
         let gap = later.first_gap(run.start.max(prefix)..run.end);
         if gap.start < gap.end {
             return gap;
         }
-        called_lost.pop_min();
+        called_lost.pop_lowest();
     }
     0..0
 }

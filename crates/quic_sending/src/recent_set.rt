@@ -2,6 +2,8 @@ ghost use Rattle.std.specs.Prelude.{◌≡◌, ◌≤◌, ◌<◌, ◌++◌, ◌
 ghost use Rattle.quic_values.specs.Runs.{contains, lies_in, range_of};
 ghost use Rattle.quic_sending.specs.Outcomes.{IsGap, Joins};
 
+use crate::lowest_apart::LowestApart;
+use crate::runs::Runs;
 use quic_values::{OutOfMemory, RangeSet};
 use std::alloc::Global;
 use std::marker::Model;
@@ -13,7 +15,7 @@ use std::ops::Range;
 pub(crate) struct RecentSet {
     // The run that grew last. It may touch others. It has no numbers only where the set has none.
     recent: Range<u64>,
-    others: RangeSet,
+    others: LowestApart<RangeSet>,
 }
 
 impl Model for RecentSet {
@@ -36,7 +38,7 @@ impl RecentSet {
     {
         RecentSet {
             recent: 0..0,
-            others: RangeSet::new(alloc),
+            others: LowestApart::empty(alloc),
         }
     }
 
@@ -58,11 +60,13 @@ impl RecentSet {
         ensures err { OnErr result (self.new ≡ self.old) }
     {
         let (start, end) = (self.recent.start, self.recent.end);
-        if start < end && range.start <= end && start <= range.end {
-            self.recent = range.start.min(start)..range.end.max(end);
-            return Ok(());
+        if start < end {
+            if range.start <= end && start <= range.end {
+                self.recent = range.start.min(start)..range.end.max(end);
+                return Ok(());
+            }
+            self.others.add(start..end)?;
         }
-        self.others.insert(start..end)?;
         self.recent = range;
         Ok(())
     }
@@ -76,12 +80,12 @@ impl RecentSet {
         if start >= end {
             return low;
         }
-        let reached = join_runs(&mut self.others, low);
+        let reached = self.others.join(low);
         if start > reached {
             return reached;
         }
-        let reached = join_runs(&mut self.others, reached.max(end));
-        self.recent = self.others.pop_min().unwrap_or(0..0);
+        let reached = self.others.join(reached.max(end));
+        self.recent = self.others.pop_lowest().unwrap_or(0..0);
         reached
     }
 
@@ -102,40 +106,19 @@ impl RecentSet {
 }
 
 // The lowest part of a range that is not in a set, or an empty range.
-fn gap_of(set: &RangeSet, start: u64, end: u64) -> Range<u64>
+fn gap_of(set: &LowestApart<RangeSet>, start: u64, end: u64) -> Range<u64>
     ensures { IsGap set.now (range_of (start, end)) result }
 {
-    if set.is_empty() {
-        return start..end;
-    }
     let mut at = start;
-    let mut next = set.run_from(at);
+    let mut next = set.from(at);
     if let Some(run) = &next
         && run.start == at
     {
         at = run.end;
-        next = set.run_from(at);
+        next = set.from(at);
     }
     match next {
         Some(run) => at..run.start.min(end),
         None => at..end,
     }
-}
-
-/// Takes out the runs that touch the numbers below one. The answer is up to where there are no gaps with them.
-#[inline]
-pub(crate) fn join_runs(set: &mut RangeSet, low: u64) -> u64
-    ensures { Joins low result set.old set.new }
-{
-    let mut reached = 0;
-    while let Some(start) = set.min() {
-        if start > low.max(reached) {
-            break;
-        }
-        let Some(run) = set.pop_min() else {
-            break;
-        };
-        reached = run.end;
-    }
-    low.max(reached)
 }

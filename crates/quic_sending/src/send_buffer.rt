@@ -318,7 +318,7 @@ impl SendBuffer {
     }
 
     /// A front of the range that is to be sent next was sent, and is not lost any more.
-    #[inline]
+    #[inline(always)]
     pub fn mark_sent(&mut self, range: Range<u64>)
         requires { IsFrontOfNext self.old range.start range.end }
         ensures lost { (n : ℕ) → is_lost self.new n ≡ (is_lost self.old n && not (lies_in range n)) }

@@ -7,7 +7,7 @@ returns-then-gap-clause-lowest c = IsLowest-gap c.loop-run.called_lost c.args.la
 
 pub loop-run-preserved : goal.loop-run-preserved
 loop-run-preserved c =
-    let step = minus-pop_min c.pop_min.result c.loop-run.called_lost c.pop_min.new.self c.args.later.now c.args.prefix c.in-Some.run' _ c.first_gap-gap.result c.in-Some.ensures.run c.in-Some.ensures.lowest c.pop_min.ensures.run c.pop_min.ensures.lowest c.pop_min.ensures.others c.pop_min.ensures.none (search rules) (search rules) c.first_gap-gap.ensures (omega arith) in
+    let step = minus-pop_min c.pop_lowest.result c.loop-run.called_lost c.pop_lowest.new.self c.args.later.now c.args.prefix c.in-Some.run' _ c.first_gap-gap.result c.in-Some.ensures.run c.in-Some.ensures.lowest c.pop_lowest.ensures.run c.pop_lowest.ensures.lowest c.pop_lowest.ensures.others c.pop_lowest.ensures.none (search rules) (search rules) c.first_gap-gap.ensures (omega arith) in
     λ n. step.1 n ∙ c.loop-run.invariant n
 
 pub returns-clause-lowest : goal.returns-clause-lowest

@@ -1,12 +1,12 @@
 use Rattle.std.proofs.Common.{◌≡◌, ℕ, ◌-◌, ◌^◌, ◌<◌, ◌||◌, max, nat_lt, false}
 use Rattle.quic_values.specs.Runs.{contains}
-use Rattle.quic_sending.proofs.recent_set.join_runs.Given as goal
+use Rattle.quic_sending.proofs.runs.RangeSetRuns.join.Given as goal
 
 abbrev pub invariant-loop-start : goal.invariant-loop-start
 invariant-loop-start l =
     record {
-      below : (n : ℕ) → n < l.reached → contains l.set n ≡ false;
-      same : (n : ℕ) → (nat_lt n (max l.low l.reached) || contains l.set n) ≡ (nat_lt n l.low || contains l.initial.set n);
+      below : (n : ℕ) → n < l.reached → contains l.self n ≡ false;
+      same : (n : ℕ) → (nat_lt n (max l.low l.reached) || contains l.self n) ≡ (nat_lt n l.low || contains l.initial.self n);
     }
 
 abbrev pub decreases-loop-start : goal.decreases-loop-start
