@@ -7,3 +7,4 @@ pub mod Payload
 pub mod Transmitting
 pub mod Waiting
 pub mod InPlace
+pub mod HalfReads

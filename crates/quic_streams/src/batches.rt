@@ -1,20 +1,19 @@
 //! Several reads of a stream in one call.
 
-ghost use Rattle.std.specs.Prelude.{ℕ, List, [], ◌∷◌, ◌≡◌, ◌≤◌, ◌<◌, ◌+◌, true, length, vec_len, Ok, Err, Some, IfOk, IfErr};
-ghost use Rattle.std.specs.Vec.{vec_capacity};
-ghost use Rattle.quic_history.specs.World.{World, Made};
+ghost use Rattle.std.specs.Prelude.{List, ◌∷◌, ◌≡◌, ◌≤◌, true, false, Err, IfOk, IfErr};
+ghost use Rattle.quic_history.specs.World.{Made, with_freed};
 ghost use Rattle.quic_history.specs.History.{Event, Began, From, with_reads};
-ghost use Rattle.quic_history.specs.Reading.{Begins, GivesChunks, LastReads, IsCountOf, ReadsSome, bytes_in, is_reading, needed, progress_of};
+ghost use Rattle.quic_history.specs.Reading.{Begins, ReadsSome, is_ended, progress_of};
 ghost use Rattle.quic_retransmits.specs.Pending.{shown_pending as listed};
 ghost use Rattle.quic_streams.specs.Room.{rooms};
 ghost use Rattle.quic_streams.specs.Shown.{shown};
 
-use crate::reading::finish;
+use crate::reading::give_credit;
 use crate::recv_stream::RecvStream;
 use crate::state::StreamsState;
 use quic_assembler::Chunk;
-use quic_history::progress::{LastAnswer, Progress};
-use quic_receiving::{ReadError, ReadableError, ShouldTransmit};
+use quic_history::progress::LastAnswer;
+use quic_receiving::{ReadableError, ShouldTransmit};
 use quic_retransmits::Retransmits;
 use quic_values::StreamId;
 use std::alloc::Global;
@@ -97,52 +96,40 @@ impl StreamsState {
         ensures refused { IfErr result (λ error. Begins (shown self.old) id ordered (Err error) (shown self.new)) }
         ensures refused_pending { IfErr result (λ error. listed pending.new ≡ listed pending.old) }
     {
-        let mut room = list;
-        room.clear();
-        if room.reserve(times as usize).is_err() {
+        let mut chunks = list;
+        chunks.clear();
+        if chunks.reserve(times as usize).is_err() {
             return Err(ReadableError::OutOfMemory);
         }
-        self.begin(pending, id, ordered)?;
-        let (chunks, last, read) = self.read_chunks(id, ordered, max_length, times, room);
-        let transmit = finish(self, pending, id, last.progress(), read);
-        Ok(ReadSome {
-            chunks,
-            last,
-            transmit,
-        })
+        if pending.reserve_window(id).is_err() {
+            return Err(ReadableError::OutOfMemory);
+        }
+        if self.make_stream_room().is_err() {
+            return Err(ReadableError::OutOfMemory);
+        }
+        match self.read_some_in_place(id, ordered, max_length, times, chunks) {
+            Ok(reads) => {
+                self.free_if_ended(id, &reads.last);
+                let transmit = give_credit(self, pending, id, reads.window_due, reads.read);
+                Ok(ReadSome {
+                    chunks: reads.chunks,
+                    last: reads.last,
+                    transmit,
+                })
+            }
+            Err(error) => Err(error),
+        }
     }
 
-    // Reads a stream that was opened, until nothing more comes or so many chunks were given, for which there is room.
-    // Answers them, why they are no more, and how many bytes they have.
-    fn read_chunks(
-        &mut self,
-        id: StreamId,
-        ordered: bool,
-        max_length: usize,
-        times: u16,
-        room: Vec<Chunk>,
-    ) -> (Vec<Chunk>, LastAnswer, u64)
-        requires reading { is_reading Progress.Readable ((shown self.old).receive id) ordered 0 ≡ true }
-        requires rooms { 1 ≤ rooms self.old }
-        requires empty { room.items ≡ [] }
-        requires places { times ≤ vec_capacity room }
-        ensures reads { (read : World) × GivesChunks (shown self.old) id max_length ordered result.0.items read × LastReads read id max_length ordered result.1 (shown self.new) }
-        ensures count { IsCountOf times result.1 (length result.0.items) }
-        ensures bytes { result.2 ≡ bytes_in result.0.items }
-        ensures rooms { needed (progress_of result.1) ≤ rooms self.new }
+    // The half of a stream is freed where nothing more comes on it. There is room for a stream in its place.
+    #[inline]
+    fn free_if_ended(&mut self, id: StreamId, last: &LastAnswer)
+        requires { 1 ≤ rooms self.old }
+        ensures ended { is_ended (progress_of last.now) ≡ true → shown self.new ≡ with_freed (shown self.old) id }
+        ensures going { is_ended (progress_of last.now) ≡ false → shown self.new ≡ shown self.old }
     {
-        let mut chunks = room;
-        let mut read: u64 = 0;
-        for _index in 0..times {
-            match self.read_half(id, max_length, ordered, read) {
-                Ok(Some(chunk)) => {
-                    read += chunk.bytes.len() as u64;
-                    chunks.push_reserved(chunk);
-                }
-                Ok(None) => return (chunks, LastAnswer::Ended, read),
-                Err(error) => return (chunks, LastAnswer::of_error(error), read),
-            }
+        if last.progress().is_ended() {
+            self.free_receive(id);
         }
-        (chunks, LastAnswer::More, read)
     }
 }

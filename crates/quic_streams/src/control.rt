@@ -24,7 +24,7 @@ impl StreamsState {
     /// Appends the frames of `pending` to a payload that is to have at most `max_size` bytes (RFC 9000 section 19):
     /// RESET_STREAM, STOP_SENDING, MAX_DATA, MAX_STREAM_DATA, MAX_STREAMS of both directions, DATA_BLOCKED and
     /// STREAM_DATA_BLOCKED, in this order, each kind while its longest frame ends below `max_size`. What is written is
-    /// noted in `sent` and counted in `counters`. Limits are those that are enforced now. What is of no use any more is
+    /// noted in `sent` and counted in `stats`. Limits are those that are enforced now. What is of no use any more is
     /// dropped: RESET_STREAM of a freed half, MAX_STREAM_DATA where no more data can come or are wanted, and the BLOCKED
     /// frames of a limit that is not held any more.
     ///
@@ -35,16 +35,16 @@ impl StreamsState {
         buf: &mut Vec<u8>,
         pending: &mut Retransmits,
         sent: &mut ThinRetransmits,
-        counters: &mut FrameStats,
+        stats: &mut FrameStats,
         max_size: usize,
     ) -> Result<(), OutOfMemory>
-        ensures writes { WritesKinds max_size control_order (place_of self.old pending.old buf.old sent.old counters.old) result (place_of self.new pending.new buf.new sent.new counters.new) }
-        ensures full { OnOk result ((kind : ControlKind) → IsKindDone kind max_size (place_of self.new pending.new buf.new sent.new counters.new)) }
-        ensures refused { OnErr result (LeavesKind max_size (place_of self.new pending.new buf.new sent.new counters.new)) }
+        ensures writes { WritesKinds max_size control_order (place_of self.old pending.old buf.old sent.old stats.old) result (place_of self.new pending.new buf.new sent.new stats.new) }
+        ensures full { OnOk result ((kind : ControlKind) → IsKindDone kind max_size (place_of self.new pending.new buf.new sent.new stats.new)) }
+        ensures refused { OnErr result (LeavesKind max_size (place_of self.new pending.new buf.new sent.new stats.new)) }
         ensures within { length buf.old.items ≤ max_size → length buf.new.items ≤ max_size }
-        ensures from { WritesEntries (place_of self.old pending.old buf.old sent.old counters.old).sheet (place_of self.new pending.new buf.new sent.new counters.new).sheet (shown self.old) (shown self.new) }
+        ensures from { WritesEntries (place_of self.old pending.old buf.old sent.old stats.old).sheet (place_of self.new pending.new buf.new sent.new stats.new).sheet (shown self.old) (shown self.new) }
     {
-        self.write_control(buf, pending, sent, counters, max_size)
+        self.write_control(buf, pending, sent, stats, max_size)
     }
 
     // The same, by its exact step.
@@ -53,11 +53,11 @@ impl StreamsState {
         buf: &mut Vec<u8>,
         pending: &mut Retransmits,
         sent: &mut ThinRetransmits,
-        counters: &mut FrameStats,
+        stats: &mut FrameStats,
         max_size: usize,
     ) -> Result<(), OutOfMemory>
-        ensures writes { WritesKinds max_size control_order (place_of self.old pending.old buf.old sent.old counters.old) result (place_of self.new pending.new buf.new sent.new counters.new) }
-        ensures refused { OnErr result (LeavesKind max_size (place_of self.new pending.new buf.new sent.new counters.new)) }
+        ensures writes { WritesKinds max_size control_order (place_of self.old pending.old buf.old sent.old stats.old) result (place_of self.new pending.new buf.new sent.new stats.new) }
+        ensures refused { OnErr result (LeavesKind max_size (place_of self.new pending.new buf.new sent.new stats.new)) }
     {
         if !has_control(pending) {
             return Ok(());
@@ -67,7 +67,7 @@ impl StreamsState {
             bytes: mem::replace(buf, Vec::new(alloc)),
             sent: mem::replace(sent, ThinRetransmits::new(alloc)),
         };
-        let result = self.write_kinds(pending, &mut payload, counters, max_size);
+        let result = self.write_kinds(pending, &mut payload, stats, max_size);
         *buf = payload.bytes;
         *sent = payload.sent;
         result
@@ -146,9 +146,9 @@ impl StreamsState {
         &mut self,
         pending: &mut Retransmits,
         payload: &mut ControlPayload,
-        counters: &mut FrameStats,
+        stats: &mut FrameStats,
     ) -> Result<bool, OutOfMemory>
-        ensures tries { Tries ControlKind.ResetStream (record { end = shown self.old; pending = listed pending.old; sheet = sheet_of payload.old counters.old }) result (record { end = shown self.new; pending = listed pending.new; sheet = sheet_of payload.new counters.new }) }
+        ensures tries { Tries ControlKind.ResetStream (record { end = shown self.old; pending = listed pending.old; sheet = sheet_of payload.old stats.old }) result (record { end = shown self.new; pending = listed pending.new; sheet = sheet_of payload.new stats.new }) }
         ensures fewer { IfOk result (λ some. some ≡ true → entry_count pending.new < entry_count pending.old) }
         ensures wanted { OnErr result (HasNoneOf ControlKind.ResetStream (listed pending.old) → ⊥) }
     {
@@ -158,7 +158,7 @@ impl StreamsState {
         payload.append_if(
             &ControlKind::ResetStream,
             self.reset_frame(id, error_code),
-            counters,
+            stats,
         )?;
         pending.settle_reset();
         Ok(true)
@@ -170,9 +170,9 @@ impl StreamsState {
         &mut self,
         pending: &mut Retransmits,
         payload: &mut ControlPayload,
-        counters: &mut FrameStats,
+        stats: &mut FrameStats,
     ) -> Result<bool, OutOfMemory>
-        ensures tries { Tries ControlKind.StopSending (record { end = shown self.old; pending = listed pending.old; sheet = sheet_of payload.old counters.old }) result (record { end = shown self.new; pending = listed pending.new; sheet = sheet_of payload.new counters.new }) }
+        ensures tries { Tries ControlKind.StopSending (record { end = shown self.old; pending = listed pending.old; sheet = sheet_of payload.old stats.old }) result (record { end = shown self.new; pending = listed pending.new; sheet = sheet_of payload.new stats.new }) }
         ensures fewer { IfOk result (λ some. some ≡ true → entry_count pending.new < entry_count pending.old) }
         ensures wanted { OnErr result (HasNoneOf ControlKind.StopSending (listed pending.old) → ⊥) }
     {
@@ -182,7 +182,7 @@ impl StreamsState {
         payload.append_if(
             &ControlKind::StopSending,
             Some(Frame::StopSending(stop)),
-            counters,
+            stats,
         )?;
         pending.settle_stop();
         Ok(true)
@@ -194,9 +194,9 @@ impl StreamsState {
         &mut self,
         pending: &mut Retransmits,
         payload: &mut ControlPayload,
-        counters: &mut FrameStats,
+        stats: &mut FrameStats,
     ) -> Result<bool, OutOfMemory>
-        ensures tries { Tries ControlKind.MaxData (record { end = shown self.old; pending = listed pending.old; sheet = sheet_of payload.old counters.old }) result (record { end = shown self.new; pending = listed pending.new; sheet = sheet_of payload.new counters.new }) }
+        ensures tries { Tries ControlKind.MaxData (record { end = shown self.old; pending = listed pending.old; sheet = sheet_of payload.old stats.old }) result (record { end = shown self.new; pending = listed pending.new; sheet = sheet_of payload.new stats.new }) }
         ensures fewer { IfOk result (λ some. some ≡ true → entry_count pending.new < entry_count pending.old) }
         ensures wanted { OnErr result (HasNoneOf ControlKind.MaxData (listed pending.old) → ⊥) }
     {
@@ -204,7 +204,7 @@ impl StreamsState {
             return Ok(false);
         }
         let limit = self.credit.max_data();
-        payload.append_if(&ControlKind::MaxData, Some(Frame::MaxData(limit)), counters)?;
+        payload.append_if(&ControlKind::MaxData, Some(Frame::MaxData(limit)), stats)?;
         self.credit.announce();
         pending.settle_max_data();
         Ok(true)
@@ -216,16 +216,16 @@ impl StreamsState {
         &mut self,
         pending: &mut Retransmits,
         payload: &mut ControlPayload,
-        counters: &mut FrameStats,
+        stats: &mut FrameStats,
     ) -> Result<bool, OutOfMemory>
-        ensures tries { Tries ControlKind.MaxStreamData (record { end = shown self.old; pending = listed pending.old; sheet = sheet_of payload.old counters.old }) result (record { end = shown self.new; pending = listed pending.new; sheet = sheet_of payload.new counters.new }) }
+        ensures tries { Tries ControlKind.MaxStreamData (record { end = shown self.old; pending = listed pending.old; sheet = sheet_of payload.old stats.old }) result (record { end = shown self.new; pending = listed pending.new; sheet = sheet_of payload.new stats.new }) }
         ensures fewer { IfOk result (λ some. some ≡ true → entry_count pending.new < entry_count pending.old) }
         ensures wanted { OnErr result (HasNoneOf ControlKind.MaxStreamData (listed pending.old) → ⊥) }
     {
         let Some(id) = pending.next_window() else {
             return Ok(false);
         };
-        payload.append_if(&ControlKind::MaxStreamData, self.window_frame(id), counters)?;
+        payload.append_if(&ControlKind::MaxStreamData, self.window_frame(id), stats)?;
         self.receive.announce(id);
         pending.settle_window(id);
         Ok(true)
@@ -237,10 +237,10 @@ impl StreamsState {
         &mut self,
         pending: &mut Retransmits,
         payload: &mut ControlPayload,
-        counters: &mut FrameStats,
+        stats: &mut FrameStats,
         dir: Dir,
     ) -> Result<bool, OutOfMemory>
-        ensures tries { Tries (ControlKind.MaxStreams dir) (record { end = shown self.old; pending = listed pending.old; sheet = sheet_of payload.old counters.old }) result (record { end = shown self.new; pending = listed pending.new; sheet = sheet_of payload.new counters.new }) }
+        ensures tries { Tries (ControlKind.MaxStreams dir) (record { end = shown self.old; pending = listed pending.old; sheet = sheet_of payload.old stats.old }) result (record { end = shown self.new; pending = listed pending.new; sheet = sheet_of payload.new stats.new }) }
         ensures fewer { IfOk result (λ some. some ≡ true → entry_count pending.new < entry_count pending.old) }
         ensures wanted { OnErr result (HasNoneOf (ControlKind.MaxStreams dir) (listed pending.old) → ⊥) }
     {
@@ -249,7 +249,7 @@ impl StreamsState {
         }
         let count = self.max_remote(dir);
         let frame = Frame::MaxStreams { dir, count };
-        payload.append_if(&ControlKind::MaxStreams(dir), Some(frame), counters)?;
+        payload.append_if(&ControlKind::MaxStreams(dir), Some(frame), stats)?;
         self.announce_streams(dir);
         pending.settle_max_streams(dir);
         Ok(true)
@@ -261,20 +261,16 @@ impl StreamsState {
         &mut self,
         pending: &mut Retransmits,
         payload: &mut ControlPayload,
-        counters: &mut FrameStats,
+        stats: &mut FrameStats,
     ) -> Result<bool, OutOfMemory>
-        ensures tries { Tries ControlKind.DataBlocked (record { end = shown self.old; pending = listed pending.old; sheet = sheet_of payload.old counters.old }) result (record { end = shown self.new; pending = listed pending.new; sheet = sheet_of payload.new counters.new }) }
+        ensures tries { Tries ControlKind.DataBlocked (record { end = shown self.old; pending = listed pending.old; sheet = sheet_of payload.old stats.old }) result (record { end = shown self.new; pending = listed pending.new; sheet = sheet_of payload.new stats.new }) }
         ensures fewer { IfOk result (λ some. some ≡ true → entry_count pending.new < entry_count pending.old) }
         ensures wanted { OnErr result (HasNoneOf ControlKind.DataBlocked (listed pending.old) → ⊥) }
     {
         if !pending.data_blocked {
             return Ok(false);
         }
-        payload.append_if(
-            &ControlKind::DataBlocked,
-            self.data_blocked_frame(),
-            counters,
-        )?;
+        payload.append_if(&ControlKind::DataBlocked, self.data_blocked_frame(), stats)?;
         pending.settle_data_blocked();
         Ok(true)
     }
@@ -285,9 +281,9 @@ impl StreamsState {
         &mut self,
         pending: &mut Retransmits,
         payload: &mut ControlPayload,
-        counters: &mut FrameStats,
+        stats: &mut FrameStats,
     ) -> Result<bool, OutOfMemory>
-        ensures tries { Tries ControlKind.StreamDataBlocked (record { end = shown self.old; pending = listed pending.old; sheet = sheet_of payload.old counters.old }) result (record { end = shown self.new; pending = listed pending.new; sheet = sheet_of payload.new counters.new }) }
+        ensures tries { Tries ControlKind.StreamDataBlocked (record { end = shown self.old; pending = listed pending.old; sheet = sheet_of payload.old stats.old }) result (record { end = shown self.new; pending = listed pending.new; sheet = sheet_of payload.new stats.new }) }
         ensures fewer { IfOk result (λ some. some ≡ true → entry_count pending.new < entry_count pending.old) }
         ensures wanted { OnErr result (HasNoneOf ControlKind.StreamDataBlocked (listed pending.old) → ⊥) }
     {
@@ -297,7 +293,7 @@ impl StreamsState {
         payload.append_if(
             &ControlKind::StreamDataBlocked,
             self.stream_blocked_frame(id),
-            counters,
+            stats,
         )?;
         pending.settle_stream_blocked(id);
         Ok(true)
@@ -310,24 +306,20 @@ impl StreamsState {
         kind: &ControlKind,
         pending: &mut Retransmits,
         payload: &mut ControlPayload,
-        counters: &mut FrameStats,
+        stats: &mut FrameStats,
     ) -> Result<bool, OutOfMemory>
-        ensures tries { Tries kind.now (record { end = shown self.old; pending = listed pending.old; sheet = sheet_of payload.old counters.old }) result (record { end = shown self.new; pending = listed pending.new; sheet = sheet_of payload.new counters.new }) }
+        ensures tries { Tries kind.now (record { end = shown self.old; pending = listed pending.old; sheet = sheet_of payload.old stats.old }) result (record { end = shown self.new; pending = listed pending.new; sheet = sheet_of payload.new stats.new }) }
         ensures fewer { IfOk result (λ some. some ≡ true → entry_count pending.new < entry_count pending.old) }
         ensures wanted { OnErr result (HasNoneOf kind.now (listed pending.old) → ⊥) }
     {
         match kind {
-            ControlKind::ResetStream => self.settle_reset(pending, payload, counters),
-            ControlKind::StopSending => self.settle_stop(pending, payload, counters),
-            ControlKind::MaxData => self.settle_max_data(pending, payload, counters),
-            ControlKind::MaxStreamData => self.settle_window(pending, payload, counters),
-            ControlKind::MaxStreams(dir) => self.settle_max_streams(
-                pending, payload, counters, *dir,
-            ),
-            ControlKind::DataBlocked => self.settle_data_blocked(pending, payload, counters),
-            ControlKind::StreamDataBlocked => self.settle_stream_blocked(
-                pending, payload, counters,
-            ),
+            ControlKind::ResetStream => self.settle_reset(pending, payload, stats),
+            ControlKind::StopSending => self.settle_stop(pending, payload, stats),
+            ControlKind::MaxData => self.settle_max_data(pending, payload, stats),
+            ControlKind::MaxStreamData => self.settle_window(pending, payload, stats),
+            ControlKind::MaxStreams(dir) => self.settle_max_streams(pending, payload, stats, *dir),
+            ControlKind::DataBlocked => self.settle_data_blocked(pending, payload, stats),
+            ControlKind::StreamDataBlocked => self.settle_stream_blocked(pending, payload, stats),
         }
     }
 
@@ -338,15 +330,15 @@ impl StreamsState {
         kind: &ControlKind,
         pending: &mut Retransmits,
         payload: &mut ControlPayload,
-        counters: &mut FrameStats,
+        stats: &mut FrameStats,
         max_size: usize,
     ) -> Result<(), OutOfMemory>
-        ensures turns { SettlesSome kind.now max_size (record { end = shown self.old; pending = listed pending.old; sheet = sheet_of payload.old counters.old }) (record { end = shown self.new; pending = listed pending.new; sheet = sheet_of payload.new counters.new }) }
-        ensures done { OnOk result (IsKindDone kind.now max_size (record { end = shown self.new; pending = listed pending.new; sheet = sheet_of payload.new counters.new })) }
-        ensures refused { OnErr result (IsKindDone kind.now max_size (record { end = shown self.new; pending = listed pending.new; sheet = sheet_of payload.new counters.new }) → ⊥) }
+        ensures turns { SettlesSome kind.now max_size (record { end = shown self.old; pending = listed pending.old; sheet = sheet_of payload.old stats.old }) (record { end = shown self.new; pending = listed pending.new; sheet = sheet_of payload.new stats.new }) }
+        ensures done { OnOk result (IsKindDone kind.now max_size (record { end = shown self.new; pending = listed pending.new; sheet = sheet_of payload.new stats.new })) }
+        ensures refused { OnErr result (IsKindDone kind.now max_size (record { end = shown self.new; pending = listed pending.new; sheet = sheet_of payload.new stats.new }) → ⊥) }
     {
         while payload.bytes.len() + kind.size_bound() < max_size {
-            if !self.settle(kind, pending, payload, counters)? {
+            if !self.settle(kind, pending, payload, stats)? {
                 break;
             }
         }
@@ -358,60 +350,42 @@ impl StreamsState {
         &mut self,
         pending: &mut Retransmits,
         payload: &mut ControlPayload,
-        counters: &mut FrameStats,
+        stats: &mut FrameStats,
         max_size: usize,
     ) -> Result<(), OutOfMemory>
-        ensures writes { WritesKinds max_size control_order (record { end = shown self.old; pending = listed pending.old; sheet = sheet_of payload.old counters.old }) result (record { end = shown self.new; pending = listed pending.new; sheet = sheet_of payload.new counters.new }) }
-        ensures refused { OnErr result (LeavesKind max_size (record { end = shown self.new; pending = listed pending.new; sheet = sheet_of payload.new counters.new })) }
+        ensures writes { WritesKinds max_size control_order (record { end = shown self.old; pending = listed pending.old; sheet = sheet_of payload.old stats.old }) result (record { end = shown self.new; pending = listed pending.new; sheet = sheet_of payload.new stats.new }) }
+        ensures refused { OnErr result (LeavesKind max_size (record { end = shown self.new; pending = listed pending.new; sheet = sheet_of payload.new stats.new })) }
     {
-        self.write_kind(
-            &ControlKind::ResetStream,
-            pending,
-            payload,
-            counters,
-            max_size,
-        )?;
-        self.write_kind(
-            &ControlKind::StopSending,
-            pending,
-            payload,
-            counters,
-            max_size,
-        )?;
-        self.write_kind(&ControlKind::MaxData, pending, payload, counters, max_size)?;
+        self.write_kind(&ControlKind::ResetStream, pending, payload, stats, max_size)?;
+        self.write_kind(&ControlKind::StopSending, pending, payload, stats, max_size)?;
+        self.write_kind(&ControlKind::MaxData, pending, payload, stats, max_size)?;
         self.write_kind(
             &ControlKind::MaxStreamData,
             pending,
             payload,
-            counters,
+            stats,
             max_size,
         )?;
         self.write_kind(
             &ControlKind::MaxStreams(Dir::Bi),
             pending,
             payload,
-            counters,
+            stats,
             max_size,
         )?;
         self.write_kind(
             &ControlKind::MaxStreams(Dir::Uni),
             pending,
             payload,
-            counters,
+            stats,
             max_size,
         )?;
-        self.write_kind(
-            &ControlKind::DataBlocked,
-            pending,
-            payload,
-            counters,
-            max_size,
-        )?;
+        self.write_kind(&ControlKind::DataBlocked, pending, payload, stats, max_size)?;
         self.write_kind(
             &ControlKind::StreamDataBlocked,
             pending,
             payload,
-            counters,
+            stats,
             max_size,
         )?;
         Ok(())

@@ -1,18 +1,21 @@
 //! The receive halves of a connection's streams.
 
-ghost use Rattle.std.specs.Prelude.{ℕ, true, ◌≡◌, ◌+◌, ◌<◌, ◌≤◌, length, ◌^◌, Some, None, IsSome, IfSome, IfOk, OnOk, OnErr, is_some, false};
+ghost use Rattle.std.specs.Prelude.{ℕ, [], Err, IfErr, true, ◌≡◌, ◌+◌, ◌<◌, ◌≤◌, length, ◌^◌, Some, None, IsSome, IfSome, IfOk, OnOk, OnErr, is_some, false};
 ghost use Rattle.std.specs.Option.{option_map};
-ghost use Rattle.quic_receiving.specs.Half.{new_half};
+ghost use Rattle.std.specs.Vec.{vec_capacity};
+ghost use Rattle.quic_receiving.specs.Half.{new_half, is_window_due};
 ghost use Rattle.quic_receiving.specs.Calls.{Reads};
 ghost use Rattle.quic_streams.specs.Held.{held, half_in, room};
 ghost use Rattle.quic_streams.specs.InPlace.{mode_of, IsInMode, ReadsIn, AsksHalf, AsksIn, IngestsOn, IngestsIn};
-ghost use Rattle.quic_history.specs.Reading.{is_reading};
+ghost use Rattle.quic_streams.specs.HalfReads.{ReadsSomeIn, is_due_after};
+ghost use Rattle.quic_history.specs.Reading.{is_reading, bytes_in};
 ghost use Rattle.quic_history.specs.Halves.{with_half, with_first, with_more, taken, is_due_in, TellsCode};
 ghost use Rattle.quic_outgoing.specs.Senders.{are_one_end};
 ghost use Rattle.quic_history.specs.Early.{without_own};
 ghost use Rattle.quic_history.specs.Permitting.{is_flow_controlled};
 ghost use Rattle.quic_history.specs.Control.{announced_end, after_announced, with_announced};
 
+use crate::half_reads::{HalfReads, read_some_on};
 use quic_assembler::{Chunk, EnsureError};
 use quic_history::progress::Progress;
 use quic_receiving::{ClosedStream, ReadError, ReadableError, Recv};
@@ -169,6 +172,40 @@ impl ReceiveHalves {
         }
     }
 
+    /// Asks a half for a mode, and reads it until nothing more comes or so many chunks were given, for which there is
+    /// room, where it lies.
+    #[inline]
+    pub(crate) fn read_some(
+        &mut self,
+        id: StreamId,
+        ordered: bool,
+        max_length: usize,
+        times: u16,
+        list: Vec<Chunk>,
+    ) -> Result<HalfReads, ReadableError>
+        requires empty { list.items ≡ [] }
+        requires places { times ≤ vec_capacity list }
+        ensures reads { IfOk result (λ r. ReadsSomeIn (held self.old) id max_length times ordered r.chunks.items r.last (held self.new)) }
+        ensures bytes { IfOk result (λ r. r.read ≡ bytes_in r.chunks.items) }
+        ensures due { IfOk result (λ r. r.window_due ≡ is_due_after r.last self.new.window (held self.new id)) }
+        ensures refused { IfErr result (λ error. AsksIn (held self.old) id ordered (Err error) (held self.new)) }
+        ensures window { self.new.window ≡ self.old.window }
+        ensures room { room self.new ≡ room self.old }
+    {
+        match self.entries.get_mut(&id) {
+            None => Err(ReadableError::ClosedStream),
+            Some(entry) => read_some_on(
+                self.alloc,
+                self.window,
+                entry,
+                ordered,
+                max_length,
+                times,
+                list,
+            ),
+        }
+    }
+
     /// Asks a half for a mode, where it lies.
     #[inline]
     pub(crate) fn ask(&mut self, id: StreamId, ordered: bool) -> Result<(), ReadableError>
@@ -222,12 +259,7 @@ impl ReceiveHalves {
     {
         match self.entries.get(&id) {
             None => false,
-            // Nothing was read.
-            Some(None) => self.window.into_inner() < 8,
-            Some(Some(half)) => half
-                .max_stream_data(self.window.into_inner())
-                .1
-                .should_transmit(),
+            Some(entry) => is_window_due_on(entry, self.window),
         }
     }
 
@@ -337,9 +369,24 @@ fn announce_on(entry: &mut Option<Box<Recv>>, window: VarInt)
     }
 }
 
+// Whether MAX_STREAM_DATA is worth a frame on the stream of an entry.
+#[inline]
+pub(crate) fn is_window_due_on(entry: &Option<Box<Recv>>, window: VarInt) -> bool
+    ensures { result ≡ is_window_due (half_in window entry.now) window }
+{
+    match entry {
+        // Nothing was read.
+        None => window.into_inner() < 8,
+        Some(half) => half
+            .max_stream_data(window.into_inner())
+            .1
+            .should_transmit(),
+    }
+}
+
 // Reads the half of an entry. Of one to which nothing came there is nothing to read.
 #[inline]
-fn read_on(
+pub(crate) fn read_on(
     entry: &mut Option<Box<Recv>>,
     max_length: usize,
     ordered: bool,
@@ -394,7 +441,7 @@ fn put_new_half(
 
 // Asks the half of an entry for a mode.
 #[inline]
-fn ask_on(
+pub(crate) fn ask_on(
     alloc: Global,
     window: VarInt,
     entry: &mut Option<Box<Recv>>,

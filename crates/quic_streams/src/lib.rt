@@ -5,6 +5,7 @@ mod acknowledging;
 pub mod batches;
 mod control;
 mod early;
+pub mod half_reads;
 pub mod halves;
 mod payload;
 pub mod pending;

@@ -25,12 +25,12 @@ impl ControlPayload {
     pub(crate) fn append(
         &mut self,
         frame: &Frame,
-        counters: &mut FrameStats,
+        stats: &mut FrameStats,
     ) -> Result<(), OutOfMemory>
         requires kind { CanEncode frame.now }
         requires short { size_bound frame.now ≤ ResetStream.SIZE_BOUND }
-        ensures ok { OnOk result (sheet_of self.new counters.new ≡ with_frame_written (sheet_of self.old counters.old) frame.now) }
-        ensures err { OnErr result (sheet_of self.new counters.new ≡ sheet_of self.old counters.old) }
+        ensures ok { OnOk result (sheet_of self.new stats.new ≡ with_frame_written (sheet_of self.old stats.old) frame.now) }
+        ensures err { OnErr result (sheet_of self.new stats.new ≡ sheet_of self.old stats.old) }
         ensures fits { OnOk result (FitsIn (size_bound frame.now) frame.now) }
     {
         self.bytes.reserve(ResetStream::SIZE_BOUND)?;
@@ -39,7 +39,7 @@ impl ControlPayload {
             Ok(()) => {}
             Err(_) => unreachable!(),
         }
-        counters.record(frame);
+        stats.record(frame);
         Ok(())
     }
 
@@ -49,15 +49,15 @@ impl ControlPayload {
         &mut self,
         kind: &ControlKind,
         frame: Option<Frame>,
-        counters: &mut FrameStats,
+        stats: &mut FrameStats,
     ) -> Result<(), OutOfMemory>
         requires { IfSome frame (IsOfKind kind.now) }
-        ensures ok { OnOk result (sheet_of self.new counters.new ≡ with_frame_written_if (sheet_of self.old counters.old) frame) }
-        ensures err { OnErr result (sheet_of self.new counters.new ≡ sheet_of self.old counters.old) }
+        ensures ok { OnOk result (sheet_of self.new stats.new ≡ with_frame_written_if (sheet_of self.old stats.old) frame) }
+        ensures err { OnErr result (sheet_of self.new stats.new ≡ sheet_of self.old stats.old) }
         ensures fits { OnOk result (IfSome frame (FitsIn (kind_bound kind.now))) }
     {
         match frame {
-            Some(frame) => self.append(&frame, counters),
+            Some(frame) => self.append(&frame, stats),
             None => Ok(()),
         }
     }

@@ -6,6 +6,7 @@ ghost use Rattle.quic_history.specs.World.{Made, with_credit};
 ghost use Rattle.quic_retransmits.specs.Pending.{shown_pending as listed};
 ghost use Rattle.quic_history.specs.Reading.{Begins, Nexts, ReadsHalf, is_reading, needed, pending_after, is_transmit_due, is_window_queued, progress_after, given_by};
 ghost use Rattle.quic_history.specs.History.{Event, Ended, From, given, with_next};
+ghost use Rattle.quic_streams.specs.HalfReads.{credit_queued, is_credit_queued};
 ghost use Rattle.quic_streams.specs.Room.{rooms};
 ghost use Rattle.quic_retransmits.specs.Queueing.{window_rooms};
 
@@ -177,8 +178,26 @@ pub(crate) fn finish(
     ensures window_room { needed progress ≤ window_rooms pending.new id }
     ensures transmit { result.0 ≡ is_transmit_due progress (shown streams.old) id read }
 {
-    let streams_due = streams.queue_max_stream_id(pending);
     let window_due = streams.is_window_queued(progress, id);
+    give_credit(streams, pending, id, window_due, read)
+}
+
+// Gives credit for so many bytes that were read, and queues the frames that tell it: MAX_STREAM_DATA where that is due.
+pub(crate) fn give_credit(
+    streams: &mut StreamsState,
+    pending: &mut Retransmits,
+    id: StreamId,
+    window_due: bool,
+    read: u64,
+) -> ShouldTransmit
+    requires { window_due ≡ true → 1 ≤ window_rooms pending.old id }
+    ensures streams { shown streams.new ≡ with_credit (shown streams.old) read }
+    ensures rooms { rooms streams.new ≡ rooms streams.old }
+    ensures pending { listed pending.new ≡ credit_queued window_due (shown streams.old) id read (listed pending.old) }
+    ensures window_room { 1 ≤ window_rooms pending.old id → 1 ≤ window_rooms pending.new id }
+    ensures transmit { result.0 ≡ is_credit_queued window_due (shown streams.old) read }
+{
+    let streams_due = streams.queue_max_stream_id(pending);
     pending.queue_window(id, window_due);
     let data_due = streams.add_read_credits(read).should_transmit();
     pending.queue_max_data(data_due);

@@ -1,11 +1,13 @@
 //! The streams of one end of a connection.
 
-ghost use Rattle.std.specs.Prelude.{[], ◌≡◌, ◌+◌, ◌-◌, ◌<◌, ◌≤◌, ◌^◌, IfOk, IfErr, IfSome, OnOk, OnErr, IfNone, Some, None, is_some, true, false, length};
+ghost use Rattle.std.specs.Prelude.{[], ◌≡◌, ◌+◌, ◌-◌, ◌<◌, ◌≤◌, ◌^◌, IfOk, IfErr, IfSome, OnOk, OnErr, IfNone, Some, None, Err, is_some, true, false, length};
+ghost use Rattle.std.specs.Vec.{vec_capacity};
 ghost use Rattle.std.specs.Option.{option_map};
 ghost use Rattle.quic_receiving.specs.Half.{new_half};
 ghost use Rattle.quic_streams.specs.Held.{room};
 ghost use Rattle.quic_streams.specs.InPlace.{IsInMode, ReadsIn, AsksIn, IngestsIn, ChangesHalves};
-ghost use Rattle.quic_history.specs.Reading.{is_reading};
+ghost use Rattle.quic_streams.specs.HalfReads.{ReadsSomeIn, is_due_after};
+ghost use Rattle.quic_history.specs.Reading.{is_reading, bytes_in};
 ghost use Rattle.quic_history.specs.Halves.{is_due_in, TellsCode};
 ghost use Rattle.quic_outgoing.specs.Shown.{view_of, permit_room};
 ghost use Rattle.quic_streams.specs.Room.{rooms, HasEventRoom};
@@ -14,6 +16,7 @@ ghost use Rattle.quic_history.specs.World.{made_with, World, start, id_refusal, 
 ghost use Rattle.quic_history.specs.Sends.{is_permitted};
 ghost use Rattle.quic_streams.specs.Shown.{shown};
 
+use crate::half_reads::HalfReads;
 use crate::halves::{Ingested, ReceiveHalves};
 use quic_assembler::Chunk;
 use quic_history::progress::Progress;
@@ -192,6 +195,29 @@ impl StreamsState {
         ensures rooms { rooms self.new ≡ rooms self.old }
     {
         self.receive.read(id, max_length, ordered)
+    }
+
+    // Asks a receive half for a mode, and reads it until nothing more comes or so many chunks were given, for which there
+    // is room, where it lies.
+    #[inline]
+    pub(crate) fn read_some_in_place(
+        &mut self,
+        id: StreamId,
+        ordered: bool,
+        max_length: usize,
+        times: u16,
+        list: Vec<Chunk>,
+    ) -> Result<HalfReads, ReadableError>
+        requires empty { list.items ≡ [] }
+        requires places { times ≤ vec_capacity list }
+        ensures reads { IfOk result (λ r. ReadsSomeIn (shown self.old).receive id max_length times ordered r.chunks.items r.last (shown self.new).receive) }
+        ensures bytes { IfOk result (λ r. r.read ≡ bytes_in r.chunks.items) }
+        ensures due { IfOk result (λ r. r.window_due ≡ is_due_after r.last (shown self.new).window ((shown self.new).receive id)) }
+        ensures refused { IfErr result (λ error. AsksIn (shown self.old).receive id ordered (Err error) (shown self.new).receive) }
+        ensures halves { ChangesHalves (shown self.old) (shown self.new) }
+        ensures rooms { rooms self.new ≡ rooms self.old }
+    {
+        self.receive.read_some(id, ordered, max_length, times, list)
     }
 
     // Asks a receive half for a mode, where it lies.

@@ -19,7 +19,7 @@ returns-in-Err-clause-emits c =
     let between : EndState = record { streams = shown w.new.self; pending = shown_pending w.new.pending } in
     let control : EmitsControl c.args.max_size (end_state c.args.self.now) (Err c.in-Err.error) between w.new.buf.items (noted_in w.new.sent) = record {
       before = c.new-counters.result;
-      after = w.new.counters;
+      after = w.new.stats;
       writes = rw (bytes_none, noted_none, c.in-Err.is) at w.ensures.writes;
       full = tt;
       refused = rw c.in-Err.is at w.ensures.refused;
@@ -38,7 +38,7 @@ returns-clause-emits c =
     let between : EndState = record { streams = shown w.new.self; pending = shown_pending w.new.pending } in
     let control : EmitsControl c.args.max_size (end_state c.args.self.now) (Ok tt) between w.new.buf.items (noted_in w.new.sent) = record {
       before = c.new-counters.result;
-      after = w.new.counters;
+      after = w.new.stats;
       writes = rw (bytes_none, noted_none, c.in_default.is) at w.ensures.writes;
       full = rw c.in_default.is at w.ensures.full;
       refused = tt;

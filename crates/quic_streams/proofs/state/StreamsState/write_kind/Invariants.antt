@@ -5,7 +5,7 @@ use Rattle.quic_streams.specs.Payload.{sheet_of, SettlesSome}
 use Rattle.quic_streams.proofs.state.StreamsState.write_kind.Given as goal
 
 abbrev pub invariant-loop-self : goal.invariant-loop-self
-invariant-loop-self l = SettlesSome l.kind l.max_size (record { end = shown l.initial.self; pending = listed l.initial.pending; sheet = sheet_of l.initial.payload l.initial.counters }) (record { end = shown l.self; pending = listed l.pending; sheet = sheet_of l.payload l.counters })
+invariant-loop-self l = SettlesSome l.kind l.max_size (record { end = shown l.initial.self; pending = listed l.initial.pending; sheet = sheet_of l.initial.payload l.initial.stats }) (record { end = shown l.self; pending = listed l.pending; sheet = sheet_of l.payload l.stats })
 
 abbrev pub decreases-loop-self : goal.decreases-loop-self
 decreases-loop-self l = entry_count l.pending
