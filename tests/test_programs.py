@@ -19,7 +19,7 @@ def need(module, *names):
         if not os.access(program(name), os.X_OK):
             line = f"{module}: not run, since the program is not built: `rt run < stdin` in crates/{name} builds it"
             if os.environ.get("IN_GATE"):
-                sys.exit(f"{line} (FAILED)")
+                sys.exit(f"\n{line} (FAILED)")
             print(f"\n{line}", file=sys.stderr)
             raise unittest.SkipTest(line)
 
