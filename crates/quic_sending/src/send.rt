@@ -213,6 +213,8 @@ impl Send {
         ensures chunks { IfOk result (λ w. w.chunks + length (S.lists source.new) ≡ length (S.lists source.old)) }
         ensures left { OnOk result (S.lists source.new ≡ rest_of (permitted self.old limit) (S.lists source.old)) }
         ensures unchanged { OnErr result (S.lists source.new ≡ S.lists source.old) }
+        ensures borrow { S.borrow source.new ≡ S.borrow source.old }
+        ensures list_count { S.list_count source.new ≡ S.list_count source.old }
         ensures same { OnErr result (self.new ≡ record self.old {
           pending = record self.old.pending { room = self.new.pending.room };
         }) }
@@ -362,6 +364,8 @@ fn write_source<S: BytesSource>(
     ensures bytes { IfOk result (λ w. w.bytes ≡ min limit (total_length (S.lists source.old))) }
     ensures chunks { IfOk result (λ w. w.chunks + length (S.lists source.new) ≡ length (S.lists source.old)) }
     ensures left { OnOk result (S.lists source.new ≡ rest_of limit (S.lists source.old)) }
+    ensures borrow { S.borrow source.new ≡ S.borrow source.old }
+    ensures list_count { S.list_count source.new ≡ S.list_count source.old }
     ensures err { OnErr result ((S.lists source.new ≡ S.lists source.old) × (buffer.new
         ≡ record buffer.old { room = buffer.new.room })) }
     ensures sound { OnOk result (IsSound buffer.new) }
