@@ -162,10 +162,13 @@ grown : (all : List PieceView) (last new : PieceView) → new.offset ≡ last.of
 grown all last new o more (inl h) = outgrown all last new o (inr more) h
 grown all last new o more (inr h) =
     any_more (Outgrows last) (Outgrows new)
-    (λ s e. (e.0 ∙ sym o, elim e.1 [
-      | inl u ↦ inl u
-      | inr l ↦ inr (omega (arith, l, more))
-    ]))
+    (λ s e. (
+      e.0 ∙ sym o,
+      elim e.1 [
+        | inl u ↦ inl u
+        | inr l ↦ inr (omega (arith, l, more))
+      ],
+    ))
     all h.1
 
 tidied_stems : (all : List PieceView) (r : PieceView) (b : Bool) → nat_le r.allocation_size (length r.bytes * 6 / 5) ≡ b → IsAmong all r → IsKeptOrOwn all (cond b r (record r { allocation_size = length r.bytes }))

@@ -1,5 +1,5 @@
 -- What acknowledgements and losses of frames do to a stream.
-use Rattle.std.specs.Prelude.{◌≡◌, ℕ, ℤ, ◌-◌, Bool, true, false, not, ◌&&◌, ◌||◌, ◌==◌, nat_le, List, Option, Some, None, is_some, Result, Ok, Err, if◌then◌else◌, MatchBool}
+use Rattle.std.specs.Prelude.{◌≡◌, ◌⊎◌, ◌<◌, ℕ, ℤ, ◌-◌, Bool, true, false, not, ◌&&◌, ◌||◌, ◌==◌, nat_le, List, Option, Some, None, is_some, Result, Ok, Err, if◌then◌else◌, MatchBool}
 use Rattle.std.specs.declared.ops.Range.{Range}
 use Rattle.quic_values.specs.declared.memory.OutOfMemory.{OutOfMemory}
 use Rattle.quic_values.specs.Runs.{lies_in}
@@ -27,6 +27,11 @@ pub record AcknowledgesOffsets (offsets : Range ℕ) (fin : Bool) (s t : Send) :
   pub cuts : (cuts : List (List ℕ)) → HasCuts cuts s.pending → HasCuts cuts t.pending
   pub sound : IsSound t.pending
   pub others : t ≡ record s { state = after_ack s.state fin; pending = t.pending }
+
+-- the report that offsets of a half are acknowledged may want memory: they lie behind a gap, or nothing was done on it
+abbrev pub MayWantMemory : Range ℕ → Option Send → Type 0
+MayWantMemory offsets None = ⊥
+MayWantMemory offsets (Some s) = ((s.pending.prefix < offsets.start) × (offsets.start < offsets.end)) ⊎ ((is_ready s.state ≡ true) × (s.pending.offset ≡ 0))
 
 -- whether the end and every byte are acknowledged
 abbrev pub is_complete : Send → Bool
