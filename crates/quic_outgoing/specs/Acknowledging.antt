@@ -52,6 +52,12 @@ abbrev pub AcksStream : Outgoing → ℕ → Range ℕ → Bool → Result Bool 
 AcksStream u id offsets fin (Ok done) v = MatchBool (were_sent (u.halves id) offsets) (AcksHalf u id offsets fin done v) ((done ≡ false) × (v ≡ u))
 AcksStream u id offsets fin (Err e) v = (is_some (u.halves id) ≡ true) × (v ≡ u)
 
+-- the report that offsets of a half are lost may want memory: some lie above the acknowledged prefix, or nothing was done
+-- on it
+abbrev pub LossMayWantMemory : Range ℕ → Option Send → Type 0
+LossMayWantMemory offsets None = ⊥
+LossMayWantMemory offsets (Some s) = ((offsets.start < offsets.end) × (s.pending.prefix < offsets.end)) ⊎ ((is_ready s.state ≡ true) × (s.pending.offset ≡ 0))
+
 -- a half once a frame of these offsets is lost: those that are not acknowledged are to be sent again, and so is the end
 -- of a finished stream, if the frame had it
 pub record LosesOffsets (offsets : Range ℕ) (fin : Bool) (s t : Send) : Type 0 where
