@@ -1,22 +1,27 @@
 """`streampair` with each request for memory refused in turn: a part of what `tools/refused_memory` tries by hand."""
 import contextlib
 import glob
+import importlib.util
 import io
 import os
 import subprocess
-import sys
 import tempfile
 import unittest
 
 from test_programs import ROOT, program
 
 TOOL = os.path.join(ROOT, "tools", "refused_memory")
-sys.path.append(TOOL)
-
-from sessions import tried  # noqa: E402
 
 # Each takes some 500 runs.
 SEEDS = range(1, 16)
+
+
+def load():
+    """The script of the tool."""
+    spec = importlib.util.spec_from_file_location("refused_memory", os.path.join(TOOL, "sessions.py"))
+    made = importlib.util.module_from_spec(spec)
+    spec.loader.exec_module(made)
+    return made
 
 
 def link(to):
@@ -34,7 +39,7 @@ class RefusedMemory(unittest.TestCase):
         with tempfile.TemporaryDirectory() as folder, contextlib.redirect_stderr(io.StringIO()):
             refusing = os.path.join(folder, "refused")
             link(refusing)
-            check = tried(refusing, SEEDS, files)
+            check = load().tried(refusing, SEEDS, files)
         self.assertEqual(check.wrong, [])
         self.assertEqual(check.tally["sessions"], len(files) + 2 + len(SEEDS))
         for name in ("in a step", "at the second line", "outside a step", "CompactionMemory"):
