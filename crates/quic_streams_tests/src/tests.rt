@@ -11,7 +11,7 @@ mod receiving;
 mod refusals;
 mod sending;
 mod sizes;
-mod transmitting;
+mod windows;
 
 use calls::{Subject, finalize, next_chunk};
 use quic_receiving::{Chunk, HandleError, ReadError, ReadableError, ShouldTransmit};
