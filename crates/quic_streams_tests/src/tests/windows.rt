@@ -104,7 +104,12 @@ const ONE_LESS: [sending::Step; 1] = [sending::Step::Concurrent(Dir::Uni, 127, 1
 #[test]
 fn the_peer_opens_no_more_streams_than_are_permitted(rt: HostRuntime) -> Result<(), Fail> {
     let alloc = rt.alloc();
-    let subject = run(&rt, alloc, client(alloc, 128, WINDOW, WINDOW)?, &LAST_STREAM)?;
+    let subject = run(
+        &rt,
+        alloc,
+        client(alloc, 128, WINDOW, WINDOW)?,
+        &LAST_STREAM,
+    )?;
     let _ = run(&rt, alloc, subject, &FREED)?;
     let client_of_128 = client(alloc, 128, WINDOW, WINDOW)?;
     let mut subject = run(&rt, alloc, client_of_128, &LAST_STREAM)?;
