@@ -159,6 +159,7 @@ fn push_replies_to_reader(alloc: Global, replies: &mut Replies) -> Result<(), Ou
 
 // STOP_SENDING with the code 7, MAX_DATA of 2005, and MAX_STREAMS of 6.
 const STOP: &[u8] = &[0x05, 0, 7];
+
 const LIMITS: &[u8] = &[0x10, 0x47, 0xd5, 0x12, 6];
 
 // Of what the server sends for that, and of the stream that is given up.
