@@ -7,4 +7,5 @@ pub mod Payload
 pub mod Transmitting
 pub mod Waiting
 pub mod InPlace
+pub mod Accounting
 pub mod HalfReads
