@@ -2,6 +2,7 @@ pub mod Held
 pub mod Shown
 pub mod Room
 pub mod Connection
+pub mod Lending
 pub mod Writing
 pub mod Payload
 pub mod Transmitting
