@@ -5,3 +5,4 @@ pub mod HalfReads
 pub mod Results
 pub mod TurnRuns
 pub mod Unsent
+pub mod Visits

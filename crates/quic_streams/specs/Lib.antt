@@ -10,3 +10,4 @@ pub mod Waiting
 pub mod InPlace
 pub mod Accounting
 pub mod HalfReads
+pub mod Visits

@@ -22,6 +22,7 @@ mod sending;
 pub mod state;
 pub mod streams;
 mod transmitting;
+pub mod visiting;
 mod writing;
 
 pub use pending::PendingFrames;

@@ -21,6 +21,7 @@ pub use crate::reading::Chunks;
 pub use crate::recv_stream::RecvStream;
 pub use crate::send_stream::SendStream;
 pub use crate::state::StreamsState;
+pub use crate::visiting::ReadVisitor;
 pub use quic_history::progress::LastAnswer;
 pub use quic_outgoing::PeerLimits;
 use quic_values::{Dir, OutOfMemory, StreamId};
