@@ -1,0 +1,112 @@
+#!/usr/bin/env python3
+"""What a reader of a definition has to read: the definitions that it names, those that these name, and so on.
+
+    tools/reading_list.py quic_pair.specs.Headline:Headline ..
+
+MODULE:NAME is a definition, and MODULE alone stands for all of a file. Prints each definition under its file, with its
+lines (comments and blank lines apart), then the types of the code that they name and the sums; with --files only the sums
+of each file.
+"""
+import os
+import re
+import sys
+
+ROOT = os.path.dirname(os.path.dirname(os.path.abspath(__file__)))
+IMPORT = re.compile(r"^(?:pub )?use Rattle\.(\S+?)(?:\.\{(.*)\})?(?: as (\S+))?\s*$")
+HEAD = re.compile(r"^(?:(?:abbrev|unfoldable|opaque|pub|record|data|mutual)\s+)*([^\s({:]+)")
+WORD = re.compile(r"[^\s(){}\[\],;.:=λ→×⊎≡≢≤<∷+*-]+")
+
+
+class File:
+    """The definitions of a file, as lines by name, and where the names that it imports come from."""
+
+    def __init__(self, module, path):
+        self.module, self.items, self.imports, self.aliases = module, {}, {}, {}
+        name = None
+        with open(path) as file:
+            lines = file.read().split("\n")
+        for line in lines:
+            if not line.strip() or line.strip().startswith("--") or line.startswith("pub mod "):
+                continue
+            found = IMPORT.match(line)
+            if found:
+                self.take_import(*found.groups())
+                continue
+            if not line.startswith(" "):
+                name = HEAD.match(line).group(1)
+            self.items.setdefault(name, []).append(line)
+
+    def take_import(self, module, names, alias):
+        if alias:
+            self.aliases[alias] = module
+            return
+        for name in (names or "").split(","):
+            name = name.strip()
+            if name:
+                self.imports[name] = module
+
+    def names_of(self, name):
+        """The definitions that one names: (module, name)."""
+        for word in set(WORD.findall("\n".join(self.items[name]))):
+            if word != name and word in self.items:
+                yield self.module, word
+            elif word in self.imports:
+                yield self.imports[word], word
+            elif word in self.aliases:
+                yield self.aliases[word], ""
+
+
+class Reader:
+    def __init__(self):
+        self.files, self.read, self.types, self.missing = {}, set(), set(), set()
+
+    def file(self, module):
+        crate, _, rest = module.partition(".")
+        path = os.path.join(ROOT, "crates", crate, rest.replace(".", "/") + ".antt")
+        if module not in self.files:
+            self.files[module] = File(module, path) if os.path.exists(path) else None
+        return self.files[module]
+
+    def follow(self, wanted):
+        while wanted:
+            module, name = wanted.pop()
+            if module.startswith("std.") or (module, name) in self.read:
+                continue
+            if ".declared." in module:
+                self.types.add(re.sub(r"\.(specs\.declared|TheVariants|TheConstants)", "", module))
+                continue
+            file = self.file(module)
+            if file is None or name not in file.items:
+                self.missing.add((module, name))
+                continue
+            self.read.add((module, name))
+            wanted.extend(file.names_of(name))
+
+
+def main():
+    asked = [argument for argument in sys.argv[1:] if argument != "--files"]
+    reader, wanted = Reader(), []
+    for argument in asked:
+        module, _, name = argument.partition(":")
+        file = reader.file(module)
+        if file is None:
+            sys.exit(f"no file of {module}")
+        wanted.extend((module, item) for item in ([name] if name else file.items))
+    reader.follow(wanted)
+    total, modules = 0, sorted({module for module, _ in reader.read})
+    for module in modules:
+        items = sorted(name for its, name in reader.read if its == module)
+        lines = {name: len(reader.files[module].items[name]) for name in items}
+        total += sum(lines.values())
+        print(f"{module.replace('.', '/')}.antt: {len(items)} definitions, {sum(lines.values())} lines")
+        if "--files" not in sys.argv:
+            print("    " + ", ".join(items))
+    print(f"types of the code: {', '.join(sorted(reader.types))}" if "--files" not in sys.argv else "")
+    for module, name in sorted(reader.missing):
+        print(f"not found: {module} {name}")
+    print(f"{len(reader.read)} definitions, {total} lines, in {len(modules)} files; {len(reader.types)} types of the code")
+    return 1 if reader.missing else 0
+
+
+if __name__ == "__main__":
+    sys.exit(main())
