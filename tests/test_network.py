@@ -4,11 +4,16 @@ import unittest
 
 from frames import check_same
 from pair_model import ENDS, Model, stream_id
+from test_programs import need
 from test_sessions import Program
 from test_streampair import CONFIGS, Sessions, var_int
 
 WIDE = "2000 0 1000000 1000000 1000000"
 WIDE_CONFIGS = f"config a {WIDE}\nconfig b {WIDE}\n"
+
+
+def setUpModule():
+    need(__name__, "streampair")
 
 
 class Limits(Sessions):

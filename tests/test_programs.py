@@ -2,6 +2,7 @@
 status."""
 import os
 import subprocess
+import sys
 import unittest
 
 ROOT = os.path.dirname(os.path.dirname(os.path.abspath(__file__)))
@@ -9,6 +10,22 @@ ROOT = os.path.dirname(os.path.dirname(os.path.abspath(__file__)))
 
 def program(name):
     return os.path.join(ROOT, "crates", name, "out", name)
+
+
+def need(module, *names):
+    """Skips the tests of a module, with one line, where a program is not built. Where the gate runs them, that is a
+    failure, and the line ends the run."""
+    for name in names:
+        if not os.access(program(name), os.X_OK):
+            line = f"{module}: not run, since the program is not built: `rt run < stdin` in crates/{name} builds it"
+            if os.environ.get("IN_GATE"):
+                sys.exit(f"\n{line} (FAILED)")
+            print(f"\n{line}", file=sys.stderr)
+            raise unittest.SkipTest(line)
+
+
+def setUpModule():
+    need(__name__, "connection_loop", "message_queue", "streamsim")
 
 
 def run(name, given):

@@ -8,7 +8,7 @@ import unittest
 
 from frames import DIRECTIONS, check, check_same
 from pair_model import ENDS, Model
-from test_programs import program
+from test_programs import need, program
 
 SESSIONS = 1000
 STEPS = 200
@@ -31,6 +31,10 @@ LEAST = {
     "NotAccepted": 200,
     "UnknownId": 200,
 }
+
+
+def setUpModule():
+    need(__name__, "streampair")
 
 
 class Draws:

@@ -5,9 +5,13 @@ import socket
 import subprocess
 import unittest
 
-from test_programs import program, run
+from test_programs import need, program, run
 
 CONFIGS = "config a 4 4 1000 1000 1000\nconfig b 4 4 1000 1000 1000\n"
+
+
+def setUpModule():
+    need(__name__, "streampair")
 
 
 class Sessions(unittest.TestCase):

@@ -1,0 +1,140 @@
+#!/usr/bin/env python3
+"""Tries the wrong bodies of tools/wrong_bodies: the prover has to refuse a crate with any of them in place.
+
+The edits of one crate at a time are put into a copy of the repository, in a temporary folder, and `rt must-fail` tries
+them there. There is a line for each edit, and a last one that counts. The status is 0 only where each was refused.
+"""
+import argparse
+import os
+import re
+import shutil
+import subprocess
+import sys
+import tempfile
+
+ROOT = os.path.dirname(os.path.dirname(os.path.abspath(__file__)))
+BODIES = os.path.join(ROOT, "tools", "wrong_bodies")
+# What stands in a crate that a check reads.
+PARTS = ("src", "specs", "proofs")
+REFUSED = "refused"
+# What `rt must-fail` says of an edit.
+VERDICT = re.compile(r"must-fail \S+?/(\S+)\.edit: (refused|NOT REFUSED|BAD EDIT|NOT TRIED)(.*)")
+
+
+def crates_with_bodies():
+    return sorted(name for name in os.listdir(BODIES) if os.path.isdir(os.path.join(BODIES, name)))
+
+
+def edits_of(crate):
+    """The names of the edits of a crate."""
+    folder = os.path.join(BODIES, crate)
+    return sorted(name[: -len(".edit")] for name in os.listdir(folder) if name.endswith(".edit"))
+
+
+def why_not_applicable(crate, edit):
+    """Why an edit cannot be put in place, or None."""
+    with open(os.path.join(BODIES, crate, f"{edit}.edit"), encoding="utf-8") as it:
+        lines = it.read().splitlines()
+    source, pairs = None, 0
+    for line in lines:
+        if line.startswith("file: "):
+            path = os.path.join(ROOT, "crates", crate, line[len("file: ") :])
+            if not os.path.isfile(path):
+                return f"there is no {line}"
+            with open(path, encoding="utf-8") as it:
+                source = it.read()
+        elif line.startswith("old: "):
+            if source is None:
+                return "an 'old:' line stands before any 'file:' line"
+            count, pairs = source.count(line[len("old: ") :]), pairs + 1
+            if count != 1:
+                return f"stands {count} times in its file: {line}"
+    return None if pairs else "it has no 'old:' line"
+
+
+def look(crates):
+    """Says which edits cannot be put in place, and returns the status."""
+    bad = 0
+    for crate in crates:
+        for edit in edits_of(crate):
+            why = why_not_applicable(crate, edit)
+            if why:
+                bad += 1
+                print(f"{crate}/{edit}: {why}")
+    total = sum(len(edits_of(crate)) for crate in crates)
+    print(f"{total} edits, of which {bad} cannot be put in place")
+    return 1 if bad else 0
+
+
+def copy_repository(folder):
+    """Copies what a check reads."""
+    for name in ("crates.txt", "HANDLES"):
+        shutil.copy(os.path.join(ROOT, name), folder)
+    crates = os.path.join(ROOT, "crates")
+    for crate in os.listdir(crates):
+        for part in PARTS:
+            source = os.path.join(crates, crate, part)
+            if os.path.isdir(source):
+                shutil.copytree(source, os.path.join(folder, "crates", crate, part))
+
+
+def try_crate(crate, folder):
+    """Tries the edits of a crate in the copy, and returns how many were refused."""
+    there = os.path.join(folder, "crates", crate, "must-fail")
+    os.makedirs(there)
+    for edit in edits_of(crate):
+        shutil.copy(os.path.join(BODIES, crate, f"{edit}.edit"), there)
+    ran = subprocess.run(
+        ["rt", "must-fail", crate],
+        cwd=folder,
+        stdin=subprocess.DEVNULL,
+        stdout=subprocess.PIPE,
+        stderr=subprocess.STDOUT,
+        encoding="utf-8",
+        errors="replace",
+    )
+    found = {name: (verdict, rest) for name, verdict, rest in VERDICT.findall(ran.stdout)}
+    for edit in edits_of(crate):
+        verdict, rest = found.get(edit, ("NOT TRIED", ": rt said nothing of it"))
+        # (a refusal says where; the rest says why there is none, or why it tells little)
+        told = "" if verdict == REFUSED and not rest.startswith(", as it must be (") else rest
+        print(f"{crate}/{edit}: {verdict}{told}", flush=True)
+    if len(found) < len(edits_of(crate)):
+        print(ran.stdout.rstrip(), file=sys.stderr)
+    shutil.rmtree(there)
+    return sum(verdict == REFUSED for verdict, _ in found.values())
+
+
+def main():
+    parser = argparse.ArgumentParser(description=__doc__.splitlines()[0])
+    parser.add_argument("crates", metavar="CRATE", nargs="*", help="a crate of tools/wrong_bodies; without one, all")
+    parser.add_argument("--jobs", type=int, metavar="N", help="the most processors that are used; without it, all")
+    parser.add_argument("--list", action="store_true", help="only say which edits cannot be put in place, and prove nothing")
+    asked = parser.parse_args()
+    there = crates_with_bodies()
+    crates = asked.crates or there
+    for crate in crates:
+        if crate not in there:
+            parser.error(f"there is no folder {crate} in tools/wrong_bodies")
+    if asked.list:
+        return look(crates)
+    if shutil.which("rt") is None:
+        print("rt is not there: the Rattle kit is needed", file=sys.stderr)
+        return 2
+    if asked.jobs is not None:
+        if asked.jobs < 1:
+            parser.error("--jobs takes a number above 0")
+        # rt uses the processors that it is given
+        os.sched_setaffinity(0, sorted(os.sched_getaffinity(0))[: asked.jobs])
+    refused = 0
+    with tempfile.TemporaryDirectory(prefix="wrong-bodies-") as folder:
+        copy_repository(folder)
+        for crate in crates:
+            refused += try_crate(crate, folder)
+    total = sum(len(edits_of(crate)) for crate in crates)
+    print(f"{total} wrong bodies: {refused} refused, {total - refused} not")
+    return 0 if refused == total else 1
+
+
+if __name__ == "__main__":
+    sys.exit(main())
