@@ -21,8 +21,8 @@ class File:
     """The definitions of a file, as lines by name, and where the names that it imports come from."""
 
     def __init__(self, module, path):
-        self.module, self.items, self.imports, self.aliases = module, {}, {}, {}
-        name = None
+        self.module, self.items, self.imports, self.aliases, self.cases = module, {}, {}, {}, {}
+        name, is_data = None, False
         with open(path) as file:
             lines = file.read().split("\n")
         for line in lines:
@@ -34,6 +34,9 @@ class File:
                 continue
             if not line.startswith(" "):
                 name = HEAD.match(line).group(1)
+                is_data = " data " in f" {line}"
+            elif is_data and " : " in line:
+                self.cases[line.replace("pub ", "").split()[0]] = name
             self.items.setdefault(name, []).append(line)
 
     def take_import(self, module, names, alias):
@@ -76,6 +79,7 @@ class Reader:
                 self.types.add(re.sub(r"\.(specs\.declared|TheVariants|TheConstants)", "", module))
                 continue
             file = self.file(module)
+            name = file.cases.get(name, name) if file else name
             if file is None or name not in file.items:
                 self.missing.add((module, name))
                 continue
