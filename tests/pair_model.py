@@ -146,7 +146,9 @@ class SendHalf:
 class ReceiveHalf:
     """What one end receives on a stream (RFC 9000 section 3.2)."""
 
-    def __init__(self):
+    def __init__(self, window):
+        # the last limit that was told
+        self.limit_sent = window
         # of each offset whether its byte came, and whether it was read
         self.arrived = bytearray()
         self.given = bytearray()
@@ -160,8 +162,6 @@ class ReceiveHalf:
         self.stop = None
         # how many STOP_SENDING frames are to be sent
         self.stops_due = 0
-        # a frame of the stream came
-        self.heard = False
         # the end or the reset was told
         self.told = False
 
@@ -170,6 +170,11 @@ class ReceiveHalf:
 
     def is_freed(self):
         return self.told or self.stop is not None and self.final_size is not None
+
+    def is_limit_due(self, window):
+        """Whether a limit that rose by an eighth of the window is to be told."""
+        can_grow = self.final_size is None and not self.is_closed()
+        return can_grow and self.read + window - self.limit_sent >= window // 8
 
     def arrive(self, offset, end):
         more = bytes(max(end - len(self.arrived), 0))
@@ -213,6 +218,7 @@ class Remote:
 
     def __init__(self, count):
         self.permitted = count
+        self.permitted_sent = count
         self.concurrent = count
         self.freed = set()
         self.opened = 0
@@ -220,9 +226,15 @@ class Remote:
         self.is_opening_due = False
 
     def open_up_to(self, index):
-        if index >= self.opened:
-            self.opened = index + 1
-            self.is_opening_due = True
+        """Whether this opened the stream of an index."""
+        if index < self.opened:
+            return False
+        self.opened = index + 1
+        self.is_opening_due = True
+        return True
+
+    def is_count_due(self):
+        return self.permitted - self.permitted_sent > self.concurrent // 8
 
     def set_concurrent(self, count):
         self.concurrent = count
@@ -243,19 +255,22 @@ class End:
         unidirectional, bidirectional, self.send_window, self.receive_window, self.stream_window = config
         self.remote = {"uni": Remote(unidirectional), "bi": Remote(bidirectional)}
         self.credit, self.debt = self.receive_window, 0
+        self.credit_sent = self.receive_window
         self.counts = {"uni": peer[0], "bi": peer[1]}
         self.limit, self.stream_limit = peer[3], peer[4]
         self.opened = {"uni": 0, "bi": 0}
         self.known = []
         self.send, self.receive = {}, {}
-        # finished, stopped and available are told in this order
+        # events but openings, and but writable streams that the connection or the send window blocked
         self.events = collections.deque()
+        # streams of which a write was blocked so
+        self.blocked = []
 
     def add_stream(self, id):
         if direction_of(id) == "bi" or opener_of(id) == self.name:
             self.send[id] = SendHalf(self.stream_limit)
         if direction_of(id) == "bi" or opener_of(id) != self.name:
-            self.receive[id] = ReceiveHalf()
+            self.receive[id] = ReceiveHalf(self.stream_window)
 
     def has_rest(self):
         """Whether bytes, ends, resets or stops are left to be sent."""
@@ -266,6 +281,41 @@ class End:
         written = sum(len(half.written) for half in self.send.values())
         retained = sum(half.retained() for half in self.send.values())
         return min(self.limit - written, self.send_window - retained)
+
+    def block(self, id):
+        if id not in self.blocked:
+            self.blocked.append(id)
+
+    def unblocked(self):
+        """The stream that was blocked last of those that may be written again. The others leave the list."""
+        while self.blocked:
+            id = self.blocked.pop()
+            half = self.send[id]
+            if not half.freed and not half.is_over() and half.limit > len(half.written):
+                return id
+        return None
+
+    def next_event(self):
+        for direction, remote in self.remote_in_order():
+            if remote.is_opening_due:
+                remote.is_opening_due = False
+                return f"opened {direction}"
+        id = self.unblocked() if self.write_room() > 0 else None
+        if id is not None:
+            return f"writable {id}"
+        return self.events.popleft() if self.events else "none"
+
+    def remote_in_order(self):
+        return [(direction, self.remote[direction]) for direction in DIRECTIONS]
+
+    def is_credit_due(self):
+        """Whether a limit that rose by an eighth of the window is to be told."""
+        return self.credit >= self.credit_sent + self.receive_window // 8
+
+    def has_news(self, half):
+        """Whether what was read of a stream gives anything to tell."""
+        is_count_due = any(remote.is_count_due() for remote in self.remote.values())
+        return is_count_due or self.is_credit_due() or half.is_limit_due(self.stream_window)
 
     def consume(self, count):
         """Bytes pay what was taken off the window, and then raise the limit."""
@@ -323,7 +373,7 @@ class End:
     # -- frames that come
 
     def accept(self, frame):
-        """A frame of the peer, of which DATA_BLOCKED and STREAM_DATA_BLOCKED change nothing."""
+        """A frame of the peer, of which DATA_BLOCKED and STREAM_DATA_BLOCKED change nothing. Whether it gives anything to tell."""
         accept = {
             Stream: self.accept_data,
             ResetStream: self.accept_reset,
@@ -332,24 +382,21 @@ class End:
             MaxStreamData: self.accept_stream_limit,
             MaxStreams: self.accept_count,
         }.get(type(frame))
-        if accept:
-            accept(frame)
+        return bool(accept and accept(frame))
 
     def note_opened(self, id):
-        if opener_of(id) != self.name:
-            self.remote[direction_of(id)].open_up_to(id // 4)
+        """Whether a frame opened the stream."""
+        return opener_of(id) != self.name and self.remote[direction_of(id)].open_up_to(id // 4)
 
-    def receiving(self, id):
-        """The half that receives on a stream, of which a frame came."""
-        self.note_opened(id)
-        half = self.receive[id]
-        half.heard = True
-        return half
+    def tell_readable(self, id):
+        """A frame came that is told, but for the one that opens the stream."""
+        if not self.note_opened(id):
+            self.events.append(f"readable {id}")
 
     def accept_data(self, frame):
-        half = self.receiving(frame.id)
+        half = self.receive[frame.id]
         if half.is_freed() or half.reset is not None:
-            return
+            return False
         end = frame.offset + len(frame.data)
         fresh = max(end - half.highest, 0)
         half.highest += fresh
@@ -357,23 +404,29 @@ class End:
             half.final_size = end
         if half.stop is None:
             half.arrive(frame.offset, end)
-        else:
-            self.consume(fresh)
-            self.free_if_over(frame.id)
+            self.tell_readable(frame.id)
+            return False
+        self.consume(fresh)
+        self.free_if_over(frame.id)
+        return self.is_credit_due()
 
     def accept_reset(self, frame):
-        half = self.receiving(frame.id)
+        half = self.receive[frame.id]
         if half.is_freed() or half.reset is not None:
-            return
-        self.consume(frame.final_size - (half.read if half.stop is None else half.highest))
+            return False
+        if half.stop is None:
+            self.tell_readable(frame.id)
+        rest = frame.final_size - (half.read if half.stop is None else half.highest)
+        self.consume(rest)
         half.highest = half.final_size = frame.final_size
         half.reset = frame.code
         self.free_if_over(frame.id)
+        return rest > 0 and self.is_credit_due()
 
     def accept_stop(self, frame):
-        self.note_opened(frame.id)
         half = self.send[frame.id]
         if not half.freed and half.stopped is None:
+            self.note_opened(frame.id)
             half.stopped = frame.code
             self.events.append(f"stopped {frame.id} {frame.code}")
 
@@ -381,9 +434,15 @@ class End:
         self.limit = max(self.limit, frame.limit)
 
     def accept_stream_limit(self, frame):
-        self.note_opened(frame.id)
         half = self.send[frame.id]
+        rises = not half.freed and not half.is_over() and frame.limit > half.limit
+        if rises and len(half.written) == half.limit:
+            if self.write_room() > 0:
+                self.events.append(f"writable {frame.id}")
+            else:
+                self.block(frame.id)
         half.limit = max(half.limit, frame.limit)
+        self.note_opened(frame.id)
 
     def accept_count(self, frame):
         if frame.count > self.counts[frame.direction]:
@@ -421,14 +480,18 @@ class End:
 
     def emit_limit(self, frame):
         check_same(frame.limit, self.credit)
+        self.credit_sent = frame.limit
 
     def emit_stream_limit(self, frame):
         half = self.receive[frame.id]
         check(half.final_size is None and half.stop is None, "a limit where no more is to come")
         check_same(frame.limit, half.read + self.stream_window)
+        half.limit_sent = frame.limit
 
     def emit_count(self, frame):
-        check_same(frame.count, self.remote[frame.direction].permitted)
+        remote = self.remote[frame.direction]
+        check_same(frame.count, remote.permitted)
+        remote.permitted_sent = frame.count
 
     def emit_blocked(self, frame):
         check_same(frame.limit, self.limit)
@@ -459,10 +522,8 @@ class Model:
         self.tally = tally
         # the replies of which the model does not know each word
         self.judges = {
-            "poll": self.take_poll,
             "read": self.take_read,
             "emit": self.take_emit,
-            "deliver": self.take_deliver,
         }
 
     # -- refusals
@@ -537,24 +598,8 @@ class Model:
         self.ends[name].remote[direction].set_concurrent(int(count))
         return "ok"
 
-    def take_poll(self, reply, name):
-        end = self.ends[name]
-        kind, *fields = reply.split(" ")
-        self.tally[kind] += 1
-        if kind == "none":
-            check(not end.events, "an event is withheld")
-            check(not any(remote.is_opening_due for remote in end.remote.values()), "an opening is withheld")
-        elif kind == "opened":
-            remote = end.remote[fields[0]]
-            check(remote.is_opening_due, "no stream was opened")
-            remote.is_opening_due = False
-        elif kind == "readable":
-            check(end.receive[int(fields[0])].heard, "nothing came on the stream")
-        elif kind == "writable":
-            check(int(fields[0]) in end.send, "the end does not send on the stream")
-        else:
-            check(end.events, "nothing is to be told")
-            check_same(reply, end.events.popleft())
+    def poll(self, name):
+        return self.ends[name].next_event()
 
     # -- writers
 
@@ -564,6 +609,7 @@ class Model:
         if half is None or half.freed:
             return "closed"
         if end.write_room() <= 0:
+            end.block(id)
             return "blocked"
         if half.is_over():
             return "closed"
@@ -658,12 +704,14 @@ class Model:
             return
         half.unordered = not ordered
         *chunks, transmit = reply.split(" ")
-        check(transmit in ("transmit", "quiet"), "whether there is something to send is not told")
         count = sum(":" in chunk for chunk in chunks)
         check(count <= int(times), "more chunks than were asked for")
         for chunk in chunks[:count]:
             self.take_chunk(end, id, ordered, int(most), chunk)
         self.take_last(end, id, ordered, " ".join(chunks[count:]), count == int(times))
+        wanted = "transmit" if end.has_news(half) else "quiet"
+        self.tally[wanted] += 1
+        check_same(transmit, wanted)
 
     def take_chunk(self, end, id, ordered, most, chunk):
         self.tally["ordered chunk" if ordered else "unordered chunk"] += 1
@@ -712,13 +760,14 @@ class Model:
         check(is_full or not end.has_rest(), "what fits is not sent")
         self.payloads.append(Payload(name, [Sent(frame) for frame in frames]))
 
-    def take_deliver(self, reply, number, index):
+    def deliver(self, number, index):
         payload = self.payloads[int(number)]
         sent = payload.sent[int(index)]
-        check(reply in ("ok", "ok transmit"), "a frame of an honest end is refused")
         self.tally["repeated delivery"] += sent.accepted
         sent.accepted = True
-        self.ends[OTHER[payload.writer]].accept(sent.frame)
+        transmits = self.ends[OTHER[payload.writer]].accept(sent.frame)
+        self.tally["credit at once"] += transmits
+        return "ok transmit" if transmits else "ok"
 
     def lose_stream(self, number, index):
         payload = self.payloads[int(number)]

@@ -1,5 +1,6 @@
 """Sessions of `streampair` whose network loses frames, carries very many of them, or leaves gaps."""
 import collections
+import random
 import unittest
 
 from frames import check_same
@@ -8,7 +9,7 @@ from test_programs import need
 from test_sessions import Program
 from test_streampair import CONFIGS, Sessions, var_int
 
-WIDE = "2000 0 1000000 1000000 1000000"
+WIDE = "5000 0 1000000 1000000 1000000"
 WIDE_CONFIGS = f"config a {WIDE}\nconfig b {WIDE}\n"
 
 
@@ -69,7 +70,7 @@ class Resets(Sessions):
 
 
 class ManyFrames(Sessions):
-    STREAMS = 2000
+    STREAMS = 5000
     # MAX_STREAMS is due once more than an eighth of them is over
     BEFORE_DUE = STREAMS // 8
     # how many pieces with gaps between them are held, at most
@@ -108,7 +109,7 @@ class ManyFrames(Sessions):
             yield f"read b {id} o 100 9", f"0:{byte} end {transmit}"
             yield "poll a", f"finished {id}"
 
-    def test_two_thousand_frames_of_one_payload_come_across(self):
+    def test_five_thousand_frames_of_one_payload_come_across(self):
         self.gives_all([*self.writers(), *self.network(), *self.readers()])
 
     def small_payloads(self, count):
@@ -245,6 +246,45 @@ class Network:
         self.read_all()
         self.carry("b")
         self.poll_all()
+
+
+class Sizes(unittest.TestCase):
+    """A stream of each number of bytes, on both sides of each power of two, in payloads of at most 1200 bytes."""
+
+    PAYLOADS = 100
+
+    def test_bytes_of_every_size_come_across(self):
+        for power in range(17):
+            for size in (2**power - 1, 2**power, 2**power + 1):
+                with self.subTest(size), Program() as running:
+                    self.carry(running.reply_to, size)
+
+    def gives(self, reply_to, *steps):
+        for line, reply in steps:
+            self.assertEqual(reply_to(line), reply, line[:100])
+
+    def carry(self, reply_to, size):
+        content = random.Random(size).randbytes(size)
+        self.gives(
+            reply_to,
+            ("config a 4 4 100000 100000 100000", "ok"),
+            ("config b 4 4 100000 100000 100000", "ok"),
+            ("open a uni", "id 2"),
+            (f"write a 2 {content.hex() or '-'}", f"wrote {size}"),
+            ("finish a 2", "ok"),
+        )
+        for number in range(self.PAYLOADS):
+            _, numbered, payload = reply_to("emit a 1200 f").split(" ")
+            self.assertEqual(numbered, str(number))
+            if payload == "-":
+                break
+            self.assertLessEqual(len(payload), 2 * 1200)
+            self.gives(reply_to, (f"deliver {number} 0", "ok"), (f"ack-stream {number} 0", "ok"))
+        self.gives(reply_to, ("accept b uni", "id 2"))
+        *chunks, last, _ = reply_to("read b 2 o 1000000 1000").split(" ")
+        self.assertEqual(b"".join(bytes.fromhex(chunk.split(":")[1]) for chunk in chunks), content)
+        self.assertEqual(last, "end")
+        self.gives(reply_to, ("poll a", "finished 2"), ("poll a", "none"))
 
 
 class TwentyStreams(unittest.TestCase):

@@ -207,8 +207,23 @@ def var_int(number):
 
 
 class LongSessions(Sessions):
-    def test_a_session_of_five_thousand_lines_is_served(self):
-        self.session_gives("poll a\n" * 5000, "none\n" * 5000)
+    def test_a_session_of_three_hundred_thousand_lines_is_served(self):
+        """Byte after byte is written, sent, delivered, read and acknowledged."""
+        windows = "4 4 18446744073709551615 4611686018427387903 4611686018427387903"
+        lines = [f"config a {windows}\nconfig b {windows}\nopen a uni\n"]
+        replies = ["ok\nok\nid 2\n"]
+        lines.append("write a 2 00\nemit a 100 f\ndeliver 0 0\naccept b uni\nread b 2 o 1 1\nack-stream 0 0\n")
+        replies.append("wrote 1\npayload 0 0a020100\nok\nid 2\n0:00 more quiet\nok\n")
+        for number in range(1, 60_000):
+            byte = f"{number % 251:02x}"
+            lines.append(f"write a 2 {byte}\nemit a 100 f\ndeliver {number} 0\n")
+            replies.append(f"wrote 1\npayload {number} 0e02{var_int(number)}01{byte}\nok\n")
+            lines.append(f"read b 2 o 1 1\nack-stream {number} 0\n")
+            replies.append(f"{number}:{byte} more quiet\nok\n")
+        self.assertGreater(sum(text.count("\n") for text in lines), 300_000)
+        written, status = run("streampair", "".join(lines))
+        self.assertTrue(written == "".join(replies))
+        self.assertEqual(status, 0)
 
     def test_a_session_of_a_thousand_lines_is_served(self):
         """With ample memory nothing is refused: each power of two, and what lies beside it."""

@@ -33,6 +33,11 @@ class Program:
         self.input, self.output = f"{folder}/input", f"{folder}/output"
         self.loop = subprocess.Popen([path], stdin=subprocess.PIPE, stdout=subprocess.PIPE, text=True, bufsize=1)
 
+    def end(self):
+        self.loop.stdin.close()
+        self.loop.wait()
+        self.loop.stdout.close()
+
     def run(self, lines, refused=0):
         """Returns the exit status, how many requests for memory there were, and the replies."""
         with open(self.input, "w") as it:
@@ -328,7 +333,8 @@ class Check:
         return None
 
 
-def main(path, first, last, *files):
+def tried(path, seeds, files):
+    """Tries the sessions of the files, two in which pieces are compacted, and one for each seed."""
     with tempfile.TemporaryDirectory() as folder:
         program = Program(os.path.abspath(path), folder)
         check = Check(program)
@@ -337,9 +343,15 @@ def main(path, first, last, *files):
                 check.session(file, it.read().splitlines())
         for order in "ou":
             check.session(f"compaction, {order}", small_frames_of_large_payloads(order))
-        for seed in range(int(first), int(last) + 1):
+        for seed in seeds:
             check.session(f"seed {seed}", Draw(program, seed).session())
             print(f"seed {seed}: {check.tally['runs']} runs, {len(check.wrong)} wrong", file=sys.stderr)
+        program.end()
+    return check
+
+
+def main(path, first, last, *files):
+    check = tried(path, range(int(first), int(last) + 1), files)
     for name, times in check.tally.items():
         print(f"{name}: {times}")
     print(*check.wrong, f"wrong: {len(check.wrong)}", sep="\n")

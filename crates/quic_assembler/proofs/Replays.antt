@@ -1,5 +1,5 @@
 -- What is known of a list of steps.
-use Rattle.std.proofs.Common.{◌≡◌, ℕ, ◌+◌, ◌-◌, ◌≤◌, ◌<◌, ◌↔◌, inl, inr, refl, sym, ap, ◌∙◌, List, [], ◌∷◌, ◌++◌, length, take, get_or, arith, Bool, true, false, Option, Some, None, option_to_list, append_assoc}
+use Rattle.std.proofs.Common.{◌≡◌, ℕ, ◌+◌, ◌-◌, ◌≤◌, ◌<◌, ◌↔◌, inl, inr, refl, sym, ap, ◌∙◌, List, [], ◌∷◌, ◌++◌, length, take, get_or, arith, Bool, IfSome, true, false, Option, Some, None, option_to_list, append_assoc}
 use Rattle.std.specs.Prelude.{◌||◌}
 use Rattle.std.specs.List.{Any, All, AllPairs}
 use Rattle.std.proofs.lemmas.List.{append-nil, length-append, get_or_append_left, get_or_at, get_or-take, length-take, get_or_default}
@@ -9,13 +9,12 @@ use Rattle.quic_assembler.specs.declared.steps.Op.{Op}
 use Rattle.quic_assembler.specs.declared.steps.Op.TheVariants.{Insert, Read, Unordered}
 use Rattle.quic_assembler.specs.declared.steps.ReplayError.{ReplayError}
 use Rattle.quic_assembler.specs.declared.steps.ReplayError.TheVariants.{TooManyChunks, CompactionMemory, OutOfMemory, BadPiece}
-use Rattle.std.proofs.Common.{Result, Ok, Err, OnErr}
-use Rattle.std.specs.Result.{is_err}
+use Rattle.std.proofs.Common.{Result, Ok, Err}
 use Rattle.std.proofs.lemmas.Bool.{false≢true}
 use Rattle.std.proofs.lemmas.List.{take_more}
 use Rattle.quic_assembler.specs.declared.chunk.Chunk.{Chunk}
 use Rattle.quic_assembler.specs.Reassembly.{IsHeld, IsWithin, HoldsNothing}
-use Rattle.quic_assembler.specs.Steps.{State, Body, IsDoneIn, ReadsChunk, LeavesMode, TakesOp, Replays, StepCarries, IsCarriedBy, AreApart, Follows, ordered_steps, later_steps, IsGapless, IsReplay, RefusesStep}
+use Rattle.quic_assembler.specs.Steps.{State, Body, is_read, IsDoneIn, ReadsChunk, LeavesMode, TakesOp, Replays, StepCarries, IsCarriedBy, AreApart, Follows, ordered_steps, later_steps, IsGapless, IsReplay, RefusesStep}
 use Rattle.quic_assembler.proofs.Counts.{Any-nil, Any-unpush}
 
 -- one more step
@@ -196,10 +195,21 @@ replay_refused body ops i a m b room out next given op error l p e r k o z f = r
   gapless = gapless body (take i ops) a m given r o z;
 }
 
-pub refused_memory : {S : Type 0} (body : Body S) (full : Type 0) (op : Op) (s : S) → full → RefusesStep body full op OutOfMemory s s
-refused_memory body full (Insert offset bytes size) s f = refl
-refused_memory body full (Read most) s f = inl (f, refl)
-refused_memory body full Unordered s f = inl (f, refl)
+pub refused_memory : {S : Type 0} (body : Body S) (full : Type 0) (op : Op) (s : S) → is_read op ≡ true → full → RefusesStep body full op OutOfMemory s s
+refused_memory body full (Insert offset bytes size) s e f = absurd (false≢true e)
+refused_memory body full (Read most) s e f = inl (f, refl)
+refused_memory body full Unordered s e f = absurd (false≢true e)
+
+-- only a read gives a chunk
+pub gives_by_read : {S : Type 0} (body : Body S) (op : Op) (a b : S) (given : Option Chunk) → TakesOp body op a given b → IfSome given (λ _. is_read op ≡ true)
+gives_by_read body (Insert offset bytes size) a b given h = rw h.0 tt
+gives_by_read body (Read most) a b None h = tt
+gives_by_read body (Read most) a b (Some chunk) h = refl
+gives_by_read body Unordered a b given h = rw h.0 tt
+
+pub if_some : {A : Type 0} {P Q : Type 0} (o : Option A) → IfSome o (λ _. P) → (P → Q) → IfSome o (λ _. Q)
+if_some None h f = tt
+if_some (Some x) h f = f h
 
 -- what a call refused
 pub refused_by_call : {S : Type 0} (body : Body S) (full : Type 0) (op : Op) (e : ReplayError) (a b : S) → RefusesStep body ⊥ op e a b → RefusesStep body full op e a b
@@ -209,10 +219,5 @@ refused_by_call body full (Insert offset bytes size) OutOfMemory a b h = h
 refused_by_call body full (Insert offset bytes size) BadPiece a b h = h
 refused_by_call body full (Read most) OutOfMemory a b h = elim h [ inl n ↦ absurd n.0 | inr c ↦ inr c ]
 refused_by_call body full (Read most) e a b h = absurd h
-refused_by_call body full Unordered OutOfMemory a b h = elim h [ inl n ↦ absurd n.0 | inr c ↦ inr c ]
+refused_by_call body full Unordered OutOfMemory a b h = h
 refused_by_call body full Unordered e a b h = absurd h
-
--- what a call that failed ensures
-pub at_err : {T E P : Type 0} (r : Result T E) → true ≡ is_err r → OnErr r P → P
-at_err (Ok x) e h = absurd (false≢true (sym e))
-at_err (Err x) e h = h

@@ -112,6 +112,12 @@ pub record LeavesMode (a b : State) : Type 0 where
   pub highest : b.highest ≡ a.highest
   pub pieces : b.pieces ≤ a.pieces
 
+-- whether a step may give a chunk
+abbrev pub is_read : Op → Bool
+is_read (Insert offset bytes size) = false
+is_read (Read most) = true
+is_read Unordered = false
+
 -- a step that was taken, and the chunk that it gave: its call answered so, and refused nothing
 abbrev pub TakesOp : {S : Type 0} → Body S → Op → S → Option Chunk → S → Type 0
 TakesOp body (Insert offset bytes size) a o b =
@@ -123,7 +129,7 @@ TakesOp body (Read most) a (Some chunk) b = ReadsChunk (body.state a) (body.stat
 TakesOp body Unordered a o b =
     (o ≡ None) × LeavesMode (body.state a) (body.state b) × ((body.state a).ordered ≡ false → b ≡ a) × body.orders a false (Ok tt) b
 
--- why a step was refused, and what it left: its call refused it for that reason, or it was not taken: for want of room for a chunk (`full`), or, of an insert, of memory for the copy
+-- why a step was refused, and what it left: its call refused it for that reason, or it was not taken: a read for want of room for its chunk (`full`), an insert whose bytes are fit for want of memory for the copy
 abbrev pub RefusesStep : {S : Type 0} → Body S → Type 0 → Op → ReplayError → S → S → Type 0
 RefusesStep body full (Insert offset bytes size) TooManyChunks a b =
     Inserts (body.state a) (body.state b) offset bytes × (1024 < (body.state b).pieces)
@@ -134,12 +140,12 @@ RefusesStep body full (Insert offset bytes size) CompactionMemory a b =
     × (IsBehind (body.state a).ordered (body.state a).read offset bytes → ⊥)
     × IsFit offset bytes size × body.inserts a offset bytes size (Err insert_error.CompactionMemory) b
 RefusesStep body full (Insert offset bytes size) BadPiece a b = (b ≡ a) × ((2 ^ 62 ≤ offset + length bytes) ⊎ (size < length bytes))
-RefusesStep body full (Insert offset bytes size) OutOfMemory a b = b ≡ a
+RefusesStep body full (Insert offset bytes size) OutOfMemory a b = IsFit offset bytes size × (b ≡ a)
 RefusesStep body full (Read most) OutOfMemory a b =
     (full × (b ≡ a)) ⊎ (ReadsShort (body.state a) (body.state b) most × ((error : Refusal) × body.reads a most (Err error) b))
 RefusesStep body full (Read most) e a b = ⊥
 RefusesStep body full Unordered OutOfMemory a b =
-    (full × (b ≡ a)) ⊎ (Stays (body.state a) (body.state b) × ((body.state a).ordered ≡ true) × body.orders a false (Err ensure_error.OutOfMemory) b)
+    Stays (body.state a) (body.state b) × ((body.state a).ordered ≡ true) × body.orders a false (Err ensure_error.OutOfMemory) b
 RefusesStep body full Unordered e a b = ⊥
 
 -- the steps lead from a to b, one after the other, and gave the chunks

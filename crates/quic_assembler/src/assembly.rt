@@ -310,6 +310,7 @@ impl HeapAssembler {
     /// and what was read or is held counts as received. There is no way back.
     pub fn ensure_ordering(&mut self, ordered: bool) -> Result<(), EnsureError>
         ensures refused { (result ≡ Err EnsureError.IllegalOrderedRead) ↔ ((ordered ≡ true) × (self.old.ordered ≡ false)) }
+        ensures illegal { result ≡ Err EnsureError.IllegalOrderedRead → self.new ≡ self.old }
         ensures ok { OnOk result (self.new.ordered ≡ ordered) }
         ensures same { OnOk result (ordered ≡ self.old.ordered → self.new ≡ self.old) }
         ensures same_ok { ordered ≡ self.old.ordered → result ≡ Ok tt }

@@ -85,6 +85,7 @@ pub trait Reassemble {
     fn ensure_ordering(&mut self, ordered: bool) -> Result<(), EnsureError>
         ensures orders { orders self.old ordered result self.new }
         ensures refused { (result ≡ Err EnsureError.IllegalOrderedRead) ↔ ((ordered ≡ true) × (is_ordered self.old ≡ false)) }
+        ensures illegal { result ≡ Err EnsureError.IllegalOrderedRead → self.new ≡ self.old }
         ensures ok { OnOk result (is_ordered self.new ≡ ordered) }
         ensures same { OnOk result (ordered ≡ is_ordered self.old → self.new ≡ self.old) }
         ensures same_ok { ordered ≡ is_ordered self.old → result ≡ Ok tt }

@@ -1,7 +1,7 @@
 // A list of steps on any reassembler.
-ghost use Rattle.std.specs.Prelude.{◌≡◌, ℕ, ◌+◌, ◌^◌, ◌<◌, ◌≤◌, ◌⊎◌, Bool, true, false, OnOk, OnErr, IfOk, IfErr, length, take, vec_len, vec_capacity, option_to_list, IsTrue, [], ◌∷◌, ◌++◌};
+ghost use Rattle.std.specs.Prelude.{◌≡◌, ℕ, ◌+◌, ◌^◌, ◌<◌, ◌≤◌, ◌⊎◌, Bool, true, false, OnOk, OnErr, IfOk, IfErr, IfSome, length, take, vec_len, vec_capacity, option_to_list, IsTrue, [], ◌∷◌, ◌++◌};
 ghost use Rattle.quic_assembler.specs.Reassembly.{HoldsNothing};
-ghost use Rattle.quic_assembler.specs.Steps.{body_of, TakesOp, RefusesStep, IsReplay};
+ghost use Rattle.quic_assembler.specs.Steps.{body_of, is_read, TakesOp, RefusesStep, IsReplay};
 
 use crate::chunk::Chunk;
 use crate::errors::{EnsureError, InsertError};
@@ -146,9 +146,22 @@ fn take_step<R: Reassemble>(
     }
 }
 
-// There is room.
+// Makes room for the chunk that a step may give.
+fn make_room(op: &Op, out: &mut Vec<Chunk>) -> Result<(), OutOfMemory>
+    ensures items { out.new.items ≡ out.old.items }
+    ensures room { vec_capacity out.old ≤ vec_capacity out.new }
+    ensures ok { OnOk result (is_read op.now ≡ true → vec_len out.new < vec_capacity out.new) }
+    ensures full { OnErr result ((is_read op.now ≡ true) × (vec_capacity out.new ≤ length out.new.items)) }
+{
+    match op {
+        Op::Read { .. } => Ok(out.reserve(1)?),
+        Op::Insert { .. } | Op::Unordered => Ok(()),
+    }
+}
+
+// Where there is a chunk, there is room.
 fn keep(out: &mut Vec<Chunk>, given: Option<Chunk>)
-    requires { vec_len out.old < vec_capacity out.old }
+    requires { IfSome given (λ _. vec_len out.old < vec_capacity out.old) }
     ensures kept { out.new.items ≡ out.old.items ++ option_to_list given }
     ensures room { vec_capacity out.old ≤ vec_capacity out.new }
 {
@@ -161,8 +174,8 @@ fn keep(out: &mut Vec<Chunk>, given: Option<Chunk>)
 
 /// Takes the steps in order, on a reassembler that holds nothing, has read nothing and is in ordered mode. A chunk that
 /// a read gives goes behind `out`; a read that gives none adds nothing. It stops at the first refusal: the steps
-/// before it stand, in `r` and in `out`. Where `out` has room for a chunk for each step, a read is refused only where
-/// its own call is.
+/// before it stand, in `r` and in `out`. Where `out` has room for a chunk for each read, a read is refused only where
+/// its own call is. A piece out of range is always refused as such.
 pub fn replay<R: Reassemble>(r: &mut R, ops: &[Op], out: &mut Vec<Chunk>) -> Result<(), ReplayError>
     requires ordered { R.is_ordered r.old ≡ true }
     requires fresh { R.read_count r.old ≡ 0 }
@@ -171,9 +184,7 @@ pub fn replay<R: Reassemble>(r: &mut R, ops: &[Op], out: &mut Vec<Chunk>) -> Res
 {
     let mut ordered = true;
     for op in ops {
-        if out.reserve(1).is_err() {
-            return Err(ReplayError::OutOfMemory);
-        }
+        make_room(op, out)?;
         let chunk = take_step(r, op, &mut ordered)?;
         keep(out, chunk);
     }

@@ -9,6 +9,7 @@ use std::test::Fail;
 
 mod body;
 mod cases;
+mod floods;
 mod joins;
 mod refusals;
 mod sizes;
@@ -69,7 +70,7 @@ fn piece(alloc: Global, bytes: &[u8]) -> Result<Bytes, OutOfMemory>
     }
 }
 
-// Inserts a text. With no memory nothing is changed, and it is inserted again; with none for compaction it is held.
+// Inserts a text. With no memory nothing is changed, and it is inserted again.
 fn insert<B: Body + Drop>(
     rt: &impl Abort,
     a: &mut B,
@@ -89,10 +90,6 @@ fn insert<B: Body + Drop>(
             same(rt, a.held(), pieces);
             let second = piece(alloc, bytes)?;
             Ok(a.take_piece(offset, second, allocation_size))
-        }
-        Err(InsertError::CompactionMemory) => {
-            is_true(rt, a.held() > 0);
-            Ok(Ok(()))
         }
         _ => Ok(answer),
     }

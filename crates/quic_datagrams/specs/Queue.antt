@@ -3,7 +3,7 @@ use Rattle.std.specs.Prelude.{◌≡◌, ℕ, ◌+◌, ◌-◌, ◌^◌, ◌≤�
 use Rattle.quic_wire.specs.declared.frame.Datagram.{Datagram}
 use Rattle.quic_wire.specs.declared.error.ReceiveError.{ReceiveError}
 use Rattle.quic_wire.specs.declared.error.ReceiveError.TheVariants as receive_error
-use Rattle.quic_wire.specs.declared.error.TheConstants.TransportError.{PROTOCOL_VIOLATION}
+use Rattle.quic_wire.specs.Codes.{PROTOCOL_VIOLATION}
 use Rattle.quic_wire.specs.Text.{datagram_text}
 
 -- what a datagram counts: its length, and 32

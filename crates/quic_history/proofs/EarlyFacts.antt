@@ -8,7 +8,7 @@ use Rattle.quic_values.specs.declared.ids.Side.TheVariants.{Client, Server}
 use Rattle.quic_values.specs.declared.ids.Dir.{Dir}
 use Rattle.quic_values.specs.declared.ids.Dir.TheVariants.{Bi, Uni}
 use Rattle.quic_values.specs.Ids.{stream_id, other_side, initiator_of, dir_of, index_of}
-use Rattle.quic_wire.specs.declared.error.TheConstants.TransportError.{STREAM_STATE_ERROR}
+use Rattle.quic_wire.specs.Codes.{STREAM_STATE_ERROR}
 use Rattle.quic_limits.specs.Remote.{Remote}
 use Rattle.quic_receiving.specs.Half.{Half}
 use Rattle.quic_outgoing.specs.Senders.{is_local, are_one_end, new_sender}

@@ -7,7 +7,7 @@ use Rattle.quic_values.specs.declared.ids.Side.{Side}
 use Rattle.quic_values.specs.declared.ids.Dir.{Dir}
 use Rattle.quic_values.specs.declared.ids.Dir.TheVariants.{Bi, Uni}
 use Rattle.quic_values.specs.Ids.{stream_id, other_side}
-use Rattle.quic_wire.specs.declared.error.TheConstants.TransportError.{STREAM_LIMIT_ERROR}
+use Rattle.quic_wire.specs.Codes.{STREAM_LIMIT_ERROR}
 use Rattle.quic_limits.specs.Remote.{Remote, lacking, with_concurrent, one_accepted}
 use Rattle.quic_receiving.specs.Counted.{number}
 use Rattle.quic_receiving.specs.Half.{Half, new_half}

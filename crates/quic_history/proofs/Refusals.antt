@@ -7,7 +7,7 @@ use Rattle.quic_values.specs.declared.ids.Side.TheVariants.{Client, Server}
 use Rattle.quic_values.specs.declared.ids.Dir.{Dir}
 use Rattle.quic_values.specs.declared.ids.Dir.TheVariants.{Bi, Uni}
 use Rattle.quic_values.specs.Ids.{stream_id, other_side, is_client_side, index_of, initiator_of}
-use Rattle.quic_wire.specs.declared.error.TheConstants.TransportError.{STREAM_LIMIT_ERROR, STREAM_STATE_ERROR}
+use Rattle.quic_wire.specs.Codes.{STREAM_LIMIT_ERROR, STREAM_STATE_ERROR}
 use Rattle.quic_history.specs.World.{World, id_refusal, own_refusal, remote_of, is_own, is_same_side}
 
 -- the error, by whether a stream is this end's, whether it is bidirectional, how many are open, and its index

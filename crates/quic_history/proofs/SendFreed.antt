@@ -6,7 +6,7 @@ use Rattle.quic_values.specs.declared.ids.Side.{Side}
 use Rattle.quic_values.specs.declared.ids.Dir.{Dir}
 use Rattle.quic_values.specs.declared.ids.Dir.TheVariants.{Bi, Uni}
 use Rattle.quic_values.specs.Ids.{stream_id, other_side, dir_of, index_of}
-use Rattle.quic_wire.specs.declared.error.TheConstants.TransportError.{STREAM_LIMIT_ERROR}
+use Rattle.quic_wire.specs.Codes.{STREAM_LIMIT_ERROR}
 use Rattle.quic_limits.specs.Remote as remote
 use Rattle.quic_limits.specs.Remote.{Remote}
 use Rattle.quic_limits.specs.SendingCredit.{SendingCredit}

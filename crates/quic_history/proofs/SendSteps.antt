@@ -15,7 +15,7 @@ use Rattle.quic_wire.specs.declared.event.StreamEvent.{StreamEvent}
 use Rattle.quic_wire.specs.declared.event.StreamEvent.TheVariants as stream_event
 use Rattle.quic_wire.specs.declared.error.ReceiveError.{ReceiveError}
 use Rattle.quic_wire.specs.declared.error.ReceiveError.TheVariants as receive_error
-use Rattle.quic_wire.specs.declared.error.TheConstants.TransportError.{STREAM_STATE_ERROR, STREAM_LIMIT_ERROR}
+use Rattle.quic_wire.specs.Codes.{STREAM_STATE_ERROR, STREAM_LIMIT_ERROR}
 use Rattle.quic_limits.specs.Own.{Own, with_next_own}
 use Rattle.quic_limits.specs.Remote.{Remote, opening_told}
 use Rattle.quic_limits.specs.SendingCredit.{SendingCredit, with_blocked, with_released}

@@ -11,7 +11,7 @@ use Rattle.quic_receiving.specs.Counted.{number}
 use Rattle.quic_assembler.specs.declared.chunk.Chunk.{Chunk}
 use Rattle.quic_wire.specs.declared.error.ReceiveError.{ReceiveError}
 use Rattle.quic_wire.specs.declared.error.ReceiveError.TheVariants as receive_error
-use Rattle.quic_wire.specs.declared.error.TheConstants.TransportError.{INTERNAL_ERROR}
+use Rattle.quic_wire.specs.Codes.{INTERNAL_ERROR}
 use Rattle.quic_limits.specs.Credit.{Credit, is_max_data_due}
 use Rattle.quic_assembler.specs.Piece.{lies}
 use Rattle.quic_receiving.specs.Data.{Slice, Carries, is_in_slices, IsData, IsAllGiven}

@@ -9,7 +9,7 @@ use Rattle.quic_wire.specs.declared.event.StreamEvent.{StreamEvent}
 use Rattle.quic_wire.specs.declared.event.StreamEvent.TheVariants as stream_event
 use Rattle.quic_wire.specs.declared.error.ReceiveError.{ReceiveError}
 use Rattle.quic_wire.specs.declared.error.ReceiveError.TheVariants as receive_error
-use Rattle.quic_wire.specs.declared.error.TheConstants.TransportError.{FRAME_ENCODING_ERROR, STREAM_LIMIT_ERROR, STREAM_STATE_ERROR}
+use Rattle.quic_wire.specs.Codes.{FRAME_ENCODING_ERROR, STREAM_LIMIT_ERROR, STREAM_STATE_ERROR}
 use Rattle.quic_limits.specs.Own.{with_count}
 use Rattle.quic_limits.specs.Remote.{opening_told}
 use Rattle.quic_limits.specs.SendingCredit.{with_limit, with_window}

@@ -7,7 +7,7 @@ use Rattle.quic_values.specs.declared.ids.Dir.TheVariants.{Bi, Uni}
 use Rattle.quic_values.specs.Ids.{other_side, stream_id, initiator_of, dir_of, index_of}
 use Rattle.quic_wire.specs.declared.event.StreamEvent.{StreamEvent}
 use Rattle.quic_wire.specs.declared.event.StreamEvent.TheVariants as stream_event
-use Rattle.quic_wire.specs.declared.error.TheConstants.TransportError.{STREAM_LIMIT_ERROR, STREAM_STATE_ERROR}
+use Rattle.quic_wire.specs.Codes.{STREAM_LIMIT_ERROR, STREAM_STATE_ERROR}
 use Rattle.quic_limits.specs.Credit.{Credit, new_credit, credited, counted, resized}
 use Rattle.quic_limits.specs.Remote.{Remote, new_remote, replaced, replacement, opened_up_to}
 use Rattle.quic_receiving.specs.Half.{Half, new_half}

@@ -9,7 +9,7 @@ use Rattle.quic_wire.specs.declared.event.StreamEvent.{StreamEvent}
 use Rattle.quic_wire.specs.declared.event.StreamEvent.TheVariants as stream_event
 use Rattle.quic_wire.specs.declared.error.ReceiveError.{ReceiveError}
 use Rattle.quic_wire.specs.declared.error.ReceiveError.TheVariants as receive_error
-use Rattle.quic_wire.specs.declared.error.TheConstants.TransportError.{INTERNAL_ERROR}
+use Rattle.quic_wire.specs.Codes.{INTERNAL_ERROR}
 use Rattle.quic_assembler.specs.Reassembly.{Reassembly, piece_count}
 use Rattle.quic_wire.specs.declared.frame.Frame.{Frame}
 use Rattle.quic_limits.specs.Remote.{Remote, replaced, replacement, opened_up_to, one_accepted, opening_told, streams_announced}

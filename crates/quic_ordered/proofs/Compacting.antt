@@ -1,7 +1,7 @@
 -- Pieces that touch are joined.
 use Rattle.std.proofs.Common.{◌≡◌, ℕ, ◌+◌, ◌-◌, ◌*◌, ◌/◌, ◌≤◌, ◌<◌, ◌⊎◌, refl, sym, ap, subst, ◌∙◌, inl, inr, List, [], ◌∷◌, ◌++◌, length, arith, append_assoc, Bool, true, false, cond, Some}
 use Rattle.std.specs.Prelude.{nat_le, ◌≢◌, slice_index}
-use Rattle.std.specs.List.{All}
+use Rattle.std.specs.List.{All, Any}
 use Rattle.std.specs.Map.{values_of}
 use Rattle.std.proofs.lemmas.Bool.{cases_lt}
 use Rattle.std.proofs.lemmas.Bool.Decides.{nat_tests}
@@ -9,7 +9,7 @@ use Rattle.std.proofs.lemmas.List.{append-nil, length-append, get_or_append_left
 use Rattle.std.proofs.lemmas.List.Elements.{All-head, All-tail, All-nil, All-cons, All-push, All-pop, All-append, All-weaker}
 use Rattle.quic_assembler.specs.Piece.{PieceView, run_end, RunHolds}
 use Rattle.quic_assembler.proofs.Counts.{Any-here, Any-there, Any-cons, Any-nil, Any-append}
-use Rattle.quic_ordered.specs.Rows.{Hold, HoldSame, IsGathered, IsAmong, IsKeptOrOwn, JoinsLast, LieInOrder, LieWithGaps, IsTidy, tidied, joined_with}
+use Rattle.quic_ordered.specs.Rows.{Hold, HoldSame, IsGathered, IsAmong, IsKeptOrOwn, Outgrows, JoinsLast, LieInOrder, LieWithGaps, IsTidy, tidied, joined_with}
 use Rattle.quic_ordered.proofs.Order.{hold_front, hold_behind, lower, order_behind}
 
 -- ---- the same is held
@@ -143,9 +143,39 @@ all_among xs (y ∷ ys) =
     All-cons (IsAmong (xs ++ (y ∷ ys))) y ys (among_behind xs (y ∷ ys) y (Any-here (λ (s : PieceView). s ≡ y) y ys refl))
     (subst (λ (zs : List PieceView). All (IsAmong zs) ys) (append_assoc xs (y ∷ []) ys) (all_among (xs ++ y ∷ []) ys))
 
-tidied_stems : (all : List PieceView) (r : PieceView) (b : Bool) → IsAmong all r → IsKeptOrOwn all (cond b r (record r { allocation_size = length r.bytes }))
-tidied_stems all r true h = inl h
-tidied_stems all r false h = inr refl
+any_more : (P Q : PieceView → Type 0) → ((s : PieceView) → P s → Q s) → (xs : List PieceView) → Any P xs → Any Q xs
+any_more P Q f [] h = absurd (Any-nil P h)
+any_more P Q f (x ∷ xs) h =
+    elim (Any-cons P x xs h) [
+      | inl a ↦ Any-here Q x xs (f x a)
+      | inr b ↦ Any-there Q x xs (any_more P Q f xs b)
+    ]
+
+outgrown : (all : List PieceView) (r new : PieceView) → new.offset ≡ r.offset → (IsTidy r → ⊥) ⊎ (length r.bytes < length new.bytes) → IsAmong all r → Any (Outgrows new) all
+outgrown all r new o more h =
+    any_more (λ (s : PieceView). s ≡ r) (Outgrows new)
+    (λ s e. (ap (λ (q : PieceView). q.offset) e ∙ sym o, subst (λ (q : PieceView). (IsTidy q → ⊥) ⊎ (length q.bytes < length new.bytes)) (sym e) more))
+    all h
+
+-- a piece that grows goes on to outgrow what it outgrew
+grown : (all : List PieceView) (last new : PieceView) → new.offset ≡ last.offset → length last.bytes < length new.bytes → IsKeptOrOwn all last → Any (Outgrows new) all
+grown all last new o more (inl h) = outgrown all last new o (inr more) h
+grown all last new o more (inr h) =
+    any_more (Outgrows last) (Outgrows new)
+    (λ s e. (
+      e.0 ∙ sym o,
+      elim e.1 [
+        | inl u ↦ inl u
+        | inr l ↦ inr (omega (arith, l, more))
+      ],
+    ))
+    all h.1
+
+tidied_stems : (all : List PieceView) (r : PieceView) (b : Bool) → nat_le r.allocation_size (length r.bytes * 6 / 5) ≡ b → IsAmong all r → IsKeptOrOwn all (cond b r (record r { allocation_size = length r.bytes }))
+tidied_stems all r true e h = inl h
+tidied_stems all r false e h =
+    let no : length r.bytes * 6 / 5 < r.allocation_size = grind (arith, nat_tests) in
+    inr (refl, outgrown all r (record r { allocation_size = length r.bytes }) refl (inl (λ t. absurd (omega (arith, t, no)))) h)
 
 pub gathered_none : (all out : List PieceView) → out ≡ [] → LieInOrder 0 all → IsGathered all out all
 gathered_none all out e h =
@@ -170,7 +200,7 @@ step_put all out rest p g apart =
       apart = apart;
       tidy = All-push IsTidy out (tidied p) g.tidy t.2;
       pieces = let n = g.pieces in omega (arith, n, length-append out (tidied p ∷ []));
-      stems = All-push (IsKeptOrOwn all) out (tidied p) g.stems (tidied_stems all p (nat_le p.allocation_size (length p.bytes * 6 / 5)) (All-head (IsAmong all) p rest g.left));
+      stems = All-push (IsKeptOrOwn all) out (tidied p) g.stems (tidied_stems all p (nat_le p.allocation_size (length p.bytes * 6 / 5)) refl (All-head (IsAmong all) p rest g.left));
       left = All-tail (IsAmong all) p rest g.left;
     }
 
@@ -179,6 +209,8 @@ step_join all others rest last p g e =
     let a = append_assoc others (last ∷ []) (p ∷ rest) in
     let b = append_assoc others (joined_with last p ∷ []) rest in
     let l = length-append last.bytes p.bytes in
+    let n = next_begins 0 others rest last p (subst (LieInOrder 0) a g.order) in
+    let stems = All-pop (IsKeptOrOwn all) (others ++ last ∷ []) others (Some last) refl g.stems in
     record {
       same = same_trans all ((others ++ last ∷ []) ++ (p ∷ rest)) ((others ++ joined_with last p ∷ []) ++ rest) g.same
           (subst (HoldSame ((others ++ last ∷ []) ++ (p ∷ rest))) (sym b) (subst (λ (ys : List PieceView). HoldSame ys (others ++ (joined_with last p ∷ rest))) (sym a) (same_within others (last ∷ (p ∷ [])) (joined_with last p ∷ []) rest (same_joined last p e))));
@@ -186,7 +218,7 @@ step_join all others rest last p g e =
       apart = gaps_joined 0 others last p g.apart;
       tidy = All-push IsTidy others (joined_with last p) (All-pop IsTidy (others ++ last ∷ []) others (Some last) refl g.tidy).0 (omega (arith, l));
       pieces = let n = g.pieces in omega (arith, n, length-append others (last ∷ []), length-append others (joined_with last p ∷ []));
-      stems = All-push (IsKeptOrOwn all) others (joined_with last p) (All-pop (IsKeptOrOwn all) (others ++ last ∷ []) others (Some last) refl g.stems).0 (inr (omega (arith, l)));
+      stems = All-push (IsKeptOrOwn all) others (joined_with last p) stems.0 (inr (omega (arith, l), grown all last (joined_with last p) refl (omega (arith, l, n.1)) stems.1));
       left = All-tail (IsAmong all) p rest g.left;
     }
 

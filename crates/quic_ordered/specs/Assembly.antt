@@ -9,7 +9,7 @@ use Rattle.quic_assembler.specs.declared.errors.InsertError.TheVariants.{TooMany
 use Rattle.quic_assembler.specs.Piece.{PieceView, sums_of, cut_at, lies, run_end}
 use Rattle.quic_assembler.specs.Reassembly.{Reassembly, Holds, IsDone, is_done, IsHeld, IsAssembler, IsStale, Takes, is_wasteful, with_piece, MatchInsert}
 use Rattle.quic_ordered.specs.Entries.{piece_of}
-use Rattle.quic_ordered.specs.Rows.{LieInOrder, LieWithGaps, IsTidy, HoldSame, Merges, StemsFrom, StaysApart, Encloses, JoinsAll, AddsOnly}
+use Rattle.quic_ordered.specs.Rows.{LieInOrder, LieWithGaps, IsTidy, IsKeptOrOwn, HoldSame, Merges, StemsFrom, StaysApart, Encloses, JoinsAll, AddsOnly}
 
 -- what is true of an assembler whose pieces do not overlap: in ordered mode they lie behind what was read
 pub record IsApartAssembler (runs : List PieceView) (received : List Range) (ordered : Bool) (bytes_read : ℕ) : Type 0 where
@@ -48,11 +48,13 @@ pub record KeepsPiece (old new : Reassembly) (offset : ℕ) (bytes : List ℕ) (
   pub bytes_read : new.bytes_read ≡ old.bytes_read
   pub ordered : new.ordered ≡ old.ordered
 
--- pieces that touch were joined, and those that kept much more memory alive than they have bytes were copied
+-- pieces that touch were joined, and those that kept much more memory alive than they have bytes were copied. Each piece
+-- is one that was there, with its allocation size, or has an allocation size of its length
 pub record IsJoined (mid new : List PieceView) : Type 0 where
   pub same : HoldSame mid new
   pub apart : LieWithGaps 0 new
   pub tidy : All IsTidy new
+  pub memory : All (IsKeptOrOwn mid) new
 
 -- pieces were compacted where that is due, and only there
 abbrev pub Relieves : Result (Unit {0}) InsertError → Bool → List PieceView → List PieceView → Type 0

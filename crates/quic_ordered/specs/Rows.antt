@@ -92,9 +92,13 @@ pub record JoinsLast (rs : List PieceView) (p : PieceView) (rs' : List PieceView
 abbrev pub IsAmong : List PieceView → PieceView → Type 0
 IsAmong rs r = Any (λ s. s ≡ r) rs
 
--- a piece was held before, or has memory of its own
+-- s begins where r does, and kept too much memory alive or has fewer bytes
+abbrev pub Outgrows : PieceView → PieceView → Type 0
+Outgrows r s = (s.offset ≡ r.offset) × ((IsTidy s → ⊥) ⊎ (length s.bytes < length r.bytes))
+
+-- a piece was held before, with its allocation size, or has memory of its own in the place of one that it outgrows
 abbrev pub IsKeptOrOwn : List PieceView → PieceView → Type 0
-IsKeptOrOwn rs r = IsAmong rs r ⊎ (r.allocation_size ≡ length r.bytes)
+IsKeptOrOwn rs r = IsAmong rs r ⊎ ((r.allocation_size ≡ length r.bytes) × Any (Outgrows r) rs)
 
 -- of all pieces some were moved to `out`, and joined there where they touch; the rest is left
 pub record IsGathered (all out rest : List PieceView) : Type 0 where

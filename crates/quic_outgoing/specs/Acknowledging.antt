@@ -1,5 +1,5 @@
 -- What acknowledgements and losses of frames do to a stream.
-use Rattle.std.specs.Prelude.{◌≡◌, ℕ, ℤ, ◌-◌, Bool, true, false, not, ◌&&◌, ◌||◌, ◌==◌, nat_le, List, Option, Some, None, is_some, Result, Ok, Err, if◌then◌else◌, MatchBool}
+use Rattle.std.specs.Prelude.{◌≡◌, ◌⊎◌, ◌<◌, ℕ, ℤ, ◌-◌, Bool, true, false, not, ◌&&◌, ◌||◌, ◌==◌, nat_le, List, Option, Some, None, is_some, Result, Ok, Err, if◌then◌else◌, MatchBool}
 use Rattle.std.specs.declared.ops.Range.{Range}
 use Rattle.quic_values.specs.declared.memory.OutOfMemory.{OutOfMemory}
 use Rattle.quic_values.specs.Runs.{lies_in}
@@ -28,6 +28,11 @@ pub record AcknowledgesOffsets (offsets : Range ℕ) (fin : Bool) (s t : Send) :
   pub sound : IsSound t.pending
   pub others : t ≡ record s { state = after_ack s.state fin; pending = t.pending }
 
+-- the report that offsets of a half are acknowledged may want memory: they lie behind a gap, or nothing was done on it
+abbrev pub MayWantMemory : Range ℕ → Option Send → Type 0
+MayWantMemory offsets None = ⊥
+MayWantMemory offsets (Some s) = ((s.pending.prefix < offsets.start) × (offsets.start < offsets.end)) ⊎ ((is_ready s.state ≡ true) × (s.pending.offset ≡ 0))
+
 -- whether the end and every byte are acknowledged
 abbrev pub is_complete : Send → Bool
 is_complete s = is_finish_acked s.state && (s.pending.prefix == s.pending.offset)
@@ -46,6 +51,12 @@ pub record AcksHalf (u : Outgoing) (id : ℕ) (offsets : Range ℕ) (fin : Bool)
 abbrev pub AcksStream : Outgoing → ℕ → Range ℕ → Bool → Result Bool OutOfMemory → Outgoing → Type 0
 AcksStream u id offsets fin (Ok done) v = MatchBool (were_sent (u.halves id) offsets) (AcksHalf u id offsets fin done v) ((done ≡ false) × (v ≡ u))
 AcksStream u id offsets fin (Err e) v = (is_some (u.halves id) ≡ true) × (v ≡ u)
+
+-- the report that offsets of a half are lost may want memory: some lie above the acknowledged prefix, or nothing was done
+-- on it
+abbrev pub LossMayWantMemory : Range ℕ → Option Send → Type 0
+LossMayWantMemory offsets None = ⊥
+LossMayWantMemory offsets (Some s) = ((offsets.start < offsets.end) × (s.pending.prefix < offsets.end)) ⊎ ((is_ready s.state ≡ true) × (s.pending.offset ≡ 0))
 
 -- a half once a frame of these offsets is lost: those that are not acknowledged are to be sent again, and so is the end
 -- of a finished stream, if the frame had it

@@ -6,7 +6,7 @@ use Rattle.quic_values.specs.declared.ids.Dir.{Dir}
 use Rattle.quic_values.specs.declared.memory.OutOfMemory.{OutOfMemory}
 use Rattle.quic_values.specs.Ids.{stream_id}
 use Rattle.quic_wire.specs.declared.error.TransportError.{TransportError}
-use Rattle.quic_wire.specs.declared.error.TheConstants.TransportError.{FRAME_ENCODING_ERROR}
+use Rattle.quic_wire.specs.Codes.{FRAME_ENCODING_ERROR}
 use Rattle.quic_limits.specs.Own.{with_next_own, with_count}
 use Rattle.quic_limits.specs.SendingCredit.{is_limit, with_released}
 use Rattle.quic_sending.specs.declared.send.Send.{Send}

@@ -1,10 +1,10 @@
 //! Acknowledgements and losses of the frames of a stream.
 
-ghost use Rattle.std.specs.Prelude.{◌≡◌, ◌≤◌, ◌&&◌, ◌||◌, not, is_some, true, IfOk, OnErr};
+ghost use Rattle.std.specs.Prelude.{◌≡◌, ◌≤◌, ◌<◌, ◌&&◌, ◌||◌, not, is_some, true, IfOk, OnErr, Some};
 ghost use Rattle.quic_sending.specs.Sending.{is_ready};
 ghost use Rattle.quic_outgoing.specs.Senders.{bare};
 ghost use Rattle.quic_outgoing.specs.Seen.{senders, sender_room, sender_in};
-ghost use Rattle.quic_outgoing.specs.Acknowledging.{AcksStream, LosesOnStream, is_given_up, without_given_up};
+ghost use Rattle.quic_outgoing.specs.Acknowledging.{AcksStream, LosesOnStream, MayWantMemory, LossMayWantMemory, is_given_up, without_given_up};
 ghost use Rattle.quic_outgoing.specs.Reports.{AcksOn, AcksIn, LosesOn, LosesIn};
 ghost use Rattle.quic_outgoing.specs.History.{AckedFrame, LostFrame, ResetAcked, Continues};
 ghost use Rattle.quic_outgoing.specs.Shown.{view_of, permit_room};
@@ -25,9 +25,10 @@ impl OutgoingStreams {
     /// every byte are acknowledged: the half of the stream is then let go.
     ///
     /// The report of a stream that is closed or was reset, or of offsets that were not sent, changes nothing. If refused,
-    /// all is as it was.
+    /// all is as it was. Memory is wanted only for offsets behind a gap, or where nothing was done on the stream.
     pub fn ack(&mut self, id: StreamId, offsets: Range<u64>, fin: bool) -> Result<bool, OutOfMemory>
         ensures acks { AcksStream (view_of self.old) id offsets fin result (view_of self.new) }
+        ensures memory { OnErr result (MayWantMemory offsets ((view_of self.old).halves id)) }
         ensures from { Continues (view_of self.old) (AckedFrame id offsets fin result) (view_of self.new) }
         ensures room { permit_room self.old ≤ permit_room self.new }
     {
@@ -43,6 +44,7 @@ impl OutgoingStreams {
         fin: bool,
     ) -> Result<bool, OutOfMemory>
         ensures acks { AcksStream (view_of self.old) id offsets fin result (view_of self.new) }
+        ensures memory { OnErr result (MayWantMemory offsets ((view_of self.old).halves id)) }
         ensures room { permit_room self.old ≤ permit_room self.new }
     {
         match self.halves.ack(id, offsets, fin) {
@@ -63,7 +65,8 @@ impl OutgoingStreams {
     /// to be queued, where nothing was to be sent on it before.
     ///
     /// The report of a stream that is closed or was reset, or of offsets that were not sent, changes nothing. If refused,
-    /// all is as it was.
+    /// all is as it was. Memory is wanted only for offsets above the acknowledged prefix, so not for an end alone, or where
+    /// nothing was done on the stream.
     pub fn lose(
         &mut self,
         id: StreamId,
@@ -71,6 +74,7 @@ impl OutgoingStreams {
         fin: bool,
     ) -> Result<Option<i32>, OutOfMemory>
         ensures loses { LosesOnStream (view_of self.old) id offsets fin result (view_of self.new) }
+        ensures memory { OnErr result (LossMayWantMemory offsets ((view_of self.old).halves id)) }
         ensures from { Continues (view_of self.old) (LostFrame id offsets fin result) (view_of self.new) }
     {
         self.take_loss(id, offsets, fin)
@@ -84,7 +88,8 @@ impl OutgoingStreams {
         offsets: Range<u64>,
         fin: bool,
     ) -> Result<Option<i32>, OutOfMemory>
-        ensures { LosesOnStream (view_of self.old) id offsets fin result (view_of self.new) }
+        ensures loses { LosesOnStream (view_of self.old) id offsets fin result (view_of self.new) }
+        ensures memory { OnErr result (LossMayWantMemory offsets ((view_of self.old).halves id)) }
     {
         self.halves.lose(id, offsets, fin)
     }
@@ -133,6 +138,7 @@ impl SendEntries {
     ) -> Result<Option<Acked>, OutOfMemory>
         ensures ok { IfOk result (λ acked. AcksIn (senders self.old) id offsets fin acked (senders self.new)) }
         ensures err { OnErr result (senders self.new ≡ senders self.old) }
+        ensures memory { OnErr result (MayWantMemory offsets (senders self.old id)) }
         ensures held { OnErr result (is_some (senders self.old id) ≡ true) }
         ensures side { self.new.side ≡ self.old.side }
         ensures first { self.new.first ≡ self.old.first }
@@ -155,6 +161,7 @@ impl SendEntries {
     ) -> Result<Option<i32>, OutOfMemory>
         ensures ok { IfOk result (λ queue. LosesIn (senders self.old) id offsets fin queue (senders self.new)) }
         ensures err { OnErr result (senders self.new ≡ senders self.old) }
+        ensures memory { OnErr result (LossMayWantMemory offsets (senders self.old id)) }
         ensures held { OnErr result (is_some (senders self.old id) ≡ true) }
         ensures side { self.new.side ≡ self.old.side }
         ensures first { self.new.first ≡ self.old.first }
@@ -179,6 +186,7 @@ fn ack_of_entry(
 ) -> Result<Option<Acked>, OutOfMemory>
     ensures ok { IfOk result (λ acked. AcksOn offsets fin (sender_in limit entry.old) acked (sender_in limit entry.new)) }
     ensures err { OnErr result (sender_in limit entry.new ≡ sender_in limit entry.old) }
+    ensures memory { OnErr result (MayWantMemory offsets (Some (sender_in limit entry.old))) }
 {
     let mut half = take_half(alloc, limit, entry)?;
     let acked = ack_on(&mut half, offsets, fin);
@@ -191,6 +199,7 @@ fn ack_of_entry(
 fn ack_on(half: &mut Send, offsets: Range<u64>, fin: bool) -> Result<Option<Acked>, OutOfMemory>
     ensures ok { IfOk result (λ acked. AcksOn offsets fin (bare half.old) acked (bare half.new)) }
     ensures err { OnErr result (half.new ≡ half.old) }
+    ensures memory { OnErr result ((half.old.pending.prefix < offsets.start) × (offsets.start < offsets.end)) }
 {
     if half.is_reset() || offsets.end > half.pending.unsent() {
         return Ok(None);
@@ -214,6 +223,7 @@ fn loss_of_entry(
 ) -> Result<Option<i32>, OutOfMemory>
     ensures ok { IfOk result (λ queue. LosesOn offsets fin (sender_in limit entry.old) queue (sender_in limit entry.new)) }
     ensures err { OnErr result (sender_in limit entry.new ≡ sender_in limit entry.old) }
+    ensures memory { OnErr result (LossMayWantMemory offsets (Some (sender_in limit entry.old))) }
 {
     let mut half = take_half(alloc, limit, entry)?;
     let queue_at = lose_on(&mut half, offsets, fin);
@@ -226,6 +236,7 @@ fn loss_of_entry(
 fn lose_on(half: &mut Send, offsets: Range<u64>, fin: bool) -> Result<Option<i32>, OutOfMemory>
     ensures ok { IfOk result (λ queue. LosesOn offsets fin half.old queue half.new) }
     ensures err { OnErr result (half.new ≡ half.old) }
+    ensures memory { OnErr result ((offsets.start < offsets.end) × (half.old.pending.prefix < offsets.end)) }
 {
     if half.is_reset() || offsets.end > half.pending.unsent() {
         return Ok(None);

@@ -1,6 +1,6 @@
 //! STREAM frames, one at a time.
 
-ghost use Rattle.std.specs.Prelude.{◌≡◌, ◌≢◌, ◌+◌, ◌-◌, ◌<◌, ◌≤◌, ◌^◌, ◌++◌, ◌&&◌, ◌==◌, not, ℕ, List, [], IfOk, IfErr, IfSome, OnOk, OnErr, Ok, Err, is_some, true, false, Some, length, vec_len, vec_capacity};
+ghost use Rattle.std.specs.Prelude.{◌≡◌, ◌≢◌, ◌+◌, ◌-◌, ◌<◌, ◌≤◌, ◌^◌, ◌++◌, ◌&&◌, ◌==◌, not, ℕ, List, [], IfOk, IfErr, IfSome, OnOk, OnErr, Ok, Err, is_some, true, false, Some, None, length, vec_len, vec_capacity};
 ghost use Rattle.quic_values.specs.Numbers.{size_of};
 ghost use Rattle.quic_wire.specs.Frames.{BeginsWith};
 ghost use Rattle.quic_wire.specs.Text.{meta_text, stream_of};
@@ -168,6 +168,7 @@ pub(crate) fn take_half(
 ) -> Result<Box<Send>, OutOfMemory>
     ensures ok { IfOk result (λ half. sender_in limit entry.old ≡ raised limit (bare half.value)) }
     ensures err { OnErr result (entry.new ≡ entry.old) }
+    ensures made { OnErr result (entry.old ≡ None) }
 {
     match entry.take() {
         Some(half) => Ok(half),

@@ -46,6 +46,8 @@ impl OutgoingStreams {
         source: &mut S,
     ) -> Result<Wrote, WriteError>
         ensures writes { WritesOn (view_of self.old) id (S.lists source.old) (shown_pending pending.old) result (view_of self.new) (S.lists source.new) (shown_pending pending.new) }
+        ensures borrow { S.borrow source.new ≡ S.borrow source.old }
+        ensures list_count { S.list_count source.new ≡ S.list_count source.old }
         ensures from { Continues (view_of self.old) (Writing id (S.lists source.old) result) (view_of self.new) }
     {
         self.write_source(pending, id, source)
@@ -59,7 +61,9 @@ impl OutgoingStreams {
         id: StreamId,
         source: &mut S,
     ) -> Result<Wrote, WriteError>
-        ensures { WritesOn (view_of self.old) id (S.lists source.old) (shown_pending pending.old) result (view_of self.new) (S.lists source.new) (shown_pending pending.new) }
+        ensures writes { WritesOn (view_of self.old) id (S.lists source.old) (shown_pending pending.old) result (view_of self.new) (S.lists source.new) (shown_pending pending.new) }
+        ensures borrow { S.borrow source.new ≡ S.borrow source.old }
+        ensures list_count { S.list_count source.new ≡ S.list_count source.old }
     {
         let limit = self.write_limit();
         if limit == 0 {
@@ -146,6 +150,8 @@ impl SendEntries {
         ensures err { IfErr result (λ error. IsRefusedBy (senders self.old id) error) }
         ensures halves { OnErr result (senders self.new ≡ senders self.old) }
         ensures lists { OnErr result (S.lists source.new ≡ S.lists source.old) }
+        ensures borrow { S.borrow source.new ≡ S.borrow source.old }
+        ensures list_count { S.list_count source.new ≡ S.list_count source.old }
         ensures side { self.new.side ≡ self.old.side }
         ensures first { self.new.first ≡ self.old.first }
         ensures room { sender_room self.new ≡ sender_room self.old }
@@ -171,6 +177,8 @@ fn write_of_entry<S: BytesSource>(
     ensures err { IfErr result (λ error. IsRefusedBy (Some (sender_in first_limit entry.old)) error) }
     ensures half { OnErr result (sender_in first_limit entry.new ≡ sender_in first_limit entry.old) }
     ensures lists { OnErr result (S.lists source.new ≡ S.lists source.old) }
+    ensures borrow { S.borrow source.new ≡ S.borrow source.old }
+    ensures list_count { S.list_count source.new ≡ S.list_count source.old }
 {
     let mut half = take_half(alloc, first_limit, entry)?;
     half.max_data = greater(half.max_data, first_limit);
@@ -190,6 +198,8 @@ fn write_on<S: BytesSource>(
     ensures err { IfErr result (λ error. IsRefusedBy (Some half.old) error) }
     ensures half { OnErr result (bare half.new ≡ bare half.old) }
     ensures lists { OnErr result (S.lists source.new ≡ S.lists source.old) }
+    ensures borrow { S.borrow source.new ≡ S.borrow source.old }
+    ensures list_count { S.list_count source.new ≡ S.list_count source.old }
 {
     let queue_at = queue_at(half);
     let written = half.write(source, limit)?;

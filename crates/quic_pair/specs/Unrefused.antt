@@ -4,7 +4,7 @@ use Rattle.quic_wire.specs.declared.frame.Stream.{Stream}
 use Rattle.quic_wire.specs.declared.error.TransportError.{TransportError}
 use Rattle.quic_wire.specs.declared.error.ReceiveError.{ReceiveError}
 use Rattle.quic_wire.specs.declared.error.ReceiveError.TheVariants as receive_error
-use Rattle.quic_wire.specs.declared.error.TheConstants.TransportError.{INTERNAL_ERROR}
+use Rattle.quic_wire.specs.Codes.{INTERNAL_ERROR}
 use Rattle.quic_link.specs.Promises.{IsCrowded}
 use Rattle.quic_steps.specs.declared.steps.End.{End}
 use Rattle.quic_steps.specs.declared.steps.Step.{Step}

@@ -8,7 +8,7 @@ use Rattle.quic_wire.specs.declared.frame.StopSending.{StopSending}
 use Rattle.quic_wire.specs.declared.frame.Crypto.{Crypto}
 use Rattle.quic_wire.specs.declared.error.ReceiveError.{ReceiveError}
 use Rattle.quic_wire.specs.declared.error.ReceiveError.TheVariants as receive_error
-use Rattle.quic_wire.specs.declared.error.TheConstants.TransportError.{CONNECTION_ID_LIMIT_ERROR}
+use Rattle.quic_wire.specs.Codes.{CONNECTION_ID_LIMIT_ERROR}
 use Rattle.quic_retransmits.specs.Ids.{is_in_ids, id_entries, id_rooms}
 use Rattle.quic_retransmits.specs.declared.retransmits.IssuedCid.{IssuedCid}
 use Rattle.quic_retransmits.specs.declared.retransmits.Retransmits.{Retransmits}

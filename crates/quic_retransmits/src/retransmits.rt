@@ -1,6 +1,6 @@
 //! What is to be sent, again or for the first time, beside the data of streams.
 
-ghost use Rattle.std.specs.Prelude.{◌≡◌, ◌+◌, ◌-◌, ◌<◌, ◌≤◌, ◌++◌, ◌||◌, OnOk, OnErr, IfOk, IfErr, false, length, vec_len};
+ghost use Rattle.std.specs.Prelude.{◌≡◌, ◌+◌, ◌-◌, ◌<◌, ◌≤◌, ◌++◌, ◌||◌, IsOk, OnOk, OnErr, IfOk, IfErr, false, length, vec_len};
 ghost use Rattle.std.specs.Vec.{vec_capacity};
 ghost use Rattle.std.specs.VecDeque.{deque_len, deque_capacity};
 ghost use Rattle.quic_retransmits.specs.Pending.{shown_pending, nothing, merged, shown_if, merged_if, collected, HasRoomFor, numbers_from, IsRetireRefusal};
@@ -107,6 +107,7 @@ impl Retransmits {
         ensures err { OnErr result (shown_pending self.new ≡ shown_pending self.old) }
         ensures value_returned { IfErr result (λ back. back ≡ other) }
         ensures with_none { shown_if other ≡ None → shown_pending self.new ≡ shown_pending self.old }
+        ensures accepts_none { shown_if other ≡ None → IsOk result }
     {
         if let Some(retransmits) = &other.retransmits
             && self.make_room(retransmits).is_err()

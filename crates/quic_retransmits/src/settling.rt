@@ -1,7 +1,8 @@
 //! What leaves what is pending when it is written, and what is noted of it.
 
-ghost use Rattle.std.specs.Prelude.{◌≡◌, ◌∷◌, ◌++◌, ◌<◌, [], ℕ, List, true, false, OnOk, OnErr};
-ghost use Rattle.quic_retransmits.specs.Pending.{shown_pending, shown_if};
+ghost use Rattle.std.specs.Prelude.{◌≡◌, ◌∷◌, ◌++◌, ◌<◌, [], ℕ, List, drop, true, false, OnOk, OnErr};
+ghost use Rattle.quic_retransmits.specs.Pending.{Pending, shown_pending, shown_if};
+ghost use Rattle.std.specs.Option.{option_map};
 ghost use Rattle.quic_retransmits.specs.Settling.{noted, noted_in, without_id, IsLastIn, IsSomeIn, entry_count, max_streams_in, without_max_streams};
 
 use crate::retransmits::{Retransmits, ThinRetransmits};
@@ -57,6 +58,14 @@ impl Retransmits {
         ensures empty { (shown_pending self.old).reset_stream ≡ [] → shown_pending self.new ≡ shown_pending self.old }
     {
         let _ = self.reset_stream.pop();
+    }
+
+    // The first resets leave, so many, or all where there are fewer.
+    fn drop_resets(&mut self, count: usize)
+        ensures { shown_pending self.new ≡ record (shown_pending self.old) { reset_stream = drop count (shown_pending self.old).reset_stream } }
+    {
+        let count = count.min(self.reset_stream.len());
+        self.reset_stream.drain(..count);
     }
 
     /// The STOP_SENDING that is written next, the last one that was queued.
@@ -168,5 +177,15 @@ impl ThinRetransmits {
         first.note(frame)?;
         self.retransmits = Some(first);
         Ok(())
+    }
+
+    /// The first `count` of the RESET_STREAM frames that were noted are not sent again: they were acknowledged (RFC 9000
+    /// section 13.3). All of them where there are fewer. Takes no memory.
+    pub fn drop_resets(&mut self, count: usize)
+        ensures { shown_if self.new ≡ option_map (λ (p : Pending). record p { reset_stream = drop count p.reset_stream }) (shown_if self.old) }
+    {
+        if let Some(retransmits) = &mut self.retransmits {
+            retransmits.drop_resets(count);
+        }
     }
 }

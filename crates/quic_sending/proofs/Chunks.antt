@@ -1,8 +1,8 @@
 -- Lemmas on the pieces of chunks.
-use Rattle.std.proofs.Common.{◌≡◌, ℕ, ◌+◌, ◌-◌, ◌<◌, ◌≤◌, List, [], ◌∷◌, ◌++◌, length, take, drop, get_or, set, refl, sym, ap, ◌∙◌, arith, length-take, length-set, min, ⊎_elim}
+use Rattle.std.proofs.Common.{◌≡◌, ℕ, zero, suc, ◌+◌, ◌-◌, ◌<◌, ◌≤◌, List, [], ◌∷◌, ◌++◌, length, take, drop, get_or, set, replicate, refl, sym, ap, ◌∙◌, arith, length-take, length-drop, length-set, drop-drop, take-add, min, ⊎_elim}
 use Rattle.std.proofs.lemmas.Bool.{cases_lt}
 use Rattle.std.proofs.lemmas.Bool.Decides.{nat_tests}
-use Rattle.std.proofs.lemmas.List.{drop_more, drop_all, drop-set-lt, get_or-set_same, take_all, append-nil}
+use Rattle.std.proofs.lemmas.List.{drop_more, drop_all, drop-set-lt, get_or-set_same, take_all, append-nil, take-set, take_more_set, replicate_more, replicate-append-replicate}
 use Rattle.quic_sending.specs.Buffer.{cut_of}
 use Rattle.quic_sending.specs.Source.{popped, after_pop, cut_piece, drop_empty}
 use Rattle.quic_sending.proofs.Fronts.{pieces_of, pieces_of-zero}
@@ -138,3 +138,25 @@ length-pieces_of-part cs i n p l at s =
     (λ c. length-cut-none (take n p) (omega arith) ∙ omega arith)
     (λ c. length-cut-some (take n p) (omega arith) ∙ omega arith)
     (cases_lt n 1))
+
+-- the chunks that were passed over are empty
+empty_front : (k : ℕ) (cs : List (List ℕ)) → k ≤ length cs → drop_empty cs ≡ drop k cs → take k cs ≡ replicate k []
+empty_front zero cs l e = refl
+empty_front (suc k) [] l e = absurd (omega arith)
+empty_front (suc k) ([] ∷ ps) l e = ap (λ (x : List (List ℕ)). [] ∷ x) (empty_front k ps (omega arith) e)
+empty_front (suc k) ((b ∷ bs) ∷ ps) l e = let sizes = ap length e in let short = length-drop k ps in absurd (omega arith)
+
+pub taken_front : (cs : List (List ℕ)) (from k : ℕ) → from + k ≤ length cs → take from cs ≡ replicate from [] → drop_empty (drop from cs) ≡ drop (from + k) cs → take (from + k) cs ≡ replicate (from + k) []
+taken_front cs from k l t e =
+    let rest : k ≤ length (drop from cs) = omega (arith, length-drop from cs) in
+    take-add from k cs
+    ∙ (ap (λ (x : List (List ℕ)). x ++ take k (drop from cs)) t
+    ∙ (ap (λ (x : List (List ℕ)). replicate from [] ++ x) (empty_front k (drop from cs) rest (e ∙ sym (drop-drop k from cs)))
+    ∙ replicate-append-replicate from k []))
+
+-- a chunk behind them is cut, or taken and left empty
+pub taken_cut : (cs : List (List ℕ)) (i : ℕ) (p : List ℕ) → take i cs ≡ replicate i [] → take i (set cs i p) ≡ replicate i []
+taken_cut cs i p t = take-set cs i p ∙ t
+
+pub taken_more : (cs : List (List ℕ)) (i : ℕ) (p : List ℕ) → i < length cs → take i cs ≡ replicate i [] → p ≡ [] → take (i + 1) (set cs i p) ≡ replicate (i + 1) []
+taken_more cs i p l t e = take_more_set cs i p l ∙ (ap (λ (x : List (List ℕ)). x ++ p ∷ []) t ∙ (ap (λ (x : List ℕ). replicate i [] ++ x ∷ []) e ∙ replicate_more i []))

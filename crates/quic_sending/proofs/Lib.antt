@@ -7,3 +7,4 @@ pub mod Sound
 pub mod Fronts
 pub mod Sources
 pub mod Chunks
+pub mod Left

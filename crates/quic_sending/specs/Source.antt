@@ -34,6 +34,11 @@ rest_of n [] = []
 rest_of n ([] ∷ ps) = rest_of n ps
 rest_of n ((b ∷ bs) ∷ ps) = if nat_lt n (length (b ∷ bs)) then drop n (b ∷ bs) ∷ ps else rest_of (n - length (b ∷ bs)) ps
 
+-- the lists without their first n bytes, each in its place
+abbrev pub without_first : ℕ → List (List ℕ) → List (List ℕ)
+without_first n [] = []
+without_first n (p ∷ ps) = drop n p ∷ without_first (n - length p) ps
+
 -- the first of those pieces, empty if there is none
 abbrev pub popped : ℕ → List (List ℕ) → List ℕ
 popped n [] = []

@@ -89,6 +89,7 @@ impl Outcomes {
             || (lies_in range n && not (is_answered self.old.prefix self.old.later n)))) }
         ensures same { self.new ≡ record self.old { lost = self.new.lost } }
         ensures err { OnErr result (self.new ≡ self.old) }
+        ensures memory { OnErr result ((range.start < range.end) × (self.old.prefix < range.end)) }
     {
         let start = range.start.max(self.prefix);
         if start >= range.end {
@@ -133,6 +134,7 @@ impl Outcomes {
         ensures above { (n : ℕ) → contains self.new.later n ≡ true → self.new.prefix < n }
         ensures grows { self.old.prefix ≤ self.new.prefix }
         ensures err { OnErr result (self.new ≡ self.old) }
+        ensures memory { OnErr result ((self.old.prefix < range.start) × (range.start < range.end)) }
     {
         let start = range.start.max(self.prefix);
         if start >= range.end {
@@ -177,6 +179,7 @@ fn acknowledge(later: &mut RecentSet, prefix: u64, range: Range<u64>) -> Result<
     ensures above { IfOk result (λ reached. (n : ℕ) → contains later.new n ≡ true → reached < n) }
     ensures grows { IfOk result (λ reached. prefix ≤ reached) }
     ensures err { OnErr result (later.new ≡ later.old) }
+    ensures memory { OnErr result (prefix < range.start) }
 {
     if range.start > prefix {
         later.insert(range)?;

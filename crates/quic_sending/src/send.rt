@@ -213,6 +213,8 @@ impl Send {
         ensures chunks { IfOk result (λ w. w.chunks + length (S.lists source.new) ≡ length (S.lists source.old)) }
         ensures left { OnOk result (S.lists source.new ≡ rest_of (permitted self.old limit) (S.lists source.old)) }
         ensures unchanged { OnErr result (S.lists source.new ≡ S.lists source.old) }
+        ensures borrow { S.borrow source.new ≡ S.borrow source.old }
+        ensures list_count { S.list_count source.new ≡ S.list_count source.old }
         ensures same { OnErr result (self.new ≡ record self.old {
           pending = record self.old.pending { room = self.new.pending.room };
         }) }
@@ -299,7 +301,8 @@ impl Send {
     }
 
     /// A frame with these offsets, and with the end or not, is acknowledged. Answers whether by now
-    /// the end and every byte are: never so of a stream that was not finished, or that was reset.
+    /// the end and every byte are: never so of a stream that was not finished, or that was reset. Only offsets behind a
+    /// gap want memory.
     pub fn ack(&mut self, offsets: Range<u64>, fin: bool) -> Result<bool, OutOfMemory>
         requires { offsets.end ≤ self.old.pending.unsent }
         ensures done { IfOk result (λ done. IsTrue done ↔ ((is_finish_acked self.new.state ≡ true)
@@ -307,6 +310,7 @@ impl Send {
         ensures state { OnOk result (self.new.state ≡ after_ack self.old.state fin) }
         ensures same { self.new ≡ record self.old { state = self.new.state; pending = self.new.pending } }
         ensures err { OnErr result (self.new ≡ self.old) }
+        ensures memory { OnErr result ((self.old.pending.prefix < offsets.start) × (offsets.start < offsets.end)) }
         ensures acked { OnOk result ((n : ℕ) →
             is_acked self.new.pending n ≡ (is_acked self.old.pending n || lies_in offsets n)) }
         ensures lost { OnOk result ((n : ℕ) →
@@ -362,6 +366,8 @@ fn write_source<S: BytesSource>(
     ensures bytes { IfOk result (λ w. w.bytes ≡ min limit (total_length (S.lists source.old))) }
     ensures chunks { IfOk result (λ w. w.chunks + length (S.lists source.new) ≡ length (S.lists source.old)) }
     ensures left { OnOk result (S.lists source.new ≡ rest_of limit (S.lists source.old)) }
+    ensures borrow { S.borrow source.new ≡ S.borrow source.old }
+    ensures list_count { S.list_count source.new ≡ S.list_count source.old }
     ensures err { OnErr result ((S.lists source.new ≡ S.lists source.old) × (buffer.new
         ≡ record buffer.old { room = buffer.new.room })) }
     ensures sound { OnOk result (IsSound buffer.new) }

@@ -181,7 +181,8 @@ impl SendBuffer {
         }
     }
 
-    /// Sent offsets of this range are lost: those that are not acknowledged are to be sent again.
+    /// Sent offsets of this range are lost: those that are not acknowledged are to be sent again. None are below the
+    /// acknowledged prefix, so a range that ends by there wants no memory.
     pub fn retransmit(&mut self, range: Range<u64>) -> Result<(), OutOfMemory>
         requires { range.end ≤ self.old.unsent }
         ensures ok { OnOk result ((n : ℕ) →
@@ -189,13 +190,14 @@ impl SendBuffer {
             || (lies_in range n && not (is_acked self.old n)))) }
         ensures same { self.new ≡ record self.old { lost = self.new.lost } }
         ensures err { OnErr result (self.new ≡ self.old) }
+        ensures memory { OnErr result ((range.start < range.end) × (self.old.prefix < range.end)) }
         ensures sound { IsSound self.new }
     {
         let _ = &self.unsent;
         self.outcomes.lose(range)
     }
 
-    /// Sent offsets of this range are acknowledged. They are never sent again.
+    /// Sent offsets of this range are acknowledged. They are never sent again. Only a range behind a gap wants memory.
     pub fn ack(&mut self, range: Range<u64>) -> Result<(), OutOfMemory>
         requires { range.end ≤ self.old.unsent }
         ensures acked { OnOk result ((n : ℕ) → is_acked self.new n ≡ (is_acked self.old n || lies_in range n)) }
@@ -205,6 +207,7 @@ impl SendBuffer {
         ensures unsent { (self.new.unsent ≡ self.old.unsent) × (self.new.offset ≡ self.old.offset) }
         ensures room { self.old.room ≤ self.new.room }
         ensures err { OnErr result (self.new ≡ self.old) }
+        ensures memory { OnErr result ((self.old.prefix < range.start) × (range.start < range.end)) }
         ensures cuts { (cuts : List (List ℕ)) → HasCuts cuts self.old → HasCuts cuts self.new }
         ensures sound { IsSound self.new }
     {

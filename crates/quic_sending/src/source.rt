@@ -1,4 +1,4 @@
-ghost use Rattle.std.specs.Prelude.{◌≡◌, ◌+◌, ◌-◌, ◌≤◌, ◌<◌, ◌^◌, ℕ, List, [], ◌∷◌, length, take, drop, IfOk, OnOk, OnErr, vec_len};
+ghost use Rattle.std.specs.Prelude.{◌≡◌, ◌+◌, ◌-◌, ◌≤◌, ◌<◌, ◌^◌, ℕ, List, [], ◌∷◌, length, take, drop, replicate, IfOk, OnOk, OnErr, vec_len};
 ghost use Rattle.quic_sending.specs.Source.{AreFrontOf, popped, after_pop, cut_piece, drop_empty, slice_lists};
 
 use quic_values::{Bytes, OutOfMemory};
@@ -14,10 +14,17 @@ pub trait BytesSource {
     // How many bytes can be taken out without memory.
     ghost ready: { Self → ℕ };
 
+    // The name of the borrow that the lists lie behind, and how many there were at first.
+    ghost borrow: { Self → ℕ };
+
+    ghost list_count: { Self → ℕ };
+
     /// Makes room to take out the first `limit` bytes. Answers a bound on their pieces. Nothing is
     /// taken out. Where memory is refused, what was prepared before is prepared as before.
     fn prepare(&mut self, limit: usize) -> Result<usize, OutOfMemory>
         ensures same { lists self.new ≡ lists self.old }
+        ensures borrow { borrow self.new ≡ borrow self.old }
+        ensures list_count { list_count self.new ≡ list_count self.old }
         ensures few { length (lists self.old) < 2 ^ 64 }
         ensures count { IfOk result (λ k. (pieces : List (List ℕ)) →
             AreFrontOf limit (lists self.old) pieces → length pieces ≤ k) }
@@ -31,6 +38,8 @@ pub trait BytesSource {
         requires { limit ≡ ready self.old }
         ensures piece { result.0 ≡ popped limit (lists self.old) }
         ensures left { lists self.new ≡ after_pop limit (lists self.old) }
+        ensures borrow { borrow self.new ≡ borrow self.old }
+        ensures list_count { list_count self.new ≡ list_count self.old }
         ensures count { result.1 + length (lists self.new) ≡ length (lists self.old) }
         ensures ready { ready self.new + length (popped limit (lists self.old)) ≡ limit };
 }
@@ -65,6 +74,11 @@ impl BytesSource for ByteSlice<'_> {
 
     ghost ready = { λ s. s.ready };
 
+    // Nothing is changed behind a shared borrow.
+    ghost borrow = { λ _. 0 };
+
+    ghost list_count = { λ _. 0 };
+
     #[inline]
     fn prepare(&mut self, limit: usize) -> Result<usize, OutOfMemory> {
         let len = limit.min(self.bytes.len());
@@ -86,7 +100,7 @@ impl BytesSource for ByteSlice<'_> {
 }
 
 /// Chunks of bytes that are taken whole, without a copy. Of the last one a part may be taken: that
-/// is copied by `prepare`, and the chunk keeps its rest.
+/// is copied by `prepare`, and the chunk keeps its rest. A chunk that was taken is empty from then on.
 #[derive(Drop)]
 pub struct BytesArray<'a> {
     chunks: &'a mut [Bytes],
@@ -97,6 +111,7 @@ pub struct BytesArray<'a> {
     ready: usize,
     alloc: Global,
     ghost in_range: { consumed ≤ length chunks.now },
+    ghost taken: { take consumed chunks.now ≡ replicate consumed [] },
     ghost is_part: { part ≡ cut_piece ready (drop consumed chunks.now) },
 }
 
@@ -104,7 +119,9 @@ impl<'a> BytesArray<'a> {
     /// All bytes of these chunks. Takes no memory.
     #[inline]
     pub fn from_chunks(alloc: Global, chunks: &'a mut [Bytes]) -> Self
-        ensures { ⟦<BytesArray<'a> as BytesSource>⟧.lists result ≡ chunks.entry.now }
+        ensures lists { ⟦<BytesArray<'a> as BytesSource>⟧.lists result ≡ chunks.entry.now }
+        ensures borrow { ⟦<BytesArray<'a> as BytesSource>⟧.borrow result ≡ chunks.entry.ghost_name }
+        ensures list_count { ⟦<BytesArray<'a> as BytesSource>⟧.list_count result ≡ length chunks.entry.now }
     {
         BytesArray {
             chunks,
@@ -120,6 +137,10 @@ impl BytesSource for BytesArray<'_> {
     ghost lists = { λ s. drop s.consumed s.chunks.now };
 
     ghost ready = { λ s. s.ready };
+
+    ghost borrow = { λ s. s.chunks.ghost_name };
+
+    ghost list_count = { λ s. length s.chunks.now };
 
     fn prepare(&mut self, limit: usize) -> Result<usize, OutOfMemory> {
         let chunks = &mut *self.chunks;

@@ -5,3 +5,5 @@ pub mod HalfReads
 pub mod Results
 pub mod TurnRuns
 pub mod Unsent
+pub mod PayloadReports
+pub mod Sent

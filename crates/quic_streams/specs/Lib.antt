@@ -8,3 +8,5 @@ pub mod Transmitting
 pub mod Waiting
 pub mod InPlace
 pub mod HalfReads
+pub mod Settling
+pub mod Sent

@@ -29,7 +29,7 @@ impl StreamsState {
     }
 
     // The same, each way out.
-    fn take_ack(&mut self, frame: frame::StreamMeta) -> Result<(), OutOfMemory>
+    pub(crate) fn take_ack(&mut self, frame: frame::StreamMeta) -> Result<(), OutOfMemory>
         ensures { AcksOwn (shown self.old) frame.id frame.offsets frame.fin result (shown self.new) }
     {
         let id = frame.id;
@@ -73,7 +73,7 @@ impl StreamsState {
     }
 
     // The same, each way out.
-    fn take_loss(&mut self, frame: frame::StreamMeta) -> Result<(), OutOfMemory>
+    pub(crate) fn take_loss(&mut self, frame: frame::StreamMeta) -> Result<(), OutOfMemory>
         ensures { LosesOwn (shown self.old) frame.id frame.offsets frame.fin result (shown self.new) }
     {
         let id = frame.id;
@@ -100,7 +100,7 @@ impl StreamsState {
     }
 
     // The same, each way out.
-    fn take_reset_ack(&mut self, id: StreamId) -> Result<(), OutOfMemory>
+    pub(crate) fn take_reset_ack(&mut self, id: StreamId) -> Result<(), OutOfMemory>
         ensures { AcksReset (shown self.old) id result (shown self.new) }
     {
         let frees = self.is_permitted(id) && self.outgoing.is_reset(id);

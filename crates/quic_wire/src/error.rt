@@ -43,7 +43,7 @@ impl TransportError {
 
     #[inline]
     pub fn internal_error(reason: &'static str) -> Self
-        ensures code { result.code ≡ Self.INTERNAL_ERROR }
+        ensures code { result.code ≡ 1 }
         ensures reason { result.reason.now ≡ reason.now }
     {
         Self::new(Self::INTERNAL_ERROR, reason)
@@ -51,7 +51,7 @@ impl TransportError {
 
     #[inline]
     pub fn flow_control_error(reason: &'static str) -> Self
-        ensures code { result.code ≡ Self.FLOW_CONTROL_ERROR }
+        ensures code { result.code ≡ 3 }
         ensures reason { result.reason.now ≡ reason.now }
     {
         Self::new(Self::FLOW_CONTROL_ERROR, reason)
@@ -59,7 +59,7 @@ impl TransportError {
 
     #[inline]
     pub fn stream_limit_error(reason: &'static str) -> Self
-        ensures code { result.code ≡ Self.STREAM_LIMIT_ERROR }
+        ensures code { result.code ≡ 4 }
         ensures reason { result.reason.now ≡ reason.now }
     {
         Self::new(Self::STREAM_LIMIT_ERROR, reason)
@@ -67,7 +67,7 @@ impl TransportError {
 
     #[inline]
     pub fn stream_state_error(reason: &'static str) -> Self
-        ensures code { result.code ≡ Self.STREAM_STATE_ERROR }
+        ensures code { result.code ≡ 5 }
         ensures reason { result.reason.now ≡ reason.now }
     {
         Self::new(Self::STREAM_STATE_ERROR, reason)
@@ -75,7 +75,7 @@ impl TransportError {
 
     #[inline]
     pub fn final_size_error(reason: &'static str) -> Self
-        ensures code { result.code ≡ Self.FINAL_SIZE_ERROR }
+        ensures code { result.code ≡ 6 }
         ensures reason { result.reason.now ≡ reason.now }
     {
         Self::new(Self::FINAL_SIZE_ERROR, reason)
@@ -83,7 +83,7 @@ impl TransportError {
 
     #[inline]
     pub fn frame_encoding_error(reason: &'static str) -> Self
-        ensures code { result.code ≡ Self.FRAME_ENCODING_ERROR }
+        ensures code { result.code ≡ 7 }
         ensures reason { result.reason.now ≡ reason.now }
     {
         Self::new(Self::FRAME_ENCODING_ERROR, reason)
@@ -91,7 +91,7 @@ impl TransportError {
 
     #[inline]
     pub fn connection_id_limit_error(reason: &'static str) -> Self
-        ensures code { result.code ≡ Self.CONNECTION_ID_LIMIT_ERROR }
+        ensures code { result.code ≡ 9 }
         ensures reason { result.reason.now ≡ reason.now }
     {
         Self::new(Self::CONNECTION_ID_LIMIT_ERROR, reason)
@@ -99,7 +99,7 @@ impl TransportError {
 
     #[inline]
     pub fn protocol_violation(reason: &'static str) -> Self
-        ensures code { result.code ≡ Self.PROTOCOL_VIOLATION }
+        ensures code { result.code ≡ 10 }
         ensures reason { result.reason.now ≡ reason.now }
     {
         Self::new(Self::PROTOCOL_VIOLATION, reason)

@@ -206,7 +206,7 @@ fn gives_unordered_as_it_comes(rt: HostRuntime) -> Result<(), Fail> {
     run(&rt, rt.alloc(), &ONCE)
 }
 
-const IN_ITS_ORDER: [Step; 11] = [
+const IN_ITS_ORDER: [Step; 16] = [
     Step::Put(3, "def"),
     Step::NoNext,
     Step::Put(0, "a"),
@@ -217,6 +217,11 @@ const IN_ITS_ORDER: [Step; 11] = [
     Step::NoNext,
     Step::Put(8, "ijkl"),
     Step::Next(9, "jkl"),
+    Step::NoNext,
+    Step::Put(12, "mno"),
+    Step::Next(12, "mno"),
+    Step::NoNext,
+    Step::Put(2, "cde"),
     Step::NoNext,
 ];
 

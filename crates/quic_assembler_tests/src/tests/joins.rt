@@ -26,7 +26,7 @@ const OVERLAP_READ: [Step; 6] = [
     Step::Is(0, 4),
 ];
 
-const IN_ITS_ORDER: [Step; 9] = [
+const IN_ITS_ORDER: [Step; 15] = [
     Step::Put(3, "def"),
     Step::NoNext,
     Step::Put(0, "a"),
@@ -36,6 +36,12 @@ const IN_ITS_ORDER: [Step; 9] = [
     Step::NoNext,
     Step::Put(8, "ijkl"),
     Step::Next(9, "jkl"),
+    Step::NoNext,
+    Step::Put(12, "mno"),
+    Step::Next(12, "mno"),
+    Step::NoNext,
+    Step::Put(2, "cde"),
+    Step::NoNext,
 ];
 
 const READ_IN_PARTS: [Step; 15] = [

@@ -1,4 +1,4 @@
-use super::{Bytes, Chunk, Fail, HeapAssembler, OutOfMemory, same};
+use super::{Assembler, Bytes, Chunk, Fail, HeapAssembler, OutOfMemory, same};
 use quic_ordered::{Op, ReplayError, replay};
 use std::alloc::Global;
 use std::process::Abort;
@@ -13,23 +13,41 @@ fn insert(alloc: Global, offset: u64, text: &str, size: usize) -> Result<Op, Out
 
 const READ: usize = 32;
 
-// Asserts what a replay answers and gives.
+// The chunks that a replay gave are these texts at their offsets.
+fn assert_chunks(rt: &impl Abort, out: &[Chunk], wanted: &[(u64, &str)]) {
+    same(rt, out.len(), wanted.len());
+    for (chunk, (offset, text)) in out.iter().zip(wanted) {
+        same(rt, chunk.offset, *offset);
+        same(rt, chunk.bytes.as_slice(), text.as_bytes());
+    }
+}
+
+// Asserts what a replay over the heap answers and gives.
 fn assert_replay(
     rt: &impl Abort,
     alloc: Global,
     ops: &[Op],
     answer: Result<(), ReplayError>,
     wanted: &[(u64, &str)],
-) -> Result<(), Fail> {
+) {
     let mut a = HeapAssembler::new(alloc);
     let mut out: Vec<Chunk> = Vec::new(alloc);
     same(rt, replay(&mut a, ops, &mut out), answer);
-    same(rt, out.len(), wanted.len());
-    for (chunk, (offset, text)) in out.iter().zip(wanted) {
-        same(rt, chunk.offset, *offset);
-        same(rt, chunk.bytes.as_slice(), text.as_bytes());
-    }
-    Ok(())
+    assert_chunks(rt, &out, wanted);
+}
+
+// The same over pieces that do not overlap.
+fn assert_replay_apart(
+    rt: &impl Abort,
+    alloc: Global,
+    ops: &[Op],
+    answer: Result<(), ReplayError>,
+    wanted: &[(u64, &str)],
+) {
+    let mut a = Assembler::new(alloc);
+    let mut out: Vec<Chunk> = Vec::new(alloc);
+    same(rt, replay(&mut a, ops, &mut out), answer);
+    assert_chunks(rt, &out, wanted);
 }
 
 #[test]
@@ -42,7 +60,8 @@ fn replays_what_overlaps(rt: HostRuntime) -> Result<(), Fail> {
         Op::Read { max_length: READ },
         Op::Read { max_length: READ },
     ]?;
-    assert_replay(&rt, alloc, &ops, Ok(()), &[(0, "123"), (3, "4")])?;
+    assert_replay(&rt, alloc, &ops, Ok(()), &[(0, "123"), (3, "4")]);
+    assert_replay_apart(&rt, alloc, &ops, Ok(()), &[(0, "1234")]);
     let ops = vec![in alloc;
         insert(alloc, 0, "123", 3)?,
         insert(alloc, 1, "234", 3)?,
@@ -52,7 +71,9 @@ fn replays_what_overlaps(rt: HostRuntime) -> Result<(), Fail> {
         Op::Read { max_length: READ },
         Op::Read { max_length: READ },
     ]?;
-    assert_replay(&rt, alloc, &ops, Ok(()), &[(0, "123"), (3, "4")])
+    assert_replay(&rt, alloc, &ops, Ok(()), &[(0, "123"), (3, "4")]);
+    assert_replay_apart(&rt, alloc, &ops, Ok(()), &[(0, "1234")]);
+    Ok(())
 }
 
 #[test]
@@ -63,6 +84,7 @@ fn replays_unordered_reads(rt: HostRuntime) -> Result<(), Fail> {
         insert(alloc, 3, "def", 3)?,
         Op::Read { max_length: READ },
         Op::Read { max_length: 0 },
+        Op::Read { max_length: READ },
         insert(alloc, 0, "a", 1)?,
         insert(alloc, 0, "abcdefghi", 9)?,
         insert(alloc, 0, "abcd", 4)?,
@@ -72,7 +94,9 @@ fn replays_unordered_reads(rt: HostRuntime) -> Result<(), Fail> {
         Op::Read { max_length: READ },
     ]?;
     let wanted = [(3, "def"), (0, "a"), (1, "bc"), (6, "ghi")];
-    assert_replay(&rt, alloc, &ops, Ok(()), &wanted)
+    assert_replay(&rt, alloc, &ops, Ok(()), &wanted);
+    assert_replay_apart(&rt, alloc, &ops, Ok(()), &wanted);
+    Ok(())
 }
 
 #[test]
@@ -84,7 +108,11 @@ fn stops_at_a_bad_piece(rt: HostRuntime) -> Result<(), Fail> {
         insert(alloc, 2, "cd", 1)?,
         Op::Read { max_length: READ },
     ]?;
-    assert_replay(&rt, alloc, &ops, Err(ReplayError::BadPiece), &[(0, "ab")])?;
+    let bad = Err(ReplayError::BadPiece);
+    assert_replay(&rt, alloc, &ops, bad, &[(0, "ab")]);
+    assert_replay_apart(&rt, alloc, &ops, bad, &[(0, "ab")]);
     let ops = vec![in alloc; insert(alloc, (1 << 62) - 2, "ab", 2)?]?;
-    assert_replay(&rt, alloc, &ops, Err(ReplayError::BadPiece), &[])
+    assert_replay(&rt, alloc, &ops, bad, &[]);
+    assert_replay_apart(&rt, alloc, &ops, bad, &[]);
+    Ok(())
 }

@@ -17,7 +17,7 @@ const OVERLAP_UNORDERED: [Step; 6] = [
     Step::NoAny,
 ];
 
-const NEW_ALONE: [Step; 11] = [
+const NEW_ALONE: [Step; 19] = [
     Step::Unordered,
     Step::Put(3, "def"),
     Step::Any(3, "def"),
@@ -28,6 +28,14 @@ const NEW_ALONE: [Step; 11] = [
     Step::Any(0, "a"),
     Step::Any(1, "bc"),
     Step::Any(6, "ghi"),
+    Step::NoAny,
+    Step::Put(8, "ijkl"),
+    Step::Any(9, "jkl"),
+    Step::NoAny,
+    Step::Put(12, "mno"),
+    Step::Any(12, "mno"),
+    Step::NoAny,
+    Step::Put(2, "cde"),
     Step::NoAny,
 ];
 

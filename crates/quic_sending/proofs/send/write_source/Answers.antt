@@ -67,6 +67,8 @@ loop-chunk-init g c =
       other = refl;
       cuts = λ cuts h. ([], rw append-nil h, refl);
       sound = c.reserve.ensures.sound;
+      borrow = refl;
+      list_count = refl;
     }
 
 pub write_reserved-requires-clause-room : goal.write_reserved-requires-clause-room
@@ -110,4 +112,6 @@ loop-chunk-preserved g c =
           let more : HasCuts (cuts ++ (done.0 ++ cut_of c.pop_chunk-chunk.result.0)) c.write_reserved.new.self = rw (← append_assoc cuts done.0 (cut_of c.pop_chunk-chunk.result.0)) (c.write_reserved.ensures.cuts (cuts ++ done.0) done.1) in
           (done.0 ++ cut_of c.pop_chunk-chunk.result.0, more, rw (taken, after) (held-step done.0 _ _ _ _ long refl (rw (piece, ← pieces) done.2)));
       sound = c.write_reserved.ensures.sound;
+      borrow = c.pop_chunk-chunk.ensures.borrow ∙ c.loop-chunk.invariant.borrow;
+      list_count = c.pop_chunk-chunk.ensures.list_count ∙ c.loop-chunk.invariant.list_count;
     }

@@ -19,6 +19,8 @@ invariant-loop-chunk g l =
       other : l.buffer ≡ record l.initial.buffer { offset = l.buffer.offset; held = l.buffer.held; room = l.buffer.room };
       cuts : (cuts : List (List ℕ)) → HasCuts cuts l.initial.buffer → (done : List (List ℕ)) × HasCuts (cuts ++ done) l.buffer × (done ++ pieces_of l.left (lists l.source) ≡ pieces_of l.limit (lists l.initial.source));
       sound : IsSound l.buffer;
+      borrow : g.S.BytesSource.borrow l.source ≡ g.S.BytesSource.borrow l.initial.source;
+      list_count : g.S.BytesSource.list_count l.source ≡ g.S.BytesSource.list_count l.initial.source;
     }
 
 abbrev pub decreases-loop-chunk : goal.decreases-loop-chunk

@@ -41,4 +41,4 @@ returns-clause-held c =
 pub returns-clause-joined : goal.returns-clause-joined
 returns-clause-joined c =
     let same = rw c.in_ok-received.ensures.same at c.in_ok-compact.ensures.same in
-    rw (← c.self.view_is) (record { same = same; apart = c.in_ok-compact.ensures.apart; tidy = c.in_ok-compact.ensures.tidy })
+    rw (← c.self.view_is) (record { same = same; apart = c.in_ok-compact.ensures.apart; tidy = c.in_ok-compact.ensures.tidy; memory = rw c.in_ok-received.ensures.same at c.in_ok-compact.ensures.memory })

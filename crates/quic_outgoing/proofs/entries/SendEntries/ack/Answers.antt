@@ -23,3 +23,11 @@ returns-in-Some-clause-err c =
     let held : senders c.args.self.now c.args.id ≡ Some (sender_in (w c.args.id) c.in-Some.entry.now) = search rules in
     let limit : c.first_limit-limit.result ≡ w c.args.id = c.first_limit-limit.ensures in
     where_err c.ack_of_entry.result (λ e. moved ∙ ap (λ s. with_sender (senders c.args.self.now) c.args.id (Some s)) (rw (← limit) e) ∙ with_sender-back (senders c.args.self.now) c.args.id _ held) c.ack_of_entry.ensures.err
+
+pub returns-in-Some-clause-memory : goal.returns-in-Some-clause-memory
+unfolding senders
+returns-in-Some-clause-memory c =
+    let w = first_limit c.args.self.now.side c.args.self.now.first in
+    let held : senders c.args.self.now c.args.id ≡ Some (sender_in (w c.args.id) c.in-Some.entry.now) = search rules in
+    let limit : c.first_limit-limit.result ≡ w c.args.id = c.first_limit-limit.ensures in
+    rw (held, ← limit) c.ack_of_entry.ensures.memory

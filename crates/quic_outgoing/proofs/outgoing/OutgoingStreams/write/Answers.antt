@@ -6,4 +6,4 @@ use Rattle.quic_outgoing.proofs.outgoing.OutgoingStreams.write.Goals as goal
 
 pub returns-clause-from : goal.returns-clause-from
 returns-clause-from g c = continues (view_of c.args.self.now) (Writing c.args.id (g.S.BytesSource.lists c.args.source.now) c.write_source.result) (view_of c.write_source.new.self)
-    (shown_pending c.args.pending.now, g.S.BytesSource.lists c.write_source.new.source, shown_pending c.write_source.new.pending, c.write_source.ensures)
+    (shown_pending c.args.pending.now, g.S.BytesSource.lists c.write_source.new.source, shown_pending c.write_source.new.pending, c.write_source.ensures.writes)

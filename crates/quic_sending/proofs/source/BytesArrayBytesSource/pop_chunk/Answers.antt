@@ -1,6 +1,6 @@
 use Rattle.std.proofs.Common.{◌≡◌, ℕ, ◌+◌, ◌-◌, ◌<◌, ◌≤◌, List, ◌∷◌, ap, sym, ◌∙◌, length, drop, length-take, length-set, set, get_or, arith}
 use Rattle.quic_sending.specs.Source.{cut_piece}
-use Rattle.quic_sending.proofs.Chunks.{chunks-set, chunks-after, chunks-end, pops_at_end, pops_at_part, pops_at_whole, cut_piece-zero}
+use Rattle.quic_sending.proofs.Chunks.{chunks-set, chunks-after, chunks-end, pops_at_end, pops_at_part, pops_at_whole, cut_piece-zero, taken_front, taken_cut, taken_more}
 use Rattle.quic_sending.proofs.source.BytesArrayBytesSource.pop_chunk.Goals as goal
 
 pub invariant_of-self : goal.invariant_of-self
@@ -8,7 +8,11 @@ invariant_of-self c =
     let s = c.args.self.now in
     let pops = pops_at_end s.chunks.now s.consumed _ c.args.limit c.count_empty-ended.ensures.left (omega arith) in
     let was : s.part ≡ cut_piece c.args.limit (drop s.consumed s.chunks.now) = s.is_part ∙ ap (λ (n : ℕ). cut_piece n (drop s.consumed s.chunks.now)) (sym c.requires) in
-    record { in_range = omega arith; is_part = was ∙ (pops.part ∙ ap (cut_piece c.args.limit) (sym (chunks-end s.chunks.now _ (omega arith)))) }
+    record {
+      in_range = omega arith;
+      taken = taken_front s.chunks.now s.consumed c.count_empty-ended.result (omega arith) s.taken c.count_empty-ended.ensures.left;
+      is_part = was ∙ (pops.part ∙ ap (cut_piece c.args.limit) (sym (chunks-end s.chunks.now _ (omega arith))));
+    }
 
 pub returns-then-self-chunks-clause-piece : goal.returns-then-self-chunks-clause-piece
 returns-then-self-chunks-clause-piece c =
@@ -35,6 +39,7 @@ invariant_of-self-then-limit-len c =
     let same = length-set s.chunks.now i c.advance.new.self in
     record {
       in_range = omega arith;
+      taken = taken_cut s.chunks.now i c.advance.new.self (taken_front s.chunks.now s.consumed c.count_empty-ended.result (omega arith) s.taken c.count_empty-ended.ensures.left);
       is_part = c.replace.ensures.after ∙ (c.new-then-limit-len.ensures ∙ sym (cut_piece-zero (drop i (set s.chunks.now i c.advance.new.self))));
     }
 
@@ -84,6 +89,7 @@ invariant_of-self-2 c =
     let left : c.args.limit - length v ≡ c.args.limit - c.len-2.result = omega arith in
     record {
       in_range = omega arith;
+      taken = taken_more s.chunks.now i c.replace-whole.new.dest (omega arith) (taken_front s.chunks.now s.consumed c.count_empty-ended.result (omega arith) s.taken c.count_empty-ended.ensures.left) (c.replace-whole.ensures.after ∙ c.new-2.ensures);
       is_part = was ∙ (pops.part ∙ (ap (λ (n : ℕ). cut_piece n (drop (i + 1) s.chunks.now)) left ∙ ap (cut_piece (c.args.limit - c.len-2.result)) (sym (chunks-after s.chunks.now i c.replace-whole.new.dest))));
     }
 

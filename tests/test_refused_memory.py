@@ -1,0 +1,52 @@
+"""`streampair` with each request for memory refused in turn: a part of what `tools/refused_memory` tries by hand."""
+import contextlib
+import glob
+import importlib.util
+import io
+import os
+import subprocess
+import tempfile
+import unittest
+
+from test_programs import ROOT, program
+
+TOOL = os.path.join(ROOT, "tools", "refused_memory")
+
+# Each takes some 500 runs.
+SEEDS = range(1, 16)
+
+
+def load():
+    """The script of the tool."""
+    spec = importlib.util.spec_from_file_location("refused_memory", os.path.join(TOOL, "sessions.py"))
+    made = importlib.util.module_from_spec(spec)
+    spec.loader.exec_module(made)
+    return made
+
+
+def link(to):
+    """The program with an allocator that refuses the request of a number."""
+    page = subprocess.run(["rt", "doc"], stdout=subprocess.PIPE, check=True, text=True).stdout.strip()
+    library = os.path.join(os.path.dirname(page), "c", "libos_c.a")
+    allocator = os.path.join(TOOL, "allocator.c")
+    subprocess.run(["cc", "-O1", "-o", to, allocator, program("streampair") + ".o", library], check=True)
+
+
+class RefusedMemory(unittest.TestCase):
+    def test_a_refused_request_changes_nothing_but_its_step(self):
+        stored = os.path.join(ROOT, "crates", "streampair", "stdin")
+        files = [stored, *sorted(glob.glob(os.path.join(TOOL, "*.txt")))]
+        with tempfile.TemporaryDirectory() as folder, contextlib.redirect_stderr(io.StringIO()):
+            refusing = os.path.join(folder, "refused")
+            link(refusing)
+            check = load().tried(refusing, SEEDS, files)
+        self.assertEqual(check.wrong, [])
+        self.assertEqual(check.tally["sessions"], len(files) + 2 + len(SEEDS))
+        for name in ("in a step", "at the second line", "outside a step", "CompactionMemory"):
+            self.assertGreater(check.tally[name], 0, name)
+        for verb in ("emit", "read", "write", "deliver", "chunks", "open"):
+            self.assertGreater(check.tally[f"in {verb}"], 0, verb)
+
+
+if __name__ == "__main__":
+    unittest.main()
