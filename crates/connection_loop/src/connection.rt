@@ -1,12 +1,11 @@
 //! One end of a connection: what a connection layer keeps of its streams, and when it calls them.
 
 use anyhow::{Result, ensure};
-use quic_receiving::ShouldTransmit;
-use quic_streams::state::StreamsState;
+use quic_streams::recv::ShouldTransmit;
+use quic_streams::retransmits::{Retransmits, ThinRetransmits};
 use quic_streams::stats::FrameStats;
-use quic_streams::{PeerLimits, Retransmits, StreamMetaVec, ThinRetransmits};
-use quic_values::{Dir, OutOfMemory, Side, VarInt};
-use quic_wire::{Frame, TransportError, decode};
+use quic_streams::streams::{PeerLimits, StreamMetaVec, StreamsState};
+use quic_streams::wire::{Dir, Frame, OutOfMemory, Side, TransportError, VarInt, decode};
 use std::alloc::Global;
 use std::collections::BTreeMap;
 

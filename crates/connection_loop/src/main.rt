@@ -5,13 +5,10 @@ mod connection;
 
 use crate::connection::Connection;
 use anyhow::{Context, Result, ensure};
-use quic_receiving::ReadableError;
-use quic_sending::WriteError;
-use quic_streams::recv_stream::RecvStream;
-use quic_streams::send_stream::SendStream;
-use quic_streams::streams::{ConnState, Streams};
-use quic_values::{Dir, Side, StreamId};
-use quic_wire::{Frame, StreamEvent, decode};
+use quic_streams::recv::ReadableError;
+use quic_streams::send::WriteError;
+use quic_streams::streams::{ConnState, RecvStream, SendStream, StreamEvent, Streams};
+use quic_streams::wire::{Dir, Frame, Side, StreamId, decode};
 use std::alloc::Global;
 use std::collections::{BTreeMap, BTreeSet};
 use std::fmt::Debug;
