@@ -4,8 +4,8 @@
     tools/reading_list.py quic_pair.specs.Headline:Headline ..
 
 MODULE:NAME is a definition, and MODULE alone stands for all of a file. Prints each definition under its file, with its
-lines (comments and blank lines apart), then the types of the code that they name and the sums; with --files only the sums
-of each file.
+lines (comments and blank lines apart), then the types of the code that they name and the sums. With --files only the sums
+of each file, with --text the definitions themselves, each below its comment.
 """
 import os
 import re
@@ -21,12 +21,19 @@ class File:
     """The definitions of a file, as lines by name, and where the names that it imports come from."""
 
     def __init__(self, module, path):
-        self.module, self.items, self.imports, self.aliases, self.cases = module, {}, {}, {}, {}
-        name, is_data = None, False
+        self.module, self.items, self.texts, self.imports, self.aliases, self.cases = module, {}, {}, {}, {}, {}
+        name, is_data, comment = None, False, []
         with open(path) as file:
             lines = file.read().split("\n")
         for line in lines:
-            if not line.strip() or line.strip().startswith("--") or line.startswith("pub mod "):
+            if line.startswith("--"):
+                comment.append(line)
+                continue
+            if not line.strip() or line.startswith("pub mod "):
+                comment = []
+                continue
+            if line.strip().startswith("--"):
+                self.texts.setdefault(name, []).append(line)
                 continue
             found = IMPORT.match(line)
             if found:
@@ -38,6 +45,8 @@ class File:
             elif is_data and " : " in line:
                 self.cases[line.replace("pub ", "").split()[0]] = name
             self.items.setdefault(name, []).append(line)
+            self.texts.setdefault(name, []).extend(comment + [line])
+            comment = []
 
     def take_import(self, module, names, alias):
         if alias:
@@ -88,7 +97,7 @@ class Reader:
 
 
 def main():
-    asked = [argument for argument in sys.argv[1:] if argument != "--files"]
+    asked = [argument for argument in sys.argv[1:] if not argument.startswith("--")]
     reader, wanted = Reader(), []
     for argument in asked:
         module, _, name = argument.partition(":")
@@ -103,9 +112,13 @@ def main():
         lines = {name: len(reader.files[module].items[name]) for name in items}
         total += sum(lines.values())
         print(f"{module.replace('.', '/')}.antt: {len(items)} definitions, {sum(lines.values())} lines")
-        if "--files" not in sys.argv:
+        if "--text" in sys.argv:
+            texts = reader.files[module].texts
+            print("\n" + "\n\n".join("\n".join(texts[name]) for name in texts if name in items) + "\n")
+        elif "--files" not in sys.argv:
             print("    " + ", ".join(items))
-    print(f"types of the code: {', '.join(sorted(reader.types))}" if "--files" not in sys.argv else "")
+    if "--files" not in sys.argv:
+        print(f"types of the code: {', '.join(sorted(reader.types))}")
     for module, name in sorted(reader.missing):
         print(f"not found: {module} {name}")
     print(f"{len(reader.read)} definitions, {total} lines, in {len(modules)} files; {len(reader.types)} types of the code")
