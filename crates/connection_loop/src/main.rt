@@ -80,13 +80,13 @@ fn turn<W: Write>(
     sent: u64,
     output: &mut W,
 ) -> Result<u64> {
-    for (number, (control, frames)) in mem::replace(&mut from.sent, BTreeMap::new(from.alloc)) {
+    for (number, payload) in mem::replace(&mut from.sent, BTreeMap::new(from.alloc)) {
         if losses.contains(&number) {
             writeln!(output, "{} hears that {number} was lost", from.side)?;
-            from.lost(control, frames)?;
+            from.lost(payload)?;
         } else {
             writeln!(output, "{} hears that {number} arrived", from.side)?;
-            from.acknowledged(control, frames)?;
+            from.acknowledged(payload)?;
         }
     }
     from.act(output)?;
