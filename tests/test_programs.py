@@ -202,11 +202,11 @@ class Streamsim(unittest.TestCase):
         self.assertEqual(run("streamsim", "loss 1 in 3\n")[1], 0)
 
     def test_a_picture_has_a_line_and_a_name_for_each_column(self):
-        given = f"{self.SETTINGS}bytes 30000\nseed 5\nloss 1 in 3\npicture\n"
+        given = f"{self.SETTINGS}bytes 30000\nseed 42\nloss 1 in 3\npicture\n"
         picture = self.output_of(given, "</g></svg>", 0)
         self.assertTrue(picture.startswith("<svg "))
         self.assertIn(" viewBox='0 0 1000 590'", picture)
-        title = "30000 bytes of a stream, seed 5, one of 3 payloads lost, none late"
+        title = "30000 bytes of a stream, seed 42, one of 3 payloads lost, none late"
         self.assertIn(f"<title>{title}</title>", picture)
         self.assertIn(f">{title}</text>", picture)
         self.assertIn(">payloads of 1200 bytes; windows: receive 8000, stream 6000, send 9000<", picture)
