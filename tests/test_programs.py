@@ -25,7 +25,7 @@ def need(module, *names):
 
 
 def setUpModule():
-    need(__name__, "connection_loop", "message_queue", "streamsim")
+    need(__name__, "connection_loop", "message_queue", "streamsim", "hostile", "streampair")
 
 
 def run(name, given):
@@ -180,18 +180,71 @@ class Streamsim(unittest.TestCase):
         self.output_of(f"{self.SETTINGS}bytes 0\n", "given 0 bytes, as written", 0)
 
     def test_what_cannot_come_is_unfinished(self):
-        for line in ["payload 20", "stream-window 0", "send-window 0", "loss 1 in 1"]:
-            self.output_of(f"{self.SETTINGS}bytes 50\n{line}\n", "given 0 bytes, and no more", 4)
+        for line, reason in [
+            ("payload 25", "a payload has no room for data"),
+            ("stream-window 0", "a window is 0"),
+            ("receive-window 0", "a window is 0"),
+            ("send-window 0", "a window is 0"),
+            ("loss 1 in 1", "every payload is lost"),
+        ]:
+            self.output_of(f"{self.SETTINGS}bytes 50\n{line}\n", f"given 0 bytes, and no more: {reason}", 4)
 
-    def test_a_picture_has_a_line_for_each_column(self):
-        given = f"{self.SETTINGS}bytes 30000\nloss 1 in 3\npicture\n"
+    def test_the_smallest_payload_and_window_carry_all(self):
+        for line in ["payload 26", "stream-window 1", "receive-window 1", "send-window 1"]:
+            self.output_of(f"{self.SETTINGS}bytes 50\n{line}\n", "given 50 bytes, as written", 0)
+
+    def test_a_run_without_gain_ends_after_a_thousand_steps(self):
+        table = self.output_of("loss 1 in 1\n", "given 0 bytes, and no more: every payload is lost", 4)
+        self.assertEqual(table.splitlines()[-2].split()[0], "999")
+
+    def test_nothing_has_to_be_said(self):
+        self.output_of("", "given 100000 bytes, as written", 0)
+        self.assertEqual(run("streamsim", "loss 1 in 3\n")[1], 0)
+
+    def test_a_picture_has_a_line_and_a_name_for_each_column(self):
+        given = f"{self.SETTINGS}bytes 30000\nseed 42\nloss 1 in 3\npicture\n"
         picture = self.output_of(given, "</g></svg>", 0)
         self.assertTrue(picture.startswith("<svg "))
+        self.assertIn(" viewBox='0 0 1000 590'", picture)
+        title = "30000 bytes of a stream, seed 42, one of 3 payloads lost, none late"
+        self.assertIn(f"<title>{title}</title>", picture)
+        self.assertIn(f">{title}</text>", picture)
+        self.assertIn(">payloads of 1200 bytes; windows: receive 8000, stream 6000, send 9000<", picture)
         self.assertIn(">given 30000 bytes, as written<", picture)
-        lines = [line for line in picture.splitlines() if line.startswith("<polyline ")]
+        lines = [line for line in picture.splitlines() if line.startswith("<path fill='none'")]
         self.assertEqual(len(lines), 6)
+        self.assertEqual(len({line.split(" d=")[0] for line in lines}), 6)
         for name in ["credit", "written", "sent", "acknowledged", "given", "sent again"]:
             self.assertIn(f">{name}</text>", picture)
+
+
+class Hostile(unittest.TestCase):
+    def test_what_is_no_two_numbers_is_refused(self):
+        for given in ["", "1", "1 x", "1 2 3", "-1 2", b"1 \xff", b"\xff\xfe1 2"]:
+            self.assertEqual(run("hostile", given), ("a seed and a number of frames are wanted\n", 2), given)
+
+
+class LineEnds(unittest.TestCase):
+    """A carriage return before the line feed, and a plus before a number, are taken by all programs or by none."""
+
+    def test_they_change_nothing(self):
+        for name, given in [
+            ("connection_loop", "lose 1\nlose 2\n"),
+            ("message_queue", "stream 5\nmessage 0 text\nlose 1\n"),
+            ("streamsim", "bytes 3000\nloss 1 in 3\n"),
+            ("hostile", "11 100\n"),
+        ]:
+            plain = run(name, given)
+            self.assertEqual(plain[1], 0, name)
+            self.assertEqual(run(name, given.replace("\n", "\r\n")), plain, name)
+        self.assertEqual(run("connection_loop", "lose +1\n"), run("connection_loop", "lose 1\n"))
+        self.assertEqual(run("message_queue", "stream +5\nlose +1\n"), run("message_queue", "stream 5\nlose 1\n"))
+        self.assertEqual(run("streamsim", "bytes +3000\n"), run("streamsim", "bytes 3000\n"))
+        self.assertEqual(run("hostile", "+11 +100"), run("hostile", "11 100"))
+
+    def test_streampair_takes_neither(self):
+        self.assertEqual(run("streampair", "config a 4 4 1000 1000 1000\r\n"), ("malformed 1\n", 2))
+        self.assertEqual(run("streampair", "config a 4 4 +1000 1000 1000\n"), ("malformed 1\n", 2))
 
 
 if __name__ == "__main__":

@@ -9,11 +9,15 @@ import os
 import re
 import unittest
 
-from test_programs import run
+from test_programs import need, run
 
 FOLDER = os.path.join(os.path.dirname(os.path.abspath(__file__)), "sessions")
 CONFIGS = [("config a 4 4 1000 1000 1000", "ok"), ("config b 4 4 1000 1000 1000", "ok")]
 MANY = re.compile(r"([0-9a-f]{2})\*(\d+)")
+
+
+def setUpModule():
+    need(__name__, "streampair")
 
 
 def in_full(text):

@@ -1,12 +1,12 @@
 //! One end of a connection: what a connection layer keeps of its streams, and when it calls them.
 
 use anyhow::{Result, ensure};
-use quic_receiving::ShouldTransmit;
-use quic_streams::state::StreamsState;
+use quic_streams::SentPayload;
+use quic_streams::recv::ShouldTransmit;
+use quic_streams::retransmits::{Retransmits, ThinRetransmits};
 use quic_streams::stats::FrameStats;
-use quic_streams::{PeerLimits, Retransmits, StreamMetaVec, ThinRetransmits};
-use quic_values::{Dir, OutOfMemory, Side, VarInt};
-use quic_wire::{Frame, TransportError, decode};
+use quic_streams::streams::{PeerLimits, StreamMetaVec, StreamsState};
+use quic_streams::wire::{Dir, Frame, OutOfMemory, Side, TransportError, VarInt, decode};
 use std::alloc::Global;
 use std::collections::BTreeMap;
 
@@ -16,7 +16,7 @@ pub struct Connection {
     pub side: Side,
     pub streams: StreamsState,
     pub pending: Retransmits,
-    pub sent: BTreeMap<u64, (ThinRetransmits, StreamMetaVec)>,
+    pub sent: BTreeMap<u64, SentPayload>,
     pub left: &'static [u8],
     pub read: Vec<u8>,
     pub alloc: Global,
@@ -65,36 +65,30 @@ impl Connection {
     pub fn send(&mut self, number: u64) -> Result<Vec<u8>> {
         let (mut payload, mut counts) = (Vec::new(self.alloc), FrameStats::new());
         let mut control = ThinRetransmits::new(self.alloc);
-        let mut frames = StreamMetaVec::new(self.alloc);
+        let mut streams = StreamMetaVec::new(self.alloc);
         let (state, pending, size) = (&mut self.streams, &mut self.pending, 40);
         state.write_control_frames(&mut payload, pending, &mut control, &mut counts, size)?;
-        state.write_stream_frames(&mut payload, &mut frames, size, true)?;
+        state.write_stream_frames(&mut payload, &mut streams, size, true)?;
         if !payload.is_empty() {
-            self.sent.insert(number, (control, frames))?;
+            self.sent.insert(number, SentPayload { streams, control })?;
         }
         Ok(payload)
     }
 
     /// A payload was acknowledged: what it carried need not be kept.
-    pub fn acknowledged(&mut self, control: ThinRetransmits, frames: StreamMetaVec) -> Result<()> {
-        for frame in frames {
-            self.streams.received_ack_of(frame)?;
-        }
-        if let Some(control) = control.get() {
-            for (id, _) in &control.reset_stream {
-                self.streams.reset_acked(*id)?;
-            }
-        }
+    pub fn acknowledged(&mut self, sent: SentPayload) -> Result<()> {
+        self.streams.acked(sent).or(Err(OutOfMemory))?;
         self.streams.queue_max_stream_id(&mut self.pending);
         Ok(())
     }
 
     /// A payload was lost: what it carried is to be sent again.
-    pub fn lost(&mut self, control: ThinRetransmits, frames: StreamMetaVec) -> Result<()> {
-        for frame in frames {
-            self.streams.retransmit(frame)?;
-        }
-        Ok(self.pending.merge_thin(control).or(Err(OutOfMemory))?)
+    pub fn lost(&mut self, sent: SentPayload) -> Result<()> {
+        Ok(
+            self.streams
+                .lost(sent, &mut self.pending)
+                .or(Err(OutOfMemory))?,
+        )
     }
 }
 

@@ -5,13 +5,10 @@ mod connection;
 
 use crate::connection::Connection;
 use anyhow::{Context, Result, ensure};
-use quic_receiving::ReadableError;
-use quic_sending::WriteError;
-use quic_streams::recv_stream::RecvStream;
-use quic_streams::send_stream::SendStream;
-use quic_streams::streams::{ConnState, Streams};
-use quic_values::{Dir, Side, StreamId};
-use quic_wire::{Frame, StreamEvent, decode};
+use quic_streams::recv::ReadableError;
+use quic_streams::send::WriteError;
+use quic_streams::streams::{ConnState, RecvStream, SendStream, StreamEvent, Streams};
+use quic_streams::wire::{Dir, Frame, Side, StreamId, decode};
 use std::alloc::Global;
 use std::collections::{BTreeMap, BTreeSet};
 use std::fmt::Debug;
@@ -83,13 +80,13 @@ fn turn<W: Write>(
     sent: u64,
     output: &mut W,
 ) -> Result<u64> {
-    for (number, (control, frames)) in mem::replace(&mut from.sent, BTreeMap::new(from.alloc)) {
+    for (number, payload) in mem::replace(&mut from.sent, BTreeMap::new(from.alloc)) {
         if losses.contains(&number) {
             writeln!(output, "{} hears that {number} was lost", from.side)?;
-            from.lost(control, frames)?;
+            from.lost(payload)?;
         } else {
             writeln!(output, "{} hears that {number} arrived", from.side)?;
-            from.acknowledged(control, frames)?;
+            from.acknowledged(payload)?;
         }
     }
     from.act(output)?;

@@ -9,7 +9,7 @@ mod record;
 mod trial;
 
 use std::alloc::Global;
-use std::io;
+use std::io::{self, Read};
 use std::process::ExitCode;
 use trial::{Tally, hold};
 
@@ -52,8 +52,15 @@ fn run(rt: &(impl Print + Eprint), alloc: Global, text: &str) -> io::Result<u8> 
     }
 }
 
+// The whole input. What is no UTF-8 in it becomes a character that no number has.
+fn read_input(alloc: Global, mut input: impl Read + Drop) -> io::Result<String> {
+    let mut bytes = Vec::new(alloc);
+    input.read_to_end(&mut bytes)?;
+    Ok(String::from_utf8_lossy(alloc, bytes.as_slice())?)
+}
+
 fn main(rt: HostRuntime) -> ExitCode {
-    let Ok(text) = io::read_to_string(rt.alloc(), rt.reader()) else {
+    let Ok(text) = read_input(rt.alloc(), rt.reader()) else {
         return ExitCode::from(1);
     };
     match run(&rt, rt.alloc(), text.as_str()) {

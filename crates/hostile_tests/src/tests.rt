@@ -144,7 +144,7 @@ fn taken(answer: Result<(), ReceiveError>) -> Answer {
 
 // What is told of the whole connection.
 fn ask_connection(subject: &mut Subject, told: &mut Vec<u64>) -> Result<(), OutOfMemory> {
-    let streams = Streams::new(&mut subject.state, ConnState::Open);
+    let mut streams = Streams::new(&mut subject.state, ConnState::Open);
     told.push(streams.send_streams() as u64)?;
     for dir in [Dir::Bi, Dir::Uni] {
         told.push(streams.remote_open_streams(dir))?;

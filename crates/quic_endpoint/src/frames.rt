@@ -4,7 +4,7 @@ ghost use Rattle.std.specs.Prelude.{List, ◌≡◌, ◌≤◌, ◌∷◌};
 ghost use Rattle.quic_history.specs.World.{Made};
 ghost use Rattle.quic_history.specs.History.{Event, From};
 ghost use Rattle.quic_endpoint.specs.Shown.{end_state};
-ghost use Rattle.quic_endpoint.specs.Receiving.{data_length, event_of, with_call_made, MakesCall, MayAnswer, with_answer_told, ReceivesAt};
+ghost use Rattle.quic_endpoint.specs.Receiving.{data_length, event_of, with_call_made, MakesCall, MayAnswer, with_answer_told, ReceivesAt, AccountsFrame};
 
 use crate::endpoint::Endpoint;
 use quic_receiving::ShouldTransmit;
@@ -15,7 +15,8 @@ use quic_wire::{Frame, ReceiveError};
 impl Endpoint {
     /// Takes a frame of the peer that came in a payload of so many bytes (RFC 9000 section 19): data, a reset, a stop and
     /// limits are handed to the streams, any other frame changes nothing. Where the answer asks for MAX_DATA it is queued,
-    /// and MAX_STREAMS where it is due, unless memory was wanting.
+    /// and MAX_STREAMS where it is due, unless memory was wanting. Data keep the whole payload alive, so that `payload_len`
+    /// is their allocation size.
     pub fn receive(
         &mut self,
         frame: Frame,
@@ -23,6 +24,7 @@ impl Endpoint {
     ) -> Result<ShouldTransmit, ReceiveError>
         requires { data_length frame ≤ payload_len }
         ensures receives { ReceivesAt (end_state self.old) frame result (end_state self.new) }
+        ensures accounts { AccountsFrame (end_state self.old).streams frame payload_len result (end_state self.new).streams }
         ensures from { (m : Made) (h : List Event) → From m h (end_state self.old).streams → From m (with_call_made (event_of frame result) h) (end_state self.new).streams }
     {
         let answer = self.take_frame(frame, payload_len);
@@ -37,6 +39,7 @@ impl Endpoint {
         payload_len: usize,
     ) -> Result<ShouldTransmit, ReceiveError>
         requires { data_length frame ≤ payload_len }
+        ensures accounts { AccountsFrame (end_state self.old).streams frame payload_len result (end_state self.new).streams }
         ensures call { MakesCall (end_state self.old).streams (event_of frame result) (end_state self.new).streams }
         ensures pending { (end_state self.new).pending ≡ (end_state self.old).pending }
         ensures may { MayAnswer frame result }

@@ -10,7 +10,7 @@ use Rattle.quic_receiving.specs.declared.transmit.ShouldTransmit.{ShouldTransmit
 use Rattle.quic_retransmits.specs.Pending.{merged_if, shown_if}
 use Rattle.quic_endpoint.specs.Ends.{EndState}
 use Rattle.quic_endpoint.specs.Emitting.{PayloadView, EmitsAt}
-use Rattle.quic_endpoint.specs.Receiving.{ReceivesAt}
+use Rattle.quic_endpoint.specs.Receiving.{ReceivesAt, AccountsFrame}
 use Rattle.quic_endpoint.specs.Reports.{LosesAt, AcksAt, with_pending}
 use Rattle.quic_steps.specs.declared.steps.End.{End}
 use Rattle.quic_steps.specs.declared.steps.End.TheVariants.{A, B}
@@ -24,7 +24,7 @@ use Rattle.quic_pair.specs.Payloads.{LacksFrame, LacksStream, SpellsNone, LacksA
 use Rattle.quic_pair.specs.Places.{FindsFrame, FindsStream, FindsResets, FailsToFind, IsNeverRefused, MarksIf, MarksAt}
 use Rattle.quic_pair.specs.State.{PairState, OnEnd, peer, the_end, with_end, with_sent, two_ends}
 use Rattle.quic_pair.specs.Calls.{AcksResets, AcksSome}
-use Rattle.quic_pair.specs.Steps.{IsSentBy, Emits, Emitted, Delivers, HandsOver, SentAfter, LosesFrame, ReportsLoss, AcksFrame, ReportsAck, LosesControl, AcksControl}
+use Rattle.quic_pair.specs.Steps.{IsSentBy, Emits, Emitted, TakesFrame, Delivers, HandsOver, SentAfter, LosesFrame, ReportsLoss, AcksFrame, ReportsAck, LosesControl, AcksControl}
 
 pub on-ok : {P Q : Type 0} (r : Result (Unit {0}) OutOfMemory) → (P → Q) → OnOk r P → OnOk r Q
 on-ok (Ok x) f p = f p
@@ -80,16 +80,17 @@ module _ (old mid new : PairState) (n i : ℕ) (h : HandedFrame) (f : FindsFrame
   at_writer P d = let Q : End → Type 0 = λ w. OnEnd P old (peer w) mid in subst Q f.writer d
 
   -- what was handed over, whatever the answer
-  handed : (answer : Result ShouldTransmit ReceiveError) → OnEnd (λ e g. ReceivesAt e h.frame answer g) old (peer h.writer) mid → SentAfter old.sent n f.whole i answer new.sent → new ≡ with_sent mid new.sent
+  handed : (answer : Result ShouldTransmit ReceiveError) → OnEnd (TakesFrame h.frame h.len answer) old (peer h.writer) mid → SentAfter old.sent n f.whole i answer new.sent → new ≡ with_sent mid new.sent
       → HandsOver old n i (received_reply answer) new
   handed answer d s e =
-      let o = at_writer (λ a g. ReceivesAt a h.frame answer g) d in record {
+      let o = at_writer (TakesFrame h.frame h.len answer) d in record {
         payload = record { sent = f.whole; is = f.is };
         frame = h.frame;
         at = f.at;
         answer = answer;
         end = o.end;
-        receives = o.does;
+        receives = o.does.receives;
+        accounts = subst (λ n. AccountsFrame (the_end old (peer f.whole.writer)).streams h.frame n answer o.end.streams) f.length_is o.does.accounts;
         reply_is = refl;
         sent = s;
         is = e ∙ ap (λ k. with_sent k new.sent) o.is;
@@ -103,7 +104,7 @@ module _ (old mid new : PairState) (n i : ℕ) (h : HandedFrame) (f : FindsFrame
       let Q : Sent → Type 0 = λ x. new.sent ≡ slice_set old.sent n (record x { text = m.text }) in
       (m.text, subst P w m.marked, subst Q w m.new_is)
 
-  pub deliver-so : (answer : Result ShouldTransmit ReceiveError) → OnEnd (λ e g. ReceivesAt e h.frame answer g) old (peer h.writer) mid → MarksIf answer old.sent n i new.sent → new ≡ with_sent mid new.sent
+  pub deliver-so : (answer : Result ShouldTransmit ReceiveError) → OnEnd (TakesFrame h.frame h.len answer) old (peer h.writer) mid → MarksIf answer old.sent n i new.sent → new ≡ with_sent mid new.sent
       → Delivers old n i (received_reply answer) new
   deliver-so (Ok transmit) d m e = handed (Ok transmit) d (marked-so transmit m) e
   deliver-so (Err (receive_error.Transport error)) d m e = handed (Err (receive_error.Transport error)) d m e

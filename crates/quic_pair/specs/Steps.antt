@@ -9,7 +9,7 @@ use Rattle.quic_receiving.specs.declared.transmit.ShouldTransmit.{ShouldTransmit
 use Rattle.quic_retransmits.specs.Pending.{merged_if, shown_if}
 use Rattle.quic_retransmits.specs.Settling.{noted_in}
 use Rattle.quic_endpoint.specs.Ends.{EndState}
-use Rattle.quic_endpoint.specs.Receiving.{ReceivesAt}
+use Rattle.quic_endpoint.specs.Receiving.{ReceivesAt, AccountsFrame}
 use Rattle.quic_endpoint.specs.Reports.{LosesAt, AcksAt, with_pending}
 use Rattle.quic_endpoint.specs.Emitting.{PayloadView, EmitsAt}
 use Rattle.quic_steps.specs.declared.steps.End.{End}
@@ -84,7 +84,12 @@ abbrev pub SentAfter : List Sent → ℕ → Sent → ℕ → Result ShouldTrans
 SentAfter old number sent index (Ok transmit) new = (marked : SentText) × IsMarked sent.text index marked × (new ≡ slice_set old number (record sent { text = marked }))
 SentAfter old number sent index (Err error) new = new ≡ old
 
--- a frame of a payload is handed to the other end
+-- an end takes a frame of a payload of so many bytes
+pub record TakesFrame (frame : Frame) (size : ℕ) (answer : Result ShouldTransmit ReceiveError) (e f : EndState) : Type 0 where
+  pub receives : ReceivesAt e frame answer f
+  pub accounts : AccountsFrame e.streams frame size answer f.streams
+
+-- a frame of a payload is handed to the other end, with the length of the payload
 pub record HandsOver (old : PairState) (number index : ℕ) (reply : Answer) (new : PairState) : Type 0 where
   pub payload : HasPayload old number
   pub frame : Frame
@@ -92,6 +97,7 @@ pub record HandsOver (old : PairState) (number index : ℕ) (reply : Answer) (ne
   pub answer : Result ShouldTransmit ReceiveError
   pub end : EndState
   pub receives : ReceivesAt (the_end old (peer payload.sent.writer)) frame answer end
+  pub accounts : AccountsFrame (the_end old (peer payload.sent.writer)).streams frame (length payload.sent.text.bytes) answer end.streams
   pub reply_is : reply ≡ received_reply answer
   pub sent : SentAfter old.sent number payload.sent index answer new.sent
   pub is : new ≡ with_sent (with_end old (peer payload.sent.writer) end) new.sent

@@ -5,11 +5,11 @@ ghost use Rattle.std.specs.List.{zip};
 ghost use Rattle.quic_sending.specs.Source.{slice_lists};
 ghost use Rattle.quic_endpoint.specs.Shown.{end_state};
 ghost use Rattle.quic_endpoint.specs.Emitting.{EmitsAt, payload_view};
-ghost use Rattle.quic_endpoint.specs.Receiving.{data_length, ReceivesAt};
+ghost use Rattle.quic_endpoint.specs.Receiving.{data_length};
 ghost use Rattle.quic_endpoint.specs.Reports.{LosesAt, AcksAt};
 ghost use Rattle.quic_pair.specs.State.{pair_state, the_end, with_end, peer, two_ends, OnEnd};
 ghost use Rattle.quic_pair.specs.Calls.{Opens, Accepts, OnGiven, Writes, WritesChunks, Finishes, ResetsOn, StopsOn, SetsPriorityOn, AsksReset, ReadsOn, SetsSendWindow, SetsReceiveWindow, SetsMaxConcurrent, Polls, AcksResets, AcksSome};
-ghost use Rattle.quic_pair.specs.Steps.{Next, Emitted, Delivers, LosesFrame, AcksFrame, LosesControl, AcksControl};
+ghost use Rattle.quic_pair.specs.Steps.{Next, Emitted, TakesFrame, Delivers, LosesFrame, AcksFrame, LosesControl, AcksControl};
 ghost use Rattle.quic_values.specs.Ids.{other_side};
 ghost use Rattle.quic_streams.specs.Shown.{shown};
 ghost use Rattle.quic_link.specs.Endpoints.{limits_of};
@@ -257,7 +257,7 @@ impl Pair {
         len: usize,
     ) -> Result<ShouldTransmit, ReceiveError>
         requires { data_length frame ≤ len }
-        ensures { OnEnd (λ e f. ReceivesAt e frame result f) (pair_state self.old) (peer writer) (pair_state self.new) }
+        ensures { OnEnd (TakesFrame frame len result) (pair_state self.old) (peer writer) (pair_state self.new) }
     {
         match writer {
             End::A => self.b.receive(frame, len),

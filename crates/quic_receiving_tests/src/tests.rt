@@ -1,3 +1,4 @@
+mod defaults;
 mod frames;
 mod reads;
 mod sizes;

@@ -7,6 +7,7 @@ use std::process::Abort;
 
 mod buffer;
 mod half;
+mod order;
 mod sizes;
 mod sources;
 

@@ -1,5 +1,5 @@
 -- Lemmas on halves that are changed where they lie.
-use Rattle.std.proofs.Common.{◌≡◌, ℕ, ◌+◌, ◌-◌, ◌^◌, ◌<◌, ◌≤◌, ◌&&◌, nat_le, not, Bool, true, false, List, length, Option, Some, None, Result, Ok, Err, OnOk, OnErr, inl, inr, refl, ap, sym, ◌∙◌, subst, arith}
+use Rattle.std.proofs.Common.{◌≡◌, is_some, ℕ, ◌+◌, ◌-◌, ◌^◌, ◌<◌, ◌≤◌, ◌&&◌, nat_le, not, Bool, true, false, List, length, Option, Some, None, Result, Ok, Err, OnOk, OnErr, inl, inr, refl, ap, sym, ◌∙◌, subst, arith}
 use Rattle.std.proofs.lemmas.Bool.{false≢true}
 use Rattle.std.proofs.lemmas.Bool.Decides.{nat_tests}
 use Rattle.quic_assembler.specs.declared.chunk.Chunk.{Chunk}
@@ -9,22 +9,31 @@ use Rattle.quic_assembler.specs.declared.errors.EnsureError.TheVariants as ensur
 use Rattle.quic_wire.specs.declared.error.ReceiveError.{ReceiveError}
 use Rattle.quic_wire.specs.declared.error.ReceiveError.TheVariants as receive_error
 use Rattle.quic_receiving.proofs.Data.{data-fresh}
-use Rattle.quic_receiving.specs.Half.{Half, new_half}
-use Rattle.quic_receiving.specs.Calls.{HasNone, Rests, Waits, Reads}
+use Rattle.quic_assembler.specs.declared.errors.InsertError.TheVariants as insert_error
+use Rattle.quic_ordered.specs.Assembly.{TellsPieces}
+use Rattle.quic_wire.proofs.Steps.{some_is}
+use Rattle.quic_limits.specs.Remote.{Remote}
+use Rattle.quic_values.specs.Ids.{dir_of}
+use Rattle.quic_values.specs.declared.ids.Dir.{Dir}
+use Rattle.quic_values.specs.declared.ids.Dir.TheVariants.{Bi, Uni}
+use Rattle.quic_receiving.specs.Half.{Half, Taken, verdict, new_half}
+use Rattle.quic_receiving.specs.Calls.{HasNone, Rests, Waits, Reads, buffer_answer}
 use Rattle.quic_receiving.specs.declared.errors.ReadError.{ReadError}
 use Rattle.quic_receiving.specs.declared.errors.ReadError.TheVariants as read_error
 use Rattle.quic_receiving.specs.declared.errors.ReadableError.{ReadableError}
 use Rattle.quic_receiving.specs.declared.errors.ReadableError.TheVariants as readable_error
 use Rattle.quic_receiving.specs.declared.transmit.ShouldTransmit.{ShouldTransmit}
 use Rattle.quic_history.specs.Halves.{Halves, with_half}
-use Rattle.quic_history.specs.World.{World, id_refusal, noticed, with_counted, with_freed, with_receive, advanced}
+use Rattle.quic_history.specs.World.{World, id_refusal, noticed, remote_of, with_counted, with_freed, with_receive, with_remote, advanced}
+use Rattle.quic_streams.specs.Accounting.{IsWanted, KeepsAlive, Accounts, buffered}
 use Rattle.quic_history.specs.Receiving.{IsDropped, Reaches, Receives}
 use Rattle.quic_history.specs.declared.progress.Progress.{Progress}
 use Rattle.quic_history.specs.declared.progress.Progress.TheVariants as progress
 use Rattle.quic_history.specs.Reading.{is_mode, is_reading, is_ended, progress_after, given_by, after_read, ReadsHalf, IsClosed, Asks, Begins}
 use Rattle.quic_history.proofs.ReadingSteps.{reader_mode, reader_runs, reading-after}
 use Rattle.quic_history.proofs.WorldSteps.{with_receive-twice, with_receive-back, receive-there, with_counted-none}
-use Rattle.quic_history.proofs.HalfMaps.{with_half-back}
+use Rattle.quic_history.proofs.HalfMaps.{half-there, with_half-back}
+use Rattle.quic_history.proofs.StreamSteps.{noticed-any}
 use Rattle.quic_history.proofs.FrameSteps.{takes-stopped, discarded_by, receives_stopped, receives_running}
 use Rattle.std.specs.Global.{Box}
 use Rattle.quic_streams.specs.Held.{half_in}
@@ -163,16 +172,51 @@ begins_at u w v id ordered r same s only = let P : World → Type 0 = λ x. Begi
 
 -- ---- what is received
 
-pub takes-in : (f g : Halves) (id offset : ℕ) (bytes : List ℕ) (fin : Bool) (received permitted : ℕ) (o : Option Ingested) (h k : Half) → f id ≡ Some h → g ≡ with_half f id (Some k)
-    → IngestsOn h offset bytes fin received permitted o k → IngestsIn f id offset bytes fin received permitted o g
-takes-in f g id offset bytes fin received permitted None h k there is s =
+same-error : (error : ReceiveError) → buffered (Err error) ≡ buffer_answer (Err error)
+same-error (receive_error.Transport error) = refl
+same-error receive_error.CompactionMemory = refl
+same-error receive_error.OutOfMemory = refl
+
+-- a count of streams is no half
+counts-kept : (x : World) (dir : Dir) (r : Remote) {f : Halves} → x.receive ≡ f → (with_remote x dir r).receive ≡ f
+counts-kept x Bi r e = e
+counts-kept x Uni r e = e
+
+-- where nothing changed for want of memory the pieces are as they were
+unchanged-pieces : (h : Half) (offset : ℕ) (bytes : List ℕ) (size : ℕ) → TellsPieces h.buffer offset bytes size (Err insert_error.OutOfMemory) h.buffer
+unchanged-pieces h offset bytes size = record { stale = λ s. refl; settled = tt; many = λ e. cc }
+
+pub accounts-none : (w v : World) (id offset : ℕ) (bytes : List ℕ) (fin : Bool) (size : ℕ) → v ≡ w → Accounts w id offset bytes fin size (Err receive_error.OutOfMemory) v
+accounts-none w v id offset bytes fin size same = λ h k. record {
+  new = h;
+  half = ap (λ x. x.receive id) same ∙ k.half;
+  pieces = unchanged-pieces h offset bytes size;
+}
+
+-- a frame that is refused for its id reaches no half
+pub accounts-unknown : (w v : World) (id offset : ℕ) (bytes : List ℕ) (fin : Bool) (size : ℕ) (result : Result ShouldTransmit ReceiveError) (code : ℕ)
+    → id_refusal w id ≡ Some code → Accounts w id offset bytes fin size result v
+accounts-unknown w v id offset bytes fin size result code known = λ h k. let e = sym k.known ∙ known in cc
+
+-- and one that is dropped reaches none that is read
+pub accounts-dropped : (w v : World) (id offset : ℕ) (bytes : List ℕ) (fin : Bool) (size : ℕ) (result : Result ShouldTransmit ReceiveError)
+    → IsDropped (w.receive id) → Accounts w id offset bytes fin size result v
+accounts-dropped w v id offset bytes fin size result dropped = λ h k.
+    let reset : is_some h.reset ≡ true = (rw k.half at dropped) in
+    absurd (false≢true (sym (ap is_some k.running) ∙ reset))
+
+pub ruleset accounts_rules = (accounts-none, accounts-unknown, accounts-dropped)
+
+pub takes-in : (f g : Halves) (id offset : ℕ) (bytes : List ℕ) (fin : Bool) (size received permitted : ℕ) (o : Option Ingested) (h k : Half) → f id ≡ Some h → g ≡ with_half f id (Some k)
+    → IngestsOn h offset bytes fin size received permitted o k → IngestsIn f id offset bytes fin size received permitted o g
+takes-in f g id offset bytes fin size received permitted None h k there is s =
     let dropped : IsDropped (Some h) = s.0 in
     (rw there dropped, same-in f g id h k there is s.1)
-takes-in f g id offset bytes fin received permitted (Some taken) h k there is s = record { old = h; new = k; half = there; ingests = s; is = is }
+takes-in f g id offset bytes fin size received permitted (Some taken) h k there is s = record { old = h; new = k; half = there; ingests = s; is = is }
 
-module _ (w u v : World) (id offset : ℕ) (bytes : List ℕ) (fin : Bool) (received permitted : ℕ) (taken : Ingested) (known : id_refusal w id ≡ None)
+module _ (w u v : World) (id offset : ℕ) (bytes : List ℕ) (fin : Bool) (size received permitted : ℕ) (taken : Ingested) (known : id_refusal w id ≡ None)
     (used : received ≡ w.credit.data_recvd) (limit : permitted ≡ w.credit.local_max_data)
-    (s : TakesIn w.receive id offset bytes fin received permitted taken u.receive) (only : ChangesHalves w u) where
+    (s : TakesIn w.receive id offset bytes fin size received permitted taken u.receive) (only : ChangesHalves w u) where
   reached : Reaches w id offset bytes fin taken.answer s.old s.new
   reached = record { known = known; half = s.half; running = s.ingests.running; ingests = rw (← used, ← limit) s.ingests.ingests }
 
@@ -212,3 +256,43 @@ module _ (w u v : World) (id offset : ℕ) (bytes : List ℕ) (fin : Bool) (rece
   -- what is told of a frame that reached a half is what came of it
   pub receives-in : (result : Result ShouldTransmit ReceiveError) → TellsFrame u id taken.stopped taken.grown taken.answer result v → Receives w id offset bytes fin result v
   receives-in result t = told_by taken.answer result reached t
+
+  -- ---- and what it does with the pieces
+
+  put : u.receive id ≡ Some s.new
+  put = rw s.is (half-there w.receive id (Some s.new))
+
+  noticed-put : (x : World) → x.receive ≡ u.receive → (noticed x id true).receive id ≡ Some s.new
+  noticed-put x same =
+      let P : World → Type 0 = λ y. y.receive ≡ u.receive in
+      ap (λ f. f id) (noticed-any P x id true same (counts-kept x (dir_of id) _ same)) ∙ put
+
+  module _ (h : Half) (k : IsWanted w id offset bytes fin h) where
+    is_old : s.old ≡ h
+    is_old = some_is s.old h (sym s.half ∙ k.half)
+
+    pieces : TellsPieces h.buffer offset bytes size (buffer_answer taken.answer) s.new.buffer
+    pieces =
+        let reading : s.old.stopped ≡ false = ap (λ x. x.stopped) is_old ∙ k.wanted in
+        let fits : verdict s.old offset (length bytes) fin received permitted ≡ Taken = rw (is_old, used, limit) k.taken in
+        let P : Half → Type 0 = λ x. TellsPieces x.buffer offset bytes size (buffer_answer taken.answer) s.new.buffer in
+        subst P is_old (s.ingests.accounts reading fits)
+
+    is_running : taken.stopped ≡ false
+    is_running = s.ingests.stopped ∙ ap (λ x. x.stopped) is_old ∙ k.wanted
+
+    alive : (result : Result ShouldTransmit ReceiveError) → buffered result ≡ buffer_answer taken.answer → v.receive id ≡ Some s.new → KeepsAlive id offset bytes size result h v
+    alive result same there = record { new = s.new; half = there; pieces = rw same pieces }
+
+    alive_by : (answer : Result (ℕ × Bool) ReceiveError) (result : Result ShouldTransmit ReceiveError) (stopped : Bool) → answer ≡ taken.answer → stopped ≡ false
+        → TellsFrame u id stopped taken.grown answer result v → KeepsAlive id offset bytes size result h v
+    alive_by (Ok answer) (Ok transmit) true is runs t = absurd (false≢true (sym runs))
+    alive_by (Ok answer) (Ok transmit) false is runs t = alive (Ok transmit) (ap buffer_answer is) (ap (λ x. x.receive id) t.1 ∙ noticed-put (with_counted u taken.grown) refl)
+    alive_by (Ok answer) (Err told) stopped is runs t = absurd t
+    alive_by (Err error) (Ok transmit) stopped is runs t = absurd t
+    alive_by (Err error) (Err told) stopped is runs t =
+        alive (Err told) (ap (λ x. buffered (Err x)) t.0 ∙ same-error error ∙ ap buffer_answer is) (ap (λ x. x.receive id) t.1 ∙ put)
+
+  -- the data of a frame that is taken keep its payload alive
+  pub accounts-in : (result : Result ShouldTransmit ReceiveError) → TellsFrame u id taken.stopped taken.grown taken.answer result v → Accounts w id offset bytes fin size result v
+  accounts-in result t = λ h k. alive_by h k taken.answer result taken.stopped refl (is_running h k) t

@@ -7,3 +7,4 @@ pub mod TurnRuns
 pub mod Unsent
 pub mod PayloadReports
 pub mod Sent
+pub mod Visits

@@ -1,13 +1,14 @@
 -- What is done to a half where it lies.
-use Rattle.std.specs.Prelude.{ℕ, ◌≡◌, ◌+◌, ◌-◌, ◌^◌, ◌<◌, ◌≤◌, ◌⊎◌, ◌&&◌, if◌then◌else◌, Bool, true, false, List, Option, Some, None, is_some, Result, Ok, Err}
+use Rattle.std.specs.Prelude.{ℕ, ◌≡◌, ◌+◌, ◌-◌, ◌^◌, ◌<◌, ◌≤◌, ◌⊎◌, ◌&&◌, if◌then◌else◌, Bool, true, false, List, length, Option, Some, None, is_some, Result, Ok, Err}
 use Rattle.std.specs.Global.{Box}
 use Rattle.quic_assembler.specs.declared.chunk.Chunk.{Chunk}
 use Rattle.quic_assembler.specs.declared.errors.EnsureError.{EnsureError}
 use Rattle.quic_assembler.specs.declared.errors.EnsureError.TheVariants as ensure_error
 use Rattle.quic_wire.specs.declared.error.ReceiveError.{ReceiveError}
 use Rattle.quic_limits.specs.Credit.{is_max_data_due}
-use Rattle.quic_receiving.specs.Half.{Half}
-use Rattle.quic_receiving.specs.Calls.{Ingests, Orders, Reads}
+use Rattle.quic_ordered.specs.Assembly.{TellsPieces}
+use Rattle.quic_receiving.specs.Half.{Half, Taken, verdict}
+use Rattle.quic_receiving.specs.Calls.{Ingests, Orders, Reads, buffer_answer}
 use Rattle.quic_receiving.specs.declared.errors.ReadError.{ReadError}
 use Rattle.quic_receiving.specs.declared.errors.ReadableError.{ReadableError}
 use Rattle.quic_receiving.specs.declared.errors.ReadableError.TheVariants as readable_error
@@ -62,32 +63,35 @@ AsksIn f id ordered (Err readable_error.ClosedStream) g = IsClosed (f id) × (g 
 AsksIn f id ordered (Err readable_error.IllegalOrderedRead) g = OrdersIn f id ordered (Err ensure_error.IllegalOrderedRead) g
 AsksIn f id ordered (Err readable_error.OutOfMemory) g = (g ≡ f) ⊎ OrdersIn f id ordered (Err ensure_error.OutOfMemory) g
 
--- a frame reached a half that was not reset, where so many bytes of those that are permitted were received
-pub record IngestsHalf (old : Half) (offset : ℕ) (bytes : List ℕ) (fin : Bool) (received permitted : ℕ) (taken : Ingested) (new : Half) : Type 0 where
+-- a frame of a payload of `size` bytes reached a half that was not reset, where so many bytes of those that are permitted were
+-- received
+pub record IngestsHalf (old : Half) (offset : ℕ) (bytes : List ℕ) (fin : Bool) (size received permitted : ℕ) (taken : Ingested) (new : Half) : Type 0 where
   pub running : old.reset ≡ None
   pub ingests : Ingests old offset bytes fin received permitted taken.answer new
   pub grown : taken.grown ≡ new.end - old.end
   pub stopped : taken.stopped ≡ old.stopped
   pub grows : old.end ≤ new.end
   pub within : 0 < taken.grown → received + taken.grown ≤ permitted
+  pub accounts : old.stopped ≡ false → verdict old offset (length bytes) fin received permitted ≡ Taken
+      → TellsPieces old.buffer offset bytes size (buffer_answer taken.answer) new.buffer
 
 -- what came of a frame on a half: it is dropped where the half was reset
-abbrev pub IngestsOn : Half → ℕ → List ℕ → Bool → ℕ → ℕ → Option Ingested → Half → Type 0
-IngestsOn old offset bytes fin received permitted None new = (is_some old.reset ≡ true) × (new ≡ old)
-IngestsOn old offset bytes fin received permitted (Some taken) new = IngestsHalf old offset bytes fin received permitted taken new
+abbrev pub IngestsOn : Half → ℕ → List ℕ → Bool → ℕ → ℕ → ℕ → Option Ingested → Half → Type 0
+IngestsOn old offset bytes fin size received permitted None new = (is_some old.reset ≡ true) × (new ≡ old)
+IngestsOn old offset bytes fin size received permitted (Some taken) new = IngestsHalf old offset bytes fin size received permitted taken new
 
 -- a frame reached the half at an id
-pub record TakesIn (f : Halves) (id offset : ℕ) (bytes : List ℕ) (fin : Bool) (received permitted : ℕ) (taken : Ingested) (g : Halves) : Type 0 where
+pub record TakesIn (f : Halves) (id offset : ℕ) (bytes : List ℕ) (fin : Bool) (size received permitted : ℕ) (taken : Ingested) (g : Halves) : Type 0 where
   pub old : Half
   pub new : Half
   pub half : f id ≡ Some old
-  pub ingests : IngestsHalf old offset bytes fin received permitted taken new
+  pub ingests : IngestsHalf old offset bytes fin size received permitted taken new
   pub is : g ≡ with_half f id (Some new)
 
 -- what came of a frame on the half at an id
-abbrev pub IngestsIn : Halves → ℕ → ℕ → List ℕ → Bool → ℕ → ℕ → Option Ingested → Halves → Type 0
-IngestsIn f id offset bytes fin received permitted None g = IsDropped (f id) × (g ≡ f)
-IngestsIn f id offset bytes fin received permitted (Some taken) g = TakesIn f id offset bytes fin received permitted taken g
+abbrev pub IngestsIn : Halves → ℕ → ℕ → List ℕ → Bool → ℕ → ℕ → ℕ → Option Ingested → Halves → Type 0
+IngestsIn f id offset bytes fin size received permitted None g = IsDropped (f id) × (g ≡ f)
+IngestsIn f id offset bytes fin size received permitted (Some taken) g = TakesIn f id offset bytes fin size received permitted taken g
 
 -- n bytes of a stream count. They give credit at once where its half is stopped, which is freed if that closes it; else the application is told
 abbrev pub after_bytes : World → ℕ → Bool → ℕ → Bool → World

@@ -2,11 +2,14 @@ pub mod Held
 pub mod Shown
 pub mod Room
 pub mod Connection
+pub mod Lending
 pub mod Writing
 pub mod Payload
 pub mod Transmitting
 pub mod Waiting
 pub mod InPlace
+pub mod Accounting
 pub mod HalfReads
 pub mod Settling
 pub mod Sent
+pub mod Visits

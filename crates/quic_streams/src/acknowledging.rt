@@ -36,8 +36,8 @@ impl StreamsState {
         if !self.is_permitted(id) {
             return Ok(());
         }
-        if self.make_room().is_err() {
-            return self.refuse_held(id);
+        if let Err(refused) = self.make_room() {
+            return self.refuse_held(id, refused);
         }
         if self.outgoing.ack(id, frame.offsets, frame.fin)? {
             self.free_send(id);
@@ -48,12 +48,12 @@ impl StreamsState {
 
     // Memory lacks for the report of a frame. Of a stream that is freed none is refused.
     #[inline(never)]
-    fn refuse_held(&self, id: StreamId) -> Result<(), OutOfMemory>
+    fn refuse_held(&self, id: StreamId, refused: OutOfMemory) -> Result<(), OutOfMemory>
         ensures freed { OnOk result (is_some ((shown self.now).out.halves id) ≡ false) }
         ensures held { OnErr result (is_some ((shown self.now).out.halves id) ≡ true) }
     {
         if self.outgoing.contains(id) {
-            Err(OutOfMemory)
+            Err(refused)
         } else {
             Ok(())
         }

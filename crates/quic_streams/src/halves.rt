@@ -231,7 +231,7 @@ impl ReceiveHalves {
         permitted: u64,
     ) -> Result<Option<Ingested>, OutOfMemory>
         requires { length frame.bytes ≤ payload_len }
-        ensures ingests { IfOk result (λ taken. IngestsIn (held self.old) frame.id frame.offset frame.bytes frame.fin received permitted taken (held self.new)) }
+        ensures ingests { IfOk result (λ taken. IngestsIn (held self.old) frame.id frame.offset frame.bytes frame.fin payload_len received permitted taken (held self.new)) }
         ensures err { OnErr result (held self.new ≡ held self.old) }
         ensures window { self.new.window ≡ self.old.window }
         ensures room { room self.new ≡ room self.old }
@@ -491,7 +491,7 @@ fn ingest_on(
     permitted: u64,
 ) -> Result<Option<Ingested>, OutOfMemory>
     requires { length frame.bytes ≤ payload_len }
-    ensures ingests { IfOk result (λ taken. IngestsOn (half_in window entry.old) frame.offset frame.bytes frame.fin received permitted taken (half_in window entry.new)) }
+    ensures ingests { IfOk result (λ taken. IngestsOn (half_in window entry.old) frame.offset frame.bytes frame.fin payload_len received permitted taken (half_in window entry.new)) }
     ensures err { OnErr result (half_in window entry.new ≡ half_in window entry.old) }
 {
     make_half(alloc, window, entry)?;
@@ -511,7 +511,7 @@ fn ingest_half(
     permitted: u64,
 ) -> Option<Ingested>
     requires { length frame.bytes ≤ payload_len }
-    ensures { IngestsOn half.old frame.offset frame.bytes frame.fin received permitted result half.new }
+    ensures { IngestsOn half.old frame.offset frame.bytes frame.fin payload_len received permitted result half.new }
 {
     if !half.is_receiving() {
         return None;

@@ -10,6 +10,7 @@ ghost use Rattle.quic_streams.specs.Shown.{shown};
 ghost use Rattle.quic_history.specs.World.{Made, id_refusal, with_freed, with_credit, with_receive};
 ghost use Rattle.quic_history.specs.History.{Event, Received, ReceivedReset, AddedCredits, From};
 ghost use Rattle.quic_retransmits.specs.Pending.{shown_pending as listed};
+ghost use Rattle.quic_streams.specs.Accounting.{Accounts};
 ghost use Rattle.quic_history.specs.Receiving.{Receives, ReceivesReset, with_max_streams, with_rest};
 
 use crate::halves::Ingested;
@@ -25,7 +26,8 @@ impl StreamsState {
     /// to be sent.
     ///
     /// A frame on a stream that was freed or reset is dropped. With an internal error (too many pieces) and with
-    /// [`ReceiveError::CompactionMemory`] the frame is kept and counts all the same; other refusals change nothing.
+    /// [`ReceiveError::CompactionMemory`] the frame is kept and counts all the same; other refusals change nothing. The
+    /// data keep the whole payload alive, so that `payload_len` is their allocation size.
     pub fn received(
         &mut self,
         frame: frame::Stream,
@@ -33,6 +35,7 @@ impl StreamsState {
     ) -> Result<ShouldTransmit, ReceiveError>
         requires { length frame.bytes ≤ payload_len }
         ensures receives { Receives (shown self.old) frame.id frame.offset frame.bytes frame.fin result (shown self.new) }
+        ensures accounts { Accounts (shown self.old) frame.id frame.offset frame.bytes frame.fin payload_len result (shown self.new) }
         ensures from { (m : Made) (h : List Event) → From m h (shown self.old)
             → From m (Received frame.id frame.offset frame.bytes frame.fin result ∷ h) (shown self.new) }
     {
@@ -41,13 +44,15 @@ impl StreamsState {
 
     // The same, each way out.
     #[inline]
+    #[tactic(auto, using(quic_history::proofs::WorldSteps::world_steps, crate::proofs::InPlace::accounts_rules))]
     fn receive_frame(
         &mut self,
         frame: frame::Stream,
         payload_len: usize,
     ) -> Result<ShouldTransmit, ReceiveError>
         requires { length frame.bytes ≤ payload_len }
-        ensures { Receives (shown self.old) frame.id frame.offset frame.bytes frame.fin result (shown self.new) }
+        ensures receives { Receives (shown self.old) frame.id frame.offset frame.bytes frame.fin result (shown self.new) }
+        ensures accounts { Accounts (shown self.old) frame.id frame.offset frame.bytes frame.fin payload_len result (shown self.new) }
     {
         let id = frame.id;
         if let Err(error) = self.validate_receive_id(id) {

@@ -241,7 +241,7 @@ impl StreamsState {
         permitted: u64,
     ) -> Result<Option<Ingested>, OutOfMemory>
         requires { length frame.bytes ≤ payload_len }
-        ensures ingests { IfOk result (λ taken. IngestsIn (shown self.old).receive frame.id frame.offset frame.bytes frame.fin received permitted taken (shown self.new).receive) }
+        ensures ingests { IfOk result (λ taken. IngestsIn (shown self.old).receive frame.id frame.offset frame.bytes frame.fin payload_len received permitted taken (shown self.new).receive) }
         ensures err { OnErr result (shown self.new ≡ shown self.old) }
         ensures halves { ChangesHalves (shown self.old) (shown self.new) }
         ensures events { HasEventRoom self.old → HasEventRoom self.new }

@@ -1,6 +1,7 @@
 //! The streams of a connection, for the application.
 
 ghost use Rattle.std.specs.Prelude.{ℕ, List, ◌∷◌, ◌≡◌, ◌<◌, ◌^◌, IfSome, Option, false, true};
+ghost use Rattle.std.specs.Borrow.{sem};
 ghost use Rattle.std.specs.Option.{option_map};
 ghost use Rattle.quic_limits.specs.Remote.{open_now, one_accepted, acceptable_index};
 ghost use Rattle.quic_streams.specs.Shown.{shown};
@@ -11,10 +12,21 @@ ghost use Rattle.quic_history.specs.Permitting.{with_accepted, acceptable};
 ghost use Rattle.quic_history.specs.SendEvents.{OpenedOwn};
 ghost use Rattle.quic_history.specs.Sends.{OpensOwn};
 ghost use Rattle.quic_streams.specs.Connection.{is_shut};
+ghost use Rattle.quic_streams.specs.Lending.{LendsState};
 ghost use Rattle.quic_history.specs.History.{Event, Accepted, Sending, From};
 
-use crate::state::StreamsState;
+pub use crate::batches::ReadSome;
+pub use crate::pending::PendingFrames;
+pub use crate::reading::Chunks;
+pub use crate::recv_stream::RecvStream;
+pub use crate::send_stream::SendStream;
+pub use crate::state::StreamsState;
+pub use crate::visiting::ReadVisitor;
+pub use quic_history::progress::LastAnswer;
+pub use quic_outgoing::PeerLimits;
 use quic_values::{Dir, OutOfMemory, StreamId};
+pub use quic_wire::StreamEvent;
+pub use quic_writing::StreamMetaVec;
 
 /// Whether a connection is open.
 #[derive(Clone, Copy, Debug, PartialEq, Eq)]
@@ -66,8 +78,9 @@ impl<'a> Streams<'a> {
     }
 
     /// The state of the streams.
-    pub fn state(&self) -> &StreamsState
-        ensures { result.now ≡ self.now.state.now }
+    pub fn state(&mut self) -> &mut StreamsState
+        ensures* lends { sem 𝓛 (LendsState self.entry result) }
+        ensures state { result.now ≡ self.old.state.now }
     {
         self.state
     }

@@ -10,6 +10,7 @@ mod reading;
 mod receiving;
 mod refusals;
 mod sending;
+mod settling;
 mod sizes;
 mod windows;
 

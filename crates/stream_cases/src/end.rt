@@ -13,7 +13,7 @@ use quic_streams::send_stream::SendStream;
 use quic_streams::state::StreamsState;
 use quic_streams::stats::FrameStats;
 use quic_streams::streams::{ConnState, Streams};
-use quic_streams::{PeerLimits, Retransmits, StreamMetaVec, ThinRetransmits};
+use quic_streams::{PeerLimits, Retransmits, SentPayload, StreamMetaVec, ThinRetransmits};
 use quic_values::{Dir, Side, StreamId, VarInt};
 use quic_wire::{Frame, StreamEvent, decode_owned_into};
 use std::alloc::Global;
@@ -35,13 +35,6 @@ pub(crate) struct End {
     frames: Vec<Frame>,
     chunks: Vec<Chunk>,
     alloc: Global,
-}
-
-/// What is to be reported of a payload.
-#[derive(Drop)]
-pub(crate) struct Sent {
-    control: ThinRetransmits,
-    streams: StreamMetaVec,
 }
 
 /// What was read of a stream.
@@ -155,7 +148,7 @@ impl End {
     }
 
     /// Writes a payload: control frames, then STREAM frames. It has no bytes where nothing is to be sent.
-    pub(crate) fn emit(&mut self) -> Result<(Vec<u8>, Sent), Refused> {
+    pub(crate) fn emit(&mut self) -> Result<(Vec<u8>, SentPayload), Refused> {
         let mut bytes = Vec::with_capacity(self.alloc, PIECE)?;
         let mut control = ThinRetransmits::new(self.alloc);
         let mut streams = StreamMetaVec::new(self.alloc);
@@ -168,7 +161,7 @@ impl End {
         )?;
         self.streams
             .write_stream_frames(&mut bytes, &mut streams, PIECE, true)?;
-        Ok((bytes, Sent { control, streams }))
+        Ok((bytes, SentPayload { streams, control }))
     }
 
     /// Takes a payload of the peer.
@@ -214,22 +207,18 @@ impl End {
     }
 
     /// A payload was acknowledged.
-    pub(crate) fn acknowledge(&mut self, sent: Sent) -> Result<(), Refused> {
-        for frame in sent.streams {
-            self.streams.received_ack_of(frame)?;
+    pub(crate) fn acknowledge(&mut self, sent: SentPayload) -> Result<(), Refused> {
+        match self.streams.acked(sent) {
+            Ok(()) => Ok(()),
+            Err(_) => Err(Refused),
         }
-        Ok(())
     }
 
     /// A payload was lost.
-    pub(crate) fn lose(&mut self, sent: Sent) -> Result<(), Refused> {
-        let Sent { control, streams } = sent;
-        if self.pending.merge_thin(control).is_err() {
-            return Err(Refused);
+    pub(crate) fn lose(&mut self, sent: SentPayload) -> Result<(), Refused> {
+        match self.streams.lost(sent, &mut self.pending) {
+            Ok(()) => Ok(()),
+            Err(_) => Err(Refused),
         }
-        for frame in streams {
-            self.streams.retransmit(frame)?;
-        }
-        Ok(())
     }
 }

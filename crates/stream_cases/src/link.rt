@@ -1,8 +1,9 @@
 //! Two ends, of which the client sends and the server reads.
 
 use crate::content::Seen;
-use crate::end::{End, Sent};
+use crate::end::End;
 use crate::refused::Refused;
+use quic_streams::SentPayload;
 use quic_values::{Side, StreamId};
 use quic_wire::StreamEvent;
 use std::alloc::Global;
@@ -42,7 +43,7 @@ struct Tally {
 // A payload of the client, of which is still to be reported what became of it.
 #[derive(Drop)]
 struct InFlight {
-    sent: Sent,
+    sent: SentPayload,
     lost: bool,
 }
 

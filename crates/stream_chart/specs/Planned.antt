@@ -1,9 +1,13 @@
 -- What a line asks of a simulation.
-use Rattle.std.specs.Prelude.{◌≡◌, ◌≢◌, ◌⊎◌, ◌<◌, ◌^◌, ℕ, true, List, ◌++◌, codes}
+use Rattle.std.specs.Prelude.{◌≡◌, ◌≢◌, ◌⊎◌, ◌<◌, ◌^◌, ℕ, true, false, List, ◌++◌, codes}
 use Rattle.std.specs.Str.Parse.{IsNumeral, digits_value, without_leading_plus}
 use Rattle.stream_chart.specs.declared.plan.Plan.{Plan}
 use Rattle.stream_chart.specs.declared.plan.Quantity.{Quantity}
 use Rattle.stream_chart.specs.declared.plan.Quantity.TheVariants as quantities
+
+-- 100,000 bytes in payloads of 1200, none lost or late, with windows of 64 KiB
+abbrev pub plan_of_no_line : Plan
+plan_of_no_line = record { seed = 0; bytes = 100000; payload = 1200; receive_window = 65536; stream_window = 65536; send_window = 65536; loss = 0; reorder = 0; is_picture = false }
 
 -- what stands before the number of a quantity
 abbrev pub quantity_text : Quantity → List ℕ

@@ -1,10 +1,10 @@
 //! What is to be simulated, as lines of text.
 
 ghost use Rattle.std.specs.Prelude.{◌≡◌, ◌≢◌, ◌++◌, ℕ, List, IfNone, IfSome};
-ghost use Rattle.stream_chart.specs.Planned.{quantity_text, with_quantity, SaysNumber, SaysQuantity, SaysNothing, TakesLine};
+ghost use Rattle.stream_chart.specs.Planned.{plan_of_no_line, quantity_text, with_quantity, SaysNumber, SaysQuantity, SaysNothing, TakesLine};
 
 /// How much is sent, and over which network. One payload in so many is lost or late, none where that is 0.
-#[derive(Clone, Copy, Debug, Default)]
+#[derive(Clone, Copy, Debug)]
 pub struct Plan {
     pub seed: u64,
     pub bytes: u64,
@@ -78,6 +78,26 @@ fn read_line(line: &str) -> Option<(Quantity, u64)>
     let (quantity, text) = read_quantity(line)?;
     let number = read_number(text)?;
     Some((quantity, number))
+}
+
+impl Default for Plan {
+    /// What holds where no line says otherwise: 100,000 bytes in payloads of 1200, of which none is lost or late, with
+    /// windows of 65,536 bytes.
+    fn default() -> Self
+        ensures { result ≡ plan_of_no_line }
+    {
+        Plan {
+            seed: 0,
+            bytes: 100_000,
+            payload: 1200,
+            receive_window: 65_536,
+            stream_window: 65_536,
+            send_window: 65_536,
+            loss: 0,
+            reorder: 0,
+            is_picture: false,
+        }
+    }
 }
 
 impl Plan {

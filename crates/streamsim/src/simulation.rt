@@ -18,6 +18,12 @@ use stream_chart::{Plan, Row, Samples};
 // So many steps pass until a payload arrives.
 const DELAY: u64 = 10;
 
+// After so many steps in which nothing was given or acknowledged a run ends.
+const PATIENCE: u64 = 1000;
+
+// The greatest head of a STREAM frame. A frame is put into a payload only where more bytes are left.
+const GREATEST_HEAD: u64 = 25;
+
 // A payload that arrives in a step, or of which its sender hears then that it was lost.
 #[derive(Drop)]
 struct Flight {
@@ -188,23 +194,45 @@ impl Simulation {
         Ok(())
     }
 
-    // Step after step, until all was read and acknowledged, or nothing is on its way.
+    // Step after step, until all was read and acknowledged, nothing is on its way, or too many steps in a row gained
+    // nothing.
     fn go(&mut self, rt: &impl Eprint, client: &mut Endpoint, server: &mut Endpoint) -> Result<()> {
         let (bytes, tenth) = (self.plan.bytes, self.plan.bytes / 10 + 1);
-        for step in 0..bytes.saturating_mul(10).saturating_add(20_000) {
-            let before = self.row.given;
+        let mut waited = 0u64;
+        for step in 0..u64::MAX {
+            let before = self.row;
             self.row.step = step;
             self.step(client, server)?;
-            if self.row.given / tenth > before / tenth {
+            if self.row.given / tenth > before.given / tenth {
                 eprintln!(rt; "given {} of {bytes} bytes by step {step}", self.row.given)?;
             }
-            let is_idle = self.flights.is_empty() && self.row.given == before;
-            if is_idle || self.is_read && self.row.acknowledged == bytes {
+            let is_gain = self.row.given > before.given
+                || self.row.acknowledged > before.acknowledged;
+            waited = if is_gain { 0 } else { waited.saturating_add(1) };
+            let is_idle = self.flights.is_empty() && !is_gain;
+            let is_done = self.is_read && self.row.acknowledged == bytes;
+            if is_idle || is_done || waited == PATIENCE {
                 break;
             }
             self.samples.offer(self.row)?;
         }
         Ok(self.samples.end(self.row)?)
+    }
+
+    // Why no more was given.
+    fn reason(&self) -> &'static str {
+        let plan = &self.plan;
+        if plan.payload <= GREATEST_HEAD {
+            "and no more: a payload has no room for data"
+        } else if plan.receive_window == 0 || plan.stream_window == 0 || plan.send_window == 0 {
+            "and no more: a window is 0"
+        } else if plan.loss == 1 {
+            "and no more: every payload is lost"
+        } else if self.flights.is_empty() {
+            "and no more: nothing is on its way"
+        } else {
+            "and no more: 1000 steps gained nothing"
+        }
     }
 
     // Writes what was counted and how it ended, and answers the status.
@@ -213,9 +241,9 @@ impl Simulation {
         let (status, words) = match (self.right == self.row.given, is_whole) {
             (true, true) => (0, "as written"),
             (false, _) => (3, "not as written"),
-            (true, false) => (4, "and no more"),
+            (true, false) => (4, self.reason()),
         };
-        self.samples.write(self.plan.is_picture, words, output)?;
+        self.samples.write(&self.plan, words, output)?;
         Ok(status)
     }
 }

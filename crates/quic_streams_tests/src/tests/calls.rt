@@ -10,7 +10,7 @@ use quic_streams::send_stream::SendStream;
 use quic_streams::state::StreamsState;
 use quic_streams::stats::FrameStats;
 use quic_streams::streams::{ConnState, Streams};
-use quic_streams::{PeerLimits, Retransmits, StreamMetaVec, ThinRetransmits};
+use quic_streams::{PeerLimits, Retransmits, SentPayload, StreamMetaVec, ThinRetransmits};
 use quic_values::{Bytes, Dir, OutOfMemory, Side, StreamId, VarInt};
 use quic_wire::frame::{ResetStream, Stream, StreamMeta};
 use quic_wire::{ReceiveError, StreamEvent};
@@ -284,6 +284,14 @@ impl Subject {
 
     pub(super) fn reset_acked(&mut self, stream: u32) -> Result<(), OutOfMemory> {
         self.state.reset_acked(id(stream))
+    }
+
+    pub(super) fn acked(&mut self, sent: SentPayload) -> Result<(), SentPayload> {
+        self.state.acked(sent)
+    }
+
+    pub(super) fn lost(&mut self, sent: SentPayload) -> Result<(), SentPayload> {
+        self.state.lost(sent, &mut self.pending)
     }
 }
 

@@ -1,7 +1,7 @@
 use Rattle.std.proofs.Common.{refl, ap, ◌∙◌, ◌≡◌, subst}
-use Rattle.quic_endpoint.specs.Receiving.{ReceivesAt}
 use Rattle.quic_pair.specs.Places.{MarksIf}
 use Rattle.quic_pair.specs.State.{PairState, OnEnd, peer, pair_state}
+use Rattle.quic_pair.specs.Steps.{TakesFrame}
 use Rattle.quic_pair.proofs.Deeds.{deliver-refused, deliver-so, sent-same}
 use Rattle.quic_pair.proofs.pair.Pair.deliver.Goals as goal
 
@@ -20,7 +20,7 @@ returns c =
     let new : PairState = record { a = mid.a; b = mid.b; sent = c.mark_if.new.sent.items } in
     let h = c.in-Ok.found in
     let f = rw c.in-Ok.is at c.frame_at.ensures.found in
-    let d : OnEnd (λ e g. ReceivesAt e h.frame c.receive_on-answer.result g) old (peer h.writer) mid = rw c.frame_at.ensures.same at c.receive_on-answer.ensures in
+    let d : OnEnd (TakesFrame h.frame h.len c.receive_on-answer.result) old (peer h.writer) mid = rw c.frame_at.ensures.same at c.receive_on-answer.ensures in
     let kept : mid.sent ≡ old.sent = ap (λ (k : PairState). k.sent) d.is ∙ sent-same old (peer h.writer) d.end in
     let m = subst (λ l. MarksIf c.receive_on-answer.result l c.args.payload c.args.index new.sent) kept c.mark_if.ensures in
     rw c.received_reply.ensures (deliver-so old mid new c.args.payload c.args.index h f c.receive_on-answer.result d m refl)

@@ -16,9 +16,9 @@ returns-in-Some-clause-ingests c =
     let k = half_in w c.ingest_on.new.entry in
     let moved = held-put w _ _ f.id _ ((c.get_mut.follows.holds c.ingest_on.new.entry).3 (search rules)).0 in
     let there : held c.args.self.now f.id ≡ Some h = search rules in
-    map_ok (λ (o : Option Ingested). IngestsOn h f.offset f.bytes f.fin c.args.received c.args.permitted o k) _
+    map_ok (λ (o : Option Ingested). IngestsOn h f.offset f.bytes f.fin c.args.payload_len c.args.received c.args.permitted o k) _
     c.ingest_on.result
-    (λ o s. takes-in (held c.args.self.now) _ f.id f.offset f.bytes f.fin c.args.received c.args.permitted o h k there moved s)
+    (λ o s. takes-in (held c.args.self.now) _ f.id f.offset f.bytes f.fin c.args.payload_len c.args.received c.args.permitted o h k there moved s)
     c.ingest_on.ensures.ingests
 
 pub returns-in-Some-clause-err : goal.returns-in-Some-clause-err

@@ -1,0 +1,61 @@
+// What a value is by default, in which order its cases stand, and how it is shown.
+use super::{is_true, same};
+use quic_receiving::{ClosedStream, HandleError, ReadError, ReadableError, ShouldTransmit};
+use quic_values::VarInt;
+use std::test::Fail;
+
+#[test]
+fn nothing_is_to_be_sent_by_default(rt: HostRuntime) -> Result<(), Fail> {
+    same(&rt, ShouldTransmit::default(), ShouldTransmit(false));
+    same(&rt, ClosedStream::default(), ClosedStream);
+    Ok(())
+}
+
+#[test]
+fn errors_stand_in_the_order_of_their_cases(rt: HostRuntime) -> Result<(), Fail> {
+    let (low, high) = (VarInt::from(3), VarInt::from(4));
+    is_true(&rt, ReadError::Blocked < ReadError::Reset(VarInt::from(0)));
+    is_true(&rt, ReadError::Reset(low) < ReadError::Reset(high));
+    is_true(&rt, ReadError::Reset(high) < ReadError::OutOfMemory);
+    is_true(&rt, ReadError::Reset(high) >= ReadError::Reset(low));
+    is_true(
+        &rt,
+        ReadableError::ClosedStream < ReadableError::IllegalOrderedRead,
+    );
+    is_true(
+        &rt,
+        ReadableError::IllegalOrderedRead < ReadableError::OutOfMemory,
+    );
+    is_true(&rt, HandleError::ClosedStream < HandleError::OutOfMemory);
+    Ok(())
+}
+
+#[test]
+fn errors_are_shown_by_their_cases(rt: HostRuntime) -> Result<(), Fail> {
+    let alloc = rt.alloc();
+    let reads = [
+        ReadError::Blocked,
+        ReadError::Reset(VarInt::from(7)),
+        ReadError::OutOfMemory,
+    ];
+    let shown = format!(in alloc; "{reads:?}")?;
+    same(&rt, shown.as_str(), "[Blocked, Reset(7), OutOfMemory]");
+    let opens = [
+        ReadableError::ClosedStream,
+        ReadableError::IllegalOrderedRead,
+        ReadableError::OutOfMemory,
+    ];
+    let shown = format!(in alloc; "{opens:?}")?;
+    same(
+        &rt,
+        shown.as_str(),
+        "[ClosedStream, IllegalOrderedRead, OutOfMemory]",
+    );
+    let handles = [HandleError::ClosedStream, HandleError::OutOfMemory];
+    let shown = format!(in alloc; "{handles:?}")?;
+    same(&rt, shown.as_str(), "[ClosedStream, OutOfMemory]");
+    let sends = ShouldTransmit(true);
+    let shown = format!(in alloc; "{sends:?}")?;
+    same(&rt, shown.as_str(), "ShouldTransmit(true)");
+    Ok(())
+}

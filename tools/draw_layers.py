@@ -1,0 +1,139 @@
+#!/usr/bin/env python3
+"""Draws the crates of crates.txt in the layers in which they depend on each other: docs/layers.svg.
+
+    tools/draw_layers.py
+
+An arrow is left out where others lead there. Crates of tests are left out.
+"""
+import os
+
+ROOT = os.path.dirname(os.path.dirname(os.path.abspath(__file__)))
+WIDTH, BOX, HEIGHT, ROW, TOP, LEGEND = 1060, 150, 30, 74, 84, 960
+# What a crate is part of, by the words of its name; programs are those that nothing stands on.
+PARTS = [
+    ("receive side", "#56b4e9", ("quic_assembler", "quic_ordered", "quic_receiving", "block_map")),
+    ("send side", "#e69f00", ("quic_sending", "quic_queue", "quic_outgoing", "quic_writing", "quic_flows", "quic_retransmits")),
+    ("one end", "#009e73", ("quic_history", "quic_streams", "quic_endpoint")),
+    ("two ends", "#cc79a7", ("quic_link", "quic_pair", "quic_steps")),
+]
+OTHERS, PROGRAMS = ("values, frames, limits", "#bbbbbb"), ("programs and libraries for others", "#f0e442")
+
+
+def read_crates():
+    deps = {}
+    with open(os.path.join(ROOT, "crates.txt")) as file:
+        for line in file:
+            line = line.split("#")[0].strip()
+            if line:
+                head, _, names = line.partition(":")
+                deps[head.split()[0]] = names.split()
+    kept = {name for name in deps if not name.endswith("_tests")}
+    return {name: [dep for dep in deps[name] if dep in kept] for name in deps if name in kept}
+
+
+def below(deps, name, known):
+    if name not in known:
+        known[name] = set(deps[name]).union(*(below(deps, dep, known) for dep in deps[name]))
+    return known[name]
+
+
+def color_of(deps, name):
+    for part in PARTS:
+        if name in part[2]:
+            return part[1]
+    is_library = any(name in names for names in deps.values()) or name == "quic_pieces"
+    return (OTHERS if is_library else PROGRAMS)[1]
+
+
+def ranks_of(deps, arrows):
+    """The rows, the lowest first: a crate stands above all that it depends on."""
+    known = {}
+
+    def rank(name):
+        if name not in known:
+            known[name] = 1 + max([rank(dep) for dep in deps[name]] or [-1])
+        return known[name]
+
+    rows = [[] for _ in range(1 + max(rank(name) for name in deps))]
+    for name in deps:
+        if not deps[name] and not any(name in names for other, names in deps.items() if rank(other) == 1):
+            above = [rank(other) for other, names in deps.items() if name in names]
+            known[name] = max(0, min(above, default=0) - 1)
+        rows[known[name]].append(name)
+    return [row for row in rows if row]
+
+
+def places_of(rows, arrows):
+    """The middle of each box: rows are put in the order of what their crates are joined to, up and down a few times."""
+    middle = {}
+    for row in rows:
+        for index, name in enumerate(row):
+            middle[name] = WIDTH * (index + 1) / (len(row) + 1)
+    up = {name: [other for other in arrows if name in arrows[other]] for name in arrows}
+    for turn in range(24):
+        for row in rows if turn % 2 == 0 else reversed(rows):
+            joined = arrows if turn % 2 == 0 else up
+
+            def wish(name):
+                near = joined[name] or arrows[name] or up[name]
+                return sum(middle[other] for other in near) / len(near) if near else middle[name]
+
+            wishes = sorted((wish(name), name) for name in row)
+            least, gap = BOX / 2 + 10, BOX + 14
+            xs = []
+            for wished, _ in wishes:
+                xs.append(max(wished, xs[-1] + gap if xs else least))
+            most = WIDTH - BOX / 2 - 10
+            for index in reversed(range(len(xs))):
+                xs[index] = min(xs[index], most)
+                most = xs[index] - gap
+            for (_, name), x in zip(wishes, xs):
+                middle[name] = x
+    return middle
+
+
+def main():
+    deps = read_crates()
+    known = {}
+    for name in deps:
+        below(deps, name, known)
+    arrows = {name: [dep for dep in deps[name] if not any(dep in known[other] for other in deps[name])] for name in deps}
+    rows = ranks_of(deps, arrows)
+    middle = places_of(rows, arrows)
+    left = min(middle.values()) - BOX / 2 - 20
+    middle = {name: x - left for name, x in middle.items()}
+    width, height = max(LEGEND, round(max(middle.values()) + BOX / 2 + 20)), TOP + ROW * len(rows)
+    y = {name: height - ROW * (index + 1) + 20 for index, row in enumerate(rows) for name in row}
+    out = [
+        f"<svg xmlns='http://www.w3.org/2000/svg' viewBox='0 0 {width} {height}' width='{width}' height='{height}' role='img'>",
+        "<title>The crates in layers: each stands above those that it depends on</title>",
+        f"<rect width='{width}' height='{height}' rx='8' fill='white'/>",
+        "<g font-family='sans-serif' font-size='14'>",
+        "<text x='20' y='28' font-size='18'>The crates, each above those that it depends on</text>",
+    ]
+    x = 20
+    for label, color in [part[:2] for part in PARTS] + [OTHERS, PROGRAMS]:
+        out.append(f"<rect x='{x}' y='44' width='16' height='16' rx='3' fill='{color}' fill-opacity='0.45' stroke='{color}'/>")
+        out.append(f"<text x='{x + 22}' y='57'>{label}</text>")
+        x += 50 + 7 * len(label)
+    out.append("<g fill='none' stroke='#888' stroke-width='1.2'>")
+    for name in deps:
+        for dep in arrows[name]:
+            (x1, y1), (x2, y2) = (middle[name], y[name] + HEIGHT), (middle[dep], y[dep])
+            bend = max(20, (y2 - y1) / 2)
+            out.append(f"<path d='M{x1:.0f} {y1}C{x1:.0f} {y1 + bend:.0f} {x2:.0f} {y2 - bend:.0f} {x2:.0f} {y2}'/>")
+    out.append("</g>")
+    for name in deps:
+        color, left = color_of(deps, name), middle[name] - BOX / 2
+        out.append(f"<rect x='{left:.0f}' y='{y[name]}' width='{BOX}' height='{HEIGHT}' rx='6' fill='white'/>")
+        out.append(
+            f"<rect x='{left:.0f}' y='{y[name]}' width='{BOX}' height='{HEIGHT}' rx='6' fill='{color}' fill-opacity='0.45' stroke='{color}'/>"
+        )
+        out.append(f"<text x='{middle[name]:.0f}' y='{y[name] + 20}' text-anchor='middle'>{name}</text>")
+    out.append("</g></svg>")
+    with open(os.path.join(ROOT, "docs", "layers.svg"), "w") as file:
+        file.write("\n".join(out) + "\n")
+
+
+if __name__ == "__main__":
+    main()
