@@ -1,0 +1,77 @@
+//! What becomes of the payloads that a session sent.
+
+ghost use Rattle.std.specs.Prelude.{◌≡◌};
+
+use crate::sent;
+use crate::session::Session;
+use quic_streams::Retransmits;
+use quic_values::OutOfMemory;
+use thiserror::Error;
+
+/// Why a payload was not settled.
+#[derive(Clone, Copy, Debug, Error, PartialEq, Eq)]
+pub enum SettleError {
+    /// There is no such token, or it was settled.
+    #[error("no such payload")]
+    UnknownToken,
+    /// There was no memory. What was settled stays so, and the token stands for the rest.
+    #[error("out of memory")]
+    OutOfMemory,
+}
+
+#[tactic(auto, unfolding(crate::specs::Sessions::end_of))]
+impl Session {
+    /// A payload was acknowledged (RFC 9000 section 13.3).
+    pub fn acked(&mut self, token: u64) -> Result<(), SettleError> {
+        if self.unsettled.reserve().is_err() {
+            return Err(SettleError::OutOfMemory);
+        }
+        let Some(payload) = self.unsettled.take(token) else {
+            return Err(SettleError::UnknownToken);
+        };
+        match sent::acked(&mut self.streams, payload) {
+            Ok(()) => {
+                self.tell_counts_if(true);
+                Ok(())
+            }
+            Err(rest) => {
+                self.unsettled.put_back(token, rest);
+                Err(SettleError::OutOfMemory)
+            }
+        }
+    }
+
+    /// A payload was lost (RFC 9000 section 13.3).
+    pub fn lost(&mut self, token: u64) -> Result<(), SettleError> {
+        if self.unsettled.reserve().is_err() {
+            return Err(SettleError::OutOfMemory);
+        }
+        let Some(payload) = self.unsettled.take(token) else {
+            return Err(SettleError::UnknownToken);
+        };
+        match sent::lost(&mut self.streams, payload, &mut self.pending) {
+            Ok(()) => Ok(()),
+            Err(rest) => {
+                self.unsettled.put_back(token, rest);
+                Err(SettleError::OutOfMemory)
+            }
+        }
+    }
+
+    /// How many payloads are not settled.
+    pub fn unsettled_payloads(&self) -> usize {
+        self.unsettled.len()
+    }
+
+    /// The peer rejected the early start of a client (RFC 9001 section 4.6.2).
+    pub fn zero_rtt_rejected(&mut self) {
+        self.streams.zero_rtt_rejected();
+        self.pending = Retransmits::new(self.alloc);
+        self.unsettled.clear();
+    }
+
+    /// All that an early start sent is to be sent again (RFC 9000 section 17.2.5).
+    pub fn retransmit_all_for_0rtt(&mut self) -> Result<(), OutOfMemory> {
+        self.streams.retransmit_all_for_0rtt()
+    }
+}
