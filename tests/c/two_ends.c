@@ -13,6 +13,7 @@ static uint32_t draw(uint32_t below) {
 
 typedef struct {
   qs_conn conn;
+  int is_server;
   packet flight[FLIGHT];
   int delivered[FLIGHT];
   size_t flying;
@@ -72,7 +73,8 @@ static void read_stream(side *s, uint64_t id) {
     if (answer == QS_ERR_BLOCKED || answer == QS_ERR_NO_STREAM)
       return;
     if (answer == QS_END) {
-      SAME(*got, BYTES);
+      /* nothing comes back on a stream of this end */
+      SAME(*got, qs_id_is_server(id) == s->is_server ? 0 : BYTES);
       s->ended++;
       return;
     }
@@ -142,6 +144,7 @@ int main(int argc, char **argv) {
   for (uint64_t n = 1; n <= seeds; n++) {
     seed = n;
     a = b = none;
+    b.is_server = 1;
     uint64_t window = 500 + draw(5000), each = 200 + draw(2000);
     SAME(open_end(&a.conn, QS_CLIENT, 2, window, each), QS_OK);
     SAME(open_end(&b.conn, QS_SERVER, 2, window, each), QS_OK);
