@@ -1,22 +1,17 @@
-/* Sends a file to another process over UDP on the loopback, as one stream of a
- * QUIC connection's stream layer.
+/* Sends a file to another process over UDP on the loopback, as one stream.
  *
  *   file_over_udp receive PORT FILE [LOSS [SEED]]
  *   file_over_udp send    PORT FILE [LOSS [SEED]]
  *
- * Of a hundred packets the program drops LOSS itself, drawn from SEED. What
- * stands in for the packet layer is as small as it can be: a packet is one
- * byte, 'D' or 'A', a number of eight bytes and, after 'D', a payload; 'A'
- * acknowledges the packet of that number. There is no encryption and no
- * congestion control, and nobody is authenticated: this is no way to send
- * files over a real network.
- */
+ * Of a hundred packets the program drops LOSS itself, drawn from SEED. A packet
+ * is one byte, 'D' or 'A', a number of eight bytes and, after 'D', a payload;
+ * 'A' acknowledges the packet of that number. No encryption, no congestion
+ * control, no authentication: no way to send files over a real network. */
 #define _POSIX_C_SOURCE 200809L
 #include "quic_streams.h"
 
 #include <arpa/inet.h>
 #include <errno.h>
-#include <inttypes.h>
 #include <poll.h>
 #include <stdio.h>
 #include <stdlib.h>
@@ -35,7 +30,8 @@ typedef struct {
   qs_conn conn;
   int fd, sends, done;
   FILE *file;
-  uint64_t stream, packets, dropped, lost, idle_since;
+  uint64_t stream, idle_since;
+  unsigned long packets, dropped, lost;
   in_flight flight[FLIGHT];
   size_t flying;
   uint8_t chunk[16384]; /* what was read of the file and not written */
@@ -45,8 +41,8 @@ typedef struct {
 } end;
 
 static void die(const char *what, int32_t answer) {
-  fprintf(stderr, "%s: %s\n", what,
-          answer ? qs_strerror(answer) : strerror(errno));
+  const char *why = answer ? qs_strerror(answer) : strerror(errno);
+  fprintf(stderr, "%s: %s\n", what, why);
   exit(1);
 }
 
@@ -62,18 +58,14 @@ static uint64_t now_ms(void) {
   return (uint64_t)t.tv_sec * 1000 + (uint64_t)t.tv_nsec / 1000000;
 }
 
-static int is_dropped(end *e) {
-  e->seed = e->seed * 6364136223846793005u + 1442695040888963407u;
-  return (e->seed >> 33) % 100 < e->loss;
-}
-
 static void send_packet(end *e, uint8_t kind, uint64_t number, uint8_t *packet,
                         size_t len) {
   packet[0] = kind;
   for (int i = 0; i < 8; i++)
     packet[1 + i] = (uint8_t)(number >> (8 * (7 - i)));
   e->packets++;
-  if (is_dropped(e))
+  e->seed = e->seed * 6364136223846793005u + 1442695040888963407u;
+  if ((e->seed >> 33) % 100 < e->loss)
     e->dropped++;
   else if (send(e->fd, packet, len, 0) < 0 && errno != ECONNREFUSED)
     die("send", 0);
@@ -83,12 +75,9 @@ static void send_packet(end *e, uint8_t kind, uint64_t number, uint8_t *packet,
 static void settle(end *e, size_t place, int was_acked) {
   uint64_t token = e->flight[place].token;
   e->flight[place] = e->flight[--e->flying];
-  if (was_acked) {
-    want("acked", qs_acked(&e->conn, token));
-  } else {
-    e->lost++;
-    want("lost", qs_lost(&e->conn, token));
-  }
+  e->lost += !was_acked;
+  want("settle",
+       was_acked ? qs_acked(&e->conn, token) : qs_lost(&e->conn, token));
 }
 
 static void settle_old(end *e, uint64_t now) {
@@ -104,9 +93,8 @@ static void send_due(end *e, uint64_t now) {
     uint8_t packet[PACKET];
     memset(packet, 0, sizeof packet);
     qs_payload payload = {0, 0, 0};
-    int32_t answer = qs_emit(&e->conn, QS_ALL, 1, packet + HEADER,
-                             PACKET - HEADER, &payload);
-    if (want("emit", answer) == QS_DONE)
+    if (want("emit", qs_emit(&e->conn, QS_ALL, 1, packet + HEADER,
+                             PACKET - HEADER, &payload)) == QS_DONE)
       return;
     e->flight[e->flying++] = (in_flight){next, payload.token, now};
     send_packet(e, 'D', next++, packet, HEADER + payload.len);
@@ -133,8 +121,8 @@ static void take_packet(end *e, uint8_t *packet, size_t len) {
     if (answer == QS_ERR_NOMEM)
       return; /* as if it had not come: the peer sends it again */
     if (answer < 0) {
-      fprintf(stderr, "peer: error %" PRIu64 ": %.*s\n", error.code,
-              (int)error.reason_len, (const char *)error.reason);
+      fprintf(stderr, "the peer: %.*s\n", (int)error.reason_len,
+              (const char *)error.reason);
       exit(1);
     }
     uint8_t ack[HEADER];
@@ -142,8 +130,7 @@ static void take_packet(end *e, uint8_t *packet, size_t len) {
   }
 }
 
-/* Writes the file until the stream is blocked; an event tells when it is not.
- */
+/* Writes the file until the stream is blocked; then an event tells. */
 static void write_file(end *e) {
   for (;;) {
     size_t written = 0;
@@ -151,10 +138,10 @@ static void write_file(end *e) {
     if (e->chunk_at == e->chunk_len) {
       e->chunk_at = 0;
       e->chunk_len = fread(e->chunk, 1, sizeof e->chunk, e->file);
-      if (e->chunk_len == 0) {
-        want("finish", qs_stream_finish(&e->conn, e->stream, &code));
-        return;
-      }
+    }
+    if (e->chunk_len == 0) {
+      want("finish", qs_stream_finish(&e->conn, e->stream, &code));
+      return;
     }
     int32_t answer =
         qs_stream_write(&e->conn, e->stream, e->chunk + e->chunk_at,
@@ -176,10 +163,9 @@ static void read_file(end *e) {
                                     &count, &offset, &code);
     if (answer == QS_ERR_BLOCKED || answer == QS_ERR_NO_STREAM)
       return;
-    if (want("read", answer) == QS_END) {
-      e->done = 1;
+    e->done = want("read", answer) == QS_END;
+    if (e->done)
       return;
-    }
     if (fwrite(data, 1, count, e->file) != count)
       die("file", 0);
   }
@@ -188,35 +174,24 @@ static void read_file(end *e) {
 static void handle_events(end *e) {
   qs_event event = {0, 0, 0, 0};
   while (want("poll", qs_poll(&e->conn, &event)) == QS_OK) {
-    switch (event.kind) {
-    case QS_EVENT_OPENED:
+    if (event.kind == QS_EVENT_OPENED)
       while (qs_stream_accept(&e->conn, event.dir, &e->stream) == QS_OK)
         read_file(e);
-      break;
-    case QS_EVENT_READABLE:
+    else if (event.kind == QS_EVENT_READABLE)
       read_file(e);
-      break;
-    case QS_EVENT_WRITABLE:
+    else if (event.kind == QS_EVENT_WRITABLE)
       write_file(e);
-      break;
-    case QS_EVENT_FINISHED:
+    else if (event.kind == QS_EVENT_FINISHED)
       e->done = 1;
-      break;
-    }
   }
 }
 
 static void open_end(end *e, uint16_t port) {
-  qs_config config = {sizeof config,
-                      e->sends ? QS_CLIENT : QS_SERVER,
-                      4,
-                      4,
-                      1 << 20,
-                      1 << 20,
-                      1 << 18,
-                      QS_NONE,
-                      0};
-  qs_peer_limits limits = {1 << 20, 4, 4, 1 << 18, 1 << 18, 1 << 18, QS_NONE};
+  const uint64_t window = 1 << 20, each = 1 << 18;
+  const uint32_t side = e->sends ? QS_CLIENT : QS_SERVER;
+  qs_config config = {sizeof config, side, 4,       4, window,
+                      window,        each, QS_NONE, 0};
+  qs_peer_limits limits = {window, 4, 4, each, each, each, QS_NONE};
   want("open", qs_conn_open(&e->conn, &config));
   want("limits", qs_set_peer_limits(&e->conn, &limits));
   struct sockaddr_in at;
@@ -240,8 +215,7 @@ int main(int argc, char **argv) {
   static end e; /* all zero bytes: the handle is closed */
   if (argc < 4 || argc > 6 ||
       (strcmp(argv[1], "send") && strcmp(argv[1], "receive"))) {
-    fprintf(stderr, "usage: %s send|receive PORT FILE [LOSS [SEED]]\n",
-            argv[0]);
+    fputs("usage: send|receive PORT FILE [LOSS [SEED]]\n", stderr);
     return 2;
   }
   e.sends = argv[1][0] == 's';
@@ -258,10 +232,8 @@ int main(int argc, char **argv) {
     struct pollfd fd = {e.fd, POLLIN, 0};
     if (poll(&fd, 1, 10) > 0) {
       ssize_t len = recv(e.fd, packet, sizeof packet, 0);
-      if (len > 0) {
-        e.idle_since = now_ms();
-        take_packet(&e, packet, (size_t)len);
-      }
+      if (len > 0)
+        e.idle_since = now_ms(), take_packet(&e, packet, (size_t)len);
     }
     settle_old(&e, now_ms());
     handle_events(&e);
@@ -269,9 +241,8 @@ int main(int argc, char **argv) {
     if (now_ms() - e.idle_since > 10000)
       die("nothing came for ten seconds", QS_ERR_BLOCKED);
   }
-  printf("%s: %" PRIu64 " packets, %" PRIu64 " dropped, %" PRIu64
-         " taken to be lost\n",
-         argv[1], e.packets, e.dropped, e.lost);
+  printf("%s: %lu packets, %lu dropped, %lu taken to be lost\n", argv[1],
+         e.packets, e.dropped, e.lost);
   qs_conn_free(&e.conn);
   return fclose(e.file) ? 1 : 0;
 }

@@ -3,10 +3,9 @@
 //!     file-over-udp receive PORT FILE [LOSS [SEED]]
 //!     file-over-udp send    PORT FILE [LOSS [SEED]]
 //!
-//! Of a hundred packets the program drops LOSS itself, drawn from SEED. What stands in for the packet layer is as small as
-//! it can be: a packet is one byte, 'D' or 'A', a number of eight bytes and, after 'D', a payload; 'A' acknowledges the
-//! packet of that number. There is no encryption and no congestion control, and nobody is authenticated: this is no way
-//! to send files over a real network. The program of `examples/c` speaks the same, and can be at the other end.
+//! Of a hundred packets the program drops LOSS itself, drawn from SEED. A packet is one byte, 'D' or 'A', a number of
+//! eight bytes and, after 'D', a payload; 'A' acknowledges the packet of that number. There is no encryption, congestion
+//! control or authentication: no way to send files over a real network. The program of `examples/c` speaks the same.
 
 use quic_streams::{
     Config, Dir, Emit, Event, Limits, ReadError, ReceiveError, Side, StreamId, StreamsState, Token,
@@ -26,7 +25,6 @@ const LOST_AFTER: Duration = Duration::from_millis(100);
 
 type Result<T> = std::result::Result<T, Box<dyn Error>>;
 
-/// A packet that is on its way.
 struct InFlight {
     token: Token,
     sent_at: Instant,
@@ -37,8 +35,7 @@ struct End {
     socket: UdpSocket,
     file: File,
     stream: Option<StreamId>,
-    /// What was read of the file and not written.
-    chunk: Vec<u8>,
+    chunk: Vec<u8>, // what was read of the file and not written
     flight: BTreeMap<u64, InFlight>,
     next: u64,
     loss: u64,
@@ -244,10 +241,7 @@ fn main() -> Result<()> {
             return Err("nothing came for ten seconds".into());
         }
     }
-    let (packets, dropped, lost) = (end.packets, end.dropped, end.lost);
-    println!(
-        "{}: {packets} packets, {dropped} dropped, {lost} taken to be lost",
-        words[1]
-    );
+    let (sent, dropped, lost) = (end.packets, end.dropped, end.lost);
+    println!("{sent} packets, {dropped} dropped, {lost} taken to be lost");
     Ok(())
 }
