@@ -63,6 +63,18 @@ impl Session {
         if !self.streams.was_given(id) {
             return Err(WriteError::ClosedStream);
         }
+        self.write_given(id, bytes)
+    }
+
+    // The same, of a stream that was given.
+    fn write_given(&mut self, id: StreamId, bytes: &[u8]) -> Result<usize, WriteError>
+        ensures writes { IsWrittenAs result (λ written. (left : List (List ℕ))
+            × WritesOwn (end_of self.old).streams id (slice_lists bytes.now) (is_shut self.old.conn) (end_of self.old).pending written (end_of self.new).streams left (end_of self.new).pending) }
+        ensures from { IsWrittenAs result (λ written. (m : Made) (h : List Event) → From m h (end_of self.old).streams
+            → From m (Sending (WroteOwn id (slice_lists bytes.now) (is_shut self.old.conn) written) ∷ h) (end_of self.new).streams) }
+        ensures conn { self.new.conn ≡ self.old.conn }
+        ensures datagrams { datagrams_of self.new ≡ datagrams_of self.old }
+    {
         let (streams, pending) = (&mut self.streams, &mut self.pending);
         SendStream::new(id, streams, pending, self.conn).write(bytes)
     }
@@ -78,6 +90,16 @@ impl Session {
         if !self.streams.was_given(id) {
             return Err(FinishError::ClosedStream);
         }
+        self.finish_given(id)
+    }
+
+    // The same, of a stream that was given.
+    fn finish_given(&mut self, id: StreamId) -> Result<(), FinishError>
+        ensures finishes { FinishesAt (end_of self.old) id result (end_of self.new) }
+        ensures from { (m : Made) (h : List Event) → From m h (end_of self.old).streams → From m (Sending (FinishedOwn id result) ∷ h) (end_of self.new).streams }
+        ensures conn { self.new.conn ≡ self.old.conn }
+        ensures datagrams { datagrams_of self.new ≡ datagrams_of self.old }
+    {
         let (streams, pending) = (&mut self.streams, &mut self.pending);
         SendStream::new(id, streams, pending, self.conn).finish()
     }
@@ -93,6 +115,16 @@ impl Session {
         if !self.streams.was_given(id) {
             return Err(HandleError::ClosedStream);
         }
+        self.reset_given(id, error_code)
+    }
+
+    // The same, of a stream that was given.
+    fn reset_given(&mut self, id: StreamId, error_code: VarInt) -> Result<(), HandleError>
+        ensures resets { ResetsAt (end_of self.old) id error_code result (end_of self.new) }
+        ensures from { (m : Made) (h : List Event) → From m h (end_of self.old).streams → From m (Sending (ResetOwn id error_code result) ∷ h) (end_of self.new).streams }
+        ensures conn { self.new.conn ≡ self.old.conn }
+        ensures datagrams { datagrams_of self.new ≡ datagrams_of self.old }
+    {
         let (streams, pending) = (&mut self.streams, &mut self.pending);
         SendStream::new(id, streams, pending, self.conn).reset(error_code)
     }
@@ -108,6 +140,16 @@ impl Session {
         if !self.streams.was_given(id) {
             return Err(HandleError::ClosedStream);
         }
+        self.set_priority_given(id, priority)
+    }
+
+    // The same, of a stream that was given.
+    fn set_priority_given(&mut self, id: StreamId, priority: i32) -> Result<(), HandleError>
+        ensures sets { SetsPriorityAt (end_of self.old) id priority result (end_of self.new) }
+        ensures from { (m : Made) (h : List Event) → From m h (end_of self.old).streams → From m (Sending (SetOwnPriority id priority result) ∷ h) (end_of self.new).streams }
+        ensures conn { self.new.conn ≡ self.old.conn }
+        ensures datagrams { datagrams_of self.new ≡ datagrams_of self.old }
+    {
         let (streams, pending) = (&mut self.streams, &mut self.pending);
         SendStream::new(id, streams, pending, self.conn).set_priority(priority)
     }

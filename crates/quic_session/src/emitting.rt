@@ -92,22 +92,14 @@ impl Session {
             self.write_datagrams(&mut draft.bytes, max_size)?;
         }
         if parts.streams {
-            self.streams.write_stream_frames(
-                &mut draft.bytes,
-                &mut draft.sent.streams,
-                max_size,
-                fair,
-            )?;
+            self.streams
+                .write_stream_frames(&mut draft.bytes, &mut draft.sent.streams, max_size, fair)?;
         }
         Ok(())
     }
 
     // Writes the datagrams that fit.
-    fn write_datagrams(
-        &mut self,
-        bytes: &mut Vec<u8>,
-        max_size: usize,
-    ) -> Result<(), OutOfMemory> {
+    fn write_datagrams(&mut self, bytes: &mut Vec<u8>, max_size: usize) -> Result<(), OutOfMemory> {
         let mut sent = false;
         let mut answer = Ok(());
         while bytes.len() < max_size && max_size - bytes.len() > Datagram::SIZE_BOUND {

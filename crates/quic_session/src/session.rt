@@ -64,7 +64,7 @@ impl Session {
         requires bi { config.now.max_remote_bi ≤ 2 ^ 60 }
         ensures start { IfOk result (λ s. end_of s ≡ record { streams = start (made_with config.now.side config.now.max_remote_uni config.now.max_remote_bi config.now.send_window config.now.receive_window config.now.stream_window); pending = nothing }) }
         ensures from { IfOk result (λ s. From (made_with config.now.side config.now.max_remote_uni config.now.max_remote_bi config.now.send_window config.now.receive_window config.now.stream_window) [] (end_of s).streams) }
-        ensures open { IfOk result (λ s. s.conn ≡ ConnState.Open) }
+        ensures begun { IfOk result (λ s. s.conn ≡ ConnState.Open) }
         ensures limits { IfOk result (λ s. s.limits ≡ config.now.datagrams) }
         ensures waiting { IfOk result (λ s. s.waiting ≡ None) }
     {
@@ -189,6 +189,7 @@ impl Session {
     // MAX_STREAMS is queued where it is due, if a call was not refused for want of memory.
     pub(crate) fn tell_counts_if(&mut self, handled: bool)
         ensures told { end_of self.new ≡ with_counts_told_if handled (end_of self.old) }
+        ensures payloads { self.new.unsettled ≡ self.old.unsettled }
         ensures conn { self.new.conn ≡ self.old.conn }
         ensures datagrams { datagrams_of self.new ≡ datagrams_of self.old }
     {

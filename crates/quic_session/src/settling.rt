@@ -1,6 +1,8 @@
 //! What becomes of the payloads that a session sent.
 
-ghost use Rattle.std.specs.Prelude.{◌≡◌};
+ghost use Rattle.std.specs.Prelude.{◌≡◌, OnOk, IsSome, None};
+ghost use Rattle.quic_session.specs.Sessions.{end_of, datagrams_of};
+ghost use Rattle.quic_session.specs.Tokens.{unsettled, with_payload};
 
 use crate::sent;
 use crate::session::Session;
@@ -22,7 +24,12 @@ pub enum SettleError {
 #[tactic(auto, unfolding(crate::specs::Sessions::end_of))]
 impl Session {
     /// A payload was acknowledged (RFC 9000 section 13.3).
-    pub fn acked(&mut self, token: u64) -> Result<(), SettleError> {
+    pub fn acked(&mut self, token: u64) -> Result<(), SettleError>
+        ensures settled { OnOk result (unsettled self.new.unsettled ≡ with_payload (unsettled self.old.unsettled) token None) }
+        ensures known { OnOk result (IsSome (unsettled self.old.unsettled token)) }
+        ensures conn { self.new.conn ≡ self.old.conn }
+        ensures datagrams { datagrams_of self.new ≡ datagrams_of self.old }
+    {
         if self.unsettled.reserve().is_err() {
             return Err(SettleError::OutOfMemory);
         }
@@ -42,7 +49,12 @@ impl Session {
     }
 
     /// A payload was lost (RFC 9000 section 13.3).
-    pub fn lost(&mut self, token: u64) -> Result<(), SettleError> {
+    pub fn lost(&mut self, token: u64) -> Result<(), SettleError>
+        ensures settled { OnOk result (unsettled self.new.unsettled ≡ with_payload (unsettled self.old.unsettled) token None) }
+        ensures known { OnOk result (IsSome (unsettled self.old.unsettled token)) }
+        ensures conn { self.new.conn ≡ self.old.conn }
+        ensures datagrams { datagrams_of self.new ≡ datagrams_of self.old }
+    {
         if self.unsettled.reserve().is_err() {
             return Err(SettleError::OutOfMemory);
         }
@@ -67,7 +79,7 @@ impl Session {
     pub fn zero_rtt_rejected(&mut self) {
         self.streams.zero_rtt_rejected();
         self.pending = Retransmits::new(self.alloc);
-        self.unsettled.clear();
+        self.unsettled.clear(self.alloc);
     }
 
     /// All that an early start sent is to be sent again (RFC 9000 section 17.2.5).

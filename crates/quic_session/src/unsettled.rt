@@ -76,10 +76,10 @@ impl Unsettled {
     }
 
     /// Forgets all.
-    pub(crate) fn clear(&mut self)
+    pub(crate) fn clear(&mut self, alloc: Global)
         ensures none { unsettled self.new ≡ (λ token. None) }
         ensures next { self.new.next ≡ self.old.next }
     {
-        self.payloads.clear();
+        self.payloads = HashMap::new(alloc);
     }
 }

@@ -1,10 +1,11 @@
 //! The calls of an application on streams.
 
-ghost use Rattle.std.specs.Prelude.{◌≡◌};
+ghost use Rattle.std.specs.Prelude.{◌≡◌, pos, IsSome, IsNone, IfSome};
 
-use crate::codes::{ARGUMENT, BLOCKED, CLOSED, DONE, END, NO_MEMORY, OK, RESET, TOO_SMALL};
-use crate::codes::{code_of_finish, code_of_handle, code_of_readable, code_of_write};
-use crate::codes::{NO_STREAM, dir_of, id_of, stream_of};
+use crate::codes::{
+    ARGUMENT, BLOCKED, CLOSED, DONE, END, NO_MEMORY, NO_STREAM, OK, RESET, TOO_SMALL,
+    code_of_finish, code_of_handle, code_of_readable, code_of_write, dir_of, id_of, stream_of,
+};
 use crate::handle::{Handle, holding, take_out};
 use quic_receiving::ReadableError;
 use quic_session::Session;
@@ -15,7 +16,11 @@ use std::alloc::Global;
 
 /// Opens the next stream of a direction.
 #[unsafe(no_mangle)]
-pub extern "C" fn qs_stream_open(alloc: Global, handle: &mut Handle, dir: u32, id: &mut u64) -> i32 {
+pub extern "C" fn qs_stream_open(alloc: Global, handle: &mut Handle, dir: u32, id: &mut u64) -> i32
+    ensures live { IsSome handle.old.slot.value → IsSome handle.new.slot.value }
+    ensures closed { IsNone handle.old.slot.value → IsNone handle.new.slot.value }
+    ensures answered { result ≡ OK → IsSome handle.old.slot.value }
+{
     let Some(dir) = dir_of(dir) else {
         return ARGUMENT;
     };
@@ -43,7 +48,11 @@ pub extern "C" fn qs_stream_accept(
     handle: &mut Handle,
     dir: u32,
     id: &mut u64,
-) -> i32 {
+) -> i32
+    ensures live { IsSome handle.old.slot.value → IsSome handle.new.slot.value }
+    ensures closed { IsNone handle.old.slot.value → IsNone handle.new.slot.value }
+    ensures answered { result ≡ OK → IsSome handle.old.slot.value }
+{
     let Some(dir) = dir_of(dir) else {
         return ARGUMENT;
     };
@@ -72,7 +81,11 @@ pub extern "C" fn qs_stream_write(
     bytes: &[u8],
     written: &mut usize,
     app_code: &mut u64,
-) -> i32 {
+) -> i32
+    ensures live { IsSome handle.old.slot.value → IsSome handle.new.slot.value }
+    ensures closed { IsNone handle.old.slot.value → IsNone handle.new.slot.value }
+    ensures answered { result ≡ OK → IsSome handle.old.slot.value }
+{
     let Some(id) = stream_of(id) else {
         return ARGUMENT;
     };
@@ -99,7 +112,11 @@ pub extern "C" fn qs_stream_finish(
     handle: &mut Handle,
     id: u64,
     app_code: &mut u64,
-) -> i32 {
+) -> i32
+    ensures live { IsSome handle.old.slot.value → IsSome handle.new.slot.value }
+    ensures closed { IsNone handle.old.slot.value → IsNone handle.new.slot.value }
+    ensures answered { result ≡ OK → IsSome handle.old.slot.value }
+{
     let Some(id) = stream_of(id) else {
         return ARGUMENT;
     };
@@ -118,7 +135,11 @@ pub extern "C" fn qs_stream_finish(
 
 /// Gives a stream up.
 #[unsafe(no_mangle)]
-pub extern "C" fn qs_stream_reset(alloc: Global, handle: &mut Handle, id: u64, app_code: u64) -> i32 {
+pub extern "C" fn qs_stream_reset(alloc: Global, handle: &mut Handle, id: u64, app_code: u64) -> i32
+    ensures live { IsSome handle.old.slot.value → IsSome handle.new.slot.value }
+    ensures closed { IsNone handle.old.slot.value → IsNone handle.new.slot.value }
+    ensures answered { result ≡ OK → IsSome handle.old.slot.value }
+{
     let (Some(id), Some(code)) = (stream_of(id), VarInt::from_u64(app_code)) else {
         return ARGUMENT;
     };
@@ -137,7 +158,11 @@ pub extern "C" fn qs_stream_reset(alloc: Global, handle: &mut Handle, id: u64, a
 
 /// Stops a stream.
 #[unsafe(no_mangle)]
-pub extern "C" fn qs_stream_stop(alloc: Global, handle: &mut Handle, id: u64, app_code: u64) -> i32 {
+pub extern "C" fn qs_stream_stop(alloc: Global, handle: &mut Handle, id: u64, app_code: u64) -> i32
+    ensures live { IsSome handle.old.slot.value → IsSome handle.new.slot.value }
+    ensures closed { IsNone handle.old.slot.value → IsNone handle.new.slot.value }
+    ensures answered { result ≡ OK → IsSome handle.old.slot.value }
+{
     let (Some(id), Some(code)) = (stream_of(id), VarInt::from_u64(app_code)) else {
         return ARGUMENT;
     };
@@ -161,7 +186,11 @@ pub extern "C" fn qs_stream_set_priority(
     handle: &mut Handle,
     id: u64,
     priority: i32,
-) -> i32 {
+) -> i32
+    ensures live { IsSome handle.old.slot.value → IsSome handle.new.slot.value }
+    ensures closed { IsNone handle.old.slot.value → IsNone handle.new.slot.value }
+    ensures answered { result ≡ OK → IsSome handle.old.slot.value }
+{
     let Some(id) = stream_of(id) else {
         return ARGUMENT;
     };
@@ -185,7 +214,11 @@ pub extern "C" fn qs_stream_priority(
     handle: &mut Handle,
     id: u64,
     priority: &mut i32,
-) -> i32 {
+) -> i32
+    ensures live { IsSome handle.old.slot.value → IsSome handle.new.slot.value }
+    ensures closed { IsNone handle.old.slot.value → IsNone handle.new.slot.value }
+    ensures answered { result ≡ OK → IsSome handle.old.slot.value }
+{
     let Some(id) = stream_of(id) else {
         return ARGUMENT;
     };
@@ -212,7 +245,11 @@ pub extern "C" fn qs_stream_stopped(
     handle: &mut Handle,
     id: u64,
     app_code: &mut u64,
-) -> i32 {
+) -> i32
+    ensures live { IsSome handle.old.slot.value → IsSome handle.new.slot.value }
+    ensures closed { IsNone handle.old.slot.value → IsNone handle.new.slot.value }
+    ensures answered { result ≡ OK → IsSome handle.old.slot.value }
+{
     let Some(id) = stream_of(id) else {
         return ARGUMENT;
     };
@@ -240,7 +277,11 @@ pub extern "C" fn qs_stream_received_reset(
     handle: &mut Handle,
     id: u64,
     app_code: &mut u64,
-) -> i32 {
+) -> i32
+    ensures live { IsSome handle.old.slot.value → IsSome handle.new.slot.value }
+    ensures closed { IsNone handle.old.slot.value → IsNone handle.new.slot.value }
+    ensures answered { result ≡ OK → IsSome handle.old.slot.value }
+{
     let Some(id) = stream_of(id) else {
         return ARGUMENT;
     };
@@ -300,7 +341,12 @@ fn read(
     offset: &mut u64,
     app_code: &mut u64,
 ) -> i32 {
-    code_of_read(&session.read_into(id, ordered, out), count, offset, app_code)
+    code_of_read(
+        &session.read_into(id, ordered, out),
+        count,
+        offset,
+        app_code,
+    )
 }
 
 /// Reads the next chunk of a stream.
@@ -313,7 +359,11 @@ pub extern "C" fn qs_stream_read(
     count: &mut usize,
     offset: &mut u64,
     app_code: &mut u64,
-) -> i32 {
+) -> i32
+    ensures live { IsSome handle.old.slot.value → IsSome handle.new.slot.value }
+    ensures closed { IsNone handle.old.slot.value → IsNone handle.new.slot.value }
+    ensures answered { result ≡ OK → IsSome handle.old.slot.value }
+{
     let Some(id) = stream_of(id) else {
         return ARGUMENT;
     };
@@ -340,7 +390,11 @@ pub extern "C" fn qs_stream_read_unordered(
     count: &mut usize,
     offset: &mut u64,
     app_code: &mut u64,
-) -> i32 {
+) -> i32
+    ensures live { IsSome handle.old.slot.value → IsSome handle.new.slot.value }
+    ensures closed { IsNone handle.old.slot.value → IsNone handle.new.slot.value }
+    ensures answered { result ≡ OK → IsSome handle.old.slot.value }
+{
     let Some(id) = stream_of(id) else {
         return ARGUMENT;
     };

@@ -1,5 +1,8 @@
 //! The numbers that C has for answers.
 
+ghost use Rattle.std.specs.Prelude.{◌≡◌, IfSome};
+ghost use Rattle.quic_streams_c.specs.Numbers.{dir_at};
+
 use quic_receiving::{HandleError, ReadableError};
 use quic_sending::{FinishError, WriteError};
 use quic_session::datagrams::DatagramError;
@@ -44,7 +47,9 @@ pub const TOO_LARGE: i32 = -14;
 pub const TOO_SMALL: i32 = -15;
 
 // The direction of a number.
-pub(crate) fn dir_of(number: u32) -> Option<Dir> {
+pub(crate) fn dir_of(number: u32) -> Option<Dir>
+    ensures { IfSome result (λ dir. dir ≡ dir_at number) }
+{
     match number {
         0 => Some(Dir::Bi),
         1 => Some(Dir::Uni),
@@ -61,7 +66,9 @@ pub(crate) fn number_of(dir: Dir) -> u32 {
 }
 
 // The stream of a number.
-pub(crate) fn stream_of(number: u64) -> Option<StreamId> {
+pub(crate) fn stream_of(number: u64) -> Option<StreamId>
+    ensures { IfSome result (λ id. id ≡ number) }
+{
     match VarInt::from_u64(number) {
         Some(number) => Some(StreamId::from(number)),
         None => None,
@@ -69,7 +76,9 @@ pub(crate) fn stream_of(number: u64) -> Option<StreamId> {
 }
 
 // The number of a stream.
-pub(crate) fn id_of(id: StreamId) -> u64 {
+pub(crate) fn id_of(id: StreamId) -> u64
+    ensures { result ≡ id }
+{
     VarInt::from(id).into_inner()
 }
 

@@ -1,6 +1,6 @@
 //! A session is made, set and closed, and tells its events.
 
-ghost use Rattle.std.specs.Prelude.{◌≡◌, ◌×◌, pos, IfSome, IsSome, IsNone};
+ghost use Rattle.std.specs.Prelude.{◌≡◌, pos, IsSome, IsNone, IfSome};
 ghost use Rattle.std.specs.declared.option.Option.TheVariants.{Some, None};
 
 use crate::codes::{ARGUMENT, CLOSED, DONE, IN_USE, NO_MEMORY, OK, dir_of, id_of, number_of};
@@ -160,7 +160,11 @@ pub extern "C" fn qs_conn_free(alloc: Global, handle: &mut Handle)
 
 /// The connection is closed: nothing is opened or written any more.
 #[unsafe(no_mangle)]
-pub extern "C" fn qs_conn_close(alloc: Global, handle: &mut Handle) -> i32 {
+pub extern "C" fn qs_conn_close(alloc: Global, handle: &mut Handle) -> i32
+    ensures live { IsSome handle.old.slot.value → IsSome handle.new.slot.value }
+    ensures closed { IsNone handle.old.slot.value → IsNone handle.new.slot.value }
+    ensures answered { result ≡ OK → IsSome handle.old.slot.value }
+{
     match take_out(alloc, handle) {
         None => CLOSED,
         Some(mut session) => {
@@ -185,7 +189,11 @@ fn limits_of(raw: &RawLimits) -> Option<PeerLimits> {
 
 /// Takes the limits of the peer's transport parameters.
 #[unsafe(no_mangle)]
-pub extern "C" fn qs_set_peer_limits(alloc: Global, handle: &mut Handle, limits: &RawLimits) -> i32 {
+pub extern "C" fn qs_set_peer_limits(alloc: Global, handle: &mut Handle, limits: &RawLimits) -> i32
+    ensures live { IsSome handle.old.slot.value → IsSome handle.new.slot.value }
+    ensures closed { IsNone handle.old.slot.value → IsNone handle.new.slot.value }
+    ensures answered { result ≡ OK → IsSome handle.old.slot.value }
+{
     let Some(params) = limits_of(limits) else {
         return ARGUMENT;
     };
@@ -202,7 +210,11 @@ pub extern "C" fn qs_set_peer_limits(alloc: Global, handle: &mut Handle, limits:
 
 /// The peer rejected the early start of a client.
 #[unsafe(no_mangle)]
-pub extern "C" fn qs_zero_rtt_rejected(alloc: Global, handle: &mut Handle) -> i32 {
+pub extern "C" fn qs_zero_rtt_rejected(alloc: Global, handle: &mut Handle) -> i32
+    ensures live { IsSome handle.old.slot.value → IsSome handle.new.slot.value }
+    ensures closed { IsNone handle.old.slot.value → IsNone handle.new.slot.value }
+    ensures answered { result ≡ OK → IsSome handle.old.slot.value }
+{
     match take_out(alloc, handle) {
         None => CLOSED,
         Some(mut session) => {
@@ -215,7 +227,11 @@ pub extern "C" fn qs_zero_rtt_rejected(alloc: Global, handle: &mut Handle) -> i3
 
 /// All that an early start sent is to be sent again.
 #[unsafe(no_mangle)]
-pub extern "C" fn qs_retransmit_all_for_0rtt(alloc: Global, handle: &mut Handle) -> i32 {
+pub extern "C" fn qs_retransmit_all_for_0rtt(alloc: Global, handle: &mut Handle) -> i32
+    ensures live { IsSome handle.old.slot.value → IsSome handle.new.slot.value }
+    ensures closed { IsNone handle.old.slot.value → IsNone handle.new.slot.value }
+    ensures answered { result ≡ OK → IsSome handle.old.slot.value }
+{
     match take_out(alloc, handle) {
         None => CLOSED,
         Some(mut session) => {
@@ -231,7 +247,11 @@ pub extern "C" fn qs_retransmit_all_for_0rtt(alloc: Global, handle: &mut Handle)
 
 /// Sets how many bytes that were written are kept until they are acknowledged.
 #[unsafe(no_mangle)]
-pub extern "C" fn qs_set_send_window(alloc: Global, handle: &mut Handle, window: u64) -> i32 {
+pub extern "C" fn qs_set_send_window(alloc: Global, handle: &mut Handle, window: u64) -> i32
+    ensures live { IsSome handle.old.slot.value → IsSome handle.new.slot.value }
+    ensures closed { IsNone handle.old.slot.value → IsNone handle.new.slot.value }
+    ensures answered { result ≡ OK → IsSome handle.old.slot.value }
+{
     match take_out(alloc, handle) {
         None => CLOSED,
         Some(mut session) => {
@@ -244,7 +264,11 @@ pub extern "C" fn qs_set_send_window(alloc: Global, handle: &mut Handle, window:
 
 /// Sets how many bytes of all streams may be received and not read.
 #[unsafe(no_mangle)]
-pub extern "C" fn qs_set_receive_window(alloc: Global, handle: &mut Handle, window: u64) -> i32 {
+pub extern "C" fn qs_set_receive_window(alloc: Global, handle: &mut Handle, window: u64) -> i32
+    ensures live { IsSome handle.old.slot.value → IsSome handle.new.slot.value }
+    ensures closed { IsNone handle.old.slot.value → IsNone handle.new.slot.value }
+    ensures answered { result ≡ OK → IsSome handle.old.slot.value }
+{
     let Some(window) = VarInt::from_u64(window) else {
         return ARGUMENT;
     };
@@ -265,7 +289,11 @@ pub extern "C" fn qs_set_max_concurrent(
     handle: &mut Handle,
     dir: u32,
     count: u64,
-) -> i32 {
+) -> i32
+    ensures live { IsSome handle.old.slot.value → IsSome handle.new.slot.value }
+    ensures closed { IsNone handle.old.slot.value → IsNone handle.new.slot.value }
+    ensures answered { result ≡ OK → IsSome handle.old.slot.value }
+{
     let (Some(dir), Some(count)) = (dir_of(dir), VarInt::from_u64(count)) else {
         return ARGUMENT;
     };
@@ -320,7 +348,11 @@ fn next_event(session: &mut Session) -> Option<RawEvent> {
 
 /// Gives the next event.
 #[unsafe(no_mangle)]
-pub extern "C" fn qs_poll(alloc: Global, handle: &mut Handle, told: &mut RawEvent) -> i32 {
+pub extern "C" fn qs_poll(alloc: Global, handle: &mut Handle, told: &mut RawEvent) -> i32
+    ensures live { IsSome handle.old.slot.value → IsSome handle.new.slot.value }
+    ensures closed { IsNone handle.old.slot.value → IsNone handle.new.slot.value }
+    ensures answered { result ≡ OK → IsSome handle.old.slot.value }
+{
     match take_out(alloc, handle) {
         None => CLOSED,
         Some(mut session) => {
@@ -369,7 +401,11 @@ fn info_of(session: &mut Session) -> RawInfo {
 
 /// Tells the counts of a session.
 #[unsafe(no_mangle)]
-pub extern "C" fn qs_get_info(alloc: Global, handle: &mut Handle, info: &mut RawInfo) -> i32 {
+pub extern "C" fn qs_get_info(alloc: Global, handle: &mut Handle, info: &mut RawInfo) -> i32
+    ensures live { IsSome handle.old.slot.value → IsSome handle.new.slot.value }
+    ensures closed { IsNone handle.old.slot.value → IsNone handle.new.slot.value }
+    ensures answered { result ≡ OK → IsSome handle.old.slot.value }
+{
     match take_out(alloc, handle) {
         None => CLOSED,
         Some(mut session) => {

@@ -1,6 +1,6 @@
 //! Datagrams (RFC 9221).
 
-ghost use Rattle.std.specs.Prelude.{◌≡◌};
+ghost use Rattle.std.specs.Prelude.{◌≡◌, pos, IsSome, IsNone, IfSome};
 
 use crate::codes::{CLOSED, DATAGRAMS_OFF, DONE, OK, TOO_SMALL, code_of_datagram};
 use crate::handle::{Handle, holding, take_out};
@@ -14,7 +14,11 @@ pub extern "C" fn qs_datagram_send(
     handle: &mut Handle,
     bytes: &[u8],
     drop_oldest: u32,
-) -> i32 {
+) -> i32
+    ensures live { IsSome handle.old.slot.value → IsSome handle.new.slot.value }
+    ensures closed { IsNone handle.old.slot.value → IsNone handle.new.slot.value }
+    ensures answered { result ≡ OK → IsSome handle.old.slot.value }
+{
     match take_out(alloc, handle) {
         None => CLOSED,
         Some(mut session) => {
@@ -52,7 +56,11 @@ pub extern "C" fn qs_datagram_recv(
     handle: &mut Handle,
     out: &mut [u8],
     count: &mut usize,
-) -> i32 {
+) -> i32
+    ensures live { IsSome handle.old.slot.value → IsSome handle.new.slot.value }
+    ensures closed { IsNone handle.old.slot.value → IsNone handle.new.slot.value }
+    ensures answered { result ≡ OK → IsSome handle.old.slot.value }
+{
     match take_out(alloc, handle) {
         None => CLOSED,
         Some(mut session) => {
@@ -65,7 +73,11 @@ pub extern "C" fn qs_datagram_recv(
 
 /// Tells the greatest length of a datagram.
 #[unsafe(no_mangle)]
-pub extern "C" fn qs_datagram_max_size(alloc: Global, handle: &mut Handle, size: &mut usize) -> i32 {
+pub extern "C" fn qs_datagram_max_size(alloc: Global, handle: &mut Handle, size: &mut usize) -> i32
+    ensures live { IsSome handle.old.slot.value → IsSome handle.new.slot.value }
+    ensures closed { IsNone handle.old.slot.value → IsNone handle.new.slot.value }
+    ensures answered { result ≡ OK → IsSome handle.old.slot.value }
+{
     match take_out(alloc, handle) {
         None => CLOSED,
         Some(session) => {
@@ -88,7 +100,11 @@ pub extern "C" fn qs_datagram_send_space(
     alloc: Global,
     handle: &mut Handle,
     size: &mut usize,
-) -> i32 {
+) -> i32
+    ensures live { IsSome handle.old.slot.value → IsSome handle.new.slot.value }
+    ensures closed { IsNone handle.old.slot.value → IsNone handle.new.slot.value }
+    ensures answered { result ≡ OK → IsSome handle.old.slot.value }
+{
     match take_out(alloc, handle) {
         None => CLOSED,
         Some(mut session) => {
@@ -101,7 +117,11 @@ pub extern "C" fn qs_datagram_send_space(
 
 /// Sets the greatest length of a datagram.
 #[unsafe(no_mangle)]
-pub extern "C" fn qs_datagram_set_max_size(alloc: Global, handle: &mut Handle, size: u64) -> i32 {
+pub extern "C" fn qs_datagram_set_max_size(alloc: Global, handle: &mut Handle, size: u64) -> i32
+    ensures live { IsSome handle.old.slot.value → IsSome handle.new.slot.value }
+    ensures closed { IsNone handle.old.slot.value → IsNone handle.new.slot.value }
+    ensures answered { result ≡ OK → IsSome handle.old.slot.value }
+{
     match take_out(alloc, handle) {
         None => CLOSED,
         Some(mut session) => {

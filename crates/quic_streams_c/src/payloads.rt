@@ -1,6 +1,6 @@
 //! Payloads that a session writes, and what becomes of them.
 
-ghost use Rattle.std.specs.Prelude.{◌≡◌};
+ghost use Rattle.std.specs.Prelude.{◌≡◌, pos, IsSome, IsNone, IfSome};
 
 use crate::codes::{ARGUMENT, CLOSED, DONE, NO_MEMORY, OK, code_of_settle};
 use crate::handle::{Handle, holding, take_out};
@@ -37,7 +37,11 @@ pub extern "C" fn qs_emit(
     fair: u32,
     out: &mut [u8],
     payload: &mut RawPayload,
-) -> i32 {
+) -> i32
+    ensures live { IsSome handle.old.slot.value → IsSome handle.new.slot.value }
+    ensures closed { IsNone handle.old.slot.value → IsNone handle.new.slot.value }
+    ensures answered { result ≡ OK → IsSome handle.old.slot.value }
+{
     let Some(parts) = parts_of(parts) else {
         return ARGUMENT;
     };
@@ -64,7 +68,11 @@ pub extern "C" fn qs_emit(
 
 /// A payload was acknowledged.
 #[unsafe(no_mangle)]
-pub extern "C" fn qs_acked(alloc: Global, handle: &mut Handle, token: u64) -> i32 {
+pub extern "C" fn qs_acked(alloc: Global, handle: &mut Handle, token: u64) -> i32
+    ensures live { IsSome handle.old.slot.value → IsSome handle.new.slot.value }
+    ensures closed { IsNone handle.old.slot.value → IsNone handle.new.slot.value }
+    ensures answered { result ≡ OK → IsSome handle.old.slot.value }
+{
     match take_out(alloc, handle) {
         None => CLOSED,
         Some(mut session) => {
@@ -80,7 +88,11 @@ pub extern "C" fn qs_acked(alloc: Global, handle: &mut Handle, token: u64) -> i3
 
 /// A payload was lost.
 #[unsafe(no_mangle)]
-pub extern "C" fn qs_lost(alloc: Global, handle: &mut Handle, token: u64) -> i32 {
+pub extern "C" fn qs_lost(alloc: Global, handle: &mut Handle, token: u64) -> i32
+    ensures live { IsSome handle.old.slot.value → IsSome handle.new.slot.value }
+    ensures closed { IsNone handle.old.slot.value → IsNone handle.new.slot.value }
+    ensures answered { result ≡ OK → IsSome handle.old.slot.value }
+{
     match take_out(alloc, handle) {
         None => CLOSED,
         Some(mut session) => {

@@ -1,6 +1,6 @@
 //! Frames of the peer.
 
-ghost use Rattle.std.specs.Prelude.{◌≡◌};
+ghost use Rattle.std.specs.Prelude.{◌≡◌, pos, IsSome, IsNone, IfSome};
 
 use crate::codes::{ARGUMENT, CLOSED, MALFORMED, NO_MEMORY, OK, PROTOCOL, dir_of, stream_of};
 use crate::handle::{Handle, holding, take_out};
@@ -38,7 +38,11 @@ pub extern "C" fn qs_receive(
     payload: &[u8],
     next: &mut usize,
     error: &mut RawError,
-) -> i32 {
+) -> i32
+    ensures live { IsSome handle.old.slot.value → IsSome handle.new.slot.value }
+    ensures closed { IsNone handle.old.slot.value → IsNone handle.new.slot.value }
+    ensures answered { result ≡ OK → IsSome handle.old.slot.value }
+{
     match take_out(alloc, handle) {
         None => CLOSED,
         Some(mut session) => {
@@ -48,7 +52,10 @@ pub extern "C" fn qs_receive(
             match received.answer {
                 Ok(()) => OK,
                 Err(PayloadError::Malformed) => {
-                    tell(&TransportError::frame_encoding_error("malformed frame"), error);
+                    tell(
+                        &TransportError::frame_encoding_error("malformed frame"),
+                        error,
+                    );
                     MALFORMED
                 }
                 Err(PayloadError::Transport(why)) => {
@@ -68,7 +75,11 @@ fn hand(
     frame: Frame,
     payload_len: usize,
     error: &mut RawError,
-) -> i32 {
+) -> i32
+    ensures live { IsSome handle.old.slot.value → IsSome handle.new.slot.value }
+    ensures closed { IsNone handle.old.slot.value → IsNone handle.new.slot.value }
+    ensures answered { result ≡ OK → IsSome handle.old.slot.value }
+{
     match take_out(alloc, handle) {
         None => CLOSED,
         Some(mut session) => {
@@ -103,7 +114,11 @@ pub extern "C" fn qs_on_stream(
     fin: u32,
     payload_len: usize,
     error: &mut RawError,
-) -> i32 {
+) -> i32
+    ensures live { IsSome handle.old.slot.value → IsSome handle.new.slot.value }
+    ensures closed { IsNone handle.old.slot.value → IsNone handle.new.slot.value }
+    ensures answered { result ≡ OK → IsSome handle.old.slot.value }
+{
     let (Some(id), Some(offset)) = (stream_of(id), VarInt::from_u64(offset)) else {
         return ARGUMENT;
     };
@@ -128,7 +143,11 @@ pub extern "C" fn qs_on_reset_stream(
     app_code: u64,
     final_size: u64,
     error: &mut RawError,
-) -> i32 {
+) -> i32
+    ensures live { IsSome handle.old.slot.value → IsSome handle.new.slot.value }
+    ensures closed { IsNone handle.old.slot.value → IsNone handle.new.slot.value }
+    ensures answered { result ≡ OK → IsSome handle.old.slot.value }
+{
     let (Some(id), Some(error_code), Some(final_offset)) = (
         stream_of(id),
         VarInt::from_u64(app_code),
@@ -152,7 +171,11 @@ pub extern "C" fn qs_on_stop_sending(
     id: u64,
     app_code: u64,
     error: &mut RawError,
-) -> i32 {
+) -> i32
+    ensures live { IsSome handle.old.slot.value → IsSome handle.new.slot.value }
+    ensures closed { IsNone handle.old.slot.value → IsNone handle.new.slot.value }
+    ensures answered { result ≡ OK → IsSome handle.old.slot.value }
+{
     let (Some(id), Some(error_code)) = (stream_of(id), VarInt::from_u64(app_code)) else {
         return ARGUMENT;
     };
@@ -167,7 +190,11 @@ pub extern "C" fn qs_on_max_data(
     handle: &mut Handle,
     limit: u64,
     error: &mut RawError,
-) -> i32 {
+) -> i32
+    ensures live { IsSome handle.old.slot.value → IsSome handle.new.slot.value }
+    ensures closed { IsNone handle.old.slot.value → IsNone handle.new.slot.value }
+    ensures answered { result ≡ OK → IsSome handle.old.slot.value }
+{
     let Some(limit) = VarInt::from_u64(limit) else {
         return ARGUMENT;
     };
@@ -182,7 +209,11 @@ pub extern "C" fn qs_on_max_stream_data(
     id: u64,
     limit: u64,
     error: &mut RawError,
-) -> i32 {
+) -> i32
+    ensures live { IsSome handle.old.slot.value → IsSome handle.new.slot.value }
+    ensures closed { IsNone handle.old.slot.value → IsNone handle.new.slot.value }
+    ensures answered { result ≡ OK → IsSome handle.old.slot.value }
+{
     let (Some(id), Some(limit)) = (stream_of(id), VarInt::from_u64(limit)) else {
         return ARGUMENT;
     };
@@ -198,7 +229,11 @@ pub extern "C" fn qs_on_max_streams(
     dir: u32,
     count: u64,
     error: &mut RawError,
-) -> i32 {
+) -> i32
+    ensures live { IsSome handle.old.slot.value → IsSome handle.new.slot.value }
+    ensures closed { IsNone handle.old.slot.value → IsNone handle.new.slot.value }
+    ensures answered { result ≡ OK → IsSome handle.old.slot.value }
+{
     let (Some(dir), Some(count)) = (dir_of(dir), VarInt::from_u64(count)) else {
         return ARGUMENT;
     };
@@ -213,7 +248,11 @@ pub extern "C" fn qs_on_datagram(
     handle: &mut Handle,
     bytes: &[u8],
     error: &mut RawError,
-) -> i32 {
+) -> i32
+    ensures live { IsSome handle.old.slot.value → IsSome handle.new.slot.value }
+    ensures closed { IsNone handle.old.slot.value → IsNone handle.new.slot.value }
+    ensures answered { result ≡ OK → IsSome handle.old.slot.value }
+{
     let Ok(bytes) = Bytes::copy_from_slice(alloc, bytes) else {
         return NO_MEMORY;
     };
