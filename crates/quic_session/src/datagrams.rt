@@ -1,6 +1,8 @@
 //! Datagrams of a session (RFC 9221).
 
-ghost use Rattle.std.specs.Prelude.{◌≡◌};
+ghost use Rattle.std.specs.Prelude.{◌≡◌, OnOk, None};
+ghost use Rattle.quic_datagrams.specs.Sending.{send_refusal};
+ghost use Rattle.quic_datagrams.specs.Queue.{with_newest};
 ghost use Rattle.quic_session.specs.Sessions.{end_of};
 
 use crate::session::Session;
@@ -41,7 +43,11 @@ pub enum DatagramEvent {
 impl Session {
     /// Queues a datagram.
     pub fn send_datagram(&mut self, data: &[u8], drop_oldest: bool) -> Result<(), DatagramError>
+        ensures permitted { OnOk result (send_refusal self.old.limits self.old.datagrams.outgoing data.now drop_oldest ≡ None) }
+        ensures queued { OnOk result (self.new.datagrams ≡ record self.old.datagrams { outgoing = with_newest self.old.limits.send self.old.datagrams.outgoing (record { bytes = data.now }) }) }
         ensures end { end_of self.new ≡ end_of self.old }
+        ensures conn { self.new.conn ≡ self.old.conn }
+        ensures limits { self.new.limits ≡ self.old.limits }
     {
         let Ok(bytes) = Bytes::copy_from_slice(self.alloc, data) else {
             return Err(DatagramError::OutOfMemory);

@@ -1,10 +1,11 @@
 //! Payloads that a session writes.
 
-ghost use Rattle.std.specs.Prelude.{◌≡◌, ◌≤◌, length, take, drop, ◌++◌};
-ghost use Rattle.quic_session.specs.Sessions.{end_of, datagrams_of};
+ghost use Rattle.std.specs.Prelude.{◌≡◌, ◌≤◌, length, IfOk, IfSome};
+ghost use Rattle.quic_session.specs.Sessions.{end_of};
 
 use crate::sent::SentPayload;
 use crate::session::Session;
+use quic_datagrams::DatagramState;
 use quic_streams::stats::FrameStats;
 use quic_streams::{StreamMetaVec, ThinRetransmits};
 use quic_values::OutOfMemory;
@@ -49,7 +50,12 @@ impl Session {
         out: &mut [u8],
         parts: Parts,
         fair: bool,
-    ) -> Result<Option<Emitted>, OutOfMemory> {
+    ) -> Result<Option<Emitted>, OutOfMemory>
+        ensures len { IfOk result (λ e. IfSome e (λ p. p.len ≤ length out.old)) }
+        ensures token { IfOk result (λ e. IfSome e (λ p. p.token ≡ self.old.unsettled.next)) }
+        ensures conn { self.new.conn ≡ self.old.conn }
+        ensures limits { self.new.limits ≡ self.old.limits }
+    {
         self.unsettled.reserve()?;
         let mut draft = Draft {
             bytes: Vec::new(self.alloc),
@@ -77,7 +83,11 @@ impl Session {
         max_size: usize,
         parts: Parts,
         fair: bool,
-    ) -> Result<(), OutOfMemory> {
+    ) -> Result<(), OutOfMemory>
+        ensures payloads { self.new.unsettled ≡ self.old.unsettled }
+        ensures conn { self.new.conn ≡ self.old.conn }
+        ensures limits { self.new.limits ≡ self.old.limits }
+    {
         if parts.control {
             let mut counters = FrameStats::new();
             self.streams.write_control_frames(
@@ -99,23 +109,34 @@ impl Session {
     }
 
     // Writes the datagrams that fit.
-    fn write_datagrams(&mut self, bytes: &mut Vec<u8>, max_size: usize) -> Result<(), OutOfMemory> {
-        let mut sent = false;
-        let mut answer = Ok(());
-        while bytes.len() < max_size && max_size - bytes.len() > Datagram::SIZE_BOUND {
-            match self.datagrams.write(bytes, max_size) {
-                Ok(true) => sent = true,
-                Ok(false) => break,
-                Err(error) => {
-                    answer = Err(error);
-                    break;
-                }
-            }
-        }
+    fn write_datagrams(&mut self, bytes: &mut Vec<u8>, max_size: usize) -> Result<(), OutOfMemory>
+        ensures end { end_of self.new ≡ end_of self.old }
+        ensures payloads { self.new.unsettled ≡ self.old.unsettled }
+        ensures conn { self.new.conn ≡ self.old.conn }
+        ensures limits { self.new.limits ≡ self.old.limits }
+    {
+        let (sent, answer) = write_waiting(&mut self.datagrams, bytes, max_size);
         if sent && self.datagrams.send_blocked {
             self.datagrams.send_blocked = false;
             self.told_room = false;
         }
         answer
     }
+}
+
+// Writes the datagrams that fit, while one with the greatest head begins below the maximum. Says whether there were any.
+fn write_waiting(
+    datagrams: &mut DatagramState,
+    bytes: &mut Vec<u8>,
+    max_size: usize,
+) -> (bool, Result<(), OutOfMemory>) {
+    let mut sent = false;
+    'waiting: while bytes.len() < max_size && max_size - bytes.len() > Datagram::SIZE_BOUND {
+        match datagrams.write(bytes, max_size) {
+            Ok(true) => sent = true,
+            Ok(false) => break,
+            Err(error) => return (sent, Err(error)),
+        }
+    }
+    (sent, Ok(()))
 }
