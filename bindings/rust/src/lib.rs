@@ -1,5 +1,5 @@
-//! The streams and datagrams of one end of a QUIC connection (RFC 9000 sections 2 to 4, 13.3 and 19; RFC 9221), over a
-//! library whose every function is proved.
+//! The streams and datagrams of one end of a QUIC connection (RFC 9000 sections 2 to 4, 13.3 and 19; RFC 9221), over the
+//! library for C of the same repository.
 //!
 //! There are no packets here, no loss detection, no encryption and no sockets: those are the host's. It hands in the
 //! payloads that came ([`StreamsState::receive`]), has payloads written for the packets that it sends
