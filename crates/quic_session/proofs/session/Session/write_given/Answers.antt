@@ -1,5 +1,5 @@
 use Rattle.quic_session.specs.Sessions.{end_of}
-use Rattle.quic_session.proofs.application.Session.write_given.Goals as goal
+use Rattle.quic_session.proofs.session.Session.write_given.Goals as goal
 
 pub returns-clause-from : goal.returns-clause-from
 unfolding end_of

@@ -5,7 +5,7 @@ use Rattle.quic_history.proofs.Histories.{next}
 use Rattle.quic_session.specs.Sessions.{end_of}
 use Rattle.quic_endpoint.specs.Ends.{EndState, with_counts_told_if}
 use Rattle.quic_endpoint.proofs.Told.{told-streams}
-use Rattle.quic_session.proofs.application.Session.stop_given.Goals as goal
+use Rattle.quic_session.proofs.session.Session.stop_given.Goals as goal
 
 pub returns-clause-stops : goal.returns-clause-stops
 returns-clause-stops c =

@@ -5,7 +5,7 @@ use Rattle.quic_history.proofs.Histories.{next}
 use Rattle.quic_session.specs.Sessions.{end_of}
 use Rattle.quic_endpoint.specs.Ends.{EndState, with_counts_told_if}
 use Rattle.quic_endpoint.proofs.Told.{told-streams}
-use Rattle.quic_session.proofs.application.Session.tell_reset.Goals as goal
+use Rattle.quic_session.proofs.session.Session.tell_reset.Goals as goal
 
 pub returns-clause-tells : goal.returns-clause-tells
 returns-clause-tells c =

@@ -5,7 +5,7 @@ use Rattle.quic_streams.proofs.Results.{map_ok, map_err}
 use Rattle.quic_session.specs.Sessions.{end_of}
 use Rattle.quic_endpoint.specs.Ends.{EndState, with_counts_told, with_counts_told_if, is_opened}
 use Rattle.quic_endpoint.proofs.Told.{told-streams, told-reads}
-use Rattle.quic_session.proofs.application.Session.read_given.Goals as goal
+use Rattle.quic_session.proofs.session.Session.read_given.Goals as goal
 
 pub returns-clause-reads : goal.returns-clause-reads
 returns-clause-reads c =

@@ -5,7 +5,7 @@ use Rattle.quic_session.specs.Sessions.{end_of}
 use Rattle.quic_endpoint.specs.Ends.{EndState}
 use Rattle.quic_endpoint.specs.Receiving.{event_of, with_call_made}
 use Rattle.quic_endpoint.proofs.Told.{answer-streams, goes-on, event-fits}
-use Rattle.quic_session.proofs.receiving.Session.receive_stream_frame.Goals as goal
+use Rattle.quic_session.proofs.session.Session.receive_stream_frame.Goals as goal
 
 pub returns-clause-from : goal.returns-clause-from
 returns-clause-from c = λ m h f.

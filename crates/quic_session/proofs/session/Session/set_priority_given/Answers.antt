@@ -4,7 +4,7 @@ use Rattle.quic_history.specs.History.{Sending}
 use Rattle.quic_history.specs.SendEvents.{SetOwnPriority}
 use Rattle.quic_history.proofs.Histories.{next}
 use Rattle.quic_session.specs.Sessions.{end_of}
-use Rattle.quic_session.proofs.application.Session.set_priority_given.Goals as goal
+use Rattle.quic_session.proofs.session.Session.set_priority_given.Goals as goal
 
 pub returns-clause-from : goal.returns-clause-from
 unfolding end_of
