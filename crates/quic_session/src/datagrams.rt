@@ -42,14 +42,14 @@ pub enum DatagramEvent {
 #[tactic(auto, unfolding(crate::specs::Sessions::end_of))]
 impl Session {
     /// Queues a datagram.
-    pub fn send_datagram(&mut self, data: &[u8], drop_oldest: bool) -> Result<(), DatagramError>
-        ensures permitted { OnOk result (send_refusal self.old.limits self.old.datagrams.outgoing data.now drop_oldest ≡ None) }
-        ensures queued { OnOk result (self.new.datagrams ≡ record self.old.datagrams { outgoing = with_newest self.old.limits.send self.old.datagrams.outgoing (record { bytes = data.now }) }) }
+    pub fn send_datagram(&mut self, content: &[u8], drop_oldest: bool) -> Result<(), DatagramError>
+        ensures permitted { OnOk result (send_refusal self.old.limits self.old.datagrams.outgoing content.now drop_oldest ≡ None) }
+        ensures queued { OnOk result (self.new.datagrams ≡ record self.old.datagrams { outgoing = with_newest self.old.limits.send self.old.datagrams.outgoing (record { bytes = content.now }) }) }
         ensures end { end_of self.new ≡ end_of self.old }
         ensures conn { self.new.conn ≡ self.old.conn }
         ensures limits { self.new.limits ≡ self.old.limits }
     {
-        let Ok(bytes) = Bytes::copy_from_slice(self.alloc, data) else {
+        let Ok(bytes) = Bytes::copy_from_slice(self.alloc, content) else {
             return Err(DatagramError::OutOfMemory);
         };
         match Datagrams::new(&mut self.datagrams, self.limits).send(bytes, drop_oldest) {
