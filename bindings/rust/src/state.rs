@@ -1,0 +1,302 @@
+use crate::errors::*;
+use crate::streams::{RecvStream, SendStream};
+use crate::sys;
+use crate::values::*;
+use std::fmt;
+use std::ptr::null_mut;
+
+/// One end of a connection: its streams, its datagrams, and the payloads that it sent and has not heard of.
+pub struct StreamsState {
+    pub(crate) conn: sys::Conn,
+}
+
+// The session behind the handle has no state that is shared with another, or that belongs to a thread; a call needs
+// `&mut`, so no two run at once.
+unsafe impl Send for StreamsState {}
+
+impl Drop for StreamsState {
+    fn drop(&mut self) {
+        unsafe { sys::qs_conn_free(&mut self.conn) }
+    }
+}
+
+impl fmt::Debug for StreamsState {
+    fn fmt(&self, f: &mut fmt::Formatter<'_>) -> fmt::Result {
+        f.debug_struct("StreamsState").finish_non_exhaustive()
+    }
+}
+
+pub(crate) fn number(value: Option<u64>) -> u64 {
+    value.unwrap_or(sys::NONE)
+}
+
+// The answer of a call that wants memory alone.
+fn memory(answer: i32) -> Result<(), OutOfMemory> {
+    match answer {
+        sys::OK => Ok(()),
+        _ => Err(OutOfMemory),
+    }
+}
+
+impl StreamsState {
+    /// An end of which no stream is open, and that has nothing to send. Nothing may be sent until the peer's limits are
+    /// given by [`StreamsState::set_params`].
+    pub fn new(side: Side, config: &Config) -> Result<Self, ConfigError> {
+        let raw = sys::Config {
+            size: std::mem::size_of::<sys::Config>() as u32,
+            side: match side {
+                Side::Client => 0,
+                Side::Server => 1,
+            },
+            max_remote_uni: config.max_remote_uni,
+            max_remote_bidi: config.max_remote_bi,
+            send_window: config.send_window,
+            receive_window: config.receive_window,
+            stream_window: config.stream_window,
+            datagram_receive: number(config.datagram_receive),
+            datagram_send: config.datagram_send,
+        };
+        let mut made = StreamsState {
+            conn: sys::Conn {
+                live: 0,
+                at: null_mut(),
+            },
+        };
+        match unsafe { sys::qs_conn_open(&mut made.conn, &raw) } {
+            sys::OK => Ok(made),
+            sys::ARGUMENT => Err(ConfigError::OutOfRange),
+            _ => Err(ConfigError::OutOfMemory),
+        }
+    }
+
+    /// Takes the limits of the peer's transport parameters. For an early start (0-RTT) these are first the remembered
+    /// ones.
+    pub fn set_params(&mut self, limits: &Limits) -> Result<(), ConfigError> {
+        let raw = sys::PeerLimits {
+            initial_max_data: limits.initial_max_data,
+            initial_max_streams_bidi: limits.initial_max_streams_bidi,
+            initial_max_streams_uni: limits.initial_max_streams_uni,
+            initial_max_stream_data_uni: limits.initial_max_stream_data_uni,
+            initial_max_stream_data_bidi_local: limits.initial_max_stream_data_bidi_local,
+            initial_max_stream_data_bidi_remote: limits.initial_max_stream_data_bidi_remote,
+            max_datagram: number(limits.max_datagram),
+        };
+        match unsafe { sys::qs_set_peer_limits(&mut self.conn, &raw) } {
+            sys::OK => Ok(()),
+            sys::ARGUMENT => Err(ConfigError::OutOfRange),
+            _ => Err(ConfigError::OutOfMemory),
+        }
+    }
+
+    /// The connection is closed: no stream is opened and nothing is written any more. What was received can be read.
+    pub fn close(&mut self) {
+        unsafe { sys::qs_conn_close(&mut self.conn) };
+    }
+
+    /// Opens the next stream of a direction. `None`: as many were opened as the peer permits.
+    pub fn open(&mut self, dir: Dir) -> Result<Option<StreamId>, OutOfMemory> {
+        let mut id = 0;
+        match unsafe { sys::qs_stream_open(&mut self.conn, dir.number(), &mut id) } {
+            sys::OK => Ok(Some(StreamId(id))),
+            sys::DONE => Ok(None),
+            _ => Err(OutOfMemory),
+        }
+    }
+
+    /// Accepts the next stream of a direction that the peer opened, in the order of their ids.
+    pub fn accept(&mut self, dir: Dir) -> Option<StreamId> {
+        let mut id = 0;
+        match unsafe { sys::qs_stream_accept(&mut self.conn, dir.number(), &mut id) } {
+            sys::OK => Some(StreamId(id)),
+            _ => None,
+        }
+    }
+
+    /// The send half of a stream.
+    pub fn send_stream(&mut self, id: StreamId) -> SendStream<'_> {
+        SendStream { state: self, id }
+    }
+
+    /// The receive half of a stream.
+    pub fn recv_stream(&mut self, id: StreamId) -> RecvStream<'_> {
+        RecvStream { state: self, id }
+    }
+
+    /// What the application is to be told next, if there is something.
+    pub fn poll(&mut self) -> Option<Event> {
+        let mut event = sys::Event::default();
+        match unsafe { sys::qs_poll(&mut self.conn, &mut event) } {
+            sys::OK => Event::of(&event),
+            _ => None,
+        }
+    }
+
+    /// Takes a whole payload of the peer.
+    pub fn receive(&mut self, payload: &[u8]) -> Result<(), ReceiveError> {
+        self.receive_from(payload, 0)
+    }
+
+    /// The same from a frame on, where memory was wanting for it before.
+    pub fn receive_from(&mut self, payload: &[u8], first: usize) -> Result<(), ReceiveError> {
+        let (mut next, mut error) = (first, sys::Error::none());
+        let (data, len) = (payload.as_ptr(), payload.len());
+        match unsafe { sys::qs_receive(&mut self.conn, data, len, &mut next, &mut error) } {
+            sys::OK => Ok(()),
+            sys::PROTOCOL | sys::MALFORMED => {
+                let reason = &error.reason[..(error.reason_len as usize).min(80)];
+                Err(ReceiveError::Transport(TransportError {
+                    code: error.code,
+                    reason: String::from_utf8_lossy(reason).into_owned(),
+                }))
+            }
+            _ => Err(ReceiveError::OutOfMemory(next)),
+        }
+    }
+
+    /// Writes what is due into `out`. `None` where nothing that is due fits.
+    pub fn emit(&mut self, out: &mut [u8], what: Emit) -> Result<Option<Payload>, OutOfMemory> {
+        let mut payload = sys::Payload::default();
+        if what.parts() == 0 {
+            return Ok(None);
+        }
+        let answer = unsafe {
+            sys::qs_emit(
+                &mut self.conn,
+                what.parts(),
+                u32::from(what.fair),
+                out.as_mut_ptr(),
+                out.len(),
+                &mut payload,
+            )
+        };
+        match answer {
+            sys::OK => Ok(Some(Payload {
+                len: payload.len as usize,
+                token: Token(payload.token),
+                ends: payload.ends != 0,
+            })),
+            sys::DONE => Ok(None),
+            _ => Err(OutOfMemory),
+        }
+    }
+
+    /// The packet of a payload was acknowledged.
+    pub fn acked(&mut self, token: Token) -> Result<(), SettleError> {
+        settled(unsafe { sys::qs_acked(&mut self.conn, token.0) })
+    }
+
+    /// The packet of a payload is taken to be lost.
+    pub fn lost(&mut self, token: Token) -> Result<(), SettleError> {
+        settled(unsafe { sys::qs_lost(&mut self.conn, token.0) })
+    }
+
+    /// The peer rejected the early start of a client (RFC 9001 section 4.6.2): its streams are gone, as is all that was
+    /// sent and was to be sent. Give the peer's limits next.
+    pub fn zero_rtt_rejected(&mut self) {
+        unsafe { sys::qs_zero_rtt_rejected(&mut self.conn) };
+    }
+
+    /// All data of an early start are to be sent again, as after a Retry (RFC 9000 section 17.2.5). Frames beside data
+    /// are those of payloads: report these lost.
+    pub fn retransmit_all_for_0rtt(&mut self) -> Result<(), OutOfMemory> {
+        memory(unsafe { sys::qs_retransmit_all_for_0rtt(&mut self.conn) })
+    }
+
+    /// Sets how many bytes that were written are kept until they are acknowledged.
+    pub fn set_send_window(&mut self, window: u64) {
+        unsafe { sys::qs_set_send_window(&mut self.conn, window) };
+    }
+
+    /// Sets how many bytes of all streams may be received and not read, below 2^62.
+    pub fn set_receive_window(&mut self, window: u64) -> Result<(), ConfigError> {
+        match unsafe { sys::qs_set_receive_window(&mut self.conn, window) } {
+            sys::OK => Ok(()),
+            _ => Err(ConfigError::OutOfRange),
+        }
+    }
+
+    /// Sets how many streams of a direction the peer is to be able to use at a time, below 2^62.
+    pub fn set_max_concurrent(&mut self, dir: Dir, count: u64) -> Result<(), ConfigError> {
+        match unsafe { sys::qs_set_max_concurrent(&mut self.conn, dir.number(), count) } {
+            sys::OK => Ok(()),
+            sys::ARGUMENT => Err(ConfigError::OutOfRange),
+            _ => Err(ConfigError::OutOfMemory),
+        }
+    }
+
+    /// What the end tells of itself.
+    pub fn info(&mut self) -> Info {
+        let mut raw = sys::Info::default();
+        unsafe { sys::qs_get_info(&mut self.conn, &mut raw) };
+        Info {
+            local_max_data: raw.local_max_data,
+            data_received: raw.data_received,
+            write_limit: raw.write_limit,
+            send_streams: raw.send_streams,
+            remote_open_bi: raw.remote_open_bidi,
+            remote_open_uni: raw.remote_open_uni,
+            payloads: raw.payloads,
+            can_send_stream_data: raw.can_send_stream_data != 0,
+            has_pending: raw.has_pending != 0,
+        }
+    }
+
+    /// Queues a datagram. With `drop` the oldest that wait go until it fits.
+    pub fn send_datagram(&mut self, data: &[u8], drop: bool) -> Result<(), SendDatagramError> {
+        let (at, len) = (data.as_ptr(), data.len());
+        match unsafe { sys::qs_datagram_send(&mut self.conn, at, len, u32::from(drop)) } {
+            sys::OK => Ok(()),
+            sys::DATAGRAMS_OFF => Err(SendDatagramError::Disabled),
+            sys::TOO_LARGE => Err(SendDatagramError::TooLarge),
+            sys::BLOCKED => Err(SendDatagramError::Blocked),
+            _ => Err(SendDatagramError::OutOfMemory),
+        }
+    }
+
+    /// Takes the oldest received datagram out, if one waits.
+    pub fn recv_datagram(&mut self) -> Option<Vec<u8>> {
+        let mut data = Vec::new();
+        loop {
+            let mut count = 0;
+            let (at, cap) = (data.as_mut_ptr(), data.len());
+            match unsafe { sys::qs_datagram_recv(&mut self.conn, at, cap, &mut count) } {
+                sys::OK => {
+                    data.truncate(count);
+                    return Some(data);
+                }
+                sys::TOO_SMALL => data.resize(count, 0),
+                _ => return None,
+            }
+        }
+    }
+
+    /// The longest datagram that can be sent, or `None` where the peer takes none.
+    pub fn max_datagram_size(&mut self) -> Option<usize> {
+        let mut size = 0;
+        match unsafe { sys::qs_datagram_max_size(&mut self.conn, &mut size) } {
+            sys::OK => Some(size),
+            _ => None,
+        }
+    }
+
+    /// The longest datagram that can be queued now without a drop.
+    pub fn datagram_send_buffer_space(&mut self) -> usize {
+        let mut size = 0;
+        unsafe { sys::qs_datagram_send_space(&mut self.conn, &mut size) };
+        size
+    }
+
+    /// Sets the longest datagram that the path and the peer take, and drops those that wait and are longer.
+    pub fn set_max_datagram_size(&mut self, size: Option<u64>) {
+        unsafe { sys::qs_datagram_set_max_size(&mut self.conn, number(size)) };
+    }
+}
+
+// The answer of a report.
+fn settled(answer: i32) -> Result<(), SettleError> {
+    match answer {
+        sys::OK => Ok(()),
+        sys::TOKEN => Err(SettleError::UnknownToken),
+        _ => Err(SettleError::OutOfMemory),
+    }
+}

@@ -1,0 +1,213 @@
+use crate::errors::*;
+use crate::state::StreamsState;
+use crate::sys;
+use crate::values::StreamId;
+
+// The answer of a call on a stream.
+fn answered(answer: i32) -> Result<(), StreamError> {
+    match answer {
+        sys::OK => Ok(()),
+        sys::NO_STREAM => Err(StreamError::ClosedStream),
+        sys::ARGUMENT => Err(StreamError::OutOfRange),
+        _ => Err(StreamError::OutOfMemory),
+    }
+}
+
+/// The send half of a stream.
+#[derive(Debug)]
+pub struct SendStream<'a> {
+    pub(crate) state: &'a mut StreamsState,
+    pub(crate) id: StreamId,
+}
+
+impl SendStream<'_> {
+    /// Writes the first of `data`, and says how many: the least of what there is and of what the limits of the peer and
+    /// the send window leave.
+    pub fn write(&mut self, data: &[u8]) -> Result<usize, WriteError> {
+        let (mut written, mut code) = (0, 0);
+        let answer = unsafe {
+            sys::qs_stream_write(
+                &mut self.state.conn,
+                self.id.0,
+                data.as_ptr(),
+                data.len(),
+                &mut written,
+                &mut code,
+            )
+        };
+        match answer {
+            sys::OK => Ok(written),
+            sys::BLOCKED => Err(WriteError::Blocked),
+            sys::STOPPED => Err(WriteError::Stopped(code)),
+            sys::NO_STREAM | sys::ARGUMENT => Err(WriteError::ClosedStream),
+            _ => Err(WriteError::OutOfMemory),
+        }
+    }
+
+    /// Ends the stream: nothing more is written, and its end is sent.
+    pub fn finish(&mut self) -> Result<(), FinishError> {
+        let mut code = 0;
+        match unsafe { sys::qs_stream_finish(&mut self.state.conn, self.id.0, &mut code) } {
+            sys::OK => Ok(()),
+            sys::STOPPED => Err(FinishError::Stopped(code)),
+            sys::NO_STREAM | sys::ARGUMENT => Err(FinishError::ClosedStream),
+            _ => Err(FinishError::OutOfMemory),
+        }
+    }
+
+    /// Gives the stream up: what was not acknowledged is let go, and RESET_STREAM is sent.
+    pub fn reset(&mut self, error_code: u64) -> Result<(), StreamError> {
+        answered(unsafe { sys::qs_stream_reset(&mut self.state.conn, self.id.0, error_code) })
+    }
+
+    /// The code with which the peer asked to send no more, if it did.
+    pub fn stopped(&mut self) -> Result<Option<u64>, StreamError> {
+        let mut code = 0;
+        match unsafe { sys::qs_stream_stopped(&mut self.state.conn, self.id.0, &mut code) } {
+            sys::OK => Ok(Some(code)),
+            sys::DONE => Ok(None),
+            answer => Err(answered(answer).err().unwrap_or(StreamError::ClosedStream)),
+        }
+    }
+
+    /// Sets the priority of the stream: those of a higher number are sent on first. It is 0 at first.
+    pub fn set_priority(&mut self, priority: i32) -> Result<(), StreamError> {
+        answered(unsafe { sys::qs_stream_set_priority(&mut self.state.conn, self.id.0, priority) })
+    }
+
+    /// The priority that was set last.
+    pub fn priority(&mut self) -> Result<i32, StreamError> {
+        let mut priority = 0;
+        answered(unsafe {
+            sys::qs_stream_priority(&mut self.state.conn, self.id.0, &mut priority)
+        })?;
+        Ok(priority)
+    }
+}
+
+/// Bytes that a read gave, and where they stand in the stream.
+#[derive(Clone, Debug, PartialEq, Eq)]
+pub struct Chunk {
+    /// The offset of the first byte.
+    pub offset: u64,
+    /// The bytes.
+    pub bytes: Vec<u8>,
+}
+
+/// The receive half of a stream.
+#[derive(Debug)]
+pub struct RecvStream<'a> {
+    pub(crate) state: &'a mut StreamsState,
+    pub(crate) id: StreamId,
+}
+
+impl<'a> RecvStream<'a> {
+    /// Reads the next bytes in order into `out`, which may not be empty, and says how many, at least one. `None` at the
+    /// end of the stream. More may be at hand afterwards, until this is [`ReadError::Blocked`].
+    ///
+    /// # Panics
+    ///
+    /// Where `out` is empty.
+    pub fn read(&mut self, out: &mut [u8]) -> Result<Option<usize>, ReadError> {
+        assert!(!out.is_empty(), "a read needs room");
+        Ok(self.read_at(out, true)?.map(|(count, _)| count))
+    }
+
+    /// The chunks of the stream, in order or as they came. There is no way back from unordered reads.
+    ///
+    /// ```
+    /// # use quic_streams::{Config, Dir, Emit, Limits, ReadError, Side, StreamsState};
+    /// # fn main() -> Result<(), Box<dyn std::error::Error>> {
+    /// # let config = Config::default();
+    /// # let mut client = StreamsState::new(Side::Client, &config)?;
+    /// # let mut server = StreamsState::new(Side::Server, &config)?;
+    /// # client.set_params(&Limits::of(&config))?;
+    /// # let id = client.open(Dir::Uni)?.unwrap();
+    /// # client.send_stream(id).write(b"hello")?;
+    /// # let mut packet = [0; 100];
+    /// # let payload = client.emit(&mut packet, Emit::default())?.unwrap();
+    /// # server.receive(&packet[..payload.len])?;
+    /// # server.accept(Dir::Uni);
+    /// let mut stream = server.recv_stream(id);
+    /// let mut chunks = stream.chunks(false);
+    /// let chunk = chunks.next(3)?.expect("bytes came");
+    /// assert_eq!((chunk.offset, chunk.bytes.as_slice()), (0, &b"hel"[..]));
+    /// assert_eq!(chunks.next(3)?.expect("more came").bytes, b"lo");
+    /// assert_eq!(chunks.next(3), Err(ReadError::Blocked));
+    /// # Ok(())
+    /// # }
+    /// ```
+    pub fn chunks(&mut self, ordered: bool) -> Chunks<'_, 'a> {
+        Chunks {
+            stream: self,
+            ordered,
+        }
+    }
+
+    /// Asks the peer to send no more, and lets go what was not read.
+    pub fn stop(&mut self, error_code: u64) -> Result<(), StreamError> {
+        answered(unsafe { sys::qs_stream_stop(&mut self.state.conn, self.id.0, error_code) })
+    }
+
+    /// The code with which the peer gave the stream up, if it did. Then the half is closed.
+    pub fn received_reset(&mut self) -> Result<Option<u64>, StreamError> {
+        let mut code = 0;
+        let answer =
+            unsafe { sys::qs_stream_received_reset(&mut self.state.conn, self.id.0, &mut code) };
+        match answer {
+            sys::OK => Ok(Some(code)),
+            sys::DONE => Ok(None),
+            answer => Err(answered(answer).err().unwrap_or(StreamError::ClosedStream)),
+        }
+    }
+
+    // How many bytes were read, and where they stand.
+    fn read_at(
+        &mut self,
+        out: &mut [u8],
+        ordered: bool,
+    ) -> Result<Option<(usize, u64)>, ReadError> {
+        let (mut count, mut offset, mut code) = (0, 0, 0);
+        let (conn, id) = (&mut self.state.conn, self.id.0);
+        let (at, cap) = (out.as_mut_ptr(), out.len());
+        let answer = unsafe {
+            if ordered {
+                sys::qs_stream_read(conn, id, at, cap, &mut count, &mut offset, &mut code)
+            } else {
+                sys::qs_stream_read_unordered(conn, id, at, cap, &mut count, &mut offset, &mut code)
+            }
+        };
+        match answer {
+            sys::OK => Ok(Some((count, offset))),
+            sys::END => Ok(None),
+            sys::BLOCKED => Err(ReadError::Blocked),
+            sys::RESET => Err(ReadError::Reset(code)),
+            sys::ORDER => Err(ReadError::IllegalOrderedRead),
+            sys::NO_STREAM | sys::ARGUMENT => Err(ReadError::ClosedStream),
+            _ => Err(ReadError::OutOfMemory),
+        }
+    }
+}
+
+/// The chunks of a stream.
+#[derive(Debug)]
+pub struct Chunks<'a, 'b> {
+    stream: &'a mut RecvStream<'b>,
+    ordered: bool,
+}
+
+impl Chunks<'_, '_> {
+    /// The next chunk, of at most `max_length` bytes, at least 1 and at most 65536 counted. `None` at the end of the
+    /// stream.
+    #[allow(clippy::should_implement_trait)]
+    pub fn next(&mut self, max_length: usize) -> Result<Option<Chunk>, ReadError> {
+        let mut bytes = vec![0; max_length.clamp(1, 1 << 16)];
+        match self.stream.read_at(&mut bytes, self.ordered)? {
+            None => Ok(None),
+            Some((count, offset)) => {
+                bytes.truncate(count);
+                Ok(Some(Chunk { offset, bytes }))
+            }
+        }
+    }
+}

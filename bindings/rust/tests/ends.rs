@@ -1,0 +1,171 @@
+//! Two ends, whose payloads are handed over as each test says.
+
+use quic_streams::{
+    Config, ConfigError, Dir, Emit, Event, Limits, ReadError, ReceiveError, SendDatagramError,
+    SettleError, Side, StreamError, StreamId, StreamsState, WriteError,
+};
+use std::error::Error;
+
+type Result<T> = std::result::Result<T, Box<dyn Error>>;
+
+fn ends() -> Result<(StreamsState, StreamsState)> {
+    let config = Config::default();
+    let mut made = [Side::Client, Side::Server].map(|side| StreamsState::new(side, &config));
+    for end in made.iter_mut().flatten() {
+        end.set_params(&Limits::of(&config))?;
+    }
+    let [a, b] = made;
+    Ok((a?, b?))
+}
+
+/// Hands all that is due over, and acknowledges it. The answer is how many payloads there were.
+fn exchange(from: &mut StreamsState, to: &mut StreamsState) -> Result<usize> {
+    let mut count = 0;
+    let mut packet = [0; 1200];
+    while let Some(payload) = from.emit(&mut packet, Emit::default())? {
+        to.receive(&packet[..payload.len])?;
+        from.acked(payload.token)?;
+        count += 1;
+    }
+    Ok(count)
+}
+
+#[test]
+fn an_end_may_move_to_another_thread() -> Result<()> {
+    let (mut a, _) = ends()?;
+    let id = a.open(Dir::Bi)?.unwrap();
+    let written = std::thread::spawn(move || a.send_stream(id).write(b"hello")).join();
+    assert_eq!(written.unwrap(), Ok(5));
+    Ok(())
+}
+
+#[test]
+fn a_payload_is_settled_once() -> Result<()> {
+    let (mut a, _) = ends()?;
+    let id = a.open(Dir::Uni)?.unwrap();
+    a.send_stream(id).write(b"hello")?;
+    let mut packet = [0; 100];
+    let payload = a.emit(&mut packet, Emit::default())?.unwrap();
+    assert_eq!(&packet[..payload.len], b"\x0a\x02\x05hello");
+    assert!(!payload.ends);
+    a.lost(payload.token)?;
+    assert_eq!(a.acked(payload.token), Err(SettleError::UnknownToken));
+    let again = a.emit(&mut packet, Emit::default())?.unwrap();
+    assert_ne!(again.token, payload.token);
+    assert_eq!(&packet[..again.len], b"\x0a\x02\x05hello");
+    Ok(())
+}
+
+#[test]
+fn much_goes_through() -> Result<()> {
+    let (mut a, mut b) = ends()?;
+    let id = a.open(Dir::Uni)?.unwrap();
+    let text: Vec<u8> = (0..3_000_000u32).map(|at| (at % 251) as u8).collect();
+    let (mut left, mut read) = (text.as_slice(), Vec::new());
+    let mut buffer = [0; 5000];
+    loop {
+        match a.send_stream(id).write(left) {
+            Ok(count) => left = &left[count..],
+            Err(WriteError::Blocked) => {}
+            Err(error) => return Err(error.into()),
+        }
+        if left.is_empty() {
+            a.send_stream(id).finish()?;
+        }
+        exchange(&mut a, &mut b)?;
+        b.accept(Dir::Uni);
+        let end = loop {
+            match b.recv_stream(id).read(&mut buffer) {
+                Ok(Some(count)) => read.extend_from_slice(&buffer[..count]),
+                Ok(None) => break true,
+                Err(ReadError::Blocked) => break false,
+                Err(error) => return Err(error.into()),
+            }
+        };
+        if end {
+            break;
+        }
+        exchange(&mut b, &mut a)?;
+    }
+    assert!(read == text);
+    Ok(())
+}
+
+#[test]
+fn streams_end_early() -> Result<()> {
+    let (mut a, mut b) = ends()?;
+    let id = a.open(Dir::Bi)?.unwrap();
+    a.send_stream(id).write(b"hello")?;
+    exchange(&mut a, &mut b)?;
+    assert_eq!(b.poll(), Some(Event::Opened { dir: Dir::Bi }));
+    assert_eq!(b.accept(Dir::Bi), Some(id));
+    b.recv_stream(id).stop(7)?;
+    exchange(&mut b, &mut a)?;
+    let stopped = Event::Stopped { id, error_code: 7 };
+    assert_eq!(a.poll(), Some(stopped));
+    assert_eq!(a.send_stream(id).stopped()?, Some(7));
+    assert_eq!(
+        a.send_stream(id).write(b"more"),
+        Err(WriteError::Stopped(7))
+    );
+    b.send_stream(id).reset(9)?;
+    exchange(&mut b, &mut a)?;
+    assert_eq!(a.recv_stream(id).received_reset()?, Some(9));
+    assert_eq!(
+        a.recv_stream(id).received_reset(),
+        Err(StreamError::ClosedStream)
+    );
+    Ok(())
+}
+
+#[test]
+fn datagrams() -> Result<()> {
+    let (mut a, mut b) = ends()?;
+    a.send_datagram(b"news", false)?;
+    a.send_datagram(b"", false)?;
+    let long = [0; 1201];
+    assert_eq!(
+        a.send_datagram(&long, false),
+        Err(SendDatagramError::TooLarge)
+    );
+    exchange(&mut a, &mut b)?;
+    assert_eq!(b.poll(), Some(Event::DatagramReceived));
+    assert_eq!(b.recv_datagram().as_deref(), Some(&b"news"[..]));
+    assert_eq!(b.recv_datagram().as_deref(), Some(&b""[..]));
+    assert_eq!(b.recv_datagram(), None);
+    Ok(())
+}
+
+#[test]
+fn a_peer_that_breaks_the_protocol_is_told_so() -> Result<()> {
+    let (_, mut b) = ends()?;
+    let Err(ReceiveError::Transport(error)) = b.receive(b"\x0a\x03\x01x") else {
+        panic!("a stream that only this end may write was taken");
+    };
+    assert_eq!(error.code, 5); // STREAM_STATE_ERROR
+    assert!(!error.reason.is_empty());
+    assert!(error.to_string().contains(&error.reason));
+    Ok(())
+}
+
+#[test]
+fn numbers_above_their_bounds_are_refused() -> Result<()> {
+    let mut config = Config::default();
+    config.stream_window = 1 << 62;
+    let refused = StreamsState::new(Side::Client, &config).err();
+    assert_eq!(refused, Some(ConfigError::OutOfRange));
+    let (mut a, _) = ends()?;
+    let id = a.open(Dir::Uni)?.unwrap();
+    assert_eq!(
+        a.send_stream(id).reset(1 << 62),
+        Err(StreamError::OutOfRange)
+    );
+    let unknown = StreamId(u64::MAX);
+    assert_eq!(
+        a.send_stream(unknown).write(b"x"),
+        Err(WriteError::ClosedStream)
+    );
+    a.close();
+    assert_eq!(a.open(Dir::Uni)?, None);
+    Ok(())
+}

@@ -1,0 +1,127 @@
+//! Datagrams of a session (RFC 9221).
+
+ghost use Rattle.std.specs.Prelude.{◌≡◌, OnOk, None};
+ghost use Rattle.quic_datagrams.specs.Sending.{send_refusal};
+ghost use Rattle.quic_datagrams.specs.Queue.{with_newest};
+ghost use Rattle.quic_session.specs.Sessions.{end_of};
+
+use crate::session::Session;
+use quic_datagrams::{Datagrams, SendDatagramError};
+use quic_values::Bytes;
+use thiserror::Error;
+
+/// Why a datagram was not queued.
+#[derive(Clone, Copy, Debug, Error, PartialEq, Eq)]
+pub enum DatagramError {
+    /// The peer takes none.
+    #[error("datagrams not supported by peer")]
+    UnsupportedByPeer,
+    #[doc = "They are off here."]
+    #[error("datagram support disabled")]
+    Disabled,
+    /// It is too long.
+    #[error("datagram too large")]
+    TooLarge,
+    /// Others wait, and leave no room.
+    #[error("datagram send blocked")]
+    Blocked,
+    /// There was no memory.
+    #[error("out of memory")]
+    OutOfMemory,
+}
+
+/// What is to be told of datagrams.
+#[derive(Clone, Copy, Debug, PartialEq, Eq)]
+pub enum DatagramEvent {
+    /// One can be read.
+    Received,
+    /// One can be queued again.
+    Unblocked,
+}
+
+#[tactic(auto, unfolding(crate::specs::Sessions::end_of))]
+impl Session {
+    /// Queues a datagram.
+    pub fn send_datagram(&mut self, content: &[u8], drop_oldest: bool) -> Result<(), DatagramError>
+        ensures permitted { OnOk result (send_refusal self.old.limits self.old.datagrams.outgoing content.now drop_oldest ≡ None) }
+        ensures queued { OnOk result (self.new.datagrams ≡ record self.old.datagrams { outgoing = with_newest self.old.limits.send self.old.datagrams.outgoing (record { bytes = content.now }) }) }
+        ensures end { end_of self.new ≡ end_of self.old }
+        ensures conn { self.new.conn ≡ self.old.conn }
+        ensures limits { self.new.limits ≡ self.old.limits }
+    {
+        let Ok(bytes) = Bytes::copy_from_slice(self.alloc, content) else {
+            return Err(DatagramError::OutOfMemory);
+        };
+        match Datagrams::new(&mut self.datagrams, self.limits).send(bytes, drop_oldest) {
+            Ok(()) => Ok(()),
+            Err(SendDatagramError::UnsupportedByPeer) => Err(DatagramError::UnsupportedByPeer),
+            Err(SendDatagramError::Disabled) => Err(DatagramError::Disabled),
+            Err(SendDatagramError::TooLarge) => Err(DatagramError::TooLarge),
+            Err(SendDatagramError::Blocked(_)) => Err(DatagramError::Blocked),
+            Err(SendDatagramError::OutOfMemory(_)) => Err(DatagramError::OutOfMemory),
+        }
+    }
+
+    /// How many bytes the oldest received datagram has, if one waits.
+    pub fn datagram_length(&mut self) -> Option<usize>
+        ensures end { end_of self.new ≡ end_of self.old }
+    {
+        if self.waiting.is_none() {
+            self.waiting = self.datagrams.recv();
+        }
+        match &self.waiting {
+            Some(bytes) => Some(bytes.len()),
+            None => None,
+        }
+    }
+
+    /// Takes the oldest received datagram out, if one waits.
+    pub fn recv_datagram(&mut self) -> Option<Bytes>
+        ensures end { end_of self.new ≡ end_of self.old }
+    {
+        match self.waiting.take() {
+            Some(bytes) => Some(bytes),
+            None => self.datagrams.recv(),
+        }
+    }
+
+    /// The greatest length of a datagram, or `None` where the peer takes none.
+    pub fn max_datagram(&self) -> Option<usize>
+        ensures { result ≡ self.now.limits.max }
+    {
+        self.limits.max
+    }
+
+    /// The greatest length that can be queued now without a drop, if it is above 0.
+    pub fn datagram_send_space(&mut self) -> usize
+        ensures end { end_of self.new ≡ end_of self.old }
+    {
+        Datagrams::new(&mut self.datagrams, self.limits).send_buffer_space()
+    }
+
+    /// Sets the greatest length that the path and the peer take, and drops what waits and is longer.
+    pub fn set_max_datagram(&mut self, max: Option<usize>)
+        ensures end { end_of self.new ≡ end_of self.old }
+    {
+        self.limits.max = max;
+        let unblocked = Datagrams::new(&mut self.datagrams, self.limits).drop_oversized();
+        if unblocked {
+            self.told_room = false;
+        }
+    }
+
+    /// What is to be told of datagrams next, if there is something.
+    pub fn poll_datagrams(&mut self) -> Option<DatagramEvent>
+        ensures end { end_of self.new ≡ end_of self.old }
+    {
+        if !self.told_received {
+            self.told_received = true;
+            return Some(DatagramEvent::Received);
+        }
+        if !self.told_room {
+            self.told_room = true;
+            return Some(DatagramEvent::Unblocked);
+        }
+        None
+    }
+}

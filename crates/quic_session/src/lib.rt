@@ -1,0 +1,14 @@
+//! One end of a connection for a host that is not written in Rattle: its streams, its datagrams, and the payloads that
+//! it sent and has not heard of.
+#![tactic(auto)]
+
+pub mod application;
+pub mod datagrams;
+pub mod emitting;
+pub mod receiving;
+pub mod sent;
+pub mod session;
+pub mod settling;
+pub mod unsettled;
+
+pub use session::Session;

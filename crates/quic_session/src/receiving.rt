@@ -1,0 +1,225 @@
+//! Frames and payloads of the peer that come to a session.
+
+ghost use Rattle.std.specs.Prelude.{List, ◌≡◌, ◌≤◌, ◌∷◌, OnOk, OnErr};
+ghost use Rattle.quic_history.specs.World.{Made};
+ghost use Rattle.quic_history.specs.History.{Event, From};
+ghost use Rattle.quic_endpoint.specs.Receiving.{data_length, event_of, with_call_made, MakesCall, MayAnswer, with_answer_told, ReceivesAt};
+ghost use Rattle.quic_session.specs.Sessions.{end_of, datagrams_of};
+
+use crate::session::Session;
+use quic_receiving::ShouldTransmit;
+use quic_wire::frame::{Datagram, StopSending};
+use quic_wire::{DecodeError, Frame, ReceiveError, TransportError, decode_owned};
+use thiserror::Error;
+
+/// Why a payload was not taken to its end.
+#[derive(Clone, Copy, Debug, Error, PartialEq, Eq)]
+pub enum PayloadError {
+    /// Its bytes are no frames: the connection is to be closed with FRAME_ENCODING_ERROR (RFC 9000 section 12.4).
+    #[error("malformed frame")]
+    Malformed,
+    /// A frame breaks the protocol: the connection is to be closed.
+    #[error(transparent)]
+    Transport(TransportError),
+    /// There was no memory.
+    #[error("out of memory")]
+    OutOfMemory,
+}
+
+/// What came of a payload.
+#[derive(Clone, Copy, Debug, PartialEq, Eq)]
+pub struct Received {
+    /// The place of the first frame that was not taken.
+    pub next: usize,
+    /// Why it was not, if there is one.
+    pub answer: Result<(), PayloadError>,
+}
+
+#[tactic(auto, unfolding(crate::specs::Sessions::end_of))]
+impl Session {
+    /// Takes a whole payload (RFC 9000 section 12.4), from the frame at place `first` on, until one is refused. Where
+    /// memory was wanting, the call can be made again from the frame that was refused.
+    pub fn receive(&mut self, payload: &[u8], first: usize) -> Received {
+        let Ok(bytes) = Vec::from_slice(self.alloc, payload) else {
+            return Received {
+                next: first,
+                answer: Err(PayloadError::OutOfMemory),
+            };
+        };
+        match decode_owned(self.alloc, bytes) {
+            Ok(frames) => self.receive_frames(frames, payload.len(), first),
+            Err(DecodeError::Malformed) => Received {
+                next: first,
+                answer: Err(PayloadError::Malformed),
+            },
+            Err(DecodeError::OutOfMemory) => Received {
+                next: first,
+                answer: Err(PayloadError::OutOfMemory),
+            },
+        }
+    }
+
+    // Takes the frames of a payload, from a place on.
+    fn receive_frames(&mut self, frames: Vec<Frame>, payload_len: usize, first: usize) -> Received {
+        let mut next: usize = 0;
+        for frame in frames {
+            if next < first {
+                next = next.saturating_add(1);
+                continue;
+            }
+            if let Err(error) = self.receive_frame_within(frame, payload_len) {
+                match error {
+                    ReceiveError::Transport(error) => {
+                        return Received {
+                            next,
+                            answer: Err(PayloadError::Transport(error)),
+                        };
+                    }
+                    ReceiveError::OutOfMemory => {
+                        return Received {
+                            next,
+                            answer: Err(PayloadError::OutOfMemory),
+                        };
+                    }
+                    ReceiveError::CompactionMemory => {}
+                }
+            }
+            next = next.saturating_add(1);
+        }
+        Received {
+            next,
+            answer: Ok(()),
+        }
+    }
+
+    /// The same as [`Session::receive_frame`], for any length: one below that of the data counts as that of the data.
+    pub fn receive_frame_within(
+        &mut self,
+        frame: Frame,
+        payload_len: usize,
+    ) -> Result<ShouldTransmit, ReceiveError> {
+        let length = payload_len.max(data_length(&frame));
+        self.receive_frame(frame, length)
+    }
+
+    /// Takes a frame of the peer that came in a payload of so many bytes (RFC 9000 section 19): data, a reset, a stop and
+    /// limits are handed to the streams, a datagram is kept, any other frame changes nothing. Where the answer asks for
+    /// MAX_DATA it is queued, and MAX_STREAMS where it is due, unless memory was wanting.
+    pub fn receive_frame(
+        &mut self,
+        frame: Frame,
+        payload_len: usize,
+    ) -> Result<ShouldTransmit, ReceiveError>
+        requires { data_length frame ≤ payload_len }
+    {
+        match frame {
+            Frame::Datagram(datagram) => self.receive_datagram(datagram),
+            frame => self.receive_stream_frame(frame, payload_len),
+        }
+    }
+
+    // Takes a datagram (RFC 9221 section 4).
+    fn receive_datagram(&mut self, datagram: Datagram) -> Result<ShouldTransmit, ReceiveError>
+        ensures end { end_of self.new ≡ end_of self.old }
+        ensures conn { self.new.conn ≡ self.old.conn }
+    {
+        let was_empty = self.datagrams.received(datagram, &self.limits.receive)?;
+        if was_empty {
+            self.told_received = false;
+        }
+        Ok(ShouldTransmit(false))
+    }
+
+    // Takes a frame that is no datagram.
+    fn receive_stream_frame(
+        &mut self,
+        frame: Frame,
+        payload_len: usize,
+    ) -> Result<ShouldTransmit, ReceiveError>
+        requires { data_length frame ≤ payload_len }
+        ensures receives { ReceivesAt (end_of self.old) frame result (end_of self.new) }
+        ensures from { (m : Made) (h : List Event) → From m h (end_of self.old).streams → From m (with_call_made (event_of frame result) h) (end_of self.new).streams }
+        ensures conn { self.new.conn ≡ self.old.conn }
+        ensures datagrams { datagrams_of self.new ≡ datagrams_of self.old }
+    {
+        let answer = self.take_frame(frame, payload_len);
+        self.tell_answer(&answer);
+        answer
+    }
+
+    // The same, but for what is queued.
+    fn take_frame(
+        &mut self,
+        frame: Frame,
+        payload_len: usize,
+    ) -> Result<ShouldTransmit, ReceiveError>
+        requires { data_length frame ≤ payload_len }
+        ensures call { MakesCall (end_of self.old).streams (event_of frame result) (end_of self.new).streams }
+        ensures pending { (end_of self.new).pending ≡ (end_of self.old).pending }
+        ensures may { MayAnswer frame result }
+        ensures conn { self.new.conn ≡ self.old.conn }
+        ensures datagrams { datagrams_of self.new ≡ datagrams_of self.old }
+    {
+        match frame {
+            Frame::Stream(frame) => self.streams.received(frame, payload_len),
+            Frame::ResetStream(frame) => self.streams.received_reset(frame),
+            Frame::StopSending(frame) => self.take_stop(&frame),
+            Frame::MaxData(limit) => {
+                self.streams.received_max_data(limit);
+                Ok(ShouldTransmit(false))
+            }
+            Frame::MaxStreamData { id, offset } => {
+                self.streams.received_max_stream_data(id, offset)?;
+                Ok(ShouldTransmit(false))
+            }
+            Frame::MaxStreams { dir, count } => {
+                self.streams.received_max_streams(dir, count)?;
+                Ok(ShouldTransmit(false))
+            }
+            _ => Ok(ShouldTransmit(false)),
+        }
+    }
+
+    // STOP_SENDING is handed to the streams.
+    fn take_stop(&mut self, frame: &StopSending) -> Result<ShouldTransmit, ReceiveError>
+        ensures call { MakesCall (end_of self.old).streams (event_of (Frame.StopSending frame.now) result) (end_of self.new).streams }
+        ensures pending { (end_of self.new).pending ≡ (end_of self.old).pending }
+        ensures may { MayAnswer (Frame.StopSending frame.now) result }
+        ensures conn { self.new.conn ≡ self.old.conn }
+        ensures datagrams { datagrams_of self.new ≡ datagrams_of self.old }
+    {
+        match self
+            .streams
+            .received_stop_sending(frame.id, frame.error_code)
+        {
+            Ok(()) => Ok(ShouldTransmit(false)),
+            Err(_) => Err(ReceiveError::OutOfMemory),
+        }
+    }
+
+    // What an answer asks for is queued.
+    fn tell_answer(&mut self, answer: &Result<ShouldTransmit, ReceiveError>)
+        ensures told { end_of self.new ≡ with_answer_told answer.now (end_of self.old) }
+        ensures conn { self.new.conn ≡ self.old.conn }
+        ensures datagrams { datagrams_of self.new ≡ datagrams_of self.old }
+    {
+        match answer {
+            Err(ReceiveError::OutOfMemory) => {}
+            Err(_) => self.tell_counts_if(true),
+            Ok(transmit) => {
+                self.pending.queue_max_data(transmit.should_transmit());
+                self.tell_counts_if(true);
+            }
+        }
+    }
+}
+
+// How many bytes of data a frame has.
+fn data_length(frame: &Frame) -> usize
+    ensures { result ≡ data_length frame.now }
+{
+    match frame {
+        Frame::Stream(stream) => stream.bytes.len(),
+        _ => 0,
+    }
+}

@@ -1,0 +1,200 @@
+//! A session, and what its host sets.
+
+ghost use Rattle.std.specs.Prelude.{ℕ, List, ◌∷◌, [], ◌≡◌, ◌≤◌, ◌^◌, IfOk, None, nat_lt};
+ghost use Rattle.quic_history.specs.World.{Made, made_with, start};
+ghost use Rattle.quic_history.specs.History.{Event, Sending, Resized, SetConcurrent, From};
+ghost use Rattle.quic_history.specs.SendEvents.{GaveLimits, SetWindow, Polled};
+ghost use Rattle.quic_history.specs.Sends.{with_out, TellsNext};
+ghost use Rattle.quic_limits.specs.SendingCredit.{with_window};
+ghost use Rattle.quic_outgoing.specs.Outgoing.{with_params};
+ghost use Rattle.quic_retransmits.specs.Pending.{nothing};
+ghost use Rattle.quic_streams.specs.Shown.{shown};
+ghost use Rattle.quic_endpoint.specs.Ends.{with_world, with_counts_told_if, with_window_set, SetsConcurrentAt};
+ghost use Rattle.quic_session.specs.Sessions.{end_of, datagrams_of};
+
+use crate::unsettled::Unsettled;
+use quic_datagrams::{DatagramLimits, DatagramState};
+use quic_streams::state::StreamsState;
+use quic_streams::streams::{ConnState, Streams};
+use quic_streams::{PeerLimits, PendingFrames, Retransmits};
+use quic_values::{Bytes, Dir, OutOfMemory, Side, VarInt};
+use quic_wire::StreamEvent;
+use std::alloc::Global;
+
+/// What a session begins with.
+#[derive(Clone, Copy, Debug, PartialEq, Eq)]
+pub struct Config {
+    pub side: Side,
+    /// How many unidirectional streams the peer may open at first, at most 2^60.
+    pub max_remote_uni: VarInt,
+    /// The same of bidirectional streams.
+    pub max_remote_bi: VarInt,
+    /// How many bytes that were written are kept at most until they are acknowledged.
+    pub send_window: u64,
+    /// How many bytes of all streams may be received and not read.
+    pub receive_window: VarInt,
+    /// The same of each stream.
+    pub stream_window: VarInt,
+    /// What is permitted of datagrams.
+    pub datagrams: DatagramLimits,
+}
+
+/// One end of a connection, for a host that lays out packets, detects losses and encrypts.
+#[derive(Drop)]
+pub struct Session {
+    pub(crate) streams: StreamsState,
+    pub(crate) pending: Retransmits,
+    pub(crate) conn: ConnState,
+    pub(crate) datagrams: DatagramState,
+    pub(crate) limits: DatagramLimits,
+    // A datagram that was received, and was too long for the host's buffer.
+    pub(crate) waiting: Option<Bytes>,
+    // Whether nothing is to be told of a received datagram, and of room for one to be sent.
+    pub(crate) told_received: bool,
+    pub(crate) told_room: bool,
+    pub(crate) unsettled: Unsettled,
+    pub(crate) alloc: Global,
+}
+
+#[tactic(auto, unfolding(crate::specs::Sessions::end_of))]
+impl Session {
+    /// A session of which no stream is open, and that has nothing to send.
+    pub fn new(alloc: Global, config: &Config) -> Result<Self, OutOfMemory>
+        requires uni { config.now.max_remote_uni ≤ 2 ^ 60 }
+        requires bi { config.now.max_remote_bi ≤ 2 ^ 60 }
+        ensures start { IfOk result (λ s. end_of s ≡ record { streams = start (made_with config.now.side config.now.max_remote_uni config.now.max_remote_bi config.now.send_window config.now.receive_window config.now.stream_window); pending = nothing }) }
+        ensures from { IfOk result (λ s. From (made_with config.now.side config.now.max_remote_uni config.now.max_remote_bi config.now.send_window config.now.receive_window config.now.stream_window) [] (end_of s).streams) }
+        ensures begun { IfOk result (λ s. s.conn ≡ ConnState.Open) }
+        ensures limits { IfOk result (λ s. s.limits ≡ config.now.datagrams) }
+        ensures waiting { IfOk result (λ s. s.waiting ≡ None) }
+    {
+        let streams = StreamsState::new(
+            alloc,
+            config.side,
+            config.max_remote_uni,
+            config.max_remote_bi,
+            config.send_window,
+            config.receive_window,
+            config.stream_window,
+        )?;
+        Ok(Session {
+            streams,
+            pending: Retransmits::new(alloc),
+            conn: ConnState::Open,
+            datagrams: DatagramState::new(alloc),
+            limits: config.datagrams,
+            waiting: None,
+            told_received: true,
+            told_room: true,
+            unsettled: Unsettled::new(alloc),
+            alloc,
+        })
+    }
+
+    /// Takes the limits of the peer's transport parameters (RFC 9000 section 7.4).
+    pub fn set_params(&mut self, params: &PeerLimits)
+        ensures params { end_of self.new ≡ with_world (end_of self.old) (with_out (end_of self.old).streams (with_params (end_of self.old).streams.out params.now)) }
+        ensures from { (m : Made) (h : List Event) → From m h (end_of self.old).streams → From m (Sending (GaveLimits params.now) ∷ h) (end_of self.new).streams }
+        ensures conn { self.new.conn ≡ self.old.conn }
+        ensures datagrams { datagrams_of self.new ≡ datagrams_of self.old }
+    {
+        self.streams.set_params(params);
+    }
+
+    /// Sets how many bytes that were written are retained at most until they are acknowledged.
+    pub fn set_send_window(&mut self, window: u64)
+        ensures window { end_of self.new ≡ with_world (end_of self.old) (with_out (end_of self.old).streams (record (end_of self.old).streams.out { budget = with_window (end_of self.old).streams.out.budget window })) }
+        ensures from { (m : Made) (h : List Event) → From m h (end_of self.old).streams → From m (Sending (SetWindow window) ∷ h) (end_of self.new).streams }
+        ensures conn { self.new.conn ≡ self.old.conn }
+        ensures datagrams { datagrams_of self.new ≡ datagrams_of self.old }
+    {
+        self.streams.set_send_window(window);
+    }
+
+    /// Sets how many bytes of all streams may be received and not consumed. Where that is more than before, the answer is
+    /// true, and MAX_DATA is queued.
+    pub fn set_receive_window(&mut self, window: VarInt) -> bool
+        ensures window { end_of self.new ≡ with_window_set (end_of self.old) window result }
+        ensures larger { result ≡ nat_lt (end_of self.old).streams.credit.receive_window window }
+        ensures from { (m : Made) (h : List Event) → From m h (end_of self.old).streams → From m (Resized window result ∷ h) (end_of self.new).streams }
+        ensures conn { self.new.conn ≡ self.old.conn }
+        ensures datagrams { datagrams_of self.new ≡ datagrams_of self.old }
+    {
+        let larger = self.streams.set_receive_window(window);
+        self.pending.queue_max_data(larger);
+        larger
+    }
+
+    /// Sets how many streams of a direction the peer is to be able to use at a time, and queues MAX_STREAMS where it is
+    /// due. A refusal changes nothing.
+    pub fn set_max_concurrent(&mut self, dir: Dir, count: VarInt) -> Result<(), OutOfMemory>
+        ensures sets { SetsConcurrentAt (end_of self.old) dir count result (end_of self.new) }
+        ensures from { (m : Made) (h : List Event) → From m h (end_of self.old).streams → From m (SetConcurrent dir count result ∷ h) (end_of self.new).streams }
+        ensures conn { self.new.conn ≡ self.old.conn }
+        ensures datagrams { datagrams_of self.new ≡ datagrams_of self.old }
+    {
+        let answer = self.streams.set_max_concurrent(dir, count);
+        self.tell_counts_if(answer.is_ok());
+        answer
+    }
+
+    /// The connection is closed: no stream is opened and nothing is written any more. What was received can be read.
+    pub fn close(&mut self)
+        ensures same { end_of self.new ≡ end_of self.old }
+        ensures conn { self.new.conn ≡ ConnState.Closed }
+        ensures datagrams { datagrams_of self.new ≡ datagrams_of self.old }
+    {
+        self.conn = ConnState::Closed;
+    }
+
+    /// What the application is to be told next of the streams, if there is something.
+    pub fn poll(&mut self) -> Option<StreamEvent>
+        ensures polls { TellsNext (end_of self.old).streams result (end_of self.new).streams }
+        ensures pending { (end_of self.new).pending ≡ (end_of self.old).pending }
+        ensures from { (m : Made) (h : List Event) → From m h (end_of self.old).streams → From m (Sending (Polled result) ∷ h) (end_of self.new).streams }
+        ensures conn { self.new.conn ≡ self.old.conn }
+        ensures datagrams { datagrams_of self.new ≡ datagrams_of self.old }
+    {
+        self.streams.poll()
+    }
+
+    /// The state of the streams.
+    pub fn streams(&self) -> &StreamsState
+        ensures { shown result.now ≡ (end_of self.now).streams }
+    {
+        &self.streams
+    }
+
+    /// Whether something is to be sent beside data (RFC 9000 section 13.3).
+    pub fn has_pending(&self) -> bool {
+        !self.pending.is_empty(&self.streams)
+    }
+
+    /// How many bidirectional and unidirectional streams the peer has open, and how many streams have a send half that is
+    /// held.
+    pub fn stream_counts(&mut self) -> (u64, u64, usize)
+        ensures same { end_of self.new ≡ end_of self.old }
+        ensures conn { self.new.conn ≡ self.old.conn }
+        ensures datagrams { datagrams_of self.new ≡ datagrams_of self.old }
+    {
+        let streams = Streams::new(&mut self.streams, self.conn);
+        let (bi, uni) = (Dir::Bi, Dir::Uni);
+        (
+            streams.remote_open_streams(bi),
+            streams.remote_open_streams(uni),
+            streams.send_streams(),
+        )
+    }
+
+    // MAX_STREAMS is queued where it is due, if a call was not refused for want of memory.
+    pub(crate) fn tell_counts_if(&mut self, handled: bool)
+        ensures told { end_of self.new ≡ with_counts_told_if handled (end_of self.old) }
+        ensures payloads { self.new.unsettled ≡ self.old.unsettled }
+        ensures conn { self.new.conn ≡ self.old.conn }
+        ensures datagrams { datagrams_of self.new ≡ datagrams_of self.old }
+    {
+        if handled {
+            let _ = self.streams.queue_max_stream_id(&mut self.pending);
+        }
+    }
+}

@@ -1,0 +1,110 @@
+//! What becomes of the payloads that a session sent.
+
+ghost use Rattle.std.specs.Prelude.{List, ◌∷◌, ◌≡◌, OnOk, OnErr, IsSome, None};
+ghost use Rattle.quic_values.specs.declared.ids.Side.TheVariants.{Client};
+ghost use Rattle.quic_outgoing.specs.Early.{NoneAcked};
+ghost use Rattle.quic_retransmits.specs.Pending.{nothing};
+ghost use Rattle.quic_history.specs.World.{Made};
+ghost use Rattle.quic_history.specs.Early.{IsEarly, with_rejection, SendsAgain};
+ghost use Rattle.quic_history.specs.History.{Event, Rejected, SentAgain, IsUnanswered, From};
+ghost use Rattle.quic_session.specs.Sessions.{end_of, datagrams_of};
+ghost use Rattle.quic_session.specs.Tokens.{unsettled, with_payload};
+
+use crate::sent;
+use crate::session::Session;
+use quic_streams::Retransmits;
+use quic_values::OutOfMemory;
+use thiserror::Error;
+
+/// Why a payload was not settled.
+#[derive(Clone, Copy, Debug, Error, PartialEq, Eq)]
+pub enum SettleError {
+    /// There is no such token, or it was settled.
+    #[error("no such payload")]
+    UnknownToken,
+    /// There was no memory. What was settled stays so, and the token stands for the rest.
+    #[error("out of memory")]
+    OutOfMemory,
+}
+
+#[tactic(auto, unfolding(crate::specs::Sessions::end_of))]
+impl Session {
+    /// A payload was acknowledged (RFC 9000 section 13.3).
+    pub fn acked(&mut self, token: u64) -> Result<(), SettleError>
+        ensures settled { OnOk result (unsettled self.new.unsettled ≡ with_payload (unsettled self.old.unsettled) token None) }
+        ensures known { OnOk result (IsSome (unsettled self.old.unsettled token)) }
+        ensures conn { self.new.conn ≡ self.old.conn }
+        ensures datagrams { datagrams_of self.new ≡ datagrams_of self.old }
+    {
+        if self.unsettled.reserve().is_err() {
+            return Err(SettleError::OutOfMemory);
+        }
+        let Some(payload) = self.unsettled.take(token) else {
+            return Err(SettleError::UnknownToken);
+        };
+        match sent::acked(&mut self.streams, payload) {
+            Ok(()) => {
+                self.tell_counts_if(true);
+                Ok(())
+            }
+            Err(rest) => {
+                self.unsettled.put_back(token, rest);
+                Err(SettleError::OutOfMemory)
+            }
+        }
+    }
+
+    /// A payload was lost (RFC 9000 section 13.3).
+    pub fn lost(&mut self, token: u64) -> Result<(), SettleError>
+        ensures settled { OnOk result (unsettled self.new.unsettled ≡ with_payload (unsettled self.old.unsettled) token None) }
+        ensures known { OnOk result (IsSome (unsettled self.old.unsettled token)) }
+        ensures conn { self.new.conn ≡ self.old.conn }
+        ensures datagrams { datagrams_of self.new ≡ datagrams_of self.old }
+    {
+        if self.unsettled.reserve().is_err() {
+            return Err(SettleError::OutOfMemory);
+        }
+        let Some(payload) = self.unsettled.take(token) else {
+            return Err(SettleError::UnknownToken);
+        };
+        match sent::lost(&mut self.streams, payload, &mut self.pending) {
+            Ok(()) => Ok(()),
+            Err(rest) => {
+                self.unsettled.put_back(token, rest);
+                Err(SettleError::OutOfMemory)
+            }
+        }
+    }
+
+    /// How many payloads are not settled.
+    pub fn unsettled_payloads(&self) -> usize {
+        self.unsettled.len()
+    }
+
+    /// The peer rejected the early start of a client (RFC 9001 section 4.6.2).
+    pub fn zero_rtt_rejected(&mut self)
+        ensures rejects { end_of self.new ≡ record { streams = with_rejection (end_of self.old).streams; pending = nothing } }
+        ensures from { (m : Made) (h : List Event) → IsEarly (end_of self.old).streams → From m h (end_of self.old).streams → From m (Rejected ∷ h) (end_of self.new).streams }
+        ensures unanswered { (m : Made) (h : List Event) → m.side ≡ Client → IsUnanswered h → From m h (end_of self.old).streams → From m (Rejected ∷ h) (end_of self.new).streams }
+        ensures payloads { unsettled self.new.unsettled ≡ (λ token. None) }
+        ensures conn { self.new.conn ≡ self.old.conn }
+        ensures datagrams { datagrams_of self.new ≡ datagrams_of self.old }
+    {
+        self.streams.zero_rtt_rejected();
+        self.pending = Retransmits::new(self.alloc);
+        self.unsettled.clear(self.alloc);
+    }
+
+    /// All that an early start sent is to be sent again (RFC 9000 section 17.2.5).
+    pub fn retransmit_all_for_0rtt(&mut self) -> Result<(), OutOfMemory>
+        ensures sends { NoneAcked (end_of self.old).streams.out.side (end_of self.old).streams.out.halves → SendsAgain (end_of self.old).streams result (end_of self.new).streams }
+        ensures err { OnErr result (end_of self.new ≡ end_of self.old) }
+        ensures pending { (end_of self.new).pending ≡ (end_of self.old).pending }
+        ensures unanswered { (m : Made) (h : List Event) → IsUnanswered h → From m h (end_of self.old).streams
+            → SendsAgain (end_of self.old).streams result (end_of self.new).streams × From m (SentAgain result ∷ h) (end_of self.new).streams }
+        ensures conn { self.new.conn ≡ self.old.conn }
+        ensures datagrams { datagrams_of self.new ≡ datagrams_of self.old }
+    {
+        self.streams.retransmit_all_for_0rtt()
+    }
+}

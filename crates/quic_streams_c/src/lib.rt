@@ -1,0 +1,12 @@
+//! Sessions for C: `include/quic_streams.h` declares what is exported here. Each call tests every number that it is
+//! handed; what it does to the session is what the call of `quic_session` that it makes does.
+#![tactic(auto)]
+
+mod application;
+mod codes;
+mod connection;
+mod datagrams;
+mod handle;
+mod payloads;
+mod peer;
+mod slot;

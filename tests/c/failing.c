@@ -1,0 +1,143 @@
+/* Each allocation of a session of two ends is refused in turn: the call answers
+ * QS_ERR_NOMEM, can be made again, and all is as if it had been made once. No
+ * memory is lost. Linked with -Wl,--wrap=malloc,--wrap=realloc,--wrap=free. */
+#include "check.h"
+
+void *__real_malloc(size_t size);
+void *__real_realloc(void *at, size_t size);
+void __real_free(void *at);
+void *__wrap_malloc(size_t size);
+void *__wrap_realloc(void *at, size_t size);
+void __wrap_free(void *at);
+
+static long countdown, asked, held;
+
+static int refuses(void) {
+  asked++;
+  return countdown > 0 && --countdown == 0;
+}
+
+void *__wrap_malloc(size_t size) {
+  if (refuses())
+    return NULL;
+  held++;
+  return __real_malloc(size);
+}
+
+void *__wrap_realloc(void *at, size_t size) {
+  if (refuses())
+    return NULL;
+  held += at == NULL;
+  return __real_realloc(at, size);
+}
+
+void __wrap_free(void *at) {
+  held -= at != NULL;
+  __real_free(at);
+}
+
+static long refused;
+
+/* An answer, after one more call where memory was wanting. */
+#define ONCE_MORE(call)                                                        \
+  do {                                                                         \
+    int32_t answer = (call);                                                   \
+    if (answer == QS_ERR_NOMEM) {                                              \
+      refused++;                                                               \
+      answer = (call);                                                         \
+    }                                                                          \
+    SAME(answer, QS_OK);                                                       \
+  } while (0)
+
+static int32_t take(qs_conn *to, const packet *p, size_t *next) {
+  qs_error error = {0, 0, {0}};
+  return qs_receive(to, p->data, (size_t)p->head.len, next, &error);
+}
+
+static void session(void) {
+  qs_conn a = QS_CONN_INIT, b = QS_CONN_INIT;
+  const qs_config config = {sizeof config, QS_CLIENT, 2,   2,  4000,
+                            4000,          2000,      500, 500};
+  qs_config config_b = config;
+  const qs_peer_limits limits = {4000, 2, 2, 2000, 2000, 2000, 100};
+  uint64_t id = 0, code = 0, offset = 0;
+  size_t written = 0, count = 0, next = 0, got = 0;
+  uint8_t text[1000];
+  packet p;
+  memset(text, 'x', sizeof text);
+  config_b.side = QS_SERVER;
+  ONCE_MORE(qs_conn_open(&a, &config));
+  ONCE_MORE(qs_conn_open(&b, &config_b));
+  ONCE_MORE(qs_set_peer_limits(&a, &limits));
+  ONCE_MORE(qs_set_peer_limits(&b, &limits));
+  ONCE_MORE(qs_stream_open(&a, QS_UNI, &id));
+  ONCE_MORE(qs_stream_open(&a, QS_BIDI, &id));
+  ONCE_MORE(qs_stream_set_priority(&a, 0, 5));
+  ONCE_MORE(qs_stream_write(&a, 2, text, 1000, &written, &code));
+  SAME(written, 1000);
+  ONCE_MORE(qs_stream_write(&a, 0, text, 500, &written, &code));
+  SAME(written, 500);
+  ONCE_MORE(qs_stream_finish(&a, 2, &code));
+  ONCE_MORE(qs_datagram_send(&a, text, 10, 0));
+  ONCE_MORE(qs_stream_reset(&a, 0, 3));
+  uint64_t tokens[64];
+  size_t sent = 0, first = 0;
+  for (;;) { /* the first three payloads are lost */
+    int32_t answer = emit(&a, QS_ALL, 100, &p);
+    if (answer == QS_ERR_NOMEM) {
+      refused++;
+      continue;
+    }
+    if (answer == QS_DONE) {
+      if (first == 3)
+        break;
+      for (; first < 3; first++)
+        ONCE_MORE(qs_lost(&a, tokens[first]));
+      continue;
+    }
+    SAME(answer, QS_OK);
+    SAME(sent < 64, 1);
+    tokens[sent++] = p.head.token;
+    if (sent > 3) {
+      next = 0;
+      ONCE_MORE(take(&b, &p, &next));
+    }
+  }
+  for (size_t i = 3; i < sent; i++)
+    ONCE_MORE(qs_acked(&a, tokens[i]));
+  ONCE_MORE(qs_stream_accept(&b, QS_UNI, &id));
+  for (int32_t answer = QS_OK; answer != QS_END;) {
+    answer = qs_stream_read(&b, 2, text, sizeof text, &count, &offset, &code);
+    if (answer == QS_ERR_NOMEM)
+      refused++;
+    else if (answer != QS_END)
+      SAME(answer, QS_OK), got += count;
+  }
+  SAME(got, 1000);
+  ONCE_MORE(qs_stream_accept(&b, QS_BIDI, &id));
+  ONCE_MORE(qs_stream_stop(&b, 0, 4) == QS_ERR_NOMEM ? QS_ERR_NOMEM : QS_OK);
+  ONCE_MORE(qs_set_max_concurrent(&b, QS_UNI, 9));
+  qs_conn_free(&a);
+  qs_conn_free(&b);
+}
+
+int main(void) {
+  long allocations = 0, total = 0;
+  session();
+  allocations = asked;
+  SAME(refused, 0);
+  SAME(held, 0);
+  SAME(allocations > 20, 1);
+  for (long k = 1; k <= allocations; k++) {
+    countdown = k;
+    refused = 0;
+    session();
+    countdown = 0;
+    SAME(held, 0);
+    total += refused;
+  }
+  SAME(total > 0, 1);
+  printf("failing: %ld allocations, %ld answers for want of memory\n",
+         allocations, total);
+  return 0;
+}
