@@ -1,7 +1,7 @@
 -- Payloads that are put under a token, or go.
 use Rattle.std.proofs.Common.{◌≡◌, ℕ, cond, Option}
 use Rattle.std.specs.Prelude.{◌==◌}
-use Rattle.quic_session.specs.declared.sent.SentPayload.{SentPayload}
+use Rattle.quic_streams.specs.declared.settling.SentPayload.{SentPayload}
 use Rattle.quic_session.specs.Tokens.{with_payload}
 
 pub same-payloads : (f g : ℕ → Option SentPayload) → ((q : ℕ) → g q ≡ f q) → g ≡ f

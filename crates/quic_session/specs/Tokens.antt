@@ -1,7 +1,7 @@
 -- Payloads that were sent and not heard of, by token.
 use Rattle.std.specs.Prelude.{ℕ, ◌==◌, cond, Option}
 use Rattle.std.specs.HashMap.{get, spare}
-use Rattle.quic_session.specs.declared.sent.SentPayload.{SentPayload}
+use Rattle.quic_streams.specs.declared.settling.SentPayload.{SentPayload}
 use Rattle.quic_session.specs.declared.unsettled.Unsettled.{Unsettled}
 
 -- the payload of each token, if it is not settled

@@ -3,11 +3,10 @@
 ghost use Rattle.std.specs.Prelude.{◌≡◌, ◌≤◌, length, IfOk, IfSome};
 ghost use Rattle.quic_session.specs.Sessions.{end_of};
 
-use crate::sent::SentPayload;
 use crate::session::Session;
 use quic_datagrams::DatagramState;
 use quic_streams::stats::FrameStats;
-use quic_streams::{StreamMetaVec, ThinRetransmits};
+use quic_streams::{SentPayload, StreamMetaVec, ThinRetransmits};
 use quic_values::OutOfMemory;
 use quic_wire::frame::Datagram;
 

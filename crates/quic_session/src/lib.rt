@@ -6,7 +6,6 @@ pub mod application;
 pub mod datagrams;
 pub mod emitting;
 pub mod receiving;
-pub mod sent;
 pub mod session;
 pub mod settling;
 pub mod unsettled;

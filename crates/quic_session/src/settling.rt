@@ -1,6 +1,6 @@
 //! What becomes of the payloads that a session sent.
 
-ghost use Rattle.std.specs.Prelude.{List, ◌∷◌, ◌≡◌, OnOk, OnErr, IsSome, None};
+ghost use Rattle.std.specs.Prelude.{List, ◌∷◌, ◌≡◌, ◌<◌, OnOk, OnErr, IsSome, None};
 ghost use Rattle.quic_values.specs.declared.ids.Side.TheVariants.{Client};
 ghost use Rattle.quic_outgoing.specs.Early.{NoneAcked};
 ghost use Rattle.quic_retransmits.specs.Pending.{nothing};
@@ -8,11 +8,10 @@ ghost use Rattle.quic_history.specs.World.{Made};
 ghost use Rattle.quic_history.specs.Early.{IsEarly, with_rejection, SendsAgain};
 ghost use Rattle.quic_history.specs.History.{Event, Rejected, SentAgain, IsUnanswered, From};
 ghost use Rattle.quic_session.specs.Sessions.{end_of, datagrams_of};
-ghost use Rattle.quic_session.specs.Tokens.{unsettled, with_payload};
+ghost use Rattle.quic_session.specs.Tokens.{unsettled, with_payload, places};
 
-use crate::sent;
 use crate::session::Session;
-use quic_streams::Retransmits;
+use quic_streams::{Retransmits, SentPayload};
 use quic_values::OutOfMemory;
 use thiserror::Error;
 
@@ -42,15 +41,12 @@ impl Session {
         let Some(payload) = self.unsettled.take(token) else {
             return Err(SettleError::UnknownToken);
         };
-        match sent::acked(&mut self.streams, payload) {
+        match self.streams.acked(payload) {
             Ok(()) => {
                 self.tell_counts_if(true);
                 Ok(())
             }
-            Err(rest) => {
-                self.unsettled.put_back(token, rest);
-                Err(SettleError::OutOfMemory)
-            }
+            Err(rest) => Err(self.put_rest_back(token, rest)),
         }
     }
 
@@ -67,13 +63,20 @@ impl Session {
         let Some(payload) = self.unsettled.take(token) else {
             return Err(SettleError::UnknownToken);
         };
-        match sent::lost(&mut self.streams, payload, &mut self.pending) {
+        match self.streams.lost(payload, &mut self.pending) {
             Ok(()) => Ok(()),
-            Err(rest) => {
-                self.unsettled.put_back(token, rest);
-                Err(SettleError::OutOfMemory)
-            }
+            Err(rest) => Err(self.put_rest_back(token, rest)),
         }
+    }
+
+    // What was not reported of a payload stands under its token again.
+    fn put_rest_back(&mut self, token: u64, rest: SentPayload) -> SettleError
+        requires { 0 < places self.old.unsettled }
+        ensures conn { self.new.conn ≡ self.old.conn }
+        ensures datagrams { datagrams_of self.new ≡ datagrams_of self.old }
+    {
+        self.unsettled.put_back(token, rest);
+        SettleError::OutOfMemory
     }
 
     /// How many payloads are not settled.

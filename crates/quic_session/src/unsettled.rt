@@ -3,7 +3,7 @@
 ghost use Rattle.std.specs.Prelude.{ℕ, ◌≡◌, ◌<◌, ◌+◌, OnOk, OnErr, Some, None, Option};
 ghost use Rattle.quic_session.specs.Tokens.{unsettled, with_payload, places};
 
-use crate::sent::SentPayload;
+use quic_streams::SentPayload;
 use quic_values::OutOfMemory;
 use std::alloc::Global;
 use std::collections::HashMap;
