@@ -42,6 +42,10 @@ enum Answer {
     Blocked,
     Stopped(u64),
     Closed,
+    // Whether a count rose.
+    Rose(bool),
+    // The code of an error of the peer.
+    Fault(u64),
     NoMemory,
 }
 
@@ -56,8 +60,7 @@ enum Step {
     // Whether it is the first.
     Stop(u32, u32, bool),
     Stopped(u32, Option<u64>),
-    // Whether the count rose.
-    Streams(Dir, u64, bool),
+    Streams(Dir, u64, Answer),
     Data(u32),
     // Whether the application is to be told that it may write.
     StreamData(u32, u64, bool),
@@ -134,8 +137,11 @@ fn stream_blocked(subject: &Subject, stream: u32) -> Option<VarInt> {
     subject.state.stream_data_blocked_limit(id(stream))
 }
 
-fn raise_streams(subject: &mut Subject, dir: Dir, count: u64) -> bool {
-    matches!(subject.state.raise_streams(dir, count), Ok(true))
+fn raise_streams(subject: &mut Subject, dir: Dir, count: u64) -> Answer {
+    match subject.state.raise_streams(dir, count) {
+        Ok(rose) => Answer::Rose(rose),
+        Err(error) => Answer::Fault(error.code),
+    }
 }
 
 fn raise_stream(subject: &mut Subject, stream: u32, offset: u64) -> Result<bool, OutOfMemory> {
@@ -300,11 +306,12 @@ fn written(alloc: Global, subject: &mut Subject, stream: u32, count: usize) -> A
     write_bytes(alloc, subject, id(stream), bytes)
 }
 
-fn stopped(subject: &Subject, stream: u32) -> Option<u64> {
+// The code of the first stop, if one came, of a stream that is held.
+fn stopped(subject: &Subject, stream: u32) -> Option<Option<u64>> {
     match stop_reason(subject, stream) {
-        Ok(Some(code)) => Some(code.into_inner()),
-        Ok(None) => None,
-        Err(_) => None,
+        Ok(Some(code)) => Some(Some(code.into_inner())),
+        Ok(None) => Some(None),
+        Err(ClosedStream) => None,
     }
 }
 
@@ -312,12 +319,8 @@ fn blocked_limit(subject: &Subject, stream: u32) -> Option<u64> {
     stream_blocked(subject, stream).map(VarInt::into_inner)
 }
 
-fn stop(subject: &mut Subject, stream: u32, code: u32) -> bool {
-    try_stop(subject, stream, VarInt::from(code)) == Ok(true)
-}
-
-fn open(subject: &mut Subject, dir: Dir) -> Option<StreamId> {
-    try_open(subject, dir).unwrap_or(None)
+fn stop(subject: &mut Subject, stream: u32, code: u32) -> Result<bool, OutOfMemory> {
+    try_stop(subject, stream, VarInt::from(code))
 }
 
 // Whether the next frame of a stream carries this, and the end.
@@ -337,7 +340,7 @@ fn sends(
 // Takes a step, of which the state tells what it has to tell.
 fn ask(rt: &impl Abort, subject: &Subject, step: Step) {
     match step {
-        Step::Stopped(stream, code) => same(rt, stopped(subject, stream), code),
+        Step::Stopped(stream, code) => same(rt, stopped(subject, stream), Some(code)),
         Step::Limit(count) => same(rt, limit(subject), count),
         Step::Blocked(can, queued) => {
             same(
@@ -365,7 +368,7 @@ fn ask(rt: &impl Abort, subject: &Subject, step: Step) {
 // Takes a step that changes the state.
 fn take(rt: &impl Abort, alloc: Global, subject: &mut Subject, step: Step) {
     match step {
-        Step::Open(dir, opened) => same(rt, open(subject, dir), opened.map(id)),
+        Step::Open(dir, opened) => same(rt, try_open(subject, dir), Ok(opened.map(id))),
         Step::Write(stream, count, answer) => {
             same(rt, written(alloc, subject, stream, count), answer);
         }
@@ -373,18 +376,17 @@ fn take(rt: &impl Abort, alloc: Global, subject: &mut Subject, step: Step) {
         Step::Reset(stream, code, answer) => {
             same(rt, reset(subject, id(stream), code), answer);
         }
-        Step::Stop(stream, code, first) => same(rt, stop(subject, stream, code), first),
+        Step::Stop(stream, code, first) => same(rt, stop(subject, stream, code), Ok(first)),
         Step::Streams(dir, count, rose) => same(rt, raise_streams(subject, dir, count), rose),
         Step::Data(limit) => raise_data(subject, VarInt::from(limit)),
         Step::StreamData(stream, offset, tells) => {
-            same(rt, raise_stream(subject, stream, offset) == Ok(true), tells);
+            same(rt, raise_stream(subject, stream, offset), Ok(tells));
         }
         Step::Poll(told) => same(rt, poll(subject), told.map(id)),
         Step::Window(window) => set_window(subject, window),
-        Step::SetPriority(stream, number) => is_true(
-            rt,
-            set_priority(subject, stream, number).is_ok(),
-        ),
+        Step::SetPriority(stream, number) => {
+            same(rt, set_priority(subject, stream, number), Ok(()));
+        }
         Step::Remove(stream) => remove(subject, stream),
         other => ask(rt, subject, other),
     }

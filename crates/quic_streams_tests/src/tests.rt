@@ -12,7 +12,7 @@ mod refusals;
 mod sending;
 mod settling;
 mod sizes;
-mod transmitting;
+mod windows;
 
 use calls::{Subject, finalize, next_chunk};
 use quic_receiving::{Chunk, HandleError, ReadError, ReadableError, ShouldTransmit};

@@ -444,6 +444,41 @@ fn what_is_made_or_copied_is_there(rt: HostRuntime) -> Result<(), Fail> {
     Ok(())
 }
 
+// Each call that writes a frame of this kind writes it.
+#[test]
+fn stops_and_data_are_written(rt: HostRuntime) -> Result<(), Fail> {
+    let alloc = rt.alloc();
+    let stop = StopSending {
+        id: id(2),
+        error_code: VarInt::from(7),
+    };
+    let mut buf = Vec::new(alloc);
+    stop.encode(&mut buf)?;
+    same(&rt, buf.as_slice(), [0x05, 8, 7].as_slice());
+    let data = Stream {
+        id: id(2),
+        offset: 5,
+        fin: true,
+        bytes: Bytes::copy_from_slice(alloc, b"hi")?,
+    };
+    let mut buf = Vec::new(alloc);
+    data.encode(true, &mut buf)?;
+    same(&rt, buf.as_slice(), b"\x0f\x08\x05\x02hi".as_slice());
+    let mut buf = Vec::new(alloc);
+    Frame::Stream(data).encode(&mut buf)?;
+    same(&rt, buf.as_slice(), b"\x0f\x08\x05\x02hi".as_slice());
+    let datagram = Datagram {
+        bytes: Bytes::copy_from_slice(alloc, b"abc")?,
+    };
+    let mut buf = Vec::new(alloc);
+    datagram.encode(false, &mut buf)?;
+    same(&rt, buf.as_slice(), b"\x30abc".as_slice());
+    let mut buf = Vec::new(alloc);
+    Frame::Datagram(datagram).encode(&mut buf)?;
+    same(&rt, buf.as_slice(), b"\x31\x03abc".as_slice());
+    Ok(())
+}
+
 // So many bytes that a seed gives.
 fn seeded(alloc: Global, len: usize) -> Result<Vec<u8>, OutOfMemory> {
     let mut bytes = Vec::new(alloc);

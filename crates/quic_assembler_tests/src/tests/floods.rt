@@ -46,12 +46,7 @@ fn touching_pieces_in_their_order(rt: HostRuntime) -> Result<(), Fail> {
 // 1024 pieces with gaps, and one of them 3072 times more. Answers how many pieces were held at most.
 fn repeat<B: Body + Drop>(rt: &impl Abort, alloc: Global) -> Result<usize, Fail> {
     let mut a = B::made(alloc);
-    take(
-        rt,
-        &mut a,
-        alloc,
-        Step::Fill(1, 4, 1024, "abc", 3, Ok(())),
-    )?;
+    take(rt, &mut a, alloc, Step::Fill(1, 4, 1024, "abc", 3, Ok(())))?;
     let mut most = a.held();
     for _turn in 0..3072u32 {
         take(rt, &mut a, alloc, Step::Put(1, "abc"))?;
@@ -83,6 +78,10 @@ fn overlap<B: Body + Drop>(rt: &impl Abort, alloc: Global) -> Result<(), Fail> {
 
 #[test]
 fn overlaps_are_taken_and_bounded(rt: HostRuntime) -> Result<(), Fail> {
-    overlap::<HeapAssembler>(&rt, rt.alloc())?;
+    overlap::<HeapAssembler>(&rt, rt.alloc())
+}
+
+#[test]
+fn overlaps_are_cut_and_bounded(rt: HostRuntime) -> Result<(), Fail> {
     overlap::<Assembler>(&rt, rt.alloc())
 }

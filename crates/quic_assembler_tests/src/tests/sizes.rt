@@ -87,6 +87,10 @@ fn pass_backwards<B: Body + Drop>(rt: &impl Abort, alloc: Global) -> Result<(), 
 
 #[test]
 fn takes_any_number_of_pieces(rt: HostRuntime) -> Result<(), Fail> {
-    pass_backwards::<HeapAssembler>(&rt, rt.alloc())?;
+    pass_backwards::<HeapAssembler>(&rt, rt.alloc())
+}
+
+#[test]
+fn takes_any_number_of_pieces_apart(rt: HostRuntime) -> Result<(), Fail> {
     pass_backwards::<Assembler>(&rt, rt.alloc())
 }

@@ -59,7 +59,7 @@ fn a_rejected_start_leaves_the_window(rt: HostRuntime) -> Result<(), Fail> {
         // The peer gave no limit for its streams.
         Step::Write(1, 1, Answer::Blocked),
         Step::Poll(None),
-        Step::Streams(Dir::Uni, 1, true),
+        Step::Streams(Dir::Uni, 1, Answer::Rose(true)),
         Step::Open(Dir::Uni, Some(2)),
         Step::Priority(2, Some(0)),
     ];

@@ -1,5 +1,5 @@
 // With ample memory no size is refused.
-use super::{Answer, Step, Subject, end, id, is_true, open, raise_data, take, write_bytes};
+use super::{Answer, Step, Subject, end, id, raise_data, same, take, try_open, write_bytes};
 use quic_values::{Dir, OutOfMemory, Side, VarInt};
 use std::alloc::Global;
 use std::process::Abort;
@@ -90,7 +90,7 @@ fn many_streams_wait_and_are_told(rt: HostRuntime) {
         );
     }
     take(&rt, alloc, &mut subject, Step::Poll(None));
-    is_true(&rt, open(&mut subject, Dir::Bi).is_none());
+    same(&rt, try_open(&mut subject, Dir::Bi), Ok(None));
     raise_data(&mut subject, VarInt::MAX);
 }
 

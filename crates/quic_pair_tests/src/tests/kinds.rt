@@ -5,9 +5,12 @@ ghost use Rattle.std.specs.List.{zip};
 ghost use Rattle.quic_pair.specs.State.{pair_state};
 ghost use Rattle.quic_pair.specs.From.{From};
 
-use super::{bytes, config, is_true, same};
+use super::{bytes, config, is_true, payload, same};
+use quic_assembler::Chunk;
 use quic_pair::{Config, End, Last, Pair, PairError, Reply, Step};
+use quic_sending::Written;
 use quic_values::{ChunkList, Dir, OutOfMemory, Side, StreamId, VarInt};
+use quic_wire::StreamEvent;
 use std::alloc::Global;
 use std::test::Fail;
 
@@ -110,8 +113,68 @@ fn push_control(steps: &mut Vec<Step>) -> Result<(), OutOfMemory> {
     Ok(())
 }
 
-// How many steps there are.
-const STEPS: usize = 27;
+type Replies = Vec<Result<Reply, PairError>>;
+
+fn push_done(replies: &mut Replies, count: u32) -> Result<(), OutOfMemory> {
+    for _ in 0..count {
+        replies.push(Ok(Reply::Done))?;
+    }
+    Ok(())
+}
+
+// Of what is written, and of its loss and its acknowledgement.
+fn push_replies_on_data(alloc: Global, replies: &mut Replies) -> Result<(), OutOfMemory> {
+    let written = Written {
+        bytes: 3,
+        chunks: 2,
+    };
+    replies.push(Ok(Reply::Id(stream())))?;
+    replies.push(Ok(Reply::Wrote(2)))?;
+    replies.push(Ok(Reply::WroteChunks(written)))?;
+    push_done(replies, 1)?;
+    replies.push(Ok(payload(alloc, 0, b"\x0a\x00\x05", b"hiabc")?))?;
+    push_done(replies, 1)?;
+    replies.push(Ok(payload(alloc, 1, b"\x0a\x00\x05", b"hiabc")?))?;
+    push_done(replies, 2)
+}
+
+// Of what the server reads and sets.
+fn push_replies_to_reader(alloc: Global, replies: &mut Replies) -> Result<(), OutOfMemory> {
+    let mut chunks = Vec::new(alloc);
+    chunks.push(Chunk {
+        offset: 0,
+        bytes: bytes(alloc, b"hiabc")?,
+    })?;
+    replies.push(Ok(Reply::Id(stream())))?;
+    replies.push(Ok(Reply::Read {
+        chunks,
+        last: Last::Blocked,
+        transmit: false,
+    }))?;
+    replies.push(Ok(Reply::Nothing))?;
+    push_done(replies, 1)?;
+    replies.push(Ok(Reply::Expanded(true)))?;
+    push_done(replies, 2)
+}
+
+// STOP_SENDING with the code 7, MAX_DATA of 2005, and MAX_STREAMS of 6.
+const STOP: &[u8] = &[0x05, 0, 7];
+
+const LIMITS: &[u8] = &[0x10, 0x47, 0xd5, 0x12, 6];
+
+// Of what the server sends for that, and of the stream that is given up.
+fn push_replies_on_control(alloc: Global, replies: &mut Replies) -> Result<(), OutOfMemory> {
+    replies.push(Ok(payload(alloc, 2, STOP, LIMITS)?))?;
+    push_done(replies, 1)?;
+    replies.push(Ok(payload(alloc, 3, STOP, LIMITS)?))?;
+    push_done(replies, 4)?;
+    replies.push(Ok(Reply::Event(StreamEvent::Stopped {
+        id: stream(),
+        error_code: VarInt::from(7),
+    })))?;
+    replies.push(Ok(Reply::Id(given_up())))?;
+    push_done(replies, 2)
+}
 
 #[test]
 fn every_kind_of_step_is_answered(rt: HostRuntime) -> Result<(), Fail> {
@@ -121,14 +184,20 @@ fn every_kind_of_step_is_answered(rt: HostRuntime) -> Result<(), Fail> {
     push_reader(&mut steps)?;
     push_control(&mut steps)?;
     let taken = take_all(alloc, config(1000), config(1000), steps)?;
-    same(&rt, taken.replies.len(), STEPS);
-    for (number, reply) in taken.replies.iter().enumerate() {
-        assert!(rt; reply.is_ok(), "{number}");
+    let mut replies = Vec::new(alloc);
+    push_replies_on_data(alloc, &mut replies)?;
+    push_replies_to_reader(alloc, &mut replies)?;
+    push_replies_on_control(alloc, &mut replies)?;
+    same(&rt, taken.replies.len(), replies.len());
+    for (number, (reply, wanted)) in taken.replies.iter().zip(replies.iter()).enumerate() {
+        assert!(rt; reply == wanted, "{number}: {reply:?}");
     }
-    let Some(Ok(Reply::Read { chunks, last, .. })) = taken.replies.get(10) else {
-        return Err(Fail::from("nothing was read"));
-    };
-    is_true(&rt, chunks.len() == 1 && *last == Last::Blocked);
-    is_true(&rt, taken.pair.end(End::B).was_given(stream()));
+    let pair = &taken.pair;
+    is_true(&rt, pair.end(End::B).was_given(stream()));
+    is_true(&rt, pair.end(End::A).was_given(given_up()));
+    is_true(&rt, !pair.end(End::B).was_given(given_up()));
+    let first = b"\x0a\x00\x05hiabc".as_slice();
+    same(&rt, pair.payload(0), Some(first));
+    same(&rt, pair.payload(4), None);
     Ok(())
 }

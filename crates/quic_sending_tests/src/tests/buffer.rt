@@ -195,11 +195,16 @@ const START_OFFSETS: [Step; 14] = [
 #[test]
 fn reserves_encoded_offset(rt: HostRuntime) -> Result<(), Fail> {
     let _ = run(&rt, rt.alloc(), &START_OFFSETS)?;
-    // 8 bytes from 2^30 on, without a gigabyte of data.
+    // 4 bytes from 16,384 on, and 8 from 2^30 on, of a gigabyte of data and a mebibyte, which is not kept here.
     same(
         &rt,
-        cut_to_frame(1 << 30, 1 << 31, 1032),
-        ((1 << 30) + 1024, false),
+        cut_to_frame(16_384, 1_074_790_400, 1_073_725_444),
+        (1 << 30, false),
+    );
+    same(
+        &rt,
+        cut_to_frame(1 << 30, 1_074_790_400, 1_048_584),
+        (1_074_790_400, false),
     );
     Ok(())
 }
@@ -237,6 +242,19 @@ const SEGMENTS: [Step; 26] = [
 fn multiple_segments(rt: HostRuntime) -> Result<(), Fail> {
     let buffer = run(&rt, rt.alloc(), &SEGMENTS)?;
     is_true(&rt, buffer.is_fully_acked());
+    Ok(())
+}
+
+const FRONT_ACKED: [Step; 4] = [
+    Step::Write(b"Hello, world!"),
+    Step::Poll(16, 0, 8, true),
+    Step::Ack(0, 8),
+    Step::Unacked(b"orld!"),
+];
+
+#[test]
+fn acknowledged_front(rt: HostRuntime) -> Result<(), Fail> {
+    let _ = run(&rt, rt.alloc(), &FRONT_ACKED)?;
     Ok(())
 }
 

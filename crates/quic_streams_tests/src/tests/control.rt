@@ -95,26 +95,6 @@ fn a_reset_ends_where_was_written_and_a_blocked_connection_is_told(
     Ok(())
 }
 
-const READ_ONE: [Step; 3] = [
-    Step::Data(3, 0, 1, Answer::Taken(false)),
-    Step::Ordered(3, Reads(1, 1), Given(1, Last::Asked, true)),
-    Step::Windows(&[3]),
-];
-
-const LIMIT_OF_A_STREAM: [SendStep; 3] = [
-    SendStep::Writes(17, &[]),
-    SendStep::Writes(18, &[0x11, 3, 9]),
-    SendStep::Writes(100, &[]),
-];
-
-#[test]
-fn a_limit_of_a_stream_waits_for_its_room(rt: HostRuntime) -> Result<(), Fail> {
-    let alloc = rt.alloc();
-    let mut subject = run(&rt, alloc, client(alloc, 128, WINDOW, 8)?, &READ_ONE)?;
-    take(&rt, alloc, &mut subject, &LIMIT_OF_A_STREAM)?;
-    Ok(())
-}
-
 const READ_ALL: [Step; 3] = [
     Step::Data(3, 0, 1, Answer::Taken(false)),
     Step::Ordered(3, Reads(1, 1), Given(1, Last::Asked, false)),
@@ -129,22 +109,6 @@ fn the_greatest_limit_of_a_stream_is_announced(rt: HostRuntime) -> Result<(), Fa
     subject.queue_window(3)?;
     let most = [0x11, 3, 255, 255, 255, 255, 255, 255, 255, 255];
     writes(&rt, alloc, &mut subject, 18, &most);
-    Ok(())
-}
-
-const MORE_STREAMS: [SendStep; 5] = [
-    SendStep::Concurrent(Dir::Uni, 3, 3),
-    SendStep::Due(true),
-    SendStep::Writes(9, &[]),
-    SendStep::Writes(10, &[0x13, 3]),
-    SendStep::Due(false),
-];
-
-#[test]
-fn more_streams_are_announced_once(rt: HostRuntime) -> Result<(), Fail> {
-    let alloc = rt.alloc();
-    let mut subject = end(alloc, Side::Client, 1, 2, 10)?;
-    take(&rt, alloc, &mut subject, &MORE_STREAMS)?;
     Ok(())
 }
 

@@ -220,7 +220,7 @@ fn send(
 
 // A report: an acknowledgement, a loss, or that a reset was acknowledged.
 #[derive(Clone, Copy, Debug)]
-enum Report {
+pub(super) enum Report {
     Acked(u32, u64, u64, bool),
     Lost(u32, u64, u64),
     ResetAcked(u32),
@@ -245,7 +245,7 @@ fn report_once(subject: &mut Subject, report: Report) -> bool {
     result.is_ok()
 }
 
-fn take_report(rt: &impl Abort, subject: &mut Subject, report: Report) {
+pub(super) fn take_report(rt: &impl Abort, subject: &mut Subject, report: Report) {
     let before = all_of(subject);
     if !report_once(subject, report) {
         same_for(rt, &report, all_of(subject), before);

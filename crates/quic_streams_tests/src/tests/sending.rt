@@ -517,13 +517,14 @@ fn no_more_than_every_limit_is_written(rt: HostRuntime) -> Result<(), Fail> {
     Ok(())
 }
 
-const REPORTS: [Step; 6] = [
+const REPORTS: [Step; 7] = [
     Step::Open(Dir::Uni, Some(2)),
     Step::Write(2, 2, Done::Took(2)),
     Step::Blocked(false, false),
     Step::Write(2, 1, Done::Blocked),
     Step::Blocked(true, true),
     Step::MaxData(3),
+    Step::Blocked(true, false),
 ];
 
 const SEND_WINDOW: [Step; 9] = [
@@ -718,6 +719,33 @@ fn streams_are_queued_by_priority(rt: HostRuntime) -> Result<(), Fail> {
         &PRIORITIES,
     )?;
     run(&rt, alloc, end(alloc, Side::Client, 3, 42, 42)?, &CLOSED)?;
+    Ok(())
+}
+
+const WHILE_NOT_RESET: [Step; 12] = [
+    Step::Open(Dir::Uni, Some(2)),
+    Step::CanSend(false),
+    Step::Write(2, 3, Done::Took(3)),
+    Step::CanSend(true),
+    Step::Reset(2, 7, Done::Is),
+    Step::CanSend(false),
+    Step::Open(Dir::Uni, Some(6)),
+    Step::Write(6, 1, Done::Took(1)),
+    Step::CanSend(true),
+    Step::Queued(&[6]),
+    Step::CanSend(false),
+    Step::Sends(60, b""),
+];
+
+#[test]
+fn data_can_be_sent_while_a_queued_stream_is_not_reset(rt: HostRuntime) -> Result<(), Fail> {
+    let alloc = rt.alloc();
+    run(
+        &rt,
+        alloc,
+        end(alloc, Side::Client, 2, 10, 10)?,
+        &WHILE_NOT_RESET,
+    )?;
     Ok(())
 }
 
