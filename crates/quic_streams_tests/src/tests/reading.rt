@@ -1,5 +1,4 @@
 use super::calls::{Subject, finalize, next_chunk};
-use super::control::writes;
 use super::{
     Answer, Given, Last, Reads, Step, Told, WINDOW, client, id, is_true, run, run_on_client, same,
 };
@@ -206,43 +205,6 @@ fn read_byte(
         in_one,
     };
     Ok((subject, transmit))
-}
-
-const WHOLE: [Step; 1] = [Step::Final(3, 0, 2048, TAKEN)];
-
-const WHOLE_READ: [Step; 2] = [Step::Is(2048, 2048), Step::MaxStreams(false, true)];
-
-// The reader that gave the last bytes tells the end too, where no byte is asked for.
-#[test]
-fn a_read_of_no_bytes_tells_the_end(rt: HostRuntime) -> Result<(), Fail> {
-    let alloc = rt.alloc();
-    let subject = run(&rt, alloc, client(alloc, 1, WINDOW, WINDOW)?, &WHOLE)?;
-    let Subject {
-        mut state,
-        mut pending,
-        conn,
-        window,
-        in_one,
-    } = subject;
-    let mut stream = RecvStream::new(id(3), &mut state, &mut pending);
-    let mut chunks = stream.read(true)?;
-    let given = next_chunk(&mut chunks, 2048)?;
-    is_true(
-        &rt,
-        matches!(given, Some(chunk) if chunk.bytes.len() == 2048),
-    );
-    is_true(&rt, next_chunk(&mut chunks, 0)?.is_none());
-    is_true(&rt, finalize(chunks));
-    let subject = Subject {
-        state,
-        pending,
-        conn,
-        window,
-        in_one,
-    };
-    let mut subject = run(&rt, alloc, subject, &WHOLE_READ)?;
-    writes(&rt, alloc, &mut subject, 10, &[0x13, 2]);
-    Ok(())
 }
 
 #[test]
