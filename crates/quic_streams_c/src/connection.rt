@@ -10,7 +10,7 @@ use quic_session::Session;
 use quic_session::datagrams::DatagramEvent;
 use quic_session::session::Config;
 use quic_streams::PeerLimits;
-use quic_values::{Dir, Side, VarInt};
+use quic_values::{Dir, OutOfMemory, Side, VarInt};
 use quic_wire::StreamEvent;
 use std::alloc::Global;
 
@@ -94,21 +94,21 @@ fn datagram_limits(config: &RawConfig) -> DatagramLimits {
     }
 }
 
-// The session of a configuration, or why there is none.
-fn session_of(alloc: Global, config: &RawConfig) -> Result<Box<Session>, i32> {
+// The session of a configuration, or `None` where a number is above its bound.
+fn session_of(alloc: Global, config: &RawConfig) -> Result<Option<Box<Session>>, OutOfMemory> {
     let side = match config.side {
         0 => Side::Client,
         1 => Side::Server,
-        _ => return Err(ARGUMENT),
+        _ => return Ok(None),
     };
     if config.max_remote_uni >= COUNT_END || config.max_remote_bi >= COUNT_END {
-        return Err(ARGUMENT);
+        return Ok(None);
     }
-    let (Some(receive_window), Some(stream_window)) = (
-        VarInt::from_u64(config.receive_window),
-        VarInt::from_u64(config.stream_window),
-    ) else {
-        return Err(ARGUMENT);
+    let Some(receive_window) = VarInt::from_u64(config.receive_window) else {
+        return Ok(None);
+    };
+    let Some(stream_window) = VarInt::from_u64(config.stream_window) else {
+        return Ok(None);
     };
     let config = Config {
         side,
@@ -119,12 +119,10 @@ fn session_of(alloc: Global, config: &RawConfig) -> Result<Box<Session>, i32> {
         stream_window,
         datagrams: datagram_limits(config),
     };
-    let Ok(session) = Session::new(alloc, &config) else {
-        return Err(NO_MEMORY);
-    };
+    let session = Session::new(alloc, &config)?;
     match Box::new(alloc, session) {
-        Ok(session) => Ok(session),
-        Err(_) => Err(NO_MEMORY),
+        Ok(session) => Ok(Some(session)),
+        Err(_) => Err(OutOfMemory),
     }
 }
 
@@ -142,11 +140,12 @@ pub extern "C" fn qs_conn_open(alloc: Global, handle: &mut Handle, config: &RawC
         return ARGUMENT;
     }
     match session_of(alloc, config) {
-        Ok(session) => {
+        Ok(Some(session)) => {
             *handle = holding(session);
             OK
         }
-        Err(code) => code,
+        Ok(None) => ARGUMENT,
+        Err(_) => NO_MEMORY,
     }
 }
 
