@@ -97,7 +97,9 @@ fn what_was_lost_is_sent_again(rt: HostRuntime) -> Result<(), Fail> {
     let (mut first, mut again) = ([0; 100], [0; 100]);
     let sent = a.emit(&mut first, ALL, true)?.ok_or("nothing was sent")?;
     a.lost(sent.token)?;
-    let resent = a.emit(&mut again, ALL, true)?.ok_or("nothing was sent again")?;
+    let resent = a
+        .emit(&mut again, ALL, true)?
+        .ok_or("nothing was sent again")?;
     same(&rt, first.as_slice(), again.as_slice());
     same(&rt, resent.token, 2);
     Ok(())
@@ -127,8 +129,16 @@ fn datagrams_stand_before_data(rt: HostRuntime) -> Result<(), Fail> {
 #[test]
 fn a_stream_that_was_not_given_is_closed(rt: HostRuntime) -> Result<(), Fail> {
     let mut a = session(rt.alloc(), Side::Client)?;
-    same(&rt, a.reset(id(1), VarInt::from(7u32)), Err(HandleError::ClosedStream));
-    same(&rt, a.stop(id(1), VarInt::from(7u32)), Err(HandleError::ClosedStream));
+    same(
+        &rt,
+        a.reset(id(1), VarInt::from(7u32)),
+        Err(HandleError::ClosedStream),
+    );
+    same(
+        &rt,
+        a.stop(id(1), VarInt::from(7u32)),
+        Err(HandleError::ClosedStream),
+    );
     a.close();
     same(&rt, a.open(Dir::Bi)?, None);
     Ok(())
