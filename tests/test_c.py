@@ -1,9 +1,8 @@
 """The C interface: `libquic_streams.a` as `make` leaves it in `build/lib` (or in the folder that QUIC_STREAMS_LIB_DIR names),
 under the programs of `tests/c`, the examples and the crate for Rust.
 
-Where the gate proved the library in its own run, the archive of the crate is there, and `make` puts it into that folder
-without a proof. Where it took the proof of an earlier run there is none, and what needs it is skipped with a line that
-says so. A compiler or a tool that is missing fails the test that needs it."""
+The gate proves the crate and leaves no archive of it. So what needs the library is skipped there, with a line that says so,
+unless `make` put it into that folder before. A compiler or a tool that is missing fails the test that needs it."""
 import os
 import shutil
 import subprocess
@@ -13,8 +12,6 @@ import unittest
 ROOT = os.path.dirname(os.path.dirname(os.path.abspath(__file__)))
 LIB = os.environ.get("QUIC_STREAMS_LIB_DIR") or os.path.join(ROOT, "build", "lib")
 ARCHIVE = os.path.join(LIB, "libquic_streams.a")
-# What a proof of the crate leaves.
-MADE = os.path.join(ROOT, "crates", "quic_streams_c", "out", "libquic_streams_c.a")
 WARNINGS = ["-Wall", "-Wextra", "-Wpedantic", "-Werror"]
 PAYLOADS = os.environ.get("QUIC_STREAMS_PAYLOADS", "1000000")
 
@@ -37,8 +34,6 @@ def run(*words, **how):
 class Built(unittest.TestCase):
     @classmethod
     def setUpClass(cls):
-        if not os.path.isfile(ARCHIVE) and os.path.isfile(MADE):
-            run("make", f"ARCHIVE={MADE}", cwd=ROOT)
         if not os.path.isfile(ARCHIVE):
             raise unittest.SkipTest(f"{ARCHIVE} is not there: `make` proves it and makes it")
         cls.room = tempfile.TemporaryDirectory(prefix="quic-streams-")
