@@ -144,15 +144,16 @@ fn taken(answer: Result<(), ReceiveError>) -> Answer {
 
 // What is told of the whole connection.
 fn ask_connection(subject: &mut Subject, told: &mut Vec<u64>) -> Result<(), OutOfMemory> {
-    let mut streams = Streams::new(&mut subject.state, ConnState::Open);
+    let streams = Streams::new(&mut subject.state, ConnState::Open);
     told.push(streams.send_streams() as u64)?;
-    for dir in [Dir::Bi, Dir::Uni] {
-        told.push(streams.remote_open_streams(dir))?;
-        told.push(streams.state().max_remote(dir))?;
-        told.push(streams.state().next_remote(dir))?;
-        told.push(streams.state().max_concurrent(dir))?;
-    }
+    told.push(streams.remote_open_streams(Dir::Bi))?;
+    told.push(streams.remote_open_streams(Dir::Uni))?;
     let state = &subject.state;
+    for dir in [Dir::Bi, Dir::Uni] {
+        told.push(state.max_remote(dir))?;
+        told.push(state.next_remote(dir))?;
+        told.push(state.max_concurrent(dir))?;
+    }
     told.push(state.write_limit())?;
     told.push(state.local_max_data())?;
     told.push(state.data_recvd())?;
