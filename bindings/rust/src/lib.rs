@@ -39,6 +39,7 @@
 #![warn(missing_docs)]
 
 mod errors;
+mod frames;
 mod state;
 mod streams;
 #[doc(hidden)]

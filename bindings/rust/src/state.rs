@@ -1,4 +1,5 @@
 use crate::errors::*;
+use crate::frames::transport_error;
 use crate::streams::{RecvStream, SendStream};
 use crate::sys;
 use crate::values::*;
@@ -142,13 +143,7 @@ impl StreamsState {
         let (data, len) = (payload.as_ptr(), payload.len());
         match unsafe { sys::qs_receive(&mut self.conn, data, len, &mut next, &mut error) } {
             sys::OK => Ok(()),
-            sys::PROTOCOL | sys::MALFORMED => {
-                let reason = &error.reason[..(error.reason_len as usize).min(80)];
-                Err(ReceiveError::Transport(TransportError {
-                    code: error.code,
-                    reason: String::from_utf8_lossy(reason).into_owned(),
-                }))
-            }
+            sys::PROTOCOL | sys::MALFORMED => Err(ReceiveError::Transport(transport_error(&error))),
             _ => Err(ReceiveError::OutOfMemory(next)),
         }
     }

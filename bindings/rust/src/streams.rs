@@ -113,6 +113,21 @@ impl<'a> RecvStream<'a> {
         Ok(self.read_at(out, true)?.map(|(count, _)| count))
     }
 
+    /// Reads the next bytes into `out`, which may not be empty, in order or as they came. Says how many they are, at least
+    /// one, and the offset of the first. `None` at the end of the stream. There is no way back from unordered reads.
+    ///
+    /// # Panics
+    ///
+    /// Where `out` is empty.
+    pub fn read_into(
+        &mut self,
+        out: &mut [u8],
+        ordered: bool,
+    ) -> Result<Option<(usize, u64)>, ReadError> {
+        assert!(!out.is_empty(), "a read needs room");
+        self.read_at(out, ordered)
+    }
+
     /// The chunks of the stream, in order or as they came. There is no way back from unordered reads.
     ///
     /// ```

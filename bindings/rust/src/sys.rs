@@ -162,6 +162,28 @@ extern "C" {
         next: &mut usize,
         error: &mut Error,
     ) -> i32;
+    pub fn qs_on_stream(
+        conn: &mut Conn,
+        id: u64,
+        offset: u64,
+        data: *const u8,
+        len: usize,
+        fin: u32,
+        payload_len: usize,
+        error: &mut Error,
+    ) -> i32;
+    pub fn qs_on_reset_stream(
+        conn: &mut Conn,
+        id: u64,
+        app_code: u64,
+        final_size: u64,
+        error: &mut Error,
+    ) -> i32;
+    pub fn qs_on_stop_sending(conn: &mut Conn, id: u64, app_code: u64, error: &mut Error) -> i32;
+    pub fn qs_on_max_data(conn: &mut Conn, limit: u64, error: &mut Error) -> i32;
+    pub fn qs_on_max_stream_data(conn: &mut Conn, id: u64, limit: u64, error: &mut Error) -> i32;
+    pub fn qs_on_max_streams(conn: &mut Conn, dir: u32, count: u64, error: &mut Error) -> i32;
+    pub fn qs_on_datagram(conn: &mut Conn, data: *const u8, len: usize, error: &mut Error) -> i32;
     pub fn qs_emit(
         conn: &mut Conn,
         parts: u32,

@@ -110,8 +110,9 @@ impl Default for Config {
     }
 }
 
-/// The limits of a peer's transport parameters (RFC 9000 section 18.2), each below 2^62.
-#[derive(Clone, Copy, Debug, PartialEq, Eq)]
+/// The limits of a peer's transport parameters (RFC 9000 section 18.2), each below 2^62. The default is that of
+/// parameters that are absent: nothing is permitted.
+#[derive(Clone, Copy, Debug, Default, PartialEq, Eq)]
 #[allow(missing_docs)]
 pub struct Limits {
     pub initial_max_data: u64,

@@ -150,8 +150,10 @@ fn a_peer_that_breaks_the_protocol_is_told_so() -> Result<()> {
 
 #[test]
 fn numbers_above_their_bounds_are_refused() -> Result<()> {
-    let mut config = Config::default();
-    config.stream_window = 1 << 62;
+    let config = Config {
+        stream_window: 1 << 62,
+        ..Config::default()
+    };
     let refused = StreamsState::new(Side::Client, &config).err();
     assert_eq!(refused, Some(ConfigError::OutOfRange));
     let (mut a, _) = ends()?;
@@ -167,5 +169,71 @@ fn numbers_above_their_bounds_are_refused() -> Result<()> {
     );
     a.close();
     assert_eq!(a.open(Dir::Uni)?, None);
+    Ok(())
+}
+
+#[test]
+fn frames_are_taken_one_by_one() -> Result<()> {
+    let (_, mut b) = ends()?;
+    let id = StreamId(2);
+    b.on_stream(id, 3, b"lo", true, 1200)?;
+    b.on_stream(id, 0, b"hel", false, 1200)?;
+    b.on_datagram(b"news")?;
+    assert_eq!(b.recv_datagram().as_deref(), Some(&b"news"[..]));
+    assert_eq!(b.accept(Dir::Uni), Some(id));
+    let mut text = [0; 4];
+    let mut stream = b.recv_stream(id);
+    assert_eq!(stream.read_into(&mut text, false)?, Some((3, 0)));
+    assert_eq!(&text[..3], b"hel");
+    assert_eq!(
+        stream.read_into(&mut text, true),
+        Err(ReadError::IllegalOrderedRead)
+    );
+    assert_eq!(stream.read_into(&mut text, false)?, Some((2, 3)));
+    assert_eq!(stream.read_into(&mut text, false)?, None);
+    b.on_reset_stream(StreamId(6), 9, 0)?;
+    assert_eq!(b.recv_stream(StreamId(6)).received_reset()?, Some(9));
+    Ok(())
+}
+
+#[test]
+fn frames_of_limits_and_stops_reach_the_send_half() -> Result<()> {
+    let mut a = StreamsState::new(Side::Client, &Config::default())?;
+    a.set_params(&Limits {
+        initial_max_data: 4,
+        ..Limits::default()
+    })?;
+    assert_eq!(a.open(Dir::Uni)?, None);
+    a.on_max_streams(Dir::Uni, 1)?;
+    assert_eq!(a.poll(), Some(Event::Available { dir: Dir::Uni }));
+    let id = a.open(Dir::Uni)?.unwrap();
+    let blocked = Err(WriteError::Blocked);
+    assert_eq!(a.send_stream(id).write(b"hello"), blocked);
+    a.on_max_stream_data(id, 5)?;
+    assert_eq!(a.poll(), Some(Event::Writable { id }));
+    assert_eq!(a.send_stream(id).write(b"hello")?, 4);
+    assert_eq!(a.send_stream(id).write(b"o"), blocked);
+    a.on_max_data(6)?;
+    assert_eq!(a.poll(), Some(Event::Writable { id }));
+    assert_eq!(a.send_stream(id).write(b"o!")?, 1);
+    a.on_stop_sending(id, 8)?;
+    assert_eq!(a.poll(), Some(Event::Stopped { id, error_code: 8 }));
+    Ok(())
+}
+
+#[test]
+fn a_frame_that_breaks_the_protocol_is_refused() -> Result<()> {
+    let (_, mut b) = ends()?;
+    let codes = [
+        // STREAM_STATE_ERROR: a stream that only this end may write.
+        (b.on_stream(StreamId(3), 0, b"x", false, 1), 5),
+        // FRAME_ENCODING_ERROR: no variable-length integer is as large.
+        (b.on_max_data(1 << 62), 7),
+        // FLOW_CONTROL_ERROR: far above what was permitted.
+        (b.on_stream(StreamId(2), 1 << 61, b"x", false, 1), 3),
+    ];
+    for (answer, code) in codes {
+        assert!(matches!(answer, Err(ReceiveError::Transport(error)) if error.code == code));
+    }
     Ok(())
 }
