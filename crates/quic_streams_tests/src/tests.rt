@@ -12,6 +12,7 @@ mod refusals;
 mod sending;
 mod settling;
 mod sizes;
+mod visiting;
 mod windows;
 
 use calls::{Subject, finalize, next_chunk};
