@@ -6,13 +6,14 @@ import subprocess
 import sys
 import unittest
 
-ROOT = os.path.dirname(os.path.dirname(os.path.abspath(__file__)))
+from test_programs import ROOT, program, run
+
 THIS = os.path.relpath(os.path.abspath(__file__), ROOT)
 SUFFIXES = "rt|antt|py|md|svg|c|h|edit|txt|map"
 # What is made when something is built, lies in the kit, or is a file of the reader's own.
 MADE = re.compile(r"(?:out|build|c|target)/|lib\w+\.(?:a|so)$|my_host\.c$")
 # Names that stand nowhere in this repository: those of other programs, and of lines that are typed.
-FOREIGN = {"bench", "rattle", "CRATE_tests", "HEX", "Box::new", "io::Error", "Event::DatagramReceived"}
+FOREIGN = {"bench", "rattle", "CRATE_tests", "HEX", "Box::new", "io::Error", "Event::DatagramReceived", "WHAT"}
 CODE = re.compile(r"`([^`\n]+)`")
 LINK = re.compile(r"\[[^\]]*\]\(([^)\s]+)\)")
 HEAD = re.compile(r"^(?:(?:abbrev|unfoldable|opaque)\s+)*(?:pub\s+)?(?:record\s+|data\s+)?([A-Za-z_][\w'-]*)\b", re.M)
@@ -214,8 +215,19 @@ def wrong_code(text):
                 yield f"code that stands nowhere: {part.strip().splitlines()[0]}"
 
 
+def wrong_runs(path, text):
+    """Lines of a stored run that the page quotes, and the program does not print."""
+    name = os.path.splitext(os.path.basename(path))[0]
+    if "\n## The stored run\n" in text and f"crates/{name}/stdout" in CODES.files:
+        printed = {it.strip() for it in read("crates", name, "stdout").splitlines()} | {".."}
+        section = text.split("\n## The stored run\n")[1].split("\n## ")[0]
+        for line in re.findall(r"^    (.*)$", section, flags=re.M):
+            if line.strip() not in printed:
+                yield f"the stored run does not print: {line}"
+
+
 def faults(path, text):
-    found = [*wrong_links(path, text), *wrong_names(path, text), *wrong_definitions(path, text)]
+    found = [*wrong_links(path, text), *wrong_names(path, text), *wrong_definitions(path, text), *wrong_runs(path, text)]
     if path == "docs/words.md":
         found += wrong_words(text)
     if path == "docs/proved.md":
@@ -235,6 +247,25 @@ class Docs(unittest.TestCase):
 
     def test_the_readme_is_short(self):
         self.assertLessEqual(len(read("README.md").splitlines()), 120)
+
+    @unittest.skipUnless(os.access(program("streampair"), os.X_OK), "streampair is not built")
+    def test_the_session_of_the_readme(self):
+        """The lines that the README has typed, left column first, and what is printed for them."""
+        rows = re.findall(r"^\| `([^`]+)` \| `([^`]+)` \| `([^`]+)` \| `([^`]+)` \|$", read("README.md"), flags=re.M)
+        self.assertEqual(len(rows), 5)
+        lines = [row[:2] for row in rows] + [row[2:] for row in rows]
+        typed, printed = ("".join(f"{line[at]}\n" for line in lines) for at in (0, 1))
+        self.assertEqual(run("streampair", typed), (printed, 0))
+
+    @unittest.skipUnless(os.access(program("streampair"), os.X_OK), "streampair is not built")
+    def test_the_sessions_of_the_page(self):
+        """Those of docs/streampair.md; one without configs has those of the first."""
+        blocks = re.findall(r"^```\n(.*?)^```$", read("docs/streampair.md"), flags=re.M | re.S)
+        self.assertGreaterEqual(len(blocks), 2)
+        for block in blocks:
+            block = block if block.startswith("config") else "".join(blocks[0].splitlines(keepends=True)[:4]) + block
+            typed, printed = ("".join(re.findall(it, block, flags=re.M)) for it in (r"^(?!> ).*\n", r"^> (.*\n)"))
+            self.assertEqual(run("streampair", typed), (printed, 0))
 
     def test_numbers_of_definitions_are_those_that_are_counted(self):
         """Those of the headline, and of each clause beside it, in docs/trust.md."""
@@ -266,12 +297,13 @@ WRONG = [
     ("docs/rules.md", "`is_nowhere_at_all`"),
     ("docs/rules.md", "`quic_wire::encode_nowhere`"),
     ("docs/rules.md", "`Pair::nowhere`"),
-    ("docs/rules.md", "Defined in `quic_pair/specs/Steps.antt` (`Nowhere`)."),
-    ("docs/words.md", "## The pair (`quic_pair`)\n| `Nowhere` | `Steps` | nothing |"),
-    ("docs/proved.md", "### quic_pair\n| a promise | `is_nowhere` |"),
+    ("docs/rules.md", "Defined in `quic_pair/specs/Steps.antt` (`TakesTurns`)."),
+    ("docs/words.md", "## The pair (`quic_pair`)\n| `TakesTurns` | `Steps` | nothing |"),
+    ("docs/proved.md", "### quic_pair\n| a promise | `hex_field` |"),
     ("docs/rfc.md", "| 4.1 | credit | `Pair` | `nowhere` (`quic_pair`) | `every_kind_of_step_is_answered` |"),
     ("docs/rfc.md", "| 4.1 | credit | `Pair` | `headline` (`quic_pair`) | `nowhere` |"),
     ("README.md", "```rust\nlet nowhere = 1;\n```"),
+    ("docs/streamsim.md", "\n## The stored run\n\n    nowhere\n"),
 ]
 
 
