@@ -267,6 +267,11 @@ class Docs(unittest.TestCase):
             typed, printed = ("".join(re.findall(it, block, flags=re.M)) for it in (r"^(?!> ).*\n", r"^> (.*\n)"))
             self.assertEqual(run("streampair", typed), (printed, 0))
 
+    def test_each_crate_is_drawn(self):
+        """In docs/layers.svg, which `tools/draw_layers.py` makes."""
+        drawn = set(re.findall(r">(\w+)</text>", read("docs/layers.svg")))
+        self.assertEqual({it for it in CODES.crates if not it.endswith("_tests")} - drawn, set())
+
     def test_numbers_of_definitions_are_those_that_are_counted(self):
         """Those of the headline, and of each clause beside it, in docs/trust.md."""
         page, headline = read("docs/trust.md"), ["quic_pair.specs.Headline:Headline", "quic_pair.specs.History:past_of"]
