@@ -245,6 +245,17 @@ class Docs(unittest.TestCase):
             with self.subTest(path):
                 self.assertEqual(faults(path, text), [])
 
+    def test_each_page_is_reached(self):
+        """By links from the README."""
+        reached, to_read = set(), ["README.md"]
+        while to_read:
+            path = to_read.pop()
+            if path not in reached:
+                reached.add(path)
+                targets = [it.split("#")[0] for it in LINK.findall(read(path)) if path.endswith(".md")]
+                to_read += [os.path.normpath(os.path.join(os.path.dirname(path), it)) for it in targets if it]
+        self.assertEqual(set(pages()) - reached, set())
+
     def test_the_readme_is_short(self):
         self.assertLessEqual(len(read("README.md").splitlines()), 120)
 
