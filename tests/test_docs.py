@@ -15,13 +15,14 @@ MADE = re.compile(r"(?:out|build|c|target)/|lib\w+\.(?:a|so)$|my_host\.c$")
 # Names that stand nowhere in this repository: those of other programs, and of lines that are typed.
 FOREIGN = {"bench", "rattle", "CRATE_tests", "HEX", "Box::new", "io::Error", "Event::DatagramReceived", "WHAT"}
 CODE = re.compile(r"`([^`\n]+)`")
+PATH = re.compile(rf"[\w./*-]+\.(?:{SUFFIXES})$|(?:crates|docs|tests|tools|bindings|include)/")
 LINK = re.compile(r"\[[^\]]*\]\(([^)\s]+)\)")
 HEAD = re.compile(r"^(?:(?:abbrev|unfoldable|opaque)\s+)*(?:pub\s+)?(?:record\s+|data\s+)?([A-Za-z_][\w'-]*)\b", re.M)
 NAME = re.compile(r"[A-Za-z_]\w*")
 
 
 def read(*path):
-    with open(os.path.join(ROOT, *path), encoding="utf-8") as file:
+    with open(os.path.join(ROOT, *path), encoding="utf-8", errors="replace") as file:
         return file.read()
 
 
@@ -53,7 +54,8 @@ class Code:
         self.texts = {it: read(it) for it in self.files if it.endswith((".rt", ".antt", ".rs"))}
         self.words = {crate: set() for crate in self.crates}
         for path, text in [it for it in self.texts.items() if it[0].startswith("crates/")]:
-            self.words[path.split("/")[1]].update(NAME.findall(text), [os.path.splitext(os.path.basename(path))[0]])
+            words = self.words.setdefault(path.split("/")[1], set())
+            words.update(NAME.findall(text), [os.path.splitext(os.path.basename(path))[0]])
         self.clauses = {it for text in self.texts.values() for it in re.findall(r"\bensures\*? (\w+) \{", text)}
         kept = re.compile(r"^(?:tests|tools|include|bindings|examples|packaging|Makefile)")
         others = {word for it in self.files if kept.match(it) and it != THIS for word in NAME.findall(it + " " + read(it))}
@@ -121,7 +123,7 @@ def wrong_names(path, text):
     for code in CODE.findall(plain):
         if code in FOREIGN:
             continue
-        if re.fullmatch(rf"[\w./*-]+\.(?:{SUFFIXES})", code) or re.match(r"(?:crates|docs|tests|tools|bindings|include)/", code):
+        if PATH.match(code):
             if not re.search(r"NAME|CRATE", code) and not is_file(code.split()[0], text):
                 yield f"`{code}`: no such file"
             continue
@@ -150,7 +152,8 @@ def wrong_definitions(path, text):
         for file, names in re.findall(r"`([\w/]+\.antt)` \(([^)]*)\)", line):
             there = f"crates/{file}" in CODES.texts
             yield from [] if there else [f"{file}: no such file"]
-            yield from (f"{file} does not define {it}" for it in CODE.findall(names) if there and not CODES.defines(f"crates/{file}", it))
+            wrong = [it for it in CODE.findall(names) if there and not CODES.defines(f"crates/{file}", it)]
+            yield from (f"{file} does not define {it}" for it in wrong)
 
 
 def wrong_words(text):
@@ -305,7 +308,7 @@ class Docs(unittest.TestCase):
                 self.assertEqual(len(faults(path, line)), 1)
 
 
-# Lines that are wrong: a link, a heading, a file, a name, a call of a crate, a member, a definition, a word, a clause, a section.
+# Lines that are wrong, with the page on which they would stand.
 WRONG = [
     ("docs/rules.md", "[here](nowhere.md)"),
     ("docs/rules.md", "[here](pair.md#nowhere)"),
