@@ -92,14 +92,22 @@ def is_file(name, text):
     if MADE.match(name):
         return True
     ends = re.compile(r"(?:^|/)" + re.escape(name.rstrip("/")).replace(r"\*", "[^/]*") + r"(?:$|/)")
-    known = set(NAME.findall(text)) & set(CODES.crates) or set(CODES.crates)
-    last = name.rstrip("/").split("/")[-1].split("*")[-1]
+    known, last = known_crates(text), name.rstrip("/").split("/")[-1].split("*")[-1]
     for path in CODES.files:
         if last in path and ends.search(path):
             top, crate, *_ = path.split("/") + [""]
             if top != "crates" or crate.removesuffix("_tests") in known or crate in known:
                 return True
     return False
+
+
+def known_crates(text):
+    """The crates that a page speaks of, or all."""
+    return set(NAME.findall(text)) & set(CODES.crates) or set(CODES.crates)
+
+
+def is_known(name, text):
+    return any(name in CODES.words[it] for it in known_crates(text))
 
 
 def wrong_links(path, text):
@@ -135,6 +143,8 @@ def wrong_names(path, text):
                 yield f"`{code}`: no such word"
         elif re.fullmatch(r"([A-Za-z_]\w*)\([\w, _&.]*\)", code) and code.split("(")[0] not in CODES.all_words:
             yield f"`{code}`: no such call"
+        elif re.match(r"(?:[A-Z]\w*[a-z]\w*|\w+_\w+) \w", code) and not is_known(code.split()[0], text):
+            yield f"`{code}`: no such definition"
 
 
 def wrong_path(parts):
@@ -314,6 +324,7 @@ WRONG = [
     ("docs/rules.md", "[here](pair.md#nowhere)"),
     ("docs/rules.md", "`src/nowhere.rt` of `quic_pair`"),
     ("docs/rules.md", "`is_nowhere_at_all`"),
+    ("docs/rules.md", "`Headline a b` of `quic_wire`"),
     ("docs/rules.md", "`quic_wire::encode_nowhere`"),
     ("docs/rules.md", "`Pair::nowhere`"),
     ("docs/rules.md", "Defined in `quic_pair/specs/Steps.antt` (`TakesTurns`)."),
