@@ -1,5 +1,6 @@
 """Whether the pages are right where that can be looked up: links lead somewhere, files that a page names are there, and so
 are the names of code, clauses and definitions; numbers of definitions are those that are counted."""
+import glob
 import os
 import re
 import subprocess
@@ -156,6 +157,14 @@ def wrong_path(parts):
         yield f"`{name}`: no such member"
 
 
+def wrong_commands(path, text):
+    """Files that are typed in a page's blocks, and are nowhere."""
+    blocks = "\n".join(re.findall(r"^```.*?^```$", text, flags=re.M | re.S) + re.findall(r"^ {4,}.*$", text, flags=re.M))
+    for file in re.findall(r"(?<![\w./])(?:crates|docs|tests|tools|bindings|examples|include)/[\w./*-]+", blocks):
+        if "/out/" not in file and not glob.glob(os.path.join(ROOT, file)):
+            yield f"{file}: typed, and no such file"
+
+
 def wrong_definitions(path, text):
     """Names behind `Defined in FILE (..)` that the file does not define."""
     for line in re.findall(r"^Defined in .*$", text, flags=re.M):
@@ -241,6 +250,7 @@ def wrong_runs(path, text):
 
 def faults(path, text):
     found = [*wrong_links(path, text), *wrong_names(path, text), *wrong_definitions(path, text), *wrong_runs(path, text)]
+    found += wrong_commands(path, text)
     if path == "docs/words.md":
         found += wrong_words(text)
     if path == "docs/proved.md":
@@ -323,6 +333,7 @@ WRONG = [
     ("docs/rules.md", "[here](nowhere.md)"),
     ("docs/rules.md", "[here](pair.md#nowhere)"),
     ("docs/rules.md", "`src/nowhere.rt` of `quic_pair`"),
+    ("docs/rules.md", "    python3 tools/nowhere.py"),
     ("docs/rules.md", "`is_nowhere_at_all`"),
     ("docs/rules.md", "`Headline a b` of `quic_wire`"),
     ("docs/rules.md", "`quic_wire::encode_nowhere`"),
