@@ -3,20 +3,20 @@
 
     tools/draw_layers.py
 
-An arrow is left out where others lead there. Crates of tests are left out.
+A line is left out where others lead there, and goes around the crates between its ends. Crates of tests are left out.
 """
 import os
 
 ROOT = os.path.dirname(os.path.dirname(os.path.abspath(__file__)))
-WIDTH, BOX, HEIGHT, ROW, TOP, LEGEND = 1060, 150, 30, 74, 84, 960
+WIDTH, BOX, BEND, HEIGHT, ROW, TOP, LEGEND = 1060, 150, 16, 30, 74, 84, 960
 # What a crate is part of, by the words of its name; programs are those that nothing stands on.
 PARTS = [
     ("receive side", "#56b4e9", ("quic_assembler", "quic_ordered", "quic_receiving", "block_map")),
     ("send side", "#e69f00", ("quic_sending", "quic_queue", "quic_outgoing", "quic_writing", "quic_flows", "quic_retransmits")),
-    ("one end", "#009e73", ("quic_history", "quic_streams", "quic_endpoint")),
+    ("one end", "#009e73", ("quic_history", "quic_streams", "quic_endpoint", "quic_session")),
     ("two ends", "#cc79a7", ("quic_link", "quic_pair", "quic_steps")),
 ]
-OTHERS, PROGRAMS = ("values, frames, limits", "#bbbbbb"), ("programs and libraries for others", "#f0e442")
+OTHERS, PROGRAMS = ("values, frames, and other parts", "#bbbbbb"), ("programs and libraries for others", "#f0e442")
 
 
 def read_crates():
@@ -63,8 +63,28 @@ def ranks_of(deps, arrows):
     return [row for row in rows if row]
 
 
+def with_bends(rows, arrows):
+    """Each line from row to row: where it passes a row it has a place of its own there, a bend."""
+    at = {name: index for index, row in enumerate(rows) for name in row}
+    rows, joins = [list(row) for row in rows], {}
+    for name in arrows:
+        for dep in arrows[name]:
+            last = name
+            for index in range(at[name] - 1, at[dep], -1):
+                bend = (name, dep, index)
+                rows[index].append(bend)
+                joins.setdefault(last, []).append(bend)
+                last = bend
+            joins.setdefault(last, []).append(dep)
+    return rows, {name: joins.get(name, []) for row in rows for name in row}
+
+
+def width_of(name):
+    return BOX if isinstance(name, str) else BEND
+
+
 def places_of(rows, arrows):
-    """The middle of each box: rows are put in the order of what their crates are joined to, up and down a few times."""
+    """The middle of each box and bend: rows are put in the order of what they are joined to, up and down a few times."""
     middle = {}
     for row in rows:
         for index, name in enumerate(row):
@@ -78,15 +98,16 @@ def places_of(rows, arrows):
                 near = joined[name] or arrows[name] or up[name]
                 return sum(middle[other] for other in near) / len(near) if near else middle[name]
 
-            wishes = sorted((wish(name), name) for name in row)
-            least, gap = BOX / 2 + 10, BOX + 14
+            wishes = sorted(((wish(name), name) for name in row), key=lambda it: (it[0], str(it[1])))
+            halves = [width_of(name) / 2 for _, name in wishes]
+            gaps = [halves[index - 1] + halves[index] + 14 for index in range(1, len(halves))]
             xs = []
-            for wished, _ in wishes:
-                xs.append(max(wished, xs[-1] + gap if xs else least))
-            most = WIDTH - BOX / 2 - 10
+            for index, (wished, _) in enumerate(wishes):
+                xs.append(max(wished, xs[-1] + gaps[index - 1] if xs else halves[0] + 10))
+            most = WIDTH - halves[-1] - 10
             for index in reversed(range(len(xs))):
                 xs[index] = min(xs[index], most)
-                most = xs[index] - gap
+                most = xs[index] - (gaps[index - 1] if index else 0)
             for (_, name), x in zip(wishes, xs):
                 middle[name] = x
     return middle
@@ -99,10 +120,12 @@ def main():
         below(deps, name, known)
     arrows = {name: [dep for dep in deps[name] if not any(dep in known[other] for other in deps[name])] for name in deps}
     rows = ranks_of(deps, arrows)
-    middle = places_of(rows, arrows)
-    left = min(middle.values()) - BOX / 2 - 20
+    rows, joins = with_bends(rows, arrows)
+    middle = places_of(rows, joins)
+    left = min(x - width_of(name) / 2 for name, x in middle.items()) - 20
     middle = {name: x - left for name, x in middle.items()}
-    width, height = max(LEGEND, round(max(middle.values()) + BOX / 2 + 20)), TOP + ROW * len(rows)
+    right = max(x + width_of(name) / 2 for name, x in middle.items())
+    width, height = max(LEGEND, round(right + 20)), TOP + ROW * len(rows)
     y = {name: height - ROW * (index + 1) + 20 for index, row in enumerate(rows) for name in row}
     out = [
         f"<svg xmlns='http://www.w3.org/2000/svg' viewBox='0 0 {width} {height}' width='{width}' height='{height}' role='img'>",
@@ -117,11 +140,11 @@ def main():
         out.append(f"<text x='{x + 22}' y='57'>{label}</text>")
         x += 50 + 7 * len(label)
     out.append("<g fill='none' stroke='#888' stroke-width='1.2'>")
-    for name in deps:
-        for dep in arrows[name]:
+    for name in joins:
+        for dep in joins[name]:
             (x1, y1), (x2, y2) = (middle[name], y[name] + HEIGHT), (middle[dep], y[dep])
-            bend = max(20, (y2 - y1) / 2)
-            out.append(f"<path d='M{x1:.0f} {y1}C{x1:.0f} {y1 + bend:.0f} {x2:.0f} {y2 - bend:.0f} {x2:.0f} {y2}'/>")
+            bend, through = (y2 - y1) / 2, "" if isinstance(dep, str) else f"V{y2 + HEIGHT}"
+            out.append(f"<path d='M{x1:.0f} {y1}C{x1:.0f} {y1 + bend:.0f} {x2:.0f} {y2 - bend:.0f} {x2:.0f} {y2}{through}'/>")
     out.append("</g>")
     for name in deps:
         color, left = color_of(deps, name), middle[name] - BOX / 2
