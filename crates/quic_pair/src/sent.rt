@@ -26,11 +26,11 @@ pub(crate) struct Sent {
 
 impl Sent {
     pub(crate) fn new(alloc: Global, writer: End, payload: Payload) -> Self
-        ensures { (result.writer ≡ writer) × (result.control ≡ payload.control) × (result.text ≡ record { bytes = payload.bytes.items; accepted = [] }) }
+        ensures { (result.writer ≡ writer) × (result.control ≡ payload.sent.control) × (result.text ≡ record { bytes = payload.bytes.items; accepted = [] }) }
     {
         Sent {
             writer,
-            control: payload.control,
+            control: payload.sent.control,
             text: SentText::new(alloc, payload.bytes),
         }
     }
