@@ -20,6 +20,7 @@ use Rattle.quic_history.specs.Carrying.{with_writer}
 use Rattle.quic_history.specs.SendEvents.{TookTurn}
 use Rattle.quic_history.specs.History.{Event, Settled, Sending, flow}
 use Rattle.quic_streams.specs.Payload.{Entry, with_entries, control_order}
+use Rattle.quic_streams.specs.Settling.{resets_of}
 use Rattle.quic_streams.specs.Transmitting.{end_writer, told_bytes}
 use Rattle.quic_link.specs.Endpoints.{Endpoint, IsOneOf}
 use Rattle.quic_link.proofs.Ends.{ArePlain}
@@ -27,20 +28,20 @@ use Rattle.quic_link.proofs.Growth.{held-told}
 use Rattle.quic_link.proofs.Texts.{length-between}
 use Rattle.quic_link.proofs.TrueFrames.{turn-so}
 use Rattle.quic_endpoint.specs.Ends.{EndState}
-use Rattle.quic_endpoint.specs.Emitting.{PayloadView, place_at, EmitsControl, EmitsStreams, EmitsNoStream, EmitsAt, whole, cut}
+use Rattle.quic_endpoint.specs.Emitting.{PayloadView, control_in, place_at, EmitsControl, EmitsStreams, EmitsNoStream, EmitsAt, whole, cut}
 use Rattle.quic_steps.specs.declared.steps.Config.{Config}
 use Rattle.quic_steps.specs.declared.steps.End.{End}
 use Rattle.quic_steps.specs.declared.steps.Step.TheVariants as steps
 use Rattle.quic_steps.specs.declared.steps.Reply.TheVariants.{Payload}
 use Rattle.quic_steps.specs.declared.steps.PairError.TheVariants.{OutOfMemory as NoMemory}
 use Rattle.quic_pair.specs.declared.sent.Sent.{Sent}
-use Rattle.quic_pair.specs.Payloads.{SentText, is_control}
+use Rattle.quic_pair.specs.Payloads.{SentText, is_control, codes_in, metas_in}
 use Rattle.quic_pair.specs.Replies.{Answer}
 use Rattle.quic_pair.specs.State.{PairState}
 use Rattle.quic_pair.specs.Steps.{Emits, Emitted}
 use Rattle.quic_pair.specs.History.{History}
 use Rattle.quic_pair.specs.Tale.{Tale, Tales, StepTells, SendsOne, WasPayload, with_deed, with_frames_sent, told_of}
-use Rattle.quic_pair.proofs.DuePayloads.{Front, front_kinds, front_first}
+use Rattle.quic_pair.proofs.DuePayloads.{Front, front_kinds, front_first, codes-joined}
 use Rattle.quic_pair.proofs.PayloadQueues.{queue-bare}
 use Rattle.quic_pair.proofs.PayloadEmits.{bare_world, bare_after, stay_before}
 use Rattle.quic_pair.proofs.Counted.{Counted, TellsSo, counted-untold, counted-deed, counted-at, tells-untold, side-held}
@@ -136,17 +137,37 @@ controls_told [] fs t c = refl
 controls_told (frames.Stream s ∷ gs) fs t c = let e = c (frames.Stream s) (inl refl) in cc
 controls_told (_ ∷ gs) fs t c = controls_told gs fs t (λ g h. c g (inr h))
 
+-- the bytes of a frame are as many as it carries
+whole_length : (written : ℕ → List ℕ) (m : StreamMeta) (t : Tale) → length (written m.id) ≡ total_length (t.flow m.id).cuts → IsWithin t m → m.offsets.start + length (between (written m.id) m.offsets.start m.offsets.end) ≡ m.offsets.end
+whole_length written m t size k =
+    let ordered = k.ordered in
+    let within = k.within in
+    let long = length-between (written m.id) m.offsets.start m.offsets.end ordered (omega arith) in
+    omega arith
+
 -- and the others what they carry
 streams_told : (written : ℕ → List ℕ) (ms : List StreamMeta) (t u : Tale) → ((q : ℕ) → length (written q) ≡ total_length (t.flow q).cuts) → AreWithin t ms → with_frames_sent (map (frame_with written) ms) u ≡ with_metas_sent ms u
 streams_told written [] t u l a = refl
 streams_told written (m ∷ ms) t u l a =
-    let size = l m.id in
-    let k = a.0 in
-    let ordered = k.ordered in
-    let within = k.within in
-    let long = length-between (written m.id) m.offsets.start m.offsets.end ordered (omega arith) in
-    let end : m.offsets.start + length (between (written m.id) m.offsets.start m.offsets.end) ≡ m.offsets.end = omega arith in
+    let end = whole_length written m t (l m.id) a.0 in
     ap (λ n. with_frames_sent (map (frame_with written) ms) (with_deed m.id (WasCarried m.offsets.start n m.fin) u)) end ∙ streams_told written ms t (with_deed m.id (carried m) u) l a.1
+
+-- what they carry is what was handed back of them
+controls_carry : (gs fs : List Frame) → ((g : Frame) → IsOneOf g gs → is_control g ≡ true) → metas_in (gs ++ fs) ≡ metas_in fs
+controls_carry [] fs c = refl
+controls_carry (frames.Stream s ∷ gs) fs c = let e = c (frames.Stream s) (inl refl) in cc
+controls_carry (_ ∷ gs) fs c = controls_carry gs fs (λ g h. c g (inr h))
+
+streams_carry : (written : ℕ → List ℕ) (ms : List StreamMeta) (t : Tale) → ((q : ℕ) → length (written q) ≡ total_length (t.flow q).cuts) → AreWithin t ms → metas_in (map (frame_with written) ms) ≡ ms
+streams_carry written [] t l a = refl
+streams_carry written (m ∷ ms) t l a =
+    let again : ℕ → StreamMeta = λ n. record m { offsets = record m.offsets { end = n } } in
+    ap (λ n. again n ∷ metas_in (map (frame_with written) ms)) (whole_length written m t (l m.id) a.0) ∙ ap (λ k. m ∷ k) (streams_carry written ms t l a.1)
+
+-- none of them gives a stream up
+streams_keep : (written : ℕ → List ℕ) (ms : List StreamMeta) → codes_in (map (frame_with written) ms) ≡ []
+streams_keep written [] = refl
+streams_keep written (m ∷ ms) = streams_keep written ms
 
 -- ---- entries beside STREAM
 
@@ -162,18 +183,20 @@ control_counted m t most e f answer bytes sent k c =
 
 -- ---- a payload
 
--- what a payload's bytes spell, and what is told then
+-- what a payload's bytes spell, what was handed back of its frames, and what is told then
 record PayloadCounted (m : Made) (t : Tale) (payload : PayloadView) (f : EndState) : Type 0 where
   pub all : List Frame
   pub spelled : AreFrames payload.bytes all
+  pub metas : payload.sent.streams ≡ metas_in all
+  pub resets : resets_of payload.sent.control ≡ codes_in all
   pub counted : Counted m f.streams (with_frames_sent all t)
 
-module _ (m : Made) (t : Tale) (most : ℕ) (e between : EndState) (payload : PayloadView) (f : EndState) (bytes : List ℕ) (answer : Result (Unit {0}) OutOfMemory) (control : EmitsControl most e answer between bytes payload.control) (c : Counted m e.streams t) where
+module _ (m : Made) (t : Tale) (most : ℕ) (e between : EndState) (payload : PayloadView) (f : EndState) (bytes : List ℕ) (answer : Result (Unit {0}) OutOfMemory) (control : EmitsControl most e answer between bytes (control_in payload)) (c : Counted m e.streams t) where
   then_counted : Counted m between.streams t
-  then_counted = control_counted m t most e between answer bytes payload.control control c
+  then_counted = control_counted m t most e between answer bytes (control_in payload) control c
 
-  begins_with : Front most (place_at between bytes payload.control control.after)
-  begins_with = front_kinds most control_order (place_at e [] nothing control.before) (place_at between bytes payload.control control.after) answer (front_first most e control.before) control.writes
+  begins_with : Front most (place_at between bytes (control_in payload) control.after)
+  begins_with = front_kinds most control_order (place_at e [] nothing control.before) (place_at between bytes (control_in payload) control.after) answer (front_first most e control.before) control.writes
 
   streams_behind : {fair : Bool} {last : Result (Unit {0}) OutOfMemory} → EmitsStreams most fair between bytes last f payload → PayloadCounted m t payload f
   streams_behind {fair} s =
@@ -195,8 +218,10 @@ module _ (m : Made) (t : Tale) (most : ℕ) (e between : EndState) (payload : Pa
       let P : Tale → Type 0 = λ v. Counted m f.streams v in
       record {
         all = front.all ++ ms;
+        metas = turned.1 ∙ sym (controls_carry front.all ms front.control ∙ ap (λ l. metas_in (map (frame_with written) l)) same_frames ∙ streams_carry written turned.0 t long turned.2.within);
+        resets = front.resets ∙ sym (codes-joined front.all ms ∙ ap (λ l. codes_in front.all ++ l) (streams_keep written appended.frames) ∙ append-nil (codes_in front.all));
         spelled = subst Q (sym appended.bytes) (join (bytes ++ appended.text) appended.text [] front.all ms (front.spelled appended.text) appended.decodes);
-        counted = subst P (sym told) (counted-at f.streams (sym (bare_after w f.streams payload.bytes payload.streams s.writes.others bare_later)) turned.2.counted);
+        counted = subst P (sym told) (counted-at f.streams (sym (bare_after w f.streams payload.bytes payload.sent.streams s.writes.others bare_later)) turned.2.counted);
       }
 
   none_behind : EmitsNoStream between bytes f payload → PayloadCounted m t payload f
@@ -207,6 +232,8 @@ module _ (m : Made) (t : Tale) (most : ℕ) (e between : EndState) (payload : Pa
       let P : Tale → Type 0 = λ v. Counted m f.streams v in
       record {
         all = front.all;
+        metas = s.none ∙ sym (ap metas_in (sym (append-nil front.all)) ∙ controls_carry front.all [] front.control);
+        resets = front.resets;
         spelled = subst Q (append-nil bytes ∙ sym s.bytes_are) (front.spelled []);
         counted = subst P (sym told) (counted-at f.streams (ap (λ (g : EndState). g.streams) s.same) then_counted);
       }

@@ -98,6 +98,18 @@ resets_in [] = []
 resets_in (frames.ResetStream f ∷ fs) = f.id ∷ resets_in fs
 resets_in (_ ∷ fs) = resets_in fs
 
+-- the streams of the RESET_STREAM frames among some, each with its code
+abbrev pub codes_in : List Frame → List (ℕ × ℕ)
+codes_in [] = []
+codes_in (frames.ResetStream f ∷ fs) = (f.id, f.error_code) ∷ codes_in fs
+codes_in (_ ∷ fs) = codes_in fs
+
+-- what the STREAM frames among some carry
+abbrev pub metas_in : List Frame → List StreamMeta
+metas_in [] = []
+metas_in (frames.Stream s ∷ fs) = meta_of s ∷ metas_in fs
+metas_in (_ ∷ fs) = metas_in fs
+
 -- whether the frame at a place is marked
 abbrev pub is_marked : List Bool → ℕ → Bool
 is_marked marks index = slice_index_or marks index false

@@ -11,7 +11,7 @@ use Rattle.quic_retransmits.specs.Settling.{noted_in}
 use Rattle.quic_endpoint.specs.Ends.{EndState}
 use Rattle.quic_endpoint.specs.Receiving.{ReceivesAt, AccountsFrame}
 use Rattle.quic_endpoint.specs.Reports.{LosesAt, AcksAt, with_pending}
-use Rattle.quic_endpoint.specs.Emitting.{PayloadView, EmitsAt}
+use Rattle.quic_endpoint.specs.Emitting.{PayloadView, control_in, EmitsAt}
 use Rattle.quic_steps.specs.declared.steps.End.{End}
 use Rattle.quic_steps.specs.declared.steps.Step.{Step}
 use Rattle.quic_steps.specs.declared.steps.Step.TheVariants as steps
@@ -29,7 +29,7 @@ use Rattle.quic_pair.specs.Calls.{Opens, Accepts, OnGiven, Writes, WritesChunksO
 pub record IsSentBy (who : End) (payload : PayloadView) (s : Sent) : Type 0 where
   pub writer : s.writer ≡ who
   pub text : s.text ≡ record { bytes = payload.bytes; accepted = [] }
-  pub control : noted_in s.control ≡ payload.control
+  pub control : noted_in s.control ≡ control_in payload
 
 -- an end wrote a payload, which is sent
 pub record Emits (old : PairState) (who : End) (most : ℕ) (fair : Bool) (answer : Result (Unit {0}) OutOfMemory) (payload : PayloadView) (new : PairState) : Type 0 where
