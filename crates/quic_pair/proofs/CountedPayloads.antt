@@ -1,7 +1,7 @@
 -- What payloads that an end writes tell of what it sends.
 use Rattle.std.proofs.Common.{◌≡◌, ℕ, Bool, true, false, List, [], ◌∷◌, ◌++◌, length, Some, None, Result, Ok, Err, refl, sym, ap, ◌∙◌, subst, inl, inr, arith, ◌≤◌, ◌+◌}
 use Rattle.std.specs.Prelude.{slice_get, map, if◌then◌else◌, ◌==◌}
-use Rattle.std.proofs.lemmas.List.{append-nil, append_assoc}
+use Rattle.std.proofs.lemmas.List.{append-nil, append_assoc, length-append}
 use Rattle.quic_values.specs.declared.memory.OutOfMemory.{OutOfMemory}
 use Rattle.quic_sending.specs.Buffer.{total_length}
 use Rattle.quic_sending.proofs.Cuts.{length-concat}
@@ -20,7 +20,6 @@ use Rattle.quic_history.specs.Carrying.{with_writer}
 use Rattle.quic_history.specs.SendEvents.{TookTurn}
 use Rattle.quic_history.specs.History.{Event, Settled, Sending, flow}
 use Rattle.quic_streams.specs.Payload.{Entry, with_entries, control_order}
-use Rattle.quic_streams.specs.Settling.{resets_of}
 use Rattle.quic_streams.specs.Transmitting.{end_writer, told_bytes}
 use Rattle.quic_link.specs.Endpoints.{Endpoint, IsOneOf}
 use Rattle.quic_link.proofs.Ends.{ArePlain}
@@ -35,17 +34,16 @@ use Rattle.quic_steps.specs.declared.steps.Step.TheVariants as steps
 use Rattle.quic_steps.specs.declared.steps.Reply.TheVariants.{Payload}
 use Rattle.quic_steps.specs.declared.steps.PairError.TheVariants.{OutOfMemory as NoMemory}
 use Rattle.quic_pair.specs.declared.sent.Sent.{Sent}
-use Rattle.quic_pair.specs.Payloads.{SentText, is_control, codes_in, metas_in}
+use Rattle.quic_pair.specs.Payloads.{SentText, is_control, codes_in, metas_in, noted_of}
 use Rattle.quic_pair.specs.Replies.{Answer}
 use Rattle.quic_pair.specs.State.{PairState}
 use Rattle.quic_pair.specs.Steps.{Emits, Emitted}
-use Rattle.quic_pair.specs.History.{History}
 use Rattle.quic_pair.specs.Tale.{Tale, Tales, StepTells, SendsOne, WasPayload, with_deed, with_frames_sent, told_of}
-use Rattle.quic_pair.proofs.DuePayloads.{Front, front_kinds, front_first, codes-joined}
+use Rattle.quic_pair.proofs.DuePayloads.{Front, front_kinds, front_first, codes-joined, codes-noted, noted-joined}
 use Rattle.quic_pair.proofs.PayloadQueues.{queue-bare}
-use Rattle.quic_pair.proofs.PayloadEmits.{bare_world, bare_after, stay_before}
+use Rattle.quic_pair.proofs.PayloadEmits.{bare_world, bare_after}
 use Rattle.quic_pair.proofs.Counted.{Counted, TellsSo, counted-untold, counted-deed, counted-at, tells-untold, side-held}
-use Rattle.quic_pair.proofs.Recounted.{Recounted, made_at, recount-sent, recount-same, untold}
+use Rattle.quic_pair.proofs.Recounted.{Recounted, Retold, IsHandedBack, made_at, recount-sent, recount-same, untold}
 
 -- ---- turns of the send queue
 
@@ -169,6 +167,11 @@ streams_keep : (written : ℕ → List ℕ) (ms : List StreamMeta) → codes_in 
 streams_keep written [] = refl
 streams_keep written (m ∷ ms) = streams_keep written ms
 
+-- nor is anything noted of them
+streams_note : (written : ℕ → List ℕ) (ms : List StreamMeta) (p : Pending) → noted_of p (map (frame_with written) ms) ≡ p
+streams_note written [] p = refl
+streams_note written (m ∷ ms) p = streams_note written ms p
+
 -- ---- entries beside STREAM
 
 entries_told : (m : Made) (es : List Entry) (h : List Event) (t : Tale) → ArePlain h → TellsSo m h t → ArePlain (with_entries es h) × TellsSo m (with_entries es h) t
@@ -187,8 +190,7 @@ control_counted m t most e f answer bytes sent k c =
 record PayloadCounted (m : Made) (t : Tale) (payload : PayloadView) (f : EndState) : Type 0 where
   pub all : List Frame
   pub spelled : AreFrames payload.bytes all
-  pub metas : payload.sent.streams ≡ metas_in all
-  pub resets : resets_of payload.sent.control ≡ codes_in all
+  pub back : IsHandedBack payload all
   pub counted : Counted m f.streams (with_frames_sent all t)
 
 module _ (m : Made) (t : Tale) (most : ℕ) (e between : EndState) (payload : PayloadView) (f : EndState) (bytes : List ℕ) (answer : Result (Unit {0}) OutOfMemory) (control : EmitsControl most e answer between bytes (control_in payload)) (c : Counted m e.streams t) where
@@ -218,8 +220,11 @@ module _ (m : Made) (t : Tale) (most : ℕ) (e between : EndState) (payload : Pa
       let P : Tale → Type 0 = λ v. Counted m f.streams v in
       record {
         all = front.all ++ ms;
-        metas = turned.1 ∙ sym (controls_carry front.all ms front.control ∙ ap (λ l. metas_in (map (frame_with written) l)) same_frames ∙ streams_carry written turned.0 t long turned.2.within);
-        resets = front.resets ∙ sym (codes-joined front.all ms ∙ ap (λ l. codes_in front.all ++ l) (streams_keep written appended.frames) ∙ append-nil (codes_in front.all));
+        back = record {
+          metas = turned.1 ∙ sym (controls_carry front.all ms front.control ∙ ap (λ l. metas_in (map (frame_with written) l)) same_frames ∙ streams_carry written turned.0 t long turned.2.within);
+          resets = codes-noted payload front.all front.noted ∙ sym (codes-joined front.all ms ∙ ap (λ l. codes_in front.all ++ l) (streams_keep written appended.frames) ∙ append-nil (codes_in front.all));
+          noted = front.noted ∙ sym (noted-joined nothing front.all ms ∙ streams_note written appended.frames (noted_of nothing front.all));
+        };
         spelled = subst Q (sym appended.bytes) (join (bytes ++ appended.text) appended.text [] front.all ms (front.spelled appended.text) appended.decodes);
         counted = subst P (sym told) (counted-at f.streams (sym (bare_after w f.streams payload.bytes payload.sent.streams s.writes.others bare_later)) turned.2.counted);
       }
@@ -232,8 +237,11 @@ module _ (m : Made) (t : Tale) (most : ℕ) (e between : EndState) (payload : Pa
       let P : Tale → Type 0 = λ v. Counted m f.streams v in
       record {
         all = front.all;
-        metas = s.none ∙ sym (ap metas_in (sym (append-nil front.all)) ∙ controls_carry front.all [] front.control);
-        resets = front.resets;
+        back = record {
+          metas = s.none ∙ sym (ap metas_in (sym (append-nil front.all)) ∙ controls_carry front.all [] front.control);
+          resets = codes-noted payload front.all front.noted;
+          noted = front.noted;
+        };
         spelled = subst Q (append-nil bytes ∙ sym s.bytes_are) (front.spelled []);
         counted = subst P (sym told) (counted-at f.streams (ap (λ (g : EndState). g.streams) s.same) then_counted);
       }
@@ -248,25 +256,26 @@ last_of : {X : Type 0} (xs : List X) (x : X) → slice_get (xs ++ x ∷ []) (len
 last_of [] x = refl
 last_of (y ∷ ys) x = last_of ys x
 
-module _ (a b : Config) (h : History) (old new : PairState) (r : Recounted a b h old) (who : End) (most : ℕ) (fair : Bool) where
+module _ (a b : Config) (old new : PairState) (r : Recounted a b old) (who : End) (most : ℕ) (fair : Bool) where
   abbrev after : Answer → Type 0
-  after reply = Recounted a b (h ++ (steps.Emit who most fair, reply) ∷ []) new
+  after reply = Retold a b old r.tales (steps.Emit who most fair) reply new
 
   emitted_any : (reply : Answer) (answer : Result (Unit {0}) OutOfMemory) (payload : PayloadView) → Emits old who most fair answer payload new
-      → ((u : Tales) (sents : List Sent) → SendsOne sents who r.tales u → StepTells sents (steps.Emit who most fair) reply r.tales u) → after reply
+      → ((u : Tales) (sents : List Sent) → length sents ≡ length old.sent + 1 → SendsOne sents who r.tales u → StepTells old.sent sents (steps.Emit who most fair) reply r.tales u) → after reply
   emitted_any reply answer payload k tells =
       let c = payload_counted (made_at a b who) (r.tales.of who) (r.counted who) k.emits in
       let sents = old.sent ++ k.sent ∷ [] in
+      let longer = length-append old.sent (k.sent ∷ []) in
       let P : List ℕ → Type 0 = λ l. AreFrames l c.all in
       let stood : WasPayload sents who r.tales.payloads c.all =
       record { payload = k.sent; is = ap (slice_get sents) r.count ∙ last_of old.sent k.sent; writer = k.sent_is.writer; spelled = subst P (sym (ap (λ (u : SentText). u.bytes) k.sent_is.text)) c.spelled } in
       let sends : SendsOne sents who r.tales (record (told_of who (with_frames_sent c.all) r.tales) { payloads = r.tales.payloads + 1 }) = record { all = c.all; stood = stood; is = refl } in
-      recount-sent a b h old r (steps.Emit who most fair) reply who (with_frames_sent c.all) k.end k.sent new k.is (stay_before old.sent k.sent) c.counted (tells _ sents sends)
+      recount-sent a b old r (steps.Emit who most fair) reply who (with_frames_sent c.all) k.end payload k.sent new k.sent_is c.all c.spelled c.back k.is c.counted (tells _ sents longer sends)
 
   pub counts-emit : (reply : Answer) → Emitted old who most fair reply new → after reply
-  counts-emit (Ok (Payload number bytes)) k = emitted_any (Ok (Payload number bytes)) (Ok tt) k.payload k.emits (λ u sents s. (s, r.count ∙ sym k.number_is))
+  counts-emit (Ok (Payload number bytes)) k = emitted_any (Ok (Payload number bytes)) (Ok tt) k.payload k.emits (λ u sents size s. (s, r.count ∙ sym k.number_is))
   counts-emit (Err NoMemory) k = elim k [
-    | inl same ↦ recount-same a b h old r (steps.Emit who most fair) (Err NoMemory) new same (inl refl)
-    | inr t ↦ emitted_any (Err NoMemory) t.answer t.payload t.emits (λ u sents s. inr s)
+    | inl same ↦ recount-same a b old r (steps.Emit who most fair) (Err NoMemory) new same (inl (refl, refl))
+    | inr t ↦ emitted_any (Err NoMemory) t.answer t.payload t.emits (λ u sents size s. inr (size, s))
   ]
   counts-emit _ k = absurd k

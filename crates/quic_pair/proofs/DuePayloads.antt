@@ -27,12 +27,13 @@ use Rattle.quic_history.specs.declared.control.ControlKind.TheVariants as kinds
 use Rattle.quic_history.specs.History.{From}
 use Rattle.quic_streams.specs.Payload.{Sheet, PayloadPlace, with_frame_written, with_frame_written_if, SettlesOne, SettlesSome, FitsIn, none, more, WritesKinds, control_order}
 use Rattle.quic_streams.specs.Transmitting.{told_bytes}
+use Rattle.quic_streams.specs.Settling.{resets_of}
 use Rattle.quic_link.specs.Endpoints.{Endpoint, Linked, IsOneOf}
 use Rattle.quic_link.proofs.Basics.{either-of, only}
 use Rattle.quic_link.proofs.Joint.{agrees}
 use Rattle.quic_endpoint.specs.Ends.{EndState}
 use Rattle.quic_endpoint.specs.Emitting.{PayloadView, control_in, place_at, EmitsAt, whole}
-use Rattle.quic_pair.specs.Payloads.{is_control, codes_in}
+use Rattle.quic_pair.specs.Payloads.{is_control, codes_in, noted_of}
 use Rattle.quic_pair.specs.Due.{IsFull, AsksAllOf}
 use Rattle.quic_pair.proofs.Joined.{Stands}
 use Rattle.quic_pair.proofs.PayloadPages.{page-control}
@@ -66,26 +67,39 @@ pub record Front (most : ℕ) (p : PayloadPlace) : Type 0 where
   pub spelled : (rest : List ℕ) → BeginsFrames (p.sheet.bytes ++ rest) all rest
   pub control : (g : Frame) → IsOneOf g all → is_control g ≡ true
   pub within : length p.sheet.bytes ≤ most
-  pub resets : p.sheet.sent.reset_stream ≡ codes_in all
+  pub noted : p.sheet.sent ≡ noted_of nothing all
 
 -- a RESET_STREAM is noted behind those before
-noted_codes : (p : Pending) (g : Frame) → (noted p g).reset_stream ≡ p.reset_stream ++ codes_in (g ∷ [])
-noted_codes p (frames.ResetStream f) = refl
-noted_codes p (frames.MaxStreams Bi count) = sym (append-nil p.reset_stream)
-noted_codes p (frames.MaxStreams Uni count) = sym (append-nil p.reset_stream)
-noted_codes p _ = sym (append-nil p.reset_stream)
+noted_code : (p : Pending) (g : Frame) → (noted p g).reset_stream ≡ p.reset_stream ++ codes_in (g ∷ [])
+noted_code p (frames.ResetStream f) = refl
+noted_code p (frames.MaxStreams Bi count) = sym (append-nil p.reset_stream)
+noted_code p (frames.MaxStreams Uni count) = sym (append-nil p.reset_stream)
+noted_code p _ = sym (append-nil p.reset_stream)
 
 pub codes-joined : (fs gs : List Frame) → codes_in (fs ++ gs) ≡ codes_in fs ++ codes_in gs
 codes-joined [] gs = refl
 codes-joined (frames.ResetStream f ∷ fs) gs = ap (λ l. (f.id, f.error_code) ∷ l) (codes-joined fs gs)
 codes-joined (_ ∷ fs) gs = codes-joined fs gs
 
+-- frames are noted one after another
+pub noted-joined : (p : Pending) (fs gs : List Frame) → noted_of p (fs ++ gs) ≡ noted_of (noted_of p fs) gs
+noted-joined p [] gs = refl
+noted-joined p (f ∷ fs) gs = noted-joined (noted p f) fs gs
+
+noted_codes : (p : Pending) (fs : List Frame) → (noted_of p fs).reset_stream ≡ p.reset_stream ++ codes_in fs
+noted_codes p [] = sym (append-nil p.reset_stream)
+noted_codes p (f ∷ fs) = noted_codes (noted p f) fs ∙ ap (λ l. l ++ codes_in fs) (noted_code p f) ∙ append_assoc p.reset_stream (codes_in (f ∷ [])) (codes_in fs) ∙ ap (λ l. p.reset_stream ++ l) (sym (codes-joined (f ∷ []) fs))
+
+-- of the streams that were given up, their codes
+pub codes-noted : (payload : PayloadView) (fs : List Frame) → control_in payload ≡ noted_of nothing fs → resets_of payload.sent.control ≡ codes_in fs
+codes-noted payload fs e = ap (λ (p : Pending). p.reset_stream) e ∙ noted_codes nothing fs
+
 module _ (most : ℕ) (p q : PayloadPlace) (t : Front most p) (kind : ControlKind) (room : length p.sheet.bytes + kind_bound kind < most) where
   front_dropped : q.sheet ≡ p.sheet → Front most q
   front_dropped same =
       let P : Sheet → Type 0 = λ h. (rest : List ℕ) → BeginsFrames (h.bytes ++ rest) t.all rest in
       let Q : Sheet → Type 0 = λ h. length h.bytes ≤ most in
-      record { all = t.all; spelled = subst P (sym same) t.spelled; control = t.control; within = subst Q (sym same) t.within; resets = ap (λ (h : Sheet). h.sent.reset_stream) same ∙ t.resets }
+      record { all = t.all; spelled = subst P (sym same) t.spelled; control = t.control; within = subst Q (sym same) t.within; noted = ap (λ (h : Sheet). h.sent) same ∙ t.noted }
 
   front_written : (g : Frame) → SettlesEntry kind p.end p.pending (Some g) q.end q.pending → q.sheet ≡ with_frame_written p.sheet g → FitsIn (kind_bound kind) g → Front most q
   front_written g s same fits =
@@ -98,7 +112,7 @@ module _ (most : ℕ) (p q : PayloadPlace) (t : Front most p) (kind : ControlKin
           | inl before ↦ t.control f before
           | inr now ↦ ap is_control (only f g now) ∙ entry_control kind p.end p.pending g q.end q.pending s
         ];
-        resets = ap (λ (h : Sheet). h.sent.reset_stream) same ∙ noted_codes p.sheet.sent g ∙ ap (λ l. l ++ codes_in (g ∷ [])) t.resets ∙ sym (codes-joined t.all (g ∷ []));
+        noted = ap (λ (h : Sheet). h.sent) same ∙ ap (λ (p : Pending). noted p g) t.noted ∙ sym (noted-joined nothing t.all (g ∷ []));
         within = subst Q (sym same) (let l = length-append p.sheet.bytes (text g) in let k = fits.short in omega (arith, l, k, room));
       }
     where
@@ -128,7 +142,7 @@ front_kinds most (k ∷ ks) p q answer t w = elim w [
 ]
 
 pub front_first : (most : ℕ) (e : EndState) (stats : FrameStats) → Front most (place_at e [] nothing stats)
-front_first most e stats = record { all = []; spelled = λ rest. refl; control = λ g h. absurd h; within = omega arith; resets = refl }
+front_first most e stats = record { all = []; spelled = λ rest. refl; control = λ g h. absurd h; within = omega arith; noted = refl }
 
 -- ---- STREAM frames behind them
 
