@@ -3,7 +3,7 @@ import collections
 import random
 import unittest
 
-from frames import check_same
+from frames import Decoder, check_same
 from pair_model import ENDS, Model, stream_id
 from test_programs import need
 from test_sessions import Program
@@ -276,7 +276,8 @@ class Sizes(unittest.TestCase):
             if payload == "-":
                 break
             self.assertLessEqual(len(payload), 2 * 1200)
-            self.gives(reply_to, (f"deliver {number} 0", "ok"), (f"ack {number}", "ok"))
+            frames = Decoder(bytes.fromhex(payload)).frames()
+            self.gives(reply_to, *((f"deliver {number} {index}", "ok") for index in range(len(frames))), (f"ack {number}", "ok"))
         self.gives(reply_to, ("accept b uni", "id 2"))
         *chunks, last, _ = reply_to("read b 2 o 1000000 1000").split(" ")
         self.assertEqual(b"".join(bytes.fromhex(chunk.split(":")[1]) for chunk in chunks), content)

@@ -8,7 +8,7 @@ use Rattle.quic_writing.specs.Appended.{AppendsFrames}
 use Rattle.quic_history.specs.World.{Made}
 use Rattle.quic_history.specs.History.{Event, From}
 use Rattle.quic_history.specs.declared.control.ControlKind.{ControlKind}
-use Rattle.quic_streams.specs.Payload.{Sheet, PayloadPlace, WritesKinds, WritesEntries, IsKindDone, LeavesKind, control_order}
+use Rattle.quic_streams.specs.Payload.{PayloadPlace, WritesKinds, WritesEntries, IsKindDone, LeavesKind, control_order}
 use Rattle.quic_streams.specs.Settling.{SentView}
 use Rattle.quic_streams.specs.Sent.{sent_view}
 use Rattle.quic_streams.specs.Transmitting.{WritesStreamFrames, GoesOnWithTurns, end_writer, told_bytes}

@@ -18,7 +18,7 @@ returns-clause-acks c =
       acked = after;
       acks = c.acked-answer.ensures.acks;
       pending = refl;
-      is = c.tell_counts_if.ensures ∙ ap (λ b. with_counts_told_if b after) (sym (report-ok c.acked-answer.result));
+      is = c.tell_counts_if.ensures ∙ ap (λ b. with_counts_told_if b after) (c.is_ok.ensures.value ∙ sym (report-ok c.acked-answer.result));
     }
 
 pub returns-clause-from : goal.returns-clause-from

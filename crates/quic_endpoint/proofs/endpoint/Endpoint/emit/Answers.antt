@@ -1,12 +1,11 @@
-use Rattle.std.proofs.Common.{◌≡◌, ℕ, List, [], length, ◌≤◌, Ok, Err, rules, arith, refl, ap, ◌∙◌, sym, subst}
-use Rattle.quic_wire.specs.declared.frame.StreamMeta.{StreamMeta}
-use Rattle.quic_retransmits.specs.Pending.{Pending, nothing, shown_pending}
+use Rattle.std.proofs.Common.{length, ◌≤◌, Ok, Err, arith, refl}
+use Rattle.quic_retransmits.specs.Pending.{shown_pending}
 use Rattle.quic_retransmits.specs.Settling.{noted_in}
 use Rattle.quic_streams.specs.Shown.{shown}
 use Rattle.quic_streams.specs.Payload.{with_entries}
 use Rattle.quic_endpoint.specs.Shown.{end_state}
 use Rattle.quic_endpoint.specs.Ends.{EndState}
-use Rattle.quic_endpoint.specs.Emitting.{PayloadView, payload_view, EmitsControl, EmitsStreams, EmitsNoStream, EmitsAt, whole, cut}
+use Rattle.quic_endpoint.specs.Emitting.{EmitsControl, whole, cut}
 use Rattle.quic_endpoint.proofs.endpoint.Endpoint.emit.Goals as goal
 
 pub returns-in-Err-clause-emits : goal.returns-in-Err-clause-emits
