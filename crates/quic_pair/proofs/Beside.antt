@@ -12,56 +12,57 @@ use Rattle.quic_pair.specs.History.{Past, FramePlace, after, after_given, after_
 -- as much is known of payloads
 pub record IsBeside (p p' : Past) : Type 0 where
   pub accepted : p'.accepted ≡ p.accepted
+  pub kept : p'.kept ≡ p.kept
   pub settled : p'.settled ≡ p.settled
   pub begun : p'.begun ≡ p.begun
 
 beside_same : (p : Past) → IsBeside p p
-beside_same p = record { accepted = refl; settled = refl; begun = refl }
+beside_same p = record { accepted = refl; kept = refl; settled = refl; begun = refl }
 
 module _ (p : Past) (who : End) where
   given_none : (reply : Answer) → IsBeside p (after_given p who reply)
-  given_none (Ok (Id id)) = record { accepted = refl; settled = refl; begun = refl }
-  given_none _ = record { accepted = refl; settled = refl; begun = refl }
+  given_none (Ok (Id id)) = record { accepted = refl; kept = refl; settled = refl; begun = refl }
+  given_none _ = record { accepted = refl; kept = refl; settled = refl; begun = refl }
 
   write_none : (id : ℕ) (bytes : List ℕ) (reply : Answer) → IsBeside p (after_write p who id bytes reply)
-  write_none id bytes (Ok (Wrote count)) = record { accepted = refl; settled = refl; begun = refl }
-  write_none id bytes (Ok (Stopped code)) = record { accepted = refl; settled = refl; begun = refl }
-  write_none id bytes _ = record { accepted = refl; settled = refl; begun = refl }
+  write_none id bytes (Ok (Wrote count)) = record { accepted = refl; kept = refl; settled = refl; begun = refl }
+  write_none id bytes (Ok (Stopped code)) = record { accepted = refl; kept = refl; settled = refl; begun = refl }
+  write_none id bytes _ = record { accepted = refl; kept = refl; settled = refl; begun = refl }
 
   chunks_none : (id : ℕ) (chunks : List (List ℕ)) (reply : Answer) → IsBeside p (after_chunks p who id chunks reply)
-  chunks_none id chunks (Ok (WroteChunks written)) = record { accepted = refl; settled = refl; begun = refl }
-  chunks_none id chunks (Ok (Stopped code)) = record { accepted = refl; settled = refl; begun = refl }
-  chunks_none id chunks _ = record { accepted = refl; settled = refl; begun = refl }
+  chunks_none id chunks (Ok (WroteChunks written)) = record { accepted = refl; kept = refl; settled = refl; begun = refl }
+  chunks_none id chunks (Ok (Stopped code)) = record { accepted = refl; kept = refl; settled = refl; begun = refl }
+  chunks_none id chunks _ = record { accepted = refl; kept = refl; settled = refl; begun = refl }
 
   finish_none : (id : ℕ) (reply : Answer) → IsBeside p (after_finish p who id reply)
-  finish_none id (Ok Done) = record { accepted = refl; settled = refl; begun = refl }
-  finish_none id (Ok (Stopped code)) = record { accepted = refl; settled = refl; begun = refl }
-  finish_none id _ = record { accepted = refl; settled = refl; begun = refl }
+  finish_none id (Ok Done) = record { accepted = refl; kept = refl; settled = refl; begun = refl }
+  finish_none id (Ok (Stopped code)) = record { accepted = refl; kept = refl; settled = refl; begun = refl }
+  finish_none id _ = record { accepted = refl; kept = refl; settled = refl; begun = refl }
 
   reset_none : (id code : ℕ) (reply : Answer) → IsBeside p (past_reset p who id code reply)
-  reset_none id code (Ok Done) = record { accepted = refl; settled = refl; begun = refl }
-  reset_none id code _ = record { accepted = refl; settled = refl; begun = refl }
+  reset_none id code (Ok Done) = record { accepted = refl; kept = refl; settled = refl; begun = refl }
+  reset_none id code _ = record { accepted = refl; kept = refl; settled = refl; begun = refl }
 
   stop_none : (id code : ℕ) (reply : Answer) → IsBeside p (past_stop p who id code reply)
-  stop_none id code (Ok Done) = record { accepted = refl; settled = refl; begun = refl }
-  stop_none id code _ = record { accepted = refl; settled = refl; begun = refl }
+  stop_none id code (Ok Done) = record { accepted = refl; kept = refl; settled = refl; begun = refl }
+  stop_none id code _ = record { accepted = refl; kept = refl; settled = refl; begun = refl }
 
   read_none : (id : ℕ) (ordered : Bool) (reply : Answer) → IsBeside p (past_read p who id ordered reply)
-  read_none id ordered (Ok (Read chunks last transmit)) = record { accepted = refl; settled = refl; begun = refl }
-  read_none id ordered _ = record { accepted = refl; settled = refl; begun = refl }
+  read_none id ordered (Ok (Read chunks last transmit)) = record { accepted = refl; kept = refl; settled = refl; begun = refl }
+  read_none id ordered _ = record { accepted = refl; kept = refl; settled = refl; begun = refl }
 
   code_none : (id : ℕ) (reply : Answer) → IsBeside p (past_code p who id reply)
-  code_none id (Ok (Code code)) = record { accepted = refl; settled = refl; begun = refl }
-  code_none id _ = record { accepted = refl; settled = refl; begun = refl }
+  code_none id (Ok (Code code)) = record { accepted = refl; kept = refl; settled = refl; begun = refl }
+  code_none id _ = record { accepted = refl; kept = refl; settled = refl; begun = refl }
 
   event_none : (event : StreamEvent) → IsBeside p (after_event p who event)
-  event_none (stream_event.Finished id) = record { accepted = refl; settled = refl; begun = refl }
-  event_none (stream_event.Stopped id code) = record { accepted = refl; settled = refl; begun = refl }
-  event_none _ = record { accepted = refl; settled = refl; begun = refl }
+  event_none (stream_event.Finished id) = record { accepted = refl; kept = refl; settled = refl; begun = refl }
+  event_none (stream_event.Stopped id code) = record { accepted = refl; kept = refl; settled = refl; begun = refl }
+  event_none _ = record { accepted = refl; kept = refl; settled = refl; begun = refl }
 
   poll_none : (reply : Answer) → IsBeside p (after_poll p who reply)
   poll_none (Ok (Event event)) = event_none event
-  poll_none _ = record { accepted = refl; settled = refl; begun = refl }
+  poll_none _ = record { accepted = refl; kept = refl; settled = refl; begun = refl }
 
 -- no step on an end tells of payloads, and no payload that is written
 abbrev pub IsOfNoPayload : Step → Type 0

@@ -7,7 +7,9 @@ use Rattle.quic_wire.proofs.Steps.{some_is}
 use Rattle.quic_wire.specs.declared.error.ReceiveError.{ReceiveError}
 use Rattle.quic_wire.specs.declared.error.ReceiveError.TheVariants as receive_error
 use Rattle.quic_receiving.specs.declared.transmit.ShouldTransmit.{ShouldTransmit}
+use Rattle.quic_streams.specs.declared.settling.SentPayload.{SentPayload}
 use Rattle.quic_streams.specs.Settling.{SentView}
+use Rattle.quic_streams.specs.Sent.{sent_view, report_view}
 use Rattle.quic_endpoint.specs.Ends.{EndState}
 use Rattle.quic_endpoint.specs.Emitting.{PayloadView, EmitsAt}
 use Rattle.quic_endpoint.specs.Receiving.{ReceivesAt, AccountsFrame}
@@ -120,21 +122,21 @@ module _ (kind : Report) (At : EndState → SentView → Result (Unit {0}) SentV
   report-refused old new n refusals.UnknownId h e = absurd h.why
   report-refused old new n refusals.OutOfMemory h e = absurd h.why
 
-  module _ (old taken mid new : PairState) (n : ℕ) (writer : End) (rest : SentView) (t : TakesRestAt old.sent n kind writer rest taken.sent) (answer : Result (Unit {0}) SentView) where
+  module _ (old taken mid new : PairState) (n : ℕ) (writer : End) (rest : SentPayload) (t : TakesRestAt old.sent n kind writer rest taken.sent) (answer : Result (Unit {0}) SentPayload) where
     -- what the payload is behind the report
-    sents_so : (a : Result (Unit {0}) SentView) → KeepsBack taken.sent n kind a new.sent → new.sent ≡ slice_set old.sent n (record t.whole { unsettled = unsettled_after kind t.whole.unsettled a })
+    sents_so : (a : Result (Unit {0}) SentPayload) → KeepsBack taken.sent n kind a new.sent → new.sent ≡ slice_set old.sent n (record t.whole { unsettled = unsettled_after kind t.whole.unsettled a })
     sents_so (Ok done) k = k ∙ t.new_is ∙ ap (slice_set old.sent n) t.takes.left
     sents_so (Err back) k =
         let there : slice_get taken.sent n ≡ Some t.taken = ap (λ l. slice_get l n) t.new_is ∙ slice_get-set_same old.sent n t.whole t.taken t.is in
         k t.taken there ∙ ap (λ l. slice_set l n (record t.taken { unsettled = record { begun = Some kind; rest = Some back } })) t.new_is
-            ∙ slice_set-twice old.sent n t.taken (record t.taken { unsettled = record { begun = Some kind; rest = Some back } })
-            ∙ ap (λ (s : Sent). slice_set old.sent n (record s { unsettled = record { begun = Some kind; rest = Some back } })) t.takes.left
+        ∙ slice_set-twice old.sent n t.taken (record t.taken { unsettled = record { begun = Some kind; rest = Some back } })
+        ∙ ap (λ (s : Sent). slice_set old.sent n (record s { unsettled = record { begun = Some kind; rest = Some back } })) t.takes.left
 
-    reported : OnEnd (λ e f. At e rest answer f) taken writer mid → taken ≡ with_sent old taken.sent → KeepsBack taken.sent n kind answer new.sent → new ≡ with_sent mid new.sent → Reports kind At old n (report_reply answer) new
+    reported : OnEnd (λ e f. At e (sent_view rest) (report_view answer) f) taken writer mid → taken ≡ with_sent old taken.sent → KeepsBack taken.sent n kind answer new.sent → new ≡ with_sent mid new.sent → Reports kind At old n (report_reply answer) new
     reported d e k is =
-        let P : End → Type 0 = λ w. OnEnd (λ x y. At x rest answer y) taken w mid in
+        let P : End → Type 0 = λ w. OnEnd (λ x y. At x (sent_view rest) (report_view answer) y) taken w mid in
         let o = subst P t.writer_is d in
-        let Q : EndState → Type 0 = λ x. At x rest answer o.end in
+        let Q : EndState → Type 0 = λ x. At x (sent_view rest) (report_view answer) o.end in
         record {
           payload = record { sent = t.whole; is = t.is };
           may = t.takes.may;
@@ -159,9 +161,9 @@ module _ (kind : Report) (At : EndState → SentView → Result (Unit {0}) SentV
         sent_again A x = refl
         sent_again B x = refl
 
-    pub report-so : OnEnd (λ e f. At e rest answer f) taken writer mid → taken ≡ with_sent old taken.sent → KeepsBack taken.sent n kind answer new.sent → new ≡ with_sent mid new.sent → Settles kind At old n (report_reply answer) new
+    pub report-so : OnEnd (λ e f. At e (sent_view rest) (report_view answer) f) taken writer mid → taken ≡ with_sent old taken.sent → KeepsBack taken.sent n kind answer new.sent → new ≡ with_sent mid new.sent → Settles kind At old n (report_reply answer) new
     report-so d e k is = settled_by answer (reported d e k is)
       where
-        settled_by : (a : Result (Unit {0}) SentView) → Reports kind At old n (report_reply a) new → Settles kind At old n (report_reply a) new
+        settled_by : (a : Result (Unit {0}) SentPayload) → Reports kind At old n (report_reply a) new → Settles kind At old n (report_reply a) new
         settled_by (Ok done) x = x
         settled_by (Err back) x = x

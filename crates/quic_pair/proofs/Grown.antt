@@ -144,7 +144,7 @@ pub record Grown {a b : Config} {h : History} {v : PairState} (f : From a b h v)
 
 pub grown-from : {a b : Config} {h : History} {v : PairState} (f : From a b h v) → Grown f
 grown-from {a} {b} {h} {v} (begun n) = let r = recounted_new a b v n in record { joined = joined-new a b v n; recounted = r.0; told = r.1 }
-grown-from {a} {b} {whole} {v} (next {h} {old} {new} step reply f n) =
+grown-from {a} {b} (next {h} {old} {new} step reply f n) =
     let g = grown-from f in
     let r = retold-next a b (past_of h) old new g.joined g.recounted step reply n in
     record {

@@ -1,14 +1,14 @@
 -- What is kept of a pair: its ends are linked ends, each with what it has to send, and the steps tell what they did.
 use Rattle.std.proofs.Common.{◌≡◌, ℕ, Bool, true, List, Some, Ok}
-use Rattle.std.specs.Prelude.{slice_get, unwrap_or}
+use Rattle.std.specs.Prelude.{slice_get}
 use Rattle.quic_values.specs.declared.ids.Side.TheVariants.{Client, Server}
 use Rattle.quic_wire.specs.declared.frame.Frame.{Frame}
 use Rattle.quic_wire.specs.declared.frame.Frame.TheVariants as frames
 use Rattle.quic_wire.specs.declared.frame.Stream.{Stream}
 use Rattle.quic_wire.specs.Frames.{AreFrames}
 use Rattle.quic_receiving.specs.declared.transmit.ShouldTransmit.{ShouldTransmit}
-use Rattle.quic_retransmits.specs.Pending.{nothing}
-use Rattle.quic_streams.specs.Settling.{SentView}
+use Rattle.quic_retransmits.specs.Settling.{noted_in}
+use Rattle.quic_streams.specs.declared.settling.SentPayload.{SentPayload}
 use Rattle.quic_history.specs.History.{Received}
 use Rattle.quic_link.specs.Endpoints.{Endpoint, Linked, IsOneOf, sent_on, came_on, written_on, WasStoppedWith, WasAccepted}
 use Rattle.quic_link.specs.Promises.{CameWhole, WasReadUnordered}
@@ -37,7 +37,7 @@ pub record IsPayloadOf (x y : Endpoint) (s : Sent) : Type 0 where
   pub all : List Frame
   pub spelled : AreFrames s.text.bytes all
   pub wrote : (g : Frame) → IsOneOf g all → IsOneOf g x.wrote
-  pub control : (r : SentView) → s.unsettled.rest ≡ Some r → AreAsked x (unwrap_or r.control nothing)
+  pub control : (r : SentPayload) → s.unsettled.rest ≡ Some r → AreAsked x (noted_in r.control)
   pub accepted : (index : ℕ) (stream : Stream) → slice_get all index ≡ Some (frames.Stream stream) → is_accepted s.text index ≡ true
       → WasAccepted y.calls stream.id (meta_of stream).offsets stream.fin
 

@@ -7,12 +7,15 @@ use Rattle.quic_wire.specs.declared.frame.Stream.{Stream}
 use Rattle.quic_wire.specs.declared.frame.ResetStream.{ResetStream}
 use Rattle.quic_wire.specs.declared.frame.StreamMeta.{StreamMeta}
 use Rattle.quic_wire.specs.Frames.{AreFrames}
-use Rattle.quic_retransmits.specs.Pending.{nothing}
+use Rattle.quic_retransmits.specs.Pending.{nothing, shown_if}
+use Rattle.quic_streams.specs.declared.settling.SentPayload.{SentPayload}
 use Rattle.quic_streams.specs.Settling.{SentView, resets_of}
+use Rattle.quic_streams.specs.Sent.{sent_view}
 use Rattle.quic_link.specs.Endpoints.{IsOneOf}
 use Rattle.quic_pair.specs.declared.sent.Sent.{Sent}
 use Rattle.quic_pair.specs.declared.unsettled.Report.TheVariants.{Lost}
-use Rattle.quic_pair.specs.Unsettled.{Unsettled, goes_on}
+use Rattle.quic_pair.specs.declared.unsettled.Unsettled.{Unsettled}
+use Rattle.quic_pair.specs.Unsettled.{goes_on}
 use Rattle.quic_pair.specs.Payloads.{meta_of, metas_in, codes_in, noted_of}
 use Rattle.quic_pair.specs.Tale.{Part, Carried, GivenUp, parts_in, parts_of}
 use Rattle.quic_pair.proofs.Lists.{one-of-first, one-of-last, one-of-dropped}
@@ -26,7 +29,7 @@ pub record IsLeft (told : ℕ) (u : Unsettled) (r : SentView) (all : List Frame)
 
 -- so of each
 abbrev pub AreLeft : List Sent → (ℕ → ℕ) → Type 0
-AreLeft sent told = (number : ℕ) (s : Sent) (r : SentView) (all : List Frame) → slice_get sent number ≡ Some s → s.unsettled.rest ≡ Some r → AreFrames s.text.bytes all → IsLeft (told number) s.unsettled r all
+AreLeft sent told = (number : ℕ) (s : Sent) (r : SentPayload) (all : List Frame) → slice_get sent number ≡ Some s → s.unsettled.rest ≡ Some r → AreFrames s.text.bytes all → IsLeft (told number) s.unsettled (sent_view r) all
 
 -- ---- parts
 
@@ -75,17 +78,17 @@ reset_among id code (frames.ResetStream f ∷ fs) (inl e) = (f, sym (ap (λ (k :
 reset_among id code (frames.ResetStream f ∷ fs) (inr h) = let k = reset_among id code fs h in (k.0, k.1, inr k.2)
 reset_among id code (_ ∷ fs) h = let k = reset_among id code fs h in (k.0, k.1, inr k.2)
 
-module _ (sent : List Sent) (told : ℕ → ℕ) (left : AreLeft sent told) (number : ℕ) (s : Sent) (is : slice_get sent number ≡ Some s) (r : SentView) (rest_is : s.unsettled.rest ≡ Some r) (all : List Frame) (spelled : AreFrames s.text.bytes all) where
+module _ (sent : List Sent) (told : ℕ → ℕ) (left : AreLeft sent told) (number : ℕ) (s : Sent) (is : slice_get sent number ≡ Some s) (r : SentPayload) (rest_is : s.unsettled.rest ≡ Some r) (all : List Frame) (spelled : AreFrames s.text.bytes all) where
   -- a part that is unreported is one of the frames
-  part_among : (x : Part) → IsOneOf x (parts_of r) → IsOneOf x (parts_in all)
+  part_among : (x : Part) → IsOneOf x (parts_of (sent_view r)) → IsOneOf x (parts_in all)
   part_among x h =
       let P : List Part → Type 0 = λ l. IsOneOf x l in
       one-of-dropped x (told number) (parts_in all) (subst P (left number s r all is rest_is spelled).parts h)
 
-  pub metas-among : (m : StreamMeta) → IsOneOf m r.streams → (g : Stream) × IsOneOf (frames.Stream g) all × (m ≡ meta_of g)
-  metas-among m h = stream_among m all (carried_first m (metas_in all) (codes_in all) (part_among (Carried m) (one-of-first (Carried m) (map Carried r.streams) _ (carried_in m r.streams h))))
+  pub metas-among : (m : StreamMeta) → IsOneOf m r.streams.items → (g : Stream) × IsOneOf (frames.Stream g) all × (m ≡ meta_of g)
+  metas-among m h = stream_among m all (carried_first m (metas_in all) (codes_in all) (part_among (Carried m) (one-of-first (Carried m) (map Carried r.streams.items) _ (carried_in m r.streams.items h))))
 
-  pub resets-among : (id code : ℕ) → IsOneOf (id, code) (resets_of r.control) → (f : ResetStream) × (f.id ≡ id) × IsOneOf (frames.ResetStream f) all
+  pub resets-among : (id code : ℕ) → IsOneOf (id, code) (resets_of (shown_if r.control)) → (f : ResetStream) × (f.id ≡ id) × IsOneOf (frames.ResetStream f) all
   resets-among id code h =
-      let k = given_last id (metas_in all) (codes_in all) (part_among (GivenUp id) (one-of-last (GivenUp id) (map Carried r.streams) _ (given_in id code (resets_of r.control) h))) in
+      let k = given_last id (metas_in all) (codes_in all) (part_among (GivenUp id) (one-of-last (GivenUp id) (map Carried r.streams.items) _ (given_in id code (resets_of (shown_if r.control)) h))) in
       reset_among id k.0 all k.1

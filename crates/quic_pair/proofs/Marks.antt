@@ -24,7 +24,8 @@ use Rattle.quic_pair.specs.declared.sent.Sent.{Sent}
 use Rattle.quic_pair.specs.declared.unsettled.Report.{Report}
 use Rattle.quic_pair.specs.declared.unsettled.Report.TheVariants.{Lost, Acknowledged}
 use Rattle.quic_pair.specs.Payloads.{SentText, IsMarked, is_accepted}
-use Rattle.quic_pair.specs.Unsettled.{Unsettled, unsettled_after}
+use Rattle.quic_pair.specs.declared.unsettled.Unsettled.{Unsettled}
+use Rattle.quic_pair.specs.Unsettled.{unsettled_after}
 use Rattle.quic_pair.specs.Replies.{Answer, received_reply}
 use Rattle.quic_pair.specs.State.{PairState, OnEnd, with_end, with_sent}
 use Rattle.quic_pair.specs.Steps.{Next, Emits, Emitted, SentAfter, HandsOver, Delivers, Reports, Settles}

@@ -1,6 +1,7 @@
 -- A payload that an end writes keeps a pair two linked ends.
 use Rattle.std.proofs.Common.{◌≡◌, ℕ, Bool, true, false, List, [], ◌∷◌, ◌++◌, None, Result, Ok, Err, refl, sym, ap, ◌∙◌, subst, inl, inr}
 use Rattle.std.specs.Prelude.{slice_index_or, map, unwrap_or}
+use Rattle.std.specs.Option.{option_map}
 use Rattle.std.proofs.lemmas.List.{append-nil}
 use Rattle.std.proofs.lemmas.Option.{same_Some}
 use Rattle.quic_values.specs.declared.memory.OutOfMemory.{OutOfMemory}
@@ -10,12 +11,14 @@ use Rattle.quic_wire.specs.Frames.{BeginsFrames, AreFrames}
 use Rattle.quic_wire.proofs.Joins.{join}
 use Rattle.quic_datagrams.specs.declared.stats.FrameStats.{FrameStats}
 use Rattle.quic_retransmits.specs.Pending.{Pending, nothing}
+use Rattle.quic_retransmits.specs.Settling.{noted_in}
 use Rattle.quic_writing.specs.Appended.{frame_with}
 use Rattle.quic_history.specs.World.{World}
 use Rattle.quic_history.specs.Carrying.{with_writer}
 use Rattle.quic_history.specs.History.{From}
 use Rattle.quic_streams.specs.Payload.{control_order}
 use Rattle.quic_streams.specs.Settling.{SentView}
+use Rattle.quic_streams.specs.Sent.{sent_view}
 use Rattle.quic_streams.specs.Transmitting.{end_writer}
 use Rattle.quic_link.specs.Endpoints.{Endpoint, Linked, IsOneOf, written_on}
 use Rattle.quic_link.specs.Asked.{AreAsked}
@@ -31,7 +34,6 @@ use Rattle.quic_steps.specs.declared.steps.PairError.TheVariants.{OutOfMemory as
 use Rattle.quic_pair.proofs.Lists.{slice_get-push, slice_get-append_left}
 use Rattle.quic_pair.specs.declared.sent.Sent.{Sent}
 use Rattle.quic_pair.specs.Payloads.{SentText}
-use Rattle.quic_pair.specs.Unsettled.{Unsettled}
 use Rattle.quic_pair.specs.Replies.{Answer}
 use Rattle.quic_pair.specs.State.{PairState, peer}
 use Rattle.quic_pair.specs.Steps.{IsSentBy, Emits, Emitted}
@@ -139,8 +141,8 @@ payload_sent x y who payload f s t i =
       spelled = subst P (sym (ap (λ (u : SentText). u.bytes) i.text)) t.spelled;
       wrote = t.wrote;
       control = λ r h.
-          let same : r ≡ payload.sent = same_Some r payload.sent (sym h ∙ ap (λ (u : Unsettled). u.rest) i.unsettled) in
-          asked_at t.end (control_in payload) (unwrap_or r.control nothing) (ap (λ (v : SentView). unwrap_or v.control nothing) same) t.notes;
+          let same : sent_view r ≡ payload.sent = same_Some (sent_view r) payload.sent (ap (option_map sent_view) (sym h) ∙ i.rest) in
+          asked_at t.end (control_in payload) (noted_in r.control) (ap (λ (v : SentView). unwrap_or v.control nothing) same) t.notes;
       accepted = λ index stream h m. absurd (no_marks s.text index (ap (λ (u : SentText). u.accepted) i.text) m);
     }
 

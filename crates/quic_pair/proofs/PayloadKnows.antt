@@ -1,12 +1,12 @@
 -- What the steps tell stays told, as an end is called, payloads are sent and frames are marked.
 use Rattle.std.proofs.Common.{◌≡◌, ℕ, Bool, List, Some, Ok, refl, sym, ap, ◌∙◌, subst, ◌<◌}
-use Rattle.std.specs.Prelude.{slice_get, unwrap_or}
+use Rattle.std.specs.Prelude.{slice_get}
 use Rattle.std.specs.List.{concat}
 use Rattle.std.specs.declared.ops.Range.{Range}
 use Rattle.quic_wire.specs.declared.frame.Frame.TheVariants as frames
 use Rattle.quic_wire.specs.declared.frame.Stream.{Stream}
 use Rattle.quic_receiving.specs.declared.transmit.ShouldTransmit.{ShouldTransmit}
-use Rattle.quic_retransmits.specs.Pending.{nothing}
+use Rattle.quic_retransmits.specs.Settling.{noted_in}
 use Rattle.quic_sending.specs.Buffer.{total_length}
 use Rattle.quic_history.specs.History.{Received}
 use Rattle.quic_link.specs.Endpoints.{Endpoint, Linked, IsOneOf, WasAccepted}
@@ -134,7 +134,7 @@ knows-receiver p sent who x y z k heard n = record {
 -- ---- payloads
 
 pub payload-writer : (x y z : Endpoint) (s : Sent) → Keeps x z → IsPayloadOf x y s → IsPayloadOf z y s
-payload-writer x y z s k i = record { all = i.all; spelled = i.spelled; wrote = λ g h. k.wrote g (i.wrote g h); control = λ r h. k.asked (unwrap_or r.control nothing) (i.control r h); accepted = i.accepted }
+payload-writer x y z s k i = record { all = i.all; spelled = i.spelled; wrote = λ g h. k.wrote g (i.wrote g h); control = λ r h. k.asked (noted_in r.control) (i.control r h); accepted = i.accepted }
 
 pub accepted-more : (y z : Endpoint) {id : ℕ} → Keeps y z → (offsets : Range ℕ) (fin : Bool) → WasAccepted y.calls id offsets fin → WasAccepted z.calls id offsets fin
 accepted-more y z {id} k offsets fin a = record { bytes = a.bytes; transmit = a.transmit; is = k.calls (Received id offsets.start a.bytes fin (Ok a.transmit)) a.is; behind = a.behind }

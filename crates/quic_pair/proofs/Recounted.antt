@@ -1,18 +1,21 @@
 -- What the steps of a pair tell is what calls of its ends tell.
-use Rattle.std.proofs.Common.{◌≡◌, ℕ, List, [], ◌∷◌, ◌++◌, Some, None, Result, Ok, Err, refl, sym, ap, ◌∙◌, subst, true, false, inl, inr, arith}
-use Rattle.std.specs.Prelude.{length, map, take, drop, slice_get, slice_set, unwrap_or, ◌+◌, ◌≤◌, ◌==◌, if◌then◌else◌}
-use Rattle.std.proofs.lemmas.List.{append-nil, length-append, length-drop, drop-drop, take_at, drop_at}
+use Rattle.std.proofs.Common.{◌≡◌, ℕ, List, Option, [], ◌∷◌, ◌++◌, Some, None, Result, Ok, Err, refl, sym, ap, ◌∙◌, subst, true, false, inl, inr, arith}
+use Rattle.std.specs.Prelude.{length, map, take, drop, slice_get, slice_set, unwrap_or, ◌+◌, ◌-◌, ◌≤◌, ◌==◌, if◌then◌else◌}
+use Rattle.std.specs.Option.{option_map}
+use Rattle.std.proofs.lemmas.List.{length-append, length-drop, drop-drop, take_at, drop_at}
 use Rattle.std.proofs.lemmas.Option.{same_Some, none-some}
 use Rattle.quic_values.specs.declared.ids.Side.TheVariants.{Client, Server}
 use Rattle.quic_wire.specs.declared.frame.Frame.{Frame}
 use Rattle.quic_wire.specs.Frames.{AreFrames}
 use Rattle.quic_wire.proofs.Joins.{same}
-use Rattle.quic_retransmits.specs.Pending.{Pending, nothing}
+use Rattle.quic_retransmits.specs.Pending.{Pending, nothing, shown_if}
 use Rattle.quic_history.specs.World.{Made}
 use Rattle.quic_history.specs.SendEvents.{GaveLimits, OpenedOwn, RaisedData, RaisedCount, RaisedLimit, StoppedOwn, SetWindow, WroteOwn, FinishedOwn, ResetOwn, AckedOwn, LostOwn, ResetAckedOwn, TookTurn}
 use Rattle.quic_history.specs.History.{Event, Sending, Rejected, SentAgain}
 use Rattle.quic_history.proofs.Traces.{itself}
+use Rattle.quic_streams.specs.declared.settling.SentPayload.{SentPayload}
 use Rattle.quic_streams.specs.Settling.{SentView, resets_of, unreported}
+use Rattle.quic_streams.specs.Sent.{sent_view, report_view}
 use Rattle.quic_endpoint.specs.Ends.{EndState}
 use Rattle.quic_endpoint.specs.Emitting.{PayloadView, control_in}
 use Rattle.quic_steps.specs.declared.steps.Config.{Config}
@@ -23,12 +26,13 @@ use Rattle.quic_pair.specs.declared.sent.Sent.{Sent}
 use Rattle.quic_pair.specs.declared.unsettled.Report.{Report}
 use Rattle.quic_pair.specs.declared.unsettled.Report.TheVariants.{Lost, Acknowledged}
 use Rattle.quic_pair.specs.Payloads.{SentText, metas_in, codes_in, noted_of}
-use Rattle.quic_pair.specs.Unsettled.{Unsettled, goes_on, unsettled_after}
+use Rattle.quic_pair.specs.declared.unsettled.Unsettled.{Unsettled}
+use Rattle.quic_pair.specs.Unsettled.{goes_on, unsettled_after}
 use Rattle.quic_pair.specs.Replies.{Answer}
 use Rattle.quic_pair.specs.State.{PairState, the_end, with_end, with_sent}
 use Rattle.quic_pair.specs.Steps.{IsSentBy}
 use Rattle.quic_pair.specs.From.{made_of}
-use Rattle.quic_pair.specs.Tale.{Tale, Tales, StepTells, TellsParts, Part, Carried, GivenUp, parts_in, parts_of, with_parts, told_of, told_more, WasPayload}
+use Rattle.quic_pair.specs.Tale.{Tale, Tales, StepTells, TellsParts, TellsAll, Part, Carried, GivenUp, parts_in, parts_of, parts_left, with_parts, told_of, told_more, WasPayload}
 use Rattle.quic_pair.proofs.Lists.{slice_get-push, slice_get-slice_set, slice_get-split, slice_get-set_same, slice_get-within, slice_set-length, apart}
 use Rattle.quic_pair.proofs.Counted.{Counted, IsUntold}
 use Rattle.quic_pair.proofs.Left.{IsLeft, AreLeft}
@@ -41,7 +45,7 @@ left-marked sent told left number s is text bytes n t r all got rest spelled = e
   | inl new ↦ (
       let unsettled : t.unsettled ≡ s.unsettled = ap (λ (v : Sent). v.unsettled) new.1 in
       let P : List ℕ → Type 0 = λ b. AreFrames b all in
-      let Q : Unsettled → Type 0 = λ u. IsLeft (told n) u r all in
+      let Q : Unsettled → Type 0 = λ u. IsLeft (told n) u (sent_view r) all in
       subst Q (sym unsettled)
       (left n s r all (ap (slice_get sent) new.0 ∙ is) (sym (ap (λ (u : Unsettled). u.rest) unsettled) ∙ rest) (subst P (ap (λ (v : Sent). v.text.bytes) new.1 ∙ bytes) spelled))
       )
@@ -59,8 +63,7 @@ left_sent : (sent : List Sent) (told : ℕ → ℕ) → AreLeft sent told → to
 left_sent sent told left none who payload s sent_is these spelled_so back n t r all got rest spelled = elim (slice_get-push sent s n t got) [
   | inl before ↦ left n t r all before rest spelled
   | inr now ↦ (
-      let unsettled : t.unsettled ≡ record { begun = None; rest = Some payload.sent } = ap (λ (v : Sent). v.unsettled) now.1 ∙ sent_is.unsettled in
-      let r_is : r ≡ payload.sent = same_Some r payload.sent (sym rest ∙ ap (λ (u : Unsettled). u.rest) unsettled) in
+      let r_is : sent_view r ≡ payload.sent = same_Some (sent_view r) payload.sent (ap (option_map sent_view) (sym rest ∙ ap (λ (v : Sent). v.unsettled.rest) now.1) ∙ sent_is.rest) in
       let bytes : t.text.bytes ≡ payload.bytes = ap (λ (v : Sent). v.text.bytes) now.1 ∙ ap (λ (x : SentText). x.bytes) sent_is.text in
       let P : List ℕ → Type 0 = λ b. AreFrames b all in
       let frames_are : all ≡ these = same payload.bytes all these (subst P bytes spelled) spelled_so in
@@ -75,17 +78,17 @@ left_sent sent told left none who payload s sent_is these spelled_so back n t r 
 ]
 
 -- some of the parts of one were reported
-pub record IsDone (kind : Report) (u : Unsettled) (r : SentView) (answer : Result (Unit {0}) SentView) (done : List Part) : Type 0 where
+pub record IsDone (kind : Report) (u : Unsettled) (r : SentPayload) (answer : Result (Unit {0}) SentPayload) (done : List Part) : Type 0 where
   pub rest_is : u.rest ≡ Some r
   pub goes : goes_on kind u.begun ≡ true
-  pub parts : parts_of r ≡ done ++ parts_of (unreported answer)
-  pub control : kind ≡ Lost → (back : SentView) → answer ≡ Err back → back.control ≡ r.control
+  pub parts : parts_of (sent_view r) ≡ done ++ parts_of (unreported (report_view answer))
+  pub control : kind ≡ Lost → (back : SentPayload) → answer ≡ Err back → shown_if back.control ≡ shown_if r.control
 
 only_lost : (kind : Report) → goes_on Lost (Some kind) ≡ true → kind ≡ Lost
 only_lost Lost e = refl
 only_lost Acknowledged e = cc
 
-module _ (sent : List Sent) (told : ℕ → ℕ) (left : AreLeft sent told) (number : ℕ) (s : Sent) (is : slice_get sent number ≡ Some s) (kind : Report) (r : SentView) (answer : Result (Unit {0}) SentView) (done : List Part) (k : IsDone kind s.unsettled r answer done) where
+module _ (sent : List Sent) (told : ℕ → ℕ) (left : AreLeft sent told) (number : ℕ) (s : Sent) (is : slice_get sent number ≡ Some s) (kind : Report) (r : SentPayload) (answer : Result (Unit {0}) SentPayload) (done : List Part) (k : IsDone kind s.unsettled r answer done) where
   abbrev reported : Sent
   reported = record s { unsettled = unsettled_after kind s.unsettled answer }
 
@@ -99,26 +102,26 @@ module _ (sent : List Sent) (told : ℕ → ℕ) (left : AreLeft sent told) (num
   told_there n e = ap (λ b. if b then told n + length done else told n) e
 
   module _ (all : List Frame) (spelled : AreFrames s.text.bytes all) where
-    was_left : IsLeft (told number) s.unsettled r all
+    was_left : IsLeft (told number) s.unsettled (sent_view r) all
     was_left = left number s r all is k.rest_is spelled
 
     -- as many parts as the payload has, with those that are left
-    pub done-counts : told number + length done + length (parts_of (unreported answer)) ≡ length (parts_in all)
+    pub done-counts : told number + length done + length (parts_of (unreported (report_view answer))) ≡ length (parts_in all)
     done-counts =
         let within = was_left.within in
-        let size : length (parts_of r) ≡ length (parts_in all) - told number = ap length was_left.parts ∙ length-drop (told number) (parts_in all) in
-        let both : length (parts_of r) ≡ length done + length (parts_of (unreported answer)) = ap length k.parts ∙ length-append done (parts_of (unreported answer)) in
+        let size : length (parts_of (sent_view r)) ≡ length (parts_in all) - told number = ap length was_left.parts ∙ length-drop (told number) (parts_in all) in
+        let both : length (parts_of (sent_view r)) ≡ length done + length (parts_of (unreported (report_view answer))) = ap length k.parts ∙ length-append done (parts_of (unreported (report_view answer))) in
         omega (arith, within, size, both)
 
     pub done-are : take (length done) (drop (told number) (parts_in all)) ≡ done
-    done-are = ap (take (length done)) (sym was_left.parts ∙ k.parts) ∙ take_at done (parts_of (unreported answer)) (length done) refl
+    done-are = ap (take (length done)) (sym was_left.parts ∙ k.parts) ∙ take_at done (parts_of (unreported (report_view answer))) (length done) refl
 
-    behind_done : parts_of (unreported answer) ≡ drop (told number + length done) (parts_in all)
-    behind_done = sym (drop_at done (parts_of (unreported answer)) (length done) refl) ∙ ap (drop (length done)) (sym k.parts ∙ was_left.parts) ∙ drop-drop (length done) (told number) (parts_in all)
+    behind_done : parts_of (unreported (report_view answer)) ≡ drop (told number + length done) (parts_in all)
+    behind_done = sym (drop_at done (parts_of (unreported (report_view answer))) (length done) refl) ∙ ap (drop (length done)) (sym k.parts ∙ was_left.parts) ∙ drop-drop (length done) (told number) (parts_in all)
 
-    left_back : (back : SentView) → answer ≡ Err back → IsLeft (told number + length done) (record { begun = Some kind; rest = Some back }) back all
+    left_back : (back : SentPayload) → answer ≡ Err back → IsLeft (told number + length done) (record { begun = Some kind; rest = Some back }) (sent_view back) all
     left_back back e =
-        let P : Result (Unit {0}) SentView → Type 0 = λ a. parts_of (unreported a) ≡ drop (told number + length done) (parts_in all) in
+        let P : Result (Unit {0}) SentPayload → Type 0 = λ a. parts_of (unreported (report_view a)) ≡ drop (told number + length done) (parts_in all) in
         let counts = done-counts in
         record {
           within = omega (arith, counts);
@@ -129,21 +132,21 @@ module _ (sent : List Sent) (told : ℕ → ℕ) (left : AreLeft sent told) (num
               ap (λ (o : Option Pending). unwrap_or o nothing) (k.control lost back e) ∙ was_left.noted (subst Q lost k.goes);
         }
 
-  left_after : (a : Result (Unit {0}) SentView) → a ≡ answer → (t : Sent) → t ≡ record s { unsettled = unsettled_after kind s.unsettled a } → (n : ℕ) → n ≡ number → (b : SentView) (all : List Frame) → t.unsettled.rest ≡ Some b → AreFrames t.text.bytes all → IsLeft (more_told n) t.unsettled b all
+  left_after : (a : Result (Unit {0}) SentPayload) → a ≡ answer → (t : Sent) → t ≡ record s { unsettled = unsettled_after kind s.unsettled a } → (n : ℕ) → n ≡ number → (b : SentPayload) (all : List Frame) → t.unsettled.rest ≡ Some b → AreFrames t.text.bytes all → IsLeft (more_told n) t.unsettled (sent_view b) all
   left_after (Ok x) a t e n here b all rest spelled = absurd (none-some b (sym (ap (λ (v : Sent). v.unsettled.rest) e) ∙ rest))
   left_after (Err back) a t e n here b all rest spelled =
       let b_is : back ≡ b = same_Some back b (sym (ap (λ (v : Sent). v.unsettled.rest) e) ∙ rest) in
       let P : List ℕ → Type 0 = λ l. AreFrames l all in
       let one = left_back all (subst P (ap (λ (v : Sent). v.text.bytes) e) spelled) back (sym a) in
-      let Q : SentView → Type 0 = λ j. IsLeft (told number + length done) (record { begun = Some kind; rest = Some back }) j all in
-      let R : Unsettled → Type 0 = λ u. IsLeft (told number + length done) u b all in
-      let T : ℕ → Type 0 = λ j. IsLeft j t.unsettled b all in
+      let Q : SentPayload → Type 0 = λ j. IsLeft (told number + length done) (record { begun = Some kind; rest = Some back }) (sent_view j) all in
+      let R : Unsettled → Type 0 = λ u. IsLeft (told number + length done) u (sent_view b) all in
+      let T : ℕ → Type 0 = λ j. IsLeft j t.unsettled (sent_view b) all in
       subst T (sym (told_here n here)) (subst R (sym (ap (λ (v : Sent). v.unsettled) e)) (subst Q b_is one))
 
   left_reported : AreLeft (slice_set sent number reported) more_told
   left_reported n t b all got rest spelled = elim (slice_get-split sent number n s reported t is got) [
     | inl here ↦ left_after answer refl t here.1 n here.0 b all rest spelled
-    | inr there ↦ (let T : ℕ → Type 0 = λ j. IsLeft j t.unsettled b all in subst T (sym (told_there n there.0)) (left n t b all there.1 rest spelled))
+    | inr there ↦ (let T : ℕ → Type 0 = λ j. IsLeft j t.unsettled (sent_view b) all in subst T (sym (told_there n there.0)) (left n t b all there.1 rest spelled))
   ]
 
   fresh_reported : ((n : ℕ) → length sent ≤ n → told n ≡ 0) → (n : ℕ) → length sent ≤ n → more_told n ≡ 0
@@ -171,7 +174,7 @@ pub record Retold (a b : Config) (old : PairState) (before : Tales) (step : Step
   pub tells : StepTells old.sent new.sent step reply before behind.tales
 
 -- the payloads and the tales once parts of a payload were reported
-abbrev pub sents_after : List Sent → ℕ → Report → Sent → Result (Unit {0}) SentView → List Sent
+abbrev pub sents_after : List Sent → ℕ → Report → Sent → Result (Unit {0}) SentPayload → List Sent
 sents_after sent number kind s answer = slice_set sent number (record s { unsettled = unsettled_after kind s.unsettled answer })
 
 abbrev pub tales_after : Tales → ℕ → List Frame → List Part → End → (Part → Tale → Tale) → Tales
@@ -247,14 +250,14 @@ module _ (a b : Config) (old : PairState) (r : Recounted a b old) (step : Step) 
   recount-called who f new is c s = recount-as who f old.sent new (is ∙ same_sent who f) r.left refl c s
 
   -- parts of a payload were reported
-  module _ (number : ℕ) (s : Sent) (is : slice_get old.sent number ≡ Some s) (all : List Frame) (spelled : AreFrames s.text.bytes all) (kind : Report) (x : SentView) (answer : Result (Unit {0}) SentView) (done : List Part) (k : IsDone kind s.unsettled x answer done) (deed : Part → Tale → Tale) where
+  module _ (number : ℕ) (s : Sent) (is : slice_get old.sent number ≡ Some s) (all : List Frame) (spelled : AreFrames s.text.bytes all) (kind : Report) (x : SentPayload) (answer : Result (Unit {0}) SentPayload) (done : List Part) (k : IsDone kind s.unsettled x answer done) (deed : Part → Tale → Tale) where
     abbrev sents_behind : List Sent
     sents_behind = sents_after old.sent number kind s answer
 
     abbrev told_behind : Tales
     told_behind = tales_after r.tales number all done s.writer deed
 
-    parts_behind : (a : Result (Unit {0}) SentView) → length (parts_of (unwrap_or (unsettled_after kind s.unsettled a).rest (record { streams = []; control = None }))) ≡ length (parts_of (unreported a))
+    parts_behind : (a : Result (Unit {0}) SentPayload) → parts_left (unsettled_after kind s.unsettled a) ≡ length (parts_of (unreported (report_view a)))
     parts_behind (Ok done) = refl
     parts_behind (Err back) = refl
 
@@ -267,6 +270,10 @@ module _ (a b : Config) (old : PairState) (r : Recounted a b old) (step : Step) 
       counts = ap (λ n. r.tales.told number + length done + n) (parts_behind answer) ∙ done-counts old.sent r.tales.told r.left number s is kind x answer done k all spelled;
       is = refl;
     }
+
+    pub tells-all : r.tales.told number + length done ≡ length (parts_in all) → TellsAll sents_behind number deed r.tales told_behind
+    unfolding tells-parts
+    tells-all e = record { some = tells-parts; each = e }
 
     pub recount-report : (f : EndState) (new : PairState) → new ≡ with_sent (with_end old s.writer f) sents_behind → Counted (made_at a b s.writer) f.streams (with_parts deed done (r.tales.of s.writer)) → StepTells old.sent sents_behind step reply r.tales told_behind → Retold a b old r.tales step reply new
     recount-report f new new_is c tells =

@@ -8,11 +8,14 @@ use Rattle.quic_wire.specs.declared.frame.Stream.{Stream}
 use Rattle.quic_wire.specs.declared.frame.StreamMeta.{StreamMeta}
 use Rattle.quic_wire.specs.Frames.{AreFrames}
 use Rattle.quic_wire.proofs.Joins.{same}
-use Rattle.quic_retransmits.specs.Pending.{Pending, nothing, merged_if}
+use Rattle.quic_retransmits.specs.Pending.{Pending, nothing, merged_if, shown_if}
+use Rattle.quic_retransmits.specs.Settling.{noted_in}
 use Rattle.quic_history.specs.World.{World}
 use Rattle.quic_history.specs.Receiving.{with_max_streams}
 use Rattle.quic_history.specs.SendEvents.{SendEvent, SendStep, LostOwn, AckedOwn, ResetAckedOwn}
 use Rattle.quic_history.specs.History.{Sending}
+use Rattle.quic_streams.specs.declared.settling.SentPayload.{SentPayload}
+use Rattle.quic_streams.specs.Sent.{sent_view, report_view}
 use Rattle.quic_streams.specs.Settling.{SentView, EachInOrder, AcksMeta, LosesMeta, AcksResetOf, resets_of, StopsIn}
 use Rattle.quic_link.specs.Endpoints.{Endpoint, Linked, IsOneOf, first_acts, MayAct, acted, IsHonestSending, WasWrittenAs, WasAccepted}
 use Rattle.quic_link.specs.Asked.{AreAsked}
@@ -27,7 +30,8 @@ use Rattle.quic_pair.specs.declared.sent.Sent.{Sent}
 use Rattle.quic_pair.specs.declared.unsettled.Report.{Report}
 use Rattle.quic_pair.specs.declared.unsettled.Report.TheVariants.{Lost, Acknowledged}
 use Rattle.quic_pair.specs.Payloads.{IsFrameAt, AreAllAccepted, meta_of, metas_in, is_accepted}
-use Rattle.quic_pair.specs.Unsettled.{Unsettled, unsettled_after}
+use Rattle.quic_pair.specs.declared.unsettled.Unsettled.{Unsettled}
+use Rattle.quic_pair.specs.Unsettled.{unsettled_after}
 use Rattle.quic_pair.specs.Replies.{Answer}
 use Rattle.quic_pair.specs.State.{PairState, peer, the_end, with_end, with_sent}
 use Rattle.quic_pair.specs.Steps.{Reports, Settles}
@@ -256,7 +260,7 @@ stay_settled sent number s u is k t h = elim (slice_set-keeps sent number k (wit
 ]
 
 -- what is left of it was asked for
-payload_settled : (x y : Endpoint) (s : Sent) (kind : Report) (r : SentView) (answer : Result (Unit {0}) SentView) → s.unsettled.rest ≡ Some r → ((back : SentView) → answer ≡ Err back → IsPartOf back.control r.control)
+payload_settled : (x y : Endpoint) (s : Sent) (kind : Report) (r : SentPayload) (answer : Result (Unit {0}) SentPayload) → s.unsettled.rest ≡ Some r → ((back : SentPayload) → answer ≡ Err back → IsPartOf (shown_if back.control) (shown_if r.control))
     → IsPayloadOf x y s → IsPayloadOf x y (with_unsettled s (unsettled_after kind s.unsettled answer))
 payload_settled x y s kind r (Ok done) is part i = record { all = i.all; spelled = i.spelled; wrote = i.wrote; control = λ b h. absurd (none-some b h); accepted = i.accepted }
 payload_settled x y s kind r (Err back) is part i = record {
@@ -265,7 +269,7 @@ payload_settled x y s kind r (Err back) is part i = record {
   wrote = i.wrote;
   control = λ b h.
       let same_one : back ≡ b = same_Some back b h in
-      asked_as x (unwrap_or back.control nothing) (unwrap_or b.control nothing) (sym (ap (λ (v : SentView). unwrap_or v.control nothing) same_one)) (part back refl x (i.control r is));
+      asked_as x (noted_in back.control) (noted_in b.control) (sym (ap (λ (v : SentPayload). noted_in v.control) same_one)) (part back refl x (i.control r is));
   accepted = i.accepted;
 }
 
@@ -285,7 +289,7 @@ report_kept p number kind (Err NoMemory) = refl
 report_kept p number kind _ = refl
 
 module _ (p : Past) (who : End) (old new : PairState) (x y : Endpoint) (number : ℕ) (kind : Report) (reply : Answer) (s : Seen p who old x y) (sent : Sent) (is : slice_get old.sent number ≡ Some sent) (w : sent.writer ≡ who) (f : EndState) (t : Reaches x y f)
-    (r : SentView) (rest_is : sent.unsettled.rest ≡ Some r) (answer : Result (Unit {0}) SentView) (part : (back : SentView) → answer ≡ Err back → IsPartOf back.control r.control) where
+    (r : SentPayload) (rest_is : sent.unsettled.rest ≡ Some r) (answer : Result (Unit {0}) SentPayload) (part : (back : SentPayload) → answer ≡ Err back → IsPartOf (shown_if back.control) (shown_if r.control)) where
   settled_seen : new ≡ with_sent (with_end old who f) (slice_set old.sent number (with_unsettled sent (unsettled_after kind sent.unsettled answer))) → Sees (after_report p number kind reply) who new x y
   settled_seen e = seen-moved p who old new x y t.end f s t.linked t.keeps t.here later sents tells stay own others heard kept_there kept_here e
     where
@@ -331,41 +335,41 @@ module _ (p : Past) (who : End) (old new : PairState) (x y : Endpoint) (number :
 
 module _ (p : Past) (who : End) (old new : PairState) (x y : Endpoint) (number : ℕ) (reply : Answer) (s : Seen p who old x y) (told : ℕ → ℕ) (left : AreLeft old.sent told) where
   -- what is unreported are STREAM frames of the payload
-  stream_in : (sent : Sent) → slice_get old.sent number ≡ Some sent → (i : IsPayloadOf x y sent) (r : SentView) → sent.unsettled.rest ≡ Some r → (m : StreamMeta) → IsOneOf m r.streams → (g : Stream) × IsOneOf (frames.Stream g) i.all × (m ≡ meta_of g)
+  stream_in : (sent : Sent) → slice_get old.sent number ≡ Some sent → (i : IsPayloadOf x y sent) (r : SentPayload) → sent.unsettled.rest ≡ Some r → (m : StreamMeta) → IsOneOf m r.streams.items → (g : Stream) × IsOneOf (frames.Stream g) i.all × (m ≡ meta_of g)
   stream_in sent is i r rest_is m h = metas-among old.sent told left number sent is r rest_is i.all i.spelled m h
 
   pub seen-loses : (k : Reports Lost LosesPayloadAt old number reply new) → k.payload.sent.writer ≡ who → Sees (after_report p number Lost reply) who new x y
   seen-loses k w =
       let sent = k.payload.sent in
       let i = s.own number sent k.payload.is w in
-      let P : End → Type 0 = λ v. LosesPayloadAt (the_end old v) k.rest k.answer k.end in
+      let P : End → Type 0 = λ v. LosesPayloadAt (the_end old v) (sent_view k.rest) (report_view k.answer) k.end in
       let l = subst P w k.does in
-      let written : (m : StreamMeta) → IsOneOf m k.rest.streams → IsWritten x m =
+      let written : (m : StreamMeta) → IsOneOf m k.rest.streams.items → IsWritten x m =
       λ m h.
       let g = stream_in sent k.payload.is i k.rest k.rest_is m h in
       let Q : StreamMeta → Type 0 = λ j. IsWritten x j in
       subst Q (sym g.2) (record { bytes = g.0.bytes; is = i.wrote (frames.Stream g.0) g.1; behind = refl }) in
-      let t = loses_reached x y (the_end old who) k.end k.rest s.linked s.here (i.control k.rest k.rest_is) k.answer written l in
-      let Q : Result (Unit {0}) SentView → Type 0 = λ a. LosesPayloadAt (the_end old who) k.rest a k.end in
-      settled_seen p who old new x y number Lost reply s sent k.payload.is w k.end t k.rest k.rest_is k.answer (λ back e. back_lost (the_end old who) k.end k.rest back (subst Q e l))
+      let t = loses_reached x y (the_end old who) k.end (sent_view k.rest) s.linked s.here (i.control k.rest k.rest_is) (report_view k.answer) written l in
+      let R : Result (Unit {0}) SentPayload → Type 0 = λ a. LosesPayloadAt (the_end old who) (sent_view k.rest) (report_view a) k.end in
+      settled_seen p who old new x y number Lost reply s sent k.payload.is w k.end t k.rest k.rest_is k.answer (λ back e. back_lost (the_end old who) k.end (sent_view k.rest) (sent_view back) (subst R e l))
       (k.is ∙ ap (λ v. with_sent (with_end old v k.end) (slice_set old.sent number (with_unsettled sent (unsettled_after Lost sent.unsettled k.answer)))) w)
 
   pub seen-acks : (k : Reports Acknowledged AcksPayloadAt old number reply new) → k.payload.sent.writer ≡ who → Sees (after_report p number Acknowledged reply) who new x y
   seen-acks k w =
       let sent = k.payload.sent in
       let i = s.own number sent k.payload.is w in
-      let P : End → Type 0 = λ v. AcksPayloadAt (the_end old v) k.rest k.answer k.end in
+      let P : End → Type 0 = λ v. AcksPayloadAt (the_end old v) (sent_view k.rest) (report_view k.answer) k.end in
       let l = subst P w k.does in
       let all_marked : AreAllAccepted sent.text = k.serves in
-      let accepted : (m : StreamMeta) → IsOneOf m k.rest.streams → IsAccepted y x m =
+      let accepted : (m : StreamMeta) → IsOneOf m k.rest.streams.items → IsAccepted y x m =
       λ m h.
       let g = stream_in sent k.payload.is i k.rest k.rest_is m h in
       let at = place-of (frames.Stream g.0) i.all g.1 in
       let Q : StreamMeta → Type 0 = λ j. IsAccepted y x j in
       subst Q (sym g.2) (i.accepted at.0 g.0 at.1 (all_marked i.all i.spelled at.0 (slice_get-within i.all at.0 (frames.Stream g.0) at.1))) in
-      let t = payload_acked x y (the_end old who) k.end k.rest s.linked s.here (i.control k.rest k.rest_is) k.answer accepted l in
-      let Q : Result (Unit {0}) SentView → Type 0 = λ a. AcksPayloadAt (the_end old who) k.rest a k.end in
-      settled_seen p who old new x y number Acknowledged reply s sent k.payload.is w k.end t k.rest k.rest_is k.answer (λ back e. back_acked (the_end old who) k.end k.rest back (subst Q e l))
+      let t = payload_acked x y (the_end old who) k.end (sent_view k.rest) s.linked s.here (i.control k.rest k.rest_is) (report_view k.answer) accepted l in
+      let R : Result (Unit {0}) SentPayload → Type 0 = λ a. AcksPayloadAt (the_end old who) (sent_view k.rest) (report_view a) k.end in
+      settled_seen p who old new x y number Acknowledged reply s sent k.payload.is w k.end t k.rest k.rest_is k.answer (λ back e. back_acked (the_end old who) k.end (sent_view k.rest) (sent_view back) (subst R e l))
       (k.is ∙ ap (λ v. with_sent (with_end old v k.end) (slice_set old.sent number (with_unsettled sent (unsettled_after Acknowledged sent.unsettled k.answer)))) w)
 
 -- ---- all of these steps

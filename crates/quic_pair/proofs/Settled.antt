@@ -1,13 +1,16 @@
 -- Payloads are settled, and reports of them begun, as the replies to their reports say.
 use Rattle.std.proofs.Common.{◌≡◌, ◌⊎◌, ℕ, Bool, true, false, List, [], ◌∷◌, ◌++◌, length, Option, Some, None, Result, Ok, Err, refl, sym, ap, ◌∙◌, subst, inl, inr, arith, ◌<◌}
 use Rattle.std.specs.Prelude.{◌&&◌, ◌==◌, is_some, slice_get, slice_set}
+use Rattle.std.specs.Option.{option_map}
 use Rattle.std.proofs.lemmas.List.{length-append}
 use Rattle.std.proofs.lemmas.Option.{none-some, same_Some}
 use Rattle.quic_values.specs.declared.memory.OutOfMemory.{OutOfMemory}
 use Rattle.quic_wire.specs.declared.error.ReceiveError.{ReceiveError}
 use Rattle.quic_receiving.specs.declared.transmit.ShouldTransmit.{ShouldTransmit}
 use Rattle.quic_history.proofs.Traces.{itself}
+use Rattle.quic_streams.specs.declared.settling.SentPayload.{SentPayload}
 use Rattle.quic_streams.specs.Settling.{SentView}
+use Rattle.quic_streams.specs.Sent.{sent_view}
 use Rattle.quic_link.specs.Endpoints.{IsOneOf}
 use Rattle.quic_endpoint.specs.Ends.{EndState}
 use Rattle.quic_endpoint.specs.Emitting.{PayloadView}
@@ -21,7 +24,8 @@ use Rattle.quic_steps.specs.declared.steps.PairError.TheVariants.{NoSuchPayload,
 use Rattle.quic_pair.specs.declared.sent.Sent.{Sent}
 use Rattle.quic_pair.specs.declared.unsettled.Report.{Report}
 use Rattle.quic_pair.specs.declared.unsettled.Report.TheVariants.{Lost, Acknowledged}
-use Rattle.quic_pair.specs.Unsettled.{Unsettled, goes_on, may_report, other_report, unsettled_after}
+use Rattle.quic_pair.specs.declared.unsettled.Unsettled.{Unsettled}
+use Rattle.quic_pair.specs.Unsettled.{goes_on, may_report, other_report, unsettled_after}
 use Rattle.quic_pair.specs.Replies.{Answer, report_reply}
 use Rattle.quic_pair.specs.State.{PairState, OnEnd, with_end, with_sent}
 use Rattle.quic_pair.specs.Steps.{Next, Emits, Emitted, SentAfter, HandsOver, Delivers, Reports, Settles}
@@ -49,7 +53,7 @@ pub record AreSettledSo (settled : List ℕ) (begun_are : List (ℕ × Report)) 
 -- ---- what a report is refused for
 
 -- a payload does not take a report: something of these holds
-not_open : (kind : Report) (rest : Option SentView) (started : Option Report) → (is_some rest && goes_on kind started) ≡ false → (rest ≡ None) ⊎ (started ≡ Some (other_report kind))
+not_open : (kind : Report) (rest : Option SentPayload) (started : Option Report) → (is_some rest && goes_on kind started) ≡ false → (rest ≡ None) ⊎ (started ≡ Some (other_report kind))
 not_open kind None started e = inl refl
 not_open Lost (Some r) (Some Acknowledged) e = inr refl
 not_open Acknowledged (Some r) (Some Lost) e = inr refl
@@ -58,11 +62,11 @@ not_open Acknowledged (Some r) (Some Acknowledged) e = cc
 not_open Lost (Some r) None e = cc
 not_open Acknowledged (Some r) None e = cc
 
-open_rest : (kind : Report) (rest : Option SentView) (started : Option Report) → (is_some rest && goes_on kind started) ≡ true → rest ≡ None → ⊥
+open_rest : (kind : Report) (rest : Option SentPayload) (started : Option Report) → (is_some rest && goes_on kind started) ≡ true → rest ≡ None → ⊥
 open_rest kind None started e n = cc
 open_rest kind (Some r) started e n = cc
 
-open_begun : (kind : Report) (rest : Option SentView) (started : Option Report) → (is_some rest && goes_on kind started) ≡ true → started ≡ Some (other_report kind) → ⊥
+open_begun : (kind : Report) (rest : Option SentPayload) (started : Option Report) → (is_some rest && goes_on kind started) ≡ true → started ≡ Some (other_report kind) → ⊥
 open_begun kind None started e n = cc
 open_begun Lost (Some r) (Some Acknowledged) e n = cc
 open_begun Acknowledged (Some r) (Some Lost) e n = cc
@@ -92,19 +96,18 @@ settled_as settled settled_then begun_are begun_then sent more e d l k =
 
 module _ (settled : List ℕ) (begun_are : List (ℕ × Report)) (sent : List Sent) (k : AreSettledSo settled begun_are sent) where
   -- one more was sent, of which nothing was reported
-  settled_push : (s : Sent) (r : SentView) → s.unsettled ≡ record { begun = None; rest = Some r } → AreSettledSo settled begun_are (sent ++ s ∷ [])
-  settled_push s r fresh =
+  settled_push : (s : Sent) → s.unsettled.begun ≡ None → (s.unsettled.rest ≡ None → ⊥) → AreSettledSo settled begun_are (sent ++ s ∷ [])
+  settled_push s fresh some =
       let longer = length-append sent (s ∷ []) in
       record {
         each = λ n t got. elim (slice_get-push sent s n t got) [
           | inl before ↦ k.each n t before
           | inr now ↦ (
-              let u_is : t.unsettled ≡ record { begun = None; rest = Some r } = ap (λ (v : Sent). v.unsettled) now.1 ∙ fresh in
               let here = now.0 in
               record {
-                done = λ none. absurd (none-some r (sym none ∙ ap (λ (u : Unsettled). u.rest) u_is));
+                done = λ none. absurd (some (sym (ap (λ (v : Sent). v.unsettled.rest) now.1) ∙ none));
                 known = λ h. let w = k.settled_sent n h in absurd (omega (arith, w, here));
-                started = λ kind e. absurd (none-some kind (sym (ap (λ (u : Unsettled). u.begun) u_is) ∙ e));
+                started = λ kind e. absurd (none-some kind (sym fresh ∙ sym (ap (λ (v : Sent). v.unsettled.begun) now.1) ∙ e));
                 noticed = λ kind h. let w = k.begun_sent n kind h in absurd (omega (arith, w, here));
               }
               )
@@ -161,7 +164,7 @@ module _ (settled : List ℕ) (begun_are : List (ℕ × Report)) (sent : List Se
         }
 
     -- one was begun, and goes on
-    settled_begun : (kind : Report) (back : SentView) → may_report kind s.unsettled ≡ true → AreSettledSo settled ((number, kind) ∷ begun_are) (slice_set sent number (record s { unsettled = unsettled_after kind s.unsettled (Err back) }))
+    settled_begun : (kind : Report) (back : SentPayload) → may_report kind s.unsettled ≡ true → AreSettledSo settled ((number, kind) ∷ begun_are) (slice_set sent number (record s { unsettled = unsettled_after kind s.unsettled (Err back) }))
     settled_begun kind back may =
         let t : Sent = record s { unsettled = unsettled_after kind s.unsettled (Err back) } in
         let size = slice_set-length sent number t in
@@ -199,7 +202,7 @@ module _ (settled : List ℕ) (begun_are : List (ℕ × Report)) (sent : List Se
         pair_is : (n : ℕ) (j : Report) (m : ℕ) (i : Report) → n ≡ m → j ≡ i → ◌≡◌ {A = ℕ × Report} (n, j) (m, i)
         pair_is n j m i e d = rw (e, d) refl
 
-        begun_same : (i j : Report) (rest : Option SentView) (started : Option Report) → (is_some rest && goes_on i started) ≡ true → started ≡ Some j → i ≡ j
+        begun_same : (i j : Report) (rest : Option SentPayload) (started : Option Report) → (is_some rest && goes_on i started) ≡ true → started ≡ Some j → i ≡ j
         begun_same i j None started e n = cc
         begun_same Lost Lost (Some r) started e n = refl
         begun_same Acknowledged Acknowledged (Some r) started e n = refl
@@ -214,7 +217,7 @@ module _ (p : Past) (old new : PairState) (k : AreSettledSo p.settled p.begun ol
 
   settled_emits : {who : End} {most : ℕ} {fair : Bool} {answer : Result (Unit {0}) OutOfMemory} {payload : PayloadView} → Emits old who most fair answer payload new → AreSettledSo p.settled p.begun new.sent
   settled_emits {who} {most} {fair} {answer} {payload} e =
-      settled_as p.settled p.settled p.begun p.begun (old.sent ++ e.sent ∷ []) new.sent refl refl (ap (λ (v : PairState). v.sent) e.is) (settled_push p.settled p.begun old.sent k e.sent payload.sent e.sent_is.unsettled)
+      settled_as p.settled p.settled p.begun p.begun (old.sent ++ e.sent ∷ []) new.sent refl refl (ap (λ (v : PairState). v.sent) e.is) (settled_push p.settled p.begun old.sent k e.sent e.sent_is.begun (λ none. none-some payload.sent (sym (ap (option_map sent_view) none) ∙ e.sent_is.rest)))
 
   settled_emitted : (who : End) (most : ℕ) (fair : Bool) (reply : Answer) → Emitted old who most fair reply new → AreSettledSo p.settled p.begun new.sent
   settled_emitted who most fair (Ok (Payload number bytes)) e = settled_emits e.emits
@@ -236,7 +239,7 @@ module _ (p : Past) (old new : PairState) (k : AreSettledSo p.settled p.begun ol
   settled_delivers number index reply e = settled_as p.settled _ p.begun _ new.sent new.sent (deliver-settled p (number, index) reply) (deliver-begun p (number, index) reply) refl (settled_delivered number index reply e)
 
   module _ (number : ℕ) (kind : Report) (At : EndState → SentView → Result (Unit {0}) SentView → EndState → Type 0) where
-    settled_answered : (s : Sent) → slice_get old.sent number ≡ Some s → may_report kind s.unsettled ≡ true → (answer : Result (Unit {0}) SentView) → new.sent ≡ slice_set old.sent number (record s { unsettled = unsettled_after kind s.unsettled answer })
+    settled_answered : (s : Sent) → slice_get old.sent number ≡ Some s → may_report kind s.unsettled ≡ true → (answer : Result (Unit {0}) SentPayload) → new.sent ≡ slice_set old.sent number (record s { unsettled = unsettled_after kind s.unsettled answer })
         → AreSettledSo (after_report p number kind (report_reply answer)).settled (after_report p number kind (report_reply answer)).begun new.sent
     settled_answered s is may (Ok tt) e = settled_as (number ∷ p.settled) (number ∷ p.settled) p.begun p.begun (slice_set old.sent number (record s { unsettled = unsettled_after kind s.unsettled (Ok tt) })) new.sent refl refl e (settled_done p.settled p.begun old.sent k number s is kind)
     settled_answered s is may (Err back) e =

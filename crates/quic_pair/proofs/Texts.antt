@@ -47,6 +47,10 @@ module _ (bytes : List ℕ) (all : List Frame) (r : AreRead bytes all) where
 none_spelled : (all : List Frame) → AreFrames [] all → all ≡ []
 none_spelled all spelled = same [] all [] spelled refl
 
+pub empty-list : {X : Type 0} (xs : List X) → length xs ≡ 0 → xs ≡ []
+empty-list [] e = refl
+empty-list (x ∷ xs) e = absurd (omega (arith, e))
+
 -- a payload without frames may be acknowledged at once
 pub empty-accepted : (s : SentText) → s.bytes ≡ [] → AreAllAccepted s
 empty-accepted s e all spelled index within =

@@ -18,7 +18,7 @@ use Rattle.quic_receiving.specs.declared.transmit.ShouldTransmit.{ShouldTransmit
 use Rattle.quic_history.specs.declared.progress.LastAnswer.{LastAnswer}
 use Rattle.quic_history.specs.declared.progress.LastAnswer.TheVariants as last_answer
 use Rattle.quic_streams.specs.declared.batches.ReadSome.{ReadSome}
-use Rattle.quic_streams.specs.Settling.{SentView}
+use Rattle.quic_streams.specs.declared.settling.SentPayload.{SentPayload}
 use Rattle.quic_steps.specs.declared.steps.Last.{Last}
 use Rattle.quic_steps.specs.declared.steps.Last.TheVariants as last
 use Rattle.quic_steps.specs.declared.steps.Reply.{Reply}
@@ -118,7 +118,7 @@ done_reply (Ok done) = Ok Done
 done_reply (Err error) = wants_memory
 
 -- to a report of a payload; where something came back, memory was wanting
-abbrev pub report_reply : Result (Unit {0}) SentView → Answer
+abbrev pub report_reply : Result (Unit {0}) SentPayload → Answer
 report_reply (Ok done) = Ok Done
 report_reply (Err back) = wants_memory
 

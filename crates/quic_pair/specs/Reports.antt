@@ -1,20 +1,20 @@
 -- Reports of payloads, by the number of the payload.
 use Rattle.std.specs.Prelude.{◌≡◌, ℕ, ◌≤◌, Bool, true, false, List, Some, None, Result, Ok, Err, MatchBool, length, slice_get, slice_set}
-use Rattle.quic_streams.specs.Settling.{SentView}
+use Rattle.quic_streams.specs.declared.settling.SentPayload.{SentPayload}
 use Rattle.quic_steps.specs.declared.steps.End.{End}
 use Rattle.quic_steps.specs.declared.steps.PairError.{PairError}
 use Rattle.quic_steps.specs.declared.steps.PairError.TheVariants as refusals
 use Rattle.quic_pair.specs.declared.sent.Sent.{Sent}
 use Rattle.quic_pair.specs.declared.unsettled.Report.{Report}
 use Rattle.quic_pair.specs.Payloads.{SentText, AreAllAccepted, LacksAccepted}
-use Rattle.quic_pair.specs.Unsettled.{Unsettled, needs_acceptance, may_report, unsettled_after}
+use Rattle.quic_pair.specs.Unsettled.{needs_acceptance, may_report}
 
 -- a report of a kind may be served, as far as the marks of the payload's frames say
 abbrev pub MayServe : Report → SentText → Type 0
 MayServe kind text = MatchBool (needs_acceptance kind) (AreAllAccepted text) (Unit {0})
 
 -- what is unreported of a payload is taken out, for a report
-pub record TakesRest (kind : Report) (old : Sent) (rest : SentView) (new : Sent) : Type 0 where
+pub record TakesRest (kind : Report) (old : Sent) (rest : SentPayload) (new : Sent) : Type 0 where
   pub may : may_report kind old.unsettled ≡ true
   pub serves : MayServe kind old.text
   pub rest_is : old.unsettled.rest ≡ Some rest
@@ -27,7 +27,7 @@ RefusesReport kind s refusals.NotAccepted = (may_report kind s.unsettled ≡ tru
 RefusesReport kind s _ = ⊥
 
 -- the same of the payload of a number
-pub record TakesRestAt (old : List Sent) (payload : ℕ) (kind : Report) (writer : End) (rest : SentView) (new : List Sent) : Type 0 where
+pub record TakesRestAt (old : List Sent) (payload : ℕ) (kind : Report) (writer : End) (rest : SentPayload) (new : List Sent) : Type 0 where
   pub whole : Sent
   pub is : slice_get old payload ≡ Some whole
   pub writer_is : writer ≡ whole.writer
@@ -46,6 +46,6 @@ FailsToTake sent payload kind refusals.NoSuchPayload = length sent ≤ payload
 FailsToTake sent payload kind error = RefusesReportAt sent payload kind error
 
 -- what came back of a report is kept
-abbrev pub KeepsBack : List Sent → ℕ → Report → Result (Unit {0}) SentView → List Sent → Type 0
+abbrev pub KeepsBack : List Sent → ℕ → Report → Result (Unit {0}) SentPayload → List Sent → Type 0
 KeepsBack old payload kind (Ok done) new = new ≡ old
 KeepsBack old payload kind (Err back) new = (whole : Sent) → slice_get old payload ≡ Some whole → new ≡ slice_set old payload (record whole { unsettled = record { begun = Some kind; rest = Some back } })

@@ -1,11 +1,14 @@
 -- What each step does to two ends and what was sent between them.
 use Rattle.std.specs.Prelude.{ℕ, Bool, true, ◌≡◌, ◌⊎◌, ◌≤◌, List, [], ◌∷◌, ◌++◌, length, slice_get, slice_set, Some, None, Result, Ok, Err}
+use Rattle.std.specs.Option.{option_map}
 use Rattle.quic_values.specs.declared.memory.OutOfMemory.{OutOfMemory}
 use Rattle.quic_wire.specs.declared.frame.Frame.{Frame}
 use Rattle.quic_wire.specs.declared.error.ReceiveError.{ReceiveError}
 use Rattle.quic_sending.specs.Source.{slice_lists}
 use Rattle.quic_receiving.specs.declared.transmit.ShouldTransmit.{ShouldTransmit}
+use Rattle.quic_streams.specs.declared.settling.SentPayload.{SentPayload}
 use Rattle.quic_streams.specs.Settling.{SentView}
+use Rattle.quic_streams.specs.Sent.{sent_view, report_view}
 use Rattle.quic_endpoint.specs.Ends.{EndState}
 use Rattle.quic_endpoint.specs.Receiving.{ReceivesAt, AccountsFrame}
 use Rattle.quic_endpoint.specs.Reports.{LosesPayloadAt, AcksPayloadAt}
@@ -29,7 +32,8 @@ use Rattle.quic_pair.specs.Calls.{Opens, Accepts, OnGiven, Writes, WritesChunksO
 pub record IsSentBy (who : End) (payload : PayloadView) (s : Sent) : Type 0 where
   pub writer : s.writer ≡ who
   pub text : s.text ≡ record { bytes = payload.bytes; accepted = [] }
-  pub unsettled : s.unsettled ≡ record { begun = None; rest = Some payload.sent }
+  pub begun : s.unsettled.begun ≡ None
+  pub rest : option_map sent_view s.unsettled.rest ≡ Some payload.sent
 
 -- an end wrote a payload, which is sent
 pub record Emits (old : PairState) (who : End) (most : ℕ) (fair : Bool) (answer : Result (Unit {0}) OutOfMemory) (payload : PayloadView) (new : PairState) : Type 0 where
@@ -116,11 +120,11 @@ pub record Reports (kind : Report) (At : EndState → SentView → Result (Unit 
   pub payload : HasPayload old number
   pub may : may_report kind payload.sent.unsettled ≡ true
   pub serves : MayServe kind payload.sent.text
-  pub rest : SentView
+  pub rest : SentPayload
   pub rest_is : payload.sent.unsettled.rest ≡ Some rest
-  pub answer : Result (Unit {0}) SentView
+  pub answer : Result (Unit {0}) SentPayload
   pub end : EndState
-  pub does : At (the_end old payload.sent.writer) rest answer end
+  pub does : At (the_end old payload.sent.writer) (sent_view rest) (report_view answer) end
   pub reply_is : reply ≡ report_reply answer
   pub is : new ≡ with_sent (with_end old payload.sent.writer end) (slice_set old.sent number (record payload.sent { unsettled = unsettled_after kind payload.sent.unsettled answer }))
 

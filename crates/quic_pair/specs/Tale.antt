@@ -1,6 +1,7 @@
 -- What the steps of a pair tell of what its ends send: of each stream what was written, permitted, stopped, sent, lost and
 -- acknowledged, and of all streams how much was written and how much may be.
 use Rattle.std.specs.Prelude.{ℕ, ◌≡◌, ◌⊎◌, ◌==◌, ◌+◌, max, List, [], ◌∷◌, ◌++◌, length, map, take, drop, slice_get, Some, None, unwrap_or, Ok, Err, if◌then◌else◌}
+use Rattle.std.specs.Option.{option_map}
 use Rattle.quic_values.specs.declared.ids.Dir.{Dir}
 use Rattle.quic_values.specs.declared.ids.Dir.TheVariants.{Bi, Uni}
 use Rattle.quic_sending.specs.Source.{slice_lists}
@@ -12,6 +13,7 @@ use Rattle.quic_flows.specs.Flow.{SendFlow, SendMove, WasWritten, WasFinished, W
 use Rattle.quic_outgoing.specs.History.{given_for}
 use Rattle.quic_history.specs.History.{with_stream, total_over}
 use Rattle.quic_streams.specs.Settling.{SentView, resets_of}
+use Rattle.quic_streams.specs.Sent.{sent_view}
 use Rattle.quic_steps.specs.declared.steps.Config.{Config}
 use Rattle.quic_steps.specs.declared.steps.End.{End}
 use Rattle.quic_steps.specs.declared.steps.End.TheVariants.{A, B}
@@ -21,7 +23,7 @@ use Rattle.quic_steps.specs.declared.steps.Reply.TheVariants.{Done, DoneTransmit
 use Rattle.quic_steps.specs.declared.steps.PairError.TheVariants.{OutOfMemory as NoMemory}
 use Rattle.quic_pair.specs.declared.sent.Sent.{Sent}
 use Rattle.quic_pair.specs.Payloads.{IsFrameAt, metas_in, codes_in}
-use Rattle.quic_pair.specs.Unsettled.{Unsettled}
+use Rattle.quic_pair.specs.declared.unsettled.Unsettled.{Unsettled}
 use Rattle.quic_pair.specs.Replies.{Answer}
 use Rattle.quic_pair.specs.State.{PairState, peer}
 use Rattle.quic_pair.specs.History.{History, FramePlace, is_same_end}
@@ -132,7 +134,7 @@ parts_of s = map Carried s.streams ++ map (λ reset. GivenUp reset.0) (resets_of
 
 -- how many are unreported
 abbrev pub parts_left : Unsettled → ℕ
-parts_left u = length (parts_of (unwrap_or u.rest (record { streams = []; control = None })))
+parts_left u = length (parts_of (unwrap_or (option_map sent_view u.rest) (record { streams = []; control = None })))
 
 -- a part was acknowledged
 abbrev pub acked_part : Part → Tale → Tale

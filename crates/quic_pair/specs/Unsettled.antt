@@ -1,14 +1,9 @@
 -- What is unreported of a payload that was sent.
 use Rattle.std.specs.Prelude.{Bool, true, false, ◌&&◌, Option, Some, None, is_some, Result, Ok, Err}
-use Rattle.quic_streams.specs.Settling.{SentView}
+use Rattle.quic_streams.specs.declared.settling.SentPayload.{SentPayload}
+use Rattle.quic_pair.specs.declared.unsettled.Unsettled.{Unsettled}
 use Rattle.quic_pair.specs.declared.unsettled.Report.{Report}
 use Rattle.quic_pair.specs.declared.unsettled.Report.TheVariants.{Lost, Acknowledged}
-
--- begun: the report that was begun, for the rest of which memory was wanting
--- rest: what is still to be reported, unless all was
-pub record Unsettled : Type 0 where
-  pub begun : Option Report
-  pub rest : Option SentView
 
 -- whether every frame of the payload has to be accepted for a report
 abbrev pub needs_acceptance : Report → Bool
@@ -33,6 +28,6 @@ other_report Lost = Acknowledged
 other_report Acknowledged = Lost
 
 -- what is unreported behind a report: nothing once it was served, and else what came back, of a report that was begun
-abbrev pub unsettled_after : Report → Unsettled → Result (Unit {0}) SentView → Unsettled
+abbrev pub unsettled_after : Report → Unsettled → Result (Unit {0}) SentPayload → Unsettled
 unsettled_after kind u (Ok done) = record u { rest = None }
 unsettled_after kind u (Err back) = record { begun = Some kind; rest = Some back }

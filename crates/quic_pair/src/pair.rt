@@ -380,7 +380,7 @@ impl Pair {
         ensures readable { (a b : Config) (h : History) → From a b h (pair_state self.old) → WithholdsNothing (past_of h) (pair_state self.old).sent step result }
         ensures drained { (a b : Config) (h : History) → From a b h (pair_state self.old) → Drains (past_of h) (pair_state self.old).sent step result }
         ensures due { (a b : Config) (h : History) → From a b h (pair_state self.old) → AsksFor (pair_state self.old) step result (pair_state self.new) }
-        ensures not_withheld { (a b : Config) (h : History) → From a b h (pair_state self.old) → NotWithheld a b h (pair_state self.old).sent (pair_state self.new).sent step result }
+        ensures not_withheld { (a b : Config) (h : History) (led : From a b h (pair_state self.old)) → NotWithheld led step result (pair_state self.new) }
     {
         self.dispatch(step)
     }

@@ -1,12 +1,12 @@
 //! Frames by the number of their payload and their place there, and what is unreported of payloads.
 
 ghost use Rattle.std.specs.Prelude.{◌≡◌, ◌⊎◌, IfOk, IfErr, Err};
-ghost use Rattle.quic_streams.specs.Sent.{sent_view, report_view};
 ghost use Rattle.quic_pair.specs.Places.{FindsFrame, FailsToFind, IsReadyAt, IsHandedFrame, MarksIf};
 ghost use Rattle.quic_pair.specs.Payloads.{LacksFrame};
 ghost use Rattle.quic_pair.specs.Replies.{report_reply};
 ghost use Rattle.quic_pair.specs.Reports.{TakesRest, RefusesReport, TakesRestAt, FailsToTake, KeepsBack};
 
+use crate::replies::report_reply;
 use crate::sent::Sent;
 use crate::unsettled::Report;
 use quic_receiving::ShouldTransmit;
@@ -82,7 +82,7 @@ pub(crate) fn rest_at(
     payload: usize,
     kind: Report,
 ) -> Result<(End, SentPayload), PairError>
-    ensures taken { IfOk result (λ taken. TakesRestAt sent.old.items payload kind taken.0 (sent_view taken.1) sent.new.items) }
+    ensures taken { IfOk result (λ taken. TakesRestAt sent.old.items payload kind taken.0 taken.1 sent.new.items) }
     ensures same { IfErr result (λ error. sent.new.items ≡ sent.old.items) }
     ensures refused { IfErr result (FailsToTake sent.old.items payload kind) }
 {
@@ -95,7 +95,7 @@ pub(crate) fn rest_at(
 // The same of this payload.
 fn rest_of(whole: &mut Sent, kind: Report) -> Result<(End, SentPayload), PairError>
     ensures writer { IfOk result (λ taken. taken.0 ≡ whole.old.writer) }
-    ensures taken { IfOk result (λ taken. TakesRest kind whole.old (sent_view taken.1) whole.new) }
+    ensures taken { IfOk result (λ taken. TakesRest kind whole.old taken.1 whole.new) }
     ensures same { IfErr result (λ error. whole.new ≡ whole.old) }
     ensures refused { IfErr result (RefusesReport kind whole.old) }
 {
@@ -110,14 +110,21 @@ pub(crate) fn settle(
     kind: Report,
     answer: Result<(), SentPayload>,
 ) -> Result<Reply, PairError>
-    ensures reply { result ≡ report_reply (report_view answer) }
-    ensures kept { KeepsBack sent.old.items payload kind (report_view answer) sent.new.items }
+    ensures reply { result ≡ report_reply answer }
+    ensures kept { KeepsBack sent.old.items payload kind answer sent.new.items }
 {
-    let Err(back) = answer else {
-        return Ok(Reply::Done);
-    };
+    let reply = report_reply(&answer);
+    if let Err(back) = answer {
+        keep_back(sent, payload, kind, back);
+    }
+    reply
+}
+
+// What came back of a report is kept.
+fn keep_back(sent: &mut Vec<Sent>, payload: usize, kind: Report, back: SentPayload)
+    ensures { KeepsBack sent.old.items payload kind (Err back) sent.new.items }
+{
     if payload < sent.len() {
         sent[payload].unsettled.keep(kind, back);
     }
-    Err(PairError::OutOfMemory)
 }

@@ -2,7 +2,6 @@
 
 ghost use Rattle.std.specs.Prelude.{◌≡◌, ◌≤◌, ◌⊎◌, [], length, true, false, slice_get, IfOk, IfErr, OnOk, OnErr, Err, Some, None};
 ghost use Rattle.quic_endpoint.specs.Receiving.{data_length};
-ghost use Rattle.quic_streams.specs.Sent.{sent_view};
 ghost use Rattle.quic_pair.specs.Payloads.{AreRead, IsFrameAt, LacksFrame, IsReadyToMark, IsMarked, AreAllAccepted, LacksAccepted, AreSet, LacksMark, AreFreshMarks, has_data};
 ghost use Rattle.quic_pair.specs.Reports.{TakesRest, RefusesReport};
 
@@ -27,7 +26,7 @@ pub(crate) struct Sent {
 
 impl Sent {
     pub(crate) fn new(alloc: Global, writer: End, payload: Payload) -> Self
-        ensures { result ≡ record { writer = writer; unsettled = record { begun = None; rest = Some (sent_view payload.sent) }; text = record { bytes = payload.bytes.items; accepted = [] } } }
+        ensures { result ≡ record { writer = writer; unsettled = record { begun = None; rest = Some payload.sent }; text = record { bytes = payload.bytes.items; accepted = [] } } }
     {
         Sent {
             writer,
@@ -38,7 +37,7 @@ impl Sent {
 
     // Takes what is unreported out, for a report of a kind.
     pub(crate) fn take_rest(&mut self, kind: Report) -> Result<SentPayload, PairError>
-        ensures taken { IfOk result (λ rest. TakesRest kind self.old (sent_view rest) self.new) }
+        ensures taken { IfOk result (λ rest. TakesRest kind self.old rest self.new) }
         ensures same { IfErr result (λ error. self.new ≡ self.old) }
         ensures refused { IfErr result (RefusesReport kind self.old) }
     {

@@ -1,12 +1,9 @@
 //! What is unreported of a payload that was sent.
 
 ghost use Rattle.std.specs.Prelude.{◌≡◌, None, Some};
-ghost use Rattle.std.specs.Option.{option_map};
-ghost use Rattle.quic_streams.specs.Sent.{sent_view};
 ghost use Rattle.quic_pair.specs.Unsettled.{needs_acceptance, goes_on, may_report};
 
 use quic_streams::SentPayload;
-use std::marker::Model;
 
 /// What becomes of a payload.
 #[derive(Clone, Copy, Debug)]
@@ -48,20 +45,10 @@ pub(crate) struct Unsettled {
     rest: Option<SentPayload>,
 }
 
-impl Model for Unsettled {
-    ghost use Rattle.std.specs.Option.{option_map};
-    ghost use Rattle.quic_streams.specs.Sent.{sent_view};
-    ghost use Rattle.quic_pair.specs.Unsettled.{Unsettled as UnsettledValue};
-
-    ghost Value = { UnsettledValue };
-
-    ghost view = { λ u. record { begun = u.begun; rest = option_map sent_view u.rest } };
-}
-
 impl Unsettled {
     // All that was handed back.
     pub(crate) fn new(sent: SentPayload) -> Self
-        ensures { result ≡ record { begun = None; rest = Some (sent_view sent) } }
+        ensures { result ≡ record { begun = None; rest = Some sent } }
     {
         Unsettled {
             begun: None,
@@ -78,7 +65,7 @@ impl Unsettled {
 
     // Takes what is unreported out.
     pub(crate) fn take(&mut self) -> Option<SentPayload>
-        ensures rest { option_map sent_view result ≡ self.old.rest }
+        ensures rest { result ≡ self.old.rest }
         ensures left { self.new ≡ record self.old { rest = None } }
     {
         self.rest.take()
@@ -86,7 +73,7 @@ impl Unsettled {
 
     // A report was begun, and this came back of it.
     pub(crate) fn keep(&mut self, kind: Report, back: SentPayload)
-        ensures { self.new ≡ record { begun = Some kind; rest = Some (sent_view back) } }
+        ensures { self.new ≡ record { begun = Some kind; rest = Some back } }
     {
         self.begun = Some(kind);
         self.rest = Some(back);
