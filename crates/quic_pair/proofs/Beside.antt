@@ -1,5 +1,5 @@
 -- What the steps beside deliveries and reports leave of what a caller knows of payloads.
-use Rattle.std.proofs.Common.{◌≡◌, ℕ, Bool, List, Ok, Err, refl}
+use Rattle.std.proofs.Common.{◌≡◌, ℕ, Bool, List, Ok, refl}
 use Rattle.quic_wire.specs.declared.event.StreamEvent.{StreamEvent}
 use Rattle.quic_wire.specs.declared.event.StreamEvent.TheVariants as stream_event
 use Rattle.quic_steps.specs.declared.steps.End.{End}

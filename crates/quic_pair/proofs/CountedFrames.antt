@@ -1,6 +1,6 @@
 -- What frames that are delivered tell of what an end sends.
 use Rattle.std.proofs.Common.{◌≡◌, ℕ, Bool, true, false, List, ◌∷◌, length, Some, Result, Ok, Err, refl, sym, ap, ◌∙◌, subst, inl, inr, arith, ◌≤◌, ◌^◌}
-use Rattle.std.specs.Prelude.{slice_get, slice_set, max, min, if◌then◌else◌}
+use Rattle.std.specs.Prelude.{slice_get, max, min, if◌then◌else◌}
 use Rattle.quic_values.specs.declared.ids.Dir.{Dir}
 use Rattle.quic_values.specs.declared.ids.Dir.TheVariants.{Bi, Uni}
 use Rattle.quic_wire.specs.declared.frame.Frame.{Frame}

@@ -1,6 +1,6 @@
 -- What reports of payloads tell of what an end sends.
-use Rattle.std.proofs.Common.{◌≡◌, ℕ, true, false, List, [], ◌∷◌, ◌++◌, length, Some, None, Result, Ok, Err, refl, sym, ap, ◌∙◌, subst, inl, inr, arith}
-use Rattle.std.specs.Prelude.{slice_get, map, unwrap_or, ◌+◌, is_ok}
+use Rattle.std.proofs.Common.{◌≡◌, ℕ, true, List, [], ◌∷◌, ◌++◌, length, Some, Result, Ok, Err, refl, sym, ap, ◌∙◌, subst, inl, inr, arith}
+use Rattle.std.specs.Prelude.{slice_get, map, ◌+◌, is_ok}
 use Rattle.std.proofs.lemmas.List.{append-nil, append_assoc, map-append}
 use Rattle.quic_wire.specs.declared.frame.Frame.{Frame}
 use Rattle.quic_wire.specs.declared.frame.Frame.TheVariants as frames
@@ -17,7 +17,7 @@ use Rattle.quic_history.specs.SendEvents.{AckedOwn, LostOwn, ResetAckedOwn}
 use Rattle.quic_history.specs.History.{Event, Step, Fits, Sending}
 use Rattle.quic_streams.specs.declared.settling.SentPayload.{SentPayload}
 use Rattle.quic_streams.specs.Sent.{sent_view, report_view}
-use Rattle.quic_streams.specs.Settling.{SentView, EachInOrder, AcksMeta, LosesMeta, AcksResetOf, AcksWhole, resets_of, unreported}
+use Rattle.quic_streams.specs.Settling.{SentView, EachInOrder, AcksMeta, LosesMeta, AcksResetOf, AcksWhole, resets_of}
 use Rattle.quic_link.specs.Endpoints.{Endpoint, IsOneOf}
 use Rattle.quic_link.proofs.Joint.{agrees}
 use Rattle.quic_endpoint.specs.Ends.{EndState}
@@ -31,7 +31,6 @@ use Rattle.quic_steps.specs.declared.steps.PairError.TheVariants.{NoSuchPayload,
 use Rattle.quic_pair.specs.declared.sent.Sent.{Sent}
 use Rattle.quic_pair.specs.declared.unsettled.Report.{Report}
 use Rattle.quic_pair.specs.declared.unsettled.Report.TheVariants.{Lost, Acknowledged}
-use Rattle.quic_pair.specs.Payloads.{metas_in, codes_in}
 use Rattle.quic_pair.specs.declared.unsettled.Unsettled.{Unsettled}
 use Rattle.quic_pair.specs.Unsettled.{may_report, goes_on}
 use Rattle.quic_pair.specs.Replies.{Answer, report_reply}
@@ -39,10 +38,10 @@ use Rattle.quic_pair.specs.State.{PairState, the_end, with_end, with_sent}
 use Rattle.quic_pair.specs.Steps.{Reports, Settles}
 use Rattle.quic_pair.specs.History.{Past}
 use Rattle.quic_pair.specs.Tale.{Tale, Part, Carried, GivenUp, StepTells, parts_in, parts_of, with_parts, acked_part, lost_part, with_deed}
-use Rattle.quic_pair.proofs.Lists.{one-of-first, one-of-last}
+use Rattle.quic_pair.proofs.Lists.{one-of-first}
 use Rattle.quic_pair.proofs.Joined.{Seen, Joined}
 use Rattle.quic_pair.proofs.Flips.{seen-as}
-use Rattle.quic_pair.proofs.Left.{AreLeft, metas-among, resets-among}
+use Rattle.quic_pair.proofs.Left.{metas-among, resets-among}
 use Rattle.quic_pair.proofs.CallsSetting.{told-streams}
 use Rattle.quic_pair.proofs.OpenSides.{side-sends}
 use Rattle.quic_pair.proofs.Counted.{Counted, CountedBy, IsDeed, counted-by, by-counted, by-deed, by-at, sides_told, sides-known, sides-stay}

@@ -1,6 +1,6 @@
 -- Steps on payloads, put together from what their parts do.
-use Rattle.std.proofs.Common.{◌≡◌, ℕ, Bool, true, false, List, [], ◌∷◌, ◌++◌, length, Some, Result, Ok, Err, refl, sym, ap, ◌∙◌, subst, inl, inr}
-use Rattle.std.specs.Prelude.{not, slice_get, slice_set}
+use Rattle.std.proofs.Common.{◌≡◌, ℕ, Bool, List, [], ◌∷◌, ◌++◌, length, Some, Result, Ok, Err, refl, sym, ap, ◌∙◌, subst, inl, inr}
+use Rattle.std.specs.Prelude.{slice_get, slice_set}
 use Rattle.std.specs.Global.{Vec}
 use Rattle.quic_values.specs.declared.memory.OutOfMemory.{OutOfMemory}
 use Rattle.quic_wire.proofs.Steps.{some_is}
@@ -12,7 +12,7 @@ use Rattle.quic_streams.specs.Settling.{SentView}
 use Rattle.quic_streams.specs.Sent.{sent_view, report_view}
 use Rattle.quic_endpoint.specs.Ends.{EndState}
 use Rattle.quic_endpoint.specs.Emitting.{PayloadView, EmitsAt}
-use Rattle.quic_endpoint.specs.Receiving.{ReceivesAt, AccountsFrame}
+use Rattle.quic_endpoint.specs.Receiving.{AccountsFrame}
 use Rattle.quic_steps.specs.declared.steps.End.{End}
 use Rattle.quic_steps.specs.declared.steps.End.TheVariants.{A, B}
 use Rattle.quic_steps.specs.declared.steps.PairError.{PairError}
@@ -32,18 +32,6 @@ use Rattle.quic_pair.proofs.Lists.{slice_get-set_same, slice_set-twice}
 pub sent-same : (p : PairState) (who : End) (e : EndState) → (with_end p who e).sent ≡ p.sent
 sent-same p A e = refl
 sent-same p B e = refl
-
-pub not-true : (b : Bool) → not b ≡ true → b ≡ false
-not-true true e = cc
-not-true false e = refl
-
-pub not-false : (b : Bool) → not b ≡ false → b ≡ true
-not-false true e = refl
-not-false false e = cc
-
-end_same : (p : PairState) (who : End) → with_end p who (the_end p who) ≡ p
-end_same p A = refl
-end_same p B = refl
 
 -- ---- a payload is written
 

@@ -1,6 +1,6 @@
 -- No step withholds what was due.
-use Rattle.std.proofs.Common.{◌≡◌, ◌⊎◌, ℕ, Bool, true, false, eqb, List, [], ◌∷◌, ◌++◌, length, Option, Some, None, Result, Ok, Err, refl, sym, ap, ◌∙◌, subst, inl, inr, arith, ◌<◌}
-use Rattle.std.specs.Prelude.{◌||◌, ◌&&◌, not, ◌==◌, ◌-◌, min, nat_le, is_none, is_ok, if◌then◌else◌}
+use Rattle.std.proofs.Common.{◌≡◌, ℕ, Bool, true, false, eqb, List, [], ◌∷◌, ◌++◌, length, Option, Some, None, Result, Ok, Err, refl, sym, ap, ◌∙◌, subst, inl, inr, arith, ◌<◌}
+use Rattle.std.specs.Prelude.{◌||◌, ◌&&◌, not, ◌==◌, ◌-◌, min, nat_le, is_none, if◌then◌else◌}
 use Rattle.std.specs.List.{concat}
 use Rattle.std.proofs.lemmas.Bool.Decides.{nat_tests}
 use Rattle.std.proofs.Math.Nat.{min-zero, zero-min}
@@ -52,7 +52,7 @@ use Rattle.quic_streams.specs.declared.batches.ReadSome.{ReadSome}
 use Rattle.quic_streams.specs.declared.settling.SentPayload.{SentPayload}
 use Rattle.quic_streams.specs.Sent.{sent_view, report_view}
 use Rattle.quic_link.specs.Endpoints.{IsOneOf}
-use Rattle.quic_endpoint.specs.Ends.{EndState, OpensAt, WritesAt, ResetsAt, StopsReading, TellsResetAt, ReadsAt, SetsConcurrentAt, with_counts_told, with_counts_told_if, with_limit_told, with_window_set}
+use Rattle.quic_endpoint.specs.Ends.{EndState, OpensAt, WritesAt, ResetsAt, StopsReading, TellsResetAt, ReadsAt, SetsConcurrentAt, with_counts_told, with_limit_told, with_window_set}
 use Rattle.quic_endpoint.specs.Reports.{LosesPayloadAt, AcksPayloadAt}
 use Rattle.quic_endpoint.specs.Receiving.{MakesCall, ReceivesAt, event_of, done_so, stopped_so}
 use Rattle.quic_steps.specs.declared.steps.End.{End}

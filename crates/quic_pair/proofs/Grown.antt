@@ -1,6 +1,6 @@
 -- A pair that came from steps has two linked ends, and the steps tell what these did; so the headline holds of it.
-use Rattle.std.proofs.Common.{◌≡◌, ℕ, List, [], ◌∷◌, ◌++◌, Some, Ok, refl, sym, ap, subst, arith, ◌≤◌, ◌<◌}
-use Rattle.std.specs.Prelude.{max, ◌^◌, slice_get}
+use Rattle.std.proofs.Common.{◌≡◌, ℕ, [], ◌∷◌, ◌++◌, refl, sym, ap, subst, arith, ◌≤◌, ◌<◌}
+use Rattle.std.specs.Prelude.{max, ◌^◌}
 use Rattle.std.proofs.lemmas.Option.{none-some}
 use Rattle.quic_values.specs.declared.ids.Side.{Side}
 use Rattle.quic_values.specs.declared.ids.Side.TheVariants.{Client, Server}

@@ -40,7 +40,6 @@ pub mod PayloadSteps
 pub mod PayloadTurns
 pub mod Readable
 pub mod Recounted
-pub mod Refusals
 pub mod RefusedSo
 pub mod Reports
 pub mod Runs

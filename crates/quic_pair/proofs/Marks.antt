@@ -156,9 +156,6 @@ module _ (p : Past) (old new : PairState) (m : AreMarkedSo p.accepted old.sent) 
   marks_stay : new ≡ old → AreMarkedSo p.accepted new.sent
   marks_stay e = marks_same p.accepted p.accepted old.sent new.sent refl (ap (λ (v : PairState). v.sent) e) m
 
-  marks_end : (who : End) (f : EndState) → new ≡ with_end old who f → AreMarkedSo p.accepted new.sent
-  marks_end who f e = marks_same p.accepted p.accepted old.sent new.sent refl (ap (λ (v : PairState). v.sent) e ∙ sent-same old who f) m
-
   marks_emits : {who : End} {most : ℕ} {fair : Bool} {answer : Result (Unit {0}) OutOfMemory} {payload : PayloadView} → Emits old who most fair answer payload new → AreMarkedSo p.accepted new.sent
   marks_emits {who} k =
       marks_same p.accepted p.accepted (old.sent ++ k.sent ∷ []) new.sent refl (ap (λ (v : PairState). v.sent) k.is) (marks_sent p.accepted old.sent k.sent (ap (λ (t : SentText). t.accepted) k.sent_is.text) m)

@@ -1,10 +1,8 @@
 -- Nothing permitted is withheld on the sending side, by what the steps tell.
-use Rattle.std.proofs.Common.{◌≡◌, ◌⊎◌, ℕ, Bool, true, false, List, [], ◌∷◌, ◌++◌, length, Option, Some, None, Result, Ok, Err, refl, sym, ap, ◌∙◌, subst, inl, inr, arith, ◌≤◌, ◌<◌}
-use Rattle.std.specs.Prelude.{◌==◌, ◌&&◌, ◌-◌, ◌^◌, not, min, max, nat_lt, if◌then◌else◌}
+use Rattle.std.proofs.Common.{◌≡◌, ◌⊎◌, ℕ, Bool, true, false, List, [], ◌∷◌, length, Option, Some, None, Result, Ok, Err, refl, sym, ap, ◌∙◌, subst, inl, inr, arith, ◌≤◌, ◌<◌}
+use Rattle.std.specs.Prelude.{◌==◌, ◌&&◌, ◌-◌, not, min, nat_lt, if◌then◌else◌}
 use Rattle.std.specs.List.{concat}
 use Rattle.std.proofs.lemmas.Bool.Decides.{nat_tests}
-use Rattle.quic_values.specs.declared.ids.Side.{Side}
-use Rattle.quic_values.specs.declared.ids.Side.TheVariants.{Client, Server}
 use Rattle.quic_values.specs.declared.ids.Dir.{Dir}
 use Rattle.quic_values.specs.declared.ids.Dir.TheVariants.{Bi, Uni}
 use Rattle.quic_values.specs.declared.memory.OutOfMemory.{OutOfMemory}
@@ -15,24 +13,19 @@ use Rattle.quic_sending.specs.declared.send.Written.{Written}
 use Rattle.quic_sending.specs.declared.send.WriteError.{WriteError}
 use Rattle.quic_sending.specs.declared.send.WriteError.TheVariants as write_error
 use Rattle.quic_sending.proofs.Cuts.{length-concat}
-use Rattle.quic_flows.specs.Flow.{SendFlow, takes_data, retained, new_flow, with_least_limit}
-use Rattle.quic_outgoing.specs.Outgoing.{own_of, first_of}
-use Rattle.quic_outgoing.specs.Senders.{is_local, first_limit}
+use Rattle.quic_flows.specs.Flow.{SendFlow, takes_data, retained}
+use Rattle.quic_outgoing.specs.Outgoing.{own_of}
+use Rattle.quic_outgoing.specs.Senders.{is_local}
 use Rattle.quic_queue.specs.SendOrder.{line}
-use Rattle.quic_history.specs.World.{World, Made, start, remote_of}
+use Rattle.quic_history.specs.World.{World, Made, remote_of}
 use Rattle.quic_history.specs.Acknowledged.{was_given}
 use Rattle.quic_history.specs.Flows.{room_on, refusal_where, refusal_told, has_send_side, has_side_in, is_answered_on, HasRest, stands}
-use Rattle.quic_history.specs.SendEvents.{GaveLimits}
-use Rattle.quic_history.specs.History.{Sending, since, flow, moved_streams, taken_in_all, greatest_limit, opened_in_all, greatest_count, retained_in_all, total_over, room_in_connection, room_in_window, write_room, is_sent_on, why_not, send_tale, WritesSo}
-use Rattle.quic_history.proofs.Beginnings.{begins}
+use Rattle.quic_history.specs.History.{since, flow, moved_streams, taken_in_all, greatest_limit, opened_in_all, greatest_count, retained_in_all, total_over, room_in_connection, room_in_window, write_room, is_sent_on, why_not, send_tale, WritesSo}
 use Rattle.quic_history.proofs.FlowHistory.{known-by}
-use Rattle.quic_history.proofs.Histories.{next as next-call}
 use Rattle.quic_history.proofs.Totals.{total_same}
-use Rattle.quic_link.specs.Endpoints.{limits_of}
 use Rattle.quic_link.proofs.Basics.{permits_now, same_id}
 use Rattle.quic_link.proofs.Ends.{since-plain}
 use Rattle.quic_link.proofs.Opens.{own-local}
-use Rattle.quic_link.proofs.Rooms.{first-is}
 use Rattle.quic_endpoint.specs.Ends.{EndState, OpensAt, WritesAt}
 use Rattle.quic_steps.specs.declared.steps.Config.{Config}
 use Rattle.quic_steps.specs.declared.steps.End.{End}

@@ -1,5 +1,5 @@
 -- What the steps of a pair tell is what calls of its ends tell.
-use Rattle.std.proofs.Common.{◌≡◌, ℕ, List, Option, [], ◌∷◌, ◌++◌, Some, None, Result, Ok, Err, refl, sym, ap, ◌∙◌, subst, true, false, inl, inr, arith}
+use Rattle.std.proofs.Common.{◌≡◌, ℕ, List, Option, [], ◌∷◌, ◌++◌, Some, Result, Ok, Err, refl, sym, ap, ◌∙◌, subst, true, false, inl, inr, arith}
 use Rattle.std.specs.Prelude.{length, map, take, drop, slice_get, slice_set, unwrap_or, ◌+◌, ◌-◌, ◌≤◌, ◌==◌, if◌then◌else◌}
 use Rattle.std.specs.Option.{option_map}
 use Rattle.std.proofs.lemmas.List.{length-append, length-drop, drop-drop, take_at, drop_at}
@@ -32,7 +32,7 @@ use Rattle.quic_pair.specs.Replies.{Answer}
 use Rattle.quic_pair.specs.State.{PairState, the_end, with_end, with_sent}
 use Rattle.quic_pair.specs.Steps.{IsSentBy}
 use Rattle.quic_pair.specs.From.{made_of}
-use Rattle.quic_pair.specs.Tale.{Tale, Tales, StepTells, TellsParts, TellsAll, Part, Carried, GivenUp, parts_in, parts_of, parts_left, with_parts, told_of, told_more, WasPayload}
+use Rattle.quic_pair.specs.Tale.{Tale, Tales, StepTells, TellsParts, TellsAll, Part, Carried, GivenUp, parts_in, parts_of, parts_left, with_parts, told_of, told_more}
 use Rattle.quic_pair.proofs.Lists.{slice_get-push, slice_get-slice_set, slice_get-split, slice_get-set_same, slice_get-within, slice_set-length, apart}
 use Rattle.quic_pair.proofs.Counted.{Counted, IsUntold}
 use Rattle.quic_pair.proofs.Left.{IsLeft, AreLeft}

@@ -1,12 +1,11 @@
 -- Reports of payloads are calls of a linked end.
-use Rattle.std.proofs.Common.{◌≡◌, ℕ, List, [], ◌∷◌, ◌++◌, Option, Some, None, Result, Ok, Err, refl, sym, ap, ◌∙◌, subst, Bool, true, false, inl, inr, arith}
-use Rattle.std.specs.Prelude.{slice_get, slice_set, unwrap_or, length, map, drop, ◌+◌, ◌<◌, ◌≤◌}
+use Rattle.std.proofs.Common.{◌≡◌, ℕ, List, [], ◌∷◌, ◌++◌, Option, Some, None, Result, Ok, Err, refl, sym, ap, ◌∙◌, subst, Bool, true, false, inl, inr}
+use Rattle.std.specs.Prelude.{slice_get, slice_set, unwrap_or}
 use Rattle.std.proofs.lemmas.Option.{same_Some, none-some}
 use Rattle.quic_wire.specs.declared.frame.Frame.{Frame}
 use Rattle.quic_wire.specs.declared.frame.Frame.TheVariants as frames
 use Rattle.quic_wire.specs.declared.frame.Stream.{Stream}
 use Rattle.quic_wire.specs.declared.frame.StreamMeta.{StreamMeta}
-use Rattle.quic_wire.specs.Frames.{AreFrames}
 use Rattle.quic_wire.proofs.Joins.{same}
 use Rattle.quic_retransmits.specs.Pending.{Pending, nothing, merged_if, shown_if}
 use Rattle.quic_retransmits.specs.Settling.{noted_in}
@@ -16,7 +15,7 @@ use Rattle.quic_history.specs.SendEvents.{SendEvent, SendStep, LostOwn, AckedOwn
 use Rattle.quic_history.specs.History.{Sending}
 use Rattle.quic_streams.specs.declared.settling.SentPayload.{SentPayload}
 use Rattle.quic_streams.specs.Sent.{sent_view, report_view}
-use Rattle.quic_streams.specs.Settling.{SentView, EachInOrder, AcksMeta, LosesMeta, AcksResetOf, resets_of, StopsIn}
+use Rattle.quic_streams.specs.Settling.{SentView, EachInOrder, AcksMeta, LosesMeta, AcksResetOf, resets_of}
 use Rattle.quic_link.specs.Endpoints.{Endpoint, Linked, IsOneOf, first_acts, MayAct, acted, IsHonestSending, WasWrittenAs, WasAccepted}
 use Rattle.quic_link.specs.Asked.{AreAsked}
 use Rattle.quic_link.proofs.AskedFor.{asked-merged}
@@ -29,13 +28,13 @@ use Rattle.quic_steps.specs.declared.steps.PairError.TheVariants.{NoSuchPayload,
 use Rattle.quic_pair.specs.declared.sent.Sent.{Sent}
 use Rattle.quic_pair.specs.declared.unsettled.Report.{Report}
 use Rattle.quic_pair.specs.declared.unsettled.Report.TheVariants.{Lost, Acknowledged}
-use Rattle.quic_pair.specs.Payloads.{IsFrameAt, AreAllAccepted, meta_of, metas_in, is_accepted}
+use Rattle.quic_pair.specs.Payloads.{IsFrameAt, AreAllAccepted, meta_of}
 use Rattle.quic_pair.specs.declared.unsettled.Unsettled.{Unsettled}
 use Rattle.quic_pair.specs.Unsettled.{unsettled_after}
 use Rattle.quic_pair.specs.Replies.{Answer}
 use Rattle.quic_pair.specs.State.{PairState, peer, the_end, with_end, with_sent}
 use Rattle.quic_pair.specs.Steps.{Reports, Settles}
-use Rattle.quic_pair.specs.History.{Past, FramePlace, after_report}
+use Rattle.quic_pair.specs.History.{Past, after_report}
 use Rattle.quic_pair.proofs.Lists.{slice_get-slice_set, slice_set-keeps, slice_get-set_same, slice_get-within, got-one, one-of-first, place-of}
 use Rattle.quic_pair.proofs.Left.{AreLeft, metas-among}
 use Rattle.quic_pair.proofs.Joined.{Stands, IsPayloadOf, ArePayloadsOf, Seen, Sees, Joined}

@@ -27,8 +27,8 @@ use Rattle.quic_pair.specs.declared.unsettled.Report.TheVariants.{Lost, Acknowle
 use Rattle.quic_pair.specs.declared.unsettled.Unsettled.{Unsettled}
 use Rattle.quic_pair.specs.Unsettled.{goes_on, may_report, other_report, unsettled_after}
 use Rattle.quic_pair.specs.Replies.{Answer, report_reply}
-use Rattle.quic_pair.specs.State.{PairState, OnEnd, with_end, with_sent}
-use Rattle.quic_pair.specs.Steps.{Next, Emits, Emitted, SentAfter, HandsOver, Delivers, Reports, Settles}
+use Rattle.quic_pair.specs.State.{PairState, OnEnd}
+use Rattle.quic_pair.specs.Steps.{Next, Emits, Emitted, SentAfter, Delivers, Reports, Settles}
 use Rattle.quic_pair.specs.History.{Past, History, after, after_deliver, after_report, past_of}
 use Rattle.quic_pair.specs.From.{From, begun, next}
 use Rattle.quic_pair.specs.Refused.{IsSettledFor}

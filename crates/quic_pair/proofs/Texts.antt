@@ -1,6 +1,6 @@
 -- Frames at their places, and the marks with which they are marked.
-use Rattle.std.proofs.Common.{◌≡◌, ◌⊎◌, ℕ, List, [], ◌∷◌, Bool, false, Option, Some, None, refl, ap, sym, subst, ◌∙◌, inl, inr, arith, length, ◌≤◌, ◌<◌}
-use Rattle.std.specs.Prelude.{All, slice_get, slice_index_or, replicate}
+use Rattle.std.proofs.Common.{◌≡◌, ◌⊎◌, ℕ, List, [], ◌∷◌, Bool, false, Option, Some, None, refl, ap, sym, subst, ◌∙◌, inl, inr, arith, length, ◌≤◌}
+use Rattle.std.specs.Prelude.{All, slice_get, replicate}
 use Rattle.std.specs.Global.{Vec}
 use Rattle.std.proofs.lemmas.Option.{slice_get_within, get_or_from_slice_get}
 use Rattle.std.proofs.lemmas.List.{length-replicate}
@@ -9,7 +9,7 @@ use Rattle.quic_wire.specs.declared.frame.Frame.TheVariants as frames
 use Rattle.quic_wire.specs.Frames.{AreFrames, IsFrameWithin}
 use Rattle.quic_wire.proofs.Joins.{same}
 use Rattle.quic_endpoint.specs.Receiving.{data_length}
-use Rattle.quic_pair.specs.Payloads.{AreRead, AreMarks, IsFrameAt, LacksFrame, IsReadyToMark, AreFreshMarks, SentText, AreAllAccepted, LacksAccepted, AreSet, LacksMark}
+use Rattle.quic_pair.specs.Payloads.{AreRead, AreMarks, IsFrameAt, LacksFrame, IsReadyToMark, AreFreshMarks, SentText, AreAllAccepted}
 
 -- what holds of all holds of one
 pub all-at : {X : Type 0} (P : X → Type 0) (xs : List X) (n : ℕ) (x : X) → All P xs → slice_get xs n ≡ Some x → P x
@@ -57,21 +57,3 @@ empty-accepted s e all spelled index within =
     let P : List ℕ → Type 0 = λ b. AreFrames b all in
     let z = ap length (none_spelled all (subst P e spelled)) in
     absurd (omega (arith, z, within))
-
--- so may one of which every mark is set
-pub set-accepted : (s : SentText) → (s.accepted ≡ []) ⊎ AreMarks s.bytes s.accepted → (s.accepted ≡ [] → ⊥) → AreSet s.accepted → AreAllAccepted s
-set-accepted s (inl e) some set all spelled index within = absurd (some e)
-set-accepted s (inr marks) some set all spelled index within = let size = marks all spelled in set index (omega (arith, size, within))
-
--- one that has no marks lacks that of its first frame
-pub unmarked-lacks : (s : SentText) → (s.bytes ≡ [] → ⊥) → s.accepted ≡ [] → LacksAccepted s
-unmarked-lacks s some none [] spelled = absurd (no_bytes s.bytes some spelled)
-  where
-    no_bytes : (bytes : List ℕ) → (bytes ≡ [] → ⊥) → AreFrames bytes [] → ⊥
-    no_bytes bytes some e = some e
-unmarked-lacks s some none (f ∷ fs) spelled = record { index = 0; within = omega arith; unmarked = ap (λ l. slice_index_or l 0 false) none }
-
--- and one of which a mark is not set lacks that
-pub unset-lacks : (s : SentText) → (s.accepted ≡ []) ⊎ AreMarks s.bytes s.accepted → LacksMark s.accepted → LacksAccepted s
-unset-lacks s (inl e) l all spelled = let z = ap length e in let w = l.within in absurd (omega (arith, z, w))
-unset-lacks s (inr marks) l all spelled = let size = marks all spelled in let w = l.within in record { index = l.index; within = omega (arith, size, w); unmarked = l.unset }

@@ -1,5 +1,5 @@
 -- Reports of payloads, by the number of the payload.
-use Rattle.std.specs.Prelude.{◌≡◌, ℕ, ◌≤◌, Bool, true, false, List, Some, None, Result, Ok, Err, MatchBool, length, slice_get, slice_set}
+use Rattle.std.specs.Prelude.{◌≡◌, ℕ, ◌≤◌, true, false, List, Some, None, Result, Ok, Err, MatchBool, length, slice_get, slice_set}
 use Rattle.quic_streams.specs.declared.settling.SentPayload.{SentPayload}
 use Rattle.quic_steps.specs.declared.steps.End.{End}
 use Rattle.quic_steps.specs.declared.steps.PairError.{PairError}
