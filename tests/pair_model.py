@@ -27,6 +27,7 @@ REFUSALS = {
     "NoSuchFrame": "refused 2 NoSuchFrame",
     "NotAccepted": "refused 3 NotAccepted",
     "UnknownId": "refused 4 UnknownId",
+    "AlreadySettled": "refused 6 AlreadySettled",
 }
 
 
@@ -54,12 +55,19 @@ class Sent:
 
     def __init__(self, frame):
         self.frame = frame
-        self.is_stream = isinstance(frame, Stream)
         self.accepted = False
-        self.reported = False
 
 
-Payload = collections.namedtuple("Payload", "writer sent")
+class Payload:
+    """A payload: the end that wrote it, its frames, and whether it was reported lost or acknowledged."""
+
+    def __init__(self, writer, sent):
+        self.writer = writer
+        self.sent = sent
+        self.settled = False
+
+    def is_accepted(self):
+        return all(sent.accepted for sent in self.sent)
 
 # ---- the two halves of a stream
 
@@ -345,29 +353,27 @@ class End:
         self.receive[id].told = True
         self.free_if_over(id)
 
-    # -- reports of frames that were sent
+    # -- what becomes of frames that were sent
 
-    def lose_stream(self, frame):
-        half = self.send[frame.id]
-        if half.is_held_for_data():
-            half.lose(frame)
-
-    def lose_control(self, frame):
-        if isinstance(frame, ResetStream):
+    def lose(self, frame):
+        if isinstance(frame, Stream):
+            half = self.send[frame.id]
+            if half.is_held_for_data():
+                half.lose(frame)
+        elif isinstance(frame, ResetStream):
             self.send[frame.id].resets_due += not self.send[frame.id].freed
         elif isinstance(frame, StopSending):
             self.receive[frame.id].stops_due += 1
 
-    def acknowledge_stream(self, frame):
-        half = self.send[frame.id]
-        if half.is_held_for_data():
-            half.acknowledge(frame)
-            if half.is_acknowledged():
-                self.events.append(f"finished {frame.id}")
-                self.free(frame.id)
-
-    def acknowledge_control(self, frame):
-        if isinstance(frame, ResetStream):
+    def acknowledge(self, frame):
+        if isinstance(frame, Stream):
+            half = self.send[frame.id]
+            if half.is_held_for_data():
+                half.acknowledge(frame)
+                if half.is_acknowledged():
+                    self.events.append(f"finished {frame.id}")
+                    self.free(frame.id)
+        elif isinstance(frame, ResetStream):
             self.free(frame.id)
 
     # -- frames that come
@@ -533,30 +539,21 @@ class Model:
             return "NoSuchPayload"
         return None if index < len(self.payloads[number].sent) else "NoSuchFrame"
 
-    def refusal_of_report(self, verb, number, index):
-        refusal = self.refusal_of_frame(number, index)
-        if refusal:
-            return refusal
-        sent = self.payloads[number].sent[index]
-        if not sent.is_stream:
-            return "NoSuchFrame"
-        return "NotAccepted" if verb == "ack-stream" and not sent.accepted else None
-
-    def refusal_of_control(self, verb, number):
+    def refusal_of_report(self, verb, number):
         if number >= len(self.payloads):
             return "NoSuchPayload"
-        accepted = all(sent.accepted for sent in self.payloads[number].sent if not sent.is_stream)
-        return "NotAccepted" if verb == "ack-control" and not accepted else None
+        payload = self.payloads[number]
+        if payload.settled:
+            return "AlreadySettled"
+        return "NotAccepted" if verb == "ack" and not payload.is_accepted() else None
 
     def refusal(self, verb, fields):
         if verb in ON_STREAMS:
             return None if int(fields[1]) in self.ends[fields[0]].known else "UnknownId"
         if verb == "deliver":
             return self.refusal_of_frame(*map(int, fields))
-        if verb in ("lose-stream", "ack-stream"):
+        if verb in ("lose", "ack"):
             return self.refusal_of_report(verb, *map(int, fields))
-        if verb in ("lose-control", "ack-control"):
-            return self.refusal_of_control(verb, *map(int, fields))
         return None
 
     def take(self, line, reply):
@@ -769,26 +766,18 @@ class Model:
         self.tally["credit at once"] += transmits
         return "ok transmit" if transmits else "ok"
 
-    def lose_stream(self, number, index):
+    def lose(self, number):
         payload = self.payloads[int(number)]
-        self.ends[payload.writer].lose_stream(payload.sent[int(index)].frame)
-        return "ok"
-
-    def ack_stream(self, number, index):
-        payload = self.payloads[int(number)]
-        sent = payload.sent[int(index)]
-        sent.reported = True
-        self.ends[payload.writer].acknowledge_stream(sent.frame)
-        return "ok"
-
-    def lose_control(self, number):
-        payload = self.payloads[int(number)]
+        payload.settled = True
         for sent in payload.sent:
-            self.ends[payload.writer].lose_control(sent.frame)
+            self.ends[payload.writer].lose(sent.frame)
+        self.tally["lost payload"] += 1
         return "ok"
 
-    def ack_control(self, number):
+    def ack(self, number):
         payload = self.payloads[int(number)]
+        payload.settled = True
         for sent in payload.sent:
-            self.ends[payload.writer].acknowledge_control(sent.frame)
+            self.ends[payload.writer].acknowledge(sent.frame)
+        self.tally["acknowledged payload"] += 1
         return "ok"

@@ -1,9 +1,9 @@
-"""Sessions of `streampair` whose network loses frames, carries very many of them, or leaves gaps."""
+"""Sessions of `streampair` whose network loses payloads, carries very many of them, or leaves gaps."""
 import collections
 import random
 import unittest
 
-from frames import check_same
+from frames import Decoder, check_same
 from pair_model import ENDS, Model, stream_id
 from test_programs import need
 from test_sessions import Program
@@ -34,16 +34,16 @@ class Limits(Sessions):
 
     def test_lost_limits_go_again(self):
         self.gives(
-            self.LINES + "ack-control 1\nlose-control 1\nemit b 100 f\ndeliver 2 0\ndeliver 2 1\n"
-            "ack-control 2\nack-control 1\nemit b 100 f\n",
-            self.REPLIES + f"refused 3 NotAccepted\nok\npayload 2 {self.LIMITS}\nok\nok\n"
-            "ok\nrefused 3 NotAccepted\npayload 3 -\n",
+            self.LINES + "ack 1\nlose 1\nemit b 100 f\ndeliver 2 0\nack 2\ndeliver 2 1\n"
+            "ack 2\nack 1\nemit b 100 f\n",
+            self.REPLIES + f"refused 3 NotAccepted\nok\npayload 2 {self.LIMITS}\nok\nrefused 3 NotAccepted\nok\n"
+            "ok\nrefused 6 AlreadySettled\npayload 3 -\n",
         )
 
     def test_limits_that_came_permit_more(self):
         # 140 are permitted, of which 40 were sent
         self.gives(
-            self.LINES + f"ack-stream 0 0\ndeliver 1 0\ndeliver 1 1\nwrite a 2 {'07' * 200}\n",
+            self.LINES + f"ack 0\ndeliver 1 0\ndeliver 1 1\nwrite a 2 {'07' * 200}\n",
             self.REPLIES + "ok\nok\nok\nwrote 100\n",
         )
 
@@ -57,9 +57,10 @@ class Resets(Sessions):
 
     def test_a_reset_goes_again_until_it_is_acknowledged(self):
         self.gives(
-            self.LINES + "ack-control 1\ndeliver 1 0\nlose-control 1\nemit a 100 f\n"
-            "ack-control 1\nlose-control 2\nemit a 100 f\n",
-            self.REPLIES + f"refused 3 NotAccepted\nok\nok\npayload 2 {self.RESET}\nok\nok\npayload 3 -\n",
+            self.LINES + "ack 1\ndeliver 1 0\nlose 1\nemit a 100 f\nack 1\nlose 2\nemit a 100 f\n"
+            "deliver 3 0\nack 3\nlose 3\nemit a 100 f\n",
+            self.REPLIES + f"refused 3 NotAccepted\nok\nok\npayload 2 {self.RESET}\nrefused 6 AlreadySettled\nok\n"
+            f"payload 3 {self.RESET}\nok\nok\nrefused 6 AlreadySettled\npayload 4 -\n",
         )
 
     def test_a_reset_that_came_is_told_with_its_code(self):
@@ -97,10 +98,10 @@ class ManyFrames(Sessions):
 
     def network(self):
         for frame in range(self.STREAMS):
+            yield "ack 0", "refused 3 NotAccepted"
             yield f"deliver 0 {frame}", "ok"
         yield f"deliver 0 {self.STREAMS}", "refused 2 NoSuchFrame"
-        for frame in range(self.STREAMS):
-            yield f"ack-stream 0 {frame}", "ok"
+        yield "ack 0", "ok"
 
     def readers(self):
         for index, (id, byte) in enumerate(self.streams()):
@@ -130,7 +131,7 @@ class ManyFrames(Sessions):
                 *self.small_payloads(last + 1),
                 *((f"deliver {number} 0", "ok") for number in range(1, last, 2)),
                 (f"deliver {last} 0", "error INTERNAL_ERROR"),
-                (f"ack-stream {last} 0", "refused 3 NotAccepted"),
+                (f"ack {last}", "refused 3 NotAccepted"),
             ]
         )
 
@@ -154,7 +155,7 @@ class Progress:
 
 
 class Network:
-    """Loses every third frame and reports it so; the others it delivers and acknowledges."""
+    """Loses every third payload, of which some frames come, and reports it so; the others it delivers and acknowledges."""
 
     # four streams at a time, of which 90 bytes each may be unread, and of all together 250
     CONFIG = (4, 0, 10_000, 250, 90)
@@ -166,7 +167,7 @@ class Network:
         self.streams = [Progress(index) for index in range(self.STREAMS)]
         self.opened = 0
         self.accepted = 0
-        self.frames = 0
+        self.carried = 0
         self.lost = 0
         for name in ENDS:
             check_same(running.reply_to(f"config {name} {' '.join(map(str, self.CONFIG))}"), "ok")
@@ -204,17 +205,13 @@ class Network:
             self.carry_payload(int(number))
 
     def carry_payload(self, number):
-        is_control_lost = False
-        for index in range(len(self.model.payloads[number].sent)):
-            self.frames += 1
-            if self.frames % 3 == 0:
-                self.lost += 1
-                is_control_lost |= self.take(f"lose-stream {number} {index}") == "refused 2 NoSuchFrame"
-            else:
-                self.take(f"deliver {number} {index}")
-                self.take(f"ack-stream {number} {index}")
-        if is_control_lost:
-            self.take(f"lose-control {number}")
+        self.carried += 1
+        is_lost = self.carried % 3 == 0
+        self.lost += is_lost
+        frames = range(len(self.model.payloads[number].sent))
+        for index in frames[1::2] if is_lost else frames:
+            self.take(f"deliver {number} {index}")
+        self.take(f"lose {number}" if is_lost else f"ack {number}")
 
     def read_all(self):
         """The server takes the streams that came, and reads what is there."""
@@ -279,7 +276,8 @@ class Sizes(unittest.TestCase):
             if payload == "-":
                 break
             self.assertLessEqual(len(payload), 2 * 1200)
-            self.gives(reply_to, (f"deliver {number} 0", "ok"), (f"ack-stream {number} 0", "ok"))
+            frames = Decoder(bytes.fromhex(payload)).frames()
+            self.gives(reply_to, *((f"deliver {number} {index}", "ok") for index in range(len(frames))), (f"ack {number}", "ok"))
         self.gives(reply_to, ("accept b uni", "id 2"))
         *chunks, last, _ = reply_to("read b 2 o 1000000 1000").split(" ")
         self.assertEqual(b"".join(bytes.fromhex(chunk.split(":")[1]) for chunk in chunks), content)
@@ -290,7 +288,7 @@ class Sizes(unittest.TestCase):
 class TwentyStreams(unittest.TestCase):
     ROUNDS = 200
 
-    def test_they_are_drained_though_every_third_frame_is_lost(self):
+    def test_they_are_drained_though_every_third_payload_is_lost(self):
         with Program() as running:
             network = Network(running)
             for _ in range(self.ROUNDS):
@@ -303,7 +301,7 @@ class TwentyStreams(unittest.TestCase):
                 self.assertEqual(stream.read, stream.content)
                 self.assertTrue(stream.ended)
                 self.assertTrue(stream.told)
-        # 6,000 bytes in payloads of 120 are more than 50 frames
+        # 6,000 bytes in payloads of 120 are more than 50 payloads
         self.assertGreater(network.lost, 50 // 3)
 
 

@@ -36,6 +36,9 @@ LEAST = {
     "NoSuchFrame": 200,
     "NotAccepted": 200,
     "UnknownId": 200,
+    "AlreadySettled": 200,
+    "lost payload": 1000,
+    "acknowledged payload": 1000,
 }
 
 
@@ -112,6 +115,16 @@ class Draws:
                     skip -= 1
         return self.any_frame()
 
+    def payload(self, is_sought):
+        """One of the first payloads that are sought, or any; now and then there is none."""
+        payloads = self.model.payloads
+        if self.once_in(20):
+            return self.random.randrange(len(payloads) + 1)
+        found = [number for number, payload in enumerate(payloads) if is_sought(payload)]
+        if not found or self.once_in(5):
+            return self.random.randrange(len(payloads) or 1)
+        return found[min(self.of(0, 0, 0, 1, 2, 5), len(found) - 1)]
+
     # -- lines
 
     def write(self, name):
@@ -133,13 +146,11 @@ class Draws:
         number, index = self.frame(lambda sent: not sent.accepted)
         return f"deliver {number} {index}"
 
-    def ack_stream(self, _name):
-        number, index = self.frame(lambda sent: sent.is_stream and sent.accepted and not sent.reported)
-        return f"ack-stream {number} {index}"
+    def ack(self, _name):
+        return f"ack {self.payload(lambda payload: payload.is_accepted() and not payload.settled)}"
 
-    def lose_stream(self, _name):
-        number, index = self.frame(lambda sent: sent.is_stream and not sent.accepted)
-        return f"lose-stream {number} {index}"
+    def lose(self, _name):
+        return f"lose {self.payload(lambda payload: not payload.is_accepted() and not payload.settled)}"
 
     def poll(self, name):
         return f"poll {name}"
@@ -162,10 +173,6 @@ class Draws:
             lambda: f"send-window {name} {self.of(0, 30, 500, 20_000)}",
             lambda: f"receive-window {name} {self.of(10, 90, 900, 40_000)}",
             lambda: f"max-concurrent {name} {self.direction()} {self.random.randrange(6)}",
-            lambda: f"lose-control {self.any_frame()[0]}",
-            lambda: f"lose-control {self.any_frame()[0]}",
-            lambda: f"ack-control {self.any_frame()[0]}",
-            lambda: f"ack-control {self.any_frame()[0]}",
         )()
 
     EARLY = {
@@ -174,16 +181,16 @@ class Draws:
         write: 11,
         chunks: 4,
         read: 12,
-        ack_stream: 5,
-        lose_stream: 4,
+        ack: 7,
+        lose: 4,
         poll: 5,
         open: 5,
         accept: 6,
         finish: 3,
-        seldom: 11,
+        seldom: 9,
     }
     # towards the end all is to come across
-    LATE = {emit: 15, deliver: 35, read: 15, ack_stream: 15, poll: 8, finish: 7, lose_stream: 2, seldom: 3}
+    LATE = {emit: 15, deliver: 35, read: 15, ack: 15, poll: 8, finish: 7, lose: 2, seldom: 3}
 
     def line(self, step):
         name = self.of(*ENDS)

@@ -72,6 +72,16 @@ class Lines(Sessions):
         b"max-concurrent a uni 1152921504606846977",
         b"deliver 0",
         b"deliver 0 18446744073709551616",
+        b"lose",
+        b"lose a",
+        b"lose 0 0",
+        b"ack 00",
+        b"ack 18446744073709551616",
+        # (a payload is reported whole)
+        b"lose-stream 0 0",
+        b"ack-stream 0 0",
+        b"lose-control 0",
+        b"ack-control 0",
         "open a un\u00ef".encode(),
         b"open a un\xff",
     ]
@@ -97,10 +107,10 @@ class Lines(Sessions):
     def test_each_refusal_has_its_number_and_name(self):
         self.session_gives(
             "deliver 0 0\nwrite a 2 00\nopen a uni\nwrite a 2 00\nemit a 100 f\ndeliver 0 1\n"
-            "lose-stream 0 1\nack-stream 0 1\nack-stream 0 0\nread b 2 o 1 1\n",
+            "lose 1\nack 1\nack 0\nlose 0\nlose 0\nack 0\nread b 2 o 1 1\n",
             "refused 1 NoSuchPayload\nrefused 4 UnknownId\nid 2\nwrote 1\npayload 0 0a020100\n"
-            "refused 2 NoSuchFrame\nrefused 2 NoSuchFrame\nrefused 2 NoSuchFrame\n"
-            "refused 3 NotAccepted\nrefused 4 UnknownId\n",
+            "refused 2 NoSuchFrame\nrefused 1 NoSuchPayload\nrefused 1 NoSuchPayload\nrefused 3 NotAccepted\n"
+            "ok\nrefused 6 AlreadySettled\nrefused 6 AlreadySettled\nrefused 4 UnknownId\n",
         )
 
     def test_a_very_long_line_is_one_step(self):
@@ -120,16 +130,16 @@ class Streams(Sessions):
     def test_the_sessions_of_the_page_are_served(self):
         self.session_gives(
             "open a uni\nwrite a 2 6869\nfinish a 2\nemit a 100 f\nemit a 100 f\ndeliver 0 0\n"
-            "accept b uni\nread b 2 o 100 9\nlose-stream 0 0\nemit a 100 f\nack-stream 2 0\n"
-            "ack-stream 0 0\npoll a\nopen b uni\nwrite b 6 00\n",
+            "accept b uni\nread b 2 o 100 9\nlose 0\nack 0\nemit a 100 f\nack 2\ndeliver 2 0\n"
+            "ack 2\npoll a\nopen b uni\nwrite b 6 00\n",
             "id 2\nwrote 2\nok\npayload 0 0b02026869\npayload 1 -\nok\nid 2\n"
-            "0:6869 end transmit\nok\npayload 2 0b02026869\nrefused 3 NotAccepted\nok\n"
+            "0:6869 end transmit\nok\nrefused 6 AlreadySettled\npayload 2 0b02026869\nrefused 3 NotAccepted\nok\nok\n"
             "finished 2\nid 3\nrefused 4 UnknownId\n",
         )
         self.session_gives(
             "open a bi\nwrite a 0 6869\nemit a 100 f\ndeliver 0 0\naccept b bi\nstop b 0 9\n"
             "emit b 100 f\ndeliver 1 0\npoll a\nwrite a 0 6a\nreset a 0 9\nemit a 100 f\n"
-            "deliver 2 0\nack-control 2\n",
+            "deliver 2 0\nack 2\n",
             "id 0\nwrote 2\npayload 0 0a00026869\nok\nid 0\nok\npayload 1 050009\nok\n"
             "stopped 0 9\nstopped 9\nok\npayload 2 04000902\nok\nok\n",
         )
@@ -138,8 +148,8 @@ class Streams(Sessions):
         self.session_gives(
             "open a bi\nwrite a 0 6869\nemit a 100 f\ndeliver 0 0\npoll b\naccept b bi\n"
             "stop b 0 9\nemit b 100 f\ndeliver 1 0\npoll a\nwrite a 0 6a\nreset a 0 9\n"
-            "emit a 100 f\nack-control 2\ndeliver 2 0\nack-control 2\nwrite a 0 6a\n"
-            "lose-control 1\nemit b 100 f\ndeliver 3 0\n",
+            "emit a 100 f\nack 2\ndeliver 2 0\nack 2\nwrite a 0 6a\n"
+            "lose 1\nemit b 100 f\ndeliver 3 0\n",
             "id 0\nwrote 2\npayload 0 0a00026869\nok\nopened bi\nid 0\nok\npayload 1 050009\n"
             "ok\nstopped 0 9\nstopped 9\nok\npayload 2 04000902\nrefused 3 NotAccepted\nok\n"
             "ok\nclosed\nok\npayload 3 050009\nok\n",
@@ -212,13 +222,13 @@ class LongSessions(Sessions):
         windows = "4 4 18446744073709551615 4611686018427387903 4611686018427387903"
         lines = [f"config a {windows}\nconfig b {windows}\nopen a uni\n"]
         replies = ["ok\nok\nid 2\n"]
-        lines.append("write a 2 00\nemit a 100 f\ndeliver 0 0\naccept b uni\nread b 2 o 1 1\nack-stream 0 0\n")
+        lines.append("write a 2 00\nemit a 100 f\ndeliver 0 0\naccept b uni\nread b 2 o 1 1\nack 0\n")
         replies.append("wrote 1\npayload 0 0a020100\nok\nid 2\n0:00 more quiet\nok\n")
         for number in range(1, 60_000):
             byte = f"{number % 251:02x}"
             lines.append(f"write a 2 {byte}\nemit a 100 f\ndeliver {number} 0\n")
             replies.append(f"wrote 1\npayload {number} 0e02{var_int(number)}01{byte}\nok\n")
-            lines.append(f"read b 2 o 1 1\nack-stream {number} 0\n")
+            lines.append(f"read b 2 o 1 1\nack {number}\n")
             replies.append(f"{number}:{byte} more quiet\nok\n")
         self.assertGreater(sum(text.count("\n") for text in lines), 300_000)
         written, status = run("streampair", "".join(lines))
@@ -241,7 +251,7 @@ class LongSessions(Sessions):
                 start = "0a02" if offset == 0 else f"0e02{var_int(offset)}"
                 lines.append(f"write a 2 {field}\nemit a 100000 f\ndeliver {number} 0\n")
                 replies.append(f"wrote {size}\npayload {number} {start}{var_int(size)}{field}\nok\n")
-                lines.append(f"read b 2 o 100000 1\nack-stream {number} 0\npoll a\n")
+                lines.append(f"read b 2 o 100000 1\nack {number}\npoll a\n")
                 replies.append(f"{offset}:{field} more quiet\nok\nnone\n")
                 number, offset = number + 1, offset + size
         written, status = run("streampair", "".join(lines))

@@ -37,6 +37,9 @@ ALLOWED = {
     # A report of a payload hands it back where memory was refused, and only there.
     ("crates/connection_loop/src/connection.rt", "self.streams.acked(sent).or(Err(OutOfMemory))?;"),
     ("crates/connection_loop/src/connection.rt", ".or(Err(OutOfMemory))?,"),
+    ("crates/hostile/src/application.rt", "answer.or(Err(OutOfMemory))"),
+    ("crates/streamsim/src/simulation.rt", "answer.or(Err(OutOfMemory))"),
+    ("crates/quic_pair/src/replies.rt", "Err(_back) => Err(PairError::OutOfMemory),"),
     # A payload that an end wrote itself is decoded, which its promises say it can be.
     ("crates/hostile/src/application.rt", "Err(DecodeError::OutOfMemory) | Err(DecodeError::Malformed) => return Err(OutOfMemory),"),
     # Of two answers for want of memory alone one is an error, in the arm of all but two successes.

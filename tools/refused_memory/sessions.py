@@ -22,6 +22,8 @@ WINDOWS = (64, 200, 1000, 3000, 20000)
 # How many fields follow the type of each frame that is no STREAM frame (RFC 9000 section 19).
 FIELDS = {0x04: 3, 0x05: 2, 0x10: 1, 0x11: 2, 0x12: 1, 0x13: 1, 0x14: 1, 0x15: 2}
 OTHER = {"a": "b", "b": "a"}
+# A report that ran out of memory is asked again; one of the other kind is refused then, and changes nothing.
+OTHER_REPORT = {"lose": "ack", "ack": "lose"}
 NAMES_WANT = re.compile(r"\b(OutOfMemory|memory|CompactionMemory)\b")
 Frame = collections.namedtuple("Frame", "kind id offset data fin")
 
@@ -132,11 +134,10 @@ class Draw:
 
     def on_payload(self):
         number, frames = self.random.choice(self.payloads[-6:] if self.random.random() < 0.8 else self.payloads)
-        chosen = self.random.choices(("deliver", "lose-stream", "ack-stream", "lose-control", "ack-control"), (18, 2, 2, 2, 2))[0]
-        if chosen.endswith("control"):
+        chosen = self.random.choices(("deliver", "lose", "ack"), (18, 4, 4))[0]
+        if chosen != "deliver":
             return f"{chosen} {number}"
-        places = [at for at, it in enumerate(frames) if chosen == "deliver" or it.kind == "STREAM"]
-        return f"{chosen} {number} {self.random.choice(places or [0])}"
+        return f"deliver {number} {self.random.choice(range(len(frames) or 1))}"
 
     def line(self):
         end = self.random.choice("ab")
@@ -286,11 +287,14 @@ class Check:
         return self.again(lines, ample, refused, at, replies[at])
 
     def again(self, lines, ample, refused, at, reply):
-        again = [*lines[: at + 1], asked_again(lines[at], reply), *lines[at + 1 :]]
+        verb, *rest = lines[at].split()
+        other = [" ".join((OTHER_REPORT[verb], *rest))] if verb in OTHER_REPORT else []
+        again = [*lines[: at + 1], *other, asked_again(lines[at], reply), *lines[at + 1 :]]
         status, _, replies = self.program.run(again, refused)
         if status or sum(map(bool, map(NAMES_WANT.search, replies))) != 1:
             return "asked again, it is refused again"
-        verb = lines[at].split()[0]
+        if other and replies.pop(at + 1) != "refused 6 AlreadySettled":
+            return "a report of the other kind is not refused"
         if verb == "read":
             same = given_bytes(again, replies) == given_bytes(lines, ample)
             return self.differs(lines, replies[1:], ample, at + 1) if same else "reads give other bytes"
@@ -311,9 +315,7 @@ class Check:
 
         A refused emit may have sent the first frames of the payload `unseen`, which no reply shows."""
         lines, sent = list(lines), payloads([*replies, unseen])
-        for number, frames in sent:
-            lines += [f"lose-stream {number} {at}" for at, it in enumerate(frames) if it.kind == "STREAM"]
-            lines.append(f"lose-control {number}")
+        lines += [f"lose {number}" for number, _ in sent]
         for _ in range(ROUNDS):
             lines += ["emit a 1200 f", "emit b 1200 f"]
             new = payloads(self.program.run(lines, refused)[2])[-2:]

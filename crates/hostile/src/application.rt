@@ -219,7 +219,7 @@ impl Application {
         Ok(())
     }
 
-    // Sends what there is. Of what was sent some is lost, and the rest is acknowledged.
+    // Sends what there is. Some payloads are lost, and the others are acknowledged.
     fn send(
         &mut self,
         alloc: Global,
@@ -233,22 +233,12 @@ impl Application {
     }
 
     fn report(&mut self, end: &mut Endpoint, payload: Payload) -> Result<(), OutOfMemory> {
-        if self.draws.once_in(4) {
-            end.lose_control(&payload.control)?;
-        } else if let Some(control) = payload.control.get() {
-            for (id, _) in &control.reset_stream {
-                end.ack_reset(*id)?;
-            }
-        }
-        for meta in payload.streams.as_slice() {
-            let again = meta.clone()?;
-            if self.draws.once_in(4) {
-                end.lose_stream(again)?;
-            } else {
-                end.ack_stream(again)?;
-            }
-        }
-        Ok(())
+        let answer = if self.draws.once_in(4) {
+            end.lose(payload.sent)
+        } else {
+            end.acknowledge(payload.sent)
+        };
+        answer.or(Err(OutOfMemory))
     }
 }
 

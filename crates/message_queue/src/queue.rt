@@ -196,26 +196,21 @@ impl Queue {
         Ok(())
     }
 
-    // A payload arrives or is lost. Its writer is told of each STREAM frame, and of those beside them together.
+    // A payload arrives or is lost, and its writer is to be told so.
     fn carry<W: Write>(&mut self, payload: usize, bytes: &[u8], output: &mut W) -> Result<()> {
         let lost = self.losses.contains(&self.sent);
-        for (index, frame) in decode(self.alloc, bytes)?.iter().enumerate() {
-            if !lost {
-                let frame = index;
-                step(&mut self.pair, Step::Deliver { payload, frame })?;
-            }
-            if let Frame::Stream(frame) = frame {
-                let (len, stream) = (frame.bytes.len(), frame.id.index());
+        for (frame, spelled) in decode(self.alloc, bytes)?.iter().enumerate() {
+            if let Frame::Stream(carried) = spelled {
+                let (len, stream) = (carried.bytes.len(), carried.id.index());
                 write!(output, " {len} bytes of stream {stream},")?;
-                self.reports.push(match lost {
-                    true => Step::LoseStream { payload, index },
-                    false => Step::AckStream { payload, index },
-                })?;
+            }
+            if !lost {
+                step(&mut self.pair, Step::Deliver { payload, frame })?;
             }
         }
         self.reports.push(match lost {
-            true => Step::LoseControl { payload },
-            false => Step::AckControl { payload },
+            true => Step::Lose { payload },
+            false => Step::Ack { payload },
         })?;
         Ok(writeln!(output, " {}", if lost { "lost" } else { "arrives" })?)
     }

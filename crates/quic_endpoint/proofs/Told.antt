@@ -1,8 +1,10 @@
 -- What telling of the counts of streams leaves.
 use Rattle.std.proofs.Common.{◌≡◌, ℕ, Bool, true, false, refl, sym, subst, List, Option, Some, None, Result, Ok, Err}
-use Rattle.std.specs.Prelude.{IfOk}
+use Rattle.std.specs.Prelude.{IfOk, is_ok}
 use Rattle.quic_receiving.specs.declared.errors.ReadableError.{ReadableError}
 use Rattle.quic_streams.specs.declared.batches.ReadSome.{ReadSome}
+use Rattle.quic_streams.specs.declared.settling.SentPayload.{SentPayload}
+use Rattle.quic_streams.specs.Sent.{report_view}
 use Rattle.quic_wire.specs.declared.frame.Frame.{Frame}
 use Rattle.quic_wire.specs.declared.frame.Frame.TheVariants as frames
 use Rattle.quic_wire.specs.declared.error.ReceiveError.{ReceiveError}
@@ -18,6 +20,11 @@ use Rattle.quic_endpoint.specs.Ends.{EndState, ReadsAt, with_counts_told_if, is_
 pub told-streams : (b : Bool) (e : EndState) → (with_counts_told_if b e).streams ≡ e.streams
 told-streams true e = refl
 told-streams false e = refl
+
+-- whether a report was served whole is the same of what contracts see of it
+pub report-ok : (answer : Result (Unit {0}) SentPayload) → is_ok (report_view answer) ≡ is_ok answer
+report-ok (Ok x) = refl
+report-ok (Err back) = refl
 
 pub told-reads : (e after f : EndState) (id most times : ℕ) (ordered : Bool) (answer : Result ReadSome ReadableError)
     → IfOk answer (λ r. ReadsSome e.streams id most times ordered e.pending r.chunks.items r.last r.transmit.0 after.streams after.pending)

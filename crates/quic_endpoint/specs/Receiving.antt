@@ -1,5 +1,5 @@
 -- What a frame of the peer does to an end.
-use Rattle.std.specs.Prelude.{ℕ, Bool, false, ◌≡◌, length, Option, Some, None, Result, Ok, Err, List, ◌∷◌}
+use Rattle.std.specs.Prelude.{ℕ, false, ◌≡◌, length, Option, Some, None, Result, Ok, Err, List, ◌∷◌}
 use Rattle.quic_values.specs.declared.memory.OutOfMemory.{OutOfMemory}
 use Rattle.quic_wire.specs.declared.frame.Frame.{Frame}
 use Rattle.quic_wire.specs.declared.frame.Frame.TheVariants as frames

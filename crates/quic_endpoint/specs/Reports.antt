@@ -4,6 +4,7 @@ use Rattle.quic_values.specs.declared.memory.OutOfMemory.{OutOfMemory}
 use Rattle.quic_wire.specs.declared.frame.StreamMeta.{StreamMeta}
 use Rattle.quic_retransmits.specs.Pending.{Pending}
 use Rattle.quic_history.specs.Acknowledged.{AcksOwn, LosesOwn, AcksReset}
+use Rattle.quic_streams.specs.Settling.{SentView, AcksWhole, LosesWhole}
 use Rattle.quic_endpoint.specs.Ends.{EndState, with_counts_told_if}
 
 -- the same streams, and something else to be sent beside data
@@ -26,5 +27,16 @@ pub record AcksAt (e : EndState) (frame : StreamMeta) (answer : Result (Unit {0}
 pub record AcksResetAt (e : EndState) (id : ℕ) (answer : Result (Unit {0}) OutOfMemory) (f : EndState) : Type 0 where
   pub acked : EndState
   pub acks : AcksReset e.streams id answer acked.streams
+  pub pending : acked.pending ≡ e.pending
+  pub is : f ≡ with_counts_told_if (is_ok answer) acked
+
+-- a payload was lost: what was noted of its frames beside STREAM is joined to what is to be sent
+abbrev pub LosesPayloadAt : EndState → SentView → Result (Unit {0}) SentView → EndState → Type 0
+LosesPayloadAt e sent answer f = LosesWhole e.streams e.pending sent answer f.streams f.pending
+
+-- it was acknowledged; after that the counts of streams are told, where nothing came back
+pub record AcksPayloadAt (e : EndState) (sent : SentView) (answer : Result (Unit {0}) SentView) (f : EndState) : Type 0 where
+  pub acked : EndState
+  pub acks : AcksWhole e.streams sent answer acked.streams
   pub pending : acked.pending ≡ e.pending
   pub is : f ≡ with_counts_told_if (is_ok answer) acked

@@ -4,12 +4,13 @@ ghost use Rattle.std.specs.Prelude.{List, [], ◌≡◌, ◌≤◌, length};
 ghost use Rattle.quic_history.specs.World.{Made};
 ghost use Rattle.quic_history.specs.History.{Event, From};
 ghost use Rattle.quic_retransmits.specs.Pending.{nothing};
+ghost use Rattle.quic_retransmits.specs.Settling.{noted_in};
 ghost use Rattle.quic_endpoint.specs.Shown.{end_state};
 ghost use Rattle.quic_endpoint.specs.Emitting.{payload_view, EmitsAt};
 
 use crate::endpoint::Endpoint;
 use quic_streams::stats::FrameStats;
-use quic_streams::{StreamMetaVec, ThinRetransmits};
+use quic_streams::{SentPayload, StreamMetaVec, ThinRetransmits};
 use quic_values::OutOfMemory;
 use std::alloc::Global;
 
@@ -18,21 +19,23 @@ use std::alloc::Global;
 pub struct Payload {
     /// The frames, spelled one after another.
     pub bytes: Vec<u8>,
-    /// What those beside STREAM carry.
-    pub control: ThinRetransmits,
-    /// What each STREAM frame carries.
-    pub streams: StreamMetaVec,
+    /// What a report of the payload uses up: [`Endpoint::acknowledge`], or [`Endpoint::lose`].
+    pub sent: SentPayload,
 }
 
 impl Payload {
     // One without frames.
     fn new(alloc: Global) -> Self
-        ensures { payload_view result ≡ record { bytes = []; control = nothing; streams = [] } }
+        ensures bytes { result.bytes.items ≡ [] }
+        ensures streams { result.sent.streams.items ≡ [] }
+        ensures control { noted_in result.sent.control ≡ nothing }
     {
         Payload {
             bytes: Vec::new(alloc),
-            control: ThinRetransmits::new(alloc),
-            streams: StreamMetaVec::new(alloc),
+            sent: SentPayload {
+                streams: StreamMetaVec::new(alloc),
+                control: ThinRetransmits::new(alloc),
+            },
         }
     }
 }
@@ -52,16 +55,19 @@ impl Endpoint {
         let written = self.streams.write_control_frames(
             &mut payload.bytes,
             &mut self.pending,
-            &mut payload.control,
+            &mut payload.sent.control,
             &mut counters,
             max_size,
         );
         if let Err(error) = written {
             return (payload, Err(error));
         }
-        let answer = self
-            .streams
-            .write_stream_frames(&mut payload.bytes, &mut payload.streams, max_size, fair);
+        let answer = self.streams.write_stream_frames(
+            &mut payload.bytes,
+            &mut payload.sent.streams,
+            max_size,
+            fair,
+        );
         (payload, answer)
     }
 }

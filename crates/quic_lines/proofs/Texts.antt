@@ -87,10 +87,8 @@ fields_ascii (steps.SetMaxConcurrent who dir count) range = more (written (codes
 fields_ascii (steps.Poll who) range = more (written (codes "poll") refl) (more (end_ascii who) none)
 fields_ascii (steps.Emit who max_size fair) range = more (written (codes "emit") refl) (more (end_ascii who) (more (IsAscii-decimal max_size (omega (arith, range))) (more (fairness_ascii fair) none)))
 fields_ascii (steps.Deliver payload frame) range = more (written (codes "deliver") refl) (more (IsAscii-decimal payload (omega (arith, range.0))) (more (IsAscii-decimal frame (omega (arith, range.1))) none))
-fields_ascii (steps.LoseStream payload index) range = more (written (codes "lose-stream") refl) (more (IsAscii-decimal payload (omega (arith, range.0))) (more (IsAscii-decimal index (omega (arith, range.1))) none))
-fields_ascii (steps.AckStream payload index) range = more (written (codes "ack-stream") refl) (more (IsAscii-decimal payload (omega (arith, range.0))) (more (IsAscii-decimal index (omega (arith, range.1))) none))
-fields_ascii (steps.LoseControl payload) range = more (written (codes "lose-control") refl) (more (IsAscii-decimal payload (omega (arith, range))) none)
-fields_ascii (steps.AckControl payload) range = more (written (codes "ack-control") refl) (more (IsAscii-decimal payload (omega (arith, range))) none)
+fields_ascii (steps.Lose payload) range = more (written (codes "lose") refl) (more (IsAscii-decimal payload (omega (arith, range))) none)
+fields_ascii (steps.Ack payload) range = more (written (codes "ack") refl) (more (IsAscii-decimal payload (omega (arith, range))) none)
 
 limits_ascii : (who : End) (config : Config) → IsConfigInRange config → AreAscii (config_fields who config)
 limits_ascii who config range = more (written (codes "config") refl) (more (end_ascii who) (more (IsAscii-decimal config.max_remote_uni (omega (arith, range.0)))

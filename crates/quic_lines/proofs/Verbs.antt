@@ -26,10 +26,8 @@ verb_of (steps.SetMaxConcurrent who dir count) = verbs.SetMaxConcurrent
 verb_of (steps.Poll who) = verbs.Poll
 verb_of (steps.Emit who max_size fair) = verbs.Emit
 verb_of (steps.Deliver payload frame) = verbs.Deliver
-verb_of (steps.LoseStream payload index) = verbs.LoseStream
-verb_of (steps.AckStream payload index) = verbs.AckStream
-verb_of (steps.LoseControl payload) = verbs.LoseControl
-verb_of (steps.AckControl payload) = verbs.AckControl
+verb_of (steps.Lose payload) = verbs.Lose
+verb_of (steps.Ack payload) = verbs.Ack
 
 -- a step's fields begin with its verb
 begins : (step : Step) → (arguments : List (List ℕ)) × (step_fields step ≡ verb_text (verb_of step) ∷ arguments)
@@ -49,10 +47,8 @@ begins (steps.SetMaxConcurrent who dir count) = (_, refl)
 begins (steps.Poll who) = (_, refl)
 begins (steps.Emit who max_size fair) = (_, refl)
 begins (steps.Deliver payload frame) = (_, refl)
-begins (steps.LoseStream payload index) = (_, refl)
-begins (steps.AckStream payload index) = (_, refl)
-begins (steps.LoseControl payload) = (_, refl)
-begins (steps.AckControl payload) = (_, refl)
+begins (steps.Lose payload) = (_, refl)
+begins (steps.Ack payload) = (_, refl)
 
 first_is : (step : Step) (first : List ℕ) (arguments : List (List ℕ)) → first ∷ arguments ≡ step_fields step → first ≡ verb_text (verb_of step)
 first_is step first arguments e = let b = begins step in cc
@@ -76,10 +72,8 @@ named text =
     if pointwise eqb text (codes "poll") then verbs.Poll else
     if pointwise eqb text (codes "emit") then verbs.Emit else
     if pointwise eqb text (codes "deliver") then verbs.Deliver else
-    if pointwise eqb text (codes "lose-stream") then verbs.LoseStream else
-    if pointwise eqb text (codes "ack-stream") then verbs.AckStream else
-    if pointwise eqb text (codes "lose-control") then verbs.LoseControl else
-    verbs.AckControl
+    if pointwise eqb text (codes "lose") then verbs.Lose else
+    verbs.Ack
 
 named_is : (verb : Verb) → named (verb_text verb) ≡ verb
 named_is verbs.Open = refl
@@ -98,10 +92,8 @@ named_is verbs.SetMaxConcurrent = refl
 named_is verbs.Poll = refl
 named_is verbs.Emit = refl
 named_is verbs.Deliver = refl
-named_is verbs.LoseStream = refl
-named_is verbs.AckStream = refl
-named_is verbs.LoseControl = refl
-named_is verbs.AckControl = refl
+named_is verbs.Lose = refl
+named_is verbs.Ack = refl
 
 same_verb : (a b : Verb) → verb_text a ≡ verb_text b → a ≡ b
 same_verb a b e = sym (named_is a) ∙ ap named e ∙ named_is b
@@ -127,10 +119,8 @@ at_verb (steps.SetMaxConcurrent who dir count) first arguments none range e = no
 at_verb (steps.Poll who) first arguments none range e = none who (tails _ _ _ _ e)
 at_verb (steps.Emit who max_size fair) first arguments none range e = none who max_size fair range (tails _ _ _ _ e)
 at_verb (steps.Deliver payload frame) first arguments none range e = none payload frame range.0 range.1 (tails _ _ _ _ e)
-at_verb (steps.LoseStream payload index) first arguments none range e = none payload index range.0 range.1 (tails _ _ _ _ e)
-at_verb (steps.AckStream payload index) first arguments none range e = none payload index range.0 range.1 (tails _ _ _ _ e)
-at_verb (steps.LoseControl payload) first arguments none range e = none payload range (tails _ _ _ _ e)
-at_verb (steps.AckControl payload) first arguments none range e = none payload range (tails _ _ _ _ e)
+at_verb (steps.Lose payload) first arguments none range e = none payload range (tails _ _ _ _ e)
+at_verb (steps.Ack payload) first arguments none range e = none payload range (tails _ _ _ _ e)
 
 no_step : (verb : Verb) (first : List ℕ) (arguments : List (List ℕ)) → first ≡ verb_text verb → SpellsNoArguments verb arguments → SpellsNoStep (first ∷ arguments)
 no_step verb first arguments is none step range e =
@@ -172,7 +162,5 @@ few_fields (steps.SetMaxConcurrent who dir count) = omega arith
 few_fields (steps.Poll who) = omega arith
 few_fields (steps.Emit who max_size fair) = omega arith
 few_fields (steps.Deliver payload frame) = omega arith
-few_fields (steps.LoseStream payload index) = omega arith
-few_fields (steps.AckStream payload index) = omega arith
-few_fields (steps.LoseControl payload) = omega arith
-few_fields (steps.AckControl payload) = omega arith
+few_fields (steps.Lose payload) = omega arith
+few_fields (steps.Ack payload) = omega arith

@@ -29,10 +29,8 @@ verb_text verbs.SetMaxConcurrent = codes "max-concurrent"
 verb_text verbs.Poll = codes "poll"
 verb_text verbs.Emit = codes "emit"
 verb_text verbs.Deliver = codes "deliver"
-verb_text verbs.LoseStream = codes "lose-stream"
-verb_text verbs.AckStream = codes "ack-stream"
-verb_text verbs.LoseControl = codes "lose-control"
-verb_text verbs.AckControl = codes "ack-control"
+verb_text verbs.Lose = codes "lose"
+verb_text verbs.Ack = codes "ack"
 
 -- no step of this verb has these fields behind it
 abbrev pub SpellsNoArguments : Verb → List (List ℕ) → Type 0
@@ -52,7 +50,5 @@ SpellsNoArguments verbs.SetMaxConcurrent fields = (who : End) (dir : Dir) (count
 SpellsNoArguments verbs.Poll fields = (who : End) → fields ≡ end_text who ∷ [] → ⊥
 SpellsNoArguments verbs.Emit fields = (who : End) (max_size : ℕ) (fair : Bool) → max_size < 2 ^ 64 → fields ≡ end_text who ∷ decimal max_size ∷ fairness_text fair ∷ [] → ⊥
 SpellsNoArguments verbs.Deliver fields = (payload frame : ℕ) → payload < 2 ^ 64 → frame < 2 ^ 64 → fields ≡ decimal payload ∷ decimal frame ∷ [] → ⊥
-SpellsNoArguments verbs.LoseStream fields = (payload index : ℕ) → payload < 2 ^ 64 → index < 2 ^ 64 → fields ≡ decimal payload ∷ decimal index ∷ [] → ⊥
-SpellsNoArguments verbs.AckStream fields = (payload index : ℕ) → payload < 2 ^ 64 → index < 2 ^ 64 → fields ≡ decimal payload ∷ decimal index ∷ [] → ⊥
-SpellsNoArguments verbs.LoseControl fields = (payload : ℕ) → payload < 2 ^ 64 → fields ≡ decimal payload ∷ [] → ⊥
-SpellsNoArguments verbs.AckControl fields = (payload : ℕ) → payload < 2 ^ 64 → fields ≡ decimal payload ∷ [] → ⊥
+SpellsNoArguments verbs.Lose fields = (payload : ℕ) → payload < 2 ^ 64 → fields ≡ decimal payload ∷ [] → ⊥
+SpellsNoArguments verbs.Ack fields = (payload : ℕ) → payload < 2 ^ 64 → fields ≡ decimal payload ∷ [] → ⊥

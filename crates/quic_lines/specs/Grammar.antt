@@ -44,10 +44,8 @@ step_fields (steps.SetMaxConcurrent who dir count) = codes "max-concurrent" ∷ 
 step_fields (steps.Poll who) = codes "poll" ∷ end_text who ∷ []
 step_fields (steps.Emit who max_size fair) = codes "emit" ∷ end_text who ∷ decimal max_size ∷ fairness_text fair ∷ []
 step_fields (steps.Deliver payload frame) = codes "deliver" ∷ decimal payload ∷ decimal frame ∷ []
-step_fields (steps.LoseStream payload index) = codes "lose-stream" ∷ decimal payload ∷ decimal index ∷ []
-step_fields (steps.AckStream payload index) = codes "ack-stream" ∷ decimal payload ∷ decimal index ∷ []
-step_fields (steps.LoseControl payload) = codes "lose-control" ∷ decimal payload ∷ []
-step_fields (steps.AckControl payload) = codes "ack-control" ∷ decimal payload ∷ []
+step_fields (steps.Lose payload) = codes "lose" ∷ decimal payload ∷ []
+step_fields (steps.Ack payload) = codes "ack" ∷ decimal payload ∷ []
 
 -- the numbers of a step lie in the ranges of its fields: a read asks for 1 to 65535 chunks, a limit of streams is at most 2^60, and chunks to write are one or more
 abbrev pub IsInRange : Step → Type 0
@@ -67,10 +65,8 @@ IsInRange (steps.SetMaxConcurrent who dir count) = count ≤ 2 ^ 60
 IsInRange (steps.Poll who) = Unit {0}
 IsInRange (steps.Emit who max_size fair) = max_size < 2 ^ 64
 IsInRange (steps.Deliver payload frame) = (payload < 2 ^ 64) × (frame < 2 ^ 64)
-IsInRange (steps.LoseStream payload index) = (payload < 2 ^ 64) × (index < 2 ^ 64)
-IsInRange (steps.AckStream payload index) = (payload < 2 ^ 64) × (index < 2 ^ 64)
-IsInRange (steps.LoseControl payload) = payload < 2 ^ 64
-IsInRange (steps.AckControl payload) = payload < 2 ^ 64
+IsInRange (steps.Lose payload) = payload < 2 ^ 64
+IsInRange (steps.Ack payload) = payload < 2 ^ 64
 
 abbrev pub IsConfigInRange : Config → Type 0
 IsConfigInRange c = (c.max_remote_uni ≤ 2 ^ 60) × (c.max_remote_bi ≤ 2 ^ 60) × (c.send_window < 2 ^ 64) × (c.receive_window < 2 ^ 62) × (c.stream_receive_window < 2 ^ 62)

@@ -51,6 +51,7 @@ fn refusal_name(error: PairError) -> &'static str
         PairError::NotAccepted => "NotAccepted",
         PairError::UnknownId => "UnknownId",
         PairError::OutOfMemory => "OutOfMemory",
+        PairError::AlreadySettled => "AlreadySettled",
     }
 }
 

@@ -29,10 +29,8 @@ pub(crate) enum Verb {
     Poll,
     Emit,
     Deliver,
-    LoseStream,
-    AckStream,
-    LoseControl,
-    AckControl,
+    Lose,
+    Ack,
 }
 
 // The verb that the first field of a step is.
@@ -57,10 +55,8 @@ fn read_verb(field: &str) -> Result<Verb, LineError>
         "poll" => Ok(Verb::Poll),
         "emit" => Ok(Verb::Emit),
         "deliver" => Ok(Verb::Deliver),
-        "lose-stream" => Ok(Verb::LoseStream),
-        "ack-stream" => Ok(Verb::AckStream),
-        "lose-control" => Ok(Verb::LoseControl),
-        "ack-control" => Ok(Verb::AckControl),
+        "lose" => Ok(Verb::Lose),
+        "ack" => Ok(Verb::Ack),
         _ => Err(LineError::Malformed),
     }
 }
@@ -280,50 +276,24 @@ fn deliver(arguments: &[&str]) -> Result<Step, LineError>
     }
 }
 
-fn lose_stream(arguments: &[&str]) -> Result<Step, LineError>
-    ensures text { IfOk result (λ step. codes "lose-stream" ∷ map (λ field. field.now) arguments.now ≡ step_fields step) }
-    ensures none { IfErr result (λ error. SpellsNoArguments Verb.LoseStream (map (λ field. field.now) arguments.now)) }
+fn lose(arguments: &[&str]) -> Result<Step, LineError>
+    ensures text { IfOk result (λ step. codes "lose" ∷ map (λ field. field.now) arguments.now ≡ step_fields step) }
+    ensures none { IfErr result (λ error. SpellsNoArguments Verb.Lose (map (λ field. field.now) arguments.now)) }
 {
     match arguments {
-        [payload, index] => Ok(Step::LoseStream {
-            payload: size(payload)?,
-            index: size(index)?,
-        }),
-        _ => Err(LineError::Malformed),
-    }
-}
-
-fn ack_stream(arguments: &[&str]) -> Result<Step, LineError>
-    ensures text { IfOk result (λ step. codes "ack-stream" ∷ map (λ field. field.now) arguments.now ≡ step_fields step) }
-    ensures none { IfErr result (λ error. SpellsNoArguments Verb.AckStream (map (λ field. field.now) arguments.now)) }
-{
-    match arguments {
-        [payload, index] => Ok(Step::AckStream {
-            payload: size(payload)?,
-            index: size(index)?,
-        }),
-        _ => Err(LineError::Malformed),
-    }
-}
-
-fn lose_control(arguments: &[&str]) -> Result<Step, LineError>
-    ensures text { IfOk result (λ step. codes "lose-control" ∷ map (λ field. field.now) arguments.now ≡ step_fields step) }
-    ensures none { IfErr result (λ error. SpellsNoArguments Verb.LoseControl (map (λ field. field.now) arguments.now)) }
-{
-    match arguments {
-        [payload] => Ok(Step::LoseControl {
+        [payload] => Ok(Step::Lose {
             payload: size(payload)?,
         }),
         _ => Err(LineError::Malformed),
     }
 }
 
-fn ack_control(arguments: &[&str]) -> Result<Step, LineError>
-    ensures text { IfOk result (λ step. codes "ack-control" ∷ map (λ field. field.now) arguments.now ≡ step_fields step) }
-    ensures none { IfErr result (λ error. SpellsNoArguments Verb.AckControl (map (λ field. field.now) arguments.now)) }
+fn ack(arguments: &[&str]) -> Result<Step, LineError>
+    ensures text { IfOk result (λ step. codes "ack" ∷ map (λ field. field.now) arguments.now ≡ step_fields step) }
+    ensures none { IfErr result (λ error. SpellsNoArguments Verb.Ack (map (λ field. field.now) arguments.now)) }
 {
     match arguments {
-        [payload] => Ok(Step::AckControl {
+        [payload] => Ok(Step::Ack {
             payload: size(payload)?,
         }),
         _ => Err(LineError::Malformed),
@@ -352,10 +322,8 @@ fn step_of(alloc: Global, verb: Verb, arguments: &[&str]) -> Result<Step, LineEr
         Verb::Poll => poll(arguments),
         Verb::Emit => emit(arguments),
         Verb::Deliver => deliver(arguments),
-        Verb::LoseStream => lose_stream(arguments),
-        Verb::AckStream => ack_stream(arguments),
-        Verb::LoseControl => lose_control(arguments),
-        Verb::AckControl => ack_control(arguments),
+        Verb::Lose => lose(arguments),
+        Verb::Ack => ack(arguments),
     }
 }
 

@@ -39,7 +39,7 @@ sent_same v B e = refl
 payloads_first : (sent : List Sent) (who : End) (x y z : Endpoint) → Onward x y z → ArePayloadsOf sent who x y → ArePayloadsOf sent who z y
 payloads_first sent who x y z o s number payload at writer =
     let k = s number payload at writer in
-    record { all = k.all; spelled = k.spelled; wrote = λ g h. o.wrote g (k.wrote g h); control = o.asked (noted_in payload.control) k.control; accepted = k.accepted }
+    record { all = k.all; spelled = k.spelled; wrote = λ g h. o.wrote g (k.wrote g h); control = λ r h. o.asked (noted_in r.control) (k.control r h); accepted = k.accepted }
 
 payloads_second : (sent : List Sent) (who : End) (x y z : Endpoint) → Onward x y z → ArePayloadsOf sent who y x → ArePayloadsOf sent who y z
 payloads_second sent who x y z o s number payload at writer =

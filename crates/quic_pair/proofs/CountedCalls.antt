@@ -1,5 +1,5 @@
 -- What steps of an application tell of what its end sends.
-use Rattle.std.proofs.Common.{◌≡◌, ℕ, Bool, true, false, List, [], ◌∷◌, ◌++◌, Option, Some, None, Result, Ok, Err, refl, sym, ap, ◌∙◌, subst, inl, inr, arith}
+use Rattle.std.proofs.Common.{◌≡◌, ℕ, Bool, true, false, List, [], ◌∷◌, Option, Some, None, Result, Ok, Err, refl, sym, ap, ◌∙◌, subst, inl, inr, arith}
 use Rattle.std.specs.Prelude.{ℤ, ◌+◌, is_ok}
 use Rattle.quic_values.specs.declared.memory.OutOfMemory.{OutOfMemory}
 use Rattle.quic_values.specs.declared.ids.Dir.{Dir}
@@ -36,11 +36,10 @@ use Rattle.quic_steps.specs.declared.steps.PairError.TheVariants.{UnknownId}
 use Rattle.quic_pair.specs.Replies.{Answer, opened_reply, accepted_reply, written_reply, chunks_reply, finished_reply, handled_reply, done_reply, event_reply, read_reply, code_reply}
 use Rattle.quic_pair.specs.State.{PairState, OnEnd, the_end, with_end}
 use Rattle.quic_pair.specs.Calls.{Opens, Accepts, OnGiven, Writes, WritesChunksOrNone, Finishes, ResetsOn, StopsOn, SetsPriorityOn, AsksReset, ReadsOn, ReadsSo, SetsSendWindow, SetsReceiveWindow, SetsMaxConcurrent, Polls}
-use Rattle.quic_pair.specs.History.{History}
 use Rattle.quic_pair.specs.Tale.{Tale, StepTells, with_deed, with_bytes_taken, with_one_opened, with_window_of}
 use Rattle.quic_pair.proofs.CallsSetting.{told-streams}
 use Rattle.quic_pair.proofs.Counted.{Counted, CountedBy, TellsSo, counted-untold, counted-taken, counted-deed, counted-by, by-counted, by-untold, by-at, counted-at, side-held}
-use Rattle.quic_pair.proofs.Recounted.{Recounted, made_at, recount-end, recount-called, untold, TellsNothing}
+use Rattle.quic_pair.proofs.Recounted.{Recounted, Retold, made_at, recount-end, recount-called, untold, TellsNothing}
 
 -- ---- calls that change one number
 
@@ -120,9 +119,9 @@ module _ (m : Made) (t : Tale) (id most : ℕ) (ordered : Bool) where
 
 -- ---- steps of an application
 
-module _ (a b : Config) (h : History) (old new : PairState) (r : Recounted a b h old) (who : End) where
+module _ (a b : Config) (old new : PairState) (r : Recounted a b old) (who : End) where
   abbrev after : PairStep → Answer → Type 0
-  after step reply = Recounted a b (h ++ (step, reply) ∷ []) new
+  after step reply = Retold a b old r.tales step reply new
 
   abbrev end : EndState
   end = the_end old who
@@ -138,11 +137,11 @@ module _ (a b : Config) (h : History) (old new : PairState) (r : Recounted a b h
   called f e k fits s = counted-untold made end.streams f.streams (r.tales.of who) e (untold e k) fits here s
 
   -- which is all that a step did
-  quiet : (step : PairStep) (reply : Answer) (f : EndState) → new ≡ with_end old who f → StepTells old.sent step reply r.tales r.tales → Counted made f.streams (r.tales.of who) → after step reply
-  quiet step reply f is t c = recount-called a b h old r step reply who f new is c t
+  quiet : (step : PairStep) (reply : Answer) (f : EndState) → new ≡ with_end old who f → StepTells old.sent old.sent step reply r.tales r.tales → Counted made f.streams (r.tales.of who) → after step reply
+  quiet step reply f is t c = recount-called a b old r step reply who f new is c t
 
   -- a step that is refused, as its stream is not known, does nothing
-  on_given : (step : PairStep) (id : ℕ) (reply : Answer) (f : EndState) (Does : Type 0) → StepTells old.sent step (Err UnknownId) r.tales r.tales → new ≡ with_end old who f → OnGiven end id reply f Does → (Does → after step reply) → after step reply
+  on_given : (step : PairStep) (id : ℕ) (reply : Answer) (f : EndState) (Does : Type 0) → StepTells old.sent old.sent step (Err UnknownId) r.tales r.tales → new ≡ with_end old who f → OnGiven end id reply f Does → (Does → after step reply) → after step reply
   on_given step id reply f Does t is d known = elim d [
     | inl k ↦ known k.1
     | inr k ↦ subst (after step) (sym k.1) (quiet step (Err UnknownId) f is t (counted-at f.streams (ap (λ (e : EndState). e.streams) k.2) here))
@@ -151,14 +150,14 @@ module _ (a b : Config) (h : History) (old new : PairState) (r : Recounted a b h
   -- ---- streams are opened and accepted
 
   opened_any : (dir : Dir) (f : EndState) → new ≡ with_end old who f → (answer : Result (Option ℕ) OutOfMemory) → OpensAt end dir answer f → after (steps.Open who dir) (opened_reply answer)
-  opened_any dir f is (Ok (Some id)) o = recount-end a b h old r (steps.Open who dir) _ who (with_one_opened dir) f new is (counted_opened made end.streams f.streams (r.tales.of who) dir id here o.0) refl
+  opened_any dir f is (Ok (Some id)) o = recount-end a b old r (steps.Open who dir) _ who (with_one_opened dir) f new is (counted_opened made end.streams f.streams (r.tales.of who) dir id here o.0) refl
   opened_any dir f is (Ok None) o = quiet (steps.Open who dir) _ f is refl (called f (Sending (OpenedOwn dir false (Ok None))) tt (λ k. tt) o.0)
   opened_any dir f is (Err error) o = quiet (steps.Open who dir) _ f is refl (called f (Sending (OpenedOwn dir false (Err error))) tt (λ k. tt) o.0)
 
   pub counts-open : (dir : Dir) (reply : Answer) → OnEnd (λ e f. Opens e dir reply f) old who new → after (steps.Open who dir) reply
   counts-open dir reply d = subst (after (steps.Open who dir)) (sym d.does.reply_is) (opened_any dir d.end d.is d.does.answer d.does.opens)
 
-  accepted_tells : (dir : Dir) (answer : Option ℕ) → StepTells old.sent (steps.Accept who dir) (accepted_reply answer) r.tales r.tales
+  accepted_tells : (dir : Dir) (answer : Option ℕ) → StepTells old.sent old.sent (steps.Accept who dir) (accepted_reply answer) r.tales r.tales
   accepted_tells dir (Some id) = refl
   accepted_tells dir None = refl
 
@@ -187,14 +186,14 @@ module _ (a b : Config) (h : History) (old new : PairState) (r : Recounted a b h
     wrote_bytes : (bytes : List ℕ) → lists ≡ slice_lists bytes → (answer : Result Written WriteError) → WritesAt end id lists answer f → after (steps.Write who id bytes) (written_reply answer)
     wrote_bytes bytes same (Ok written) w =
         let P : List (List ℕ) → Type 0 = λ l. Counted made f.streams (with_bytes_taken id written.bytes l (r.tales.of who)) in
-        recount-end a b h old r (steps.Write who id bytes) _ who (with_bytes_taken id written.bytes (slice_lists bytes)) f new is (subst P same (wrote_some written w)) refl
+        recount-end a b old r (steps.Write who id bytes) _ who (with_bytes_taken id written.bytes (slice_lists bytes)) f new is (subst P same (wrote_some written w)) refl
     wrote_bytes bytes same (Err write_error.Blocked) w = quiet (steps.Write who id bytes) _ f is refl (wrote_none write_error.Blocked w)
     wrote_bytes bytes same (Err (write_error.Stopped code)) w = quiet (steps.Write who id bytes) _ f is refl (wrote_none (write_error.Stopped code) w)
     wrote_bytes bytes same (Err write_error.ClosedStream) w = quiet (steps.Write who id bytes) _ f is refl (wrote_none write_error.ClosedStream w)
     wrote_bytes bytes same (Err write_error.OutOfMemory) w = quiet (steps.Write who id bytes) _ f is refl (wrote_none write_error.OutOfMemory w)
 
     wrote_chunks : (answer : Result Written WriteError) → WritesAt end id lists answer f → after (steps.WriteChunks who id lists) (chunks_reply answer)
-    wrote_chunks (Ok written) w = recount-end a b h old r (steps.WriteChunks who id lists) _ who (with_bytes_taken id written.bytes lists) f new is (wrote_some written w) refl
+    wrote_chunks (Ok written) w = recount-end a b old r (steps.WriteChunks who id lists) _ who (with_bytes_taken id written.bytes lists) f new is (wrote_some written w) refl
     wrote_chunks (Err write_error.Blocked) w = quiet (steps.WriteChunks who id lists) _ f is refl (wrote_none write_error.Blocked w)
     wrote_chunks (Err (write_error.Stopped code)) w = quiet (steps.WriteChunks who id lists) _ f is refl (wrote_none (write_error.Stopped code) w)
     wrote_chunks (Err write_error.ClosedStream) w = quiet (steps.WriteChunks who id lists) _ f is refl (wrote_none write_error.ClosedStream w)
@@ -223,7 +222,7 @@ module _ (a b : Config) (h : History) (old new : PairState) (r : Recounted a b h
   finished_none id f error done = called f (Sending (FinishedOwn id (Err error))) tt (λ k. tt) done.0
 
   finished_any : (id : ℕ) (f : EndState) → new ≡ with_end old who f → (answer : Result (Unit {0}) FinishError) → FinishesAt end id answer f → after (steps.Finish who id) (finished_reply answer)
-  finished_any id f is (Ok u) done = recount-end a b h old r (steps.Finish who id) _ who (with_deed id WasFinished) f new is (finished_one id f done) refl
+  finished_any id f is (Ok u) done = recount-end a b old r (steps.Finish who id) _ who (with_deed id WasFinished) f new is (finished_one id f done) refl
   finished_any id f is (Err (finish_error.Stopped code)) done = quiet (steps.Finish who id) _ f is refl (finished_none id f (finish_error.Stopped code) done)
   finished_any id f is (Err finish_error.ClosedStream) done = quiet (steps.Finish who id) _ f is refl (finished_none id f finish_error.ClosedStream done)
   finished_any id f is (Err finish_error.OutOfMemory) done = quiet (steps.Finish who id) _ f is refl (finished_none id f finish_error.OutOfMemory done)
@@ -242,7 +241,7 @@ module _ (a b : Config) (h : History) (old new : PairState) (r : Recounted a b h
   reset_none id code f error done = called f (Sending (ResetOwn id code (Err error))) tt (λ k. tt) (end.pending, f.pending, done)
 
   reset_any : (id code : ℕ) (f : EndState) → new ≡ with_end old who f → (answer : Result (Unit {0}) HandleError) → ResetsAt end id code answer f → after (steps.Reset who id code) (handled_reply answer)
-  reset_any id code f is (Ok u) done = recount-end a b h old r (steps.Reset who id code) _ who (with_deed id (WasGivenUp code)) f new is (reset_one id code f done) refl
+  reset_any id code f is (Ok u) done = recount-end a b old r (steps.Reset who id code) _ who (with_deed id (WasGivenUp code)) f new is (reset_one id code f done) refl
   reset_any id code f is (Err handle_error.ClosedStream) done = quiet (steps.Reset who id code) _ f is refl (reset_none id code f handle_error.ClosedStream done)
   reset_any id code f is (Err handle_error.OutOfMemory) done = quiet (steps.Reset who id code) _ f is refl (reset_none id code f handle_error.OutOfMemory done)
 
@@ -261,7 +260,7 @@ module _ (a b : Config) (h : History) (old new : PairState) (r : Recounted a b h
       subst (after (steps.Stop who id code)) (sym w.reply_is)
       (quiet (steps.Stop who id code) (handled_reply w.answer) d.end d.is (stopped_tells w.answer) (told_at d.end s.stopped _ s.is (called s.stopped (Stopped id code w.answer) tt (λ k. tt) (end.pending, s.stopped.pending, s.stops)))))
     where
-      stopped_tells : (answer : Result (Unit {0}) HandleError) → StepTells old.sent (steps.Stop who id code) (handled_reply answer) r.tales r.tales
+      stopped_tells : (answer : Result (Unit {0}) HandleError) → StepTells old.sent old.sent (steps.Stop who id code) (handled_reply answer) r.tales r.tales
       stopped_tells (Ok u) = refl
       stopped_tells (Err handle_error.ClosedStream) = refl
       stopped_tells (Err handle_error.OutOfMemory) = refl
@@ -271,7 +270,7 @@ module _ (a b : Config) (h : History) (old new : PairState) (r : Recounted a b h
       (λ w. subst (after (steps.SetPriority who id priority)) (sym w.reply_is)
       (quiet (steps.SetPriority who id priority) (handled_reply w.answer) d.end d.is (set_tells w.answer) (called d.end (Sending (SetOwnPriority id priority w.answer)) tt (λ k. tt) w.sets.0)))
     where
-      set_tells : (answer : Result (Unit {0}) HandleError) → StepTells old.sent (steps.SetPriority who id priority) (handled_reply answer) r.tales r.tales
+      set_tells : (answer : Result (Unit {0}) HandleError) → StepTells old.sent old.sent (steps.SetPriority who id priority) (handled_reply answer) r.tales r.tales
       set_tells (Ok u) = refl
       set_tells (Err handle_error.ClosedStream) = refl
       set_tells (Err handle_error.OutOfMemory) = refl
@@ -286,7 +285,7 @@ module _ (a b : Config) (h : History) (old new : PairState) (r : Recounted a b h
       (λ w. subst (after (steps.Read who id ordered most times)) (sym w.reply_is)
       (quiet (steps.Read who id ordered most times) (read_reply w.answer) d.end d.is (read_tells w.answer) (read_so id ordered most times d.end w.answer w.reads)))
     where
-      read_tells : (answer : Result ReadSome ReadableError) → StepTells old.sent (steps.Read who id ordered most times) (read_reply answer) r.tales r.tales
+      read_tells : (answer : Result ReadSome ReadableError) → StepTells old.sent old.sent (steps.Read who id ordered most times) (read_reply answer) r.tales r.tales
       read_tells (Ok read) = refl
       read_tells (Err readable_error.ClosedStream) = refl
       read_tells (Err readable_error.IllegalOrderedRead) = refl
@@ -298,7 +297,7 @@ module _ (a b : Config) (h : History) (old new : PairState) (r : Recounted a b h
       subst (after (steps.ReceivedReset who id)) (sym w.reply_is)
       (quiet (steps.ReceivedReset who id) (code_reply w.answer) d.end d.is (code_tells w.answer) (told_at d.end s.asked _ s.is (called s.asked (ToldReset id w.answer) tt (λ k. tt) (end.pending, s.asked.pending, s.tells)))))
     where
-      code_tells : (answer : Result (Option ℕ) HandleError) → StepTells old.sent (steps.ReceivedReset who id) (code_reply answer) r.tales r.tales
+      code_tells : (answer : Result (Option ℕ) HandleError) → StepTells old.sent old.sent (steps.ReceivedReset who id) (code_reply answer) r.tales r.tales
       code_tells (Ok (Some code)) = refl
       code_tells (Ok None) = refl
       code_tells (Err handle_error.ClosedStream) = refl
@@ -308,7 +307,7 @@ module _ (a b : Config) (h : History) (old new : PairState) (r : Recounted a b h
   counts-send-window window reply d =
       let o = d.does in
       subst (after (steps.SetSendWindow who window)) (sym o.0)
-      (recount-end a b h old r (steps.SetSendWindow who window) _ who (with_window_of window) d.end new d.is (counted_window made end.streams d.end.streams (r.tales.of who) window here (ap (λ (k : EndState). k.streams) o.1)) refl)
+      (recount-end a b old r (steps.SetSendWindow who window) _ who (with_window_of window) d.end new d.is (counted_window made end.streams d.end.streams (r.tales.of who) window here (ap (λ (k : EndState). k.streams) o.1)) refl)
 
   pub counts-receive-window : (window : ℕ) (reply : Answer) → OnEnd (λ e f. SetsReceiveWindow e window reply f) old who new → after (steps.SetReceiveWindow who window) reply
   counts-receive-window window reply d =
@@ -323,7 +322,7 @@ module _ (a b : Config) (h : History) (old new : PairState) (r : Recounted a b h
       subst (after (steps.SetMaxConcurrent who dir count)) (sym o.reply_is)
       (quiet (steps.SetMaxConcurrent who dir count) (done_reply o.answer) d.end d.is (set_tells o.answer) (told_at d.end s.set (is_ok o.answer) s.is (called s.set (SetConcurrent dir count o.answer) tt (λ k. tt) s.sets)))
     where
-      set_tells : (answer : Result (Unit {0}) OutOfMemory) → StepTells old.sent (steps.SetMaxConcurrent who dir count) (done_reply answer) r.tales r.tales
+      set_tells : (answer : Result (Unit {0}) OutOfMemory) → StepTells old.sent old.sent (steps.SetMaxConcurrent who dir count) (done_reply answer) r.tales r.tales
       set_tells (Ok u) = refl
       set_tells (Err error) = refl
 
@@ -333,6 +332,6 @@ module _ (a b : Config) (h : History) (old new : PairState) (r : Recounted a b h
       subst (after (steps.Poll who)) (sym o.reply_is)
       (quiet (steps.Poll who) (event_reply o.event) d.end d.is (poll_tells o.event) (called d.end (Sending (Polled o.event)) tt (λ k. tt) o.polls))
     where
-      poll_tells : (event : Option StreamEvent) → StepTells old.sent (steps.Poll who) (event_reply event) r.tales r.tales
+      poll_tells : (event : Option StreamEvent) → StepTells old.sent old.sent (steps.Poll who) (event_reply event) r.tales r.tales
       poll_tells (Some event) = refl
       poll_tells None = refl

@@ -1,7 +1,7 @@
 -- What payloads that an end writes tell of what it sends.
 use Rattle.std.proofs.Common.{◌≡◌, ℕ, Bool, true, false, List, [], ◌∷◌, ◌++◌, length, Some, None, Result, Ok, Err, refl, sym, ap, ◌∙◌, subst, inl, inr, arith, ◌≤◌, ◌+◌}
 use Rattle.std.specs.Prelude.{slice_get, map, if◌then◌else◌, ◌==◌}
-use Rattle.std.proofs.lemmas.List.{append-nil, append_assoc}
+use Rattle.std.proofs.lemmas.List.{append-nil, append_assoc, length-append}
 use Rattle.quic_values.specs.declared.memory.OutOfMemory.{OutOfMemory}
 use Rattle.quic_sending.specs.Buffer.{total_length}
 use Rattle.quic_sending.proofs.Cuts.{length-concat}
@@ -27,24 +27,23 @@ use Rattle.quic_link.proofs.Growth.{held-told}
 use Rattle.quic_link.proofs.Texts.{length-between}
 use Rattle.quic_link.proofs.TrueFrames.{turn-so}
 use Rattle.quic_endpoint.specs.Ends.{EndState}
-use Rattle.quic_endpoint.specs.Emitting.{PayloadView, place_at, EmitsControl, EmitsStreams, EmitsNoStream, EmitsAt, whole, cut}
+use Rattle.quic_endpoint.specs.Emitting.{PayloadView, control_in, place_at, EmitsControl, EmitsStreams, EmitsNoStream, EmitsAt, whole, cut}
 use Rattle.quic_steps.specs.declared.steps.Config.{Config}
 use Rattle.quic_steps.specs.declared.steps.End.{End}
 use Rattle.quic_steps.specs.declared.steps.Step.TheVariants as steps
 use Rattle.quic_steps.specs.declared.steps.Reply.TheVariants.{Payload}
 use Rattle.quic_steps.specs.declared.steps.PairError.TheVariants.{OutOfMemory as NoMemory}
 use Rattle.quic_pair.specs.declared.sent.Sent.{Sent}
-use Rattle.quic_pair.specs.Payloads.{SentText, is_control}
+use Rattle.quic_pair.specs.Payloads.{SentText, is_control, codes_in, metas_in, noted_of}
 use Rattle.quic_pair.specs.Replies.{Answer}
 use Rattle.quic_pair.specs.State.{PairState}
 use Rattle.quic_pair.specs.Steps.{Emits, Emitted}
-use Rattle.quic_pair.specs.History.{History}
 use Rattle.quic_pair.specs.Tale.{Tale, Tales, StepTells, SendsOne, WasPayload, with_deed, with_frames_sent, told_of}
-use Rattle.quic_pair.proofs.DuePayloads.{Front, front_kinds, front_first}
+use Rattle.quic_pair.proofs.DuePayloads.{Front, front_kinds, front_first, codes-joined, codes-noted, noted-joined}
 use Rattle.quic_pair.proofs.PayloadQueues.{queue-bare}
-use Rattle.quic_pair.proofs.PayloadEmits.{bare_world, bare_after, stay_before}
+use Rattle.quic_pair.proofs.PayloadEmits.{bare_world, bare_after}
 use Rattle.quic_pair.proofs.Counted.{Counted, TellsSo, counted-untold, counted-deed, counted-at, tells-untold, side-held}
-use Rattle.quic_pair.proofs.Recounted.{Recounted, made_at, recount-sent, recount-same, untold}
+use Rattle.quic_pair.proofs.Recounted.{Recounted, Retold, IsHandedBack, made_at, recount-sent, recount-same, untold}
 
 -- ---- turns of the send queue
 
@@ -136,17 +135,42 @@ controls_told [] fs t c = refl
 controls_told (frames.Stream s ∷ gs) fs t c = let e = c (frames.Stream s) (inl refl) in cc
 controls_told (_ ∷ gs) fs t c = controls_told gs fs t (λ g h. c g (inr h))
 
+-- the bytes of a frame are as many as it carries
+whole_length : (written : ℕ → List ℕ) (m : StreamMeta) (t : Tale) → length (written m.id) ≡ total_length (t.flow m.id).cuts → IsWithin t m → m.offsets.start + length (between (written m.id) m.offsets.start m.offsets.end) ≡ m.offsets.end
+whole_length written m t size k =
+    let ordered = k.ordered in
+    let within = k.within in
+    let long = length-between (written m.id) m.offsets.start m.offsets.end ordered (omega arith) in
+    omega arith
+
 -- and the others what they carry
 streams_told : (written : ℕ → List ℕ) (ms : List StreamMeta) (t u : Tale) → ((q : ℕ) → length (written q) ≡ total_length (t.flow q).cuts) → AreWithin t ms → with_frames_sent (map (frame_with written) ms) u ≡ with_metas_sent ms u
 streams_told written [] t u l a = refl
 streams_told written (m ∷ ms) t u l a =
-    let size = l m.id in
-    let k = a.0 in
-    let ordered = k.ordered in
-    let within = k.within in
-    let long = length-between (written m.id) m.offsets.start m.offsets.end ordered (omega arith) in
-    let end : m.offsets.start + length (between (written m.id) m.offsets.start m.offsets.end) ≡ m.offsets.end = omega arith in
+    let end = whole_length written m t (l m.id) a.0 in
     ap (λ n. with_frames_sent (map (frame_with written) ms) (with_deed m.id (WasCarried m.offsets.start n m.fin) u)) end ∙ streams_told written ms t (with_deed m.id (carried m) u) l a.1
+
+-- what they carry is what was handed back of them
+controls_carry : (gs fs : List Frame) → ((g : Frame) → IsOneOf g gs → is_control g ≡ true) → metas_in (gs ++ fs) ≡ metas_in fs
+controls_carry [] fs c = refl
+controls_carry (frames.Stream s ∷ gs) fs c = let e = c (frames.Stream s) (inl refl) in cc
+controls_carry (_ ∷ gs) fs c = controls_carry gs fs (λ g h. c g (inr h))
+
+streams_carry : (written : ℕ → List ℕ) (ms : List StreamMeta) (t : Tale) → ((q : ℕ) → length (written q) ≡ total_length (t.flow q).cuts) → AreWithin t ms → metas_in (map (frame_with written) ms) ≡ ms
+streams_carry written [] t l a = refl
+streams_carry written (m ∷ ms) t l a =
+    let again : ℕ → StreamMeta = λ n. record m { offsets = record m.offsets { end = n } } in
+    ap (λ n. again n ∷ metas_in (map (frame_with written) ms)) (whole_length written m t (l m.id) a.0) ∙ ap (λ k. m ∷ k) (streams_carry written ms t l a.1)
+
+-- none of them gives a stream up
+streams_keep : (written : ℕ → List ℕ) (ms : List StreamMeta) → codes_in (map (frame_with written) ms) ≡ []
+streams_keep written [] = refl
+streams_keep written (m ∷ ms) = streams_keep written ms
+
+-- nor is anything noted of them
+streams_note : (written : ℕ → List ℕ) (ms : List StreamMeta) (p : Pending) → noted_of p (map (frame_with written) ms) ≡ p
+streams_note written [] p = refl
+streams_note written (m ∷ ms) p = streams_note written ms p
 
 -- ---- entries beside STREAM
 
@@ -162,18 +186,19 @@ control_counted m t most e f answer bytes sent k c =
 
 -- ---- a payload
 
--- what a payload's bytes spell, and what is told then
+-- what a payload's bytes spell, what was handed back of its frames, and what is told then
 record PayloadCounted (m : Made) (t : Tale) (payload : PayloadView) (f : EndState) : Type 0 where
   pub all : List Frame
   pub spelled : AreFrames payload.bytes all
+  pub back : IsHandedBack payload all
   pub counted : Counted m f.streams (with_frames_sent all t)
 
-module _ (m : Made) (t : Tale) (most : ℕ) (e between : EndState) (payload : PayloadView) (f : EndState) (bytes : List ℕ) (answer : Result (Unit {0}) OutOfMemory) (control : EmitsControl most e answer between bytes payload.control) (c : Counted m e.streams t) where
+module _ (m : Made) (t : Tale) (most : ℕ) (e between : EndState) (payload : PayloadView) (f : EndState) (bytes : List ℕ) (answer : Result (Unit {0}) OutOfMemory) (control : EmitsControl most e answer between bytes (control_in payload)) (c : Counted m e.streams t) where
   then_counted : Counted m between.streams t
-  then_counted = control_counted m t most e between answer bytes payload.control control c
+  then_counted = control_counted m t most e between answer bytes (control_in payload) control c
 
-  begins_with : Front most (place_at between bytes payload.control control.after)
-  begins_with = front_kinds most control_order (place_at e [] nothing control.before) (place_at between bytes payload.control control.after) answer (front_first most e control.before) control.writes
+  begins_with : Front most (place_at between bytes (control_in payload) control.after)
+  begins_with = front_kinds most control_order (place_at e [] nothing control.before) (place_at between bytes (control_in payload) control.after) answer (front_first most e control.before) control.writes
 
   streams_behind : {fair : Bool} {last : Result (Unit {0}) OutOfMemory} → EmitsStreams most fair between bytes last f payload → PayloadCounted m t payload f
   streams_behind {fair} s =
@@ -195,8 +220,13 @@ module _ (m : Made) (t : Tale) (most : ℕ) (e between : EndState) (payload : Pa
       let P : Tale → Type 0 = λ v. Counted m f.streams v in
       record {
         all = front.all ++ ms;
+        back = record {
+          metas = turned.1 ∙ sym (controls_carry front.all ms front.control ∙ ap (λ l. metas_in (map (frame_with written) l)) same_frames ∙ streams_carry written turned.0 t long turned.2.within);
+          resets = codes-noted payload front.all front.noted ∙ sym (codes-joined front.all ms ∙ ap (λ l. codes_in front.all ++ l) (streams_keep written appended.frames) ∙ append-nil (codes_in front.all));
+          noted = front.noted ∙ sym (noted-joined nothing front.all ms ∙ streams_note written appended.frames (noted_of nothing front.all));
+        };
         spelled = subst Q (sym appended.bytes) (join (bytes ++ appended.text) appended.text [] front.all ms (front.spelled appended.text) appended.decodes);
-        counted = subst P (sym told) (counted-at f.streams (sym (bare_after w f.streams payload.bytes payload.streams s.writes.others bare_later)) turned.2.counted);
+        counted = subst P (sym told) (counted-at f.streams (sym (bare_after w f.streams payload.bytes payload.sent.streams s.writes.others bare_later)) turned.2.counted);
       }
 
   none_behind : EmitsNoStream between bytes f payload → PayloadCounted m t payload f
@@ -207,6 +237,11 @@ module _ (m : Made) (t : Tale) (most : ℕ) (e between : EndState) (payload : Pa
       let P : Tale → Type 0 = λ v. Counted m f.streams v in
       record {
         all = front.all;
+        back = record {
+          metas = s.none ∙ sym (ap metas_in (sym (append-nil front.all)) ∙ controls_carry front.all [] front.control);
+          resets = codes-noted payload front.all front.noted;
+          noted = front.noted;
+        };
         spelled = subst Q (append-nil bytes ∙ sym s.bytes_are) (front.spelled []);
         counted = subst P (sym told) (counted-at f.streams (ap (λ (g : EndState). g.streams) s.same) then_counted);
       }
@@ -221,25 +256,26 @@ last_of : {X : Type 0} (xs : List X) (x : X) → slice_get (xs ++ x ∷ []) (len
 last_of [] x = refl
 last_of (y ∷ ys) x = last_of ys x
 
-module _ (a b : Config) (h : History) (old new : PairState) (r : Recounted a b h old) (who : End) (most : ℕ) (fair : Bool) where
+module _ (a b : Config) (old new : PairState) (r : Recounted a b old) (who : End) (most : ℕ) (fair : Bool) where
   abbrev after : Answer → Type 0
-  after reply = Recounted a b (h ++ (steps.Emit who most fair, reply) ∷ []) new
+  after reply = Retold a b old r.tales (steps.Emit who most fair) reply new
 
   emitted_any : (reply : Answer) (answer : Result (Unit {0}) OutOfMemory) (payload : PayloadView) → Emits old who most fair answer payload new
-      → ((u : Tales) (sents : List Sent) → SendsOne sents who r.tales u → StepTells sents (steps.Emit who most fair) reply r.tales u) → after reply
+      → ((u : Tales) (sents : List Sent) → length sents ≡ length old.sent + 1 → SendsOne sents who r.tales u → StepTells old.sent sents (steps.Emit who most fair) reply r.tales u) → after reply
   emitted_any reply answer payload k tells =
       let c = payload_counted (made_at a b who) (r.tales.of who) (r.counted who) k.emits in
       let sents = old.sent ++ k.sent ∷ [] in
+      let longer = length-append old.sent (k.sent ∷ []) in
       let P : List ℕ → Type 0 = λ l. AreFrames l c.all in
       let stood : WasPayload sents who r.tales.payloads c.all =
       record { payload = k.sent; is = ap (slice_get sents) r.count ∙ last_of old.sent k.sent; writer = k.sent_is.writer; spelled = subst P (sym (ap (λ (u : SentText). u.bytes) k.sent_is.text)) c.spelled } in
       let sends : SendsOne sents who r.tales (record (told_of who (with_frames_sent c.all) r.tales) { payloads = r.tales.payloads + 1 }) = record { all = c.all; stood = stood; is = refl } in
-      recount-sent a b h old r (steps.Emit who most fair) reply who (with_frames_sent c.all) k.end k.sent new k.is (stay_before old.sent k.sent) c.counted (tells _ sents sends)
+      recount-sent a b old r (steps.Emit who most fair) reply who (with_frames_sent c.all) k.end payload k.sent new k.sent_is c.all c.spelled c.back k.is c.counted (tells _ sents longer sends)
 
   pub counts-emit : (reply : Answer) → Emitted old who most fair reply new → after reply
-  counts-emit (Ok (Payload number bytes)) k = emitted_any (Ok (Payload number bytes)) (Ok tt) k.payload k.emits (λ u sents s. (s, r.count ∙ sym k.number_is))
+  counts-emit (Ok (Payload number bytes)) k = emitted_any (Ok (Payload number bytes)) (Ok tt) k.payload k.emits (λ u sents size s. (s, r.count ∙ sym k.number_is))
   counts-emit (Err NoMemory) k = elim k [
-    | inl same ↦ recount-same a b h old r (steps.Emit who most fair) (Err NoMemory) new same (inl refl)
-    | inr t ↦ emitted_any (Err NoMemory) t.answer t.payload t.emits (λ u sents s. inr s)
+    | inl same ↦ recount-same a b old r (steps.Emit who most fair) (Err NoMemory) new same (inl (refl, refl))
+    | inr t ↦ emitted_any (Err NoMemory) t.answer t.payload t.emits (λ u sents size s. inr (size, s))
   ]
   counts-emit _ k = absurd k

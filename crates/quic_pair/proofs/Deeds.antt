@@ -1,50 +1,37 @@
 -- Steps on payloads, put together from what their parts do.
-use Rattle.std.proofs.Common.{◌≡◌, ℕ, Bool, true, false, List, [], ◌∷◌, ◌++◌, length, Some, Result, Ok, Err, refl, sym, ap, ◌∙◌, subst, inl, inr}
-use Rattle.std.specs.Prelude.{not, slice_get, slice_set, OnOk, OnErr}
+use Rattle.std.proofs.Common.{◌≡◌, ℕ, Bool, List, [], ◌∷◌, ◌++◌, length, Some, Result, Ok, Err, refl, sym, ap, ◌∙◌, subst, inl, inr}
+use Rattle.std.specs.Prelude.{slice_get, slice_set}
 use Rattle.std.specs.Global.{Vec}
 use Rattle.quic_values.specs.declared.memory.OutOfMemory.{OutOfMemory}
 use Rattle.quic_wire.proofs.Steps.{some_is}
 use Rattle.quic_wire.specs.declared.error.ReceiveError.{ReceiveError}
 use Rattle.quic_wire.specs.declared.error.ReceiveError.TheVariants as receive_error
 use Rattle.quic_receiving.specs.declared.transmit.ShouldTransmit.{ShouldTransmit}
-use Rattle.quic_retransmits.specs.Pending.{merged_if, shown_if}
+use Rattle.quic_streams.specs.declared.settling.SentPayload.{SentPayload}
+use Rattle.quic_streams.specs.Settling.{SentView}
+use Rattle.quic_streams.specs.Sent.{sent_view, report_view}
 use Rattle.quic_endpoint.specs.Ends.{EndState}
 use Rattle.quic_endpoint.specs.Emitting.{PayloadView, EmitsAt}
-use Rattle.quic_endpoint.specs.Receiving.{ReceivesAt, AccountsFrame}
-use Rattle.quic_endpoint.specs.Reports.{LosesAt, AcksAt, with_pending}
+use Rattle.quic_endpoint.specs.Receiving.{AccountsFrame}
 use Rattle.quic_steps.specs.declared.steps.End.{End}
 use Rattle.quic_steps.specs.declared.steps.End.TheVariants.{A, B}
 use Rattle.quic_steps.specs.declared.steps.PairError.{PairError}
 use Rattle.quic_steps.specs.declared.steps.PairError.TheVariants as refusals
 use Rattle.quic_pair.specs.declared.sent.Sent.{Sent}
+use Rattle.quic_pair.specs.declared.unsettled.Report.{Report}
 use Rattle.quic_pair.specs.declared.places.HandedFrame.{HandedFrame}
-use Rattle.quic_pair.specs.declared.places.SentStream.{SentStream}
-use Rattle.quic_pair.specs.Replies.{done_reply, received_reply, payload_reply}
-use Rattle.quic_pair.specs.Payloads.{LacksFrame, LacksStream, SpellsNone, LacksAccepted, IsMarked}
-use Rattle.quic_pair.specs.Places.{FindsFrame, FindsStream, FindsResets, FailsToFind, IsNeverRefused, MarksIf, MarksAt}
+use Rattle.quic_pair.specs.Replies.{received_reply, report_reply, payload_reply}
+use Rattle.quic_pair.specs.Payloads.{IsMarked}
+use Rattle.quic_pair.specs.Places.{FindsFrame, FailsToFind, MarksIf, MarksAt}
+use Rattle.quic_pair.specs.Unsettled.{unsettled_after}
+use Rattle.quic_pair.specs.Reports.{TakesRestAt, FailsToTake, KeepsBack}
 use Rattle.quic_pair.specs.State.{PairState, OnEnd, peer, the_end, with_end, with_sent, two_ends}
-use Rattle.quic_pair.specs.Calls.{AcksResets, AcksSome}
-use Rattle.quic_pair.specs.Steps.{IsSentBy, Emits, Emitted, TakesFrame, Delivers, HandsOver, SentAfter, LosesFrame, ReportsLoss, AcksFrame, ReportsAck, LosesControl, AcksControl}
-
-pub on-ok : {P Q : Type 0} (r : Result (Unit {0}) OutOfMemory) → (P → Q) → OnOk r P → OnOk r Q
-on-ok (Ok x) f p = f p
-on-ok (Err e) f p = tt
+use Rattle.quic_pair.specs.Steps.{IsSentBy, Emits, Emitted, TakesFrame, Delivers, HandsOver, SentAfter, Reports, Settles}
+use Rattle.quic_pair.proofs.Lists.{slice_get-set_same, slice_set-twice}
 
 pub sent-same : (p : PairState) (who : End) (e : EndState) → (with_end p who e).sent ≡ p.sent
 sent-same p A e = refl
 sent-same p B e = refl
-
-pub not-true : (b : Bool) → not b ≡ true → b ≡ false
-not-true true e = cc
-not-true false e = refl
-
-pub not-false : (b : Bool) → not b ≡ false → b ≡ true
-not-false true e = refl
-not-false false e = cc
-
-end_same : (p : PairState) (who : End) → with_end p who (the_end p who) ≡ p
-end_same p A = refl
-end_same p B = refl
 
 -- ---- a payload is written
 
@@ -68,11 +55,12 @@ module _ (old new : PairState) (who : End) (most : ℕ) (fair : Bool) (payload :
 
 -- ---- a frame is handed over
 
-pub deliver-refused : (old new : PairState) (n i : ℕ) (error : PairError) → FailsToFind old.sent n (λ text. LacksFrame text.bytes i) IsNeverRefused error → new ≡ old → Delivers old n i (Err error) new
+pub deliver-refused : (old new : PairState) (n i : ℕ) (error : PairError) → FailsToFind old.sent n i error → new ≡ old → Delivers old n i (Err error) new
 deliver-refused old new n i refusals.NoSuchPayload h e = (h, e)
 deliver-refused old new n i refusals.NoSuchFrame h e = record { payload = record { sent = h.whole; is = h.is }; why = h.why; is = e }
-deliver-refused old new n i refusals.NotAccepted h e = absurd h.why
+deliver-refused old new n i refusals.NotAccepted h e = absurd h
 deliver-refused old new n i refusals.UnknownId h e = absurd h
+deliver-refused old new n i refusals.AlreadySettled h e = absurd h
 deliver-refused old new n i refusals.OutOfMemory h e = inl (record { sent = h.whole; is = h.is }, e)
 
 module _ (old mid new : PairState) (n i : ℕ) (h : HandedFrame) (f : FindsFrame old.sent n i h) where
@@ -111,72 +99,59 @@ module _ (old mid new : PairState) (n i : ℕ) (h : HandedFrame) (f : FindsFrame
   deliver-so (Err receive_error.CompactionMemory) d m e = handed (Err receive_error.CompactionMemory) d m e
   deliver-so (Err receive_error.OutOfMemory) d m e = inr (handed (Err receive_error.OutOfMemory) d m e)
 
--- ---- what is reported of a STREAM frame
+-- ---- what is reported of a payload
 
-pub lose-refused : (old new : PairState) (n i : ℕ) (error : PairError) → FailsToFind old.sent n (λ text. LacksStream text.bytes i) IsNeverRefused error → new ≡ old → LosesFrame old n i (Err error) new
-lose-refused old new n i refusals.NoSuchPayload h e = (h, e)
-lose-refused old new n i refusals.NoSuchFrame h e = record { payload = record { sent = h.whole; is = h.is }; why = h.why; is = e }
-lose-refused old new n i refusals.NotAccepted h e = absurd h.why
-lose-refused old new n i refusals.UnknownId h e = absurd h
-lose-refused old new n i refusals.OutOfMemory h e = inl (record { sent = h.whole; is = h.is }, e)
+module _ (kind : Report) (At : EndState → SentView → Result (Unit {0}) SentView → EndState → Type 0) where
+  pub report-refused : (old new : PairState) (n : ℕ) (error : PairError) → FailsToTake old.sent n kind error → new ≡ old → Settles kind At old n (Err error) new
+  report-refused old new n refusals.NoSuchPayload h e = (h, e)
+  report-refused old new n refusals.AlreadySettled h e = record { payload = record { sent = h.whole; is = h.is }; why = h.why; is = e }
+  report-refused old new n refusals.NotAccepted h e = record { payload = record { sent = h.whole; is = h.is }; why = h.why; is = e }
+  report-refused old new n refusals.NoSuchFrame h e = absurd h.why
+  report-refused old new n refusals.UnknownId h e = absurd h.why
+  report-refused old new n refusals.OutOfMemory h e = absurd h.why
 
-pub ack-refused : (old new : PairState) (n i : ℕ) (error : PairError) → FailsToFind old.sent n (λ text. LacksStream text.bytes i) IsNeverRefused error → new ≡ old → AcksFrame old n i (Err error) new
-ack-refused old new n i refusals.NoSuchPayload h e = (h, e)
-ack-refused old new n i refusals.NoSuchFrame h e = record { payload = record { sent = h.whole; is = h.is }; why = h.why; is = e }
-ack-refused old new n i refusals.NotAccepted h e = absurd h.why
-ack-refused old new n i refusals.UnknownId h e = absurd h
-ack-refused old new n i refusals.OutOfMemory h e = inl (record { sent = h.whole; is = h.is }, e)
+  module _ (old taken mid new : PairState) (n : ℕ) (writer : End) (rest : SentPayload) (t : TakesRestAt old.sent n kind writer rest taken.sent) (answer : Result (Unit {0}) SentPayload) where
+    -- what the payload is behind the report
+    sents_so : (a : Result (Unit {0}) SentPayload) → KeepsBack taken.sent n kind a new.sent → new.sent ≡ slice_set old.sent n (record t.whole { unsettled = unsettled_after kind t.whole.unsettled a })
+    sents_so (Ok done) k = k ∙ t.new_is ∙ ap (slice_set old.sent n) t.takes.left
+    sents_so (Err back) k =
+        let there : slice_get taken.sent n ≡ Some t.taken = ap (λ l. slice_get l n) t.new_is ∙ slice_get-set_same old.sent n t.whole t.taken t.is in
+        k t.taken there ∙ ap (λ l. slice_set l n (record t.taken { unsettled = record { begun = Some kind; rest = Some back } })) t.new_is
+        ∙ slice_set-twice old.sent n t.taken (record t.taken { unsettled = record { begun = Some kind; rest = Some back } })
+        ∙ ap (λ (s : Sent). slice_set old.sent n (record s { unsettled = record { begun = Some kind; rest = Some back } })) t.takes.left
 
-module _ (old new : PairState) (n i : ℕ) (s : SentStream) (f : FindsStream old.sent n i s) where
-  on_writer : (P : EndState → EndState → Type 0) → OnEnd P old s.writer new → OnEnd P old f.whole.writer new
-  on_writer P d = let Q : End → Type 0 = λ w. OnEnd P old w new in subst Q f.writer d
+    reported : OnEnd (λ e f. At e (sent_view rest) (report_view answer) f) taken writer mid → taken ≡ with_sent old taken.sent → KeepsBack taken.sent n kind answer new.sent → new ≡ with_sent mid new.sent → Reports kind At old n (report_reply answer) new
+    reported d e k is =
+        let P : End → Type 0 = λ w. OnEnd (λ x y. At x (sent_view rest) (report_view answer) y) taken w mid in
+        let o = subst P t.writer_is d in
+        let Q : EndState → Type 0 = λ x. At x (sent_view rest) (report_view answer) o.end in
+        record {
+          payload = record { sent = t.whole; is = t.is };
+          may = t.takes.may;
+          serves = t.takes.serves;
+          rest = rest;
+          rest_is = t.takes.rest_is;
+          answer = answer;
+          end = o.end;
+          does = subst Q (ap (λ (v : PairState). the_end v t.whole.writer) e ∙ end_of t.whole.writer) o.does;
+          reply_is = refl;
+          is = is ∙ ap (with_sent mid) (sents_so answer k) ∙ ap (λ (v : PairState). with_sent v behind) (o.is ∙ ap (λ (v : PairState). with_end v t.whole.writer o.end) e) ∙ sent_again t.whole.writer o.end;
+        }
+      where
+        behind : List Sent
+        behind = slice_set old.sent n (record t.whole { unsettled = unsettled_after kind t.whole.unsettled answer })
 
-  lost : (answer : Result (Unit {0}) OutOfMemory) → OnEnd (λ e g. LosesAt e s.meta answer g) old s.writer new → ReportsLoss old n i (done_reply answer) new
-  lost answer d =
-      let o = on_writer (λ a g. LosesAt a s.meta answer g) d in
-      record { payload = record { sent = f.whole; is = f.is }; meta = s.meta; at = f.at; answer = answer; end = o.end; loses = o.does; reply_is = refl; is = o.is }
+        end_of : (w : End) → the_end (with_sent old taken.sent) w ≡ the_end old w
+        end_of A = refl
+        end_of B = refl
 
-  pub lose-so : (answer : Result (Unit {0}) OutOfMemory) → OnEnd (λ e g. LosesAt e s.meta answer g) old s.writer new → LosesFrame old n i (done_reply answer) new
-  lose-so (Ok done) d = lost (Ok done) d
-  lose-so (Err error) d = inr (lost (Err error) d)
+        sent_again : (w : End) (x : EndState) → with_sent (with_end (with_sent old taken.sent) w x) behind ≡ with_sent (with_end old w x) behind
+        sent_again A x = refl
+        sent_again B x = refl
 
-  acked : s.accepted ≡ true → (answer : Result (Unit {0}) OutOfMemory) → OnEnd (λ e g. AcksAt e s.meta answer g) old s.writer new → ReportsAck old n i (done_reply answer) new
-  acked a answer d =
-      let o = on_writer (λ k g. AcksAt k s.meta answer g) d in
-      record { payload = record { sent = f.whole; is = f.is }; meta = s.meta; at = f.at; accepted = sym f.accepted ∙ a; answer = answer; end = o.end; acks = o.does; reply_is = refl; is = o.is }
-
-  pub ack-so : s.accepted ≡ true → (answer : Result (Unit {0}) OutOfMemory) → OnEnd (λ e g. AcksAt e s.meta answer g) old s.writer new → AcksFrame old n i (done_reply answer) new
-  ack-so a (Ok done) d = acked a (Ok done) d
-  ack-so a (Err error) d = inr (acked a (Err error) d)
-
-  pub ack-unaccepted : s.accepted ≡ false → new ≡ old → AcksFrame old n i (Err refusals.NotAccepted) new
-  ack-unaccepted a e = record { payload = record { sent = f.whole; is = f.is }; why = record { meta = s.meta; at = f.at; refused = sym f.accepted ∙ a }; is = e }
-
--- ---- what is reported of the frames beside STREAM
-
-pub lose-control-so : (old new : PairState) (n : ℕ) (whole : Sent) (is : slice_get old.sent n ≡ Some whole) (who : End) (w : whole.writer ≡ who) (end : EndState) (answer : Result (Unit {0}) OutOfMemory)
-    → OnOk answer (end ≡ with_pending (the_end old who) (merged_if (the_end old who).pending (shown_if whole.control))) → OnErr answer (end ≡ the_end old who) → new ≡ with_end old who end → LosesControl old n (done_reply answer) new
-lose-control-so old new n whole is who w end (Ok done) o f e =
-    let P : End → Type 0 = λ k. end ≡ with_pending (the_end old k) (merged_if (the_end old k).pending (shown_if whole.control)) in
-    let Q : End → Type 0 = λ k. new ≡ with_end old k end in
-    record { payload = record { sent = whole; is = is }; end = end; end_is = subst P (sym w) o; is = subst Q (sym w) e }
-lose-control-so old new n whole is who w end (Err error) o f e = (record { sent = whole; is = is }, e ∙ ap (λ k. with_end old who k) f ∙ end_same old who)
-
-pub control-refused : (old new : PairState) (n : ℕ) (error : PairError) → FailsToFind old.sent n (λ text. SpellsNone text.bytes) LacksAccepted error → new ≡ old → AcksControl old n (Err error) new
-control-refused old new n refusals.NoSuchPayload h e = (h, e)
-control-refused old new n refusals.NoSuchFrame h e = record { payload = record { sent = h.whole; is = h.is }; why = h.why; is = e }
-control-refused old new n refusals.NotAccepted h e = record { payload = record { sent = h.whole; is = h.is }; why = h.why; is = e }
-control-refused old new n refusals.UnknownId h e = absurd h
-control-refused old new n refusals.OutOfMemory h e = inl (record { sent = h.whole; is = h.is }, e)
-
-module _ (old new : PairState) (n : ℕ) (writer : End) (ids : List ℕ) (f : FindsResets old.sent n writer ids) where
-  by_writer : (P : EndState → EndState → Type 0) → OnEnd P old writer new → OnEnd P old f.whole.writer new
-  by_writer P d = let Q : End → Type 0 = λ w. OnEnd P old w new in subst Q f.writer_is d
-
-  pub control-so : (answer : Result (Unit {0}) OutOfMemory) → OnOk answer (OnEnd (λ e g. AcksResets e ids g) old writer new) → OnErr answer (OnEnd (λ e g. AcksSome e ids g) old writer new) → AcksControl old n (done_reply answer) new
-  control-so (Ok done) o k =
-      let d = by_writer (λ e g. AcksResets e ids g) o in
-      record { payload = record { sent = f.whole; is = f.is }; ids = ids; accepted = f.accepted; end = d.end; acks = d.does; is = d.is }
-  control-so (Err error) o k =
-      let d = by_writer (λ e g. AcksSome e ids g) k in
-      inr (record { payload = record { sent = f.whole; is = f.is }; ids = ids; accepted = f.accepted; end = d.end; acks = d.does; is = d.is })
+    pub report-so : OnEnd (λ e f. At e (sent_view rest) (report_view answer) f) taken writer mid → taken ≡ with_sent old taken.sent → KeepsBack taken.sent n kind answer new.sent → new ≡ with_sent mid new.sent → Settles kind At old n (report_reply answer) new
+    report-so d e k is = settled_by answer (reported d e k is)
+      where
+        settled_by : (a : Result (Unit {0}) SentPayload) → Reports kind At old n (report_reply a) new → Settles kind At old n (report_reply a) new
+        settled_by (Ok done) x = x
+        settled_by (Err back) x = x

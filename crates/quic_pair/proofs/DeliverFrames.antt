@@ -21,7 +21,7 @@ use Rattle.quic_pair.specs.Payloads.{meta_of}
 use Rattle.quic_pair.proofs.Joined.{Stands}
 use Rattle.quic_pair.proofs.KeptFrames.{HearsFrame, kept_in, kept-other}
 use Rattle.quic_pair.proofs.PayloadKeeps.{Keeps, keeps-received, keeps-reset, keeps-send}
-use Rattle.quic_pair.proofs.ReportsControl.{Reaches, reached-send, reached-same, stands-told, stands-at, asked-flags}
+use Rattle.quic_pair.proofs.Reports.{Reaches, reached-send, reached-same, stands-told, stands-at, asked-flags}
 
 abbrev Answered : Type 0
 Answered = Result ShouldTransmit ReceiveError

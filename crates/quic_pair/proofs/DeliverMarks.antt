@@ -30,8 +30,7 @@ use Rattle.quic_pair.proofs.KeptFrames.{KeptSent}
 use Rattle.quic_pair.proofs.KeptPlaces.{kept-stay, kept-aside, kept-heard}
 use Rattle.quic_pair.proofs.PayloadKeeps.{Keeps}
 use Rattle.quic_pair.proofs.PayloadKnows.{Tells, tells-same, StaySent, stay-sent, stream-stays, HeardSent, accepted-more, payload-writer, payload-reader, seen-moved}
-use Rattle.quic_pair.proofs.ReportsControl.{joined-same}
-use Rattle.quic_pair.proofs.ReportsStreams.{frame-there, frame-wrote}
+use Rattle.quic_pair.proofs.Reports.{frame-there, frame-wrote, joined-same}
 use Rattle.quic_pair.proofs.DeliverFrames.{Hears, hears-frame}
 
 -- ---- what is known after a delivery

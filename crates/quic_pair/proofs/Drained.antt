@@ -6,8 +6,6 @@ use Rattle.std.proofs.lemmas.List.{length-append}
 use Rattle.std.proofs.lemmas.Bool.Decides.{nat_tests}
 use Rattle.quic_assembler.specs.declared.chunk.Chunk.{Chunk}
 use Rattle.quic_assembler.specs.Piece.{lies}
-use Rattle.quic_wire.specs.declared.event.StreamEvent.{StreamEvent}
-use Rattle.quic_wire.specs.declared.event.StreamEvent.TheVariants as stream_event
 use Rattle.quic_receiving.specs.Data.{is_in_slices, IsAllGiven}
 use Rattle.quic_receiving.specs.declared.errors.ReadableError.{ReadableError}
 use Rattle.quic_receiving.specs.declared.errors.ReadableError.TheVariants as readable_error
@@ -19,21 +17,24 @@ use Rattle.quic_steps.specs.declared.steps.End.{End}
 use Rattle.quic_steps.specs.declared.steps.Config.{Config}
 use Rattle.quic_steps.specs.declared.steps.Step.{Step}
 use Rattle.quic_steps.specs.declared.steps.Step.TheVariants as steps
-use Rattle.quic_steps.specs.declared.steps.Reply.TheVariants.{Done, DoneTransmit, Fault, Id, Wrote, WroteChunks, Stopped, Read, Code, Event, Closed, Illegal}
-use Rattle.quic_steps.specs.declared.steps.PairError.TheVariants.{NoSuchPayload, NoSuchFrame, NotAccepted, UnknownId, OutOfMemory as NoMemory}
+use Rattle.quic_steps.specs.declared.steps.Reply.TheVariants.{Done, DoneTransmit, Fault, Read, Closed, Illegal}
+use Rattle.quic_steps.specs.declared.steps.PairError.TheVariants.{NoSuchPayload, NoSuchFrame, NotAccepted, UnknownId, AlreadySettled, OutOfMemory as NoMemory}
 use Rattle.quic_steps.specs.declared.steps.Last.{Last}
 use Rattle.quic_steps.specs.declared.steps.Last.TheVariants as last
 use Rattle.quic_pair.specs.declared.sent.Sent.{Sent}
+use Rattle.quic_pair.specs.declared.unsettled.Report.{Report}
+use Rattle.quic_pair.specs.declared.unsettled.Report.TheVariants.{Lost, Acknowledged}
 use Rattle.quic_pair.specs.Replies.{Answer, read_reply}
 use Rattle.quic_pair.specs.State.{PairState, peer}
 use Rattle.quic_pair.specs.Steps.{Next}
-use Rattle.quic_pair.specs.History.{Past, Flow, FramePlace, History, past_of, after, after_given, after_write, after_chunks, after_finish, past_reset, past_stop, past_read, past_code, after_event, after_poll, after_deliver, reads_last, reads_chunks, with_chunks_read, is_kept_by}
+use Rattle.quic_pair.specs.History.{Past, Flow, FramePlace, History, past_of, after, past_read, after_deliver, reads_last, reads_chunks, with_chunks_read, is_kept_by, after_report}
 use Rattle.quic_pair.specs.Headline.{IsFaithful, IsBeginningOf, AreInOrder, SomeStream}
 use Rattle.quic_pair.specs.Readable.{AreCut, HasNothingLeft, ReadsTrue}
 use Rattle.quic_pair.specs.Refused.{IsKnownSo}
 use Rattle.quic_pair.specs.Law.{MayDrain, DrainsBy, DrainsFlow, Drains}
 use Rattle.quic_pair.specs.From.{From, begun, next}
 use Rattle.quic_pair.proofs.Grown.{headline-from, past-after}
+use Rattle.quic_pair.proofs.Beside.{IsOfNoPayload, beside}
 use Rattle.quic_pair.proofs.Readable.{readable-so}
 use Rattle.quic_pair.proofs.RefusedSo.{refused-so}
 use Rattle.quic_pair.proofs.CallsFlows.{flow-changed}
@@ -42,67 +43,14 @@ use Rattle.quic_history.proofs.Traces.{itself}
 
 -- ---- what was accepted was kept
 
--- what is known of frames
-record SamePlaces (p q : Past) : Type 0 where
-  pub accepted : q.accepted ≡ p.accepted
-  pub kept : q.kept ≡ p.kept
-
-places_same : (p : Past) → SamePlaces p p
-places_same p = record { accepted = refl; kept = refl }
-
-module _ (p : Past) (who : End) where
-  given_places : (reply : Answer) → SamePlaces p (after_given p who reply)
-  given_places (Ok (Id id)) = record { accepted = refl; kept = refl }
-  given_places _ = places_same p
-
-  write_places : (id : ℕ) (bytes : List ℕ) (reply : Answer) → SamePlaces p (after_write p who id bytes reply)
-  write_places id bytes (Ok (Wrote count)) = record { accepted = refl; kept = refl }
-  write_places id bytes (Ok (Stopped code)) = record { accepted = refl; kept = refl }
-  write_places id bytes _ = places_same p
-
-  chunks_places : (id : ℕ) (chunks : List (List ℕ)) (reply : Answer) → SamePlaces p (after_chunks p who id chunks reply)
-  chunks_places id chunks (Ok (WroteChunks written)) = record { accepted = refl; kept = refl }
-  chunks_places id chunks (Ok (Stopped code)) = record { accepted = refl; kept = refl }
-  chunks_places id chunks _ = places_same p
-
-  finish_places : (id : ℕ) (reply : Answer) → SamePlaces p (after_finish p who id reply)
-  finish_places id (Ok Done) = record { accepted = refl; kept = refl }
-  finish_places id (Ok (Stopped code)) = record { accepted = refl; kept = refl }
-  finish_places id _ = places_same p
-
-  reset_places : (id code : ℕ) (reply : Answer) → SamePlaces p (past_reset p who id code reply)
-  reset_places id code (Ok Done) = record { accepted = refl; kept = refl }
-  reset_places id code _ = places_same p
-
-  stop_places : (id code : ℕ) (reply : Answer) → SamePlaces p (past_stop p who id code reply)
-  stop_places id code (Ok Done) = record { accepted = refl; kept = refl }
-  stop_places id code _ = places_same p
-
-  read_places : (id : ℕ) (ordered : Bool) (reply : Answer) → SamePlaces p (past_read p who id ordered reply)
-  read_places id ordered (Ok (Read chunks last transmit)) = record { accepted = refl; kept = refl }
-  read_places id ordered _ = places_same p
-
-  code_places : (id : ℕ) (reply : Answer) → SamePlaces p (past_code p who id reply)
-  code_places id (Ok (Code code)) = record { accepted = refl; kept = refl }
-  code_places id _ = places_same p
-
-  event_places : (event : StreamEvent) → SamePlaces p (after_event p who event)
-  event_places (stream_event.Finished id) = record { accepted = refl; kept = refl }
-  event_places (stream_event.Stopped id code) = record { accepted = refl; kept = refl }
-  event_places _ = places_same p
-
-  poll_places : (reply : Answer) → SamePlaces p (after_poll p who reply)
-  poll_places (Ok (Event event)) = event_places event
-  poll_places _ = places_same p
-
 -- each place that was accepted is among those that were kept
 abbrev AcceptsKept : Past → Type 0
 AcceptsKept p = (at : FramePlace) → IsOneOf at p.accepted → IsOneOf at p.kept
 
-accepts_as : (p q : Past) → SamePlaces p q → AcceptsKept p → AcceptsKept q
-accepts_as p q s a at h =
+accepts_as : (p q : Past) → q.accepted ≡ p.accepted → q.kept ≡ p.kept → AcceptsKept p → AcceptsKept q
+accepts_as p q same_accepted same_kept a at h =
     let P : List FramePlace → Type 0 = λ l. IsOneOf at l in
-    subst P (sym s.kept) (a at (subst P s.accepted h))
+    subst P (sym same_kept) (a at (subst P same_accepted h))
 
 accepts_one : (p : Past) (place : FramePlace) → AcceptsKept p → (at : FramePlace) → IsOneOf at (place ∷ p.accepted) → IsOneOf at (place ∷ p.kept)
 accepts_one p place a at h = elim h [ inl e ↦ inl e | inr old ↦ inr (a at old) ]
@@ -117,24 +65,35 @@ accepts_delivered p place (Ok DoneTransmit) a = accepts_one p place a
 accepts_delivered p place (Ok (Fault fault)) a = λ at h. kept_or (is_kept_by fault) p place at (a at h)
 accepts_delivered p place _ a = a
 
-accepts_after : (p : Past) (step : Step) (reply : Answer) → AcceptsKept p → AcceptsKept (after p step reply)
-accepts_after p (steps.Open who dir) reply a = accepts_as p _ (given_places p who reply) a
-accepts_after p (steps.Accept who dir) reply a = accepts_as p _ (given_places p who reply) a
-accepts_after p (steps.Write who id bytes) reply a = accepts_as p _ (write_places p who id bytes reply) a
-accepts_after p (steps.WriteChunks who id chunks) reply a = accepts_as p _ (chunks_places p who id chunks reply) a
-accepts_after p (steps.Finish who id) reply a = accepts_as p _ (finish_places p who id reply) a
-accepts_after p (steps.Reset who id code) reply a = accepts_as p _ (reset_places p who id code reply) a
-accepts_after p (steps.Stop who id code) reply a = accepts_as p _ (stop_places p who id code reply) a
-accepts_after p (steps.Read who id ordered most times) reply a = accepts_as p _ (read_places p who id ordered reply) a
-accepts_after p (steps.ReceivedReset who id) reply a = accepts_as p _ (code_places p who id reply) a
-accepts_after p (steps.Poll who) reply a = accepts_as p _ (poll_places p who reply) a
-accepts_after p (steps.Deliver number index) reply a = accepts_delivered p (number, index) reply a
-accepts_after p _ reply a = a
+accepts_reported : (p : Past) (number : ℕ) (kind : Report) (reply : Answer) → AcceptsKept p → AcceptsKept (after_report p number kind reply)
+accepts_reported p number kind (Ok Done) a = a
+accepts_reported p number kind (Err NoMemory) a = a
+accepts_reported p number kind _ a = a
+
+module _ (p : Past) (reply : Answer) (a : AcceptsKept p) where
+  accepts_beside : (step : Step) → IsOfNoPayload step → AcceptsKept (after p step reply)
+  accepts_beside step k = let b = beside p step reply k in accepts_as p (after p step reply) b.accepted b.kept a
+
+  accepts_after : (step : Step) → AcceptsKept (after p step reply)
+  accepts_after (steps.Open who dir) = accepts_beside (steps.Open who dir) tt
+  accepts_after (steps.Accept who dir) = accepts_beside (steps.Accept who dir) tt
+  accepts_after (steps.Write who id bytes) = accepts_beside (steps.Write who id bytes) tt
+  accepts_after (steps.WriteChunks who id chunks) = accepts_beside (steps.WriteChunks who id chunks) tt
+  accepts_after (steps.Finish who id) = accepts_beside (steps.Finish who id) tt
+  accepts_after (steps.Reset who id code) = accepts_beside (steps.Reset who id code) tt
+  accepts_after (steps.Stop who id code) = accepts_beside (steps.Stop who id code) tt
+  accepts_after (steps.Read who id ordered most times) = accepts_beside (steps.Read who id ordered most times) tt
+  accepts_after (steps.ReceivedReset who id) = accepts_beside (steps.ReceivedReset who id) tt
+  accepts_after (steps.Poll who) = accepts_beside (steps.Poll who) tt
+  accepts_after (steps.Deliver number index) = accepts_delivered p (number, index) reply a
+  accepts_after (steps.Lose number) = accepts_reported p number Lost reply a
+  accepts_after (steps.Ack number) = accepts_reported p number Acknowledged reply a
+  accepts_after _ = a
 
 accepts_from : {a b : Config} {whole : History} {v : PairState} → From a b whole v → AcceptsKept (past_of whole)
 accepts_from {a} {b} {whole} {v} (begun n) = λ at h. absurd h
 accepts_from {a} {b} {whole} {v} (next {h} {old} {new} step reply f n) =
-    subst AcceptsKept (sym (past-after h step reply)) (accepts_after (past_of h) step reply (accepts_from f))
+    subst AcceptsKept (sym (past-after h step reply)) (accepts_after (past_of h) reply (accepts_from f) step)
 
 -- ---- what ordered reads gave
 
@@ -262,6 +221,7 @@ module _ (p : Past) (sent : List Sent) (who : End) (id most times : ℕ) (kept :
   by_reply (Err NoSuchPayload) w r k g = absurd (k.1 tt)
   by_reply (Err NoSuchFrame) w r k g = absurd (k.1 tt)
   by_reply (Err NotAccepted) w r k g = absurd (k.1 tt)
+  by_reply (Err AlreadySettled) w r k g = absurd (k.1 tt)
   by_reply _ w r k g = absurd w
 
 -- ---- the step
@@ -284,7 +244,7 @@ module _ (a b : Config) (h : History) (old new : PairState) (g : From a b h old)
       let H : Past → Type 0 = λ q. IsFaithful (q.flow (peer who) id) (peer who) id q.accepted new.sent in
       let S : List Sent → Type 0 = λ l. IsFaithful ((past_read p who id true reply).flow (peer who) id) (peer who) id (past_read p who id true reply).accepted l in
       let L : List FramePlace → Type 0 = λ l. IsFaithful ((past_read p who id true reply).flow (peer who) id) (peer who) id l old.sent in
-      let true_of = subst L (read_places p who id true reply).accepted (subst S (ap (λ (v : PairState). v.sent) n.is ∙ sent-same old who n.end) (subst H (past-after h step reply) all)) in
+      let true_of = subst L (beside p (steps.Read who id true most times) reply tt).accepted (subst S (ap (λ (v : PairState). v.sent) n.is ∙ sent-same old who n.end) (subst H (past-after h step reply) all)) in
       by_reply p old.sent who id most times kept few some m reply is_reply (readable-so a b h old new step reply g n) (refused-so a b h old new step reply g n) true_of
 
   drains_next : (step : Step) (reply : Answer) → Next old step reply new → Drains p old.sent step reply

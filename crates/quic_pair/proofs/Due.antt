@@ -1,6 +1,6 @@
 -- No step withholds what was due.
-use Rattle.std.proofs.Common.{◌≡◌, ◌⊎◌, ℕ, Bool, true, false, eqb, List, [], ◌∷◌, ◌++◌, length, Option, Some, None, Result, Ok, Err, refl, sym, ap, ◌∙◌, subst, inl, inr, arith, ◌<◌}
-use Rattle.std.specs.Prelude.{◌||◌, ◌&&◌, not, ◌==◌, ◌-◌, min, nat_le, is_none, is_ok, if◌then◌else◌}
+use Rattle.std.proofs.Common.{◌≡◌, ℕ, Bool, true, false, eqb, List, [], ◌∷◌, ◌++◌, length, Option, Some, None, Result, Ok, Err, refl, sym, ap, ◌∙◌, subst, inl, inr, arith, ◌<◌}
+use Rattle.std.specs.Prelude.{◌||◌, ◌&&◌, not, ◌==◌, ◌-◌, min, nat_le, is_none, if◌then◌else◌}
 use Rattle.std.specs.List.{concat}
 use Rattle.std.proofs.lemmas.Bool.Decides.{nat_tests}
 use Rattle.std.proofs.Math.Nat.{min-zero, zero-min}
@@ -32,8 +32,7 @@ use Rattle.quic_receiving.specs.declared.errors.ReadableError.TheVariants as rea
 use Rattle.quic_receiving.specs.declared.transmit.ShouldTransmit.{ShouldTransmit}
 use Rattle.quic_outgoing.specs.Outgoing.{Outgoing, own_of, is_stuck}
 use Rattle.quic_outgoing.specs.Writing.{refusal_of_write}
-use Rattle.quic_retransmits.specs.Pending.{Pending, shown_if}
-use Rattle.quic_retransmits.specs.Settling.{noted_in}
+use Rattle.quic_retransmits.specs.Pending.{Pending, nothing, merged_if, shown_if}
 use Rattle.quic_retransmits.specs.Queueing.{with_id, with_stop_sending}
 use Rattle.quic_history.specs.World.{World, with_freed, noticed, advanced, with_credit, with_receive}
 use Rattle.quic_history.specs.Sends.{with_opened}
@@ -50,8 +49,11 @@ use Rattle.quic_history.proofs.Traces.{itself}
 use Rattle.quic_history.specs.declared.progress.LastAnswer.{LastAnswer}
 use Rattle.quic_history.specs.declared.progress.LastAnswer.TheVariants as last_answer
 use Rattle.quic_streams.specs.declared.batches.ReadSome.{ReadSome}
+use Rattle.quic_streams.specs.declared.settling.SentPayload.{SentPayload}
+use Rattle.quic_streams.specs.Sent.{sent_view, report_view}
 use Rattle.quic_link.specs.Endpoints.{IsOneOf}
-use Rattle.quic_endpoint.specs.Ends.{EndState, OpensAt, WritesAt, ResetsAt, StopsReading, TellsResetAt, ReadsAt, SetsConcurrentAt, with_counts_told, with_counts_told_if, with_limit_told, with_window_set}
+use Rattle.quic_endpoint.specs.Ends.{EndState, OpensAt, WritesAt, ResetsAt, StopsReading, TellsResetAt, ReadsAt, SetsConcurrentAt, with_counts_told, with_limit_told, with_window_set}
+use Rattle.quic_endpoint.specs.Reports.{LosesPayloadAt, AcksPayloadAt}
 use Rattle.quic_endpoint.specs.Receiving.{MakesCall, ReceivesAt, event_of, done_so, stopped_so}
 use Rattle.quic_steps.specs.declared.steps.End.{End}
 use Rattle.quic_steps.specs.declared.steps.End.TheVariants.{A, B}
@@ -62,14 +64,19 @@ use Rattle.quic_steps.specs.declared.steps.Reply.TheVariants.{Done, Payload}
 use Rattle.quic_steps.specs.declared.steps.PairError.{PairError}
 use Rattle.quic_steps.specs.declared.steps.PairError.TheVariants.{UnknownId}
 use Rattle.quic_pair.specs.declared.sent.Sent.{Sent}
-use Rattle.quic_pair.specs.Replies.{Answer, opened_reply, written_reply, chunks_reply, handled_reply, code_reply, read_reply, done_reply, received_reply, last_of}
+use Rattle.quic_pair.specs.Replies.{Answer, opened_reply, written_reply, chunks_reply, handled_reply, code_reply, read_reply, done_reply, received_reply, report_reply, last_of}
 use Rattle.quic_pair.specs.State.{PairState, OnEnd, peer, the_end, with_end, with_sent}
-use Rattle.quic_pair.specs.Calls.{OnGiven, ReadsSo, AcksResets, none, more}
-use Rattle.quic_pair.specs.Steps.{Next, Emitted, HandsOver, Delivers, AcksFrame, LosesControl, AcksControl, HasPayload}
+use Rattle.quic_pair.specs.Calls.{OnGiven, ReadsSo}
+use Rattle.quic_pair.specs.declared.unsettled.Report.TheVariants.{Lost, Acknowledged}
+use Rattle.quic_pair.specs.Payloads.{noted_of}
+use Rattle.quic_pair.specs.declared.unsettled.Unsettled.{Unsettled}
+use Rattle.quic_pair.specs.Unsettled.{goes_on, may_report}
+use Rattle.quic_pair.specs.Steps.{Next, Emitted, HandsOver, Delivers, Settles, HasPayload}
 use Rattle.quic_pair.specs.History.{History, past_of}
 use Rattle.quic_pair.specs.From.{From}
-use Rattle.quic_pair.specs.Due.{AsksStreams, AsksData, AsksWindow, AsksAllOf, OpensAll, LeavesRoom, WritesAll, AsksForReset, AsksStop, AsksStopIf, AsksWindowIf, AsksAfterRead, AsksStreamsIf, AsksLarger, IsFull, IsFullIf, AsksAfterFrame, OnWriter, AsksFor}
-use Rattle.quic_pair.proofs.Grown.{joined-from}
+use Rattle.quic_pair.specs.Due.{AsksStreams, AsksData, AsksWindow, AsksAllOf, OpensAll, LeavesRoom, WritesAll, AsksForReset, AsksStop, AsksStopIf, AsksWindowIf, AsksAfterRead, AsksStreamsIf, AsksLarger, IsFull, IsFullIf, AsksAfterFrame, AsksAgain, OnWriter, AsksFor}
+use Rattle.quic_pair.proofs.Left.{AreLeft}
+use Rattle.quic_pair.proofs.Grown.{joined-from, grown-from}
 use Rattle.quic_pair.proofs.Flips.{seen-as}
 use Rattle.quic_pair.proofs.DuePayloads.{full-payload, asks-all-of, is-last}
 
@@ -186,10 +193,14 @@ asks_stop e f id code (Ok done) d =
           subst P (sym t.7) (subst Q (sym no) (is-last (record { id = id; error_code = code }) e.pending.stop_sending));
       limit = (let P : Pending → Type 0 = λ p. is_max_data_due d.stopped.streams.credit ≡ true → p.max_data ≡ true in
           subst P (sym t.7) (or_right e.pending.max_data (is_max_data_due d.stopped.streams.credit)));
-      counts = counts_told d.stopped;
     })
 asks_stop e f id code (Err handle_error.ClosedStream) d = tt
 asks_stop e f id code (Err handle_error.OutOfMemory) d = tt
+
+stop_counts : (e f : EndState) (id code : ℕ) (answer : Result (Unit {0}) HandleError) → StopsReading e id code answer f → AsksStreamsIf (handled_reply answer) f
+stop_counts e f id code (Ok done) d = asks_at d.stopped f d.is
+stop_counts e f id code (Err handle_error.ClosedStream) d = asks_at d.stopped f d.is
+stop_counts e f id code (Err handle_error.OutOfMemory) d = tt
 
 -- ---- reads
 
@@ -228,10 +239,16 @@ module _ (e f : EndState) (id most times : ℕ) (ordered : Bool) (r : ReadSome) 
   asks_read last_answer.More d = asks_window last_answer.More d refl
 
 asks_after_read : (e f : EndState) (id most times : ℕ) (ordered : Bool) (answer : Result ReadSome ReadableError) → ReadsSo e id ordered most times answer f → AsksAfterRead id (read_reply answer) f
-asks_after_read e f id most times ordered (Ok r) d = (asks_read e f id most times ordered r r.last d, asks_data e f id most times ordered r r.last d, asks_counts e f id most times ordered r r.last d)
+asks_after_read e f id most times ordered (Ok r) d = (asks_read e f id most times ordered r r.last d, asks_data e f id most times ordered r r.last d)
 asks_after_read e f id most times ordered (Err readable_error.ClosedStream) d = tt
 asks_after_read e f id most times ordered (Err readable_error.IllegalOrderedRead) d = tt
 asks_after_read e f id most times ordered (Err readable_error.OutOfMemory) d = tt
+
+read_counts : (e f : EndState) (id most times : ℕ) (ordered : Bool) (answer : Result ReadSome ReadableError) → ReadsSo e id ordered most times answer f → AsksStreamsIf (read_reply answer) f
+read_counts e f id most times ordered (Ok r) d = asks_counts e f id most times ordered r r.last d
+read_counts e f id most times ordered (Err readable_error.ClosedStream) d = asks_at d.asked f d.is
+read_counts e f id most times ordered (Err readable_error.IllegalOrderedRead) d = asks_at d.asked f d.is
+read_counts e f id most times ordered (Err readable_error.OutOfMemory) d = tt
 
 asks_code : (e f : EndState) (id : ℕ) (answer : Result (Option ℕ) HandleError) → TellsResetAt e id answer f → AsksStreamsIf (code_reply answer) f
 asks_code e f id (Ok (Some code)) d = asks_at d.asked f d.is
@@ -370,10 +387,6 @@ asks_frame e f frame (Err receive_error.OutOfMemory) r = tt
 
 -- ---- steps on payloads
 
-end_same : (p : PairState) (who : End) → with_end p who (the_end p who) ≡ p
-end_same p A = refl
-end_same p B = refl
-
 module _ (old new : PairState) where
   same_sent : (number : ℕ) (h k : HasPayload old number) → h.sent ≡ k.sent
   same_sent number h k = same_Some h.sent k.sent (sym h.is ∙ k.is)
@@ -405,44 +418,42 @@ module _ (old new : PairState) where
   abbrev WriterAsks : Sent → Type 0
   WriterAsks s = AsksStreams (the_end new s.writer)
 
-  acked_asks : (answer : Result (Unit {0}) OutOfMemory) (number : ℕ) (h : HasPayload old number) (f : EndState) (acked : EndState) → f ≡ with_counts_told_if (is_ok answer) acked → the_end new h.sent.writer ≡ f → OnWriter old number WriterAsks (done_reply answer)
-  acked_asks (Ok done) number h f acked is e = on_writer WriterAsks number (Ok Done) h (subst AsksStreams (sym e) (asks_at acked f is))
-  acked_asks (Err error) number h f acked is e = tt
+  acked_asks : (answer : Result (Unit {0}) SentPayload) (number : ℕ) (h : HasPayload old number) (r : SentPayload) (f : EndState) → AcksPayloadAt (the_end old h.sent.writer) (sent_view r) (report_view answer) f → the_end new h.sent.writer ≡ f → OnWriter old number WriterAsks (report_reply answer)
+  acked_asks (Ok done) number h r f d e = on_writer WriterAsks number (Ok Done) h (subst AsksStreams (sym e) (asks_at d.acked f d.is))
+  acked_asks (Err back) number h r f d e = tt
 
-  acks_asks : (number index : ℕ) (reply : Answer) → AcksFrame old number index reply new → OnWriter old number WriterAsks reply
-  acks_asks number index (Ok reply) k =
+  acks_asks : (number : ℕ) (reply : Answer) → Settles Acknowledged AcksPayloadAt old number reply new → OnWriter old number WriterAsks reply
+  acks_asks number (Ok Done) k =
       let P : Answer → Type 0 = λ r. OnWriter old number WriterAsks r in
-      subst P (sym k.reply_is) (acked_asks k.answer number k.payload k.end k.acks.acked k.acks.is (changed_end old new k.payload.sent.writer k.end k.is))
-  acks_asks number index (Err error) k = tt
+      subst P (sym k.reply_is) (acked_asks k.answer number k.payload k.rest k.end k.does (sent_end old new k.payload.sent.writer k.end _ k.is))
+  acks_asks number (Err error) k = tt
+  acks_asks number _ k = absurd k
 
-  abbrev AllAsked : Sent → Type 0
-  AllAsked s = AsksAllOf (noted_in s.control) (the_end new s.writer).pending
+  module _ (told : ℕ → ℕ) (left : AreLeft old.sent told) where
+    abbrev AllAsked : Sent → Type 0
+    AllAsked s = AsksAgain s.text.bytes (the_end new s.writer)
 
-  loses_asks : (number : ℕ) (reply : Answer) → LosesControl old number reply new → OnWriter old number AllAsked reply
-  loses_asks number (Ok Done) k =
-      let w = k.payload.sent.writer in
-      let P : EndState → Type 0 = λ e. AsksAllOf (noted_in k.payload.sent.control) e.pending in
-      on_writer AllAsked number (Ok Done) k.payload (subst P (sym (changed_end old new w k.end k.is ∙ k.end_is)) (asks-all-of (the_end old w).pending (shown_if k.payload.sent.control)))
-  loses_asks number (Err error) k = tt
-  loses_asks number _ k = absurd k
+    lost_asks : (answer : Result (Unit {0}) SentPayload) (number : ℕ) (h : HasPayload old number) (r : SentPayload) → h.sent.unsettled.rest ≡ Some r → may_report Lost h.sent.unsettled ≡ true → (f : EndState) → LosesPayloadAt (the_end old h.sent.writer) (sent_view r) (report_view answer) f
+        → the_end new h.sent.writer ≡ f → OnWriter old number AllAsked (report_reply answer)
+    lost_asks (Ok done) number h r rest may f d e =
+        on_writer AllAsked number (Ok Done) h (λ all spelled.
+        let noted = (left number h.sent r all h.is rest spelled).noted (goes_so h.sent.unsettled r rest may) in
+        let p = (the_end old h.sent.writer).pending in
+        let P : Pending → Type 0 = λ q. AsksAllOf (noted_of nothing all) q in
+        let Q : Pending → Type 0 = λ q. AsksAllOf q (merged_if p (shown_if r.control)) in
+        let F : EndState → Type 0 = λ g. AsksAllOf (noted_of nothing all) g.pending in
+        subst F (sym e) (subst P (sym d.1) (subst Q noted (asks-all-of p (shown_if r.control)))))
+      where
+        goes_so : (u : Unsettled) (x : SentPayload) → u.rest ≡ Some x → may_report Lost u ≡ true → goes_on Lost u.begun ≡ true
+        goes_so u x is may = rw is at may
+    lost_asks (Err back) number h r rest may f d e = tt
 
-  -- resets that were acknowledged: none, or the last of them told the counts
-  resets_ask : {e f : EndState} {ids : List ℕ} → AcksResets e ids f → (f ≡ e) ⊎ AsksStreams f
-  resets_ask none = inl refl
-  resets_ask (more {e} {f} {g} {ids} id before last) = inr (asks_at last.acked g last.is)
-
-  abbrev SameOrAsks : Sent → Type 0
-  SameOrAsks s = (new ≡ old) ⊎ AsksStreams (the_end new s.writer)
-
-  acks_control_asks : (number : ℕ) (reply : Answer) → AcksControl old number reply new → OnWriter old number SameOrAsks reply
-  acks_control_asks number (Ok Done) k =
-      let w = k.payload.sent.writer in
-      on_writer SameOrAsks number (Ok Done) k.payload (elim (resets_ask k.acks) [
-        | inl idle ↦ inl (k.is ∙ ap (λ e. with_end old w e) idle ∙ end_same old w)
-        | inr some ↦ inr (subst AsksStreams (sym (changed_end old new w k.end k.is)) some)
-      ])
-  acks_control_asks number (Err error) k = tt
-  acks_control_asks number _ k = absurd k
+    loses_asks : (number : ℕ) (reply : Answer) → Settles Lost LosesPayloadAt old number reply new → OnWriter old number AllAsked reply
+    loses_asks number (Ok Done) k =
+        let P : Answer → Type 0 = λ r. OnWriter old number AllAsked r in
+        subst P (sym k.reply_is) (lost_asks k.answer number k.payload k.rest k.rest_is k.may k.end k.does (sent_end old new k.payload.sent.writer k.end _ k.is))
+    loses_asks number (Err error) k = tt
+    loses_asks number _ k = absurd k
 
 -- ---- payloads that are written
 
@@ -490,19 +501,19 @@ module _ (old new : PairState) where
       let F : EndState → Type 0 = λ e. AsksForReset id code (handled_reply d.answer) e in
       subst Holds (sym d.reply_is) (subst F (sym is) (asks_reset (the_end old who) f id code d.answer d.resets)))
 
-  stops_next : (who : End) (id code : ℕ) (reply : Answer) → Next old (steps.Stop who id code) reply new → AsksStopIf (the_end old who) id code reply (the_end new who)
+  stops_next : (who : End) (id code : ℕ) (reply : Answer) → Next old (steps.Stop who id code) reply new → AsksStopIf (the_end old who) id code reply (the_end new who) × AsksStreamsIf reply (the_end new who)
   stops_next who id code reply n =
-      let Holds : Answer → Type 0 = λ r. AsksStopIf (the_end old who) id code r (the_end new who) in
-      given_asks old new who id reply Holds (λ error. tt) n (λ f is d.
-      let F : EndState → Type 0 = λ e. AsksStopIf (the_end old who) id code (handled_reply d.answer) e in
-      subst Holds (sym d.reply_is) (subst F (sym is) (asks_stop (the_end old who) f id code d.answer d.stops)))
+      let Holds : Answer → Type 0 = λ r. AsksStopIf (the_end old who) id code r (the_end new who) × AsksStreamsIf r (the_end new who) in
+      given_asks old new who id reply Holds (λ error. (tt, tt)) n (λ f is d.
+      let F : EndState → Type 0 = λ e. AsksStopIf (the_end old who) id code (handled_reply d.answer) e × AsksStreamsIf (handled_reply d.answer) e in
+      subst Holds (sym d.reply_is) (subst F (sym is) (asks_stop (the_end old who) f id code d.answer d.stops, stop_counts (the_end old who) f id code d.answer d.stops)))
 
-  reads_next : (who : End) (id : ℕ) (ordered : Bool) (most times : ℕ) (reply : Answer) → Next old (steps.Read who id ordered most times) reply new → AsksAfterRead id reply (the_end new who)
+  reads_next : (who : End) (id : ℕ) (ordered : Bool) (most times : ℕ) (reply : Answer) → Next old (steps.Read who id ordered most times) reply new → AsksAfterRead id reply (the_end new who) × AsksStreamsIf reply (the_end new who)
   reads_next who id ordered most times reply n =
-      let Holds : Answer → Type 0 = λ r. AsksAfterRead id r (the_end new who) in
-      given_asks old new who id reply Holds (λ error. tt) n (λ f is d.
-      let F : EndState → Type 0 = λ e. AsksAfterRead id (read_reply d.answer) e in
-      subst Holds (sym d.reply_is) (subst F (sym is) (asks_after_read (the_end old who) f id most times ordered d.answer d.reads)))
+      let Holds : Answer → Type 0 = λ r. AsksAfterRead id r (the_end new who) × AsksStreamsIf r (the_end new who) in
+      given_asks old new who id reply Holds (λ error. (tt, tt)) n (λ f is d.
+      let F : EndState → Type 0 = λ e. AsksAfterRead id (read_reply d.answer) e × AsksStreamsIf (read_reply d.answer) e in
+      subst Holds (sym d.reply_is) (subst F (sym is) (asks_after_read (the_end old who) f id most times ordered d.answer d.reads, read_counts (the_end old who) f id most times ordered d.answer d.reads)))
 
   codes_next : (who : End) (id : ℕ) (reply : Answer) → Next old (steps.ReceivedReset who id) reply new → AsksStreamsIf reply (the_end new who)
   codes_next who id reply n =
@@ -544,7 +555,6 @@ asks-for a b h old new (steps.SetReceiveWindow who window) reply g n = window_ne
 asks-for a b h old new (steps.SetMaxConcurrent who dir count) reply g n = concurrent_next old new who dir count reply n
 asks-for a b h old new (steps.Emit who most fair) reply g n = emits_full a b h old new g who most fair reply n
 asks-for a b h old new (steps.Deliver number index) reply g n = delivers_asks old new number index reply n
-asks-for a b h old new (steps.AckStream number index) reply g n = acks_asks old new number index reply n
-asks-for a b h old new (steps.LoseControl number) reply g n = loses_asks old new number reply n
-asks-for a b h old new (steps.AckControl number) reply g n = acks_control_asks old new number reply n
+asks-for a b h old new (steps.Lose number) reply g n = let r = (grown-from g).recounted in loses_asks old new r.tales.told r.left number reply n
+asks-for a b h old new (steps.Ack number) reply g n = acks_asks old new number reply n
 asks-for a b h old new _ reply g n = tt

@@ -4,6 +4,7 @@ use Rattle.std.specs.Prelude.{IfSome, ◌||◌, map, if◌then◌else◌, unwrap
 use Rattle.std.specs.Option.{option_map}
 use Rattle.std.proofs.lemmas.List.{append_assoc, append-nil, length-append}
 use Rattle.std.proofs.lemmas.Option.{same_Some}
+use Rattle.quic_values.specs.declared.ids.Dir.TheVariants.{Bi, Uni}
 use Rattle.quic_values.specs.declared.memory.OutOfMemory.{OutOfMemory}
 use Rattle.quic_wire.specs.declared.frame.Frame.{Frame}
 use Rattle.quic_wire.specs.declared.frame.Frame.TheVariants as frames
@@ -15,6 +16,7 @@ use Rattle.quic_datagrams.specs.declared.stats.FrameStats.{FrameStats}
 use Rattle.quic_sending.specs.declared.send.Send.{Send}
 use Rattle.quic_outgoing.specs.Calls.{blocked_limit}
 use Rattle.quic_retransmits.specs.Pending.{Pending, nothing, merged, merged_if}
+use Rattle.quic_retransmits.specs.Settling.{noted}
 use Rattle.quic_limits.specs.Credit.{max_data_of}
 use Rattle.quic_limits.specs.SendingCredit.{is_blocked_reported}
 use Rattle.quic_writing.specs.Appended.{frame_with}
@@ -25,12 +27,13 @@ use Rattle.quic_history.specs.declared.control.ControlKind.TheVariants as kinds
 use Rattle.quic_history.specs.History.{From}
 use Rattle.quic_streams.specs.Payload.{Sheet, PayloadPlace, with_frame_written, with_frame_written_if, SettlesOne, SettlesSome, FitsIn, none, more, WritesKinds, control_order}
 use Rattle.quic_streams.specs.Transmitting.{told_bytes}
+use Rattle.quic_streams.specs.Settling.{resets_of}
 use Rattle.quic_link.specs.Endpoints.{Endpoint, Linked, IsOneOf}
 use Rattle.quic_link.proofs.Basics.{either-of, only}
 use Rattle.quic_link.proofs.Joint.{agrees}
 use Rattle.quic_endpoint.specs.Ends.{EndState}
-use Rattle.quic_endpoint.specs.Emitting.{PayloadView, place_at, EmitsAt, whole}
-use Rattle.quic_pair.specs.Payloads.{is_control}
+use Rattle.quic_endpoint.specs.Emitting.{PayloadView, control_in, place_at, EmitsAt, whole}
+use Rattle.quic_pair.specs.Payloads.{is_control, codes_in, noted_of}
 use Rattle.quic_pair.specs.Due.{IsFull, AsksAllOf}
 use Rattle.quic_pair.proofs.Joined.{Stands}
 use Rattle.quic_pair.proofs.PayloadPages.{page-control}
@@ -64,13 +67,39 @@ pub record Front (most : ℕ) (p : PayloadPlace) : Type 0 where
   pub spelled : (rest : List ℕ) → BeginsFrames (p.sheet.bytes ++ rest) all rest
   pub control : (g : Frame) → IsOneOf g all → is_control g ≡ true
   pub within : length p.sheet.bytes ≤ most
+  pub noted : p.sheet.sent ≡ noted_of nothing all
+
+-- a RESET_STREAM is noted behind those before
+noted_code : (p : Pending) (g : Frame) → (noted p g).reset_stream ≡ p.reset_stream ++ codes_in (g ∷ [])
+noted_code p (frames.ResetStream f) = refl
+noted_code p (frames.MaxStreams Bi count) = sym (append-nil p.reset_stream)
+noted_code p (frames.MaxStreams Uni count) = sym (append-nil p.reset_stream)
+noted_code p _ = sym (append-nil p.reset_stream)
+
+pub codes-joined : (fs gs : List Frame) → codes_in (fs ++ gs) ≡ codes_in fs ++ codes_in gs
+codes-joined [] gs = refl
+codes-joined (frames.ResetStream f ∷ fs) gs = ap (λ l. (f.id, f.error_code) ∷ l) (codes-joined fs gs)
+codes-joined (_ ∷ fs) gs = codes-joined fs gs
+
+-- frames are noted one after another
+pub noted-joined : (p : Pending) (fs gs : List Frame) → noted_of p (fs ++ gs) ≡ noted_of (noted_of p fs) gs
+noted-joined p [] gs = refl
+noted-joined p (f ∷ fs) gs = noted-joined (noted p f) fs gs
+
+noted_codes : (p : Pending) (fs : List Frame) → (noted_of p fs).reset_stream ≡ p.reset_stream ++ codes_in fs
+noted_codes p [] = sym (append-nil p.reset_stream)
+noted_codes p (f ∷ fs) = noted_codes (noted p f) fs ∙ ap (λ l. l ++ codes_in fs) (noted_code p f) ∙ append_assoc p.reset_stream (codes_in (f ∷ [])) (codes_in fs) ∙ ap (λ l. p.reset_stream ++ l) (sym (codes-joined (f ∷ []) fs))
+
+-- of the streams that were given up, their codes
+pub codes-noted : (payload : PayloadView) (fs : List Frame) → control_in payload ≡ noted_of nothing fs → resets_of payload.sent.control ≡ codes_in fs
+codes-noted payload fs e = ap (λ (p : Pending). p.reset_stream) e ∙ noted_codes nothing fs
 
 module _ (most : ℕ) (p q : PayloadPlace) (t : Front most p) (kind : ControlKind) (room : length p.sheet.bytes + kind_bound kind < most) where
   front_dropped : q.sheet ≡ p.sheet → Front most q
   front_dropped same =
       let P : Sheet → Type 0 = λ h. (rest : List ℕ) → BeginsFrames (h.bytes ++ rest) t.all rest in
       let Q : Sheet → Type 0 = λ h. length h.bytes ≤ most in
-      record { all = t.all; spelled = subst P (sym same) t.spelled; control = t.control; within = subst Q (sym same) t.within }
+      record { all = t.all; spelled = subst P (sym same) t.spelled; control = t.control; within = subst Q (sym same) t.within; noted = ap (λ (h : Sheet). h.sent) same ∙ t.noted }
 
   front_written : (g : Frame) → SettlesEntry kind p.end p.pending (Some g) q.end q.pending → q.sheet ≡ with_frame_written p.sheet g → FitsIn (kind_bound kind) g → Front most q
   front_written g s same fits =
@@ -83,6 +112,7 @@ module _ (most : ℕ) (p q : PayloadPlace) (t : Front most p) (kind : ControlKin
           | inl before ↦ t.control f before
           | inr now ↦ ap is_control (only f g now) ∙ entry_control kind p.end p.pending g q.end q.pending s
         ];
+        noted = ap (λ (h : Sheet). h.sent) same ∙ ap (λ (p : Pending). noted p g) t.noted ∙ sym (noted-joined nothing t.all (g ∷ []));
         within = subst Q (sym same) (let l = length-append p.sheet.bytes (text g) in let k = fits.short in omega (arith, l, k, room));
       }
     where
@@ -112,7 +142,7 @@ front_kinds most (k ∷ ks) p q answer t w = elim w [
 ]
 
 pub front_first : (most : ℕ) (e : EndState) (stats : FrameStats) → Front most (place_at e [] nothing stats)
-front_first most e stats = record { all = []; spelled = λ rest. refl; control = λ g h. absurd h; within = omega arith }
+front_first most e stats = record { all = []; spelled = λ rest. refl; control = λ g h. absurd h; within = omega arith; noted = refl }
 
 -- ---- STREAM frames behind them
 
@@ -123,12 +153,12 @@ are_streams written (m ∷ ms) g h = elim h [ inl e ↦ ap is_control e | inr k 
 -- a payload that was written whole is full
 pub full-payload : {most : ℕ} {fair : Bool} {e f : EndState} {payload : PayloadView} (x y : Endpoint) → Linked x y → Stands x e → EmitsAt most fair e payload (Ok tt) f → IsFull most payload.bytes f
 full-payload {most} {fair} {e} {f} {payload} x y l s (whole between bytes c d) =
-    let page = page-control x y most e c.before control_order (place_at between bytes payload.control c.after) (Ok tt) l s c.writes in
+    let page = page-control x y most e c.before control_order (place_at between bytes (control_in payload) c.after) (Ok tt) l s c.writes in
     let z = page.end in
     let P : World → Type 0 = λ u. From z.made z.calls u in
     let from : From z.made z.calls between.streams = subst P page.world ((agrees page.linked).0).comes.from in
     let appended = d.carries z.made z.calls from in
-    let front = front_kinds most control_order (place_at e [] nothing c.before) (place_at between bytes payload.control c.after) (Ok tt) (front_first most e c.before) c.writes in
+    let front = front_kinds most control_order (place_at e [] nothing c.before) (place_at between bytes (control_in payload) c.after) (Ok tt) (front_first most e c.before) c.writes in
     let Q : List ℕ → Type 0 = λ b. BeginsFrames b front.all [] in
     let K : Pending → Type 0 = λ p. (kind : ControlKind) → HasNoneOf kind p ⊎ (most ≤ length bytes + kind_bound kind) in
     record {

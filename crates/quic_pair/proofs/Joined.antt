@@ -8,6 +8,7 @@ use Rattle.quic_wire.specs.declared.frame.Stream.{Stream}
 use Rattle.quic_wire.specs.Frames.{AreFrames}
 use Rattle.quic_receiving.specs.declared.transmit.ShouldTransmit.{ShouldTransmit}
 use Rattle.quic_retransmits.specs.Settling.{noted_in}
+use Rattle.quic_streams.specs.declared.settling.SentPayload.{SentPayload}
 use Rattle.quic_history.specs.History.{Received}
 use Rattle.quic_link.specs.Endpoints.{Endpoint, Linked, IsOneOf, sent_on, came_on, written_on, WasStoppedWith, WasAccepted}
 use Rattle.quic_link.specs.Promises.{CameWhole, WasReadUnordered}
@@ -30,12 +31,13 @@ pub record Stands (x : Endpoint) (e : EndState) : Type 0 where
   pub world : x.world ≡ e.streams
   pub pending : AreAsked x e.pending
 
--- a payload that x sent to y: x wrote each of its frames, and what is marked as accepted was accepted by y
+-- a payload that x sent to y: x wrote each of its frames, what was noted of those that are unreported was asked for, and what is
+-- marked as accepted was accepted by y
 pub record IsPayloadOf (x y : Endpoint) (s : Sent) : Type 0 where
   pub all : List Frame
   pub spelled : AreFrames s.text.bytes all
   pub wrote : (g : Frame) → IsOneOf g all → IsOneOf g x.wrote
-  pub control : AreAsked x (noted_in s.control)
+  pub control : (r : SentPayload) → s.unsettled.rest ≡ Some r → AreAsked x (noted_in r.control)
   pub accepted : (index : ℕ) (stream : Stream) → slice_get all index ≡ Some (frames.Stream stream) → is_accepted s.text index ≡ true
       → WasAccepted y.calls stream.id (meta_of stream).offsets stream.fin
 

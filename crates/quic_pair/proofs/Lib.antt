@@ -1,5 +1,5 @@
-pub mod Acks
 pub mod Begun
+pub mod Beside
 pub mod CallsFlows
 pub mod CallsReading
 pub mod CallsSeen
@@ -9,6 +9,7 @@ pub mod Counted
 pub mod CountedCalls
 pub mod CountedFrames
 pub mod CountedPayloads
+pub mod CountedReports
 pub mod Deeds
 pub mod DeliverFrames
 pub mod DeliverMarks
@@ -25,6 +26,7 @@ pub mod Joined
 pub mod KeptCalls
 pub mod KeptFrames
 pub mod KeptPlaces
+pub mod Left
 pub mod Lists
 pub mod Marks
 pub mod NotWithheld
@@ -38,12 +40,11 @@ pub mod PayloadSteps
 pub mod PayloadTurns
 pub mod Readable
 pub mod Recounted
-pub mod Refusals
 pub mod RefusedSo
-pub mod ReportsControl
-pub mod ReportsStreams
+pub mod Reports
 pub mod Runs
 pub mod Served
+pub mod Settled
 pub mod Stops
 pub mod Texts
 pub mod Unrefused

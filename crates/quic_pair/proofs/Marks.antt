@@ -5,30 +5,36 @@ use Rattle.std.proofs.lemmas.Option.{none-some, same_Some}
 use Rattle.quic_values.specs.declared.memory.OutOfMemory.{OutOfMemory}
 use Rattle.quic_wire.specs.declared.error.ReceiveError.{ReceiveError}
 use Rattle.quic_wire.specs.declared.error.ReceiveError.TheVariants as receive_error
-use Rattle.quic_wire.specs.declared.event.StreamEvent.{StreamEvent}
-use Rattle.quic_wire.specs.declared.event.StreamEvent.TheVariants as stream_event
 use Rattle.quic_receiving.specs.declared.transmit.ShouldTransmit.{ShouldTransmit}
 use Rattle.quic_history.proofs.Traces.{itself}
+use Rattle.quic_streams.specs.Settling.{SentView}
 use Rattle.quic_link.specs.Endpoints.{IsOneOf}
 use Rattle.quic_link.proofs.Basics.{either_true, same_id}
 use Rattle.quic_endpoint.specs.Ends.{EndState}
 use Rattle.quic_endpoint.specs.Emitting.{PayloadView}
+use Rattle.quic_endpoint.specs.Reports.{LosesPayloadAt, AcksPayloadAt}
 use Rattle.quic_steps.specs.declared.steps.End.{End}
+use Rattle.quic_steps.specs.declared.steps.End.TheVariants.{A, B}
 use Rattle.quic_steps.specs.declared.steps.Config.{Config}
 use Rattle.quic_steps.specs.declared.steps.Step.{Step}
 use Rattle.quic_steps.specs.declared.steps.Step.TheVariants as steps
-use Rattle.quic_steps.specs.declared.steps.Reply.TheVariants.{Done, DoneTransmit, Id, Wrote, WroteChunks, Stopped, Read, Code, Event, Payload}
-use Rattle.quic_steps.specs.declared.steps.PairError.TheVariants.{NoSuchPayload, NoSuchFrame, NotAccepted, OutOfMemory as NoMemory}
+use Rattle.quic_steps.specs.declared.steps.Reply.TheVariants.{Done, DoneTransmit, Payload}
+use Rattle.quic_steps.specs.declared.steps.PairError.TheVariants.{NoSuchPayload, NoSuchFrame, NotAccepted, AlreadySettled, OutOfMemory as NoMemory}
 use Rattle.quic_pair.specs.declared.sent.Sent.{Sent}
+use Rattle.quic_pair.specs.declared.unsettled.Report.{Report}
+use Rattle.quic_pair.specs.declared.unsettled.Report.TheVariants.{Lost, Acknowledged}
 use Rattle.quic_pair.specs.Payloads.{SentText, IsMarked, is_accepted}
+use Rattle.quic_pair.specs.declared.unsettled.Unsettled.{Unsettled}
+use Rattle.quic_pair.specs.Unsettled.{unsettled_after}
 use Rattle.quic_pair.specs.Replies.{Answer, received_reply}
-use Rattle.quic_pair.specs.State.{PairState, OnEnd, with_end}
-use Rattle.quic_pair.specs.Steps.{Next, Emits, Emitted, SentAfter, HandsOver, Delivers, LosesFrame, AcksFrame, LosesControl, AcksControl}
-use Rattle.quic_pair.specs.History.{Past, History, FramePlace, after, after_given, after_write, after_chunks, after_finish, past_reset, past_stop, past_read, past_code, after_poll, after_event, after_deliver, past_of}
+use Rattle.quic_pair.specs.State.{PairState, OnEnd, with_end, with_sent}
+use Rattle.quic_pair.specs.Steps.{Next, Emits, Emitted, SentAfter, HandsOver, Delivers, Reports, Settles}
+use Rattle.quic_pair.specs.History.{Past, History, FramePlace, after, after_deliver, after_report, past_of}
 use Rattle.quic_pair.specs.From.{From, begun, next}
 use Rattle.quic_pair.proofs.Lists.{slice_get-append_left, slice_get-push, slice_get-slice_set, slice_set-keeps, slice_get-set_same}
 use Rattle.quic_pair.proofs.Deeds.{sent-same}
 use Rattle.quic_pair.proofs.Grown.{past-after}
+use Rattle.quic_pair.proofs.Beside.{IsOfNoPayload, beside}
 
 -- a payload that was sent has a mark at a place
 pub record HasMark (sent : List Sent) (at : FramePlace) : Type 0 where
@@ -111,6 +117,27 @@ marks_sent accepted old s none m = record {
   marked = λ at h. let b = m.marked at h in record { payload = b.payload; is = slice_get-append_left old (s ∷ []) at.0 b.payload b.is; marked = b.marked };
 }
 
+-- ---- reports
+
+marks_unsettled : (accepted : List FramePlace) (old : List Sent) → AreMarkedSo accepted old → (number : ℕ) (s : Sent) → slice_get old number ≡ Some s → (u : Unsettled) → AreMarkedSo accepted (slice_set old number (record s { unsettled = u }))
+marks_unsettled accepted old m number s is u = record {
+  listed = λ n index t got set. elim (slice_get-slice_set old number n (record s { unsettled = u }) t got) [
+    | inl new ↦ m.listed n index s (ap (slice_get old) new.0 ∙ is) (sym (ap (λ (v : Sent). is_accepted v.text index) new.1) ∙ set)
+    | inr there ↦ m.listed n index t there set
+  ];
+  marked = λ at h.
+      let b = m.marked at h in
+      elim (slice_set-keeps old number at.0 (record s { unsettled = u }) b.payload b.is) [
+        | inl same ↦ (
+            let whole : b.payload ≡ s = same_Some b.payload s (sym b.is ∙ ap (slice_get old) same ∙ is) in record {
+              payload = record s { unsettled = u };
+              is = ap (slice_get (slice_set old number (record s { unsettled = u }))) same ∙ slice_get-set_same old number s (record s { unsettled = u }) is;
+              marked = sym (ap (λ (v : Sent). is_accepted v.text at.1) whole) ∙ b.marked;
+            })
+        | inr kept ↦ record { payload = b.payload; is = kept; marked = b.marked }
+      ];
+}
+
 -- ---- steps that accept no frame
 
 -- nothing was sent, and nothing accepted
@@ -120,62 +147,14 @@ marks_same accepted new_accepted old new e k m =
     let Q : List Sent → Type 0 = λ l. AreMarkedSo accepted l in
     subst P (sym e) (subst Q (sym k) m)
 
-sent_on_end : {P : EndState → EndState → Type 0} (old : PairState) (who : End) (new : PairState) → OnEnd P old who new → new.sent ≡ old.sent
+pub sent_on_end : {P : EndState → EndState → Type 0} (old : PairState) (who : End) (new : PairState) → OnEnd P old who new → new.sent ≡ old.sent
 sent_on_end old who new d = ap (λ (v : PairState). v.sent) d.is ∙ sent-same old who d.end
-
-module _ (p : Past) (who : End) where
-  given_none : (reply : Answer) → (after_given p who reply).accepted ≡ p.accepted
-  given_none (Ok (Id id)) = refl
-  given_none _ = refl
-
-  write_none : (id : ℕ) (bytes : List ℕ) (reply : Answer) → (after_write p who id bytes reply).accepted ≡ p.accepted
-  write_none id bytes (Ok (Wrote count)) = refl
-  write_none id bytes (Ok (Stopped code)) = refl
-  write_none id bytes _ = refl
-
-  chunks_none : (id : ℕ) (chunks : List (List ℕ)) (reply : Answer) → (after_chunks p who id chunks reply).accepted ≡ p.accepted
-  chunks_none id chunks (Ok (WroteChunks written)) = refl
-  chunks_none id chunks (Ok (Stopped code)) = refl
-  chunks_none id chunks _ = refl
-
-  finish_none : (id : ℕ) (reply : Answer) → (after_finish p who id reply).accepted ≡ p.accepted
-  finish_none id (Ok Done) = refl
-  finish_none id (Ok (Stopped code)) = refl
-  finish_none id _ = refl
-
-  reset_none : (id code : ℕ) (reply : Answer) → (past_reset p who id code reply).accepted ≡ p.accepted
-  reset_none id code (Ok Done) = refl
-  reset_none id code _ = refl
-
-  stop_none : (id code : ℕ) (reply : Answer) → (past_stop p who id code reply).accepted ≡ p.accepted
-  stop_none id code (Ok Done) = refl
-  stop_none id code _ = refl
-
-  read_none : (id : ℕ) (ordered : Bool) (reply : Answer) → (past_read p who id ordered reply).accepted ≡ p.accepted
-  read_none id ordered (Ok (Read chunks last transmit)) = refl
-  read_none id ordered _ = refl
-
-  code_none : (id : ℕ) (reply : Answer) → (past_code p who id reply).accepted ≡ p.accepted
-  code_none id (Ok (Code code)) = refl
-  code_none id _ = refl
-
-  event_none : (event : StreamEvent) → (after_event p who event).accepted ≡ p.accepted
-  event_none (stream_event.Finished id) = refl
-  event_none (stream_event.Stopped id code) = refl
-  event_none _ = refl
-
-  poll_none : (reply : Answer) → (after_poll p who reply).accepted ≡ p.accepted
-  poll_none (Ok (Event event)) = event_none event
-  poll_none _ = refl
 
 -- ---- steps on payloads
 
 module _ (p : Past) (old new : PairState) (m : AreMarkedSo p.accepted old.sent) where
   marks_stay : new ≡ old → AreMarkedSo p.accepted new.sent
   marks_stay e = marks_same p.accepted p.accepted old.sent new.sent refl (ap (λ (v : PairState). v.sent) e) m
-
-  marks_end : (who : End) (f : EndState) → new ≡ with_end old who f → AreMarkedSo p.accepted new.sent
-  marks_end who f e = marks_same p.accepted p.accepted old.sent new.sent refl (ap (λ (v : PairState). v.sent) e ∙ sent-same old who f) m
 
   marks_emits : {who : End} {most : ℕ} {fair : Bool} {answer : Result (Unit {0}) OutOfMemory} {payload : PayloadView} → Emits old who most fair answer payload new → AreMarkedSo p.accepted new.sent
   marks_emits {who} k =
@@ -211,60 +190,50 @@ module _ (p : Past) (old new : PairState) (m : AreMarkedSo p.accepted old.sent) 
     marks_delivers (Err NoMemory) k = elim k [ inl w ↦ marks_stay w.1 | inr t ↦ marks_handed (Err NoMemory) t ]
     marks_delivers reply k = marks_handed reply k
 
-    marks_loses : (reply : Answer) → LosesFrame old number index reply new → AreMarkedSo p.accepted new.sent
-    marks_loses (Err NoSuchPayload) k = marks_stay k.1
-    marks_loses (Err NoSuchFrame) k = marks_stay k.is
-    marks_loses (Err NoMemory) k = elim k [ inl w ↦ marks_stay w.1 | inr t ↦ marks_end t.payload.sent.writer t.end t.is ]
-    marks_loses reply k = marks_end k.payload.sent.writer k.end k.is
+  -- a report marks no frame
+  marks_reports : (number : ℕ) (kind : Report) (At : EndState → SentView → Result (Unit {0}) SentView → EndState → Type 0) (reply : Answer) → Reports kind At old number reply new → AreMarkedSo p.accepted new.sent
+  marks_reports number kind At reply k =
+      let s = k.payload.sent in
+      let u = unsettled_after kind s.unsettled k.answer in
+      marks_same p.accepted p.accepted (slice_set old.sent number (record s { unsettled = u })) new.sent refl (sents_are (s.writer) k.end (slice_set old.sent number (record s { unsettled = u })) k.is) (marks_unsettled p.accepted old.sent m number s k.payload.is u)
+    where
+      sents_are : (who : End) (f : EndState) (sents : List Sent) → new ≡ with_sent (with_end old who f) sents → new.sent ≡ sents
+      sents_are A f sents e = ap (λ (v : PairState). v.sent) e
+      sents_are B f sents e = ap (λ (v : PairState). v.sent) e
 
-    marks_acks : (reply : Answer) → AcksFrame old number index reply new → AreMarkedSo p.accepted new.sent
-    marks_acks (Err NoSuchPayload) k = marks_stay k.1
-    marks_acks (Err NoSuchFrame) k = marks_stay k.is
-    marks_acks (Err NotAccepted) k = marks_stay k.is
-    marks_acks (Err NoMemory) k = elim k [ inl w ↦ marks_stay w.1 | inr t ↦ marks_end t.payload.sent.writer t.end t.is ]
-    marks_acks reply k = marks_end k.payload.sent.writer k.end k.is
-
-  marks_loses_control : (number : ℕ) (reply : Answer) → LosesControl old number reply new → AreMarkedSo p.accepted new.sent
-  marks_loses_control number (Ok Done) k = marks_end k.payload.sent.writer k.end k.is
-  marks_loses_control number (Err NoSuchPayload) k = marks_stay k.1
-  marks_loses_control number (Err NoMemory) k = marks_stay k.1
-  marks_loses_control number _ k = absurd k
-
-  marks_acks_control : (number : ℕ) (reply : Answer) → AcksControl old number reply new → AreMarkedSo p.accepted new.sent
-  marks_acks_control number (Ok Done) k = marks_end k.payload.sent.writer k.end k.is
-  marks_acks_control number (Err NoSuchPayload) k = marks_stay k.1
-  marks_acks_control number (Err NoSuchFrame) k = marks_stay k.is
-  marks_acks_control number (Err NotAccepted) k = marks_stay k.is
-  marks_acks_control number (Err NoMemory) k = elim k [ inl w ↦ marks_stay w.1 | inr t ↦ marks_end t.payload.sent.writer t.end t.is ]
-  marks_acks_control number _ k = absurd k
+  marks_settles : (number : ℕ) (kind : Report) (At : EndState → SentView → Result (Unit {0}) SentView → EndState → Type 0) (reply : Answer) → Settles kind At old number reply new → AreMarkedSo (after_report p number kind reply).accepted new.sent
+  marks_settles number kind At (Ok Done) k = marks_reports number kind At (Ok Done) k
+  marks_settles number kind At (Err NoMemory) k = marks_reports number kind At (Err NoMemory) k
+  marks_settles number kind At (Err NoSuchPayload) k = marks_stay k.1
+  marks_settles number kind At (Err AlreadySettled) k = marks_stay k.is
+  marks_settles number kind At (Err NotAccepted) k = marks_stay k.is
+  marks_settles number kind At _ k = absurd k
 
 -- ---- all steps
 
 module _ (p : Past) (old new : PairState) (reply : Answer) (m : AreMarkedSo p.accepted old.sent) where
-  marks_on_end : {P : EndState → EndState → Type 0} (who : End) (later : List FramePlace) → later ≡ p.accepted → OnEnd P old who new → AreMarkedSo later new.sent
-  marks_on_end who later e d = marks_same p.accepted later old.sent new.sent e (sent_on_end old who new d) m
+  marks_on_end : {P : EndState → EndState → Type 0} (who : End) (step : Step) → IsOfNoPayload step → OnEnd P old who new → AreMarkedSo (after p step reply).accepted new.sent
+  marks_on_end who step k d = marks_same p.accepted (after p step reply).accepted old.sent new.sent (beside p step reply k).accepted (sent_on_end old who new d) m
 
   marks-next : (step : Step) → Next old step reply new → AreMarkedSo (after p step reply).accepted new.sent
-  marks-next (steps.Open who dir) n = marks_on_end who _ (given_none p who reply) n
-  marks-next (steps.Accept who dir) n = marks_on_end who _ (given_none p who reply) n
-  marks-next (steps.Write who id bytes) n = marks_on_end who _ (write_none p who id bytes reply) n
-  marks-next (steps.WriteChunks who id chunks) n = marks_on_end who _ (chunks_none p who id chunks reply) n
-  marks-next (steps.Finish who id) n = marks_on_end who _ (finish_none p who id reply) n
-  marks-next (steps.Reset who id code) n = marks_on_end who _ (reset_none p who id code reply) n
-  marks-next (steps.Stop who id code) n = marks_on_end who _ (stop_none p who id code reply) n
-  marks-next (steps.SetPriority who id priority) n = marks_on_end who p.accepted refl n
-  marks-next (steps.Read who id ordered most times) n = marks_on_end who _ (read_none p who id ordered reply) n
-  marks-next (steps.ReceivedReset who id) n = marks_on_end who _ (code_none p who id reply) n
-  marks-next (steps.SetSendWindow who window) n = marks_on_end who p.accepted refl n
-  marks-next (steps.SetReceiveWindow who window) n = marks_on_end who p.accepted refl n
-  marks-next (steps.SetMaxConcurrent who dir count) n = marks_on_end who p.accepted refl n
-  marks-next (steps.Poll who) n = marks_on_end who _ (poll_none p who reply) n
+  marks-next (steps.Open who dir) n = marks_on_end who (steps.Open who dir) tt n
+  marks-next (steps.Accept who dir) n = marks_on_end who (steps.Accept who dir) tt n
+  marks-next (steps.Write who id bytes) n = marks_on_end who (steps.Write who id bytes) tt n
+  marks-next (steps.WriteChunks who id chunks) n = marks_on_end who (steps.WriteChunks who id chunks) tt n
+  marks-next (steps.Finish who id) n = marks_on_end who (steps.Finish who id) tt n
+  marks-next (steps.Reset who id code) n = marks_on_end who (steps.Reset who id code) tt n
+  marks-next (steps.Stop who id code) n = marks_on_end who (steps.Stop who id code) tt n
+  marks-next (steps.SetPriority who id priority) n = marks_on_end who (steps.SetPriority who id priority) tt n
+  marks-next (steps.Read who id ordered most times) n = marks_on_end who (steps.Read who id ordered most times) tt n
+  marks-next (steps.ReceivedReset who id) n = marks_on_end who (steps.ReceivedReset who id) tt n
+  marks-next (steps.SetSendWindow who window) n = marks_on_end who (steps.SetSendWindow who window) tt n
+  marks-next (steps.SetReceiveWindow who window) n = marks_on_end who (steps.SetReceiveWindow who window) tt n
+  marks-next (steps.SetMaxConcurrent who dir count) n = marks_on_end who (steps.SetMaxConcurrent who dir count) tt n
+  marks-next (steps.Poll who) n = marks_on_end who (steps.Poll who) tt n
   marks-next (steps.Emit who most fair) n = marks_emitted p old new m who most fair reply n
   marks-next (steps.Deliver number index) n = marks_delivers p old new m number index reply n
-  marks-next (steps.LoseStream number index) n = marks_loses p old new m number index reply n
-  marks-next (steps.AckStream number index) n = marks_acks p old new m number index reply n
-  marks-next (steps.LoseControl number) n = marks_loses_control p old new m number reply n
-  marks-next (steps.AckControl number) n = marks_acks_control p old new m number reply n
+  marks-next (steps.Lose number) n = marks_settles p old new m number Lost LosesPayloadAt reply n
+  marks-next (steps.Ack number) n = marks_settles p old new m number Acknowledged AcksPayloadAt reply n
 
 -- whatever steps led to a pair, its marks are what their replies say
 pub marks-from : {a b : Config} {whole : History} {v : PairState} → From a b whole v → AreMarkedSo (past_of whole).accepted v.sent

@@ -1,10 +1,8 @@
 -- Nothing permitted is withheld on the sending side, by what the steps tell.
-use Rattle.std.proofs.Common.{◌≡◌, ◌⊎◌, ℕ, Bool, true, false, List, [], ◌∷◌, ◌++◌, length, Option, Some, None, Result, Ok, Err, refl, sym, ap, ◌∙◌, subst, inl, inr, arith, ◌≤◌, ◌<◌}
-use Rattle.std.specs.Prelude.{◌==◌, ◌&&◌, ◌-◌, ◌^◌, not, min, max, nat_lt, if◌then◌else◌}
+use Rattle.std.proofs.Common.{◌≡◌, ◌⊎◌, ℕ, Bool, true, false, List, [], ◌∷◌, length, Option, Some, None, Result, Ok, Err, refl, sym, ap, ◌∙◌, subst, inl, inr, arith, ◌≤◌, ◌<◌}
+use Rattle.std.specs.Prelude.{◌==◌, ◌&&◌, ◌-◌, not, min, nat_lt, if◌then◌else◌}
 use Rattle.std.specs.List.{concat}
 use Rattle.std.proofs.lemmas.Bool.Decides.{nat_tests}
-use Rattle.quic_values.specs.declared.ids.Side.{Side}
-use Rattle.quic_values.specs.declared.ids.Side.TheVariants.{Client, Server}
 use Rattle.quic_values.specs.declared.ids.Dir.{Dir}
 use Rattle.quic_values.specs.declared.ids.Dir.TheVariants.{Bi, Uni}
 use Rattle.quic_values.specs.declared.memory.OutOfMemory.{OutOfMemory}
@@ -15,24 +13,19 @@ use Rattle.quic_sending.specs.declared.send.Written.{Written}
 use Rattle.quic_sending.specs.declared.send.WriteError.{WriteError}
 use Rattle.quic_sending.specs.declared.send.WriteError.TheVariants as write_error
 use Rattle.quic_sending.proofs.Cuts.{length-concat}
-use Rattle.quic_flows.specs.Flow.{SendFlow, takes_data, retained, new_flow, with_least_limit}
-use Rattle.quic_outgoing.specs.Outgoing.{own_of, first_of}
-use Rattle.quic_outgoing.specs.Senders.{is_local, first_limit}
+use Rattle.quic_flows.specs.Flow.{SendFlow, takes_data, retained}
+use Rattle.quic_outgoing.specs.Outgoing.{own_of}
+use Rattle.quic_outgoing.specs.Senders.{is_local}
 use Rattle.quic_queue.specs.SendOrder.{line}
-use Rattle.quic_history.specs.World.{World, Made, start, remote_of}
+use Rattle.quic_history.specs.World.{World, Made, remote_of}
 use Rattle.quic_history.specs.Acknowledged.{was_given}
 use Rattle.quic_history.specs.Flows.{room_on, refusal_where, refusal_told, has_send_side, has_side_in, is_answered_on, HasRest, stands}
-use Rattle.quic_history.specs.SendEvents.{GaveLimits}
-use Rattle.quic_history.specs.History.{Sending, since, flow, moved_streams, taken_in_all, greatest_limit, opened_in_all, greatest_count, retained_in_all, total_over, room_in_connection, room_in_window, write_room, is_sent_on, why_not, send_tale, WritesSo}
-use Rattle.quic_history.proofs.Beginnings.{begins}
+use Rattle.quic_history.specs.History.{since, flow, moved_streams, taken_in_all, greatest_limit, opened_in_all, greatest_count, retained_in_all, total_over, room_in_connection, room_in_window, write_room, is_sent_on, why_not, send_tale, WritesSo}
 use Rattle.quic_history.proofs.FlowHistory.{known-by}
-use Rattle.quic_history.proofs.Histories.{next as next-call}
 use Rattle.quic_history.proofs.Totals.{total_same}
-use Rattle.quic_link.specs.Endpoints.{limits_of}
 use Rattle.quic_link.proofs.Basics.{permits_now, same_id}
 use Rattle.quic_link.proofs.Ends.{since-plain}
 use Rattle.quic_link.proofs.Opens.{own-local}
-use Rattle.quic_link.proofs.Rooms.{first-is}
 use Rattle.quic_endpoint.specs.Ends.{EndState, OpensAt, WritesAt}
 use Rattle.quic_steps.specs.declared.steps.Config.{Config}
 use Rattle.quic_steps.specs.declared.steps.End.{End}
@@ -45,84 +38,15 @@ use Rattle.quic_pair.specs.State.{PairState, OnEnd, the_end}
 use Rattle.quic_pair.specs.Calls.{OnGiven, Writes, WritesChunksOrNone}
 use Rattle.quic_pair.specs.Steps.{Next}
 use Rattle.quic_pair.specs.Due.{IsFull}
-use Rattle.quic_pair.specs.From.{From as FromPair, begun, next, IsNew, made_of, end_begun}
+use Rattle.quic_pair.specs.From.{From as FromPair}
 use Rattle.quic_pair.specs.History.{History, past_of}
 use Rattle.quic_pair.specs.Readable.{side_of}
-use Rattle.quic_pair.specs.Tale.{Tale, begun as told_begun, tale_begun, tale_first, tales_begun, retained_by, first_count}
+use Rattle.quic_pair.specs.Tale.{Tale, retained_by}
 use Rattle.quic_pair.specs.Withheld.{NotWithheld, DoesAsPermitted, LeavesNone, WritesTold, RefusesData, OnlyReceives, room_told}
-use Rattle.quic_pair.proofs.Joined.{Joined}
-use Rattle.quic_pair.proofs.Grown.{joined-from}
+use Rattle.quic_pair.proofs.Grown.{grown-from, retold-next}
 use Rattle.quic_pair.proofs.Counted.{Counted}
 use Rattle.quic_pair.proofs.Recounted.{Recounted, made_at}
-use Rattle.quic_pair.proofs.CountedCalls.{counts-open, counts-accept, counts-write, counts-chunks, counts-finish, counts-reset, counts-stop, counts-priority, counts-read, counts-code, counts-send-window, counts-receive-window, counts-concurrent, counts-poll}
-use Rattle.quic_pair.proofs.CountedPayloads.{counts-emit}
-use Rattle.quic_pair.proofs.CountedFrames.{counts-deliver, counts-lose, counts-ack, counts-lose-control, counts-ack-control}
 use Rattle.quic_pair.proofs.Due.{asks-for}
-
--- ---- the tales of a pair
-
-flow_begun : (side : Side) (limit other : ℕ) → limit ≡ other → with_least_limit limit (new_flow 0) ≡ new_flow other
-flow_begun side limit other e = let l : max 0 limit ≡ other = omega arith in ap (λ n. record (new_flow 0) { limit = n }) l
-
-counts_begun : (other : Config) (m : Made) → m.bi ≡ other.max_remote_bi → m.uni ≡ other.max_remote_uni → other.max_remote_bi ≤ 2 ^ 60 → other.max_remote_uni ≤ 2 ^ 60 → (d : Dir) → greatest_count (Sending (GaveLimits (limits_of m)) ∷ []) d ≡ first_count other d
-counts_begun other m e k few_bi few_uni Bi = omega arith
-counts_begun other m e k few_bi few_uni Uni = omega arith
-
-counted_begun : (s t : Side) (own other : Config) → own.max_remote_bi ≤ 2 ^ 60 → own.max_remote_uni ≤ 2 ^ 60 → own.receive_window < 2 ^ 62 → other.max_remote_bi ≤ 2 ^ 60 → other.max_remote_uni ≤ 2 ^ 60
-    → Counted (made_of s own) (end_begun (made_of s own) (made_of t other)).streams (tale_begun own other)
-counted_begun s t own other bi uni small others_bi others_uni =
-    let m = made_of s own in
-    let n = made_of t other in
-    let e = Sending (GaveLimits (limits_of n)) in
-    record {
-      calls = e ∷ [];
-      from = next-call m [] (start m) e (end_begun m n).streams tt (begins m (start m) uni bi small refl) refl;
-      plain = (refl, tt);
-      tells = record {
-        flow_is = λ q. flow_begun s (first_limit s (first_of (limits_of n)) q) other.stream_receive_window (first-is n s q);
-        streams_are = refl;
-        written_is = refl;
-        limit_is = omega arith;
-        window_is = refl;
-        opened_are = λ d. omega arith;
-        counts_are = counts_begun other n refl refl others_bi others_uni;
-      };
-    }
-
-recounted_new : (a b : Config) (v : PairState) → IsNew a b v → Recounted a b [] v
-recounted_new a b v n =
-    let P : PairState → Type 0 = λ u. Recounted a b [] u in
-    subst P (sym n.is) (record { tales = tales_begun a b; told = told_begun; counted = both; count = refl })
-  where
-    both : (who : End) → Counted (made_at a b who) (the_end (record { a = end_begun (made_of Client a) (made_of Server b); b = end_begun (made_of Server b) (made_of Client a); sent = [] }) who).streams (tale_first a b who)
-    both A = counted_begun Client Server a b n.few_bi.0 n.few_uni.0 n.small.0 n.few_bi.1 n.few_uni.1
-    both B = counted_begun Server Client b a n.few_bi.1 n.few_uni.1 n.small.1 n.few_bi.0 n.few_uni.0
-
-recounted_next : (a b : Config) (h : History) (old new : PairState) → Joined a b (past_of h) old → Recounted a b h old → (step : Step) (reply : Answer) → Next old step reply new → Recounted a b (h ++ (step, reply) ∷ []) new
-recounted_next a b h old new j r (steps.Open who dir) reply n = counts-open a b h old new r who dir reply n
-recounted_next a b h old new j r (steps.Accept who dir) reply n = counts-accept a b h old new r who dir reply n
-recounted_next a b h old new j r (steps.Write who id bytes) reply n = counts-write a b h old new r who id bytes reply n
-recounted_next a b h old new j r (steps.WriteChunks who id chunks) reply n = counts-chunks a b h old new r who id chunks reply n
-recounted_next a b h old new j r (steps.Finish who id) reply n = counts-finish a b h old new r who id reply n
-recounted_next a b h old new j r (steps.Reset who id code) reply n = counts-reset a b h old new r who id code reply n
-recounted_next a b h old new j r (steps.Stop who id code) reply n = counts-stop a b h old new r who id code reply n
-recounted_next a b h old new j r (steps.SetPriority who id priority) reply n = counts-priority a b h old new r who id priority reply n
-recounted_next a b h old new j r (steps.Read who id ordered most times) reply n = counts-read a b h old new r who id ordered most times reply n
-recounted_next a b h old new j r (steps.ReceivedReset who id) reply n = counts-code a b h old new r who id reply n
-recounted_next a b h old new j r (steps.SetSendWindow who window) reply n = counts-send-window a b h old new r who window reply n
-recounted_next a b h old new j r (steps.SetReceiveWindow who window) reply n = counts-receive-window a b h old new r who window reply n
-recounted_next a b h old new j r (steps.SetMaxConcurrent who dir count) reply n = counts-concurrent a b h old new r who dir count reply n
-recounted_next a b h old new j r (steps.Poll who) reply n = counts-poll a b h old new r who reply n
-recounted_next a b h old new j r (steps.Emit who most fair) reply n = counts-emit a b h old new r who most fair reply n
-recounted_next a b h old new j r (steps.Deliver number index) reply n = counts-deliver a b (past_of h) h old new j r number index reply n
-recounted_next a b h old new j r (steps.LoseStream number index) reply n = counts-lose a b (past_of h) h old new j r number index reply n
-recounted_next a b h old new j r (steps.AckStream number index) reply n = counts-ack a b (past_of h) h old new j r number index reply n
-recounted_next a b h old new j r (steps.LoseControl number) reply n = counts-lose-control a b (past_of h) h old new j r number reply n
-recounted_next a b h old new j r (steps.AckControl number) reply n = counts-ack-control a b (past_of h) h old new j r number reply n
-
-pub recounted : {a b : Config} {h : History} {v : PairState} → FromPair a b h v → Recounted a b h v
-recounted {a} {b} {h} {v} (begun n) = recounted_new a b v n
-recounted {a} {b} (next {h} {old} {new} step reply f n) = recounted_next a b h old new (joined-from f) (recounted f) step reply n
 
 -- ---- writes
 
@@ -302,7 +226,7 @@ side_made : (a b : Config) (who : End) → (made_at a b who).side ≡ side_of wh
 side_made a b A = refl
 side_made a b B = refl
 
-module _ (a b : Config) (h : History) (old new : PairState) (r : Recounted a b h old) (who : End) where
+module _ (a b : Config) (old new : PairState) (r : Recounted a b old) (who : End) where
   abbrev end : EndState
   end = the_end old who
 
@@ -357,14 +281,14 @@ module _ (a b : Config) (h : History) (old new : PairState) (r : Recounted a b h
         | inr k ↦ subst P (sym k.1) tt
       ]
 
-does_so : (a b : Config) (h : History) (old new : PairState) (r : Recounted a b h old) (step : Step) (reply : Answer) → Next old step reply new → DoesAsPermitted r.tales step reply
-does_so a b h old new r (steps.Open who dir) reply n =
+does_so : (a b : Config) (old new : PairState) (r : Recounted a b old) (step : Step) (reply : Answer) → Next old step reply new → DoesAsPermitted r.tales step reply
+does_so a b old new r (steps.Open who dir) reply n =
     let o = n.does in
     let P : Answer → Type 0 = λ q. DoesAsPermitted r.tales (steps.Open who dir) q in
-    subst P (sym o.reply_is) (opens_so a b h old new r who dir n.end o.answer o.opens)
-does_so a b h old new r (steps.Write who id bytes) reply n = write_does a b h old new r who id bytes reply n
-does_so a b h old new r (steps.WriteChunks who id chunks) reply n = chunks_does a b h old new r who id chunks reply n
-does_so a b h old new r _ reply n = tt
+    subst P (sym o.reply_is) (opens_so a b old new r who dir n.end o.answer o.opens)
+does_so a b old new r (steps.Write who id bytes) reply n = write_does a b old new r who id bytes reply n
+does_so a b old new r (steps.WriteChunks who id chunks) reply n = chunks_does a b old new r who id chunks reply n
+does_so a b old new r _ reply n = tt
 
 -- where no stream is queued nothing is left to be sent
 none_left : (m : Made) (w : World) (t : Tale) → Counted m w t → (id : ℕ) → line w.queue ≡ [] → HasRest (t.flow id) → ⊥
@@ -374,18 +298,25 @@ none_left m w t c id e k =
     let none : stands id (line w.queue) ≡ false = ap (stands id) e in
     let l = sym there ∙ none in cc
 
-leaves_so : (a b : Config) (h g : History) (old new : PairState) (r : Recounted a b g new) (step : Step) (reply : Answer) → FromPair a b h old → Next old step reply new → LeavesNone r.tales step reply
-leaves_so a b h g old new r (steps.Emit who most fair) (Ok (Payload number bytes)) f n =
+leaves_so : (a b : Config) (h : History) (old new : PairState) (r : Recounted a b new) (step : Step) (reply : Answer) → FromPair a b h old → Next old step reply new → LeavesNone r.tales step reply
+leaves_so a b h old new r (steps.Emit who most fair) (Ok (Payload number bytes)) f n =
     let full : IsFull most bytes.items (the_end new who) = asks-for a b h old new (steps.Emit who most fair) (Ok (Payload number bytes)) f n in
     λ id rest. elim full.streams [
       | inl none ↦ absurd (none_left (made_at a b who) (the_end new who).streams (r.tales.of who) (r.counted who) id none rest)
       | inr fills ↦ fills
     ]
-leaves_so a b h g old new r _ reply f n = tt
+leaves_so a b h old new r _ reply f n = tt
 
 -- whatever steps led to a pair, the next one withholds nothing on the sending side that is permitted
-pub not-withheld : (a b : Config) (h : History) (old new : PairState) (step : Step) (reply : Answer) → FromPair a b h old → Next old step reply new → NotWithheld a b h old.sent new.sent step reply
+pub not-withheld : (a b : Config) (h : History) (old new : PairState) (step : Step) (reply : Answer) (f : FromPair a b h old) → Next old step reply new → NotWithheld f step reply new
 not-withheld a b h old new step reply f n =
-    let r = recounted f in
-    let s = recounted (next step reply f n) in
-    record { before = r.tales; behind = s.tales; told_before = r.told; told_behind = s.told; does = does_so a b h old new r step reply n; leaves = leaves_so a b h (h ++ (step, reply) ∷ []) old new s step reply f n }
+    let g = grown-from f in
+    let r = retold-next a b (past_of h) old new g.joined g.recounted step reply n in
+    record {
+      before = g.recounted.tales;
+      behind = r.behind.tales;
+      told = g.told;
+      tells = r.tells;
+      does = does_so a b old new g.recounted step reply n;
+      leaves = leaves_so a b h old new r.behind step reply f n;
+    }

@@ -1,27 +1,31 @@
 -- A payload that an end writes keeps a pair two linked ends.
 use Rattle.std.proofs.Common.{◌≡◌, ℕ, Bool, true, false, List, [], ◌∷◌, ◌++◌, None, Result, Ok, Err, refl, sym, ap, ◌∙◌, subst, inl, inr}
-use Rattle.std.specs.Prelude.{slice_index_or, map}
+use Rattle.std.specs.Prelude.{slice_index_or, map, unwrap_or}
+use Rattle.std.specs.Option.{option_map}
 use Rattle.std.proofs.lemmas.List.{append-nil}
+use Rattle.std.proofs.lemmas.Option.{same_Some}
 use Rattle.quic_values.specs.declared.memory.OutOfMemory.{OutOfMemory}
 use Rattle.quic_wire.specs.declared.frame.Frame.{Frame}
 use Rattle.quic_wire.specs.declared.frame.StreamMeta.{StreamMeta}
 use Rattle.quic_wire.specs.Frames.{BeginsFrames, AreFrames}
 use Rattle.quic_wire.proofs.Joins.{join}
 use Rattle.quic_datagrams.specs.declared.stats.FrameStats.{FrameStats}
-use Rattle.quic_retransmits.specs.Pending.{Pending}
+use Rattle.quic_retransmits.specs.Pending.{Pending, nothing}
 use Rattle.quic_retransmits.specs.Settling.{noted_in}
 use Rattle.quic_writing.specs.Appended.{frame_with}
 use Rattle.quic_history.specs.World.{World}
 use Rattle.quic_history.specs.Carrying.{with_writer}
 use Rattle.quic_history.specs.History.{From}
 use Rattle.quic_streams.specs.Payload.{control_order}
+use Rattle.quic_streams.specs.Settling.{SentView}
+use Rattle.quic_streams.specs.Sent.{sent_view}
 use Rattle.quic_streams.specs.Transmitting.{end_writer}
 use Rattle.quic_link.specs.Endpoints.{Endpoint, Linked, IsOneOf, written_on}
 use Rattle.quic_link.specs.Asked.{AreAsked}
 use Rattle.quic_link.proofs.Basics.{either-of}
 use Rattle.quic_link.proofs.Joint.{agrees}
 use Rattle.quic_endpoint.specs.Ends.{EndState}
-use Rattle.quic_endpoint.specs.Emitting.{PayloadView, place_at, EmitsStreams, EmitsNoStream, EmitsAt, whole, cut}
+use Rattle.quic_endpoint.specs.Emitting.{PayloadView, control_in, place_at, EmitsStreams, EmitsNoStream, EmitsAt, whole, cut}
 use Rattle.quic_steps.specs.declared.steps.End.{End}
 use Rattle.quic_steps.specs.declared.steps.Config.{Config}
 use Rattle.quic_steps.specs.declared.steps.Step.TheVariants as steps
@@ -51,7 +55,7 @@ pub record Emptied (x y : Endpoint) (payload : PayloadView) (f : EndState) : Typ
   pub keeps : Keeps x end
   pub hears : HearsNothing x end
   pub here : Stands end f
-  pub notes : AreAsked end payload.control
+  pub notes : AreAsked end (control_in payload)
   pub all : List Frame
   pub spelled : AreFrames payload.bytes all
   pub wrote : (g : Frame) → IsOneOf g all → IsOneOf g end.wrote
@@ -66,7 +70,7 @@ bare_after w v bytes frames e b = ap (λ r. record w { out = v.out; queue = reco
 asked_at : (x : Endpoint) (p q : Pending) → q ≡ p → AreAsked x p → AreAsked x q
 asked_at x p q e a = let P : Pending → Type 0 = λ j. AreAsked x j in subst P (sym e) a
 
-module _ (x y : Endpoint) (payload : PayloadView) (between f : EndState) (bytes : List ℕ) (stats : FrameStats) (t : Page x y (place_at between bytes payload.control stats)) where
+module _ (x y : Endpoint) (payload : PayloadView) (between f : EndState) (bytes : List ℕ) (stats : FrameStats) (t : Page x y (place_at between bytes (control_in payload) stats)) where
   -- STREAM frames stand behind the others
   streams_written : {most : ℕ} {fair : Bool} {answer : Result (Unit {0}) OutOfMemory} → EmitsStreams most fair between bytes answer f payload → Emptied x y payload f
   streams_written {most} s =
@@ -88,10 +92,10 @@ module _ (x y : Endpoint) (payload : PayloadView) (between f : EndState) (bytes 
         keeps = keeps-both x z k.end t.keeps k.keeps;
         hears = hears-both x z k.end t.hears k.hears;
         here = record {
-          world = k.world ∙ bare_after between.streams f.streams payload.bytes payload.streams s.writes.others bare_later;
+          world = k.world ∙ bare_after between.streams f.streams payload.bytes payload.sent.streams s.writes.others bare_later;
           pending = asked_at k.end between.pending f.pending s.pending (k.keeps.asked between.pending t.left);
         };
-        notes = k.keeps.asked payload.control t.notes;
+        notes = k.keeps.asked (control_in payload) t.notes;
         all = t.all ++ ms;
         spelled = subst Q (sym carried.bytes) (join (bytes ++ carried.text) carried.text [] t.all ms (t.spelled carried.text) carried.decodes);
         wrote = λ g h. elim (either-of g t.all ms h) [
@@ -119,9 +123,9 @@ module _ (x y : Endpoint) (payload : PayloadView) (between f : EndState) (bytes 
 
 emptied : {most : ℕ} {fair : Bool} {e f : EndState} {payload : PayloadView} {answer : Result (Unit {0}) OutOfMemory} (x y : Endpoint) → Linked x y → Stands x e → EmitsAt most fair e payload answer f → Emptied x y payload f
 emptied {most} {fair} {e} {f} {payload} x y l s (whole between bytes control streams) =
-    streams_written x y payload between f bytes control.after (page-control x y most e control.before control_order (place_at between bytes payload.control control.after) (Ok tt) l s control.writes) streams
+    streams_written x y payload between f bytes control.after (page-control x y most e control.before control_order (place_at between bytes (control_in payload) control.after) (Ok tt) l s control.writes) streams
 emptied {most} {fair} {e} {f} {payload} x y l s (cut {error} between bytes control none) =
-    no_stream_written x y payload between f bytes control.after (page-control x y most e control.before control_order (place_at between bytes payload.control control.after) (Err error) l s control.writes) none
+    no_stream_written x y payload between f bytes control.after (page-control x y most e control.before control_order (place_at between bytes (control_in payload) control.after) (Err error) l s control.writes) none
 
 -- ---- the payload is sent
 
@@ -136,7 +140,9 @@ payload_sent x y who payload f s t i =
       all = t.all;
       spelled = subst P (sym (ap (λ (u : SentText). u.bytes) i.text)) t.spelled;
       wrote = t.wrote;
-      control = asked_at t.end payload.control (noted_in s.control) i.control t.notes;
+      control = λ r h.
+          let same : sent_view r ≡ payload.sent = same_Some (sent_view r) payload.sent (ap (option_map sent_view) (sym h) ∙ i.rest) in
+          asked_at t.end (control_in payload) (noted_in r.control) (ap (λ (v : SentView). unwrap_or v.control nothing) same) t.notes;
       accepted = λ index stream h m. absurd (no_marks s.text index (ap (λ (u : SentText). u.accepted) i.text) m);
     }
 

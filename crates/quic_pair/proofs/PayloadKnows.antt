@@ -134,7 +134,7 @@ knows-receiver p sent who x y z k heard n = record {
 -- ---- payloads
 
 pub payload-writer : (x y z : Endpoint) (s : Sent) → Keeps x z → IsPayloadOf x y s → IsPayloadOf z y s
-payload-writer x y z s k i = record { all = i.all; spelled = i.spelled; wrote = λ g h. k.wrote g (i.wrote g h); control = k.asked (noted_in s.control) i.control; accepted = i.accepted }
+payload-writer x y z s k i = record { all = i.all; spelled = i.spelled; wrote = λ g h. k.wrote g (i.wrote g h); control = λ r h. k.asked (noted_in r.control) (i.control r h); accepted = i.accepted }
 
 pub accepted-more : (y z : Endpoint) {id : ℕ} → Keeps y z → (offsets : Range ℕ) (fin : Bool) → WasAccepted y.calls id offsets fin → WasAccepted z.calls id offsets fin
 accepted-more y z {id} k offsets fin a = record { bytes = a.bytes; transmit = a.transmit; is = k.calls (Received id offsets.start a.bytes fin (Ok a.transmit)) a.is; behind = a.behind }

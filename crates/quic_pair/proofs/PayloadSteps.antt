@@ -1,4 +1,5 @@
 -- Steps on payloads keep a pair two linked ends.
+use Rattle.std.proofs.Common.{ℕ}
 use Rattle.quic_steps.specs.declared.steps.Config.{Config}
 use Rattle.quic_steps.specs.declared.steps.Step.{Step}
 use Rattle.quic_steps.specs.declared.steps.Step.TheVariants as steps
@@ -7,26 +8,22 @@ use Rattle.quic_pair.specs.State.{PairState}
 use Rattle.quic_pair.specs.Steps.{Next}
 use Rattle.quic_pair.specs.History.{Past, after}
 use Rattle.quic_pair.proofs.Joined.{Joined}
+use Rattle.quic_pair.proofs.Left.{AreLeft}
 use Rattle.quic_pair.proofs.PayloadEmits.{joined-emits}
 use Rattle.quic_pair.proofs.DeliverMarks.{joined-delivers}
-use Rattle.quic_pair.proofs.ReportsStreams.{joined-loses-stream, joined-acks-stream}
-use Rattle.quic_pair.proofs.ReportsControl.{joined-loses-control, joined-acks-control}
+use Rattle.quic_pair.proofs.Reports.{joined-loses, joined-acks}
 
 -- a payload is written, a frame of one is delivered, or it is told what became of one
 abbrev pub IsOnPayload : Step → Type 0
 IsOnPayload (steps.Emit who most fair) = Unit {0}
 IsOnPayload (steps.Deliver number index) = Unit {0}
-IsOnPayload (steps.LoseStream number index) = Unit {0}
-IsOnPayload (steps.AckStream number index) = Unit {0}
-IsOnPayload (steps.LoseControl number) = Unit {0}
-IsOnPayload (steps.AckControl number) = Unit {0}
+IsOnPayload (steps.Lose number) = Unit {0}
+IsOnPayload (steps.Ack number) = Unit {0}
 IsOnPayload _ = ⊥
 
-pub joined-payloads : (a b : Config) (p : Past) (old new : PairState) (step : Step) (reply : Answer) → IsOnPayload step → Joined a b p old → Next old step reply new → Joined a b (after p step reply) new
-joined-payloads a b p old new (steps.Emit who most fair) reply on j n = joined-emits a b p old new who most fair reply j n
-joined-payloads a b p old new (steps.Deliver number index) reply on j n = joined-delivers a b p old new number index j reply n
-joined-payloads a b p old new (steps.LoseStream number index) reply on j n = joined-loses-stream a b p old new number index j reply n
-joined-payloads a b p old new (steps.AckStream number index) reply on j n = joined-acks-stream a b p old new number index j reply n
-joined-payloads a b p old new (steps.LoseControl number) reply on j n = joined-loses-control a b p old new number j reply n
-joined-payloads a b p old new (steps.AckControl number) reply on j n = joined-acks-control a b p old new number j reply n
-joined-payloads a b p old new _ reply on j n = absurd on
+pub joined-payloads : (a b : Config) (p : Past) (old new : PairState) (step : Step) (reply : Answer) → IsOnPayload step → Joined a b p old → (told : ℕ → ℕ) → AreLeft old.sent told → Next old step reply new → Joined a b (after p step reply) new
+joined-payloads a b p old new (steps.Emit who most fair) reply on j told left n = joined-emits a b p old new who most fair reply j n
+joined-payloads a b p old new (steps.Deliver number index) reply on j told left n = joined-delivers a b p old new number index j reply n
+joined-payloads a b p old new (steps.Lose number) reply on j told left n = joined-loses a b p old new number j told left reply n
+joined-payloads a b p old new (steps.Ack number) reply on j told left n = joined-acks a b p old new number j told left reply n
+joined-payloads a b p old new _ reply on j told left n = absurd on

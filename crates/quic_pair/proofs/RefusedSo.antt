@@ -1,31 +1,38 @@
 -- A step is refused exactly where the steps before it say so.
-use Rattle.std.proofs.Common.{◌≡◌, ℕ, true, false, List, Some, Ok, Err, sym, ap, ◌∙◌, subst, inl, inr}
+use Rattle.std.proofs.Common.{◌≡◌, ℕ, true, false, List, Some, Result, Ok, Err, sym, ap, ◌∙◌, subst, inl, inr}
 use Rattle.std.specs.Prelude.{slice_get}
 use Rattle.std.proofs.lemmas.Option.{same_Some}
 use Rattle.quic_wire.specs.declared.frame.Frame.{Frame}
 use Rattle.quic_wire.specs.Frames.{AreFrames}
-use Rattle.quic_wire.proofs.Joins.{same}
+use Rattle.quic_streams.specs.Settling.{SentView}
 use Rattle.quic_link.specs.Endpoints.{IsOneOf}
 use Rattle.quic_endpoint.specs.Ends.{EndState}
+use Rattle.quic_endpoint.specs.Reports.{LosesPayloadAt, AcksPayloadAt}
 use Rattle.quic_steps.specs.declared.steps.End.{End}
 use Rattle.quic_steps.specs.declared.steps.Config.{Config}
 use Rattle.quic_steps.specs.declared.steps.Step.{Step}
 use Rattle.quic_steps.specs.declared.steps.Step.TheVariants as steps
 use Rattle.quic_steps.specs.declared.steps.Reply.TheVariants.{Done}
-use Rattle.quic_steps.specs.declared.steps.PairError.TheVariants.{NoSuchPayload, NoSuchFrame, NotAccepted, UnknownId, OutOfMemory as NoMemory}
+use Rattle.quic_steps.specs.declared.steps.PairError.TheVariants.{NoSuchPayload, NoSuchFrame, NotAccepted, UnknownId, AlreadySettled, OutOfMemory as NoMemory}
 use Rattle.quic_pair.specs.declared.sent.Sent.{Sent}
-use Rattle.quic_pair.specs.Payloads.{IsControlAccepted, LacksAccepted, LacksFrame, LacksStream, is_accepted}
+use Rattle.quic_pair.specs.declared.unsettled.Report.{Report}
+use Rattle.quic_pair.specs.declared.unsettled.Report.TheVariants.{Lost, Acknowledged}
+use Rattle.quic_pair.specs.Unsettled.{needs_acceptance}
+use Rattle.quic_pair.specs.Reports.{MayServe}
+use Rattle.quic_pair.specs.Payloads.{AreAllAccepted, LacksAccepted, is_accepted}
 use Rattle.quic_pair.specs.Replies.{Answer}
 use Rattle.quic_pair.specs.State.{PairState, OnEnd, the_end}
 use Rattle.quic_pair.specs.Calls.{OnGiven}
-use Rattle.quic_pair.specs.Steps.{HasPayload, Next, Delivers, LosesFrame, AcksFrame, LosesControl, AcksControl}
+use Rattle.quic_pair.specs.Steps.{HasPayload, Next, Delivers, Reports, Settles}
 use Rattle.quic_pair.specs.History.{Past, History, FramePlace, past_of}
 use Rattle.quic_pair.specs.From.{From}
-use Rattle.quic_pair.specs.Refused.{IsTaken, IsKnownSo, IsFoundSo, HasBytes, Never, Always, HasFrame, HasStream, HasAccepted, HasUnaccepted, HasAllAccepted, HasOneUnaccepted, IsRefusedSo}
+use Rattle.quic_pair.specs.Refused.{IsTaken, IsKnownSo, IsFoundSo, HasBytes, Always, HasAllAccepted, HasOneUnaccepted, Needs, Misses, IsServedSo, IsReportedSo, IsRefusedSo}
+use Rattle.quic_pair.proofs.Lists.{slice_get-within, slice_get-there}
 use Rattle.quic_pair.proofs.Marks.{AreMarkedSo, marks-from}
+use Rattle.quic_pair.proofs.Settled.{AreSettledSo, settled-for, unsettled-for, settled-from}
 use Rattle.quic_pair.proofs.Honest.{honest-from}
 use Rattle.quic_pair.proofs.GivenSo.{AreKnown, known-from}
-use Rattle.quic_pair.proofs.Served.{served-opens, served-accepts, served-writes, served-chunks, served-finishes, served-resets, served-stops, served-priority, served-asks, served-reads, served-set, served-receive-window, served-max-concurrent, served-polls, served-emitted, served-hands, served-loss, served-ack}
+use Rattle.quic_pair.proofs.Served.{served-opens, served-accepts, served-writes, served-chunks, served-finishes, served-resets, served-stops, served-priority, served-asks, served-reads, served-set, served-receive-window, served-max-concurrent, served-polls, served-emitted, served-hands}
 
 -- ---- steps on streams
 
@@ -60,68 +67,58 @@ module _ (accepted : List FramePlace) (sent : List Sent) (m : AreMarkedSo accept
       let both : true ≡ false = sym b.marked ∙ ap (λ (v : Sent). is_accepted v.text index) whole ∙ none in
       cc
 
-  all_listed : (ids : List ℕ) → IsControlAccepted s.text ids → HasAllAccepted accepted number s.text.bytes
-  all_listed ids a index c =
-      let frames_are : c.at.all ≡ a.all = same s.text.bytes c.at.all a.all c.at.spelled a.spelled in
-      let there : slice_get a.all index ≡ Some c.frame = ap (λ (fs : List Frame). slice_get fs index) (sym frames_are) ∙ c.at.at in
-      m.listed number index s is (a.accepted index c.frame there c.control)
+  all_listed : AreAllAccepted s.text → HasAllAccepted accepted number s.text.bytes
+  all_listed a index k = m.listed number index s is (a k.1.all k.1.spelled index (slice_get-within k.1.all index k.0 k.1.at))
 
-  one_unlisted : LacksAccepted s.text → HasOneUnaccepted accepted number s.text.bytes
-  one_unlisted l = (
-    l.lacks.index,
-    record { frame = l.lacks.frame; at = record { all = l.all; spelled = l.spelled; at = l.lacks.at }; control = l.lacks.control },
-    unmarked_so l.lacks.index l.lacks.unmarked,
-  )
+  one_unlisted : (all : List Frame) → AreFrames s.text.bytes all → LacksAccepted s.text → HasOneUnaccepted accepted number s.text.bytes
+  one_unlisted all spelled lacks =
+      let l = lacks all spelled in
+      let there = slice_get-there all l.index l.within in
+      (l.index, (there.0, record { all = all; spelled = spelled; at = there.1 }), unmarked_so l.index l.unmarked)
 
 -- ---- steps on payloads
 
 on_sent : {old : PairState} {number : ℕ} → HasPayload old number → HasBytes old.sent number Always
 on_sent h = record { payload = h.sent; is = h.is; are = tt }
 
-module _ (p : Past) (old new : PairState) (m : AreMarkedSo p.accepted old.sent) where
-  delivers_so : (number index : ℕ) (reply : Answer) → Delivers old number index reply new → IsFoundSo old.sent number (λ bytes. LacksFrame bytes index) Never (λ bytes. HasFrame bytes index) reply
+module _ (old new : PairState) where
+  delivers_so : (number index : ℕ) (reply : Answer) → Delivers old number index reply new → IsFoundSo old.sent number index reply
   delivers_so number index (Ok reply) k = record { payload = k.payload.sent; is = k.payload.is; are = (k.frame, k.at) }
   delivers_so number index (Err NoSuchPayload) k = k.0
   delivers_so number index (Err NoSuchFrame) k = record { payload = k.payload.sent; is = k.payload.is; are = k.why }
   delivers_so number index (Err NotAccepted) k = absurd (served-hands (Err NotAccepted) k tt)
   delivers_so number index (Err UnknownId) k = absurd (served-hands (Err UnknownId) k tt)
+  delivers_so number index (Err AlreadySettled) k = absurd (served-hands (Err AlreadySettled) k tt)
   delivers_so number index (Err NoMemory) k = elim k [ inl w ↦ on_sent w.0 | inr t ↦ on_sent t.payload ]
 
-  loses_so : (number index : ℕ) (reply : Answer) → LosesFrame old number index reply new → IsFoundSo old.sent number (λ bytes. LacksStream bytes index) Never (λ bytes. HasStream bytes index) reply
-  loses_so number index (Ok reply) k = record { payload = k.payload.sent; is = k.payload.is; are = (k.at.stream, k.at.at) }
-  loses_so number index (Err NoSuchPayload) k = k.0
-  loses_so number index (Err NoSuchFrame) k = record { payload = k.payload.sent; is = k.payload.is; are = k.why }
-  loses_so number index (Err NotAccepted) k = absurd (served-loss (Err NotAccepted) k tt)
-  loses_so number index (Err UnknownId) k = absurd (served-loss (Err UnknownId) k tt)
-  loses_so number index (Err NoMemory) k = elim k [ inl w ↦ on_sent w.0 | inr t ↦ on_sent t.payload ]
+-- what a report needs of a payload
+needs_so : (kind : Report) (accepted : List FramePlace) (sent : List Sent) → AreMarkedSo accepted sent → (number : ℕ) (s : Sent) → slice_get sent number ≡ Some s → MayServe kind s.text → Needs kind accepted number s.text.bytes
+needs_so Lost accepted sent m number s is serves = tt
+needs_so Acknowledged accepted sent m number s is serves = all_listed accepted sent m number s is serves
 
-  acks_so : (number index : ℕ) (reply : Answer) → AcksFrame old number index reply new
-      → IsFoundSo old.sent number (λ bytes. LacksStream bytes index) (HasUnaccepted p.accepted number index) (HasAccepted p.accepted number index) reply
-  acks_so number index (Ok reply) k = record { payload = k.payload.sent; is = k.payload.is; are = ((k.at.stream, k.at.at), m.listed number index k.payload.sent k.payload.is k.accepted) }
-  acks_so number index (Err NoSuchPayload) k = k.0
-  acks_so number index (Err NoSuchFrame) k = record { payload = k.payload.sent; is = k.payload.is; are = k.why }
-  acks_so number index (Err NotAccepted) k = record {
-    payload = k.payload.sent;
-    is = k.payload.is;
-    are = ((k.why.at.stream, k.why.at.at), unmarked_so p.accepted old.sent m number k.payload.sent k.payload.is index k.why.refused);
+misses_so : (kind : Report) (accepted : List FramePlace) (sent : List Sent) → AreMarkedSo accepted sent → (number : ℕ) (s : Sent) → slice_get sent number ≡ Some s → (all : List Frame) → AreFrames s.text.bytes all → needs_acceptance kind ≡ true → LacksAccepted s.text → Misses kind accepted number s.text.bytes
+misses_so Lost accepted sent m number s is all spelled needs lacks = cc
+misses_so Acknowledged accepted sent m number s is all spelled needs lacks = one_unlisted accepted sent m number s is all spelled lacks
+
+module _ (p : Past) (old new : PairState) (t : AreSpelled old.sent) (m : AreMarkedSo p.accepted old.sent) (u : AreSettledSo p.settled p.begun old.sent) (number : ℕ) (kind : Report) (At : EndState → SentView → Result (Unit {0}) SentView → EndState → Type 0) where
+  served_report : (reply : Answer) → Reports kind At old number reply new → IsServedSo p old.sent number kind
+  served_report reply k = record {
+    unsettled = unsettled-for p old.sent u number k.payload.sent k.payload.is kind k.may;
+    has = record { payload = k.payload.sent; is = k.payload.is; are = needs_so kind p.accepted old.sent m number k.payload.sent k.payload.is k.serves };
   }
-  acks_so number index (Err UnknownId) k = absurd (served-ack (Err UnknownId) k tt)
-  acks_so number index (Err NoMemory) k = elim k [ inl w ↦ on_sent w.0 | inr t ↦ on_sent t.payload ]
 
-  loses_control_so : (number : ℕ) (reply : Answer) → LosesControl old number reply new → IsFoundSo old.sent number Never Never Always reply
-  loses_control_so number (Ok Done) k = record { payload = k.payload.sent; is = k.payload.is; are = tt }
-  loses_control_so number (Err NoSuchPayload) k = k.0
-  loses_control_so number (Err NoMemory) k = on_sent k.0
-  loses_control_so number _ k = absurd k
-
-  acks_control_so : AreSpelled old.sent → (number : ℕ) (reply : Answer) → AcksControl old number reply new
-      → IsFoundSo old.sent number Never (HasOneUnaccepted p.accepted number) (HasAllAccepted p.accepted number) reply
-  acks_control_so t number (Ok Done) k = record { payload = k.payload.sent; is = k.payload.is; are = all_listed p.accepted old.sent m number k.payload.sent k.payload.is k.ids k.accepted }
-  acks_control_so t number (Err NoSuchPayload) k = k.0
-  acks_control_so t number (Err NoSuchFrame) k = let spelled = t number k.payload.sent k.payload.is in absurd (k.why spelled.0 spelled.1)
-  acks_control_so t number (Err NotAccepted) k = record { payload = k.payload.sent; is = k.payload.is; are = one_unlisted p.accepted old.sent m number k.payload.sent k.payload.is k.why }
-  acks_control_so t number (Err NoMemory) k = elim k [ inl w ↦ on_sent w.0 | inr part ↦ on_sent part.payload ]
-  acks_control_so t number _ k = absurd k
+  settles_so : (reply : Answer) → Settles kind At old number reply new → IsReportedSo p old.sent number kind reply
+  settles_so (Ok Done) k = served_report (Ok Done) k
+  settles_so (Err NoMemory) k = served_report (Err NoMemory) k
+  settles_so (Err NoSuchPayload) k = k.0
+  settles_so (Err AlreadySettled) k = record { settled = settled-for p old.sent u number k.payload.sent k.payload.is kind k.why; there = on_sent k.payload }
+  settles_so (Err NotAccepted) k =
+      let spelled = t number k.payload.sent k.payload.is in
+      record {
+        unsettled = unsettled-for p old.sent u number k.payload.sent k.payload.is kind k.why.0;
+        misses = record { payload = k.payload.sent; is = k.payload.is; are = misses_so kind p.accepted old.sent m number k.payload.sent k.payload.is spelled.0 spelled.1 k.why.1 k.why.2 };
+      }
+  settles_so _ k = absurd k
 
 -- ---- all steps
 
@@ -129,28 +126,26 @@ module _ (p : Past) (old new : PairState) (m : AreMarkedSo p.accepted old.sent) 
 spelled-from : {a b : Config} {h : History} {v : PairState} → From a b h v → AreSpelled v.sent
 spelled-from f number s is = let honest = honest-from f number s is in (honest.all, honest.spelled)
 
-refused_by : (p : Past) (old new : PairState) (step : Step) (reply : Answer) → AreSpelled old.sent → AreMarkedSo p.accepted old.sent → ((who : End) → AreKnown old p who) → Next old step reply new → IsRefusedSo p old.sent step reply
-refused_by p old new (steps.Open who dir) reply t m k n = served_so old new who reply n (λ e f d. served-opens d)
-refused_by p old new (steps.Accept who dir) reply t m k n = served_so old new who reply n (λ e f d. served-accepts d)
-refused_by p old new (steps.Write who id bytes) reply t m k n = known_so old new p who (k who) id reply n (λ e f d. served-writes d)
-refused_by p old new (steps.WriteChunks who id chunks) reply t m k n = known_so old new p who (k who) id reply n (λ e f d. served-chunks d)
-refused_by p old new (steps.Finish who id) reply t m k n = known_so old new p who (k who) id reply n (λ e f d. served-finishes d)
-refused_by p old new (steps.Reset who id code) reply t m k n = known_so old new p who (k who) id reply n (λ e f d. served-resets d)
-refused_by p old new (steps.Stop who id code) reply t m k n = known_so old new p who (k who) id reply n (λ e f d. served-stops d)
-refused_by p old new (steps.SetPriority who id priority) reply t m k n = known_so old new p who (k who) id reply n (λ e f d. served-priority d)
-refused_by p old new (steps.Read who id ordered most times) reply t m k n = known_so old new p who (k who) id reply n (λ e f d. served-reads d)
-refused_by p old new (steps.ReceivedReset who id) reply t m k n = known_so old new p who (k who) id reply n (λ e f d. served-asks d)
-refused_by p old new (steps.SetSendWindow who window) reply t m k n = served_so old new who reply n (λ e f d. served-set reply d.0)
-refused_by p old new (steps.SetReceiveWindow who window) reply t m k n = served_so old new who reply n (λ e f d. served-receive-window d)
-refused_by p old new (steps.SetMaxConcurrent who dir count) reply t m k n = served_so old new who reply n (λ e f d. served-max-concurrent d)
-refused_by p old new (steps.Poll who) reply t m k n = served_so old new who reply n (λ e f d. served-polls d)
-refused_by p old new (steps.Emit who most fair) reply t m k n = served-emitted old new who most fair reply n
-refused_by p old new (steps.Deliver number index) reply t m k n = delivers_so p old new m number index reply n
-refused_by p old new (steps.LoseStream number index) reply t m k n = loses_so p old new m number index reply n
-refused_by p old new (steps.AckStream number index) reply t m k n = acks_so p old new m number index reply n
-refused_by p old new (steps.LoseControl number) reply t m k n = loses_control_so p old new m number reply n
-refused_by p old new (steps.AckControl number) reply t m k n = acks_control_so p old new m t number reply n
+refused_by : (p : Past) (old new : PairState) (step : Step) (reply : Answer) → AreSpelled old.sent → AreMarkedSo p.accepted old.sent → AreSettledSo p.settled p.begun old.sent → ((who : End) → AreKnown old p who) → Next old step reply new → IsRefusedSo p old.sent step reply
+refused_by p old new (steps.Open who dir) reply t m u k n = served_so old new who reply n (λ e f d. served-opens d)
+refused_by p old new (steps.Accept who dir) reply t m u k n = served_so old new who reply n (λ e f d. served-accepts d)
+refused_by p old new (steps.Write who id bytes) reply t m u k n = known_so old new p who (k who) id reply n (λ e f d. served-writes d)
+refused_by p old new (steps.WriteChunks who id chunks) reply t m u k n = known_so old new p who (k who) id reply n (λ e f d. served-chunks d)
+refused_by p old new (steps.Finish who id) reply t m u k n = known_so old new p who (k who) id reply n (λ e f d. served-finishes d)
+refused_by p old new (steps.Reset who id code) reply t m u k n = known_so old new p who (k who) id reply n (λ e f d. served-resets d)
+refused_by p old new (steps.Stop who id code) reply t m u k n = known_so old new p who (k who) id reply n (λ e f d. served-stops d)
+refused_by p old new (steps.SetPriority who id priority) reply t m u k n = known_so old new p who (k who) id reply n (λ e f d. served-priority d)
+refused_by p old new (steps.Read who id ordered most times) reply t m u k n = known_so old new p who (k who) id reply n (λ e f d. served-reads d)
+refused_by p old new (steps.ReceivedReset who id) reply t m u k n = known_so old new p who (k who) id reply n (λ e f d. served-asks d)
+refused_by p old new (steps.SetSendWindow who window) reply t m u k n = served_so old new who reply n (λ e f d. served-set reply d.0)
+refused_by p old new (steps.SetReceiveWindow who window) reply t m u k n = served_so old new who reply n (λ e f d. served-receive-window d)
+refused_by p old new (steps.SetMaxConcurrent who dir count) reply t m u k n = served_so old new who reply n (λ e f d. served-max-concurrent d)
+refused_by p old new (steps.Poll who) reply t m u k n = served_so old new who reply n (λ e f d. served-polls d)
+refused_by p old new (steps.Emit who most fair) reply t m u k n = served-emitted old new who most fair reply n
+refused_by p old new (steps.Deliver number index) reply t m u k n = delivers_so old new number index reply n
+refused_by p old new (steps.Lose number) reply t m u k n = settles_so p old new t m u number Lost LosesPayloadAt reply n
+refused_by p old new (steps.Ack number) reply t m u k n = settles_so p old new t m u number Acknowledged AcksPayloadAt reply n
 
 -- whatever steps led to a pair, the next one is refused exactly so
 pub refused-so : (a b : Config) (h : History) (old new : PairState) (step : Step) (reply : Answer) → From a b h old → Next old step reply new → IsRefusedSo (past_of h) old.sent step reply
-refused-so a b h old new step reply f n = refused_by (past_of h) old new step reply (spelled-from f) (marks-from f) (known-from f) n
+refused-so a b h old new step reply f n = refused_by (past_of h) old new step reply (spelled-from f) (marks-from f) (settled-from f) (known-from f) n

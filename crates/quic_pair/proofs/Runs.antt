@@ -74,4 +74,4 @@ each-asks a b h old _ _ f (more {taken} {between} {new} step reply run n each) =
 pub each-permits : (a b : Config) (h : History) (old : PairState) (taken : History) (new : PairState) → From a b h old → TakesSteps old taken new → StepByStep (WithholdsNone a b h) old taken new
 each-permits a b h old _ _ f none = none
 each-permits a b h old _ _ f (more {taken} {between} {new} step reply run n each) =
-    more step reply (each-permits a b h old taken between f run) n (not-withheld a b (h ++ taken) between new step reply (from-steps f run) n)
+    more step reply (each-permits a b h old taken between f run) n (λ led. not-withheld a b (h ++ taken) between new step reply led n)

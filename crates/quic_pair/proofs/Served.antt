@@ -17,17 +17,21 @@ use Rattle.quic_receiving.specs.declared.errors.ReadableError.TheVariants as rea
 use Rattle.quic_receiving.specs.declared.transmit.ShouldTransmit.{ShouldTransmit}
 use Rattle.quic_history.specs.Permitting.{acceptable}
 use Rattle.quic_streams.specs.declared.batches.ReadSome.{ReadSome}
+use Rattle.quic_streams.specs.Settling.{SentView}
 use Rattle.quic_endpoint.specs.Ends.{EndState}
+use Rattle.quic_endpoint.specs.Reports.{LosesPayloadAt, AcksPayloadAt}
 use Rattle.quic_steps.specs.declared.steps.End.{End}
 use Rattle.quic_steps.specs.declared.steps.End.TheVariants.{A, B}
 use Rattle.quic_steps.specs.declared.steps.Step.{Step}
 use Rattle.quic_steps.specs.declared.steps.Step.TheVariants as steps
 use Rattle.quic_steps.specs.declared.steps.Reply.TheVariants.{Done, Expanded, Payload}
-use Rattle.quic_steps.specs.declared.steps.PairError.TheVariants.{NoSuchPayload, NoSuchFrame, NotAccepted, OutOfMemory as NoMemory}
+use Rattle.quic_steps.specs.declared.steps.PairError.TheVariants.{NoSuchPayload, NoSuchFrame, NotAccepted, AlreadySettled, OutOfMemory as NoMemory}
+use Rattle.quic_pair.specs.declared.unsettled.Report.{Report}
+use Rattle.quic_pair.specs.declared.unsettled.Report.TheVariants.{Lost, Acknowledged}
 use Rattle.quic_pair.specs.Replies.{Answer, wants_memory, accepted_reply, opened_reply, unwritten_reply, written_reply, chunks_reply, unfinished_reply, finished_reply, unhandled_reply, handled_reply, code_reply, unread_reply, read_reply, event_reply, done_reply, received_reply}
 use Rattle.quic_pair.specs.State.{PairState, OnEnd, the_end, with_end}
 use Rattle.quic_pair.specs.Calls.{Opens, Accepts, OnGiven, Writes, WritesChunksOrNone, Finishes, ResetsOn, StopsOn, SetsPriorityOn, AsksReset, ReadsOn, SetsReceiveWindow, SetsMaxConcurrent, Polls}
-use Rattle.quic_pair.specs.Steps.{Next, Emitted, HandsOver, Delivers, ReportsLoss, LosesFrame, ReportsAck, AcksFrame, LosesControl, AcksControl}
+use Rattle.quic_pair.specs.Steps.{Next, Emitted, HandsOver, Delivers, Settles}
 use Rattle.quic_pair.specs.Refused.{IsRefused, IsTaken}
 
 -- ---- replies
@@ -159,12 +163,6 @@ module _ {old new : PairState} where
   pub served-hands : {number index : ℕ} (reply : Answer) → HandsOver old number index reply new → IsTaken reply
   served-hands reply k = served_at reply (received_reply k.answer) k.reply_is (served-received k.answer)
 
-  pub served-loss : {number index : ℕ} (reply : Answer) → ReportsLoss old number index reply new → IsTaken reply
-  served-loss reply k = served_at reply (done_reply k.answer) k.reply_is (served-done k.answer)
-
-  pub served-ack : {number index : ℕ} (reply : Answer) → ReportsAck old number index reply new → IsTaken reply
-  served-ack reply k = served_at reply (done_reply k.answer) k.reply_is (served-done k.answer)
-
 -- ---- a step that is refused leaves the pair as it was
 
 end_kept : (v : PairState) (who : End) → with_end v who (the_end v who) ≡ v
@@ -190,32 +188,13 @@ module _ (old new : PairState) where
   delivers_stay number index (Err NoMemory) r k = absurd r
   delivers_stay number index reply r k = absurd (served-hands reply k r)
 
-  loses_stay : (number index : ℕ) (reply : Answer) → IsRefused reply → LosesFrame old number index reply new → new ≡ old
-  loses_stay number index (Err NoSuchPayload) r k = k.1
-  loses_stay number index (Err NoSuchFrame) r k = k.is
-  loses_stay number index (Err NoMemory) r k = absurd r
-  loses_stay number index reply r k = absurd (served-loss reply k r)
-
-  acks_stay : (number index : ℕ) (reply : Answer) → IsRefused reply → AcksFrame old number index reply new → new ≡ old
-  acks_stay number index (Err NoSuchPayload) r k = k.1
-  acks_stay number index (Err NoSuchFrame) r k = k.is
-  acks_stay number index (Err NotAccepted) r k = k.is
-  acks_stay number index (Err NoMemory) r k = absurd r
-  acks_stay number index reply r k = absurd (served-ack reply k r)
-
-  loses_control_stay : (number : ℕ) (reply : Answer) → IsRefused reply → LosesControl old number reply new → new ≡ old
-  loses_control_stay number (Ok Done) r k = absurd r
-  loses_control_stay number (Err NoSuchPayload) r k = k.1
-  loses_control_stay number (Err NoMemory) r k = absurd r
-  loses_control_stay number _ r k = absurd k
-
-  acks_control_stay : (number : ℕ) (reply : Answer) → IsRefused reply → AcksControl old number reply new → new ≡ old
-  acks_control_stay number (Ok Done) r k = absurd r
-  acks_control_stay number (Err NoSuchPayload) r k = k.1
-  acks_control_stay number (Err NoSuchFrame) r k = k.is
-  acks_control_stay number (Err NotAccepted) r k = k.is
-  acks_control_stay number (Err NoMemory) r k = absurd r
-  acks_control_stay number _ r k = absurd k
+  settles_stay : (number : ℕ) (kind : Report) (At : EndState → SentView → Result (Unit {0}) SentView → EndState → Type 0) (reply : Answer) → IsRefused reply → Settles kind At old number reply new → new ≡ old
+  settles_stay number kind At (Ok Done) r k = absurd r
+  settles_stay number kind At (Err NoMemory) r k = absurd r
+  settles_stay number kind At (Err NoSuchPayload) r k = k.1
+  settles_stay number kind At (Err AlreadySettled) r k = k.is
+  settles_stay number kind At (Err NotAccepted) r k = k.is
+  settles_stay number kind At _ r k = absurd k
 
   pub refused-stays : (step : Step) (reply : Answer) → Next old step reply new → IsRefused reply → new ≡ old
   refused-stays (steps.Open who dir) reply n r = served_stays old new reply r who n (λ e f k. served-opens k)
@@ -234,7 +213,5 @@ module _ (old new : PairState) where
   refused-stays (steps.Poll who) reply n r = served_stays old new reply r who n (λ e f k. served-polls k)
   refused-stays (steps.Emit who most fair) reply n r = absurd (served-emitted old new who most fair reply n r)
   refused-stays (steps.Deliver number index) reply n r = delivers_stay number index reply r n
-  refused-stays (steps.LoseStream number index) reply n r = loses_stay number index reply r n
-  refused-stays (steps.AckStream number index) reply n r = acks_stay number index reply r n
-  refused-stays (steps.LoseControl number) reply n r = loses_control_stay number reply r n
-  refused-stays (steps.AckControl number) reply n r = acks_control_stay number reply r n
+  refused-stays (steps.Lose number) reply n r = settles_stay number Lost LosesPayloadAt reply r n
+  refused-stays (steps.Ack number) reply n r = settles_stay number Acknowledged AcksPayloadAt reply r n

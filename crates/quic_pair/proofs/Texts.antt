@@ -1,16 +1,15 @@
 -- Frames at their places, and the marks with which they are marked.
-use Rattle.std.proofs.Common.{◌≡◌, ◌⊎◌, ℕ, List, [], Bool, false, Option, Some, None, ap, sym, subst, ◌∙◌, inl, inr, arith, length, ◌≤◌}
+use Rattle.std.proofs.Common.{◌≡◌, ◌⊎◌, ℕ, List, [], ◌∷◌, Bool, false, Option, Some, None, refl, ap, sym, subst, ◌∙◌, inl, inr, arith, length, ◌≤◌}
 use Rattle.std.specs.Prelude.{All, slice_get, replicate}
 use Rattle.std.specs.Global.{Vec}
 use Rattle.std.proofs.lemmas.Option.{slice_get_within, get_or_from_slice_get}
 use Rattle.std.proofs.lemmas.List.{length-replicate}
 use Rattle.quic_wire.specs.declared.frame.Frame.{Frame}
 use Rattle.quic_wire.specs.declared.frame.Frame.TheVariants as frames
-use Rattle.quic_wire.specs.declared.frame.StreamMeta.{StreamMeta}
-use Rattle.quic_wire.specs.Frames.{IsFrameWithin}
+use Rattle.quic_wire.specs.Frames.{AreFrames, IsFrameWithin}
 use Rattle.quic_wire.proofs.Joins.{same}
 use Rattle.quic_endpoint.specs.Receiving.{data_length}
-use Rattle.quic_pair.specs.Payloads.{AreRead, AreMarks, IsFrameAt, IsStreamAt, LacksFrame, LacksStream, IsReadyToMark, AreFreshMarks, IsStreamOf, LacksStreamOf}
+use Rattle.quic_pair.specs.Payloads.{AreRead, AreMarks, IsFrameAt, LacksFrame, IsReadyToMark, AreFreshMarks, SentText, AreAllAccepted}
 
 -- what holds of all holds of one
 pub all-at : {X : Type 0} (P : X → Type 0) (xs : List X) (n : ℕ) (x : X) → All P xs → slice_get xs n ≡ Some x → P x
@@ -33,14 +32,6 @@ module _ (bytes : List ℕ) (all : List Frame) (r : AreRead bytes all) where
   pub are-marks : (marks : List Bool) → length marks ≡ length all → AreMarks bytes marks
   are-marks marks h other s = let e = ap length (same bytes other all s r.spelled) in omega (arith, e, h)
 
-  pub stream-there : (index : ℕ) (meta : StreamMeta) → IsStreamOf all index meta → IsStreamAt bytes index meta
-  stream-there index meta h = record { stream = h.0; at = frame-there index (frames.Stream h.0) h.1; meta_is = h.2 }
-
-  pub lacks-stream : (index : ℕ) → LacksStreamOf all index → LacksStream bytes index
-  lacks-stream index h stream at =
-      let e : at.all ≡ all = same bytes at.all all at.spelled r.spelled in
-      h stream (ap (λ l. slice_get l index) (sym e) ∙ at.at)
-
   pub ready-so : (accepted : List Bool) (index : ℕ) (f : Frame) (marks : Option (Vec Bool)) → slice_get all index ≡ Some f → (accepted ≡ []) ⊎ AreMarks bytes accepted → AreFreshMarks accepted (length all) marks
       → IsReadyToMark (record { bytes = bytes; accepted = accepted }) index marks
   ready-so accepted index f None h (inl e) fresh = let z = ap length e in absurd (omega (arith, z, fresh))
@@ -49,3 +40,20 @@ module _ (bytes : List ℕ) (all : List Frame) (r : AreRead bytes all) where
       let n : length marks.items ≡ length all = ap length fresh.1 ∙ length-replicate (length all) false in
       let w = slice_get_within all index f h in
       (fresh.0, omega (arith, n, w), fresh.1 ∙ ap (λ m. replicate m false) (sym n), are-marks marks.items n)
+
+-- ---- whether every frame was accepted
+
+-- no bytes spell no frames
+none_spelled : (all : List Frame) → AreFrames [] all → all ≡ []
+none_spelled all spelled = same [] all [] spelled refl
+
+pub empty-list : {X : Type 0} (xs : List X) → length xs ≡ 0 → xs ≡ []
+empty-list [] e = refl
+empty-list (x ∷ xs) e = absurd (omega (arith, e))
+
+-- a payload without frames may be acknowledged at once
+pub empty-accepted : (s : SentText) → s.bytes ≡ [] → AreAllAccepted s
+empty-accepted s e all spelled index within =
+    let P : List ℕ → Type 0 = λ b. AreFrames b all in
+    let z = ap length (none_spelled all (subst P e spelled)) in
+    absurd (omega (arith, z, within))

@@ -34,7 +34,7 @@ use Rattle.quic_pair.proofs.Joined.{Seen, Joined}
 use Rattle.quic_pair.proofs.KeptFrames.{kept_in, count-kept}
 use Rattle.quic_pair.proofs.Flips.{peer-peer, seen-as}
 use Rattle.quic_pair.proofs.CallsSeen.{step-at}
-use Rattle.quic_pair.proofs.ReportsStreams.{frame-wrote}
+use Rattle.quic_pair.proofs.Reports.{frame-wrote}
 use Rattle.quic_pair.proofs.Grown.{joined-from}
 
 true_false : (b : Bool) → b ≡ true → b ≡ false → ⊥

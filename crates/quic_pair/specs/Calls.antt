@@ -1,5 +1,5 @@
 -- What a step does to the end that takes it.
-use Rattle.std.specs.Prelude.{ℕ, ℤ, Bool, true, false, nat_lt, ◌≡◌, ◌⊎◌, List, [], ◌∷◌, ◌++◌, Option, Result, Ok, Err}
+use Rattle.std.specs.Prelude.{ℕ, ℤ, Bool, true, false, nat_lt, ◌≡◌, ◌⊎◌, List, Option, Result, Ok, Err}
 use Rattle.quic_values.specs.declared.memory.OutOfMemory.{OutOfMemory}
 use Rattle.quic_values.specs.declared.ids.Dir.{Dir}
 use Rattle.quic_wire.specs.declared.event.StreamEvent.{StreamEvent}
@@ -14,7 +14,6 @@ use Rattle.quic_history.specs.Permitting.{with_accepted, acceptable}
 use Rattle.quic_history.specs.Acknowledged.{was_given}
 use Rattle.quic_limits.specs.SendingCredit.{with_window}
 use Rattle.quic_endpoint.specs.Ends.{EndState, with_world, with_window_set, OpensAt, WritesAt, FinishesAt, ResetsAt, SetsPriorityAt, StopsReading, TellsResetAt, ReadsAt, RefusesRead, SetsConcurrentAt}
-use Rattle.quic_endpoint.specs.Reports.{AcksResetAt}
 use Rattle.quic_steps.specs.declared.steps.PairError.TheVariants.{UnknownId}
 use Rattle.quic_steps.specs.declared.steps.Reply.TheVariants.{Done, Expanded}
 use Rattle.quic_pair.specs.Replies.{Answer, wants_memory, accepted_reply, opened_reply, written_reply, chunks_reply, finished_reply, handled_reply, code_reply, read_reply, event_reply, done_reply}
@@ -114,18 +113,3 @@ pub record Polls (e : EndState) (reply : Answer) (f : EndState) : Type 0 where
   pub polls : TellsNext e.streams event f.streams
   pub pending : f.pending ≡ e.pending
   pub reply_is : reply ≡ event_reply event
-
--- resets of some streams are acknowledged, one after another
-pub data AcksResets : EndState → List ℕ → EndState → Type 0 where
-  none : {e : EndState} → AcksResets e [] e
-  more : {e f g : EndState} {ids : List ℕ} (id : ℕ) → AcksResets e ids f → AcksResetAt f id (Ok tt) g → AcksResets e (ids ++ id ∷ []) g
-
--- the first of them, up to one for which memory was wanting
-pub record AcksSome (e : EndState) (ids : List ℕ) (f : EndState) : Type 0 where
-  pub first : List ℕ
-  pub id : ℕ
-  pub rest : List ℕ
-  pub all : ids ≡ first ++ id ∷ rest
-  pub between : EndState
-  pub acks : AcksResets e first between
-  pub refused : AcksResetAt between id (Err (record {})) f

@@ -13,8 +13,7 @@ use Rattle.quic_limits.specs.SendingCredit.{writable}
 use Rattle.quic_outgoing.specs.Outgoing.{Outgoing, own_of}
 use Rattle.quic_queue.specs.SendOrder.{line}
 use Rattle.quic_receiving.specs.Half.{Half}
-use Rattle.quic_retransmits.specs.Pending.{Pending}
-use Rattle.quic_retransmits.specs.Settling.{noted_in}
+use Rattle.quic_retransmits.specs.Pending.{Pending, nothing}
 use Rattle.quic_history.specs.Control.{HasNoneOf, kind_bound}
 use Rattle.quic_history.specs.declared.control.ControlKind.{ControlKind}
 use Rattle.quic_history.specs.Halves.{is_due_in}
@@ -26,7 +25,7 @@ use Rattle.quic_steps.specs.declared.steps.Step.{Step}
 use Rattle.quic_steps.specs.declared.steps.Step.TheVariants as steps
 use Rattle.quic_steps.specs.declared.steps.Reply.TheVariants.{Done, Nothing, Wrote, WroteChunks, Blocked, Read, Expanded, Payload}
 use Rattle.quic_pair.specs.declared.sent.Sent.{Sent}
-use Rattle.quic_pair.specs.Payloads.{is_control}
+use Rattle.quic_pair.specs.Payloads.{is_control, noted_of}
 use Rattle.quic_pair.specs.Replies.{Answer}
 use Rattle.quic_pair.specs.State.{PairState, peer, the_end}
 use Rattle.quic_pair.specs.Steps.{HasPayload}
@@ -87,7 +86,6 @@ AsksForReset id code _ f = Unit {0}
 pub record AsksStop (e : EndState) (id code : ℕ) (f : EndState) : Type 0 where
   pub stop : (h : Half) → e.streams.receive id ≡ Some h → h.reset ≡ None → IsOneOf (record { id = id; error_code = code }) f.pending.stop_sending
   pub limit : AsksData f
-  pub counts : AsksStreams f
 
 abbrev pub AsksStopIf : EndState → ℕ → ℕ → Answer → EndState → Type 0
 AsksStopIf e id code (Ok Done) f = AsksStop e id code f
@@ -100,10 +98,10 @@ AsksWindowIf (last.Reset code) f id = Unit {0}
 AsksWindowIf _ f id = AsksWindow f id
 
 abbrev pub AsksAfterRead : ℕ → Answer → EndState → Type 0
-AsksAfterRead id (Ok (Read chunks last transmit)) f = AsksWindowIf last f id × AsksData f × AsksStreams f
+AsksAfterRead id (Ok (Read chunks last transmit)) f = AsksWindowIf last f id × AsksData f
 AsksAfterRead id _ f = Unit {0}
 
--- counts of streams that are due are, after another answer
+-- counts of streams that are due are, whatever the answer is, unless the step was refused or memory was wanting
 abbrev pub AsksStreamsIf : Answer → EndState → Type 0
 AsksStreamsIf (Ok reply) f = AsksStreams f
 AsksStreamsIf (Err error) f = Unit {0}
@@ -143,6 +141,10 @@ pub record AsksAfterFrame (e f : EndState) : Type 0 where
   pub counts : AsksStreams f
   pub limit : e.streams.credit.local_max_data < f.streams.credit.local_max_data → AsksData f
 
+-- what was noted of the frames of a payload that was lost is to be sent again: of those that its bytes spell
+abbrev pub AsksAgain : List ℕ → EndState → Type 0
+AsksAgain bytes f = (all : List Frame) → AreFrames bytes all → AsksAllOf (noted_of nothing all) f.pending
+
 -- something holds of the writer of a payload, if a step on it was served
 abbrev pub OnWriter : PairState → ℕ → (Sent → Type 0) → Answer → Type 0
 OnWriter old number Holds (Ok reply) = (payload : HasPayload old number) → Holds payload.sent
@@ -156,14 +158,13 @@ AsksFor old (steps.Open who dir) reply new = OpensAll (the_end old who).streams.
 AsksFor old (steps.Write who id bytes) reply new = WritesAll (the_end old who).streams.out id (length bytes) reply
 AsksFor old (steps.WriteChunks who id chunks) reply new = WritesAll (the_end old who).streams.out id (length (concat chunks)) reply
 AsksFor old (steps.Reset who id code) reply new = AsksForReset id code reply (the_end new who)
-AsksFor old (steps.Stop who id code) reply new = AsksStopIf (the_end old who) id code reply (the_end new who)
-AsksFor old (steps.Read who id ordered most times) reply new = AsksAfterRead id reply (the_end new who)
+AsksFor old (steps.Stop who id code) reply new = AsksStopIf (the_end old who) id code reply (the_end new who) × AsksStreamsIf reply (the_end new who)
+AsksFor old (steps.Read who id ordered most times) reply new = AsksAfterRead id reply (the_end new who) × AsksStreamsIf reply (the_end new who)
 AsksFor old (steps.ReceivedReset who id) reply new = AsksStreamsIf reply (the_end new who)
 AsksFor old (steps.SetReceiveWindow who window) reply new = AsksLarger reply (the_end new who)
 AsksFor old (steps.SetMaxConcurrent who dir count) reply new = AsksStreamsIf reply (the_end new who)
 AsksFor old (steps.Emit who most fair) reply new = IsFullIf most reply (the_end new who)
 AsksFor old (steps.Deliver number index) reply new = OnWriter old number (λ s. AsksAfterFrame (the_end old (peer s.writer)) (the_end new (peer s.writer))) reply
-AsksFor old (steps.AckStream number index) reply new = OnWriter old number (λ s. AsksStreams (the_end new s.writer)) reply
-AsksFor old (steps.LoseControl number) reply new = OnWriter old number (λ s. AsksAllOf (noted_in s.control) (the_end new s.writer).pending) reply
-AsksFor old (steps.AckControl number) reply new = OnWriter old number (λ s. (new ≡ old) ⊎ AsksStreams (the_end new s.writer)) reply
+AsksFor old (steps.Lose number) reply new = OnWriter old number (λ s. AsksAgain s.text.bytes (the_end new s.writer)) reply
+AsksFor old (steps.Ack number) reply new = OnWriter old number (λ s. AsksStreams (the_end new s.writer)) reply
 AsksFor old _ reply new = Unit {0}

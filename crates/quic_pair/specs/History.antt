@@ -1,5 +1,5 @@
 -- The steps of a pair with their replies, the first one first, and what a caller knows from them.
-use Rattle.std.specs.Prelude.{ℕ, Bool, true, false, ◌==◌, ◌&&◌, if◌then◌else◌, List, [], ◌∷◌, ◌++◌, Ok, take}
+use Rattle.std.specs.Prelude.{ℕ, Bool, true, false, ◌==◌, ◌&&◌, if◌then◌else◌, List, [], ◌∷◌, ◌++◌, Ok, Err, take}
 use Rattle.std.specs.List.{concat}
 use Rattle.quic_assembler.specs.declared.chunk.Chunk.{Chunk}
 use Rattle.quic_wire.specs.declared.event.StreamEvent.{StreamEvent}
@@ -13,9 +13,12 @@ use Rattle.quic_steps.specs.declared.steps.End.TheVariants.{A, B}
 use Rattle.quic_steps.specs.declared.steps.Step.{Step}
 use Rattle.quic_steps.specs.declared.steps.Step.TheVariants as steps
 use Rattle.quic_steps.specs.declared.steps.Reply.TheVariants.{Done, DoneTransmit, Fault, Id, Wrote, WroteChunks, Stopped, Read, Code, Event}
+use Rattle.quic_steps.specs.declared.steps.PairError.TheVariants.{OutOfMemory as NoMemory}
 use Rattle.quic_steps.specs.declared.steps.Last.{Last}
 use Rattle.quic_steps.specs.declared.steps.Last.TheVariants as last
 use Rattle.quic_pair.specs.Replies.{Answer}
+use Rattle.quic_pair.specs.declared.unsettled.Report.{Report}
+use Rattle.quic_pair.specs.declared.unsettled.Report.TheVariants.{Lost, Acknowledged}
 use Rattle.quic_pair.specs.State.{peer}
 
 -- a step with its reply
@@ -61,15 +64,19 @@ no_flow = record { written = []; finished = false; resets = []; stops = []; give
 -- flow: of each end as it writes, and of each stream
 -- accepted: the frames of which a delivery was answered Ok, one for each such delivery, the last first
 -- kept: those of which a delivery was kept: there were too many pieces, or no memory to compact them, or it was answered Ok
+-- settled: the payloads of which a report was answered Ok, the last first
+-- begun: those of which a report was begun, for the rest of which memory was wanting, one for each such report
 pub record Past : Type 0 where
   pub ids : End → List ℕ
   pub flow : End → ℕ → Flow
   pub accepted : List FramePlace
   pub kept : List FramePlace
+  pub settled : List ℕ
+  pub begun : List (ℕ × Report)
 
 -- what is known before the first step
 abbrev pub nothing_yet : Past
-nothing_yet = record { ids = λ who. []; flow = λ who id. no_flow; accepted = []; kept = [] }
+nothing_yet = record { ids = λ who. []; flow = λ who id. no_flow; accepted = []; kept = []; settled = []; begun = [] }
 
 -- whether two ends are one
 abbrev pub is_same_end : End → End → Bool
@@ -203,6 +210,12 @@ after_deliver p at (Ok DoneTransmit) = accepts_frame at p
 after_deliver p at (Ok (Fault fault)) = keeps_frame at (is_kept_by fault) p
 after_deliver p at _ = p
 
+-- after a report of a payload
+abbrev pub after_report : Past → ℕ → Report → Answer → Past
+after_report p number kind (Ok Done) = record p { settled = number ∷ p.settled }
+after_report p number kind (Err NoMemory) = record p { begun = (number, kind) ∷ p.begun }
+after_report p number kind _ = p
+
 -- what is known after one more step
 abbrev pub after : Past → Step → Answer → Past
 after p (steps.Open who dir) reply = after_given p who reply
@@ -216,6 +229,8 @@ after p (steps.Read who id ordered most times) reply = past_read p who id ordere
 after p (steps.ReceivedReset who id) reply = past_code p who id reply
 after p (steps.Poll who) reply = after_poll p who reply
 after p (steps.Deliver number index) reply = after_deliver p (number, index) reply
+after p (steps.Lose number) reply = after_report p number Lost reply
+after p (steps.Ack number) reply = after_report p number Acknowledged reply
 after p _ reply = p
 
 -- what is known after these steps, and what was known before

@@ -10,9 +10,11 @@ pub mod Places
 pub mod Readable
 pub mod Refused
 pub mod Replies
+pub mod Reports
 pub mod Runs
 pub mod State
 pub mod Steps
 pub mod Tale
 pub mod Unrefused
+pub mod Unsettled
 pub mod Withheld

@@ -4,13 +4,11 @@ use Rattle.std.specs.Global.{Vec}
 use Rattle.quic_wire.specs.declared.error.ReceiveError.{ReceiveError}
 use Rattle.quic_receiving.specs.declared.transmit.ShouldTransmit.{ShouldTransmit}
 use Rattle.quic_endpoint.specs.Receiving.{data_length}
-use Rattle.quic_steps.specs.declared.steps.End.{End}
 use Rattle.quic_steps.specs.declared.steps.PairError.{PairError}
 use Rattle.quic_steps.specs.declared.steps.PairError.TheVariants as refusals
 use Rattle.quic_pair.specs.declared.sent.Sent.{Sent}
 use Rattle.quic_pair.specs.declared.places.HandedFrame.{HandedFrame}
-use Rattle.quic_pair.specs.declared.places.SentStream.{SentStream}
-use Rattle.quic_pair.specs.Payloads.{SentText, IsFrameAt, IsStreamAt, IsReadyToMark, IsMarked, IsControlAccepted, is_accepted}
+use Rattle.quic_pair.specs.Payloads.{SentText, IsFrameAt, LacksFrame, IsReadyToMark, IsMarked}
 
 -- the frame at a place of this payload
 pub record IsHandedFrame (whole : Sent) (index : ℕ) (h : HandedFrame) : Type 0 where
@@ -19,12 +17,6 @@ pub record IsHandedFrame (whole : Sent) (index : ℕ) (h : HandedFrame) : Type 0
   pub within : data_length h.frame ≤ h.len
   pub length_is : h.len ≡ length whole.text.bytes
   pub marks : IsReadyToMark whole.text index h.marks
-
--- the STREAM frame there
-pub record IsSentStream (whole : Sent) (index : ℕ) (s : SentStream) : Type 0 where
-  pub writer : s.writer ≡ whole.writer
-  pub at : IsStreamAt whole.text.bytes index s.meta
-  pub accepted : s.accepted ≡ is_accepted whole.text index
 
 -- the frame at a place of a payload
 pub record FindsFrame (sent : List Sent) (payload index : ℕ) (h : HandedFrame) : Type 0 where
@@ -36,43 +28,18 @@ pub record FindsFrame (sent : List Sent) (payload index : ℕ) (h : HandedFrame)
   pub length_is : h.len ≡ length whole.text.bytes
   pub marks : IsReadyToMark whole.text index h.marks
 
--- the STREAM frame there
-pub record FindsStream (sent : List Sent) (payload index : ℕ) (s : SentStream) : Type 0 where
-  pub whole : Sent
-  pub is : slice_get sent payload ≡ Some whole
-  pub writer : s.writer ≡ whole.writer
-  pub at : IsStreamAt whole.text.bytes index s.meta
-  pub accepted : s.accepted ≡ is_accepted whole.text index
-
--- the streams of the RESET_STREAM frames of a payload, of which every frame beside STREAM was accepted
-pub record FindsResets (sent : List Sent) (payload : ℕ) (writer : End) (ids : List ℕ) : Type 0 where
-  pub whole : Sent
-  pub is : slice_get sent payload ≡ Some whole
-  pub writer_is : writer ≡ whole.writer
-  pub accepted : IsControlAccepted whole.text ids
-
 -- a payload with such a text has a number
 pub record HasText (sent : List Sent) (payload : ℕ) (Is : SentText → Type 0) : Type 0 where
   pub whole : Sent
   pub is : slice_get sent payload ≡ Some whole
   pub why : Is whole.text
 
--- whatever its text is
-abbrev pub IsAnyText : SentText → Type 0
-IsAnyText text = Unit {0}
-
--- why nothing was found: there is no such payload, its text lacks that, the text is refused, or memory was wanting to read
--- it
-abbrev pub FailsToFind : List Sent → ℕ → (Lacks Refused : SentText → Type 0) → PairError → Type 0
-FailsToFind sent payload Lacks Refused refusals.NoSuchPayload = length sent ≤ payload
-FailsToFind sent payload Lacks Refused refusals.NoSuchFrame = HasText sent payload Lacks
-FailsToFind sent payload Lacks Refused refusals.NotAccepted = HasText sent payload Refused
-FailsToFind sent payload Lacks Refused refusals.UnknownId = ⊥
-FailsToFind sent payload Lacks Refused refusals.OutOfMemory = HasText sent payload IsAnyText
-
--- for no reason is a text refused
-abbrev pub IsNeverRefused : SentText → Type 0
-IsNeverRefused text = ⊥
+-- why no frame was found: there is no such payload, its text lacks it, or memory was wanting to read it
+abbrev pub FailsToFind : List Sent → ℕ → ℕ → PairError → Type 0
+FailsToFind sent payload index refusals.NoSuchPayload = length sent ≤ payload
+FailsToFind sent payload index refusals.NoSuchFrame = HasText sent payload (λ text. LacksFrame text.bytes index)
+FailsToFind sent payload index refusals.OutOfMemory = HasText sent payload (λ text. Unit {0})
+FailsToFind sent payload index _ = ⊥
 
 -- the frame at a place can be marked with these marks
 pub record IsReadyAt (sent : List Sent) (payload index : ℕ) (marks : Option (Vec Bool)) : Type 0 where

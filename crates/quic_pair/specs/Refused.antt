@@ -1,14 +1,15 @@
 -- When a step is refused, by what a caller knows: the steps before it with their replies, and the payloads that were sent.
-use Rattle.std.specs.Prelude.{ℕ, ◌≡◌, ◌≤◌, true, List, length, slice_get, Some, Ok, Err}
+use Rattle.std.specs.Prelude.{ℕ, ◌≡◌, ◌⊎◌, ◌≤◌, List, length, slice_get, Some, Ok, Err}
 use Rattle.quic_wire.specs.declared.frame.Frame.{Frame}
-use Rattle.quic_wire.specs.declared.frame.Frame.TheVariants as frames
-use Rattle.quic_wire.specs.declared.frame.Stream.{Stream}
 use Rattle.quic_link.specs.Endpoints.{IsOneOf}
 use Rattle.quic_steps.specs.declared.steps.Step.{Step}
 use Rattle.quic_steps.specs.declared.steps.Step.TheVariants as steps
-use Rattle.quic_steps.specs.declared.steps.PairError.TheVariants.{NoSuchPayload, NoSuchFrame, NotAccepted, UnknownId, OutOfMemory as NoMemory}
+use Rattle.quic_steps.specs.declared.steps.PairError.TheVariants.{NoSuchPayload, NoSuchFrame, NotAccepted, UnknownId, AlreadySettled, OutOfMemory as NoMemory}
 use Rattle.quic_pair.specs.declared.sent.Sent.{Sent}
-use Rattle.quic_pair.specs.Payloads.{IsFrameAt, LacksFrame, LacksStream, is_control}
+use Rattle.quic_pair.specs.declared.unsettled.Report.{Report}
+use Rattle.quic_pair.specs.declared.unsettled.Report.TheVariants.{Lost, Acknowledged}
+use Rattle.quic_pair.specs.Unsettled.{other_report}
+use Rattle.quic_pair.specs.Payloads.{IsFrameAt, LacksFrame}
 use Rattle.quic_pair.specs.Replies.{Answer}
 use Rattle.quic_pair.specs.History.{Past, FramePlace}
 
@@ -41,49 +42,65 @@ pub record HasBytes (sent : List Sent) (number : ℕ) (Are : List ℕ → Type 0
 abbrev pub Always : List ℕ → Type 0
 Always bytes = Unit {0}
 
--- there is no such payload, or its bytes lack the frame, or what has to be accepted was not; a step that is served is on
--- bytes that serve it, and one for which memory was wanting on a payload that was sent
-abbrev pub IsFoundSo : List Sent → ℕ → (Lack Await Serve : List ℕ → Type 0) → Answer → Type 0
-IsFoundSo sent number Lack Await Serve (Ok reply) = HasBytes sent number Serve
-IsFoundSo sent number Lack Await Serve (Err NoSuchPayload) = length sent ≤ number
-IsFoundSo sent number Lack Await Serve (Err NoSuchFrame) = HasBytes sent number Lack
-IsFoundSo sent number Lack Await Serve (Err NotAccepted) = HasBytes sent number Await
-IsFoundSo sent number Lack Await Serve (Err UnknownId) = ⊥
-IsFoundSo sent number Lack Await Serve (Err NoMemory) = HasBytes sent number Always
-
--- bytes that are never so
-abbrev pub Never : List ℕ → Type 0
-Never bytes = ⊥
-
 -- a frame stands at a place
 abbrev pub HasFrame : List ℕ → ℕ → Type 0
 HasFrame bytes index = (frame : Frame) × IsFrameAt bytes index frame
 
--- a STREAM frame does
-abbrev pub HasStream : List ℕ → ℕ → Type 0
-HasStream bytes index = (stream : Stream) × IsFrameAt bytes index (frames.Stream stream)
+-- a delivery is of a frame that stands in a payload; it is refused where there is no such payload, or its bytes lack the
+-- frame, and memory is wanting only for a payload that was sent
+abbrev pub IsFoundSo : List Sent → ℕ → ℕ → Answer → Type 0
+IsFoundSo sent number index (Ok reply) = HasBytes sent number (λ bytes. HasFrame bytes index)
+IsFoundSo sent number index (Err NoSuchPayload) = length sent ≤ number
+IsFoundSo sent number index (Err NoSuchFrame) = HasBytes sent number (λ bytes. LacksFrame bytes index)
+IsFoundSo sent number index (Err NoMemory) = HasBytes sent number Always
+IsFoundSo sent number index _ = ⊥
 
--- one that was accepted does
-abbrev pub HasAccepted : List FramePlace → ℕ → ℕ → List ℕ → Type 0
-HasAccepted accepted number index bytes = HasStream bytes index × IsOneOf (number, index) accepted
+-- a payload is settled for a report: one of it was served, or the other one was begun
+abbrev pub IsSettledFor : Past → ℕ → Report → Type 0
+IsSettledFor p number kind = IsOneOf number p.settled ⊎ IsOneOf (number, other_report kind) p.begun
 
--- one that was not accepted does
-abbrev pub HasUnaccepted : List FramePlace → ℕ → ℕ → List ℕ → Type 0
-HasUnaccepted accepted number index bytes = HasStream bytes index × (IsOneOf (number, index) accepted → ⊥)
-
--- a frame beside STREAM stands at a place
-pub record HasControl (bytes : List ℕ) (index : ℕ) : Type 0 where
-  pub frame : Frame
-  pub at : IsFrameAt bytes index frame
-  pub control : is_control frame ≡ true
-
--- each of them was accepted
+-- each frame of a payload was accepted
 abbrev pub HasAllAccepted : List FramePlace → ℕ → List ℕ → Type 0
-HasAllAccepted accepted number bytes = (index : ℕ) → HasControl bytes index → IsOneOf (number, index) accepted
+HasAllAccepted accepted number bytes = (index : ℕ) → HasFrame bytes index → IsOneOf (number, index) accepted
 
--- one of them was not accepted
+-- one of them was not
 abbrev pub HasOneUnaccepted : List FramePlace → ℕ → List ℕ → Type 0
-HasOneUnaccepted accepted number bytes = (index : ℕ) × HasControl bytes index × (IsOneOf (number, index) accepted → ⊥)
+HasOneUnaccepted accepted number bytes = (index : ℕ) × HasFrame bytes index × (IsOneOf (number, index) accepted → ⊥)
+
+-- what a report of a payload needs of its frames
+abbrev pub Needs : Report → List FramePlace → ℕ → List ℕ → Type 0
+Needs Lost accepted number bytes = Unit {0}
+Needs Acknowledged accepted number bytes = HasAllAccepted accepted number bytes
+
+-- and what it lacks where it is refused
+abbrev pub Misses : Report → List FramePlace → ℕ → List ℕ → Type 0
+Misses Lost accepted number bytes = ⊥
+Misses Acknowledged accepted number bytes = HasOneUnaccepted accepted number bytes
+
+-- a report was served, whole or in part: of a payload that was sent and not settled for it, with all that it needs
+pub record IsServedSo (p : Past) (sent : List Sent) (number : ℕ) (kind : Report) : Type 0 where
+  pub unsettled : IsSettledFor p number kind → ⊥
+  pub has : HasBytes sent number (Needs kind p.accepted number)
+
+-- it was refused, since a frame was not accepted
+pub record IsUnacceptedSo (p : Past) (sent : List Sent) (number : ℕ) (kind : Report) : Type 0 where
+  pub unsettled : IsSettledFor p number kind → ⊥
+  pub misses : HasBytes sent number (Misses kind p.accepted number)
+
+-- since the payload is settled for it
+pub record IsSettledSo (p : Past) (sent : List Sent) (number : ℕ) (kind : Report) : Type 0 where
+  pub settled : IsSettledFor p number kind
+  pub there : HasBytes sent number Always
+
+-- a report is refused where there is no such payload, else where the payload is settled for it, and else where a frame lacks
+-- what it needs; memory is wanting only for one that is not refused
+abbrev pub IsReportedSo : Past → List Sent → ℕ → Report → Answer → Type 0
+IsReportedSo p sent number kind (Err NoSuchPayload) = length sent ≤ number
+IsReportedSo p sent number kind (Err AlreadySettled) = IsSettledSo p sent number kind
+IsReportedSo p sent number kind (Err NotAccepted) = IsUnacceptedSo p sent number kind
+IsReportedSo p sent number kind (Err NoMemory) = IsServedSo p sent number kind
+IsReportedSo p sent number kind (Ok reply) = IsServedSo p sent number kind
+IsReportedSo p sent number kind _ = ⊥
 
 -- ---- all steps
 
@@ -98,9 +115,7 @@ IsRefusedSo p sent (steps.Stop who id code) reply = IsKnownSo (p.ids who) id rep
 IsRefusedSo p sent (steps.SetPriority who id priority) reply = IsKnownSo (p.ids who) id reply
 IsRefusedSo p sent (steps.Read who id ordered most times) reply = IsKnownSo (p.ids who) id reply
 IsRefusedSo p sent (steps.ReceivedReset who id) reply = IsKnownSo (p.ids who) id reply
-IsRefusedSo p sent (steps.Deliver number index) reply = IsFoundSo sent number (λ bytes. LacksFrame bytes index) Never (λ bytes. HasFrame bytes index) reply
-IsRefusedSo p sent (steps.LoseStream number index) reply = IsFoundSo sent number (λ bytes. LacksStream bytes index) Never (λ bytes. HasStream bytes index) reply
-IsRefusedSo p sent (steps.AckStream number index) reply = IsFoundSo sent number (λ bytes. LacksStream bytes index) (HasUnaccepted p.accepted number index) (HasAccepted p.accepted number index) reply
-IsRefusedSo p sent (steps.LoseControl number) reply = IsFoundSo sent number Never Never Always reply
-IsRefusedSo p sent (steps.AckControl number) reply = IsFoundSo sent number Never (HasOneUnaccepted p.accepted number) (HasAllAccepted p.accepted number) reply
+IsRefusedSo p sent (steps.Deliver number index) reply = IsFoundSo sent number index reply
+IsRefusedSo p sent (steps.Lose number) reply = IsReportedSo p sent number Lost reply
+IsRefusedSo p sent (steps.Ack number) reply = IsReportedSo p sent number Acknowledged reply
 IsRefusedSo p sent step reply = IsTaken reply

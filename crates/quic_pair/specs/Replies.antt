@@ -18,6 +18,7 @@ use Rattle.quic_receiving.specs.declared.transmit.ShouldTransmit.{ShouldTransmit
 use Rattle.quic_history.specs.declared.progress.LastAnswer.{LastAnswer}
 use Rattle.quic_history.specs.declared.progress.LastAnswer.TheVariants as last_answer
 use Rattle.quic_streams.specs.declared.batches.ReadSome.{ReadSome}
+use Rattle.quic_streams.specs.declared.settling.SentPayload.{SentPayload}
 use Rattle.quic_steps.specs.declared.steps.Last.{Last}
 use Rattle.quic_steps.specs.declared.steps.Last.TheVariants as last
 use Rattle.quic_steps.specs.declared.steps.Reply.{Reply}
@@ -115,6 +116,11 @@ event_reply None = Ok Nothing
 abbrev pub done_reply : Result (Unit {0}) OutOfMemory → Answer
 done_reply (Ok done) = Ok Done
 done_reply (Err error) = wants_memory
+
+-- to a report of a payload; where something came back, memory was wanting
+abbrev pub report_reply : Result (Unit {0}) SentPayload → Answer
+report_reply (Ok done) = Ok Done
+report_reply (Err back) = wants_memory
 
 -- a refusal of a frame is a reply, but want of memory
 abbrev pub received_reply : Result ShouldTransmit ReceiveError → Answer

@@ -7,6 +7,7 @@ use Rattle.quic_pair.specs.Replies.{Answer}
 use Rattle.quic_pair.specs.State.{PairState}
 use Rattle.quic_pair.specs.Steps.{Next}
 use Rattle.quic_pair.specs.History.{History, Past, past_of}
+use Rattle.quic_pair.specs.From.{From}
 use Rattle.quic_pair.specs.Headline.{Headline}
 use Rattle.quic_pair.specs.Honest.{AreHonest}
 use Rattle.quic_pair.specs.Refused.{IsRefused}
@@ -50,6 +51,7 @@ StaysIfRefused before between step reply after = IsRefused reply → after ≡ b
 abbrev pub AsksOf : History → PairState → Step → Answer → PairState → Type 0
 AsksOf before between step reply after = AsksFor between step reply after
 
--- a step withheld nothing on the sending side that was permitted, by a history, the steps of the run before it, and this one
+-- a step withheld nothing on the sending side that was permitted, by whatever steps led to the pair before it: a history, and the
+-- steps of the run before this one
 abbrev pub WithholdsNone : Config → Config → History → History → PairState → Step → Answer → PairState → Type 0
-WithholdsNone a b h before between step reply after = NotWithheld a b (h ++ before) between.sent after.sent step reply
+WithholdsNone a b h before between step reply after = (led : From a b (h ++ before) between) → NotWithheld led step reply after

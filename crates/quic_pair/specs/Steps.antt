@@ -1,35 +1,39 @@
 -- What each step does to two ends and what was sent between them.
-use Rattle.std.specs.Prelude.{ℕ, Bool, true, false, ◌≡◌, ◌⊎◌, ◌≤◌, List, [], ◌∷◌, ◌++◌, length, slice_get, slice_set, Some, Result, Ok, Err}
+use Rattle.std.specs.Prelude.{ℕ, Bool, true, ◌≡◌, ◌⊎◌, ◌≤◌, List, [], ◌∷◌, ◌++◌, length, slice_get, slice_set, Some, None, Result, Ok, Err}
+use Rattle.std.specs.Option.{option_map}
 use Rattle.quic_values.specs.declared.memory.OutOfMemory.{OutOfMemory}
 use Rattle.quic_wire.specs.declared.frame.Frame.{Frame}
-use Rattle.quic_wire.specs.declared.frame.StreamMeta.{StreamMeta}
 use Rattle.quic_wire.specs.declared.error.ReceiveError.{ReceiveError}
 use Rattle.quic_sending.specs.Source.{slice_lists}
 use Rattle.quic_receiving.specs.declared.transmit.ShouldTransmit.{ShouldTransmit}
-use Rattle.quic_retransmits.specs.Pending.{merged_if, shown_if}
-use Rattle.quic_retransmits.specs.Settling.{noted_in}
+use Rattle.quic_streams.specs.declared.settling.SentPayload.{SentPayload}
+use Rattle.quic_streams.specs.Settling.{SentView}
+use Rattle.quic_streams.specs.Sent.{sent_view, report_view}
 use Rattle.quic_endpoint.specs.Ends.{EndState}
 use Rattle.quic_endpoint.specs.Receiving.{ReceivesAt, AccountsFrame}
-use Rattle.quic_endpoint.specs.Reports.{LosesAt, AcksAt, with_pending}
+use Rattle.quic_endpoint.specs.Reports.{LosesPayloadAt, AcksPayloadAt}
 use Rattle.quic_endpoint.specs.Emitting.{PayloadView, EmitsAt}
 use Rattle.quic_steps.specs.declared.steps.End.{End}
 use Rattle.quic_steps.specs.declared.steps.Step.{Step}
 use Rattle.quic_steps.specs.declared.steps.Step.TheVariants as steps
 use Rattle.quic_steps.specs.declared.steps.Reply.TheVariants.{Done, Payload}
-use Rattle.quic_steps.specs.declared.steps.PairError.TheVariants.{NoSuchPayload, NoSuchFrame, NotAccepted, OutOfMemory as NoMemory}
-use Rattle.quic_pair.specs.Replies.{Answer, done_reply, received_reply}
-use Rattle.quic_pair.specs.Payloads.{SentText, IsFrameAt, LacksFrame, SpellsNone, IsMarked, IsStreamAt, LacksStream, IsControlAccepted, LacksAccepted, is_accepted}
+use Rattle.quic_steps.specs.declared.steps.PairError.TheVariants.{NoSuchPayload, NoSuchFrame, NotAccepted, AlreadySettled, OutOfMemory as NoMemory}
+use Rattle.quic_pair.specs.Replies.{Answer, report_reply, received_reply}
+use Rattle.quic_pair.specs.Payloads.{SentText, IsFrameAt, LacksFrame, IsMarked}
+use Rattle.quic_pair.specs.declared.unsettled.Report.{Report}
+use Rattle.quic_pair.specs.declared.unsettled.Report.TheVariants.{Lost, Acknowledged}
+use Rattle.quic_pair.specs.Unsettled.{may_report, unsettled_after}
+use Rattle.quic_pair.specs.Reports.{MayServe, RefusesReport}
 use Rattle.quic_pair.specs.declared.sent.Sent.{Sent}
-use Rattle.quic_pair.specs.State.{PairState, OnEnd, peer, the_end, with_end, with_sent}
-use Rattle.quic_pair.specs.Calls.{Opens, Accepts, OnGiven, Writes, WritesChunksOrNone, AcksResets, AcksSome, Finishes, ResetsOn, StopsOn, SetsPriorityOn, AsksReset, ReadsOn, SetsSendWindow, SetsReceiveWindow, SetsMaxConcurrent, Polls}
-
--- ---- payloads that are written
+use Rattle.quic_pair.specs.State.{PairState, peer, the_end, with_end, with_sent, OnEnd}
+use Rattle.quic_pair.specs.Calls.{Opens, Accepts, OnGiven, Writes, WritesChunksOrNone, Finishes, ResetsOn, StopsOn, SetsPriorityOn, AsksReset, ReadsOn, SetsSendWindow, SetsReceiveWindow, SetsMaxConcurrent, Polls}
 
 -- a payload of the view of an end, which nothing was delivered of
 pub record IsSentBy (who : End) (payload : PayloadView) (s : Sent) : Type 0 where
   pub writer : s.writer ≡ who
   pub text : s.text ≡ record { bytes = payload.bytes; accepted = [] }
-  pub control : noted_in s.control ≡ payload.control
+  pub begun : s.unsettled.begun ≡ None
+  pub rest : option_map sent_view s.unsettled.rest ≡ Some payload.sent
 
 -- an end wrote a payload, which is sent
 pub record Emits (old : PairState) (who : End) (most : ℕ) (fair : Bool) (answer : Result (Unit {0}) OutOfMemory) (payload : PayloadView) (new : PairState) : Type 0 where
@@ -73,10 +77,10 @@ LacksPayload old number new = (length old.sent ≤ number) × (new ≡ old)
 abbrev pub WantsMemoryFor : PairState → ℕ → PairState → Type 0
 WantsMemoryFor old number new = HasPayload old number × (new ≡ old)
 
--- a payload is there, but its text is not as the step wants it
-pub record RefusesOf (old : PairState) (number : ℕ) (Why : SentText → Type 0) (new : PairState) : Type 0 where
+-- a payload is there, but it is not as the step wants it
+pub record RefusesOf (old : PairState) (number : ℕ) (Why : Sent → Type 0) (new : PairState) : Type 0 where
   pub payload : HasPayload old number
-  pub why : Why payload.sent.text
+  pub why : Why payload.sent
   pub is : new ≡ old
 
 -- the frames at a place, after an answer
@@ -105,96 +109,34 @@ pub record HandsOver (old : PairState) (number index : ℕ) (reply : Answer) (ne
 -- what a delivery was replied, and what it did
 abbrev pub Delivers : PairState → ℕ → ℕ → Answer → PairState → Type 0
 Delivers old number index (Err NoSuchPayload) new = LacksPayload old number new
-Delivers old number index (Err NoSuchFrame) new = RefusesOf old number (λ s. LacksFrame s.bytes index) new
+Delivers old number index (Err NoSuchFrame) new = RefusesOf old number (λ s. LacksFrame s.text.bytes index) new
 Delivers old number index (Err NoMemory) new = WantsMemoryFor old number new ⊎ HandsOver old number index (Err NoMemory) new
 Delivers old number index reply new = HandsOver old number index reply new
 
 -- ---- what becomes of them
 
--- a STREAM frame of a payload is reported lost to the end that wrote it
-pub record ReportsLoss (old : PairState) (number index : ℕ) (reply : Answer) (new : PairState) : Type 0 where
+-- what is unreported of a payload is reported to the end that wrote it, and what comes back is unreported still
+pub record Reports (kind : Report) (At : EndState → SentView → Result (Unit {0}) SentView → EndState → Type 0) (old : PairState) (number : ℕ) (reply : Answer) (new : PairState) : Type 0 where
   pub payload : HasPayload old number
-  pub meta : StreamMeta
-  pub at : IsStreamAt payload.sent.text.bytes index meta
-  pub answer : Result (Unit {0}) OutOfMemory
+  pub may : may_report kind payload.sent.unsettled ≡ true
+  pub serves : MayServe kind payload.sent.text
+  pub rest : SentPayload
+  pub rest_is : payload.sent.unsettled.rest ≡ Some rest
+  pub answer : Result (Unit {0}) SentPayload
   pub end : EndState
-  pub loses : LosesAt (the_end old payload.sent.writer) meta answer end
-  pub reply_is : reply ≡ done_reply answer
-  pub is : new ≡ with_end old payload.sent.writer end
+  pub does : At (the_end old payload.sent.writer) (sent_view rest) (report_view answer) end
+  pub reply_is : reply ≡ report_reply answer
+  pub is : new ≡ with_sent (with_end old payload.sent.writer end) (slice_set old.sent number (record payload.sent { unsettled = unsettled_after kind payload.sent.unsettled answer }))
 
--- what a report of a loss was replied, and what it did
-abbrev pub LosesFrame : PairState → ℕ → ℕ → Answer → PairState → Type 0
-LosesFrame old number index (Err NoSuchPayload) new = LacksPayload old number new
-LosesFrame old number index (Err NoSuchFrame) new = RefusesOf old number (λ s. LacksStream s.bytes index) new
-LosesFrame old number index (Err NoMemory) new = WantsMemoryFor old number new ⊎ ReportsLoss old number index (Err NoMemory) new
-LosesFrame old number index reply new = ReportsLoss old number index reply new
-
--- one that was accepted is reported acknowledged
-pub record ReportsAck (old : PairState) (number index : ℕ) (reply : Answer) (new : PairState) : Type 0 where
-  pub payload : HasPayload old number
-  pub meta : StreamMeta
-  pub at : IsStreamAt payload.sent.text.bytes index meta
-  pub accepted : is_accepted payload.sent.text index ≡ true
-  pub answer : Result (Unit {0}) OutOfMemory
-  pub end : EndState
-  pub acks : AcksAt (the_end old payload.sent.writer) meta answer end
-  pub reply_is : reply ≡ done_reply answer
-  pub is : new ≡ with_end old payload.sent.writer end
-
--- a STREAM frame stands at a place, and was not accepted
-pub record IsUnaccepted (s : SentText) (index : ℕ) : Type 0 where
-  pub meta : StreamMeta
-  pub at : IsStreamAt s.bytes index meta
-  pub refused : is_accepted s index ≡ false
-
--- what a report of an acknowledgement was replied, and what it did
-abbrev pub AcksFrame : PairState → ℕ → ℕ → Answer → PairState → Type 0
-AcksFrame old number index (Err NoSuchPayload) new = LacksPayload old number new
-AcksFrame old number index (Err NoSuchFrame) new = RefusesOf old number (λ s. LacksStream s.bytes index) new
-AcksFrame old number index (Err NotAccepted) new = RefusesOf old number (λ s. IsUnaccepted s index) new
-AcksFrame old number index (Err NoMemory) new = WantsMemoryFor old number new ⊎ ReportsAck old number index (Err NoMemory) new
-AcksFrame old number index reply new = ReportsAck old number index reply new
-
--- what the frames beside STREAM of a payload carried is pending again
-pub record LosesAllControl (old : PairState) (number : ℕ) (new : PairState) : Type 0 where
-  pub payload : HasPayload old number
-  pub end : EndState
-  pub end_is : end ≡ with_pending (the_end old payload.sent.writer) (merged_if (the_end old payload.sent.writer).pending (shown_if payload.sent.control))
-  pub is : new ≡ with_end old payload.sent.writer end
-
--- what a report that control frames were lost was replied, and what it did
-abbrev pub LosesControl : PairState → ℕ → Answer → PairState → Type 0
-LosesControl old number (Ok Done) new = LosesAllControl old number new
-LosesControl old number (Err NoSuchPayload) new = LacksPayload old number new
-LosesControl old number (Err NoMemory) new = WantsMemoryFor old number new
-LosesControl old number _ new = ⊥
-
--- those of a payload, of which each frame beside STREAM was accepted
-pub record AcksAllControl (old : PairState) (number : ℕ) (new : PairState) : Type 0 where
-  pub payload : HasPayload old number
-  pub ids : List ℕ
-  pub accepted : IsControlAccepted payload.sent.text ids
-  pub end : EndState
-  pub acks : AcksResets (the_end old payload.sent.writer) ids end
-  pub is : new ≡ with_end old payload.sent.writer end
-
--- the first of them, up to one for which memory was wanting
-pub record AcksSomeControl (old : PairState) (number : ℕ) (new : PairState) : Type 0 where
-  pub payload : HasPayload old number
-  pub ids : List ℕ
-  pub accepted : IsControlAccepted payload.sent.text ids
-  pub end : EndState
-  pub acks : AcksSome (the_end old payload.sent.writer) ids end
-  pub is : new ≡ with_end old payload.sent.writer end
-
--- what a report that control frames were acknowledged was replied, and what it did
-abbrev pub AcksControl : PairState → ℕ → Answer → PairState → Type 0
-AcksControl old number (Ok Done) new = AcksAllControl old number new
-AcksControl old number (Err NoSuchPayload) new = LacksPayload old number new
-AcksControl old number (Err NoSuchFrame) new = RefusesOf old number (λ s. SpellsNone s.bytes) new
-AcksControl old number (Err NotAccepted) new = RefusesOf old number LacksAccepted new
-AcksControl old number (Err NoMemory) new = WantsMemoryFor old number new ⊎ AcksSomeControl old number new
-AcksControl old number _ new = ⊥
+-- what a report of a payload was replied, and what it did. Where memory was wanting, a beginning of it was served, and what
+-- came back is left
+abbrev pub Settles : Report → (EndState → SentView → Result (Unit {0}) SentView → EndState → Type 0) → PairState → ℕ → Answer → PairState → Type 0
+Settles kind At old number (Ok Done) new = Reports kind At old number (Ok Done) new
+Settles kind At old number (Err NoMemory) new = Reports kind At old number (Err NoMemory) new
+Settles kind At old number (Err NoSuchPayload) new = LacksPayload old number new
+Settles kind At old number (Err AlreadySettled) new = RefusesOf old number (λ s. RefusesReport kind s AlreadySettled) new
+Settles kind At old number (Err NotAccepted) new = RefusesOf old number (λ s. RefusesReport kind s NotAccepted) new
+Settles kind At old number _ new = ⊥
 
 -- ---- all steps
 
@@ -216,7 +158,5 @@ Next old (steps.SetMaxConcurrent who dir count) reply new = OnEnd (λ e f. SetsM
 Next old (steps.Poll who) reply new = OnEnd (λ e f. Polls e reply f) old who new
 Next old (steps.Emit who most fair) reply new = Emitted old who most fair reply new
 Next old (steps.Deliver number index) reply new = Delivers old number index reply new
-Next old (steps.LoseStream number index) reply new = LosesFrame old number index reply new
-Next old (steps.AckStream number index) reply new = AcksFrame old number index reply new
-Next old (steps.LoseControl number) reply new = LosesControl old number reply new
-Next old (steps.AckControl number) reply new = AcksControl old number reply new
+Next old (steps.Lose number) reply new = Settles Lost LosesPayloadAt old number reply new
+Next old (steps.Ack number) reply new = Settles Acknowledged AcksPayloadAt old number reply new

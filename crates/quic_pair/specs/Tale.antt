@@ -1,6 +1,7 @@
 -- What the steps of a pair tell of what its ends send: of each stream what was written, permitted, stopped, sent, lost and
 -- acknowledged, and of all streams how much was written and how much may be.
-use Rattle.std.specs.Prelude.{ℕ, ◌≡◌, ◌⊎◌, ◌==◌, ◌+◌, max, List, [], ◌∷◌, ◌++◌, length, slice_get, Some, Ok, Err, if◌then◌else◌}
+use Rattle.std.specs.Prelude.{ℕ, ◌≡◌, ◌⊎◌, ◌==◌, ◌+◌, max, List, [], ◌∷◌, ◌++◌, length, map, take, drop, slice_get, Some, None, unwrap_or, Ok, Err, if◌then◌else◌}
+use Rattle.std.specs.Option.{option_map}
 use Rattle.quic_values.specs.declared.ids.Dir.{Dir}
 use Rattle.quic_values.specs.declared.ids.Dir.TheVariants.{Bi, Uni}
 use Rattle.quic_sending.specs.Source.{slice_lists}
@@ -11,17 +12,22 @@ use Rattle.quic_wire.specs.Frames.{AreFrames}
 use Rattle.quic_flows.specs.Flow.{SendFlow, SendMove, WasWritten, WasFinished, WasGivenUp, WasAskedToStop, WasPermitted, WasCarried, WasAcked, WasLost, WasResetAcked, new_flow, with_send_move, front_of, retained}
 use Rattle.quic_outgoing.specs.History.{given_for}
 use Rattle.quic_history.specs.History.{with_stream, total_over}
+use Rattle.quic_streams.specs.Settling.{SentView, resets_of}
+use Rattle.quic_streams.specs.Sent.{sent_view}
 use Rattle.quic_steps.specs.declared.steps.Config.{Config}
 use Rattle.quic_steps.specs.declared.steps.End.{End}
 use Rattle.quic_steps.specs.declared.steps.End.TheVariants.{A, B}
 use Rattle.quic_steps.specs.declared.steps.Step.{Step}
 use Rattle.quic_steps.specs.declared.steps.Step.TheVariants as steps
 use Rattle.quic_steps.specs.declared.steps.Reply.TheVariants.{Done, DoneTransmit, Id, Wrote, WroteChunks, Payload}
+use Rattle.quic_steps.specs.declared.steps.PairError.TheVariants.{OutOfMemory as NoMemory}
 use Rattle.quic_pair.specs.declared.sent.Sent.{Sent}
-use Rattle.quic_pair.specs.Payloads.{IsFrameAt, IsStreamAt, resets_in}
+use Rattle.quic_pair.specs.Payloads.{IsFrameAt, metas_in, codes_in}
+use Rattle.quic_pair.specs.declared.unsettled.Unsettled.{Unsettled}
 use Rattle.quic_pair.specs.Replies.{Answer}
-use Rattle.quic_pair.specs.State.{peer}
+use Rattle.quic_pair.specs.State.{PairState, peer}
 use Rattle.quic_pair.specs.History.{History, FramePlace, is_same_end}
+use Rattle.quic_pair.specs.From.{From, begun, next}
 
 -- what is told of what one end sends
 -- flow: of each stream
@@ -65,13 +71,15 @@ tale_first a b B = tale_begun b a
 -- what is told of both ends
 -- of: of each
 -- payloads: how many payloads were sent
+-- told: of each payload how many of its parts were reported
 pub record Tales : Type 0 where
   pub of : End → Tale
   pub payloads : ℕ
+  pub told : ℕ → ℕ
 
 -- before the first step
 abbrev pub tales_begun : Config → Config → Tales
-tales_begun a b = record { of = tale_first a b; payloads = 0 }
+tales_begun a b = record { of = tale_first a b; payloads = 0; told = λ number. 0 }
 
 -- how many of the written bytes are retained, of all streams
 abbrev pub retained_by : Tale → ℕ
@@ -109,10 +117,39 @@ with_frame_heard (frames.MaxStreamData id limit) t = with_deed id (WasPermitted 
 with_frame_heard (frames.StopSending f) t = with_deed f.id (WasAskedToStop f.error_code) t
 with_frame_heard _ t = t
 
--- that streams were given up is acknowledged
-abbrev pub with_resets_acked : List ℕ → Tale → Tale
-with_resets_acked [] t = t
-with_resets_acked (id ∷ ids) t = with_resets_acked ids (with_deed id WasResetAcked t)
+-- ---- what is reported of a payload
+
+-- a part of a payload of which something is reported: what a STREAM frame carried, or that a stream was given up
+pub data Part : Type 0 where
+  Carried : StreamMeta → Part
+  GivenUp : ℕ → Part
+
+-- the parts of some frames, in the order in which they are reported: STREAM frames, and then RESET_STREAM frames
+abbrev pub parts_in : List Frame → List Part
+parts_in all = map Carried (metas_in all) ++ map (λ reset. GivenUp reset.0) (codes_in all)
+
+-- those of what is unreported
+abbrev pub parts_of : SentView → List Part
+parts_of s = map Carried s.streams ++ map (λ reset. GivenUp reset.0) (resets_of s.control)
+
+-- how many are unreported
+abbrev pub parts_left : Unsettled → ℕ
+parts_left u = length (parts_of (unwrap_or (option_map sent_view u.rest) (record { streams = []; control = None })))
+
+-- a part was acknowledged
+abbrev pub acked_part : Part → Tale → Tale
+acked_part (Carried m) t = with_deed m.id (WasAcked m.offsets.start m.offsets.end m.fin) t
+acked_part (GivenUp id) t = with_deed id WasResetAcked t
+
+-- one was lost; that a stream was given up is told anew
+abbrev pub lost_part : Part → Tale → Tale
+lost_part (Carried m) t = with_deed m.id (WasLost m.offsets.start m.offsets.end m.fin) t
+lost_part (GivenUp id) t = t
+
+-- so of each, one after another
+abbrev pub with_parts : (Part → Tale → Tale) → List Part → Tale → Tale
+with_parts deed [] t = t
+with_parts deed (x ∷ xs) t = with_parts deed xs (deed x t)
 
 -- ---- what was sent
 
@@ -130,13 +167,6 @@ pub record WasFrame (sent : List Sent) (who : End) (at : FramePlace) (frame : Fr
   pub writer : payload.writer ≡ who
   pub frame_is : IsFrameAt payload.text.bytes at.1 frame
 
--- a STREAM frame that carries this does
-pub record WasStream (sent : List Sent) (who : End) (at : FramePlace) (meta : StreamMeta) : Type 0 where
-  pub payload : Sent
-  pub is : slice_get sent at.0 ≡ Some payload
-  pub writer : payload.writer ≡ who
-  pub stream_is : IsStreamAt payload.text.bytes at.1 meta
-
 -- ---- steps
 
 -- more is told of one end
@@ -150,60 +180,55 @@ pub record HearsOne (sent : List Sent) (at : FramePlace) (t u : Tales) : Type 0 
   pub stood : WasFrame sent who at frame
   pub is : u ≡ told_of (peer who) (with_frame_heard frame) t
 
--- something became of a STREAM frame
-pub record Reported (sent : List Sent) (at : FramePlace) (deed : StreamMeta → SendMove) (t u : Tales) : Type 0 where
-  pub who : End
-  pub meta : StreamMeta
-  pub stood : WasStream sent who at meta
-  pub is : u ≡ told_of who (with_deed meta.id (deed meta)) t
-
 -- the next payload was sent
 pub record SendsOne (sent : List Sent) (who : End) (t u : Tales) : Type 0 where
   pub all : List Frame
   pub stood : WasPayload sent who t.payloads all
   pub is : u ≡ record (told_of who (with_frames_sent all) t) { payloads = t.payloads + 1 }
 
--- the first resets of a payload, or all of them, were acknowledged
-pub record AcksFirst (sent : List Sent) (number : ℕ) (t u : Tales) : Type 0 where
+-- one was sent, or none, as many payloads are there behind the step
+abbrev pub SendsOneOrNone : List Sent → List Sent → End → Tales → Tales → Type 0
+SendsOneOrNone old new who t u = ((length new ≡ length old) × (u ≡ t)) ⊎ ((length new ≡ length old + 1) × SendsOne new who t u)
+
+-- so many more parts of a payload were reported
+abbrev pub told_more : ℕ → ℕ → Tales → Tales
+told_more number count t = record t { told = λ n. if n == number then t.told n + count else t.told n }
+
+-- parts of a payload were reported, one after another, from the first that was not told before; what is unreported behind the
+-- step was not
+pub record TellsParts (new : List Sent) (number : ℕ) (deed : Part → Tale → Tale) (t u : Tales) : Type 0 where
   pub who : End
   pub all : List Frame
-  pub stood : WasPayload sent who number all
-  pub first : List ℕ
-  pub rest : List ℕ
-  pub are : resets_in all ≡ first ++ rest
-  pub is : u ≡ told_of who (with_resets_acked first) t
+  pub stood : WasPayload new who number all
+  pub count : ℕ
+  pub counts : t.told number + count + parts_left stood.payload.unsettled ≡ length (parts_in all)
+  pub is : u ≡ told_more number count (told_of who (with_parts deed (take count (drop (t.told number) (parts_in all)))) t)
 
--- all of them were
-abbrev pub AcksEach : {sent : List Sent} {number : ℕ} {t u : Tales} → AcksFirst sent number t u → Type 0
-AcksEach k = k.rest ≡ []
+-- each of its parts was
+pub record TellsAll (new : List Sent) (number : ℕ) (deed : Part → Tale → Tale) (t u : Tales) : Type 0 where
+  pub some : TellsParts new number deed t u
+  pub each : t.told number + some.count ≡ length (parts_in some.all)
 
--- a STREAM frame was acknowledged, and one was lost
-abbrev pub was_acked : StreamMeta → SendMove
-was_acked m = WasAcked m.offsets.start m.offsets.end m.fin
+-- what a step and its reply tell, with the payloads that were sent before it and behind it. Of an `Emit` that wants memory the
+-- number of payloads says whether it sent one. A report that wants memory tells of the parts that it reported
+abbrev pub StepTells : List Sent → List Sent → Step → Answer → Tales → Tales → Type 0
+StepTells old new (steps.Open who dir) (Ok (Id id)) t u = u ≡ told_of who (with_one_opened dir) t
+StepTells old new (steps.Write who id bytes) (Ok (Wrote count)) t u = u ≡ told_of who (with_bytes_taken id count (slice_lists bytes)) t
+StepTells old new (steps.WriteChunks who id chunks) (Ok (WroteChunks written)) t u = u ≡ told_of who (with_bytes_taken id written.bytes chunks) t
+StepTells old new (steps.Finish who id) (Ok Done) t u = u ≡ told_of who (with_deed id WasFinished) t
+StepTells old new (steps.Reset who id code) (Ok Done) t u = u ≡ told_of who (with_deed id (WasGivenUp code)) t
+StepTells old new (steps.SetSendWindow who window) (Ok Done) t u = u ≡ told_of who (with_window_of window) t
+StepTells old new (steps.Emit who most fair) (Ok (Payload number bytes)) t u = SendsOne new who t u × (t.payloads ≡ number)
+StepTells old new (steps.Emit who most fair) (Err error) t u = SendsOneOrNone old new who t u
+StepTells old new (steps.Deliver number index) (Ok Done) t u = HearsOne old (number, index) t u
+StepTells old new (steps.Deliver number index) (Ok DoneTransmit) t u = HearsOne old (number, index) t u
+StepTells old new (steps.Lose number) (Ok Done) t u = TellsAll new number lost_part t u
+StepTells old new (steps.Lose number) (Err NoMemory) t u = TellsParts new number lost_part t u
+StepTells old new (steps.Ack number) (Ok Done) t u = TellsAll new number acked_part t u
+StepTells old new (steps.Ack number) (Err NoMemory) t u = TellsParts new number acked_part t u
+StepTells old new _ reply t u = u ≡ t
 
-abbrev pub was_lost : StreamMeta → SendMove
-was_lost m = WasLost m.offsets.start m.offsets.end m.fin
-
--- what a step and its reply tell, among all that was sent. An `Emit` that wants memory may have sent a payload, and an
--- `AckControl` may have reported the first of its resets
-abbrev pub StepTells : List Sent → Step → Answer → Tales → Tales → Type 0
-StepTells sent (steps.Open who dir) (Ok (Id id)) t u = u ≡ told_of who (with_one_opened dir) t
-StepTells sent (steps.Write who id bytes) (Ok (Wrote count)) t u = u ≡ told_of who (with_bytes_taken id count (slice_lists bytes)) t
-StepTells sent (steps.WriteChunks who id chunks) (Ok (WroteChunks written)) t u = u ≡ told_of who (with_bytes_taken id written.bytes chunks) t
-StepTells sent (steps.Finish who id) (Ok Done) t u = u ≡ told_of who (with_deed id WasFinished) t
-StepTells sent (steps.Reset who id code) (Ok Done) t u = u ≡ told_of who (with_deed id (WasGivenUp code)) t
-StepTells sent (steps.SetSendWindow who window) (Ok Done) t u = u ≡ told_of who (with_window_of window) t
-StepTells sent (steps.Emit who most fair) (Ok (Payload number bytes)) t u = SendsOne sent who t u × (t.payloads ≡ number)
-StepTells sent (steps.Emit who most fair) (Err error) t u = (u ≡ t) ⊎ SendsOne sent who t u
-StepTells sent (steps.Deliver number index) (Ok Done) t u = HearsOne sent (number, index) t u
-StepTells sent (steps.Deliver number index) (Ok DoneTransmit) t u = HearsOne sent (number, index) t u
-StepTells sent (steps.AckStream number index) (Ok Done) t u = Reported sent (number, index) was_acked t u
-StepTells sent (steps.LoseStream number index) (Ok Done) t u = Reported sent (number, index) was_lost t u
-StepTells sent (steps.AckControl number) (Ok Done) t u = (k : AcksFirst sent number t u) × AcksEach k
-StepTells sent (steps.AckControl number) (Err error) t u = (u ≡ t) ⊎ AcksFirst sent number t u
-StepTells sent _ reply t u = u ≡ t
-
--- what all steps with their replies tell
-pub data Told (a b : Config) (sent : List Sent) : History → Tales → Type 0 where
-  begun : Told a b sent [] (tales_begun a b)
-  next : {h : History} {t u : Tales} (step : Step) (reply : Answer) → Told a b sent h t → StepTells sent step reply t u → Told a b sent (h ++ (step, reply) ∷ []) u
+-- what all steps that led to a pair tell, with their replies
+abbrev pub Told : {a b : Config} {h : History} {v : PairState} → From a b h v → Tales → Type 0
+Told {a} {b} (begun new) t = t ≡ tales_begun a b
+Told (next {h} {old} {new} step reply before taken) u = (t : Tales) × Told before t × StepTells old.sent new.sent step reply t u

@@ -1,9 +1,9 @@
 //! What a step does to the end that takes it.
 
-ghost use Rattle.std.specs.Prelude.{◌≡◌, IfOk, OnOk, OnErr};
+ghost use Rattle.std.specs.Prelude.{◌≡◌, IfOk};
 ghost use Rattle.quic_sending.specs.Source.{slice_lists};
 ghost use Rattle.quic_endpoint.specs.Shown.{end_state};
-ghost use Rattle.quic_pair.specs.Calls.{Opens, Accepts, OnGiven, Writes, WritesChunksOrNone, AcksResets, AcksSome, Finishes, ResetsOn, StopsOn, SetsPriorityOn, AsksReset, ReadsOn, SetsSendWindow, SetsReceiveWindow, SetsMaxConcurrent, Polls};
+ghost use Rattle.quic_pair.specs.Calls.{Opens, Accepts, OnGiven, Writes, WritesChunksOrNone, Finishes, ResetsOn, StopsOn, SetsPriorityOn, AsksReset, ReadsOn, SetsSendWindow, SetsReceiveWindow, SetsMaxConcurrent, Polls};
 
 use crate::replies::{
     accepted_reply, chunks_reply, code_reply, done_reply, event_reply, finished_reply,
@@ -164,15 +164,4 @@ pub(crate) fn poll(end: &mut Endpoint) -> Result<Reply, PairError>
     ensures { Polls (end_state end.old) result (end_state end.new) }
 {
     event_reply(end.poll())
-}
-
-// The resets of some streams are acknowledged, one after another.
-pub(crate) fn ack_resets(end: &mut Endpoint, ids: &[StreamId]) -> Result<(), OutOfMemory>
-    ensures ok { OnOk result (AcksResets (end_state end.old) ids.now (end_state end.new)) }
-    ensures err { OnErr result (AcksSome (end_state end.old) ids.now (end_state end.new)) }
-{
-    for id in ids {
-        end.ack_reset(*id)?;
-    }
-    Ok(())
 }

@@ -6,6 +6,7 @@ pub mod pair;
 mod places;
 mod replies;
 mod sent;
+mod unsettled;
 
 pub use pair::Pair;
 pub use quic_steps::{Config, End, Last, PairError, Reply, Step};

@@ -6,10 +6,11 @@ ghost use Rattle.quic_sending.specs.Source.{slice_lists};
 ghost use Rattle.quic_endpoint.specs.Shown.{end_state};
 ghost use Rattle.quic_endpoint.specs.Emitting.{EmitsAt, payload_view};
 ghost use Rattle.quic_endpoint.specs.Receiving.{data_length};
-ghost use Rattle.quic_endpoint.specs.Reports.{LosesAt, AcksAt};
+ghost use Rattle.quic_endpoint.specs.Reports.{LosesPayloadAt, AcksPayloadAt};
+ghost use Rattle.quic_streams.specs.Sent.{sent_view, report_view};
 ghost use Rattle.quic_pair.specs.State.{pair_state, the_end, with_end, peer, two_ends, OnEnd};
-ghost use Rattle.quic_pair.specs.Calls.{Opens, Accepts, OnGiven, Writes, WritesChunks, Finishes, ResetsOn, StopsOn, SetsPriorityOn, AsksReset, ReadsOn, SetsSendWindow, SetsReceiveWindow, SetsMaxConcurrent, Polls, AcksResets, AcksSome};
-ghost use Rattle.quic_pair.specs.Steps.{Next, Emitted, TakesFrame, Delivers, LosesFrame, AcksFrame, LosesControl, AcksControl};
+ghost use Rattle.quic_pair.specs.Calls.{Opens, Accepts, OnGiven, Writes, WritesChunks, Finishes, ResetsOn, StopsOn, SetsPriorityOn, AsksReset, ReadsOn, SetsSendWindow, SetsReceiveWindow, SetsMaxConcurrent, Polls};
+ghost use Rattle.quic_pair.specs.Steps.{Next, TakesFrame};
 ghost use Rattle.quic_values.specs.Ids.{other_side};
 ghost use Rattle.quic_streams.specs.Shown.{shown};
 ghost use Rattle.quic_link.specs.Endpoints.{limits_of};
@@ -26,16 +27,16 @@ ghost use Rattle.quic_pair.specs.Honest.{AreHonest};
 ghost use Rattle.quic_pair.specs.Refused.{IsRefused, IsRefusedSo};
 
 use crate::calls;
-use crate::places::{frame_at, mark_if, resets_at, sent_at, stream_at};
-use crate::replies::{done_reply, payload_reply, received_reply};
+use crate::places::{frame_at, mark_if, rest_at, settle};
+use crate::replies::{payload_reply, received_reply};
 use crate::sent::Sent;
+use crate::unsettled::Report;
 use quic_endpoint::{Endpoint, Payload};
 use quic_receiving::ShouldTransmit;
 use quic_steps::{Config, End, PairError, Reply, Step};
-use quic_streams::PeerLimits;
 use quic_streams::state::StreamsState;
+use quic_streams::{PeerLimits, SentPayload};
 use quic_values::{Bytes, ChunkList, Dir, OutOfMemory, Side, StreamId, VarInt};
-use quic_wire::frame::StreamMeta;
 use quic_wire::{Frame, ReceiveError};
 use std::alloc::Global;
 
@@ -277,77 +278,46 @@ impl Pair {
         received_reply(answer)
     }
 
-    fn lose_on(&mut self, writer: End, meta: StreamMeta) -> Result<(), OutOfMemory>
-        ensures { OnEnd (λ e f. LosesAt e meta result f) (pair_state self.old) writer (pair_state self.new) }
+    // What is unreported of a payload is reported lost to the end that wrote it.
+    fn lose_on(&mut self, writer: End, rest: SentPayload) -> Result<(), SentPayload>
+        ensures { OnEnd (λ e f. LosesPayloadAt e (sent_view rest) (report_view result) f) (pair_state self.old) writer (pair_state self.new) }
     {
         match writer {
-            End::A => self.a.lose_stream(meta),
-            End::B => self.b.lose_stream(meta),
+            End::A => self.a.lose(rest),
+            End::B => self.b.lose(rest),
         }
     }
 
-    fn lose_stream(&mut self, payload: usize, index: usize) -> Result<Reply, PairError>
-        ensures { Next (pair_state self.old) (Step.LoseStream payload index) result (pair_state self.new) }
+    fn lose(&mut self, payload: usize) -> Result<Reply, PairError>
+        ensures { Next (pair_state self.old) (Step.Lose payload) result (pair_state self.new) }
     {
-        let stream = match stream_at(&mut self.sent, self.alloc, payload, index) {
-            Ok(found) => found,
+        let (writer, rest) = match rest_at(&mut self.sent, payload, Report::Lost) {
+            Ok(taken) => taken,
             Err(error) => return Err(error),
         };
-        done_reply(self.lose_on(stream.writer, stream.meta))
+        let answer = self.lose_on(writer, rest);
+        settle(&mut self.sent, payload, Report::Lost, answer)
     }
 
-    fn ack_on(&mut self, writer: End, meta: StreamMeta) -> Result<(), OutOfMemory>
-        ensures { OnEnd (λ e f. AcksAt e meta result f) (pair_state self.old) writer (pair_state self.new) }
+    // What is unreported of a payload is reported acknowledged to the end that wrote it.
+    fn ack_on(&mut self, writer: End, rest: SentPayload) -> Result<(), SentPayload>
+        ensures { OnEnd (λ e f. AcksPayloadAt e (sent_view rest) (report_view result) f) (pair_state self.old) writer (pair_state self.new) }
     {
         match writer {
-            End::A => self.a.ack_stream(meta),
-            End::B => self.b.ack_stream(meta),
+            End::A => self.a.acknowledge(rest),
+            End::B => self.b.acknowledge(rest),
         }
     }
 
-    fn ack_stream(&mut self, payload: usize, index: usize) -> Result<Reply, PairError>
-        ensures { Next (pair_state self.old) (Step.AckStream payload index) result (pair_state self.new) }
+    fn ack(&mut self, payload: usize) -> Result<Reply, PairError>
+        ensures { Next (pair_state self.old) (Step.Ack payload) result (pair_state self.new) }
     {
-        let stream = match stream_at(&mut self.sent, self.alloc, payload, index) {
-            Ok(found) => found,
+        let (writer, rest) = match rest_at(&mut self.sent, payload, Report::Acknowledged) {
+            Ok(taken) => taken,
             Err(error) => return Err(error),
         };
-        if !stream.accepted {
-            return Err(PairError::NotAccepted);
-        }
-        done_reply(self.ack_on(stream.writer, stream.meta))
-    }
-
-    fn lose_control(&mut self, payload: usize) -> Result<Reply, PairError>
-        ensures { Next (pair_state self.old) (Step.LoseControl payload) result (pair_state self.new) }
-    {
-        let Some(sent) = sent_at(&self.sent, payload) else {
-            return Err(PairError::NoSuchPayload);
-        };
-        match sent.writer {
-            End::A => done_reply(self.a.lose_control(&sent.control)),
-            End::B => done_reply(self.b.lose_control(&sent.control)),
-        }
-    }
-
-    fn ack_resets_on(&mut self, writer: End, ids: &[StreamId]) -> Result<(), OutOfMemory>
-        ensures ok { OnOk result (OnEnd (λ e f. AcksResets e ids.now f) (pair_state self.old) writer (pair_state self.new)) }
-        ensures err { OnErr result (OnEnd (λ e f. AcksSome e ids.now f) (pair_state self.old) writer (pair_state self.new)) }
-    {
-        match writer {
-            End::A => calls::ack_resets(&mut self.a, ids),
-            End::B => calls::ack_resets(&mut self.b, ids),
-        }
-    }
-
-    fn ack_control(&mut self, payload: usize) -> Result<Reply, PairError>
-        ensures { Next (pair_state self.old) (Step.AckControl payload) result (pair_state self.new) }
-    {
-        let (writer, resets) = match resets_at(&mut self.sent, self.alloc, payload) {
-            Ok(found) => found,
-            Err(error) => return Err(error),
-        };
-        done_reply(self.ack_resets_on(writer, &resets))
+        let answer = self.ack_on(writer, rest);
+        settle(&mut self.sent, payload, Report::Acknowledged, answer)
     }
 
     // One step, by its kind.
@@ -381,10 +351,8 @@ impl Pair {
                 fair,
             } => self.emit(who, max_size, fair),
             Step::Deliver { payload, frame } => self.deliver(payload, frame),
-            Step::LoseStream { payload, index } => self.lose_stream(payload, index),
-            Step::AckStream { payload, index } => self.ack_stream(payload, index),
-            Step::LoseControl { payload } => self.lose_control(payload),
-            Step::AckControl { payload } => self.ack_control(payload),
+            Step::Lose { payload } => self.lose(payload),
+            Step::Ack { payload } => self.ack(payload),
         }
     }
 
@@ -412,7 +380,7 @@ impl Pair {
         ensures readable { (a b : Config) (h : History) → From a b h (pair_state self.old) → WithholdsNothing (past_of h) (pair_state self.old).sent step result }
         ensures drained { (a b : Config) (h : History) → From a b h (pair_state self.old) → Drains (past_of h) (pair_state self.old).sent step result }
         ensures due { (a b : Config) (h : History) → From a b h (pair_state self.old) → AsksFor (pair_state self.old) step result (pair_state self.new) }
-        ensures not_withheld { (a b : Config) (h : History) → From a b h (pair_state self.old) → NotWithheld a b h (pair_state self.old).sent (pair_state self.new).sent step result }
+        ensures not_withheld { (a b : Config) (h : History) (led : From a b h (pair_state self.old)) → NotWithheld led step result (pair_state self.new) }
     {
         self.dispatch(step)
     }

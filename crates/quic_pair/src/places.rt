@@ -1,14 +1,17 @@
-//! Frames by the number of their payload and their place there.
+//! Frames by the number of their payload and their place there, and what is unreported of payloads.
 
-ghost use Rattle.std.specs.Prelude.{◌≡◌, ◌≤◌, ◌⊎◌, IfOk, IfErr, IfSome, IfNone, Err, length, slice_get, Some};
-ghost use Rattle.quic_pair.specs.Places.{FindsFrame, FindsStream, FindsResets, FailsToFind, IsNeverRefused, IsReadyAt, IsHandedFrame, IsSentStream, MarksIf};
-ghost use Rattle.quic_pair.specs.Payloads.{LacksFrame, LacksStream, SpellsNone, LacksAccepted, IsControlAccepted};
+ghost use Rattle.std.specs.Prelude.{◌≡◌, ◌⊎◌, IfOk, IfErr, Err};
+ghost use Rattle.quic_pair.specs.Places.{FindsFrame, FailsToFind, IsReadyAt, IsHandedFrame, MarksIf};
+ghost use Rattle.quic_pair.specs.Payloads.{LacksFrame};
+ghost use Rattle.quic_pair.specs.Replies.{report_reply};
+ghost use Rattle.quic_pair.specs.Reports.{TakesRest, RefusesReport, TakesRestAt, FailsToTake, KeepsBack};
 
+use crate::replies::report_reply;
 use crate::sent::Sent;
+use crate::unsettled::Report;
 use quic_receiving::ShouldTransmit;
-use quic_steps::{End, PairError};
-use quic_values::StreamId;
-use quic_wire::frame::StreamMeta;
+use quic_steps::{End, PairError, Reply};
+use quic_streams::SentPayload;
 use quic_wire::{Frame, ReceiveError};
 use std::alloc::Global;
 
@@ -24,24 +27,6 @@ pub(crate) struct HandedFrame {
     pub(crate) len: usize,
 }
 
-/// A STREAM frame of which something is reported.
-#[derive(Drop)]
-pub(crate) struct SentStream {
-    // The end that wrote it.
-    pub(crate) writer: End,
-    // What it carried.
-    pub(crate) meta: StreamMeta,
-    pub(crate) accepted: bool,
-}
-
-// The payload of a number.
-pub(crate) fn sent_at(sent: &[Sent], payload: usize) -> Option<&Sent>
-    ensures some { IfSome result (λ found. slice_get sent.now payload ≡ Some found.now) }
-    ensures none { IfNone result (length sent.now ≤ payload) }
-{
-    sent.get(payload)
-}
-
 // The frame at a place of a payload.
 pub(crate) fn frame_at(
     sent: &mut Vec<Sent>,
@@ -51,7 +36,7 @@ pub(crate) fn frame_at(
 ) -> Result<HandedFrame, PairError>
     ensures same { sent.new.items ≡ sent.old.items }
     ensures found { IfOk result (FindsFrame sent.old.items payload index) }
-    ensures fails { IfErr result (FailsToFind sent.old.items payload (λ text. LacksFrame text.bytes index) IsNeverRefused) }
+    ensures fails { IfErr result (FailsToFind sent.old.items payload index) }
 {
     if payload >= sent.len() {
         return Err(PairError::NoSuchPayload);
@@ -91,63 +76,55 @@ pub(crate) fn mark_if(
     }
 }
 
-// The STREAM frame at a place of a payload.
-pub(crate) fn stream_at(
+// What is unreported of a payload is taken out, for a report of a kind.
+pub(crate) fn rest_at(
     sent: &mut Vec<Sent>,
-    alloc: Global,
     payload: usize,
-    index: usize,
-) -> Result<SentStream, PairError>
-    ensures same { sent.new.items ≡ sent.old.items }
-    ensures found { IfOk result (FindsStream sent.old.items payload index) }
-    ensures fails { IfErr result (FailsToFind sent.old.items payload (λ text. LacksStream text.bytes index) IsNeverRefused) }
+    kind: Report,
+) -> Result<(End, SentPayload), PairError>
+    ensures taken { IfOk result (λ taken. TakesRestAt sent.old.items payload kind taken.0 taken.1 sent.new.items) }
+    ensures same { IfErr result (λ error. sent.new.items ≡ sent.old.items) }
+    ensures refused { IfErr result (FailsToTake sent.old.items payload kind) }
 {
     if payload >= sent.len() {
         return Err(PairError::NoSuchPayload);
     }
-    stream_of(&mut sent[payload], alloc, index)
-}
-
-// The STREAM frame at a place of this payload.
-fn stream_of(whole: &mut Sent, alloc: Global, index: usize) -> Result<SentStream, PairError>
-    ensures same { whole.new ≡ whole.old }
-    ensures found { IfOk result (IsSentStream whole.old index) }
-    ensures none { result ≡ Err PairError.NoSuchFrame → LacksStream whole.old.text.bytes index }
-    ensures only { IfErr result (λ e. (e ≡ PairError.NoSuchFrame) ⊎ (e ≡ PairError.OutOfMemory)) }
-{
-    let meta = whole.text.stream(alloc, index)?;
-    Ok(SentStream {
-        writer: whole.writer,
-        meta,
-        accepted: whole.text.is_accepted(index),
-    })
-}
-
-// The streams of the RESET_STREAM frames of a payload, of which every frame beside STREAM was accepted.
-pub(crate) fn resets_at(
-    sent: &mut Vec<Sent>,
-    alloc: Global,
-    payload: usize,
-) -> Result<(End, Vec<StreamId>), PairError>
-    ensures same { sent.new.items ≡ sent.old.items }
-    ensures found { IfOk result (λ found. FindsResets sent.old.items payload found.0 found.1.items) }
-    ensures fails { IfErr result (FailsToFind sent.old.items payload (λ text. SpellsNone text.bytes) LacksAccepted) }
-{
-    if payload >= sent.len() {
-        return Err(PairError::NoSuchPayload);
-    }
-    resets_of(&mut sent[payload], alloc)
+    rest_of(&mut sent[payload], kind)
 }
 
 // The same of this payload.
-fn resets_of(whole: &mut Sent, alloc: Global) -> Result<(End, Vec<StreamId>), PairError>
-    ensures same { whole.new ≡ whole.old }
-    ensures writer { IfOk result (λ found. found.0 ≡ whole.old.writer) }
-    ensures found { IfOk result (λ found. IsControlAccepted whole.old.text found.1.items) }
-    ensures refused { result ≡ Err PairError.NotAccepted → LacksAccepted whole.old.text }
-    ensures none { result ≡ Err PairError.NoSuchFrame → SpellsNone whole.old.text.bytes }
-    ensures only { IfErr result (λ e. (e ≡ PairError.NoSuchFrame) ⊎ ((e ≡ PairError.NotAccepted) ⊎ (e ≡ PairError.OutOfMemory))) }
+fn rest_of(whole: &mut Sent, kind: Report) -> Result<(End, SentPayload), PairError>
+    ensures writer { IfOk result (λ taken. taken.0 ≡ whole.old.writer) }
+    ensures taken { IfOk result (λ taken. TakesRest kind whole.old taken.1 whole.new) }
+    ensures same { IfErr result (λ error. whole.new ≡ whole.old) }
+    ensures refused { IfErr result (RefusesReport kind whole.old) }
 {
-    let ids = whole.text.resets(alloc)?;
-    Ok((whole.writer, ids))
+    let rest = whole.take_rest(kind)?;
+    Ok((whole.writer, rest))
+}
+
+// What is replied to a report of which this came: what came back is kept, to be reported again.
+pub(crate) fn settle(
+    sent: &mut Vec<Sent>,
+    payload: usize,
+    kind: Report,
+    answer: Result<(), SentPayload>,
+) -> Result<Reply, PairError>
+    ensures reply { result ≡ report_reply answer }
+    ensures kept { KeepsBack sent.old.items payload kind answer sent.new.items }
+{
+    let reply = report_reply(&answer);
+    if let Err(back) = answer {
+        keep_back(sent, payload, kind, back);
+    }
+    reply
+}
+
+// What came back of a report is kept.
+fn keep_back(sent: &mut Vec<Sent>, payload: usize, kind: Report, back: SentPayload)
+    ensures { KeepsBack sent.old.items payload kind (Err back) sent.new.items }
+{
+    if payload < sent.len() {
+        sent[payload].unsettled.keep(kind, back);
+    }
 }

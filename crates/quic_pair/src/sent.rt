@@ -1,15 +1,16 @@
 //! Payloads that were sent, and the frames in them.
 
-ghost use Rattle.std.specs.Prelude.{◌≡◌, ◌≤◌, ◌<◌, ◌+◌, ◌^◌, ◌⊎◌, [], ◌∷◌, ◌++◌, length, true, false, All, slice_get, IfOk, IfErr, OnOk, OnErr, Ok, Err, Some};
-ghost use Rattle.quic_wire.specs.Frames.{AreFrames};
+ghost use Rattle.std.specs.Prelude.{◌≡◌, ◌≤◌, ◌⊎◌, [], length, true, false, slice_get, IfOk, IfErr, OnOk, OnErr, Err, Some, None};
 ghost use Rattle.quic_endpoint.specs.Receiving.{data_length};
-ghost use Rattle.quic_pair.specs.Payloads.{AreRead, IsFrameAt, LacksFrame, SpellsNone, IsReadyToMark, IsMarked, IsStreamAt, LacksStream, IsControlAccepted, LacksAccepted, AreMarked, LacksMark, AreFreshMarks, HasSmallOffset, IsStreamOf, LacksStreamOf, is_accepted, is_control, is_marked, has_data, meta_of, resets_in};
+ghost use Rattle.quic_pair.specs.Payloads.{AreRead, IsFrameAt, LacksFrame, IsReadyToMark, IsMarked, AreAllAccepted, LacksAccepted, AreSet, LacksMark, AreFreshMarks, has_data};
+ghost use Rattle.quic_pair.specs.Reports.{TakesRest, RefusesReport};
 
+use crate::unsettled::{Report, Unsettled};
 use quic_endpoint::Payload;
 use quic_steps::{End, PairError};
-use quic_streams::ThinRetransmits;
+use quic_streams::SentPayload;
 use quic_values::{Dir, OutOfMemory, StreamId};
-use quic_wire::frame::{Datagram, Stream, StreamMeta};
+use quic_wire::frame::{Datagram, Stream};
 use quic_wire::{DecodeError, Frame, decode};
 use std::alloc::Global;
 use std::marker::Model;
@@ -19,19 +20,36 @@ use std::marker::Model;
 pub(crate) struct Sent {
     // The end.
     pub(crate) writer: End,
-    // What the frames beside STREAM carry.
-    pub(crate) control: ThinRetransmits,
+    pub(crate) unsettled: Unsettled,
     pub(crate) text: SentText,
 }
 
 impl Sent {
     pub(crate) fn new(alloc: Global, writer: End, payload: Payload) -> Self
-        ensures { (result.writer ≡ writer) × (result.control ≡ payload.control) × (result.text ≡ record { bytes = payload.bytes.items; accepted = [] }) }
+        ensures { result ≡ record { writer = writer; unsettled = record { begun = None; rest = Some payload.sent }; text = record { bytes = payload.bytes.items; accepted = [] } } }
     {
         Sent {
             writer,
-            control: payload.control,
+            unsettled: Unsettled::new(payload.sent),
             text: SentText::new(alloc, payload.bytes),
+        }
+    }
+
+    // Takes what is unreported out, for a report of a kind.
+    pub(crate) fn take_rest(&mut self, kind: Report) -> Result<SentPayload, PairError>
+        ensures taken { IfOk result (λ rest. TakesRest kind self.old rest self.new) }
+        ensures same { IfErr result (λ error. self.new ≡ self.old) }
+        ensures refused { IfErr result (RefusesReport kind self.old) }
+    {
+        if !self.unsettled.may_report(kind) {
+            return Err(PairError::AlreadySettled);
+        }
+        if kind.needs_acceptance() && !self.text.is_all_accepted() {
+            return Err(PairError::NotAccepted);
+        }
+        match self.unsettled.take() {
+            Some(rest) => Ok(rest),
+            None => Err(PairError::AlreadySettled),
         }
     }
 }
@@ -106,108 +124,35 @@ impl SentText {
         }
     }
 
-    // Whether a frame was accepted.
-    pub(crate) fn is_accepted(&self, index: usize) -> bool
-        ensures { result ≡ is_accepted self.now index }
+    // Whether every frame was accepted.
+    pub(crate) fn is_all_accepted(&self) -> bool
+        ensures yes { result ≡ true → AreAllAccepted self.now }
+        ensures no { result ≡ false → LacksAccepted self.now }
     {
-        is_marked(&self.accepted, index)
-    }
-
-    // What the STREAM frame at a place carries.
-    pub(crate) fn stream(&mut self, alloc: Global, index: usize) -> Result<StreamMeta, PairError>
-        ensures same { self.new ≡ self.old }
-        ensures found { IfOk result (IsStreamAt self.old.bytes index) }
-        ensures none { result ≡ Err PairError.NoSuchFrame → LacksStream self.old.bytes index }
-        ensures only { IfErr result (λ e. (e ≡ PairError.NoSuchFrame) ⊎ (e ≡ PairError.OutOfMemory)) }
-    {
-        read_once(alloc, &self.bytes, &mut self.frames)?;
-        stream_in(&self.frames, index)
-    }
-
-    // The streams of the RESET_STREAM frames, if every frame beside STREAM was accepted.
-    pub(crate) fn resets(&mut self, alloc: Global) -> Result<Vec<StreamId>, PairError>
-        ensures same { self.new ≡ self.old }
-        ensures found { IfOk result (λ ids. IsControlAccepted self.old ids.items) }
-        ensures refused { result ≡ Err PairError.NotAccepted → LacksAccepted self.old }
-        ensures none { result ≡ Err PairError.NoSuchFrame → SpellsNone self.old.bytes }
-        ensures only { IfErr result (λ e. (e ≡ PairError.NoSuchFrame) ⊎ ((e ≡ PairError.NotAccepted) ⊎ (e ≡ PairError.OutOfMemory))) }
-    {
-        read_once(alloc, &self.bytes, &mut self.frames)?;
-        if !are_marked(&self.frames, &self.accepted) {
-            return Err(PairError::NotAccepted);
+        if self.bytes.is_empty() {
+            return true;
         }
-        Ok(resets_in(alloc, &self.frames)?)
+        !self.accepted.is_empty() && are_set(&self.accepted)
     }
 }
 
-// Whether the frame at a place is marked.
-fn is_marked(marks: &[bool], index: usize) -> bool
-    ensures { result ≡ is_marked marks.now index }
+// Whether every mark is set.
+fn are_set(marks: &[bool]) -> bool
+    ensures yes { result ≡ true → AreSet marks.now }
+    ensures no { result ≡ false → LacksMark marks.now }
 {
-    match marks.get(index) {
-        Some(mark) => *mark,
-        None => false,
-    }
-}
-
-// Whether every frame beside STREAM is marked.
-fn are_marked(frames: &[Frame], marks: &[bool]) -> bool
-    ensures yes { result ≡ true → AreMarked marks.now frames.now }
-    ensures no { result ≡ false → LacksMark marks.now frames.now }
-{
-    for index in 0..frames.len() {
-        if is_control(&frames[index]) && !is_marked(marks, index) {
+    for index in 0..marks.len() {
+        if !marks[index] {
             return false;
         }
     }
     true
 }
 
-// The streams of the RESET_STREAM frames among some.
-fn resets_in(alloc: Global, frames: &[Frame]) -> Result<Vec<StreamId>, OutOfMemory>
-    ensures { IfOk result (λ ids. ids.items ≡ resets_in frames.now) }
-{
-    let mut ids = Vec::new(alloc);
-    for index in 0..frames.len() {
-        push_reset(&mut ids, &frames[index])?;
-    }
-    Ok(ids)
-}
-
-// One more, if the frame is a RESET_STREAM frame.
-fn push_reset(ids: &mut Vec<StreamId>, frame: &Frame) -> Result<(), OutOfMemory>
-    ensures { OnOk result (ids.new.items ≡ ids.old.items ++ resets_in (frame.now ∷ [])) }
-{
-    match frame {
-        Frame::ResetStream(reset) => Ok(ids.push(reset.id)?),
-        _ => Ok(()),
-    }
-}
-
-// Whether a frame is no STREAM frame.
-fn is_control(frame: &Frame) -> bool
-    ensures { result ≡ is_control frame.now }
-{
-    !matches!(frame, Frame::Stream(_))
-}
-
-// What a STREAM frame carries.
-fn meta_of(stream: &Stream) -> StreamMeta
-    requires { stream.now.offset + length stream.now.bytes < 2 ^ 64 }
-    ensures { result ≡ meta_of stream.now }
-{
-    StreamMeta {
-        id: stream.id,
-        offsets: stream.offset..stream.offset + stream.bytes.len() as u64,
-        fin: stream.fin,
-    }
-}
-
 // The frames that some bytes spell.
 fn read_frames(alloc: Global, bytes: &[u8]) -> Result<Vec<Frame>, PairError>
     ensures read { IfOk result (λ all. AreRead bytes.now all.items) }
     ensures none { result ≡ Err PairError.NoSuchFrame → LacksFrame bytes.now 0 }
-    ensures malformed { result ≡ Err PairError.NoSuchFrame → SpellsNone bytes.now }
     ensures only { IfErr result (λ e. (e ≡ PairError.NoSuchFrame) ⊎ (e ≡ PairError.OutOfMemory)) }
 {
     match decode(alloc, bytes) {
@@ -223,7 +168,6 @@ fn read_once(alloc: Global, bytes: &[u8], frames: &mut Vec<Frame>) -> Result<(),
     ensures read { OnOk result (AreRead bytes.now frames.new.items) }
     ensures same { OnErr result (frames.new ≡ frames.old) }
     ensures none { result ≡ Err PairError.NoSuchFrame → LacksFrame bytes.now 0 }
-    ensures malformed { result ≡ Err PairError.NoSuchFrame → SpellsNone bytes.now }
     ensures only { IfErr result (λ e. (e ≡ PairError.NoSuchFrame) ⊎ (e ≡ PairError.OutOfMemory)) }
 {
     if frames.is_empty() {
@@ -241,18 +185,6 @@ fn frame_in(frames: &[Frame], index: usize) -> Result<Frame, PairError>
     match frames.get(index) {
         Some(frame) => Ok(clone_frame(frame)?),
         None => Err(PairError::NoSuchFrame),
-    }
-}
-
-// What the STREAM frame at a place carries.
-fn stream_in(frames: &[Frame], index: usize) -> Result<StreamMeta, PairError>
-    requires { All HasSmallOffset frames.now }
-    ensures found { IfOk result (IsStreamOf frames.now index) }
-    ensures none { IfErr result (λ e. (e ≡ PairError.NoSuchFrame) × LacksStreamOf frames.now index) }
-{
-    match frames.get(index) {
-        Some(Frame::Stream(stream)) => Ok(meta_of(stream)),
-        _ => Err(PairError::NoSuchFrame),
     }
 }
 

@@ -81,7 +81,7 @@ fn deliver(payload: usize) -> Step {
 }
 
 fn acknowledge(payload: usize) -> Step {
-    Step::AckStream { payload, index: 0 }
+    Step::Ack { payload }
 }
 
 fn push_steps_up_to_the_loss(alloc: Global, steps: &mut Vec<Step>) -> Result<(), OutOfMemory> {
@@ -106,10 +106,7 @@ fn push_steps_up_to_the_loss(alloc: Global, steps: &mut Vec<Step>) -> Result<(),
 
 fn push_steps_from_the_loss(steps: &mut Vec<Step>) -> Result<(), OutOfMemory> {
     let who = End::A;
-    steps.push(Step::LoseStream {
-        payload: 0,
-        index: 0,
-    })?;
+    steps.push(Step::Lose { payload: 0 })?;
     steps.push(emit(30))?;
     steps.push(deliver(2))?;
     steps.push(read())?;
@@ -168,7 +165,7 @@ fn replies_with_a_loss(alloc: Global) -> Result<Vec<Result<Reply, PairError>>, O
     }))?;
     replies.push(Ok(Reply::Done))?;
     replies.push(Ok(Reply::Nothing))?;
-    replies.push(Err(PairError::NotAccepted))?;
+    replies.push(Err(PairError::AlreadySettled))?;
     replies.push(Ok(Reply::Done))?;
     replies.push(Ok(Reply::Event(StreamEvent::Finished { id: stream() })))?;
     replies.push(Ok(Reply::Done))?;

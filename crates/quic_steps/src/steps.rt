@@ -125,22 +125,12 @@ pub enum Step {
         payload: usize,
         frame: usize,
     },
-    /// Reports a STREAM frame lost.
-    LoseStream {
-        payload: usize,
-        index: usize,
-    },
-    /// Reports a STREAM frame acknowledged.
-    AckStream {
-        payload: usize,
-        index: usize,
-    },
-    /// Reports the control frames of a payload lost.
-    LoseControl {
+    /// Reports a payload lost: what it carried is to be sent again.
+    Lose {
         payload: usize,
     },
-    /// Reports the control frames of a payload acknowledged.
-    AckControl {
+    /// Reports a payload acknowledged. Each of its frames was accepted.
+    Ack {
         payload: usize,
     },
 }
@@ -203,20 +193,24 @@ pub enum PairError {
     NoSuchPayload,
     #[error("no such frame")]
     NoSuchFrame,
-    #[error("the frame was not accepted")]
+    #[error("a frame was not accepted")]
     NotAccepted,
     #[error("unknown stream id")]
     UnknownId,
     /// Want of memory: the step was not taken. But an `Emit` may have made its payload, with the
-    /// frames that were written before, and an `AckControl` may have been taken for the first of its resets.
+    /// frames that were written before, and a `Lose` or an `Ack` may have reported the first frames of its payload. That
+    /// report may be asked again, and then goes on; the other of the two is refused from now on.
     #[error("out of memory")]
     OutOfMemory,
+    /// The payload was reported lost or acknowledged, or the other of the two was begun.
+    #[error("the payload is already settled")]
+    AlreadySettled,
 }
 
 impl PairError {
     ghost use Rattle.quic_steps.specs.Errors.{number_of};
 
-    /// From 1 on, in the order in which the reasons are looked for.
+    /// From 1 on.
     pub fn number(self) -> u8
         ensures { result ≡ number_of self }
     {
@@ -226,6 +220,7 @@ impl PairError {
             PairError::NotAccepted => 3,
             PairError::UnknownId => 4,
             PairError::OutOfMemory => 5,
+            PairError::AlreadySettled => 6,
         }
     }
 }

@@ -7,9 +7,14 @@ fn each_error_has_its_number_and_its_text(rt: HostRuntime) -> Result<(), Fail> {
     for (error, number, text) in [
         (PairError::NoSuchPayload, 1, "no such payload"),
         (PairError::NoSuchFrame, 2, "no such frame"),
-        (PairError::NotAccepted, 3, "the frame was not accepted"),
+        (PairError::NotAccepted, 3, "a frame was not accepted"),
         (PairError::UnknownId, 4, "unknown stream id"),
         (PairError::OutOfMemory, 5, "out of memory"),
+        (
+            PairError::AlreadySettled,
+            6,
+            "the payload is already settled",
+        ),
     ] {
         let shown = format!(in rt.alloc(); "{error}")?;
         assert_eq!(rt; shown.as_str(), text);

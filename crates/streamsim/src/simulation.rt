@@ -4,6 +4,7 @@ use anyhow::{Context, Result};
 use quic_endpoint::{Endpoint, Payload};
 use quic_receiving::ReadableError;
 use quic_sending::WriteError;
+use quic_streams::SentPayload;
 use quic_streams::batches::ReadSome;
 use quic_streams::progress::LastAnswer;
 use quic_values::{Dir, OutOfMemory, Side, StreamId, VarInt};
@@ -72,16 +73,9 @@ fn emit(end: &mut Endpoint, size: usize) -> Result<Payload, OutOfMemory> {
     answer.and(Ok(payload))
 }
 
-fn lose_control(end: &mut Endpoint, payload: &Payload) -> Result<(), OutOfMemory> {
-    end.lose_control(&payload.control)
-}
-
-fn report(end: &mut Endpoint, meta: StreamMeta, is_lost: bool) -> Result<(), OutOfMemory> {
-    if is_lost {
-        end.lose_stream(meta)
-    } else {
-        end.ack_stream(meta)
-    }
+fn report(end: &mut Endpoint, sent: SentPayload, is_lost: bool) -> Result<(), OutOfMemory> {
+    let answer = if is_lost { end.lose(sent) } else { end.acknowledge(sent) };
+    answer.or(Err(OutOfMemory))
 }
 
 fn arrive(alloc: Global, payload: &Payload, to: &mut Endpoint) -> Result<()> {
@@ -114,17 +108,13 @@ impl Simulation {
             };
             let flight = self.flights.swap_remove(place);
             let (payload, is_lost) = (flight.payload, flight.is_lost);
-            if is_lost {
-                lose_control(from, &payload)?;
-            } else {
+            if !is_lost {
                 arrive(self.alloc, &payload, to)?;
-            }
-            for meta in payload.streams {
-                if !is_lost {
-                    self.row.acknowledged = self.row.acknowledged.saturating_add(length(&meta));
+                for meta in payload.sent.streams.as_slice() {
+                    self.row.acknowledged = self.row.acknowledged.saturating_add(length(meta));
                 }
-                report(from, meta, is_lost)?;
             }
+            report(from, payload.sent, is_lost)?;
         }
         Ok(())
     }
@@ -132,7 +122,7 @@ impl Simulation {
     // Sends a payload, if there is something to send. Lets pass what the end tells.
     fn send(&mut self, sender: Side, from: &mut Endpoint) -> Result<()> {
         let payload = emit(from, self.plan.payload as usize)?;
-        for meta in payload.streams.as_slice() {
+        for meta in payload.sent.streams.as_slice() {
             self.row.carried = self.row.carried.saturating_add(length(meta));
             self.row.sent = self.row.sent.max(meta.offsets.end);
         }

@@ -51,7 +51,7 @@ fn push_data(alloc: Global, steps: &mut Vec<Step>) -> Result<(), OutOfMemory> {
     let mut chunks = ChunkList::new(alloc);
     chunks.push(b"a")?;
     chunks.push(b"bc")?;
-    let (payload, index, frame) = (1, 0, 0);
+    let (payload, frame) = (1, 0);
     steps.push(Step::Open { who, dir })?;
     steps.push(Step::Write {
         who,
@@ -65,10 +65,10 @@ fn push_data(alloc: Global, steps: &mut Vec<Step>) -> Result<(), OutOfMemory> {
         priority: 1,
     })?;
     steps.push(emit(who))?;
-    steps.push(Step::LoseStream { payload: 0, index })?;
+    steps.push(Step::Lose { payload: 0 })?;
     steps.push(emit(who))?;
     steps.push(Step::Deliver { payload, frame })?;
-    steps.push(Step::AckStream { payload, index })?;
+    steps.push(Step::Ack { payload })?;
     Ok(())
 }
 
@@ -98,12 +98,12 @@ fn push_reader(steps: &mut Vec<Step>) -> Result<(), OutOfMemory> {
 // stream, ends it, and gives it up.
 fn push_control(steps: &mut Vec<Step>) -> Result<(), OutOfMemory> {
     steps.push(emit(End::B))?;
-    steps.push(Step::LoseControl { payload: 2 })?;
+    steps.push(Step::Lose { payload: 2 })?;
     steps.push(emit(End::B))?;
     for frame in 0..3usize {
         steps.push(Step::Deliver { payload: 3, frame })?;
     }
-    steps.push(Step::AckControl { payload: 3 })?;
+    steps.push(Step::Ack { payload: 3 })?;
     let (who, dir) = (End::A, Dir::Uni);
     steps.push(Step::Poll { who })?;
     steps.push(Step::Open { who, dir })?;

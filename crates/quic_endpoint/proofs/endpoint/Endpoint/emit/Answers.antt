@@ -1,21 +1,20 @@
-use Rattle.std.proofs.Common.{◌≡◌, ℕ, List, [], length, ◌≤◌, Ok, Err, rules, arith, refl, ap, ◌∙◌, sym, subst}
-use Rattle.quic_wire.specs.declared.frame.StreamMeta.{StreamMeta}
-use Rattle.quic_retransmits.specs.Pending.{Pending, nothing, shown_pending}
+use Rattle.std.proofs.Common.{length, ◌≤◌, Ok, Err, arith, refl}
+use Rattle.quic_retransmits.specs.Pending.{shown_pending}
 use Rattle.quic_retransmits.specs.Settling.{noted_in}
 use Rattle.quic_streams.specs.Shown.{shown}
 use Rattle.quic_streams.specs.Payload.{with_entries}
 use Rattle.quic_endpoint.specs.Shown.{end_state}
 use Rattle.quic_endpoint.specs.Ends.{EndState}
-use Rattle.quic_endpoint.specs.Emitting.{PayloadView, payload_view, EmitsControl, EmitsStreams, EmitsNoStream, EmitsAt, whole, cut}
+use Rattle.quic_endpoint.specs.Emitting.{EmitsControl, whole, cut}
 use Rattle.quic_endpoint.proofs.endpoint.Endpoint.emit.Goals as goal
 
 pub returns-in-Err-clause-emits : goal.returns-in-Err-clause-emits
 unfolding end_state
 returns-in-Err-clause-emits c =
     let w = c.write_control_frames-written in
-    let bytes_none : c.new-payload.result.bytes.items ≡ [] = ap (λ (p : PayloadView). p.bytes) c.new-payload.ensures in
-    let noted_none : noted_in c.new-payload.result.control ≡ nothing = ap (λ (p : PayloadView). p.control) c.new-payload.ensures in
-    let streams_none : c.new-payload.result.streams.items ≡ [] = ap (λ (p : PayloadView). p.streams) c.new-payload.ensures in
+    let bytes_none = c.new-payload.ensures.bytes in
+    let noted_none = c.new-payload.ensures.control in
+    let streams_none = c.new-payload.ensures.streams in
     let between : EndState = record { streams = shown w.new.self; pending = shown_pending w.new.pending } in
     let control : EmitsControl c.args.max_size (end_state c.args.self.now) (Err c.in-Err.error) between w.new.buf.items (noted_in w.new.sent) = record {
       before = c.new-counters.result;
@@ -32,9 +31,9 @@ unfolding end_state
 returns-clause-emits c =
     let w = c.write_control_frames-written in
     let v = c.write_stream_frames-answer in
-    let bytes_none : c.new-payload.result.bytes.items ≡ [] = ap (λ (p : PayloadView). p.bytes) c.new-payload.ensures in
-    let noted_none : noted_in c.new-payload.result.control ≡ nothing = ap (λ (p : PayloadView). p.control) c.new-payload.ensures in
-    let streams_none : c.new-payload.result.streams.items ≡ [] = ap (λ (p : PayloadView). p.streams) c.new-payload.ensures in
+    let bytes_none = c.new-payload.ensures.bytes in
+    let noted_none = c.new-payload.ensures.control in
+    let streams_none = c.new-payload.ensures.streams in
     let between : EndState = record { streams = shown w.new.self; pending = shown_pending w.new.pending } in
     let control : EmitsControl c.args.max_size (end_state c.args.self.now) (Ok tt) between w.new.buf.items (noted_in w.new.sent) = record {
       before = c.new-counters.result;
@@ -58,7 +57,7 @@ unfolding end_state
 returns-clause-within c = λ m h f.
     let w = c.write_control_frames-written in
     let v = c.write_stream_frames-answer in
-    let bytes_none : c.new-payload.result.bytes.items ≡ [] = ap (λ (p : PayloadView). p.bytes) c.new-payload.ensures in
+    let bytes_none = c.new-payload.ensures.bytes in
     let begins : length c.new-payload.result.bytes.items ≤ c.args.max_size = rw bytes_none (omega arith) in
     let control = w.ensures.from in
     let appended = v.ensures.carries m (with_entries control.entries h) (control.from m h f) in

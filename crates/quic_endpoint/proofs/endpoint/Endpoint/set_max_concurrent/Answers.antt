@@ -4,7 +4,7 @@ use Rattle.quic_history.specs.History.{SetConcurrent, From}
 use Rattle.quic_streams.specs.Shown.{shown}
 use Rattle.quic_retransmits.specs.Pending.{shown_pending}
 use Rattle.quic_endpoint.specs.Shown.{end_state}
-use Rattle.quic_endpoint.specs.Ends.{EndState, with_counts_told_if}
+use Rattle.quic_endpoint.specs.Ends.{EndState}
 use Rattle.quic_endpoint.proofs.Told.{told-streams}
 use Rattle.quic_endpoint.proofs.endpoint.Endpoint.set_max_concurrent.Goals as goal
 

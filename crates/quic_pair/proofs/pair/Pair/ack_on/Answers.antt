@@ -5,8 +5,8 @@ use Rattle.quic_pair.proofs.pair.Pair.ack_on.Goals as goal
 
 pub returns-in-A : goal.returns-in-A
 unfolding pair_state
-returns-in-A c = rw c.in-A.is (record { end = end_state c.ack_stream.new.self; does = c.ack_stream.ensures.acks; is = refl })
+returns-in-A c = rw c.in-A.is (record { end = end_state c.acknowledge.new.self; does = c.acknowledge.ensures.acks; is = refl })
 
 pub returns-in-B : goal.returns-in-B
 unfolding pair_state
-returns-in-B c = rw c.in-B.is (record { end = end_state c.ack_stream-in-B.new.self; does = c.ack_stream-in-B.ensures.acks; is = refl })
+returns-in-B c = rw c.in-B.is (record { end = end_state c.acknowledge-in-B.new.self; does = c.acknowledge-in-B.ensures.acks; is = refl })

@@ -1,9 +1,11 @@
+use Rattle.std.specs.Option.{option_map}
+use Rattle.quic_streams.specs.Sent.{sent_view}
 use Rattle.std.proofs.Common.{ap, ◌∙◌, ◌≡◌, length, ◌++◌, ◌∷◌, []}
 use Rattle.quic_endpoint.specs.Shown.{end_state}
 use Rattle.quic_pair.specs.State.{PairState, pair_state}
 use Rattle.quic_pair.proofs.Deeds.{emit-so}
 use Rattle.quic_pair.proofs.pair.Pair.emit.Goals as goal
-use Rattle.quic_retransmits.specs.Settling.{noted_in}
+use Rattle.quic_pair.specs.declared.sent.Sent.{Sent}
 use Rattle.quic_endpoint.specs.Emitting.{payload_view}
 use Rattle.quic_pair.specs.Steps.{IsSentBy}
 
@@ -12,7 +14,7 @@ unfolding pair_state
 returns c =
     let old : PairState = pair_state c.args.self.now in
     let new : PairState = record { a = end_state c.emit_on-payload.new.a; b = end_state c.emit_on-payload.new.b; sent = c.push.new.self.items } in
-    let sent_is : IsSentBy c.args.who (payload_view c.emit_on-payload.result.0) c.new.result = record { writer = c.new.ensures.0; text = c.new.ensures.2; control = ap noted_in c.new.ensures.1 } in
+    let sent_is : IsSentBy c.args.who (payload_view c.emit_on-payload.result.0) c.new.result = record { writer = ap (λ (s : Sent). s.writer) c.new.ensures; text = ap (λ (s : Sent). s.text) c.new.ensures; begun = ap (λ (s : Sent). s.unsettled.begun) c.new.ensures; rest = ap (λ (s : Sent). option_map sent_view s.unsettled.rest) c.new.ensures } in
     let is : new.sent ≡ old.sent ++ c.new.result ∷ [] = c.in-Ok.ensures.items ∙ ap (λ l. l ++ c.new.result ∷ []) c.reserve.ensures.items in
     let count : c.len-number.result ≡ length old.sent = c.len-number.ensures ∙ c.reserve.new.self.ok.0 ∙ ap length c.reserve.ensures.items in
     rw c.payload_reply.ensures

@@ -5,8 +5,8 @@ use Rattle.quic_pair.proofs.pair.Pair.lose_on.Goals as goal
 
 pub returns-in-A : goal.returns-in-A
 unfolding pair_state
-returns-in-A c = rw c.in-A.is (record { end = end_state c.lose_stream.new.self; does = c.lose_stream.ensures.loses; is = refl })
+returns-in-A c = rw c.in-A.is (record { end = end_state c.lose.new.self; does = c.lose.ensures.loses; is = refl })
 
 pub returns-in-B : goal.returns-in-B
 unfolding pair_state
-returns-in-B c = rw c.in-B.is (record { end = end_state c.lose_stream-in-B.new.self; does = c.lose_stream-in-B.ensures.loses; is = refl })
+returns-in-B c = rw c.in-B.is (record { end = end_state c.lose-in-B.new.self; does = c.lose-in-B.ensures.loses; is = refl })

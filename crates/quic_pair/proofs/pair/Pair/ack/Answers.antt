@@ -1,0 +1,28 @@
+use Rattle.std.proofs.Common.{ap, refl, subst, ◌∙◌, ◌≡◌}
+use Rattle.quic_endpoint.specs.Reports.{AcksPayloadAt}
+use Rattle.quic_pair.specs.declared.unsettled.Report.TheVariants.{Acknowledged}
+use Rattle.quic_pair.specs.Reports.{KeepsBack}
+use Rattle.quic_pair.specs.State.{PairState, pair_state}
+use Rattle.quic_pair.proofs.Deeds.{report-refused, report-so, sent-same}
+use Rattle.quic_pair.proofs.pair.Pair.ack.Goals as goal
+
+pub returns-in-Err : goal.returns-in-Err
+unfolding pair_state
+returns-in-Err c =
+    let old : PairState = pair_state c.args.self.now in
+    let new : PairState = record { a = old.a; b = old.b; sent = c.rest_at.new.sent.items } in
+    report-refused Acknowledged AcksPayloadAt old new c.args.payload c.in-Err.error (rw c.in-Err.is at c.rest_at.ensures.refused) (ap (λ l. record { a = old.a; b = old.b; sent = l }) (rw c.in-Err.is at c.rest_at.ensures.same))
+
+pub returns : goal.returns
+unfolding pair_state
+returns c =
+    let old : PairState = pair_state c.args.self.now in
+    let taken : PairState = record { a = old.a; b = old.b; sent = c.rest_at.new.sent.items } in
+    let mid : PairState = pair_state c.ack_on-answer.new.self in
+    let new : PairState = record { a = mid.a; b = mid.b; sent = c.settle.new.sent.items } in
+    let t = rw c.in-Ok.is at c.rest_at.ensures.taken in
+    let d = c.ack_on-answer.ensures in
+    let kept : mid.sent ≡ taken.sent = ap (λ (k : PairState). k.sent) d.is ∙ sent-same taken c.in-Ok.taken.0 d.end in
+    let k = subst (λ l. KeepsBack l c.args.payload Acknowledged c.ack_on-answer.result new.sent) kept c.settle.ensures.kept in
+    rw c.settle.ensures.reply
+    (report-so Acknowledged AcksPayloadAt old taken mid new c.args.payload c.in-Ok.taken.0 c.in-Ok.taken.1 t c.ack_on-answer.result d refl k refl)

@@ -1,0 +1,81 @@
+//! What is unreported of a payload that was sent.
+
+ghost use Rattle.std.specs.Prelude.{◌≡◌, None, Some};
+ghost use Rattle.quic_pair.specs.Unsettled.{needs_acceptance, goes_on, may_report};
+
+use quic_streams::SentPayload;
+
+/// What becomes of a payload.
+#[derive(Clone, Copy, Debug)]
+pub(crate) enum Report {
+    Lost,
+    Acknowledged,
+}
+
+impl Report {
+    // Whether every frame of the payload has to be accepted.
+    pub(crate) fn needs_acceptance(self) -> bool
+        ensures { result ≡ needs_acceptance self }
+    {
+        match self {
+            Report::Lost => false,
+            Report::Acknowledged => true,
+        }
+    }
+
+    // Whether this report begins, or goes on with the one that was begun.
+    fn goes_on(self, begun: Option<Report>) -> bool
+        ensures { result ≡ goes_on self begun }
+    {
+        match (self, begun) {
+            (_, None) => true,
+            (Report::Lost, Some(Report::Lost)) => true,
+            (Report::Acknowledged, Some(Report::Acknowledged)) => true,
+            _ => false,
+        }
+    }
+}
+
+/// What is unreported of a payload.
+#[derive(Drop)]
+pub(crate) struct Unsettled {
+    // The report that was begun, for the rest of which memory was wanting.
+    begun: Option<Report>,
+    // What is still to be reported, unless all was.
+    rest: Option<SentPayload>,
+}
+
+impl Unsettled {
+    // All that was handed back.
+    pub(crate) fn new(sent: SentPayload) -> Self
+        ensures { result ≡ record { begun = None; rest = Some sent } }
+    {
+        Unsettled {
+            begun: None,
+            rest: Some(sent),
+        }
+    }
+
+    // Whether something is unreported, and the report of the other kind was not begun.
+    pub(crate) fn may_report(&self, kind: Report) -> bool
+        ensures { result ≡ may_report kind self.now }
+    {
+        self.rest.is_some() && kind.goes_on(self.begun)
+    }
+
+    // Takes what is unreported out.
+    pub(crate) fn take(&mut self) -> Option<SentPayload>
+        ensures rest { result ≡ self.old.rest }
+        ensures left { self.new ≡ record self.old { rest = None } }
+    {
+        self.rest.take()
+    }
+
+    // A report was begun, and this came back of it.
+    pub(crate) fn keep(&mut self, kind: Report, back: SentPayload)
+        ensures { self.new ≡ record { begun = Some kind; rest = Some back } }
+    {
+        self.begun = Some(kind);
+        self.rest = Some(back);
+    }
+}
