@@ -62,7 +62,9 @@ fn visit(
         window,
         in_one,
     } = subject;
-    let answer = match RecvStream::new(id(3), &mut state, &mut pending).read_with(ordered, visitor) {
+    let answer = match RecvStream::new(id(3), &mut state, &mut pending).read_with(
+        ordered, visitor,
+    ) {
         Ok(transmit) => Ok(transmit.should_transmit()),
         Err(error) => Err(error),
     };
@@ -100,10 +102,7 @@ fn a_visitor_reads_as_it_likes(rt: HostRuntime) -> Result<(), Fail> {
     Ok(())
 }
 
-const RESET: [Step; 2] = [
-    Step::Data(3, 0, 8, TAKEN),
-    Step::Reset(3, 7, 8, TAKEN),
-];
+const RESET: [Step; 2] = [Step::Data(3, 0, 8, TAKEN), Step::Reset(3, 7, 8, TAKEN)];
 
 const RESET_READ: [Step; 3] = [
     Step::Is(8, 8),
@@ -137,7 +136,12 @@ const STILL_READ_AS_IT_CAME: [Step; 2] = [
 #[test]
 fn a_refused_visitor_is_left_alone(rt: HostRuntime) -> Result<(), Fail> {
     let alloc = rt.alloc();
-    let subject = run(&rt, alloc, client(alloc, 128, WINDOW, WINDOW)?, &READ_AS_IT_CAME)?;
+    let subject = run(
+        &rt,
+        alloc,
+        client(alloc, 128, WINDOW, WINDOW)?,
+        &READ_AS_IT_CAME,
+    )?;
     let mut visitor = TwoReads::new(3, 9);
     let (subject, answer) = visit(subject, true, &mut visitor);
     same(&rt, answer, Err(ReadableError::IllegalOrderedRead));
