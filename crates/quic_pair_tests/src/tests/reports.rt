@@ -1,5 +1,5 @@
 //! Payloads are settled once, by their numbers, and a report is refused in the order of its reasons.
-use super::{bytes, config, emit, payload, same};
+use super::{bytes, config, emit, payload, same, stream};
 use quic_pair::{End, Pair, PairError, Reply, Step};
 use quic_values::{Dir, OutOfMemory, Side, StreamId};
 use std::alloc::Global;
@@ -7,8 +7,8 @@ use std::test::Fail;
 
 type Replies = Vec<Result<Reply, PairError>>;
 
-fn stream(index: u64) -> StreamId {
-    StreamId::new(Side::Client, Dir::Uni, index)
+fn other() -> StreamId {
+    StreamId::new(Side::Client, Dir::Uni, 1)
 }
 
 // What the frames of two streams with one byte each encode to.
@@ -21,12 +21,12 @@ fn push_payload(alloc: Global, steps: &mut Vec<Step>) -> Result<(), OutOfMemory>
     steps.push(Step::Open { who, dir })?;
     steps.push(Step::Write {
         who,
-        id: stream(0),
+        id: stream(),
         bytes: bytes(alloc, b"a")?,
     })?;
     steps.push(Step::Write {
         who,
-        id: stream(1),
+        id: other(),
         bytes: bytes(alloc, b"b")?,
     })?;
     steps.push(emit(100))?;
@@ -71,8 +71,8 @@ fn push_done(replies: &mut Replies, count: u32) -> Result<(), OutOfMemory> {
 
 fn replies_of_all(alloc: Global) -> Result<Replies, OutOfMemory> {
     let mut replies = Vec::new(alloc);
-    replies.push(Ok(Reply::Id(stream(0))))?;
-    replies.push(Ok(Reply::Id(stream(1))))?;
+    replies.push(Ok(Reply::Id(stream())))?;
+    replies.push(Ok(Reply::Id(other())))?;
     replies.push(Ok(Reply::Wrote(1)))?;
     replies.push(Ok(Reply::Wrote(1)))?;
     replies.push(Ok(payload(alloc, 0, &BOTH, b"")?))?;
