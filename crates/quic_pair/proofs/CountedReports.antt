@@ -35,7 +35,7 @@ use Rattle.quic_pair.specs.declared.unsettled.Unsettled.{Unsettled}
 use Rattle.quic_pair.specs.Unsettled.{may_report, goes_on}
 use Rattle.quic_pair.specs.Replies.{Answer, report_reply}
 use Rattle.quic_pair.specs.State.{PairState, the_end, with_end, with_sent}
-use Rattle.quic_pair.specs.Steps.{Reports, Settles}
+use Rattle.quic_pair.specs.Steps.{Reports, SettlesPayload}
 use Rattle.quic_pair.specs.History.{Past}
 use Rattle.quic_pair.specs.Tale.{Tale, Part, Carried, GivenUp, StepTells, parts_in, parts_of, with_parts, acked_part, lost_part, with_deed}
 use Rattle.quic_pair.proofs.Lists.{one-of-first}
@@ -297,7 +297,7 @@ module _ (a b : Config) (p : Past) (old new : PairState) (j : Joined a b p old) 
   acked : (reply : Answer) → Reports Acknowledged AcksPayloadAt old number reply new → after (steps.Ack number) reply
   acked reply k = subst (after (steps.Ack number)) (sym k.reply_is) (ack_done k.payload.sent k.payload.is k.rest k.rest_is k.may k.answer k.end k.does k.is)
 
-  pub counts-lose : (reply : Answer) → Settles Lost LosesPayloadAt old number reply new → after (steps.Lose number) reply
+  pub counts-lose : (reply : Answer) → SettlesPayload Lost LosesPayloadAt old number reply new → after (steps.Lose number) reply
   counts-lose (Ok Done) k = lost (Ok Done) k
   counts-lose (Err NoMemory) k = lost (Err NoMemory) k
   counts-lose (Err NoSuchPayload) k = recount-same a b old r (steps.Lose number) (Err NoSuchPayload) new k.1 refl
@@ -305,7 +305,7 @@ module _ (a b : Config) (p : Past) (old new : PairState) (j : Joined a b p old) 
   counts-lose (Err NotAccepted) k = recount-same a b old r (steps.Lose number) (Err NotAccepted) new k.is refl
   counts-lose _ k = absurd k
 
-  pub counts-ack : (reply : Answer) → Settles Acknowledged AcksPayloadAt old number reply new → after (steps.Ack number) reply
+  pub counts-ack : (reply : Answer) → SettlesPayload Acknowledged AcksPayloadAt old number reply new → after (steps.Ack number) reply
   counts-ack (Ok Done) k = acked (Ok Done) k
   counts-ack (Err NoMemory) k = acked (Err NoMemory) k
   counts-ack (Err NoSuchPayload) k = recount-same a b old r (steps.Ack number) (Err NoSuchPayload) new k.1 refl

@@ -26,7 +26,7 @@ use Rattle.quic_pair.specs.Places.{FindsFrame, FailsToFind, MarksIf, MarksAt}
 use Rattle.quic_pair.specs.Unsettled.{unsettled_after}
 use Rattle.quic_pair.specs.Reports.{TakesRestAt, FailsToTake, KeepsBack}
 use Rattle.quic_pair.specs.State.{PairState, OnEnd, peer, the_end, with_end, with_sent, two_ends}
-use Rattle.quic_pair.specs.Steps.{IsSentBy, Emits, Emitted, TakesFrame, Delivers, HandsOver, SentAfter, Reports, Settles}
+use Rattle.quic_pair.specs.Steps.{IsSentBy, Emits, Emitted, TakesFrame, Delivers, HandsOver, SentAfter, Reports, SettlesPayload}
 use Rattle.quic_pair.proofs.Lists.{slice_get-set_same, slice_set-twice}
 
 pub sent-same : (p : PairState) (who : End) (e : EndState) → (with_end p who e).sent ≡ p.sent
@@ -102,7 +102,7 @@ module _ (old mid new : PairState) (n i : ℕ) (h : HandedFrame) (f : FindsFrame
 -- ---- what is reported of a payload
 
 module _ (kind : Report) (At : EndState → SentView → Result (Unit {0}) SentView → EndState → Type 0) where
-  pub report-refused : (old new : PairState) (n : ℕ) (error : PairError) → FailsToTake old.sent n kind error → new ≡ old → Settles kind At old n (Err error) new
+  pub report-refused : (old new : PairState) (n : ℕ) (error : PairError) → FailsToTake old.sent n kind error → new ≡ old → SettlesPayload kind At old n (Err error) new
   report-refused old new n refusals.NoSuchPayload h e = (h, e)
   report-refused old new n refusals.AlreadySettled h e = record { payload = record { sent = h.whole; is = h.is }; why = h.why; is = e }
   report-refused old new n refusals.NotAccepted h e = record { payload = record { sent = h.whole; is = h.is }; why = h.why; is = e }
@@ -149,9 +149,9 @@ module _ (kind : Report) (At : EndState → SentView → Result (Unit {0}) SentV
         sent_again A x = refl
         sent_again B x = refl
 
-    pub report-so : OnEnd (λ e f. At e (sent_view rest) (report_view answer) f) taken writer mid → taken ≡ with_sent old taken.sent → KeepsBack taken.sent n kind answer new.sent → new ≡ with_sent mid new.sent → Settles kind At old n (report_reply answer) new
+    pub report-so : OnEnd (λ e f. At e (sent_view rest) (report_view answer) f) taken writer mid → taken ≡ with_sent old taken.sent → KeepsBack taken.sent n kind answer new.sent → new ≡ with_sent mid new.sent → SettlesPayload kind At old n (report_reply answer) new
     report-so d e k is = settled_by answer (reported d e k is)
       where
-        settled_by : (a : Result (Unit {0}) SentPayload) → Reports kind At old n (report_reply a) new → Settles kind At old n (report_reply a) new
+        settled_by : (a : Result (Unit {0}) SentPayload) → Reports kind At old n (report_reply a) new → SettlesPayload kind At old n (report_reply a) new
         settled_by (Ok done) x = x
         settled_by (Err back) x = x

@@ -71,7 +71,7 @@ use Rattle.quic_pair.specs.declared.unsettled.Report.TheVariants.{Lost, Acknowle
 use Rattle.quic_pair.specs.Payloads.{noted_of}
 use Rattle.quic_pair.specs.declared.unsettled.Unsettled.{Unsettled}
 use Rattle.quic_pair.specs.Unsettled.{goes_on, may_report}
-use Rattle.quic_pair.specs.Steps.{Next, Emitted, HandsOver, Delivers, Settles, HasPayload}
+use Rattle.quic_pair.specs.Steps.{Next, Emitted, HandsOver, Delivers, SettlesPayload, HasPayload}
 use Rattle.quic_pair.specs.History.{History, past_of}
 use Rattle.quic_pair.specs.From.{From}
 use Rattle.quic_pair.specs.Due.{AsksStreams, AsksData, AsksWindow, AsksAllOf, OpensAll, LeavesRoom, WritesAll, AsksForReset, AsksStop, AsksStopIf, AsksWindowIf, AsksAfterRead, AsksStreamsIf, AsksLarger, IsFull, IsFullIf, AsksAfterFrame, AsksAgain, OnWriter, AsksFor}
@@ -422,7 +422,7 @@ module _ (old new : PairState) where
   acked_asks (Ok done) number h r f d e = on_writer WriterAsks number (Ok Done) h (subst AsksStreams (sym e) (asks_at d.acked f d.is))
   acked_asks (Err back) number h r f d e = tt
 
-  acks_asks : (number : ℕ) (reply : Answer) → Settles Acknowledged AcksPayloadAt old number reply new → OnWriter old number WriterAsks reply
+  acks_asks : (number : ℕ) (reply : Answer) → SettlesPayload Acknowledged AcksPayloadAt old number reply new → OnWriter old number WriterAsks reply
   acks_asks number (Ok Done) k =
       let P : Answer → Type 0 = λ r. OnWriter old number WriterAsks r in
       subst P (sym k.reply_is) (acked_asks k.answer number k.payload k.rest k.end k.does (sent_end old new k.payload.sent.writer k.end _ k.is))
@@ -448,7 +448,7 @@ module _ (old new : PairState) where
         goes_so u x is may = rw is at may
     lost_asks (Err back) number h r rest may f d e = tt
 
-    loses_asks : (number : ℕ) (reply : Answer) → Settles Lost LosesPayloadAt old number reply new → OnWriter old number AllAsked reply
+    loses_asks : (number : ℕ) (reply : Answer) → SettlesPayload Lost LosesPayloadAt old number reply new → OnWriter old number AllAsked reply
     loses_asks number (Ok Done) k =
         let P : Answer → Type 0 = λ r. OnWriter old number AllAsked r in
         subst P (sym k.reply_is) (lost_asks k.answer number k.payload k.rest k.rest_is k.may k.end k.does (sent_end old new k.payload.sent.writer k.end _ k.is))

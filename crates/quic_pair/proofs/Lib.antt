@@ -47,4 +47,5 @@ pub mod Served
 pub mod Settled
 pub mod Stops
 pub mod Texts
+pub mod ToldOnce
 pub mod Unrefused

@@ -28,7 +28,7 @@ use Rattle.quic_pair.specs.declared.unsettled.Unsettled.{Unsettled}
 use Rattle.quic_pair.specs.Unsettled.{unsettled_after}
 use Rattle.quic_pair.specs.Replies.{Answer, received_reply}
 use Rattle.quic_pair.specs.State.{PairState, OnEnd, with_end, with_sent}
-use Rattle.quic_pair.specs.Steps.{Next, Emits, Emitted, SentAfter, HandsOver, Delivers, Reports, Settles}
+use Rattle.quic_pair.specs.Steps.{Next, Emits, Emitted, SentAfter, HandsOver, Delivers, Reports, SettlesPayload}
 use Rattle.quic_pair.specs.History.{Past, History, FramePlace, after, after_deliver, after_report, past_of}
 use Rattle.quic_pair.specs.From.{From, begun, next}
 use Rattle.quic_pair.proofs.Lists.{slice_get-append_left, slice_get-push, slice_get-slice_set, slice_set-keeps, slice_get-set_same}
@@ -201,7 +201,7 @@ module _ (p : Past) (old new : PairState) (m : AreMarkedSo p.accepted old.sent) 
       sents_are A f sents e = ap (λ (v : PairState). v.sent) e
       sents_are B f sents e = ap (λ (v : PairState). v.sent) e
 
-  marks_settles : (number : ℕ) (kind : Report) (At : EndState → SentView → Result (Unit {0}) SentView → EndState → Type 0) (reply : Answer) → Settles kind At old number reply new → AreMarkedSo (after_report p number kind reply).accepted new.sent
+  marks_settles : (number : ℕ) (kind : Report) (At : EndState → SentView → Result (Unit {0}) SentView → EndState → Type 0) (reply : Answer) → SettlesPayload kind At old number reply new → AreMarkedSo (after_report p number kind reply).accepted new.sent
   marks_settles number kind At (Ok Done) k = marks_reports number kind At (Ok Done) k
   marks_settles number kind At (Err NoMemory) k = marks_reports number kind At (Err NoMemory) k
   marks_settles number kind At (Err NoSuchPayload) k = marks_stay k.1

@@ -47,6 +47,7 @@ use Rattle.quic_pair.proofs.Grown.{grown-from, retold-next}
 use Rattle.quic_pair.proofs.Counted.{Counted}
 use Rattle.quic_pair.proofs.Recounted.{Recounted, made_at}
 use Rattle.quic_pair.proofs.Due.{asks-for}
+use Rattle.quic_pair.proofs.ToldOnce.{tells-once, told-once}
 
 -- ---- writes
 
@@ -316,7 +317,9 @@ not-withheld a b h old new step reply f n =
       before = g.recounted.tales;
       behind = r.behind.tales;
       told = g.told;
+      told_alone = λ t k. told-once f t g.recounted.tales k g.told;
       tells = r.tells;
+      tells_alone = λ t k. tells-once old.sent new.sent g.recounted.tales t r.behind.tales step reply k r.tells;
       does = does_so a b old new g.recounted step reply n;
       leaves = leaves_so a b h old new r.behind step reply f n;
     }

@@ -23,7 +23,7 @@ use Rattle.quic_pair.specs.Payloads.{AreAllAccepted, LacksAccepted, is_accepted}
 use Rattle.quic_pair.specs.Replies.{Answer}
 use Rattle.quic_pair.specs.State.{PairState, OnEnd, the_end}
 use Rattle.quic_pair.specs.Calls.{OnGiven}
-use Rattle.quic_pair.specs.Steps.{HasPayload, Next, Delivers, Reports, Settles}
+use Rattle.quic_pair.specs.Steps.{HasPayload, Next, Delivers, Reports, SettlesPayload}
 use Rattle.quic_pair.specs.History.{Past, History, FramePlace, past_of}
 use Rattle.quic_pair.specs.From.{From}
 use Rattle.quic_pair.specs.Refused.{IsTaken, IsKnownSo, IsFoundSo, HasBytes, Always, HasAllAccepted, HasOneUnaccepted, Needs, Misses, IsServedSo, IsReportedSo, IsRefusedSo}
@@ -107,7 +107,7 @@ module _ (p : Past) (old new : PairState) (t : AreSpelled old.sent) (m : AreMark
     has = record { payload = k.payload.sent; is = k.payload.is; are = needs_so kind p.accepted old.sent m number k.payload.sent k.payload.is k.serves };
   }
 
-  settles_so : (reply : Answer) → Settles kind At old number reply new → IsReportedSo p old.sent number kind reply
+  settles_so : (reply : Answer) → SettlesPayload kind At old number reply new → IsReportedSo p old.sent number kind reply
   settles_so (Ok Done) k = served_report (Ok Done) k
   settles_so (Err NoMemory) k = served_report (Err NoMemory) k
   settles_so (Err NoSuchPayload) k = k.0

@@ -33,7 +33,7 @@ use Rattle.quic_pair.specs.declared.unsettled.Unsettled.{Unsettled}
 use Rattle.quic_pair.specs.Unsettled.{unsettled_after}
 use Rattle.quic_pair.specs.Replies.{Answer}
 use Rattle.quic_pair.specs.State.{PairState, peer, the_end, with_end, with_sent}
-use Rattle.quic_pair.specs.Steps.{Reports, Settles}
+use Rattle.quic_pair.specs.Steps.{Reports, SettlesPayload}
 use Rattle.quic_pair.specs.History.{Past, after_report}
 use Rattle.quic_pair.proofs.Lists.{slice_get-slice_set, slice_set-keeps, slice_get-set_same, slice_get-within, got-one, one-of-first, place-of}
 use Rattle.quic_pair.proofs.Left.{AreLeft, metas-among}
@@ -384,7 +384,7 @@ module _ (a b : Config) (p : Past) (old new : PairState) (number : ℕ) (j : Joi
   acked : (reply : Answer) → Reports Acknowledged AcksPayloadAt old number reply new → Joined a b (after_report p number Acknowledged reply) new
   acked reply k = joined-by a b p (after_report p number Acknowledged reply) k.payload.sent.writer old new j (λ x y s. seen-acks p k.payload.sent.writer old new x y number reply s told left k refl)
 
-  pub joined-loses : (reply : Answer) → Settles Lost LosesPayloadAt old number reply new → Joined a b (after_report p number Lost reply) new
+  pub joined-loses : (reply : Answer) → SettlesPayload Lost LosesPayloadAt old number reply new → Joined a b (after_report p number Lost reply) new
   joined-loses (Ok Done) k = lost (Ok Done) k
   joined-loses (Err NoMemory) k = lost (Err NoMemory) k
   joined-loses (Err NoSuchPayload) k = joined-same a b p old new number j k.1
@@ -392,7 +392,7 @@ module _ (a b : Config) (p : Past) (old new : PairState) (number : ℕ) (j : Joi
   joined-loses (Err NotAccepted) k = joined-same a b p old new number j k.is
   joined-loses _ k = absurd k
 
-  pub joined-acks : (reply : Answer) → Settles Acknowledged AcksPayloadAt old number reply new → Joined a b (after_report p number Acknowledged reply) new
+  pub joined-acks : (reply : Answer) → SettlesPayload Acknowledged AcksPayloadAt old number reply new → Joined a b (after_report p number Acknowledged reply) new
   joined-acks (Ok Done) k = acked (Ok Done) k
   joined-acks (Err NoMemory) k = acked (Err NoMemory) k
   joined-acks (Err NoSuchPayload) k = joined-same a b p old new number j k.1

@@ -31,7 +31,7 @@ use Rattle.quic_pair.specs.declared.unsettled.Report.TheVariants.{Lost, Acknowle
 use Rattle.quic_pair.specs.Replies.{Answer, wants_memory, accepted_reply, opened_reply, unwritten_reply, written_reply, chunks_reply, unfinished_reply, finished_reply, unhandled_reply, handled_reply, code_reply, unread_reply, read_reply, event_reply, done_reply, received_reply}
 use Rattle.quic_pair.specs.State.{PairState, OnEnd, the_end, with_end}
 use Rattle.quic_pair.specs.Calls.{Opens, Accepts, OnGiven, Writes, WritesChunksOrNone, Finishes, ResetsOn, StopsOn, SetsPriorityOn, AsksReset, ReadsOn, SetsReceiveWindow, SetsMaxConcurrent, Polls}
-use Rattle.quic_pair.specs.Steps.{Next, Emitted, HandsOver, Delivers, Settles}
+use Rattle.quic_pair.specs.Steps.{Next, Emitted, HandsOver, Delivers, SettlesPayload}
 use Rattle.quic_pair.specs.Refused.{IsRefused, IsTaken}
 
 -- ---- replies
@@ -188,7 +188,7 @@ module _ (old new : PairState) where
   delivers_stay number index (Err NoMemory) r k = absurd r
   delivers_stay number index reply r k = absurd (served-hands reply k r)
 
-  settles_stay : (number : ℕ) (kind : Report) (At : EndState → SentView → Result (Unit {0}) SentView → EndState → Type 0) (reply : Answer) → IsRefused reply → Settles kind At old number reply new → new ≡ old
+  settles_stay : (number : ℕ) (kind : Report) (At : EndState → SentView → Result (Unit {0}) SentView → EndState → Type 0) (reply : Answer) → IsRefused reply → SettlesPayload kind At old number reply new → new ≡ old
   settles_stay number kind At (Ok Done) r k = absurd r
   settles_stay number kind At (Err NoMemory) r k = absurd r
   settles_stay number kind At (Err NoSuchPayload) r k = k.1

@@ -28,7 +28,7 @@ use Rattle.quic_pair.specs.declared.unsettled.Unsettled.{Unsettled}
 use Rattle.quic_pair.specs.Unsettled.{goes_on, may_report, other_report, unsettled_after}
 use Rattle.quic_pair.specs.Replies.{Answer, report_reply}
 use Rattle.quic_pair.specs.State.{PairState, OnEnd}
-use Rattle.quic_pair.specs.Steps.{Next, Emits, Emitted, SentAfter, Delivers, Reports, Settles}
+use Rattle.quic_pair.specs.Steps.{Next, Emits, Emitted, SentAfter, Delivers, Reports, SettlesPayload}
 use Rattle.quic_pair.specs.History.{Past, History, after, after_deliver, after_report, past_of}
 use Rattle.quic_pair.specs.From.{From, begun, next}
 use Rattle.quic_pair.specs.Refused.{IsSettledFor}
@@ -250,7 +250,7 @@ module _ (p : Past) (old new : PairState) (k : AreSettledSo p.settled p.begun ol
         let P : Answer → Type 0 = λ r. AreSettledSo (after_report p number kind r).settled (after_report p number kind r).begun new.sent in
         subst P (sym e.reply_is) (settled_answered e.payload.sent e.payload.is e.may e.answer (ap (λ (v : PairState). v.sent) e.is))
 
-    settled_settles : (reply : Answer) → Settles kind At old number reply new → AreSettledSo (after_report p number kind reply).settled (after_report p number kind reply).begun new.sent
+    settled_settles : (reply : Answer) → SettlesPayload kind At old number reply new → AreSettledSo (after_report p number kind reply).settled (after_report p number kind reply).begun new.sent
     settled_settles (Ok Done) e = settled_reported (Ok Done) e
     settled_settles (Err NoMemory) e = settled_reported (Err NoMemory) e
     settled_settles (Err NoSuchPayload) e = settled_stay e.1

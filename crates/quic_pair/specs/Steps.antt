@@ -130,13 +130,13 @@ pub record Reports (kind : Report) (At : EndState → SentView → Result (Unit 
 
 -- what a report of a payload was replied, and what it did. Where memory was wanting, a beginning of it was served, and what
 -- came back is left
-abbrev pub Settles : Report → (EndState → SentView → Result (Unit {0}) SentView → EndState → Type 0) → PairState → ℕ → Answer → PairState → Type 0
-Settles kind At old number (Ok Done) new = Reports kind At old number (Ok Done) new
-Settles kind At old number (Err NoMemory) new = Reports kind At old number (Err NoMemory) new
-Settles kind At old number (Err NoSuchPayload) new = LacksPayload old number new
-Settles kind At old number (Err AlreadySettled) new = RefusesOf old number (λ s. RefusesReport kind s AlreadySettled) new
-Settles kind At old number (Err NotAccepted) new = RefusesOf old number (λ s. RefusesReport kind s NotAccepted) new
-Settles kind At old number _ new = ⊥
+abbrev pub SettlesPayload : Report → (EndState → SentView → Result (Unit {0}) SentView → EndState → Type 0) → PairState → ℕ → Answer → PairState → Type 0
+SettlesPayload kind At old number (Ok Done) new = Reports kind At old number (Ok Done) new
+SettlesPayload kind At old number (Err NoMemory) new = Reports kind At old number (Err NoMemory) new
+SettlesPayload kind At old number (Err NoSuchPayload) new = LacksPayload old number new
+SettlesPayload kind At old number (Err AlreadySettled) new = RefusesOf old number (λ s. RefusesReport kind s AlreadySettled) new
+SettlesPayload kind At old number (Err NotAccepted) new = RefusesOf old number (λ s. RefusesReport kind s NotAccepted) new
+SettlesPayload kind At old number _ new = ⊥
 
 -- ---- all steps
 
@@ -158,5 +158,5 @@ Next old (steps.SetMaxConcurrent who dir count) reply new = OnEnd (λ e f. SetsM
 Next old (steps.Poll who) reply new = OnEnd (λ e f. Polls e reply f) old who new
 Next old (steps.Emit who most fair) reply new = Emitted old who most fair reply new
 Next old (steps.Deliver number index) reply new = Delivers old number index reply new
-Next old (steps.Lose number) reply new = Settles Lost LosesPayloadAt old number reply new
-Next old (steps.Ack number) reply new = Settles Acknowledged AcksPayloadAt old number reply new
+Next old (steps.Lose number) reply new = SettlesPayload Lost LosesPayloadAt old number reply new
+Next old (steps.Ack number) reply new = SettlesPayload Acknowledged AcksPayloadAt old number reply new

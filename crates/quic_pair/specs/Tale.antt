@@ -186,7 +186,7 @@ pub record SendsOne (sent : List Sent) (who : End) (t u : Tales) : Type 0 where
   pub stood : WasPayload sent who t.payloads all
   pub is : u ≡ record (told_of who (with_frames_sent all) t) { payloads = t.payloads + 1 }
 
--- one was sent, or none, as many payloads are there behind the step
+-- one was sent, or none: there is one payload more behind the step, or there are as many
 abbrev pub SendsOneOrNone : List Sent → List Sent → End → Tales → Tales → Type 0
 SendsOneOrNone old new who t u = ((length new ≡ length old) × (u ≡ t)) ⊎ ((length new ≡ length old + 1) × SendsOne new who t u)
 
@@ -209,8 +209,9 @@ pub record TellsAll (new : List Sent) (number : ℕ) (deed : Part → Tale → T
   pub some : TellsParts new number deed t u
   pub each : t.told number + some.count ≡ length (parts_in some.all)
 
--- what a step and its reply tell, with the payloads that were sent before it and behind it. Of an `Emit` that wants memory the
--- number of payloads says whether it sent one. A report that wants memory tells of the parts that it reported
+-- what a step and its reply tell, with the payloads that were sent before it and behind it. Whether an `Emit` that wants memory
+-- sent one, the number of payloads says, as `Pair::payload` answers it. A report that wants memory tells of the parts that it
+-- reported: those that are not left
 abbrev pub StepTells : List Sent → List Sent → Step → Answer → Tales → Tales → Type 0
 StepTells old new (steps.Open who dir) (Ok (Id id)) t u = u ≡ told_of who (with_one_opened dir) t
 StepTells old new (steps.Write who id bytes) (Ok (Wrote count)) t u = u ≡ told_of who (with_bytes_taken id count (slice_lists bytes)) t

@@ -55,12 +55,14 @@ LeavesNone u _ reply = Unit {0}
 
 -- a step withholds nothing on the sending side that is permitted, by what the steps tell, this one behind those that led to the
 -- pair
--- before: what those before it tell
+-- before: what those before it tell, and nothing else
 -- behind: what they and this one do
 pub record NotWithheld {a b : Config} {h : History} {old : PairState} (led : From a b h old) (step : Step) (reply : Answer) (new : PairState) : Type 0 where
   pub before : Tales
   pub behind : Tales
   pub told : Told led before
+  pub told_alone : (t : Tales) → Told led t → t ≡ before
   pub tells : StepTells old.sent new.sent step reply before behind
+  pub tells_alone : (t : Tales) → StepTells old.sent new.sent step reply before t → t ≡ behind
   pub does : DoesAsPermitted before step reply
   pub leaves : LeavesNone behind step reply

@@ -8,6 +8,7 @@ use std::process::Abort;
 use std::test::Fail;
 
 mod kinds;
+mod reports;
 
 // Both are the same, or the test fails and shows them.
 fn same<T: PartialEq + Debug + Drop>(rt: &impl Abort, found: T, wanted: T) {
