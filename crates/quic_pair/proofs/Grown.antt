@@ -27,6 +27,7 @@ use Rattle.quic_pair.specs.Steps.{Next}
 use Rattle.quic_pair.specs.History.{History, StepTaken, Past, after, past_from, past_of, nothing_yet}
 use Rattle.quic_pair.specs.Headline.{Headline}
 use Rattle.quic_pair.specs.From.{From, begun, next, IsNew, made_of, end_begun}
+use Rattle.quic_pair.specs.Runs.{sendings_of}
 use Rattle.quic_pair.specs.Tale.{Told, tale_begun, tale_first, tales_begun, first_count}
 use Rattle.quic_pair.proofs.Joined.{Joined}
 use Rattle.quic_pair.proofs.Left.{AreLeft}
@@ -140,7 +141,7 @@ past-after h step reply = past-more nothing_yet h (step, reply)
 pub record Grown {a b : Config} {h : History} {v : PairState} (f : From a b h v) : Type 0 where
   pub joined : Joined a b (past_of h) v
   pub recounted : Recounted a b v
-  pub told : Told f recounted.tales
+  pub told : Told a b (sendings_of f) recounted.tales
 
 pub grown-from : {a b : Config} {h : History} {v : PairState} (f : From a b h v) → Grown f
 grown-from {a} {b} {h} {v} (begun n) = let r = recounted_new a b v n in record { joined = joined-new a b v n; recounted = r.0; told = r.1 }

@@ -42,6 +42,7 @@ use Rattle.quic_pair.specs.From.{From as FromPair}
 use Rattle.quic_pair.specs.History.{History, past_of}
 use Rattle.quic_pair.specs.Readable.{side_of}
 use Rattle.quic_pair.specs.Tale.{Tale, retained_by}
+use Rattle.quic_pair.specs.Runs.{sendings_of}
 use Rattle.quic_pair.specs.Withheld.{NotWithheld, DoesAsPermitted, LeavesNone, WritesTold, RefusesData, OnlyReceives, room_told}
 use Rattle.quic_pair.proofs.Grown.{grown-from, retold-next}
 use Rattle.quic_pair.proofs.Counted.{Counted}
@@ -309,7 +310,7 @@ leaves_so a b h old new r (steps.Emit who most fair) (Ok (Payload number bytes))
 leaves_so a b h old new r _ reply f n = tt
 
 -- whatever steps led to a pair, the next one withholds nothing on the sending side that is permitted
-pub not-withheld : (a b : Config) (h : History) (old new : PairState) (step : Step) (reply : Answer) (f : FromPair a b h old) → Next old step reply new → NotWithheld f step reply new
+pub not-withheld : (a b : Config) (h : History) (old new : PairState) (step : Step) (reply : Answer) (f : FromPair a b h old) → Next old step reply new → NotWithheld a b (sendings_of f) step reply new.sent
 not-withheld a b h old new step reply f n =
     let g = grown-from f in
     let r = retold-next a b (past_of h) old new g.joined g.recounted step reply n in
@@ -317,7 +318,7 @@ not-withheld a b h old new step reply f n =
       before = g.recounted.tales;
       behind = r.behind.tales;
       told = g.told;
-      told_alone = λ t k. told-once f t g.recounted.tales k g.told;
+      told_alone = λ t k. told-once a b (sendings_of f) t g.recounted.tales k g.told;
       tells = r.tells;
       tells_alone = λ t k. tells-once old.sent new.sent g.recounted.tales t r.behind.tales step reply k r.tells;
       does = does_so a b old new g.recounted step reply n;

@@ -1,4 +1,4 @@
--- The steps that led to a pair tell one thing alone.
+-- Steps tell one thing alone.
 use Rattle.std.proofs.Common.{◌≡◌, ℕ, List, Ok, Err, sym, ap, ◌∙◌, subst, inl, inr, arith}
 use Rattle.std.specs.Prelude.{slice_get, length, take, drop, ◌+◌}
 use Rattle.std.proofs.lemmas.Option.{same_Some}
@@ -13,10 +13,9 @@ use Rattle.quic_steps.specs.declared.steps.Reply.TheVariants.{Done, DoneTransmit
 use Rattle.quic_steps.specs.declared.steps.PairError.TheVariants.{OutOfMemory as NoMemory}
 use Rattle.quic_pair.specs.declared.sent.Sent.{Sent}
 use Rattle.quic_pair.specs.Replies.{Answer}
-use Rattle.quic_pair.specs.State.{PairState, peer}
+use Rattle.quic_pair.specs.State.{peer}
 use Rattle.quic_pair.specs.History.{History, FramePlace}
-use Rattle.quic_pair.specs.From.{From, begun, next}
-use Rattle.quic_pair.specs.Tale.{Tale, Tales, Told, StepTells, Part, parts_in, parts_left, with_parts, with_frames_sent, with_frame_heard, told_of, told_more, WasPayload, HearsOne, SendsOne, TellsParts}
+use Rattle.quic_pair.specs.Tale.{Tale, Tales, Sendings, none, more, Told, StepTells, Part, parts_in, parts_left, with_parts, with_frames_sent, with_frame_heard, told_of, told_more, WasPayload, HearsOne, SendsOne, TellsParts}
 
 -- one payload has one writer and spells one list of frames
 module _ (sent : List Sent) (number : ℕ) (who other : End) (all others : List Frame) (k : WasPayload sent who number all) (l : WasPayload sent other number others) where
@@ -70,8 +69,8 @@ tells-once old new t u v (steps.Reset who id code) (Ok Done) k l = k ∙ sym l
 tells-once old new t u v (steps.SetSendWindow who window) (Ok Done) k l = k ∙ sym l
 tells-once old new t u v (steps.Emit who most fair) (Ok (Payload number bytes)) k l = sent_once t u v new who k.0 l.0
 tells-once old new t u v (steps.Emit who most fair) (Err error) k l = elim k [
-  | inl none ↦ elim l [ inl also ↦ none.1 ∙ sym also.1 | inr one ↦ (let x = none.0 in let y = one.0 in absurd (omega (arith, x, y))) ]
-  | inr one ↦ elim l [ inl none ↦ (let x = none.0 in let y = one.0 in absurd (omega (arith, x, y))) | inr also ↦ sent_once t u v new who one.1 also.1 ]
+  | inl same_as ↦ elim l [ inl also ↦ same_as.1 ∙ sym also.1 | inr one ↦ (let x = same_as.0 in let y = one.0 in absurd (omega (arith, x, y))) ]
+  | inr one ↦ elim l [ inl same_as ↦ (let x = same_as.0 in let y = one.0 in absurd (omega (arith, x, y))) | inr also ↦ sent_once t u v new who one.1 also.1 ]
 ]
 tells-once old new t u v (steps.Deliver number index) (Ok Done) k l = heard_once t u v old (number, index) k l
 tells-once old new t u v (steps.Deliver number index) (Ok DoneTransmit) k l = heard_once t u v old (number, index) k l
@@ -81,10 +80,10 @@ tells-once old new t u v (steps.Ack number) (Ok Done) k l = parts_once t u v new
 tells-once old new t u v (steps.Ack number) (Err NoMemory) k l = parts_once t u v new number _ k l
 tells-once old new t u v _ _ k l = k ∙ sym l
 
--- and so do all that led to a pair
-pub told-once : {a b : Config} {h : History} {v : PairState} (f : From a b h v) (t u : Tales) → Told f t → Told f u → t ≡ u
-told-once (begun n) t u k l = k ∙ sym l
-told-once (next {h} {old} {new} step reply f n) t u k l =
-    let before : k.0 ≡ l.0 = told-once f k.0 l.0 k.1 l.1 in
-    let P : Tales → Type 0 = λ w. StepTells old.sent new.sent step reply w u in
-    tells-once old.sent new.sent k.0 t u step reply k.2 (subst P (sym before) l.2)
+-- and so do all of them
+pub told-once : {h : History} {sent : List Sent} (a b : Config) (led : Sendings h sent) (t u : Tales) → Told a b led t → Told a b led u → t ≡ u
+told-once a b none t u k l = k ∙ sym l
+told-once a b (more {h} {old} step reply new before) t u k l =
+    let one : k.0 ≡ l.0 = told-once a b before k.0 l.0 k.1 l.1 in
+    let P : Tales → Type 0 = λ w. StepTells old new step reply w u in
+    tells-once old new k.0 t u step reply k.2 (subst P (sym one) l.2)

@@ -25,9 +25,8 @@ use Rattle.quic_pair.specs.declared.sent.Sent.{Sent}
 use Rattle.quic_pair.specs.Payloads.{IsFrameAt, metas_in, codes_in}
 use Rattle.quic_pair.specs.declared.unsettled.Unsettled.{Unsettled}
 use Rattle.quic_pair.specs.Replies.{Answer}
-use Rattle.quic_pair.specs.State.{PairState, peer}
+use Rattle.quic_pair.specs.State.{peer}
 use Rattle.quic_pair.specs.History.{History, FramePlace, is_same_end}
-use Rattle.quic_pair.specs.From.{From, begun, next}
 
 -- what is told of what one end sends
 -- flow: of each stream
@@ -229,7 +228,12 @@ StepTells old new (steps.Ack number) (Ok Done) t u = TellsAll new number acked_p
 StepTells old new (steps.Ack number) (Err NoMemory) t u = TellsParts new number acked_part t u
 StepTells old new _ reply t u = u ≡ t
 
--- what all steps that led to a pair tell, with their replies
-abbrev pub Told : {a b : Config} {h : History} {v : PairState} → From a b h v → Tales → Type 0
-Told {a} {b} (begun new) t = t ≡ tales_begun a b
-Told (next {h} {old} {new} step reply before taken) u = (t : Tales) × Told before t × StepTells old.sent new.sent step reply t u
+-- steps with their replies, and the payloads that were sent behind each of them
+pub data Sendings : History → List Sent → Type 0 where
+  none : {sent : List Sent} → Sendings [] sent
+  more : {h : History} {old : List Sent} (step : Step) (reply : Answer) (new : List Sent) → Sendings h old → Sendings (h ++ (step, reply) ∷ []) new
+
+-- what all of them tell
+abbrev pub Told : {h : History} {sent : List Sent} → Config → Config → Sendings h sent → Tales → Type 0
+Told a b none t = t ≡ tales_begun a b
+Told a b (more {h} {old} step reply new before) u = (t : Tales) × Told a b before t × StepTells old new step reply t u

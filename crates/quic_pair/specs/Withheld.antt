@@ -1,5 +1,5 @@
 -- Nothing permitted is withheld on the sending side, by what the steps before tell.
-use Rattle.std.specs.Prelude.{ℕ, true, false, ◌≡◌, ◌⊎◌, ◌<◌, ◌≤◌, ◌+◌, ◌-◌, min, length, Some, Ok}
+use Rattle.std.specs.Prelude.{ℕ, true, false, ◌≡◌, ◌⊎◌, ◌<◌, ◌≤◌, ◌+◌, ◌-◌, min, List, length, Some, Ok}
 use Rattle.std.specs.List.{concat}
 use Rattle.quic_values.specs.declared.ids.Dir.TheVariants.{Uni}
 use Rattle.quic_values.specs.Ids.{dir_of}
@@ -11,12 +11,11 @@ use Rattle.quic_steps.specs.declared.steps.End.{End}
 use Rattle.quic_steps.specs.declared.steps.Step.{Step}
 use Rattle.quic_steps.specs.declared.steps.Step.TheVariants as steps
 use Rattle.quic_steps.specs.declared.steps.Reply.TheVariants.{Nothing, Wrote, WroteChunks, Blocked, Stopped, Closed, Payload}
+use Rattle.quic_pair.specs.declared.sent.Sent.{Sent}
 use Rattle.quic_pair.specs.Replies.{Answer}
 use Rattle.quic_pair.specs.Readable.{side_of}
 use Rattle.quic_pair.specs.History.{History}
-use Rattle.quic_pair.specs.State.{PairState}
-use Rattle.quic_pair.specs.From.{From}
-use Rattle.quic_pair.specs.Tale.{Tale, Tales, StepTells, Told, retained_by}
+use Rattle.quic_pair.specs.Tale.{Tale, Tales, Sendings, StepTells, Told, retained_by}
 
 -- how many bytes may be written on a stream: the least of what the limit of the connection leaves, the send window, and the
 -- limit of the stream (RFC 9000 sections 4.1 and 4.2)
@@ -53,16 +52,15 @@ abbrev pub LeavesNone : Tales → Step → Answer → Type 0
 LeavesNone u (steps.Emit who most fair) (Ok (Payload number bytes)) = (id : ℕ) → HasRest ((u.of who).flow id) → most ≤ length bytes.items + 25
 LeavesNone u _ reply = Unit {0}
 
--- a step withholds nothing on the sending side that is permitted, by what the steps tell, this one behind those that led to the
--- pair
+-- a step withholds nothing on the sending side that is permitted, by what the steps tell, this one and those before it
 -- before: what those before it tell, and nothing else
 -- behind: what they and this one do
-pub record NotWithheld {a b : Config} {h : History} {old : PairState} (led : From a b h old) (step : Step) (reply : Answer) (new : PairState) : Type 0 where
+pub record NotWithheld {h : History} {old : List Sent} (a b : Config) (led : Sendings h old) (step : Step) (reply : Answer) (new : List Sent) : Type 0 where
   pub before : Tales
   pub behind : Tales
-  pub told : Told led before
-  pub told_alone : (t : Tales) → Told led t → t ≡ before
-  pub tells : StepTells old.sent new.sent step reply before behind
-  pub tells_alone : (t : Tales) → StepTells old.sent new.sent step reply before t → t ≡ behind
+  pub told : Told a b led before
+  pub told_alone : (t : Tales) → Told a b led t → t ≡ before
+  pub tells : StepTells old new step reply before behind
+  pub tells_alone : (t : Tales) → StepTells old new step reply before t → t ≡ behind
   pub does : DoesAsPermitted before step reply
   pub leaves : LeavesNone behind step reply

@@ -17,7 +17,7 @@ ghost use Rattle.quic_link.specs.Endpoints.{limits_of};
 ghost use Rattle.quic_pair.specs.From.{From, made_of, end_begun};
 ghost use Rattle.quic_pair.specs.History.{History, past_of};
 ghost use Rattle.quic_pair.specs.Headline.{Headline};
-ghost use Rattle.quic_pair.specs.Runs.{TakesSteps, StepByStep, Behind, Around, Throughout, IsTrueOf, StaysIfRefused, AsksOf, WithholdsNone};
+ghost use Rattle.quic_pair.specs.Runs.{TakesSteps, StepByStep, Behind, Around, Throughout, IsTrueOf, StaysIfRefused, AsksOf, WithholdsNone, sendings_of};
 ghost use Rattle.quic_pair.specs.Unrefused.{RefusesNoFrame};
 ghost use Rattle.quic_pair.specs.Readable.{WithholdsNothing};
 ghost use Rattle.quic_pair.specs.Law.{Drains};
@@ -380,7 +380,7 @@ impl Pair {
         ensures readable { (a b : Config) (h : History) → From a b h (pair_state self.old) → WithholdsNothing (past_of h) (pair_state self.old).sent step result }
         ensures drained { (a b : Config) (h : History) → From a b h (pair_state self.old) → Drains (past_of h) (pair_state self.old).sent step result }
         ensures due { (a b : Config) (h : History) → From a b h (pair_state self.old) → AsksFor (pair_state self.old) step result (pair_state self.new) }
-        ensures not_withheld { (a b : Config) (h : History) (led : From a b h (pair_state self.old)) → NotWithheld led step result (pair_state self.new) }
+        ensures not_withheld { (a b : Config) (h : History) (led : From a b h (pair_state self.old)) → NotWithheld a b (sendings_of led) step result (pair_state self.new).sent }
     {
         self.dispatch(step)
     }
