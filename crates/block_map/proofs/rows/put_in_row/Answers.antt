@@ -1,0 +1,26 @@
+use Rattle.std.proofs.Common.{◌≡◌, List, [], ap, ◌∙◌}
+use Rattle.std.specs.Prelude.{slice_index_or, slice_set, insert}
+use Rattle.block_map.specs.Sorted.{Entry}
+use Rattle.block_map.specs.Rows.{flat}
+use Rattle.block_map.proofs.Flat.{same_at, goes_in_row}
+use Rattle.block_map.proofs.Rowed.{put_in}
+use Rattle.block_map.proofs.rows.put_in_row.Goals as goal
+
+pub put-requires-clause-goes : goal.put-requires-clause-goes
+put-requires-clause-goes c =
+    let rows = c.args.blocks.now.items in
+    let b = c.args.block in
+    let row = c.index_mut.result.now in
+    let same : row ≡ slice_index_or rows b [] = c.index_mut.ensures.value ∙ same_at rows b row [] c.requires.block in
+    let h = goes_in_row rows b c.args.index c.args.key [] c.requires.block c.requires.index c.requires.goes in
+    rw (← same) at h
+
+pub returns-clause-items : goal.returns-clause-items
+returns-clause-items c =
+    let rows = c.args.blocks.now.items in
+    let b = c.args.block in
+    let i = c.args.index in
+    let y : Entry = (c.args.key, c.args.value) in
+    let row = c.index_mut.result.now in
+    let same : row ≡ slice_index_or rows b [] = c.index_mut.ensures.value ∙ same_at rows b row [] c.requires.block in
+    ap (λ (t : List Entry). flat (slice_set rows b t)) (c.put.ensures ∙ ap (λ (t : List Entry). insert t i y) same) ∙ put_in rows b [] c.requires.block i y c.requires.index

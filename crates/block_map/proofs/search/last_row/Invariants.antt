@@ -1,0 +1,15 @@
+use Rattle.std.proofs.Common.{◌-◌, ◌+◌, ◌<◌, ◌≤◌, ℕ, List, length, slice_index_or}
+use Rattle.block_map.specs.Sorted.{Entry}
+use Rattle.block_map.specs.Rows.{first_key}
+use Rattle.block_map.proofs.search.last_row.Given as goal
+
+abbrev pub invariant-loop-size : goal.invariant-loop-size
+invariant-loop-size l = record {
+  some : 0 < l.size;
+  fits : l.index + l.size ≤ length l.rows;
+  up_to : (d : List Entry) → first_key (slice_index_or l.rows l.index d) ≤ l.n;
+  above : (k : ℕ) (d : List Entry) → l.index + l.size ≤ k → k < length l.rows → l.n < first_key (slice_index_or l.rows k d);
+}
+
+abbrev pub decreases-loop-size : goal.decreases-loop-size
+decreases-loop-size l = l.size - 1

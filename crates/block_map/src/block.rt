@@ -1,0 +1,245 @@
+// A row of entries by rising keys, in memory that has room for more.
+ghost use Rattle.std.specs.Prelude.{◌≡◌, ◌+◌, ◌-◌, ◌<◌, ◌≤◌, ℕ, List, [], ◌∷◌, ◌++◌, length, slice_index_or, slice_set, insert, take, drop, IfOk, vec_capacity, false, true};
+ghost use Rattle.std.specs.List.{remove_range};
+ghost use Rattle.block_map.specs.Sorted.{Entry, Rises, IsLastUpTo, GoesAt, FitsAt};
+ghost use Rattle.block_map.specs.Rows.{first_key};
+
+use crate::search::last_up_to;
+use std::alloc::{AllocError, Global};
+use std::marker::Model;
+
+/// The most entries of a block.
+pub(crate) const MOST: usize = 64;
+
+// Makes room for some more behind all others, where the entries below `start` are gone. Answers how many still are.
+#[inline(always)]
+fn make_room(entries: &mut Vec<(u64, u64)>, start: usize, count: usize) -> usize
+    requires within { start ≤ length entries.old.items }
+    requires fits { length entries.old.items - start + count ≤ 64 }
+    ensures same { drop result entries.new.items ≡ drop start entries.old.items }
+    ensures within { result ≤ length entries.new.items }
+    ensures room { length entries.new.items + count ≤ 64 }
+    ensures capacity { vec_capacity entries.new ≡ vec_capacity entries.old }
+{
+    if entries.len() + count <= MOST {
+        return start;
+    }
+    let left = entries.len() - start;
+    entries.as_mut_slice().copy_within(start.., 0);
+    entries.truncate(left);
+    0
+}
+
+// Puts an entry before the one at a place. There is room.
+#[inline(always)]
+fn put_in(entries: &mut Vec<(u64, u64)>, place: usize, key: u64, value: u64)
+    requires within { place ≤ length entries.old.items }
+    requires room { length entries.old.items < vec_capacity entries.old }
+    ensures items { entries.new.items ≡ insert entries.old.items place (key, value) }
+    ensures capacity { vec_capacity entries.new ≡ vec_capacity entries.old }
+{
+    let last = entries.len();
+    entries.push_reserved((key, value));
+    entries.as_mut_slice().copy_within(place..last, place + 1);
+    entries[place] = (key, value);
+}
+
+// Takes entries out, where those below `start` are gone. Answers how many are gone then.
+#[inline(always)]
+fn take_out(entries: &mut Vec<(u64, u64)>, start: usize, from: usize, to: usize) -> usize
+    requires within { start + to ≤ length entries.old.items }
+    requires order { from ≤ to }
+    ensures items { drop result entries.new.items ≡ remove_range (drop start entries.old.items) from to }
+    ensures within { result ≤ length entries.new.items }
+    ensures fewer { length entries.new.items ≤ length entries.old.items }
+    ensures capacity { vec_capacity entries.new ≡ vec_capacity entries.old }
+{
+    if from == 0 {
+        return start + to;
+    }
+    let left = entries.len() - (to - from);
+    entries
+        .as_mut_slice()
+        .copy_within(start + to.., start + from);
+    entries.truncate(left);
+    start
+}
+
+#[derive(Drop)]
+pub(crate) struct Block {
+    // The key of the first entry.
+    first: u64,
+    // The entries below this index are gone.
+    start: usize,
+    entries: Vec<(u64, u64)>,
+}
+
+impl Model for Block {
+    ghost use Rattle.std.specs.Prelude.{List, ℕ, ◌≤◌, drop, vec_capacity};
+    ghost use Rattle.block_map.specs.Sorted.{Entry};
+    ghost use Rattle.block_map.specs.Rows.{IsBlock};
+
+    ghost Value = { List Entry };
+
+    ghost view = { λ b. drop b.start b.entries.items };
+
+    ghost invariant = { λ b. IsBlock 64 b.first b.start b.entries.items × (64 ≤ vec_capacity b.entries) };
+}
+
+impl Block {
+    /// One entry, in memory that was reserved.
+    pub(crate) fn new(spare: Vec<(u64, u64)>, key: u64, value: u64) -> Self
+        requires empty { spare.items ≡ [] }
+        requires room { 64 ≤ vec_capacity spare }
+        ensures { result ≡ (key, value) ∷ [] }
+    {
+        let mut entries = spare;
+        entries.push_reserved((key, value));
+        Block {
+            first: key,
+            start: 0,
+            entries,
+        }
+    }
+
+    /// A copy.
+    pub(crate) fn copied(&self, alloc: Global) -> Result<Self, AllocError>
+        ensures { IfOk result (λ b. b ≡ self.now) }
+    {
+        let mut entries = Vec::with_capacity(alloc, MOST)?;
+        entries.extend_from_slice(&self.entries.as_slice()[self.start..])?;
+        Ok(Block {
+            first: self.first,
+            start: 0,
+            entries,
+        })
+    }
+
+    /// The key of the first entry.
+    #[inline(always)]
+    pub(crate) fn first(&self) -> u64
+        ensures key { result ≡ first_key self.now }
+        ensures some { 0 < length self.now }
+        ensures rises { Rises self.now }
+    {
+        self.first
+    }
+
+    #[inline(always)]
+    pub(crate) fn len(&self) -> usize
+        ensures len { result ≡ length self.now }
+        ensures some { 0 < length self.now }
+        ensures most { length self.now ≤ 64 }
+    {
+        self.entries.len() - self.start
+    }
+
+    /// The entry at a place.
+    #[inline(always)]
+    pub(crate) fn get(&self, index: usize) -> (u64, u64)
+        requires { index < length self.now }
+        ensures { result ≡ slice_index_or self.now index result }
+    {
+        self.entries[self.start + index]
+    }
+
+    /// The place of the last entry with a key up to `n`. The first has one.
+    #[inline(always)]
+    pub(crate) fn find(&self, n: u64) -> usize
+        requires { first_key self.now ≤ n }
+        ensures { IsLastUpTo self.now n result }
+    {
+        let _first = self.first;
+        last_up_to(&self.entries.as_slice()[self.start..], n)
+    }
+
+    /// Whether no entry can be put behind the others where they lie.
+    #[inline(always)]
+    pub(crate) fn is_full(&self) -> bool
+        ensures room { result ≡ false → length self.now < 64 }
+    {
+        self.entries.len() >= MOST
+    }
+
+    /// Puts an entry in. There is room.
+    #[inline(always)]
+    pub(crate) fn put(&mut self, index: usize, key: u64, value: u64)
+        requires room { length self.old < 64 }
+        requires goes { GoesAt self.old index key }
+        ensures { self.new ≡ insert self.old index (key, value) }
+    {
+        self.start = make_room(&mut self.entries, self.start, 1);
+        put_in(&mut self.entries, self.start + index, key, value);
+        self.first = self.entries[self.start].0;
+    }
+
+    /// Writes an entry over another.
+    #[inline(always)]
+    pub(crate) fn set(&mut self, index: usize, key: u64, value: u64)
+        requires { FitsAt self.old index key }
+        ensures { self.new ≡ slice_set self.old index (key, value) }
+    {
+        let place = self.start + index;
+        self.entries[place] = (key, value);
+        self.first = self.entries[self.start].0;
+    }
+
+    /// Takes the entries from a place on out, in memory that was reserved. There are some before it, and some from it on.
+    pub(crate) fn split(&mut self, index: usize, spare: Vec<(u64, u64)>) -> Self
+        requires some { 0 < index }
+        requires rest { index < length self.old }
+        requires empty { spare.items ≡ [] }
+        requires room { 64 ≤ vec_capacity spare }
+        ensures low { self.new ≡ take index self.old }
+        ensures high { result ≡ drop index self.old }
+    {
+        let mut entries = spare;
+        let place = self.start + index;
+        match entries.extend_from_slice(&self.entries.as_slice()[place..]) {
+            Ok(()) => {}
+            Err(_) => unreachable!(),
+        }
+        self.entries.truncate(place);
+        Block {
+            first: entries[0].0,
+            start: 0,
+            entries,
+        }
+    }
+
+    /// Takes the entries from one place up to another out. Some are left.
+    #[inline(always)]
+    pub(crate) fn cut(&mut self, from: usize, to: usize)
+        requires order { from ≤ to }
+        requires fits { to ≤ length self.old }
+        requires left { to - from < length self.old }
+        ensures { self.new ≡ remove_range self.old from to }
+    {
+        self.start = take_out(&mut self.entries, self.start, from, to);
+        self.first = self.entries[self.start].0;
+    }
+
+    /// Puts the entries of another behind these. There is room.
+    pub(crate) fn append(&mut self, other: &Block)
+        requires room { length self.old + length other.now ≤ 64 }
+        requires rises { Rises (self.old ++ other.now) }
+        ensures { self.new ≡ self.old ++ other.now }
+    {
+        let more = &other.entries.as_slice()[other.start..];
+        self.start = make_room(&mut self.entries, self.start, more.len());
+        match self.entries.extend_from_slice(more) {
+            Ok(()) => {}
+            Err(_) => unreachable!(),
+        }
+    }
+
+    /// Its memory, with no entry.
+    pub(crate) fn into_spare(self) -> Vec<(u64, u64)>
+        ensures empty { result.items ≡ [] }
+        ensures room { 64 ≤ vec_capacity result }
+    {
+        let mut entries = self.entries;
+        entries.clear();
+        entries
+    }
+}

@@ -1,0 +1,233 @@
+ghost use Rattle.std.specs.Prelude.{◌≡◌, ◌+◌, ◌-◌, ◌<◌, ◌≤◌, ℕ, List, [], ◌∷◌, ◌++◌, length, slice_index_or, IfSome, IfNone, Some, None, true, false, ◌↔◌, IsTrue};
+ghost use Rattle.std.specs.Map.{lookup};
+ghost use Rattle.std.specs.BTreeMap.{is_at};
+ghost use Rattle.std.specs.Ordering.{nat_cmp};
+ghost use Rattle.block_map.specs.Sorted.{Entry, Rises, IsLastUpTo, IsFirstFrom};
+ghost use Rattle.block_map.specs.Rows.{flat, place_in, IsPlace, first_key};
+
+use crate::block::Block;
+use crate::search::last_row;
+use std::alloc::Global;
+use std::marker::Model;
+
+/// Where an entry lies: in which row, and behind how many others of it. A change of the map that puts entries in or takes
+/// some out makes it worthless.
+#[derive(Clone, Copy)]
+pub struct Place {
+    pub block: usize,
+    pub index: usize,
+}
+
+/// A map from numbers to numbers. Contracts see its entries by rising keys, in the rows that they lie in, and whether it has
+/// room for one more.
+#[derive(Drop)]
+pub struct BlockMap {
+    pub(crate) blocks: Vec<Block>,
+    // How many entries there are.
+    pub(crate) len: usize,
+    // The memory of the next block, if there is some.
+    pub(crate) spare: Vec<(u64, u64)>,
+    // There is room for an entry.
+    pub(crate) ready: bool,
+    pub(crate) alloc: Global,
+}
+
+impl Model for BlockMap {
+    ghost use Rattle.std.specs.Prelude.{List, vec_capacity, ℕ};
+    ghost use Rattle.block_map.specs.Sorted.{Entry};
+    ghost use Rattle.block_map.specs.Rows.{Entries, as_entries, IsMap};
+
+    ghost Value = { Entries };
+
+    ghost view = { λ m. as_entries m.blocks.items m.ready };
+
+    ghost invariant = { λ m. IsMap m.blocks.items m.len m.spare.items m.ready (vec_capacity m.blocks) (vec_capacity m.spare) };
+}
+
+impl BlockMap {
+    /// Takes no memory.
+    pub fn new(alloc: Global) -> Self
+        ensures items { result.items ≡ [] }
+        ensures rows { result.rows ≡ [] }
+    {
+        BlockMap {
+            blocks: Vec::new(alloc),
+            len: 0,
+            spare: Vec::new(alloc),
+            ready: false,
+            alloc,
+        }
+    }
+
+    #[inline(always)]
+    pub fn len(&self) -> usize
+        ensures { result ≡ length self.now.items }
+    {
+        self.len
+    }
+
+    #[inline(always)]
+    pub fn is_empty(&self) -> bool
+        ensures empty { result ≡ true → self.now.items ≡ [] }
+        ensures some { result ≡ false → 0 < length self.now.items }
+    {
+        self.len == 0
+    }
+
+    /// The place of the last entry with a key up to `n`.
+    #[inline(always)]
+    pub fn find(&self, n: u64) -> Option<Place>
+        ensures place { IfSome result (λ p. IsPlace self.now.rows p.block p.index) }
+        ensures last { IfSome result (λ p. IsLastUpTo self.now.items n (place_in self.now.rows p.block p.index)) }
+        ensures none { IfNone result ((k : ℕ) (d : Entry) → k < length self.now.items → n < (slice_index_or self.now.items k d).0) }
+        ensures rises { Rises self.now.items }
+    {
+        if self.blocks.is_empty() {
+            return None;
+        }
+        if self.blocks[0].first() > n {
+            return None;
+        }
+        let block = last_row(self.blocks.as_slice(), n);
+        let index = self.blocks[block].find(n);
+        Some(Place { block, index })
+    }
+
+    /// The place of the first entry with a key from `n` on.
+    #[inline]
+    pub fn find_from(&self, n: u64) -> Option<Place>
+        ensures place { IfSome result (λ p. IsPlace self.now.rows p.block p.index) }
+        ensures first { IfSome result (λ p. IsFirstFrom self.now.items n (place_in self.now.rows p.block p.index)) }
+        ensures none { IfNone result ((k : ℕ) (d : Entry) → k < length self.now.items → (slice_index_or self.now.items k d).0 < n) }
+        ensures rises { Rises self.now.items }
+    {
+        let Some(place) = self.find(n) else {
+            let first = self.first_place()?;
+            return Some(first);
+        };
+        if self.entry(place).0 == n {
+            return Some(place);
+        }
+        let next = self.next(place)?;
+        Some(next)
+    }
+
+    /// The entry at a place.
+    #[inline(always)]
+    pub fn entry(&self, place: Place) -> (u64, u64)
+        requires { IsPlace self.now.rows place.block place.index }
+        ensures { (d : Entry) → result ≡ slice_index_or self.now.items (place_in self.now.rows place.block place.index) d }
+    {
+        self.blocks[place.block].get(place.index)
+    }
+
+    /// The place behind one.
+    #[inline]
+    pub fn next(&self, place: Place) -> Option<Place>
+        requires { IsPlace self.now.rows place.block place.index }
+        ensures place { IfSome result (λ p. IsPlace self.now.rows p.block p.index) }
+        ensures next { IfSome result (λ p. place_in self.now.rows p.block p.index ≡ place_in self.now.rows place.block place.index + 1) }
+        ensures fits { IfSome result (λ _. place_in self.now.rows place.block place.index + 1 < length self.now.items) }
+        ensures none { IfNone result (length self.now.items ≡ place_in self.now.rows place.block place.index + 1) }
+    {
+        let len = self.blocks[place.block].len();
+        let index = place.index + 1;
+        if index < len {
+            return Some(Place {
+                block: place.block,
+                index,
+            });
+        }
+        let block = place.block + 1;
+        if block < self.blocks.len() {
+            let _len = self.blocks[block].len();
+            return Some(Place { block, index: 0 });
+        }
+        None
+    }
+
+    /// The place of the first entry.
+    #[inline]
+    pub fn first_place(&self) -> Option<Place>
+        ensures place { IfSome result (λ p. IsPlace self.now.rows p.block p.index) }
+        ensures first { IfSome result (λ p. place_in self.now.rows p.block p.index ≡ 0) }
+        ensures some { IfSome result (λ _. 0 < length self.now.items) }
+        ensures none { IfNone result (self.now.items ≡ []) }
+    {
+        if self.blocks.is_empty() {
+            return None;
+        }
+        let _len = self.blocks[0].len();
+        Some(Place { block: 0, index: 0 })
+    }
+
+    /// The place of the last entry.
+    #[inline]
+    pub fn last_place(&self) -> Option<Place>
+        ensures place { IfSome result (λ p. IsPlace self.now.rows p.block p.index) }
+        ensures last { IfSome result (λ p. place_in self.now.rows p.block p.index + 1 ≡ length self.now.items) }
+        ensures none { IfNone result (self.now.items ≡ []) }
+    {
+        if self.blocks.is_empty() {
+            return None;
+        }
+        let block = self.blocks.len() - 1;
+        let index = self.blocks[block].len() - 1;
+        Some(Place { block, index })
+    }
+
+    /// The entry with the lowest key.
+    #[inline]
+    pub fn first(&self) -> Option<(u64, u64)>
+        ensures some { IfSome result (λ e. (rest : List Entry) × (self.now.items ≡ e ∷ rest)) }
+        ensures none { IfNone result (self.now.items ≡ []) }
+    {
+        match self.first_place() {
+            Some(place) => Some(self.entry(place)),
+            None => None,
+        }
+    }
+
+    /// The entry with the highest key.
+    #[inline]
+    pub fn last(&self) -> Option<(u64, u64)>
+        ensures some { IfSome result (λ e. (rest : List Entry) × (self.now.items ≡ rest ++ e ∷ [])) }
+        ensures none { IfNone result (self.now.items ≡ []) }
+    {
+        match self.last_place() {
+            Some(place) => Some(self.entry(place)),
+            None => None,
+        }
+    }
+
+    /// The place of the entry with a key.
+    #[inline]
+    pub fn place_of(&self, key: u64) -> Option<Place>
+        ensures place { IfSome result (λ p. IsPlace self.now.rows p.block p.index) }
+        ensures fits { IfSome result (λ p. place_in self.now.rows p.block p.index < length self.now.items) }
+        ensures key { IfSome result (λ p. (d : Entry) → (slice_index_or self.now.items (place_in self.now.rows p.block p.index) d).0 ≡ key) }
+        ensures none { IfNone result (lookup (is_at (nat_cmp key)) self.now.items ≡ None) }
+        ensures rises { Rises self.now.items }
+    {
+        match self.find(key) {
+            Some(place) => {
+                if self.entry(place).0 == key {
+                    return Some(place);
+                }
+                None
+            }
+            None => None,
+        }
+    }
+
+    /// The value of a key.
+    #[inline]
+    pub fn get(&self, key: u64) -> Option<u64>
+        ensures { result ≡ lookup (is_at (nat_cmp key)) self.now.items }
+    {
+        match self.place_of(key) {
+            Some(place) => Some(self.entry(place).1),
+            None => None,
+        }
+    }
+}

@@ -1,0 +1,316 @@
+// Changes of the rows of a map.
+ghost use Rattle.std.specs.Prelude.{◌≡◌, ◌+◌, ◌-◌, ◌^◌, ◌<◌, ◌≤◌, ℕ, List, [], ◌∷◌, ◌++◌, length, slice_index_or, slice_set, insert, take, drop, IfOk, OnOk, vec_capacity, false, true};
+ghost use Rattle.std.specs.List.{remove_range};
+ghost use Rattle.block_map.specs.Sorted.{Entry, Rises, GoesAt, FitsAt};
+ghost use Rattle.block_map.specs.Rows.{flat, place_in, IsPlace, HasSome, HasRoom, AreFull};
+
+use crate::block::{Block, MOST};
+use std::alloc::{AllocError, Global};
+use std::mem;
+
+// A row with fewer entries is not split.
+const HALF: usize = MOST / 2;
+
+/// Whether all entries lie in one row, and are few.
+#[inline(always)]
+pub(crate) fn is_small(blocks: &[Block]) -> bool
+    ensures { result ≡ true → (length blocks.now ≡ 1) × (length (slice_index_or blocks.now 0 []) < 32) }
+{
+    blocks.len() == 1 && blocks[0].len() < HALF
+}
+
+// Puts an entry into a row that has room.
+#[inline(always)]
+fn put_in_row(blocks: &mut Vec<Block>, block: usize, index: usize, key: u64, value: u64)
+    requires some { HasSome blocks.old.items }
+    requires block { block < length blocks.old.items }
+    requires index { index ≤ length (slice_index_or blocks.old.items block []) }
+    requires room { length (slice_index_or blocks.old.items block []) < 64 }
+    requires goes { GoesAt (flat blocks.old.items) (place_in blocks.old.items block index) key }
+    ensures items { flat blocks.new.items ≡ insert (flat blocks.old.items) (place_in blocks.old.items block index) (key, value) }
+    ensures some { HasSome blocks.new.items }
+{
+    blocks[block].put(index, key, value);
+}
+
+// Puts an entry alone behind all rows. There is memory.
+fn push_row(blocks: &mut Vec<Block>, spare: Vec<(u64, u64)>, key: u64, value: u64)
+    requires some { HasSome blocks.old.items }
+    requires memory { length blocks.old.items < vec_capacity blocks.old }
+    requires empty { spare.items ≡ [] }
+    requires room { 64 ≤ vec_capacity spare }
+    ensures items { flat blocks.new.items ≡ flat blocks.old.items ++ (key, value) ∷ [] }
+    ensures some { HasSome blocks.new.items }
+{
+    blocks.push_reserved(Block::new(spare, key, value));
+}
+
+// Puts an entry alone before all rows. There is memory.
+fn push_row_before(blocks: &mut Vec<Block>, spare: Vec<(u64, u64)>, key: u64, value: u64)
+    requires some { HasSome blocks.old.items }
+    requires memory { length blocks.old.items < vec_capacity blocks.old }
+    requires empty { spare.items ≡ [] }
+    requires room { 64 ≤ vec_capacity spare }
+    ensures items { flat blocks.new.items ≡ (key, value) ∷ flat blocks.old.items }
+    ensures some { HasSome blocks.new.items }
+{
+    match blocks.insert(0, Block::new(spare, key, value)) {
+        Ok(()) => {}
+        Err(_) => unreachable!(),
+    }
+}
+
+// Makes two rows of one, the second with the entries from a place on. There is memory.
+fn split_row(blocks: &mut Vec<Block>, spare: Vec<(u64, u64)>, block: usize, index: usize)
+    requires some { HasSome blocks.old.items }
+    requires memory { length blocks.old.items < vec_capacity blocks.old }
+    requires empty { spare.items ≡ [] }
+    requires room { 64 ≤ vec_capacity spare }
+    requires block { block < length blocks.old.items }
+    requires low { 0 < index }
+    requires high { index < length (slice_index_or blocks.old.items block []) }
+    ensures rows { blocks.new.items ≡ take block blocks.old.items ++ take index (slice_index_or blocks.old.items block []) ∷ drop index (slice_index_or blocks.old.items block []) ∷ drop (block + 1) blocks.old.items }
+    ensures some { HasSome blocks.new.items }
+{
+    let high = blocks[block].split(index, spare);
+    match blocks.insert(block + 1, high) {
+        Ok(()) => {}
+        Err(_) => unreachable!(),
+    }
+}
+
+// Makes two rows of one, and puts an entry into one of them. There is memory.
+fn split_and_put(
+    blocks: &mut Vec<Block>,
+    spare: Vec<(u64, u64)>,
+    block: usize,
+    index: usize,
+    key: u64,
+    value: u64,
+)
+    requires some { HasSome blocks.old.items }
+    requires memory { length blocks.old.items < vec_capacity blocks.old }
+    requires empty { spare.items ≡ [] }
+    requires room { 64 ≤ vec_capacity spare }
+    requires block { block < length blocks.old.items }
+    requires index { index ≤ length (slice_index_or blocks.old.items block []) }
+    requires many { 2 ≤ length (slice_index_or blocks.old.items block []) }
+    requires most { length (slice_index_or blocks.old.items block []) ≤ 64 }
+    requires goes { GoesAt (flat blocks.old.items) (place_in blocks.old.items block index) key }
+    ensures items { flat blocks.new.items ≡ insert (flat blocks.old.items) (place_in blocks.old.items block index) (key, value) }
+    ensures some { HasSome blocks.new.items }
+{
+    let middle = blocks[block].len() / 2;
+    split_row(blocks, spare, block, middle);
+    if index <= middle {
+        put_in_row(blocks, block, index, key, value);
+    } else {
+        put_in_row(blocks, block + 1, index - middle, key, value);
+    }
+}
+
+/// Puts an entry into a row. There is room.
+#[inline(always)]
+pub(crate) fn put_entry(
+    blocks: &mut Vec<Block>,
+    spare: &mut Vec<(u64, u64)>,
+    alloc: Global,
+    block: usize,
+    index: usize,
+    key: u64,
+    value: u64,
+)
+    requires some { HasSome blocks.old.items }
+    requires empty { spare.old.items ≡ [] }
+    requires room { HasRoom blocks.old.items (vec_capacity blocks.old) (vec_capacity spare.old) }
+    requires block { block < length blocks.old.items }
+    requires index { index ≤ length (slice_index_or blocks.old.items block []) }
+    requires goes { GoesAt (flat blocks.old.items) (place_in blocks.old.items block index) key }
+    ensures items { flat blocks.new.items ≡ insert (flat blocks.old.items) (place_in blocks.old.items block index) (key, value) }
+    ensures some { HasSome blocks.new.items }
+    ensures empty { spare.new.items ≡ [] }
+{
+    let len = blocks[block].len();
+    if !blocks[block].is_full() || len < HALF {
+        return put_in_row(blocks, block, index, key, value);
+    }
+    let memory = mem::replace(spare, Vec::new(alloc));
+    if index == len && block + 1 == blocks.len() {
+        return push_row(blocks, memory, key, value);
+    }
+    if index == 0 && block == 0 {
+        return push_row_before(blocks, memory, key, value);
+    }
+    split_and_put(blocks, memory, block, index, key, value);
+}
+
+/// Puts an entry where there is none. There is room.
+pub(crate) fn put_alone(
+    blocks: &mut Vec<Block>,
+    spare: &mut Vec<(u64, u64)>,
+    alloc: Global,
+    key: u64,
+    value: u64,
+)
+    requires none { blocks.old.items ≡ [] }
+    requires empty { spare.old.items ≡ [] }
+    requires room { HasRoom blocks.old.items (vec_capacity blocks.old) (vec_capacity spare.old) }
+    ensures items { flat blocks.new.items ≡ (key, value) ∷ [] }
+    ensures some { HasSome blocks.new.items }
+    ensures empty { spare.new.items ≡ [] }
+{
+    let memory = mem::replace(spare, Vec::new(alloc));
+    push_row(blocks, memory, key, value);
+}
+
+// Takes entries out of a row, and the row where none is left.
+#[inline(always)]
+fn cut_row(blocks: &mut Vec<Block>, block: usize, from: usize, to: usize)
+    requires some { HasSome blocks.old.items }
+    requires block { block < length blocks.old.items }
+    requires order { from ≤ to }
+    requires fits { to ≤ length (slice_index_or blocks.old.items block []) }
+    ensures items { flat blocks.new.items ≡ remove_range (flat blocks.old.items) (place_in blocks.old.items block from) (place_in blocks.old.items block to) }
+    ensures some { HasSome blocks.new.items }
+    ensures before { take block blocks.new.items ≡ take block blocks.old.items }
+    ensures fits { block ≤ length blocks.new.items }
+{
+    if to - from < blocks[block].len() {
+        blocks[block].cut(from, to);
+        return;
+    }
+    drop(blocks.remove(block));
+}
+
+/// Takes the entry at a place out.
+#[inline(always)]
+pub(crate) fn remove_entry(
+    blocks: &mut Vec<Block>,
+    spare: &mut Vec<(u64, u64)>,
+    block: usize,
+    index: usize,
+)
+    requires some { HasSome blocks.old.items }
+    requires empty { spare.old.items ≡ [] }
+    requires place { IsPlace blocks.old.items block index }
+    ensures items { flat blocks.new.items ≡ remove_range (flat blocks.old.items) (place_in blocks.old.items block index) (place_in blocks.old.items block index + 1) }
+    ensures some { HasSome blocks.new.items }
+    ensures empty { spare.new.items ≡ [] }
+{
+    if blocks[block].len() > 1 {
+        blocks[block].cut(index, index + 1);
+        return;
+    }
+    *spare = blocks.remove(block).into_spare();
+}
+
+// How many entries the rows from one up to another have.
+fn count_rows(blocks: &[Block], from: usize, to: usize) -> usize
+    requires order { from ≤ to }
+    requires fits { to ≤ length blocks.now }
+    requires few { length (flat blocks.now) < 2 ^ 64 }
+    ensures { place_in blocks.now from 0 + result ≡ place_in blocks.now to 0 }
+{
+    let mut count = 0;
+    for block in from..to {
+        count += blocks[block].len();
+    }
+    count
+}
+
+/// How many entries lie from one place up to another.
+pub(crate) fn count_between(blocks: &[Block], from: (usize, usize), to: (usize, usize)) -> usize
+    requires from { IsPlace blocks.now from.0 from.1 }
+    requires to { IsPlace blocks.now to.0 to.1 }
+    requires order { place_in blocks.now from.0 from.1 ≤ place_in blocks.now to.0 to.1 }
+    requires few { length (flat blocks.now) < 2 ^ 64 }
+    ensures { place_in blocks.now from.0 from.1 + result ≡ place_in blocks.now to.0 to.1 }
+{
+    count_rows(blocks, from.0, to.0) + to.1 - from.1
+}
+
+// Takes rows out.
+fn drop_rows(blocks: &mut Vec<Block>, from: usize, to: usize)
+    requires order { from ≤ to }
+    requires fits { to ≤ length blocks.old.items }
+    ensures { blocks.new.items ≡ remove_range blocks.old.items from to }
+{
+    drop(blocks.drain(from..to));
+}
+
+// Takes the entries from a place up to a later row out.
+fn cut_rows(blocks: &mut Vec<Block>, block: usize, index: usize, to: usize)
+    requires some { HasSome blocks.old.items }
+    requires place { IsPlace blocks.old.items block index }
+    requires order { block < to }
+    requires fits { to ≤ length blocks.old.items }
+    ensures items { flat blocks.new.items ≡ remove_range (flat blocks.old.items) (place_in blocks.old.items block index) (place_in blocks.old.items to 0) }
+    ensures some { HasSome blocks.new.items }
+{
+    drop_rows(blocks, block + 1, to);
+    let len = blocks[block].len();
+    cut_row(blocks, block, index, len);
+}
+
+/// Takes the entries from one place to another out, both included.
+pub(crate) fn remove_entries(blocks: &mut Vec<Block>, first: (usize, usize), last: (usize, usize))
+    requires some { HasSome blocks.old.items }
+    requires first { IsPlace blocks.old.items first.0 first.1 }
+    requires last { IsPlace blocks.old.items last.0 last.1 }
+    requires order { place_in blocks.old.items first.0 first.1 ≤ place_in blocks.old.items last.0 last.1 }
+    ensures items { flat blocks.new.items ≡ remove_range (flat blocks.old.items) (place_in blocks.old.items first.0 first.1) (place_in blocks.old.items last.0 last.1 + 1) }
+    ensures some { HasSome blocks.new.items }
+{
+    let _len = blocks[last.0].len();
+    if first.0 >= last.0 {
+        cut_row(blocks, first.0, first.1, last.1 + 1);
+        return;
+    }
+    cut_row(blocks, last.0, 0, last.1 + 1);
+    cut_rows(blocks, first.0, first.1, last.0);
+}
+
+// Whether the last row has room for the entries of another.
+fn has_room(rows: &[Block], block: &Block) -> bool
+    ensures yes { result ≡ true → (0 < length rows.now) × (length (slice_index_or rows.now (length rows.now - 1) []) + length block.now ≤ 64) }
+    ensures no { result ≡ false → (i : ℕ) → i + 1 ≡ length rows.now → 64 < length (slice_index_or rows.now i []) + length block.now }
+{
+    let count = rows.len();
+    if count == 0 {
+        return false;
+    }
+    rows[count - 1].len() + block.len() <= MOST
+}
+
+// Puts a copy of a row behind the others, or its entries behind those of the last row where that has room.
+fn join_row(rows: &mut Vec<Block>, block: &Block, alloc: Global) -> Result<(), AllocError>
+    requires some { HasSome rows.old.items }
+    requires full { AreFull rows.old.items }
+    requires rises { Rises (flat rows.old.items ++ block.now) }
+    ensures items { OnOk result (flat rows.new.items ≡ flat rows.old.items ++ block.now) }
+    ensures some { OnOk result (HasSome rows.new.items) }
+    ensures full { OnOk result (AreFull rows.new.items) }
+{
+    let _len = block.len();
+    if has_room(rows.as_slice(), block) {
+        let last = rows.len() - 1;
+        rows[last].append(block);
+        return Ok(());
+    }
+    rows.push(block.copied(alloc)?)?;
+    Ok(())
+}
+
+/// Copies of rows, where two neighbours are one if that has room for both.
+pub(crate) fn joined(blocks: &[Block], alloc: Global) -> Result<Vec<Block>, AllocError>
+    requires { Rises (flat blocks.now) }
+    ensures items { IfOk result (λ rows. flat rows.items ≡ flat blocks.now) }
+    ensures some { IfOk result (λ rows. HasSome rows.items) }
+    ensures full { IfOk result (λ rows. AreFull rows.items) }
+{
+    let mut rows: Vec<Block> = Vec::with_capacity(alloc, blocks.len())?;
+    for block in blocks {
+        join_row(&mut rows, block, alloc)?;
+    }
+    Ok(rows)
+}
