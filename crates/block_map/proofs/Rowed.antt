@@ -5,66 +5,66 @@ use Rattle.std.specs.List.{remove_range}
 use Rattle.std.proofs.lemmas.Bool.{cases_lt, cases_eq}
 use Rattle.std.proofs.lemmas.List.{length-append, length-take, length-take-le, take_all, get_or_default, take-append-le, take-take, get_or_at, length-drop, length-set, get_or_append_left, get_or-append_right, get_or-take, get_or-drop, get_or-set_same, get_or-set_other, set_split, set-append_left, set-append_right, append_assoc, append-nil, take-append-drop, take_at, drop_at, drop_more, take_more, take-set}
 use Rattle.std.proofs.lemmas.List.Edits.{insert-append_left, insert-append_right}
-use Rattle.block_map.specs.Sorted.{Entry}
-use Rattle.block_map.specs.Rows.{flat, place_in, HasSome, HasRoom, AreFull}
+use Rattle.block_map.specs.Sorted.{KeyAndValue}
+use Rattle.block_map.specs.Rows.{flat, place_among, HasSome, HasRoomForOne, AreFull}
 use Rattle.block_map.proofs.Moved.{remove_range-front, remove_range-behind}
 
-pub flat-append : (a b : List (List Entry)) → flat (a ++ b) ≡ flat a ++ flat b
+pub flat-append : (a b : List (List KeyAndValue)) → flat (a ++ b) ≡ flat a ++ flat b
 flat-append [] b = refl
-flat-append (r ∷ rs) b = ap (λ (t : List Entry). r ++ t) (flat-append rs b) ∙ sym (append_assoc r (flat rs) (flat b))
+flat-append (r ∷ rs) b = ap (λ (t : List KeyAndValue). r ++ t) (flat-append rs b) ∙ sym (append_assoc r (flat rs) (flat b))
 
-pub flat_push : (a : List (List Entry)) (r : List Entry) → flat (a ++ r ∷ []) ≡ flat a ++ r
+pub flat_push : (a : List (List KeyAndValue)) (r : List KeyAndValue) → flat (a ++ r ∷ []) ≡ flat a ++ r
 flat_push [] r = append-nil r
-flat_push (x ∷ a) r = ap (λ (t : List Entry). x ++ t) (flat_push a r) ∙ sym (append_assoc x (flat a) r)
+flat_push (x ∷ a) r = ap (λ (t : List KeyAndValue). x ++ t) (flat_push a r) ∙ sym (append_assoc x (flat a) r)
 
 -- a row among the others
-pub flat_split : (rows : List (List Entry)) (b : ℕ) (d : List Entry) → b < length rows → flat rows ≡ flat (take b rows) ++ (slice_index_or rows b d ++ flat (drop (b + 1) rows))
+pub flat_split : (rows : List (List KeyAndValue)) (b : ℕ) (d : List KeyAndValue) → b < length rows → flat rows ≡ flat (take b rows) ++ (slice_index_or rows b d ++ flat (drop (b + 1) rows))
 flat_split rows b d lt =
     ap flat (sym (take-append-drop b rows))
     ∙ flat-append (take b rows) (drop b rows)
-    ∙ ap (λ (t : List (List Entry)). flat (take b rows) ++ flat t) (drop_more rows b d lt)
+    ∙ ap (λ (t : List (List KeyAndValue)). flat (take b rows) ++ flat t) (drop_more rows b d lt)
 
-pub flat_set : (rows : List (List Entry)) (b : ℕ) (r : List Entry) → b < length rows → flat (slice_set rows b r) ≡ flat (take b rows) ++ (r ++ flat (drop (b + 1) rows))
+pub flat_set : (rows : List (List KeyAndValue)) (b : ℕ) (r : List KeyAndValue) → b < length rows → flat (slice_set rows b r) ≡ flat (take b rows) ++ (r ++ flat (drop (b + 1) rows))
 flat_set rows b r lt =
     let p : suc b ≡ b + 1 = omega arith in
     ap flat (set_split rows b r lt)
     ∙ flat-append (take b rows) (r ∷ drop (suc b) rows)
     ∙ ap (λ (k : ℕ). flat (take b rows) ++ (r ++ flat (drop k rows))) p
 
-module _ (rows : List (List Entry)) (b : ℕ) (d : List Entry) (lt : b < length rows) where
-  pub put_in : (i : ℕ) (y : Entry) → i ≤ length (slice_index_or rows b d) → flat (slice_set rows b (insert (slice_index_or rows b d) i y)) ≡ insert (flat rows) (place_in rows b i) y
+module _ (rows : List (List KeyAndValue)) (b : ℕ) (d : List KeyAndValue) (lt : b < length rows) where
+  pub put_in : (i : ℕ) (y : KeyAndValue) → i ≤ length (slice_index_or rows b d) → flat (slice_set rows b (insert (slice_index_or rows b d) i y)) ≡ insert (flat rows) (place_among rows b i) y
   put_in i y le =
       let pre = flat (take b rows) in
       let row = slice_index_or rows b d in
       let post = flat (drop (b + 1) rows) in
       let p : length pre + i - length pre ≡ i = omega arith in
       flat_set rows b (insert row i y) lt
-      ∙ ap (λ (t : List Entry). pre ++ t) (sym (insert-append_left row post i y le))
+      ∙ ap (λ (t : List KeyAndValue). pre ++ t) (sym (insert-append_left row post i y le))
       ∙ ap (λ (k : ℕ). pre ++ insert (row ++ post) k y) (sym p)
       ∙ sym (insert-append_right pre (row ++ post) (length pre) (length pre + i) y refl (omega arith))
-      ∙ ap (λ (t : List Entry). insert t (length pre + i) y) (sym (flat_split rows b d lt))
+      ∙ ap (λ (t : List KeyAndValue). insert t (length pre + i) y) (sym (flat_split rows b d lt))
 
-  pub set_in : (i : ℕ) (y : Entry) → i < length (slice_index_or rows b d) → flat (slice_set rows b (slice_set (slice_index_or rows b d) i y)) ≡ slice_set (flat rows) (place_in rows b i) y
+  pub set_in : (i : ℕ) (y : KeyAndValue) → i < length (slice_index_or rows b d) → flat (slice_set rows b (slice_set (slice_index_or rows b d) i y)) ≡ slice_set (flat rows) (place_among rows b i) y
   set_in i y less =
       let pre = flat (take b rows) in
       let row = slice_index_or rows b d in
       let post = flat (drop (b + 1) rows) in
       let p : length pre + i - length pre ≡ i = omega arith in
       flat_set rows b (slice_set row i y) lt
-      ∙ ap (λ (t : List Entry). pre ++ t) (sym (set-append_left row post i y less))
+      ∙ ap (λ (t : List KeyAndValue). pre ++ t) (sym (set-append_left row post i y less))
       ∙ ap (λ (k : ℕ). pre ++ slice_set (row ++ post) k y) (sym p)
       ∙ sym (set-append_right pre (row ++ post) (length pre) (length pre + i) y refl (omega arith))
-      ∙ ap (λ (t : List Entry). slice_set t (length pre + i) y) (sym (flat_split rows b d lt))
+      ∙ ap (λ (t : List KeyAndValue). slice_set t (length pre + i) y) (sym (flat_split rows b d lt))
 
-  pub cut_in : (from to : ℕ) → from ≤ to → to ≤ length (slice_index_or rows b d) → flat (slice_set rows b (remove_range (slice_index_or rows b d) from to)) ≡ remove_range (flat rows) (place_in rows b from) (place_in rows b to)
+  pub cut_in : (from to : ℕ) → from ≤ to → to ≤ length (slice_index_or rows b d) → flat (slice_set rows b (remove_range (slice_index_or rows b d) from to)) ≡ remove_range (flat rows) (place_among rows b from) (place_among rows b to)
   cut_in from to order fits =
       let pre = flat (take b rows) in
       let row = slice_index_or rows b d in
       let post = flat (drop (b + 1) rows) in
       flat_set rows b (remove_range row from to) lt
-      ∙ ap (λ (t : List Entry). pre ++ t) (sym (remove_range-front row post from to (omega (arith, order, fits)) fits))
+      ∙ ap (λ (t : List KeyAndValue). pre ++ t) (sym (remove_range-front row post from to (omega (arith, order, fits)) fits))
       ∙ sym (remove_range-behind pre (row ++ post) from to (length pre + from) (length pre + to) refl refl)
-      ∙ ap (λ (t : List Entry). remove_range t (length pre + from) (length pre + to)) (sym (flat_split rows b d lt))
+      ∙ ap (λ (t : List KeyAndValue). remove_range t (length pre + from) (length pre + to)) (sym (flat_split rows b d lt))
 
   -- two rows in the place of one
   pub split_in : (i : ℕ) → flat (take b rows ++ take i (slice_index_or rows b d) ∷ drop i (slice_index_or rows b d) ∷ drop (b + 1) rows) ≡ flat rows
@@ -73,34 +73,34 @@ module _ (rows : List (List Entry)) (b : ℕ) (d : List Entry) (lt : b < length 
       let row = slice_index_or rows b d in
       let post = flat (drop (b + 1) rows) in
       flat-append (take b rows) (take i row ∷ drop i row ∷ drop (b + 1) rows)
-      ∙ ap (λ (t : List Entry). pre ++ t) (sym (append_assoc (take i row) (drop i row) post) ∙ ap (λ (t : List Entry). t ++ post) (take-append-drop i row))
+      ∙ ap (λ (t : List KeyAndValue). pre ++ t) (sym (append_assoc (take i row) (drop i row) post) ∙ ap (λ (t : List KeyAndValue). t ++ post) (take-append-drop i row))
       ∙ sym (flat_split rows b d lt)
 
 -- the entries before a row, and those from it on
-pub flat_before : (rows : List (List Entry)) (b : ℕ) → take (length (flat (take b rows))) (flat rows) ≡ flat (take b rows)
+pub flat_before : (rows : List (List KeyAndValue)) (b : ℕ) → take (length (flat (take b rows))) (flat rows) ≡ flat (take b rows)
 flat_before rows b =
-    ap (λ (t : List Entry). take (length (flat (take b rows))) t) (ap flat (sym (take-append-drop b rows)) ∙ flat-append (take b rows) (drop b rows))
+    ap (λ (t : List KeyAndValue). take (length (flat (take b rows))) t) (ap flat (sym (take-append-drop b rows)) ∙ flat-append (take b rows) (drop b rows))
     ∙ take_at (flat (take b rows)) (flat (drop b rows)) (length (flat (take b rows))) refl
 
-pub flat_from : (rows : List (List Entry)) (b : ℕ) → drop (length (flat (take b rows))) (flat rows) ≡ flat (drop b rows)
+pub flat_from : (rows : List (List KeyAndValue)) (b : ℕ) → drop (length (flat (take b rows))) (flat rows) ≡ flat (drop b rows)
 flat_from rows b =
-    ap (λ (t : List Entry). drop (length (flat (take b rows))) t) (ap flat (sym (take-append-drop b rows)) ∙ flat-append (take b rows) (drop b rows))
+    ap (λ (t : List KeyAndValue). drop (length (flat (take b rows))) t) (ap flat (sym (take-append-drop b rows)) ∙ flat-append (take b rows) (drop b rows))
     ∙ drop_at (flat (take b rows)) (flat (drop b rows)) (length (flat (take b rows))) refl
 
 -- without some rows
-pub drop_rows : (rows : List (List Entry)) (b c m n : ℕ) → m ≡ place_in rows b 0 → n ≡ place_in rows c 0 → flat (remove_range rows b c) ≡ remove_range (flat rows) m n
+pub drop_rows : (rows : List (List KeyAndValue)) (b c m n : ℕ) → m ≡ place_among rows b 0 → n ≡ place_among rows c 0 → flat (remove_range rows b c) ≡ remove_range (flat rows) m n
 drop_rows rows b c m n is ends =
     let p : length (flat (take b rows)) ≡ m = omega (arith, is) in
     let q : length (flat (take c rows)) ≡ n = omega (arith, ends) in
     flat-append (take b rows) (drop c rows)
-    ∙ ap (λ (t : List Entry). t ++ flat (drop c rows)) (sym (flat_before rows b))
-    ∙ ap (λ (t : List Entry). take (length (flat (take b rows))) (flat rows) ++ t) (sym (flat_from rows c))
+    ∙ ap (λ (t : List KeyAndValue). t ++ flat (drop c rows)) (sym (flat_before rows b))
+    ∙ ap (λ (t : List KeyAndValue). take (length (flat (take b rows))) (flat rows) ++ t) (sym (flat_from rows c))
     ∙ ap (λ (k : ℕ). take k (flat rows) ++ drop (length (flat (take c rows))) (flat rows)) p
     ∙ ap (λ (k : ℕ). take m (flat rows) ++ drop k (flat rows)) q
 
 -- ---- no row is empty
 
-pub some_append : (a b : List (List Entry)) → HasSome a → HasSome b → HasSome (a ++ b)
+pub some_append : (a b : List (List KeyAndValue)) → HasSome a → HasSome b → HasSome (a ++ b)
 some_append a b f g i d lt =
     elim (cases_lt i (length a)) [
       | inl low ↦ let e = ap length (get_or_append_left a b d i low) in let h = f i d low in omega (arith, e, h)
@@ -111,28 +111,28 @@ some_append a b f g i d lt =
           omega (arith, e, h)
     ]
 
-pub some_cons : (r : List Entry) (rs : List (List Entry)) → 0 < length r → HasSome rs → HasSome (r ∷ rs)
+pub some_cons : (r : List KeyAndValue) (rs : List (List KeyAndValue)) → 0 < length r → HasSome rs → HasSome (r ∷ rs)
 some_cons r rs some f zero d lt = some
 some_cons r rs some f (suc i) d lt = f i d (omega (arith, lt))
 
 pub some_nil : HasSome []
 some_nil i d lt = absurd (omega (arith, lt))
 
-pub some_take : (rows : List (List Entry)) (n : ℕ) → HasSome rows → HasSome (take n rows)
+pub some_take : (rows : List (List KeyAndValue)) (n : ℕ) → HasSome rows → HasSome (take n rows)
 some_take rows n f i d lt =
     let m = length-take n rows in
     let e = ap length (get_or-take n rows i d (omega (arith, m, lt))) in
     let h = f i d (omega (arith, m, lt)) in
     omega (arith, e, h)
 
-pub some_drop : (rows : List (List Entry)) (n : ℕ) → HasSome rows → HasSome (drop n rows)
+pub some_drop : (rows : List (List KeyAndValue)) (n : ℕ) → HasSome rows → HasSome (drop n rows)
 some_drop rows n f i d lt =
     let m = length-drop n rows in
     let e = ap length (get_or-drop n rows i d) in
     let h = f (n + i) d (omega (arith, m, lt)) in
     omega (arith, e, h)
 
-pub some_set : (rows : List (List Entry)) (b : ℕ) (r : List Entry) → HasSome rows → 0 < length r → HasSome (slice_set rows b r)
+pub some_set : (rows : List (List KeyAndValue)) (b : ℕ) (r : List KeyAndValue) → HasSome rows → 0 < length r → HasSome (slice_set rows b r)
 some_set rows b r f some i d lt =
     let n = length-set rows b r in
     elim (cases_eq i b) [
@@ -143,19 +143,19 @@ some_set rows b r f some i d lt =
       | inr ne ↦ let e = ap length (get_or-set_other rows b i r d ne) in let h = f i d (omega (arith, n, lt)) in omega (arith, e, h)
     ]
 
-pub some_without : (rows : List (List Entry)) (b c : ℕ) → HasSome rows → HasSome (remove_range rows b c)
+pub some_without : (rows : List (List KeyAndValue)) (b c : ℕ) → HasSome rows → HasSome (remove_range rows b c)
 some_without rows b c f = some_append (take b rows) (drop c rows) (some_take rows b f) (some_drop rows c f)
 
 -- ---- a row in the place of another of its length
 
-row_length-set : (rows : List (List Entry)) (b : ℕ) (r d : List Entry) → length r ≡ length (slice_index_or rows b d) → (k : ℕ) (e : List Entry) → k < length rows → length (slice_index_or (slice_set rows b r) k e) ≡ length (slice_index_or rows k e)
+row_length-set : (rows : List (List KeyAndValue)) (b : ℕ) (r d : List KeyAndValue) → length r ≡ length (slice_index_or rows b d) → (k : ℕ) (e : List KeyAndValue) → k < length rows → length (slice_index_or (slice_set rows b r) k e) ≡ length (slice_index_or rows k e)
 row_length-set [] b r d same k e lt = absurd (omega (arith, lt))
 row_length-set (x ∷ xs) zero r d same zero e lt = same
 row_length-set (x ∷ xs) zero r d same (suc k) e lt = refl
 row_length-set (x ∷ xs) (suc b) r d same zero e lt = refl
 row_length-set (x ∷ xs) (suc b) r d same (suc k) e lt = row_length-set xs b r d same k e (omega (arith, lt))
 
-pub room-set : (rows : List (List Entry)) (b : ℕ) (r d : List Entry) (capacity spare : ℕ) → length r ≡ length (slice_index_or rows b d) → HasRoom rows capacity spare → HasRoom (slice_set rows b r) capacity spare
+pub room-set : (rows : List (List KeyAndValue)) (b : ℕ) (r d : List KeyAndValue) (capacity spare : ℕ) → length r ≡ length (slice_index_or rows b d) → HasRoomForOne rows capacity spare → HasRoomForOne (slice_set rows b r) capacity spare
 room-set rows b r d capacity spare same room =
     let n = length-set rows b r in
     elim room [
@@ -163,7 +163,7 @@ room-set rows b r d capacity spare same room =
       | inr more ↦ let lt = more.0 in inr (omega (arith, n, lt), more.1)
     ]
 
-pub place-set : (rows : List (List Entry)) (b : ℕ) (r : List Entry) (d : List Entry) → b < length rows → length r ≡ length (slice_index_or rows b d) → (c i : ℕ) → place_in (slice_set rows b r) c i ≡ place_in rows c i
+pub place-set : (rows : List (List KeyAndValue)) (b : ℕ) (r : List KeyAndValue) (d : List KeyAndValue) → b < length rows → length r ≡ length (slice_index_or rows b d) → (c i : ℕ) → place_among (slice_set rows b r) c i ≡ place_among rows c i
 place-set [] b r d lt same c i = absurd (omega (arith, lt))
 place-set (x ∷ xs) b r d lt same zero i = refl
 place-set (x ∷ xs) zero r d lt same (suc c) i =
@@ -178,7 +178,7 @@ place-set (x ∷ xs) (suc b) r d lt same (suc c) i =
 
 -- ---- two rows in the place of one
 
-module _ (rows : List (List Entry)) (b : ℕ) (low high : List Entry) (rest : List (List Entry)) (fits : b ≤ length rows) where
+module _ (rows : List (List KeyAndValue)) (b : ℕ) (low high : List KeyAndValue) (rest : List (List KeyAndValue)) (fits : b ≤ length rows) where
   front : length (take b rows) ≡ b
   front = length-take-le b rows fits
 
@@ -190,15 +190,15 @@ module _ (rows : List (List Entry)) (b : ℕ) (low high : List Entry) (rest : Li
       let n = length-append (take b rows) (low ∷ high ∷ rest) in
       let f = front in
       take_more (take b rows ++ low ∷ high ∷ rest) b [] (omega (arith, n, f))
-      ∙ ap (λ (t : List (List Entry)). t ++ slice_index_or (take b rows ++ low ∷ high ∷ rest) b [] ∷ []) before_split
-      ∙ ap (λ (r : List Entry). take b rows ++ r ∷ []) (get_or_at (take b rows) low (high ∷ rest) [] b f)
+      ∙ ap (λ (t : List (List KeyAndValue)). t ++ slice_index_or (take b rows ++ low ∷ high ∷ rest) b [] ∷ []) before_split
+      ∙ ap (λ (r : List KeyAndValue). take b rows ++ r ∷ []) (get_or_at (take b rows) low (high ∷ rest) [] b f)
 
-  pub place_low : (i : ℕ) → place_in (take b rows ++ low ∷ high ∷ rest) b i ≡ place_in rows b i
-  place_low i = ap (λ (t : List (List Entry)). length (flat t) + i) before_split
+  pub place_low : (i : ℕ) → place_among (take b rows ++ low ∷ high ∷ rest) b i ≡ place_among rows b i
+  place_low i = ap (λ (t : List (List KeyAndValue)). length (flat t) + i) before_split
 
-  pub place_high : (i : ℕ) → place_in (take b rows ++ low ∷ high ∷ rest) (b + 1) i ≡ place_in rows b (length low + i)
+  pub place_high : (i : ℕ) → place_among (take b rows ++ low ∷ high ∷ rest) (b + 1) i ≡ place_among rows b (length low + i)
   place_high i =
-      let e = ap (λ (t : List (List Entry)). length (flat t)) behind_split in
+      let e = ap (λ (t : List (List KeyAndValue)). length (flat t)) behind_split in
       let f = ap length (flat_push (take b rows) low) in
       let n = length-append (flat (take b rows)) low in
       omega (arith, e, f, n)
@@ -212,32 +212,32 @@ remove_range-joins xs l m n order fits =
 
 -- ---- the last row
 
-pub flat_last : (rows : List (List Entry)) (n : ℕ) (d : List Entry) → n + 1 ≡ length rows → flat rows ≡ flat (take n rows) ++ slice_index_or rows n d
+pub flat_last : (rows : List (List KeyAndValue)) (n : ℕ) (d : List KeyAndValue) → n + 1 ≡ length rows → flat rows ≡ flat (take n rows) ++ slice_index_or rows n d
 flat_last rows n d is =
     ap flat (sym (take_all (n + 1) rows (omega (arith, is))) ∙ take_more rows n d (omega (arith, is)))
     ∙ flat_push (take n rows) (slice_index_or rows n d)
 
-pub flat_next : (rows : List (List Entry)) (n : ℕ) (d : List Entry) → n < length rows → flat (take (n + 1) rows) ≡ flat (take n rows) ++ slice_index_or rows n d
+pub flat_next : (rows : List (List KeyAndValue)) (n : ℕ) (d : List KeyAndValue) → n < length rows → flat (take (n + 1) rows) ≡ flat (take n rows) ++ slice_index_or rows n d
 flat_next rows n d lt = ap flat (take_more rows n d lt) ∙ flat_push (take n rows) (slice_index_or rows n d)
 
-pub flat_grown : (rows : List (List Entry)) (n : ℕ) (d more : List Entry) → n + 1 ≡ length rows → flat (slice_set rows n (slice_index_or rows n d ++ more)) ≡ flat rows ++ more
+pub flat_grown : (rows : List (List KeyAndValue)) (n : ℕ) (d more : List KeyAndValue) → n + 1 ≡ length rows → flat (slice_set rows n (slice_index_or rows n d ++ more)) ≡ flat rows ++ more
 flat_grown rows n d more is =
     let row = slice_index_or rows n d in
     let m = length-set rows n (row ++ more) in
     flat_last (slice_set rows n (row ++ more)) n d (omega (arith, is, m))
-    ∙ ap (λ (t : List (List Entry)). flat t ++ slice_index_or (slice_set rows n (row ++ more)) n d) (take-set rows n (row ++ more))
-    ∙ ap (λ (t : List Entry). flat (take n rows) ++ t) (get_or-set_same rows n (row ++ more) d (omega (arith, is)))
+    ∙ ap (λ (t : List (List KeyAndValue)). flat t ++ slice_index_or (slice_set rows n (row ++ more)) n d) (take-set rows n (row ++ more))
+    ∙ ap (λ (t : List KeyAndValue). flat (take n rows) ++ t) (get_or-set_same rows n (row ++ more) d (omega (arith, is)))
     ∙ sym (append_assoc (flat (take n rows)) row more)
-    ∙ ap (λ (t : List Entry). t ++ more) (sym (flat_last rows n d is))
+    ∙ ap (λ (t : List KeyAndValue). t ++ more) (sym (flat_last rows n d is))
 
-row_grown : (rows : List (List Entry)) (b : ℕ) (r d : List Entry) → length (slice_index_or rows b d) ≤ length r → (k : ℕ) (e : List Entry) → k < length rows → length (slice_index_or rows k e) ≤ length (slice_index_or (slice_set rows b r) k e)
+row_grown : (rows : List (List KeyAndValue)) (b : ℕ) (r d : List KeyAndValue) → length (slice_index_or rows b d) ≤ length r → (k : ℕ) (e : List KeyAndValue) → k < length rows → length (slice_index_or rows k e) ≤ length (slice_index_or (slice_set rows b r) k e)
 row_grown [] b r d more k e lt = absurd (omega (arith, lt))
 row_grown (x ∷ xs) zero r d more zero e lt = more
 row_grown (x ∷ xs) zero r d more (suc k) e lt = omega arith
 row_grown (x ∷ xs) (suc b) r d more zero e lt = omega arith
 row_grown (x ∷ xs) (suc b) r d more (suc k) e lt = row_grown xs b r d more k e (omega (arith, lt))
 
-pub full_grown : (rows : List (List Entry)) (b : ℕ) (r d : List Entry) → length (slice_index_or rows b d) ≤ length r → AreFull rows → AreFull (slice_set rows b r)
+pub full_grown : (rows : List (List KeyAndValue)) (b : ℕ) (r d : List KeyAndValue) → length (slice_index_or rows b d) ≤ length r → AreFull rows → AreFull (slice_set rows b r)
 full_grown rows b r d more full i e f lt =
     let n = length-set rows b r in
     let h = full i e f (omega (arith, n, lt)) in
@@ -245,7 +245,7 @@ full_grown rows b r d more full i e f lt =
     let q = row_grown rows b r d more (i + 1) f (omega (arith, n, lt)) in
     omega (arith, h, p, q)
 
-pub full_pushed : (rows : List (List Entry)) (r : List Entry) → AreFull rows → ((i : ℕ) → i + 1 ≡ length rows → 64 < length (slice_index_or rows i []) + length r) → AreFull (rows ++ r ∷ [])
+pub full_pushed : (rows : List (List KeyAndValue)) (r : List KeyAndValue) → AreFull rows → ((i : ℕ) → i + 1 ≡ length rows → 64 < length (slice_index_or rows i []) + length r) → AreFull (rows ++ r ∷ [])
 full_pushed rows r full last i d e lt =
     let n = length-append rows (r ∷ []) in
     elim (cases_lt (i + 1) (length rows)) [

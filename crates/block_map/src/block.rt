@@ -1,7 +1,7 @@
 // A row of entries by rising keys, in memory that has room for more.
 ghost use Rattle.std.specs.Prelude.{◌≡◌, ◌+◌, ◌-◌, ◌<◌, ◌≤◌, ℕ, List, [], ◌∷◌, ◌++◌, length, slice_index_or, slice_set, insert, take, drop, IfOk, vec_capacity, false, true};
 ghost use Rattle.std.specs.List.{remove_range};
-ghost use Rattle.block_map.specs.Sorted.{Entry, Rises, IsLastUpTo, GoesAt, FitsAt};
+ghost use Rattle.block_map.specs.Sorted.{KeyAndValue, KeysRise, IsLastUpTo, GoesAt, FitsAt};
 ghost use Rattle.block_map.specs.Rows.{first_key};
 
 use crate::search::last_up_to;
@@ -76,10 +76,10 @@ pub(crate) struct Block {
 
 impl Model for Block {
     ghost use Rattle.std.specs.Prelude.{List, ℕ, ◌≤◌, drop, vec_capacity};
-    ghost use Rattle.block_map.specs.Sorted.{Entry};
+    ghost use Rattle.block_map.specs.Sorted.{KeyAndValue};
     ghost use Rattle.block_map.specs.Rows.{IsBlock};
 
-    ghost Value = { List Entry };
+    ghost Value = { List KeyAndValue };
 
     ghost view = { λ b. drop b.start b.entries.items };
 
@@ -120,7 +120,7 @@ impl Block {
     pub(crate) fn first(&self) -> u64
         ensures key { result ≡ first_key self.now }
         ensures some { 0 < length self.now }
-        ensures rises { Rises self.now }
+        ensures rises { KeysRise self.now }
     {
         self.first
     }
@@ -222,7 +222,7 @@ impl Block {
     /// Puts the entries of another behind these. There is room.
     pub(crate) fn append(&mut self, other: &Block)
         requires room { length self.old + length other.now ≤ 64 }
-        requires rises { Rises (self.old ++ other.now) }
+        requires rises { KeysRise (self.old ++ other.now) }
         ensures { self.new ≡ self.old ++ other.now }
     {
         let more = &other.entries.as_slice()[other.start..];

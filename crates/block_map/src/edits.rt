@@ -5,8 +5,8 @@ ghost use Rattle.std.specs.Map.{remove_entry as without_entry};
 ghost use Rattle.std.specs.List.{remove_range};
 ghost use Rattle.std.specs.BTreeMap.{is_at, insert_entry};
 ghost use Rattle.std.specs.Ordering.{nat_cmp};
-ghost use Rattle.block_map.specs.Sorted.{Entry, Rises, IsLastUpTo, GoesAt, FitsAt, without_keys};
-ghost use Rattle.block_map.specs.Rows.{place_in, IsPlace, AreFull};
+ghost use Rattle.block_map.specs.Sorted.{KeyAndValue, KeysRise, IsLastUpTo, GoesAt, FitsAt, without_keys};
+ghost use Rattle.block_map.specs.Rows.{place_among, IsPlace, AreFull};
 
 use crate::block::{Block, MOST};
 use crate::map::{BlockMap, Place};
@@ -63,8 +63,8 @@ impl BlockMap {
         requires room { self.old.room ≡ true }
         requires block { block < length self.old.rows }
         requires index { index ≤ length (slice_index_or self.old.rows block []) }
-        requires goes { GoesAt self.old.items (place_in self.old.rows block index) key }
-        ensures { self.new.items ≡ insert self.old.items (place_in self.old.rows block index) (key, value) }
+        requires goes { GoesAt self.old.items (place_among self.old.rows block index) key }
+        ensures { self.new.items ≡ insert self.old.items (place_among self.old.rows block index) (key, value) }
     {
         self.ready = false;
         self.len += 1;
@@ -84,9 +84,9 @@ impl BlockMap {
     pub fn put_behind(&mut self, place: Place, key: u64, value: u64)
         requires room { self.old.room ≡ true }
         requires place { IsPlace self.old.rows place.block place.index }
-        requires above { (d : Entry) → (slice_index_or self.old.items (place_in self.old.rows place.block place.index) d).0 < key }
-        requires below { (k : ℕ) (d : Entry) → place_in self.old.rows place.block place.index < k → k < length self.old.items → key < (slice_index_or self.old.items k d).0 }
-        ensures { self.new.items ≡ insert self.old.items (place_in self.old.rows place.block place.index + 1) (key, value) }
+        requires above { (d : KeyAndValue) → (slice_index_or self.old.items (place_among self.old.rows place.block place.index) d).0 < key }
+        requires below { (k : ℕ) (d : KeyAndValue) → place_among self.old.rows place.block place.index < k → k < length self.old.items → key < (slice_index_or self.old.items k d).0 }
+        ensures { self.new.items ≡ insert self.old.items (place_among self.old.rows place.block place.index + 1) (key, value) }
     {
         let _len = self.blocks[place.block].len();
         self.put_at(place.block, place.index + 1, key, value);
@@ -96,7 +96,7 @@ impl BlockMap {
     #[inline]
     pub fn put_first(&mut self, key: u64, value: u64)
         requires room { self.old.room ≡ true }
-        requires below { (k : ℕ) (d : Entry) → k < length self.old.items → key < (slice_index_or self.old.items k d).0 }
+        requires below { (k : ℕ) (d : KeyAndValue) → k < length self.old.items → key < (slice_index_or self.old.items k d).0 }
         ensures { self.new.items ≡ (key, value) ∷ self.old.items }
     {
         if self.blocks.is_empty() {
@@ -112,7 +112,7 @@ impl BlockMap {
     #[inline]
     pub fn put_last(&mut self, key: u64, value: u64)
         requires room { self.old.room ≡ true }
-        requires above { (k : ℕ) (d : Entry) → k < length self.old.items → (slice_index_or self.old.items k d).0 < key }
+        requires above { (k : ℕ) (d : KeyAndValue) → k < length self.old.items → (slice_index_or self.old.items k d).0 < key }
         ensures { self.new.items ≡ self.old.items ++ (key, value) ∷ [] }
     {
         match self.last_place() {
@@ -146,9 +146,9 @@ impl BlockMap {
     #[inline]
     pub fn set(&mut self, place: Place, key: u64, value: u64)
         requires place { IsPlace self.old.rows place.block place.index }
-        requires fits { FitsAt self.old.items (place_in self.old.rows place.block place.index) key }
-        ensures items { self.new.items ≡ slice_set self.old.items (place_in self.old.rows place.block place.index) (key, value) }
-        ensures places { (b i : ℕ) → place_in self.new.rows b i ≡ place_in self.old.rows b i }
+        requires fits { FitsAt self.old.items (place_among self.old.rows place.block place.index) key }
+        ensures items { self.new.items ≡ slice_set self.old.items (place_among self.old.rows place.block place.index) (key, value) }
+        ensures places { (b i : ℕ) → place_among self.new.rows b i ≡ place_among self.old.rows b i }
         ensures still { (b i : ℕ) → IsPlace self.old.rows b i → IsPlace self.new.rows b i }
         ensures room { self.new.room ≡ self.old.room }
     {
@@ -159,8 +159,8 @@ impl BlockMap {
     #[inline]
     pub fn set_value(&mut self, place: Place, value: u64)
         requires { IsPlace self.old.rows place.block place.index }
-        ensures items { (d : Entry) → self.new.items ≡ slice_set self.old.items (place_in self.old.rows place.block place.index) ((slice_index_or self.old.items (place_in self.old.rows place.block place.index) d).0, value) }
-        ensures places { (b i : ℕ) → place_in self.new.rows b i ≡ place_in self.old.rows b i }
+        ensures items { (d : KeyAndValue) → self.new.items ≡ slice_set self.old.items (place_among self.old.rows place.block place.index) ((slice_index_or self.old.items (place_among self.old.rows place.block place.index) d).0, value) }
+        ensures places { (b i : ℕ) → place_among self.new.rows b i ≡ place_among self.old.rows b i }
         ensures still { (b i : ℕ) → IsPlace self.old.rows b i → IsPlace self.new.rows b i }
         ensures room { self.new.room ≡ self.old.room }
     {
@@ -173,9 +173,9 @@ impl BlockMap {
     #[inline]
     pub fn set_key(&mut self, place: Place, key: u64)
         requires place { IsPlace self.old.rows place.block place.index }
-        requires fits { FitsAt self.old.items (place_in self.old.rows place.block place.index) key }
-        ensures items { (d : Entry) → self.new.items ≡ slice_set self.old.items (place_in self.old.rows place.block place.index) (key, (slice_index_or self.old.items (place_in self.old.rows place.block place.index) d).1) }
-        ensures places { (b i : ℕ) → place_in self.new.rows b i ≡ place_in self.old.rows b i }
+        requires fits { FitsAt self.old.items (place_among self.old.rows place.block place.index) key }
+        ensures items { (d : KeyAndValue) → self.new.items ≡ slice_set self.old.items (place_among self.old.rows place.block place.index) (key, (slice_index_or self.old.items (place_among self.old.rows place.block place.index) d).1) }
+        ensures places { (b i : ℕ) → place_among self.new.rows b i ≡ place_among self.old.rows b i }
         ensures still { (b i : ℕ) → IsPlace self.old.rows b i → IsPlace self.new.rows b i }
         ensures room { self.new.room ≡ self.old.room }
     {
@@ -187,7 +187,7 @@ impl BlockMap {
     #[inline(always)]
     fn take_out(&mut self, place: Place)
         requires { IsPlace self.old.rows place.block place.index }
-        ensures { self.new.items ≡ remove_range self.old.items (place_in self.old.rows place.block place.index) (place_in self.old.rows place.block place.index + 1) }
+        ensures { self.new.items ≡ remove_range self.old.items (place_among self.old.rows place.block place.index) (place_among self.old.rows place.block place.index + 1) }
     {
         let _len = self.blocks[place.block].len();
         self.ready = false;
@@ -211,8 +211,8 @@ impl BlockMap {
     #[inline]
     pub fn remove_at(&mut self, place: Place) -> (u64, u64)
         requires { IsPlace self.old.rows place.block place.index }
-        ensures value { (d : Entry) → result ≡ slice_index_or self.old.items (place_in self.old.rows place.block place.index) d }
-        ensures items { self.new.items ≡ remove_range self.old.items (place_in self.old.rows place.block place.index) (place_in self.old.rows place.block place.index + 1) }
+        ensures value { (d : KeyAndValue) → result ≡ slice_index_or self.old.items (place_among self.old.rows place.block place.index) d }
+        ensures items { self.new.items ≡ remove_range self.old.items (place_among self.old.rows place.block place.index) (place_among self.old.rows place.block place.index + 1) }
     {
         let entry = self.entry(place);
         self.take_out(place);
@@ -233,8 +233,8 @@ impl BlockMap {
     pub fn remove_run(&mut self, first: Place, last: Place)
         requires first { IsPlace self.old.rows first.block first.index }
         requires last { IsPlace self.old.rows last.block last.index }
-        requires order { place_in self.old.rows first.block first.index ≤ place_in self.old.rows last.block last.index }
-        ensures { self.new.items ≡ remove_range self.old.items (place_in self.old.rows first.block first.index) (place_in self.old.rows last.block last.index + 1) }
+        requires order { place_among self.old.rows first.block first.index ≤ place_among self.old.rows last.block last.index }
+        ensures { self.new.items ≡ remove_range self.old.items (place_among self.old.rows first.block first.index) (place_among self.old.rows last.block last.index + 1) }
     {
         let first = (first.block, first.index);
         let last = (last.block, last.index);

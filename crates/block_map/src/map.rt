@@ -2,8 +2,8 @@ ghost use Rattle.std.specs.Prelude.{◌≡◌, ◌+◌, ◌-◌, ◌<◌, ◌≤
 ghost use Rattle.std.specs.Map.{lookup};
 ghost use Rattle.std.specs.BTreeMap.{is_at};
 ghost use Rattle.std.specs.Ordering.{nat_cmp};
-ghost use Rattle.block_map.specs.Sorted.{Entry, Rises, IsLastUpTo, IsFirstFrom};
-ghost use Rattle.block_map.specs.Rows.{flat, place_in, IsPlace, first_key};
+ghost use Rattle.block_map.specs.Sorted.{KeyAndValue, KeysRise, IsLastUpTo, IsFirstFrom};
+ghost use Rattle.block_map.specs.Rows.{flat, place_among, IsPlace, first_key};
 
 use crate::block::Block;
 use crate::search::last_row;
@@ -34,7 +34,7 @@ pub struct BlockMap {
 
 impl Model for BlockMap {
     ghost use Rattle.std.specs.Prelude.{List, vec_capacity, ℕ};
-    ghost use Rattle.block_map.specs.Sorted.{Entry};
+    ghost use Rattle.block_map.specs.Sorted.{KeyAndValue};
     ghost use Rattle.block_map.specs.Rows.{Entries, as_entries, IsMap};
 
     ghost Value = { Entries };
@@ -78,9 +78,9 @@ impl BlockMap {
     #[inline(always)]
     pub fn find(&self, n: u64) -> Option<Place>
         ensures place { IfSome result (λ p. IsPlace self.now.rows p.block p.index) }
-        ensures last { IfSome result (λ p. IsLastUpTo self.now.items n (place_in self.now.rows p.block p.index)) }
-        ensures none { IfNone result ((k : ℕ) (d : Entry) → k < length self.now.items → n < (slice_index_or self.now.items k d).0) }
-        ensures rises { Rises self.now.items }
+        ensures last { IfSome result (λ p. IsLastUpTo self.now.items n (place_among self.now.rows p.block p.index)) }
+        ensures none { IfNone result ((k : ℕ) (d : KeyAndValue) → k < length self.now.items → n < (slice_index_or self.now.items k d).0) }
+        ensures rises { KeysRise self.now.items }
     {
         if self.blocks.is_empty() {
             return None;
@@ -97,9 +97,9 @@ impl BlockMap {
     #[inline]
     pub fn find_from(&self, n: u64) -> Option<Place>
         ensures place { IfSome result (λ p. IsPlace self.now.rows p.block p.index) }
-        ensures first { IfSome result (λ p. IsFirstFrom self.now.items n (place_in self.now.rows p.block p.index)) }
-        ensures none { IfNone result ((k : ℕ) (d : Entry) → k < length self.now.items → (slice_index_or self.now.items k d).0 < n) }
-        ensures rises { Rises self.now.items }
+        ensures first { IfSome result (λ p. IsFirstFrom self.now.items n (place_among self.now.rows p.block p.index)) }
+        ensures none { IfNone result ((k : ℕ) (d : KeyAndValue) → k < length self.now.items → (slice_index_or self.now.items k d).0 < n) }
+        ensures rises { KeysRise self.now.items }
     {
         let Some(place) = self.find(n) else {
             let first = self.first_place()?;
@@ -116,7 +116,7 @@ impl BlockMap {
     #[inline(always)]
     pub fn entry(&self, place: Place) -> (u64, u64)
         requires { IsPlace self.now.rows place.block place.index }
-        ensures { (d : Entry) → result ≡ slice_index_or self.now.items (place_in self.now.rows place.block place.index) d }
+        ensures { (d : KeyAndValue) → result ≡ slice_index_or self.now.items (place_among self.now.rows place.block place.index) d }
     {
         self.blocks[place.block].get(place.index)
     }
@@ -126,9 +126,9 @@ impl BlockMap {
     pub fn next(&self, place: Place) -> Option<Place>
         requires { IsPlace self.now.rows place.block place.index }
         ensures place { IfSome result (λ p. IsPlace self.now.rows p.block p.index) }
-        ensures next { IfSome result (λ p. place_in self.now.rows p.block p.index ≡ place_in self.now.rows place.block place.index + 1) }
-        ensures fits { IfSome result (λ _. place_in self.now.rows place.block place.index + 1 < length self.now.items) }
-        ensures none { IfNone result (length self.now.items ≡ place_in self.now.rows place.block place.index + 1) }
+        ensures next { IfSome result (λ p. place_among self.now.rows p.block p.index ≡ place_among self.now.rows place.block place.index + 1) }
+        ensures fits { IfSome result (λ _. place_among self.now.rows place.block place.index + 1 < length self.now.items) }
+        ensures none { IfNone result (length self.now.items ≡ place_among self.now.rows place.block place.index + 1) }
     {
         let len = self.blocks[place.block].len();
         let index = place.index + 1;
@@ -150,7 +150,7 @@ impl BlockMap {
     #[inline]
     pub fn first_place(&self) -> Option<Place>
         ensures place { IfSome result (λ p. IsPlace self.now.rows p.block p.index) }
-        ensures first { IfSome result (λ p. place_in self.now.rows p.block p.index ≡ 0) }
+        ensures first { IfSome result (λ p. place_among self.now.rows p.block p.index ≡ 0) }
         ensures some { IfSome result (λ _. 0 < length self.now.items) }
         ensures none { IfNone result (self.now.items ≡ []) }
     {
@@ -165,7 +165,7 @@ impl BlockMap {
     #[inline]
     pub fn last_place(&self) -> Option<Place>
         ensures place { IfSome result (λ p. IsPlace self.now.rows p.block p.index) }
-        ensures last { IfSome result (λ p. place_in self.now.rows p.block p.index + 1 ≡ length self.now.items) }
+        ensures last { IfSome result (λ p. place_among self.now.rows p.block p.index + 1 ≡ length self.now.items) }
         ensures none { IfNone result (self.now.items ≡ []) }
     {
         if self.blocks.is_empty() {
@@ -179,7 +179,7 @@ impl BlockMap {
     /// The entry with the lowest key.
     #[inline]
     pub fn first(&self) -> Option<(u64, u64)>
-        ensures some { IfSome result (λ e. (rest : List Entry) × (self.now.items ≡ e ∷ rest)) }
+        ensures some { IfSome result (λ e. (rest : List KeyAndValue) × (self.now.items ≡ e ∷ rest)) }
         ensures none { IfNone result (self.now.items ≡ []) }
     {
         match self.first_place() {
@@ -191,7 +191,7 @@ impl BlockMap {
     /// The entry with the highest key.
     #[inline]
     pub fn last(&self) -> Option<(u64, u64)>
-        ensures some { IfSome result (λ e. (rest : List Entry) × (self.now.items ≡ rest ++ e ∷ [])) }
+        ensures some { IfSome result (λ e. (rest : List KeyAndValue) × (self.now.items ≡ rest ++ e ∷ [])) }
         ensures none { IfNone result (self.now.items ≡ []) }
     {
         match self.last_place() {
@@ -204,10 +204,10 @@ impl BlockMap {
     #[inline]
     pub fn place_of(&self, key: u64) -> Option<Place>
         ensures place { IfSome result (λ p. IsPlace self.now.rows p.block p.index) }
-        ensures fits { IfSome result (λ p. place_in self.now.rows p.block p.index < length self.now.items) }
-        ensures key { IfSome result (λ p. (d : Entry) → (slice_index_or self.now.items (place_in self.now.rows p.block p.index) d).0 ≡ key) }
+        ensures fits { IfSome result (λ p. place_among self.now.rows p.block p.index < length self.now.items) }
+        ensures key { IfSome result (λ p. (d : KeyAndValue) → (slice_index_or self.now.items (place_among self.now.rows p.block p.index) d).0 ≡ key) }
         ensures none { IfNone result (lookup (is_at (nat_cmp key)) self.now.items ≡ None) }
-        ensures rises { Rises self.now.items }
+        ensures rises { KeysRise self.now.items }
     {
         match self.find(key) {
             Some(place) => {

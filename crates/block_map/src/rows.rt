@@ -1,8 +1,8 @@
 // Changes of the rows of a map.
 ghost use Rattle.std.specs.Prelude.{◌≡◌, ◌+◌, ◌-◌, ◌^◌, ◌<◌, ◌≤◌, ℕ, List, [], ◌∷◌, ◌++◌, length, slice_index_or, slice_set, insert, take, drop, IfOk, OnOk, vec_capacity, false, true};
 ghost use Rattle.std.specs.List.{remove_range};
-ghost use Rattle.block_map.specs.Sorted.{Entry, Rises, GoesAt, FitsAt};
-ghost use Rattle.block_map.specs.Rows.{flat, place_in, IsPlace, HasSome, HasRoom, AreFull};
+ghost use Rattle.block_map.specs.Sorted.{KeyAndValue, KeysRise, GoesAt, FitsAt};
+ghost use Rattle.block_map.specs.Rows.{flat, place_among, IsPlace, HasSome, HasRoomForOne, AreFull};
 
 use crate::block::{Block, MOST};
 use std::alloc::{AllocError, Global};
@@ -26,8 +26,8 @@ fn put_in_row(blocks: &mut Vec<Block>, block: usize, index: usize, key: u64, val
     requires block { block < length blocks.old.items }
     requires index { index ≤ length (slice_index_or blocks.old.items block []) }
     requires room { length (slice_index_or blocks.old.items block []) < 64 }
-    requires goes { GoesAt (flat blocks.old.items) (place_in blocks.old.items block index) key }
-    ensures items { flat blocks.new.items ≡ insert (flat blocks.old.items) (place_in blocks.old.items block index) (key, value) }
+    requires goes { GoesAt (flat blocks.old.items) (place_among blocks.old.items block index) key }
+    ensures items { flat blocks.new.items ≡ insert (flat blocks.old.items) (place_among blocks.old.items block index) (key, value) }
     ensures some { HasSome blocks.new.items }
 {
     blocks[block].put(index, key, value);
@@ -96,8 +96,8 @@ fn split_and_put(
     requires index { index ≤ length (slice_index_or blocks.old.items block []) }
     requires many { 2 ≤ length (slice_index_or blocks.old.items block []) }
     requires most { length (slice_index_or blocks.old.items block []) ≤ 64 }
-    requires goes { GoesAt (flat blocks.old.items) (place_in blocks.old.items block index) key }
-    ensures items { flat blocks.new.items ≡ insert (flat blocks.old.items) (place_in blocks.old.items block index) (key, value) }
+    requires goes { GoesAt (flat blocks.old.items) (place_among blocks.old.items block index) key }
+    ensures items { flat blocks.new.items ≡ insert (flat blocks.old.items) (place_among blocks.old.items block index) (key, value) }
     ensures some { HasSome blocks.new.items }
 {
     let middle = blocks[block].len() / 2;
@@ -122,11 +122,11 @@ pub(crate) fn put_entry(
 )
     requires some { HasSome blocks.old.items }
     requires empty { spare.old.items ≡ [] }
-    requires room { HasRoom blocks.old.items (vec_capacity blocks.old) (vec_capacity spare.old) }
+    requires room { HasRoomForOne blocks.old.items (vec_capacity blocks.old) (vec_capacity spare.old) }
     requires block { block < length blocks.old.items }
     requires index { index ≤ length (slice_index_or blocks.old.items block []) }
-    requires goes { GoesAt (flat blocks.old.items) (place_in blocks.old.items block index) key }
-    ensures items { flat blocks.new.items ≡ insert (flat blocks.old.items) (place_in blocks.old.items block index) (key, value) }
+    requires goes { GoesAt (flat blocks.old.items) (place_among blocks.old.items block index) key }
+    ensures items { flat blocks.new.items ≡ insert (flat blocks.old.items) (place_among blocks.old.items block index) (key, value) }
     ensures some { HasSome blocks.new.items }
     ensures empty { spare.new.items ≡ [] }
 {
@@ -154,7 +154,7 @@ pub(crate) fn put_alone(
 )
     requires none { blocks.old.items ≡ [] }
     requires empty { spare.old.items ≡ [] }
-    requires room { HasRoom blocks.old.items (vec_capacity blocks.old) (vec_capacity spare.old) }
+    requires room { HasRoomForOne blocks.old.items (vec_capacity blocks.old) (vec_capacity spare.old) }
     ensures items { flat blocks.new.items ≡ (key, value) ∷ [] }
     ensures some { HasSome blocks.new.items }
     ensures empty { spare.new.items ≡ [] }
@@ -170,7 +170,7 @@ fn cut_row(blocks: &mut Vec<Block>, block: usize, from: usize, to: usize)
     requires block { block < length blocks.old.items }
     requires order { from ≤ to }
     requires fits { to ≤ length (slice_index_or blocks.old.items block []) }
-    ensures items { flat blocks.new.items ≡ remove_range (flat blocks.old.items) (place_in blocks.old.items block from) (place_in blocks.old.items block to) }
+    ensures items { flat blocks.new.items ≡ remove_range (flat blocks.old.items) (place_among blocks.old.items block from) (place_among blocks.old.items block to) }
     ensures some { HasSome blocks.new.items }
     ensures before { take block blocks.new.items ≡ take block blocks.old.items }
     ensures fits { block ≤ length blocks.new.items }
@@ -193,7 +193,7 @@ pub(crate) fn remove_entry(
     requires some { HasSome blocks.old.items }
     requires empty { spare.old.items ≡ [] }
     requires place { IsPlace blocks.old.items block index }
-    ensures items { flat blocks.new.items ≡ remove_range (flat blocks.old.items) (place_in blocks.old.items block index) (place_in blocks.old.items block index + 1) }
+    ensures items { flat blocks.new.items ≡ remove_range (flat blocks.old.items) (place_among blocks.old.items block index) (place_among blocks.old.items block index + 1) }
     ensures some { HasSome blocks.new.items }
     ensures empty { spare.new.items ≡ [] }
 {
@@ -209,7 +209,7 @@ fn count_rows(blocks: &[Block], from: usize, to: usize) -> usize
     requires order { from ≤ to }
     requires fits { to ≤ length blocks.now }
     requires few { length (flat blocks.now) < 2 ^ 64 }
-    ensures { place_in blocks.now from 0 + result ≡ place_in blocks.now to 0 }
+    ensures { place_among blocks.now from 0 + result ≡ place_among blocks.now to 0 }
 {
     let mut count = 0;
     for block in from..to {
@@ -222,9 +222,9 @@ fn count_rows(blocks: &[Block], from: usize, to: usize) -> usize
 pub(crate) fn count_between(blocks: &[Block], from: (usize, usize), to: (usize, usize)) -> usize
     requires from { IsPlace blocks.now from.0 from.1 }
     requires to { IsPlace blocks.now to.0 to.1 }
-    requires order { place_in blocks.now from.0 from.1 ≤ place_in blocks.now to.0 to.1 }
+    requires order { place_among blocks.now from.0 from.1 ≤ place_among blocks.now to.0 to.1 }
     requires few { length (flat blocks.now) < 2 ^ 64 }
-    ensures { place_in blocks.now from.0 from.1 + result ≡ place_in blocks.now to.0 to.1 }
+    ensures { place_among blocks.now from.0 from.1 + result ≡ place_among blocks.now to.0 to.1 }
 {
     count_rows(blocks, from.0, to.0) + to.1 - from.1
 }
@@ -244,7 +244,7 @@ fn cut_rows(blocks: &mut Vec<Block>, block: usize, index: usize, to: usize)
     requires place { IsPlace blocks.old.items block index }
     requires order { block < to }
     requires fits { to ≤ length blocks.old.items }
-    ensures items { flat blocks.new.items ≡ remove_range (flat blocks.old.items) (place_in blocks.old.items block index) (place_in blocks.old.items to 0) }
+    ensures items { flat blocks.new.items ≡ remove_range (flat blocks.old.items) (place_among blocks.old.items block index) (place_among blocks.old.items to 0) }
     ensures some { HasSome blocks.new.items }
 {
     drop_rows(blocks, block + 1, to);
@@ -257,8 +257,8 @@ pub(crate) fn remove_entries(blocks: &mut Vec<Block>, first: (usize, usize), las
     requires some { HasSome blocks.old.items }
     requires first { IsPlace blocks.old.items first.0 first.1 }
     requires last { IsPlace blocks.old.items last.0 last.1 }
-    requires order { place_in blocks.old.items first.0 first.1 ≤ place_in blocks.old.items last.0 last.1 }
-    ensures items { flat blocks.new.items ≡ remove_range (flat blocks.old.items) (place_in blocks.old.items first.0 first.1) (place_in blocks.old.items last.0 last.1 + 1) }
+    requires order { place_among blocks.old.items first.0 first.1 ≤ place_among blocks.old.items last.0 last.1 }
+    ensures items { flat blocks.new.items ≡ remove_range (flat blocks.old.items) (place_among blocks.old.items first.0 first.1) (place_among blocks.old.items last.0 last.1 + 1) }
     ensures some { HasSome blocks.new.items }
 {
     let _len = blocks[last.0].len();
@@ -286,7 +286,7 @@ fn has_room(rows: &[Block], block: &Block) -> bool
 fn join_row(rows: &mut Vec<Block>, block: &Block, alloc: Global) -> Result<(), AllocError>
     requires some { HasSome rows.old.items }
     requires full { AreFull rows.old.items }
-    requires rises { Rises (flat rows.old.items ++ block.now) }
+    requires rises { KeysRise (flat rows.old.items ++ block.now) }
     ensures items { OnOk result (flat rows.new.items ≡ flat rows.old.items ++ block.now) }
     ensures some { OnOk result (HasSome rows.new.items) }
     ensures full { OnOk result (AreFull rows.new.items) }
@@ -303,7 +303,7 @@ fn join_row(rows: &mut Vec<Block>, block: &Block, alloc: Global) -> Result<(), A
 
 /// Copies of rows, where two neighbours are one if that has room for both.
 pub(crate) fn joined(blocks: &[Block], alloc: Global) -> Result<Vec<Block>, AllocError>
-    requires { Rises (flat blocks.now) }
+    requires { KeysRise (flat blocks.now) }
     ensures items { IfOk result (λ rows. flat rows.items ≡ flat blocks.now) }
     ensures some { IfOk result (λ rows. HasSome rows.items) }
     ensures full { IfOk result (λ rows. AreFull rows.items) }

@@ -1,6 +1,6 @@
 // Binary searches.
 ghost use Rattle.std.specs.Prelude.{◌≡◌, ◌+◌, ◌<◌, ◌≤◌, ℕ, List, length, slice_index_or};
-ghost use Rattle.block_map.specs.Sorted.{Entry, Rises, IsLastUpTo};
+ghost use Rattle.block_map.specs.Sorted.{KeyAndValue, KeysRise, IsLastUpTo};
 ghost use Rattle.block_map.specs.Rows.{first_key, FirstsRise};
 
 use crate::block::Block;
@@ -8,8 +8,8 @@ use crate::block::Block;
 /// The place of the last entry with a key up to `n`. The first has one.
 #[inline(always)]
 pub(crate) fn last_up_to(entries: &[(u64, u64)], n: u64) -> usize
-    requires rises { Rises entries.now }
-    requires first { (0 < length entries.now) × ((d : Entry) → (slice_index_or entries.now 0 d).0 ≤ n) }
+    requires rises { KeysRise entries.now }
+    requires first { (0 < length entries.now) × ((d : KeyAndValue) → (slice_index_or entries.now 0 d).0 ≤ n) }
     ensures { IsLastUpTo entries.now n result }
 {
     let mut index = 0;
@@ -28,10 +28,10 @@ pub(crate) fn last_up_to(entries: &[(u64, u64)], n: u64) -> usize
 #[inline(always)]
 pub(crate) fn last_row(rows: &[Block], n: u64) -> usize
     requires rise { FirstsRise rows.now }
-    requires first { (0 < length rows.now) × ((d : List Entry) → first_key (slice_index_or rows.now 0 d) ≤ n) }
+    requires first { (0 < length rows.now) × ((d : List KeyAndValue) → first_key (slice_index_or rows.now 0 d) ≤ n) }
     ensures fits { result < length rows.now }
-    ensures up_to { (d : List Entry) → first_key (slice_index_or rows.now result d) ≤ n }
-    ensures above { (k : ℕ) (d : List Entry) → result < k → k < length rows.now → n < first_key (slice_index_or rows.now k d) }
+    ensures up_to { (d : List KeyAndValue) → first_key (slice_index_or rows.now result d) ≤ n }
+    ensures above { (k : ℕ) (d : List KeyAndValue) → result < k → k < length rows.now → n < first_key (slice_index_or rows.now k d) }
 {
     let mut index = 0;
     let mut size = rows.len();

@@ -1,5 +1,5 @@
 use Rattle.std.proofs.Common.{arith, ◌≡◌, ◌+◌, ◌<◌, ℕ, [], length, ap, ◌∙◌, suc}
-use Rattle.block_map.specs.Rows.{place_in}
+use Rattle.block_map.specs.Rows.{place_among}
 use Rattle.block_map.proofs.Flat.{same_at, place_after, place_bound}
 use Rattle.block_map.proofs.rows.count_rows.Goals as goal
 
@@ -24,5 +24,5 @@ loop-block-preserved c =
     let same = ap length (c.index-blocks-block.is ∙ same_at rows b c.index-blocks-block.result [] lt) in
     let l = c.len-count.ensures.len in
     let p : suc b ≡ b + 1 = omega arith in
-    let q = ap (λ (k : ℕ). place_in rows k 0) p in
+    let q = ap (λ (k : ℕ). place_among rows k 0) p in
     omega (arith, a, same, l, q, c.loop-block.invariant)

@@ -1,6 +1,6 @@
 use Rattle.std.proofs.Common.{◌+◌, ◌≡◌}
-use Rattle.block_map.specs.Rows.{place_in}
+use Rattle.block_map.specs.Rows.{place_among}
 use Rattle.block_map.proofs.rows.count_rows.Given as goal
 
 abbrev pub invariant-loop-block : goal.invariant-loop-block
-invariant-loop-block l = place_in l.blocks l.from 0 + l.count ≡ place_in l.blocks l.block 0
+invariant-loop-block l = place_among l.blocks l.from 0 + l.count ≡ place_among l.blocks l.block 0

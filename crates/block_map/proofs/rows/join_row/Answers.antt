@@ -1,6 +1,6 @@
 use Rattle.std.proofs.Common.{arith, ◌≡◌, ◌+◌, ◌-◌, ◌<◌, ℕ, List, [], ◌++◌, length, take, ap, ◌∙◌}
 use Rattle.std.specs.Prelude.{slice_index_or, slice_set}
-use Rattle.block_map.specs.Sorted.{Entry, Rises}
+use Rattle.block_map.specs.Sorted.{KeyAndValue, KeysRise}
 use Rattle.block_map.specs.Rows.{flat}
 use Rattle.std.proofs.lemmas.List.{append_assoc, length-append}
 use Rattle.block_map.proofs.Flat.{same_at}
@@ -17,8 +17,8 @@ append-requires-clause-rises c =
     let v = ap length c.as_slice.ensures.value in
     let is : n + 1 ≡ length rows = omega (arith, some, v, c.len-last.ensures) in
     let same : row ≡ slice_index_or rows n [] = c.index_mut.ensures.value ∙ same_at rows n row [] (omega (arith, is)) in
-    let r : Rises ((flat (take n rows) ++ slice_index_or rows n []) ++ c.args.block.now) = rw (flat_last rows n [] is) at c.requires.rises in
-    let t : Rises (flat (take n rows) ++ (slice_index_or rows n [] ++ c.args.block.now)) = rw (append_assoc (flat (take n rows)) (slice_index_or rows n []) c.args.block.now) at r in
+    let r : KeysRise ((flat (take n rows) ++ slice_index_or rows n []) ++ c.args.block.now) = rw (flat_last rows n [] is) at c.requires.rises in
+    let t : KeysRise (flat (take n rows) ++ (slice_index_or rows n [] ++ c.args.block.now)) = rw (append_assoc (flat (take n rows)) (slice_index_or rows n []) c.args.block.now) at r in
     let s = rises_back (flat (take n rows)) (slice_index_or rows n [] ++ c.args.block.now) t in
     rw (← same) at s
 
@@ -31,7 +31,7 @@ returns-then-has_room-clause-items c =
     let v = ap length c.as_slice.ensures.value in
     let is : n + 1 ≡ length rows = omega (arith, some, v, c.len-last.ensures) in
     let same : row ≡ slice_index_or rows n [] = c.index_mut.ensures.value ∙ same_at rows n row [] (omega (arith, is)) in
-    ap (λ (t : List Entry). flat (slice_set rows n t)) (c.append.ensures ∙ ap (λ (t : List Entry). t ++ c.args.block.now) same) ∙ flat_grown rows n [] c.args.block.now is
+    ap (λ (t : List KeyAndValue). flat (slice_set rows n t)) (c.append.ensures ∙ ap (λ (t : List KeyAndValue). t ++ c.args.block.now) same) ∙ flat_grown rows n [] c.args.block.now is
 
 pub returns-then-has_room-clause-some : goal.returns-then-has_room-clause-some
 returns-then-has_room-clause-some c =
@@ -58,7 +58,7 @@ returns-then-has_room-clause-full c =
 pub returns-clause-items : goal.returns-clause-items
 returns-clause-items c =
     let rows = c.args.rows.now.items in
-    ap flat c.in_ok-push.ensures.items ∙ flat_push rows c.in_ok-copied.field-0 ∙ ap (λ (t : List Entry). flat rows ++ t) c.in_ok-copied.ensures
+    ap flat c.in_ok-push.ensures.items ∙ flat_push rows c.in_ok-copied.field-0 ∙ ap (λ (t : List KeyAndValue). flat rows ++ t) c.in_ok-copied.ensures
 
 pub returns-clause-full : goal.returns-clause-full
 returns-clause-full c =
@@ -67,5 +67,5 @@ returns-clause-full c =
     let l = ap length v in
     let e = ap length c.in_ok-copied.ensures in
     let last : (i : ℕ) → i + 1 ≡ length rows → 64 < length (slice_index_or rows i []) + length c.in_ok-copied.field-0 =
-    λ i is. let h = c.has_room.ensures.no c.if-has_room.false i (omega (arith, is, l)) in let g = ap (λ (t : List (List Entry)). length (slice_index_or t i [])) v in omega (arith, h, g, e) in
+    λ i is. let h = c.has_room.ensures.no c.if-has_room.false i (omega (arith, is, l)) in let g = ap (λ (t : List (List KeyAndValue)). length (slice_index_or t i [])) v in omega (arith, h, g, e) in
     rw c.in_ok-push.ensures.items (full_pushed rows c.in_ok-copied.field-0 c.requires.full last)

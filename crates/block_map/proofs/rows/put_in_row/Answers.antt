@@ -1,6 +1,6 @@
 use Rattle.std.proofs.Common.{◌≡◌, List, [], ap, ◌∙◌}
 use Rattle.std.specs.Prelude.{slice_index_or, slice_set, insert}
-use Rattle.block_map.specs.Sorted.{Entry}
+use Rattle.block_map.specs.Sorted.{KeyAndValue}
 use Rattle.block_map.specs.Rows.{flat}
 use Rattle.block_map.proofs.Flat.{same_at, goes_in_row}
 use Rattle.block_map.proofs.Rowed.{put_in}
@@ -20,7 +20,7 @@ returns-clause-items c =
     let rows = c.args.blocks.now.items in
     let b = c.args.block in
     let i = c.args.index in
-    let y : Entry = (c.args.key, c.args.value) in
+    let y : KeyAndValue = (c.args.key, c.args.value) in
     let row = c.index_mut.result.now in
     let same : row ≡ slice_index_or rows b [] = c.index_mut.ensures.value ∙ same_at rows b row [] c.requires.block in
-    ap (λ (t : List Entry). flat (slice_set rows b t)) (c.put.ensures ∙ ap (λ (t : List Entry). insert t i y) same) ∙ put_in rows b [] c.requires.block i y c.requires.index
+    ap (λ (t : List KeyAndValue). flat (slice_set rows b t)) (c.put.ensures ∙ ap (λ (t : List KeyAndValue). insert t i y) same) ∙ put_in rows b [] c.requires.block i y c.requires.index

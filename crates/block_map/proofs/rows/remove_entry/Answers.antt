@@ -1,8 +1,8 @@
 use Rattle.std.proofs.Common.{arith, ◌≡◌, ◌+◌, ℕ, List, [], length, ap, ◌∙◌, suc}
 use Rattle.std.specs.Prelude.{slice_index_or, slice_set}
 use Rattle.std.specs.List.{remove_range}
-use Rattle.block_map.specs.Sorted.{Entry}
-use Rattle.block_map.specs.Rows.{flat, place_in}
+use Rattle.block_map.specs.Sorted.{KeyAndValue}
+use Rattle.block_map.specs.Rows.{flat, place_among}
 use Rattle.block_map.proofs.Flat.{same_at, place_after}
 use Rattle.block_map.proofs.Rowed.{cut_in, drop_rows}
 use Rattle.block_map.proofs.rows.remove_entry.Goals as goal
@@ -16,10 +16,10 @@ returns-then-len-gt1-clause-items c =
     let inside = c.requires.place.1 in
     let row = c.index_mut.result.now in
     let same : row ≡ slice_index_or rows b [] = c.index_mut.ensures.value ∙ same_at rows b row [] lt in
-    let p : place_in rows b (i + 1) ≡ place_in rows b i + 1 = omega arith in
-    ap (λ (t : List Entry). flat (slice_set rows b t)) (c.cut.ensures ∙ ap (λ (t : List Entry). remove_range t i (i + 1)) same)
+    let p : place_among rows b (i + 1) ≡ place_among rows b i + 1 = omega arith in
+    ap (λ (t : List KeyAndValue). flat (slice_set rows b t)) (c.cut.ensures ∙ ap (λ (t : List KeyAndValue). remove_range t i (i + 1)) same)
     ∙ cut_in rows b [] lt i (i + 1) (omega arith) (omega (arith, inside))
-    ∙ ap (λ (k : ℕ). remove_range (flat rows) (place_in rows b i) k) p
+    ∙ ap (λ (k : ℕ). remove_range (flat rows) (place_among rows b i) k) p
 
 pub returns-clause-items : goal.returns-clause-items
 returns-clause-items c =
@@ -33,4 +33,4 @@ returns-clause-items c =
     let l = c.len.ensures.len in
     let a = place_after rows b [] lt in
     let new : c.remove.new.self.items ≡ remove_range rows b (suc b) = c.remove.ensures.items in
-    ap flat new ∙ drop_rows rows b (suc b) (place_in rows b i) (place_in rows b i + 1) (omega (arith, same, l, inside)) (omega (arith, same, l, inside, a))
+    ap flat new ∙ drop_rows rows b (suc b) (place_among rows b i) (place_among rows b i + 1) (omega (arith, same, l, inside)) (omega (arith, same, l, inside, a))

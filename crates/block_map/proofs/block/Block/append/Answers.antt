@@ -1,6 +1,6 @@
 use Rattle.std.proofs.Common.{rules, arith, ◌≡◌, ◌+◌, ◌-◌, ◌≤◌, List, ◌++◌, length, take, drop, sym, ap, ◌∙◌}
 use Rattle.std.proofs.lemmas.List.{length-drop, length-append, drop-append-le, take_rest}
-use Rattle.block_map.specs.Sorted.{Entry}
+use Rattle.block_map.specs.Sorted.{KeyAndValue}
 use Rattle.block_map.specs.Rows.{first_key}
 use Rattle.block_map.proofs.Rising.{head_append}
 use Rattle.block_map.proofs.block.Block.append.Goals as goal
@@ -16,7 +16,7 @@ invariant_of-self c =
     let same : drop t ys ≡ drop s xs = c.make_room-self-inside.ensures.same in
     let within : t ≤ length ys = c.make_room-self-inside.ensures.within in
     let room : length ys + length more ≤ 64 = c.make_room-self-inside.ensures.room in
-    let v = ap (drop t) items ∙ drop-append-le t ys more within ∙ ap (λ (l : List Entry). l ++ more) same in
+    let v = ap (drop t) items ∙ drop-append-le t ys more within ∙ ap (λ (l : List KeyAndValue). l ++ more) same in
     let rest = take_rest c.as_slice.result.now c.other.inside.start ∙ ap (drop c.other.inside.start) c.as_slice.ensures.value ∙ c.other.view_is in
     let r = rw (← c.self.view_is, ← rest) at c.requires.rises in
     let some = c.self.invariant.0.some in

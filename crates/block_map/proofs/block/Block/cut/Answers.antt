@@ -2,7 +2,7 @@ use Rattle.std.proofs.Common.{rules, arith, ◌≡◌, ◌<◌, ◌≤◌, lengt
 use Rattle.std.specs.Prelude.{slice_index_or}
 use Rattle.std.specs.List.{remove_range}
 use Rattle.std.proofs.lemmas.List.{length-drop}
-use Rattle.block_map.specs.Sorted.{Entry}
+use Rattle.block_map.specs.Sorted.{KeyAndValue}
 use Rattle.block_map.proofs.Rising.{rises_without, length-without, head_behind}
 use Rattle.block_map.proofs.block.Block.cut.Goals as goal
 
@@ -28,7 +28,7 @@ invariant_of-self c =
       record {
         some = some;
         fits = omega (arith, fewer, most);
-        head = ap (λ (x : Entry). x.0) here ∙ sym (head_behind ys t e some);
+        head = ap (λ (x : KeyAndValue). x.0) here ∙ sym (head_behind ys t e some);
         rises = rw (← v) at r;
       },
       search rules,

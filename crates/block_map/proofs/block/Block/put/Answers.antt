@@ -2,7 +2,7 @@ use Rattle.std.proofs.Common.{rules, arith, ◌≡◌, ◌+◌, ◌<◌, ◌≤�
 use Rattle.std.specs.Prelude.{slice_index_or, insert}
 use Rattle.std.proofs.lemmas.List.{length-drop}
 use Rattle.std.proofs.lemmas.List.Edits.{length-insert}
-use Rattle.block_map.specs.Sorted.{Entry}
+use Rattle.block_map.specs.Sorted.{KeyAndValue}
 use Rattle.block_map.proofs.Moved.{drop-insert}
 use Rattle.block_map.proofs.Rising.{insert_rises, head_behind}
 use Rattle.block_map.proofs.block.Block.put.Goals as goal
@@ -14,7 +14,7 @@ invariant_of-self c =
     let ys = c.make_room-self-inside.new.entries.items in
     let t = c.make_room-self-inside.result in
     let i = c.args.index in
-    let y : Entry = (c.args.key, c.args.value) in
+    let y : KeyAndValue = (c.args.key, c.args.value) in
     let goes = rw (← c.self.view_is) at c.requires.goes in
     let fits = goes.fits in
     let same : drop t ys ≡ drop s xs = c.make_room-self-inside.ensures.same in
@@ -23,7 +23,7 @@ invariant_of-self c =
     let n = length-drop t ys in
     let l = ap length same in
     let items : c.put_in.new.entries.items ≡ insert ys (t + i) y = c.put_in.ensures.items in
-    let v = ap (drop t) items ∙ drop-insert ys t i y (omega (arith, fits, n, l, within)) ∙ ap (λ (l : List Entry). insert l i y) same in
+    let v = ap (drop t) items ∙ drop-insert ys t i y (omega (arith, fits, n, l, within)) ∙ ap (λ (l : List KeyAndValue). insert l i y) same in
     let r = insert_rises (drop s xs) i y c.self.invariant.0.rises goes in
     let total = ap length items in
     let more = length-insert ys (t + i) y (omega (arith, fits, n, l, within)) in
@@ -33,7 +33,7 @@ invariant_of-self c =
       record {
         some = some;
         fits = omega (arith, total, more, room);
-        head = ap (λ (x : Entry). x.0) here ∙ sym (head_behind c.put_in.new.entries.items t e some);
+        head = ap (λ (x : KeyAndValue). x.0) here ∙ sym (head_behind c.put_in.new.entries.items t e some);
         rises = rw (← v) at r;
       },
       search rules,
@@ -44,7 +44,7 @@ returns c =
     let ys = c.make_room-self-inside.new.entries.items in
     let t = c.make_room-self-inside.result in
     let i = c.args.index in
-    let y : Entry = (c.args.key, c.args.value) in
+    let y : KeyAndValue = (c.args.key, c.args.value) in
     let goes = rw (← c.self.view_is) at c.requires.goes in
     let fits = goes.fits in
     let same : drop t ys ≡ drop c.self.inside.start c.self.inside.entries.items = c.make_room-self-inside.ensures.same in
@@ -54,4 +54,4 @@ returns c =
     let items : c.put_in.new.entries.items ≡ insert ys (t + i) y = c.put_in.ensures.items in
     ap (drop t) items
     ∙ drop-insert ys t i y (omega (arith, fits, n, l, within))
-    ∙ ap (λ (v : List Entry). insert v i y) (same ∙ c.self.view_is)
+    ∙ ap (λ (v : List KeyAndValue). insert v i y) (same ∙ c.self.view_is)

@@ -1,7 +1,7 @@
 use Rattle.std.proofs.Common.{arith, ◌≡◌, ◌+◌, List, drop, sym, ap, ◌∙◌}
 use Rattle.std.specs.Prelude.{slice_index_or, slice_set}
 use Rattle.std.proofs.lemmas.List.{length-set, drop-set-add}
-use Rattle.block_map.specs.Sorted.{Entry}
+use Rattle.block_map.specs.Sorted.{KeyAndValue}
 use Rattle.block_map.proofs.Rising.{set_rises, head_behind}
 use Rattle.block_map.proofs.block.Block.set.Goals as goal
 
@@ -10,7 +10,7 @@ invariant_of-self c =
     let xs = c.self.inside.entries.items in
     let s = c.self.inside.start in
     let i = c.args.index in
-    let y : Entry = (c.args.key, c.args.value) in
+    let y : KeyAndValue = (c.args.key, c.args.value) in
     let f = rw (← c.self.view_is) at c.requires in
     let n = length-set xs (s + i) y in
     let some = c.self.invariant.0.some in
@@ -21,7 +21,7 @@ invariant_of-self c =
       record {
         some = omega (arith, n, some);
         fits = omega (arith, n, most);
-        head = ap (λ (x : Entry). x.0) here ∙ sym (head_behind (slice_set xs (s + i) y) s e (omega (arith, n, some)));
+        head = ap (λ (x : KeyAndValue). x.0) here ∙ sym (head_behind (slice_set xs (s + i) y) s e (omega (arith, n, some)));
         rises = rw (← drop-set-add s xs i y) at r;
       },
       c.self.invariant.1,
@@ -29,5 +29,5 @@ invariant_of-self c =
 
 pub returns : goal.returns
 returns c =
-    let y : Entry = (c.args.key, c.args.value) in
-    drop-set-add c.self.inside.start c.self.inside.entries.items c.args.index y ∙ ap (λ (v : List Entry). slice_set v c.args.index y) c.self.view_is
+    let y : KeyAndValue = (c.args.key, c.args.value) in
+    drop-set-add c.self.inside.start c.self.inside.entries.items c.args.index y ∙ ap (λ (v : List KeyAndValue). slice_set v c.args.index y) c.self.view_is

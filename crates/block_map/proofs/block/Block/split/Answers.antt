@@ -1,7 +1,7 @@
 use Rattle.std.proofs.Common.{rules, arith, ◌≡◌, ◌+◌, ◌-◌, ◌<◌, List, ◌++◌, length, take, drop, sym, ap, ◌∙◌}
 use Rattle.std.specs.Prelude.{slice_index_or}
 use Rattle.std.proofs.lemmas.List.{length-drop, length-take-le, drop-take, drop-drop, take_rest}
-use Rattle.block_map.specs.Sorted.{Entry}
+use Rattle.block_map.specs.Sorted.{KeyAndValue}
 use Rattle.block_map.specs.Rows.{first_key}
 use Rattle.block_map.proofs.Rising.{rises_take, rises_drop, head_take, head_key}
 use Rattle.block_map.proofs.block.Block.split.Goals as goal
@@ -38,7 +38,7 @@ invariant_of-result c =
     let m = length-drop s xs in
     let all = c.as_slice.result.now in
     let part = take (length all - (s + i)) (drop (s + i) all) in
-    let items : c.extend_from_slice.new.self.items ≡ drop (s + i) xs = c.in-Ok.ensures.items ∙ ap (λ (t : List Entry). t ++ part) c.requires.empty ∙ take_rest all (s + i) ∙ ap (λ (t : List Entry). drop (s + i) t) c.as_slice.ensures.value in
+    let items : c.extend_from_slice.new.self.items ≡ drop (s + i) xs = c.in-Ok.ensures.items ∙ ap (λ (t : List KeyAndValue). t ++ part) c.requires.empty ∙ take_rest all (s + i) ∙ ap (λ (t : List KeyAndValue). drop (s + i) t) c.as_slice.ensures.value in
     let total = ap length items in
     let n = length-drop (s + i) xs in
     let most = c.self.invariant.0.fits in
@@ -50,7 +50,7 @@ invariant_of-result c =
       record {
         some = some;
         fits = omega (arith, total, n, most);
-        head = ap (λ (x : Entry). x.0) here ∙ sym (head_key c.extend_from_slice.new.self.items e some);
+        head = ap (λ (x : KeyAndValue). x.0) here ∙ sym (head_key c.extend_from_slice.new.self.items e some);
         rises = rw (← v) at r;
       },
       search rules,
@@ -61,4 +61,4 @@ returns-clause-low c =
     let xs = c.self.inside.entries.items in
     let s = c.self.inside.start in
     let t : c.truncate.new.self.items ≡ take (s + c.args.index) xs = c.truncate.ensures.items in
-    ap (drop s) t ∙ drop-take s c.args.index xs ∙ ap (λ (v : List Entry). take c.args.index v) c.self.view_is
+    ap (drop s) t ∙ drop-take s c.args.index xs ∙ ap (λ (v : List KeyAndValue). take c.args.index v) c.self.view_is

@@ -1,7 +1,7 @@
 use Rattle.std.proofs.Common.{◌≡◌, [], sym, ap, ◌∙◌}
 use Rattle.std.specs.Prelude.{slice_index_or}
-use Rattle.block_map.specs.Sorted.{Entry}
-use Rattle.block_map.specs.Rows.{Entries, flat, place_in, IsPlace}
+use Rattle.block_map.specs.Sorted.{KeyAndValue}
+use Rattle.block_map.specs.Rows.{Entries, flat, place_among, IsPlace}
 use Rattle.std.proofs.lemmas.List.{get_or_default}
 use Rattle.block_map.proofs.Flat.{same_at, flat_at}
 use Rattle.block_map.proofs.map.BlockMap.entry.Goals as goal
@@ -16,7 +16,7 @@ returns c =
     let place : IsPlace rows b i = rw (← placed) at c.requires in
     let row = c.index.result.now in
     let same : row ≡ slice_index_or rows b [] = c.index.ensures ∙ same_at rows b row [] place.0 in
-    let e : Entry = c.get.result in
+    let e : KeyAndValue = c.get.result in
     let got : e ≡ slice_index_or (slice_index_or rows b []) i e = rw same at c.get.ensures in
-    let h : (d : Entry) → e ≡ slice_index_or (flat rows) (place_in rows b i) d = λ d. got ∙ get_or_default (slice_index_or rows b []) i e d place.1 ∙ sym (flat_at rows b i d [] place.0 place.1) in
+    let h : (d : KeyAndValue) → e ≡ slice_index_or (flat rows) (place_among rows b i) d = λ d. got ∙ get_or_default (slice_index_or rows b []) i e d place.1 ∙ sym (flat_at rows b i d [] place.0 place.1) in
     rw (items, placed) at h

@@ -1,6 +1,6 @@
 use Rattle.std.proofs.Common.{rules, arith, ◌≡◌, ◌<◌, length, ap}
 use Rattle.block_map.specs.Sorted.{IsLastUpTo}
-use Rattle.block_map.specs.Rows.{Entries, flat, place_in, first_key}
+use Rattle.block_map.specs.Rows.{Entries, flat, place_among, first_key}
 use Rattle.block_map.proofs.Flat.{firsts_rise, found_place, none_up_to}
 use Rattle.block_map.proofs.map.BlockMap.find.Goals as goal
 
@@ -18,7 +18,7 @@ returns-clause-last c =
     let fits = rw v at c.last_row-block.ensures.fits in
     let above = rw v at c.last_row-block.ensures.above in
     let r = found_place rows c.args.n c.last_row-block.result c.find-index.result c.index-2.result.now c.self.invariant.some c.self.invariant.rises fits above c.index-2.ensures c.find-index.ensures in
-    let h : IsLastUpTo (flat rows) c.args.n (place_in rows c.last_row-block.result c.find-index.result) = r.1 in
+    let h : IsLastUpTo (flat rows) c.args.n (place_among rows c.last_row-block.result c.find-index.result) = r.1 in
     rw (items, placed) at h
 
 pub returns-then-first-n-clause-none : goal.returns-then-first-n-clause-none

@@ -1,5 +1,5 @@
 use Rattle.std.proofs.Common.{rules, arith, ◌≡◌, ◌+◌, ◌-◌, ◌<◌, length, ap}
-use Rattle.block_map.specs.Rows.{Entries, flat, place_in}
+use Rattle.block_map.specs.Rows.{Entries, flat, place_among}
 use Rattle.block_map.proofs.Flat.{place_end}
 use Rattle.block_map.proofs.map.BlockMap.last_place.Goals as goal
 
@@ -15,5 +15,5 @@ returns-clause-last c =
     let l = c.len-index.ensures.len in
     let pos = c.len-index.ensures.some in
     let z = place_end rows (c.len-block.result - 1) row (omega (arith, some, n)) in
-    let h : place_in rows (c.len-block.result - 1) (c.len-index.result - 1) + 1 ≡ length (flat rows) = omega (arith, z, here, l, pos) in
+    let h : place_among rows (c.len-block.result - 1) (c.len-index.result - 1) + 1 ≡ length (flat rows) = omega (arith, z, here, l, pos) in
     rw (items, placed) at h

@@ -1,7 +1,7 @@
 use Rattle.std.proofs.Common.{arith, ◌≡◌, ◌+◌, ◌<◌, ◌≤◌, ℕ, inl, inr, sym, ap, ◌∙◌, suc}
 use Rattle.std.specs.Prelude.{slice_index_or}
-use Rattle.block_map.specs.Sorted.{Entry}
-use Rattle.block_map.specs.Rows.{place_in}
+use Rattle.block_map.specs.Sorted.{KeyAndValue}
+use Rattle.block_map.specs.Rows.{place_among}
 use Rattle.std.proofs.lemmas.Bool.{cases_lt, cases_eq}
 use Rattle.block_map.proofs.Without.{keeps_all, without_run, none_between}
 use Rattle.block_map.proofs.map.BlockMap.remove_keys.Goals as goal
@@ -17,10 +17,10 @@ remove_run-requires-clause-order c =
     let xs = c.args.self.now.items in
     let first = c.in-Some.ensures.first in
     let last = c.in-Some-find.ensures.last in
-    let p = place_in c.args.self.now.rows c.in-Some.place.block c.in-Some.place.index in
-    let q = place_in c.args.self.now.rows c.in-Some-find.place.block c.in-Some-find.place.index in
-    let low = λ (d : Entry). ap (λ (x : Entry). x.0) (c.entry.ensures d) in
-    let high = λ (d : Entry). ap (λ (x : Entry). x.0) (c.entry-2.ensures d) in
+    let p = place_among c.args.self.now.rows c.in-Some.place.block c.in-Some.place.index in
+    let q = place_among c.args.self.now.rows c.in-Some-find.place.block c.in-Some-find.place.index in
+    let low = λ (d : KeyAndValue). ap (λ (x : KeyAndValue). x.0) (c.entry.ensures d) in
+    let high = λ (d : KeyAndValue). ap (λ (x : KeyAndValue). x.0) (c.entry-2.ensures d) in
     let rises = c.find.ensures.rises in
     let le = c.if-entry.true in
     elim (cases_lt q p) [
@@ -33,10 +33,10 @@ returns-then-entry c =
     let xs = c.args.self.now.items in
     let first = c.in-Some.ensures.first in
     let last = c.in-Some-find.ensures.last in
-    let p = place_in c.args.self.now.rows c.in-Some.place.block c.in-Some.place.index in
-    let q = place_in c.args.self.now.rows c.in-Some-find.place.block c.in-Some-find.place.index in
-    let low = λ (d : Entry). ap (λ (x : Entry). x.0) (c.entry.ensures d) in
-    let high = λ (d : Entry). ap (λ (x : Entry). x.0) (c.entry-2.ensures d) in
+    let p = place_among c.args.self.now.rows c.in-Some.place.block c.in-Some.place.index in
+    let q = place_among c.args.self.now.rows c.in-Some-find.place.block c.in-Some-find.place.index in
+    let low = λ (d : KeyAndValue). ap (λ (x : KeyAndValue). x.0) (c.entry.ensures d) in
+    let high = λ (d : KeyAndValue). ap (λ (x : KeyAndValue). x.0) (c.entry-2.ensures d) in
     let rises = c.find.ensures.rises in
     let is : suc q ≡ q + 1 = omega arith in
     let le = c.if-entry.true in
@@ -51,10 +51,10 @@ returns-else-entry c =
     let xs = c.args.self.now.items in
     let first = c.in-Some.ensures.first in
     let last = c.in-Some-find.ensures.last in
-    let p = place_in c.args.self.now.rows c.in-Some.place.block c.in-Some.place.index in
-    let q = place_in c.args.self.now.rows c.in-Some-find.place.block c.in-Some-find.place.index in
-    let low = λ (d : Entry). ap (λ (x : Entry). x.0) (c.entry.ensures d) in
-    let high = λ (d : Entry). ap (λ (x : Entry). x.0) (c.entry-2.ensures d) in
+    let p = place_among c.args.self.now.rows c.in-Some.place.block c.in-Some.place.index in
+    let q = place_among c.args.self.now.rows c.in-Some-find.place.block c.in-Some-find.place.index in
+    let low = λ (d : KeyAndValue). ap (λ (x : KeyAndValue). x.0) (c.entry.ensures d) in
+    let high = λ (d : KeyAndValue). ap (λ (x : KeyAndValue). x.0) (c.entry-2.ensures d) in
     let rises = c.find.ensures.rises in
     let gt = c.if-entry.false in
     let less : q < p = elim (cases_lt q p) [

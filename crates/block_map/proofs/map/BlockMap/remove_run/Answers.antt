@@ -1,6 +1,6 @@
 use Rattle.std.proofs.Common.{arith, ◌≡◌, ◌+◌, ◌≤◌, [], length, ap}
 use Rattle.std.specs.List.{remove_range}
-use Rattle.block_map.specs.Rows.{Entries, flat, place_in, IsPlace}
+use Rattle.block_map.specs.Rows.{Entries, flat, place_among, IsPlace}
 use Rattle.block_map.proofs.Flat.{place_fits}
 use Rattle.block_map.proofs.Rising.{rises_without, length-without}
 use Rattle.block_map.proofs.map.BlockMap.remove_run.Goals as goal
@@ -14,9 +14,9 @@ overflow_add-self c =
     let k = c.args.last.block in
     let j = c.args.last.index in
     let last : IsPlace rows k j = rw (← placed) at c.requires.last in
-    let order : place_in rows b i ≤ place_in rows k j = rw (← placed) at c.requires.order in
+    let order : place_among rows b i ≤ place_among rows k j = rw (← placed) at c.requires.order in
     let f = place_fits rows k j [] last.0 last.1 in
-    let n : place_in rows b i + c.count_between-count.result ≡ place_in rows k j = rw c.as_slice.ensures.value at c.count_between-count.ensures in
+    let n : place_among rows b i + c.count_between-count.result ≡ place_among rows k j = rw c.as_slice.ensures.value at c.count_between-count.ensures in
     let len = c.self.invariant.len_is in
     omega (arith, f, n, len)
 
@@ -29,9 +29,9 @@ overflow_sub-self c =
     let k = c.args.last.block in
     let j = c.args.last.index in
     let last : IsPlace rows k j = rw (← placed) at c.requires.last in
-    let order : place_in rows b i ≤ place_in rows k j = rw (← placed) at c.requires.order in
+    let order : place_among rows b i ≤ place_among rows k j = rw (← placed) at c.requires.order in
     let f = place_fits rows k j [] last.0 last.1 in
-    let n : place_in rows b i + c.count_between-count.result ≡ place_in rows k j = rw c.as_slice.ensures.value at c.count_between-count.ensures in
+    let n : place_among rows b i + c.count_between-count.result ≡ place_among rows k j = rw c.as_slice.ensures.value at c.count_between-count.ensures in
     let len = c.self.invariant.len_is in
     omega (arith, f, n, len)
 
@@ -44,12 +44,12 @@ invariant_of-self c =
     let k = c.args.last.block in
     let j = c.args.last.index in
     let last : IsPlace rows k j = rw (← placed) at c.requires.last in
-    let order : place_in rows b i ≤ place_in rows k j = rw (← placed) at c.requires.order in
+    let order : place_among rows b i ≤ place_among rows k j = rw (← placed) at c.requires.order in
     let f = place_fits rows k j [] last.0 last.1 in
-    let n : place_in rows b i + c.count_between-count.result ≡ place_in rows k j = rw c.as_slice.ensures.value at c.count_between-count.ensures in
+    let n : place_among rows b i + c.count_between-count.result ≡ place_among rows k j = rw c.as_slice.ensures.value at c.count_between-count.ensures in
     let len = c.self.invariant.len_is in
-    let from = place_in rows b i in
-    let to = place_in rows k j + 1 in
+    let from = place_among rows b i in
+    let to = place_among rows k j + 1 in
     let all : flat c.remove_entries.new.blocks.items ≡ remove_range (flat rows) from to = c.remove_entries.ensures.items in
     let r = rises_without (flat rows) from to (omega (arith, order)) (omega (arith, f)) c.self.invariant.rises in
     let m = length-without (flat rows) from to (omega (arith, order)) (omega (arith, f)) in

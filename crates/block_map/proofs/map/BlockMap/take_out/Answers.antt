@@ -1,5 +1,5 @@
 use Rattle.std.proofs.Common.{arith, ◌≡◌, ◌+◌, ◌≤◌, [], length, ap}
-use Rattle.block_map.specs.Rows.{Entries, flat, place_in, IsPlace}
+use Rattle.block_map.specs.Rows.{Entries, flat, place_among, IsPlace}
 use Rattle.block_map.proofs.Flat.{place_fits}
 use Rattle.block_map.proofs.Rising.{rises_without, length-without}
 use Rattle.block_map.proofs.map.BlockMap.take_out.Goals as goal
@@ -12,7 +12,7 @@ invariant_of-self c =
     let b = c.args.place.block in
     let i = c.args.place.index in
     let place : IsPlace rows b i = rw (← placed) at c.requires in
-    let p = place_in rows b i in
+    let p = place_among rows b i in
     let less = place_fits rows b i [] place.0 place.1 in
     let fits : p + 1 ≤ length (flat rows) = omega (arith, less) in
     let all = c.remove_entry.ensures.items in
