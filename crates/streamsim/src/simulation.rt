@@ -74,7 +74,11 @@ fn emit(end: &mut Endpoint, size: usize) -> Result<Payload, OutOfMemory> {
 }
 
 fn report(end: &mut Endpoint, sent: SentPayload, is_lost: bool) -> Result<(), OutOfMemory> {
-    let answer = if is_lost { end.lose(sent) } else { end.acknowledge(sent) };
+    let answer = if is_lost {
+        end.lose(sent)
+    } else {
+        end.acknowledge(sent)
+    };
     answer.or(Err(OutOfMemory))
 }
 
