@@ -30,11 +30,7 @@ fn refusal(error: quic_streams::TransportError) -> TransportError {
     }
 }
 
-pub(super) fn stream(
-    to: &mut StreamsState,
-    frame: &Stream,
-    _payload_len: usize,
-) -> Result<(), TransportError> {
+pub(super) fn stream(to: &mut StreamsState, frame: &Stream) -> Result<(), TransportError> {
     let mut payload = Vec::with_capacity(25 + frame.data.len());
     payload.put_u8(0x0e | u8::from(frame.fin));
     payload.write(frame.id);

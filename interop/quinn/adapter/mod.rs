@@ -57,7 +57,7 @@ pub struct RecvStream<'a> {
 impl RecvStream<'_> {
     /// Begins to read, in order or as the bytes came
     pub fn read(&mut self, ordered: bool) -> Result<Chunks<'_>, ReadableError> {
-        Chunks::new(self.id, ordered, self.state)
+        Chunks::new(self.state, self.id, ordered)
     }
 
     /// Asks the peer to send no more, and lets go what was not read
@@ -121,20 +121,10 @@ pub enum StreamEvent {
         /// The direction
         dir: Dir,
     },
-    /// A stream may have bytes, an end or a reset to read
-    Readable {
-        /// The stream
-        id: StreamId,
-    },
-    /// A stream that was blocked may take bytes now
-    Writable {
-        /// The stream
-        id: StreamId,
-    },
-    /// All of a stream was acknowledged, with its end
-    Finished {
-        /// The stream
-        id: StreamId,
+    /// More streams of a direction may be opened
+    Available {
+        /// The direction
+        dir: Dir,
     },
     /// The peer asked to send no more on a stream
     Stopped {
@@ -143,10 +133,20 @@ pub enum StreamEvent {
         /// Why, in the application's terms
         error_code: VarInt,
     },
-    /// More streams of a direction may be opened
-    Available {
-        /// The direction
-        dir: Dir,
+    /// All of a stream was acknowledged, with its end
+    Finished {
+        /// The stream
+        id: StreamId,
+    },
+    /// A stream that was blocked may take bytes now
+    Writable {
+        /// The stream
+        id: StreamId,
+    },
+    /// A stream may have bytes, an end or a reset to read
+    Readable {
+        /// The stream
+        id: StreamId,
     },
 }
 

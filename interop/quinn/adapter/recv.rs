@@ -8,24 +8,24 @@ use crate::{StreamId, VarInt};
 
 /// The chunks of a stream
 pub struct Chunks<'a> {
+    streams: &'a mut StreamsState,
     id: StreamId,
     ordered: bool,
-    streams: &'a mut StreamsState,
     end: Option<Result<(), ReadError>>,
     finalized: bool,
 }
 
 impl<'a> Chunks<'a> {
     pub(super) fn new(
+        streams: &'a mut StreamsState,
         id: StreamId,
         ordered: bool,
-        streams: &'a mut StreamsState,
     ) -> Result<Self, ReadableError> {
         streams.begin_read(id, ordered)?;
         Ok(Self {
+            streams,
             id,
             ordered,
-            streams,
             end: None,
             finalized: false,
         })
@@ -64,7 +64,7 @@ impl Drop for Chunks<'_> {
 }
 
 /// Why nothing was read
-#[derive(Debug, Error, Clone, Eq, PartialEq, Ord, PartialOrd, Hash)]
+#[derive(Clone, Debug, Error, Hash, PartialEq, Eq, PartialOrd, Ord)]
 pub enum ReadError {
     /// Nothing is at hand; [`StreamEvent::Readable`](crate::StreamEvent::Readable) follows
     #[error("blocked")]
@@ -75,7 +75,7 @@ pub enum ReadError {
 }
 
 /// Why a stream cannot be read
-#[derive(Debug, Error, Clone, Eq, PartialEq, Ord, PartialOrd, Hash)]
+#[derive(Clone, Debug, Error, Hash, PartialEq, Eq, PartialOrd, Ord)]
 pub enum ReadableError {
     /// The stream was not given, or was stopped, or read to its end or to its reset
     #[error("unknown stream")]

@@ -9,14 +9,14 @@ use crate::VarInt;
 /// How much was written
 #[derive(Debug, Default, PartialEq, Eq, Clone, Copy)]
 pub struct Written {
-    /// How many bytes
-    pub bytes: usize,
     /// How many chunks to their end
     pub chunks: usize,
+    /// How many bytes
+    pub bytes: usize,
 }
 
 /// Why nothing was written
-#[derive(Debug, Error, Clone, Eq, PartialEq, Ord, PartialOrd, Hash)]
+#[derive(Clone, Debug, Error, Hash, PartialEq, Eq, PartialOrd, Ord)]
 pub enum WriteError {
     /// A limit leaves no room; [`StreamEvent::Writable`](crate::StreamEvent::Writable) follows
     #[error("unable to accept further writes")]

@@ -153,12 +153,8 @@ impl StreamsState {
 
 /// What came from the peer.
 impl StreamsState {
-    pub fn received(
-        &mut self,
-        frame: frame::Stream,
-        payload_len: usize,
-    ) -> Result<(), TransportError> {
-        frames::stream(self.end(), &frame, payload_len)
+    pub fn received(&mut self, frame: frame::Stream) -> Result<(), TransportError> {
+        frames::stream(self.end(), &frame)
     }
 
     pub fn received_reset(&mut self, frame: frame::ResetStream) -> Result<(), TransportError> {
