@@ -319,12 +319,17 @@ impl StreamsState {
     /// Takes a stream of the peer out of the library that the application uses before it accepts it
     fn take_ahead(&mut self, id: StreamId) {
         let dir = id.dir();
-        while id.initiator() != self.side && id.index() >= self.given[dir as usize] {
+        while self.is_to_come(id) {
             let Some(next) = self.take(dir) else {
                 break;
             };
             self.ahead[dir as usize].push_back(next);
         }
+    }
+
+    /// Whether a stream of the peer was not given by the library
+    fn is_to_come(&self, id: StreamId) -> bool {
+        id.initiator() != self.side && id.index() >= self.given[id.dir() as usize]
     }
 
     /// The send half of a stream
@@ -387,6 +392,9 @@ impl StreamsState {
     /// Whether a stream can be read
     pub(super) fn begin_read(&mut self, id: StreamId, ordered: bool) -> Result<(), ReadableError> {
         self.take_ahead(id);
+        if self.is_to_come(id) {
+            return Ok(());
+        }
         let half = self
             .readable
             .get_mut(&id)
@@ -405,6 +413,9 @@ impl StreamsState {
         ordered: bool,
         max_length: usize,
     ) -> Result<Option<Chunk>, ReadError> {
+        if self.is_to_come(id) || max_length == 0 {
+            return Err(ReadError::Blocked);
+        }
         let mut half = self.end().recv_stream(layer_id(id));
         let answer = half.chunks(ordered).next(max_length.min(LONGEST_CHUNK));
         let closed = match answer {
