@@ -40,10 +40,10 @@ def install():
 
 
 def library():
-    """The folder of libquic_streams.a, which is made if it is not there."""
-    named = os.environ.get('QUIC_STREAMS_LIB_DIR')
-    folder = pathlib.Path(named) if named else ROOT / 'build' / 'lib'
-    if not named:
+    """The folder of libquic_streams.a, which is proved and made if it is not there."""
+    folder = pathlib.Path(os.environ.get('QUIC_STREAMS_LIB_DIR', ROOT / 'build' / 'lib')).resolve()
+    if not (folder / 'libquic_streams.a').is_file():
+        print('making', folder / 'libquic_streams.a', flush=True)
         subprocess.run(['make', '-s', '-C', ROOT], check=True)
     return folder
 
