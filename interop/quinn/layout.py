@@ -116,12 +116,14 @@ def lay(which):
 
 
 def cargo(which, *words, folder, **more):
-    """Runs cargo on a layout."""
-    env = dict(os.environ, CARGO_TARGET_DIR=str(BUILD / 'target'))
+    """Runs cargo on a layout, quietly unless it fails to build."""
+    env = dict(os.environ, CARGO_TARGET_DIR=str(BUILD / 'target'), CARGO_NET_OFFLINE='true')
     if which == OURS:
         env['QUIC_STREAMS_LIB_DIR'] = str(library())
-    return subprocess.run(['cargo', *words, '--offline'] if '--' not in words else
-                          ['cargo', words[0], '--offline', *words[1:]], cwd=folder, env=env, **more)
+    ran = subprocess.run(['cargo', *words], cwd=folder, env=env, capture_output=True, text=True, **more)
+    if ran.returncode != 0 and 'could not compile' in ran.stderr:
+        sys.exit(ran.stderr)
+    return ran
 
 
 def clean(_words):

@@ -12,13 +12,9 @@ REPLACED = re.compile(r'^connection::(streams|send_buffer)::')
 def results_of(which):
     """What became of each test, by name."""
     folder = layout.lay(which) / 'quinn-proto'
-    built = layout.cargo(which, 'test', '--lib', '--no-run', folder=folder, capture_output=True, text=True)
-    if built.returncode != 0:
-        raise SystemExit(built.stderr)
+    layout.cargo(which, 'test', '--lib', '--no-run', folder=folder).check_returncode()
     try:
-        ran = layout.cargo(which, 'test', '--lib', '--', '--test-threads=1', folder=folder, capture_output=True, text=True,
-                           timeout=900)
-        text = ran.stdout
+        text = layout.cargo(which, 'test', '--lib', '--', '--test-threads=1', folder=folder, timeout=900).stdout
     except subprocess.TimeoutExpired as error:
         text = (error.stdout or b'').decode('utf-8', 'replace')
     (layout.BUILD / f'tests-{which}.txt').write_text(text, encoding='utf-8')

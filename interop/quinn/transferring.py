@@ -27,7 +27,7 @@ def build(which):
     if (folder / lock).is_file():
         files[lock] = (folder / lock).read_bytes()
     layout.put(folder, files)
-    layout.cargo(which, 'build', '--release', '--quiet', folder=folder, check=True)
+    layout.cargo(which, 'build', '--release', folder=folder).check_returncode()
     program = layout.BUILD / f'transfer-{which}'
     shutil.copy(layout.BUILD / 'target' / 'release' / 'transfer', program)
     return program

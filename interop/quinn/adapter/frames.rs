@@ -1,24 +1,19 @@
-//! Frames that came, for the library.
+//! Frames that came, for the library, and its refusals.
 //!
 //! quinn-proto's packet layer decodes frames, and the library takes payloads: each frame is written again as one.
 
 use bytes::BufMut;
-use quic_streams::{ReceiveError, StreamsState};
+use quic_streams::ReceiveError;
 
 use crate::coding::BufMutExt;
 use crate::frame::{ResetStream, StopSending, Stream};
 use crate::{Dir, StreamId, TransportError, VarInt};
 
-/// Hands over a payload.
-fn hand(to: &mut StreamsState, payload: &[u8]) -> Result<(), TransportError> {
-    to.receive(payload).map_err(|error| match error {
-        ReceiveError::Transport(error) => refusal(error),
-        error => TransportError::INTERNAL_ERROR(error.to_string()),
-    })
-}
-
 /// The error of a refused frame, by its code (RFC 9000 section 20.1).
-fn refusal(error: quic_streams::TransportError) -> TransportError {
+pub(super) fn refusal(error: ReceiveError) -> TransportError {
+    let ReceiveError::Transport(error) = error else {
+        return TransportError::INTERNAL_ERROR(error.to_string());
+    };
     match error.code {
         0x3 => TransportError::FLOW_CONTROL_ERROR(error.reason),
         0x4 => TransportError::STREAM_LIMIT_ERROR(error.reason),
@@ -30,60 +25,42 @@ fn refusal(error: quic_streams::TransportError) -> TransportError {
     }
 }
 
-pub(super) fn stream(to: &mut StreamsState, frame: &Stream) -> Result<(), TransportError> {
-    let mut payload = Vec::with_capacity(25 + frame.data.len());
+pub(super) fn write_stream(payload: &mut Vec<u8>, frame: &Stream) {
     payload.put_u8(0x0e | u8::from(frame.fin));
     payload.write(frame.id);
     payload.write_var(frame.offset);
     payload.write_var(frame.data.len() as u64);
     payload.put_slice(&frame.data);
-    hand(to, &payload)
 }
 
-pub(super) fn reset(to: &mut StreamsState, frame: &ResetStream) -> Result<(), TransportError> {
-    let mut payload = vec![0x04];
+pub(super) fn write_reset(payload: &mut Vec<u8>, frame: &ResetStream) {
+    payload.put_u8(0x04);
     payload.write(frame.id);
     payload.write(frame.error_code);
     payload.write(frame.final_offset);
-    hand(to, &payload)
 }
 
-pub(super) fn stop_sending(
-    to: &mut StreamsState,
-    frame: &StopSending,
-) -> Result<(), TransportError> {
-    let mut payload = vec![0x05];
+pub(super) fn write_stop_sending(payload: &mut Vec<u8>, frame: &StopSending) {
+    payload.put_u8(0x05);
     payload.write(frame.id);
     payload.write(frame.error_code);
-    hand(to, &payload)
 }
 
-pub(super) fn max_data(to: &mut StreamsState, limit: VarInt) -> Result<(), TransportError> {
-    let mut payload = vec![0x10];
+pub(super) fn write_max_data(payload: &mut Vec<u8>, limit: VarInt) {
+    payload.put_u8(0x10);
     payload.write(limit);
-    hand(to, &payload)
 }
 
-pub(super) fn max_stream_data(
-    to: &mut StreamsState,
-    id: StreamId,
-    limit: u64,
-) -> Result<(), TransportError> {
-    let mut payload = vec![0x11];
+pub(super) fn write_max_stream_data(payload: &mut Vec<u8>, id: StreamId, limit: u64) {
+    payload.put_u8(0x11);
     payload.write(id);
     payload.write_var(limit);
-    hand(to, &payload)
 }
 
-pub(super) fn max_streams(
-    to: &mut StreamsState,
-    dir: Dir,
-    count: u64,
-) -> Result<(), TransportError> {
-    let mut payload = vec![match dir {
+pub(super) fn write_max_streams(payload: &mut Vec<u8>, dir: Dir, count: u64) {
+    payload.put_u8(match dir {
         Dir::Bi => 0x12,
         Dir::Uni => 0x13,
-    }];
+    });
     payload.write_var(count);
-    hand(to, &payload)
 }

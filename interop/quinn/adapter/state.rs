@@ -18,7 +18,10 @@ struct Due {
 /// A receive half that the application may read.
 #[derive(Default)]
 struct Readable {
+    /// Whether it was read as bytes came.
     unordered: bool,
+    /// How many bytes were read in order.
+    consumed: u64,
 }
 
 /// The streams of a connection
@@ -35,6 +38,10 @@ pub struct StreamsState {
     /// Those of them that the application has not accepted.
     ahead: [VecDeque<StreamId>; 2],
     readable: FxHashMap<StreamId, Readable>,
+    /// Where chunks are read to.
+    room: BytesMut,
+    /// Where frames are written for the library.
+    frame: Vec<u8>,
 }
 
 /// The library answers that there was no memory where Rust's collections end the process.
@@ -104,6 +111,8 @@ impl StreamsState {
             given: [0; 2],
             ahead: Default::default(),
             readable: FxHashMap::default(),
+            room: BytesMut::new(),
+            frame: Vec::new(),
         }
     }
 
@@ -153,23 +162,32 @@ impl StreamsState {
 
 /// What came from the peer.
 impl StreamsState {
+    /// Hands a frame over, which is written as a payload of its own
+    fn hand(&mut self, write: impl FnOnce(&mut Vec<u8>)) -> Result<(), TransportError> {
+        self.due.set(None);
+        self.frame.clear();
+        write(&mut self.frame);
+        let answer = self.end.get_mut().receive(&self.frame);
+        answer.map_err(frames::refusal)
+    }
+
     pub fn received(&mut self, frame: frame::Stream) -> Result<(), TransportError> {
-        frames::stream(self.end(), &frame)
+        self.hand(|payload| frames::write_stream(payload, &frame))
     }
 
     pub fn received_reset(&mut self, frame: frame::ResetStream) -> Result<(), TransportError> {
-        frames::reset(self.end(), &frame)
+        self.hand(|payload| frames::write_reset(payload, &frame))
     }
 
     pub fn received_stop_sending(
         &mut self,
         frame: frame::StopSending,
     ) -> Result<(), TransportError> {
-        frames::stop_sending(self.end(), &frame)
+        self.hand(|payload| frames::write_stop_sending(payload, &frame))
     }
 
     pub fn received_max_data(&mut self, limit: VarInt) -> Result<(), TransportError> {
-        frames::max_data(self.end(), limit)
+        self.hand(|payload| frames::write_max_data(payload, limit))
     }
 
     pub fn received_max_stream_data(
@@ -177,11 +195,11 @@ impl StreamsState {
         id: StreamId,
         limit: u64,
     ) -> Result<(), TransportError> {
-        frames::max_stream_data(self.end(), id, limit)
+        self.hand(|payload| frames::write_max_stream_data(payload, id, limit))
     }
 
     pub fn received_max_streams(&mut self, dir: Dir, count: u64) -> Result<(), TransportError> {
-        frames::max_streams(self.end(), dir, count)
+        self.hand(|payload| frames::write_max_streams(payload, dir, count))
     }
 }
 
@@ -416,15 +434,12 @@ impl StreamsState {
         if self.is_to_come(id) || max_length == 0 {
             return Err(ReadError::Blocked);
         }
-        let mut half = self.end().recv_stream(layer_id(id));
-        let answer = half.chunks(ordered).next(max_length.min(LONGEST_CHUNK));
+        let answer = match ordered {
+            true => self.read_ordered(id, max_length),
+            false => self.read_unordered(id, max_length),
+        };
         let closed = match answer {
-            Ok(Some(chunk)) => {
-                return Ok(Some(Chunk {
-                    offset: chunk.offset,
-                    bytes: chunk.bytes.into(),
-                }))
-            }
+            Ok(Some(chunk)) => return Ok(Some(chunk)),
             Err(layer::ReadError::Blocked) => return Err(ReadError::Blocked),
             Ok(None) => Ok(None),
             Err(layer::ReadError::Reset(code)) => Err(ReadError::Reset(code_of(code))),
@@ -432,6 +447,42 @@ impl StreamsState {
         };
         self.readable.remove(&id);
         closed
+    }
+
+    /// Reads in order, into a buffer of which each chunk takes a part
+    fn read_ordered(
+        &mut self,
+        id: StreamId,
+        max_length: usize,
+    ) -> Result<Option<Chunk>, layer::ReadError> {
+        if self.room.len() < LONGEST_CHUNK {
+            self.room = BytesMut::zeroed(ROOM);
+        }
+        self.due.set(None);
+        let length = max_length.min(self.room.len());
+        let mut half = self.end.get_mut().recv_stream(layer_id(id));
+        let Some(count) = half.read(&mut self.room[..length])? else {
+            return Ok(None);
+        };
+        let half = self.readable.entry(id).or_default();
+        let offset = half.consumed;
+        half.consumed += count as u64;
+        let bytes = self.room.split_to(count).freeze();
+        Ok(Some(Chunk { offset, bytes }))
+    }
+
+    /// Reads as the bytes came
+    fn read_unordered(
+        &mut self,
+        id: StreamId,
+        max_length: usize,
+    ) -> Result<Option<Chunk>, layer::ReadError> {
+        let mut half = self.end().recv_stream(layer_id(id));
+        let chunk = half.chunks(false).next(max_length.min(LONGEST_CHUNK))?;
+        Ok(chunk.map(|chunk| Chunk {
+            offset: chunk.offset,
+            bytes: chunk.bytes.into(),
+        }))
     }
 
     /// What the application is to be told next
@@ -453,5 +504,8 @@ impl StreamsState {
     }
 }
 
-/// How many bytes are read at once at most: more than a packet carries.
+/// More than a packet carries.
 const LONGEST_CHUNK: usize = 2048;
+
+/// Of so many bytes chunks take parts.
+const ROOM: usize = 1 << 15;
