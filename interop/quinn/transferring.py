@@ -47,7 +47,7 @@ def started(*words):
 
 def ended(process):
     """The seconds and the processor time that a process told."""
-    text = process.communicate(timeout=300)[0]
+    text = process.communicate(timeout=900)[0]
     if process.returncode != 0:
         raise SystemExit(f'{process.args} failed')
     return tuple(map(float, TOLD.search(text).groups()))
@@ -59,20 +59,18 @@ def transfer(programs, client, server, one_in):
     up, down, got_up, got_down = (here / name for name in ('up', 'down', 'got-up', 'got-down'))
     for path in (got_up, got_down):
         path.unlink(missing_ok=True)
-    serving = started(programs[server], 'serve', PORT, keys / 'cert.der', keys / 'key.der', down, got_up)
-    port, lossy = PORT, None
-    if one_in:
-        port = LOSSY_PORT
-        lossy = started(programs[layout.STOCK], 'lossy', LOSSY_PORT, PORT, one_in)
+    running = [started(programs[server], 'serve', PORT, keys / 'cert.der', keys / 'key.der', down, got_up)]
+    port = LOSSY_PORT if one_in else PORT
     try:
-        fetching = subprocess.Popen([programs[client], 'fetch', str(port), keys / 'cert.der', up, got_down],
-                                    stdout=subprocess.PIPE, text=True)
-        (seconds, of_client), (_, of_server) = ended(fetching), ended(serving)
+        if one_in:
+            running.append(started(programs[layout.STOCK], 'lossy', LOSSY_PORT, PORT, one_in))
+        running.append(subprocess.Popen([programs[client], 'fetch', str(port), keys / 'cert.der', up, got_down],
+                                        stdout=subprocess.PIPE, text=True))
+        (seconds, of_client), (_, of_server) = ended(running[-1]), ended(running[0])
     finally:
-        for process in (serving, lossy):
-            if process:
-                process.kill()
-                process.wait()
+        for process in running:
+            process.kill()
+            process.wait()
     if hash_of(up) != hash_of(got_up) or hash_of(down) != hash_of(got_down):
         raise SystemExit(f'{client} to {server}: what came is not what was sent')
     return seconds, of_client, of_server
@@ -93,16 +91,16 @@ def run(words):
     programs = {which: build(which) for which in (layout.STOCK, layout.OURS)}
     for name in ('up', 'down'):
         (layout.BUILD / name).write_bytes(os.urandom(LENGTH))
-    print(f'{LENGTH:,} bytes up, then down; medians of {rounds}, and their ratios to stock and stock')
+    print(f'{LENGTH:,} bytes up, then down; medians of {rounds}, and their ratios to stock and stock', flush=True)
     for one_in in (0, ONE_IN):
         taken = {pair: [] for pair in PAIRS}
         for _ in range(rounds):
             for pair in PAIRS:
                 taken[pair].append(transfer(programs, *pair, one_in))
-        print(f'one datagram of {one_in} lost' if one_in else 'no loss drawn')
+        print(f'one datagram of {one_in} lost' if one_in else 'no loss drawn', flush=True)
         first = None
         for client, server in PAIRS:
             text, first = row(taken[client, server], first)
-            print(f'  client {client:5} server {server:5} {text}')
+            print(f'  client {client:5} server {server:5} {text}', flush=True)
     print('every hash is equal')
     return 0
