@@ -1,0 +1,64 @@
+//! Writing.
+
+use bytes::{Buf, Bytes};
+use thiserror::Error;
+
+use super::SendStream;
+use crate::VarInt;
+
+/// How much was written
+#[derive(Debug, Default, PartialEq, Eq, Clone, Copy)]
+pub struct Written {
+    /// How many chunks to their end
+    pub chunks: usize,
+    /// How many bytes
+    pub bytes: usize,
+}
+
+/// Why nothing was written
+#[derive(Clone, Debug, Error, Hash, PartialEq, Eq, PartialOrd, Ord)]
+pub enum WriteError {
+    /// A limit leaves no room; [`StreamEvent::Writable`](crate::StreamEvent::Writable) follows
+    #[error("unable to accept further writes")]
+    Blocked,
+    /// The peer asked to send no more, with this code
+    #[error("stopped by peer: code {0}")]
+    Stopped(VarInt),
+    /// The stream was not given, or was finished or reset
+    #[error("unknown stream")]
+    UnknownStream,
+}
+
+/// Why a stream was not finished
+#[derive(Debug, Error, Clone, PartialEq, Eq)]
+pub enum FinishError {
+    /// The peer asked to send no more, with this code
+    #[error("stopped by peer: code {0}")]
+    Stopped(VarInt),
+    /// The stream was not given, or was finished or reset
+    #[error("unknown stream")]
+    UnknownStream,
+}
+
+/// Writes chunks one after another, until one is not taken to its end. An error after the first byte is left to the next
+/// call.
+pub(super) fn write_chunks(
+    stream: &mut SendStream<'_>,
+    data: &mut [Bytes],
+) -> Result<Written, WriteError> {
+    let mut written = Written::default();
+    for chunk in data {
+        let taken = match stream.write(chunk) {
+            Ok(taken) => taken,
+            Err(error) if written == Written::default() => return Err(error),
+            Err(_) => break,
+        };
+        chunk.advance(taken);
+        written.bytes += taken;
+        if !chunk.is_empty() {
+            break;
+        }
+        written.chunks += 1;
+    }
+    Ok(written)
+}

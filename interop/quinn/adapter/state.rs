@@ -1,0 +1,511 @@
+//! The streams of a connection.
+
+use super::*;
+use crate::connection::assembler::Chunk;
+use crate::connection::stats::FrameStats;
+use crate::frame;
+use crate::transport_parameters::TransportParameters;
+use crate::{Side, TransportError};
+use quic_streams as layer;
+
+/// What waits to be sent.
+#[derive(Clone, Copy)]
+struct Due {
+    control: bool,
+    data: bool,
+}
+
+/// A receive half that the application may read.
+#[derive(Default)]
+struct Readable {
+    /// Whether it was read as bytes came.
+    unordered: bool,
+    /// How many bytes were read in order.
+    consumed: u64,
+}
+
+/// The streams of a connection
+pub struct StreamsState {
+    side: Side,
+    /// The library's end. Its calls want it alone, where quinn-proto asks with a shared reference.
+    end: RefCell<layer::StreamsState>,
+    /// What waits to be sent, if it was asked for since the last change.
+    due: Cell<Option<Due>>,
+    /// How many streams were opened here, by direction.
+    opened: [u64; 2],
+    /// How many streams of the peer the library gave, by direction.
+    given: [u64; 2],
+    /// Those of them that the application has not accepted.
+    ahead: [VecDeque<StreamId>; 2],
+    readable: FxHashMap<StreamId, Readable>,
+    /// Where chunks are read to.
+    room: BytesMut,
+    /// Where frames are written for the library.
+    frame: Vec<u8>,
+}
+
+/// The library answers that there was no memory where Rust's collections end the process.
+fn with_memory<T, E: std::fmt::Display>(answer: Result<T, E>) -> T {
+    answer.unwrap_or_else(|error| panic!("streams: {error}"))
+}
+
+fn layer_id(id: StreamId) -> layer::StreamId {
+    layer::StreamId(id.0)
+}
+
+fn layer_dir(dir: Dir) -> layer::Dir {
+    match dir {
+        Dir::Bi => layer::Dir::Bi,
+        Dir::Uni => layer::Dir::Uni,
+    }
+}
+
+fn dir_of(dir: layer::Dir) -> Dir {
+    match dir {
+        layer::Dir::Bi => Dir::Bi,
+        layer::Dir::Uni => Dir::Uni,
+    }
+}
+
+fn code_of(code: u64) -> VarInt {
+    VarInt::from_u64(code).unwrap_or(VarInt::MAX)
+}
+
+/// The answer of a call on a stream.
+fn answered<T>(answer: Result<T, layer::StreamError>) -> Result<T, UnknownStream> {
+    match answer {
+        Err(layer::StreamError::OutOfMemory) => with_memory(answer.map(Ok)),
+        answer => answer.map_err(|_| UnknownStream { _private: () }),
+    }
+}
+
+/// Making, and what the peer permits.
+impl StreamsState {
+    pub fn new(
+        side: Side,
+        max_remote_uni: VarInt,
+        max_remote_bi: VarInt,
+        send_window: u64,
+        receive_window: VarInt,
+        stream_window: VarInt,
+    ) -> Self {
+        let config = layer::Config {
+            max_remote_uni: max_remote_uni.into(),
+            max_remote_bi: max_remote_bi.into(),
+            send_window,
+            receive_window: receive_window.into(),
+            stream_window: stream_window.into(),
+            datagram_receive: None,
+            datagram_send: 0,
+        };
+        let layer_side = match side {
+            Side::Client => layer::Side::Client,
+            Side::Server => layer::Side::Server,
+        };
+        let end = with_memory(layer::StreamsState::new(layer_side, &config));
+        Self {
+            side,
+            end: RefCell::new(end),
+            due: Cell::new(None),
+            opened: [0; 2],
+            given: [0; 2],
+            ahead: Default::default(),
+            readable: FxHashMap::default(),
+            room: BytesMut::new(),
+            frame: Vec::new(),
+        }
+    }
+
+    /// The end, of which what was known is forgotten.
+    fn end(&mut self) -> &mut layer::StreamsState {
+        self.due.set(None);
+        self.end.get_mut()
+    }
+
+    pub fn set_params(&mut self, params: &TransportParameters) {
+        let limits = layer::Limits {
+            initial_max_data: params.initial_max_data.into(),
+            initial_max_streams_bidi: params.initial_max_streams_bidi.into(),
+            initial_max_streams_uni: params.initial_max_streams_uni.into(),
+            initial_max_stream_data_uni: params.initial_max_stream_data_uni.into(),
+            initial_max_stream_data_bidi_local: params.initial_max_stream_data_bidi_local.into(),
+            initial_max_stream_data_bidi_remote: params.initial_max_stream_data_bidi_remote.into(),
+            max_datagram: None,
+        };
+        with_memory(self.end().set_params(&limits));
+    }
+
+    pub fn zero_rtt_rejected(&mut self) {
+        self.end().zero_rtt_rejected();
+        self.opened = [0; 2];
+        let side = self.side;
+        self.readable.retain(|id, _| id.initiator() != side);
+    }
+
+    pub fn retransmit_all_for_0rtt(&mut self) {
+        with_memory(self.end().retransmit_all_for_0rtt());
+    }
+
+    pub fn set_max_concurrent(&mut self, dir: Dir, count: VarInt) {
+        with_memory(self.end().set_max_concurrent(layer_dir(dir), count.into()));
+    }
+
+    pub fn set_receive_window(&mut self, window: VarInt) {
+        with_memory(self.end().set_receive_window(window.into()));
+    }
+
+    /// Whether a stream of this end was never opened
+    pub fn is_local_unopened(&self, id: StreamId) -> bool {
+        id.index() >= self.opened[id.dir() as usize]
+    }
+}
+
+/// What came from the peer.
+impl StreamsState {
+    /// Hands a frame over, which is written as a payload of its own
+    fn hand(&mut self, write: impl FnOnce(&mut Vec<u8>)) -> Result<(), TransportError> {
+        self.due.set(None);
+        self.frame.clear();
+        write(&mut self.frame);
+        let answer = self.end.get_mut().receive(&self.frame);
+        answer.map_err(frames::refusal)
+    }
+
+    pub fn received(&mut self, frame: frame::Stream) -> Result<(), TransportError> {
+        self.hand(|payload| frames::write_stream(payload, &frame))
+    }
+
+    pub fn received_reset(&mut self, frame: frame::ResetStream) -> Result<(), TransportError> {
+        self.hand(|payload| frames::write_reset(payload, &frame))
+    }
+
+    pub fn received_stop_sending(
+        &mut self,
+        frame: frame::StopSending,
+    ) -> Result<(), TransportError> {
+        self.hand(|payload| frames::write_stop_sending(payload, &frame))
+    }
+
+    pub fn received_max_data(&mut self, limit: VarInt) -> Result<(), TransportError> {
+        self.hand(|payload| frames::write_max_data(payload, limit))
+    }
+
+    pub fn received_max_stream_data(
+        &mut self,
+        id: StreamId,
+        limit: u64,
+    ) -> Result<(), TransportError> {
+        self.hand(|payload| frames::write_max_stream_data(payload, id, limit))
+    }
+
+    pub fn received_max_streams(&mut self, dir: Dir, count: u64) -> Result<(), TransportError> {
+        self.hand(|payload| frames::write_max_streams(payload, dir, count))
+    }
+}
+
+/// What goes to the peer.
+impl StreamsState {
+    fn due(&self) -> Due {
+        if let Some(due) = self.due.get() {
+            return due;
+        }
+        let info = self.end.borrow_mut().info();
+        let due = Due {
+            control: info.has_pending,
+            data: info.can_send_stream_data,
+        };
+        self.due.set(Some(due));
+        due
+    }
+
+    /// Whether frames beside data wait to be sent
+    pub fn has_pending(&self) -> bool {
+        self.due().control
+    }
+
+    /// Whether data wait to be sent
+    pub fn can_send_stream_data(&self) -> bool {
+        self.due().data
+    }
+
+    /// Writes frames beside data
+    pub(crate) fn write_control_frames(
+        &mut self,
+        buf: &mut Vec<u8>,
+        sent: &mut Payloads,
+        counters: &mut FrameStats,
+        max_size: usize,
+    ) {
+        if !self.has_pending() {
+            return;
+        }
+        let (from, what) = (buf.len(), [true, false]);
+        sent.control = self.emit(buf, max_size, what);
+        payloads::count_control(&buf[from..], counters);
+    }
+
+    /// Writes data
+    pub(crate) fn write_stream_frames(
+        &mut self,
+        buf: &mut Vec<u8>,
+        sent: &mut Payloads,
+        counters: &mut FrameStats,
+        max_size: usize,
+    ) {
+        if !self.can_send_stream_data() {
+            return;
+        }
+        let (from, what) = (buf.len(), [false, true]);
+        sent.data = self.emit(buf, max_size, what);
+        counters.stream += payloads::count_data(&buf[from..]);
+    }
+
+    /// Has control frames or data written behind what a packet has.
+    fn emit(
+        &mut self,
+        buf: &mut Vec<u8>,
+        max_size: usize,
+        [control, streams]: [bool; 2],
+    ) -> Option<layer::Token> {
+        let from = buf.len();
+        if from >= max_size {
+            return None;
+        }
+        let what = layer::Emit {
+            control,
+            datagrams: false,
+            streams,
+            fair: true,
+        };
+        buf.resize(max_size, 0);
+        let payload = with_memory(self.end().emit(&mut buf[from..], what));
+        buf.truncate(from + payload.map_or(0, |payload| payload.len));
+        payload.map(|payload| payload.token)
+    }
+
+    /// The packet of some payloads was acknowledged
+    pub(crate) fn acked(&mut self, sent: Payloads) {
+        for token in sent.tokens() {
+            with_memory(self.end().acked(token));
+        }
+    }
+
+    /// The packet of some payloads was lost
+    pub(crate) fn lost(&mut self, sent: Payloads) {
+        for token in sent.tokens() {
+            with_memory(self.end().lost(token));
+        }
+    }
+
+    /// Has the frames beside data of a packet that is in flight sent again, as a probe, and says whether that is of use
+    pub(crate) fn send_again(&self, sent: &mut Payloads) -> bool {
+        let Some(token) = sent.control.take() else {
+            return false;
+        };
+        self.due.set(None);
+        with_memory(self.end.borrow_mut().lost(token));
+        self.has_pending()
+    }
+}
+
+/// The application's calls.
+impl StreamsState {
+    pub(super) fn open(&mut self, dir: Dir) -> Option<StreamId> {
+        let id = StreamId(with_memory(self.end().open(layer_dir(dir)))?.0);
+        self.opened[dir as usize] += 1;
+        if dir == Dir::Bi {
+            self.readable.insert(id, Readable::default());
+        }
+        Some(id)
+    }
+
+    pub(super) fn accept(&mut self, dir: Dir) -> Option<StreamId> {
+        match self.ahead[dir as usize].pop_front() {
+            Some(id) => Some(id),
+            None => self.take(dir),
+        }
+    }
+
+    /// Takes the next stream of the peer out of the library
+    fn take(&mut self, dir: Dir) -> Option<StreamId> {
+        let id = StreamId(self.end().accept(layer_dir(dir))?.0);
+        self.given[dir as usize] += 1;
+        self.readable.insert(id, Readable::default());
+        Some(id)
+    }
+
+    /// Takes a stream of the peer out of the library that the application uses before it accepts it
+    fn take_ahead(&mut self, id: StreamId) {
+        let dir = id.dir();
+        while self.is_to_come(id) {
+            let Some(next) = self.take(dir) else {
+                break;
+            };
+            self.ahead[dir as usize].push_back(next);
+        }
+    }
+
+    /// Whether a stream of the peer was not given by the library
+    fn is_to_come(&self, id: StreamId) -> bool {
+        id.initiator() != self.side && id.index() >= self.given[id.dir() as usize]
+    }
+
+    /// The send half of a stream
+    fn sending(&mut self, id: StreamId) -> layer::SendStream<'_> {
+        self.take_ahead(id);
+        self.end().send_stream(layer_id(id))
+    }
+
+    pub(super) fn send_streams(&self) -> usize {
+        let held = self.end.borrow_mut().info().send_streams as usize;
+        held.saturating_sub(self.ahead[Dir::Bi as usize].len())
+    }
+
+    pub(super) fn write(&mut self, id: StreamId, data: &[u8]) -> Result<usize, WriteError> {
+        match self.sending(id).write(data) {
+            Ok(taken) => Ok(taken),
+            Err(layer::WriteError::Blocked) => Err(WriteError::Blocked),
+            Err(layer::WriteError::Stopped(code)) => Err(WriteError::Stopped(code_of(code))),
+            Err(layer::WriteError::ClosedStream) => Err(WriteError::UnknownStream),
+            Err(error) => with_memory(Err(error)),
+        }
+    }
+
+    pub(super) fn finish(&mut self, id: StreamId) -> Result<(), FinishError> {
+        match self.sending(id).finish() {
+            Ok(()) => Ok(()),
+            Err(layer::FinishError::Stopped(code)) => Err(FinishError::Stopped(code_of(code))),
+            Err(layer::FinishError::ClosedStream) => Err(FinishError::UnknownStream),
+            Err(error) => with_memory(Err(error)),
+        }
+    }
+
+    pub(super) fn reset(&mut self, id: StreamId, code: VarInt) -> Result<(), UnknownStream> {
+        answered(self.sending(id).reset(code.into()))
+    }
+
+    pub(super) fn stopped(&mut self, id: StreamId) -> Result<Option<VarInt>, UnknownStream> {
+        let code = answered(self.sending(id).stopped())?;
+        Ok(code.map(code_of))
+    }
+
+    pub(super) fn set_priority(
+        &mut self,
+        id: StreamId,
+        priority: i32,
+    ) -> Result<(), UnknownStream> {
+        answered(self.sending(id).set_priority(priority))
+    }
+
+    pub(super) fn priority(&self, id: StreamId) -> Result<i32, UnknownStream> {
+        answered(self.end.borrow_mut().send_stream(layer_id(id)).priority())
+    }
+
+    pub(super) fn stop(&mut self, id: StreamId, code: VarInt) -> Result<(), UnknownStream> {
+        self.take_ahead(id);
+        self.readable.remove(&id);
+        answered(self.end().recv_stream(layer_id(id)).stop(code.into()))
+    }
+
+    /// Whether a stream can be read
+    pub(super) fn begin_read(&mut self, id: StreamId, ordered: bool) -> Result<(), ReadableError> {
+        self.take_ahead(id);
+        if self.is_to_come(id) {
+            return Ok(());
+        }
+        let half = self
+            .readable
+            .get_mut(&id)
+            .ok_or(ReadableError::UnknownStream)?;
+        if ordered && half.unordered {
+            return Err(ReadableError::IllegalOrderedRead);
+        }
+        half.unordered |= !ordered;
+        Ok(())
+    }
+
+    /// Reads the next chunk of a stream
+    pub(super) fn read(
+        &mut self,
+        id: StreamId,
+        ordered: bool,
+        max_length: usize,
+    ) -> Result<Option<Chunk>, ReadError> {
+        if self.is_to_come(id) || max_length == 0 {
+            return Err(ReadError::Blocked);
+        }
+        let answer = match ordered {
+            true => self.read_ordered(id, max_length),
+            false => self.read_unordered(id, max_length),
+        };
+        let closed = match answer {
+            Ok(Some(chunk)) => return Ok(Some(chunk)),
+            Err(layer::ReadError::Blocked) => return Err(ReadError::Blocked),
+            Ok(None) => Ok(None),
+            Err(layer::ReadError::Reset(code)) => Err(ReadError::Reset(code_of(code))),
+            Err(error) => with_memory(Err(error)),
+        };
+        self.readable.remove(&id);
+        closed
+    }
+
+    /// Reads in order, into a buffer of which each chunk takes a part
+    fn read_ordered(
+        &mut self,
+        id: StreamId,
+        max_length: usize,
+    ) -> Result<Option<Chunk>, layer::ReadError> {
+        if self.room.len() < LONGEST_CHUNK {
+            self.room = BytesMut::zeroed(ROOM);
+        }
+        self.due.set(None);
+        let length = max_length.min(self.room.len());
+        let mut half = self.end.get_mut().recv_stream(layer_id(id));
+        let Some(count) = half.read(&mut self.room[..length])? else {
+            return Ok(None);
+        };
+        let half = self.readable.entry(id).or_default();
+        let offset = half.consumed;
+        half.consumed += count as u64;
+        let bytes = self.room.split_to(count).freeze();
+        Ok(Some(Chunk { offset, bytes }))
+    }
+
+    /// Reads as the bytes came
+    fn read_unordered(
+        &mut self,
+        id: StreamId,
+        max_length: usize,
+    ) -> Result<Option<Chunk>, layer::ReadError> {
+        let mut half = self.end().recv_stream(layer_id(id));
+        let chunk = half.chunks(false).next(max_length.min(LONGEST_CHUNK))?;
+        Ok(chunk.map(|chunk| Chunk {
+            offset: chunk.offset,
+            bytes: chunk.bytes.into(),
+        }))
+    }
+
+    /// What the application is to be told next
+    pub fn poll(&mut self) -> Option<StreamEvent> {
+        loop {
+            return Some(match self.end.get_mut().poll()? {
+                layer::Event::Opened { dir } => StreamEvent::Opened { dir: dir_of(dir) },
+                layer::Event::Readable { id } => StreamEvent::Readable { id: StreamId(id.0) },
+                layer::Event::Writable { id } => StreamEvent::Writable { id: StreamId(id.0) },
+                layer::Event::Finished { id } => StreamEvent::Finished { id: StreamId(id.0) },
+                layer::Event::Stopped { id, error_code } => StreamEvent::Stopped {
+                    id: StreamId(id.0),
+                    error_code: code_of(error_code),
+                },
+                layer::Event::Available { dir } => StreamEvent::Available { dir: dir_of(dir) },
+                _ => continue,
+            });
+        }
+    }
+}
+
+/// More than a packet carries.
+const LONGEST_CHUNK: usize = 2048;
+
+/// Of so many bytes chunks take parts.
+const ROOM: usize = 1 << 15;
