@@ -14,7 +14,9 @@ SUFFIXES = "rt|antt|py|md|svg|c|h|edit|txt|map"
 # What is made when something is built, lies in the kit, or is a file of the reader's own.
 MADE = re.compile(r"(?:out|build|c|target)/|lib\w+\.(?:a|so)$|my_host\.c$")
 # Names that stand nowhere in this repository: those of other programs, and of lines that are typed.
-FOREIGN = {"bench", "rattle", "CRATE_tests", "HEX", "Box::new", "io::Error", "Event::DatagramReceived", "WHAT", "GLIBC_TUNABLES"}
+FOREIGN = {"bench", "rattle", "CRATE_tests", "HEX", "Box::new", "io::Error", "Event::DatagramReceived", "WHAT", "GLIBC_TUNABLES"} | set(
+    "quinn rustls webpki ring slab tinyvec arbitrary tokio openssl transfer rcgen stop_stream stream_flow_control zero_rtt_rejection UnknownStream".split()
+)
 CODE = re.compile(r"`([^`\n]+)`")
 PATH = re.compile(rf"[\w./*-]+\.(?:{SUFFIXES})$|(?:crates|docs|tests|tools|bindings|include)/")
 LINK = re.compile(r"\[[^\]]*\]\(([^)\s]+)\)")
