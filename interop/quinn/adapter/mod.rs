@@ -12,7 +12,6 @@ use thiserror::Error;
 
 use crate::{Dir, StreamId, VarInt};
 
-mod frames;
 mod payloads;
 pub(crate) use payloads::Payloads;
 mod recv;

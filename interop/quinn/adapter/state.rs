@@ -20,8 +20,6 @@ struct Due {
 struct Readable {
     /// Whether it was read as bytes came.
     unordered: bool,
-    /// How many bytes were read in order.
-    consumed: u64,
 }
 
 /// The streams of a connection
@@ -40,8 +38,6 @@ pub struct StreamsState {
     readable: FxHashMap<StreamId, Readable>,
     /// Where chunks are read to.
     room: BytesMut,
-    /// Where frames are written for the library.
-    frame: Vec<u8>,
 }
 
 /// The library answers that there was no memory where Rust's collections end the process.
@@ -79,6 +75,22 @@ fn answered<T>(answer: Result<T, layer::StreamError>) -> Result<T, UnknownStream
     }
 }
 
+/// The error of a refused frame, by its code (RFC 9000 section 20.1).
+fn refusal(error: layer::ReceiveError) -> TransportError {
+    let layer::ReceiveError::Transport(error) = error else {
+        return TransportError::INTERNAL_ERROR(error.to_string());
+    };
+    match error.code {
+        0x3 => TransportError::FLOW_CONTROL_ERROR(error.reason),
+        0x4 => TransportError::STREAM_LIMIT_ERROR(error.reason),
+        0x5 => TransportError::STREAM_STATE_ERROR(error.reason),
+        0x6 => TransportError::FINAL_SIZE_ERROR(error.reason),
+        0x7 => TransportError::FRAME_ENCODING_ERROR(error.reason),
+        0xa => TransportError::PROTOCOL_VIOLATION(error.reason),
+        _ => TransportError::INTERNAL_ERROR(error.reason),
+    }
+}
+
 /// Making, and what the peer permits.
 impl StreamsState {
     pub fn new(
@@ -112,7 +124,6 @@ impl StreamsState {
             ahead: Default::default(),
             readable: FxHashMap::default(),
             room: BytesMut::new(),
-            frame: Vec::new(),
         }
     }
 
@@ -162,32 +173,31 @@ impl StreamsState {
 
 /// What came from the peer.
 impl StreamsState {
-    /// Hands a frame over, which is written as a payload of its own
-    fn hand(&mut self, write: impl FnOnce(&mut Vec<u8>)) -> Result<(), TransportError> {
-        self.due.set(None);
-        self.frame.clear();
-        write(&mut self.frame);
-        let answer = self.end.get_mut().receive(&self.frame);
-        answer.map_err(frames::refusal)
-    }
-
     pub fn received(&mut self, frame: frame::Stream) -> Result<(), TransportError> {
-        self.hand(|payload| frames::write_stream(payload, &frame))
+        let (id, data) = (layer_id(frame.id), &frame.data);
+        let answer = self
+            .end()
+            .on_stream(id, frame.offset, data, frame.fin, data.len());
+        answer.map_err(refusal)
     }
 
     pub fn received_reset(&mut self, frame: frame::ResetStream) -> Result<(), TransportError> {
-        self.hand(|payload| frames::write_reset(payload, &frame))
+        let (code, size) = (frame.error_code.into(), frame.final_offset.into());
+        let answer = self.end().on_reset_stream(layer_id(frame.id), code, size);
+        answer.map_err(refusal)
     }
 
     pub fn received_stop_sending(
         &mut self,
         frame: frame::StopSending,
     ) -> Result<(), TransportError> {
-        self.hand(|payload| frames::write_stop_sending(payload, &frame))
+        let code = frame.error_code.into();
+        let answer = self.end().on_stop_sending(layer_id(frame.id), code);
+        answer.map_err(refusal)
     }
 
     pub fn received_max_data(&mut self, limit: VarInt) -> Result<(), TransportError> {
-        self.hand(|payload| frames::write_max_data(payload, limit))
+        self.end().on_max_data(limit.into()).map_err(refusal)
     }
 
     pub fn received_max_stream_data(
@@ -195,11 +205,13 @@ impl StreamsState {
         id: StreamId,
         limit: u64,
     ) -> Result<(), TransportError> {
-        self.hand(|payload| frames::write_max_stream_data(payload, id, limit))
+        let answer = self.end().on_max_stream_data(layer_id(id), limit);
+        answer.map_err(refusal)
     }
 
     pub fn received_max_streams(&mut self, dir: Dir, count: u64) -> Result<(), TransportError> {
-        self.hand(|payload| frames::write_max_streams(payload, dir, count))
+        let answer = self.end().on_max_streams(layer_dir(dir), count);
+        answer.map_err(refusal)
     }
 }
 
@@ -434,10 +446,7 @@ impl StreamsState {
         if self.is_to_come(id) || max_length == 0 {
             return Err(ReadError::Blocked);
         }
-        let answer = match ordered {
-            true => self.read_ordered(id, max_length),
-            false => self.read_unordered(id, max_length),
-        };
+        let answer = self.read_chunk(id, ordered, max_length);
         let closed = match answer {
             Ok(Some(chunk)) => return Ok(Some(chunk)),
             Err(layer::ReadError::Blocked) => return Err(ReadError::Blocked),
@@ -449,10 +458,11 @@ impl StreamsState {
         closed
     }
 
-    /// Reads in order, into a buffer of which each chunk takes a part
-    fn read_ordered(
+    /// Reads into a buffer of which each chunk takes a part
+    fn read_chunk(
         &mut self,
         id: StreamId,
+        ordered: bool,
         max_length: usize,
     ) -> Result<Option<Chunk>, layer::ReadError> {
         if self.room.len() < LONGEST_CHUNK {
@@ -461,28 +471,11 @@ impl StreamsState {
         self.due.set(None);
         let length = max_length.min(self.room.len());
         let mut half = self.end.get_mut().recv_stream(layer_id(id));
-        let Some(count) = half.read(&mut self.room[..length])? else {
+        let Some((count, offset)) = half.read_into(&mut self.room[..length], ordered)? else {
             return Ok(None);
         };
-        let half = self.readable.entry(id).or_default();
-        let offset = half.consumed;
-        half.consumed += count as u64;
         let bytes = self.room.split_to(count).freeze();
         Ok(Some(Chunk { offset, bytes }))
-    }
-
-    /// Reads as the bytes came
-    fn read_unordered(
-        &mut self,
-        id: StreamId,
-        max_length: usize,
-    ) -> Result<Option<Chunk>, layer::ReadError> {
-        let mut half = self.end().recv_stream(layer_id(id));
-        let chunk = half.chunks(false).next(max_length.min(LONGEST_CHUNK))?;
-        Ok(chunk.map(|chunk| Chunk {
-            offset: chunk.offset,
-            bytes: chunk.bytes.into(),
-        }))
     }
 
     /// What the application is to be told next
