@@ -191,8 +191,10 @@ fn frames_are_taken_one_by_one() -> Result<()> {
     );
     assert_eq!(stream.read_into(&mut text, false)?, Some((2, 3)));
     assert_eq!(stream.read_into(&mut text, false)?, None);
-    b.on_reset_stream(StreamId(6), 9, 0)?;
-    assert_eq!(b.recv_stream(StreamId(6)).received_reset()?, Some(9));
+    let next = StreamId(6);
+    b.on_reset_stream(next, 9, 0)?;
+    assert_eq!(b.accept(Dir::Uni), Some(next));
+    assert_eq!(b.recv_stream(next).received_reset()?, Some(9));
     Ok(())
 }
 
