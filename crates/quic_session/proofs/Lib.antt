@@ -1,1 +1,3 @@
+pub mod Emitted
 pub mod Payloads
+pub mod Taken

@@ -1,2 +1,7 @@
+pub mod Datagrams
+pub mod Emitting
+pub mod Reading
+pub mod Receiving
 pub mod Sessions
+pub mod Settling
 pub mod Tokens

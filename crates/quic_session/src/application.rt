@@ -1,6 +1,6 @@
 //! The calls of the application of a session. Each on a stream is refused where the application was not given it.
 
-ghost use Rattle.std.specs.Prelude.{ℕ, ℤ, List, ◌∷◌, ◌≡◌, true, false, Ok, Err, IfOk, IfErr};
+ghost use Rattle.std.specs.Prelude.{ℕ, ℤ, List, ◌∷◌, ◌≡◌, true, false, length, Ok, Err, IfOk, IfErr};
 ghost use Rattle.quic_history.specs.World.{Made};
 ghost use Rattle.quic_history.specs.Acknowledged.{was_given};
 ghost use Rattle.quic_history.specs.History.{Event, Sending, Accepted, Stopped, ToldReset, Began, From, with_reads};
@@ -14,9 +14,11 @@ ghost use Rattle.quic_sending.specs.Source.{slice_lists};
 ghost use Rattle.quic_streams.specs.Connection.{is_shut};
 ghost use Rattle.quic_streams.specs.Writing.{IsWrittenAs};
 ghost use Rattle.quic_endpoint.specs.Ends.{with_world, FinishesAt, ResetsAt, SetsPriorityAt, StopsReading, TellsResetAt, ReadsAt, RefusesRead, is_handled, is_opened};
-ghost use Rattle.quic_session.specs.Sessions.{end_of, datagrams_of};
+ghost use Rattle.quic_session.specs.Sessions.{end_of, beside_of};
+ghost use Rattle.quic_session.specs.Reading.{ReadsInto, CopiesChunk, AreFew};
 
 use crate::session::Session;
+use quic_assembler::Chunk;
 use quic_receiving::{HandleError, ReadableError};
 use quic_sending::{ClosedStream, FinishError, WriteError};
 use quic_streams::batches::ReadSome;
@@ -25,6 +27,7 @@ use quic_streams::recv_stream::RecvStream;
 use quic_streams::send_stream::SendStream;
 use quic_streams::streams::Streams;
 use quic_values::{Dir, OutOfMemory, StreamId, VarInt};
+use std::mem;
 
 #[tactic(auto, unfolding(crate::specs::Sessions::end_of))]
 impl Session {
@@ -33,8 +36,7 @@ impl Session {
         ensures opens { OpensOwn (end_of self.old).streams dir (is_shut self.old.conn) result (end_of self.new).streams }
         ensures pending { (end_of self.new).pending ≡ (end_of self.old).pending }
         ensures from { (m : Made) (h : List Event) → From m h (end_of self.old).streams → From m (Sending (OpenedOwn dir (is_shut self.old.conn) result) ∷ h) (end_of self.new).streams }
-        ensures conn { self.new.conn ≡ self.old.conn }
-        ensures datagrams { datagrams_of self.new ≡ datagrams_of self.old }
+        ensures beside { beside_of self.new ≡ beside_of self.old }
     {
         Streams::new(&mut self.streams, self.conn).open(dir)
     }
@@ -44,8 +46,7 @@ impl Session {
         ensures id { result ≡ acceptable (end_of self.old).streams dir }
         ensures accepted { end_of self.new ≡ with_world (end_of self.old) (with_accepted (end_of self.old).streams dir) }
         ensures from { (m : Made) (h : List Event) → From m h (end_of self.old).streams → From m (Accepted dir result ∷ h) (end_of self.new).streams }
-        ensures conn { self.new.conn ≡ self.old.conn }
-        ensures datagrams { datagrams_of self.new ≡ datagrams_of self.old }
+        ensures beside { beside_of self.new ≡ beside_of self.old }
     {
         Streams::new(&mut self.streams, self.conn).accept(dir)
     }
@@ -57,8 +58,7 @@ impl Session {
         ensures unknown { was_given (end_of self.old).streams id ≡ false → (result ≡ Err WriteError.ClosedStream) × (end_of self.new ≡ end_of self.old) }
         ensures from { was_given (end_of self.old).streams id ≡ true → IsWrittenAs result (λ written. (m : Made) (h : List Event) → From m h (end_of self.old).streams
             → From m (Sending (WroteOwn id (slice_lists bytes.now) (is_shut self.old.conn) written) ∷ h) (end_of self.new).streams) }
-        ensures conn { self.new.conn ≡ self.old.conn }
-        ensures datagrams { datagrams_of self.new ≡ datagrams_of self.old }
+        ensures beside { beside_of self.new ≡ beside_of self.old }
     {
         if !self.streams.was_given(id) {
             return Err(WriteError::ClosedStream);
@@ -72,8 +72,7 @@ impl Session {
             × WritesOwn (end_of self.old).streams id (slice_lists bytes.now) (is_shut self.old.conn) (end_of self.old).pending written (end_of self.new).streams left (end_of self.new).pending) }
         ensures from { IsWrittenAs result (λ written. (m : Made) (h : List Event) → From m h (end_of self.old).streams
             → From m (Sending (WroteOwn id (slice_lists bytes.now) (is_shut self.old.conn) written) ∷ h) (end_of self.new).streams) }
-        ensures conn { self.new.conn ≡ self.old.conn }
-        ensures datagrams { datagrams_of self.new ≡ datagrams_of self.old }
+        ensures beside { beside_of self.new ≡ beside_of self.old }
     {
         let (streams, pending) = (&mut self.streams, &mut self.pending);
         SendStream::new(id, streams, pending, self.conn).write(bytes)
@@ -84,8 +83,7 @@ impl Session {
         ensures finishes { was_given (end_of self.old).streams id ≡ true → FinishesAt (end_of self.old) id result (end_of self.new) }
         ensures unknown { was_given (end_of self.old).streams id ≡ false → (result ≡ Err FinishError.ClosedStream) × (end_of self.new ≡ end_of self.old) }
         ensures from { was_given (end_of self.old).streams id ≡ true → (m : Made) (h : List Event) → From m h (end_of self.old).streams → From m (Sending (FinishedOwn id result) ∷ h) (end_of self.new).streams }
-        ensures conn { self.new.conn ≡ self.old.conn }
-        ensures datagrams { datagrams_of self.new ≡ datagrams_of self.old }
+        ensures beside { beside_of self.new ≡ beside_of self.old }
     {
         if !self.streams.was_given(id) {
             return Err(FinishError::ClosedStream);
@@ -97,8 +95,7 @@ impl Session {
     fn finish_given(&mut self, id: StreamId) -> Result<(), FinishError>
         ensures finishes { FinishesAt (end_of self.old) id result (end_of self.new) }
         ensures from { (m : Made) (h : List Event) → From m h (end_of self.old).streams → From m (Sending (FinishedOwn id result) ∷ h) (end_of self.new).streams }
-        ensures conn { self.new.conn ≡ self.old.conn }
-        ensures datagrams { datagrams_of self.new ≡ datagrams_of self.old }
+        ensures beside { beside_of self.new ≡ beside_of self.old }
     {
         let (streams, pending) = (&mut self.streams, &mut self.pending);
         SendStream::new(id, streams, pending, self.conn).finish()
@@ -109,8 +106,7 @@ impl Session {
         ensures resets { was_given (end_of self.old).streams id ≡ true → ResetsAt (end_of self.old) id error_code result (end_of self.new) }
         ensures unknown { was_given (end_of self.old).streams id ≡ false → (result ≡ Err HandleError.ClosedStream) × (end_of self.new ≡ end_of self.old) }
         ensures from { was_given (end_of self.old).streams id ≡ true → (m : Made) (h : List Event) → From m h (end_of self.old).streams → From m (Sending (ResetOwn id error_code result) ∷ h) (end_of self.new).streams }
-        ensures conn { self.new.conn ≡ self.old.conn }
-        ensures datagrams { datagrams_of self.new ≡ datagrams_of self.old }
+        ensures beside { beside_of self.new ≡ beside_of self.old }
     {
         if !self.streams.was_given(id) {
             return Err(HandleError::ClosedStream);
@@ -122,8 +118,7 @@ impl Session {
     fn reset_given(&mut self, id: StreamId, error_code: VarInt) -> Result<(), HandleError>
         ensures resets { ResetsAt (end_of self.old) id error_code result (end_of self.new) }
         ensures from { (m : Made) (h : List Event) → From m h (end_of self.old).streams → From m (Sending (ResetOwn id error_code result) ∷ h) (end_of self.new).streams }
-        ensures conn { self.new.conn ≡ self.old.conn }
-        ensures datagrams { datagrams_of self.new ≡ datagrams_of self.old }
+        ensures beside { beside_of self.new ≡ beside_of self.old }
     {
         let (streams, pending) = (&mut self.streams, &mut self.pending);
         SendStream::new(id, streams, pending, self.conn).reset(error_code)
@@ -134,8 +129,7 @@ impl Session {
         ensures sets { was_given (end_of self.old).streams id ≡ true → SetsPriorityAt (end_of self.old) id priority result (end_of self.new) }
         ensures unknown { was_given (end_of self.old).streams id ≡ false → (result ≡ Err HandleError.ClosedStream) × (end_of self.new ≡ end_of self.old) }
         ensures from { was_given (end_of self.old).streams id ≡ true → (m : Made) (h : List Event) → From m h (end_of self.old).streams → From m (Sending (SetOwnPriority id priority result) ∷ h) (end_of self.new).streams }
-        ensures conn { self.new.conn ≡ self.old.conn }
-        ensures datagrams { datagrams_of self.new ≡ datagrams_of self.old }
+        ensures beside { beside_of self.new ≡ beside_of self.old }
     {
         if !self.streams.was_given(id) {
             return Err(HandleError::ClosedStream);
@@ -147,8 +141,7 @@ impl Session {
     fn set_priority_given(&mut self, id: StreamId, priority: i32) -> Result<(), HandleError>
         ensures sets { SetsPriorityAt (end_of self.old) id priority result (end_of self.new) }
         ensures from { (m : Made) (h : List Event) → From m h (end_of self.old).streams → From m (Sending (SetOwnPriority id priority result) ∷ h) (end_of self.new).streams }
-        ensures conn { self.new.conn ≡ self.old.conn }
-        ensures datagrams { datagrams_of self.new ≡ datagrams_of self.old }
+        ensures beside { beside_of self.new ≡ beside_of self.old }
     {
         let (streams, pending) = (&mut self.streams, &mut self.pending);
         SendStream::new(id, streams, pending, self.conn).set_priority(priority)
@@ -159,8 +152,7 @@ impl Session {
         ensures told { was_given (end_of self.old).streams id ≡ true → result ≡ told_of_half (λ s. s.priority) ((end_of self.old).streams.out.halves id) }
         ensures unknown { was_given (end_of self.old).streams id ≡ false → result ≡ Err (record {}) }
         ensures same { end_of self.new ≡ end_of self.old }
-        ensures conn { self.new.conn ≡ self.old.conn }
-        ensures datagrams { datagrams_of self.new ≡ datagrams_of self.old }
+        ensures beside { beside_of self.new ≡ beside_of self.old }
     {
         if !self.streams.was_given(id) {
             return Err(ClosedStream);
@@ -174,8 +166,7 @@ impl Session {
         ensures told { was_given (end_of self.old).streams id ≡ true → result ≡ told_of_half (λ s. s.stop_reason) ((end_of self.old).streams.out.halves id) }
         ensures unknown { was_given (end_of self.old).streams id ≡ false → result ≡ Err (record {}) }
         ensures same { end_of self.new ≡ end_of self.old }
-        ensures conn { self.new.conn ≡ self.old.conn }
-        ensures datagrams { datagrams_of self.new ≡ datagrams_of self.old }
+        ensures beside { beside_of self.new ≡ beside_of self.old }
     {
         if !self.streams.was_given(id) {
             return Err(ClosedStream);
@@ -189,8 +180,7 @@ impl Session {
         ensures stops { was_given (end_of self.old).streams id ≡ true → StopsReading (end_of self.old) id error_code result (end_of self.new) }
         ensures unknown { was_given (end_of self.old).streams id ≡ false → (result ≡ Err HandleError.ClosedStream) × (end_of self.new ≡ end_of self.old) }
         ensures from { was_given (end_of self.old).streams id ≡ true → (m : Made) (h : List Event) → From m h (end_of self.old).streams → From m (Stopped id error_code result ∷ h) (end_of self.new).streams }
-        ensures conn { self.new.conn ≡ self.old.conn }
-        ensures datagrams { datagrams_of self.new ≡ datagrams_of self.old }
+        ensures beside { beside_of self.new ≡ beside_of self.old }
     {
         if !self.streams.was_given(id) {
             return Err(HandleError::ClosedStream);
@@ -202,8 +192,7 @@ impl Session {
     fn stop_given(&mut self, id: StreamId, error_code: VarInt) -> Result<(), HandleError>
         ensures stops { StopsReading (end_of self.old) id error_code result (end_of self.new) }
         ensures from { (m : Made) (h : List Event) → From m h (end_of self.old).streams → From m (Stopped id error_code result ∷ h) (end_of self.new).streams }
-        ensures conn { self.new.conn ≡ self.old.conn }
-        ensures datagrams { datagrams_of self.new ≡ datagrams_of self.old }
+        ensures beside { beside_of self.new ≡ beside_of self.old }
     {
         let answer = self.stop_stream(id, error_code);
         self.tell_counts_if(is_handled(&answer));
@@ -213,8 +202,7 @@ impl Session {
     // The same, with what it queues itself.
     fn stop_stream(&mut self, id: StreamId, error_code: VarInt) -> Result<(), HandleError>
         ensures stops { Stops (end_of self.old).streams id error_code (end_of self.old).pending result (end_of self.new).streams (end_of self.new).pending }
-        ensures conn { self.new.conn ≡ self.old.conn }
-        ensures datagrams { datagrams_of self.new ≡ datagrams_of self.old }
+        ensures beside { beside_of self.new ≡ beside_of self.old }
     {
         let (streams, pending) = (&mut self.streams, &mut self.pending);
         RecvStream::new(id, streams, pending).stop(error_code)
@@ -226,8 +214,7 @@ impl Session {
         ensures tells { was_given (end_of self.old).streams id ≡ true → TellsResetAt (end_of self.old) id result (end_of self.new) }
         ensures unknown { was_given (end_of self.old).streams id ≡ false → (result ≡ Err HandleError.ClosedStream) × (end_of self.new ≡ end_of self.old) }
         ensures from { was_given (end_of self.old).streams id ≡ true → (m : Made) (h : List Event) → From m h (end_of self.old).streams → From m (ToldReset id result ∷ h) (end_of self.new).streams }
-        ensures conn { self.new.conn ≡ self.old.conn }
-        ensures datagrams { datagrams_of self.new ≡ datagrams_of self.old }
+        ensures beside { beside_of self.new ≡ beside_of self.old }
     {
         if !self.streams.was_given(id) {
             return Err(HandleError::ClosedStream);
@@ -239,8 +226,7 @@ impl Session {
     fn tell_reset(&mut self, id: StreamId) -> Result<Option<VarInt>, HandleError>
         ensures tells { TellsResetAt (end_of self.old) id result (end_of self.new) }
         ensures from { (m : Made) (h : List Event) → From m h (end_of self.old).streams → From m (ToldReset id result ∷ h) (end_of self.new).streams }
-        ensures conn { self.new.conn ≡ self.old.conn }
-        ensures datagrams { datagrams_of self.new ≡ datagrams_of self.old }
+        ensures beside { beside_of self.new ≡ beside_of self.old }
     {
         let answer = self.take_reset(id);
         self.tell_counts_if(is_handled(&answer));
@@ -250,8 +236,7 @@ impl Session {
     // The same, with what it queues itself.
     fn take_reset(&mut self, id: StreamId) -> Result<Option<VarInt>, HandleError>
         ensures tells { TellsReset (end_of self.old).streams id (end_of self.old).pending result (end_of self.new).streams (end_of self.new).pending }
-        ensures conn { self.new.conn ≡ self.old.conn }
-        ensures datagrams { datagrams_of self.new ≡ datagrams_of self.old }
+        ensures beside { beside_of self.new ≡ beside_of self.old }
     {
         let (streams, pending) = (&mut self.streams, &mut self.pending);
         RecvStream::new(id, streams, pending).received_reset()
@@ -273,22 +258,23 @@ impl Session {
             → From m (with_reads id max_length ordered r.chunks.items r.last h) (end_of self.new).streams) }
         ensures from_refused { was_given (end_of self.old).streams id ≡ true → IfErr result (λ error. (m : Made) (h : List Event) → From m h (end_of self.old).streams
             → From m (Began id ordered (Err error) ∷ h) (end_of self.new).streams) }
-        ensures conn { self.new.conn ≡ self.old.conn }
-        ensures datagrams { datagrams_of self.new ≡ datagrams_of self.old }
+        ensures beside { beside_of self.new ≡ beside_of self.old }
     {
         if !self.streams.was_given(id) {
             return Err(ReadableError::ClosedStream);
         }
-        self.read_given(id, ordered, max_length, times)
+        let list = Vec::new(self.alloc);
+        self.read_given(id, ordered, max_length, times, list)
     }
 
-    // The same, of a stream that was given.
+    // The same, of a stream that was given, in the memory of a list.
     fn read_given(
         &mut self,
         id: StreamId,
         ordered: bool,
         max_length: usize,
         times: u16,
+        list: Vec<Chunk>,
     ) -> Result<ReadSome, ReadableError>
         ensures reads { IfOk result (λ r. ReadsAt (end_of self.old) id max_length times ordered r.chunks.items r.last r.transmit.0 (end_of self.new)) }
         ensures refused { IfErr result (λ error. RefusesRead (end_of self.old) id ordered error (end_of self.new)) }
@@ -296,10 +282,9 @@ impl Session {
             → From m (with_reads id max_length ordered r.chunks.items r.last h) (end_of self.new).streams) }
         ensures from_refused { IfErr result (λ error. (m : Made) (h : List Event) → From m h (end_of self.old).streams
             → From m (Began id ordered (Err error) ∷ h) (end_of self.new).streams) }
-        ensures conn { self.new.conn ≡ self.old.conn }
-        ensures datagrams { datagrams_of self.new ≡ datagrams_of self.old }
+        ensures beside { beside_of self.new ≡ beside_of self.old }
     {
-        let answer = self.read_stream(id, ordered, max_length, times);
+        let answer = self.read_stream(id, ordered, max_length, times, list);
         self.tell_counts_if(is_opened(&answer));
         answer
     }
@@ -311,6 +296,7 @@ impl Session {
         ordered: bool,
         max_length: usize,
         times: u16,
+        list: Vec<Chunk>,
     ) -> Result<ReadSome, ReadableError>
         ensures reads { IfOk result (λ r. ReadsSome (end_of self.old).streams id max_length times ordered (end_of self.old).pending r.chunks.items r.last r.transmit.0 (end_of self.new).streams (end_of self.new).pending) }
         ensures refused { IfErr result (λ error. Begins (end_of self.old).streams id ordered (Err error) (end_of self.new).streams) }
@@ -319,11 +305,10 @@ impl Session {
             → From m (with_reads id max_length ordered r.chunks.items r.last h) (end_of self.new).streams) }
         ensures from_refused { IfErr result (λ error. (m : Made) (h : List Event) → From m h (end_of self.old).streams
             → From m (Began id ordered (Err error) ∷ h) (end_of self.new).streams) }
-        ensures conn { self.new.conn ≡ self.old.conn }
-        ensures datagrams { datagrams_of self.new ≡ datagrams_of self.old }
+        ensures beside { beside_of self.new ≡ beside_of self.old }
     {
         let (streams, pending) = (&mut self.streams, &mut self.pending);
-        RecvStream::new(id, streams, pending).read_some(ordered, max_length, times)
+        RecvStream::new(id, streams, pending).read_some_into(ordered, max_length, times, list)
     }
 }
 
@@ -338,6 +323,7 @@ pub struct ReadInto {
     pub last: LastAnswer,
 }
 
+#[tactic(auto, unfolding(crate::specs::Sessions::end_of))]
 impl Session {
     /// Reads the next chunk of a stream, of at most as many bytes as `out` has, and puts it there.
     pub fn read_into(
@@ -345,22 +331,41 @@ impl Session {
         id: StreamId,
         ordered: bool,
         out: &mut [u8],
-    ) -> Result<ReadInto, ReadableError> {
-        let some = self.read(id, ordered, out.len(), 1)?;
-        let Some(chunk) = some.chunks.first() else {
-            return Ok(ReadInto {
-                count: 0,
-                offset: 0,
-                last: some.last,
-            });
-        };
-        let count = chunk.bytes.len().min(out.len());
-        out[..count].copy_from_slice(&chunk.bytes.as_slice()[..count]);
-        Ok(ReadInto {
-            count,
-            offset: chunk.offset,
+    ) -> Result<ReadInto, ReadableError>
+        ensures reads { ReadsInto self.old id ordered out.old result self.new out.new }
+        ensures beside { beside_of self.new ≡ beside_of self.old }
+    {
+        if !self.streams.was_given(id) {
+            return Err(ReadableError::ClosedStream);
+        }
+        let list = mem::replace(&mut self.chunks, Vec::new(self.alloc));
+        let some = self.read_given(id, ordered, out.len(), 1, list)?;
+        let read = put_chunk(&some, out);
+        self.chunks = some.chunks;
+        self.chunks.clear();
+        Ok(read)
+    }
+}
+
+// The first chunk of a read is copied out.
+fn put_chunk(some: &ReadSome, out: &mut [u8]) -> ReadInto
+    requires { AreFew some.now.chunks.items (length out.old) }
+    ensures copies { CopiesChunk some.now.chunks.items result out.old out.new }
+    ensures last { result.last ≡ some.now.last }
+{
+    let Some(chunk) = some.chunks.first() else {
+        return ReadInto {
+            count: 0,
+            offset: 0,
             last: some.last,
-        })
+        };
+    };
+    let count = chunk.bytes.len();
+    out[..count].copy_from_slice(chunk.bytes.as_slice());
+    ReadInto {
+        count,
+        offset: chunk.offset,
+        last: some.last,
     }
 }
 

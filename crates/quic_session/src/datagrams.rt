@@ -1,9 +1,10 @@
 //! Datagrams of a session (RFC 9221).
 
-ghost use Rattle.std.specs.Prelude.{◌≡◌, OnOk, None};
+ghost use Rattle.std.specs.Prelude.{◌≡◌, ◌-◌, OnOk, IfErr, None, length, option_map};
 ghost use Rattle.quic_datagrams.specs.Sending.{send_refusal};
-ghost use Rattle.quic_datagrams.specs.Queue.{with_newest};
-ghost use Rattle.quic_session.specs.Sessions.{end_of};
+ghost use Rattle.quic_datagrams.specs.Queue.{with_newest, total_cost};
+ghost use Rattle.quic_session.specs.Sessions.{end_of, datagrams_of, beside_of, with_datagrams, with_oldest_out, with_max, next_told, with_told};
+ghost use Rattle.quic_session.specs.Datagrams.{IsRefusedAs, after_error};
 
 use crate::session::Session;
 use quic_datagrams::{Datagrams, SendDatagramError};
@@ -45,9 +46,10 @@ impl Session {
     pub fn send_datagram(&mut self, content: &[u8], drop_oldest: bool) -> Result<(), DatagramError>
         ensures permitted { OnOk result (send_refusal self.old.limits self.old.datagrams.outgoing content.now drop_oldest ≡ None) }
         ensures queued { OnOk result (self.new.datagrams ≡ record self.old.datagrams { outgoing = with_newest self.old.limits.send self.old.datagrams.outgoing (record { bytes = content.now }) }) }
+        ensures refusal { IfErr result (λ e. IsRefusedAs (datagrams_of self.old) content.now drop_oldest e) }
+        ensures err { IfErr result (λ e. self.new.datagrams ≡ after_error self.old.datagrams e) }
+        ensures others { beside_of self.new ≡ with_datagrams (beside_of self.old) (record (datagrams_of self.old) { state = self.new.datagrams }) }
         ensures end { end_of self.new ≡ end_of self.old }
-        ensures conn { self.new.conn ≡ self.old.conn }
-        ensures limits { self.new.limits ≡ self.old.limits }
     {
         let Ok(bytes) = Bytes::copy_from_slice(self.alloc, content) else {
             return Err(DatagramError::OutOfMemory);
@@ -64,6 +66,8 @@ impl Session {
 
     /// How many bytes the oldest received datagram has, if one waits.
     pub fn datagram_length(&mut self) -> Option<usize>
+        ensures length { result ≡ option_map length (with_oldest_out (datagrams_of self.old)).waiting }
+        ensures datagrams { beside_of self.new ≡ with_datagrams (beside_of self.old) (with_oldest_out (datagrams_of self.old)) }
         ensures end { end_of self.new ≡ end_of self.old }
     {
         if self.waiting.is_none() {
@@ -77,6 +81,8 @@ impl Session {
 
     /// Takes the oldest received datagram out, if one waits.
     pub fn recv_datagram(&mut self) -> Option<Bytes>
+        ensures oldest { result ≡ (with_oldest_out (datagrams_of self.old)).waiting }
+        ensures datagrams { beside_of self.new ≡ with_datagrams (beside_of self.old) (record (with_oldest_out (datagrams_of self.old)) { waiting = None }) }
         ensures end { end_of self.new ≡ end_of self.old }
     {
         match self.waiting.take() {
@@ -94,6 +100,8 @@ impl Session {
 
     /// The greatest length that can be queued now without a drop, if it is above 0.
     pub fn datagram_send_space(&mut self) -> usize
+        ensures space { result ≡ self.old.limits.send - total_cost self.old.datagrams.outgoing - 32 }
+        ensures beside { beside_of self.new ≡ beside_of self.old }
         ensures end { end_of self.new ≡ end_of self.old }
     {
         Datagrams::new(&mut self.datagrams, self.limits).send_buffer_space()
@@ -101,6 +109,7 @@ impl Session {
 
     /// Sets the greatest length that the path and the peer take, and drops what waits and is longer.
     pub fn set_max_datagram(&mut self, max: Option<usize>)
+        ensures datagrams { beside_of self.new ≡ with_datagrams (beside_of self.old) (with_max (datagrams_of self.old) max) }
         ensures end { end_of self.new ≡ end_of self.old }
     {
         self.limits.max = max;
@@ -112,6 +121,8 @@ impl Session {
 
     /// What is to be told of datagrams next, if there is something.
     pub fn poll_datagrams(&mut self) -> Option<DatagramEvent>
+        ensures event { result ≡ next_told (datagrams_of self.old) }
+        ensures told { beside_of self.new ≡ with_datagrams (beside_of self.old) (with_told (datagrams_of self.old)) }
         ensures end { end_of self.new ≡ end_of self.old }
     {
         if !self.told_received {

@@ -1,7 +1,10 @@
 //! Payloads that a session writes.
 
-ghost use Rattle.std.specs.Prelude.{◌≡◌, ◌≤◌, length, IfOk, IfSome};
-ghost use Rattle.quic_session.specs.Sessions.{end_of};
+ghost use Rattle.std.specs.Prelude.{◌≡◌, ◌≤◌, ◌<◌, ◌+◌, IfOk, IfSome, OnOk, OnErr, [], length};
+ghost use Rattle.quic_retransmits.specs.Pending.{nothing};
+ghost use Rattle.quic_session.specs.Sessions.{end_of, datagrams_of, beside_of};
+ghost use Rattle.quic_session.specs.Tokens.{unsettled, places, KeepsNew};
+ghost use Rattle.quic_session.specs.Emitting.{payload_of, writing_of, WritesControl, WritesDatagrams, WritesStreams, SendsOldest, AreSent, with_sent, IfAsked, WritesParts, Emits, IsPutOut, GoesOnWithFrames};
 
 use crate::session::Session;
 use quic_datagrams::DatagramState;
@@ -9,6 +12,8 @@ use quic_streams::stats::FrameStats;
 use quic_streams::{SentPayload, StreamMetaVec, ThinRetransmits};
 use quic_values::OutOfMemory;
 use quic_wire::frame::Datagram;
+use std::alloc::Global;
+use std::mem;
 
 /// Which frames are to be written.
 #[derive(Clone, Copy, Debug, PartialEq, Eq)]
@@ -34,9 +39,26 @@ pub struct Emitted {
 
 // A payload that is being written.
 #[derive(Drop)]
-struct Draft {
-    bytes: Vec<u8>,
-    sent: SentPayload,
+pub(crate) struct Draft {
+    pub(crate) bytes: Vec<u8>,
+    pub(crate) sent: SentPayload,
+}
+
+impl Draft {
+    // One without frames, in the memory of one that was sent.
+    fn new(alloc: Global, memory: Vec<u8>) -> Self
+        ensures { payload_of result ≡ record { bytes = []; control = nothing; streams = [] } }
+    {
+        let mut bytes = memory;
+        bytes.clear();
+        Draft {
+            bytes,
+            sent: SentPayload {
+                streams: StreamMetaVec::new(alloc),
+                control: ThinRetransmits::new(alloc),
+            },
+        }
+    }
 }
 
 #[tactic(auto, unfolding(crate::specs::Sessions::end_of))]
@@ -50,29 +72,38 @@ impl Session {
         parts: Parts,
         fair: bool,
     ) -> Result<Option<Emitted>, OutOfMemory>
-        ensures len { IfOk result (λ e. IfSome e (λ p. p.len ≤ length out.old)) }
-        ensures token { IfOk result (λ e. IfSome e (λ p. p.token ≡ self.old.unsettled.next)) }
+        ensures emits { Emits self.old parts fair out.old result self.new out.new }
+        ensures from { GoesOnWithFrames (length out.old) fair (end_of self.old).streams (end_of self.new).streams }
         ensures conn { self.new.conn ≡ self.old.conn }
-        ensures limits { self.new.limits ≡ self.old.limits }
     {
         self.unsettled.reserve()?;
-        let mut draft = Draft {
-            bytes: Vec::new(self.alloc),
-            sent: SentPayload {
-                streams: StreamMetaVec::new(self.alloc),
-                control: ThinRetransmits::new(self.alloc),
-            },
-        };
+        let memory = mem::replace(&mut self.bytes, Vec::new(self.alloc));
+        let mut draft = Draft::new(self.alloc, memory);
         let answer = self.write_parts(&mut draft, out.len(), parts, fair);
         if draft.bytes.is_empty() {
+            self.bytes = draft.bytes;
             answer?;
             return Ok(None);
         }
-        let len = draft.bytes.len().min(out.len());
-        out[..len].copy_from_slice(&draft.bytes[..len]);
-        let ends = len == out.len() && !draft.sent.streams.is_empty();
-        let token = self.unsettled.keep(draft.sent);
-        Ok(Some(Emitted { len, token, ends }))
+        Ok(Some(self.put_out(draft, out)))
+    }
+
+    // A payload is copied out, and what is to be reported of it is kept under the next token.
+    fn put_out(&mut self, draft: Draft, out: &mut [u8]) -> Emitted
+        requires { 0 < places self.old.unsettled }
+        ensures puts { IsPutOut (payload_of draft) (length out.old) out.old result out.new }
+        ensures keeps { KeepsNew (unsettled self.old.unsettled) self.old.unsettled.next draft.sent result.token (unsettled self.new.unsettled) self.new.unsettled.next }
+        ensures end { end_of self.new ≡ end_of self.old }
+        ensures conn { self.new.conn ≡ self.old.conn }
+        ensures datagrams { datagrams_of self.new ≡ datagrams_of self.old }
+    {
+        let Draft { bytes, sent } = draft;
+        let len = bytes.len().min(out.len());
+        out[..len].copy_from_slice(&bytes[..len]);
+        self.bytes = bytes;
+        let ends = len == out.len() && !sent.streams.is_empty();
+        let token = self.unsettled.keep(sent);
+        Emitted { len, token, ends }
     }
 
     // Writes the parts one after another.
@@ -83,43 +114,86 @@ impl Session {
         parts: Parts,
         fair: bool,
     ) -> Result<(), OutOfMemory>
+        ensures writes { WritesParts max_size parts fair (writing_of self.old draft.old) result (writing_of self.new draft.new) }
         ensures payloads { self.new.unsettled ≡ self.old.unsettled }
         ensures conn { self.new.conn ≡ self.old.conn }
-        ensures limits { self.new.limits ≡ self.old.limits }
     {
-        if parts.control {
-            let mut counters = FrameStats::new();
-            self.streams.write_control_frames(
-                &mut draft.bytes,
-                &mut self.pending,
-                &mut draft.sent.control,
-                &mut counters,
-                max_size,
-            )?;
-        }
-        if parts.datagrams {
-            self.write_datagrams(&mut draft.bytes, max_size)?;
-        }
-        if parts.streams {
-            self.streams
-                .write_stream_frames(&mut draft.bytes, &mut draft.sent.streams, max_size, fair)?;
-        }
-        Ok(())
+        self.write_control(draft, max_size, parts.control)?;
+        self.write_datagrams(draft, max_size, parts.datagrams)?;
+        self.write_streams(draft, max_size, fair, parts.streams)
     }
 
-    // Writes the datagrams that fit.
-    fn write_datagrams(&mut self, bytes: &mut Vec<u8>, max_size: usize) -> Result<(), OutOfMemory>
+    // Writes the frames beside data, if they were asked for.
+    fn write_control(
+        &mut self,
+        draft: &mut Draft,
+        max_size: usize,
+        asked: bool,
+    ) -> Result<(), OutOfMemory>
+        ensures writes { IfAsked asked (WritesControl max_size) (writing_of self.old draft.old) result (writing_of self.new draft.new) }
+        ensures beside { beside_of self.new ≡ beside_of self.old }
+    {
+        if !asked {
+            return Ok(());
+        }
+        let mut counters = FrameStats::new();
+        self.streams.write_control_frames(
+            &mut draft.bytes,
+            &mut self.pending,
+            &mut draft.sent.control,
+            &mut counters,
+            max_size,
+        )
+    }
+
+    // Writes the datagrams that fit, if they were asked for.
+    fn write_datagrams(
+        &mut self,
+        draft: &mut Draft,
+        max_size: usize,
+        asked: bool,
+    ) -> Result<(), OutOfMemory>
+        ensures writes { IfAsked asked (WritesDatagrams max_size) (writing_of self.old draft.old) result (writing_of self.new draft.new) }
+        ensures payloads { self.new.unsettled ≡ self.old.unsettled }
+        ensures conn { self.new.conn ≡ self.old.conn }
+    {
+        if !asked {
+            return Ok(());
+        }
+        let (sent, answer) = write_waiting(&mut self.datagrams, &mut draft.bytes, max_size);
+        self.tell_room_if(sent);
+        answer
+    }
+
+    // A blocked sender is to be told that there is room, if datagrams were written.
+    fn tell_room_if(&mut self, sent: bool)
+        ensures told { datagrams_of self.new ≡ with_sent (datagrams_of self.old) sent self.old.datagrams.outgoing }
         ensures end { end_of self.new ≡ end_of self.old }
         ensures payloads { self.new.unsettled ≡ self.old.unsettled }
         ensures conn { self.new.conn ≡ self.old.conn }
-        ensures limits { self.new.limits ≡ self.old.limits }
     {
-        let (sent, answer) = write_waiting(&mut self.datagrams, bytes, max_size);
         if sent && self.datagrams.send_blocked {
             self.datagrams.send_blocked = false;
             self.told_room = false;
         }
-        answer
+    }
+
+    // Writes data of streams, if they were asked for.
+    fn write_streams(
+        &mut self,
+        draft: &mut Draft,
+        max_size: usize,
+        fair: bool,
+        asked: bool,
+    ) -> Result<(), OutOfMemory>
+        ensures writes { IfAsked asked (WritesStreams max_size fair) (writing_of self.old draft.old) result (writing_of self.new draft.new) }
+        ensures beside { beside_of self.new ≡ beside_of self.old }
+    {
+        if !asked {
+            return Ok(());
+        }
+        self.streams
+            .write_stream_frames(&mut draft.bytes, &mut draft.sent.streams, max_size, fair)
     }
 }
 
@@ -128,12 +202,17 @@ fn write_waiting(
     datagrams: &mut DatagramState,
     bytes: &mut Vec<u8>,
     max_size: usize,
-) -> (bool, Result<(), OutOfMemory>) {
+) -> (bool, Result<(), OutOfMemory>)
+    ensures sends { SendsOldest max_size datagrams.old.outgoing bytes.old.items result.0 datagrams.new.outgoing bytes.new.items }
+    ensures full { OnOk result.1 (AreSent max_size datagrams.new.outgoing bytes.new.items) }
+    ensures refused { OnErr result.1 (length bytes.new.items + 9 < max_size) }
+    ensures same { datagrams.new ≡ record datagrams.old { outgoing = datagrams.new.outgoing } }
+{
     let mut sent = false;
     'waiting: while bytes.len() < max_size && max_size - bytes.len() > Datagram::SIZE_BOUND {
         match datagrams.write(bytes, max_size) {
             Ok(true) => sent = true,
-            Ok(false) => break,
+            Ok(false) => return (sent, Ok(())),
             Err(error) => return (sent, Err(error)),
         }
     }

@@ -1,10 +1,12 @@
 //! Frames and payloads of the peer that come to a session.
 
-ghost use Rattle.std.specs.Prelude.{List, ◌≡◌, ◌≤◌, ◌∷◌, OnOk, OnErr};
+ghost use Rattle.std.specs.Prelude.{List, ◌≡◌, ◌≤◌, ◌∷◌, ◌&&◌, not, max, All};
+ghost use Rattle.quic_wire.specs.Frames.{IsFrameWithin};
 ghost use Rattle.quic_history.specs.World.{Made};
 ghost use Rattle.quic_history.specs.History.{Event, From};
-ghost use Rattle.quic_endpoint.specs.Receiving.{data_length, event_of, with_call_made, MakesCall, MayAnswer, with_answer_told, ReceivesAt};
-ghost use Rattle.quic_session.specs.Sessions.{end_of, datagrams_of};
+ghost use Rattle.quic_endpoint.specs.Receiving.{data_length, event_of, with_call_made, MakesCall, MayAnswer, with_answer_told, ReceivesAt, AccountsFrame};
+ghost use Rattle.quic_session.specs.Sessions.{end_of, datagrams_of, beside_of};
+ghost use Rattle.quic_session.specs.Receiving.{KeepsDatagram, ReceivesFrame, ReceivesOnly, ReceivesPayload, ReceivesFrames, ReceivesFrom, payload_answer};
 
 use crate::session::Session;
 use quic_receiving::ShouldTransmit;
@@ -39,7 +41,10 @@ pub struct Received {
 impl Session {
     /// Takes a whole payload (RFC 9000 section 12.4), from the frame at place `first` on, until one is refused. Where
     /// memory was wanting, the call can be made again from the frame that was refused.
-    pub fn receive(&mut self, payload: &[u8], first: usize) -> Received {
+    pub fn receive(&mut self, payload: &[u8], first: usize) -> Received
+        ensures receives { ReceivesPayload self.old payload.now first result self.new }
+        ensures others { ReceivesOnly self.old self.new }
+    {
         let Ok(bytes) = Vec::from_slice(self.alloc, payload) else {
             return Received {
                 next: first,
@@ -60,29 +65,18 @@ impl Session {
     }
 
     // Takes the frames of a payload, from a place on.
-    fn receive_frames(&mut self, frames: Vec<Frame>, payload_len: usize, first: usize) -> Received {
+    fn receive_frames(&mut self, frames: Vec<Frame>, payload_len: usize, first: usize) -> Received
+        requires { All (IsFrameWithin payload_len) frames.items }
+        ensures receives { ReceivesFrames payload_len first frames.items self.old result self.new }
+        ensures others { ReceivesOnly self.old self.new }
+    {
         let mut next: usize = 0;
         for frame in frames {
-            if next < first {
-                next = next.saturating_add(1);
-                continue;
-            }
-            if let Err(error) = self.receive_frame_within(frame, payload_len) {
-                match error {
-                    ReceiveError::Transport(error) => {
-                        return Received {
-                            next,
-                            answer: Err(PayloadError::Transport(error)),
-                        };
-                    }
-                    ReceiveError::OutOfMemory => {
-                        return Received {
-                            next,
-                            answer: Err(PayloadError::OutOfMemory),
-                        };
-                    }
-                    ReceiveError::CompactionMemory => {}
-                }
+            if let Err(error) = self.receive_from(next, first, frame, payload_len) {
+                return Received {
+                    next,
+                    answer: Err(error),
+                };
             }
             next = next.saturating_add(1);
         }
@@ -92,12 +86,34 @@ impl Session {
         }
     }
 
+    // Takes the frame at a place, where those below another are passed over.
+    fn receive_from(
+        &mut self,
+        at: usize,
+        first: usize,
+        frame: Frame,
+        payload_len: usize,
+    ) -> Result<(), PayloadError>
+        requires { data_length frame ≤ payload_len }
+        ensures receives { ReceivesFrom at first self.old frame payload_len result self.new }
+        ensures others { ReceivesOnly self.old self.new }
+    {
+        if at < first {
+            return Ok(());
+        }
+        payload_answer(&self.receive_frame(frame, payload_len))
+    }
+
     /// The same as [`Session::receive_frame`], for any length: one below that of the data counts as that of the data.
     pub fn receive_frame_within(
         &mut self,
         frame: Frame,
         payload_len: usize,
-    ) -> Result<ShouldTransmit, ReceiveError> {
+    ) -> Result<ShouldTransmit, ReceiveError>
+        ensures receives { ReceivesFrame self.old frame (max payload_len (data_length frame)) result self.new }
+        ensures from { (m : Made) (h : List Event) → From m h (end_of self.old).streams → From m (with_call_made (event_of frame result) h) (end_of self.new).streams }
+        ensures others { ReceivesOnly self.old self.new }
+    {
         let length = payload_len.max(data_length(&frame));
         self.receive_frame(frame, length)
     }
@@ -111,6 +127,9 @@ impl Session {
         payload_len: usize,
     ) -> Result<ShouldTransmit, ReceiveError>
         requires { data_length frame ≤ payload_len }
+        ensures receives { ReceivesFrame self.old frame payload_len result self.new }
+        ensures from { (m : Made) (h : List Event) → From m h (end_of self.old).streams → From m (with_call_made (event_of frame result) h) (end_of self.new).streams }
+        ensures others { ReceivesOnly self.old self.new }
     {
         match frame {
             Frame::Datagram(datagram) => self.receive_datagram(datagram),
@@ -120,14 +139,24 @@ impl Session {
 
     // Takes a datagram (RFC 9221 section 4).
     fn receive_datagram(&mut self, datagram: Datagram) -> Result<ShouldTransmit, ReceiveError>
+        ensures keeps { KeepsDatagram (datagrams_of self.old) datagram result (datagrams_of self.new) }
         ensures end { end_of self.new ≡ end_of self.old }
-        ensures conn { self.new.conn ≡ self.old.conn }
+        ensures others { ReceivesOnly self.old self.new }
     {
         let was_empty = self.datagrams.received(datagram, &self.limits.receive)?;
+        self.tell_received_if(was_empty);
+        Ok(ShouldTransmit(false))
+    }
+
+    // That a datagram came is to be told, if none waited.
+    fn tell_received_if(&mut self, was_empty: bool)
+        ensures told { datagrams_of self.new ≡ record (datagrams_of self.old) { told_received = self.old.told_received && not was_empty } }
+        ensures end { end_of self.new ≡ end_of self.old }
+        ensures others { ReceivesOnly self.old self.new }
+    {
         if was_empty {
             self.told_received = false;
         }
-        Ok(ShouldTransmit(false))
     }
 
     // Takes a frame that is no datagram.
@@ -138,9 +167,9 @@ impl Session {
     ) -> Result<ShouldTransmit, ReceiveError>
         requires { data_length frame ≤ payload_len }
         ensures receives { ReceivesAt (end_of self.old) frame result (end_of self.new) }
+        ensures accounts { AccountsFrame (end_of self.old).streams frame payload_len result (end_of self.new).streams }
         ensures from { (m : Made) (h : List Event) → From m h (end_of self.old).streams → From m (with_call_made (event_of frame result) h) (end_of self.new).streams }
-        ensures conn { self.new.conn ≡ self.old.conn }
-        ensures datagrams { datagrams_of self.new ≡ datagrams_of self.old }
+        ensures beside { beside_of self.new ≡ beside_of self.old }
     {
         let answer = self.take_frame(frame, payload_len);
         self.tell_answer(&answer);
@@ -154,11 +183,11 @@ impl Session {
         payload_len: usize,
     ) -> Result<ShouldTransmit, ReceiveError>
         requires { data_length frame ≤ payload_len }
+        ensures accounts { AccountsFrame (end_of self.old).streams frame payload_len result (end_of self.new).streams }
         ensures call { MakesCall (end_of self.old).streams (event_of frame result) (end_of self.new).streams }
         ensures pending { (end_of self.new).pending ≡ (end_of self.old).pending }
         ensures may { MayAnswer frame result }
-        ensures conn { self.new.conn ≡ self.old.conn }
-        ensures datagrams { datagrams_of self.new ≡ datagrams_of self.old }
+        ensures beside { beside_of self.new ≡ beside_of self.old }
     {
         match frame {
             Frame::Stream(frame) => self.streams.received(frame, payload_len),
@@ -185,8 +214,7 @@ impl Session {
         ensures call { MakesCall (end_of self.old).streams (event_of (Frame.StopSending frame.now) result) (end_of self.new).streams }
         ensures pending { (end_of self.new).pending ≡ (end_of self.old).pending }
         ensures may { MayAnswer (Frame.StopSending frame.now) result }
-        ensures conn { self.new.conn ≡ self.old.conn }
-        ensures datagrams { datagrams_of self.new ≡ datagrams_of self.old }
+        ensures beside { beside_of self.new ≡ beside_of self.old }
     {
         match self
             .streams
@@ -200,8 +228,7 @@ impl Session {
     // What an answer asks for is queued.
     fn tell_answer(&mut self, answer: &Result<ShouldTransmit, ReceiveError>)
         ensures told { end_of self.new ≡ with_answer_told answer.now (end_of self.old) }
-        ensures conn { self.new.conn ≡ self.old.conn }
-        ensures datagrams { datagrams_of self.new ≡ datagrams_of self.old }
+        ensures beside { beside_of self.new ≡ beside_of self.old }
     {
         match answer {
             Err(ReceiveError::OutOfMemory) => {}
@@ -221,5 +248,17 @@ fn data_length(frame: &Frame) -> usize
     match frame {
         Frame::Stream(stream) => stream.bytes.len(),
         _ => 0,
+    }
+}
+
+// The answer for the payload. Where memory was wanting to put pieces together, the frame was taken.
+fn payload_answer(answer: &Result<ShouldTransmit, ReceiveError>) -> Result<(), PayloadError>
+    ensures { result ≡ payload_answer answer.now }
+{
+    match answer {
+        Ok(_) => Ok(()),
+        Err(ReceiveError::Transport(error)) => Err(PayloadError::Transport(*error)),
+        Err(ReceiveError::OutOfMemory) => Err(PayloadError::OutOfMemory),
+        Err(ReceiveError::CompactionMemory) => Ok(()),
     }
 }

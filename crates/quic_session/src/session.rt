@@ -1,6 +1,6 @@
 //! A session, and what its host sets.
 
-ghost use Rattle.std.specs.Prelude.{ℕ, List, ◌∷◌, [], ◌≡◌, ◌≤◌, ◌^◌, IfOk, None, nat_lt};
+ghost use Rattle.std.specs.Prelude.{ℕ, List, ◌∷◌, [], ◌≡◌, ◌≤◌, ◌^◌, IfOk, None, not, nat_lt};
 ghost use Rattle.quic_history.specs.World.{Made, made_with, start};
 ghost use Rattle.quic_history.specs.History.{Event, Sending, Resized, SetConcurrent, From};
 ghost use Rattle.quic_history.specs.SendEvents.{GaveLimits, SetWindow, Polled};
@@ -10,9 +10,13 @@ ghost use Rattle.quic_outgoing.specs.Outgoing.{with_params};
 ghost use Rattle.quic_retransmits.specs.Pending.{nothing};
 ghost use Rattle.quic_streams.specs.Shown.{shown};
 ghost use Rattle.quic_endpoint.specs.Ends.{with_world, with_counts_told_if, with_window_set, SetsConcurrentAt};
-ghost use Rattle.quic_session.specs.Sessions.{end_of, datagrams_of};
+ghost use Rattle.quic_limits.specs.Remote.{open_now};
+ghost use Rattle.quic_streams.specs.Waiting.{TellsEmpty};
+ghost use Rattle.quic_session.specs.Sessions.{end_of, beside_of, datagrams_of, no_datagrams};
+ghost use Rattle.quic_session.specs.Tokens.{unsettled};
 
 use crate::unsettled::Unsettled;
+use quic_assembler::Chunk;
 use quic_datagrams::{DatagramLimits, DatagramState};
 use quic_streams::state::StreamsState;
 use quic_streams::streams::{ConnState, Streams};
@@ -53,6 +57,9 @@ pub struct Session {
     pub(crate) told_received: bool,
     pub(crate) told_room: bool,
     pub(crate) unsettled: Unsettled,
+    // The memory of the last payload and of the last read, which is used again.
+    pub(crate) bytes: Vec<u8>,
+    pub(crate) chunks: Vec<Chunk>,
     pub(crate) alloc: Global,
 }
 
@@ -65,8 +72,9 @@ impl Session {
         ensures start { IfOk result (λ s. end_of s ≡ record { streams = start (made_with config.now.side config.now.max_remote_uni config.now.max_remote_bi config.now.send_window config.now.receive_window config.now.stream_window); pending = nothing }) }
         ensures from { IfOk result (λ s. From (made_with config.now.side config.now.max_remote_uni config.now.max_remote_bi config.now.send_window config.now.receive_window config.now.stream_window) [] (end_of s).streams) }
         ensures begun { IfOk result (λ s. s.conn ≡ ConnState.Open) }
-        ensures limits { IfOk result (λ s. s.limits ≡ config.now.datagrams) }
-        ensures waiting { IfOk result (λ s. s.waiting ≡ None) }
+        ensures datagrams { IfOk result (λ s. datagrams_of s ≡ no_datagrams config.now.datagrams) }
+        ensures payloads { IfOk result (λ s. unsettled s.unsettled ≡ (λ token. None)) }
+        ensures token { IfOk result (λ s. s.unsettled.next ≡ 1) }
     {
         let streams = StreamsState::new(
             alloc,
@@ -87,6 +95,8 @@ impl Session {
             told_received: true,
             told_room: true,
             unsettled: Unsettled::new(alloc),
+            bytes: Vec::new(alloc),
+            chunks: Vec::new(alloc),
             alloc,
         })
     }
@@ -95,8 +105,7 @@ impl Session {
     pub fn set_params(&mut self, params: &PeerLimits)
         ensures params { end_of self.new ≡ with_world (end_of self.old) (with_out (end_of self.old).streams (with_params (end_of self.old).streams.out params.now)) }
         ensures from { (m : Made) (h : List Event) → From m h (end_of self.old).streams → From m (Sending (GaveLimits params.now) ∷ h) (end_of self.new).streams }
-        ensures conn { self.new.conn ≡ self.old.conn }
-        ensures datagrams { datagrams_of self.new ≡ datagrams_of self.old }
+        ensures beside { beside_of self.new ≡ beside_of self.old }
     {
         self.streams.set_params(params);
     }
@@ -105,8 +114,7 @@ impl Session {
     pub fn set_send_window(&mut self, window: u64)
         ensures window { end_of self.new ≡ with_world (end_of self.old) (with_out (end_of self.old).streams (record (end_of self.old).streams.out { budget = with_window (end_of self.old).streams.out.budget window })) }
         ensures from { (m : Made) (h : List Event) → From m h (end_of self.old).streams → From m (Sending (SetWindow window) ∷ h) (end_of self.new).streams }
-        ensures conn { self.new.conn ≡ self.old.conn }
-        ensures datagrams { datagrams_of self.new ≡ datagrams_of self.old }
+        ensures beside { beside_of self.new ≡ beside_of self.old }
     {
         self.streams.set_send_window(window);
     }
@@ -117,8 +125,7 @@ impl Session {
         ensures window { end_of self.new ≡ with_window_set (end_of self.old) window result }
         ensures larger { result ≡ nat_lt (end_of self.old).streams.credit.receive_window window }
         ensures from { (m : Made) (h : List Event) → From m h (end_of self.old).streams → From m (Resized window result ∷ h) (end_of self.new).streams }
-        ensures conn { self.new.conn ≡ self.old.conn }
-        ensures datagrams { datagrams_of self.new ≡ datagrams_of self.old }
+        ensures beside { beside_of self.new ≡ beside_of self.old }
     {
         let larger = self.streams.set_receive_window(window);
         self.pending.queue_max_data(larger);
@@ -130,8 +137,7 @@ impl Session {
     pub fn set_max_concurrent(&mut self, dir: Dir, count: VarInt) -> Result<(), OutOfMemory>
         ensures sets { SetsConcurrentAt (end_of self.old) dir count result (end_of self.new) }
         ensures from { (m : Made) (h : List Event) → From m h (end_of self.old).streams → From m (SetConcurrent dir count result ∷ h) (end_of self.new).streams }
-        ensures conn { self.new.conn ≡ self.old.conn }
-        ensures datagrams { datagrams_of self.new ≡ datagrams_of self.old }
+        ensures beside { beside_of self.new ≡ beside_of self.old }
     {
         let answer = self.streams.set_max_concurrent(dir, count);
         self.tell_counts_if(answer.is_ok());
@@ -141,8 +147,7 @@ impl Session {
     /// The connection is closed: no stream is opened and nothing is written any more. What was received can be read.
     pub fn close(&mut self)
         ensures same { end_of self.new ≡ end_of self.old }
-        ensures conn { self.new.conn ≡ ConnState.Closed }
-        ensures datagrams { datagrams_of self.new ≡ datagrams_of self.old }
+        ensures beside { beside_of self.new ≡ record (beside_of self.old) { conn = ConnState.Closed } }
     {
         self.conn = ConnState::Closed;
     }
@@ -152,8 +157,7 @@ impl Session {
         ensures polls { TellsNext (end_of self.old).streams result (end_of self.new).streams }
         ensures pending { (end_of self.new).pending ≡ (end_of self.old).pending }
         ensures from { (m : Made) (h : List Event) → From m h (end_of self.old).streams → From m (Sending (Polled result) ∷ h) (end_of self.new).streams }
-        ensures conn { self.new.conn ≡ self.old.conn }
-        ensures datagrams { datagrams_of self.new ≡ datagrams_of self.old }
+        ensures beside { beside_of self.new ≡ beside_of self.old }
     {
         self.streams.poll()
     }
@@ -166,16 +170,20 @@ impl Session {
     }
 
     /// Whether something is to be sent beside data (RFC 9000 section 13.3).
-    pub fn has_pending(&self) -> bool {
+    pub fn has_pending(&self) -> bool
+        ensures { TellsEmpty (end_of self.now).streams (end_of self.now).pending (not result) }
+    {
         !self.pending.is_empty(&self.streams)
     }
 
     /// How many bidirectional and unidirectional streams the peer has open, and how many streams have a send half that is
     /// held.
     pub fn stream_counts(&mut self) -> (u64, u64, usize)
+        ensures bi { result.0 ≡ open_now (end_of self.old).streams.bi }
+        ensures uni { result.1 ≡ open_now (end_of self.old).streams.uni }
+        ensures send { result.2 ≡ (end_of self.old).streams.send_streams }
         ensures same { end_of self.new ≡ end_of self.old }
-        ensures conn { self.new.conn ≡ self.old.conn }
-        ensures datagrams { datagrams_of self.new ≡ datagrams_of self.old }
+        ensures beside { beside_of self.new ≡ beside_of self.old }
     {
         let streams = Streams::new(&mut self.streams, self.conn);
         let (bi, uni) = (Dir::Bi, Dir::Uni);
@@ -189,9 +197,7 @@ impl Session {
     // MAX_STREAMS is queued where it is due, if a call was not refused for want of memory.
     pub(crate) fn tell_counts_if(&mut self, handled: bool)
         ensures told { end_of self.new ≡ with_counts_told_if handled (end_of self.old) }
-        ensures payloads { self.new.unsettled ≡ self.old.unsettled }
-        ensures conn { self.new.conn ≡ self.old.conn }
-        ensures datagrams { datagrams_of self.new ≡ datagrams_of self.old }
+        ensures beside { beside_of self.new ≡ beside_of self.old }
     {
         if handled {
             let _ = self.streams.queue_max_stream_id(&mut self.pending);

@@ -1,14 +1,15 @@
 //! What becomes of the payloads that a session sent.
 
-ghost use Rattle.std.specs.Prelude.{List, ◌∷◌, ◌≡◌, ◌<◌, OnOk, OnErr, IsSome, None};
+ghost use Rattle.std.specs.Prelude.{List, ◌∷◌, ◌≡◌, ◌<◌, OnErr, Some, None};
 ghost use Rattle.quic_values.specs.declared.ids.Side.TheVariants.{Client};
 ghost use Rattle.quic_outgoing.specs.Early.{NoneAcked};
 ghost use Rattle.quic_retransmits.specs.Pending.{nothing};
 ghost use Rattle.quic_history.specs.World.{Made};
 ghost use Rattle.quic_history.specs.Early.{IsEarly, with_rejection, SendsAgain};
 ghost use Rattle.quic_history.specs.History.{Event, Rejected, SentAgain, IsUnanswered, From};
-ghost use Rattle.quic_session.specs.Sessions.{end_of, datagrams_of};
-ghost use Rattle.quic_session.specs.Tokens.{unsettled, with_payload, places};
+ghost use Rattle.quic_session.specs.Sessions.{end_of, beside_of};
+ghost use Rattle.quic_session.specs.Settling.{AcksToken, LosesToken, SettlesOnly};
+ghost use Rattle.quic_session.specs.Tokens.{unsettled, with_payload, places, payload_count, IsUsed};
 
 use crate::session::Session;
 use quic_streams::{Retransmits, SentPayload};
@@ -30,10 +31,8 @@ pub enum SettleError {
 impl Session {
     /// A payload was acknowledged (RFC 9000 section 13.3).
     pub fn acked(&mut self, token: u64) -> Result<(), SettleError>
-        ensures settled { OnOk result (unsettled self.new.unsettled ≡ with_payload (unsettled self.old.unsettled) token None) }
-        ensures known { OnOk result (IsSome (unsettled self.old.unsettled token)) }
-        ensures conn { self.new.conn ≡ self.old.conn }
-        ensures datagrams { datagrams_of self.new ≡ datagrams_of self.old }
+        ensures acks { AcksToken self.old token result self.new }
+        ensures others { SettlesOnly self.old self.new }
     {
         if self.unsettled.reserve().is_err() {
             return Err(SettleError::OutOfMemory);
@@ -52,10 +51,8 @@ impl Session {
 
     /// A payload was lost (RFC 9000 section 13.3).
     pub fn lost(&mut self, token: u64) -> Result<(), SettleError>
-        ensures settled { OnOk result (unsettled self.new.unsettled ≡ with_payload (unsettled self.old.unsettled) token None) }
-        ensures known { OnOk result (IsSome (unsettled self.old.unsettled token)) }
-        ensures conn { self.new.conn ≡ self.old.conn }
-        ensures datagrams { datagrams_of self.new ≡ datagrams_of self.old }
+        ensures loses { LosesToken self.old token result self.new }
+        ensures others { SettlesOnly self.old self.new }
     {
         if self.unsettled.reserve().is_err() {
             return Err(SettleError::OutOfMemory);
@@ -71,16 +68,21 @@ impl Session {
 
     // What was not reported of a payload stands under its token again.
     fn put_rest_back(&mut self, token: u64, rest: SentPayload) -> SettleError
-        requires { 0 < places self.old.unsettled }
-        ensures conn { self.new.conn ≡ self.old.conn }
-        ensures datagrams { datagrams_of self.new ≡ datagrams_of self.old }
+        requires room { 0 < places self.old.unsettled }
+        requires used { IsUsed self.old.unsettled.next token }
+        ensures error { result ≡ SettleError.OutOfMemory }
+        ensures kept { unsettled self.new.unsettled ≡ with_payload (unsettled self.old.unsettled) token (Some rest) }
+        ensures end { end_of self.new ≡ end_of self.old }
+        ensures others { SettlesOnly self.old self.new }
     {
         self.unsettled.put_back(token, rest);
         SettleError::OutOfMemory
     }
 
     /// How many payloads are not settled.
-    pub fn unsettled_payloads(&self) -> usize {
+    pub fn unsettled_payloads(&self) -> usize
+        ensures { result ≡ payload_count self.now.unsettled }
+    {
         self.unsettled.len()
     }
 
@@ -90,8 +92,7 @@ impl Session {
         ensures from { (m : Made) (h : List Event) → IsEarly (end_of self.old).streams → From m h (end_of self.old).streams → From m (Rejected ∷ h) (end_of self.new).streams }
         ensures unanswered { (m : Made) (h : List Event) → m.side ≡ Client → IsUnanswered h → From m h (end_of self.old).streams → From m (Rejected ∷ h) (end_of self.new).streams }
         ensures payloads { unsettled self.new.unsettled ≡ (λ token. None) }
-        ensures conn { self.new.conn ≡ self.old.conn }
-        ensures datagrams { datagrams_of self.new ≡ datagrams_of self.old }
+        ensures others { SettlesOnly self.old self.new }
     {
         self.streams.zero_rtt_rejected();
         self.pending = Retransmits::new(self.alloc);
@@ -105,8 +106,7 @@ impl Session {
         ensures pending { (end_of self.new).pending ≡ (end_of self.old).pending }
         ensures unanswered { (m : Made) (h : List Event) → IsUnanswered h → From m h (end_of self.old).streams
             → SendsAgain (end_of self.old).streams result (end_of self.new).streams × From m (SentAgain result ∷ h) (end_of self.new).streams }
-        ensures conn { self.new.conn ≡ self.old.conn }
-        ensures datagrams { datagrams_of self.new ≡ datagrams_of self.old }
+        ensures beside { beside_of self.new ≡ beside_of self.old }
     {
         self.streams.retransmit_all_for_0rtt()
     }
