@@ -321,9 +321,9 @@ int main(int argc, char **argv) {
   }
   memcpy(src + LIMIT, src, SEGMENT);
   size_t size = (size_t)strtoull(argv[2], NULL, 10);
-  uint64_t number = argv[1][0] == 'g'   ? streambench_case_g(size, src, sizeof src, NULL, 0)
-                    : argv[1][0] == 'h' ? streambench_case_h(size, src, sizeof src, NULL, 0)
-                                        : streambench_case_i(size, src, sizeof src, NULL, 0);
+  uint64_t (*volatile run)(size_t, const uint8_t *, size_t, const uint32_t *, size_t) =
+      argv[1][0] == 'g' ? streambench_case_g : argv[1][0] == 'h' ? streambench_case_h : streambench_case_i;
+  uint64_t number = run(size, src, sizeof src, NULL, 0);
   printf("%s %zu %" PRIu64 "\n", argv[1], size, number);
   return number == REFUSED;
 }

@@ -62,12 +62,28 @@ pub parts-on : {most : ℕ} {parts : Parts} {fair : Bool} {a : Writing} {r : Ans
 parts-on {most} {parts} {fair} {a} {r} {d} (whole b c x y z) =
     let s = control-on parts.control most a (Ok tt) b x in
     let t = streams-on parts.streams most fair c r d z in
-    record { entries = s.0; turns = t.0; from = λ m h f. let P : World → Type 0 = λ w. From m (with_entries s.0 h) w in
-      t.1 m (with_entries s.0 h) (subst P (sym (datagrams-end parts.datagrams most b (Ok tt) c y)) (s.1 m h f)) }
+    record {
+      entries = s.0;
+      turns = t.0;
+      from = λ m h f. let P : World → Type 0 = λ w. From m (with_entries s.0 h) w in
+          t.1 m (with_entries s.0 h) (subst P (sym (datagrams-end parts.datagrams most b (Ok tt) c y)) (s.1 m h f));
+    }
 parts-on {most} {parts} {fair} {a} {r} {d} (no_datagrams b x y) =
     let s = control-on parts.control most a (Ok tt) b x in
-    record { entries = s.0; turns = []; from = λ m h f. let P : World → Type 0 = λ w. From m (with_entries s.0 h) w in
-      subst P (sym (datagrams-end parts.datagrams most b r d y)) (s.1 m h f) }
+    record {
+      entries = s.0;
+      turns = [];
+      from = λ m h f. let P : World → Type 0 = λ w. From m (with_entries s.0 h) w in
+          subst P (sym (datagrams-end parts.datagrams most b r d y)) (s.1 m h f);
+    }
 parts-on {most} {parts} {fair} {a} {r} {d} (control_alone x) =
     let s = control-on parts.control most a r d x in
     record { entries = s.0; turns = []; from = s.1 }
+
+-- nothing was written
+pub no-frames : (most : ℕ) (fair : Bool) (w : World) → GoesOnWithFrames most fair w w
+no-frames most fair w = record { entries = []; turns = []; from = λ m h f. f }
+
+-- the end is as it was left
+pub frames-left : {most : ℕ} {fair : Bool} {u v w : World} → w ≡ v → GoesOnWithFrames most fair u v → GoesOnWithFrames most fair u w
+frames-left {most} {fair} {u} {v} {w} e g = let P : World → Type 0 = λ x. GoesOnWithFrames most fair u x in subst P (sym e) g

@@ -1,8 +1,9 @@
 -- Frames of a payload that were taken from a place on.
-use Rattle.std.proofs.Common.{◌≡◌, ℕ, ◌+◌, ◌-◌, ◌<◌, ◌≤◌, ◌⊎◌, inl, inr, List, [], ◌∷◌, ◌++◌, length, drop, Result, Ok, Err, refl, sym, ap, ◌∙◌, subst, arith, rules}
+use Rattle.std.proofs.Common.{◌≡◌, ℕ, ◌+◌, ◌-◌, ◌<◌, ◌≤◌, ◌⊎◌, inl, inr, Bool, true, false, List, [], ◌∷◌, ◌++◌, length, drop, take, get_or, suc, drop-cons, Result, Ok, Err, refl, sym, ap, ◌∙◌, subst, arith, rules}
 use Rattle.std.specs.Prelude.{map}
 use Rattle.std.proofs.Math.ListN.{drop_of_length-le}
-use Rattle.std.proofs.lemmas.List.{drop-append-le, map-append, length-map, length-drop, length_push}
+use Rattle.std.proofs.lemmas.List.{drop-append-le, map-append, length-map, length-drop, length_push, take-append-drop}
+use Rattle.std.proofs.lemmas.Bool.{false≢true}
 use Rattle.quic_wire.specs.declared.frame.Frame.{Frame}
 use Rattle.quic_session.specs.declared.session.Session.{Session}
 use Rattle.quic_session.specs.declared.receiving.Received.{Received}
@@ -26,12 +27,12 @@ drop-below first seen f h =
     let longer = length_push seen f in
     drop_of_length-le (seen ++ f ∷ []) (omega (arith, longer)) ∙ sym (drop_of_length-le seen (omega arith))
 
-pub past-step : (size first : ℕ) (s : Session) (seen : List Frame) (t : Session) (f : Frame) (u : Session)
+past-one : (size first : ℕ) (s : Session) (seen : List Frame) (t : Session) (f : Frame) (u : Session)
     → Past size first s seen t → ReceivesFrom (length seen) first t f size (Ok tt) u → Past size first s (seen ++ f ∷ []) u
-past-step size first s seen t f u p (inl o) =
+past-one size first s seen t f u p (inl o) =
     let P : Session → Type 0 = λ x. TakesFrames size s p.calls x in
     record { calls = p.calls; frames = drop-below first seen f o.below ∙ p.frames; takes = subst P (sym o.same) p.takes }
-past-step size first s seen t f u p (inr o) =
+past-one size first s seen t f u p (inr o) =
     let call : FrameCall = record { frame = f; answer = o.answer } in
     record {
       calls = p.calls ++ call ∷ [];
@@ -39,20 +40,31 @@ past-step size first s seen t f u p (inr o) =
       takes = more p.takes call o.receives (sym o.answers);
     }
 
+pub past-step : (size first : ℕ) (s : Session) (seen : List Frame) (t : Session) (f : Frame) (u : Session) (at : ℕ) (r : Result (Unit {0}) PayloadError)
+    → Past size first s seen t → at ≡ length seen → ((e : PayloadError) → r ≡ Err e → ⊥) → ReceivesFrom at first t f size r u → Past size first s (seen ++ f ∷ []) u
+past-step size first s seen t f u at (Ok x) p here fine o = let P : ℕ → Type 0 = λ n. ReceivesFrom n first t f size (Ok tt) u in past-one size first s seen t f u p (subst P here o)
+past-step size first s seen t f u at (Err e) p here fine o = absurd (fine e refl)
+
 -- how many were taken
 past-count : (size first : ℕ) (s : Session) (seen : List Frame) (t : Session) (p : Past size first s seen t) → first ≤ length seen → length seen ≡ first + length p.calls
 past-count size first s seen t p h = omega (arith, ap length p.frames, length-map p.calls frame_of, length-drop first seen)
 
-pub past-all : (size first : ℕ) (s : Session) (seen : List Frame) (t : Session) → Past size first s seen t → TakesAll size first seen s (record { next = length seen; answer = Ok tt }) t
-past-all size first s seen t p = record { calls = p.calls; frames = p.frames; takes = p.takes; next = refl; answer = refl }
+pub past-all : (size first : ℕ) (s : Session) (seen : List Frame) (t : Session) (at : ℕ) → Past size first s seen t → at ≡ length seen → TakesAll size first seen s (record { next = at; answer = Ok tt }) t
+past-all size first s seen t at p here = record { calls = p.calls; frames = p.frames; takes = p.takes; next = here; answer = refl }
 
-no-error : {e : PayloadError} → Err {A = Unit {0}} e ≡ Ok tt → ⊥
-no-error h = elim h [ ]
+-- whether an answer is a refusal
+is_error : Result (Unit {0}) PayloadError → Bool
+is_error (Ok x) = false
+is_error (Err e) = true
 
-pub past-refused : (size first : ℕ) (s : Session) (seen : List Frame) (t : Session) (f : Frame) (rest : List Frame) (e : PayloadError) (u : Session)
+no-error : (e : PayloadError) → ◌≡◌ {A = Result (Unit {0}) PayloadError} (Err e) (Ok tt) → ⊥
+unfolding is_error
+no-error e h = false≢true (sym (ap is_error h))
+
+past-stopped : (size first : ℕ) (s : Session) (seen : List Frame) (t : Session) (f : Frame) (rest : List Frame) (e : PayloadError) (u : Session)
     → Past size first s seen t → ReceivesFrom (length seen) first t f size (Err e) u → StopsAtRefused size first (seen ++ f ∷ rest) s (record { next = length seen; answer = Err e }) u
-past-refused size first s seen t f rest e u p (inl o) = absurd (no-error o.done)
-past-refused size first s seen t f rest e u p (inr o) = record {
+past-stopped size first s seen t f rest e u p (inl o) = absurd (no-error e o.done)
+past-stopped size first s seen t f rest e u p (inr o) = record {
   calls = p.calls;
   between = t;
   takes = p.takes;
@@ -65,3 +77,19 @@ past-refused size first s seen t f rest e u p (inr o) = record {
   answer = refl;
   next = past-count size first s seen t p o.above;
 }
+
+-- a list that was gone through up to an element
+parted : (all seen : List Frame) (f : Frame) → seen ≡ take (length seen) all → length seen < length all → f ≡ get_or all (length seen) f → all ≡ seen ++ f ∷ drop (suc (length seen)) all
+parted all seen f front within here =
+    sym (take-append-drop (length seen) all) ∙ ap (λ l. l ++ drop (length seen) all) (sym front)
+    ∙ ap (λ l. seen ++ l) (drop-cons all (length seen) f within ∙ ap (λ x. x ∷ drop (suc (length seen)) all) (sym here))
+
+pub past-refused : (size first : ℕ) (s : Session) (all seen : List Frame) (t : Session) (f : Frame) (e : PayloadError) (u : Session) (at : ℕ)
+    → Past size first s seen t → at ≡ length seen → seen ≡ take (length seen) all → (length seen < length all) × (f ≡ get_or all (length seen) f) → ReceivesFrom at first t f size (Err e) u
+    → StopsAtRefused size first all s (record { next = at; answer = Err e }) u
+past-refused size first s all seen t f e u at p here front turn o =
+    let P : ℕ → Type 0 = λ n. ReceivesFrom n first t f size (Err e) u in
+    let rest = drop (suc (length seen)) all in
+    let Q : ℕ → Type 0 = λ n. StopsAtRefused size first (seen ++ f ∷ rest) s (record { next = n; answer = Err e }) u in
+    let R : List Frame → Type 0 = λ l. StopsAtRefused size first l s (record { next = at; answer = Err e }) u in
+    subst R (sym (parted all seen f front turn.0 turn.1)) (subst Q (sym here) (past-stopped size first s seen t f rest e u p (subst P here o)))

@@ -26,10 +26,10 @@ LAST = 2 ^ 64 - 1
 
 -- a payload is kept under the next token. It is a new one, unless it is the last that there is
 pub record KeepsNew (f : ℕ → Option SentPayload) (next : ℕ) (sent : SentPayload) (token : ℕ) (g : ℕ → Option SentPayload) (after : ℕ) : Type 0 where
-  pub token : token ≡ next
+  pub is_next : token ≡ next
   pub new : next < LAST → f token ≡ None
   pub kept : g ≡ with_payload f token (Some sent)
-  pub next : after ≡ min (next + 1) LAST
+  pub rises : after ≡ min (next + 1) LAST
 
 -- a token is not one that is still to come
 abbrev pub IsUsed : ℕ → ℕ → Type 0
