@@ -91,7 +91,7 @@ Begins r None code new = ((code ≡ negsuc 2) × (new ≡ None) × (IsConfig r �
 
 -- six limits that can be encoded
 pub record AreLimits (r : RawLimits) : Type 0 where
-  pub data : r.max_data < 2 ^ 62
+  pub on_all : r.max_data < 2 ^ 62
   pub bidi : r.max_streams_bidi < 2 ^ 62
   pub uni : r.max_streams_uni < 2 ^ 62
   pub on_uni : r.stream_data_uni < 2 ^ 62
@@ -176,7 +176,7 @@ pub record IsInfo (s : Session) (i : RawInfo) : Type 0 where
   pub write_limit : i.write_limit ≡ writable (end_of s).streams.out.budget
   pub send_streams : i.send_streams ≡ (end_of s).streams.send_streams
   pub payloads : i.payloads ≡ payload_count s.unsettled
-  pub data : i.can_send_stream_data ≡ flag (list_any (λ id. is_some (sending_priority ((end_of s).streams.out.halves id))) (ids_of (line (end_of s).streams.queue)))
+  pub sendable : i.can_send_stream_data ≡ flag (list_any (λ id. is_some (sending_priority ((end_of s).streams.out.halves id))) (ids_of (line (end_of s).streams.queue)))
   pub pending : (empty : Bool) × TellsEmpty (end_of s).streams (end_of s).pending empty × (i.has_pending ≡ flag (not empty))
 
 -- qs_get_info

@@ -1,0 +1,8 @@
+use Rattle.std.proofs.Common.{refl}
+use Rattle.quic_streams_c.proofs.application.qs_stream_read_unordered.Goals as goal
+
+pub returns-in-None : goal.returns-in-None
+returns-in-None c = rw c.in-None.ensures.taken (refl, c.take_out.ensures.closed, (refl, refl, refl, refl))
+
+pub returns-in-Some : goal.returns-in-Some
+returns-in-Some c = rw (c.in-Some.ensures.taken, c.holding.ensures) c.read-code.ensures
