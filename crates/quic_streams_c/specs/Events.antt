@@ -37,7 +37,7 @@ pub record Polls (s : Session) (answer : Option RawEvent) (t : Session) : Type 0
   pub polls : TellsNext (end_of s).streams told (end_of t).streams
   pub pending : (end_of t).pending ≡ (end_of s).pending
   pub from : GoesOn s (Sending (Polled told)) t
-  pub beside : beside_of t ≡ beside_of s
+  pub beside : beside_of t ≡ with_datagrams (beside_of s) (with_told (datagrams_of s))
   pub answers : answer ≡ option_map event_at told
 
 -- what is to be told of datagrams is told before that

@@ -1,4 +1,4 @@
-use Rattle.std.proofs.lemmas.Int.{to_z-of_z}
+use Rattle.std.proofs.Common.{w32, to_z-of_z}
 use Rattle.quic_streams_c.proofs.connection.send_early_again.Goals as goal
 
 pub returns : goal.returns
@@ -8,5 +8,5 @@ returns c = let r = c.retransmit_all_for_0rtt in record {
   unanswered = r.ensures.unanswered;
   pending = r.ensures.pending;
   beside = r.ensures.beside;
-  tells = (simp (to_z-of_z, c.tell_memory.type_inv) c.tell_memory.ensures);
+  tells = (simp (to_z-of_z w32 c.tell_memory.result (record { sfits = c.tell_memory.type_inv })) c.tell_memory.ensures);
 }

@@ -1,5 +1,4 @@
-use Rattle.std.proofs.lemmas.Int.{to_z-of_z}
-use Rattle.std.proofs.Common.{refl}
+use Rattle.std.proofs.Common.{refl, w32, to_z-of_z}
 use Rattle.quic_streams_c.proofs.peer.receive.Goals as goal
 
 pub returns : goal.returns
@@ -8,5 +7,5 @@ returns c = record {
   receives = c.receive-received.ensures.receives;
   others = c.receive-received.ensures.others;
   next_is = refl;
-  tells = (simp (to_z-of_z, c.tell_received.type_inv) c.tell_received.ensures);
+  tells = (simp (to_z-of_z w32 c.tell_received.result (record { sfits = c.tell_received.type_inv })) c.tell_received.ensures);
 }
