@@ -8,5 +8,5 @@ returns c = let r = c.retransmit_all_for_0rtt in record {
   unanswered = r.ensures.unanswered;
   pending = r.ensures.pending;
   beside = r.ensures.beside;
-  tells = (simp (to_z-of_z w32 c.tell_memory.result (record { sfits = c.tell_memory.type_inv })) c.tell_memory.ensures);
+  tells = (simp (to_z-of_z {w = w32} {z = c.tell_memory.result} (record { sfits = c.tell_memory.type_inv })) c.tell_memory.ensures);
 }

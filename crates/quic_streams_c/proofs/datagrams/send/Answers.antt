@@ -10,5 +10,5 @@ returns c = let q = c.send_datagram.ensures in record {
   err = q.err;
   others = q.others;
   end = q.end;
-  tells = (simp (to_z-of_z w32 c.tell_queued.result (record { sfits = c.tell_queued.type_inv })) c.tell_queued.ensures);
+  tells = (simp (to_z-of_z {w = w32} {z = c.tell_queued.result} (record { sfits = c.tell_queued.type_inv })) c.tell_queued.ensures);
 }

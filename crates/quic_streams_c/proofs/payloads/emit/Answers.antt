@@ -11,5 +11,5 @@ returns c = number-given c.in-Some.parts _ _ _ c.in-Some.ensures (record {
   emits = c.emit.ensures.emits;
   from = c.emit.ensures.from;
   conn = c.emit.ensures.conn;
-  tells = simp (to_z-of_z w32 c.tell_payload.result (record { sfits = c.tell_payload.type_inv })) c.tell_payload.ensures;
+  tells = simp (to_z-of_z {w = w32} {z = c.tell_payload.result} (record { sfits = c.tell_payload.type_inv })) c.tell_payload.ensures;
 })

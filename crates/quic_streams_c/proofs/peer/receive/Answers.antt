@@ -7,5 +7,5 @@ returns c = record {
   receives = c.receive-received.ensures.receives;
   others = c.receive-received.ensures.others;
   next_is = refl;
-  tells = (simp (to_z-of_z w32 c.tell_received.result (record { sfits = c.tell_received.type_inv })) c.tell_received.ensures);
+  tells = (simp (to_z-of_z {w = w32} {z = c.tell_received.result} (record { sfits = c.tell_received.type_inv })) c.tell_received.ensures);
 }
