@@ -10,4 +10,4 @@ returns-in-Ok c =
       is = c.in-Some.ensures.1;
       made = inr (refl, c.in-Ok.session.value, refl, c.in-Ok.ensures);
     } in
-    rw c.holding.ensures (begins c.args.config.now c.args.handle.now.slot.value c.in-Ok.session.value (λ open. c.if-handle-eq1.false (c.args.handle.now.tied.1 open)) made)
+    rw c.holding.ensures (begins c.args.config.now c.args.handle.now.slot.value c.in-Ok.session.value (λ live. c.if-handle-eq1.false (c.args.handle.now.tied.1 live)) made)
