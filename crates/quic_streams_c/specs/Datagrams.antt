@@ -29,7 +29,7 @@ TakesOldest s (Some bytes) out code t new was now = (now ≡ length bytes) × Co
     Copies : Bool → Type 0
     Copies true = (code ≡ negsuc 14) × (new ≡ out) × (beside_of t ≡ with_datagrams (beside_of s) (with_oldest_out (datagrams_of s)))
     Copies false = (code ≡ pos 0) × (new ≡ bytes ++ drop (length bytes) out)
-      × (beside_of t ≡ with_datagrams (beside_of s) (record (with_oldest_out (datagrams_of s)) { waiting = None }))
+        × (beside_of t ≡ with_datagrams (beside_of s) (record (with_oldest_out (datagrams_of s)) { waiting = None }))
 
 -- qs_datagram_recv
 abbrev pub TakesRaw : Session → List ℕ → ℤ → Session → List ℕ → ℕ → ℕ → Type 0

@@ -481,7 +481,12 @@ fn read(
     if out.is_empty() {
         return TOO_SMALL;
     }
-    tell_read(&session.read_into(id, ordered, out), count, offset, app_code)
+    tell_read(
+        &session.read_into(id, ordered, out),
+        count,
+        offset,
+        app_code,
+    )
 }
 
 // What a read gave, or why not.
@@ -510,4 +515,3 @@ fn tell_chunk(read: &ReadInto, count: &mut usize, offset: &mut u64, app_code: &m
     *offset = read.offset;
     OK
 }
-

@@ -4,7 +4,9 @@ ghost use Rattle.std.specs.Prelude.{◌≡◌, ◌==◌, not};
 ghost use Rattle.quic_streams_c.specs.Calls.{Calls};
 ghost use Rattle.quic_streams_c.specs.Frames.{IsTold, TellsFrame, TellsReceived, HandsFrame, HandsStream, HandsReset, HandsStop, HandsMaxData, HandsMaxStreamData, HandsMaxStreams, HandsDatagram, ReceivesRaw};
 
-use crate::codes::{ARGUMENT, CLOSED, MALFORMED, NO_MEMORY, OK, PROTOCOL, dir_of, small, stream_of};
+use crate::codes::{
+    ARGUMENT, CLOSED, MALFORMED, NO_MEMORY, OK, PROTOCOL, dir_of, small, stream_of,
+};
 use crate::handle::{Handle, holding, take_out};
 use quic_receiving::ShouldTransmit;
 use quic_session::Session;
@@ -125,7 +127,16 @@ pub extern "C" fn qs_on_stream(
     match take_out(alloc, handle) {
         None => CLOSED,
         Some(mut session) => {
-            let code = hand_stream(alloc, &mut session, id, offset, bytes, fin, payload_len, error);
+            let code = hand_stream(
+                alloc,
+                &mut session,
+                id,
+                offset,
+                bytes,
+                fin,
+                payload_len,
+                error,
+            );
             *handle = holding(session);
             code
         }

@@ -13,5 +13,5 @@ returns c =
       end = d.end ∙ (rw limits at p.params);
       from = λ m h f. rw d.end (rw limits at (p.from m h f));
       beside = d.datagrams ∙ ap (λ (b : Beside). with_datagrams b (with_max b.datagrams c.length_of.result)) p.beside
-        ∙ ap (λ (l : Option ℕ). with_datagrams (beside_of c.args.session.now) (with_max (datagrams_of c.args.session.now) l)) c.length_of.ensures;
+          ∙ ap (λ (l : Option ℕ). with_datagrams (beside_of c.args.session.now) (with_max (datagrams_of c.args.session.now) l)) c.length_of.ensures;
     })
