@@ -1,5 +1,5 @@
 -- Frames and payloads that C hands in.
-use Rattle.std.specs.Prelude.{ℕ, ℤ, pos, negsuc, ◌≡◌, ◌⊎◌, ◌==◌, ◌-◌, ◌++◌, max, min, not, List, take, length, replicate, Option, Some, Result, Ok, Err, codes}
+use Rattle.std.specs.Prelude.{ℕ, ℤ, pos, negsuc, ◌≡◌, ◌⊎◌, ◌==◌, max, min, not, List, length, Option, Some, Result, Ok, Err, codes}
 use Rattle.quic_wire.specs.declared.frame.Frame.{Frame}
 use Rattle.quic_wire.specs.declared.frame.Frame.TheVariants as frames
 use Rattle.quic_wire.specs.declared.error.ReceiveError.{ReceiveError}
@@ -18,11 +18,10 @@ use Rattle.quic_streams_c.specs.declared.peer.RawError.{RawError}
 use Rattle.quic_streams_c.specs.Calls.{Refuses, WithNumber}
 use Rattle.quic_streams_c.specs.Numbers.{small, dir_at}
 
--- an error as C is told it: its code, and the first 80 bytes of its reason, with zeros behind them
+-- an error as C is told it: its code, and how many bytes of its reason, at most 80, are told
 pub record IsTold (code : ℕ) (reason : List ℕ) (error : RawError) : Type 0 where
   pub code_is : error.code ≡ code
   pub length_is : error.reason_len ≡ min (length reason) 80
-  pub reason_is : error.reason ≡ take error.reason_len reason ++ replicate (80 - error.reason_len) 0
 
 -- what C is told of a frame
 abbrev pub TellsFrame : Result ShouldTransmit ReceiveError → ℤ → RawError → RawError → Type 0

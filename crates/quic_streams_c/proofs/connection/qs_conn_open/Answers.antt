@@ -8,5 +8,5 @@ returns-in-Ok c =
       good = c.in-Some.ensures.0;
       config = c.in-Some.config;
       is = c.in-Some.ensures.1;
-      made = inr (refl, c.in-Ok.session.value, refl, c.in-Ok.ensures);
+      made = inr (refl, (c.in-Ok.session.value, refl, c.in-Ok.ensures));
     }))
