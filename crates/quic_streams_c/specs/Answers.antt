@@ -1,7 +1,6 @@
 -- What C is answered, and what is written through its pointers.
-use Rattle.std.specs.Prelude.{ℕ, ℤ, Bool, true, false, pos, negsuc, ◌≡◌, ◌==◌, if◌then◌else◌, Option, Some, None, Result, Ok, Err}
+use Rattle.std.specs.Prelude.{ℕ, ℤ, pos, negsuc, ◌≡◌, ◌==◌, if◌then◌else◌, Option, Some, None, Result, Ok, Err}
 use Rattle.quic_values.specs.declared.memory.OutOfMemory.{OutOfMemory}
-use Rattle.quic_values.specs.declared.ids.Dir.{Dir}
 use Rattle.quic_sending.specs.declared.send.WriteError.{WriteError}
 use Rattle.quic_sending.specs.declared.send.WriteError.TheVariants as write_error
 use Rattle.quic_sending.specs.declared.send.FinishError.{FinishError}

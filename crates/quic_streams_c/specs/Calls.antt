@@ -1,5 +1,5 @@
 -- How a call of C reaches its session.
-use Rattle.std.specs.Prelude.{ℕ, ℤ, pos, negsuc, ◌≡◌, Option, Some, None}
+use Rattle.std.specs.Prelude.{ℤ, negsuc, ◌≡◌, Option, Some, None}
 use Rattle.quic_session.specs.declared.session.Session.{Session}
 
 -- an open handle: its session is changed so, and stays in it

@@ -1,5 +1,5 @@
 -- Datagrams that C queues and takes.
-use Rattle.std.specs.Prelude.{ℕ, ℤ, Bool, true, false, pos, negsuc, ◌≡◌, ◌==◌, ◌-◌, ◌++◌, not, nat_lt, if◌then◌else◌, List, length, drop, Option, Some, None, Result, Ok, Err, OnOk, IfErr}
+use Rattle.std.specs.Prelude.{ℕ, ℤ, Bool, true, false, pos, negsuc, ◌≡◌, ◌==◌, ◌-◌, ◌++◌, not, nat_lt, List, length, drop, Option, Some, None, Result, OnOk, IfErr}
 use Rattle.quic_datagrams.specs.Queue.{total_cost, with_newest}
 use Rattle.quic_datagrams.specs.Sending.{send_refusal}
 use Rattle.quic_session.specs.declared.session.Session.{Session}

@@ -1,5 +1,5 @@
 -- Frames and payloads that C hands in.
-use Rattle.std.specs.Prelude.{ℕ, ℤ, pos, negsuc, ◌≡◌, ◌⊎◌, ◌==◌, max, min, not, List, length, Option, Some, Result, Ok, Err, codes}
+use Rattle.std.specs.Prelude.{ℕ, ℤ, pos, negsuc, ◌≡◌, ◌⊎◌, ◌==◌, max, min, not, List, length, Result, Ok, Err, codes}
 use Rattle.quic_wire.specs.declared.frame.Frame.{Frame}
 use Rattle.quic_wire.specs.declared.frame.Frame.TheVariants as frames
 use Rattle.quic_wire.specs.declared.error.ReceiveError.{ReceiveError}
@@ -12,7 +12,7 @@ use Rattle.quic_session.specs.declared.session.Session.{Session}
 use Rattle.quic_session.specs.declared.receiving.Received.{Received}
 use Rattle.quic_session.specs.declared.receiving.PayloadError.{PayloadError}
 use Rattle.quic_session.specs.declared.receiving.PayloadError.TheVariants as payload_error
-use Rattle.quic_session.specs.Sessions.{end_of, beside_of}
+use Rattle.quic_session.specs.Sessions.{end_of}
 use Rattle.quic_session.specs.Receiving.{ReceivesFrame, ReceivesOnly, ReceivesPayload}
 use Rattle.quic_streams_c.specs.declared.peer.RawError.{RawError}
 use Rattle.quic_streams_c.specs.Calls.{Refuses, WithNumber}

@@ -1,5 +1,5 @@
 -- What the calls of a session promise, as relations between the sessions before and after.
-use Rattle.std.specs.Prelude.{ℕ, ℤ, ◌≡◌, ◌∷◌, List, true, false, Option, Some, None, Result, Ok, Err}
+use Rattle.std.specs.Prelude.{ℕ, ℤ, ◌≡◌, ◌∷◌, List, true, false, Option, Result, Err}
 use Rattle.quic_values.specs.declared.memory.OutOfMemory.{OutOfMemory}
 use Rattle.quic_values.specs.declared.ids.Dir.{Dir}
 use Rattle.quic_sending.specs.declared.send.WriteError.{WriteError}
@@ -20,7 +20,7 @@ use Rattle.quic_history.specs.Writes.{WritesOwn}
 use Rattle.quic_history.specs.Permitting.{with_accepted, acceptable}
 use Rattle.quic_streams.specs.Connection.{is_shut}
 use Rattle.quic_streams.specs.Writing.{IsWrittenAs}
-use Rattle.quic_endpoint.specs.Ends.{EndState, with_world, FinishesAt, ResetsAt, SetsPriorityAt, StopsReading, TellsResetAt}
+use Rattle.quic_endpoint.specs.Ends.{with_world, FinishesAt, ResetsAt, SetsPriorityAt, StopsReading, TellsResetAt}
 use Rattle.quic_session.specs.declared.session.Session.{Session}
 use Rattle.quic_session.specs.Sessions.{end_of, beside_of}
 

@@ -1,12 +1,10 @@
 -- What C sets of a session, and asks of it.
-use Rattle.std.specs.Prelude.{ℕ, ℤ, Bool, pos, negsuc, ◌≡◌, ◌⊎◌, ◌==◌, ◌-◌, ◌+◌, ◌^◌, ◌<◌, ◌≤◌, not, nat_lt, is_some, if◌then◌else◌, List, [], ◌∷◌, Option, Some, None, Result}
+use Rattle.std.specs.Prelude.{ℕ, ℤ, Bool, pos, negsuc, ◌≡◌, ◌⊎◌, ◌==◌, ◌^◌, ◌<◌, ◌≤◌, not, nat_lt, is_some, if◌then◌else◌, List, [], ◌∷◌, Option, Some, None, Result}
 use Rattle.std.specs.List.{list_any}
 use Rattle.quic_values.specs.declared.memory.OutOfMemory.{OutOfMemory}
-use Rattle.quic_values.specs.declared.ids.Dir.TheVariants.{Bi, Uni}
 use Rattle.quic_values.specs.declared.ids.Side.{Side}
 use Rattle.quic_values.specs.declared.ids.Side.TheVariants.{Client, Server}
 use Rattle.quic_datagrams.specs.declared.datagrams.DatagramLimits.{DatagramLimits}
-use Rattle.quic_datagrams.specs.Queue.{total_cost}
 use Rattle.quic_outgoing.specs.declared.limits.PeerLimits.{PeerLimits}
 use Rattle.quic_outgoing.specs.Outgoing.{with_params}
 use Rattle.quic_outgoing.specs.Early.{NoneAcked}
@@ -15,19 +13,17 @@ use Rattle.quic_queue.specs.SendOrder.{ids_of, line}
 use Rattle.quic_limits.specs.SendingCredit.{with_window, writable}
 use Rattle.quic_limits.specs.Remote.{open_now}
 use Rattle.quic_retransmits.specs.Pending.{nothing}
-use Rattle.quic_history.specs.World.{Made, made_with, start, remote_of}
+use Rattle.quic_history.specs.World.{Made, made_with, start}
 use Rattle.quic_history.specs.Early.{IsEarly, with_rejection, SendsAgain}
 use Rattle.quic_history.specs.History.{Event, Sending, Resized, SetConcurrent, Rejected, SentAgain, IsUnanswered, From}
 use Rattle.quic_history.specs.SendEvents.{GaveLimits, SetWindow}
 use Rattle.quic_history.specs.Sends.{with_out}
 use Rattle.quic_streams.specs.Waiting.{TellsEmpty}
-use Rattle.quic_streams.specs.declared.streams.ConnState.{ConnState}
 use Rattle.quic_streams.specs.declared.streams.ConnState.TheVariants as conn_state
-use Rattle.quic_endpoint.specs.Ends.{EndState, with_world, with_window_set, SetsConcurrentAt}
+use Rattle.quic_endpoint.specs.Ends.{with_world, with_window_set, SetsConcurrentAt}
 use Rattle.quic_session.specs.declared.session.Session.{Session}
 use Rattle.quic_session.specs.declared.session.Config.{Config}
-use Rattle.quic_session.specs.declared.datagrams.DatagramError.{DatagramError}
-use Rattle.quic_session.specs.Sessions.{Datagrams, end_of, datagrams_of, beside_of, with_datagrams, no_datagrams, with_oldest_out, with_max}
+use Rattle.quic_session.specs.Sessions.{end_of, datagrams_of, beside_of, with_datagrams, no_datagrams, with_max}
 use Rattle.quic_session.specs.Tokens.{unsettled, payload_count}
 use Rattle.quic_session.specs.Settling.{SettlesOnly}
 use Rattle.quic_streams_c.specs.declared.connection.RawConfig.{RawConfig}

@@ -1,5 +1,5 @@
 -- Calls of C on streams.
-use Rattle.std.specs.Prelude.{ℕ, ℤ, Bool, true, false, pos, negsuc, ◌≡◌, ◌==◌, ◌⊎◌, List, length, Option, Result, Ok, Err}
+use Rattle.std.specs.Prelude.{ℕ, ℤ, Bool, true, false, pos, negsuc, ◌≡◌, ◌==◌, List, length, Option, Result}
 use Rattle.quic_values.specs.declared.memory.OutOfMemory.{OutOfMemory}
 use Rattle.quic_sending.specs.declared.send.WriteError.{WriteError}
 use Rattle.quic_sending.specs.declared.send.FinishError.{FinishError}
