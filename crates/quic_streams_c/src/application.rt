@@ -1,43 +1,58 @@
 //! The calls of an application on streams.
 
-ghost use Rattle.std.specs.Prelude.{◌≡◌, pos, IsSome, IsNone, IfSome};
+ghost use Rattle.std.specs.Prelude.{◌≡◌, pos, true, false};
+ghost use Rattle.quic_streams_c.specs.Answers.{memory_code, handle_code, closed_code, TellsDone, TellsSigned, TellsSome, TellsOption, TellsWrite, TellsFinish, TellsRead};
+ghost use Rattle.quic_streams_c.specs.Calls.{Calls};
+ghost use Rattle.quic_streams_c.specs.Streams.{OpensRaw, AcceptsRaw, WritesRaw, FinishesRaw, ResetsRaw, StopsRaw, SetsPriorityRaw, TellsPriorityRaw, TellsStopRaw, TellsResetRaw, ReadsRaw};
 
 use crate::codes::{
-    ARGUMENT, BLOCKED, CLOSED, DONE, END, NO_MEMORY, NO_STREAM, OK, RESET, TOO_SMALL,
-    code_of_finish, code_of_handle, code_of_readable, code_of_write, dir_of, id_of, stream_of,
+    ARGUMENT, CLOSED, DONE, NO_MEMORY, NO_STREAM, OK, TOO_SMALL, code_of_finish, code_of_handle,
+    code_of_last, code_of_readable, code_of_write, dir_of, id_of, small, stream_of,
 };
 use crate::handle::{Handle, holding, take_out};
-use quic_receiving::ReadableError;
+use quic_receiving::{HandleError, ReadableError};
+use quic_sending::{ClosedStream, FinishError, WriteError};
 use quic_session::Session;
 use quic_session::application::ReadInto;
-use quic_streams::progress::LastAnswer;
-use quic_values::{StreamId, VarInt};
+use quic_values::{OutOfMemory, StreamId, VarInt};
 use std::alloc::Global;
 
 /// Opens the next stream of a direction.
 #[unsafe(no_mangle)]
 pub extern "C" fn qs_stream_open(alloc: Global, handle: &mut Handle, dir: u32, id: &mut u64) -> i32
-    ensures live { IsSome handle.old.slot.value → IsSome handle.new.slot.value }
-    ensures closed { IsNone handle.old.slot.value → IsNone handle.new.slot.value }
-    ensures answered { result ≡ OK → IsSome handle.old.slot.value }
+    ensures { Calls handle.old.slot.value result handle.new.slot.value (id.new ≡ id.old) (λ s t. OpensRaw s dir result t id.old id.new) }
+{
+    match take_out(alloc, handle) {
+        None => CLOSED,
+        Some(mut session) => {
+            let code = open(&mut session, dir, id);
+            *handle = holding(session);
+            code
+        }
+    }
+}
+
+// The same, of a session.
+fn open(session: &mut Session, dir: u32, id: &mut u64) -> i32
+    ensures { OpensRaw session.old dir result session.new id.old id.new }
 {
     let Some(dir) = dir_of(dir) else {
         return ARGUMENT;
     };
-    match take_out(alloc, handle) {
-        None => CLOSED,
-        Some(mut session) => {
-            let answer = session.open(dir);
-            *handle = holding(session);
-            match answer {
-                Ok(Some(opened)) => {
-                    *id = id_of(opened);
-                    OK
-                }
-                Ok(None) => DONE,
-                Err(_) => NO_MEMORY,
-            }
+    tell_opened(&session.open(dir), id)
+}
+
+// The id of a stream that was opened.
+fn tell_opened(answer: &Result<Option<StreamId>, OutOfMemory>, id: &mut u64) -> i32
+    ensures { TellsSome memory_code answer.now result id.old id.new }
+{
+    match answer {
+        Ok(Some(opened)) => {
+            *id = id_of(*opened);
+            OK
         }
+        Ok(None) => DONE,
+        Err(_) => NO_MEMORY,
     }
 }
 
@@ -49,26 +64,38 @@ pub extern "C" fn qs_stream_accept(
     dir: u32,
     id: &mut u64,
 ) -> i32
-    ensures live { IsSome handle.old.slot.value → IsSome handle.new.slot.value }
-    ensures closed { IsNone handle.old.slot.value → IsNone handle.new.slot.value }
-    ensures answered { result ≡ OK → IsSome handle.old.slot.value }
+    ensures { Calls handle.old.slot.value result handle.new.slot.value (id.new ≡ id.old) (λ s t. AcceptsRaw s dir result t id.old id.new) }
+{
+    match take_out(alloc, handle) {
+        None => CLOSED,
+        Some(mut session) => {
+            let code = accept(&mut session, dir, id);
+            *handle = holding(session);
+            code
+        }
+    }
+}
+
+// The same, of a session.
+fn accept(session: &mut Session, dir: u32, id: &mut u64) -> i32
+    ensures { AcceptsRaw session.old dir result session.new id.old id.new }
 {
     let Some(dir) = dir_of(dir) else {
         return ARGUMENT;
     };
-    match take_out(alloc, handle) {
-        None => CLOSED,
-        Some(mut session) => {
-            let answer = session.accept(dir);
-            *handle = holding(session);
-            match answer {
-                Some(accepted) => {
-                    *id = id_of(accepted);
-                    OK
-                }
-                None => DONE,
-            }
+    tell_accepted(session.accept(dir), id)
+}
+
+// The id of a stream that was accepted.
+fn tell_accepted(answer: Option<StreamId>, id: &mut u64) -> i32
+    ensures { TellsOption answer (pos 1) result id.old id.new }
+{
+    match answer {
+        Some(accepted) => {
+            *id = id_of(accepted);
+            OK
         }
+        None => DONE,
     }
 }
 
@@ -82,26 +109,44 @@ pub extern "C" fn qs_stream_write(
     written: &mut usize,
     app_code: &mut u64,
 ) -> i32
-    ensures live { IsSome handle.old.slot.value → IsSome handle.new.slot.value }
-    ensures closed { IsNone handle.old.slot.value → IsNone handle.new.slot.value }
-    ensures answered { result ≡ OK → IsSome handle.old.slot.value }
+    ensures { Calls handle.old.slot.value result handle.new.slot.value ((written.new ≡ written.old) × (app_code.new ≡ app_code.old)) (λ s t. WritesRaw s id bytes.now result t written.old written.new app_code.old app_code.new) }
+{
+    match take_out(alloc, handle) {
+        None => CLOSED,
+        Some(mut session) => {
+            let code = write(&mut session, id, bytes, written, app_code);
+            *handle = holding(session);
+            code
+        }
+    }
+}
+
+// The same, of a session.
+fn write(
+    session: &mut Session,
+    id: u64,
+    bytes: &[u8],
+    written: &mut usize,
+    app_code: &mut u64,
+) -> i32
+    ensures { WritesRaw session.old id bytes.now result session.new written.old written.new app_code.old app_code.new }
 {
     let Some(id) = stream_of(id) else {
         return ARGUMENT;
     };
-    match take_out(alloc, handle) {
-        None => CLOSED,
-        Some(mut session) => {
-            let answer = session.write(id, bytes);
-            *handle = holding(session);
-            match answer {
-                Ok(count) => {
-                    *written = count;
-                    OK
-                }
-                Err(error) => code_of_write(&error, app_code),
-            }
+    tell_write(&session.write(id, bytes), written, app_code)
+}
+
+// How many bytes were written, or why none.
+fn tell_write(answer: &Result<usize, WriteError>, written: &mut usize, app_code: &mut u64) -> i32
+    ensures { TellsWrite answer.now result written.old written.new app_code.old app_code.new }
+{
+    match answer {
+        Ok(count) => {
+            *written = *count;
+            OK
         }
+        Err(error) => code_of_write(error, app_code),
     }
 }
 
@@ -113,69 +158,101 @@ pub extern "C" fn qs_stream_finish(
     id: u64,
     app_code: &mut u64,
 ) -> i32
-    ensures live { IsSome handle.old.slot.value → IsSome handle.new.slot.value }
-    ensures closed { IsNone handle.old.slot.value → IsNone handle.new.slot.value }
-    ensures answered { result ≡ OK → IsSome handle.old.slot.value }
+    ensures { Calls handle.old.slot.value result handle.new.slot.value (app_code.new ≡ app_code.old) (λ s t. FinishesRaw s id result t app_code.old app_code.new) }
+{
+    match take_out(alloc, handle) {
+        None => CLOSED,
+        Some(mut session) => {
+            let code = finish(&mut session, id, app_code);
+            *handle = holding(session);
+            code
+        }
+    }
+}
+
+// The same, of a session.
+fn finish(session: &mut Session, id: u64, app_code: &mut u64) -> i32
+    ensures { FinishesRaw session.old id result session.new app_code.old app_code.new }
 {
     let Some(id) = stream_of(id) else {
         return ARGUMENT;
     };
-    match take_out(alloc, handle) {
-        None => CLOSED,
-        Some(mut session) => {
-            let answer = session.finish(id);
-            *handle = holding(session);
-            match answer {
-                Ok(()) => OK,
-                Err(error) => code_of_finish(&error, app_code),
-            }
-        }
+    tell_finish(&session.finish(id), app_code)
+}
+
+// That a stream was ended, or why not.
+fn tell_finish(answer: &Result<(), FinishError>, app_code: &mut u64) -> i32
+    ensures { TellsFinish answer.now result app_code.old app_code.new }
+{
+    match answer {
+        Ok(()) => OK,
+        Err(error) => code_of_finish(error, app_code),
     }
 }
 
 /// Gives a stream up.
 #[unsafe(no_mangle)]
 pub extern "C" fn qs_stream_reset(alloc: Global, handle: &mut Handle, id: u64, app_code: u64) -> i32
-    ensures live { IsSome handle.old.slot.value → IsSome handle.new.slot.value }
-    ensures closed { IsNone handle.old.slot.value → IsNone handle.new.slot.value }
-    ensures answered { result ≡ OK → IsSome handle.old.slot.value }
+    ensures { Calls handle.old.slot.value result handle.new.slot.value (Unit {0}) (λ s t. ResetsRaw s id app_code result t) }
 {
-    let (Some(id), Some(code)) = (stream_of(id), VarInt::from_u64(app_code)) else {
-        return ARGUMENT;
-    };
     match take_out(alloc, handle) {
         None => CLOSED,
         Some(mut session) => {
-            let answer = session.reset(id, code);
+            let code = reset(&mut session, id, app_code);
             *handle = holding(session);
-            match answer {
-                Ok(()) => OK,
-                Err(error) => code_of_handle(&error),
-            }
+            code
         }
     }
+}
+
+// The same, of a session.
+fn reset(session: &mut Session, id: u64, app_code: u64) -> i32
+    ensures { ResetsRaw session.old id app_code result session.new }
+{
+    let Some(id) = stream_of(id) else {
+        return ARGUMENT;
+    };
+    let Some(app_code) = small(app_code) else {
+        return ARGUMENT;
+    };
+    tell_handled(&session.reset(id, app_code))
 }
 
 /// Stops a stream.
 #[unsafe(no_mangle)]
 pub extern "C" fn qs_stream_stop(alloc: Global, handle: &mut Handle, id: u64, app_code: u64) -> i32
-    ensures live { IsSome handle.old.slot.value → IsSome handle.new.slot.value }
-    ensures closed { IsNone handle.old.slot.value → IsNone handle.new.slot.value }
-    ensures answered { result ≡ OK → IsSome handle.old.slot.value }
+    ensures { Calls handle.old.slot.value result handle.new.slot.value (Unit {0}) (λ s t. StopsRaw s id app_code result t) }
 {
-    let (Some(id), Some(code)) = (stream_of(id), VarInt::from_u64(app_code)) else {
-        return ARGUMENT;
-    };
     match take_out(alloc, handle) {
         None => CLOSED,
         Some(mut session) => {
-            let answer = session.stop(id, code);
+            let code = stop(&mut session, id, app_code);
             *handle = holding(session);
-            match answer {
-                Ok(()) => OK,
-                Err(error) => code_of_handle(&error),
-            }
+            code
         }
+    }
+}
+
+// The same, of a session.
+fn stop(session: &mut Session, id: u64, app_code: u64) -> i32
+    ensures { StopsRaw session.old id app_code result session.new }
+{
+    let Some(id) = stream_of(id) else {
+        return ARGUMENT;
+    };
+    let Some(app_code) = small(app_code) else {
+        return ARGUMENT;
+    };
+    tell_handled(&session.stop(id, app_code))
+}
+
+// That a call on a stream was done, or why not.
+fn tell_handled(answer: &Result<(), HandleError>) -> i32
+    ensures { TellsDone handle_code answer.now result }
+{
+    match answer {
+        Ok(()) => OK,
+        Err(error) => code_of_handle(error),
     }
 }
 
@@ -187,24 +264,26 @@ pub extern "C" fn qs_stream_set_priority(
     id: u64,
     priority: i32,
 ) -> i32
-    ensures live { IsSome handle.old.slot.value → IsSome handle.new.slot.value }
-    ensures closed { IsNone handle.old.slot.value → IsNone handle.new.slot.value }
-    ensures answered { result ≡ OK → IsSome handle.old.slot.value }
+    ensures { Calls handle.old.slot.value result handle.new.slot.value (Unit {0}) (λ s t. SetsPriorityRaw s id priority result t) }
+{
+    match take_out(alloc, handle) {
+        None => CLOSED,
+        Some(mut session) => {
+            let code = set_priority(&mut session, id, priority);
+            *handle = holding(session);
+            code
+        }
+    }
+}
+
+// The same, of a session.
+fn set_priority(session: &mut Session, id: u64, priority: i32) -> i32
+    ensures { SetsPriorityRaw session.old id priority result session.new }
 {
     let Some(id) = stream_of(id) else {
         return ARGUMENT;
     };
-    match take_out(alloc, handle) {
-        None => CLOSED,
-        Some(mut session) => {
-            let answer = session.set_priority(id, priority);
-            *handle = holding(session);
-            match answer {
-                Ok(()) => OK,
-                Err(error) => code_of_handle(&error),
-            }
-        }
-    }
+    tell_handled(&session.set_priority(id, priority))
 }
 
 /// Tells the priority of a stream.
@@ -215,26 +294,38 @@ pub extern "C" fn qs_stream_priority(
     id: u64,
     priority: &mut i32,
 ) -> i32
-    ensures live { IsSome handle.old.slot.value → IsSome handle.new.slot.value }
-    ensures closed { IsNone handle.old.slot.value → IsNone handle.new.slot.value }
-    ensures answered { result ≡ OK → IsSome handle.old.slot.value }
+    ensures { Calls handle.old.slot.value result handle.new.slot.value (priority.new ≡ priority.old) (λ s t. TellsPriorityRaw s id result t priority.old priority.new) }
+{
+    match take_out(alloc, handle) {
+        None => CLOSED,
+        Some(mut session) => {
+            let code = tell_priority(&mut session, id, priority);
+            *handle = holding(session);
+            code
+        }
+    }
+}
+
+// The same, of a session.
+fn tell_priority(session: &mut Session, id: u64, priority: &mut i32) -> i32
+    ensures { TellsPriorityRaw session.old id result session.new priority.old priority.new }
 {
     let Some(id) = stream_of(id) else {
         return ARGUMENT;
     };
-    match take_out(alloc, handle) {
-        None => CLOSED,
-        Some(mut session) => {
-            let answer = session.priority(id);
-            *handle = holding(session);
-            match answer {
-                Ok(set) => {
-                    *priority = set;
-                    OK
-                }
-                Err(_) => NO_STREAM,
-            }
+    put_priority(&session.priority(id), priority)
+}
+
+// A priority that was told.
+fn put_priority(answer: &Result<i32, ClosedStream>, priority: &mut i32) -> i32
+    ensures { TellsSigned closed_code answer.now result priority.old priority.new }
+{
+    match answer {
+        Ok(set) => {
+            *priority = *set;
+            OK
         }
+        Err(_) => NO_STREAM,
     }
 }
 
@@ -246,27 +337,39 @@ pub extern "C" fn qs_stream_stopped(
     id: u64,
     app_code: &mut u64,
 ) -> i32
-    ensures live { IsSome handle.old.slot.value → IsSome handle.new.slot.value }
-    ensures closed { IsNone handle.old.slot.value → IsNone handle.new.slot.value }
-    ensures answered { result ≡ OK → IsSome handle.old.slot.value }
+    ensures { Calls handle.old.slot.value result handle.new.slot.value (app_code.new ≡ app_code.old) (λ s t. TellsStopRaw s id result t app_code.old app_code.new) }
+{
+    match take_out(alloc, handle) {
+        None => CLOSED,
+        Some(mut session) => {
+            let code = tell_stop(&mut session, id, app_code);
+            *handle = holding(session);
+            code
+        }
+    }
+}
+
+// The same, of a session.
+fn tell_stop(session: &mut Session, id: u64, app_code: &mut u64) -> i32
+    ensures { TellsStopRaw session.old id result session.new app_code.old app_code.new }
 {
     let Some(id) = stream_of(id) else {
         return ARGUMENT;
     };
-    match take_out(alloc, handle) {
-        None => CLOSED,
-        Some(mut session) => {
-            let answer = session.stopped(id);
-            *handle = holding(session);
-            match answer {
-                Ok(Some(code)) => {
-                    *app_code = code.into_inner();
-                    OK
-                }
-                Ok(None) => DONE,
-                Err(_) => NO_STREAM,
-            }
+    put_stop(&session.stopped(id), app_code)
+}
+
+// A code that was told, if there is one.
+fn put_stop(answer: &Result<Option<VarInt>, ClosedStream>, app_code: &mut u64) -> i32
+    ensures { TellsSome closed_code answer.now result app_code.old app_code.new }
+{
+    match answer {
+        Ok(Some(code)) => {
+            *app_code = code.into_inner();
+            OK
         }
+        Ok(None) => DONE,
+        Err(_) => NO_STREAM,
     }
 }
 
@@ -278,75 +381,40 @@ pub extern "C" fn qs_stream_received_reset(
     id: u64,
     app_code: &mut u64,
 ) -> i32
-    ensures live { IsSome handle.old.slot.value → IsSome handle.new.slot.value }
-    ensures closed { IsNone handle.old.slot.value → IsNone handle.new.slot.value }
-    ensures answered { result ≡ OK → IsSome handle.old.slot.value }
+    ensures { Calls handle.old.slot.value result handle.new.slot.value (app_code.new ≡ app_code.old) (λ s t. TellsResetRaw s id result t app_code.old app_code.new) }
+{
+    match take_out(alloc, handle) {
+        None => CLOSED,
+        Some(mut session) => {
+            let code = tell_reset(&mut session, id, app_code);
+            *handle = holding(session);
+            code
+        }
+    }
+}
+
+// The same, of a session.
+fn tell_reset(session: &mut Session, id: u64, app_code: &mut u64) -> i32
+    ensures { TellsResetRaw session.old id result session.new app_code.old app_code.new }
 {
     let Some(id) = stream_of(id) else {
         return ARGUMENT;
     };
-    match take_out(alloc, handle) {
-        None => CLOSED,
-        Some(mut session) => {
-            let answer = session.received_reset(id);
-            *handle = holding(session);
-            match answer {
-                Ok(Some(code)) => {
-                    *app_code = code.into_inner();
-                    OK
-                }
-                Ok(None) => DONE,
-                Err(error) => code_of_handle(&error),
-            }
-        }
-    }
+    put_reset(&session.received_reset(id), app_code)
 }
 
-// What a read means in numbers.
-fn code_of_read(
-    answer: &Result<ReadInto, ReadableError>,
-    count: &mut usize,
-    offset: &mut u64,
-    app_code: &mut u64,
-) -> i32 {
+// The same of a call that may be refused otherwise.
+fn put_reset(answer: &Result<Option<VarInt>, HandleError>, app_code: &mut u64) -> i32
+    ensures { TellsSome handle_code answer.now result app_code.old app_code.new }
+{
     match answer {
-        Err(error) => code_of_readable(error),
-        Ok(read) => {
-            *count = read.count;
-            if read.count > 0 {
-                *offset = read.offset;
-                return OK;
-            }
-            match read.last {
-                LastAnswer::Blocked => BLOCKED,
-                LastAnswer::Ended => END,
-                LastAnswer::Reset(code) => {
-                    *app_code = code.into_inner();
-                    RESET
-                }
-                LastAnswer::Memory => NO_MEMORY,
-                LastAnswer::More => OK,
-            }
+        Ok(Some(code)) => {
+            *app_code = code.into_inner();
+            OK
         }
+        Ok(None) => DONE,
+        Err(error) => code_of_handle(error),
     }
-}
-
-// Reads a stream.
-fn read(
-    session: &mut Session,
-    id: StreamId,
-    ordered: bool,
-    out: &mut [u8],
-    count: &mut usize,
-    offset: &mut u64,
-    app_code: &mut u64,
-) -> i32 {
-    code_of_read(
-        &session.read_into(id, ordered, out),
-        count,
-        offset,
-        app_code,
-    )
 }
 
 /// Reads the next chunk of a stream.
@@ -360,16 +428,8 @@ pub extern "C" fn qs_stream_read(
     offset: &mut u64,
     app_code: &mut u64,
 ) -> i32
-    ensures live { IsSome handle.old.slot.value → IsSome handle.new.slot.value }
-    ensures closed { IsNone handle.old.slot.value → IsNone handle.new.slot.value }
-    ensures answered { result ≡ OK → IsSome handle.old.slot.value }
+    ensures { Calls handle.old.slot.value result handle.new.slot.value ((out.new ≡ out.old) × (count.new ≡ count.old) × (offset.new ≡ offset.old) × (app_code.new ≡ app_code.old)) (λ s t. ReadsRaw s id true result t (record { out = out.old; count = count.old; offset = offset.old; app_code = app_code.old }) (record { out = out.new; count = count.new; offset = offset.new; app_code = app_code.new })) }
 {
-    let Some(id) = stream_of(id) else {
-        return ARGUMENT;
-    };
-    if out.is_empty() {
-        return TOO_SMALL;
-    }
     match take_out(alloc, handle) {
         None => CLOSED,
         Some(mut session) => {
@@ -391,16 +451,8 @@ pub extern "C" fn qs_stream_read_unordered(
     offset: &mut u64,
     app_code: &mut u64,
 ) -> i32
-    ensures live { IsSome handle.old.slot.value → IsSome handle.new.slot.value }
-    ensures closed { IsNone handle.old.slot.value → IsNone handle.new.slot.value }
-    ensures answered { result ≡ OK → IsSome handle.old.slot.value }
+    ensures { Calls handle.old.slot.value result handle.new.slot.value ((out.new ≡ out.old) × (count.new ≡ count.old) × (offset.new ≡ offset.old) × (app_code.new ≡ app_code.old)) (λ s t. ReadsRaw s id false result t (record { out = out.old; count = count.old; offset = offset.old; app_code = app_code.old }) (record { out = out.new; count = count.new; offset = offset.new; app_code = app_code.new })) }
 {
-    let Some(id) = stream_of(id) else {
-        return ARGUMENT;
-    };
-    if out.is_empty() {
-        return TOO_SMALL;
-    }
     match take_out(alloc, handle) {
         None => CLOSED,
         Some(mut session) => {
@@ -409,4 +461,57 @@ pub extern "C" fn qs_stream_read_unordered(
             code
         }
     }
+}
+
+// The same, of a session.
+fn read(
+    session: &mut Session,
+    id: u64,
+    ordered: bool,
+    out: &mut [u8],
+    count: &mut usize,
+    offset: &mut u64,
+    app_code: &mut u64,
+) -> i32
+    ensures { ReadsRaw session.old id ordered result session.new (record { out = out.old; count = count.old; offset = offset.old; app_code = app_code.old }) (record { out = out.new; count = count.new; offset = offset.new; app_code = app_code.new }) }
+{
+    let Some(id) = stream_of(id) else {
+        return ARGUMENT;
+    };
+    if out.is_empty() {
+        return TOO_SMALL;
+    }
+    tell_read(
+        &session.read_into(id, ordered, out),
+        count,
+        offset,
+        app_code,
+    )
+}
+
+// What a read gave, or why not.
+fn tell_read(
+    answer: &Result<ReadInto, ReadableError>,
+    count: &mut usize,
+    offset: &mut u64,
+    app_code: &mut u64,
+) -> i32
+    ensures { TellsRead answer.now result count.old count.new offset.old offset.new app_code.old app_code.new }
+{
+    match answer {
+        Err(error) => code_of_readable(error, count),
+        Ok(read) => tell_chunk(read, count, offset, app_code),
+    }
+}
+
+// The bytes that a read gave, or why there are none.
+fn tell_chunk(read: &ReadInto, count: &mut usize, offset: &mut u64, app_code: &mut u64) -> i32
+    ensures { TellsRead (Ok read.now) result count.old count.new offset.old offset.new app_code.old app_code.new }
+{
+    *count = read.count;
+    if read.count == 0 {
+        return code_of_last(&read.last, app_code);
+    }
+    *offset = read.offset;
+    OK
 }

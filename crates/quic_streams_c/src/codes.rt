@@ -1,12 +1,14 @@
 //! The numbers that C has for answers.
 
-ghost use Rattle.std.specs.Prelude.{◌≡◌, IfSome};
-ghost use Rattle.quic_streams_c.specs.Numbers.{dir_at};
+ghost use Rattle.std.specs.Prelude.{◌≡◌};
+ghost use Rattle.quic_streams_c.specs.Numbers.{dir_at, length_at, number_of, small};
+ghost use Rattle.quic_streams_c.specs.Answers.{write_code, write_stop, finish_code, finish_stop, handle_code, readable_code, readable_count, settle_code, datagram_code, last_code, last_reset};
 
 use quic_receiving::{HandleError, ReadableError};
 use quic_sending::{FinishError, WriteError};
 use quic_session::datagrams::DatagramError;
 use quic_session::settling::SettleError;
+use quic_streams::progress::LastAnswer;
 use quic_values::{Dir, StreamId, VarInt};
 
 /// The call did what it says.
@@ -48,28 +50,39 @@ pub const TOO_SMALL: i32 = -15;
 
 // The direction of a number.
 pub(crate) fn dir_of(number: u32) -> Option<Dir>
-    ensures { IfSome result (λ dir. dir ≡ dir_at number) }
+    ensures { result ≡ dir_at number }
 {
-    match number {
-        0 => Some(Dir::Bi),
-        1 => Some(Dir::Uni),
-        _ => None,
+    if number == 0 {
+        return Some(Dir::Bi);
     }
+    if number == 1 {
+        return Some(Dir::Uni);
+    }
+    None
 }
 
 // The number of a direction.
-pub(crate) fn number_of(dir: Dir) -> u32 {
+pub(crate) fn number_of(dir: Dir) -> u32
+    ensures { result ≡ number_of dir }
+{
     match dir {
         Dir::Bi => 0,
         Dir::Uni => 1,
     }
 }
 
+// A number that can be encoded.
+pub(crate) fn small(number: u64) -> Option<VarInt>
+    ensures { result ≡ small number }
+{
+    VarInt::from_u64(number)
+}
+
 // The stream of a number.
 pub(crate) fn stream_of(number: u64) -> Option<StreamId>
-    ensures { IfSome result (λ id. id ≡ number) }
+    ensures { result ≡ small number }
 {
-    match VarInt::from_u64(number) {
+    match small(number) {
         Some(number) => Some(StreamId::from(number)),
         None => None,
     }
@@ -82,7 +95,21 @@ pub(crate) fn id_of(id: StreamId) -> u64
     VarInt::from(id).into_inner()
 }
 
-pub(crate) fn code_of_write(error: &WriteError, app_code: &mut u64) -> i32 {
+// A length where one is given, and `None` for the greatest number.
+pub(crate) fn length_of(number: u64) -> Option<usize>
+    ensures { result ≡ length_at number }
+{
+    if number == u64::MAX {
+        None
+    } else {
+        Some(number as usize)
+    }
+}
+
+pub(crate) fn code_of_write(error: &WriteError, app_code: &mut u64) -> i32
+    ensures code { result ≡ write_code error.now }
+    ensures app_code { app_code.new ≡ write_stop error.now app_code.old }
+{
     match error {
         WriteError::Blocked => BLOCKED,
         WriteError::Stopped(code) => {
@@ -94,7 +121,10 @@ pub(crate) fn code_of_write(error: &WriteError, app_code: &mut u64) -> i32 {
     }
 }
 
-pub(crate) fn code_of_finish(error: &FinishError, app_code: &mut u64) -> i32 {
+pub(crate) fn code_of_finish(error: &FinishError, app_code: &mut u64) -> i32
+    ensures code { result ≡ finish_code error.now }
+    ensures app_code { app_code.new ≡ finish_stop error.now app_code.old }
+{
     match error {
         FinishError::Stopped(code) => {
             *app_code = code.into_inner();
@@ -105,29 +135,58 @@ pub(crate) fn code_of_finish(error: &FinishError, app_code: &mut u64) -> i32 {
     }
 }
 
-pub(crate) fn code_of_handle(error: &HandleError) -> i32 {
+pub(crate) fn code_of_handle(error: &HandleError) -> i32
+    ensures { result ≡ handle_code error.now }
+{
     match error {
         HandleError::ClosedStream => NO_STREAM,
         HandleError::OutOfMemory => NO_MEMORY,
     }
 }
 
-pub(crate) fn code_of_readable(error: &ReadableError) -> i32 {
+pub(crate) fn code_of_readable(error: &ReadableError, count: &mut usize) -> i32
+    ensures code { result ≡ readable_code error.now }
+    ensures count { count.new ≡ readable_count error.now count.old }
+{
     match error {
         ReadableError::ClosedStream => NO_STREAM,
         ReadableError::IllegalOrderedRead => ORDER,
-        ReadableError::OutOfMemory => NO_MEMORY,
+        ReadableError::OutOfMemory => {
+            *count = 0;
+            NO_MEMORY
+        }
     }
 }
 
-pub(crate) fn code_of_settle(error: &SettleError) -> i32 {
+// Why a read gave no bytes.
+pub(crate) fn code_of_last(last: &LastAnswer, app_code: &mut u64) -> i32
+    ensures code { result ≡ last_code last.now }
+    ensures app_code { app_code.new ≡ last_reset last.now app_code.old }
+{
+    match last {
+        LastAnswer::Blocked => BLOCKED,
+        LastAnswer::Ended => END,
+        LastAnswer::Reset(code) => {
+            *app_code = code.into_inner();
+            RESET
+        }
+        LastAnswer::Memory => NO_MEMORY,
+        LastAnswer::More => OK,
+    }
+}
+
+pub(crate) fn code_of_settle(error: &SettleError) -> i32
+    ensures { result ≡ settle_code error.now }
+{
     match error {
         SettleError::UnknownToken => TOKEN,
         SettleError::OutOfMemory => NO_MEMORY,
     }
 }
 
-pub(crate) fn code_of_datagram(error: &DatagramError) -> i32 {
+pub(crate) fn code_of_datagram(error: &DatagramError) -> i32
+    ensures { result ≡ datagram_code error.now }
+{
     match error {
         DatagramError::UnsupportedByPeer => DATAGRAMS_OFF,
         DatagramError::Disabled => DATAGRAMS_OFF,

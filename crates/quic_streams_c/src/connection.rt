@@ -1,9 +1,17 @@
 //! A session is made, set and closed, and tells its events.
 
-ghost use Rattle.std.specs.Prelude.{◌≡◌, pos, IsSome, IsNone, IfSome};
-ghost use Rattle.std.specs.declared.option.Option.TheVariants.{Some, None};
+ghost use Rattle.std.specs.Prelude.{◌≡◌, ◌≤◌, ◌^◌, IfOk, MatchOption};
+ghost use Rattle.std.specs.declared.option.Option.TheVariants.{None};
+ghost use Rattle.quic_streams_c.specs.Sessions.{Unchanged};
+ghost use Rattle.quic_streams_c.specs.Answers.{TellsDone, memory_code};
+ghost use Rattle.quic_streams_c.specs.Calls.{Calls};
+ghost use Rattle.quic_streams_c.specs.Events.{raw_event, event_at, TellsEvent, TellsRaw, PollsRaw};
+ghost use Rattle.quic_streams_c.specs.Settings.{side_at, limits_of, IsConfig, IsConfigOf, IsNewOf, Begins, AreLimits, peer_limits, SetsLimits, Closes, Rejects, SendsEarlyAgain, SetsSendWindow, SetsReceiveWindow, SetsConcurrentRaw, flag, IsInfo, TellsInfo};
+ghost use Rattle.quic_session.specs.Sessions.{datagrams_of, next_told};
 
-use crate::codes::{ARGUMENT, CLOSED, DONE, IN_USE, NO_MEMORY, OK, dir_of, id_of, number_of};
+use crate::codes::{
+    ARGUMENT, CLOSED, DONE, IN_USE, NO_MEMORY, OK, dir_of, id_of, length_of, number_of, small,
+};
 use crate::handle::{Handle, closed, holding, take_out};
 use quic_datagrams::DatagramLimits;
 use quic_session::Session;
@@ -76,17 +84,10 @@ pub struct RawInfo {
 // From this count of streams on there is none (RFC 9000 section 4.6).
 const COUNT_END: u64 = (1 << 60) + 1;
 
-// A length where one is given, and `None` for the greatest number.
-fn length_of(number: u64) -> Option<usize> {
-    if number == u64::MAX {
-        None
-    } else {
-        Some(number as usize)
-    }
-}
-
 // The limits of datagrams.
-fn datagram_limits(config: &RawConfig) -> DatagramLimits {
+fn datagram_limits(config: &RawConfig) -> DatagramLimits
+    ensures { result ≡ limits_of config.now }
+{
     DatagramLimits {
         receive: length_of(config.datagram_receive),
         send: config.datagram_send as usize,
@@ -94,34 +95,49 @@ fn datagram_limits(config: &RawConfig) -> DatagramLimits {
     }
 }
 
-// The session of a configuration, or `None` where a number is above its bound.
-fn session_of(alloc: Global, config: &RawConfig) -> Result<Option<Box<Session>>, OutOfMemory> {
-    let side = match config.side {
-        0 => Side::Client,
-        1 => Side::Server,
-        _ => return Ok(None),
-    };
-    if config.max_remote_uni >= COUNT_END || config.max_remote_bi >= COUNT_END {
-        return Ok(None);
+// The side of a number.
+fn side_of(number: u32) -> Side
+    ensures { result ≡ side_at number }
+{
+    if number == 0 {
+        Side::Client
+    } else {
+        Side::Server
     }
-    let Some(receive_window) = VarInt::from_u64(config.receive_window) else {
-        return Ok(None);
-    };
-    let Some(stream_window) = VarInt::from_u64(config.stream_window) else {
-        return Ok(None);
-    };
-    let config = Config {
-        side,
-        max_remote_uni: VarInt::new(config.max_remote_uni),
-        max_remote_bi: VarInt::new(config.max_remote_bi),
-        send_window: config.send_window,
+}
+
+// The configuration of numbers, or `None` where one is above its bound.
+fn config_of(raw: &RawConfig) -> Option<Config>
+    ensures { MatchOption result (IsConfig raw.now → ⊥) (λ c. IsConfig raw.now × IsConfigOf raw.now c) }
+{
+    if raw.size != 64 || raw.side >= 2 {
+        return None;
+    }
+    if raw.max_remote_uni >= COUNT_END || raw.max_remote_bi >= COUNT_END {
+        return None;
+    }
+    let receive_window = small(raw.receive_window)?;
+    let stream_window = small(raw.stream_window)?;
+    Some(Config {
+        side: side_of(raw.side),
+        max_remote_uni: VarInt::new(raw.max_remote_uni),
+        max_remote_bi: VarInt::new(raw.max_remote_bi),
+        send_window: raw.send_window,
         receive_window,
         stream_window,
-        datagrams: datagram_limits(config),
-    };
-    let session = Session::new(alloc, &config)?;
+        datagrams: datagram_limits(raw),
+    })
+}
+
+// A session of a configuration.
+fn new_session(alloc: Global, config: &Config) -> Result<Box<Session>, OutOfMemory>
+    requires uni { config.now.max_remote_uni ≤ 2 ^ 60 }
+    requires bi { config.now.max_remote_bi ≤ 2 ^ 60 }
+    ensures { IfOk result (λ s. IsNewOf config.now s.value) }
+{
+    let session = Session::new(alloc, config)?;
     match Box::new(alloc, session) {
-        Ok(session) => Ok(Some(session)),
+        Ok(session) => Ok(session),
         Err(_) => Err(OutOfMemory),
     }
 }
@@ -129,22 +145,19 @@ fn session_of(alloc: Global, config: &RawConfig) -> Result<Option<Box<Session>>,
 /// Makes a session.
 #[unsafe(no_mangle)]
 pub extern "C" fn qs_conn_open(alloc: Global, handle: &mut Handle, config: &RawConfig) -> i32
-    ensures in_use { IsSome handle.old.slot.value → (result ≡ IN_USE) × (handle.new.slot.value ≡ handle.old.slot.value) }
-    ensures opened { result ≡ OK → IsSome handle.new.slot.value }
-    ensures refused { IsNone handle.old.slot.value → (result ≡ OK → ⊥) → IsNone handle.new.slot.value }
+    ensures { Begins config.now handle.old.slot.value result handle.new.slot.value }
 {
     if handle.live == 1 {
         return IN_USE;
     }
-    if config.size != 64 {
+    let Some(config) = config_of(config) else {
         return ARGUMENT;
-    }
-    match session_of(alloc, config) {
-        Ok(Some(session)) => {
+    };
+    match new_session(alloc, &config) {
+        Ok(session) => {
             *handle = holding(session);
             OK
         }
-        Ok(None) => ARGUMENT,
         Err(_) => NO_MEMORY,
     }
 }
@@ -160,125 +173,169 @@ pub extern "C" fn qs_conn_free(alloc: Global, handle: &mut Handle)
 /// The connection is closed: nothing is opened or written any more.
 #[unsafe(no_mangle)]
 pub extern "C" fn qs_conn_close(alloc: Global, handle: &mut Handle) -> i32
-    ensures live { IsSome handle.old.slot.value → IsSome handle.new.slot.value }
-    ensures closed { IsNone handle.old.slot.value → IsNone handle.new.slot.value }
-    ensures answered { result ≡ OK → IsSome handle.old.slot.value }
+    ensures { Calls handle.old.slot.value result handle.new.slot.value (Unit {0}) (λ s t. Closes s result t) }
 {
     match take_out(alloc, handle) {
         None => CLOSED,
         Some(mut session) => {
-            session.close();
+            let code = close(&mut session);
             *handle = holding(session);
-            OK
+            code
         }
     }
 }
 
+// The same, of a session.
+fn close(session: &mut Session) -> i32
+    ensures { Closes session.old result session.new }
+{
+    session.close();
+    OK
+}
+
 // The limits of numbers, if none is too large.
-fn limits_of(raw: &RawLimits) -> Option<PeerLimits> {
+fn limits_of(raw: &RawLimits) -> Option<PeerLimits>
+    ensures { MatchOption result (AreLimits raw.now → ⊥) (λ limits. AreLimits raw.now × (limits ≡ peer_limits raw.now)) }
+{
     Some(PeerLimits {
-        initial_max_data: VarInt::from_u64(raw.max_data)?,
-        initial_max_streams_bidi: VarInt::from_u64(raw.max_streams_bidi)?,
-        initial_max_streams_uni: VarInt::from_u64(raw.max_streams_uni)?,
-        initial_max_stream_data_uni: VarInt::from_u64(raw.stream_data_uni)?,
-        initial_max_stream_data_bidi_local: VarInt::from_u64(raw.stream_data_bidi_local)?,
-        initial_max_stream_data_bidi_remote: VarInt::from_u64(raw.stream_data_bidi_remote)?,
+        initial_max_data: small(raw.max_data)?,
+        initial_max_streams_bidi: small(raw.max_streams_bidi)?,
+        initial_max_streams_uni: small(raw.max_streams_uni)?,
+        initial_max_stream_data_uni: small(raw.stream_data_uni)?,
+        initial_max_stream_data_bidi_local: small(raw.stream_data_bidi_local)?,
+        initial_max_stream_data_bidi_remote: small(raw.stream_data_bidi_remote)?,
     })
 }
 
 /// Takes the limits of the peer's transport parameters.
 #[unsafe(no_mangle)]
 pub extern "C" fn qs_set_peer_limits(alloc: Global, handle: &mut Handle, limits: &RawLimits) -> i32
-    ensures live { IsSome handle.old.slot.value → IsSome handle.new.slot.value }
-    ensures closed { IsNone handle.old.slot.value → IsNone handle.new.slot.value }
-    ensures answered { result ≡ OK → IsSome handle.old.slot.value }
+    ensures { Calls handle.old.slot.value result handle.new.slot.value (Unit {0}) (λ s t. SetsLimits s limits.now result t) }
+{
+    match take_out(alloc, handle) {
+        None => CLOSED,
+        Some(mut session) => {
+            let code = set_limits(&mut session, limits);
+            *handle = holding(session);
+            code
+        }
+    }
+}
+
+// The same, of a session.
+fn set_limits(session: &mut Session, limits: &RawLimits) -> i32
+    ensures { SetsLimits session.old limits.now result session.new }
 {
     let Some(params) = limits_of(limits) else {
         return ARGUMENT;
     };
-    match take_out(alloc, handle) {
-        None => CLOSED,
-        Some(mut session) => {
-            session.set_params(&params);
-            session.set_max_datagram(length_of(limits.max_datagram));
-            *handle = holding(session);
-            OK
-        }
-    }
+    session.set_params(&params);
+    session.set_max_datagram(length_of(limits.max_datagram));
+    OK
 }
 
 /// The peer rejected the early start of a client.
 #[unsafe(no_mangle)]
 pub extern "C" fn qs_zero_rtt_rejected(alloc: Global, handle: &mut Handle) -> i32
-    ensures live { IsSome handle.old.slot.value → IsSome handle.new.slot.value }
-    ensures closed { IsNone handle.old.slot.value → IsNone handle.new.slot.value }
-    ensures answered { result ≡ OK → IsSome handle.old.slot.value }
+    ensures { Calls handle.old.slot.value result handle.new.slot.value (Unit {0}) (λ s t. Rejects s result t) }
 {
     match take_out(alloc, handle) {
         None => CLOSED,
         Some(mut session) => {
-            session.zero_rtt_rejected();
+            let code = reject(&mut session);
             *handle = holding(session);
-            OK
+            code
         }
     }
+}
+
+// The same, of a session.
+fn reject(session: &mut Session) -> i32
+    ensures { Rejects session.old result session.new }
+{
+    session.zero_rtt_rejected();
+    OK
 }
 
 /// All that an early start sent is to be sent again.
 #[unsafe(no_mangle)]
 pub extern "C" fn qs_retransmit_all_for_0rtt(alloc: Global, handle: &mut Handle) -> i32
-    ensures live { IsSome handle.old.slot.value → IsSome handle.new.slot.value }
-    ensures closed { IsNone handle.old.slot.value → IsNone handle.new.slot.value }
-    ensures answered { result ≡ OK → IsSome handle.old.slot.value }
+    ensures { Calls handle.old.slot.value result handle.new.slot.value (Unit {0}) (λ s t. SendsEarlyAgain s result t) }
 {
     match take_out(alloc, handle) {
         None => CLOSED,
         Some(mut session) => {
-            let answer = session.retransmit_all_for_0rtt();
+            let code = send_early_again(&mut session);
             *handle = holding(session);
-            match answer {
-                Ok(()) => OK,
-                Err(_) => NO_MEMORY,
-            }
+            code
         }
+    }
+}
+
+// The same, of a session.
+fn send_early_again(session: &mut Session) -> i32
+    ensures { SendsEarlyAgain session.old result session.new }
+{
+    tell_memory(&session.retransmit_all_for_0rtt())
+}
+
+// That a call was done, or that memory was wanting.
+fn tell_memory(answer: &Result<(), OutOfMemory>) -> i32
+    ensures { TellsDone memory_code answer.now result }
+{
+    match answer {
+        Ok(()) => OK,
+        Err(_) => NO_MEMORY,
     }
 }
 
 /// Sets how many bytes that were written are kept until they are acknowledged.
 #[unsafe(no_mangle)]
 pub extern "C" fn qs_set_send_window(alloc: Global, handle: &mut Handle, window: u64) -> i32
-    ensures live { IsSome handle.old.slot.value → IsSome handle.new.slot.value }
-    ensures closed { IsNone handle.old.slot.value → IsNone handle.new.slot.value }
-    ensures answered { result ≡ OK → IsSome handle.old.slot.value }
+    ensures { Calls handle.old.slot.value result handle.new.slot.value (Unit {0}) (λ s t. SetsSendWindow s window result t) }
 {
     match take_out(alloc, handle) {
         None => CLOSED,
         Some(mut session) => {
-            session.set_send_window(window);
+            let code = set_send_window(&mut session, window);
             *handle = holding(session);
-            OK
+            code
         }
     }
+}
+
+// The same, of a session.
+fn set_send_window(session: &mut Session, window: u64) -> i32
+    ensures { SetsSendWindow session.old window result session.new }
+{
+    session.set_send_window(window);
+    OK
 }
 
 /// Sets how many bytes of all streams may be received and not read.
 #[unsafe(no_mangle)]
 pub extern "C" fn qs_set_receive_window(alloc: Global, handle: &mut Handle, window: u64) -> i32
-    ensures live { IsSome handle.old.slot.value → IsSome handle.new.slot.value }
-    ensures closed { IsNone handle.old.slot.value → IsNone handle.new.slot.value }
-    ensures answered { result ≡ OK → IsSome handle.old.slot.value }
+    ensures { Calls handle.old.slot.value result handle.new.slot.value (Unit {0}) (λ s t. SetsReceiveWindow s window result t) }
 {
-    let Some(window) = VarInt::from_u64(window) else {
-        return ARGUMENT;
-    };
     match take_out(alloc, handle) {
         None => CLOSED,
         Some(mut session) => {
-            let _ = session.set_receive_window(window);
+            let code = set_receive_window(&mut session, window);
             *handle = holding(session);
-            OK
+            code
         }
     }
+}
+
+// The same, of a session.
+fn set_receive_window(session: &mut Session, window: u64) -> i32
+    ensures { SetsReceiveWindow session.old window result session.new }
+{
+    let Some(window) = small(window) else {
+        return ARGUMENT;
+    };
+    let _ = session.set_receive_window(window);
+    OK
 }
 
 /// Sets how many streams of a direction the peer is to be able to use at a time.
@@ -289,28 +346,35 @@ pub extern "C" fn qs_set_max_concurrent(
     dir: u32,
     count: u64,
 ) -> i32
-    ensures live { IsSome handle.old.slot.value → IsSome handle.new.slot.value }
-    ensures closed { IsNone handle.old.slot.value → IsNone handle.new.slot.value }
-    ensures answered { result ≡ OK → IsSome handle.old.slot.value }
+    ensures { Calls handle.old.slot.value result handle.new.slot.value (Unit {0}) (λ s t. SetsConcurrentRaw s dir count result t) }
 {
-    let (Some(dir), Some(count)) = (dir_of(dir), VarInt::from_u64(count)) else {
-        return ARGUMENT;
-    };
     match take_out(alloc, handle) {
         None => CLOSED,
         Some(mut session) => {
-            let answer = session.set_max_concurrent(dir, count);
+            let code = set_max_concurrent(&mut session, dir, count);
             *handle = holding(session);
-            match answer {
-                Ok(()) => OK,
-                Err(_) => NO_MEMORY,
-            }
+            code
         }
     }
 }
 
+// The same, of a session.
+fn set_max_concurrent(session: &mut Session, dir: u32, count: u64) -> i32
+    ensures { SetsConcurrentRaw session.old dir count result session.new }
+{
+    let Some(dir) = dir_of(dir) else {
+        return ARGUMENT;
+    };
+    let Some(count) = small(count) else {
+        return ARGUMENT;
+    };
+    tell_memory(&session.set_max_concurrent(dir, count))
+}
+
 // An event of a kind.
-fn event(kind: u32, dir: u32, id: u64, app_code: u64) -> RawEvent {
+fn event(kind: u32, dir: u32, id: u64, app_code: u64) -> RawEvent
+    ensures { result ≡ raw_event kind dir id app_code }
+{
     RawEvent {
         kind,
         dir,
@@ -320,7 +384,9 @@ fn event(kind: u32, dir: u32, id: u64, app_code: u64) -> RawEvent {
 }
 
 // An event of the streams in numbers.
-fn event_of(told: StreamEvent) -> RawEvent {
+fn event_of(told: StreamEvent) -> RawEvent
+    ensures { result ≡ event_at told }
+{
     match told {
         StreamEvent::Opened { dir } => event(1, number_of(dir), 0, 0),
         StreamEvent::Readable { id } => event(2, number_of(id.dir()), id_of(id), 0),
@@ -334,7 +400,9 @@ fn event_of(told: StreamEvent) -> RawEvent {
 }
 
 // The next event of a session, if there is one.
-fn next_event(session: &mut Session) -> Option<RawEvent> {
+fn next_event(session: &mut Session) -> Option<RawEvent>
+    ensures { TellsEvent (next_told (datagrams_of session.old)) session.old result session.new }
+{
     match session.poll_datagrams() {
         Some(DatagramEvent::Received) => Some(event(7, 0, 0, 0)),
         Some(DatagramEvent::Unblocked) => Some(event(8, 0, 0, 0)),
@@ -348,33 +416,43 @@ fn next_event(session: &mut Session) -> Option<RawEvent> {
 /// Gives the next event.
 #[unsafe(no_mangle)]
 pub extern "C" fn qs_poll(alloc: Global, handle: &mut Handle, told: &mut RawEvent) -> i32
-    ensures live { IsSome handle.old.slot.value → IsSome handle.new.slot.value }
-    ensures closed { IsNone handle.old.slot.value → IsNone handle.new.slot.value }
-    ensures answered { result ≡ OK → IsSome handle.old.slot.value }
+    ensures { Calls handle.old.slot.value result handle.new.slot.value (told.new ≡ told.old) (λ s t. PollsRaw s result t told.old told.new) }
 {
     match take_out(alloc, handle) {
         None => CLOSED,
         Some(mut session) => {
-            let next = next_event(&mut session);
+            let code = poll(&mut session, told);
             *handle = holding(session);
-            match next {
-                Some(next) => {
-                    *told = next;
-                    OK
-                }
-                None => DONE,
-            }
+            code
         }
     }
 }
 
+// The same, of a session.
+fn poll(session: &mut Session, told: &mut RawEvent) -> i32
+    ensures { PollsRaw session.old result session.new told.old told.new }
+{
+    match next_event(session) {
+        Some(next) => {
+            *told = next;
+            OK
+        }
+        None => DONE,
+    }
+}
+
 // A flag as a number.
-fn flag(set: bool) -> u64 {
+fn flag(set: bool) -> u64
+    ensures { result ≡ flag set }
+{
     if set { 1 } else { 0 }
 }
 
 // What a session tells of itself.
-fn info_of(session: &mut Session) -> RawInfo {
+fn info_of(session: &mut Session) -> RawInfo
+    ensures info { IsInfo session.old result }
+    ensures same { Unchanged session.old session.new }
+{
     let (open_bidi, open_uni, send_streams) = session.stream_counts();
     let payloads = session.unsettled_payloads() as u64;
     let has_pending = flag(session.has_pending());
@@ -401,16 +479,22 @@ fn info_of(session: &mut Session) -> RawInfo {
 /// Tells the counts of a session.
 #[unsafe(no_mangle)]
 pub extern "C" fn qs_get_info(alloc: Global, handle: &mut Handle, info: &mut RawInfo) -> i32
-    ensures live { IsSome handle.old.slot.value → IsSome handle.new.slot.value }
-    ensures closed { IsNone handle.old.slot.value → IsNone handle.new.slot.value }
-    ensures answered { result ≡ OK → IsSome handle.old.slot.value }
+    ensures { Calls handle.old.slot.value result handle.new.slot.value (info.new ≡ info.old) (λ s t. TellsInfo s result t info.new) }
 {
     match take_out(alloc, handle) {
         None => CLOSED,
         Some(mut session) => {
-            *info = info_of(&mut session);
+            let code = tell_info(&mut session, info);
             *handle = holding(session);
-            OK
+            code
         }
     }
+}
+
+// The same, of a session.
+fn tell_info(session: &mut Session, info: &mut RawInfo) -> i32
+    ensures { TellsInfo session.old result session.new info.new }
+{
+    *info = info_of(session);
+    OK
 }

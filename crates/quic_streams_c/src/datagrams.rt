@@ -1,10 +1,14 @@
 //! Datagrams (RFC 9221).
 
-ghost use Rattle.std.specs.Prelude.{◌≡◌, pos, IsSome, IsNone, IfSome};
+ghost use Rattle.std.specs.Prelude.{◌≡◌};
+ghost use Rattle.quic_streams_c.specs.Answers.{TellsDone, TellsOption, datagram_code};
+ghost use Rattle.quic_streams_c.specs.Calls.{Calls};
+ghost use Rattle.quic_streams_c.specs.Datagrams.{QueuesRaw, TakesRaw, TellsMax, TellsSpace, SetsMax};
 
-use crate::codes::{CLOSED, DATAGRAMS_OFF, DONE, OK, TOO_SMALL, code_of_datagram};
+use crate::codes::{CLOSED, DATAGRAMS_OFF, DONE, OK, TOO_SMALL, code_of_datagram, length_of};
 use crate::handle::{Handle, holding, take_out};
 use quic_session::Session;
+use quic_session::datagrams::DatagramError;
 use std::alloc::Global;
 
 /// Queues a datagram.
@@ -15,25 +19,60 @@ pub extern "C" fn qs_datagram_send(
     bytes: &[u8],
     drop_oldest: u32,
 ) -> i32
-    ensures live { IsSome handle.old.slot.value → IsSome handle.new.slot.value }
-    ensures closed { IsNone handle.old.slot.value → IsNone handle.new.slot.value }
-    ensures answered { result ≡ OK → IsSome handle.old.slot.value }
+    ensures { Calls handle.old.slot.value result handle.new.slot.value (Unit {0}) (λ s t. QueuesRaw s bytes.now drop_oldest result t) }
 {
     match take_out(alloc, handle) {
         None => CLOSED,
         Some(mut session) => {
-            let answer = session.send_datagram(bytes, drop_oldest != 0);
+            let code = send(&mut session, bytes, drop_oldest);
             *handle = holding(session);
-            match answer {
-                Ok(()) => OK,
-                Err(error) => code_of_datagram(&error),
-            }
+            code
         }
     }
 }
 
-// Copies the oldest received datagram out.
-fn receive(session: &mut Session, out: &mut [u8], count: &mut usize) -> i32 {
+// The same, of a session.
+fn send(session: &mut Session, bytes: &[u8], drop_oldest: u32) -> i32
+    ensures { QueuesRaw session.old bytes.now drop_oldest result session.new }
+{
+    let drop_oldest = drop_oldest != 0;
+    tell_queued(&session.send_datagram(bytes, drop_oldest))
+}
+
+// That a datagram was queued, or why not.
+fn tell_queued(answer: &Result<(), DatagramError>) -> i32
+    ensures { TellsDone datagram_code answer.now result }
+{
+    match answer {
+        Ok(()) => OK,
+        Err(error) => code_of_datagram(error),
+    }
+}
+
+/// Takes the oldest received datagram out.
+#[unsafe(no_mangle)]
+pub extern "C" fn qs_datagram_recv(
+    alloc: Global,
+    handle: &mut Handle,
+    out: &mut [u8],
+    count: &mut usize,
+) -> i32
+    ensures { Calls handle.old.slot.value result handle.new.slot.value ((out.new ≡ out.old) × (count.new ≡ count.old)) (λ s t. TakesRaw s out.old result t out.new count.old count.new) }
+{
+    match take_out(alloc, handle) {
+        None => CLOSED,
+        Some(mut session) => {
+            let code = receive(&mut session, out, count);
+            *handle = holding(session);
+            code
+        }
+    }
+}
+
+// The same, of a session.
+fn receive(session: &mut Session, out: &mut [u8], count: &mut usize) -> i32
+    ensures { TakesRaw session.old out.old result session.new out.new count.old count.new }
+{
     let Some(length) = session.datagram_length() else {
         return DONE;
     };
@@ -49,48 +88,31 @@ fn receive(session: &mut Session, out: &mut [u8], count: &mut usize) -> i32 {
     OK
 }
 
-/// Takes the oldest received datagram out.
+/// Tells the greatest length of a datagram.
 #[unsafe(no_mangle)]
-pub extern "C" fn qs_datagram_recv(
-    alloc: Global,
-    handle: &mut Handle,
-    out: &mut [u8],
-    count: &mut usize,
-) -> i32
-    ensures live { IsSome handle.old.slot.value → IsSome handle.new.slot.value }
-    ensures closed { IsNone handle.old.slot.value → IsNone handle.new.slot.value }
-    ensures answered { result ≡ OK → IsSome handle.old.slot.value }
+pub extern "C" fn qs_datagram_max_size(alloc: Global, handle: &mut Handle, size: &mut usize) -> i32
+    ensures { Calls handle.old.slot.value result handle.new.slot.value (size.new ≡ size.old) (λ s t. TellsMax s result t size.old size.new) }
 {
     match take_out(alloc, handle) {
         None => CLOSED,
         Some(mut session) => {
-            let code = receive(&mut session, out, count);
+            let code = tell_max(&mut session, size);
             *handle = holding(session);
             code
         }
     }
 }
 
-/// Tells the greatest length of a datagram.
-#[unsafe(no_mangle)]
-pub extern "C" fn qs_datagram_max_size(alloc: Global, handle: &mut Handle, size: &mut usize) -> i32
-    ensures live { IsSome handle.old.slot.value → IsSome handle.new.slot.value }
-    ensures closed { IsNone handle.old.slot.value → IsNone handle.new.slot.value }
-    ensures answered { result ≡ OK → IsSome handle.old.slot.value }
+// The same, of a session.
+fn tell_max(session: &mut Session, size: &mut usize) -> i32
+    ensures { TellsMax session.old result session.new size.old size.new }
 {
-    match take_out(alloc, handle) {
-        None => CLOSED,
-        Some(session) => {
-            let max = session.max_datagram();
-            *handle = holding(session);
-            match max {
-                Some(max) => {
-                    *size = max;
-                    OK
-                }
-                None => DATAGRAMS_OFF,
-            }
+    match session.max_datagram() {
+        Some(max) => {
+            *size = max;
+            OK
         }
+        None => DATAGRAMS_OFF,
     }
 }
 
@@ -101,38 +123,45 @@ pub extern "C" fn qs_datagram_send_space(
     handle: &mut Handle,
     size: &mut usize,
 ) -> i32
-    ensures live { IsSome handle.old.slot.value → IsSome handle.new.slot.value }
-    ensures closed { IsNone handle.old.slot.value → IsNone handle.new.slot.value }
-    ensures answered { result ≡ OK → IsSome handle.old.slot.value }
+    ensures { Calls handle.old.slot.value result handle.new.slot.value (size.new ≡ size.old) (λ s t. TellsSpace s result t size.new) }
 {
     match take_out(alloc, handle) {
         None => CLOSED,
         Some(mut session) => {
-            *size = session.datagram_send_space();
+            let code = tell_space(&mut session, size);
             *handle = holding(session);
-            OK
+            code
         }
     }
+}
+
+// The same, of a session.
+fn tell_space(session: &mut Session, size: &mut usize) -> i32
+    ensures { TellsSpace session.old result session.new size.new }
+{
+    *size = session.datagram_send_space();
+    OK
 }
 
 /// Sets the greatest length of a datagram.
 #[unsafe(no_mangle)]
 pub extern "C" fn qs_datagram_set_max_size(alloc: Global, handle: &mut Handle, size: u64) -> i32
-    ensures live { IsSome handle.old.slot.value → IsSome handle.new.slot.value }
-    ensures closed { IsNone handle.old.slot.value → IsNone handle.new.slot.value }
-    ensures answered { result ≡ OK → IsSome handle.old.slot.value }
+    ensures { Calls handle.old.slot.value result handle.new.slot.value (Unit {0}) (λ s t. SetsMax s size result t) }
 {
     match take_out(alloc, handle) {
         None => CLOSED,
         Some(mut session) => {
-            let max = if size == u64::MAX {
-                None
-            } else {
-                Some(size as usize)
-            };
-            session.set_max_datagram(max);
+            let code = set_max(&mut session, size);
             *handle = holding(session);
-            OK
+            code
         }
     }
+}
+
+// The same, of a session.
+fn set_max(session: &mut Session, size: u64) -> i32
+    ensures { SetsMax session.old size result session.new }
+{
+    session.set_max_datagram(length_of(size));
+    OK
 }

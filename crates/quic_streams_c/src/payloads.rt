@@ -1,10 +1,16 @@
 //! Payloads that a session writes, and what becomes of them.
 
-ghost use Rattle.std.specs.Prelude.{◌≡◌, pos, IsSome, IsNone, IfSome};
+ghost use Rattle.std.specs.Prelude.{◌≡◌, ◌==◌, not};
+ghost use Rattle.quic_streams_c.specs.Answers.{TellsDone, settle_code};
+ghost use Rattle.quic_streams_c.specs.Calls.{Calls};
+ghost use Rattle.quic_streams_c.specs.Payloads.{parts_at, raw_payload, TellsPayload, EmitsRaw, AcksRaw, LosesRaw};
 
 use crate::codes::{ARGUMENT, CLOSED, DONE, NO_MEMORY, OK, code_of_settle};
 use crate::handle::{Handle, holding, take_out};
-use quic_session::emitting::Parts;
+use quic_session::Session;
+use quic_session::emitting::{Emitted, Parts};
+use quic_session::settling::SettleError;
+use quic_values::OutOfMemory;
 use std::alloc::Global;
 
 /// What was written.
@@ -17,15 +23,18 @@ pub struct RawPayload {
 }
 
 // The parts of a number.
-fn parts_of(number: u32) -> Option<Parts> {
-    if number == 0 || number > 7 {
-        return None;
+fn parts_of(number: u32) -> Option<Parts>
+    ensures { result ≡ parts_at number }
+{
+    if number > 0 && number < 8 {
+        Some(Parts {
+            control: number % 2 == 1,
+            datagrams: number / 2 % 2 == 1,
+            streams: number / 4 == 1,
+        })
+    } else {
+        None
     }
-    Some(Parts {
-        control: number % 2 == 1,
-        datagrams: number / 2 % 2 == 1,
-        streams: number / 4 == 1,
-    })
 }
 
 /// Writes what is to be sent.
@@ -38,70 +47,110 @@ pub extern "C" fn qs_emit(
     out: &mut [u8],
     payload: &mut RawPayload,
 ) -> i32
-    ensures live { IsSome handle.old.slot.value → IsSome handle.new.slot.value }
-    ensures closed { IsNone handle.old.slot.value → IsNone handle.new.slot.value }
-    ensures answered { result ≡ OK → IsSome handle.old.slot.value }
+    ensures { Calls handle.old.slot.value result handle.new.slot.value ((out.new ≡ out.old) × (payload.new ≡ payload.old)) (λ s t. EmitsRaw s parts fair out.old result t out.new payload.old payload.new) }
+{
+    match take_out(alloc, handle) {
+        None => CLOSED,
+        Some(mut session) => {
+            let code = emit(&mut session, parts, fair, out, payload);
+            *handle = holding(session);
+            code
+        }
+    }
+}
+
+// The same, of a session.
+fn emit(
+    session: &mut Session,
+    parts: u32,
+    fair: u32,
+    out: &mut [u8],
+    payload: &mut RawPayload,
+) -> i32
+    ensures { EmitsRaw session.old parts fair out.old result session.new out.new payload.old payload.new }
 {
     let Some(parts) = parts_of(parts) else {
         return ARGUMENT;
     };
-    match take_out(alloc, handle) {
-        None => CLOSED,
-        Some(mut session) => {
-            let answer = session.emit(out, parts, fair != 0);
-            *handle = holding(session);
-            match answer {
-                Ok(Some(emitted)) => {
-                    *payload = RawPayload {
-                        len: emitted.len as u64,
-                        token: emitted.token,
-                        ends: if emitted.ends { 1 } else { 0 },
-                    };
-                    OK
-                }
-                Ok(None) => DONE,
-                Err(_) => NO_MEMORY,
-            }
+    let fair = fair != 0;
+    tell_payload(&session.emit(out, parts, fair), payload)
+}
+
+// What was written, or why nothing.
+fn tell_payload(answer: &Result<Option<Emitted>, OutOfMemory>, payload: &mut RawPayload) -> i32
+    ensures { TellsPayload answer.now result payload.old payload.new }
+{
+    match answer {
+        Ok(Some(emitted)) => {
+            *payload = raw_payload(emitted);
+            OK
         }
+        Ok(None) => DONE,
+        Err(_) => NO_MEMORY,
+    }
+}
+
+// A payload in numbers.
+fn raw_payload(emitted: &Emitted) -> RawPayload
+    ensures { result ≡ raw_payload emitted.now }
+{
+    RawPayload {
+        len: emitted.len as u64,
+        token: emitted.token,
+        ends: if emitted.ends { 1 } else { 0 },
     }
 }
 
 /// A payload was acknowledged.
 #[unsafe(no_mangle)]
 pub extern "C" fn qs_acked(alloc: Global, handle: &mut Handle, token: u64) -> i32
-    ensures live { IsSome handle.old.slot.value → IsSome handle.new.slot.value }
-    ensures closed { IsNone handle.old.slot.value → IsNone handle.new.slot.value }
-    ensures answered { result ≡ OK → IsSome handle.old.slot.value }
+    ensures { Calls handle.old.slot.value result handle.new.slot.value (Unit {0}) (λ s t. AcksRaw s token result t) }
 {
     match take_out(alloc, handle) {
         None => CLOSED,
         Some(mut session) => {
-            let answer = session.acked(token);
+            let code = acked(&mut session, token);
             *handle = holding(session);
-            match answer {
-                Ok(()) => OK,
-                Err(error) => code_of_settle(&error),
-            }
+            code
         }
     }
+}
+
+// The same, of a session.
+fn acked(session: &mut Session, token: u64) -> i32
+    ensures { AcksRaw session.old token result session.new }
+{
+    tell_settled(&session.acked(token))
 }
 
 /// A payload was lost.
 #[unsafe(no_mangle)]
 pub extern "C" fn qs_lost(alloc: Global, handle: &mut Handle, token: u64) -> i32
-    ensures live { IsSome handle.old.slot.value → IsSome handle.new.slot.value }
-    ensures closed { IsNone handle.old.slot.value → IsNone handle.new.slot.value }
-    ensures answered { result ≡ OK → IsSome handle.old.slot.value }
+    ensures { Calls handle.old.slot.value result handle.new.slot.value (Unit {0}) (λ s t. LosesRaw s token result t) }
 {
     match take_out(alloc, handle) {
         None => CLOSED,
         Some(mut session) => {
-            let answer = session.lost(token);
+            let code = lost(&mut session, token);
             *handle = holding(session);
-            match answer {
-                Ok(()) => OK,
-                Err(error) => code_of_settle(&error),
-            }
+            code
         }
+    }
+}
+
+// The same, of a session.
+fn lost(session: &mut Session, token: u64) -> i32
+    ensures { LosesRaw session.old token result session.new }
+{
+    tell_settled(&session.lost(token))
+}
+
+// That a payload was settled, or why not.
+fn tell_settled(answer: &Result<(), SettleError>) -> i32
+    ensures { TellsDone settle_code answer.now result }
+{
+    match answer {
+        Ok(()) => OK,
+        Err(error) => code_of_settle(error),
     }
 }

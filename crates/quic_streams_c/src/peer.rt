@@ -1,12 +1,17 @@
 //! Frames of the peer.
 
-ghost use Rattle.std.specs.Prelude.{◌≡◌, pos, IsSome, IsNone, IfSome};
+ghost use Rattle.std.specs.Prelude.{◌≡◌, ◌==◌, not};
+ghost use Rattle.quic_streams_c.specs.Calls.{Calls};
+ghost use Rattle.quic_streams_c.specs.Frames.{IsTold, TellsFrame, TellsReceived, HandsFrame, HandsStream, HandsReset, HandsStop, HandsMaxData, HandsMaxStreamData, HandsMaxStreams, HandsDatagram, ReceivesRaw};
 
-use crate::codes::{ARGUMENT, CLOSED, MALFORMED, NO_MEMORY, OK, PROTOCOL, dir_of, stream_of};
+use crate::codes::{
+    ARGUMENT, CLOSED, MALFORMED, NO_MEMORY, OK, PROTOCOL, dir_of, small, stream_of,
+};
 use crate::handle::{Handle, holding, take_out};
+use quic_receiving::ShouldTransmit;
 use quic_session::Session;
 use quic_session::receiving::PayloadError;
-use quic_values::{Bytes, VarInt};
+use quic_values::Bytes;
 use quic_wire::frame::{Datagram, ResetStream, StopSending, Stream};
 use quic_wire::{Frame, ReceiveError, TransportError};
 use std::alloc::Global;
@@ -21,7 +26,9 @@ pub struct RawError {
 }
 
 // An error in numbers.
-fn tell(error: &TransportError, told: &mut RawError) {
+fn tell(error: &TransportError, told: &mut RawError)
+    ensures { IsTold error.now.code error.now.reason.now told.new }
+{
     told.code = error.code;
     let reason = error.reason.as_bytes();
     let length = reason.len().min(80);
@@ -39,65 +46,65 @@ pub extern "C" fn qs_receive(
     next: &mut usize,
     error: &mut RawError,
 ) -> i32
-    ensures live { IsSome handle.old.slot.value → IsSome handle.new.slot.value }
-    ensures closed { IsNone handle.old.slot.value → IsNone handle.new.slot.value }
-    ensures answered { result ≡ OK → IsSome handle.old.slot.value }
+    ensures { Calls handle.old.slot.value result handle.new.slot.value ((next.new ≡ next.old) × (error.new ≡ error.old)) (λ s t. ReceivesRaw s payload.now next.old result t next.new error.old error.new) }
 {
     match take_out(alloc, handle) {
         None => CLOSED,
         Some(mut session) => {
-            let received = session.receive(payload, *next);
-            *handle = holding(session);
-            *next = received.next;
-            match received.answer {
-                Ok(()) => OK,
-                Err(PayloadError::Malformed) => {
-                    tell(
-                        &TransportError::frame_encoding_error("malformed frame"),
-                        error,
-                    );
-                    MALFORMED
-                }
-                Err(PayloadError::Transport(why)) => {
-                    tell(&why, error);
-                    PROTOCOL
-                }
-                Err(PayloadError::OutOfMemory) => NO_MEMORY,
-            }
-        }
-    }
-}
-
-// Hands a frame to the session of a handle.
-fn hand(
-    alloc: Global,
-    handle: &mut Handle,
-    frame: Frame,
-    payload_len: usize,
-    error: &mut RawError,
-) -> i32
-    ensures live { IsSome handle.old.slot.value → IsSome handle.new.slot.value }
-    ensures closed { IsNone handle.old.slot.value → IsNone handle.new.slot.value }
-    ensures answered { result ≡ OK → IsSome handle.old.slot.value }
-{
-    match take_out(alloc, handle) {
-        None => CLOSED,
-        Some(mut session) => {
-            let code = hand_to(&mut session, frame, payload_len, error);
+            let code = receive(&mut session, payload, next, error);
             *handle = holding(session);
             code
         }
     }
 }
 
+// The same, of a session.
+fn receive(session: &mut Session, payload: &[u8], next: &mut usize, error: &mut RawError) -> i32
+    ensures { ReceivesRaw session.old payload.now next.old result session.new next.new error.old error.new }
+{
+    let received = session.receive(payload, *next);
+    *next = received.next;
+    tell_received(&received.answer, error)
+}
+
+// What came of a payload.
+fn tell_received(answer: &Result<(), PayloadError>, error: &mut RawError) -> i32
+    ensures { TellsReceived answer.now result error.old error.new }
+{
+    match answer {
+        Ok(()) => OK,
+        Err(PayloadError::Malformed) => {
+            tell(
+                &TransportError::frame_encoding_error("malformed frame"),
+                error,
+            );
+            MALFORMED
+        }
+        Err(PayloadError::Transport(why)) => {
+            tell(why, error);
+            PROTOCOL
+        }
+        Err(PayloadError::OutOfMemory) => NO_MEMORY,
+    }
+}
+
 // Hands a frame to a session.
-fn hand_to(session: &mut Session, frame: Frame, payload_len: usize, error: &mut RawError) -> i32 {
-    match session.receive_frame_within(frame, payload_len) {
+fn hand(session: &mut Session, frame: Frame, payload_len: usize, error: &mut RawError) -> i32
+    ensures { HandsFrame session.old frame payload_len result session.new error.old error.new }
+{
+    tell_taken(&session.receive_frame_within(frame, payload_len), error)
+}
+
+// What came of a frame.
+fn tell_taken(answer: &Result<ShouldTransmit, ReceiveError>, error: &mut RawError) -> i32
+    ensures { TellsFrame answer.now result error.old error.new }
+{
+    match answer {
         Ok(_) => OK,
         Err(ReceiveError::CompactionMemory) => OK,
         Err(ReceiveError::OutOfMemory) => NO_MEMORY,
         Err(ReceiveError::Transport(why)) => {
-            tell(&why, error);
+            tell(why, error);
             PROTOCOL
         }
     }
@@ -115,11 +122,44 @@ pub extern "C" fn qs_on_stream(
     payload_len: usize,
     error: &mut RawError,
 ) -> i32
-    ensures live { IsSome handle.old.slot.value → IsSome handle.new.slot.value }
-    ensures closed { IsNone handle.old.slot.value → IsNone handle.new.slot.value }
-    ensures answered { result ≡ OK → IsSome handle.old.slot.value }
+    ensures { Calls handle.old.slot.value result handle.new.slot.value (error.new ≡ error.old) (λ s t. HandsStream s id offset bytes.now fin payload_len result t error.old error.new) }
 {
-    let (Some(id), Some(offset)) = (stream_of(id), VarInt::from_u64(offset)) else {
+    match take_out(alloc, handle) {
+        None => CLOSED,
+        Some(mut session) => {
+            let code = hand_stream(
+                alloc,
+                &mut session,
+                id,
+                offset,
+                bytes,
+                fin,
+                payload_len,
+                error,
+            );
+            *handle = holding(session);
+            code
+        }
+    }
+}
+
+// The same, of a session.
+fn hand_stream(
+    alloc: Global,
+    session: &mut Session,
+    id: u64,
+    offset: u64,
+    bytes: &[u8],
+    fin: u32,
+    payload_len: usize,
+    error: &mut RawError,
+) -> i32
+    ensures { HandsStream session.old id offset bytes.now fin payload_len result session.new error.old error.new }
+{
+    let Some(id) = stream_of(id) else {
+        return ARGUMENT;
+    };
+    let Some(offset) = small(offset) else {
         return ARGUMENT;
     };
     let Ok(bytes) = Bytes::copy_from_slice(alloc, bytes) else {
@@ -131,7 +171,7 @@ pub extern "C" fn qs_on_stream(
         fin: fin != 0,
         bytes,
     });
-    hand(alloc, handle, frame, payload_len, error)
+    hand(session, frame, payload_len, error)
 }
 
 /// Takes a RESET_STREAM frame.
@@ -144,23 +184,43 @@ pub extern "C" fn qs_on_reset_stream(
     final_size: u64,
     error: &mut RawError,
 ) -> i32
-    ensures live { IsSome handle.old.slot.value → IsSome handle.new.slot.value }
-    ensures closed { IsNone handle.old.slot.value → IsNone handle.new.slot.value }
-    ensures answered { result ≡ OK → IsSome handle.old.slot.value }
+    ensures { Calls handle.old.slot.value result handle.new.slot.value (error.new ≡ error.old) (λ s t. HandsReset s id app_code final_size result t error.old error.new) }
 {
-    let (Some(id), Some(error_code), Some(final_offset)) = (
-        stream_of(id),
-        VarInt::from_u64(app_code),
-        VarInt::from_u64(final_size),
-    ) else {
+    match take_out(alloc, handle) {
+        None => CLOSED,
+        Some(mut session) => {
+            let code = hand_reset(&mut session, id, app_code, final_size, error);
+            *handle = holding(session);
+            code
+        }
+    }
+}
+
+// The same, of a session.
+fn hand_reset(
+    session: &mut Session,
+    id: u64,
+    app_code: u64,
+    final_size: u64,
+    error: &mut RawError,
+) -> i32
+    ensures { HandsReset session.old id app_code final_size result session.new error.old error.new }
+{
+    let Some(id) = stream_of(id) else {
+        return ARGUMENT;
+    };
+    let Some(app_code) = small(app_code) else {
+        return ARGUMENT;
+    };
+    let Some(final_size) = small(final_size) else {
         return ARGUMENT;
     };
     let frame = Frame::ResetStream(ResetStream {
         id,
-        error_code,
-        final_offset,
+        error_code: app_code,
+        final_offset: final_size,
     });
-    hand(alloc, handle, frame, 0, error)
+    hand(session, frame, 0, error)
 }
 
 /// Takes a STOP_SENDING frame.
@@ -172,15 +232,33 @@ pub extern "C" fn qs_on_stop_sending(
     app_code: u64,
     error: &mut RawError,
 ) -> i32
-    ensures live { IsSome handle.old.slot.value → IsSome handle.new.slot.value }
-    ensures closed { IsNone handle.old.slot.value → IsNone handle.new.slot.value }
-    ensures answered { result ≡ OK → IsSome handle.old.slot.value }
+    ensures { Calls handle.old.slot.value result handle.new.slot.value (error.new ≡ error.old) (λ s t. HandsStop s id app_code result t error.old error.new) }
 {
-    let (Some(id), Some(error_code)) = (stream_of(id), VarInt::from_u64(app_code)) else {
+    match take_out(alloc, handle) {
+        None => CLOSED,
+        Some(mut session) => {
+            let code = hand_stop(&mut session, id, app_code, error);
+            *handle = holding(session);
+            code
+        }
+    }
+}
+
+// The same, of a session.
+fn hand_stop(session: &mut Session, id: u64, app_code: u64, error: &mut RawError) -> i32
+    ensures { HandsStop session.old id app_code result session.new error.old error.new }
+{
+    let Some(id) = stream_of(id) else {
         return ARGUMENT;
     };
-    let frame = Frame::StopSending(StopSending { id, error_code });
-    hand(alloc, handle, frame, 0, error)
+    let Some(app_code) = small(app_code) else {
+        return ARGUMENT;
+    };
+    let frame = Frame::StopSending(StopSending {
+        id,
+        error_code: app_code,
+    });
+    hand(session, frame, 0, error)
 }
 
 /// Takes a MAX_DATA frame.
@@ -191,14 +269,26 @@ pub extern "C" fn qs_on_max_data(
     limit: u64,
     error: &mut RawError,
 ) -> i32
-    ensures live { IsSome handle.old.slot.value → IsSome handle.new.slot.value }
-    ensures closed { IsNone handle.old.slot.value → IsNone handle.new.slot.value }
-    ensures answered { result ≡ OK → IsSome handle.old.slot.value }
+    ensures { Calls handle.old.slot.value result handle.new.slot.value (error.new ≡ error.old) (λ s t. HandsMaxData s limit result t error.old error.new) }
 {
-    let Some(limit) = VarInt::from_u64(limit) else {
+    match take_out(alloc, handle) {
+        None => CLOSED,
+        Some(mut session) => {
+            let code = hand_max_data(&mut session, limit, error);
+            *handle = holding(session);
+            code
+        }
+    }
+}
+
+// The same, of a session.
+fn hand_max_data(session: &mut Session, limit: u64, error: &mut RawError) -> i32
+    ensures { HandsMaxData session.old limit result session.new error.old error.new }
+{
+    let Some(limit) = small(limit) else {
         return ARGUMENT;
     };
-    hand(alloc, handle, Frame::MaxData(limit), 0, error)
+    hand(session, Frame::MaxData(limit), 0, error)
 }
 
 /// Takes a MAX_STREAM_DATA frame.
@@ -210,15 +300,30 @@ pub extern "C" fn qs_on_max_stream_data(
     limit: u64,
     error: &mut RawError,
 ) -> i32
-    ensures live { IsSome handle.old.slot.value → IsSome handle.new.slot.value }
-    ensures closed { IsNone handle.old.slot.value → IsNone handle.new.slot.value }
-    ensures answered { result ≡ OK → IsSome handle.old.slot.value }
+    ensures { Calls handle.old.slot.value result handle.new.slot.value (error.new ≡ error.old) (λ s t. HandsMaxStreamData s id limit result t error.old error.new) }
 {
-    let (Some(id), Some(limit)) = (stream_of(id), VarInt::from_u64(limit)) else {
+    match take_out(alloc, handle) {
+        None => CLOSED,
+        Some(mut session) => {
+            let code = hand_max_stream_data(&mut session, id, limit, error);
+            *handle = holding(session);
+            code
+        }
+    }
+}
+
+// The same, of a session.
+fn hand_max_stream_data(session: &mut Session, id: u64, limit: u64, error: &mut RawError) -> i32
+    ensures { HandsMaxStreamData session.old id limit result session.new error.old error.new }
+{
+    let Some(id) = stream_of(id) else {
+        return ARGUMENT;
+    };
+    let Some(limit) = small(limit) else {
         return ARGUMENT;
     };
     let offset = limit.into_inner();
-    hand(alloc, handle, Frame::MaxStreamData { id, offset }, 0, error)
+    hand(session, Frame::MaxStreamData { id, offset }, 0, error)
 }
 
 /// Takes a MAX_STREAMS frame.
@@ -230,15 +335,30 @@ pub extern "C" fn qs_on_max_streams(
     count: u64,
     error: &mut RawError,
 ) -> i32
-    ensures live { IsSome handle.old.slot.value → IsSome handle.new.slot.value }
-    ensures closed { IsNone handle.old.slot.value → IsNone handle.new.slot.value }
-    ensures answered { result ≡ OK → IsSome handle.old.slot.value }
+    ensures { Calls handle.old.slot.value result handle.new.slot.value (error.new ≡ error.old) (λ s t. HandsMaxStreams s dir count result t error.old error.new) }
 {
-    let (Some(dir), Some(count)) = (dir_of(dir), VarInt::from_u64(count)) else {
+    match take_out(alloc, handle) {
+        None => CLOSED,
+        Some(mut session) => {
+            let code = hand_max_streams(&mut session, dir, count, error);
+            *handle = holding(session);
+            code
+        }
+    }
+}
+
+// The same, of a session.
+fn hand_max_streams(session: &mut Session, dir: u32, count: u64, error: &mut RawError) -> i32
+    ensures { HandsMaxStreams session.old dir count result session.new error.old error.new }
+{
+    let Some(dir) = dir_of(dir) else {
+        return ARGUMENT;
+    };
+    let Some(count) = small(count) else {
         return ARGUMENT;
     };
     let count = count.into_inner();
-    hand(alloc, handle, Frame::MaxStreams { dir, count }, 0, error)
+    hand(session, Frame::MaxStreams { dir, count }, 0, error)
 }
 
 /// Takes a DATAGRAM frame.
@@ -249,12 +369,24 @@ pub extern "C" fn qs_on_datagram(
     bytes: &[u8],
     error: &mut RawError,
 ) -> i32
-    ensures live { IsSome handle.old.slot.value → IsSome handle.new.slot.value }
-    ensures closed { IsNone handle.old.slot.value → IsNone handle.new.slot.value }
-    ensures answered { result ≡ OK → IsSome handle.old.slot.value }
+    ensures { Calls handle.old.slot.value result handle.new.slot.value (error.new ≡ error.old) (λ s t. HandsDatagram s bytes.now result t error.old error.new) }
+{
+    match take_out(alloc, handle) {
+        None => CLOSED,
+        Some(mut session) => {
+            let code = hand_datagram(alloc, &mut session, bytes, error);
+            *handle = holding(session);
+            code
+        }
+    }
+}
+
+// The same, of a session.
+fn hand_datagram(alloc: Global, session: &mut Session, bytes: &[u8], error: &mut RawError) -> i32
+    ensures { HandsDatagram session.old bytes.now result session.new error.old error.new }
 {
     let Ok(bytes) = Bytes::copy_from_slice(alloc, bytes) else {
         return NO_MEMORY;
     };
-    hand(alloc, handle, Frame::Datagram(Datagram { bytes }), 0, error)
+    hand(session, Frame::Datagram(Datagram { bytes }), 0, error)
 }

@@ -1,0 +1,9 @@
+use Rattle.std.proofs.Common.{refl, w32, to_z-of_z}
+use Rattle.quic_streams_c.proofs.Calls.{number-refused, number-given}
+use Rattle.quic_streams_c.proofs.application.tell_reset.Goals as goal
+
+pub returns-in_default : goal.returns-in_default
+returns-in_default c = number-refused c.stream_of.result _ _ _ c.stream_of.ensures c.in_default.not-Some ((refl, refl), refl)
+
+pub returns : goal.returns
+returns c = number-given c.in-Some.id _ _ _ c.in-Some.ensures (c.received_reset.result, (c.received_reset.ensures.tells, c.received_reset.ensures.unknown, c.received_reset.ensures.from, c.received_reset.ensures.beside), simp (to_z-of_z {w = w32} {z = c.put_reset.result} (record { sfits = c.put_reset.type_inv })) c.put_reset.ensures)

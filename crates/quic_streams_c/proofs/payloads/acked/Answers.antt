@@ -1,0 +1,5 @@
+use Rattle.std.proofs.Common.{w32, to_z-of_z}
+use Rattle.quic_streams_c.proofs.payloads.acked.Goals as goal
+
+pub returns : goal.returns
+returns c = (c.acked.result, c.acked.ensures.acks, c.acked.ensures.others, (simp (to_z-of_z {w = w32} {z = c.tell_settled.result} (record { sfits = c.tell_settled.type_inv })) c.tell_settled.ensures))

@@ -1,0 +1,180 @@
+-- What C sets of a session, and asks of it.
+use Rattle.std.specs.Prelude.{ℕ, ℤ, Bool, pos, negsuc, ◌≡◌, ◌⊎◌, ◌==◌, ◌^◌, ◌<◌, ◌≤◌, not, nat_lt, is_some, if◌then◌else◌, List, [], ◌∷◌, Option, Some, None, Result}
+use Rattle.std.specs.List.{list_any}
+use Rattle.quic_values.specs.declared.memory.OutOfMemory.{OutOfMemory}
+use Rattle.quic_values.specs.declared.ids.Side.{Side}
+use Rattle.quic_values.specs.declared.ids.Side.TheVariants.{Client, Server}
+use Rattle.quic_datagrams.specs.declared.datagrams.DatagramLimits.{DatagramLimits}
+use Rattle.quic_outgoing.specs.declared.limits.PeerLimits.{PeerLimits}
+use Rattle.quic_outgoing.specs.Outgoing.{with_params}
+use Rattle.quic_outgoing.specs.Early.{NoneAcked}
+use Rattle.quic_outgoing.specs.Transmitting.{sending_priority}
+use Rattle.quic_queue.specs.SendOrder.{ids_of, line}
+use Rattle.quic_limits.specs.SendingCredit.{with_window, writable}
+use Rattle.quic_limits.specs.Remote.{open_now}
+use Rattle.quic_retransmits.specs.Pending.{nothing}
+use Rattle.quic_history.specs.World.{Made, made_with, start}
+use Rattle.quic_history.specs.Early.{IsEarly, with_rejection, SendsAgain}
+use Rattle.quic_history.specs.History.{Event, Sending, Resized, SetConcurrent, Rejected, SentAgain, IsUnanswered, From}
+use Rattle.quic_history.specs.SendEvents.{GaveLimits, SetWindow}
+use Rattle.quic_history.specs.Sends.{with_out}
+use Rattle.quic_streams.specs.Waiting.{TellsEmpty}
+use Rattle.quic_streams.specs.declared.streams.ConnState.TheVariants as conn_state
+use Rattle.quic_endpoint.specs.Ends.{with_world, with_window_set, SetsConcurrentAt}
+use Rattle.quic_session.specs.declared.session.Session.{Session}
+use Rattle.quic_session.specs.declared.session.Config.{Config}
+use Rattle.quic_session.specs.Sessions.{end_of, datagrams_of, beside_of, with_datagrams, no_datagrams, with_max}
+use Rattle.quic_session.specs.Tokens.{unsettled, payload_count}
+use Rattle.quic_session.specs.Settling.{SettlesOnly}
+use Rattle.quic_streams_c.specs.declared.connection.RawConfig.{RawConfig}
+use Rattle.quic_streams_c.specs.declared.connection.RawLimits.{RawLimits}
+use Rattle.quic_streams_c.specs.declared.connection.RawInfo.{RawInfo}
+use Rattle.quic_streams_c.specs.Answers.{TellsDone, memory_code}
+use Rattle.quic_streams_c.specs.Calls.{Refuses, WithNumber}
+use Rattle.quic_streams_c.specs.Numbers.{small, dir_at, length_at}
+use Rattle.quic_streams_c.specs.Sessions.{GoesOn, Unchanged}
+
+abbrev pub side_at : ℕ → Side
+side_at n = if n == 0 then Client else Server
+
+-- a configuration has no number that is too large
+pub record IsConfig (c : RawConfig) : Type 0 where
+  pub size : c.size ≡ 64
+  pub side : c.side < 2
+  pub uni : c.max_remote_uni ≤ 2 ^ 60
+  pub bi : c.max_remote_bi ≤ 2 ^ 60
+  pub receive_window : c.receive_window < 2 ^ 62
+  pub stream_window : c.stream_window < 2 ^ 62
+
+-- what is permitted of its datagrams
+abbrev pub limits_of : RawConfig → DatagramLimits
+limits_of c = record { receive = length_at c.datagram_receive; send = c.datagram_send; max = None }
+
+-- what a session begins with by it
+abbrev pub IsConfigOf : RawConfig → Config → Type 0
+IsConfigOf r c = (c ≡ record {
+  side = side_at r.side;
+  max_remote_uni = r.max_remote_uni;
+  max_remote_bi = r.max_remote_bi;
+  send_window = r.send_window;
+  receive_window = r.receive_window;
+  stream_window = r.stream_window;
+  datagrams = limits_of r;
+})
+
+abbrev pub made_by : Config → Made
+made_by c = made_with c.side c.max_remote_uni c.max_remote_bi c.send_window c.receive_window c.stream_window
+
+-- a new session of a configuration
+pub record IsNewOf (c : Config) (s : Session) : Type 0 where
+  pub end : end_of s ≡ record { streams = start (made_by c); pending = nothing }
+  pub from : From (made_by c) [] (end_of s).streams
+  pub conn : s.conn ≡ conn_state.Open
+  pub datagrams : datagrams_of s ≡ no_datagrams c.datagrams
+  pub payloads : unsettled s.unsettled ≡ (λ token. None)
+
+-- a session is made, unless a number is above its bound or memory is wanting
+pub record MakesNew (r : RawConfig) (code : ℤ) (new : Option Session) : Type 0 where
+  pub good : IsConfig r
+  pub config : Config
+  pub is : IsConfigOf r config
+  pub made : ((code ≡ negsuc 1) × (new ≡ None)) ⊎ ((code ≡ pos 0) × ((s : Session) × (new ≡ Some s) × IsNewOf config s))
+
+-- qs_conn_open: an open handle stays as it is
+abbrev pub Begins : RawConfig → Option Session → ℤ → Option Session → Type 0
+Begins r (Some s) code new = (code ≡ negsuc 3) × (new ≡ Some s)
+Begins r None code new = ((code ≡ negsuc 2) × (new ≡ None) × (IsConfig r → ⊥)) ⊎ MakesNew r code new
+
+-- six limits that can be encoded
+pub record AreLimits (r : RawLimits) : Type 0 where
+  pub on_all : r.max_data < 2 ^ 62
+  pub bidi : r.max_streams_bidi < 2 ^ 62
+  pub uni : r.max_streams_uni < 2 ^ 62
+  pub on_uni : r.stream_data_uni < 2 ^ 62
+  pub on_local : r.stream_data_bidi_local < 2 ^ 62
+  pub on_remote : r.stream_data_bidi_remote < 2 ^ 62
+
+abbrev pub peer_limits : RawLimits → PeerLimits
+peer_limits r = record {
+  initial_max_data = r.max_data;
+  initial_max_streams_bidi = r.max_streams_bidi;
+  initial_max_streams_uni = r.max_streams_uni;
+  initial_max_stream_data_uni = r.stream_data_uni;
+  initial_max_stream_data_bidi_local = r.stream_data_bidi_local;
+  initial_max_stream_data_bidi_remote = r.stream_data_bidi_remote;
+}
+
+-- the limits of the peer's transport parameters are taken, and the greatest length of a datagram
+pub record TakesLimits (s : Session) (r : RawLimits) (code : ℤ) (t : Session) : Type 0 where
+  pub done : code ≡ pos 0
+  pub limits : AreLimits r
+  pub end : end_of t ≡ with_world (end_of s) (with_out (end_of s).streams (with_params (end_of s).streams.out (peer_limits r)))
+  pub from : GoesOn s (Sending (GaveLimits (peer_limits r))) t
+  pub beside : beside_of t ≡ with_datagrams (beside_of s) (with_max (datagrams_of s) (length_at r.max_datagram))
+
+-- qs_set_peer_limits
+abbrev pub SetsLimits : Session → RawLimits → ℤ → Session → Type 0
+SetsLimits s r code t = (Refuses s code t × ((AreLimits r) → ⊥)) ⊎ TakesLimits s r code t
+
+-- qs_conn_close
+abbrev pub Closes : Session → ℤ → Session → Type 0
+Closes s code t = (code ≡ pos 0) × (end_of t ≡ end_of s) × (beside_of t ≡ record (beside_of s) { conn = conn_state.Closed })
+
+-- qs_zero_rtt_rejected
+pub record Rejects (s : Session) (code : ℤ) (t : Session) : Type 0 where
+  pub done : code ≡ pos 0
+  pub rejects : end_of t ≡ record { streams = with_rejection (end_of s).streams; pending = nothing }
+  pub from : (m : Made) (h : List Event) → IsEarly (end_of s).streams → From m h (end_of s).streams → From m (Rejected ∷ h) (end_of t).streams
+  pub unanswered : (m : Made) (h : List Event) → m.side ≡ Client → IsUnanswered h → From m h (end_of s).streams → From m (Rejected ∷ h) (end_of t).streams
+  pub payloads : unsettled t.unsettled ≡ (λ token. None)
+  pub others : SettlesOnly s t
+
+-- qs_retransmit_all_for_0rtt
+pub record SendsEarlyAgain (s : Session) (code : ℤ) (t : Session) : Type 0 where
+  pub answer : Result (Unit {0}) OutOfMemory
+  pub sends : NoneAcked (end_of s).streams.out.side (end_of s).streams.out.halves → SendsAgain (end_of s).streams answer (end_of t).streams
+  pub unanswered : (m : Made) (h : List Event) → IsUnanswered h → From m h (end_of s).streams → SendsAgain (end_of s).streams answer (end_of t).streams × From m (SentAgain answer ∷ h) (end_of t).streams
+  pub pending : (end_of t).pending ≡ (end_of s).pending
+  pub beside : beside_of t ≡ beside_of s
+  pub tells : TellsDone memory_code answer code
+
+-- qs_set_send_window
+abbrev pub SetsSendWindow : Session → ℕ → ℤ → Session → Type 0
+SetsSendWindow s window code t = (code ≡ pos 0)
+    × (end_of t ≡ with_world (end_of s) (with_out (end_of s).streams (record (end_of s).streams.out { budget = with_window (end_of s).streams.out.budget window })))
+    × GoesOn s (Sending (SetWindow window)) t × (beside_of t ≡ beside_of s)
+
+-- qs_set_receive_window
+abbrev pub SetsReceiveWindow : Session → ℕ → ℤ → Session → Type 0
+SetsReceiveWindow s window code t = WithNumber (small window) (Refuses s code t) (λ w. (larger : Bool) × (larger ≡ nat_lt (end_of s).streams.credit.receive_window w)
+    × (code ≡ pos 0) × (end_of t ≡ with_window_set (end_of s) w larger) × GoesOn s (Resized w larger) t × (beside_of t ≡ beside_of s))
+
+-- qs_set_max_concurrent
+abbrev pub SetsConcurrentRaw : Session → ℕ → ℕ → ℤ → Session → Type 0
+SetsConcurrentRaw s dir count code t = WithNumber (dir_at dir) (Refuses s code t) (λ d. WithNumber (small count) (Refuses s code t) (λ n. (answer : Result (Unit {0}) OutOfMemory)
+    × SetsConcurrentAt (end_of s) d n answer (end_of t) × GoesOn s (SetConcurrent d n answer) t × (beside_of t ≡ beside_of s) × TellsDone memory_code answer code))
+
+abbrev pub flag : Bool → ℕ
+flag b = if b then 1 else 0
+
+-- what C is told of a session
+pub record IsInfo (s : Session) (i : RawInfo) : Type 0 where
+  pub concurrent_bi : i.max_concurrent_bidi ≡ (end_of s).streams.bi.allocated
+  pub concurrent_uni : i.max_concurrent_uni ≡ (end_of s).streams.uni.allocated
+  pub remote_bi : i.max_remote_bidi ≡ (end_of s).streams.bi.max_remote
+  pub remote_uni : i.max_remote_uni ≡ (end_of s).streams.uni.max_remote
+  pub next_bi : i.next_remote_bidi ≡ (end_of s).streams.bi.next_remote
+  pub next_uni : i.next_remote_uni ≡ (end_of s).streams.uni.next_remote
+  pub open_bi : i.remote_open_bidi ≡ open_now (end_of s).streams.bi
+  pub open_uni : i.remote_open_uni ≡ open_now (end_of s).streams.uni
+  pub max_data : i.local_max_data ≡ (end_of s).streams.credit.local_max_data
+  pub received : i.data_received ≡ (end_of s).streams.credit.data_recvd
+  pub write_limit : i.write_limit ≡ writable (end_of s).streams.out.budget
+  pub send_streams : i.send_streams ≡ (end_of s).streams.send_streams
+  pub payloads : i.payloads ≡ payload_count s.unsettled
+  pub sendable : i.can_send_stream_data ≡ flag (list_any (λ id. is_some (sending_priority ((end_of s).streams.out.halves id))) (ids_of (line (end_of s).streams.queue)))
+  pub pending : (empty : Bool) × TellsEmpty (end_of s).streams (end_of s).pending empty × (i.has_pending ≡ flag (not empty))
+
+-- qs_get_info
+abbrev pub TellsInfo : Session → ℤ → Session → RawInfo → Type 0
+TellsInfo s code t now = (code ≡ pos 0) × Unchanged s t × IsInfo s now
