@@ -7,7 +7,7 @@ use Rattle.quic_wire.specs.declared.error.ReceiveError.{ReceiveError}
 use Rattle.quic_wire.specs.declared.error.ReceiveError.TheVariants as receive_error
 use Rattle.quic_receiving.specs.declared.transmit.ShouldTransmit.{ShouldTransmit}
 use Rattle.quic_history.specs.World.{World}
-use Rattle.quic_streams.specs.Accounting.{Accounts}
+use Rattle.quic_streams.specs.Accounting.{CountsPieces}
 use Rattle.quic_history.specs.History.{Event, Received, ReceivedReset, Sending, Step}
 use Rattle.quic_history.specs.SendEvents.{RaisedData, RaisedLimit, RaisedCount, StoppedOwn}
 use Rattle.quic_endpoint.specs.Ends.{EndState, with_counts_told, with_limit_told}
@@ -49,7 +49,7 @@ with_call_made (Some e) h = e ∷ h
 
 -- what a frame of a payload of so many bytes does with the pieces of the half that it reaches: its data keep the payload alive
 abbrev pub AccountsFrame : World → Frame → ℕ → Result ShouldTransmit ReceiveError → World → Type 0
-AccountsFrame u (frames.Stream f) size answer v = Accounts u f.id f.offset f.bytes f.fin size answer v
+AccountsFrame u (frames.Stream f) size answer v = CountsPieces u f.id f.offset f.bytes f.fin size answer v
 AccountsFrame u _ size answer v = Unit {0}
 
 -- an answer by which no frame is to be sent

@@ -1,8 +1,8 @@
 -- An end as contracts see it.
-use Rattle.quic_streams.specs.Shown.{shown}
-use Rattle.quic_retransmits.specs.Pending.{shown_pending}
+use Rattle.quic_streams.specs.Shown.{streams_view}
+use Rattle.quic_retransmits.specs.Pending.{pending_view}
 use Rattle.quic_endpoint.specs.Ends.{EndState}
 use Rattle.quic_endpoint.specs.declared.endpoint.Endpoint.{Endpoint}
 
-unfoldable pub end_state : Endpoint → EndState
-end_state e = record { streams = shown e.streams; pending = shown_pending e.pending }
+unfoldable pub endpoint_view : Endpoint → EndState
+endpoint_view e = record { streams = streams_view e.streams; pending = pending_view e.pending }

@@ -8,8 +8,8 @@ ghost use Rattle.quic_history.specs.Sends.{with_out, TellsNext};
 ghost use Rattle.quic_limits.specs.SendingCredit.{with_window};
 ghost use Rattle.quic_outgoing.specs.Outgoing.{with_params};
 ghost use Rattle.quic_retransmits.specs.Pending.{nothing};
-ghost use Rattle.quic_streams.specs.Shown.{shown};
-ghost use Rattle.quic_endpoint.specs.Shown.{end_state};
+ghost use Rattle.quic_streams.specs.Shown.{streams_view};
+ghost use Rattle.quic_endpoint.specs.Shown.{endpoint_view};
 ghost use Rattle.quic_endpoint.specs.Ends.{with_world, with_counts_told_if, with_window_set, SetsConcurrentAt};
 
 use quic_streams::state::StreamsState;
@@ -26,7 +26,7 @@ pub struct Endpoint {
     pub(crate) alloc: Global,
 }
 
-#[tactic(auto, unfolding(crate::specs::Shown::end_state))]
+#[tactic(auto, unfolding(crate::specs::Shown::endpoint_view))]
 impl Endpoint {
     /// An end of which no stream is open, and that has nothing to send. The arguments are those of
     /// [`StreamsState::new`].
@@ -41,8 +41,8 @@ impl Endpoint {
     ) -> Result<Self, OutOfMemory>
         requires uni { max_remote_uni ≤ 2 ^ 60 }
         requires bi { max_remote_bi ≤ 2 ^ 60 }
-        ensures start { IfOk result (λ end. end_state end ≡ record { streams = start (made_with side max_remote_uni max_remote_bi send_window receive_window stream_window); pending = nothing }) }
-        ensures from { IfOk result (λ end. From (made_with side max_remote_uni max_remote_bi send_window receive_window stream_window) [] (end_state end).streams) }
+        ensures start { IfOk result (λ end. endpoint_view end ≡ record { streams = start (made_with side max_remote_uni max_remote_bi send_window receive_window stream_window); pending = nothing }) }
+        ensures from { IfOk result (λ end. From (made_with side max_remote_uni max_remote_bi send_window receive_window stream_window) [] (endpoint_view end).streams) }
     {
         let streams = StreamsState::new(
             alloc,
@@ -62,16 +62,16 @@ impl Endpoint {
 
     /// Takes the limits of the peer's transport parameters (RFC 9000 section 7.4).
     pub fn set_params(&mut self, params: &PeerLimits)
-        ensures params { end_state self.new ≡ with_world (end_state self.old) (with_out (end_state self.old).streams (with_params (end_state self.old).streams.out params.now)) }
-        ensures from { (m : Made) (h : List Event) → From m h (end_state self.old).streams → From m (Sending (GaveLimits params.now) ∷ h) (end_state self.new).streams }
+        ensures params { endpoint_view self.new ≡ with_world (endpoint_view self.old) (with_out (endpoint_view self.old).streams (with_params (endpoint_view self.old).streams.out params.now)) }
+        ensures from { (m : Made) (h : List Event) → From m h (endpoint_view self.old).streams → From m (Sending (GaveLimits params.now) ∷ h) (endpoint_view self.new).streams }
     {
         self.streams.set_params(params);
     }
 
     /// Sets how many bytes that were written are retained at most until they are acknowledged.
     pub fn set_send_window(&mut self, window: u64)
-        ensures window { end_state self.new ≡ with_world (end_state self.old) (with_out (end_state self.old).streams (record (end_state self.old).streams.out { budget = with_window (end_state self.old).streams.out.budget window })) }
-        ensures from { (m : Made) (h : List Event) → From m h (end_state self.old).streams → From m (Sending (SetWindow window) ∷ h) (end_state self.new).streams }
+        ensures window { endpoint_view self.new ≡ with_world (endpoint_view self.old) (with_out (endpoint_view self.old).streams (record (endpoint_view self.old).streams.out { budget = with_window (endpoint_view self.old).streams.out.budget window })) }
+        ensures from { (m : Made) (h : List Event) → From m h (endpoint_view self.old).streams → From m (Sending (SetWindow window) ∷ h) (endpoint_view self.new).streams }
     {
         self.streams.set_send_window(window);
     }
@@ -79,9 +79,9 @@ impl Endpoint {
     /// Sets how many bytes of all streams may be received and not consumed. Where that is more than before, the answer is
     /// true, and MAX_DATA is queued.
     pub fn set_receive_window(&mut self, window: VarInt) -> bool
-        ensures window { end_state self.new ≡ with_window_set (end_state self.old) window result }
-        ensures larger { result ≡ nat_lt (end_state self.old).streams.credit.receive_window window }
-        ensures from { (m : Made) (h : List Event) → From m h (end_state self.old).streams → From m (Resized window result ∷ h) (end_state self.new).streams }
+        ensures window { endpoint_view self.new ≡ with_window_set (endpoint_view self.old) window result }
+        ensures larger { result ≡ nat_lt (endpoint_view self.old).streams.credit.receive_window window }
+        ensures from { (m : Made) (h : List Event) → From m h (endpoint_view self.old).streams → From m (Resized window result ∷ h) (endpoint_view self.new).streams }
     {
         let larger = self.streams.set_receive_window(window);
         self.pending.queue_max_data(larger);
@@ -91,8 +91,8 @@ impl Endpoint {
     /// Sets how many streams of a direction the peer is to be able to use at a time, and queues MAX_STREAMS where it is
     /// due. A refusal changes nothing.
     pub fn set_max_concurrent(&mut self, dir: Dir, count: VarInt) -> Result<(), OutOfMemory>
-        ensures sets { SetsConcurrentAt (end_state self.old) dir count result (end_state self.new) }
-        ensures from { (m : Made) (h : List Event) → From m h (end_state self.old).streams → From m (SetConcurrent dir count result ∷ h) (end_state self.new).streams }
+        ensures sets { SetsConcurrentAt (endpoint_view self.old) dir count result (endpoint_view self.new) }
+        ensures from { (m : Made) (h : List Event) → From m h (endpoint_view self.old).streams → From m (SetConcurrent dir count result ∷ h) (endpoint_view self.new).streams }
     {
         let answer = self.streams.set_max_concurrent(dir, count);
         self.tell_counts_if(answer.is_ok());
@@ -101,23 +101,23 @@ impl Endpoint {
 
     /// What the application is to be told next, if there is something.
     pub fn poll(&mut self) -> Option<StreamEvent>
-        ensures polls { TellsNext (end_state self.old).streams result (end_state self.new).streams }
-        ensures pending { (end_state self.new).pending ≡ (end_state self.old).pending }
-        ensures from { (m : Made) (h : List Event) → From m h (end_state self.old).streams → From m (Sending (Polled result) ∷ h) (end_state self.new).streams }
+        ensures polls { TellsNext (endpoint_view self.old).streams result (endpoint_view self.new).streams }
+        ensures pending { (endpoint_view self.new).pending ≡ (endpoint_view self.old).pending }
+        ensures from { (m : Made) (h : List Event) → From m h (endpoint_view self.old).streams → From m (Sending (Polled result) ∷ h) (endpoint_view self.new).streams }
     {
         self.streams.poll()
     }
 
     /// The state of the streams.
     pub fn streams(&self) -> &StreamsState
-        ensures { shown result.now ≡ (end_state self.now).streams }
+        ensures { streams_view result.now ≡ (endpoint_view self.now).streams }
     {
         &self.streams
     }
 
     // MAX_STREAMS is queued where it is due, if a call was not refused for want of memory.
     pub(crate) fn tell_counts_if(&mut self, handled: bool)
-        ensures { end_state self.new ≡ with_counts_told_if handled (end_state self.old) }
+        ensures { endpoint_view self.new ≡ with_counts_told_if handled (endpoint_view self.old) }
     {
         if handled {
             let _ = self.streams.queue_max_stream_id(&mut self.pending);

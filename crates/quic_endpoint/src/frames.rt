@@ -3,7 +3,7 @@
 ghost use Rattle.std.specs.Prelude.{List, ◌≡◌, ◌≤◌, ◌∷◌};
 ghost use Rattle.quic_history.specs.World.{Made};
 ghost use Rattle.quic_history.specs.History.{Event, From};
-ghost use Rattle.quic_endpoint.specs.Shown.{end_state};
+ghost use Rattle.quic_endpoint.specs.Shown.{endpoint_view};
 ghost use Rattle.quic_endpoint.specs.Receiving.{data_length, event_of, with_call_made, MakesCall, MayAnswer, with_answer_told, ReceivesAt, AccountsFrame};
 
 use crate::endpoint::Endpoint;
@@ -11,7 +11,7 @@ use quic_receiving::ShouldTransmit;
 use quic_wire::frame::StopSending;
 use quic_wire::{Frame, ReceiveError};
 
-#[tactic(auto, unfolding(crate::specs::Shown::end_state))]
+#[tactic(auto, unfolding(crate::specs::Shown::endpoint_view))]
 impl Endpoint {
     /// Takes a frame of the peer that came in a payload of so many bytes (RFC 9000 section 19): data, a reset, a stop and
     /// limits are handed to the streams, any other frame changes nothing. Where the answer asks for MAX_DATA it is queued,
@@ -23,9 +23,9 @@ impl Endpoint {
         payload_len: usize,
     ) -> Result<ShouldTransmit, ReceiveError>
         requires { data_length frame ≤ payload_len }
-        ensures receives { ReceivesAt (end_state self.old) frame result (end_state self.new) }
-        ensures accounts { AccountsFrame (end_state self.old).streams frame payload_len result (end_state self.new).streams }
-        ensures from { (m : Made) (h : List Event) → From m h (end_state self.old).streams → From m (with_call_made (event_of frame result) h) (end_state self.new).streams }
+        ensures receives { ReceivesAt (endpoint_view self.old) frame result (endpoint_view self.new) }
+        ensures accounts { AccountsFrame (endpoint_view self.old).streams frame payload_len result (endpoint_view self.new).streams }
+        ensures from { (m : Made) (h : List Event) → From m h (endpoint_view self.old).streams → From m (with_call_made (event_of frame result) h) (endpoint_view self.new).streams }
     {
         let answer = self.take_frame(frame, payload_len);
         self.tell_answer(&answer);
@@ -39,9 +39,9 @@ impl Endpoint {
         payload_len: usize,
     ) -> Result<ShouldTransmit, ReceiveError>
         requires { data_length frame ≤ payload_len }
-        ensures accounts { AccountsFrame (end_state self.old).streams frame payload_len result (end_state self.new).streams }
-        ensures call { MakesCall (end_state self.old).streams (event_of frame result) (end_state self.new).streams }
-        ensures pending { (end_state self.new).pending ≡ (end_state self.old).pending }
+        ensures accounts { AccountsFrame (endpoint_view self.old).streams frame payload_len result (endpoint_view self.new).streams }
+        ensures call { MakesCall (endpoint_view self.old).streams (event_of frame result) (endpoint_view self.new).streams }
+        ensures pending { (endpoint_view self.new).pending ≡ (endpoint_view self.old).pending }
         ensures may { MayAnswer frame result }
     {
         match frame {
@@ -66,8 +66,8 @@ impl Endpoint {
 
     // STOP_SENDING is handed to the streams.
     fn take_stop(&mut self, frame: &StopSending) -> Result<ShouldTransmit, ReceiveError>
-        ensures call { MakesCall (end_state self.old).streams (event_of (Frame.StopSending frame.now) result) (end_state self.new).streams }
-        ensures pending { (end_state self.new).pending ≡ (end_state self.old).pending }
+        ensures call { MakesCall (endpoint_view self.old).streams (event_of (Frame.StopSending frame.now) result) (endpoint_view self.new).streams }
+        ensures pending { (endpoint_view self.new).pending ≡ (endpoint_view self.old).pending }
         ensures may { MayAnswer (Frame.StopSending frame.now) result }
     {
         match self
@@ -81,7 +81,7 @@ impl Endpoint {
 
     // What an answer asks for is queued.
     fn tell_answer(&mut self, answer: &Result<ShouldTransmit, ReceiveError>)
-        ensures { end_state self.new ≡ with_answer_told answer.now (end_state self.old) }
+        ensures { endpoint_view self.new ≡ with_answer_told answer.now (endpoint_view self.old) }
     {
         match answer {
             Err(ReceiveError::OutOfMemory) => {}

@@ -5,7 +5,7 @@ ghost use Rattle.quic_history.specs.World.{Made};
 ghost use Rattle.quic_history.specs.History.{Event, From};
 ghost use Rattle.quic_retransmits.specs.Pending.{nothing};
 ghost use Rattle.quic_retransmits.specs.Settling.{noted_in};
-ghost use Rattle.quic_endpoint.specs.Shown.{end_state};
+ghost use Rattle.quic_endpoint.specs.Shown.{endpoint_view};
 ghost use Rattle.quic_endpoint.specs.Emitting.{payload_view, EmitsAt};
 
 use crate::endpoint::Endpoint;
@@ -40,15 +40,15 @@ impl Payload {
     }
 }
 
-#[tactic(auto, unfolding(crate::specs::Shown::end_state))]
+#[tactic(auto, unfolding(crate::specs::Shown::endpoint_view))]
 impl Endpoint {
     /// Writes what is to be sent into a payload of at most `max_size` bytes: what is pending beside data, as
     /// [`quic_streams::state::StreamsState::write_control_frames`], then data, as
     /// [`quic_streams::state::StreamsState::write_stream_frames`]. Where memory is wanting, the frames that were written
     /// before stand in the payload.
     pub fn emit(&mut self, max_size: usize, fair: bool) -> (Payload, Result<(), OutOfMemory>)
-        ensures emits { EmitsAt max_size fair (end_state self.old) (payload_view result.0) result.1 (end_state self.new) }
-        ensures within { (m : Made) (h : List Event) → From m h (end_state self.old).streams → length result.0.bytes.items ≤ max_size }
+        ensures emits { EmitsAt max_size fair (endpoint_view self.old) (payload_view result.0) result.1 (endpoint_view self.new) }
+        ensures within { (m : Made) (h : List Event) → From m h (endpoint_view self.old).streams → length result.0.bytes.items ≤ max_size }
     {
         let mut payload = Payload::new(self.alloc);
         let mut counters = FrameStats::new();

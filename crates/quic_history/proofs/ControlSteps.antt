@@ -15,7 +15,7 @@ use Rattle.quic_receiving.specs.Half.{Half, is_open, window_end}
 use Rattle.quic_retransmits.specs.Pending.{Pending}
 use Rattle.quic_history.specs.Halves.{with_half}
 use Rattle.quic_history.specs.World.{World, id_refusal, remote_of, with_remote, with_receive}
-use Rattle.quic_history.specs.History.{Event, Settled, Trace, WasAnnounced, HalfFrom, StreamFrom, CreditFrom, Facts, Goes, trace, moved, consumed, last_window, debt, received}
+use Rattle.quic_history.specs.History.{Event, LeftPending, Trace, WasAnnounced, HalfFrom, StreamFrom, CreditFrom, Facts, Goes, trace, moved, consumed, last_window, debt, received}
 use Rattle.quic_history.specs.declared.control.ControlKind.{ControlKind}
 use Rattle.quic_history.specs.declared.control.ControlKind.TheVariants as kinds
 use Rattle.quic_history.specs.Control.{SettlesEntry, after_announced, with_announced, window_frame, reset_frame}
@@ -280,12 +280,12 @@ credit_settled window h u v f s = credit_moved _ _ _ _ u.credit v.credit s.credi
 facts_idle : (window : ℕ) (h : List Event) (u v : World) → Facts window h u → Announces u v → (n : ℕ) → n ≡ received h → CreditFrom (last_window window h) (consumed h + 0) (debt window h - 0) n v.credit
 facts_idle window h u v f s n e = credit-same (last_window window h) (consumed h) (debt window h) (received h) _ _ _ v.credit (omega arith) (omega arith) e (credit_settled window h u v f s)
 
-pub facts-settled : (window : ℕ) (h : List Event) (k : ControlKind) (o : Option Frame) (u v : World) (p q : Pending) → Facts window h u → SettlesEntry k u p o v q → Facts window (Settled k o ∷ h) v
+pub facts-settled : (window : ℕ) (h : List Event) (k : ControlKind) (o : Option Frame) (u v : World) (p q : Pending) → Facts window h u → SettlesEntry k u p o v q → Facts window (LeftPending k o ∷ h) v
 facts-settled window h k (Some (frames.MaxStreamData id limit)) u v p q f s =
     let limit_told = announces_limit k u p id limit v q s in
     record {
-      credit = facts_idle window h u v f (announces k u p _ v q s) (received (Settled k (Some (frames.MaxStreamData id limit)) ∷ h))
-          (received-kept h (trace (Settled k (Some (frames.MaxStreamData id limit)) ∷ h)) id (λ j n. rw n refl) (rw (itself id) refl));
+      credit = facts_idle window h u v f (announces k u p _ v q s) (received (LeftPending k (Some (frames.MaxStreamData id limit)) ∷ h))
+          (received-kept h (trace (LeftPending k (Some (frames.MaxStreamData id limit)) ∷ h)) id (λ j n. rw n refl) (rw (itself id) refl));
       streams = told_limit (trace h) u id limit v limit_told f.streams;
     }
 facts-settled window h k o u v p q f s = let a = announces k u p o v q s in record {
@@ -294,7 +294,7 @@ facts-settled window h k o u v p q f s = let a = announces k u p o v q s in reco
 }
 
 -- nothing is freed by it
-gone_settled : (h : List Event) (k : ControlKind) (o : Option Frame) (q : ℕ) → (trace (Settled k o ∷ h) q).gone ≡ (trace h q).gone
+gone_settled : (h : List Event) (k : ControlKind) (o : Option Frame) (q : ℕ) → (trace (LeftPending k o ∷ h) q).gone ≡ (trace h q).gone
 gone_settled h k (Some (frames.MaxStreamData id limit)) q = by_test (q == id)
   where
     by_test : (b : Bool) → (if b then record (trace h q) { announced = max (trace h q).announced limit } else trace h q).gone ≡ (trace h q).gone
@@ -302,9 +302,9 @@ gone_settled h k (Some (frames.MaxStreamData id limit)) q = by_test (q == id)
     by_test false = refl
 gone_settled h k o q = refl
 
-pub remotes-settled : (at_once b : Dir → ℕ) (h : List Event) (k : ControlKind) (o : Option Frame) (u v : World) → Announces u v → AllRemotes at_once b (trace h) u → AllRemotes at_once b (trace (Settled k o ∷ h)) v
+pub remotes-settled : (at_once b : Dir → ℕ) (h : List Event) (k : ControlKind) (o : Option Frame) (u v : World) → Announces u v → AllRemotes at_once b (trace h) u → AllRemotes at_once b (trace (LeftPending k o ∷ h)) v
 remotes-settled at_once b h k o u v s x =
-    remotes-idle at_once b (trace h) (trace (Settled k o ∷ h)) u v (λ q. gone_settled h k o q) (record { side = ap (λ o. o.side) s.out; sends = ap (λ o q. is_some (o.halves q)) s.out; limits = s.limits }) x
+    remotes-idle at_once b (trace h) (trace (LeftPending k o ∷ h)) u v (λ q. gone_settled h k o q) (record { side = ap (λ o. o.side) s.out; sends = ap (λ o q. is_some (o.halves q)) s.out; limits = s.limits }) x
 
 pub goes-settled : (u v : World) → Announces u v → Goes u v
 goes-settled u v s = record { side = ap (λ o. o.side) s.out; window = s.window; limit = omega (arith, s.credit_limit) }

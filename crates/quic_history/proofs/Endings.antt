@@ -14,7 +14,7 @@ use Rattle.quic_receiving.specs.declared.errors.ReadError.{ReadError}
 use Rattle.quic_receiving.specs.declared.errors.ReadError.TheVariants as read_error
 use Rattle.quic_receiving.proofs.Data.{all_given}
 use Rattle.quic_history.specs.World.{World}
-use Rattle.quic_history.specs.History.{Event, Received, ReceivedReset, Gave, Stopped, ToldReset, Rejected, SentAgain, Step, Move, Framed, WasReset, WasRead, WasStopped, WasTold, WasAnnounced, Settled, Trace, HalfFrom, Facts, GivenSo, EndsSo, TellsEnds, slices, trace, moved, is_closed, is_kept, with_kept_frame, with_reset, with_read, with_stop, with_move}
+use Rattle.quic_history.specs.History.{Event, Received, ReceivedReset, Gave, Stopped, ToldReset, Rejected, SentAgain, Step, Move, Framed, WasReset, WasRead, WasStopped, WasTold, WasAnnounced, LeftPending, Trace, HalfFrom, Facts, GivenSo, EndsSo, TellsEnds, slices, trace, moved, is_closed, is_frame_kept, with_kept_frame, with_reset, with_read, with_stop, with_move}
 use Rattle.quic_history.proofs.EarlyFacts.{told-rejected}
 use Rattle.quic_history.proofs.Totals.{by_cases, same}
 use Rattle.quic_history.proofs.StreamSteps.{half-from, known-from}
@@ -125,7 +125,7 @@ told_moved h q id m here p = if_moved IsTold (q == id) (with_move m (trace h q))
     (λ t. let P : ℕ → Type 0 = λ k. IsTold (with_move m (trace h k)) in subst P (sym (same q id t)) (here t)) p
 
 told_frame : (t : Trace) (offset : ℕ) (bytes : List ℕ) (fin : Bool) (answer : Result ShouldTransmit ReceiveError) → IsTold t → IsTold (with_move (Framed offset bytes fin answer) t)
-told_frame t offset bytes fin answer p = if_moved IsTold (is_kept answer) (with_kept_frame offset bytes fin t) t (λ k. (ends_frame t offset bytes fin p.0, given_frame t offset bytes fin p.1)) p
+told_frame t offset bytes fin answer p = if_moved IsTold (is_frame_kept answer) (with_kept_frame offset bytes fin t) t (λ k. (ends_frame t offset bytes fin p.0, given_frame t offset bytes fin p.1)) p
 
 told_stopped : (n : ℕ) (t : Trace) (h : Half) → HalfFrom n t h → IsTold t → IsTold (with_stop t)
 told_stopped n t h x p = (never_ended t _ p.0 x.there refl, record { came = p.1.came; once = p.1.once })
@@ -150,7 +150,7 @@ kept-told-of window h u (Stopped id code (Ok x)) v f s p q =
     let known = known-from (trace h) u id s.2.0 f.streams s.2.2 in
     told_moved h q id WasStopped (λ t. told_stopped u.window (trace h id) s.2.0 (half-from (trace h) u id s.2.0 f.streams known s.2.2) (p id)) (p q)
 kept-told-of window h u (ToldReset id (Ok (Some code))) v f s p q = told_moved h q id WasTold (λ t. told_code (trace h id) (p id)) (p q)
-kept-told-of window h u (Settled kind (Some (frames.MaxStreamData id limit))) v f s p q =
+kept-told-of window h u (LeftPending kind (Some (frames.MaxStreamData id limit))) v f s p q =
     told_moved h q id (WasAnnounced limit) (λ t. told_announced (trace h id) limit (p id)) (p q)
 kept-told-of window h u Rejected v f s p q = told-rejected q (trace h q) (p q)
 kept-told-of window h u (SentAgain (Ok x)) v f s p q = p q

@@ -31,7 +31,7 @@ use Rattle.quic_history.specs.Sends.{with_out, with_opened, with_own_count, Tell
 use Rattle.quic_history.specs.Writes.{WritesOwn}
 use Rattle.quic_history.specs.SendTotals.{send_totals, own_total}
 use Rattle.quic_history.specs.SendEvents.{SendEvent, SendStep, GaveLimits, OpenedOwn, RaisedData, RaisedCount, RaisedLimit, StoppedOwn, SetWindow, Polled, WroteOwn, FinishedOwn, ResetOwn, SetOwnPriority, AckedOwn, LostOwn, ResetAckedOwn, TookTurn}
-use Rattle.quic_history.specs.History.{since, Event, Received, ReceivedReset, AddedCredits, Began, Gave, Ended, Stopped, ToldReset, Resized, SetConcurrent, Accepted, Settled, Sending, Rejected, SentAgain, joint_move_of, limits_given, Step, SentSo, RemoteFrom, is_freed, trace, counts, opened_in_all, total_over, send_move_of, limits_in, send_window_in, flow_after, is_over, may_open_after, send_tale, flow, with_moved_stream, moved_streams, retained_in_all, FlowsSo}
+use Rattle.quic_history.specs.History.{since, Event, Received, ReceivedReset, AddedCredits, Began, Gave, Ended, Stopped, ToldReset, Resized, SetConcurrent, Accepted, LeftPending, Sending, Rejected, SentAgain, joint_move_of, limits_given, Step, SentSo, RemoteFrom, is_freed, trace, counts, opened_in_all, total_over, send_move_of, limits_in, send_window_in, flow_after, is_over, may_open_after, send_tale, flow, with_moved_stream, moved_streams, retained_in_all, FlowsSo}
 use Rattle.quic_history.specs.Flows.{has_send_side, has_side_in, is_answered_on, send_moved, with_first_limits, with_limits_in, AllFlows}
 use Rattle.quic_history.specs.Early.{JointMove, with_joint_move, begins_anew, announced_anew, with_unsent}
 use Rattle.quic_outgoing.specs.Early.{after_rejection, with_all_unsent}
@@ -175,7 +175,7 @@ module _ (side : Side) (there : ℕ → Bool) (f : ℕ → SendFlow) (u : World)
       accepted_max : (r : Remote) (b : Bool) → (if b then record r { next_reported = r.next_reported + 1 } else r).max_remote ≡ r.max_remote
       accepted_max r true = refl
       accepted_max r false = refl
-  step-any (Settled kind frame) v s = left v (leaves-settled u kind s.0 frame v s.1 s.2)
+  step-any (LeftPending kind frame) v s = left v (leaves-settled u kind s.0 frame v s.1 s.2)
   step-any (Sending e) v s = step_sending e v s
   step-any Rejected v s = tt
   step-any (SentAgain (Ok x)) v s = tt

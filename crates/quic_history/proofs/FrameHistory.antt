@@ -13,7 +13,7 @@ use Rattle.quic_receiving.specs.declared.transmit.ShouldTransmit.{ShouldTransmit
 use Rattle.quic_values.specs.Ids.{index_of}
 use Rattle.quic_history.specs.World.{World, id_refusal, is_own, with_receive, with_credit, advanced, noticed, with_freed}
 use Rattle.quic_history.specs.Receiving.{IsDropped, Receives, after_data}
-use Rattle.quic_history.specs.History.{Event, Received, Trace, HalfFrom, StreamFrom, CreditFrom, Facts, slices, trace, is_closed, is_kept, consumed, consumed_by, last_window, debt, received}
+use Rattle.quic_history.specs.History.{Event, Received, Trace, HalfFrom, StreamFrom, CreditFrom, Facts, slices, trace, is_closed, is_frame_kept, consumed, consumed_by, last_window, debt, received}
 use Rattle.quic_history.proofs.WorldSteps.{credit-with_receive, refusal-advanced, with_receive-back, with_counted-none}
 use Rattle.quic_history.proofs.Refusals.{refusal_by, refusal-is}
 use Rattle.quic_history.proofs.Totals.{by_cases, same}
@@ -155,7 +155,7 @@ and_both b c e k = rw (e, k) refl
 
 module _ (window : ℕ) (h : List Event) (u : World) (id offset : ℕ) (bytes : List ℕ) (fin : Bool) (answer : Result ShouldTransmit ReceiveError) (old new : Half) (f : Facts window h u)
     (known : id_refusal u id ≡ None) (half : u.receive id ≡ Some old) (running : old.reset ≡ None) (grows : Grows old new offset bytes fin)
-    (passed : Passes old (offset + length bytes) fin u.credit.data_recvd u.credit.local_max_data) (kept : is_kept answer ≡ true) where
+    (passed : Passes old (offset + length bytes) fin u.credit.data_recvd u.credit.local_max_data) (kept : is_frame_kept answer ≡ true) where
   abbrev e : Event
   e = Received id offset bytes fin answer
 
@@ -252,7 +252,7 @@ dropped-closed n t r None k s d = let gone : t.gone ≡ true = rw k at s in or_s
 dropped-closed n t r (Some half) k s d = let x : HalfFrom n t half = rw k at s in or_first (is_some t.reset) t.gone (ap (λ (o : Option ℕ). is_some o) (sym x.reset) ∙ d)
 
 module _ (window : ℕ) (h : List Event) (u : World) (id offset : ℕ) (bytes : List ℕ) (fin : Bool) (answer : Result ShouldTransmit ReceiveError) (f : Facts window h u)
-    (closed : is_kept answer ≡ true → is_closed (trace h id) ≡ true) where
+    (closed : is_frame_kept answer ≡ true → is_closed (trace h id) ≡ true) where
   abbrev e0 : Event
   e0 = Received id offset bytes fin answer
 
@@ -261,13 +261,13 @@ module _ (window : ℕ) (h : List Event) (u : World) (id offset : ℕ) (bytes : 
 
   pub untold : (q : ℕ) → g0 q ≡ trace h q
   untold q = by_cases (eqb q id)
-      (λ t. by_cases (is_kept answer)
+      (λ t. by_cases (is_frame_kept answer)
       (λ k. let c : is_closed (trace h q) ≡ true = ap (λ x. is_closed (trace h x)) (same q id t) ∙ closed k in rw (t, k, c) refl)
       (λ k. rw (t, k) refl))
       (λ n. rw n refl)
 
   unused : consumed_by h e0 ≡ 0
-  unused = by_cases (is_kept answer) (λ k. rw (k, closed k) refl) (λ k. rw k refl)
+  unused = by_cases (is_frame_kept answer) (λ k. rw (k, closed k) refl) (λ k. rw k refl)
 
   facts_unchanged : Facts window (e0 ∷ h) u
   facts_unchanged =

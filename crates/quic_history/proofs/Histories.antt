@@ -7,7 +7,7 @@ use Rattle.quic_history.specs.declared.progress.Progress.{Progress}
 use Rattle.quic_history.specs.declared.progress.Progress.TheVariants as progress
 use Rattle.quic_history.specs.Reading.{is_ended, ReadsHalf}
 use Rattle.quic_history.specs.World.{World, sends, Made, count_of, remote_of}
-use Rattle.quic_history.specs.History.{Event, Received, ReceivedReset, AddedCredits, Began, Gave, Ended, Stopped, ToldReset, Resized, SetConcurrent, Accepted, Settled, Sending, Step, Fits, Facts, From, IsRun, PermitsNow, EverPermits, with_next, before, RemoteFrom, counts, is_freed, trace, consumed, last_window, debt, received, Rejected, SentAgain, since}
+use Rattle.quic_history.specs.History.{Event, Received, ReceivedReset, AddedCredits, Began, Gave, Ended, Stopped, ToldReset, Resized, SetConcurrent, Accepted, LeftPending, Sending, Step, Fits, Facts, From, IsRun, PermitsNow, EverPermits, with_next, before, RemoteFrom, counts, is_freed, trace, consumed, last_window, debt, received, Rejected, SentAgain, since}
 use Rattle.quic_history.proofs.Credits.{credit-credited, credit-resized, credit-same, limit-fits}
 use Rattle.quic_history.proofs.SentHistory.{kept-sent}
 use Rattle.quic_history.proofs.ControlSteps.{facts-settled}
@@ -59,7 +59,7 @@ kept window h u (Accepted dir answer) v f s = rw s.0 (record {
   credit = rw (credit-accepted u dir) (credit-same (last_window window h) (consumed h) (debt window h) (received h) _ _ _ u.credit (omega arith) (omega arith) refl f.credit);
   streams = all-accepted (trace h) u dir f.streams;
 })
-kept window h u (Settled kind frame) v f s = facts-settled window h kind frame u v s.0 s.1 f s.2
+kept window h u (LeftPending kind frame) v f s = facts-settled window h kind frame u v s.0 s.1 f s.2
 kept window h u (Sending e) v f s = facts-sending window h u e v f s
 kept window h u Rejected v f s = facts-rejected window h u v f s.0 s.1
 kept window h u (SentAgain (Ok x)) v f s = facts-again window h u v (Ok x) f (spares-again u v _ s.1.2)

@@ -18,7 +18,7 @@ use Rattle.quic_queue.specs.SendOrder.{SendOrder}
 use Rattle.quic_history.specs.World.{World, with_receive, with_credit, with_receive_window, remote_of, advanced, noticed, with_freed}
 use Rattle.quic_history.specs.Receiving.{Receives, ReceivesReset, after_data, after_reset, credited_to}
 use Rattle.quic_history.specs.Reading.{Begins, Stops, TellsReset, after_read, after_stop}
-use Rattle.quic_history.specs.History.{Event, Received, ReceivedReset, AddedCredits, Began, Gave, Ended, Stopped, ToldReset, Resized, SetConcurrent, Accepted, Settled, Sending, Rejected, SentAgain, Step, Goes}
+use Rattle.quic_history.specs.History.{Event, Received, ReceivedReset, AddedCredits, Began, Gave, Ended, Stopped, ToldReset, Resized, SetConcurrent, Accepted, LeftPending, Sending, Rejected, SentAgain, Step, Goes}
 use Rattle.quic_history.specs.Early.{with_rejection}
 use Rattle.quic_history.specs.SendTotals.{SendTotals, send_totals}
 use Rattle.quic_history.proofs.ControlSteps.{announces, goes-settled}
@@ -172,7 +172,7 @@ firmly h u (Resized size answer) v fits n s = rises_at u v (with_receive_window 
 firmly h u (SetConcurrent dir count (Ok k)) v fits n s = stays u v (ap firm s ∙ ap firm_of (steady-concurrent u dir count))
 firmly h u (SetConcurrent dir count (Err k)) v fits n s = stays u v (ap firm s)
 firmly h u (Accepted dir answer) v fits n s = stays u v (ap firm s.0 ∙ ap firm_of (steady-remote u dir (one_accepted (remote_of u dir))))
-firmly h u (Settled kind frame) v fits n s = let t = announces kind u s.0 frame v s.1 s.2 in record { goes = goes-settled u v t; same = ap send_totals t.out; queue = t.queue }
+firmly h u (LeftPending kind frame) v fits n s = let t = announces kind u s.0 frame v s.1 s.2 in record { goes = goes-settled u v t; same = ap send_totals t.out; queue = t.queue }
 firmly h u (Sending e) v fits n s = cc
 firmly h u Rejected v fits n s = cc
 firmly h u (SentAgain answer) v fits n s = cc
@@ -194,7 +194,7 @@ goes h u (Resized size answer) v fits s = let f = firmly h u (Resized size answe
 goes h u (SetConcurrent dir count (Ok k)) v fits s = let f = firmly h u (SetConcurrent dir count (Ok k)) v fits refl s in f.goes
 goes h u (SetConcurrent dir count (Err k)) v fits s = let f = firmly h u (SetConcurrent dir count (Err k)) v fits refl s in f.goes
 goes h u (Accepted dir answer) v fits s = let f = firmly h u (Accepted dir answer) v fits refl s in f.goes
-goes h u (Settled kind frame) v fits s = let f = firmly h u (Settled kind frame) v fits refl s in f.goes
+goes h u (LeftPending kind frame) v fits s = let f = firmly h u (LeftPending kind frame) v fits refl s in f.goes
 goes h u (Sending e) v fits s = goes-sending u e v s
 goes h u Rejected v fits s = goes_at u v (with_rejection u) s.1 (record { side = refl; window = refl; limit = omega arith })
 goes h u (SentAgain (Ok x)) v fits s = goes_at u v _ s.1.2 (record { side = refl; window = refl; limit = omega arith })

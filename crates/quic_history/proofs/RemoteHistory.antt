@@ -20,7 +20,7 @@ use Rattle.quic_retransmits.specs.Pending.{Pending}
 use Rattle.quic_history.specs.World.{World, id_refusal, remote_of, with_remote, with_receive, with_credit, with_receive_window, advanced, noticed, with_freed}
 use Rattle.quic_history.specs.Receiving.{Receives, ReceivesReset, after_reset, credited_to}
 use Rattle.quic_history.specs.Reading.{Begins, ReadsHalf, Stops, TellsReset, after_stop}
-use Rattle.quic_history.specs.History.{Event, Received, ReceivedReset, AddedCredits, Began, Gave, Ended, Stopped, ToldReset, Resized, SetConcurrent, Accepted, Settled, Sending, Rejected, SentAgain, Step, Trace, HalfFrom, untouched, trace, is_closed, is_kept, with_read, with_count_set, Facts}
+use Rattle.quic_history.specs.History.{Event, Received, ReceivedReset, AddedCredits, Began, Gave, Ended, Stopped, ToldReset, Resized, SetConcurrent, Accepted, LeftPending, Sending, Rejected, SentAgain, Step, Trace, HalfFrom, untouched, trace, is_closed, is_frame_kept, with_read, with_count_set, Facts}
 use Rattle.quic_limits.specs.Remote.{one_accepted}
 use Rattle.quic_history.specs.Permitting.{after_concurrent, with_accepted, with_count_of}
 use Rattle.quic_history.proofs.ControlSteps.{announces, remotes-settled}
@@ -105,13 +105,13 @@ module _ (window : ℕ) (at_once b : Dir → ℕ) (h : List Event) (u : World) (
   t = trace h id
 
   -- that changes nothing
-  frame_none : (is_kept answer ≡ true → is_closed t ≡ true) → AllRemotes at_once b gf u
+  frame_none : (is_frame_kept answer ≡ true → is_closed t ≡ true) → AllRemotes at_once b gf u
   frame_none closed = idle window at_once b h ef u f x u (λ q. ap (λ k. k.gone) (untold window h u id offset bytes fin answer f closed q)) (record { side = refl; sends = refl; limits = λ d. record { max = refl; allocated = refl; concurrent = refl; opened = λ k. k; accepted = λ k. k } })
 
   frame_others : (q : ℕ) → eqb q id ≡ false → gf q ≡ trace h q
   frame_others q n = rw n refl
 
-  module _ (old new : Half) (known : id_refusal u id ≡ None) (half : u.receive id ≡ Some old) (running : old.reset ≡ None) (kept : is_kept answer ≡ true) where
+  module _ (old new : Half) (known : id_refusal u id ≡ None) (half : u.receive id ≡ Some old) (running : old.reset ≡ None) (kept : is_frame_kept answer ≡ true) where
     frame_was : HalfFrom u.window t old
     frame_was = half-from (trace h) u id old f.streams known half
 
@@ -341,7 +341,7 @@ kept-remotes window at_once h u (SetConcurrent dir count (Err k)) v f x s = remo
 kept-remotes window at_once h u (Accepted dir answer) v f x s = let b : Dir → ℕ = λ d. (remote_of u d).max_remote in
     remotes_at at_once b (trace h) v (with_accepted u dir) s.0
     (remotes-idle at_once b (trace h) (trace h) u (with_accepted u dir) (λ q. refl) (remotes-counted u (with_remote u dir (one_accepted (remote_of u dir))) _ (remotes-remote u dir (one_accepted (remote_of u dir)) (one-accepted (remote_of u dir)))) x)
-kept-remotes window at_once h u (Settled kind frame) v f x s = remotes-settled at_once (λ d. (remote_of u d).max_remote) h kind frame u v (announces kind u s.0 frame v s.1 s.2) x
+kept-remotes window at_once h u (LeftPending kind frame) v f x s = remotes-settled at_once (λ d. (remote_of u d).max_remote) h kind frame u v (announces kind u s.0 frame v s.1 s.2) x
 kept-remotes window at_once h u (Sending e) v f x s = remotes-sending at_once (λ d. (remote_of u d).max_remote) (trace h) u e v f.streams x s
 kept-remotes window at_once h u Rejected v f x s = remotes-rejected at_once (λ d. (remote_of u d).max_remote) h u v s.0 s.1 x
 kept-remotes window at_once h u (SentAgain (Ok k)) v f x s = remotes-spared at_once (λ d. (remote_of u d).max_remote) (trace h) u v (spares-again u v _ s.1.2) x

@@ -14,7 +14,7 @@ use Rattle.quic_wire.specs.declared.frame.StreamMeta.{StreamMeta}
 use Rattle.quic_queue.specs.declared.queue.Entry.{Entry}
 use Rattle.quic_queue.specs.declared.queue.Next.{Next}
 use Rattle.quic_queue.specs.declared.queue.Next.TheVariants.{LetGo, PutAnew, KeepBack}
-use Rattle.quic_queue.specs.SendOrder.{SendOrder, put, line, first, with_entry, without_first, settled}
+use Rattle.quic_queue.specs.SendOrder.{SendOrder, put, line, first, with_entry, without_next, with_turn_ended}
 use Rattle.quic_sending.specs.declared.send.Send.{Send}
 use Rattle.quic_sending.specs.Buffer.{is_due, is_lost, total_length}
 use Rattle.quic_sending.specs.Sending.{is_ready, is_reset_sent}
@@ -27,7 +27,7 @@ use Rattle.quic_history.specs.Writes.{with_queued, WritesOwn}
 use Rattle.quic_history.specs.Sends.{with_out, with_opened, told_writable, after_first_stop, is_permitted, PollsQueue, TellsNext}
 use Rattle.quic_history.specs.SendEvents.{SendEvent, SendStep, GaveLimits, OpenedOwn, RaisedData, RaisedCount, RaisedLimit, StoppedOwn, SetWindow, Polled, WroteOwn, FinishedOwn, ResetOwn, SetOwnPriority, AckedOwn, LostOwn, ResetAckedOwn, TookTurn}
 use Rattle.quic_history.specs.SendTotals.{send_totals}
-use Rattle.quic_history.specs.History.{since, Rejected, SentAgain, Event, Received, ReceivedReset, AddedCredits, Began, Gave, Ended, Stopped, ToldReset, Resized, SetConcurrent, Accepted, Settled, Sending, Step, SentSo, FlowsSo, limits_in, send_move_of, send_tale, flow, opened_in_all}
+use Rattle.quic_history.specs.History.{since, Rejected, SentAgain, Event, Received, ReceivedReset, AddedCredits, Began, Gave, Ended, Stopped, ToldReset, Resized, SetConcurrent, Accepted, LeftPending, Sending, Step, SentSo, FlowsSo, limits_in, send_move_of, send_tale, flow, opened_in_all}
 use Rattle.std.proofs.Common.{zero, suc, ◌/◌, ◌%◌, ◌++◌}
 use Rattle.std.specs.Prelude.{nat_eq}
 use Rattle.std.specs.List.{list_any}
@@ -113,7 +113,7 @@ entry_stays q w e h = by_kept w.kept refl
     by_kept (Some x) k = further (q == x.id) (stands q w.waiting) (stands q (put w.waiting e)) (rw k at h) (put_stays q w.waiting e)
 
 -- the first one, and the rest of the line
-first_line : (w : SendOrder) (e : Entry) → first w ≡ Some e → line w ≡ e ∷ line (without_first w)
+first_line : (w : SendOrder) (e : Entry) → first w ≡ Some e → line w ≡ e ∷ line (without_next w)
 first_line w e h = by_kept w.kept refl
   where
     by_waiting : (es : List Entry) → slice_get es 0 ≡ Some e → es ≡ e ∷ drop 1 es
@@ -123,7 +123,7 @@ first_line w e h = by_kept w.kept refl
         some_same : (a b : Entry) → Some a ≡ Some b → a ≡ b
         some_same a b k = cc
 
-    by_kept : (k : Option Entry) → w.kept ≡ k → line w ≡ e ∷ line (without_first w)
+    by_kept : (k : Option Entry) → w.kept ≡ k → line w ≡ e ∷ line (without_next w)
     by_kept None k = let f = rw k at h in rw k (by_waiting w.waiting f)
     by_kept (Some x) k = let f = rw k at h in let same : x ≡ e = some_same x e f in rw k (ap (λ y. y ∷ w.waiting) same)
       where
@@ -131,21 +131,21 @@ first_line w e h = by_kept w.kept refl
         some_same a b k = cc
 
 -- one that is not the first stands there after its turn
-turn_stays : (w : SendOrder) (e : Entry) (n : Next) (q : ℕ) → first w ≡ Some e → (q == e.id) ≡ false → stands q (line w) ≡ true → stands q (line (settled (without_first w) e n)) ≡ true
+turn_stays : (w : SendOrder) (e : Entry) (n : Next) (q : ℕ) → first w ≡ Some e → (q == e.id) ≡ false → stands q (line w) ≡ true → stands q (line (with_turn_ended (without_next w) e n)) ≡ true
 turn_stays w e n q f other h = by_next n
   where
-    rest : stands q (line (without_first w)) ≡ true
-    rest = let k = ap (stands q) (first_line w e f) in let l : ((q == e.id) || stands q (line (without_first w))) ≡ true = sym k ∙ h in rw other at l
+    rest : stands q (line (without_next w)) ≡ true
+    rest = let k = ap (stands q) (first_line w e f) in let l : ((q == e.id) || stands q (line (without_next w))) ≡ true = sym k ∙ h in rw other at l
 
-    by_next : (n : Next) → stands q (line (settled (without_first w) e n)) ≡ true
+    by_next : (n : Next) → stands q (line (with_turn_ended (without_next w) e n)) ≡ true
     by_next LetGo = rest
-    by_next (PutAnew p) = entry_stays q (without_first w) (record { priority = p; id = e.id }) rest
-    by_next KeepBack = or_right (q == e.id) (stands q (without_first w).waiting) rest
+    by_next (PutAnew p) = entry_stays q (without_next w) (record { priority = p; id = e.id }) rest
+    by_next KeepBack = or_right (q == e.id) (stands q (without_next w).waiting) rest
 
 -- the first one does, where more is to be sent
-turn_stands : (w : SendOrder) (e : Entry) (fair : Bool) (priority : ℤ) → stands e.id (line (settled (without_first w) e (next_of fair priority true))) ≡ true
-turn_stands w e true priority = entry_stands (without_first w) (record { priority = priority; id = e.id })
-turn_stands w e false priority = ap (λ b. b || stands e.id (without_first w).waiting) (itself e.id)
+turn_stands : (w : SendOrder) (e : Entry) (fair : Bool) (priority : ℤ) → stands e.id (line (with_turn_ended (without_next w) e (next_of fair priority true))) ≡ true
+turn_stands w e true priority = entry_stands (without_next w) (record { priority = priority; id = e.id })
+turn_stands w e false priority = ap (λ b. b || stands e.id (without_next w).waiting) (itself e.id)
 
 -- ---- what is left of a stream
 
@@ -431,7 +431,7 @@ module _ (side : Side) (there : ℕ → Bool) (f : ℕ → SendFlow) (u : World)
       let t = s.turn in
       let found : u.out ≡ s.before.streams = ap (λ (w : World). w.out) s.found in
       let queue : u.queue ≡ s.before.queue = ap (λ (w : World). w.queue) s.found in
-      let after : v.queue ≡ settled (without_first s.before.queue) t.entry LetGo = ap (λ (w : World). w.queue) s.is ∙ ap (λ (x : Writer). x.queue) t.is in
+      let after : v.queue ≡ with_turn_ended (without_next s.before.queue) t.entry LetGo = ap (λ (w : World). w.queue) s.is ∙ ap (λ (x : Writer). x.queue) t.is in
       by_cases (eqb q t.entry.id)
       (λ e. absurd (closed_rest _ (f q) (has_side_in u.out u.bi.max_remote q) (u.out.halves q)
       (ap (λ (o : Outgoing). sending_priority (o.halves q)) found ∙ ap (λ i. sending_priority (s.before.streams.halves i)) (same q t.entry.id e) ∙ t.closed) (all q) k))
@@ -443,7 +443,7 @@ module _ (side : Side) (there : ℕ → Bool) (f : ℕ → SendFlow) (u : World)
       let t = s.turn in
       let m = WasCarried frame.offsets.start frame.offsets.end frame.fin in
       let queue : u.queue ≡ s.before.queue = ap (λ (w : World). w.queue) s.found in
-      let after : v.queue ≡ settled (without_first s.before.queue) t.entry (next_of fair t.priority t.frame.has_more) = ap (λ (w : World). w.queue) s.is ∙ t.queue in
+      let after : v.queue ≡ with_turn_ended (without_next s.before.queue) t.entry (next_of fair t.priority t.frame.has_more) = ap (λ (w : World). w.queue) s.is ∙ t.queue in
       let same_id : frame.id ≡ t.entry.id = ap (λ (x : StreamMeta). x.id) s.meta ∙ t.transmits.appends.id_is in
       let step = step-carried side there f u known all most fair frame v s in
       let g : ℕ → SendFlow = λ q. send_moved (Some (frame.id, m)) there q (f q) in
@@ -454,11 +454,11 @@ module _ (side : Side) (there : ℕ → Bool) (f : ℕ → SendFlow) (u : World)
       moved_queue there f u v r frame.id m
       (λ q n h. ap (λ (x : SendOrder). stands q (line x)) after
       ∙ turn_stays s.before.queue t.entry (next_of fair t.priority t.frame.has_more) q t.is_first (ap (λ i. q == i) (sym same_id) ∙ n) (ap (λ (x : SendOrder). stands q (line x)) (sym queue) ∙ h))
-      (λ k. ap (λ (x : SendOrder). stands frame.id (line x)) after ∙ ap (λ i. stands i (line (settled (without_first s.before.queue) t.entry (next_of fair t.priority t.frame.has_more)))) same_id
+      (λ k. ap (λ (x : SendOrder). stands frame.id (line x)) after ∙ ap (λ i. stands i (line (with_turn_ended (without_next s.before.queue) t.entry (next_of fair t.priority t.frame.has_more)))) same_id
       ∙ by_more (g frame.id) t.transmits.sent s.before.queue t.entry fair t.priority t.frame.has_more t.transmits.appends.more flow k)
     where
       by_more : (x : SendFlow) (y : Send) (w : SendOrder) (e : Entry) (fair : Bool) (priority : ℤ) (b : Bool) → MatchBool b (HasMore y) (HasNoMore y) → FlowFrom x y → HasRest x
-          → stands e.id (line (settled (without_first w) e (next_of fair priority b))) ≡ true
+          → stands e.id (line (with_turn_ended (without_next w) e (next_of fair priority b))) ≡ true
       by_more x y w e fair priority true more flow k = turn_stands w e fair priority
       by_more x y w e fair priority false more flow k = absurd (not_pending x y flow more k)
 
@@ -680,7 +680,7 @@ kept-rest m h u (Resized size answer) v fits side sent f r s = let w = firmly h 
 kept-rest m h u (SetConcurrent dir count (Ok j)) v fits side sent f r s = let w = firmly h u (SetConcurrent dir count (Ok j)) v fits refl s in λ q k. ap (λ (x : SendOrder). stands q (line x)) w.queue ∙ r q k
 kept-rest m h u (SetConcurrent dir count (Err j)) v fits side sent f r s = let w = firmly h u (SetConcurrent dir count (Err j)) v fits refl s in λ q k. ap (λ (x : SendOrder). stands q (line x)) w.queue ∙ r q k
 kept-rest m h u (Accepted dir answer) v fits side sent f r s = let w = firmly h u (Accepted dir answer) v fits refl s in λ q k. ap (λ (x : SendOrder). stands q (line x)) w.queue ∙ r q k
-kept-rest m h u (Settled kind frame) v fits side sent f r s = let w = firmly h u (Settled kind frame) v fits refl s in λ q k. ap (λ (x : SendOrder). stands q (line x)) w.queue ∙ r q k
+kept-rest m h u (LeftPending kind frame) v fits side sent f r s = let w = firmly h u (LeftPending kind frame) v fits refl s in λ q k. ap (λ (x : SendOrder). stands q (line x)) w.queue ∙ r q k
 kept-rest m h u Rejected v fits side sent f r s = λ q k. absurd (absent_rest 0 (new_flow 0) false None refl refl k)
 kept-rest m h u (SentAgain (Ok x)) v fits side sent f r s =
     let queue : v.queue ≡ with_entries_put u.queue s.1.0 = ap (λ (w : World). w.queue) s.1.2 in

@@ -38,7 +38,7 @@ use Rattle.quic_outgoing.specs.Acknowledging.{were_sent}
 use Rattle.quic_history.specs.Acknowledged.{AcksOwn, LosesOwn, AcksReset, told_finished, with_send_freed, frees_reset}
 use Rattle.quic_history.proofs.SendFreed.{steady-send-freed}
 use Rattle.quic_history.specs.SendTotals.{SendTotals, send_totals, own_total}
-use Rattle.quic_history.specs.History.{Event, Received, ReceivedReset, AddedCredits, Began, Gave, Ended, Stopped, ToldReset, Resized, SetConcurrent, Accepted, Settled, Sending, Rejected, SentAgain, with_call, Step, SentSo, taken_in_all, greatest_limit, greatest_count, opened_in_all, taken_by, limit_by, count_by, opens_by}
+use Rattle.quic_history.specs.History.{Event, Received, ReceivedReset, AddedCredits, Began, Gave, Ended, Stopped, ToldReset, Resized, SetConcurrent, Accepted, LeftPending, Sending, Rejected, SentAgain, with_call, Step, SentSo, taken_in_all, greatest_limit, greatest_count, opened_in_all, taken_by, limit_by, count_by, opens_by}
 use Rattle.quic_history.proofs.Limits.{firmly}
 use Rattle.quic_history.proofs.SendSteps.{either-way}
 use Rattle.quic_history.proofs.StreamSteps.{steady-noticed}
@@ -453,7 +453,7 @@ kept-sent h u (Resized size answer) v fits f s = let went = firmly h u (Resized 
 kept-sent h u (SetConcurrent dir count (Ok k)) v fits f s = let went = firmly h u (SetConcurrent dir count (Ok k)) v fits refl s in sent_same h (send_totals u.out) f (SetConcurrent dir count (Ok k)) (send_totals v.out) went.same refl refl (λ d. refl) (λ d. refl)
 kept-sent h u (SetConcurrent dir count (Err k)) v fits f s = let went = firmly h u (SetConcurrent dir count (Err k)) v fits refl s in sent_same h (send_totals u.out) f (SetConcurrent dir count (Err k)) (send_totals v.out) went.same refl refl (λ d. refl) (λ d. refl)
 kept-sent h u (Accepted dir answer) v fits f s = let went = firmly h u (Accepted dir answer) v fits refl s in sent_same h (send_totals u.out) f (Accepted dir answer) (send_totals v.out) went.same refl refl (λ d. refl) (λ d. refl)
-kept-sent h u (Settled kind frame) v fits f s = let went = firmly h u (Settled kind frame) v fits refl s in sent_same h (send_totals u.out) f (Settled kind frame) (send_totals v.out) went.same refl refl (λ d. refl) (λ d. refl)
+kept-sent h u (LeftPending kind frame) v fits f s = let went = firmly h u (LeftPending kind frame) v fits refl s in sent_same h (send_totals u.out) f (LeftPending kind frame) (send_totals v.out) went.same refl refl (λ d. refl) (λ d. refl)
 kept-sent h u (Sending e) v fits f s = sent-sending h u e v f s
 kept-sent h u Rejected v fits f s =
     let o = ap (λ (w : World). send_totals w.out) s.1 in

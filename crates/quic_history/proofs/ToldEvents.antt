@@ -36,7 +36,7 @@ use Rattle.quic_history.specs.Sends.{with_out, with_opened, told_writable, after
 use Rattle.quic_history.specs.Writes.{WritesOwn, with_queued}
 use Rattle.quic_history.specs.SendTotals.{send_totals, own_total}
 use Rattle.quic_history.specs.SendEvents.{SendEvent, SendStep, GaveLimits, OpenedOwn, RaisedData, RaisedCount, RaisedLimit, StoppedOwn, SetWindow, Polled, WroteOwn, FinishedOwn, ResetOwn, SetOwnPriority, AckedOwn, LostOwn, ResetAckedOwn, TookTurn}
-use Rattle.quic_history.specs.History.{since, Rejected, SentAgain, Event, Received, ReceivedReset, AddedCredits, Began, Gave, Ended, Stopped, ToldReset, Resized, SetConcurrent, Accepted, Settled, Sending, Step, SentSo, FlowsSo, opened_in_all, greatest_count, send_tale, flow, is_sent_on, room_in_connection, room_in_window, QueuesSo}
+use Rattle.quic_history.specs.History.{since, Rejected, SentAgain, Event, Received, ReceivedReset, AddedCredits, Began, Gave, Ended, Stopped, ToldReset, Resized, SetConcurrent, Accepted, LeftPending, Sending, Step, SentSo, FlowsSo, opened_in_all, greatest_count, send_tale, flow, is_sent_on, room_in_connection, room_in_window, QueuesSo}
 use Rattle.std.specs.declared.ops.Range.{Range}
 use Rattle.quic_wire.specs.declared.frame.Frame.{Frame}
 use Rattle.quic_flows.specs.Flow.{is_whole, with_acked}
@@ -442,7 +442,7 @@ module _ (m : Made) (h : List Event) (u : World) (side : u.out.side ≡ m.side) 
   queues (SetConcurrent dir count (Ok k)) v s = ap (λ (w : World). w.events) s ∙ events_concurrent u dir count ∙ told_none u.events
   queues (SetConcurrent dir count (Err k)) v s = same_as u v s
   queues (Accepted dir answer) v s = ap (λ (w : World). w.events) s.0 ∙ events_remote u dir (one_accepted (remote_of u dir)) ∙ told_none u.events
-  queues (Settled kind frame) v s = settled_so u kind s.0 frame v s.1 s.2
+  queues (LeftPending kind frame) v s = settled_so u kind s.0 frame v s.1 s.2
   queues (Sending e) v s = queues_sending e v s
   queues Rejected v s = ap (λ (w : World). w.events) s.1 ∙ told_none u.events
   queues (SentAgain (Ok x)) v s = ap (λ (w : World). w.events) s.1.2 ∙ told_none u.events

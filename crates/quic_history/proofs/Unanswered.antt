@@ -17,7 +17,7 @@ use Rattle.quic_history.specs.World.{World, Made}
 use Rattle.quic_history.specs.Early.{IsEarly, JointMove, WereDropped, WereUnsent, with_joint_move, with_unsent, begins_anew}
 use Rattle.quic_history.specs.Flows.{has_send_side, has_side_in, send_moved, with_first_limits}
 use Rattle.quic_history.specs.SendEvents.{RaisedLimit, StoppedOwn, WroteOwn, FinishedOwn, ResetOwn, AckedOwn, LostOwn, ResetAckedOwn, TookTurn}
-use Rattle.quic_history.specs.History.{Event, Received, ReceivedReset, Gave, Stopped, ToldReset, Settled, Sending, WasRead, WasStopped, WasAnnounced, Trace, untouched, trace, moved, move_of, told_still, joint_move_of, with_move, send_move_of, limits_in, opened_in_all, since, send_tale, flow, StreamFrom, From, tells_answer, IsUnanswered}
+use Rattle.quic_history.specs.History.{Event, Received, ReceivedReset, Gave, Stopped, ToldReset, LeftPending, Sending, WasRead, WasStopped, WasAnnounced, Trace, untouched, trace, moved, move_of, told_still, joint_move_of, with_move, send_move_of, limits_in, opened_in_all, since, send_tale, flow, StreamFrom, From, tells_answer, IsUnanswered}
 use Rattle.quic_history.proofs.SendSides.{held-flow}
 use Rattle.quic_history.proofs.EarlyFlows.{reset_state}
 
@@ -52,7 +52,7 @@ quiet_moved (Gave id most ordered (Err (read_error.Reset code))) q t n k = cc
 quiet_moved (Gave id most ordered (Err read_error.OutOfMemory)) q t n k = quiet_if (q == id) t t k k
 quiet_moved (Stopped id code (Ok x)) q t n k = quiet_if (q == id) (with_move WasStopped t) t (record { high = k.high; sized = k.sized; there = k.sized }) k
 quiet_moved (ToldReset id (Ok (Some code))) q t n k = cc
-quiet_moved (Settled kind (Some (frames.MaxStreamData id limit))) q t n k =
+quiet_moved (LeftPending kind (Some (frames.MaxStreamData id limit))) q t n k =
     quiet_if (q == id) (with_move (WasAnnounced limit) t) t (record { high = k.high; sized = k.sized; there = k.there }) k
 quiet_moved _ q t n k = k
 

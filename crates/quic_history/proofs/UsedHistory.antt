@@ -26,7 +26,7 @@ use Rattle.quic_history.specs.Permitting.{with_accepted, is_sent_as_well}
 use Rattle.quic_history.specs.Acknowledged.{without_sender, with_send_freed}
 use Rattle.quic_history.specs.Flows.{AllFlows, has_side_in}
 use Rattle.quic_history.specs.Used.{used_halves, halves_among}
-use Rattle.quic_history.specs.History.{Event, Received, ReceivedReset, AddedCredits, Began, Gave, Ended, Stopped, ToldReset, Resized, SetConcurrent, Accepted, Settled, Sending, Rejected, SentAgain, since, Step, SentSo, FlowsSo, count_by, greatest_count, opened_in_all, send_tale, may_open_after}
+use Rattle.quic_history.specs.History.{Event, Received, ReceivedReset, AddedCredits, Began, Gave, Ended, Stopped, ToldReset, Resized, SetConcurrent, Accepted, LeftPending, Sending, Rejected, SentAgain, since, Step, SentSo, FlowsSo, count_by, greatest_count, opened_in_all, send_tale, may_open_after}
 use Rattle.quic_history.proofs.ControlSteps.{announces}
 use Rattle.quic_history.proofs.ReceivingSteps.{stays-at, stays-same, stays-replaced, stays-received, stays-reset, stays-began, stays-gave, stays-stopped, stays-told-reset}
 use Rattle.std.specs.Option.{option_map}
@@ -285,7 +285,7 @@ module _ (m : Made) (h : List Event) (u v : World) (room : u.bi.next_reported �
   kept-used (SetConcurrent dir count (Err k)) s = keeps (stays-same KeepsUsed keeps-parts u v s)
   kept-used (Accepted dir answer) s = let P : World → Type 0 = λ x. CountsUsed x in
       subst P (sym s.0) (counts_accepted u dir (let l : used_halves v ≡ used_halves (with_accepted u dir) = ap used_halves s.0 in omega (arith, few, l)) e)
-  kept-used (Settled kind frame) s = keeps (keeps-announced u v (announces kind u s.0 frame v s.1 s.2))
+  kept-used (LeftPending kind frame) s = keeps (keeps-announced u v (announces kind u s.0 frame v s.1 s.2))
   kept-used (Sending a) s = counts_sending a s
   kept-used Rejected s = let P : World → Type 0 = λ x. CountsUsed x in subst P (sym s.1) (counts_rejected u)
   kept-used (SentAgain (Ok x)) s = keeps (keeps-spared u v (spares-again u v _ s.1.2))

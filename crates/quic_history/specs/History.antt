@@ -81,7 +81,7 @@ pub data Event : Type 0 where
   -- the next stream that the peer opened was asked for
   Accepted : (dir : Dir) → (answer : Option ℕ) → Event
   -- an entry of what is pending was written as a frame, or dropped
-  Settled : (kind : ControlKind) → (frame : Option Frame) → Event
+  LeftPending : (kind : ControlKind) → (frame : Option Frame) → Event
   -- a call on the sending side
   Sending : SendEvent → Event
   -- an early start was rejected
@@ -126,7 +126,7 @@ Step u (ToldReset id answer) v = (p : Pending) × (q : Pending) × TellsReset u 
 Step u (Resized window answer) v = (v ≡ with_receive_window u window) × (answer ≡ nat_lt u.credit.receive_window window)
 Step u (SetConcurrent dir count answer) v = SetsConcurrent u dir count answer v
 Step u (Accepted dir answer) v = (v ≡ with_accepted u dir) × (answer ≡ acceptable u dir)
-Step u (Settled kind frame) v = (p : Pending) × (q : Pending) × SettlesEntry kind u p frame v q
+Step u (LeftPending kind frame) v = (p : Pending) × (q : Pending) × SettlesEntry kind u p frame v q
 Step u (Sending e) v = SendStep u e v
 Step u Rejected v = IsEarly u × (v ≡ with_rejection u)
 Step u (SentAgain answer) v = NoneAcked u.out.side u.out.halves × SendsAgain u answer v
@@ -220,11 +220,11 @@ abbrev pub is_closed : Trace → Bool
 is_closed t = is_some t.reset || t.gone
 
 -- whether a frame was kept: it was taken, or there were too many pieces, or no memory to compact them
-abbrev pub is_kept : Result ShouldTransmit ReceiveError → Bool
-is_kept (Ok transmit) = true
-is_kept (Err (receive_error.Transport error)) = error.code == INTERNAL_ERROR
-is_kept (Err receive_error.CompactionMemory) = true
-is_kept (Err receive_error.OutOfMemory) = false
+abbrev pub is_frame_kept : Result ShouldTransmit ReceiveError → Bool
+is_frame_kept (Ok transmit) = true
+is_frame_kept (Err (receive_error.Transport error)) = error.code == INTERNAL_ERROR
+is_frame_kept (Err receive_error.CompactionMemory) = true
+is_frame_kept (Err receive_error.OutOfMemory) = false
 
 -- a STREAM frame was kept. The end of a stopped stream frees it
 abbrev pub with_kept_frame : ℕ → List ℕ → Bool → Trace → Trace
@@ -268,7 +268,7 @@ pub data Move : Type 0 where
   WasAnnounced : (limit : ℕ) → Move
 
 abbrev pub with_move : Move → Trace → Trace
-with_move (Framed offset bytes fin answer) t = if is_kept answer then with_kept_frame offset bytes fin t else t
+with_move (Framed offset bytes fin answer) t = if is_frame_kept answer then with_kept_frame offset bytes fin t else t
 with_move (WasReset code final) t = with_reset code final t
 with_move (WasRead ordered answer) t = with_read ordered answer t
 with_move WasStopped t = with_stop t
@@ -282,7 +282,7 @@ move_of (ReceivedReset id code final (Ok transmit)) = Some (id, WasReset code fi
 move_of (Gave id most ordered answer) = Some (id, WasRead ordered answer)
 move_of (Stopped id code (Ok u)) = Some (id, WasStopped)
 move_of (ToldReset id (Ok (Some code))) = Some (id, WasTold)
-move_of (Settled kind (Some (frames.MaxStreamData id limit))) = Some (id, WasAnnounced limit)
+move_of (LeftPending kind (Some (frames.MaxStreamData id limit))) = Some (id, WasAnnounced limit)
 move_of _ = None
 
 abbrev pub moved : Option (ℕ × Move) → ℕ → Trace → Trace
@@ -332,7 +332,7 @@ stop_gives t = if is_some t.reset then 0 else t.high - t.read
 
 -- how many bytes what was done to a stream gives credit for
 abbrev pub move_gives : Move → Trace → ℕ
-move_gives (Framed offset bytes fin answer) t = if is_kept answer then frame_credit t (offset + length bytes) else 0
+move_gives (Framed offset bytes fin answer) t = if is_frame_kept answer then frame_credit t (offset + length bytes) else 0
 move_gives (WasReset code final) t = reset_credit t final
 move_gives (WasRead ordered answer) t = 0
 move_gives WasStopped t = stop_gives t

@@ -16,7 +16,7 @@ use Rattle.quic_history.specs.Flows.{send_moved, with_first_limits, has_send_sid
 use Rattle.quic_history.specs.SendEvents.{RaisedLimit, StoppedOwn, WroteOwn, FinishedOwn, ResetOwn, AckedOwn, LostOwn, ResetAckedOwn, TookTurn}
 use Rattle.quic_history.specs.History.{Event, Received, Sending, send_move_of, limits_in, opened_in_all, send_tale, since}
 use Rattle.quic_history.proofs.Totals.{by_cases, same}
-use Rattle.quic_link.specs.Endpoints.{Endpoint, IsOneOf, MayAct, acted, sent_on, IsHonest, WasStoppedWith}
+use Rattle.quic_link.specs.Endpoints.{LinkedEnd, IsOneOf, MayAct, acted, sent_on, IsHonest, WasStoppedWith}
 use Rattle.quic_link.specs.Promises.{CameAt, EndCame}
 use Rattle.quic_link.proofs.Ends.{Comes, plain-call}
 use Rattle.quic_link.proofs.Growth.{MayMove, CanMove, can-move}
@@ -167,7 +167,7 @@ acked_limits : (calls : List Event) (q : ℕ) (l : Option PeerLimits) (side : Si
 acked_limits calls q None side f s = s
 acked_limits calls q (Some limits) side f s = acked_same calls q f _ refl refl refl refl refl refl refl s
 
-ack_true : (x y : Endpoint) (e : Event) → AllTrue y → IsHonest x y e → TrueAcked y.calls (send_move_of e)
+ack_true : (x y : LinkedEnd) (e : Event) → AllTrue y → IsHonest x y e → TrueAcked y.calls (send_move_of e)
 ack_true x y (Sending (AckedOwn id offsets fin (Ok u))) t k = record { bytes = k.bytes; transmit = k.transmit; is = k.is; ends = k.behind }
 ack_true x y (Sending (AckedOwn id offsets fin (Err error))) t k = tt
 ack_true x y (Sending (StoppedOwn id code (Ok u))) t k = t (frames.StopSending (record { id = id; error_code = code })) k
@@ -189,7 +189,7 @@ ack_true x y (Sending (TookTurn most fair (Some frame))) t k = tt
 ack_true x y _ t k = tt
 
 -- the end that sends was called
-pub acked-sent : (x y : Endpoint) (e : Event) (v : World) → Comes x → AllTrue y → MayAct x y e v → ((q : ℕ) → AckedSo (sent_on x q) y.calls q) → (q : ℕ) → AckedSo (sent_on (acted x e v) q) y.calls q
+pub acked-sent : (x y : LinkedEnd) (e : Event) (v : World) → Comes x → AllTrue y → MayAct x y e v → ((q : ℕ) → AckedSo (sent_on x q) y.calls q) → (q : ℕ) → AckedSo (sent_on (acted x e v) q) y.calls q
 acked-sent x y e v f t a s q =
     rw (plain-call x y e a.honest) (acked_limits y.calls q (limits_in e) x.made.side _
     (acked_moved y.calls (send_move_of e) (has_send_side x.made.side (opened_in_all (since x.calls)) (send_tale x.made x.calls).may_open) (sent_on x) q (can-move x.made x.calls x.world v f.from e a.step) (ack_true x y e t a.honest) (s q)))

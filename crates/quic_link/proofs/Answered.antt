@@ -18,10 +18,10 @@ use Rattle.quic_history.specs.World.{World, id_refusal}
 use Rattle.quic_history.specs.Flows.{refusal_told, refusal_where, room_on}
 use Rattle.quic_history.specs.Reading.{ReadsHalf, IsClosed}
 use Rattle.quic_history.specs.SendEvents.{WroteOwn, FinishedOwn, Polled}
-use Rattle.quic_history.specs.History.{Event, Received, Began, Gave, ToldReset, Sending, HalfFrom, slices, trace, is_kept, is_sent_on, room_in_connection, room_in_window}
+use Rattle.quic_history.specs.History.{Event, Received, Began, Gave, ToldReset, Sending, HalfFrom, slices, trace, is_frame_kept, is_sent_on, room_in_connection, room_in_window}
 use Rattle.quic_history.proofs.Totals.{by_cases}
 use Rattle.quic_history.proofs.StreamSteps.{half-from, known-from, gone-from}
-use Rattle.quic_link.specs.Endpoints.{Endpoint, MayAct, sent_on, came_on}
+use Rattle.quic_link.specs.Endpoints.{LinkedEnd, MayAct, sent_on, came_on}
 use Rattle.quic_link.specs.Truths.{amount_on}
 use Rattle.quic_link.specs.Promises.{HasNothingToRead, KeptAt, AnswersTrue, IsOver, WasReadUnordered, RefusesNone, frames_kept, kept_count}
 use Rattle.quic_link.proofs.Growth.{held-told}
@@ -32,7 +32,7 @@ use Rattle.quic_link.proofs.Readers.{reads-kept}
 use Rattle.quic_link.proofs.Truthful.{readable}
 use Rattle.quic_link.proofs.Joint.{Agrees}
 
-module _ (x y : Endpoint) (s : Agrees x y) (r : Agrees y x) where
+module _ (x y : LinkedEnd) (s : Agrees x y) (r : Agrees y x) where
   told : (id : ℕ) (h : Half) → x.world.receive id ≡ Some h → HalfFrom x.world.window (came_on x id) h
   told id h e = half-from (trace x.calls) x.world id h s.comes.facts.streams (known-from (trace x.calls) x.world id h s.comes.facts.streams e) e
 
@@ -127,7 +127,7 @@ module _ (x y : Endpoint) (s : Agrees x y) (r : Agrees y x) where
       kept_if false = omega arith
 
       kept_most : (e : Event) (q : ℕ) → frames_kept e q ≤ 1
-      kept_most (Received id offset bytes fin answer) q = kept_if ((q == id) && is_kept answer)
+      kept_most (Received id offset bytes fin answer) q = kept_if ((q == id) && is_frame_kept answer)
       kept_most _ q = omega arith
 
   pub answers-true : RefusesNone y x → AnswersTrue x y

@@ -24,11 +24,11 @@ use Rattle.quic_history.specs.declared.control.ControlKind.{ControlKind}
 use Rattle.quic_history.specs.declared.control.ControlKind.TheVariants as kinds
 use Rattle.quic_history.specs.Control.{SettlesEntry, reset_frame, announced_end}
 use Rattle.quic_history.specs.SendEvents.{ResetOwn, TookTurn}
-use Rattle.quic_history.specs.History.{Event, Settled, Sending, opened_in_all, send_tale, since}
+use Rattle.quic_history.specs.History.{Event, LeftPending, Sending, opened_in_all, send_tale, since}
 use Rattle.quic_history.proofs.Traces.{itself}
 use Rattle.quic_history.proofs.SendSides.{held-side}
 use Rattle.quic_history.proofs.FlowHistory.{known-by}
-use Rattle.quic_link.specs.Endpoints.{Endpoint, IsOneOf, MayAct, acted, written_by, written_on, sent_on, WasAskedFor, WasGiven, WasStoppedWith}
+use Rattle.quic_link.specs.Endpoints.{LinkedEnd, IsOneOf, MayAct, acted, written_by, written_on, sent_on, WasAskedFor, WasGiven, WasStoppedWith}
 use Rattle.quic_link.specs.Asked.{AreAsked}
 use Rattle.quic_link.proofs.Ends.{Comes, plain-call}
 use Rattle.quic_link.proofs.Growth.{grows}
@@ -37,10 +37,10 @@ use Rattle.quic_link.proofs.Basics.{both, either-of, either_true, only, same_id,
 
 -- ---- frames
 
-abbrev pub AllAskedFor : Endpoint → Type 0
+abbrev pub AllAskedFor : LinkedEnd → Type 0
 AllAskedFor x = (g : Frame) → IsOneOf g x.wrote → WasAskedFor x g
 
-module _ (x y : Endpoint) (e : Event) (v : World) (f : Comes x) (a : MayAct x y e v) where
+module _ (x y : LinkedEnd) (e : Event) (v : World) (f : Comes x) (a : MayAct x y e v) where
   reset_stays : (id code : ℕ) → (sent_on x id).reset ≡ Some code → (sent_on (acted x e v) id).reset ≡ Some code
   reset_stays id code k = let g = grows x.made x.calls x.world v f.from e (plain-call x y e a.honest) a.step id in g.reset code k
 
@@ -58,31 +58,31 @@ module _ (x y : Endpoint) (e : Event) (v : World) (f : Comes x) (a : MayAct x y 
     windows = λ id h. given-more x y e v f a id (s.windows id h);
   }
 
-asked_at : (x : Endpoint) (g k : Frame) → g ≡ k → WasAskedFor x k → WasAskedFor x g
+asked_at : (x : LinkedEnd) (g k : Frame) → g ≡ k → WasAskedFor x k → WasAskedFor x g
 asked_at x g k e t = let P : Frame → Type 0 = λ j. WasAskedFor x j in subst P (sym e) t
 
-new_asked : (x y : Endpoint) (e : Event) (v : World) → MayAct x y e v → (g : Frame) → IsOneOf g (written_by x e) → WasAskedFor x g
-new_asked x y (Settled kind (Some k)) v a g h = asked_at x g k (only g k h) a.honest
-new_asked x y (Settled kind None) v a g h = absurd h
+new_asked : (x y : LinkedEnd) (e : Event) (v : World) → MayAct x y e v → (g : Frame) → IsOneOf g (written_by x e) → WasAskedFor x g
+new_asked x y (LeftPending kind (Some k)) v a g h = asked_at x g k (only g k h) a.honest
+new_asked x y (LeftPending kind None) v a g h = absurd h
 new_asked x y (Sending (TookTurn most fair (Some meta))) v a g h = asked_at x g (frame_with (written_on x) meta) (only g (frame_with (written_on x) meta) h) tt
 new_asked x y (Sending (TookTurn most fair None)) v a g h = absurd h
 new_asked x y _ v a g h = absurd h
 
-pub frames-asked : (x y : Endpoint) (e : Event) (v : World) → Comes x → MayAct x y e v → AllAskedFor x → AllAskedFor (acted x e v)
+pub frames-asked : (x y : LinkedEnd) (e : Event) (v : World) → Comes x → MayAct x y e v → AllAskedFor x → AllAskedFor (acted x e v)
 frames-asked x y e v f a s g h = frame-asked x y e v f a g (elim (either-of g (written_by x e) x.wrote h) [ inl k ↦ new_asked x y e v a g k | inr k ↦ s g k ])
 
 -- ---- what is pending
 
-pub asked-nothing : (x : Endpoint) → AreAsked x nothing
+pub asked-nothing : (x : LinkedEnd) → AreAsked x nothing
 asked-nothing x = record { resets = λ id code h. absurd h; stops = λ g h. absurd h; windows = λ id h. cc }
 
 -- fewer entries
-pub asked-fewer : (x : Endpoint) (p q : Pending) → ((k : ℕ × ℕ) → IsOneOf k q.reset_stream → IsOneOf k p.reset_stream) → ((k : StopSending) → IsOneOf k q.stop_sending → IsOneOf k p.stop_sending)
+pub asked-fewer : (x : LinkedEnd) (p q : Pending) → ((k : ℕ × ℕ) → IsOneOf k q.reset_stream → IsOneOf k p.reset_stream) → ((k : StopSending) → IsOneOf k q.stop_sending → IsOneOf k p.stop_sending)
     → ((id : ℕ) → q.max_stream_data id ≡ true → p.max_stream_data id ≡ true) → AreAsked x p → AreAsked x q
 asked-fewer x p q r s w k = record { resets = λ id code h. k.resets id code (r (id, code) h); stops = λ g h. k.stops g (s g h); windows = λ id h. k.windows id (w id h) }
 
 -- two sets joined
-pub asked-merged : (x : Endpoint) (p q : Pending) → AreAsked x p → AreAsked x q → AreAsked x (merged p q)
+pub asked-merged : (x : LinkedEnd) (p q : Pending) → AreAsked x p → AreAsked x q → AreAsked x (merged p q)
 asked-merged x p q a b = record {
   resets = λ id code h. elim (either-of (id, code) p.reset_stream q.reset_stream h) [ inl k ↦ a.resets id code k | inr k ↦ b.resets id code k ];
   stops = λ g h. elim (either-of g p.stop_sending q.stop_sending h) [ inl k ↦ a.stops g k | inr k ↦ b.stops g k ];
@@ -90,7 +90,7 @@ asked-merged x p q a b = record {
 }
 
 -- a limit of a stream that was given is queued
-pub asked-window : (x : Endpoint) (p : Pending) (id : ℕ) (due : Bool) → WasGiven x.world id → AreAsked x p → AreAsked x (record p { max_stream_data = with_id p.max_stream_data id due })
+pub asked-window : (x : LinkedEnd) (p : Pending) (id : ℕ) (due : Bool) → WasGiven x.world id → AreAsked x p → AreAsked x (record p { max_stream_data = with_id p.max_stream_data id due })
 asked-window x p id due g a = record {
   resets = a.resets;
   stops = a.stops;
@@ -101,7 +101,7 @@ asked-window x p id due g a = record {
 }
 
 -- a stop, that was asked for
-pub asked-stop : (x : Endpoint) (p : Pending) (id code : ℕ) (due : Bool) → WasStoppedWith x.calls id code → WasGiven x.world id → AreAsked x p → AreAsked x (record p { stop_sending = with_stop_sending p.stop_sending id code due })
+pub asked-stop : (x : LinkedEnd) (p : Pending) (id code : ℕ) (due : Bool) → WasStoppedWith x.calls id code → WasGiven x.world id → AreAsked x p → AreAsked x (record p { stop_sending = with_stop_sending p.stop_sending id code due })
 asked-stop x p id code true w g a = record {
   resets = a.resets;
   stops = λ k h. elim (either-of k p.stop_sending (record { id = id; error_code = code } ∷ []) h) [
@@ -113,7 +113,7 @@ asked-stop x p id code true w g a = record {
 asked-stop x p id code false w g a = record { resets = a.resets; stops = a.stops; windows = a.windows }
 
 -- a reset, that was asked for
-pub asked-reset : (x : Endpoint) (p : Pending) (id code : ℕ) → (sent_on x id).reset ≡ Some code → WasGiven x.world id → AreAsked x p → AreAsked x (record p { reset_stream = with_reset_stream p.reset_stream id code })
+pub asked-reset : (x : LinkedEnd) (p : Pending) (id code : ℕ) → (sent_on x id).reset ≡ Some code → WasGiven x.world id → AreAsked x p → AreAsked x (record p { reset_stream = with_reset_stream p.reset_stream id code })
 asked-reset x p id code r g a = record {
   resets = λ q c h. elim (either-of (q, c) p.reset_stream ((id, code) ∷ []) h) [
     | inl o ↦ a.resets q c o
@@ -124,7 +124,7 @@ asked-reset x p id code r g a = record {
 }
 
 -- the flow of a stream once it was given up
-pub reset-told : (x y : Endpoint) (id code : ℕ) (v : World) → Comes x → MayAct x y (Sending (ResetOwn id code (Ok tt))) v → (sent_on (acted x (Sending (ResetOwn id code (Ok tt))) v) id).reset ≡ Some code
+pub reset-told : (x y : LinkedEnd) (id code : ℕ) (v : World) → Comes x → MayAct x y (Sending (ResetOwn id code (Ok tt))) v → (sent_on (acted x (Sending (ResetOwn id code (Ok tt))) v) id).reset ≡ Some code
 reset-told x y id code v f a =
     let r = a.step.2.1 in
     let there = held-side _ _ (has_side_in x.world.out x.world.bi.max_remote id) r.0 (x.world.out.halves id) r.1 (f.sends.flows id) in
@@ -135,7 +135,7 @@ reset-told x y id code v f a =
     given_up there t k = rw (itself id, k) refl
 
 -- a frame that was written is noted, so that it is pending again once it is lost
-pub asked-noted : (x : Endpoint) (p : Pending) (g : Frame) → WasAskedFor x g → AreAsked x p → AreAsked x (noted p g)
+pub asked-noted : (x : LinkedEnd) (p : Pending) (g : Frame) → WasAskedFor x g → AreAsked x p → AreAsked x (noted p g)
 asked-noted x p (frames.ResetStream r) k a = asked-reset x p r.id r.error_code k.0 k.1 a
 asked-noted x p (frames.StopSending s) k a = asked-stop x p s.id s.error_code true k.0 k.1 a
 asked-noted x p (frames.MaxStreamData id limit) k a = asked-window x p id true k a
@@ -147,7 +147,7 @@ asked-noted x p (frames.StreamDataBlocked id offset) k a = record { resets = a.r
 asked-noted x p _ k a = a
 
 -- what a write queues that found nothing to be writable, and what a refused write leaves
-pub asked-blocked : (x : Endpoint) (u : Outgoing) (p : Pending) (id : ℕ) (o : Option Send) → AreAsked x p → AreAsked x (told_blocked u id o p)
+pub asked-blocked : (x : LinkedEnd) (u : Outgoing) (p : Pending) (id : ℕ) (o : Option Send) → AreAsked x p → AreAsked x (told_blocked u id o p)
 asked-blocked x u p id None a = a
 asked-blocked x u p id (Some s) a = told (is_stuck u)
   where
@@ -155,7 +155,7 @@ asked-blocked x u p id (Some s) a = told (is_stuck u)
     told true = record { resets = a.resets; stops = a.stops; windows = a.windows }
     told false = record { resets = a.resets; stops = a.stops; windows = a.windows }
 
-pub asked-refused : (x : Endpoint) (u v : Outgoing) (p q : Pending) (id : ℕ) (e : WriteError) → RefusesWrite u id p e v q → AreAsked x p → AreAsked x q
+pub asked-refused : (x : LinkedEnd) (u v : Outgoing) (p q : Pending) (id : ℕ) (e : WriteError) → RefusesWrite u id p e v q → AreAsked x p → AreAsked x q
 asked-refused x u v p q id write_error.Blocked r a = let P : Pending → Type 0 = λ k. AreAsked x k in subst P (sym r.2) (asked-blocked x u p id (u.halves id) a)
 asked-refused x u v p q id (write_error.Stopped code) r a = let P : Pending → Type 0 = λ k. AreAsked x k in subst P (sym r.2) a
 asked-refused x u v p q id write_error.ClosedStream r a = let P : Pending → Type 0 = λ k. AreAsked x k in subst P (sym r.2) a
@@ -172,7 +172,7 @@ at_end : {X : Type 0} (k : X) (xs : List X) → IsOneOf k (xs ++ k ∷ [])
 at_end k [] = inl refl
 at_end k (x ∷ xs) = inr (at_end k xs)
 
-module _ (x : Endpoint) (p : Pending) (s : AreAsked x p) where
+module _ (x : LinkedEnd) (p : Pending) (s : AreAsked x p) where
   unchanged : (q : Pending) → q.reset_stream ≡ p.reset_stream → q.stop_sending ≡ p.stop_sending → q.max_stream_data ≡ p.max_stream_data → AreAsked x q
   unchanged q a b c = asked-fewer x p q
       (λ k h. let P : List (ℕ × ℕ) → Type 0 = λ l. IsOneOf k l in subst P a h)

@@ -12,7 +12,7 @@ use Rattle.quic_history.specs.World.{World, Made, count_of, remote_of}
 use Rattle.quic_history.specs.SendEvents.{GaveLimits, RaisedData, RaisedCount, RaisedLimit, StoppedOwn, WroteOwn, FinishedOwn, LostOwn}
 use Rattle.quic_history.specs.History.{Event, Received, ReceivedReset, Sending, opened_in_all, count_by, greatest_limit, limit_by}
 use Rattle.quic_history.proofs.Credits.{limit-fits}
-use Rattle.quic_link.specs.Endpoints.{Endpoint, MayAct, acted, written_by, IsHonest, limits_of}
+use Rattle.quic_link.specs.Endpoints.{LinkedEnd, MayAct, acted, written_by, IsHonest, limits_of}
 use Rattle.quic_link.proofs.Ends.{Comes, plain-call}
 use Rattle.quic_link.proofs.TrueFrames.{AllTrue, count-grows, limit-grows}
 use Rattle.quic_link.proofs.Meets.{nexts, next_of_dir, MeetsBy, frame_id, meets-step}
@@ -22,11 +22,11 @@ use Rattle.quic_link.proofs.Basics.{either-of}
 
 -- ---- the queue
 
-abbrev QueuedOpen : Endpoint → Endpoint → Option ℕ → Type 0
+abbrev QueuedOpen : LinkedEnd → LinkedEnd → Option ℕ → Type 0
 QueuedOpen x y None = Unit {0}
 QueuedOpen x y (Some id) = IsOpenAt x y id
 
-queued_open : (x y : Endpoint) (e : Event) → Comes x → IdsSo x y → IsHonest x y e → QueuedOpen x y (queued_id e)
+queued_open : (x y : LinkedEnd) (e : Event) → Comes x → IdsSo x y → IsHonest x y e → QueuedOpen x y (queued_id e)
 queued_open x y (Sending (WroteOwn id lists closed (Ok written))) f s k = given-open x y f s id k
 queued_open x y (Sending (WroteOwn id lists closed (Err error))) f s k = tt
 queued_open x y (Sending (FinishedOwn id (Ok u))) f s k = given-open x y f s id k
@@ -38,11 +38,11 @@ queued_open x y _ f s k = tt
 
 -- ---- streams that frames open
 
-abbrev MetOpen : Endpoint → Endpoint → Option ℕ → Type 0
+abbrev MetOpen : LinkedEnd → LinkedEnd → Option ℕ → Type 0
 MetOpen x y None = Unit {0}
 MetOpen x y (Some id) = IsOpenAt y x id
 
-met_open : (x y : Endpoint) (e : Event) → IdsSo y x → IsHonest x y e → MetOpen x y (frame_id e)
+met_open : (x y : LinkedEnd) (e : Event) → IdsSo y x → IsHonest x y e → MetOpen x y (frame_id e)
 met_open x y (Received id offset bytes fin answer) s k = let o = s.frames_open (frames.Stream (record { id = id; offset = offset; fin = fin; bytes = bytes })) k in o.opened
 met_open x y (ReceivedReset id code final answer) s k = let o = s.frames_open (frames.ResetStream (record { id = id; error_code = code; final_offset = final })) k in o.opened
 met_open x y (Sending (RaisedLimit id limit answer)) s k = let o = s.frames_open (frames.MaxStreamData id limit) k in o.opened
@@ -54,7 +54,7 @@ own_open true a b id d e k o = let n = ap a k in omega arith
 own_open false a b id d e k o = cc
 
 -- streams of the peer count as opened only where it opened them
-met_after : (x y : Endpoint) (v : World) (o : Option ℕ) → x.world.out.side ≡ x.made.side → y.made.side ≡ other_side x.made.side → MeetsBy x.world v o → MetOpen x y o
+met_after : (x y : LinkedEnd) (v : World) (o : Option ℕ) → x.world.out.side ≡ x.made.side → y.made.side ≡ other_side x.made.side → MeetsBy x.world v o → MetOpen x y o
     → ((d : Dir) → next_of_dir (nexts x.world) d ≤ opened_in_all y.calls d) → (d : Dir) → next_of_dir (nexts v) d ≤ opened_in_all y.calls d
 met_after x y v None side other m k l d = let e : next_of_dir (nexts v) d ≡ next_of_dir (nexts x.world) d = ap (λ p. next_of_dir p d) m in let a = l d in omega arith
 met_after x y v (Some id) side other m k l d = elim (m d) [
@@ -78,7 +78,7 @@ given_most Bi Uni n most l = omega arith
 given_most Uni Bi n most l = omega arith
 given_most Uni Uni n most l = l
 
-count_true : (x y : Endpoint) (e : Event) → AllTrue y → ((d : Dir) → count_of y.made d ≤ (remote_of y.world d).max_remote) → IsHonest x y e → (d : Dir) → count_by e d ≤ (remote_of y.world d).max_remote
+count_true : (x y : LinkedEnd) (e : Event) → AllTrue y → ((d : Dir) → count_of y.made d ≤ (remote_of y.world d).max_remote) → IsHonest x y e → (d : Dir) → count_by e d ≤ (remote_of y.world d).max_remote
 count_true x y (Sending (GaveLimits limits)) t base k d =
     let a : count_in limits d ≡ count_of y.made d = ap (λ p. count_in p d) k ∙ count_is y.made d in
     let b = base d in
@@ -92,18 +92,18 @@ count_true x y _ t base k d = omega arith
 -- ---- the limit of the connection
 
 -- no higher limit is held than is enforced, which is at least the first window
-pub record DataSo (x y : Endpoint) : Type 0 where
+pub record DataSo (x y : LinkedEnd) : Type 0 where
   pub limit : greatest_limit x.calls ≤ y.world.credit.local_max_data
   pub base : x.made.receive_window ≤ x.world.credit.local_max_data
 
-limit_true : (x y : Endpoint) (e : Event) → AllTrue y → y.made.receive_window ≤ y.world.credit.local_max_data → IsHonest x y e → limit_by e ≤ y.world.credit.local_max_data
+limit_true : (x y : LinkedEnd) (e : Event) → AllTrue y → y.made.receive_window ≤ y.world.credit.local_max_data → IsHonest x y e → limit_by e ≤ y.world.credit.local_max_data
 limit_true x y (Sending (GaveLimits limits)) t base k = let a : limits.initial_max_data ≡ y.made.receive_window = ap (λ (p : PeerLimits). p.initial_max_data) k in omega arith
 limit_true x y (Sending (RaisedData limit)) t base k = t (frames.MaxData limit) k
 limit_true x y _ t base k = omega arith
 
 -- ---- the first end was called
 
-module _ (x y : Endpoint) (e : Event) (v : World) (f : Comes x) (a : MayAct x y e v) where
+module _ (x y : LinkedEnd) (e : Event) (v : World) (f : Comes x) (a : MayAct x y e v) where
   pub ids-first : y.made.side ≡ other_side x.made.side → AllTrue y → IdsSo x y → IdsSo y x → IdsSo (acted x e v) y
   ids-first other t s r =
       let fits = limit-fits _ _ _ _ x.world.credit f.facts.credit in

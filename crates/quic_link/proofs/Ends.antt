@@ -6,11 +6,11 @@ use Rattle.quic_history.specs.SendTotals.{send_totals}
 use Rattle.quic_history.specs.History.{From, Event, Rejected, SentAgain, IsRun, Facts, GivenSo, EndsSo, TellsEnds, EverPermits, SentSo, FlowsSo, TellsWrites, AreQueued, trace, since, joint_move_of}
 use Rattle.quic_history.proofs.Histories.{next}
 use Rattle.quic_history.proofs.Beginnings.{begins}
-use Rattle.quic_link.specs.Endpoints.{Endpoint, MayAct, IsHonest, acted, IsNewEnd, Linked, begun, first_acts, second_acts}
+use Rattle.quic_link.specs.Endpoints.{LinkedEnd, MayAct, IsHonest, acted, IsNewEnd, Linked, begun, first_acts, second_acts}
 use Rattle.quic_link.proofs.Basics.{other_other}
 
 -- a call that is honest is none of an early start
-pub plain-call : (x y : Endpoint) (e : Event) → IsHonest x y e → joint_move_of e ≡ None
+pub plain-call : (x y : LinkedEnd) (e : Event) → IsHonest x y e → joint_move_of e ≡ None
 plain-call x y Rejected h = absurd h
 plain-call x y (SentAgain answer) h = absurd h
 plain-call x y _ h = refl
@@ -25,7 +25,7 @@ since-plain [] p = refl
 since-plain (e ∷ h) p = rw p.0 (ap (λ l. e ∷ l) (since-plain h p.1))
 
 -- an end may come from its calls, of which none rejected an early start
-pub record Comes (x : Endpoint) : Type 0 where
+pub record Comes (x : LinkedEnd) : Type 0 where
   pub from : From x.made x.calls x.world
   pub plain : ArePlain x.calls
   pub side : x.world.out.side ≡ x.made.side
@@ -40,7 +40,7 @@ pub record Comes (x : Endpoint) : Type 0 where
   pub writes : TellsWrites x.made x.calls x.world
   pub queued : AreQueued x.made x.calls x.world.events
 
-pub comes-from : (x : Endpoint) → From x.made x.calls x.world → ArePlain x.calls → Comes x
+pub comes-from : (x : LinkedEnd) → From x.made x.calls x.world → ArePlain x.calls → Comes x
 comes-from x f plain = record {
   from = f;
   plain = plain;
@@ -58,17 +58,17 @@ comes-from x f plain = record {
 }
 
 -- two ends are linked either way
-pub turned : {x y : Endpoint} → Linked x y → Linked y x
+pub turned : {x y : LinkedEnd} → Linked x y → Linked y x
 turned {x} {y} (begun a b s) = begun b a (other_other x.made.side ∙ ap other_side (sym s))
 turned (first_acts e v l a) = second_acts e v (turned l) a
 turned (second_acts e v l a) = first_acts e v (turned l) a
 
-pub comes-new : (x : Endpoint) → IsNewEnd x → Comes x
+pub comes-new : (x : LinkedEnd) → IsNewEnd x → Comes x
 comes-new x n =
     let s = n.start in
     let P : List Event → Type 0 = λ h. From x.made h x.world in
     let Q : List Event → Type 0 = λ h. ArePlain h in
     comes-from x (subst P (sym n.calls) (begins x.made x.world s.few_uni s.few_bi s.small s.is)) (subst Q (sym n.calls) tt)
 
-pub comes-acted : (x y : Endpoint) (e : Event) (v : World) → Comes x → MayAct x y e v → Comes (acted x e v)
+pub comes-acted : (x y : LinkedEnd) (e : Event) (v : World) → Comes x → MayAct x y e v → Comes (acted x e v)
 comes-acted x y e v f a = comes-from (acted x e v) (next x.made x.calls x.world e v a.fits f.from a.step) (plain-call x y e a.honest, f.plain)

@@ -10,7 +10,7 @@ use Rattle.quic_outgoing.specs.Senders.{is_local}
 use Rattle.quic_history.specs.World.{World, Made, made_with, is_own}
 use Rattle.quic_history.specs.SendEvents.{GaveLimits, OpenedOwn, WroteOwn, FinishedOwn, AckedOwn, TookTurn}
 use Rattle.quic_history.specs.History.{Event, Received, Began, Gave, Accepted, Sending, Step, opened_in_all, IsStart}
-use Rattle.quic_link.specs.Endpoints.{Endpoint, acted, Linked, begun, first_acts, second_acts, WasGiven, limits_of, sent_on}
+use Rattle.quic_link.specs.Endpoints.{LinkedEnd, acted, Linked, begun, first_acts, second_acts, WasGiven, limits_of, sent_on}
 use Rattle.quic_link.specs.Promises.{TellsTruth, CameAt}
 use Rattle.quic_link.proofs.Ends.{Comes}
 use Rattle.quic_link.proofs.Joint.{agrees}
@@ -18,7 +18,7 @@ use Rattle.quic_link.proofs.Opens.{own-local, opened-is}
 use Rattle.quic_link.proofs.Truthful.{truthful}
 
 -- an end was given the streams that it opened
-given_own : (x : Endpoint) (id : ℕ) → Comes x → is_local x.made.side id ≡ true → index_of id < opened_in_all x.calls (dir_of id) → WasGiven x.world id
+given_own : (x : LinkedEnd) (id : ℕ) → Comes x → is_local x.made.side id ≡ true → index_of id < opened_in_all x.calls (dir_of id) → WasGiven x.world id
 given_own x id f own l =
     let mine : is_own x.world id ≡ true = own-local x.world x.made.side id f.side ∙ own in
     let n = opened-is x (dir_of id) f in
@@ -72,22 +72,22 @@ reads = Gave 2 100 true (Ok (Some (record { offset = 0; bytes = bytes })))
 abbrev read_end : Event
 read_end = Gave 2 100 true (Ok None)
 
-abbrev new_at : Made → World → Endpoint
+abbrev new_at : Made → World → LinkedEnd
 new_at m w = record { made = m; calls = []; world = w; wrote = [] }
 
 module _ (t1 t2 : ShouldTransmit) (v0 v1 v2 v3 v4 v5 v6 w0 w1 w2 w3 w4 w5 w6 : World) (cs : IsStart client v0) (ss : IsStart server w0)
     (c1 : Step v0 gives v1) (c2 : Step v1 opens v2) (c3 : Step v2 writes v3) (c4 : Step v3 ends v4) (c5 : Step v4 sends v5) (c6 : Step v5 acks v6)
     (s1 : Step w0 (came_with t1) w1) (s2 : Step w1 (came_with t2) w2) (s3 : Step w2 accepts w3) (s4 : Step w3 begins w4) (s5 : Step w4 reads w5) (s6 : Step w5 read_end w6) where
-  abbrev x3 : Endpoint
+  abbrev x3 : LinkedEnd
   x3 = acted (acted (new_at client v0) gives v1) opens v2
 
-  abbrev x5 : Endpoint
+  abbrev x5 : LinkedEnd
   x5 = acted (acted (acted x3 writes v3) ends v4) sends v5
 
-  abbrev x6 : Endpoint
+  abbrev x6 : LinkedEnd
   x6 = acted x5 acks v6
 
-  abbrev y6 : Endpoint
+  abbrev y6 : LinkedEnd
   y6 = acted (acted (acted (acted (acted (acted (new_at server w0) (came_with t1) w1) (came_with t2) w2) accepts w3) begins w4) reads w5) read_end w6
 
   at_first : Linked (new_at client v0) (new_at server w0)
@@ -97,10 +97,10 @@ module _ (t1 t2 : ShouldTransmit) (v0 v1 v2 v3 v4 v5 v6 w0 w1 w2 w3 w4 w5 w6 : W
   opened = first_acts opens v2 (first_acts gives v1 at_first (record { fits = tt; honest = refl; step = c1 })) (record { fits = tt; honest = tt; step = c2 })
 
   -- the stream was given, before and after it was written
-  given_once : {y : Endpoint} → Linked x3 y → WasGiven v2 2
+  given_once : {y : LinkedEnd} → Linked x3 y → WasGiven v2 2
   given_once {y} l = let k = (agrees l).0 in given_own x3 2 k.comes refl (omega arith)
 
-  given_again : {y : Endpoint} → Linked (acted x3 writes v3) y → WasGiven v3 2
+  given_again : {y : LinkedEnd} → Linked (acted x3 writes v3) y → WasGiven v3 2
   given_again {y} l = let k = (agrees l).0 in given_own (acted x3 writes v3) 2 k.comes refl (omega arith)
 
   wrote : Linked (acted x3 writes v3) (new_at server w0)

@@ -10,7 +10,7 @@ use Rattle.quic_outgoing.specs.Senders.{is_local}
 use Rattle.quic_history.specs.World.{World, remote_of}
 use Rattle.quic_history.specs.Permitting.{with_accepted}
 use Rattle.quic_history.specs.History.{Event, Accepted, Step, opened_in_all, joint_move_of}
-use Rattle.quic_link.specs.Endpoints.{Endpoint, MayAct, acted, WasGiven}
+use Rattle.quic_link.specs.Endpoints.{LinkedEnd, MayAct, acted, WasGiven}
 use Rattle.quic_link.proofs.Ends.{Comes, comes-acted, plain-call}
 use Rattle.quic_link.proofs.Meets.{next_of_dir}
 use Rattle.quic_link.proofs.Reports.{reports, reports-step}
@@ -42,7 +42,7 @@ more_by : (own : Bool) (i a b c d : ℕ) → a ≤ c → b ≤ d → i < (if own
 more_by true i a b c d l m k = omega arith
 more_by false i a b c d l m k = omega arith
 
-pub given-more : (x y : Endpoint) (e : Event) (v : World) → Comes x → MayAct x y e v → (id : ℕ) → WasGiven x.world id → WasGiven v id
+pub given-more : (x y : LinkedEnd) (e : Event) (v : World) → Comes x → MayAct x y e v → (id : ℕ) → WasGiven x.world id → WasGiven v id
 given-more x y e v f a id k =
     let z = acted x e v in
     let g = comes-acted x y e v f a in

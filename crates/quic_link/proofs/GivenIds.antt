@@ -18,7 +18,7 @@ use Rattle.quic_history.specs.Permitting.{with_accepted}
 use Rattle.quic_history.specs.SendEvents.{OpenedOwn}
 use Rattle.quic_history.specs.History.{Event, Accepted, Sending, opened_in_all}
 use Rattle.quic_history.proofs.Refusals.{side-bit, dir-bit, index-id}
-use Rattle.quic_link.specs.Endpoints.{Endpoint, IsOneOf, MayAct, acted, WasGiven, GaveId}
+use Rattle.quic_link.specs.Endpoints.{LinkedEnd, IsOneOf, MayAct, acted, WasGiven, GaveId}
 use Rattle.quic_link.proofs.Ends.{Comes, comes-acted, plain-call}
 use Rattle.quic_link.proofs.Meets.{next_of_dir}
 use Rattle.quic_link.proofs.Reports.{reports, reports-step}
@@ -81,7 +81,7 @@ peer_id s id e = id_is id ∙ ap (λ k. stream_id k (dir_of id) (index_of id)) (
 -- ---- how many were given
 
 -- by counts: how many of a direction were opened, or accepted
-abbrev counted : Endpoint → ℕ → ℕ
+abbrev counted : LinkedEnd → ℕ → ℕ
 counted x id = if is_local x.made.side id then opened_in_all x.calls (dir_of id) else next_of_dir (reports x.world) (dir_of id)
 
 report_is : (w : World) (d : Dir) → (remote_of w d).next_reported ≡ next_of_dir (reports w) d
@@ -92,15 +92,15 @@ count_is : (own : Bool) (a b c d : ℕ) → a ≡ c → b ≡ d → (if own then
 count_is true a b c d e k = e
 count_is false a b c d e k = k
 
-given_is : (x : Endpoint) (id : ℕ) → Comes x → (if is_own x.world id then (own_of x.world.out (dir_of id)).opened else (remote_of x.world (dir_of id)).next_reported) ≡ counted x id
+given_is : (x : LinkedEnd) (id : ℕ) → Comes x → (if is_own x.world id then (own_of x.world.out (dir_of id)).opened else (remote_of x.world (dir_of id)).next_reported) ≡ counted x id
 given_is x id f =
     ap (λ b. if b then (own_of x.world.out (dir_of id)).opened else (remote_of x.world (dir_of id)).next_reported) (own-local x.world x.made.side id f.side)
     ∙ count_is (is_local x.made.side id) _ _ _ _ (opened-is x (dir_of id) f) (report_is x.world (dir_of id))
 
-to_given : (x : Endpoint) (id : ℕ) → Comes x → index_of id < counted x id → WasGiven x.world id
+to_given : (x : LinkedEnd) (id : ℕ) → Comes x → index_of id < counted x id → WasGiven x.world id
 to_given x id f l = let e = given_is x id f in omega arith
 
-of_given : (x : Endpoint) (id : ℕ) → Comes x → WasGiven x.world id → index_of id < counted x id
+of_given : (x : LinkedEnd) (id : ℕ) → Comes x → WasGiven x.world id → index_of id < counted x id
 of_given x id f l = let e = given_is x id f in omega arith
 
 -- ---- a call that gives one
@@ -110,7 +110,7 @@ given_self Bi = refl
 given_self Uni = refl
 
 -- a stream that was opened is given
-opened_given : (x y : Endpoint) (d : Dir) (closed : Bool) (id : ℕ) (v : World) → Comes x → MayAct x y (Sending (OpenedOwn d closed (Ok (Some id)))) v → WasGiven v id
+opened_given : (x y : LinkedEnd) (d : Dir) (closed : Bool) (id : ℕ) (v : World) → Comes x → MayAct x y (Sending (OpenedOwn d closed (Ok (Some id)))) v → WasGiven v id
 opened_given x y d closed id v f a =
     let e = Sending (OpenedOwn d closed (Ok (Some id))) in
     let z = acted x e v in
@@ -142,7 +142,7 @@ accepted_here u v Bi e = ap (λ (w : World). w.bi.next_reported) e
 accepted_here u v Uni e = ap (λ (w : World). w.uni.next_reported) e
 
 -- and so is one that was accepted
-accepted_given : (x y : Endpoint) (d : Dir) (id : ℕ) (v : World) → Comes x → MayAct x y (Accepted d (Some id)) v → WasGiven v id
+accepted_given : (x y : LinkedEnd) (d : Dir) (id : ℕ) (v : World) → Comes x → MayAct x y (Accepted d (Some id)) v → WasGiven v id
 accepted_given x y d id v f a =
     let e = Accepted d (Some id) in
     let z = acted x e v in
@@ -175,7 +175,7 @@ given_few Uni Bi = omega arith
 given_few Uni Uni = omega arith
 
 -- a stream of this end that is given now
-new_own : (x y : Endpoint) (e : Event) (v : World) (id : ℕ) → Comes x → MayAct x y e v → is_local x.made.side id ≡ true → opened_in_all x.calls (dir_of id) ≤ index_of id → index_of id < opened_in_all (e ∷ x.calls) (dir_of id) → GaveId (e ∷ x.calls) id
+new_own : (x y : LinkedEnd) (e : Event) (v : World) (id : ℕ) → Comes x → MayAct x y e v → is_local x.made.side id ≡ true → opened_in_all x.calls (dir_of id) ≤ index_of id → index_of id < opened_in_all (e ∷ x.calls) (dir_of id) → GaveId (e ∷ x.calls) id
 new_own x y (Sending (OpenedOwn d closed (Ok (Some k)))) v id f a own low high =
     let few = given_few d (dir_of id) in
     let dir = given_dir d (dir_of id) (omega arith) in
@@ -209,7 +209,7 @@ accepts_now u v Uni Bi s l = let k : v.bi.next_reported ≡ u.bi.next_reported =
 accepts_now u v Uni Uni s l = let k = ap (λ (w : World). w.uni.next_reported) s in let t = step_up u.uni (omega arith) in record { dir = refl; some = t.0; next = k ∙ t.1 }
 
 -- a stream of the peer that is
-new_peer : (x y : Endpoint) (e : Event) (v : World) (id : ℕ) → Comes x → MayAct x y e v → is_local x.made.side id ≡ false → next_of_dir (reports x.world) (dir_of id) ≤ index_of id → index_of id < next_of_dir (reports v) (dir_of id) → GaveId (e ∷ x.calls) id
+new_peer : (x y : LinkedEnd) (e : Event) (v : World) (id : ℕ) → Comes x → MayAct x y e v → is_local x.made.side id ≡ false → next_of_dir (reports x.world) (dir_of id) ≤ index_of id → index_of id < next_of_dir (reports v) (dir_of id) → GaveId (e ∷ x.calls) id
 new_peer x y (Accepted d (Some k)) v id f a own low high =
     let t = accepts_now x.world v d (dir_of id) a.step.0 (omega arith) in
     let r : Remote = remote_of x.world d in
@@ -231,7 +231,7 @@ new_peer x y e v id f a own low high =
 
 -- ---- after every call
 
-pub record GivenSo (x : Endpoint) : Type 0 where
+pub record GivenSo (x : LinkedEnd) : Type 0 where
   pub told : (id : ℕ) → GaveId x.calls id → WasGiven x.world id
   pub only : (id : ℕ) → WasGiven x.world id → GaveId x.calls id
 
@@ -239,14 +239,14 @@ gave_more : (calls : List Event) (e : Event) (id : ℕ) → GaveId calls id → 
 gave_more calls e id (inl k) = inl (k.0, k.1, inr k.2)
 gave_more calls e id (inr k) = inr (k.0, inr k.1)
 
-new_given : (x y : Endpoint) (e : Event) (v : World) (id : ℕ) → Comes x → MayAct x y e v → counted x id ≤ index_of id → index_of id < counted (acted x e v) id → GaveId (e ∷ x.calls) id
+new_given : (x y : LinkedEnd) (e : Event) (v : World) (id : ℕ) → Comes x → MayAct x y e v → counted x id ≤ index_of id → index_of id < counted (acted x e v) id → GaveId (e ∷ x.calls) id
 new_given x y e v id f a low high = by_own (is_local x.made.side id) refl
   where
     by_own : (b : Bool) → is_local x.made.side id ≡ b → GaveId (e ∷ x.calls) id
     by_own true k = new_own x y e v id f a k (rw k at low) (rw k at high)
     by_own false k = new_peer x y e v id f a k (rw k at low) (rw k at high)
 
-pub given-step : (x y : Endpoint) (e : Event) (v : World) → Comes x → MayAct x y e v → GivenSo x → GivenSo (acted x e v)
+pub given-step : (x y : LinkedEnd) (e : Event) (v : World) → Comes x → MayAct x y e v → GivenSo x → GivenSo (acted x e v)
 given-step x y e v f a s = record {
   told = λ id k. elim k [
     | inl o ↦ elim o.2 [
@@ -268,7 +268,7 @@ given-step x y e v f a s = record {
 }
 
 -- at first none was given
-pub given-new : (x : Endpoint) → Comes x → x.calls ≡ [] → reports x.world ≡ (0, 0) → GivenSo x
+pub given-new : (x : LinkedEnd) → Comes x → x.calls ≡ [] → reports x.world ≡ (0, 0) → GivenSo x
 given-new x f none start_reports = record {
   told = λ id k. absurd (elim k [ inl o ↦ nowhere _ o.2 | inr o ↦ nowhere _ o.1 ]);
   only = λ id k. absurd (let l = of_given x id f k in nothing (is_local x.made.side id) (index_of id) (dir_of id) l);

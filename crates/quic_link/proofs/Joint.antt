@@ -5,7 +5,7 @@ use Rattle.quic_values.specs.declared.ids.Dir.TheVariants.{Bi, Uni}
 use Rattle.quic_values.specs.Ids.{other_side}
 use Rattle.quic_history.specs.World.{World, Made, start, count_of, remote_of}
 use Rattle.quic_history.specs.History.{Event, move_of}
-use Rattle.quic_link.specs.Endpoints.{Endpoint, MayAct, acted, IsNewEnd, Linked, begun, first_acts, second_acts, sent_on, came_on}
+use Rattle.quic_link.specs.Endpoints.{LinkedEnd, MayAct, acted, IsNewEnd, Linked, begun, first_acts, second_acts, sent_on, came_on}
 use Rattle.quic_link.proofs.Ends.{Comes, comes-new, comes-acted, plain-call}
 use Rattle.quic_link.proofs.Growth.{grows}
 use Rattle.quic_link.proofs.Rooms.{RoomSo, room-kept, limits-honest}
@@ -24,7 +24,7 @@ use Rattle.quic_link.proofs.Counts.{DataSo, ids-first, ids-other, data-first, da
 use Rattle.quic_link.proofs.Basics.{other_other}
 
 -- as x sends and y receives
-pub record Agrees (x y : Endpoint) : Type 0 where
+pub record Agrees (x y : LinkedEnd) : Type 0 where
   pub comes : Comes x
   pub small : x.made.window < 2 ^ 62
   pub few : (d : Dir) → (remote_of x.world d).max_remote ≤ 2 ^ 60
@@ -45,10 +45,10 @@ pub record Agrees (x y : Endpoint) : Type 0 where
 
 -- ---- at first
 
-abbrev new_end : Made → Endpoint
+abbrev new_end : Made → LinkedEnd
 new_end m = record { made = m; calls = []; world = start m; wrote = [] }
 
-is_new : (x : Endpoint) → IsNewEnd x → x ≡ new_end x.made
+is_new : (x : LinkedEnd) → IsNewEnd x → x ≡ new_end x.made
 is_new x n =
     ap (λ c. record { made = x.made; calls = c; world = x.world; wrote = x.wrote }) n.calls
     ∙ ap (λ w. record { made = x.made; calls = []; world = x.world; wrote = w }) n.wrote
@@ -90,18 +90,18 @@ agrees_new m n f few_uni few_bi small other = record {
     few Bi = omega arith
     few Uni = omega arith
 
-agrees_begun : (x y : Endpoint) → IsNewEnd x → IsNewEnd y → y.made.side ≡ other_side x.made.side → Agrees x y
+agrees_begun : (x y : LinkedEnd) → IsNewEnd x → IsNewEnd y → y.made.side ≡ other_side x.made.side → Agrees x y
 agrees_begun x y a b other =
     let e = is_new x a in
     let k = is_new y b in
-    let P : Endpoint → Type 0 = λ z. Agrees z y in
-    let Q : Endpoint → Type 0 = λ z. Agrees (new_end x.made) z in
-    let R : Endpoint → Type 0 = λ z. Comes z in
+    let P : LinkedEnd → Type 0 = λ z. Agrees z y in
+    let Q : LinkedEnd → Type 0 = λ z. Agrees (new_end x.made) z in
+    let R : LinkedEnd → Type 0 = λ z. Comes z in
     subst P (sym e) (subst Q (sym k) (agrees_new x.made y.made (subst R e (comes-new x a)) a.start.few_uni a.start.few_bi a.small other))
 
 -- ---- a call of the end that sends
 
-agrees-sent : (x y : Endpoint) (e : Event) (v : World) → Agrees x y → Agrees y x → MayAct x y e v → Agrees (acted x e v) y
+agrees-sent : (x y : LinkedEnd) (e : Event) (v : World) → Agrees x y → Agrees y x → MayAct x y e v → Agrees (acted x e v) y
 agrees-sent x y e v s r a =
     let f = s.comes in
     let l = limits-honest x y e a.honest in
@@ -128,7 +128,7 @@ agrees-sent x y e v s r a =
 
 -- ---- and of the end that receives
 
-agrees-came : (x y : Endpoint) (e : Event) (v : World) → Agrees x y → Agrees y x → MayAct y x e v → Agrees x (acted y e v)
+agrees-came : (x y : LinkedEnd) (e : Event) (v : World) → Agrees x y → Agrees y x → MayAct y x e v → Agrees x (acted y e v)
 agrees-came x y e v s r a =
     let f = r.comes in
     let plain = plain-call y x e a.honest in
@@ -153,7 +153,7 @@ agrees-came x y e v s r a =
     }
 
 -- both ways, however they came so far
-pub agrees : {x y : Endpoint} → Linked x y → Agrees x y × Agrees y x
+pub agrees : {x y : LinkedEnd} → Linked x y → Agrees x y × Agrees y x
 agrees {x} {y} (begun a b other) = (agrees_begun x y a b other, agrees_begun y x b a (other_other x.made.side ∙ ap other_side (sym other)))
 agrees (first_acts {x} {y} e v l a) = let k = agrees l in (agrees-sent x y e v k.0 k.1 a, agrees-came y x e v k.1 k.0 a)
 agrees (second_acts {x} {y} e v l a) = let k = agrees l in (agrees-came x y e v k.0 k.1 a, agrees-sent y x e v k.1 k.0 a)

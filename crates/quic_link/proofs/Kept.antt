@@ -8,7 +8,7 @@ use Rattle.quic_receiving.specs.Data.{is_in_slices}
 use Rattle.quic_receiving.specs.declared.transmit.ShouldTransmit.{ShouldTransmit}
 use Rattle.quic_receiving.specs.declared.errors.ReadError.TheVariants as read_error
 use Rattle.quic_history.specs.World.{World, Made}
-use Rattle.quic_history.specs.History.{Event, Move, Framed, WasReset, WasRead, WasStopped, WasTold, WasAnnounced, Received, ReceivedReset, Stopped, ToldReset, Settled, Step, From, Trace, trace, move_of, moved, with_move, with_kept_frame, is_kept, is_closed, joint_move_of}
+use Rattle.quic_history.specs.History.{Event, Move, Framed, WasReset, WasRead, WasStopped, WasTold, WasAnnounced, Received, ReceivedReset, Stopped, ToldReset, LeftPending, Step, From, Trace, trace, move_of, moved, with_move, with_kept_frame, is_frame_kept, is_closed, joint_move_of}
 use Rattle.quic_history.proofs.StreamSteps.{half-from, known-from}
 use Rattle.quic_history.proofs.Totals.{by_cases, same}
 use Rattle.quic_history.proofs.Traces.{itself}
@@ -41,7 +41,7 @@ closed_if a b false g h = h
 
 -- a stream that is closed stays so
 closed_move : (m : Move) (t : Trace) → StopTrue t m → is_closed t ≡ true → is_closed (with_move m t) ≡ true
-closed_move (Framed offset bytes fin answer) t k c = closed_if (with_kept_frame offset bytes fin t) t (is_kept answer) (rw c c) c
+closed_move (Framed offset bytes fin answer) t k c = closed_if (with_kept_frame offset bytes fin t) t (is_frame_kept answer) (rw c c) c
 closed_move (WasReset code final) t k c = rw c c
 closed_move (WasRead ordered (Ok (Some chunk))) t k c = c
 closed_move (WasRead ordered (Ok None)) t k c = or_right (is_some t.reset) true refl
@@ -70,7 +70,7 @@ in_if a b false at g h = h
 
 in_move : (m : Move) (t : Trace) (at : ℕ) → is_in_slices t.kept at ≡ true → is_in_slices (with_move m t).kept at ≡ true
 in_move (Framed offset bytes fin answer) t at k =
-    in_if (with_kept_frame offset bytes fin t) t (is_kept answer) at (in_if t _ (is_closed t) at k (or_right (lies offset (offset + length bytes) at) (is_in_slices t.kept at) k)) k
+    in_if (with_kept_frame offset bytes fin t) t (is_frame_kept answer) at (in_if t _ (is_closed t) at k (or_right (lies offset (offset + length bytes) at) (is_in_slices t.kept at) k)) k
 in_move (WasReset code final) t at k = in_if t _ (is_closed t) at k k
 in_move (WasRead ordered (Ok (Some chunk))) t at k = k
 in_move (WasRead ordered (Ok None)) t at k = k
@@ -90,7 +90,7 @@ sized_if a b true g h = g
 sized_if a b false g h = h
 
 sized_move : (m : Move) (t : Trace) → t.sized ≡ true → (with_move m t).sized ≡ true
-sized_move (Framed offset bytes fin answer) t k = sized_if (with_kept_frame offset bytes fin t) t (is_kept answer) (sized_if t _ (is_closed t) k (or_left t.sized fin k)) k
+sized_move (Framed offset bytes fin answer) t k = sized_if (with_kept_frame offset bytes fin t) t (is_frame_kept answer) (sized_if t _ (is_closed t) k (or_left t.sized fin k)) k
 sized_move (WasReset code final) t k = sized_if t _ (is_closed t) k refl
 sized_move (WasRead ordered (Ok (Some chunk))) t k = k
 sized_move (WasRead ordered (Ok None)) t k = k
@@ -106,11 +106,11 @@ sized_moved None q t k = k
 sized_moved (Some m) q t k = sized_if (with_move m.1 t) t (q == m.0) (sized_move m.1 t k) k
 
 -- a frame that is kept now
-now_bytes : (q offset : ℕ) (bytes : List ℕ) (fin : Bool) (answer : Result ShouldTransmit ReceiveError) (t : Trace) (at : ℕ) → is_kept answer ≡ true → is_closed t ≡ false → lies offset (offset + length bytes) at ≡ true
+now_bytes : (q offset : ℕ) (bytes : List ℕ) (fin : Bool) (answer : Result ShouldTransmit ReceiveError) (t : Trace) (at : ℕ) → is_frame_kept answer ≡ true → is_closed t ≡ false → lies offset (offset + length bytes) at ≡ true
     → is_in_slices (moved (move_of (Received q offset bytes fin answer)) q t).kept at ≡ true
 now_bytes q offset bytes fin answer t at k n l = rw (itself q, k, n) (or_left (lies offset (offset + length bytes) at) (is_in_slices t.kept at) l)
 
-now_end : (q offset : ℕ) (bytes : List ℕ) (answer : Result ShouldTransmit ReceiveError) (t : Trace) → is_kept answer ≡ true → is_closed t ≡ false → (moved (move_of (Received q offset bytes true answer)) q t).sized ≡ true
+now_end : (q offset : ℕ) (bytes : List ℕ) (answer : Result ShouldTransmit ReceiveError) (t : Trace) → is_frame_kept answer ≡ true → is_closed t ≡ false → (moved (move_of (Received q offset bytes true answer)) q t).sized ≡ true
 now_end q offset bytes answer t k n = rw (itself q, k, n) (or_right t.sized true refl)
 
 module _ (m : Made) (h : List Event) (u : World) (f : From m h u) where
@@ -125,9 +125,9 @@ module _ (m : Made) (h : List Event) (u : World) (f : From m h u) where
   stops_true (ToldReset id (Ok (Some code))) v s = tt
   stops_true (ToldReset id (Ok None)) v s = tt
   stops_true (ToldReset id (Err error)) v s = tt
-  stops_true (Settled kind None) v s = tt
-  stops_true (Settled kind (Some (frames.MaxStreamData id limit))) v s = tt
-  stops_true (Settled kind (Some _)) v s = tt
+  stops_true (LeftPending kind None) v s = tt
+  stops_true (LeftPending kind (Some (frames.MaxStreamData id limit))) v s = tt
+  stops_true (LeftPending kind (Some _)) v s = tt
   stops_true _ v s = tt
 
   pub kept-step : (e : Event) (v : World) → joint_move_of e ≡ None → Step u e v → KeptSo h → KeptSo (e ∷ h)

@@ -33,7 +33,7 @@ use Rattle.quic_history.specs.Sends.{with_out, with_opened, told_writable, after
 use Rattle.quic_history.specs.Writes.{with_queued, WritesOwn}
 use Rattle.quic_history.specs.Acknowledged.{with_send_freed, send_released, told_finished, frees_reset, without_sender, without_send_half}
 use Rattle.quic_history.specs.SendEvents.{SendEvent, SendStep, GaveLimits, RaisedData, RaisedCount, RaisedLimit, StoppedOwn, SetWindow, OpenedOwn, WroteOwn, FinishedOwn, ResetOwn, SetOwnPriority, AckedOwn, LostOwn, ResetAckedOwn, TookTurn, Polled}
-use Rattle.quic_history.specs.History.{Event, Received, ReceivedReset, AddedCredits, Began, Gave, Ended, Stopped, ToldReset, Resized, SetConcurrent, Accepted, Settled, Sending, Step, Rejected, SentAgain, joint_move_of}
+use Rattle.quic_history.specs.History.{Event, Received, ReceivedReset, AddedCredits, Began, Gave, Ended, Stopped, ToldReset, Resized, SetConcurrent, Accepted, LeftPending, Sending, Step, Rejected, SentAgain, joint_move_of}
 use Rattle.quic_history.proofs.SendSteps.{either-way}
 
 -- the lowest index of each direction that the peer did not open
@@ -365,7 +365,7 @@ meets-step u (Resized window answer) v p s = ap nexts s.0
 meets-step u (SetConcurrent dir count (Ok k)) v p s = ap nexts s ∙ stays_concurrent u dir count
 meets-step u (SetConcurrent dir count (Err k)) v p s = ap nexts s
 meets-step u (Accepted dir answer) v p s = ap nexts s.0 ∙ stays_remote u dir (one_accepted (remote_of u dir)) (accepted_next (remote_of u dir) (nat_lt (remote_of u dir).next_reported (remote_of u dir).next_remote))
-meets-step u (Settled kind frame) v p s = stays_settled kind u s.0 frame v s.1 s.2
+meets-step u (LeftPending kind frame) v p s = stays_settled kind u s.0 frame v s.1 s.2
 meets-step u (Sending e) v p s = meets_send u e v s
 meets-step u Rejected v p s = cc
 meets-step u (SentAgain (Ok x)) v p s = cc

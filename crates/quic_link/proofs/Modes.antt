@@ -37,7 +37,7 @@ use Rattle.quic_history.specs.Sends.{with_out, with_opened, told_writable, after
 use Rattle.quic_history.specs.Writes.{with_queued, WritesOwn}
 use Rattle.quic_history.specs.Acknowledged.{with_send_freed, send_released, told_finished, frees_reset, without_sender, without_send_half}
 use Rattle.quic_history.specs.SendEvents.{SendEvent, SendStep, GaveLimits, RaisedData, RaisedCount, RaisedLimit, StoppedOwn, SetWindow, OpenedOwn, WroteOwn, FinishedOwn, ResetOwn, SetOwnPriority, AckedOwn, LostOwn, ResetAckedOwn, TookTurn, Polled}
-use Rattle.quic_history.specs.History.{Event, Received, ReceivedReset, AddedCredits, Began, Gave, Ended, Stopped, ToldReset, Resized, SetConcurrent, Accepted, Settled, Sending, Step, is_kept, Rejected, SentAgain, joint_move_of}
+use Rattle.quic_history.specs.History.{Event, Received, ReceivedReset, AddedCredits, Began, Gave, Ended, Stopped, ToldReset, Resized, SetConcurrent, Accepted, LeftPending, Sending, Step, is_frame_kept, Rejected, SentAgain, joint_move_of}
 use Rattle.quic_history.proofs.SendSteps.{either-way}
 use Rattle.quic_history.proofs.StreamSteps.{noticed-any}
 use Rattle.quic_history.proofs.Totals.{by_cases, same}
@@ -190,7 +190,7 @@ modes_data begun kept u id old new fin e o =
     modes_if_fin w m true = modes_tail begun kept u w (with_credit (with_freed w id) (new.end - old.end)) m (tails_freed w id)
     modes_if_fin w m false = m
 
-modes_frame : (begun : Option ℕ) (kept : ℕ → ℕ) (u v : World) (id offset : ℕ) (bytes : List ℕ) (fin : Bool) (answer : Result ShouldTransmit ReceiveError) → (is_kept answer ≡ true → 1 ≤ kept id) → Receives u id offset bytes fin answer v → Modes begun kept u v
+modes_frame : (begun : Option ℕ) (kept : ℕ → ℕ) (u v : World) (id offset : ℕ) (bytes : List ℕ) (fin : Bool) (answer : Result ShouldTransmit ReceiveError) → (is_frame_kept answer ≡ true → 1 ≤ kept id) → Receives u id offset bytes fin answer v → Modes begun kept u v
 modes_frame begun kept u v id offset bytes fin (Ok transmit) l (inl s) = modes_of begun kept u v (tails_at u v u s.3 (tails_same u u refl))
 modes_frame begun kept u v id offset bytes fin (Ok transmit) l (inr s) =
     let r = s.3 in
@@ -397,7 +397,7 @@ ModesBy e u v = Modes (begun_by e) (frames_kept e) u v
 
 -- a call leaves each half in its mode, or lets it read bytes as they come
 pub modes-step : (u : World) (e : Event) (v : World) → joint_move_of e ≡ None → Step u e v → ModesBy e u v
-modes-step u (Received id offset bytes fin answer) v p s = modes_frame (begun_by (Received id offset bytes fin answer)) (frames_kept (Received id offset bytes fin answer)) u v id offset bytes fin answer (kept_one id (is_kept answer)) s
+modes-step u (Received id offset bytes fin answer) v p s = modes_frame (begun_by (Received id offset bytes fin answer)) (frames_kept (Received id offset bytes fin answer)) u v id offset bytes fin answer (kept_one id (is_frame_kept answer)) s
 modes-step u (ReceivedReset id code final answer) v p s = modes_reset (begun_by (ReceivedReset id code final answer)) (frames_kept (ReceivedReset id code final answer)) u v id code final answer s
 modes-step u (AddedCredits count answer) v p s = modes_of (begun_by (AddedCredits count answer)) (frames_kept (AddedCredits count answer)) u v (tails_same u v (ap (λ (w : World). w.receive) s.0))
 modes-step u (Began id ordered answer) v p s = modes_began (begun_by (Began id ordered answer)) (frames_kept (Began id ordered answer)) u v id ordered answer (begun_here id ordered answer) s
@@ -417,7 +417,7 @@ modes-step u (Resized window answer) v p s = modes_of (begun_by (Resized window 
 modes-step u (SetConcurrent dir count (Ok k)) v p s = modes_of (begun_by (SetConcurrent dir count (Ok k))) (frames_kept (SetConcurrent dir count (Ok k))) u v (tails_at u v _ s (tails_concurrent u dir count))
 modes-step u (SetConcurrent dir count (Err k)) v p s = modes_of (begun_by (SetConcurrent dir count (Err k))) (frames_kept (SetConcurrent dir count (Err k))) u v (tails_same u v (ap (λ (w : World). w.receive) s))
 modes-step u (Accepted dir answer) v p s = modes_of (begun_by (Accepted dir answer)) (frames_kept (Accepted dir answer)) u v (tails_at u v _ s.0 (tails_remote u dir (one_accepted (remote_of u dir))))
-modes-step u (Settled kind frame) v p s = modes_settled (begun_by (Settled kind frame)) (frames_kept (Settled kind frame)) kind u s.0 frame v s.1 s.2
+modes-step u (LeftPending kind frame) v p s = modes_settled (begun_by (LeftPending kind frame)) (frames_kept (LeftPending kind frame)) kind u s.0 frame v s.1 s.2
 modes-step u (Sending e) v p s = modes_of (begun_by (Sending e)) (frames_kept (Sending e)) u v (tails_send u e v s)
 modes-step u Rejected v p s = cc
 modes-step u (SentAgain (Ok x)) v p s = cc

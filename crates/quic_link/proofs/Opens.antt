@@ -24,10 +24,10 @@ use Rattle.quic_history.specs.declared.control.ControlKind.{ControlKind}
 use Rattle.quic_history.specs.declared.control.ControlKind.TheVariants as kinds
 use Rattle.quic_history.specs.Control.{SettlesEntry, reset_frame, window_frame, announced_end}
 use Rattle.quic_history.specs.SendEvents.{TookTurn}
-use Rattle.quic_history.specs.History.{Event, Settled, Sending, trace, opened_in_all, greatest_count}
+use Rattle.quic_history.specs.History.{Event, LeftPending, Sending, trace, opened_in_all, greatest_count}
 use Rattle.quic_history.proofs.SendSides.{held-side}
 use Rattle.quic_history.proofs.StreamSteps.{known-from}
-use Rattle.quic_link.specs.Endpoints.{Endpoint, IsOneOf, MayAct, acted, written_by, written_on, WasAskedFor, WasGiven}
+use Rattle.quic_link.specs.Endpoints.{LinkedEnd, IsOneOf, MayAct, acted, written_by, written_on, WasAskedFor, WasGiven}
 use Rattle.quic_link.proofs.Ends.{Comes}
 use Rattle.quic_link.proofs.TrueFrames.{turn-so}
 use Rattle.quic_link.proofs.Meets.{nexts, next_of_dir}
@@ -60,27 +60,27 @@ local-other a b id e = ap (λ k. is_local k id) e ∙ other_ends a (initiator_of
 abbrev pub OpenBy : Bool → (Dir → ℕ) → (Dir → ℕ) → ℕ → Type 0
 OpenBy own mine theirs id = index_of id < (if own then mine (dir_of id) else theirs (dir_of id))
 
-abbrev pub IsOpenAt : Endpoint → Endpoint → ℕ → Type 0
+abbrev pub IsOpenAt : LinkedEnd → LinkedEnd → ℕ → Type 0
 IsOpenAt x y id = OpenBy (is_local x.made.side id) (opened_in_all x.calls) (opened_in_all y.calls) id
 
 -- and the end sends on it
-pub record SendsOn (x y : Endpoint) (id : ℕ) : Type 0 where
+pub record SendsOn (x y : LinkedEnd) (id : ℕ) : Type 0 where
   pub opened : IsOpenAt x y id
   pub both_ways : is_local x.made.side id ≡ false → dir_of id ≡ Bi
 
 -- or receives on it
-pub record ReceivesOn (x y : Endpoint) (id : ℕ) : Type 0 where
+pub record ReceivesOn (x y : LinkedEnd) (id : ℕ) : Type 0 where
   pub opened : IsOpenAt x y id
   pub both_ways : is_local x.made.side id ≡ true → dir_of id ≡ Bi
 
-abbrev pub OpenFrame : Endpoint → Endpoint → Frame → Type 0
+abbrev pub OpenFrame : LinkedEnd → LinkedEnd → Frame → Type 0
 OpenFrame x y (frames.Stream s) = SendsOn x y s.id
 OpenFrame x y (frames.ResetStream f) = SendsOn x y f.id
 OpenFrame x y (frames.MaxStreamData id limit) = ReceivesOn x y id
 OpenFrame x y (frames.StopSending f) = IsOpenAt x y f.id
 OpenFrame x y _ = Unit {0}
 
-pub record IdsSo (x y : Endpoint) : Type 0 where
+pub record IdsSo (x y : LinkedEnd) : Type 0 where
   pub frames_open : (g : Frame) → IsOneOf g x.wrote → OpenFrame x y g
   pub queue : (q : ℕ) → stands q (line x.world.queue) ≡ true → IsOpenAt x y q
   pub met : (d : Dir) → next_of_dir (nexts x.world) d ≤ opened_in_all y.calls d
@@ -98,10 +98,10 @@ opened_grows h e d = omega arith
 most_same : (f : Dir → ℕ) (d : Dir) → f d ≤ f d
 most_same f d = omega arith
 
-pub open_first : (x y : Endpoint) (e : Event) (v : World) (id : ℕ) → IsOpenAt x y id → IsOpenAt (acted x e v) y id
+pub open_first : (x y : LinkedEnd) (e : Event) (v : World) (id : ℕ) → IsOpenAt x y id → IsOpenAt (acted x e v) y id
 open_first x y e v id o = open_more (is_local x.made.side id) (opened_in_all x.calls) (opened_in_all y.calls) (opened_in_all (e ∷ x.calls)) (opened_in_all y.calls) id (opened_grows x.calls e) (most_same (opened_in_all y.calls)) o
 
-pub open_second : (x y : Endpoint) (e : Event) (v : World) (id : ℕ) → IsOpenAt x y id → IsOpenAt x (acted y e v) id
+pub open_second : (x y : LinkedEnd) (e : Event) (v : World) (id : ℕ) → IsOpenAt x y id → IsOpenAt x (acted y e v) id
 open_second x y e v id o = open_more (is_local x.made.side id) (opened_in_all x.calls) (opened_in_all y.calls) (opened_in_all x.calls) (opened_in_all (e ∷ y.calls)) id (most_same (opened_in_all x.calls)) (opened_grows y.calls e) o
 
 -- a stream that is open is open at the other end
@@ -109,17 +109,17 @@ open_turned : (own other : Bool) (a b : Dir → ℕ) (id : ℕ) → other ≡ no
 open_turned true other a b id e o = rw e o
 open_turned false other a b id e o = rw e o
 
-pub open-turned : (x y : Endpoint) (id : ℕ) → y.made.side ≡ other_side x.made.side → IsOpenAt x y id → IsOpenAt y x id
+pub open-turned : (x y : LinkedEnd) (id : ℕ) → y.made.side ≡ other_side x.made.side → IsOpenAt x y id → IsOpenAt y x id
 open-turned x y id e o = open_turned (is_local x.made.side id) (is_local y.made.side id) (opened_in_all x.calls) (opened_in_all y.calls) id (local-other x.made.side y.made.side id e) o
 
-pub frame_first : (x y : Endpoint) (e : Event) (v : World) (g : Frame) → OpenFrame x y g → OpenFrame (acted x e v) y g
+pub frame_first : (x y : LinkedEnd) (e : Event) (v : World) (g : Frame) → OpenFrame x y g → OpenFrame (acted x e v) y g
 frame_first x y e v (frames.Stream s) o = record { opened = open_first x y e v s.id o.opened; both_ways = o.both_ways }
 frame_first x y e v (frames.ResetStream f) o = record { opened = open_first x y e v f.id o.opened; both_ways = o.both_ways }
 frame_first x y e v (frames.MaxStreamData id limit) o = record { opened = open_first x y e v id o.opened; both_ways = o.both_ways }
 frame_first x y e v (frames.StopSending f) o = open_first x y e v f.id o
 frame_first x y e v _ o = tt
 
-pub frame_second : (x y : Endpoint) (e : Event) (v : World) (g : Frame) → OpenFrame x y g → OpenFrame x (acted y e v) g
+pub frame_second : (x y : LinkedEnd) (e : Event) (v : World) (g : Frame) → OpenFrame x y g → OpenFrame x (acted y e v) g
 frame_second x y e v (frames.Stream s) o = record { opened = open_second x y e v s.id o.opened; both_ways = o.both_ways }
 frame_second x y e v (frames.ResetStream f) o = record { opened = open_second x y e v f.id o.opened; both_ways = o.both_ways }
 frame_second x y e v (frames.MaxStreamData id limit) o = record { opened = open_second x y e v id o.opened; both_ways = o.both_ways }
@@ -128,7 +128,7 @@ frame_second x y e v _ o = tt
 
 -- ---- what an end was given, and what it sends or receives on
 
-pub opened-is : (x : Endpoint) (d : Dir) → Comes x → (own_of x.world.out d).opened ≡ opened_in_all x.calls d
+pub opened-is : (x : LinkedEnd) (d : Dir) → Comes x → (own_of x.world.out d).opened ≡ opened_in_all x.calls d
 opened-is x Bi f = f.sent.opened Bi
 opened-is x Uni f = f.sent.opened Uni
 
@@ -140,7 +140,7 @@ given_by : (own : Bool) (i mine told : ℕ) (a b : ℕ) → mine ≡ a → told 
 given_by true i mine told a b e l k = omega arith
 given_by false i mine told a b e l k = omega arith
 
-module _ (x y : Endpoint) (f : Comes x) (s : IdsSo x y) where
+module _ (x y : LinkedEnd) (f : Comes x) (s : IdsSo x y) where
   -- an id that was given is of a stream that is open
   pub given-open : (id : ℕ) → WasGiven x.world id → IsOpenAt x y id
   given-open id k =
@@ -181,13 +181,13 @@ module _ (x y : Endpoint) (f : Comes x) (s : IdsSo x y) where
 
 -- ---- new frames
 
-abbrev OpenThen : Endpoint → Endpoint → Frame → Type 0
+abbrev OpenThen : LinkedEnd → LinkedEnd → Frame → Type 0
 OpenThen x y g = WasAskedFor x g → OpenFrame x y g
 
-open_at : (x y : Endpoint) (g k : Frame) → g ≡ k → OpenThen x y k → OpenThen x y g
+open_at : (x y : LinkedEnd) (g k : Frame) → g ≡ k → OpenThen x y k → OpenThen x y g
 open_at x y g k e t = let P : Frame → Type 0 = λ j. OpenThen x y j in subst P (sym e) t
 
-module _ (x y : Endpoint) (f : Comes x) (s : IdsSo x y) where
+module _ (x y : LinkedEnd) (f : Comes x) (s : IdsSo x y) where
   reset_open : (id code : ℕ) (o : Option Send) (g : Frame) → x.world.out.halves id ≡ o → Some g ≡ reset_frame id code o → OpenThen x y g
   reset_open id code None g e k = cc
   reset_open id code (Some h) g e k = open_at x y g (frames.ResetStream (record { id = id; error_code = code; final_offset = h.pending.offset })) (some_same g _ k)
@@ -227,12 +227,12 @@ module _ (x y : Endpoint) (f : Comes x) (s : IdsSo x y) where
       ap (λ (w : SendOrder). stands meta.id (line w)) queue ∙ ap (λ i. stands i (line t.before.queue)) same ∙ first-stands t.before.queue t.turn.entry t.turn.is_first in
       record { opened = s.queue meta.id there; both_ways = held-both x y f s meta.id so.half so.held }
 
-frame_at : (x y : Endpoint) (g k : Frame) → g ≡ k → OpenFrame x y k → OpenFrame x y g
+frame_at : (x y : LinkedEnd) (g k : Frame) → g ≡ k → OpenFrame x y k → OpenFrame x y g
 frame_at x y g k e t = let P : Frame → Type 0 = λ j. OpenFrame x y j in subst P (sym e) t
 
-pub new_open : (x y : Endpoint) (e : Event) (v : World) → Comes x → IdsSo x y → MayAct x y e v → (g : Frame) → IsOneOf g (written_by x e) → OpenFrame x y g
-new_open x y (Settled kind (Some k)) v f s a g h = frame_at x y g k (only g k h) (settled_open x y f s kind a.step.0 a.step.1 k v a.step.2 a.honest)
-new_open x y (Settled kind None) v f s a g h = absurd h
+pub new_open : (x y : LinkedEnd) (e : Event) (v : World) → Comes x → IdsSo x y → MayAct x y e v → (g : Frame) → IsOneOf g (written_by x e) → OpenFrame x y g
+new_open x y (LeftPending kind (Some k)) v f s a g h = frame_at x y g k (only g k h) (settled_open x y f s kind a.step.0 a.step.1 k v a.step.2 a.honest)
+new_open x y (LeftPending kind None) v f s a g h = absurd h
 new_open x y (Sending (TookTurn most fair (Some meta))) v f s a g h = frame_at x y g (frame_with (written_on x) meta) (only g (frame_with (written_on x) meta) h) (turn_open x y f s most fair meta v a.step)
 new_open x y (Sending (TookTurn most fair None)) v f s a g h = absurd h
 new_open x y _ v f s a g h = absurd h

@@ -18,8 +18,8 @@ use Rattle.quic_history.specs.Carrying.{with_writer}
 use Rattle.quic_history.specs.Control.{SettlesEntry}
 use Rattle.quic_history.specs.declared.control.ControlKind.{ControlKind}
 use Rattle.quic_history.specs.SendEvents.{TookTurn}
-use Rattle.quic_history.specs.History.{Event, Settled, Sending, Step, flow, opened_in_all, send_tale, since}
-use Rattle.quic_link.specs.Endpoints.{Endpoint, MayAct, acted, Linked, first_acts, written_on, WasAskedFor}
+use Rattle.quic_history.specs.History.{Event, LeftPending, Sending, Step, flow, opened_in_all, send_tale, since}
+use Rattle.quic_link.specs.Endpoints.{LinkedEnd, MayAct, acted, Linked, first_acts, written_on, WasAskedFor}
 use Rattle.quic_link.specs.Asked.{AreAsked}
 use Rattle.quic_link.proofs.Joint.{agrees}
 use Rattle.quic_link.proofs.AskedFor.{asked-acted, asked-left, asked-written, asked-noted, frame-asked}
@@ -27,16 +27,16 @@ use Rattle.quic_link.proofs.AskedFor.{asked-acted, asked-left, asked-written, as
 -- ---- entries beside STREAM
 
 -- an entry that leaves what is pending, all of which was asked for, is a call of a linked end
-pub entry-may : (x y : Endpoint) (kind : ControlKind) (p q : Pending) (frame : Option Frame) (v : World) → AreAsked x p → SettlesEntry kind x.world p frame v q → MayAct x y (Settled kind frame) v
+pub entry-may : (x y : LinkedEnd) (kind : ControlKind) (p q : Pending) (frame : Option Frame) (v : World) → AreAsked x p → SettlesEntry kind x.world p frame v q → MayAct x y (LeftPending kind frame) v
 entry-may x y kind p q None v k s = record { fits = tt; honest = tt; step = (p, q, s) }
 entry-may x y kind p q (Some g) v k s = record { fits = tt; honest = asked-written x p k kind g v q s; step = (p, q, s) }
 
-pub entry-linked : (x y : Endpoint) (kind : ControlKind) (p q : Pending) (frame : Option Frame) (v : World) → Linked x y → AreAsked x p → SettlesEntry kind x.world p frame v q
-    → Linked (acted x (Settled kind frame) v) y × AreAsked (acted x (Settled kind frame) v) q
+pub entry-linked : (x y : LinkedEnd) (kind : ControlKind) (p q : Pending) (frame : Option Frame) (v : World) → Linked x y → AreAsked x p → SettlesEntry kind x.world p frame v q
+    → Linked (acted x (LeftPending kind frame) v) y × AreAsked (acted x (LeftPending kind frame) v) q
 entry-linked x y kind p q frame v l k s =
     let a = entry-may x y kind p q frame v k s in
     let f = (agrees l).0 in
-    (first_acts (Settled kind frame) v l a, asked-acted x y (Settled kind frame) v f.comes a q (asked-left x p k kind frame v q s))
+    (first_acts (LeftPending kind frame) v l a, asked-acted x y (LeftPending kind frame) v f.comes a q (asked-left x p k kind frame v q s))
 
 abbrev pub noted_if : Pending → Option Frame → Pending
 noted_if notes None = notes
@@ -48,8 +48,8 @@ before_frames (Some g) fs = g ∷ fs
 
 -- the end, once entries of x left what is pending: what is left, and what was noted of the frames that were written, was
 -- asked for. The frames stand here the last one first
-pub record SettledTo (x y : Endpoint) (w : World) (left notes : Pending) (frames : List Frame) : Type 0 where
-  pub end : Endpoint
+pub record SettledTo (x y : LinkedEnd) (w : World) (left notes : Pending) (frames : List Frame) : Type 0 where
+  pub end : LinkedEnd
   pub linked : Linked end y
   pub made : end.made ≡ x.made
   pub world : end.world ≡ w
@@ -60,15 +60,15 @@ pub record SettledTo (x y : Endpoint) (w : World) (left notes : Pending) (frames
   pub asked : (p : Pending) → AreAsked x p → AreAsked end p
 
 -- no entry yet
-pub settled-none : (x y : Endpoint) (left notes : Pending) → Linked x y → AreAsked x left → AreAsked x notes → SettledTo x y x.world left notes []
+pub settled-none : (x y : LinkedEnd) (left notes : Pending) → Linked x y → AreAsked x left → AreAsked x notes → SettledTo x y x.world left notes []
 settled-none x y left notes l a b = record { end = x; linked = l; made = refl; world = refl; bytes = λ q. refl; wrote = refl; left_asked = a; notes_asked = b; asked = λ p h. h }
 
 -- one more
-module _ (x y : Endpoint) (w : World) (left notes : Pending) (frames : List Frame) (t : SettledTo x y w left notes frames) (kind : ControlKind) (v : World) (q : Pending) where
+module _ (x y : LinkedEnd) (w : World) (left notes : Pending) (frames : List Frame) (t : SettledTo x y w left notes frames) (kind : ControlKind) (v : World) (q : Pending) where
   pub settled-more : (frame : Option Frame) → SettlesEntry kind w left frame v q → SettledTo x y v q (noted_if notes frame) (before_frames frame frames)
   settled-more None s =
       let k = let P : World → Type 0 = λ u. SettlesEntry kind u left None v q in subst P (sym t.world) s in
-      let e = Settled kind None in
+      let e = LeftPending kind None in
       let may = entry-may t.end y kind left q None v t.left_asked k in
       let more = entry-linked t.end y kind left q None v t.linked t.left_asked k in
       let f = (agrees t.linked).0 in
@@ -85,7 +85,7 @@ module _ (x y : Endpoint) (w : World) (left notes : Pending) (frames : List Fram
       }
   settled-more (Some g) s =
       let k = let P : World → Type 0 = λ u. SettlesEntry kind u left (Some g) v q in subst P (sym t.world) s in
-      let e = Settled kind (Some g) in
+      let e = LeftPending kind (Some g) in
       let z = acted t.end e v in
       let may = entry-may t.end y kind left q (Some g) v t.left_asked k in
       let more = entry-linked t.end y kind left q (Some g) v t.linked t.left_asked k in
@@ -115,8 +115,8 @@ back_more written [] m fs = refl
 back_more written (k ∷ ms) m fs = back_more written ms m (frame_with written k ∷ fs)
 
 -- the end z, once some turns of x were taken, which handed these frames back
-pub record TookTurns (x y : Endpoint) (w : World) (b : Writer) (frames : List StreamMeta) : Type 0 where
-  pub end : Endpoint
+pub record TookTurns (x y : LinkedEnd) (w : World) (b : Writer) (frames : List StreamMeta) : Type 0 where
+  pub end : LinkedEnd
   pub linked : Linked end y
   pub made : end.made ≡ x.made
   pub world : end.world ≡ with_writer w b
@@ -139,12 +139,12 @@ carried_cuts id first behind q fin there t =
     cuts_if (with_send_move m t) t ((q == id) && there q) ∙ ap (λ c. if (q == id) && there q then c else t.cuts) moved ∙ same_if t.cuts ((q == id) && there q)
 
 -- a turn writes nothing on a stream
-turn_bytes : (x : Endpoint) (most : ℕ) (fair : Bool) (frame : Option StreamMeta) (v : World) (q : ℕ) → written_on (acted x (Sending (TookTurn most fair frame)) v) q ≡ written_on x q
+turn_bytes : (x : LinkedEnd) (most : ℕ) (fair : Bool) (frame : Option StreamMeta) (v : World) (q : ℕ) → written_on (acted x (Sending (TookTurn most fair frame)) v) q ≡ written_on x q
 turn_bytes x most fair None v q = refl
 turn_bytes x most fair (Some meta) v q =
     ap concat (carried_cuts meta.id meta.offsets.start meta.offsets.end q meta.fin (has_send_side x.made.side (opened_in_all (since x.calls)) (send_tale x.made x.calls).may_open) (flow x.made x.calls q))
 
-turn_may : (x y : Endpoint) (most : ℕ) (fair : Bool) (frame : Option StreamMeta) (v : World) → Step x.world (Sending (TookTurn most fair frame)) v → MayAct x y (Sending (TookTurn most fair frame)) v
+turn_may : (x y : LinkedEnd) (most : ℕ) (fair : Bool) (frame : Option StreamMeta) (v : World) → Step x.world (Sending (TookTurn most fair frame)) v → MayAct x y (Sending (TookTurn most fair frame)) v
 turn_may x y most fair None v s = record { fits = tt; honest = tt; step = s }
 turn_may x y most fair (Some meta) v s = record { fits = tt; honest = tt; step = s }
 
@@ -155,7 +155,7 @@ frame_same : (f g : ℕ → List ℕ) (m : StreamMeta) → f m.id ≡ g m.id →
 frame_same f g m e = ap (λ bytes. stream_of m (between bytes m.offsets.start m.offsets.end)) e
 
 -- one turn more
-one_turn : (x y : Endpoint) (most : ℕ) (fair : Bool) (w : World) (a b : Writer) (frames : List StreamMeta) → TookTurns x y w a frames → TakesTurn most fair a b → (more_frames : List StreamMeta) × (b.sent ≡ a.sent ++ more_frames) × TookTurns x y w b (frames ++ more_frames)
+one_turn : (x y : LinkedEnd) (most : ℕ) (fair : Bool) (w : World) (a b : Writer) (frames : List StreamMeta) → TookTurns x y w a frames → TakesTurn most fair a b → (more_frames : List StreamMeta) × (b.sent ≡ a.sent ++ more_frames) × TookTurns x y w b (frames ++ more_frames)
 one_turn x y most fair w a b frames t (inl k) =
     let e = Sending (TookTurn most fair None) in
     let z = acted t.end e (with_writer w b) in
@@ -193,7 +193,7 @@ one_turn x y most fair w a b frames t (inr k) =
     )
 
 -- turns of the send queue are calls of a linked end, which then wrote the frames that were handed back
-pub turns-linked : {most : ℕ} {fair : Bool} {a b : Writer} (x y : Endpoint) (w : World) → Linked x y → x.world ≡ with_writer w a → TakesTurns most fair a b
+pub turns-linked : {most : ℕ} {fair : Bool} {a b : Writer} (x y : LinkedEnd) (w : World) → Linked x y → x.world ≡ with_writer w a → TakesTurns most fair a b
     → (frames : List StreamMeta) × (b.sent ≡ a.sent ++ frames) × TookTurns x y w b frames
 turns-linked x y w l e (none {a}) = ([], sym (append-nil a.sent), record { end = x; linked = l; made = refl; world = e; bytes = λ q. refl; wrote = refl; asked = λ p h. h })
 turns-linked {most} {fair} x y w l e (more {a} {b} {c} ts room t) =

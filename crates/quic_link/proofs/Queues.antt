@@ -10,7 +10,7 @@ use Rattle.quic_wire.specs.declared.error.ReceiveError.TheVariants as receive_er
 use Rattle.quic_queue.specs.declared.queue.Entry.{Entry}
 use Rattle.quic_queue.specs.declared.queue.Next.{Next}
 use Rattle.quic_queue.specs.declared.queue.Next.TheVariants.{LetGo, PutAnew, KeepBack}
-use Rattle.quic_queue.specs.SendOrder.{SendOrder, put, line, first, with_entry, without_first, settled}
+use Rattle.quic_queue.specs.SendOrder.{SendOrder, put, line, first, with_entry, without_next, with_turn_ended}
 use Rattle.quic_limits.specs.Own.{with_count}
 use Rattle.quic_outgoing.specs.Outgoing.{Outgoing, own_of, with_own, with_send_half}
 use Rattle.quic_writing.specs.Writer.{Writer, next_of}
@@ -20,7 +20,7 @@ use Rattle.quic_history.specs.Sends.{with_out, with_opened, told_writable, after
 use Rattle.quic_history.specs.Writes.{with_queued, WritesOwn}
 use Rattle.quic_history.specs.Acknowledged.{with_send_freed, told_finished, frees_reset}
 use Rattle.quic_history.specs.SendEvents.{SendEvent, SendStep, GaveLimits, RaisedData, RaisedCount, RaisedLimit, StoppedOwn, SetWindow, OpenedOwn, WroteOwn, FinishedOwn, ResetOwn, SetOwnPriority, AckedOwn, LostOwn, ResetAckedOwn, TookTurn, Polled}
-use Rattle.quic_history.specs.History.{Event, Received, ReceivedReset, AddedCredits, Began, Gave, Ended, Stopped, ToldReset, Resized, SetConcurrent, Accepted, Settled, Sending, Step, Rejected, SentAgain, joint_move_of}
+use Rattle.quic_history.specs.History.{Event, Received, ReceivedReset, AddedCredits, Began, Gave, Ended, Stopped, ToldReset, Resized, SetConcurrent, Accepted, LeftPending, Sending, Step, Rejected, SentAgain, joint_move_of}
 use Rattle.quic_history.proofs.Limits.{firmly, is_of_sending}
 use Rattle.quic_history.proofs.StreamSteps.{Steady, steady-noticed}
 use Rattle.quic_history.proofs.SendFreed.{steady-send-freed}
@@ -58,7 +58,7 @@ rest_from : (q : ℕ) (es : List Entry) → stands q (drop 1 es) ≡ true → st
 rest_from q [] h = h
 rest_from q (x ∷ xs) h = or_right (q == x.id) (stands q xs) h
 
-left_from : (q : ℕ) (w : SendOrder) → stands q (line (without_first w)) ≡ true → stands q (line w) ≡ true
+left_from : (q : ℕ) (w : SendOrder) → stands q (line (without_next w)) ≡ true → stands q (line w) ≡ true
 left_from q w h = by_kept w.kept refl h
   where
     by_kept : (k : Option Entry) → w.kept ≡ k → stands q (if is_some k then w.waiting else drop 1 w.waiting) ≡ true → stands q (line w) ≡ true
@@ -77,16 +77,16 @@ first-stands w e h = by_line (line w) h
         some_same a b k = cc
 
 -- after a turn none stands there that did not
-turn_from : (q : ℕ) (w : SendOrder) (e : Entry) (n : Next) → first w ≡ Some e → stands q (line (settled (without_first w) e n)) ≡ true → stands q (line w) ≡ true
+turn_from : (q : ℕ) (w : SendOrder) (e : Entry) (n : Next) → first w ≡ Some e → stands q (line (with_turn_ended (without_next w) e n)) ≡ true → stands q (line w) ≡ true
 turn_from q w e n f h = by_next n h
   where
     here : q ≡ e.id → stands q (line w) ≡ true
     here k = ap (λ i. stands i (line w)) k ∙ first-stands w e f
 
-    by_next : (n : Next) → stands q (line (settled (without_first w) e n)) ≡ true → stands q (line w) ≡ true
+    by_next : (n : Next) → stands q (line (with_turn_ended (without_next w) e n)) ≡ true → stands q (line w) ≡ true
     by_next LetGo k = left_from q w k
-    by_next (PutAnew p) k = elim (entry_from q (without_first w) (record { priority = p; id = e.id }) k) [ inl a ↦ left_from q w a | inr b ↦ here b ]
-    by_next KeepBack k = elim (either_true (q == e.id) (stands q (without_first w).waiting) k) [ inl a ↦ here (same_id q e.id a) | inr b ↦ left_from q w b ]
+    by_next (PutAnew p) k = elim (entry_from q (without_next w) (record { priority = p; id = e.id }) k) [ inl a ↦ left_from q w a | inr b ↦ here b ]
+    by_next KeepBack k = elim (either_true (q == e.id) (stands q (without_next w).waiting) k) [ inl a ↦ here (same_id q e.id a) | inr b ↦ left_from q w b ]
 
 -- ---- calls
 
@@ -154,9 +154,9 @@ queue_at : (u v w : World) → v ≡ w → w.queue ≡ u.queue → v.queue ≡ u
 queue_at u v w e k = ap (λ (x : World). x.queue) e ∙ k
 
 -- a turn
-queues_turn : (u v : World) (a b : Writer) (e : Entry) (n : Next) → u.queue ≡ a.queue → v.queue ≡ b.queue → first a.queue ≡ Some e → b.queue ≡ settled (without_first a.queue) e n → QueuesBy u v None
+queues_turn : (u v : World) (a b : Writer) (e : Entry) (n : Next) → u.queue ≡ a.queue → v.queue ≡ b.queue → first a.queue ≡ Some e → b.queue ≡ with_turn_ended (without_next a.queue) e n → QueuesBy u v None
 queues_turn u v a b e n before after f s q h =
-    let k : stands q (line (settled (without_first a.queue) e n)) ≡ true = sym (ap (λ (x : SendOrder). stands q (line x)) (after ∙ s)) ∙ h in
+    let k : stands q (line (with_turn_ended (without_next a.queue) e n)) ≡ true = sym (ap (λ (x : SendOrder). stands q (line x)) (after ∙ s)) ∙ h in
     inl (ap (λ (x : SendOrder). stands q (line x)) before ∙ turn_from q a.queue e n f k)
 
 queues_send : (u : World) (e : SendEvent) (v : World) → SendStep u e v → QueuesBy u v (queued_id (Sending e))
@@ -226,7 +226,7 @@ queues-step h u (ToldReset id answer) v fits p s = firm_queue h u (ToldReset id 
 queues-step h u (Resized window answer) v fits p s = firm_queue h u (Resized window answer) v fits refl s
 queues-step h u (SetConcurrent dir count answer) v fits p s = firm_queue h u (SetConcurrent dir count answer) v fits refl s
 queues-step h u (Accepted dir answer) v fits p s = firm_queue h u (Accepted dir answer) v fits refl s
-queues-step h u (Settled kind frame) v fits p s = firm_queue h u (Settled kind frame) v fits refl s
+queues-step h u (LeftPending kind frame) v fits p s = firm_queue h u (LeftPending kind frame) v fits refl s
 queues-step h u Rejected v fits p s = cc
 queues-step h u (SentAgain (Ok x)) v fits p s = cc
 queues-step h u (SentAgain (Err x)) v fits p s = queues_same u v None (ap (λ (x : World). x.queue) s.1)

@@ -12,7 +12,7 @@ use Rattle.quic_history.specs.Halves.{is_among, with_first}
 use Rattle.quic_receiving.specs.declared.errors.ReadError.{ReadError}
 use Rattle.quic_receiving.specs.declared.errors.ReadError.TheVariants as read_error
 use Rattle.quic_history.specs.World.{World, Made, start}
-use Rattle.quic_history.specs.History.{Event, Move, Framed, WasReset, WasRead, WasStopped, WasTold, WasAnnounced, ReceivedReset, Began, Gave, Stopped, ToldReset, Settled, Step, From, Trace, ReadChunk, HalfFrom, EndsSo, trace, move_of, moved, with_move, with_kept_frame, is_kept, is_closed, joint_move_of}
+use Rattle.quic_history.specs.History.{Event, Move, Framed, WasReset, WasRead, WasStopped, WasTold, WasAnnounced, ReceivedReset, Began, Gave, Stopped, ToldReset, LeftPending, Step, From, Trace, ReadChunk, HalfFrom, EndsSo, trace, move_of, moved, with_move, with_kept_frame, is_frame_kept, is_closed, joint_move_of}
 use Rattle.quic_history.specs.Reading.{ReadsHalf}
 use Rattle.quic_history.proofs.StreamSteps.{half-from, known-from}
 use Rattle.quic_history.proofs.Totals.{by_cases, same}
@@ -79,7 +79,7 @@ both false b k = cc
 
 so_move : (w : World) (id : ℕ) (m : Move) (t : Trace) → EndsSo t → ReadTrue w id t m → TraceSo t → TraceSo (with_move m t)
 so_move w id (Framed offset bytes fin answer) t e k s =
-    so_if (with_kept_frame offset bytes fin t) t (is_kept answer) (λ a. so_if t _ (is_closed t) (λ b. s) (λ b. so_same t _ refl refl refl refl (λ g. inr (inl (both t.stopped fin g))) s)) (λ a. s)
+    so_if (with_kept_frame offset bytes fin t) t (is_frame_kept answer) (λ a. so_if t _ (is_closed t) (λ b. s) (λ b. so_same t _ refl refl refl refl (λ g. inr (inl (both t.stopped fin g))) s)) (λ a. s)
 so_move w id (WasReset code final) t e k s =
     so_if t _ (is_closed t) (λ b. s) (λ b. record { unreset = λ r. absurd (not_both t.gone (is_some t.reset) (e.freed r) b); rows = s.rows; few = s.few; over = λ g. inr (inr refl) })
 so_move w id (WasRead ordered (Ok (Some chunk))) t e k s = record { unreset = s.unreset; rows = (s.rows, k.0); few = more_given ordered (given_in_order t.given) chunk.bytes t.read s.few; over = s.over }
@@ -109,7 +109,7 @@ same_if a b true g h = g
 same_if a b false g h = h
 
 order_move : (w : World) (id : ℕ) (m : Move) (t : Trace) (half : Half) → w.receive id ≡ Some half → half.buffer.ordered ≡ true → ReadTrue w id t m → Same t → Same (with_move m t)
-order_move w id (Framed offset bytes fin answer) t half at o k s = same_if (with_kept_frame offset bytes fin t) t (is_kept answer) (same_if t _ (is_closed t) s s) s
+order_move w id (Framed offset bytes fin answer) t half at o k s = same_if (with_kept_frame offset bytes fin t) t (is_frame_kept answer) (same_if t _ (is_closed t) s s) s
 order_move w id (WasReset code final) t half at o k s = same_if t _ (is_closed t) s s
 order_move w id (WasRead ordered (Ok (Some chunk))) t half at o k s =
     let is : ordered ≡ true = sym (k.1 half at) ∙ o in
@@ -167,9 +167,9 @@ module _ (m : Made) (h : List Event) (u : World) (f : From m h u) (s : ReadsSo h
       ap (λ (o : Option ℕ). is_some o) (sym told.reset ∙ t.3)
   reads_true (ToldReset id (Ok None)) v r = tt
   reads_true (ToldReset id (Err error)) v r = tt
-  reads_true (Settled kind None) v r = tt
-  reads_true (Settled kind (Some (frames.MaxStreamData id limit))) v r = tt
-  reads_true (Settled kind (Some _)) v r = tt
+  reads_true (LeftPending kind None) v r = tt
+  reads_true (LeftPending kind (Some (frames.MaxStreamData id limit))) v r = tt
+  reads_true (LeftPending kind (Some _)) v r = tt
   reads_true _ v r = tt
 
   pub reads-kept : (e : Event) (v : World) → joint_move_of e ≡ None → Step u e v → From m (e ∷ h) v → ReadsSo (e ∷ h) v

@@ -14,35 +14,35 @@ use Rattle.quic_history.specs.Receiving.{with_max_streams}
 use Rattle.quic_history.specs.Reading.{GivesChunks, LastReads, ReadsSome, bytes_in, is_window_queued, pending_after, pending_stopped}
 use Rattle.quic_history.specs.History.{Event, Began, Gave, Ended, given, with_chunks, with_last, with_reads}
 use Rattle.quic_wire.specs.declared.frame.StopSending.{StopSending}
-use Rattle.quic_link.specs.Endpoints.{Endpoint, IsOneOf, MayAct, acted, Linked, first_acts, WasGiven, WasStoppedWith}
+use Rattle.quic_link.specs.Endpoints.{LinkedEnd, IsOneOf, MayAct, acted, Linked, first_acts, WasGiven, WasStoppedWith}
 use Rattle.quic_link.specs.Asked.{AreAsked}
 use Rattle.quic_link.proofs.Joint.{agrees}
 use Rattle.quic_link.proofs.AskedFor.{asked-acted, asked-stop, asked-window}
 
 -- x may become z by calls, and what is pending stays asked for
-pub record GoesOn (x y z : Endpoint) : Type 0 where
+pub record GoesOn (x y z : LinkedEnd) : Type 0 where
   pub linked : Linked z y
   pub asked : (p : Pending) → AreAsked x p → AreAsked z p
 
-pub goes-none : (x y : Endpoint) → Linked x y → GoesOn x y x
+pub goes-none : (x y : LinkedEnd) → Linked x y → GoesOn x y x
 goes-none x y l = record { linked = l; asked = λ p k. k }
 
-pub goes-then : (x y z w : Endpoint) → GoesOn x y z → GoesOn z y w → GoesOn x y w
+pub goes-then : (x y z w : LinkedEnd) → GoesOn x y z → GoesOn z y w → GoesOn x y w
 goes-then x y z w a b = record { linked = b.linked; asked = λ p k. b.asked p (a.asked p k) }
 
-pub goes-call : (x y : Endpoint) (e : Event) (v : World) → Linked x y → MayAct x y e v → GoesOn x y (acted x e v)
+pub goes-call : (x y : LinkedEnd) (e : Event) (v : World) → Linked x y → MayAct x y e v → GoesOn x y (acted x e v)
 goes-call x y e v l a = record { linked = first_acts e v l a; asked = λ p k. asked-acted x y e v ((agrees l).0).comes a p k }
 
 -- ---- several reads
 
 -- the end with other calls and another value
-abbrev pub called : Endpoint → List Event → World → Endpoint
+abbrev pub called : LinkedEnd → List Event → World → LinkedEnd
 called x h v = record { made = x.made; calls = h; world = v; wrote = x.wrote }
 
-goes_at : (x y : Endpoint) (h : List Event) (v w : World) → v ≡ w → GoesOn x y (called x h w) → GoesOn x y (called x h v)
+goes_at : (x y : LinkedEnd) (h : List Event) (v w : World) → v ≡ w → GoesOn x y (called x h w) → GoesOn x y (called x h v)
 goes_at x y h v w e g = let P : World → Type 0 = λ u. GoesOn x y (called x h u) in subst P (sym e) g
 
-module _ (x y : Endpoint) (id most : ℕ) (ordered : Bool) where
+module _ (x y : LinkedEnd) (id most : ℕ) (ordered : Bool) where
   pub chunks-linked : (cs : List Chunk) (h : List Event) (w v : World) → GoesOn x y (called x h w) → GivesChunks w id most ordered cs v → GoesOn x y (called x (with_chunks id most ordered cs h) v)
   chunks-linked [] h w v l g = goes_at x y h v w g l
   chunks-linked (c ∷ cs) h w v l g =
@@ -68,7 +68,7 @@ given_last id most ordered last_answer.Memory h = refl
 given_last id most ordered last_answer.More h = refl
 
 -- a stream is opened for reads, read, and its reader ended
-pub reads-linked : (x y : Endpoint) (id most times : ℕ) (ordered : Bool) (p q : Pending) (cs : List Chunk) (last : LastAnswer) (transmit : Bool) (v : World) → Linked x y → ReadsSome x.world id most times ordered p cs last transmit v q
+pub reads-linked : (x y : LinkedEnd) (id most times : ℕ) (ordered : Bool) (p q : Pending) (cs : List Chunk) (last : LastAnswer) (transmit : Bool) (v : World) → Linked x y → ReadsSome x.world id most times ordered p cs last transmit v q
     → GoesOn x y (called x (with_reads id most ordered cs last x.calls) v)
 reads-linked x y id most times ordered p q cs last transmit v l s =
     let b = Began id ordered (Ok tt) in
@@ -86,7 +86,7 @@ reads-linked x y id most times ordered p q cs last transmit v l s =
 
 -- ---- what they queue
 
-asked_same : (x : Endpoint) (p q : Pending) → q.reset_stream ≡ p.reset_stream → q.stop_sending ≡ p.stop_sending → q.max_stream_data ≡ p.max_stream_data → AreAsked x p → AreAsked x q
+asked_same : (x : LinkedEnd) (p q : Pending) → q.reset_stream ≡ p.reset_stream → q.stop_sending ≡ p.stop_sending → q.max_stream_data ≡ p.max_stream_data → AreAsked x p → AreAsked x q
 asked_same x p q a b c s =
     let P : Pending → Type 0 = λ k. AreAsked x k in
     record {
@@ -102,17 +102,17 @@ asked_same x p q a b c s =
     same_stops f h = let Q : List StopSending → Type 0 = λ l. IsOneOf f l in subst Q b h
 
 -- at the end of a reader a limit of its stream may be queued, which the application was given
-pub asked-read : (x : Endpoint) (progress : Progress) (w : World) (id read : ℕ) (p : Pending) → WasGiven x.world id → AreAsked x p → AreAsked x (pending_after progress w id read p)
+pub asked-read : (x : LinkedEnd) (progress : Progress) (w : World) (id read : ℕ) (p : Pending) → WasGiven x.world id → AreAsked x p → AreAsked x (pending_after progress w id read p)
 asked-read x progress w id read p g s =
     asked_same x (record p { max_stream_data = with_id p.max_stream_data id (is_window_queued progress w (w.receive id)) }) (pending_after progress w id read p) refl refl refl
     (asked-window x p id (is_window_queued progress w (w.receive id)) g s)
 
 -- and by a stop STOP_SENDING, once it was made
-pub asked-stopped : (x : Endpoint) (v : World) (h : Half) (id code : ℕ) (p : Pending) → WasStoppedWith x.calls id code → WasGiven x.world id → AreAsked x p → AreAsked x (pending_stopped v h id code p)
+pub asked-stopped : (x : LinkedEnd) (v : World) (h : Half) (id code : ℕ) (p : Pending) → WasStoppedWith x.calls id code → WasGiven x.world id → AreAsked x p → AreAsked x (pending_stopped v h id code p)
 asked-stopped x v h id code p t g s =
     asked_same x (record p { stop_sending = with_stop_sending p.stop_sending id code (is_none h.reset) }) (pending_stopped v h id code p) refl refl refl
     (asked-stop x p id code (is_none h.reset) t g s)
 
 -- the other frames that calls queue need no more
-pub asked-streams : (x : Endpoint) (w : World) (p : Pending) → AreAsked x p → AreAsked x (with_max_streams w p)
+pub asked-streams : (x : LinkedEnd) (w : World) (p : Pending) → AreAsked x p → AreAsked x (with_max_streams w p)
 asked-streams x w p s = asked_same x p (with_max_streams w p) refl refl refl s

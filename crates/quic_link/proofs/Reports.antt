@@ -31,7 +31,7 @@ use Rattle.quic_history.specs.Sends.{with_out, with_opened, told_writable, after
 use Rattle.quic_history.specs.Writes.{with_queued, WritesOwn}
 use Rattle.quic_history.specs.Acknowledged.{with_send_freed, send_released, told_finished, frees_reset, without_sender, without_send_half}
 use Rattle.quic_history.specs.SendEvents.{SendEvent, SendStep, GaveLimits, RaisedData, RaisedCount, RaisedLimit, StoppedOwn, SetWindow, OpenedOwn, WroteOwn, FinishedOwn, ResetOwn, SetOwnPriority, AckedOwn, LostOwn, ResetAckedOwn, TookTurn, Polled}
-use Rattle.quic_history.specs.History.{Event, Received, ReceivedReset, AddedCredits, Began, Gave, Ended, Stopped, ToldReset, Resized, SetConcurrent, Accepted, Settled, Sending, Step, Rejected, SentAgain, joint_move_of}
+use Rattle.quic_history.specs.History.{Event, Received, ReceivedReset, AddedCredits, Began, Gave, Ended, Stopped, ToldReset, Resized, SetConcurrent, Accepted, LeftPending, Sending, Step, Rejected, SentAgain, joint_move_of}
 use Rattle.quic_history.proofs.SendSteps.{either-way}
 use Rattle.quic_history.proofs.StreamSteps.{noticed-any}
 
@@ -263,7 +263,7 @@ reports-step u (Resized window answer) v p n s = ap reports s.0
 reports-step u (SetConcurrent dir count (Ok k)) v p n s = ap reports s ∙ stays_concurrent u dir count
 reports-step u (SetConcurrent dir count (Err k)) v p n s = ap reports s
 reports-step u (Accepted dir answer) v p n s = cc
-reports-step u (Settled kind frame) v p n s = stays_settled kind u s.0 frame v s.1 s.2
+reports-step u (LeftPending kind frame) v p n s = stays_settled kind u s.0 frame v s.1 s.2
 reports-step u (Sending e) v p n s = stays_send u e v s
 reports-step u Rejected v p n s = cc
 reports-step u (SentAgain (Ok x)) v p n s = cc

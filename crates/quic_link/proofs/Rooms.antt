@@ -18,7 +18,7 @@ use Rattle.quic_history.specs.SendEvents.{SendEvent, SendStep, GaveLimits, Raise
 use Rattle.quic_history.specs.History.{Event, Sending, Step, From, flow, send_move_of, limits_in, taken_by, taken_in_all, total_over, opened_in_all, send_tale, write_room, joint_move_of, since}
 use Rattle.quic_history.proofs.Totals.{by_cases, same, IsOnce}
 use Rattle.quic_link.proofs.Ends.{ArePlain}
-use Rattle.quic_link.specs.Endpoints.{Endpoint, IsHonest, limits_of}
+use Rattle.quic_link.specs.Endpoints.{LinkedEnd, IsHonest, limits_of}
 use Rattle.quic_link.proofs.Sums.{total-most, total-grows}
 
 -- how many bytes were written on a stream
@@ -142,7 +142,7 @@ room_limits m (Some limits) side q t s a r =
     let n = first-is m side q in
     subst P (sym a) (room_least t (first_limit side (first_of (limits_of m)) q) (omega arith) r)
 
-pub limits-honest : (x y : Endpoint) (e : Event) → IsHonest x y e → AreLimitsOf y.made (limits_in e)
+pub limits-honest : (x y : LinkedEnd) (e : Event) → IsHonest x y e → AreLimitsOf y.made (limits_in e)
 limits-honest x y (Sending (GaveLimits limits)) k = k
 limits-honest x y _ k = tt
 

@@ -17,10 +17,10 @@ use Rattle.quic_outgoing.specs.Senders.{first_limit}
 use Rattle.quic_history.specs.World.{World, Made}
 use Rattle.quic_history.specs.Flows.{send_moved, with_first_limits, has_send_side}
 use Rattle.quic_history.specs.SendEvents.{RaisedLimit, StoppedOwn, WroteOwn, FinishedOwn, ResetOwn, AckedOwn, LostOwn, ResetAckedOwn, TookTurn}
-use Rattle.quic_history.specs.History.{Event, Move, Framed, WasReset, WasRead, WasStopped, WasTold, WasAnnounced, Received, ReceivedReset, Stopped, ToldReset, Settled, Sending, Trace, untouched, move_of, moved, with_move, with_kept_frame, with_reset, is_kept, is_closed, send_move_of, limits_in, opened_in_all, send_tale, joint_move_of, since}
+use Rattle.quic_history.specs.History.{Event, Move, Framed, WasReset, WasRead, WasStopped, WasTold, WasAnnounced, Received, ReceivedReset, Stopped, ToldReset, LeftPending, Sending, Trace, untouched, move_of, moved, with_move, with_kept_frame, with_reset, is_frame_kept, is_closed, send_move_of, limits_in, opened_in_all, send_tale, joint_move_of, since}
 use Rattle.quic_history.proofs.Totals.{by_cases, same}
 use Rattle.quic_link.proofs.Ends.{plain-call}
-use Rattle.quic_link.specs.Endpoints.{Endpoint, acted, sent_on, came_on, IsHonest, limits_of}
+use Rattle.quic_link.specs.Endpoints.{LinkedEnd, acted, sent_on, came_on, IsHonest, limits_of}
 use Rattle.quic_link.specs.Truths.{AreBytesOf}
 use Rattle.quic_link.proofs.Growth.{Grows, still-closed}
 use Rattle.quic_link.proofs.Rooms.{amount, AreLimitsOf, first-is}
@@ -139,7 +139,7 @@ fits_same f t t' a b c d s =
     subst_kept t t' at byte d k = rw d at k
 
 fits_move : (f : SendFlow) (m : Move) (t : Trace) → TrueMove f m → StreamFits f t → StreamFits f (with_move m t)
-fits_move f (Framed offset bytes fin answer) t k s = fits_if f (with_kept_frame offset bytes fin t) t (is_kept answer) (fits_frame f t offset bytes fin k s) s
+fits_move f (Framed offset bytes fin answer) t k s = fits_if f (with_kept_frame offset bytes fin t) t (is_frame_kept answer) (fits_frame f t offset bytes fin k s) s
 fits_move f (WasReset code final) t k s = fits_reset f t code final k.0 k.1 s
 fits_move f (WasRead ordered (Ok (Some chunk))) t k s = fits_same f t _ refl refl refl refl s
 fits_move f (WasRead ordered (Ok None)) t k s = fits_same f t _ refl refl refl refl s
@@ -160,7 +160,7 @@ fits-moved f (Some m) q t k s = by_cases (eqb q m.0)
     (λ n. rw n s)
 
 -- what an end is told came of the other
-pub move-true : (x y : Endpoint) (e : Event) → AllTrue x → IsHonest y x e → TrueMoved (sent_on x) (move_of e)
+pub move-true : (x y : LinkedEnd) (e : Event) → AllTrue x → IsHonest y x e → TrueMoved (sent_on x) (move_of e)
 move-true x y (Received id offset bytes fin answer) t k =
     let d = t (frames.Stream (record { id = id; offset = offset; fin = fin; bytes = bytes })) k in
     record { bytes_are = d.bytes; within = d.within; finished = d.finished; ends = d.ends }
@@ -171,9 +171,9 @@ move-true x y (Stopped id code (Err error)) t k = tt
 move-true x y (ToldReset id (Ok (Some code))) t k = tt
 move-true x y (ToldReset id (Ok None)) t k = tt
 move-true x y (ToldReset id (Err error)) t k = tt
-move-true x y (Settled kind None) t k = tt
-move-true x y (Settled kind (Some (frames.MaxStreamData id limit))) t k = tt
-move-true x y (Settled kind (Some _)) t k = tt
+move-true x y (LeftPending kind None) t k = tt
+move-true x y (LeftPending kind (Some (frames.MaxStreamData id limit))) t k = tt
+move-true x y (LeftPending kind (Some _)) t k = tt
 move-true x y _ t k = tt
 
 -- ---- the limits of streams
@@ -221,7 +221,7 @@ limit_first m (Some limits) side q f t a k =
     let x : max f.limit (first_limit side (first_of (limits_of m)) q) ≤ max m.window t.announced = omega arith in
     subst P (sym a) x
 
-limit_true : (x y : Endpoint) (e : Event) → AllTrue y → IsHonest x y e → TrueLimit (came_on y) (send_move_of e)
+limit_true : (x y : LinkedEnd) (e : Event) → AllTrue y → IsHonest x y e → TrueLimit (came_on y) (send_move_of e)
 limit_true x y (Sending (RaisedLimit id limit (Ok u))) t k = (t (frames.MaxStreamData id limit) k).0
 limit_true x y (Sending (RaisedLimit id limit (Err error))) t k = tt
 limit_true x y (Sending (StoppedOwn id code (Ok u))) t k = tt
@@ -243,12 +243,12 @@ limit_true x y (Sending (TookTurn most fair (Some frame))) t k = tt
 limit_true x y _ t k = tt
 
 -- the end that sends was called
-pub limits-sent : (x y : Endpoint) (e : Event) (v : World) → AllTrue y → IsHonest x y e → AreLimitsOf y.made (limits_in e) → ((q : ℕ) → LimitSo y.made.window (sent_on x q) (came_on y q))
+pub limits-sent : (x y : LinkedEnd) (e : Event) (v : World) → AllTrue y → IsHonest x y e → AreLimitsOf y.made (limits_in e) → ((q : ℕ) → LimitSo y.made.window (sent_on x q) (came_on y q))
     → (q : ℕ) → LimitSo y.made.window (sent_on (acted x e v) q) (came_on y q)
 limits-sent x y e v t k a l q = rw (plain-call x y e k) (
     limit_first y.made (limits_in e) x.made.side q _ (came_on y q) a
     (limit_moved y.made.window (send_move_of e) (has_send_side x.made.side (opened_in_all (since x.calls)) (send_tale x.made x.calls).may_open) (sent_on x) (came_on y) q (limit_true x y e t k) (l q)))
 
 -- the end that receives was
-pub limits-came : (x y : Endpoint) (e : Event) (v : World) → joint_move_of e ≡ None → ((q : ℕ) → LimitSo y.made.window (sent_on x q) (came_on y q)) → (q : ℕ) → LimitSo y.made.window (sent_on x q) (came_on (acted y e v) q)
+pub limits-came : (x y : LinkedEnd) (e : Event) (v : World) → joint_move_of e ≡ None → ((q : ℕ) → LimitSo y.made.window (sent_on x q) (came_on y q)) → (q : ℕ) → LimitSo y.made.window (sent_on x q) (came_on (acted y e v) q)
 limits-came x y e v plain l q = let a = announced-grows e y.calls plain q in let b = l q in omega arith

@@ -11,7 +11,7 @@ use Rattle.quic_history.specs.SendEvents.{RaisedCount, RaisedLimit, StoppedOwn, 
 use Rattle.quic_history.specs.History.{Event, Received, ReceivedReset, Sending, opened_in_all, send_tale, told_by, QueuesSo, is_sent_on, since}
 use Rattle.quic_history.proofs.ToldEvents.{queues}
 use Rattle.quic_history.proofs.Traces.{itself}
-use Rattle.quic_link.specs.Endpoints.{Endpoint, IsOneOf, MayAct, acted, sent_on}
+use Rattle.quic_link.specs.Endpoints.{LinkedEnd, IsOneOf, MayAct, acted, sent_on}
 use Rattle.quic_link.specs.Promises.{IsTrueEvent, CameWhole}
 use Rattle.quic_link.proofs.Ends.{Comes, plain-call}
 use Rattle.quic_link.proofs.Growth.{grows}
@@ -19,12 +19,12 @@ use Rattle.quic_link.proofs.TrueFrames.{AllTrue, amount-stays}
 use Rattle.quic_link.proofs.Acks.{AckedSo, acked-sent}
 use Rattle.quic_link.proofs.Basics.{both, either-of, ended_closed, or_right}
 
-abbrev pub AllToldTrue : Endpoint → Endpoint → Type 0
+abbrev pub AllToldTrue : LinkedEnd → LinkedEnd → Type 0
 AllToldTrue x y = (g : StreamEvent) → IsOneOf g x.world.events → IsTrueEvent x y g
 
 -- ---- what was true stays so
 
-event_first : (x y : Endpoint) (e : Event) (v : World) → Comes x → MayAct x y e v → (g : StreamEvent) → IsTrueEvent x y g → IsTrueEvent (acted x e v) y g
+event_first : (x y : LinkedEnd) (e : Event) (v : World) → Comes x → MayAct x y e v → (g : StreamEvent) → IsTrueEvent x y g → IsTrueEvent (acted x e v) y g
 event_first x y e v f a (stream_event.Finished id) t =
     let grown = grows x.made x.calls x.world v f.from e (plain-call x y e a.honest) a.step id in
     let same = amount-stays x y e v f a id (ended_closed (sent_on x id).reset (sent_on x id).finished t.finished) in
@@ -35,7 +35,7 @@ event_first x y e v f a (stream_event.Readable id) t = tt
 event_first x y e v f a (stream_event.Writable id) t = tt
 event_first x y e v f a (stream_event.Available d) t = tt
 
-event_second : (x y : Endpoint) (e : Event) (v : World) (g : StreamEvent) → IsTrueEvent x y g → IsTrueEvent x (acted y e v) g
+event_second : (x y : LinkedEnd) (e : Event) (v : World) (g : StreamEvent) → IsTrueEvent x y g → IsTrueEvent x (acted y e v) g
 event_second x y e v (stream_event.Finished id) t =
     let c = t.end in
     record {
@@ -51,7 +51,7 @@ event_second x y e v (stream_event.Available d) t = tt
 
 -- ---- what is told now
 
-event_at : (x y : Endpoint) (g k : StreamEvent) → g ≡ k → IsTrueEvent x y k → IsTrueEvent x y g
+event_at : (x y : LinkedEnd) (g k : StreamEvent) → g ≡ k → IsTrueEvent x y k → IsTrueEvent x y g
 event_at x y g k e t = let P : StreamEvent → Type 0 = λ j. IsTrueEvent x y j in subst P (sym e) t
 
 only_if : (b : Bool) (g k : StreamEvent) → IsOneOf g (told_if b k) → (b ≡ true) × (g ≡ k)
@@ -64,7 +64,7 @@ none_of None e = refl
 none_of (Some code) e = cc
 
 -- a stream of which all is acknowledged came
-whole_came : (x y : Endpoint) (id first behind : ℕ) (fin : Bool) (t t' : SendFlow) → counts_for t.reset t.sent_up_to behind ≡ true → is_whole (with_acked first behind fin t) ≡ true → t' ≡ freed_if_whole (with_acked first behind fin t)
+whole_came : (x y : LinkedEnd) (id first behind : ℕ) (fin : Bool) (t t' : SendFlow) → counts_for t.reset t.sent_up_to behind ≡ true → is_whole (with_acked first behind fin t) ≡ true → t' ≡ freed_if_whole (with_acked first behind fin t)
     → sent_on x id ≡ t' → AckedSo (sent_on x id) y.calls id → CameWhole x y id
 whole_came x y id first behind fin t t' c w e k s =
     let at : sent_on x id ≡ freed_if_whole (with_acked first behind fin t) = k ∙ e in
@@ -77,7 +77,7 @@ acked_flow : (id first behind : ℕ) (fin : Bool) (there : ℕ → Bool) (t : Se
     → send_moved (Some (id, WasAcked first behind fin)) there id t ≡ freed_if_whole (with_acked first behind fin t)
 acked_flow id first behind fin there t k c = rw (itself id, k, c) refl
 
-module _ (x y : Endpoint) (f : Comes x) (t : AllTrue y) (s : (q : ℕ) → AckedSo (sent_on x q) y.calls q) where
+module _ (x y : LinkedEnd) (f : Comes x) (t : AllTrue y) (s : (q : ℕ) → AckedSo (sent_on x q) y.calls q) where
   new_told : (e : Event) (v : World) → MayAct x y e v → (g : StreamEvent) → IsOneOf g (told_by x.made x.calls e) → IsTrueEvent (acted x e v) y g
   new_told (Sending (RaisedCount dir count (Ok u))) v a g h = let k = only_if _ g (stream_event.Available dir) h in event_at _ y g (stream_event.Available dir) k.1 tt
   new_told (Sending (RaisedCount dir count (Err error))) v a g h = absurd h
@@ -117,7 +117,7 @@ taken_of before after (Some (stream_event.Stopped id code)) g t h = left_of befo
 taken_of before after (Some (stream_event.Available d)) g t h = left_of before after (stream_event.Available d) g t h
 
 -- what is told next is true
-pub told-polled : (x y : Endpoint) (before after : List StreamEvent) (g : StreamEvent) → TakesQueued before (Some g) after → ((k : StreamEvent) → IsOneOf k before → IsTrueEvent x y k) → IsTrueEvent x y g
+pub told-polled : (x y : LinkedEnd) (before after : List StreamEvent) (g : StreamEvent) → TakesQueued before (Some g) after → ((k : StreamEvent) → IsOneOf k before → IsTrueEvent x y k) → IsTrueEvent x y g
 told-polled x y before after (stream_event.Finished id) e all = let P : List StreamEvent → Type 0 = λ es. IsOneOf (stream_event.Finished id) es in all (stream_event.Finished id) (subst P (sym e) (inl refl))
 told-polled x y before after (stream_event.Stopped id code) e all = let P : List StreamEvent → Type 0 = λ es. IsOneOf (stream_event.Stopped id code) es in all (stream_event.Stopped id code) (subst P (sym e) (inl refl))
 told-polled x y before after (stream_event.Opened d) e all = tt
@@ -125,7 +125,7 @@ told-polled x y before after (stream_event.Readable id) e all = tt
 told-polled x y before after (stream_event.Writable id) e all = tt
 told-polled x y before after (stream_event.Available d) e all = tt
 
-module _ (x y : Endpoint) (e : Event) (v : World) (f : Comes x) (t : AllTrue y) (a : MayAct x y e v) (s : (q : ℕ) → AckedSo (sent_on x q) y.calls q) (old : AllToldTrue x y) where
+module _ (x y : LinkedEnd) (e : Event) (v : World) (f : Comes x) (t : AllTrue y) (a : MayAct x y e v) (s : (q : ℕ) → AckedSo (sent_on x q) y.calls q) (old : AllToldTrue x y) where
   more_told : v.events ≡ x.world.events ++ told_by x.made x.calls e → AllToldTrue (acted x e v) y
   more_told k g h =
       let P : List StreamEvent → Type 0 = λ es. IsOneOf g es in
@@ -146,14 +146,14 @@ module _ (x y : Endpoint) (e : Event) (v : World) (f : Comes x) (t : AllTrue y) 
         | inr n ↦ elim n [ inl i ↦ event_at (acted x e v) y g (stream_event.Readable id) i tt | inr i ↦ absurd i ]
       ]
 
-by_queues : (x y : Endpoint) (e : Event) (v : World) → Comes x → AllTrue y → MayAct x y e v → ((q : ℕ) → AckedSo (sent_on x q) y.calls q) → AllToldTrue x y → QueuesSo x.made x.calls e x.world.events v.events → AllToldTrue (acted x e v) y
+by_queues : (x y : LinkedEnd) (e : Event) (v : World) → Comes x → AllTrue y → MayAct x y e v → ((q : ℕ) → AckedSo (sent_on x q) y.calls q) → AllToldTrue x y → QueuesSo x.made x.calls e x.world.events v.events → AllToldTrue (acted x e v) y
 by_queues x y (Sending (Polled answer)) v f t a s old k = fewer_told x y (Sending (Polled answer)) v f t a s old (λ g h. taken_of x.world.events v.events answer g k h)
 by_queues x y (Received id offset bytes fin (Ok transmit)) v f t a s old k = readable_told x y (Received id offset bytes fin (Ok transmit)) v f t a s old id k
 by_queues x y (ReceivedReset id code final (Ok transmit)) v f t a s old k = readable_told x y (ReceivedReset id code final (Ok transmit)) v f t a s old id k
 by_queues x y e v f t a s old k = more_told x y e v f t a s old k
 
-pub told-first : (x y : Endpoint) (e : Event) (v : World) → Comes x → AllTrue y → MayAct x y e v → ((q : ℕ) → AckedSo (sent_on x q) y.calls q) → AllToldTrue x y → AllToldTrue (acted x e v) y
+pub told-first : (x y : LinkedEnd) (e : Event) (v : World) → Comes x → AllTrue y → MayAct x y e v → ((q : ℕ) → AckedSo (sent_on x q) y.calls q) → AllToldTrue x y → AllToldTrue (acted x e v) y
 told-first x y e v f t a s old = by_queues x y e v f t a s old (queues x.made x.calls x.world f.side f.from.sent f.sends e v a.step)
 
-pub told-second : (x y : Endpoint) (e : Event) (v : World) → AllToldTrue x y → AllToldTrue x (acted y e v)
+pub told-second : (x y : LinkedEnd) (e : Event) (v : World) → AllToldTrue x y → AllToldTrue x (acted y e v)
 told-second x y e v old g h = event_second x y e v g (old g h)

@@ -21,7 +21,7 @@ use Rattle.quic_history.specs.declared.control.ControlKind.TheVariants as kinds
 use Rattle.quic_history.specs.Control.{SettlesEntry, reset_frame, window_frame, stream_blocked_frame}
 use Rattle.quic_history.specs.Carrying.{CarriesFrame}
 use Rattle.quic_history.specs.SendEvents.{TookTurn}
-use Rattle.quic_history.specs.History.{Event, Move, Framed, WasReset, WasRead, WasStopped, WasTold, WasAnnounced, Settled, Sending, Step, From, Trace, trace, move_of, moved, with_move, with_kept_frame, is_kept, is_closed, is_freed, before, counts, joint_move_of, StreamFrom, flow, send_move_of, limits_in}
+use Rattle.quic_history.specs.History.{Event, Move, Framed, WasReset, WasRead, WasStopped, WasTold, WasAnnounced, LeftPending, Sending, Step, From, Trace, trace, move_of, moved, with_move, with_kept_frame, is_frame_kept, is_closed, is_freed, before, counts, joint_move_of, StreamFrom, flow, send_move_of, limits_in}
 use Rattle.quic_history.specs.World.{id_refusal}
 use Rattle.quic_history.specs.Flows.{send_moved, with_first_limits}
 use Rattle.quic_values.specs.declared.ids.Side.{Side}
@@ -33,7 +33,7 @@ use Rattle.quic_history.proofs.Limits.{goes}
 use Rattle.quic_history.proofs.Remotes.{rebased}
 use Rattle.quic_history.proofs.RemoteHistory.{kept-remotes}
 use Rattle.quic_history.proofs.Traces.{itself}
-use Rattle.quic_link.specs.Endpoints.{Endpoint, IsOneOf, MayAct, acted, written_by, written_on, sent_on, WasAskedFor}
+use Rattle.quic_link.specs.Endpoints.{LinkedEnd, IsOneOf, MayAct, acted, written_by, written_on, sent_on, WasAskedFor}
 use Rattle.quic_link.specs.Truths.{IsFrameTrue, amount_on}
 use Rattle.quic_link.proofs.Ends.{Comes, plain-call}
 use Rattle.quic_link.proofs.Growth.{Grows, grows, held-told}
@@ -48,7 +48,7 @@ announced_if t a b false g h = h
 
 announced_move : (m : Move) (t : Trace) → t.announced ≤ (with_move m t).announced
 announced_move (Framed offset bytes fin answer) t =
-    announced_if t (with_kept_frame offset bytes fin t) t (is_kept answer) (announced_if t t _ (is_closed t) (omega arith) (omega arith)) (omega arith)
+    announced_if t (with_kept_frame offset bytes fin t) t (is_frame_kept answer) (announced_if t t _ (is_closed t) (omega arith) (omega arith)) (omega arith)
 announced_move (WasReset code final) t = announced_if t t _ (is_closed t) (omega arith) (omega arith)
 announced_move (WasRead ordered (Ok (Some chunk))) t = omega arith
 announced_move (WasRead ordered (Ok None)) t = omega arith
@@ -69,7 +69,7 @@ read_if t a b false g h = h
 
 read_move : (m : Move) (t : Trace) → t.read ≤ (with_move m t).read
 read_move (Framed offset bytes fin answer) t =
-    read_if t (with_kept_frame offset bytes fin t) t (is_kept answer) (read_if t t _ (is_closed t) (omega arith) (omega arith)) (omega arith)
+    read_if t (with_kept_frame offset bytes fin t) t (is_frame_kept answer) (read_if t t _ (is_closed t) (omega arith) (omega arith)) (omega arith)
 read_move (WasReset code final) t = read_if t t _ (is_closed t) (omega arith) (omega arith)
 read_move (WasRead ordered (Ok (Some chunk))) t = omega arith
 read_move (WasRead ordered (Ok None)) t = omega arith
@@ -144,7 +144,7 @@ module _ (m : Made) (h : List Event) (u : World) (f : From m h u) (e : Event) (v
 
 -- ---- what was true stays so
 
-module _ (x y : Endpoint) (e : Event) (v : World) (f : Comes x) (a : MayAct x y e v) where
+module _ (x y : LinkedEnd) (e : Event) (v : World) (f : Comes x) (a : MayAct x y e v) where
   grown : (q : ℕ) → Grows (sent_on x q) (sent_on (acted x e v) q)
   grown q = grows x.made x.calls x.world v f.from e (plain-call x y e a.honest) a.step q
 
@@ -202,14 +202,14 @@ sent_state None false a k = cc
 sent_state (Some code) b a k = cc
 
 -- the half that a turn was of
-pub record TurnSo (x : Endpoint) (meta : StreamMeta) : Type 0 where
+pub record TurnSo (x : LinkedEnd) (meta : StreamMeta) : Type 0 where
   pub half : Send
   pub held : x.world.out.halves meta.id ≡ Some half
   pub ordered : meta.offsets.start ≤ meta.offsets.end
   pub within : meta.offsets.end ≤ half.pending.offset
   pub fin : meta.fin ≡ (is_data_sent half.state && (meta.offsets.end == half.pending.offset))
 
-pub turn-so : (x : Endpoint) (most : ℕ) (fair : Bool) (meta : StreamMeta) (v : World) → CarriesFrame most fair x.world meta v → TurnSo x meta
+pub turn-so : (x : LinkedEnd) (most : ℕ) (fair : Bool) (meta : StreamMeta) (v : World) → CarriesFrame most fair x.world meta v → TurnSo x meta
 turn-so x most fair meta v s =
     let t = s.turn in
     let a = t.transmits.appends in
@@ -225,7 +225,7 @@ turn-so x most fair meta v s =
       fin = a.fin_is;
     })
 
-pub true-turn : (x : Endpoint) (meta : StreamMeta) → Comes x → TurnSo x meta → IsFrameTrue x (frame_with (written_on x) meta)
+pub true-turn : (x : LinkedEnd) (meta : StreamMeta) → Comes x → TurnSo x meta → IsFrameTrue x (frame_with (written_on x) meta)
 true-turn x meta f t =
     let told = held-told x.made x.calls x.world x.world f.from meta.id t.half t.held in
     let size = told.cuts.written in
@@ -245,33 +245,33 @@ true-turn x meta f t =
 
 -- ---- the other frames
 
-abbrev IsTrueThen : Endpoint → World → ControlKind → Frame → Type 0
-IsTrueThen x v kind g = WasAskedFor x g → IsFrameTrue (acted x (Settled kind (Some g)) v) g
+abbrev IsTrueThen : LinkedEnd → World → ControlKind → Frame → Type 0
+IsTrueThen x v kind g = WasAskedFor x g → IsFrameTrue (acted x (LeftPending kind (Some g)) v) g
 
-then_at : (x : Endpoint) (v : World) (kind : ControlKind) (g k : Frame) → g ≡ k → IsTrueThen x v kind k → IsTrueThen x v kind g
+then_at : (x : LinkedEnd) (v : World) (kind : ControlKind) (g k : Frame) → g ≡ k → IsTrueThen x v kind k → IsTrueThen x v kind g
 then_at x v kind g k e t = let P : Frame → Type 0 = λ j. IsTrueThen x v kind j in subst P (sym e) t
 
-module _ (x y : Endpoint) (v : World) (f : Comes x) where
-  reset_true : (kind : ControlKind) (id code : ℕ) (o : Option Send) (g : Frame) → x.world.out.halves id ≡ o → Some g ≡ reset_frame id code o → MayAct x y (Settled kind (Some g)) v → IsTrueThen x v kind g
+module _ (x y : LinkedEnd) (v : World) (f : Comes x) where
+  reset_true : (kind : ControlKind) (id code : ℕ) (o : Option Send) (g : Frame) → x.world.out.halves id ≡ o → Some g ≡ reset_frame id code o → MayAct x y (LeftPending kind (Some g)) v → IsTrueThen x v kind g
   reset_true kind id code None g e k a = cc
   reset_true kind id code (Some s) g e k a =
       let told = held-told x.made x.calls x.world v f.from id s e in
       let is : g ≡ frames.ResetStream (record { id = id; error_code = code; final_offset = s.pending.offset }) = some_same g _ k in
-      let P : Frame → Type 0 = λ j. MayAct x y (Settled kind (Some j)) v in
+      let P : Frame → Type 0 = λ j. MayAct x y (LeftPending kind (Some j)) v in
       let b = subst P is a in
       then_at x v kind g _ is (λ asked.
       let r = frames.ResetStream (record { id = id; error_code = code; final_offset = s.pending.offset }) in
       let old : IsFrameTrue x r = (asked.0, told.cuts.written) in
-      true-kept x y (Settled kind (Some r)) v f b r old)
+      true-kept x y (LeftPending kind (Some r)) v f b r old)
 
   window_true : (kind : ControlKind) (id : ℕ) (o : Option Half) (g : Frame) → x.world.receive id ≡ o → Some g ≡ window_frame x.world.window id o → IsTrueThen x v kind g
   window_true kind id None g held k = cc
   window_true kind id (Some h) g held k = by_test (is_open h) k
     where
-      announced_here : (limit : ℕ) (t : Trace) → limit ≤ (moved (move_of (Settled kind (Some (frames.MaxStreamData id limit)))) id t).announced
+      announced_here : (limit : ℕ) (t : Trace) → limit ≤ (moved (move_of (LeftPending kind (Some (frames.MaxStreamData id limit)))) id t).announced
       announced_here limit t = rw (itself id) (omega arith)
 
-      read_here : (limit : ℕ) (t : Trace) → (moved (move_of (Settled kind (Some (frames.MaxStreamData id limit)))) id t).read ≡ t.read
+      read_here : (limit : ℕ) (t : Trace) → (moved (move_of (LeftPending kind (Some (frames.MaxStreamData id limit)))) id t).read ≡ t.read
       read_here limit t = rw (itself id) refl
 
       is_read : (n : ℕ) (t : Trace) (r : Option ℕ) → StreamFrom n t r (Some h) → h.buffer.bytes_read ≡ t.read
@@ -288,7 +288,7 @@ module _ (x y : Endpoint) (v : World) (f : Comes x) where
           let made = f.window in
           (announced_here limit (trace x.calls id), omega arith))
 
-  blocked_true : (kind : ControlKind) (id : ℕ) (o : Option Send) (g : Frame) → x.world.out.halves id ≡ o → Some g ≡ stream_blocked_frame id o → MayAct x y (Settled kind (Some g)) v → IsTrueThen x v kind g
+  blocked_true : (kind : ControlKind) (id : ℕ) (o : Option Send) (g : Frame) → x.world.out.halves id ≡ o → Some g ≡ stream_blocked_frame id o → MayAct x y (LeftPending kind (Some g)) v → IsTrueThen x v kind g
   blocked_true kind id None g held k a = cc
   blocked_true kind id (Some s) g held k a = by_test _ k
     where
@@ -296,48 +296,48 @@ module _ (x y : Endpoint) (v : World) (f : Comes x) where
       by_test false k = cc
       by_test true k =
           let is = some_same g (frames.StreamDataBlocked id s.max_data) k in
-          let P : Frame → Type 0 = λ j. MayAct x y (Settled kind (Some j)) v in
+          let P : Frame → Type 0 = λ j. MayAct x y (LeftPending kind (Some j)) v in
           let told = held-told x.made x.calls x.world v f.from id s held in
           let limit = told.limit in
-          then_at x v kind g (frames.StreamDataBlocked id s.max_data) is (λ asked. true-kept x y (Settled kind (Some (frames.StreamDataBlocked id s.max_data))) v f (subst P is a) (frames.StreamDataBlocked id s.max_data) (omega arith))
+          then_at x v kind g (frames.StreamDataBlocked id s.max_data) is (λ asked. true-kept x y (LeftPending kind (Some (frames.StreamDataBlocked id s.max_data))) v f (subst P is a) (frames.StreamDataBlocked id s.max_data) (omega arith))
 
   data_blocked_true : (kind : ControlKind) (b : Bool) (g : Frame) → Some g ≡ (if b then Some (frames.DataBlocked x.world.out.budget.max_data) else None) → IsTrueThen x v kind g
   data_blocked_true kind true g k = then_at x v kind g (frames.DataBlocked x.world.out.budget.max_data) (some_same g _ k) (λ asked. let l = f.sent.limit in omega arith)
   data_blocked_true kind false g k = cc
 
-  settled_true : (kind : ControlKind) (p q : Pending) (g : Frame) → MayAct x y (Settled kind (Some g)) v → SettlesEntry kind x.world p (Some g) v q → IsTrueThen x v kind g
+  settled_true : (kind : ControlKind) (p q : Pending) (g : Frame) → MayAct x y (LeftPending kind (Some g)) v → SettlesEntry kind x.world p (Some g) v q → IsTrueThen x v kind g
   settled_true kinds.ResetStream p q g a s = reset_true kinds.ResetStream s.id s.code (x.world.out.halves s.id) g refl s.frame a
   settled_true kinds.StopSending p q g a s = then_at x v kinds.StopSending g (frames.StopSending s.stop) (some_same g _ s.frame) (λ asked. inr asked.0)
   settled_true kinds.MaxData p q g a s =
       let is = some_same g _ s.frame in
-      let k = limit-grows x.made x.calls x.world f.from (Settled kinds.MaxData (Some g)) v a.step in
+      let k = limit-grows x.made x.calls x.world f.from (LeftPending kinds.MaxData (Some g)) v a.step in
       then_at x v kinds.MaxData g _ is (λ asked. omega arith)
   settled_true kinds.MaxStreamData p q g a s = window_true kinds.MaxStreamData s.id (x.world.receive s.id) g refl s.frame
   settled_true (kinds.MaxStreams d) p q g a s =
       let is = some_same g _ s.frame in
-      let k = count-grows x.made x.calls x.world f.from (Settled (kinds.MaxStreams d) (Some g)) v a.step d in
+      let k = count-grows x.made x.calls x.world f.from (LeftPending (kinds.MaxStreams d) (Some g)) v a.step d in
       then_at x v (kinds.MaxStreams d) g _ is (λ asked. k)
   settled_true kinds.DataBlocked p q g a s = data_blocked_true kinds.DataBlocked _ g s.frame
   settled_true kinds.StreamDataBlocked p q g a s = blocked_true kinds.StreamDataBlocked s.id (x.world.out.halves s.id) g refl s.frame a
 
 -- ---- every frame
 
-at_one : (x : Endpoint) (g k : Frame) → g ≡ k → IsFrameTrue x k → IsFrameTrue x g
+at_one : (x : LinkedEnd) (g k : Frame) → g ≡ k → IsFrameTrue x k → IsFrameTrue x g
 at_one x g k e t = let P : Frame → Type 0 = λ j. IsFrameTrue x j in subst P (sym e) t
 
-new_true : (x y : Endpoint) (e : Event) (v : World) → Comes x → MayAct x y e v → (g : Frame) → IsOneOf g (written_by x e) → IsFrameTrue (acted x e v) g
-new_true x y (Settled kind (Some k)) v f a g h = at_one (acted x (Settled kind (Some k)) v) g k (only g k h) (settled_true x y v f kind a.step.0 a.step.1 k a a.step.2 a.honest)
-new_true x y (Settled kind None) v f a g h = absurd h
+new_true : (x y : LinkedEnd) (e : Event) (v : World) → Comes x → MayAct x y e v → (g : Frame) → IsOneOf g (written_by x e) → IsFrameTrue (acted x e v) g
+new_true x y (LeftPending kind (Some k)) v f a g h = at_one (acted x (LeftPending kind (Some k)) v) g k (only g k h) (settled_true x y v f kind a.step.0 a.step.1 k a a.step.2 a.honest)
+new_true x y (LeftPending kind None) v f a g h = absurd h
 new_true x y (Sending (TookTurn most fair (Some meta))) v f a g h =
     let k = frame_with (written_on x) meta in
     at_one (acted x (Sending (TookTurn most fair (Some meta))) v) g k (only g k h) (true-kept x y (Sending (TookTurn most fair (Some meta))) v f a k (true-turn x meta f (turn-so x most fair meta v a.step)))
 new_true x y (Sending (TookTurn most fair None)) v f a g h = absurd h
 new_true x y _ v f a g h = absurd h
 
-abbrev pub AllTrue : Endpoint → Type 0
+abbrev pub AllTrue : LinkedEnd → Type 0
 AllTrue x = (g : Frame) → IsOneOf g x.wrote → IsFrameTrue x g
 
-pub true-acted : (x y : Endpoint) (e : Event) (v : World) → Comes x → MayAct x y e v → AllTrue x → AllTrue (acted x e v)
+pub true-acted : (x y : LinkedEnd) (e : Event) (v : World) → Comes x → MayAct x y e v → AllTrue x → AllTrue (acted x e v)
 true-acted x y e v f a t g h = elim (either-of g (written_by x e) x.wrote h) [
   | inl k ↦ new_true x y e v f a g k
   | inr k ↦ true-kept x y e v f a g (t g k)

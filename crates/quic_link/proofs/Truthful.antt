@@ -11,7 +11,7 @@ use Rattle.quic_receiving.specs.Data.{Slice, Carries, is_in_slices, IsData, IsAl
 use Rattle.quic_receiving.specs.Half.{is_all}
 use Rattle.quic_history.specs.History.{ReadChunk, slices, HalfFrom, trace, is_closed}
 use Rattle.quic_history.proofs.StreamSteps.{half-from, known-from}
-use Rattle.quic_link.specs.Endpoints.{Endpoint, came_on, written_on}
+use Rattle.quic_link.specs.Endpoints.{LinkedEnd, came_on, written_on}
 use Rattle.quic_link.specs.Truths.{AreBytesOf, amount_on}
 use Rattle.quic_link.specs.Promises.{given_in_order, TellsTruth, AreReadable}
 use Rattle.quic_link.proofs.Readers.{InRows}
@@ -39,7 +39,7 @@ row_bytes (c ∷ cs) whole r h = by_order c.ordered refl (row_bytes cs whole r.0
     by_order true e before = joined (given_in_order cs) (r.1 e) before
     by_order false e before = before
 
-pub truthful : (x y : Endpoint) → Agrees x y → Agrees y x → (q : ℕ) → TellsTruth x y q
+pub truthful : (x y : LinkedEnd) → Agrees x y → Agrees y x → (q : ℕ) → TellsTruth x y q
 truthful x y s r q =
     let f = r.comes in
     let fits = s.fits q in
@@ -89,7 +89,7 @@ all_read (Some m) n k e i = let j : m ≡ n = cc in let l : (m == k) ≡ true = 
     same_test : (a b : ℕ) → a ≡ b → (a == b) ≡ true
     same_test a b e = grind (arith, nat_tests)
 
-pub readable : (x y : Endpoint) → Agrees x y → Agrees y x → AreReadable x y
+pub readable : (x y : LinkedEnd) → Agrees x y → Agrees y x → AreReadable x y
 readable x y s r q h at running unreset =
     let f = r.comes in
     let fits = s.fits q in

@@ -25,7 +25,7 @@ use Rattle.quic_history.specs.History.{Received, ReceivedReset, Sending, Trace, 
 use Rattle.quic_history.proofs.StreamSteps.{half-from}
 use Rattle.quic_history.proofs.Totals.{once_with, total_with, by_cases, same}
 use Rattle.quic_history.proofs.Traces.{streams-once, quiet, itself}
-use Rattle.quic_link.specs.Endpoints.{Endpoint, IsOneOf, sent_on, came_on}
+use Rattle.quic_link.specs.Endpoints.{LinkedEnd, IsOneOf, sent_on, came_on}
 use Rattle.quic_link.specs.Truths.{IsFrameTrue, IsTrueData, amount_on}
 use Rattle.quic_link.specs.Promises.{IsWelcome, AreWelcome, IsCrowded, RefusesNone}
 use Rattle.quic_link.proofs.Sums.{total-most}
@@ -98,7 +98,7 @@ fit : (size : Option ℕ) (high final : ℕ) → high ≤ final → ((k : ℕ) �
 fit None high final l k = grind (arith, nat_tests)
 fit (Some m) high final l k = let a = k m refl in grind (arith, nat_tests)
 
-module _ (x y : Endpoint) (s : Agrees x y) (r : Agrees y x) where
+module _ (x y : LinkedEnd) (s : Agrees x y) (r : Agrees y x) where
   -- an end opens no more streams than the other permits
   opened_most : (d : Dir) → opened_in_all x.calls d ≤ (remote_of y.world d).max_remote
   opened_most d =
@@ -244,7 +244,7 @@ refused_taken c k e t = let n = sym e ∙ t in cc
 none_some : (c : ℕ) (o : Option ℕ) → o ≡ Some c → o ≡ None → ⊥
 none_some c o e n = let k = sym e ∙ n in cc
 
-module _ (x y : Endpoint) (all : AreWelcome x y) where
+module _ (x y : LinkedEnd) (all : AreWelcome x y) where
   unrefused_frame : (id offset : ℕ) (bytes : List ℕ) (fin : Bool) (error : TransportError) (v : World) → IsOneOf (frames.Stream (record { id = id; offset = offset; fin = fin; bytes = bytes })) x.wrote
       → Receives y.world id offset bytes fin (Err (receive_error.Transport error)) v → (error.code ≡ INTERNAL_ERROR) × IsCrowded v id
   unrefused_frame id offset bytes fin error v k (inl s) = let w = all _ k in absurd (none_some error.code _ s.0 w.0)

@@ -13,13 +13,13 @@ use Rattle.quic_outgoing.specs.Outgoing.{own_of}
 use Rattle.quic_writing.specs.Appended.{frame_with}
 use Rattle.quic_history.specs.World.{World, Made, is_own, remote_of}
 use Rattle.quic_history.specs.SendEvents.{SendEvent, GaveLimits, RaisedData, RaisedCount, RaisedLimit, StoppedOwn, OpenedOwn, WroteOwn, FinishedOwn, AckedOwn, LostOwn, TookTurn}
-use Rattle.quic_history.specs.History.{Event, Received, ReceivedReset, Stopped, Accepted, Settled, Sending, Rejected, SentAgain, Step, Fits, IsStart, Trace, trace, flow}
+use Rattle.quic_history.specs.History.{Event, Received, ReceivedReset, Stopped, Accepted, LeftPending, Sending, Rejected, SentAgain, Step, Fits, IsStart, Trace, trace, flow}
 
 -- made: what the end was made with
 -- calls: the calls on it with their answers, the newest first
 -- world: its value
 -- wrote: the frames that it wrote, the newest first
-pub record Endpoint : Type 0 where
+pub record LinkedEnd : Type 0 where
   pub made : Made
   pub calls : List Event
   pub world : World
@@ -31,20 +31,20 @@ IsOneOf x [] = ⊥
 IsOneOf x (y ∷ ys) = (x ≡ y) ⊎ IsOneOf x ys
 
 -- what the calls tell of the sending side of a stream
-abbrev pub sent_on : Endpoint → ℕ → SendFlow
+abbrev pub sent_on : LinkedEnd → ℕ → SendFlow
 sent_on x q = flow x.made x.calls q
 
 -- what they tell of its receiving side
-abbrev pub came_on : Endpoint → ℕ → Trace
+abbrev pub came_on : LinkedEnd → ℕ → Trace
 came_on x q = trace x.calls q
 
 -- the bytes that were written on a stream
-abbrev pub written_on : Endpoint → ℕ → List ℕ
+abbrev pub written_on : LinkedEnd → ℕ → List ℕ
 written_on x q = concat (sent_on x q).cuts
 
 -- the frames that a call wrote
-abbrev pub written_by : Endpoint → Event → List Frame
-written_by x (Settled kind (Some frame)) = frame ∷ []
+abbrev pub written_by : LinkedEnd → Event → List Frame
+written_by x (LeftPending kind (Some frame)) = frame ∷ []
 written_by x (Sending (TookTurn most fair (Some meta))) = frame_with (written_on x) meta ∷ []
 written_by x _ = []
 
@@ -74,7 +74,7 @@ abbrev pub WasStoppedWith : List Event → ℕ → ℕ → Type 0
 WasStoppedWith calls id code = IsOneOf (Stopped id code (Ok tt)) calls
 
 -- a frame that is written of what is pending was asked for, on a stream that the application was given
-abbrev pub WasAskedFor : Endpoint → Frame → Type 0
+abbrev pub WasAskedFor : LinkedEnd → Frame → Type 0
 WasAskedFor x (frames.ResetStream f) = ((sent_on x f.id).reset ≡ Some f.error_code) × WasGiven x.world f.id
 WasAskedFor x (frames.StopSending f) = WasStoppedWith x.calls f.id f.error_code × WasGiven x.world f.id
 WasAskedFor x (frames.MaxStreamData id limit) = WasGiven x.world id
@@ -93,7 +93,7 @@ limits_of m = record {
 
 -- what end x is told on its sending side comes from end y: its limits, frames that it wrote, a frame that it accepted.
 -- A frame that was lost was written. A write takes bytes, and an end is taken, of streams that the application was given
-abbrev pub IsHonestSending : Endpoint → Endpoint → SendEvent → Type 0
+abbrev pub IsHonestSending : LinkedEnd → LinkedEnd → SendEvent → Type 0
 IsHonestSending x y (GaveLimits limits) = limits ≡ limits_of y.made
 IsHonestSending x y (RaisedData limit) = IsOneOf (frames.MaxData limit) y.wrote
 IsHonestSending x y (RaisedCount dir count answer) = IsOneOf (frames.MaxStreams dir count) y.wrote
@@ -106,27 +106,27 @@ IsHonestSending x y (LostOwn id offsets fin answer) = WasWrittenAs x.wrote id of
 IsHonestSending x y _ = Unit {0}
 
 -- what end x is told comes from end y, and nothing is sent early
-abbrev pub IsHonest : Endpoint → Endpoint → Event → Type 0
+abbrev pub IsHonest : LinkedEnd → LinkedEnd → Event → Type 0
 IsHonest x y (Received id offset bytes fin answer) = IsOneOf (frames.Stream (record { id = id; offset = offset; fin = fin; bytes = bytes })) y.wrote
 IsHonest x y (ReceivedReset id code final answer) = IsOneOf (frames.ResetStream (record { id = id; error_code = code; final_offset = final })) y.wrote
-IsHonest x y (Settled kind (Some frame)) = WasAskedFor x frame
+IsHonest x y (LeftPending kind (Some frame)) = WasAskedFor x frame
 IsHonest x y (Sending e) = IsHonestSending x y e
 IsHonest x y Rejected = ⊥
 IsHonest x y (SentAgain answer) = ⊥
 IsHonest x y _ = Unit {0}
 
 -- end x may be called so, with end y beside it, and have the value v then
-pub record MayAct (x y : Endpoint) (e : Event) (v : World) : Type 0 where
+pub record MayAct (x y : LinkedEnd) (e : Event) (v : World) : Type 0 where
   pub fits : Fits x.calls e
   pub honest : IsHonest x y e
   pub step : Step x.world e v
 
 -- the end once it was
-abbrev pub acted : Endpoint → Event → World → Endpoint
+abbrev pub acted : LinkedEnd → Event → World → LinkedEnd
 acted x e v = record { made = x.made; calls = e ∷ x.calls; world = v; wrote = written_by x e ++ x.wrote }
 
 -- an end that was just made
-pub record IsNewEnd (x : Endpoint) : Type 0 where
+pub record IsNewEnd (x : LinkedEnd) : Type 0 where
   pub start : IsStart x.made x.world
   pub calls : x.calls ≡ []
   pub wrote : x.wrote ≡ []
@@ -134,7 +134,7 @@ pub record IsNewEnd (x : Endpoint) : Type 0 where
 
 -- two ends may have come so far, by calls in any order: each frame that one of them wrote comes to the other as often as
 -- may be, at any time, or never
-pub data Linked : Endpoint → Endpoint → Type 0 where
-  begun : {x y : Endpoint} → IsNewEnd x → IsNewEnd y → y.made.side ≡ other_side x.made.side → Linked x y
-  first_acts : {x y : Endpoint} (e : Event) (v : World) → Linked x y → MayAct x y e v → Linked (acted x e v) y
-  second_acts : {x y : Endpoint} (e : Event) (v : World) → Linked x y → MayAct y x e v → Linked x (acted y e v)
+pub data Linked : LinkedEnd → LinkedEnd → Type 0 where
+  begun : {x y : LinkedEnd} → IsNewEnd x → IsNewEnd y → y.made.side ≡ other_side x.made.side → Linked x y
+  first_acts : {x y : LinkedEnd} (e : Event) (v : World) → Linked x y → MayAct x y e v → Linked (acted x e v) y
+  second_acts : {x y : LinkedEnd} (e : Event) (v : World) → Linked x y → MayAct y x e v → Linked x (acted y e v)

@@ -19,8 +19,8 @@ use Rattle.quic_receiving.specs.declared.errors.ReadableError.TheVariants as rea
 use Rattle.quic_sending.specs.declared.send.WriteError.TheVariants as write_error
 use Rattle.quic_sending.specs.declared.send.FinishError.TheVariants as finish_error
 use Rattle.quic_history.specs.SendEvents.{RaisedCount, RaisedLimit, WroteOwn, FinishedOwn, Polled}
-use Rattle.quic_history.specs.History.{Event, Received, ReceivedReset, Began, Gave, ToldReset, Sending, From, Trace, ReadChunk, slices, EachOnce, is_kept, greatest_limit}
-use Rattle.quic_link.specs.Endpoints.{Endpoint, IsOneOf, MayAct, sent_on, came_on, written_on, WasStoppedWith, WasAskedFor, WasGiven, GaveId}
+use Rattle.quic_history.specs.History.{Event, Received, ReceivedReset, Began, Gave, ToldReset, Sending, From, Trace, ReadChunk, slices, EachOnce, is_frame_kept, greatest_limit}
+use Rattle.quic_link.specs.Endpoints.{LinkedEnd, IsOneOf, MayAct, sent_on, came_on, written_on, WasStoppedWith, WasAskedFor, WasGiven, GaveId}
 use Rattle.quic_link.specs.Truths.{AreBytesOf, IsFrameTrue, amount_on}
 
 -- a STREAM frame with the byte at an offset was answered Ok
@@ -40,13 +40,13 @@ pub record EndCame (calls : List Event) (id : ℕ) : Type 0 where
   pub is : IsOneOf (Received id offset bytes true (Ok transmit)) calls
 
 -- all that x wrote on a stream came to y: it was finished, and frames with every byte and with the end were answered Ok
-pub record CameWhole (x y : Endpoint) (q : ℕ) : Type 0 where
+pub record CameWhole (x y : LinkedEnd) (q : ℕ) : Type 0 where
   pub finished : (sent_on x q).finished ≡ true
   pub bytes : (at : ℕ) → at < amount_on x q → CameAt y.calls q at
   pub end : EndCame y.calls q
 
 -- what the application is told of a stream is true: where it is finished all of it came, and a stop was asked for
-abbrev pub IsTrueEvent : Endpoint → Endpoint → StreamEvent → Type 0
+abbrev pub IsTrueEvent : LinkedEnd → LinkedEnd → StreamEvent → Type 0
 IsTrueEvent x y (stream_event.Finished id) = CameWhole x y id
 IsTrueEvent x y (stream_event.Stopped id code) = WasStoppedWith y.calls id code
 IsTrueEvent x y _ = Unit {0}
@@ -63,7 +63,7 @@ IsWelcome w (frames.MaxStreams d count) = count ≤ 2 ^ 60
 IsWelcome w _ = Unit {0}
 
 -- no frame that x ever wrote is refused by y now
-abbrev pub AreWelcome : Endpoint → Endpoint → Type 0
+abbrev pub AreWelcome : LinkedEnd → LinkedEnd → Type 0
 AreWelcome x y = (g : Frame) → IsOneOf g x.wrote → IsWelcome y.world g
 
 -- too many pieces are held of a stream
@@ -81,7 +81,7 @@ IsUnrefused (Sending (RaisedLimit id limit (Err (receive_error.Transport error))
 IsUnrefused _ v = Unit {0}
 
 -- so no call of y may be answered otherwise
-abbrev pub RefusesNone : Endpoint → Endpoint → Type 0
+abbrev pub RefusesNone : LinkedEnd → LinkedEnd → Type 0
 RefusesNone x y = (e : Event) (v : World) → MayAct y x e v → IsUnrefused e v
 
 -- the bytes of the chunks that were read in order, joined; the newest chunk is the first of the list
@@ -90,7 +90,7 @@ given_in_order [] = []
 given_in_order (c ∷ cs) = if c.ordered then given_in_order cs ++ c.bytes else given_in_order cs
 
 -- what y was told of a stream is true of x, and what x was told of y
-pub record TellsTruth (x y : Endpoint) (q : ℕ) : Type 0 where
+pub record TellsTruth (x y : LinkedEnd) (q : ℕ) : Type 0 where
   -- ordered reads gave a beginning of what was written
   pub beginning : AreBytesOf 0 (given_in_order (came_on y q).given) (written_on x q)
   -- each byte that was given is what was written at its place
@@ -113,7 +113,7 @@ pub record KeptAt (calls : List Event) (id at : ℕ) : Type 0 where
   pub fin : Bool
   pub answer : Result ShouldTransmit ReceiveError
   pub is : IsOneOf (Received id offset bytes fin answer) calls
-  pub kept : is_kept answer ≡ true
+  pub kept : is_frame_kept answer ≡ true
   pub has : lies offset (offset + length bytes) at ≡ true
 
 -- one with the end was
@@ -122,10 +122,10 @@ pub record EndKept (calls : List Event) (id : ℕ) : Type 0 where
   pub bytes : List ℕ
   pub answer : Result ShouldTransmit ReceiveError
   pub is : IsOneOf (Received id offset bytes true answer) calls
-  pub kept : is_kept answer ≡ true
+  pub kept : is_frame_kept answer ≡ true
 
 -- nothing that was kept is withheld from reads
-pub record IsReadable (x y : Endpoint) (q : ℕ) (h : Half) : Type 0 where
+pub record IsReadable (x y : LinkedEnd) (q : ℕ) (h : Half) : Type 0 where
   -- in order, the next byte is there
   pub next : h.buffer.ordered ≡ true → KeptAt y.calls q h.buffer.bytes_read → IsHeld (Holds h.buffer) h.buffer.bytes_read
   -- as bytes come, each that was not given
@@ -134,12 +134,12 @@ pub record IsReadable (x y : Endpoint) (q : ℕ) (h : Half) : Type 0 where
   pub end : EndKept y.calls q → IsAllGiven (slices (came_on y q).given) (amount_on x q) → is_all h.size h.buffer.bytes_read ≡ true
 
 -- so on each stream that its reader did not stop, and of which no reset came
-abbrev pub AreReadable : Endpoint → Endpoint → Type 0
+abbrev pub AreReadable : LinkedEnd → LinkedEnd → Type 0
 AreReadable x y = (q : ℕ) (h : Half) → y.world.receive q ≡ Some h → h.stopped ≡ false → h.reset ≡ None → IsReadable x y q h
 
 -- how many frames of a stream a call kept, and all calls
 abbrev pub frames_kept : Event → ℕ → ℕ
-frames_kept (Received id offset bytes fin answer) q = if (q == id) && is_kept answer then 1 else 0
+frames_kept (Received id offset bytes fin answer) q = if (q == id) && is_frame_kept answer then 1 else 0
 frames_kept _ q = 0
 
 abbrev pub kept_count : List Event → ℕ → ℕ
@@ -156,7 +156,7 @@ IsOver t = (t.ended ≡ true) ⊎ ((t.stopped ≡ true) ⊎ (is_some t.reset ≡
 
 -- there is nothing to read on a stream: in order, the next byte was not kept, and as bytes come, none that was not given;
 -- and the end was not kept, or not every byte was given
-pub record HasNothingToRead (x y : Endpoint) (q : ℕ) (ordered : Bool) : Type 0 where
+pub record HasNothingToRead (x y : LinkedEnd) (q : ℕ) (ordered : Bool) : Type 0 where
   pub next : ordered ≡ true → KeptAt x.calls q (came_on x q).read → ⊥
   pub any : ordered ≡ false → (at : ℕ) → KeptAt x.calls q at → is_in_slices (slices (came_on x q).given) at ≡ false → ⊥
   pub end : EndKept x.calls q → IsAllGiven (slices (came_on x q).given) (amount_on y q) → ⊥
@@ -164,7 +164,7 @@ pub record HasNothingToRead (x y : Endpoint) (q : ℕ) (ordered : Bool) : Type 0
 -- what x is answered is true: reads are blocked only where there is nothing to read; an end, a reset and a stop are those
 -- of y; a stream that x receives on is closed only where it is over; an ordered read is refused only after an unordered
 -- one; and there are too many pieces on a stream that was read in order only where more than 1024 of its frames were kept
-abbrev pub IsTrueAnswer : Endpoint → Endpoint → Event → Type 0
+abbrev pub IsTrueAnswer : LinkedEnd → LinkedEnd → Event → Type 0
 IsTrueAnswer x y (Gave id most ordered (Ok None)) = ((sent_on y id).finished ≡ true) × IsAllGiven (slices (came_on x id).given) (amount_on y id)
 IsTrueAnswer x y (Gave id most ordered (Err read_error.Blocked)) = HasNothingToRead x y id ordered
 IsTrueAnswer x y (Gave id most ordered (Err (read_error.Reset code))) = (sent_on y id).reset ≡ Some code
@@ -177,18 +177,18 @@ IsTrueAnswer x y (Sending (FinishedOwn id (Err (finish_error.Stopped code)))) = 
 IsTrueAnswer x y (Sending (Polled (Some g))) = IsTrueEvent x y g
 IsTrueAnswer x y _ = Unit {0}
 
-abbrev pub AnswersTrue : Endpoint → Endpoint → Type 0
+abbrev pub AnswersTrue : LinkedEnd → LinkedEnd → Type 0
 AnswersTrue x y = (e : Event) (v : World) → MayAct x y e v → IsTrueAnswer x y e
 
 -- the limits that x was given are those that y enforces, or lower: on a stream what was read and the window
-pub record IsPermitted (x y : Endpoint) : Type 0 where
+pub record IsPermitted (x y : LinkedEnd) : Type 0 where
   pub all : greatest_limit x.calls ≤ y.world.credit.local_max_data
   pub each : (q : ℕ) → (sent_on x q).limit ≤ (came_on y q).read + y.made.window
 
 -- what holds of two ends as x sends and y receives: x may come from its calls, and its application was given what `open`
 -- and `accept` answered; every frame that x wrote is true of it, was asked for, and is welcome; no call is refused; what
 -- is told and answered is true, what was kept may be read, and the limits of x are within those of y
-pub record Promises (x y : Endpoint) : Type 0 where
+pub record Promises (x y : LinkedEnd) : Type 0 where
   pub comes : From x.made x.calls x.world
   pub given : (id : ℕ) → WasGiven x.world id ↔ GaveId x.calls id
   pub frames_true : (g : Frame) → IsOneOf g x.wrote → IsFrameTrue x g

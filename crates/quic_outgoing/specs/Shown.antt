@@ -4,8 +4,8 @@ use Rattle.quic_outgoing.specs.Outgoing.{Outgoing}
 use Rattle.quic_outgoing.specs.Seen.{senders, sender_room}
 use Rattle.quic_outgoing.specs.declared.outgoing.OutgoingStreams.{OutgoingStreams}
 
-unfoldable pub view_of : OutgoingStreams → Outgoing
-view_of s = record {
+unfoldable pub outgoing_view : OutgoingStreams → Outgoing
+outgoing_view s = record {
   side = s.halves.side;
   own_bi = s.own_bi;
   own_uni = s.own_uni;

@@ -7,7 +7,7 @@ ghost use Rattle.quic_outgoing.specs.Seen.{senders, sender_room, sender_in};
 ghost use Rattle.quic_outgoing.specs.Acknowledging.{AcksStream, LosesOnStream, MayWantMemory, LossMayWantMemory, is_given_up, without_given_up};
 ghost use Rattle.quic_outgoing.specs.Reports.{AcksOn, AcksIn, LosesOn, LosesIn};
 ghost use Rattle.quic_outgoing.specs.History.{AckedFrame, LostFrame, ResetAcked, Continues};
-ghost use Rattle.quic_outgoing.specs.Shown.{view_of, permit_room};
+ghost use Rattle.quic_outgoing.specs.Shown.{outgoing_view, permit_room};
 
 use crate::closing::queue_at;
 use crate::entries::SendEntries;
@@ -18,7 +18,7 @@ use quic_values::{OutOfMemory, StreamId, VarInt};
 use std::alloc::Global;
 use std::ops::Range;
 
-#[tactic(auto, unfolding(crate::specs::Shown::view_of, crate::specs::Shown::permit_room), using(crate::proofs::SenderMaps::sender_steps, crate::proofs::Histories::continues))]
+#[tactic(auto, unfolding(crate::specs::Shown::outgoing_view, crate::specs::Shown::permit_room), using(crate::proofs::SenderMaps::sender_steps, crate::proofs::Histories::continues))]
 impl OutgoingStreams {
     /// A STREAM frame with these offsets, and with the end or not, was acknowledged (RFC 9000 section 13.3). They are not
     /// sent again, and what is retained no more counts no more for the send window. Answers whether by this the end and
@@ -27,9 +27,9 @@ impl OutgoingStreams {
     /// The report of a stream that is closed or was reset, or of offsets that were not sent, changes nothing. If refused,
     /// all is as it was. Memory is wanted only for offsets behind a gap, or where nothing was done on the stream.
     pub fn ack(&mut self, id: StreamId, offsets: Range<u64>, fin: bool) -> Result<bool, OutOfMemory>
-        ensures acks { AcksStream (view_of self.old) id offsets fin result (view_of self.new) }
-        ensures memory { OnErr result (MayWantMemory offsets ((view_of self.old).halves id)) }
-        ensures from { Continues (view_of self.old) (AckedFrame id offsets fin result) (view_of self.new) }
+        ensures acks { AcksStream (outgoing_view self.old) id offsets fin result (outgoing_view self.new) }
+        ensures memory { OnErr result (MayWantMemory offsets ((outgoing_view self.old).halves id)) }
+        ensures from { Continues (outgoing_view self.old) (AckedFrame id offsets fin result) (outgoing_view self.new) }
         ensures room { permit_room self.old ≤ permit_room self.new }
     {
         self.take_ack(id, offsets, fin)
@@ -43,8 +43,8 @@ impl OutgoingStreams {
         offsets: Range<u64>,
         fin: bool,
     ) -> Result<bool, OutOfMemory>
-        ensures acks { AcksStream (view_of self.old) id offsets fin result (view_of self.new) }
-        ensures memory { OnErr result (MayWantMemory offsets ((view_of self.old).halves id)) }
+        ensures acks { AcksStream (outgoing_view self.old) id offsets fin result (outgoing_view self.new) }
+        ensures memory { OnErr result (MayWantMemory offsets ((outgoing_view self.old).halves id)) }
         ensures room { permit_room self.old ≤ permit_room self.new }
     {
         match self.halves.ack(id, offsets, fin) {
@@ -73,9 +73,9 @@ impl OutgoingStreams {
         offsets: Range<u64>,
         fin: bool,
     ) -> Result<Option<i32>, OutOfMemory>
-        ensures loses { LosesOnStream (view_of self.old) id offsets fin result (view_of self.new) }
-        ensures memory { OnErr result (LossMayWantMemory offsets ((view_of self.old).halves id)) }
-        ensures from { Continues (view_of self.old) (LostFrame id offsets fin result) (view_of self.new) }
+        ensures loses { LosesOnStream (outgoing_view self.old) id offsets fin result (outgoing_view self.new) }
+        ensures memory { OnErr result (LossMayWantMemory offsets ((outgoing_view self.old).halves id)) }
+        ensures from { Continues (outgoing_view self.old) (LostFrame id offsets fin result) (outgoing_view self.new) }
     {
         self.take_loss(id, offsets, fin)
     }
@@ -88,8 +88,8 @@ impl OutgoingStreams {
         offsets: Range<u64>,
         fin: bool,
     ) -> Result<Option<i32>, OutOfMemory>
-        ensures loses { LosesOnStream (view_of self.old) id offsets fin result (view_of self.new) }
-        ensures memory { OnErr result (LossMayWantMemory offsets ((view_of self.old).halves id)) }
+        ensures loses { LosesOnStream (outgoing_view self.old) id offsets fin result (outgoing_view self.new) }
+        ensures memory { OnErr result (LossMayWantMemory offsets ((outgoing_view self.old).halves id)) }
     {
         self.halves.lose(id, offsets, fin)
     }
@@ -97,16 +97,16 @@ impl OutgoingStreams {
     /// Whether a stream was reset and its half is still held.
     #[inline]
     pub fn is_reset(&self, id: StreamId) -> bool
-        ensures { result ≡ is_given_up ((view_of self.now).halves id) }
+        ensures { result ≡ is_given_up ((outgoing_view self.now).halves id) }
     {
         self.halves.is_reset(id)
     }
 
     /// The RESET_STREAM of a stream was acknowledged: the half of one that was reset is let go. Answers whether one was.
     pub fn reset_acked(&mut self, id: StreamId) -> bool
-        ensures told { result ≡ is_given_up ((view_of self.old).halves id) }
-        ensures without { view_of self.new ≡ without_given_up (view_of self.old) id }
-        ensures from { Continues (view_of self.old) (ResetAcked id result) (view_of self.new) }
+        ensures told { result ≡ is_given_up ((outgoing_view self.old).halves id) }
+        ensures without { outgoing_view self.new ≡ without_given_up (outgoing_view self.old) id }
+        ensures from { Continues (outgoing_view self.old) (ResetAcked id result) (outgoing_view self.new) }
         ensures room { permit_room self.old ≤ permit_room self.new }
     {
         let given_up = self.is_reset(id);

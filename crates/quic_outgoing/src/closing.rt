@@ -2,10 +2,10 @@
 
 ghost use Rattle.std.specs.Prelude.{◌≡◌, ◌≤◌, ◌<◌, Some, IfOk, IfErr, OnErr};
 ghost use Rattle.quic_outgoing.specs.History.{Finished, Reset, SetPriority, Continues};
-ghost use Rattle.quic_retransmits.specs.Pending.{shown_pending};
+ghost use Rattle.quic_retransmits.specs.Pending.{pending_view};
 ghost use Rattle.quic_outgoing.specs.Seen.{senders, sender_room, sender_in};
 ghost use Rattle.quic_outgoing.specs.Calls.{QueuesAt, QueuesStreamAt, EndsHalf, EndsHalfIn, IsEndRefused, FinishesStream, ResetsStream, SetsPriority, told_of_half};
-ghost use Rattle.quic_outgoing.specs.Shown.{view_of, permit_room};
+ghost use Rattle.quic_outgoing.specs.Shown.{outgoing_view, permit_room};
 
 use crate::entries::SendEntries;
 use crate::outgoing::OutgoingStreams;
@@ -16,13 +16,13 @@ use quic_sending::{ClosedStream, FinishError, Send};
 use quic_values::{StreamId, VarInt};
 use std::alloc::Global;
 
-#[tactic(auto, unfolding(crate::specs::Shown::view_of, crate::specs::Shown::permit_room), using(crate::proofs::SenderMaps::sender_steps, crate::proofs::Histories::continues))]
+#[tactic(auto, unfolding(crate::specs::Shown::outgoing_view, crate::specs::Shown::permit_room), using(crate::proofs::SenderMaps::sender_steps, crate::proofs::Histories::continues))]
 impl OutgoingStreams {
     /// Ends a stream: its end is to be sent, and nothing more is written. Answers the priority at which it is to be
     /// queued, where nothing was to be sent on it before. If refused, all is as it was.
     pub fn finish(&mut self, id: StreamId) -> Result<Option<i32>, FinishError>
-        ensures finishes { FinishesStream (view_of self.old) id result (view_of self.new) }
-        ensures from { Continues (view_of self.old) (Finished id result) (view_of self.new) }
+        ensures finishes { FinishesStream (outgoing_view self.old) id result (outgoing_view self.new) }
+        ensures from { Continues (outgoing_view self.old) (Finished id result) (outgoing_view self.new) }
     {
         self.halves.finish(id)
     }
@@ -35,8 +35,8 @@ impl OutgoingStreams {
         id: StreamId,
         error_code: VarInt,
     ) -> Result<(), HandleError>
-        ensures resets { ResetsStream (view_of self.old) id error_code (shown_pending pending.old) result (view_of self.new) (shown_pending pending.new) }
-        ensures from { Continues (view_of self.old) (Reset id error_code result) (view_of self.new) }
+        ensures resets { ResetsStream (outgoing_view self.old) id error_code (pending_view pending.old) result (outgoing_view self.new) (pending_view pending.new) }
+        ensures from { Continues (outgoing_view self.old) (Reset id error_code result) (outgoing_view self.new) }
     {
         self.give_up(pending, id, error_code)
     }
@@ -48,7 +48,7 @@ impl OutgoingStreams {
         id: StreamId,
         error_code: VarInt,
     ) -> Result<(), HandleError>
-        ensures { ResetsStream (view_of self.old) id error_code (shown_pending pending.old) result (view_of self.new) (shown_pending pending.new) }
+        ensures { ResetsStream (outgoing_view self.old) id error_code (pending_view pending.old) result (outgoing_view self.new) (pending_view pending.new) }
     {
         if pending.reserve_reset().is_err() {
             return Err(HandleError::OutOfMemory);
@@ -74,8 +74,8 @@ impl OutgoingStreams {
 
     /// Sets the priority at which a stream is queued from now on: a higher one is sent first.
     pub fn set_priority(&mut self, id: StreamId, priority: i32) -> Result<(), HandleError>
-        ensures sets { SetsPriority (view_of self.old) id priority result (view_of self.new) }
-        ensures from { Continues (view_of self.old) (SetPriority id priority result) (view_of self.new) }
+        ensures sets { SetsPriority (outgoing_view self.old) id priority result (outgoing_view self.new) }
+        ensures from { Continues (outgoing_view self.old) (SetPriority id priority result) (outgoing_view self.new) }
     {
         match self.halves.take(id) {
             Err(_) => Err(HandleError::OutOfMemory),
@@ -91,7 +91,7 @@ impl OutgoingStreams {
 
     /// The priority of a stream: the one that was set last, at first 0.
     pub fn priority(&self, id: StreamId) -> Result<i32, ClosedStream>
-        ensures { result ≡ told_of_half (λ s. s.priority) ((view_of self.now).halves id) }
+        ensures { result ≡ told_of_half (λ s. s.priority) ((outgoing_view self.now).halves id) }
     {
         self.halves.priority(id)
     }
@@ -100,7 +100,7 @@ impl OutgoingStreams {
     /// or the stream is not held.
     #[inline]
     pub fn queue_place(&self, id: StreamId) -> Option<i32>
-        ensures { QueuesStreamAt ((view_of self.now).halves id) result }
+        ensures { QueuesStreamAt ((outgoing_view self.now).halves id) result }
     {
         self.halves.queue_place(id)
     }

@@ -3,18 +3,18 @@
 ghost use Rattle.std.specs.Prelude.{◌≡◌, ◌≤◌};
 ghost use Rattle.quic_outgoing.specs.Early.{after_rejection, with_all_unsent, NoneAcked, QueuesUnsent};
 ghost use Rattle.quic_outgoing.specs.History.{RejectedEarly, Unsent, Continues};
-ghost use Rattle.quic_outgoing.specs.Shown.{view_of, permit_room};
+ghost use Rattle.quic_outgoing.specs.Shown.{outgoing_view, permit_room};
 
 use crate::outgoing::OutgoingStreams;
 use quic_values::StreamId;
 
-#[tactic(auto, unfolding(crate::specs::Shown::view_of, crate::specs::Shown::permit_room), using(crate::proofs::Histories::continues))]
+#[tactic(auto, unfolding(crate::specs::Shown::outgoing_view, crate::specs::Shown::permit_room), using(crate::proofs::Histories::continues))]
 impl OutgoingStreams {
     /// The peer rejected an early start: no stream of this end is open, nothing was sent, and no limit is held. Takes no
     /// memory.
     pub fn reject_early(&mut self)
-        ensures rejects { view_of self.new ≡ after_rejection (view_of self.old) }
-        ensures from { Continues (view_of self.old) RejectedEarly (view_of self.new) }
+        ensures rejects { outgoing_view self.new ≡ after_rejection (outgoing_view self.old) }
+        ensures from { Continues (outgoing_view self.old) RejectedEarly (outgoing_view self.new) }
         ensures room { permit_room self.old ≤ permit_room self.new }
     {
         self.own_bi.reset();
@@ -27,7 +27,7 @@ impl OutgoingStreams {
     /// The priority at which a stream is to be queued once all counts as not sent that was sent on it: none, where it has
     /// nothing to be sent, or had something before.
     pub fn queue_unsent(&self, id: StreamId) -> Option<i32>
-        ensures { QueuesUnsent ((view_of self.now).halves id) result }
+        ensures { QueuesUnsent ((outgoing_view self.now).halves id) result }
     {
         self.halves.queue_unsent(id)
     }
@@ -35,8 +35,8 @@ impl OutgoingStreams {
     /// All that was sent on the streams of this end counts as not sent, and nothing as lost. A stream of which something
     /// was acknowledged stays as it is. Takes no memory.
     pub fn unsend_all(&mut self)
-        ensures unsends { NoneAcked (view_of self.old).side (view_of self.old).halves → view_of self.new ≡ with_all_unsent (view_of self.old) }
-        ensures from { NoneAcked (view_of self.old).side (view_of self.old).halves → Continues (view_of self.old) Unsent (view_of self.new) }
+        ensures unsends { NoneAcked (outgoing_view self.old).side (outgoing_view self.old).halves → outgoing_view self.new ≡ with_all_unsent (outgoing_view self.old) }
+        ensures from { NoneAcked (outgoing_view self.old).side (outgoing_view self.old).halves → Continues (outgoing_view self.old) Unsent (outgoing_view self.new) }
         ensures room { permit_room self.old ≤ permit_room self.new }
     {
         self.halves.unsend_all();

@@ -6,7 +6,7 @@ ghost use Rattle.quic_values.specs.Ids.{dir_of, index_of};
 ghost use Rattle.quic_outgoing.specs.Outgoing.{no_streams, with_send_half, fresh_sender, own_of, with_params};
 ghost use Rattle.quic_outgoing.specs.Calls.{OpensStream, RaisesStreams, told_of_half, blocked_limit};
 ghost use Rattle.quic_outgoing.specs.History.{Permitted, Removed, GaveParams, Opened, GaveData, GaveStreams, SetWindow, ComesFrom, Continues};
-ghost use Rattle.quic_outgoing.specs.Shown.{view_of, permit_room};
+ghost use Rattle.quic_outgoing.specs.Shown.{outgoing_view, permit_room};
 
 use crate::entries::{FirstLimits, SendEntries};
 use crate::limits::PeerLimits;
@@ -30,13 +30,13 @@ pub struct OutgoingStreams {
     pub(crate) blocked: Vec<StreamId>,
 }
 
-#[tactic(auto, unfolding(crate::specs::Shown::view_of, crate::specs::Shown::permit_room), using(crate::proofs::SenderMaps::sender_steps, crate::proofs::Histories::continues, crate::proofs::Histories::starts))]
+#[tactic(auto, unfolding(crate::specs::Shown::outgoing_view, crate::specs::Shown::permit_room), using(crate::proofs::SenderMaps::sender_steps, crate::proofs::Histories::continues, crate::proofs::Histories::starts))]
 impl OutgoingStreams {
     /// No streams. Nothing may be sent until the peer gives limits. At most `send_window` written bytes are to be
     /// retained. Takes no memory.
     pub fn new(alloc: Global, side: Side, send_window: u64) -> Self
-        ensures none { view_of result ≡ no_streams side send_window }
-        ensures from { ComesFrom side send_window [] (view_of result) }
+        ensures none { outgoing_view result ≡ no_streams side send_window }
+        ensures from { ComesFrom side send_window [] (outgoing_view result) }
     {
         OutgoingStreams {
             own_bi: OwnStreams::new(),
@@ -49,7 +49,7 @@ impl OutgoingStreams {
 
     /// Makes room to permit so many more streams.
     pub fn reserve(&mut self, additional: usize) -> Result<(), OutOfMemory>
-        ensures same { view_of self.new ≡ view_of self.old }
+        ensures same { outgoing_view self.new ≡ outgoing_view self.old }
         ensures ok { OnOk result (additional ≤ permit_room self.new) }
         ensures room { permit_room self.old ≤ permit_room self.new }
     {
@@ -59,24 +59,24 @@ impl OutgoingStreams {
     /// The peer may open a stream, for which room was made. Its half takes no memory until it is used.
     pub fn permit(&mut self, id: StreamId)
         requires { 0 < permit_room self.old }
-        ensures permitted { view_of self.new ≡ with_send_half (view_of self.old) id (Some (fresh_sender (view_of self.old) id)) }
+        ensures permitted { outgoing_view self.new ≡ with_send_half (outgoing_view self.old) id (Some (fresh_sender (outgoing_view self.old) id)) }
         ensures room { permit_room self.old ≤ permit_room self.new + 1 }
-        ensures from { Continues (view_of self.old) (Permitted id) (view_of self.new) }
+        ensures from { Continues (outgoing_view self.old) (Permitted id) (outgoing_view self.new) }
     {
         self.halves.permit(id);
     }
 
     /// Whether the send half of a stream is held.
     pub fn contains(&self, id: StreamId) -> bool
-        ensures { result ≡ is_some ((view_of self.now).halves id) }
+        ensures { result ≡ is_some ((outgoing_view self.now).halves id) }
     {
         self.halves.contains(id)
     }
 
     /// Lets the send half of a stream go: it is sent on no more.
     pub fn remove(&mut self, id: StreamId)
-        ensures removed { view_of self.new ≡ with_send_half (view_of self.old) id None }
-        ensures from { Continues (view_of self.old) (Removed id) (view_of self.new) }
+        ensures removed { outgoing_view self.new ≡ with_send_half (outgoing_view self.old) id None }
+        ensures from { Continues (outgoing_view self.old) (Removed id) (outgoing_view self.new) }
         ensures room { permit_room self.old ≤ permit_room self.new }
     {
         self.halves.remove(id);
@@ -86,8 +86,8 @@ impl OutgoingStreams {
     /// held: of both counts of streams, of the data of the connection, and of each stream, whether it is open, permitted
     /// or comes later. However many streams are held, this takes the same time.
     pub fn set_params(&mut self, params: &PeerLimits)
-        ensures params { view_of self.new ≡ with_params (view_of self.old) params.now }
-        ensures from { Continues (view_of self.old) (GaveParams params.now) (view_of self.new) }
+        ensures params { outgoing_view self.new ≡ with_params (outgoing_view self.old) params.now }
+        ensures from { Continues (outgoing_view self.old) (GaveParams params.now) (outgoing_view self.new) }
     {
         let _ = self
             .own_bi
@@ -106,8 +106,8 @@ impl OutgoingStreams {
     /// Opens the next stream of a direction. `None`: as many were opened as the peer permits (RFC 9000 section 4.6). If
     /// refused, nothing is opened.
     pub fn open(&mut self, dir: Dir) -> Result<Option<StreamId>, OutOfMemory>
-        ensures opens { OpensStream (view_of self.old) dir result (view_of self.new) }
-        ensures from { Continues (view_of self.old) (Opened dir result) (view_of self.new) }
+        ensures opens { OpensStream (outgoing_view self.old) dir result (outgoing_view self.new) }
+        ensures from { Continues (outgoing_view self.old) (Opened dir result) (outgoing_view self.new) }
     {
         if self.opened(dir) >= self.max_streams(dir) {
             return Ok(None);
@@ -129,7 +129,7 @@ impl OutgoingStreams {
 
     /// How many streams of a direction this end opened.
     pub fn opened(&self, dir: Dir) -> u64
-        ensures count { result ≡ (own_of (view_of self.now) dir).opened }
+        ensures count { result ≡ (own_of (outgoing_view self.now) dir).opened }
         ensures small { result ≤ 2 ^ 60 }
     {
         match dir {
@@ -140,7 +140,7 @@ impl OutgoingStreams {
 
     /// How many streams of a direction this end may open in all.
     pub fn max_streams(&self, dir: Dir) -> u64
-        ensures { result ≡ (own_of (view_of self.now) dir).limit }
+        ensures { result ≡ (own_of (outgoing_view self.now) dir).limit }
     {
         match dir {
             Dir::Bi => self.own_bi.limit(),
@@ -150,15 +150,15 @@ impl OutgoingStreams {
 
     /// Whether the index of a stream is at least the number of streams of its direction that this end opened.
     pub fn is_local_unopened(&self, id: StreamId) -> bool
-        ensures { result ≡ nat_le (own_of (view_of self.now) (dir_of id)).opened (index_of id) }
+        ensures { result ≡ nat_le (own_of (outgoing_view self.now) (dir_of id)).opened (index_of id) }
     {
         id.index() >= self.opened(id.dir())
     }
 
     /// The peer sent MAX_DATA (RFC 9000 section 19.9). A limit does not fall.
     pub fn raise_data(&mut self, limit: VarInt)
-        ensures limit { view_of self.new ≡ record (view_of self.old) { budget = with_limit (view_of self.old).budget limit } }
-        ensures from { Continues (view_of self.old) (GaveData limit) (view_of self.new) }
+        ensures limit { outgoing_view self.new ≡ record (outgoing_view self.old) { budget = with_limit (outgoing_view self.old).budget limit } }
+        ensures from { Continues (outgoing_view self.old) (GaveData limit) (outgoing_view self.new) }
     {
         let _ = self.budget.raise(limit);
     }
@@ -166,8 +166,8 @@ impl OutgoingStreams {
     /// The peer sent MAX_STREAMS (RFC 9000 section 19.11). Answers whether more streams may be opened than before. A
     /// count above 2^60 is a FRAME_ENCODING_ERROR.
     pub fn raise_streams(&mut self, dir: Dir, count: u64) -> Result<bool, TransportError>
-        ensures raises { RaisesStreams (view_of self.old) dir count result (view_of self.new) }
-        ensures from { Continues (view_of self.old) (GaveStreams dir count result) (view_of self.new) }
+        ensures raises { RaisesStreams (outgoing_view self.old) dir count result (outgoing_view self.new) }
+        ensures from { Continues (outgoing_view self.old) (GaveStreams dir count result) (outgoing_view self.new) }
     {
         if count > MAX_STREAM_COUNT {
             return Err(TransportError::frame_encoding_error("unrepresentable stream limit"));
@@ -182,29 +182,29 @@ impl OutgoingStreams {
     /// what the send window leave.
     #[inline]
     pub fn write_limit(&self) -> u64
-        ensures { result ≡ writable (view_of self.now).budget }
+        ensures { result ≡ writable (outgoing_view self.now).budget }
     {
         self.budget.write_limit()
     }
 
     /// Sets how many written bytes may be retained.
     pub fn set_send_window(&mut self, send_window: u64)
-        ensures window { view_of self.new ≡ record (view_of self.old) { budget = with_window (view_of self.old).budget send_window } }
-        ensures from { Continues (view_of self.old) (SetWindow send_window) (view_of self.new) }
+        ensures window { outgoing_view self.new ≡ record (outgoing_view self.old) { budget = with_window (outgoing_view self.old).budget send_window } }
+        ensures from { Continues (outgoing_view self.old) (SetWindow send_window) (outgoing_view self.new) }
     {
         self.budget.set_send_window(send_window);
     }
 
     /// Whether DATA_BLOCKED was queued for the limit that is held.
     pub fn can_send_data_blocked(&self) -> bool
-        ensures { result ≡ is_blocked_reported (view_of self.now).budget }
+        ensures { result ≡ is_blocked_reported (outgoing_view self.now).budget }
     {
         self.budget.is_blocked()
     }
 
     /// How many bytes the peer permits on all streams together.
     pub fn max_data(&self) -> VarInt
-        ensures { result ≡ (view_of self.now).budget.max_data }
+        ensures { result ≡ (outgoing_view self.now).budget.max_data }
     {
         VarInt::new(self.budget.max_data())
     }

@@ -4,20 +4,20 @@ ghost use Rattle.std.specs.Prelude.{◌≡◌};
 ghost use Rattle.std.specs.Option.{option_map};
 ghost use Rattle.quic_outgoing.specs.Calls.{RaisesStream, StopsSending, told_of_half, blocked_limit};
 ghost use Rattle.quic_outgoing.specs.History.{WasStopped, GaveStream, Continues};
-ghost use Rattle.quic_outgoing.specs.Shown.{view_of, permit_room};
+ghost use Rattle.quic_outgoing.specs.Shown.{outgoing_view, permit_room};
 
 use crate::outgoing::OutgoingStreams;
 use crate::waiting::join_waiting;
 use quic_sending::{ClosedStream, Send};
 use quic_values::{OutOfMemory, StreamId, VarInt};
 
-#[tactic(auto, unfolding(crate::specs::Shown::view_of, crate::specs::Shown::permit_room), using(crate::proofs::SenderMaps::sender_steps, crate::proofs::Histories::continues))]
+#[tactic(auto, unfolding(crate::specs::Shown::outgoing_view, crate::specs::Shown::permit_room), using(crate::proofs::SenderMaps::sender_steps, crate::proofs::Histories::continues))]
 impl OutgoingStreams {
     /// The peer sent STOP_SENDING (RFC 9000 section 19.5). Answers whether it is the first on a stream that is held, of
     /// which the application is to be told.
     pub fn stop(&mut self, id: StreamId, error_code: VarInt) -> Result<bool, OutOfMemory>
-        ensures stops { StopsSending (view_of self.old) id error_code result (view_of self.new) }
-        ensures from { Continues (view_of self.old) (WasStopped id error_code result) (view_of self.new) }
+        ensures stops { StopsSending (outgoing_view self.old) id error_code result (outgoing_view self.new) }
+        ensures from { Continues (outgoing_view self.old) (WasStopped id error_code result) (outgoing_view self.new) }
     {
         match self.halves.take(id) {
             Err(_) => Err(OutOfMemory),
@@ -33,7 +33,7 @@ impl OutgoingStreams {
 
     /// The code of the first STOP_SENDING that came for a stream, if one did.
     pub fn stopped(&self, id: StreamId) -> Result<Option<VarInt>, ClosedStream>
-        ensures { result ≡ told_of_half (λ s. s.stop_reason) ((view_of self.now).halves id) }
+        ensures { result ≡ told_of_half (λ s. s.stop_reason) ((outgoing_view self.now).halves id) }
     {
         self.halves.stopped(id)
     }
@@ -41,7 +41,7 @@ impl OutgoingStreams {
     /// The limit of a stream that holds new data back, where STREAM_DATA_BLOCKED was queued for that very limit (RFC 9000
     /// section 19.13).
     pub fn stream_data_blocked_limit(&self, id: StreamId) -> Option<VarInt>
-        ensures { result ≡ blocked_limit ((view_of self.now).halves id) }
+        ensures { result ≡ blocked_limit ((outgoing_view self.now).halves id) }
     {
         self.halves.blocked_limit(id)
     }
@@ -49,7 +49,7 @@ impl OutgoingStreams {
     /// How many bytes were written on a stream, if its half is held: its final size once nothing more is written (RFC 9000
     /// section 4.5).
     pub fn final_size(&self, id: StreamId) -> Option<VarInt>
-        ensures { result ≡ option_map (λ (s : Send). s.pending.offset) ((view_of self.now).halves id) }
+        ensures { result ≡ option_map (λ (s : Send). s.pending.offset) ((outgoing_view self.now).halves id) }
     {
         self.halves.final_size(id)
     }
@@ -58,15 +58,15 @@ impl OutgoingStreams {
     /// that it may write there: where the stream was written up to its limit, and the connection leaves room. Where it
     /// leaves none, the stream waits for it.
     pub fn raise_stream(&mut self, id: StreamId, offset: u64) -> Result<bool, OutOfMemory>
-        ensures raises { RaisesStream (view_of self.old) id offset result (view_of self.new) }
-        ensures from { Continues (view_of self.old) (GaveStream id offset result) (view_of self.new) }
+        ensures raises { RaisesStream (outgoing_view self.old) id offset result (outgoing_view self.new) }
+        ensures from { Continues (outgoing_view self.old) (GaveStream id offset result) (outgoing_view self.new) }
     {
         self.give_limit(id, offset)
     }
 
     // The same, each way out.
     fn give_limit(&mut self, id: StreamId, offset: u64) -> Result<bool, OutOfMemory>
-        ensures { RaisesStream (view_of self.old) id offset result (view_of self.new) }
+        ensures { RaisesStream (outgoing_view self.old) id offset result (outgoing_view self.new) }
     {
         self.blocked.reserve(1)?;
         let stuck = self.write_limit() == 0;

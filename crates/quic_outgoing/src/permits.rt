@@ -3,17 +3,17 @@
 ghost use Rattle.std.specs.Prelude.{◌≡◌, ◌+◌, ◌<◌, ◌≤◌, ◌^◌};
 ghost use Rattle.quic_outgoing.specs.Outgoing.{with_more_streams};
 ghost use Rattle.quic_outgoing.specs.History.{PermittedMore, Continues};
-ghost use Rattle.quic_outgoing.specs.Shown.{view_of, permit_room};
+ghost use Rattle.quic_outgoing.specs.Shown.{outgoing_view, permit_room};
 
 use crate::outgoing::OutgoingStreams;
 use quic_values::{Dir, Side, StreamId};
 
-#[tactic(auto, unfolding(crate::specs::Shown::view_of), using(crate::proofs::Histories::continues))]
+#[tactic(auto, unfolding(crate::specs::Shown::outgoing_view), using(crate::proofs::Histories::continues))]
 impl OutgoingStreams {
     /// Which end this is.
     #[inline]
     pub fn side(&self) -> Side
-        ensures { result ≡ (view_of self.now).side }
+        ensures { result ≡ (outgoing_view self.now).side }
     {
         self.halves.side()
     }
@@ -23,8 +23,8 @@ impl OutgoingStreams {
     pub fn permit_more(&mut self, first: u64, count: u64)
         requires room { count ≤ permit_room self.old }
         requires few { first + count ≤ 2 ^ 60 }
-        ensures permits { view_of self.new ≡ with_more_streams (view_of self.old) first count }
-        ensures from { Continues (view_of self.old) (PermittedMore first count) (view_of self.new) }
+        ensures permits { outgoing_view self.new ≡ with_more_streams (outgoing_view self.old) first count }
+        ensures from { Continues (outgoing_view self.old) (PermittedMore first count) (outgoing_view self.new) }
     {
         self.permit_each(first, count);
     }
@@ -33,7 +33,7 @@ impl OutgoingStreams {
     fn permit_each(&mut self, first: u64, count: u64)
         requires room { count ≤ permit_room self.old }
         requires few { first + count ≤ 2 ^ 60 }
-        ensures { view_of self.new ≡ with_more_streams (view_of self.old) first count }
+        ensures { outgoing_view self.new ≡ with_more_streams (outgoing_view self.old) first count }
     {
         let initiator = !self.halves.side();
         for offset in 0..count {

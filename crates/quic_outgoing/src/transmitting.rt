@@ -8,7 +8,7 @@ ghost use Rattle.quic_outgoing.specs.Senders.{bare, raised};
 ghost use Rattle.quic_outgoing.specs.Seen.{senders, sender_room, sender_in};
 ghost use Rattle.quic_outgoing.specs.History.{Transmitted, Continues};
 ghost use Rattle.quic_outgoing.specs.Transmitting.{AppendsFrame, TransmitsFrame, Transmits, SendsAt, TransmitsAt, sending_priority, is_data_sent};
-ghost use Rattle.quic_outgoing.specs.Shown.{view_of, permit_room};
+ghost use Rattle.quic_outgoing.specs.Shown.{outgoing_view, permit_room};
 
 use crate::entries::SendEntries;
 use crate::outgoing::OutgoingStreams;
@@ -26,12 +26,12 @@ pub struct WrittenFrame {
     pub has_more: bool,
 }
 
-#[tactic(auto, unfolding(crate::specs::Shown::view_of, crate::specs::Shown::permit_room), using(crate::proofs::SenderMaps::sender_steps, crate::proofs::Histories::continues))]
+#[tactic(auto, unfolding(crate::specs::Shown::outgoing_view, crate::specs::Shown::permit_room), using(crate::proofs::SenderMaps::sender_steps, crate::proofs::Histories::continues))]
 impl OutgoingStreams {
     /// The priority of a stream on which data may be sent. `None`: it is not held, or it was reset.
     #[inline]
     pub fn sending_priority(&self, id: StreamId) -> Option<i32>
-        ensures { result ≡ sending_priority ((view_of self.now).halves id) }
+        ensures { result ≡ sending_priority ((outgoing_view self.now).halves id) }
     {
         self.halves.sending_priority(id)
     }
@@ -46,10 +46,10 @@ impl OutgoingStreams {
         max_size: usize,
         buf: &mut Vec<u8>,
     ) -> Result<WrittenFrame, OutOfMemory>
-        requires held { is_some ((view_of self.old).halves id) ≡ true }
+        requires held { is_some ((outgoing_view self.old).halves id) ≡ true }
         requires room { length buf.old.items + 25 < max_size }
-        ensures transmits { Transmits (view_of self.old) id max_size buf.old.items result (view_of self.new) buf.new.items }
-        ensures from { Continues (view_of self.old) (Transmitted id max_size result) (view_of self.new) }
+        ensures transmits { Transmits (outgoing_view self.old) id max_size buf.old.items result (outgoing_view self.new) buf.new.items }
+        ensures from { Continues (outgoing_view self.old) (Transmitted id max_size result) (outgoing_view self.new) }
         ensures room { permit_room self.new ≡ permit_room self.old }
     {
         self.halves.write_frame(id, max_size, buf)
@@ -66,9 +66,9 @@ impl OutgoingStreams {
         buf: &mut Vec<u8>,
     ) -> Result<Option<WrittenFrame>, OutOfMemory>
         requires room { length buf.old.items + 25 < max_size }
-        ensures transmits { TransmitsAt (view_of self.old) id priority max_size buf.old.items result (view_of self.new) buf.new.items }
-        ensures from { IfOk result (λ answer. IfSome answer (λ frame. Continues (view_of self.old) (Transmitted id max_size (Ok frame)) (view_of self.new))) }
-        ensures refused { IfErr result (λ e. Continues (view_of self.old) (Transmitted id max_size (Err e)) (view_of self.new)) }
+        ensures transmits { TransmitsAt (outgoing_view self.old) id priority max_size buf.old.items result (outgoing_view self.new) buf.new.items }
+        ensures from { IfOk result (λ answer. IfSome answer (λ frame. Continues (outgoing_view self.old) (Transmitted id max_size (Ok frame)) (outgoing_view self.new))) }
+        ensures refused { IfErr result (λ e. Continues (outgoing_view self.old) (Transmitted id max_size (Err e)) (outgoing_view self.new)) }
         ensures room { permit_room self.new ≡ permit_room self.old }
     {
         self.halves.write_frame_at(id, priority, max_size, buf)

@@ -2,13 +2,13 @@
 
 ghost use Rattle.std.specs.Prelude.{◌≡◌, ◌≤◌, ◌<◌, is_some, true, false, Some, IfOk, IfErr, OnErr};
 ghost use Rattle.quic_sending.specs.Sending.{write_refusal};
-ghost use Rattle.quic_retransmits.specs.Pending.{shown_pending};
+ghost use Rattle.quic_retransmits.specs.Pending.{pending_view};
 ghost use Rattle.quic_outgoing.specs.Senders.{bare, first_limit};
 ghost use Rattle.quic_outgoing.specs.Outgoing.{is_stuck, with_send_half};
 ghost use Rattle.quic_outgoing.specs.Seen.{senders, sender_room, sender_in};
 ghost use Rattle.quic_outgoing.specs.Writing.{WritesOn, RefusesWrite, TakesBytes, TakesBytesIn, IsRefusedBy, refusal_of_write};
 ghost use Rattle.quic_outgoing.specs.History.{Writing, Continues};
-ghost use Rattle.quic_outgoing.specs.Shown.{view_of, permit_room};
+ghost use Rattle.quic_outgoing.specs.Shown.{outgoing_view, permit_room};
 
 use crate::closing::queue_at;
 use crate::entries::{SendEntries, greater};
@@ -30,7 +30,7 @@ pub struct Wrote {
     pub queue_at: Option<i32>,
 }
 
-#[tactic(auto, unfolding(crate::specs::Shown::view_of, crate::specs::Shown::permit_room), using(crate::proofs::SenderMaps::sender_steps))]
+#[tactic(auto, unfolding(crate::specs::Shown::outgoing_view, crate::specs::Shown::permit_room), using(crate::proofs::SenderMaps::sender_steps))]
 impl OutgoingStreams {
     /// Writes the first bytes of a source on a stream: the least of what it has, of what may be written on all streams,
     /// and of what the limit of the stream leaves. Without bytes it takes none, where there is room.
@@ -45,10 +45,10 @@ impl OutgoingStreams {
         id: StreamId,
         source: &mut S,
     ) -> Result<Wrote, WriteError>
-        ensures writes { WritesOn (view_of self.old) id (S.lists source.old) (shown_pending pending.old) result (view_of self.new) (S.lists source.new) (shown_pending pending.new) }
+        ensures writes { WritesOn (outgoing_view self.old) id (S.lists source.old) (pending_view pending.old) result (outgoing_view self.new) (S.lists source.new) (pending_view pending.new) }
         ensures borrow { S.borrow source.new ≡ S.borrow source.old }
         ensures list_count { S.list_count source.new ≡ S.list_count source.old }
-        ensures from { Continues (view_of self.old) (Writing id (S.lists source.old) result) (view_of self.new) }
+        ensures from { Continues (outgoing_view self.old) (Writing id (S.lists source.old) result) (outgoing_view self.new) }
     {
         self.write_source(pending, id, source)
     }
@@ -61,7 +61,7 @@ impl OutgoingStreams {
         id: StreamId,
         source: &mut S,
     ) -> Result<Wrote, WriteError>
-        ensures writes { WritesOn (view_of self.old) id (S.lists source.old) (shown_pending pending.old) result (view_of self.new) (S.lists source.new) (shown_pending pending.new) }
+        ensures writes { WritesOn (outgoing_view self.old) id (S.lists source.old) (pending_view pending.old) result (outgoing_view self.new) (S.lists source.new) (pending_view pending.new) }
         ensures borrow { S.borrow source.new ≡ S.borrow source.old }
         ensures list_count { S.list_count source.new ≡ S.list_count source.old }
     {
@@ -81,8 +81,8 @@ impl OutgoingStreams {
 
     // Nothing may be written on any stream: this one waits, and the peer is told. Answers why nothing is taken.
     fn wait(&mut self, pending: &mut Retransmits, id: StreamId) -> WriteError
-        requires { is_stuck (view_of self.old) ≡ true }
-        ensures { RefusesWrite (view_of self.old) id (shown_pending pending.old) result (view_of self.new) (shown_pending pending.new) }
+        requires { is_stuck (outgoing_view self.old) ≡ true }
+        ensures { RefusesWrite (outgoing_view self.old) id (pending_view pending.old) result (outgoing_view self.new) (pending_view pending.new) }
     {
         if self.blocked.reserve(1).is_err() {
             return WriteError::OutOfMemory;
@@ -100,9 +100,9 @@ impl OutgoingStreams {
 
     // The limit of a stream leaves nothing, and the peer is told. Answers why nothing is taken.
     fn block(&mut self, pending: &mut Retransmits, id: StreamId) -> WriteError
-        requires some { is_stuck (view_of self.old) ≡ false }
-        requires blocked { refusal_of_write (view_of self.old) ((view_of self.old).halves id) ≡ Some WriteError.Blocked }
-        ensures { RefusesWrite (view_of self.old) id (shown_pending pending.old) result (view_of self.new) (shown_pending pending.new) }
+        requires some { is_stuck (outgoing_view self.old) ≡ false }
+        requires blocked { refusal_of_write (outgoing_view self.old) ((outgoing_view self.old).halves id) ≡ Some WriteError.Blocked }
+        ensures { RefusesWrite (outgoing_view self.old) id (pending_view pending.old) result (outgoing_view self.new) (pending_view pending.new) }
     {
         match self.halves.take(id) {
             Err(_) => WriteError::OutOfMemory,
@@ -113,11 +113,11 @@ impl OutgoingStreams {
 
     // The same, with the half that was taken out.
     fn block_half(&mut self, pending: &mut Retransmits, id: StreamId, half: Box<Send>) -> WriteError
-        requires there { is_some ((view_of self.old).halves id) ≡ true }
-        requires held { first_limit (view_of self.old).side (view_of self.old).first id ≤ half.value.max_data }
-        requires some { is_stuck (view_of self.old) ≡ false }
+        requires there { is_some ((outgoing_view self.old).halves id) ≡ true }
+        requires held { first_limit (outgoing_view self.old).side (outgoing_view self.old).first id ≤ half.value.max_data }
+        requires some { is_stuck (outgoing_view self.old) ≡ false }
         requires blocked { write_refusal half.value ≡ Some WriteError.Blocked }
-        ensures { RefusesWrite (with_send_half (view_of self.old) id (Some (bare half.value))) id (shown_pending pending.old) result (view_of self.new) (shown_pending pending.new) }
+        ensures { RefusesWrite (with_send_half (outgoing_view self.old) id (Some (bare half.value))) id (pending_view pending.old) result (outgoing_view self.new) (pending_view pending.new) }
     {
         let mut half = half;
         let limit = half.max_data.into_inner();

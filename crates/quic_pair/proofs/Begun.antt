@@ -7,7 +7,7 @@ use Rattle.quic_history.specs.World.{Made, start}
 use Rattle.quic_history.specs.Sends.{with_out}
 use Rattle.quic_history.specs.SendEvents.{GaveLimits}
 use Rattle.quic_history.specs.History.{Sending, IsStart}
-use Rattle.quic_link.specs.Endpoints.{Endpoint, Linked, begun, first_acts, second_acts, acted, limits_of}
+use Rattle.quic_link.specs.Endpoints.{LinkedEnd, Linked, begun, first_acts, second_acts, acted, limits_of}
 use Rattle.quic_link.proofs.AskedFor.{asked-nothing}
 use Rattle.quic_steps.specs.declared.steps.Config.{Config}
 use Rattle.quic_steps.specs.declared.steps.End.{End}
@@ -20,10 +20,10 @@ use Rattle.quic_pair.proofs.KeptFrames.{KeptSent}
 use Rattle.quic_pair.proofs.Joined.{Knows, Stands, Joined}
 
 -- an end that was made, and was told what the transport parameters of its peer say
-abbrev pub made_alone : Made → Endpoint
+abbrev pub made_alone : Made → LinkedEnd
 made_alone m = record { made = m; calls = []; world = start m; wrote = [] }
 
-abbrev pub made_beside : Made → Made → Endpoint
+abbrev pub made_beside : Made → Made → LinkedEnd
 made_beside m n = acted (made_alone m) (Sending (GaveLimits (limits_of n))) (with_out (start m) (with_params (start m).out (limits_of n)))
 
 linked-begun : (m n : Made) → IsStart m (start m) → IsStart n (start n) → m.window < 2 ^ 62 → n.window < 2 ^ 62 → n.side ≡ other_side m.side → Linked (made_beside m n) (made_beside n m)

@@ -10,7 +10,7 @@ use Rattle.quic_retransmits.specs.Pending.{Pending}
 use Rattle.quic_history.specs.World.{World}
 use Rattle.quic_history.specs.History.{Event, Received}
 use Rattle.quic_history.proofs.Totals.{same}
-use Rattle.quic_link.specs.Endpoints.{Endpoint, Linked, first_acts, MayAct, acted, written_by, IsOneOf, sent_on, came_on, written_on, WasStoppedWith, WasAccepted}
+use Rattle.quic_link.specs.Endpoints.{LinkedEnd, Linked, first_acts, MayAct, acted, written_by, IsOneOf, sent_on, came_on, written_on, WasStoppedWith, WasAccepted}
 use Rattle.quic_link.specs.Promises.{CameWhole, WasReadUnordered}
 use Rattle.quic_link.specs.Asked.{AreAsked}
 use Rattle.quic_link.proofs.Ends.{plain-call}
@@ -30,7 +30,7 @@ use Rattle.quic_pair.proofs.Joined.{Knows, IsLike}
 -- ---- calls of x, by which it becomes z
 
 -- they are linked, and what was so stays
-pub record Onward (x y z : Endpoint) : Type 0 where
+pub record Onward (x y z : LinkedEnd) : Type 0 where
   pub linked : Linked z y
   pub made : z.made ≡ x.made
   pub wrote : (g : Frame) → IsOneOf g x.wrote → IsOneOf g z.wrote
@@ -38,14 +38,14 @@ pub record Onward (x y z : Endpoint) : Type 0 where
   pub grown : (q : ℕ) → Grows (sent_on x q) (sent_on z q)
   pub asked : (p : Pending) → AreAsked x p → AreAsked z p
 
-pub onward-none : (x y : Endpoint) → Linked x y → Onward x y x
+pub onward-none : (x y : LinkedEnd) → Linked x y → Onward x y x
 onward-none x y l = record { linked = l; made = refl; wrote = λ g h. h; calls = λ e h. h; grown = λ q. grows-refl (sent_on x q); asked = λ p k. k }
 
 behind : {X : Type 0} (g : X) (xs ys : List X) → IsOneOf g ys → IsOneOf g (xs ++ ys)
 behind g [] ys h = h
 behind g (x ∷ xs) ys h = inr (behind g xs ys h)
 
-pub onward-call : (x y : Endpoint) (e : Event) (v : World) → Linked x y → MayAct x y e v → Onward x y (acted x e v)
+pub onward-call : (x y : LinkedEnd) (e : Event) (v : World) → Linked x y → MayAct x y e v → Onward x y (acted x e v)
 onward-call x y e v l a =
     let f = ((agrees l).0).comes in
     record {
@@ -57,7 +57,7 @@ onward-call x y e v l a =
       asked = λ p k. asked-acted x y e v f a p k;
     }
 
-module _ (x y z : Endpoint) (o : Onward x y z) where
+module _ (x y z : LinkedEnd) (o : Onward x y z) where
   pub accepted-still : (id : ℕ) (offsets : Range ℕ) (fin : Bool) → WasAccepted x.calls id offsets fin → WasAccepted z.calls id offsets fin
   accepted-still id offsets fin k = record { bytes = k.bytes; transmit = k.transmit; is = o.calls _ k.is; behind = k.behind }
 
@@ -82,7 +82,7 @@ module _ (x y z : Endpoint) (o : Onward x y z) where
 -- ---- one flow
 
 -- what is known of a flow is what x sent on a stream, and what y received of it
-pub record FlowKnown (f : Flow) (x y : Endpoint) (q : ℕ) : Type 0 where
+pub record FlowKnown (f : Flow) (x y : LinkedEnd) (q : ℕ) : Type 0 where
   pub written : written_on x q ≡ f.written
   pub finished : (sent_on x q).finished ≡ f.finished
   pub resets : (code : ℕ) → (sent_on x q).reset ≡ Some code → IsOneOf code f.resets
@@ -94,7 +94,7 @@ pub record FlowKnown (f : Flow) (x y : Endpoint) (q : ℕ) : Type 0 where
   pub told_stops : (code : ℕ) → IsOneOf code f.told_stops → WasStoppedWith y.calls q code
   pub complete : f.complete ≡ true → CameWhole x y q
 
-pub known-of : (p : Past) (sent : List Sent) (who : End) (x y : Endpoint) → Knows p sent who x y → (q : ℕ) → FlowKnown (p.flow who q) x y q
+pub known-of : (p : Past) (sent : List Sent) (who : End) (x y : LinkedEnd) → Knows p sent who x y → (q : ℕ) → FlowKnown (p.flow who q) x y q
 known-of p sent who x y k q = record {
   written = k.written q;
   finished = k.finished q;
@@ -109,10 +109,10 @@ known-of p sent who x y k q = record {
 }
 
 -- each frame that was accepted was so in a payload
-abbrev pub AcceptsSent : Past → List Sent → End → Endpoint → Type 0
+abbrev pub AcceptsSent : Past → List Sent → End → LinkedEnd → Type 0
 AcceptsSent p sent who y = (q offset : ℕ) (bytes : List ℕ) (fin : Bool) (transmit : ShouldTransmit) → IsOneOf (Received q offset bytes fin (Ok transmit)) y.calls → SomeStream sent who q p.accepted (IsLike offset bytes fin)
 
-pub knows-from : (p : Past) (sent : List Sent) (who : End) (x y : Endpoint) → AreGiven x (p.ids who) → ((q : ℕ) → FlowKnown (p.flow who q) x y q) → AcceptsSent p sent who y → Knows p sent who x y
+pub knows-from : (p : Past) (sent : List Sent) (who : End) (x y : LinkedEnd) → AreGiven x (p.ids who) → ((q : ℕ) → FlowKnown (p.flow who q) x y q) → AcceptsSent p sent who y → Knows p sent who x y
 knows-from p sent who x y g k a = record {
   ids = g;
   written = λ q. (k q).written;
@@ -129,19 +129,19 @@ knows-from p sent who x y g k a = record {
 }
 
 -- nothing was sent on a stream
-pub record SendsSame (x z : Endpoint) (q : ℕ) : Type 0 where
+pub record SendsSame (x z : LinkedEnd) (q : ℕ) : Type 0 where
   pub written : written_on z q ≡ written_on x q
   pub finished : (sent_on z q).finished ≡ (sent_on x q).finished
   pub reset : (sent_on z q).reset ≡ (sent_on x q).reset
 
 -- nothing was read of it, and it was not stopped
-pub record ReadsSame (x z : Endpoint) (q : ℕ) : Type 0 where
+pub record ReadsSame (x z : LinkedEnd) (q : ℕ) : Type 0 where
   pub given : (came_on z q).given ≡ (came_on x q).given
   pub ended : (came_on z q).ended ≡ (came_on x q).ended
   pub stops : (code : ℕ) → WasStoppedWith z.calls q code → WasStoppedWith x.calls q code
   pub modes : WasReadUnordered z.calls q → WasReadUnordered x.calls q
 
-module _ (x y z : Endpoint) (o : Onward x y z) (q : ℕ) (f : Flow) where
+module _ (x y z : LinkedEnd) (o : Onward x y z) (q : ℕ) (f : Flow) where
   pub known-first : SendsSame x z q → FlowKnown f x y q → FlowKnown f z y q
   known-first s k = record {
     written = s.written ∙ k.written;
@@ -172,7 +172,7 @@ module _ (x y z : Endpoint) (o : Onward x y z) (q : ℕ) (f : Flow) where
 
 -- ---- what is told besides
 
-module _ (f : Flow) (x y : Endpoint) (q : ℕ) (k : FlowKnown f x y q) where
+module _ (f : Flow) (x y : LinkedEnd) (q : ℕ) (k : FlowKnown f x y q) where
   pub known-reset : (code : ℕ) → (sent_on x q).reset ≡ Some code → FlowKnown (tells_reset code f) x y q
   known-reset code t = record {
     written = k.written;

@@ -20,7 +20,7 @@ use Rattle.quic_history.specs.Reading.{ReadsSome, pending_stopped, pending_after
 use Rattle.quic_history.specs.SendEvents.{OpenedOwn, StoppedOwn}
 use Rattle.quic_history.specs.History.{Event, Received, ReceivedReset, Accepted, Sending, Began, Gave, Ended, Stopped, ToldReset, Trace, trace, flow, with_chunks, with_last, with_reads, with_stop}
 use Rattle.quic_history.proofs.Traces.{itself}
-use Rattle.quic_link.specs.Endpoints.{Endpoint, Linked, acted, IsOneOf, WasGiven, WasStoppedWith, sent_on, came_on}
+use Rattle.quic_link.specs.Endpoints.{LinkedEnd, Linked, acted, IsOneOf, WasGiven, WasStoppedWith, sent_on, came_on}
 use Rattle.quic_link.specs.Promises.{WasReadUnordered}
 use Rattle.quic_link.proofs.Ends.{Comes}
 use Rattle.quic_link.proofs.Given.{given-more}
@@ -62,7 +62,7 @@ other_id q id i n = let m : eqb q id ≡ true = ap (λ (j : ℕ). eqb q j) (sym 
 
 -- ---- a stop
 
-module _ (x y : Endpoint) (id code : ℕ) (v : World) where
+module _ (x y : LinkedEnd) (id code : ℕ) (v : World) where
   stopped_others : (q : ℕ) → eqb q id ≡ false → ReadsSame x (acted x (Stopped id code (Ok tt)) v) q
   stopped_others q n =
       let kept = kept_if (eqb q id) (came_on x q) (with_stop (came_on x q)) refl refl in
@@ -103,7 +103,7 @@ abbrev IsNoQuestion : Event → Type 0
 IsNoQuestion (ToldReset id answer) = ⊥
 IsNoQuestion _ = Unit {0}
 
-told_same : (x : Endpoint) (id code : ℕ) (v : World) (q : ℕ) → ReadsSame x (acted x (ToldReset id (Ok (Some code))) v) q
+told_same : (x : LinkedEnd) (id code : ℕ) (v : World) (q : ℕ) → ReadsSame x (acted x (ToldReset id (Ok (Some code))) v) q
 told_same x id code v q =
     let kept = kept_if (eqb q id) (came_on x q) (record (came_on x q) { gone = true }) refl refl in
     record {
@@ -263,11 +263,11 @@ module _ (id most : ℕ) (ordered : Bool) where
   reads_ended cs last h = let b = Began id ordered (Ok tt) ∷ h in last_ended last (with_chunks id most ordered cs b) ∙ ap (ended_by last) (chunks_ended cs b)
 
 -- what is told last is true
-abbrev IsTrueLast : Endpoint → ℕ → LastAnswer → Type 0
+abbrev IsTrueLast : LinkedEnd → ℕ → LastAnswer → Type 0
 IsTrueLast y id (last_answer.Reset code) = (sent_on y id).reset ≡ Some code
 IsTrueLast y id _ = Unit {0}
 
-true_last : (x y : Endpoint) (id most times : ℕ) (ordered : Bool) (p q : Pending) (cs : List Chunk) (last : LastAnswer) (transmit : Bool) (v : World) → Linked x y → ReadsSome x.world id most times ordered p cs last transmit v q → IsTrueLast y id last
+true_last : (x y : LinkedEnd) (id most times : ℕ) (ordered : Bool) (p q : Pending) (cs : List Chunk) (last : LastAnswer) (transmit : Bool) (v : World) → Linked x y → ReadsSome x.world id most times ordered p cs last transmit v q → IsTrueLast y id last
 true_last x y id most times ordered p q cs (last_answer.Reset code) transmit v l s =
     let b = Began id ordered (Ok tt) in
     let begun : GoesOn x y (called x (b ∷ x.calls) s.opened) = goes-call x y b s.opened l (record { fits = tt; honest = tt; step = s.begins }) in
@@ -279,12 +279,12 @@ true_last x y id most times ordered p q cs last_answer.Memory transmit v l s = t
 true_last x y id most times ordered p q cs last_answer.More transmit v l s = tt
 
 -- a stream that was given stays so
-given_still : (x y z : Endpoint) (id : ℕ) → GoesOn x y z → WasGiven x.world id → WasGiven z.world id
+given_still : (x y z : LinkedEnd) (id : ℕ) → GoesOn x y z → WasGiven x.world id → WasGiven z.world id
 given_still x y z id g k = (g.asked _ (asked-window x nothing id true k (asked-nothing x))).windows id (itself id)
 
-module _ (x y : Endpoint) (id most times : ℕ) (ordered : Bool) (cs : List Chunk) (last : LastAnswer) (v : World) where
+module _ (x y : LinkedEnd) (id most times : ℕ) (ordered : Bool) (cs : List Chunk) (last : LastAnswer) (v : World) where
   -- the end once it read
-  abbrev read_end : Endpoint
+  abbrev read_end : LinkedEnd
   read_end = called x (with_reads id most ordered cs last x.calls) v
 
   reads_onward : GoesOn x y read_end → Onward x y read_end
@@ -364,7 +364,7 @@ module _ (x y : Endpoint) (id most times : ℕ) (ordered : Bool) (cs : List Chun
 
 -- ---- calls
 
-module _ (p : Past) (who : End) (old new : PairState) (x y : Endpoint) (s : Seen p who old x y) (f : EndState) (now : new ≡ with_end old who f) (id : ℕ) where
+module _ (p : Past) (who : End) (old new : PairState) (x y : LinkedEnd) (s : Seen p who old x y) (f : EndState) (now : new ≡ with_end old who f) (id : ℕ) where
   comes : Comes x
   comes = ((agrees s.linked).0).comes
 
@@ -460,7 +460,7 @@ module _ (p : Past) (who : End) (old new : PairState) (x y : Endpoint) (s : Seen
 
 -- ---- the steps
 
-module _ (p : Past) (who : End) (old new : PairState) (x y : Endpoint) where
+module _ (p : Past) (who : End) (old new : PairState) (x y : LinkedEnd) where
   pub seen-stop : (id code : ℕ) (reply : Answer) → Seen p who old x y → OnEnd (λ e f. OnGiven e id reply f (StopsAt e id code reply f)) old who new → Sees (after p (steps.Stop who id code) reply) who new x y
   seen-stop id code reply s d =
       on-given p who old new x y id reply d.end (past_stop p who id code) (StopsAt (the_end old who) id code reply d.end) s refl d.is d.does

@@ -7,7 +7,7 @@ use Rattle.quic_flows.specs.Flow.{SendFlow}
 use Rattle.quic_history.specs.World.{World}
 use Rattle.quic_history.specs.SendEvents.{OpenedOwn, StoppedOwn}
 use Rattle.quic_history.specs.History.{Event, Received, ReceivedReset, Began, Stopped, Accepted, Sending, Step, Trace, send_move_of, limits_in, move_of}
-use Rattle.quic_link.specs.Endpoints.{Endpoint, MayAct, acted, IsOneOf, sent_on, came_on}
+use Rattle.quic_link.specs.Endpoints.{LinkedEnd, MayAct, acted, IsOneOf, sent_on, came_on}
 use Rattle.quic_link.specs.Asked.{AreAsked}
 use Rattle.quic_link.proofs.Ends.{plain-call}
 use Rattle.quic_endpoint.specs.Ends.{EndState}
@@ -36,17 +36,17 @@ sent_same : (v : PairState) (who : End) (e : EndState) → (with_end v who e).se
 sent_same v A e = refl
 sent_same v B e = refl
 
-payloads_first : (sent : List Sent) (who : End) (x y z : Endpoint) → Onward x y z → ArePayloadsOf sent who x y → ArePayloadsOf sent who z y
+payloads_first : (sent : List Sent) (who : End) (x y z : LinkedEnd) → Onward x y z → ArePayloadsOf sent who x y → ArePayloadsOf sent who z y
 payloads_first sent who x y z o s number payload at writer =
     let k = s number payload at writer in
     record { all = k.all; spelled = k.spelled; wrote = λ g h. o.wrote g (k.wrote g h); control = λ r h. o.asked (noted_in r.control) (k.control r h); accepted = k.accepted }
 
-payloads_second : (sent : List Sent) (who : End) (x y z : Endpoint) → Onward x y z → ArePayloadsOf sent who y x → ArePayloadsOf sent who y z
+payloads_second : (sent : List Sent) (who : End) (x y z : LinkedEnd) → Onward x y z → ArePayloadsOf sent who y x → ArePayloadsOf sent who y z
 payloads_second sent who x y z o s number payload at writer =
     let k = s number payload at writer in
     record { all = k.all; spelled = k.spelled; wrote = k.wrote; control = k.control; accepted = λ index stream a m. accepted-still x y z o stream.id _ stream.fin (k.accepted index stream a m) }
 
-accepts_as : (p q : Past) (sent : List Sent) (who : End) (y z : Endpoint) → q.accepted ≡ p.accepted → AcceptsSent p sent who y
+accepts_as : (p q : Past) (sent : List Sent) (who : End) (y z : LinkedEnd) → q.accepted ≡ p.accepted → AcceptsSent p sent who y
     → ((id offset : ℕ) (bytes : List ℕ) (fin : Bool) (transmit : ShouldTransmit) → IsOneOf (Received id offset bytes fin (Ok transmit)) z.calls → IsOneOf (Received id offset bytes fin (Ok transmit)) y.calls)
     → AcceptsSent q sent who z
 accepts_as p q sent who y z e a r id offset bytes fin transmit h =
@@ -54,14 +54,14 @@ accepts_as p q sent who y z e a r id offset bytes fin transmit h =
     subst P (sym e) (a id offset bytes fin transmit (r id offset bytes fin transmit h))
 
 -- the end x was called and is z, which the pair has now
-pub record Called (who : End) (old new : PairState) (x y z : Endpoint) : Type 0 where
+pub record Called (who : End) (old new : PairState) (x y z : LinkedEnd) : Type 0 where
   pub onward : Onward x y z
   pub quiet : HearsNothing x z
   pub end : EndState
   pub stands : Stands z end
   pub is : new ≡ with_end old who end
 
-module _ (p : Past) (who : End) (old new : PairState) (x y z : Endpoint) (s : Seen p who old x y) (c : Called who old new x y z) where
+module _ (p : Past) (who : End) (old new : PairState) (x y z : LinkedEnd) (s : Seen p who old x y) (c : Called who old new x y z) where
   seen_with : (q : Past) → q.accepted ≡ p.accepted → q.kept ≡ p.kept → AreGiven z (q.ids who) → q.ids (peer who) ≡ p.ids (peer who) → ((id : ℕ) → FlowKnown (q.flow who id) z y id) → ((id : ℕ) → FlowKnown (q.flow (peer who) id) y z id) → Seen q who (with_end old who c.end) z y
   seen_with q e same given others first second =
       let P : EndState → Type 0 = λ k. Stands z k in
@@ -149,7 +149,7 @@ silent-gives (Sending (OpenedOwn dir closed (Ok (Some id)))) w = absurd w
 silent-gives (Accepted dir (Some id)) w = absurd w
 silent-gives _ w = tt
 
-pub called-once : (who : End) (old new : PairState) (x y : Endpoint) (e : Event) (v : World) (f : EndState) → Onward x y (acted x e v) → f.streams ≡ v → AreAsked (acted x e v) f.pending → new ≡ with_end old who f
+pub called-once : (who : End) (old new : PairState) (x y : LinkedEnd) (e : Event) (v : World) (f : EndState) → Onward x y (acted x e v) → f.streams ≡ v → AreAsked (acted x e v) f.pending → new ≡ with_end old who f
     → HearsNothing x (acted x e v) → Called who old new x y (acted x e v)
 called-once who old new x y e v f o w k is quiet = record { onward = o; quiet = quiet; end = f; stands = record { world = sym w; pending = k }; is = is }
 
@@ -159,18 +159,18 @@ no_frame (ReceivedReset id code final answer) w = w
 no_frame (Sending (StoppedOwn id code answer)) w = w
 no_frame _ w = tt
 
-pub quiet-accepts : (x : Endpoint) (e : Event) (v : World) → IsQuiet e → HearsNothing x (acted x e v)
+pub quiet-accepts : (x : LinkedEnd) (e : Event) (v : World) → IsQuiet e → HearsNothing x (acted x e v)
 quiet-accepts x e v w = hears-call x e v (no_frame e w)
 
 -- a call that moves nothing on a sending side
-pub sends-same : (x y : Endpoint) (e : Event) (v : World) → MayAct x y e v → send_move_of e ≡ None → limits_in e ≡ None → (q : ℕ) → SendsSame x (acted x e v) q
+pub sends-same : (x y : LinkedEnd) (e : Event) (v : World) → MayAct x y e v → send_move_of e ≡ None → limits_in e ≡ None → (q : ℕ) → SendsSame x (acted x e v) q
 sends-same x y e v a m l q =
     let plain = plain-call x y e a.honest in
     let k : sent_on (acted x e v) q ≡ sent_on x q = rw (plain, m, l) refl in
     record { written = ap (λ (t : SendFlow). concat t.cuts) k; finished = ap (λ (t : SendFlow). t.finished) k; reset = ap (λ (t : SendFlow). t.reset) k }
 
 -- and one that moves nothing on a receiving side
-pub reads-same : (x y : Endpoint) (e : Event) (v : World) → MayAct x y e v → move_of e ≡ None → IsQuiet e → (q : ℕ) → ReadsSame x (acted x e v) q
+pub reads-same : (x y : LinkedEnd) (e : Event) (v : World) → MayAct x y e v → move_of e ≡ None → IsQuiet e → (q : ℕ) → ReadsSame x (acted x e v) q
 reads-same x y e v a m w q =
     let plain = plain-call x y e a.honest in
     let k : came_on (acted x e v) q ≡ came_on x q = rw (plain, m) refl in
@@ -188,14 +188,14 @@ reads-same x y e v a m w q =
     }
 
 -- a call that moves nothing
-pub sees-quiet : (p : Past) (who : End) (old new : PairState) (x y : Endpoint) (f : EndState) (e : Event) (v : World) → Seen p who old x y → MayAct x y e v → send_move_of e ≡ None → limits_in e ≡ None → move_of e ≡ None → IsSilent e
+pub sees-quiet : (p : Past) (who : End) (old new : PairState) (x y : LinkedEnd) (f : EndState) (e : Event) (v : World) → Seen p who old x y → MayAct x y e v → send_move_of e ≡ None → limits_in e ≡ None → move_of e ≡ None → IsSilent e
     → f.streams ≡ v → AreAsked x f.pending → new ≡ with_end old who f → Sees p who new x y
 sees-quiet p who old new x y f e v s a m l r w is asked now =
     let o = onward-call x y e v s.linked a in
     sees-same p who old new x y (acted x e v) s (called-once who old new x y e v f o is (o.asked f.pending asked) now (quiet-accepts x e v (silent-quiet e w))) (gave-none x e v (silent-gives e w)) (sends-same x y e v a m l) (reads-same x y e v a r (silent-quiet e w))
 
 -- a call that gives a stream, and moves nothing
-pub sees-given : (p : Past) (who : End) (id : ℕ) (old new : PairState) (x y : Endpoint) (f : EndState) (e : Event) (v : World) → Seen p who old x y → MayAct x y e v → send_move_of e ≡ None → limits_in e ≡ None → move_of e ≡ None → IsQuiet e
+pub sees-given : (p : Past) (who : End) (id : ℕ) (old new : PairState) (x y : LinkedEnd) (f : EndState) (e : Event) (v : World) → Seen p who old x y → MayAct x y e v → send_move_of e ≡ None → limits_in e ≡ None → move_of e ≡ None → IsQuiet e
     → AreGiven (acted x e v) (id ∷ p.ids who) → f.streams ≡ v → AreAsked x f.pending → new ≡ with_end old who f → Sees (gives_id who id p) who new x y
 sees-given p who id old new x y f e v s a m l r w given is asked now =
     let o = onward-call x y e v s.linked a in
@@ -214,13 +214,13 @@ sees-given p who id old new x y f e v s a m l r w given is asked now =
     ids_there B i q = refl
 
 -- no call, but more may be to be sent
-pub sees-idle : (p : Past) (who : End) (old new : PairState) (x y : Endpoint) (f : EndState) → Seen p who old x y → f.streams ≡ (the_end old who).streams → AreAsked x f.pending → new ≡ with_end old who f → Sees p who new x y
+pub sees-idle : (p : Past) (who : End) (old new : PairState) (x y : LinkedEnd) (f : EndState) → Seen p who old x y → f.streams ≡ (the_end old who).streams → AreAsked x f.pending → new ≡ with_end old who f → Sees p who new x y
 sees-idle p who old new x y f s w asked now =
     let c : Called who old new x y x = record { onward = onward-none x y s.linked; quiet = hears-none x; end = f; stands = record { world = s.here.world ∙ sym w; pending = asked }; is = now } in
     sees-same p who old new x y x s c (λ id h. h) (λ q. record { written = refl; finished = refl; reset = refl }) (λ q. record { given = refl; ended = refl; stops = λ code h. h; modes = λ h. h })
 
 -- and nothing
-pub sees-stays : (p : Past) (who : End) (old new : PairState) (x y : Endpoint) (f : EndState) → Seen p who old x y → f ≡ the_end old who → new ≡ with_end old who f → Sees p who new x y
+pub sees-stays : (p : Past) (who : End) (old new : PairState) (x y : LinkedEnd) (f : EndState) → Seen p who old x y → f ≡ the_end old who → new ≡ with_end old who f → Sees p who new x y
 sees-stays p who old new x y f s e now =
     let P : EndState → Type 0 = λ k. AreAsked x k.pending in
     sees-idle p who old new x y f s (ap (λ (k : EndState). k.streams) e) (subst P (sym e) s.here.pending) now

@@ -25,7 +25,7 @@ use Rattle.quic_history.specs.History.{Event, Sending, move_of, send_move_of, li
 use Rattle.quic_history.proofs.Traces.{itself}
 use Rattle.quic_history.proofs.SendSides.{held-side}
 use Rattle.quic_history.proofs.FlowHistory.{known-by}
-use Rattle.quic_link.specs.Endpoints.{Endpoint, MayAct, acted, WasStoppedWith, sent_on, written_on}
+use Rattle.quic_link.specs.Endpoints.{LinkedEnd, MayAct, acted, WasStoppedWith, sent_on, written_on}
 use Rattle.quic_link.specs.Asked.{AreAsked}
 use Rattle.quic_link.proofs.Ends.{Comes}
 use Rattle.quic_link.proofs.Given.{given-more}
@@ -48,11 +48,11 @@ use Rattle.quic_pair.proofs.CallsSetting.{asked-same, may-act, given-here, on-gi
 -- ---- streams
 
 -- whether a stream has a sending side, as the calls tell
-abbrev is_there : Endpoint → ℕ → Bool
+abbrev is_there : LinkedEnd → ℕ → Bool
 is_there x id = has_send_side x.made.side (opened_in_all (since x.calls)) (send_tale x.made x.calls).may_open id
 
 -- one whose half is held has
-held_there : (x : Endpoint) (id : ℕ) (s : Send) → Comes x → x.world.out.halves id ≡ Some s → is_there x id ≡ true
+held_there : (x : LinkedEnd) (id : ℕ) (s : Send) → Comes x → x.world.out.halves id ≡ Some s → is_there x id ≡ true
 held_there x id s f held =
     let there = held-side _ _ (has_side_in x.world.out x.world.bi.max_remote id) s (x.world.out.halves id) held (f.sends.flows id) in
     let known = known-by x.made x.calls x.world f.side f.sends.may_open f.from.sent id in
@@ -64,7 +64,7 @@ other_stream m there id q t n = rw n refl
 that_stream : (m : SendMove) (there : ℕ → Bool) (id : ℕ) (t : SendFlow) → there id ≡ true → send_moved (Some (id, m)) there id t ≡ with_send_move m t
 that_stream m there id t k = rw (itself id, k) refl
 
-flows_same : (x z : Endpoint) (q : ℕ) → sent_on z q ≡ sent_on x q → SendsSame x z q
+flows_same : (x z : LinkedEnd) (q : ℕ) → sent_on z q ≡ sent_on x q → SendsSame x z q
 flows_same x z q k = record { written = ap (λ (t : SendFlow). concat t.cuts) k; finished = ap (λ (t : SendFlow). t.finished) k; reset = ap (λ (t : SendFlow). t.reset) k }
 
 -- the first bytes of some lists
@@ -77,7 +77,7 @@ slice_bytes (b ∷ bs) = append-nil (b ∷ bs)
 
 -- ---- what is known then
 
-module _ (f : Flow) (x y z : Endpoint) (q : ℕ) (o : Onward x y z) (k : FlowKnown f x y q) where
+module _ (f : Flow) (x y z : LinkedEnd) (q : ℕ) (o : Onward x y z) (k : FlowKnown f x y q) where
   known_written : (bytes : List ℕ) → written_on z q ≡ written_on x q ++ bytes → (sent_on z q).finished ≡ (sent_on x q).finished → (sent_on z q).reset ≡ (sent_on x q).reset → FlowKnown (writes_more bytes f) z y q
   known_written bytes w d r = record {
     written = w ∙ ap (λ l. l ++ bytes) k.written;
@@ -122,7 +122,7 @@ module _ (f : Flow) (x y z : Endpoint) (q : ℕ) (o : Onward x y z) (k : FlowKno
 
 -- ---- calls
 
-module _ (p : Past) (who : End) (old new : PairState) (x y : Endpoint) (s : Seen p who old x y) (f : EndState) (now : new ≡ with_end old who f) (id : ℕ) where
+module _ (p : Past) (who : End) (old new : PairState) (x y : LinkedEnd) (s : Seen p who old x y) (f : EndState) (now : new ≡ with_end old who f) (id : ℕ) where
   comes : Comes x
   comes = ((agrees s.linked).0).comes
 
@@ -263,7 +263,7 @@ module _ (p : Past) (who : End) (old new : PairState) (x y : Endpoint) (s : Seen
 
 -- ---- the steps
 
-module _ (p : Past) (who : End) (old new : PairState) (x y : Endpoint) where
+module _ (p : Past) (who : End) (old new : PairState) (x y : LinkedEnd) where
   pub seen-write : (id : ℕ) (bytes : List ℕ) (reply : Answer) → Seen p who old x y → OnEnd (λ e f. OnGiven e id reply f (Writes e id (slice_lists bytes) reply f)) old who new → Sees (after p (steps.Write who id bytes) reply) who new x y
   seen-write id bytes reply s d =
       on-given p who old new x y id reply d.end (after_write p who id bytes) (Writes (the_end old who) id (slice_lists bytes) reply d.end) s refl d.is d.does

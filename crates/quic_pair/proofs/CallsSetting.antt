@@ -14,7 +14,7 @@ use Rattle.quic_history.specs.World.{World, is_own, remote_of}
 use Rattle.quic_history.specs.Permitting.{acceptable, with_accepted}
 use Rattle.quic_history.specs.SendEvents.{OpenedOwn, SetWindow, SetOwnPriority, Polled}
 use Rattle.quic_history.specs.History.{Event, Accepted, Resized, SetConcurrent, Sending, Step, Fits}
-use Rattle.quic_link.specs.Endpoints.{Endpoint, MayAct, acted, IsHonest, WasGiven}
+use Rattle.quic_link.specs.Endpoints.{LinkedEnd, MayAct, acted, IsHonest, WasGiven}
 use Rattle.quic_link.specs.Promises.{IsTrueEvent}
 use Rattle.quic_link.specs.Asked.{AreAsked}
 use Rattle.quic_link.proofs.Readings.{asked-streams}
@@ -33,7 +33,7 @@ use Rattle.quic_pair.proofs.Gives.{gave-none, given-opened, given-accepted}
 use Rattle.quic_pair.proofs.CallsSeen.{Called, called-once, quiet-accepts, sees-sent, sees-given, sees-quiet, sees-stays, sends-same, reads-same, step-at}
 
 -- what an end has to send was asked for, as it had it before
-pub asked-same : (x : Endpoint) (p q : Pending) → q ≡ p → AreAsked x p → AreAsked x q
+pub asked-same : (x : LinkedEnd) (p q : Pending) → q ≡ p → AreAsked x p → AreAsked x q
 asked-same x p q e a = let P : Pending → Type 0 = λ k. AreAsked x k in subst P (sym e) a
 
 -- where counts of streams are told
@@ -41,12 +41,12 @@ pub told-streams : (told : Bool) (e : EndState) → (with_counts_told_if told e)
 told-streams true e = refl
 told-streams false e = refl
 
-pub asked-told : (x : Endpoint) (told : Bool) (e : EndState) → AreAsked x e.pending → AreAsked x (with_counts_told_if told e).pending
+pub asked-told : (x : LinkedEnd) (told : Bool) (e : EndState) → AreAsked x e.pending → AreAsked x (with_counts_told_if told e).pending
 asked-told x true e a = asked-streams x e.streams e.pending a
 asked-told x false e a = a
 
 -- a step on a stream that the application was not given is refused
-pub sees-unknown : (p : Past) (who : End) (old new : PairState) (x y : Endpoint) (q : Answer → Past) (reply : Answer) (f : EndState) → Seen p who old x y → reply ≡ Err UnknownId → q (Err UnknownId) ≡ p → f ≡ the_end old who → new ≡ with_end old who f
+pub sees-unknown : (p : Past) (who : End) (old new : PairState) (x y : LinkedEnd) (q : Answer → Past) (reply : Answer) (f : EndState) → Seen p who old x y → reply ≡ Err UnknownId → q (Err UnknownId) ≡ p → f ≡ the_end old who → new ≡ with_end old who f
     → Sees (q reply) who new x y
 sees-unknown p who old new x y q reply f s e same is now =
     let P : Past → Type 0 = λ k. Sees k who new x y in
@@ -64,7 +64,7 @@ was-given w id e = by (is_own w id) e
     by true k = less _ _ k
     by false k = less _ _ k
 
-module _ (p : Past) (who : End) (old new : PairState) (x y : Endpoint) where
+module _ (p : Past) (who : End) (old new : PairState) (x y : LinkedEnd) where
   -- a call of the end, by a step of the value that it has in the pair
   pub may-act : Seen p who old x y → (e : Event) (v : World) → IsHonest x y e → Fits x.calls e → Step (the_end old who).streams e v → MayAct x y e v
   may-act s e v honest fits step = record { fits = fits; honest = honest; step = step-at x.world (the_end old who).streams v e s.here.world step }

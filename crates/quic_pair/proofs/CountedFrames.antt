@@ -15,7 +15,7 @@ use Rattle.quic_history.specs.Flows.{has_side_in}
 use Rattle.quic_history.specs.SendEvents.{StoppedOwn, RaisedData, RaisedLimit, RaisedCount}
 use Rattle.quic_history.specs.History.{Event, Received, ReceivedReset, Sending}
 use Rattle.quic_history.proofs.Histories.{next}
-use Rattle.quic_link.specs.Endpoints.{Endpoint, IsOneOf}
+use Rattle.quic_link.specs.Endpoints.{LinkedEnd, IsOneOf}
 use Rattle.quic_link.proofs.Joint.{agrees}
 use Rattle.quic_link.proofs.Promised.{promised}
 use Rattle.quic_endpoint.specs.Ends.{EndState}
@@ -120,7 +120,7 @@ answered_streams (Err receive_error.OutOfMemory) e = refl
 
 -- ---- which streams frames speak of
 
-module _ (p : Past) (who : End) (v : PairState) (x y : Endpoint) (s : Seen p who v x y) where
+module _ (p : Past) (who : End) (v : PairState) (x y : LinkedEnd) (s : Seen p who v x y) where
   -- a stream has a sending side at this end
   abbrev is_sent_here : ℕ → Type 0
   is_sent_here id = has_side_in (the_end v who).streams.out (the_end v who).streams.bi.max_remote id ≡ true

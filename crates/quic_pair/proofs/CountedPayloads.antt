@@ -18,10 +18,10 @@ use Rattle.quic_writing.specs.Appended.{frame_with}
 use Rattle.quic_history.specs.World.{World, Made}
 use Rattle.quic_history.specs.Carrying.{with_writer}
 use Rattle.quic_history.specs.SendEvents.{TookTurn}
-use Rattle.quic_history.specs.History.{Event, Settled, Sending, flow}
+use Rattle.quic_history.specs.History.{Event, LeftPending, Sending, flow}
 use Rattle.quic_streams.specs.Payload.{Entry, with_entries, control_order}
 use Rattle.quic_streams.specs.Transmitting.{end_writer, told_bytes}
-use Rattle.quic_link.specs.Endpoints.{Endpoint, IsOneOf}
+use Rattle.quic_link.specs.Endpoints.{LinkedEnd, IsOneOf}
 use Rattle.quic_link.proofs.Ends.{ArePlain}
 use Rattle.quic_link.proofs.Growth.{held-told}
 use Rattle.quic_link.proofs.Texts.{length-between}
@@ -89,7 +89,7 @@ record TurnsCounted (m : Made) (w : World) (b : Writer) (t : Tale) (frames : Lis
   pub within : AreWithin t frames
   pub counted : Counted m (with_writer w b) (with_metas_sent frames t)
 
-abbrev alone : Made → List Event → World → Endpoint
+abbrev alone : Made → List Event → World → LinkedEnd
 alone m h w = record { made = m; calls = h; world = w; wrote = [] }
 
 module _ (m : Made) (most : ℕ) (fair : Bool) (w : World) (t : Tale) (b c : Writer) (frames : List StreamMeta) (k : TurnsCounted m w b t frames) where
@@ -176,7 +176,7 @@ streams_note written (m ∷ ms) p = streams_note written ms p
 
 entries_told : (m : Made) (es : List Entry) (h : List Event) (t : Tale) → ArePlain h → TellsSo m h t → ArePlain (with_entries es h) × TellsSo m (with_entries es h) t
 entries_told m [] h t p k = (p, k)
-entries_told m (e ∷ es) h t p k = entries_told m es (Settled e.kind e.frame ∷ h) t (refl, p) (tells-untold m h (Settled e.kind e.frame) t (untold (Settled e.kind e.frame) tt) k)
+entries_told m (e ∷ es) h t p k = entries_told m es (LeftPending e.kind e.frame ∷ h) t (refl, p) (tells-untold m h (LeftPending e.kind e.frame) t (untold (LeftPending e.kind e.frame) tt) k)
 
 control_counted : (m : Made) (t : Tale) (most : ℕ) (e f : EndState) (answer : Result (Unit {0}) OutOfMemory) (bytes : List ℕ) (sent : Pending) → EmitsControl most e answer f bytes sent → Counted m e.streams t → Counted m f.streams t
 control_counted m t most e f answer bytes sent k c =

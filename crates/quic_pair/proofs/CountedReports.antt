@@ -9,7 +9,7 @@ use Rattle.quic_wire.specs.declared.frame.ResetStream.{ResetStream}
 use Rattle.quic_wire.specs.declared.frame.Stream.{Stream}
 use Rattle.quic_wire.specs.Frames.{AreFrames}
 use Rattle.quic_wire.proofs.Joins.{same}
-use Rattle.quic_retransmits.specs.Pending.{shown_if}
+use Rattle.quic_retransmits.specs.Pending.{thin_view}
 use Rattle.quic_flows.specs.Flow.{SendMove, WasAcked, WasLost, WasResetAcked}
 use Rattle.quic_history.specs.World.{World, Made}
 use Rattle.quic_history.specs.Flows.{has_side_in}
@@ -18,7 +18,7 @@ use Rattle.quic_history.specs.History.{Event, Step, Fits, Sending}
 use Rattle.quic_streams.specs.declared.settling.SentPayload.{SentPayload}
 use Rattle.quic_streams.specs.Sent.{sent_view, report_view}
 use Rattle.quic_streams.specs.Settling.{SentView, EachInOrder, AcksMeta, LosesMeta, AcksResetOf, AcksWhole, resets_of}
-use Rattle.quic_link.specs.Endpoints.{Endpoint, IsOneOf}
+use Rattle.quic_link.specs.Endpoints.{LinkedEnd, IsOneOf}
 use Rattle.quic_link.proofs.Joint.{agrees}
 use Rattle.quic_endpoint.specs.Ends.{EndState}
 use Rattle.quic_endpoint.specs.Reports.{LosesPayloadAt, AcksPayloadAt}
@@ -114,7 +114,7 @@ module _ (m : Made) (e f : EndState) (u : Unsettled) (r : SentPayload) (rest_is 
       record {
         done = parts_of (sent_view r);
         is_done = record { rest_is = rest_is; goes = goes; parts = sym (append-nil (parts_of (sent_view r))); control = λ lost back e. cc };
-        counted = subst P (sym (parts_joined lost_part (map Carried r.streams.items) (given_parts (resets_of (shown_if r.control))) t ∙ given_lost (resets_of (shown_if r.control)) (with_parts lost_part (map Carried r.streams.items) t))) (counted-by row.by);
+        counted = subst P (sym (parts_joined lost_part (map Carried r.streams.items) (given_parts (resets_of (thin_view r.control))) t ∙ given_lost (resets_of (thin_view r.control)) (with_parts lost_part (map Carried r.streams.items) t))) (counted-by row.by);
       }
   loss_counted goes (Err back) k = elim k.0 [
     | inl stop ↦ (
@@ -148,10 +148,10 @@ module _ (m : Made) (e f : EndState) (u : Unsettled) (r : SentPayload) (rest_is 
       told_part : (x : StreamMeta) (all told rest : List StreamMeta) (next : StreamMeta) → all ≡ told ++ next ∷ rest → IsOneOf x told → IsOneOf x all
       told_part x all told rest next p h = let P : List StreamMeta → Type 0 = λ l. IsOneOf x l in subst P (sym p) (one-of-first x told (next ∷ rest) h)
 
-      back_control : (back b r : SentPayload) (streams : List StreamMeta) → ◌≡◌ {A = Result (Unit {0}) SentPayload} (Err back) (Err b) → sent_view back ≡ record (sent_view r) { streams = streams } → shown_if b.control ≡ shown_if r.control
+      back_control : (back b r : SentPayload) (streams : List StreamMeta) → ◌≡◌ {A = Result (Unit {0}) SentPayload} (Err back) (Err b) → sent_view back ≡ record (sent_view r) { streams = streams } → thin_view b.control ≡ thin_view r.control
       back_control back b r streams e l = let same_one : back ≡ b = cc in ap (λ (v : SentView). v.control) (sym (ap sent_view same_one) ∙ l)
 
-  ack_counted : goes_on Acknowledged u.begun ≡ true → ((x : ℕ × ℕ) → IsOneOf x (resets_of (shown_if r.control)) → sides_told m c.calls x.0 ≡ true) → (answer : Result (Unit {0}) SentPayload) → AcksPayloadAt e (sent_view r) (report_view answer) f → ReportCounted m acked_part Acknowledged u r answer f.streams t
+  ack_counted : goes_on Acknowledged u.begun ≡ true → ((x : ℕ × ℕ) → IsOneOf x (resets_of (thin_view r.control)) → sides_told m c.calls x.0 ≡ true) → (answer : Result (Unit {0}) SentPayload) → AcksPayloadAt e (sent_view r) (report_view answer) f → ReportCounted m acked_part Acknowledged u r answer f.streams t
   ack_counted goes resets answer k = by_answer answer k.acks
     where
       streams_are : f.streams ≡ k.acked.streams
@@ -178,7 +178,7 @@ module _ (m : Made) (e f : EndState) (u : Unsettled) (r : SentPayload) (rest_is 
       by_answer (Ok done) w = record {
         done = parts_of (sent_view r);
         is_done = record { rest_is = rest_is; goes = goes; parts = sym (append-nil (parts_of (sent_view r))); control = λ lost back e. absurd (no_control lost) };
-        counted = here _ (both_rows w.0 k.acked.streams (resets_of (shown_if r.control)) w.1 resets w.2);
+        counted = here _ (both_rows w.0 k.acked.streams (resets_of (thin_view r.control)) w.1 resets w.2);
       }
       by_answer (Err back) w = elim w [
         | inl stop ↦ (
@@ -190,7 +190,7 @@ module _ (m : Made) (e f : EndState) (u : Unsettled) (r : SentPayload) (rest_is 
             }
             )
         | inr stop ↦ (
-            let noted_are : resets_of (shown_if r.control) ≡ stop.resets.told ++ stop.resets.next ∷ stop.resets.rest = ap resets_of stop.noted ∙ stop.resets.parts in
+            let noted_are : resets_of (thin_view r.control) ≡ stop.resets.told ++ stop.resets.next ∷ stop.resets.rest = ap resets_of stop.noted ∙ stop.resets.parts in
             let some = stop.resets.told in
             let behind = stop.resets.next ∷ stop.resets.rest in
             record {
@@ -202,7 +202,7 @@ module _ (m : Made) (e f : EndState) (u : Unsettled) (r : SentPayload) (rest_is 
                     ∙ sym (append_assoc (map Carried r.streams.items) (given_parts some) (given_parts behind)) ∙ ap (λ (v : SentView). (map Carried r.streams.items ++ given_parts some) ++ parts_of v) (sym stop.left);
                 control = λ lost b e. absurd (no_control lost);
               };
-              counted = here _ (both_rows stop.between k.acked.streams some stop.frames (λ x h. resets x (told_part x (resets_of (shown_if r.control)) some stop.resets.rest stop.resets.next noted_are h)) stop.resets.reports);
+              counted = here _ (both_rows stop.between k.acked.streams some stop.frames (λ x h. resets x (told_part x (resets_of (thin_view r.control)) some stop.resets.rest stop.resets.next noted_are h)) stop.resets.reports);
             }
             )
       ]
@@ -218,7 +218,7 @@ module _ (a b : Config) (p : Past) (old new : PairState) (j : Joined a b p old) 
     who = s.writer
 
     -- a frame of the payload is one that its writer wrote
-    wrote_of : (first second : Endpoint) (seen : Seen p who old first second) (g : Frame) → IsOneOf g all → IsOneOf g first.wrote
+    wrote_of : (first second : LinkedEnd) (seen : Seen p who old first second) (g : Frame) → IsOneOf g all → IsOneOf g first.wrote
     wrote_of first second seen g h =
         let i = seen.own number s is refl in
         let P : List Frame → Type 0 = λ l. IsOneOf g l in
@@ -246,7 +246,7 @@ module _ (a b : Config) (p : Past) (old new : PairState) (j : Joined a b p old) 
         let P : StreamMeta → Type 0 = λ k. sides_told (made_at a b who) (r.counted who).calls k.id ≡ true in
         subst P (sym g.2) (sides-known (r.counted who) g.0.id (side_of_stream g.0 g.1))
 
-    reset_sides : (c : ℕ × ℕ) → IsOneOf c (resets_of (shown_if x.control)) → sides_told (made_at a b who) (r.counted who).calls c.0 ≡ true
+    reset_sides : (c : ℕ × ℕ) → IsOneOf c (resets_of (thin_view x.control)) → sides_told (made_at a b who) (r.counted who).calls c.0 ≡ true
     reset_sides c h =
         let g = resets-among old.sent r.tales.told r.left number s is x rest_is all spelled c.0 c.1 h in
         let P : ℕ → Type 0 = λ n. sides_told (made_at a b who) (r.counted who).calls n ≡ true in

@@ -26,7 +26,7 @@ use Rattle.quic_pair.specs.Places.{FindsFrame, FailsToFind, MarksIf, MarksAt}
 use Rattle.quic_pair.specs.Unsettled.{unsettled_after}
 use Rattle.quic_pair.specs.Reports.{TakesRestAt, FailsToTake, KeepsBack}
 use Rattle.quic_pair.specs.State.{PairState, OnEnd, peer, the_end, with_end, with_sent, two_ends}
-use Rattle.quic_pair.specs.Steps.{IsSentBy, Emits, Emitted, TakesFrame, Delivers, HandsOver, SentAfter, Reports, SettlesPayload}
+use Rattle.quic_pair.specs.Steps.{IsSentBy, Emits, Emitted, EndTakesFrame, Delivers, HandsOver, SentAfter, Reports, SettlesPayload}
 use Rattle.quic_pair.proofs.Lists.{slice_get-set_same, slice_set-twice}
 
 pub sent-same : (p : PairState) (who : End) (e : EndState) → (with_end p who e).sent ≡ p.sent
@@ -68,10 +68,10 @@ module _ (old mid new : PairState) (n i : ℕ) (h : HandedFrame) (f : FindsFrame
   at_writer P d = let Q : End → Type 0 = λ w. OnEnd P old (peer w) mid in subst Q f.writer d
 
   -- what was handed over, whatever the answer
-  handed : (answer : Result ShouldTransmit ReceiveError) → OnEnd (TakesFrame h.frame h.len answer) old (peer h.writer) mid → SentAfter old.sent n f.whole i answer new.sent → new ≡ with_sent mid new.sent
+  handed : (answer : Result ShouldTransmit ReceiveError) → OnEnd (EndTakesFrame h.frame h.len answer) old (peer h.writer) mid → SentAfter old.sent n f.whole i answer new.sent → new ≡ with_sent mid new.sent
       → HandsOver old n i (received_reply answer) new
   handed answer d s e =
-      let o = at_writer (TakesFrame h.frame h.len answer) d in record {
+      let o = at_writer (EndTakesFrame h.frame h.len answer) d in record {
         payload = record { sent = f.whole; is = f.is };
         frame = h.frame;
         at = f.at;
@@ -92,7 +92,7 @@ module _ (old mid new : PairState) (n i : ℕ) (h : HandedFrame) (f : FindsFrame
       let Q : Sent → Type 0 = λ x. new.sent ≡ slice_set old.sent n (record x { text = m.text }) in
       (m.text, subst P w m.marked, subst Q w m.new_is)
 
-  pub deliver-so : (answer : Result ShouldTransmit ReceiveError) → OnEnd (TakesFrame h.frame h.len answer) old (peer h.writer) mid → MarksIf answer old.sent n i new.sent → new ≡ with_sent mid new.sent
+  pub deliver-so : (answer : Result ShouldTransmit ReceiveError) → OnEnd (EndTakesFrame h.frame h.len answer) old (peer h.writer) mid → MarksIf answer old.sent n i new.sent → new ≡ with_sent mid new.sent
       → Delivers old n i (received_reply answer) new
   deliver-so (Ok transmit) d m e = handed (Ok transmit) d (marked-so transmit m) e
   deliver-so (Err (receive_error.Transport error)) d m e = handed (Err (receive_error.Transport error)) d m e

@@ -13,7 +13,7 @@ use Rattle.quic_retransmits.specs.Pending.{Pending}
 use Rattle.quic_history.specs.World.{World}
 use Rattle.quic_history.specs.SendEvents.{StoppedOwn, RaisedData, RaisedLimit, RaisedCount}
 use Rattle.quic_history.specs.History.{Event, Received, ReceivedReset, Sending, Step}
-use Rattle.quic_link.specs.Endpoints.{Endpoint, Linked, first_acts, MayAct, acted, IsOneOf, WasAccepted}
+use Rattle.quic_link.specs.Endpoints.{LinkedEnd, Linked, first_acts, MayAct, acted, IsOneOf, WasAccepted}
 use Rattle.quic_link.specs.Asked.{AreAsked}
 use Rattle.quic_endpoint.specs.Ends.{EndState, with_limit_told}
 use Rattle.quic_endpoint.specs.Receiving.{ReceivesAt, MakesCall, event_of, with_answer_told, stopped_so, done_so}
@@ -27,8 +27,8 @@ abbrev Answered : Type 0
 Answered = Result ShouldTransmit ReceiveError
 
 -- x came, by the call that a frame is, to an end that is f: a STREAM frame was accepted only where it is this one
-pub record Hears (x y : Endpoint) (frame : Frame) (answer : Result ShouldTransmit ReceiveError) (f : EndState) : Type 0 where
-  pub end : Endpoint
+pub record Hears (x y : LinkedEnd) (frame : Frame) (answer : Result ShouldTransmit ReceiveError) (f : EndState) : Type 0 where
+  pub end : LinkedEnd
   pub linked : Linked end y
   pub keeps : Keeps x end
   pub here : Stands end f
@@ -58,10 +58,10 @@ same_frame g answer q offset bytes fin transmit e = (sym (ap (frame_in (frames.S
 step_at : (u w v : World) (e : Event) → u ≡ w → Step w e v → Step u e v
 step_at u w v e k s = let P : World → Type 0 = λ z. Step z e v in subst P (sym k) s
 
-pending_at : (x : Endpoint) (p q : Pending) → q ≡ p → AreAsked x p → AreAsked x q
+pending_at : (x : LinkedEnd) (p q : Pending) → q ≡ p → AreAsked x p → AreAsked x q
 pending_at x p q e a = let P : Pending → Type 0 = λ j. AreAsked x j in subst P (sym e) a
 
-hears_stream : (x y : Endpoint) (e f : EndState) (g : Stream) (answer : Answered) → Linked x y → Stands x e → IsOneOf (frames.Stream g) y.wrote → Step e.streams (Received g.id g.offset g.bytes g.fin answer) f.streams → f.pending ≡ e.pending
+hears_stream : (x y : LinkedEnd) (e f : EndState) (g : Stream) (answer : Answered) → Linked x y → Stands x e → IsOneOf (frames.Stream g) y.wrote → Step e.streams (Received g.id g.offset g.bytes g.fin answer) f.streams → f.pending ≡ e.pending
     → Hears x y (frames.Stream g) answer f
 hears_stream x y e f g answer l s wrote step pending =
     let event = Received g.id g.offset g.bytes g.fin answer in
@@ -93,7 +93,7 @@ same_reset : (g : ResetStream) (answer : Answered) (q code final : ℕ) (transmi
     → (frames.ResetStream g ≡ frames.ResetStream (record { id = q; error_code = code; final_offset = final })) × (answer ≡ Ok transmit)
 same_reset g answer q code final transmit e = (sym (ap (reset_in (frames.ResetStream g)) e), sym (ap (reset_answer answer) e))
 
-hears_reset : (x y : Endpoint) (e f : EndState) (g : ResetStream) (answer : Answered) → Linked x y → Stands x e → IsOneOf (frames.ResetStream g) y.wrote → Step e.streams (ReceivedReset g.id g.error_code g.final_offset answer) f.streams
+hears_reset : (x y : LinkedEnd) (e f : EndState) (g : ResetStream) (answer : Answered) → Linked x y → Stands x e → IsOneOf (frames.ResetStream g) y.wrote → Step e.streams (ReceivedReset g.id g.error_code g.final_offset answer) f.streams
     → f.pending ≡ e.pending → Hears x y (frames.ResetStream g) answer f
 hears_reset x y e f g answer l s wrote step pending =
     let event = ReceivedReset g.id g.error_code g.final_offset answer in
@@ -133,7 +133,7 @@ same_stop g answer q code e =
     let done = stop_done answer (sym (ap (stop_answer (stopped_so answer)) e)) in
     (sym (ap (stop_in (frames.StopSending g)) e), done.0, done.1)
 
-hears_stop : (x y : Endpoint) (e f : EndState) (g : StopSending) (answer : Answered) → Linked x y → Stands x e → IsOneOf (frames.StopSending g) y.wrote → Step e.streams (Sending (StoppedOwn g.id g.error_code (stopped_so answer))) f.streams
+hears_stop : (x y : LinkedEnd) (e f : EndState) (g : StopSending) (answer : Answered) → Linked x y → Stands x e → IsOneOf (frames.StopSending g) y.wrote → Step e.streams (Sending (StoppedOwn g.id g.error_code (stopped_so answer))) f.streams
     → f.pending ≡ e.pending → Hears x y (frames.StopSending g) answer f
 hears_stop x y e f g answer l s wrote step pending =
     let stop = StoppedOwn g.id g.error_code (stopped_so answer) in
@@ -157,7 +157,7 @@ hears_stop x y e f g answer l s wrote step pending =
 -- ---- other frames
 
 -- a frame that is neither is heard by a call that the steps tell nothing of
-quietly : (x y : Endpoint) (frame : Frame) (answer : Answered) (f : EndState) → Reaches x y f → ((stream : Stream) → frame ≡ frames.Stream stream → ⊥) → Hears x y frame answer f
+quietly : (x y : LinkedEnd) (frame : Frame) (answer : Answered) (f : EndState) → Reaches x y f → ((stream : Stream) → frame ≡ frames.Stream stream → ⊥) → Hears x y frame answer f
 quietly x y frame answer f r other = record {
   end = r.end;
   linked = r.linked;
@@ -169,12 +169,12 @@ quietly x y frame answer f r other = record {
 }
 
 -- one that is no call
-reached_none : (x y : Endpoint) (e f : EndState) → Linked x y → Stands x e → f.streams ≡ e.streams → f.pending ≡ e.pending → Reaches x y f
+reached_none : (x y : LinkedEnd) (e f : EndState) → Linked x y → Stands x e → f.streams ≡ e.streams → f.pending ≡ e.pending → Reaches x y f
 reached_none x y e f l s same pending = reached-same x y f l (record { world = s.world ∙ sym same; pending = pending_at x e.pending f.pending pending s.pending })
 
 -- ---- any frame
 
-hears_call : (x y : Endpoint) (e f : EndState) (frame : Frame) (answer : Answered) → Linked x y → Stands x e → IsOneOf frame y.wrote → MakesCall e.streams (event_of frame answer) f.streams → f.pending ≡ e.pending → Hears x y frame answer f
+hears_call : (x y : LinkedEnd) (e f : EndState) (frame : Frame) (answer : Answered) → Linked x y → Stands x e → IsOneOf frame y.wrote → MakesCall e.streams (event_of frame answer) f.streams → f.pending ≡ e.pending → Hears x y frame answer f
 hears_call x y e f (frames.Stream g) answer l s wrote call pending = hears_stream x y e f g answer l s wrote call pending
 hears_call x y e f (frames.ResetStream g) answer l s wrote call pending =
     hears_reset x y e f g answer l s wrote call pending
@@ -188,7 +188,7 @@ hears_call x y e f (frames.MaxStreams dir count) answer l s wrote call pending =
 hears_call x y e f frame answer l s wrote call pending = quietly x y frame answer f (reached_none x y e f l s call pending) (λ stream is. cc)
 
 -- what an answer asks for is flags
-stands_answered : (x : Endpoint) (answer : Answered) (e : EndState) → Stands x e → Stands x (with_answer_told answer e)
+stands_answered : (x : LinkedEnd) (answer : Answered) (e : EndState) → Stands x e → Stands x (with_answer_told answer e)
 stands_answered x (Ok transmit) e s =
     let told = with_limit_told transmit.0 e in
     stands-told x told (record { world = s.world; pending = asked-flags x e.pending told.pending refl s.pending })
@@ -197,7 +197,7 @@ stands_answered x (Err receive_error.CompactionMemory) e s = stands-told x e s
 stands_answered x (Err receive_error.OutOfMemory) e s = s
 
 -- a frame that the other end wrote is handed to x
-pub hears-frame : (x y : Endpoint) (e f : EndState) (frame : Frame) (answer : Result ShouldTransmit ReceiveError) → Linked x y → Stands x e → IsOneOf frame y.wrote → ReceivesAt e frame answer f → Hears x y frame answer f
+pub hears-frame : (x y : LinkedEnd) (e f : EndState) (frame : Frame) (answer : Result ShouldTransmit ReceiveError) → Linked x y → Stands x e → IsOneOf frame y.wrote → ReceivesAt e frame answer f → Hears x y frame answer f
 hears-frame x y e f frame answer l s wrote r =
     let h = hears_call x y e r.taken frame answer l s wrote r.call r.pending in
     record { end = h.end; linked = h.linked; keeps = h.keeps; here = stands-at h.end f (with_answer_told answer r.taken) r.is (stands_answered h.end answer r.taken h.here); heard = h.heard; frame_heard = h.frame_heard; told = h.told }

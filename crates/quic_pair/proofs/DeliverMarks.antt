@@ -9,7 +9,7 @@ use Rattle.quic_wire.specs.Frames.{AreFrames}
 use Rattle.quic_wire.specs.declared.error.ReceiveError.{ReceiveError}
 use Rattle.quic_wire.specs.declared.error.ReceiveError.TheVariants as receive_error
 use Rattle.quic_receiving.specs.declared.transmit.ShouldTransmit.{ShouldTransmit}
-use Rattle.quic_link.specs.Endpoints.{Endpoint, IsOneOf, WasAccepted}
+use Rattle.quic_link.specs.Endpoints.{LinkedEnd, IsOneOf, WasAccepted}
 use Rattle.quic_link.proofs.Basics.{either_true, same_id}
 use Rattle.quic_endpoint.specs.Ends.{EndState}
 use Rattle.quic_endpoint.specs.Receiving.{ReceivesAt}
@@ -70,7 +70,7 @@ stay_marked sent number s index marked is m k t h = elim (slice_set-keeps sent n
 ]
 
 -- once a frame of it was accepted, one more mark is true
-payload_marked : (y x z : Endpoint) (s : Sent) (index : ℕ) (marked : SentText) (g : Frame) → Keeps x z → IsPayloadOf y x s → IsFrameAt s.text.bytes index g → IsMarked s.text index marked
+payload_marked : (y x z : LinkedEnd) (s : Sent) (index : ℕ) (marked : SentText) (g : Frame) → Keeps x z → IsPayloadOf y x s → IsFrameAt s.text.bytes index g → IsMarked s.text index marked
     → ((stream : Stream) → g ≡ frames.Stream stream → WasAccepted z.calls stream.id (meta_of stream).offsets stream.fin) → IsPayloadOf y z (with_marks s marked)
 payload_marked y x z s index marked g k i at m told =
     let P : List ℕ → Type 0 = λ bytes. AreFrames bytes i.all in
@@ -85,7 +85,7 @@ payload_marked y x z s index marked g k i at m told =
       ];
     }
 
-module _ (p : Past) (who : End) (old new : PairState) (x y : Endpoint) (number index : ℕ) (s : Seen p who old x y) (sent : Sent) (is : slice_get old.sent number ≡ Some sent) (w : sent.writer ≡ peer who) (frame : Frame)
+module _ (p : Past) (who : End) (old new : PairState) (x y : LinkedEnd) (number index : ℕ) (s : Seen p who old x y) (sent : Sent) (is : slice_get old.sent number ≡ Some sent) (w : sent.writer ≡ peer who) (frame : Frame)
     (at : IsFrameAt sent.text.bytes index frame) (f : EndState) where
   -- it was answered Ok
   handed_ok : (transmit : ShouldTransmit) (h : Hears x y frame (Ok transmit) f) (marked : SentText) → IsMarked sent.text index marked → new ≡ with_sent (with_end old who f) (slice_set old.sent number (with_marks sent marked))
@@ -168,7 +168,7 @@ module _ (p : Past) (who : End) (old new : PairState) (x y : Endpoint) (number i
   handed (Ok transmit) sents h after e = handed_ok transmit h after.0 after.1 (e ∙ ap (with_sent (with_end old who f)) after.2)
   handed (Err error) sents h after e = handed_error error h (e ∙ ap (with_sent (with_end old who f)) after)
 
-pub seen-hands-over : (p : Past) (who : End) (old new : PairState) (x y : Endpoint) (number index : ℕ) (reply : Answer) → Seen p who old x y → (k : HandsOver old number index reply new) → k.payload.sent.writer ≡ peer who
+pub seen-hands-over : (p : Past) (who : End) (old new : PairState) (x y : LinkedEnd) (number index : ℕ) (reply : Answer) → Seen p who old x y → (k : HandsOver old number index reply new) → k.payload.sent.writer ≡ peer who
     → Sees (after_deliver p (number, index) reply) who new x y
 seen-hands-over p who old new x y number index reply s k w =
     let to : peer k.payload.sent.writer ≡ who = ap peer w ∙ peer-peer who in

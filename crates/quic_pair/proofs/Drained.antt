@@ -32,7 +32,7 @@ use Rattle.quic_pair.specs.Headline.{IsFaithful, IsBeginningOf, AreInOrder, Some
 use Rattle.quic_pair.specs.Readable.{AreCut, HasNothingLeft, ReadsTrue}
 use Rattle.quic_pair.specs.Refused.{IsKnownSo}
 use Rattle.quic_pair.specs.Law.{MayDrain, DrainsBy, DrainsFlow, Drains}
-use Rattle.quic_pair.specs.From.{From, begun, next}
+use Rattle.quic_pair.specs.From.{PairFrom, begun, next}
 use Rattle.quic_pair.proofs.Grown.{headline-from, past-after}
 use Rattle.quic_pair.proofs.Beside.{IsOfNoPayload, beside}
 use Rattle.quic_pair.proofs.Readable.{readable-so}
@@ -90,7 +90,7 @@ module _ (p : Past) (reply : Answer) (a : AcceptsKept p) where
   accepts_after (steps.Ack number) = accepts_reported p number Acknowledged reply a
   accepts_after _ = a
 
-accepts_from : {a b : Config} {whole : History} {v : PairState} → From a b whole v → AcceptsKept (past_of whole)
+accepts_from : {a b : Config} {whole : History} {v : PairState} → PairFrom a b whole v → AcceptsKept (past_of whole)
 accepts_from {a} {b} {whole} {v} (begun n) = λ at h. absurd h
 accepts_from {a} {b} {whole} {v} (next {h} {old} {new} step reply f n) =
     subst AcceptsKept (sym (past-after h step reply)) (accepts_after (past_of h) reply (accepts_from f) step)
@@ -226,7 +226,7 @@ module _ (p : Past) (sent : List Sent) (who : End) (id most times : ℕ) (kept :
 
 -- ---- the step
 
-module _ (a b : Config) (h : History) (old new : PairState) (g : From a b h old) where
+module _ (a b : Config) (h : History) (old new : PairState) (g : PairFrom a b h old) where
   abbrev p : Past
   p = past_of h
 
@@ -252,5 +252,5 @@ module _ (a b : Config) (h : History) (old new : PairState) (g : From a b h old)
   drains_next _ reply n = tt
 
 -- whatever the network did, what was delivered is read
-pub drains-so : (a b : Config) (h : History) (old new : PairState) (step : Step) (reply : Answer) → From a b h old → Next old step reply new → Drains (past_of h) old.sent step reply
+pub drains-so : (a b : Config) (h : History) (old new : PairState) (step : Step) (reply : Answer) → PairFrom a b h old → Next old step reply new → Drains (past_of h) old.sent step reply
 drains-so a b h old new step reply g n = drains_next a b h old new g step reply n

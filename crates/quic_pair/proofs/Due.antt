@@ -32,7 +32,7 @@ use Rattle.quic_receiving.specs.declared.errors.ReadableError.TheVariants as rea
 use Rattle.quic_receiving.specs.declared.transmit.ShouldTransmit.{ShouldTransmit}
 use Rattle.quic_outgoing.specs.Outgoing.{Outgoing, own_of, is_stuck}
 use Rattle.quic_outgoing.specs.Writing.{refusal_of_write}
-use Rattle.quic_retransmits.specs.Pending.{Pending, nothing, merged_if, shown_if}
+use Rattle.quic_retransmits.specs.Pending.{Pending, nothing, merged_if, thin_view}
 use Rattle.quic_retransmits.specs.Queueing.{with_id, with_stop_sending}
 use Rattle.quic_history.specs.World.{World, with_freed, noticed, advanced, with_credit, with_receive}
 use Rattle.quic_history.specs.Sends.{with_opened}
@@ -73,7 +73,7 @@ use Rattle.quic_pair.specs.declared.unsettled.Unsettled.{Unsettled}
 use Rattle.quic_pair.specs.Unsettled.{goes_on, may_report}
 use Rattle.quic_pair.specs.Steps.{Next, Emitted, HandsOver, Delivers, SettlesPayload, HasPayload}
 use Rattle.quic_pair.specs.History.{History, past_of}
-use Rattle.quic_pair.specs.From.{From}
+use Rattle.quic_pair.specs.From.{PairFrom}
 use Rattle.quic_pair.specs.Due.{AsksStreams, AsksData, AsksWindow, AsksAllOf, OpensAll, LeavesRoom, WritesAll, AsksForReset, AsksStop, AsksStopIf, AsksWindowIf, AsksAfterRead, AsksStreamsIf, AsksLarger, IsFull, IsFullIf, AsksAfterFrame, AsksAgain, OnWriter, AsksFor}
 use Rattle.quic_pair.proofs.Left.{AreLeft}
 use Rattle.quic_pair.proofs.Grown.{joined-from, grown-from}
@@ -440,9 +440,9 @@ module _ (old new : PairState) where
         let noted = (left number h.sent r all h.is rest spelled).noted (goes_so h.sent.unsettled r rest may) in
         let p = (the_end old h.sent.writer).pending in
         let P : Pending → Type 0 = λ q. AsksAllOf (noted_of nothing all) q in
-        let Q : Pending → Type 0 = λ q. AsksAllOf q (merged_if p (shown_if r.control)) in
+        let Q : Pending → Type 0 = λ q. AsksAllOf q (merged_if p (thin_view r.control)) in
         let F : EndState → Type 0 = λ g. AsksAllOf (noted_of nothing all) g.pending in
-        subst F (sym e) (subst P (sym d.1) (subst Q noted (asks-all-of p (shown_if r.control)))))
+        subst F (sym e) (subst P (sym d.1) (subst Q noted (asks-all-of p (thin_view r.control)))))
       where
         goes_so : (u : Unsettled) (x : SentPayload) → u.rest ≡ Some x → may_report Lost u ≡ true → goes_on Lost u.begun ≡ true
         goes_so u x is may = rw is at may
@@ -457,7 +457,7 @@ module _ (old new : PairState) where
 
 -- ---- payloads that are written
 
-module _ (a b : Config) (h : History) (old new : PairState) (g : From a b h old) where
+module _ (a b : Config) (h : History) (old new : PairState) (g : PairFrom a b h old) where
   emits_full : (who : End) (most : ℕ) (fair : Bool) (reply : Answer) → Emitted old who most fair reply new → IsFullIf most reply (the_end new who)
   emits_full who most fair (Ok (Payload number bytes)) k =
       let F : EndState → Type 0 = λ e. IsFull most bytes.items e in
@@ -543,7 +543,7 @@ module _ (old new : PairState) where
       subst Holds (sym d.reply_is) (subst F (sym (changed_end old new who n.end n.is)) (asks_concurrent (the_end old who) n.end dir count d.answer d.sets))
 
 -- whatever steps led to a pair, the next one withholds nothing that was due
-pub asks-for : (a b : Config) (h : History) (old new : PairState) (step : Step) (reply : Answer) → From a b h old → Next old step reply new → AsksFor old step reply new
+pub asks-for : (a b : Config) (h : History) (old new : PairState) (step : Step) (reply : Answer) → PairFrom a b h old → Next old step reply new → AsksFor old step reply new
 asks-for a b h old new (steps.Open who dir) reply g n = opens_next old new who dir reply n
 asks-for a b h old new (steps.Write who id bytes) reply g n = writes_next old new who id bytes reply n
 asks-for a b h old new (steps.WriteChunks who id chunks) reply g n = chunks_next old new who id chunks reply n

@@ -28,7 +28,7 @@ use Rattle.quic_history.specs.History.{From}
 use Rattle.quic_streams.specs.Payload.{Sheet, PayloadPlace, with_frame_written, with_frame_written_if, SettlesOne, SettlesSome, FitsIn, none, more, WritesKinds, control_order}
 use Rattle.quic_streams.specs.Transmitting.{told_bytes}
 use Rattle.quic_streams.specs.Settling.{resets_of}
-use Rattle.quic_link.specs.Endpoints.{Endpoint, Linked, IsOneOf}
+use Rattle.quic_link.specs.Endpoints.{LinkedEnd, Linked, IsOneOf}
 use Rattle.quic_link.proofs.Basics.{either-of, only}
 use Rattle.quic_link.proofs.Joint.{agrees}
 use Rattle.quic_endpoint.specs.Ends.{EndState}
@@ -151,7 +151,7 @@ are_streams written [] g h = absurd h
 are_streams written (m ∷ ms) g h = elim h [ inl e ↦ ap is_control e | inr k ↦ are_streams written ms g k ]
 
 -- a payload that was written whole is full
-pub full-payload : {most : ℕ} {fair : Bool} {e f : EndState} {payload : PayloadView} (x y : Endpoint) → Linked x y → Stands x e → EmitsAt most fair e payload (Ok tt) f → IsFull most payload.bytes f
+pub full-payload : {most : ℕ} {fair : Bool} {e f : EndState} {payload : PayloadView} (x y : LinkedEnd) → Linked x y → Stands x e → EmitsAt most fair e payload (Ok tt) f → IsFull most payload.bytes f
 full-payload {most} {fair} {e} {f} {payload} x y l s (whole between bytes c d) =
     let page = page-control x y most e c.before control_order (place_at between bytes (control_in payload) c.after) (Ok tt) l s c.writes in
     let z = page.end in

@@ -6,7 +6,7 @@ use Rattle.quic_values.specs.Ids.{dir_of, index_of}
 use Rattle.quic_outgoing.specs.Outgoing.{own_of}
 use Rattle.quic_history.specs.World.{World, is_own, remote_of}
 use Rattle.quic_history.specs.Acknowledged.{was_given}
-use Rattle.quic_link.specs.Endpoints.{Endpoint, IsOneOf, WasGiven}
+use Rattle.quic_link.specs.Endpoints.{LinkedEnd, IsOneOf, WasGiven}
 use Rattle.quic_link.specs.Promises.{Promises}
 use Rattle.quic_link.proofs.Promised.{promised}
 use Rattle.quic_steps.specs.declared.steps.End.{End}
@@ -14,7 +14,7 @@ use Rattle.quic_steps.specs.declared.steps.End.TheVariants.{A, B}
 use Rattle.quic_steps.specs.declared.steps.Config.{Config}
 use Rattle.quic_pair.specs.State.{PairState, the_end}
 use Rattle.quic_pair.specs.History.{Past, History, past_of}
-use Rattle.quic_pair.specs.From.{From}
+use Rattle.quic_pair.specs.From.{PairFrom}
 use Rattle.quic_pair.proofs.Joined.{Stands, Knows, Joined}
 use Rattle.quic_pair.proofs.CallsSetting.{was-given}
 use Rattle.quic_pair.proofs.Grown.{joined-from}
@@ -35,7 +35,7 @@ given_counts w id h = by (is_own w id) h
 abbrev pub AreKnown : PairState → Past → End → Type 0
 AreKnown v p who = (id : ℕ) → (was_given (the_end v who).streams id ≡ true) ↔ IsOneOf id (p.ids who)
 
-known_end : (p : Past) (v : PairState) (who : End) (x y : Endpoint) → Knows p v.sent who x y → Stands x (the_end v who) → Promises x y → AreKnown v p who
+known_end : (p : Past) (v : PairState) (who : End) (x y : LinkedEnd) → Knows p v.sent who x y → Stands x (the_end v who) → Promises x y → AreKnown v p who
 known_end p v who x y k here all id =
     let P : World → Type 0 = λ w. WasGiven w id in (
       λ h. (k.ids id).0 ((all.given id).0 (subst P (sym here.world) (was-given (the_end v who).streams id h))),
@@ -47,5 +47,5 @@ known_joined a b p v j A = known_end p v A j.first j.second j.seen.sends j.seen.
 known_joined a b p v j B = known_end p v B j.second j.first j.seen.receives j.seen.there (promised j.seen.linked).1
 
 -- whatever steps led to a pair
-pub known-from : {a b : Config} {h : History} {v : PairState} → From a b h v → (who : End) → AreKnown v (past_of h) who
+pub known-from : {a b : Config} {h : History} {v : PairState} → PairFrom a b h v → (who : End) → AreKnown v (past_of h) who
 known-from {a} {b} {h} {v} f who = known_joined a b (past_of h) v (joined-from f) who

@@ -5,7 +5,7 @@ use Rattle.quic_values.specs.declared.ids.Dir.{Dir}
 use Rattle.quic_history.specs.World.{World}
 use Rattle.quic_history.specs.SendEvents.{OpenedOwn}
 use Rattle.quic_history.specs.History.{Event, Accepted, Sending}
-use Rattle.quic_link.specs.Endpoints.{Endpoint, IsOneOf, GaveId, acted}
+use Rattle.quic_link.specs.Endpoints.{LinkedEnd, IsOneOf, GaveId, acted}
 
 -- a call opens no stream, and accepts none
 abbrev pub GivesNone : Event → Type 0
@@ -14,14 +14,14 @@ GivesNone (Accepted dir (Some id)) = ⊥
 GivesNone _ = Unit {0}
 
 -- x became z by calls that give no stream
-abbrev pub GaveNone : Endpoint → Endpoint → Type 0
+abbrev pub GaveNone : LinkedEnd → LinkedEnd → Type 0
 GaveNone x z = (id : ℕ) → GaveId z.calls id → GaveId x.calls id
 
 -- the streams that an end was given are these
-abbrev pub AreGiven : Endpoint → List ℕ → Type 0
+abbrev pub AreGiven : LinkedEnd → List ℕ → Type 0
 AreGiven x ids = (id : ℕ) → GaveId x.calls id ↔ IsOneOf id ids
 
-pub gave-none : (x : Endpoint) (e : Event) (v : World) → GivesNone e → GaveNone x (acted x e v)
+pub gave-none : (x : LinkedEnd) (e : Event) (v : World) → GivesNone e → GaveNone x (acted x e v)
 gave-none x e v w id (inl o) = inl (
   o.0,
   o.1,
@@ -43,10 +43,10 @@ gave_more : (calls more : List Event) (id : ℕ) → ((e : Event) → IsOneOf e 
 gave_more calls more id m (inl o) = inl (o.0, o.1, m (Sending (OpenedOwn o.0 o.1 (Ok (Some id)))) o.2)
 gave_more calls more id m (inr o) = inr (o.0, m (Accepted o.0 (Some id)) o.1)
 
-pub given-still : (x z : Endpoint) (ids : List ℕ) → ((e : Event) → IsOneOf e x.calls → IsOneOf e z.calls) → GaveNone x z → AreGiven x ids → AreGiven z ids
+pub given-still : (x z : LinkedEnd) (ids : List ℕ) → ((e : Event) → IsOneOf e x.calls → IsOneOf e z.calls) → GaveNone x z → AreGiven x ids → AreGiven z ids
 given-still x z ids m n a id = (λ g. (a id).0 (n id g), λ l. gave_more x.calls z.calls id m ((a id).1 l))
 
-module _ (x : Endpoint) (ids : List ℕ) (a : AreGiven x ids) (dir : Dir) (k : ℕ) (v : World) where
+module _ (x : LinkedEnd) (ids : List ℕ) (a : AreGiven x ids) (dir : Dir) (k : ℕ) (v : World) where
   -- one more is opened
   pub given-opened : AreGiven (acted x (Sending (OpenedOwn dir false (Ok (Some k)))) v) (k ∷ ids)
   given-opened id = (to, back)

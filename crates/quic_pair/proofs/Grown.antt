@@ -26,7 +26,7 @@ use Rattle.quic_pair.specs.State.{PairState, the_end}
 use Rattle.quic_pair.specs.Steps.{Next}
 use Rattle.quic_pair.specs.History.{History, StepTaken, Past, after, past_from, past_of, nothing_yet}
 use Rattle.quic_pair.specs.Headline.{Headline}
-use Rattle.quic_pair.specs.From.{From, begun, next, IsNew, made_of, end_begun}
+use Rattle.quic_pair.specs.From.{PairFrom, begun, next, IsNew, made_of, end_begun}
 use Rattle.quic_pair.specs.Runs.{sendings_of}
 use Rattle.quic_pair.specs.Tale.{Told, tale_begun, tale_first, tales_begun, first_count}
 use Rattle.quic_pair.proofs.Joined.{Joined}
@@ -138,12 +138,12 @@ pub past-after : (h : History) (step : Step) (reply : Answer) → past_of (h ++ 
 past-after h step reply = past-more nothing_yet h (step, reply)
 
 -- whatever steps led to a pair, its ends are linked, and the steps tell what they did
-pub record Grown {a b : Config} {h : History} {v : PairState} (f : From a b h v) : Type 0 where
+pub record Grown {a b : Config} {h : History} {v : PairState} (f : PairFrom a b h v) : Type 0 where
   pub joined : Joined a b (past_of h) v
   pub recounted : Recounted a b v
   pub told : Told a b (sendings_of f) recounted.tales
 
-pub grown-from : {a b : Config} {h : History} {v : PairState} (f : From a b h v) → Grown f
+pub grown-from : {a b : Config} {h : History} {v : PairState} (f : PairFrom a b h v) → Grown f
 grown-from {a} {b} {h} {v} (begun n) = let r = recounted_new a b v n in record { joined = joined-new a b v n; recounted = r.0; told = r.1 }
 grown-from {a} {b} (next {h} {old} {new} step reply f n) =
     let g = grown-from f in
@@ -154,9 +154,9 @@ grown-from {a} {b} (next {h} {old} {new} step reply f n) =
       told = (g.recounted.tales, g.told, r.tells);
     }
 
-pub joined-from : {a b : Config} {whole : History} {v : PairState} → From a b whole v → Joined a b (past_of whole) v
+pub joined-from : {a b : Config} {whole : History} {v : PairState} → PairFrom a b whole v → Joined a b (past_of whole) v
 joined-from f = (grown-from f).joined
 
 -- whatever the network did, the headline holds
-pub headline-from : {a b : Config} {h : History} {v : PairState} → From a b h v → Headline (past_of h) v.sent
+pub headline-from : {a b : Config} {h : History} {v : PairState} → PairFrom a b h v → Headline (past_of h) v.sent
 headline-from {a} {b} {h} {v} f = headline a b (past_of h) v (joined-from f)

@@ -6,7 +6,7 @@ use Rattle.quic_receiving.specs.Data.{IsAllGiven}
 use Rattle.quic_sending.proofs.Cuts.{length-concat}
 use Rattle.quic_wire.specs.declared.frame.Stream.{Stream}
 use Rattle.quic_history.specs.History.{ReadChunk, slices}
-use Rattle.quic_link.specs.Endpoints.{Endpoint, sent_on, came_on}
+use Rattle.quic_link.specs.Endpoints.{LinkedEnd, sent_on, came_on}
 use Rattle.quic_link.specs.Truths.{AreBytesOf, amount_on}
 use Rattle.quic_link.specs.Promises.{TellsTruth, CameWhole, given_in_order}
 use Rattle.quic_link.proofs.Promised.{promised}
@@ -47,7 +47,7 @@ in_order (c ∷ cs) rows = (in_order cs rows.0, rows.1)
 
 -- ---- what came whole was delivered
 
-module _ (p : Past) (sent : List Sent) (who : End) (x y : Endpoint) (k : Knows p sent who x y) where
+module _ (p : Past) (sent : List Sent) (who : End) (x y : LinkedEnd) (k : Knows p sent who x y) where
   pub length-written : (q : ℕ) → amount_on x q ≡ length (p.flow who q).written
   length-written q = sym (length-concat (sent_on x q).cuts) ∙ ap length (k.written q)
 

@@ -10,8 +10,8 @@ use Rattle.quic_wire.specs.declared.frame.Frame.TheVariants as frames
 use Rattle.quic_wire.specs.declared.frame.Stream.{Stream}
 use Rattle.quic_history.specs.World.{World, remote_of}
 use Rattle.quic_history.specs.Early.{begins_anew}
-use Rattle.quic_history.specs.History.{Event, Move, Framed, WasReset, WasRead, WasStopped, WasTold, WasAnnounced, Trace, untouched, trace, move_of, moved, with_move, with_kept_frame, is_kept, is_closed, told_still, joint_move_of}
-use Rattle.quic_link.specs.Endpoints.{Endpoint, sent_on, came_on}
+use Rattle.quic_history.specs.History.{Event, Move, Framed, WasReset, WasRead, WasStopped, WasTold, WasAnnounced, Trace, untouched, trace, move_of, moved, with_move, with_kept_frame, is_frame_kept, is_closed, told_still, joint_move_of}
+use Rattle.quic_link.specs.Endpoints.{LinkedEnd, sent_on, came_on}
 use Rattle.quic_link.specs.Truths.{AreBytesOf, IsFrameTrue, IsTrueData, amount_on}
 use Rattle.quic_link.specs.Promises.{Promises}
 use Rattle.quic_link.proofs.Promised.{promised}
@@ -21,7 +21,7 @@ use Rattle.quic_steps.specs.declared.steps.Config.{Config}
 use Rattle.quic_pair.specs.declared.sent.Sent.{Sent}
 use Rattle.quic_pair.specs.State.{PairState, peer, the_end}
 use Rattle.quic_pair.specs.History.{History, Past, past_of}
-use Rattle.quic_pair.specs.From.{From}
+use Rattle.quic_pair.specs.From.{PairFrom}
 use Rattle.quic_pair.specs.Honest.{AreHonest, IsHonestData, IsHonestFrame, IsHonestPayload, amount_given, greatest_permitted}
 use Rattle.quic_pair.proofs.Joined.{Knows, Stands, IsPayloadOf, Joined}
 use Rattle.quic_pair.proofs.Grown.{joined-from}
@@ -37,7 +37,7 @@ read_if a b false g h = h
 
 read_move : (m : Move) (t : Trace) → HasRead t → HasRead (with_move m t)
 read_move (Framed offset bytes fin answer) t k =
-    read_if (with_kept_frame offset bytes fin t) t (is_kept answer) (read_if t _ (is_closed t) k k) k
+    read_if (with_kept_frame offset bytes fin t) t (is_frame_kept answer) (read_if t _ (is_closed t) k k) k
 read_move (WasReset code final) t k = read_if t _ (is_closed t) k k
 read_move (WasRead ordered (Ok (Some chunk))) t k = ap (λ n. n + length chunk.bytes) k
 read_move (WasRead ordered (Ok None)) t k = k
@@ -60,7 +60,7 @@ read-given (e ∷ h) q =
 
 -- ---- frames
 
-module _ (p : Past) (v : PairState) (who : End) (x y : Endpoint) (k : Knows p v.sent who x y) (l : Knows p v.sent (peer who) y x)
+module _ (p : Past) (v : PairState) (who : End) (x y : LinkedEnd) (k : Knows p v.sent who x y) (l : Knows p v.sent (peer who) y x)
     (here : Stands x (the_end v who)) (there : Stands y (the_end v (peer who))) (all : Promises x y) (back : Promises y x) where
   amount_known : (q : ℕ) → amount_on x q ≡ length (p.flow who q).written
   amount_known q = sym (length-concat (sent_on x q).cuts) ∙ ap length (k.written q)
@@ -119,5 +119,5 @@ honest_of a b p v j s number is B e =
     honest_payload p v B j.second j.first j.seen.receives j.seen.sends j.seen.there j.seen.here told.1 told.0 s e (j.seen.others number s is e)
 
 -- whatever the network did, every frame that was ever sent is true
-pub honest-from : {a b : Config} {h : History} {v : PairState} → From a b h v → AreHonest (past_of h) v
+pub honest-from : {a b : Config} {h : History} {v : PairState} → PairFrom a b h v → AreHonest (past_of h) v
 honest-from {a} {b} {h} {v} f = λ number s is. honest_of a b (past_of h) v (joined-from f) s number is s.writer refl

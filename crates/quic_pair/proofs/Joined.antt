@@ -10,7 +10,7 @@ use Rattle.quic_receiving.specs.declared.transmit.ShouldTransmit.{ShouldTransmit
 use Rattle.quic_retransmits.specs.Settling.{noted_in}
 use Rattle.quic_streams.specs.declared.settling.SentPayload.{SentPayload}
 use Rattle.quic_history.specs.History.{Received}
-use Rattle.quic_link.specs.Endpoints.{Endpoint, Linked, IsOneOf, sent_on, came_on, written_on, WasStoppedWith, WasAccepted}
+use Rattle.quic_link.specs.Endpoints.{LinkedEnd, Linked, IsOneOf, sent_on, came_on, written_on, WasStoppedWith, WasAccepted}
 use Rattle.quic_link.specs.Promises.{CameWhole, WasReadUnordered}
 use Rattle.quic_link.specs.Asked.{AreAsked}
 use Rattle.quic_endpoint.specs.Ends.{EndState}
@@ -27,13 +27,13 @@ use Rattle.quic_pair.proofs.KeptFrames.{KeptSent}
 use Rattle.quic_pair.proofs.Gives.{AreGiven}
 
 -- an end of a pair is a linked end, and what it has to send was asked for
-pub record Stands (x : Endpoint) (e : EndState) : Type 0 where
+pub record Stands (x : LinkedEnd) (e : EndState) : Type 0 where
   pub world : x.world ≡ e.streams
   pub pending : AreAsked x e.pending
 
 -- a payload that x sent to y: x wrote each of its frames, what was noted of those that are unreported was asked for, and what is
 -- marked as accepted was accepted by y
-pub record IsPayloadOf (x y : Endpoint) (s : Sent) : Type 0 where
+pub record IsPayloadOf (x y : LinkedEnd) (s : Sent) : Type 0 where
   pub all : List Frame
   pub spelled : AreFrames s.text.bytes all
   pub wrote : (g : Frame) → IsOneOf g all → IsOneOf g x.wrote
@@ -48,7 +48,7 @@ pub record IsLike (offset : ℕ) (bytes : List ℕ) (fin : Bool) (s : Stream) : 
   pub fin_is : s.fin ≡ fin
 
 -- the steps tell what x, which is the end `who`, sent to y
-pub record Knows (p : Past) (sent : List Sent) (who : End) (x y : Endpoint) : Type 0 where
+pub record Knows (p : Past) (sent : List Sent) (who : End) (x y : LinkedEnd) : Type 0 where
   pub ids : AreGiven x (p.ids who)
   pub written : (q : ℕ) → written_on x q ≡ (p.flow who q).written
   pub finished : (q : ℕ) → (sent_on x q).finished ≡ (p.flow who q).finished
@@ -64,11 +64,11 @@ pub record Knows (p : Past) (sent : List Sent) (who : End) (x y : Endpoint) : Ty
       → SomeStream sent who q p.accepted (IsLike offset bytes fin)
 
 -- payloads of an end
-abbrev pub ArePayloadsOf : List Sent → End → Endpoint → Endpoint → Type 0
+abbrev pub ArePayloadsOf : List Sent → End → LinkedEnd → LinkedEnd → Type 0
 ArePayloadsOf sent who x y = (number : ℕ) (s : Sent) → slice_get sent number ≡ Some s → s.writer ≡ who → IsPayloadOf x y s
 
 -- a pair as one of its ends sees it: x is that end, and y the other
-pub record Seen (p : Past) (who : End) (v : PairState) (x y : Endpoint) : Type 0 where
+pub record Seen (p : Past) (who : End) (v : PairState) (x y : LinkedEnd) : Type 0 where
   pub linked : Linked x y
   pub here : Stands x (the_end v who)
   pub there : Stands y (the_end v (peer who))
@@ -80,14 +80,14 @@ pub record Seen (p : Past) (who : End) (v : PairState) (x y : Endpoint) : Type 0
   pub kept_here : KeptSent p v.sent (peer who) x
 
 -- what becomes of it by calls of that end
-pub record Sees (p : Past) (who : End) (v : PairState) (x y : Endpoint) : Type 0 where
-  pub end : Endpoint
+pub record Sees (p : Past) (who : End) (v : PairState) (x y : LinkedEnd) : Type 0 where
+  pub end : LinkedEnd
   pub made : end.made ≡ x.made
   pub seen : Seen p who v end y
 
 pub record Joined (a b : Config) (p : Past) (v : PairState) : Type 0 where
-  pub first : Endpoint
-  pub second : Endpoint
+  pub first : LinkedEnd
+  pub second : LinkedEnd
   pub made_first : first.made ≡ made_of Client a
   pub made_second : second.made ≡ made_of Server b
   pub seen : Seen p A v first second

@@ -12,7 +12,7 @@ use Rattle.quic_receiving.specs.declared.errors.ReadError.TheVariants as read_er
 use Rattle.quic_outgoing.specs.Senders.{is_local}
 use Rattle.quic_values.specs.declared.ids.Side.TheVariants.{Client}
 use Rattle.quic_history.specs.Early.{begins_anew}
-use Rattle.quic_history.specs.History.{Event, Received, ReceivedReset, Gave, Stopped, ToldReset, Settled, Framed, Trace, trace, untouched, moved, move_of, with_move, with_read, with_reset, with_stop, with_kept_frame, told_still, joint_move_of, is_kept, is_closed}
+use Rattle.quic_history.specs.History.{Event, Received, ReceivedReset, Gave, Stopped, ToldReset, LeftPending, Framed, Trace, trace, untouched, moved, move_of, with_move, with_read, with_reset, with_stop, with_kept_frame, told_still, joint_move_of, is_frame_kept, is_closed}
 use Rattle.quic_link.specs.Endpoints.{IsOneOf, WasStoppedWith}
 use Rattle.quic_link.specs.Promises.{KeptAt, EndKept}
 use Rattle.quic_link.proofs.Basics.{same_id}
@@ -46,16 +46,16 @@ kept_one sent who q (beside {places} {streams} place payload before is lacks) at
 record KeptCall (h : List Event) (q : ℕ) (s : Stream) : Type 0 where
   pub answer : Result ShouldTransmit ReceiveError
   pub is : IsOneOf (Received q s.offset s.bytes s.fin answer) h
-  pub kept : is_kept answer ≡ true
+  pub kept : is_frame_kept answer ≡ true
 
 later : (e : Event) (h : List Event) (q : ℕ) (s : Stream) → KeptCall h q s → KeptCall (e ∷ h) q s
 later e h q s k = record { answer = k.answer; is = inr k.is; kept = k.kept }
 
 kept_call : (h : List Event) (q : ℕ) (s : Stream) → IsOneOf s (kept_in h q) → KeptCall h q s
 kept_call [] q s k = absurd k
-kept_call (Received id offset bytes fin answer ∷ h) q s k = by_both (q == id) (is_kept answer) refl refl k (kept_call h q s)
+kept_call (Received id offset bytes fin answer ∷ h) q s k = by_both (q == id) (is_frame_kept answer) refl refl k (kept_call h q s)
   where
-    by_both : (b c : Bool) → (q == id) ≡ b → is_kept answer ≡ c → IsOneOf s (if b && c then record { id = id; offset = offset; fin = fin; bytes = bytes } ∷ kept_in h q else kept_in h q) → (IsOneOf s (kept_in h q) → KeptCall h q s) → KeptCall (Received id offset bytes fin answer ∷ h) q s
+    by_both : (b c : Bool) → (q == id) ≡ b → is_frame_kept answer ≡ c → IsOneOf s (if b && c then record { id = id; offset = offset; fin = fin; bytes = bytes } ∷ kept_in h q else kept_in h q) → (IsOneOf s (kept_in h q) → KeptCall h q s) → KeptCall (Received id offset bytes fin answer ∷ h) q s
     by_both true true b c (inl i) before =
         let same_call : Received q s.offset s.bytes s.fin answer ≡ Received id offset bytes fin answer = ap (λ (j : ℕ). Received j s.offset s.bytes s.fin answer) (same_id q id b) ∙ ap (λ (t : Stream). Received id t.offset t.bytes t.fin answer) i in
         record { answer = answer; is = inl same_call; kept = c }
@@ -105,7 +105,7 @@ EndsNone _ = Unit {0}
 
 as_before : (e : Event) (q : ℕ) (t : Trace) → EndsNone e → IsOverAs (moved (move_of e) q t) t
 as_before (Received id offset bytes fin answer) q t w =
-    as_if (q == id) (with_move (Framed offset bytes fin answer) t) t t (as_if (is_kept answer) (with_kept_frame offset bytes fin t) t t (as_if (is_closed t) t _ t (refl, refl) (refl, refl)) (refl, refl)) (refl, refl)
+    as_if (q == id) (with_move (Framed offset bytes fin answer) t) t t (as_if (is_frame_kept answer) (with_kept_frame offset bytes fin t) t t (as_if (is_closed t) t _ t (refl, refl) (refl, refl)) (refl, refl)) (refl, refl)
 as_before (ReceivedReset id code final (Ok transmit)) q t w = absurd w
 as_before (ReceivedReset id code final (Err error)) q t w = (refl, refl)
 as_before (Gave id most ordered answer) q t w = as_if (q == id) (with_read ordered answer t) t t (as_read ordered answer t) (refl, refl)
@@ -114,9 +114,9 @@ as_before (Stopped id code (Err error)) q t w = (refl, refl)
 as_before (ToldReset id (Ok (Some code))) q t w = as_if (q == id) (record t { gone = true }) t t (refl, refl) (refl, refl)
 as_before (ToldReset id (Ok None)) q t w = (refl, refl)
 as_before (ToldReset id (Err error)) q t w = (refl, refl)
-as_before (Settled kind None) q t w = (refl, refl)
-as_before (Settled kind (Some (frames.MaxStreamData id limit))) q t w = as_if (q == id) _ t t (refl, refl) (refl, refl)
-as_before (Settled kind (Some _)) q t w = (refl, refl)
+as_before (LeftPending kind None) q t w = (refl, refl)
+as_before (LeftPending kind (Some (frames.MaxStreamData id limit))) q t w = as_if (q == id) _ t t (refl, refl) (refl, refl)
+as_before (LeftPending kind (Some _)) q t w = (refl, refl)
 as_before _ q t w = (refl, refl)
 
 module _ (id code q : ℕ) (t : Trace) where

@@ -9,9 +9,9 @@ use Rattle.quic_wire.specs.declared.error.ReceiveError.{ReceiveError}
 use Rattle.quic_wire.specs.declared.error.ReceiveError.TheVariants as receive_error
 use Rattle.quic_wire.proofs.Joins.{same}
 use Rattle.quic_receiving.specs.declared.transmit.ShouldTransmit.{ShouldTransmit}
-use Rattle.quic_history.specs.History.{is_kept}
+use Rattle.quic_history.specs.History.{is_frame_kept}
 use Rattle.quic_history.proofs.Traces.{itself}
-use Rattle.quic_link.specs.Endpoints.{Endpoint, IsOneOf}
+use Rattle.quic_link.specs.Endpoints.{LinkedEnd, IsOneOf}
 use Rattle.quic_link.proofs.Basics.{same_id}
 use Rattle.quic_steps.specs.declared.steps.End.{End}
 use Rattle.quic_steps.specs.declared.steps.Reply.TheVariants.{Done, DoneTransmit}
@@ -83,7 +83,7 @@ module _ (sent more : List Sent) (who : End) (id : ℕ) (stay : StaySent sent mo
       let P : List ℕ → Type 0 = λ bytes. IsFrameAt bytes r.at.1 (frames.StopSending r.frame) in
       record { at = r.at; listed = r.listed; payload = k.0; is = k.1; writer = k.2 ∙ r.writer; frame = r.frame; there = subst P (sym k.3) r.there; on = r.on; with_code = r.with_code }
 
-pub kept-stay : (p : Past) (sent more : List Sent) (who : End) (y : Endpoint) → StaySent sent more → KeptSent p sent who y → KeptSent p more who y
+pub kept-stay : (p : Past) (sent more : List Sent) (who : End) (y : LinkedEnd) → StaySent sent more → KeptSent p sent who y → KeptSent p more who y
 kept-stay p sent more who y stay k = record {
   streams = λ id. streams_stay sent more who id stay (k.streams id);
   resets = λ id code final transmit h. reset_stays sent more who id stay code p.accepted (k.resets id code final transmit h);
@@ -108,18 +108,18 @@ module _ (sent : List Sent) (who : End) (q : ℕ) (at : FramePlace) (payload : S
   other_test : (id : ℕ) → eqb q id ≡ false → id ≡ q → ⊥
   other_test id n i = let m : eqb q id ≡ true = ap (λ (j : ℕ). eqb q j) i ∙ itself q in let l = sym m ∙ n in cc
 
-  place_frame : (frame : Frame) (answer : Result ShouldTransmit ReceiveError) → IsFrameAt payload.text.bytes at.1 frame → payload.writer ≡ who → StreamsAt sent who q (if is_kept answer then at ∷ ps else ps) (kept_of frame answer q ss)
+  place_frame : (frame : Frame) (answer : Result ShouldTransmit ReceiveError) → IsFrameAt payload.text.bytes at.1 frame → payload.writer ≡ who → StreamsAt sent who q (if is_frame_kept answer then at ∷ ps else ps) (kept_of frame answer q ss)
   place_frame (frames.Stream g) answer there w =
-      place_on g (record { payload = payload; is = is; writer = w; frame = there }) (q == g.id) (is_kept answer) (λ e. sym (same_id q g.id e)) (other_test g.id)
+      place_on g (record { payload = payload; is = is; writer = w; frame = there }) (q == g.id) (is_frame_kept answer) (λ e. sym (same_id q g.id e)) (other_test g.id)
   place_frame frame answer there w =
-      place_beside (is_kept answer) (λ s from i. let e = frame-one payload.text.bytes at.1 frame (frames.Stream s) there (frame-here sent who at payload is s from) in cc)
+      place_beside (is_frame_kept answer) (λ s from i. let e = frame-one payload.text.bytes at.1 frame (frames.Stream s) there (frame-here sent who at payload is s from) in cc)
 
 -- it is among those that were kept, where it was
 kept_done : (p : Past) (at : FramePlace) (due : Bool) → (after_deliver p at (Ok (if due then DoneTransmit else Done))).kept ≡ at ∷ p.kept
 kept_done p at true = refl
 kept_done p at false = refl
 
-kept_after : (p : Past) (at : FramePlace) (answer : Result ShouldTransmit ReceiveError) → (after_deliver p at (received_reply answer)).kept ≡ (if is_kept answer then at ∷ p.kept else p.kept)
+kept_after : (p : Past) (at : FramePlace) (answer : Result ShouldTransmit ReceiveError) → (after_deliver p at (received_reply answer)).kept ≡ (if is_frame_kept answer then at ∷ p.kept else p.kept)
 kept_after p at (Ok transmit) = kept_done p at transmit.0
 kept_after p at (Err (receive_error.Transport error)) = refl
 kept_after p at (Err receive_error.CompactionMemory) = refl
@@ -152,22 +152,22 @@ module _ (p : Past) (sent : List Sent) (who : End) (at : FramePlace) (payload : 
   stops_before from q code r = record { at = r.at; listed = accepted_after p at answer r.at r.listed; payload = r.payload; is = r.is; writer = r.writer; frame = r.frame; there = r.there; on = r.on; with_code = r.with_code }
 
   -- of what the end sent that it is handed to, none came
-  pub kept-aside : (y : Endpoint) → KeptSent p sent who y → KeptSent (after_deliver p at (received_reply answer)) sent who y
+  pub kept-aside : (y : LinkedEnd) → KeptSent p sent who y → KeptSent (after_deliver p at (received_reply answer)) sent who y
   kept-aside y k = record {
     streams = λ q.
         let P : List FramePlace → Type 0 = λ l. StreamsAt sent who q l (kept_in y.calls q) in
         subst P (sym (kept_after p at answer))
-        (place_beside sent who q at payload is p.kept (kept_in y.calls q) (k.streams q) (is_kept answer) (λ s from e. peer-other who (sym (writer-here sent who at payload is s from) ∙ w)));
+        (place_beside sent who q at payload is p.kept (kept_in y.calls q) (k.streams q) (is_frame_kept answer) (λ s from e. peer-other who (sym (writer-here sent who at payload is s from) ∙ w)));
     resets = λ q code final transmit h. resets_before who q code (k.resets q code final transmit h);
     stops = λ q code h. stops_before who q code (k.stops q code h);
   }
 
   -- of what the other sent it may be one
-  pub kept-heard : (x z : Endpoint) → HearsFrame x z frame answer → KeptSent p sent (peer who) x → KeptSent (after_deliver p at (received_reply answer)) sent (peer who) z
+  pub kept-heard : (x z : LinkedEnd) → HearsFrame x z frame answer → KeptSent p sent (peer who) x → KeptSent (after_deliver p at (received_reply answer)) sent (peer who) z
   kept-heard x z h k = record {
     streams = λ q.
         let P : List FramePlace → Type 0 = λ l. StreamsAt sent (peer who) q l (kept_in z.calls q) in
-        let Q : List Stream → Type 0 = λ l. StreamsAt sent (peer who) q (if is_kept answer then at ∷ p.kept else p.kept) l in
+        let Q : List Stream → Type 0 = λ l. StreamsAt sent (peer who) q (if is_frame_kept answer then at ∷ p.kept else p.kept) l in
         subst P (sym (kept_after p at answer)) (subst Q (sym (h.keeps q)) (place_frame sent (peer who) q at payload is p.kept (kept_in x.calls q) (k.streams q) frame answer there w));
     resets = λ q code final transmit i. elim (h.resets q code final transmit i) [
       | inl before ↦ resets_before (peer who) q code (k.resets q code final transmit before)

@@ -7,7 +7,7 @@ use Rattle.quic_wire.specs.declared.frame.Stream.{Stream}
 use Rattle.quic_wire.specs.declared.frame.ResetStream.{ResetStream}
 use Rattle.quic_wire.specs.declared.frame.StreamMeta.{StreamMeta}
 use Rattle.quic_wire.specs.Frames.{AreFrames}
-use Rattle.quic_retransmits.specs.Pending.{nothing, shown_if}
+use Rattle.quic_retransmits.specs.Pending.{nothing, thin_view}
 use Rattle.quic_streams.specs.declared.settling.SentPayload.{SentPayload}
 use Rattle.quic_streams.specs.Settling.{SentView, resets_of}
 use Rattle.quic_streams.specs.Sent.{sent_view}
@@ -88,7 +88,7 @@ module _ (sent : List Sent) (told : ℕ → ℕ) (left : AreLeft sent told) (num
   pub metas-among : (m : StreamMeta) → IsOneOf m r.streams.items → (g : Stream) × IsOneOf (frames.Stream g) all × (m ≡ meta_of g)
   metas-among m h = stream_among m all (carried_first m (metas_in all) (codes_in all) (part_among (Carried m) (one-of-first (Carried m) (map Carried r.streams.items) _ (carried_in m r.streams.items h))))
 
-  pub resets-among : (id code : ℕ) → IsOneOf (id, code) (resets_of (shown_if r.control)) → (f : ResetStream) × (f.id ≡ id) × IsOneOf (frames.ResetStream f) all
+  pub resets-among : (id code : ℕ) → IsOneOf (id, code) (resets_of (thin_view r.control)) → (f : ResetStream) × (f.id ≡ id) × IsOneOf (frames.ResetStream f) all
   resets-among id code h =
-      let k = given_last id (metas_in all) (codes_in all) (part_among (GivenUp id) (one-of-last (GivenUp id) (map Carried r.streams.items) _ (given_in id code (resets_of (shown_if r.control)) h))) in
+      let k = given_last id (metas_in all) (codes_in all) (part_among (GivenUp id) (one-of-last (GivenUp id) (map Carried r.streams.items) _ (given_in id code (resets_of (thin_view r.control)) h))) in
       reset_among id k.0 all k.1

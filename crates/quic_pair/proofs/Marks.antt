@@ -30,7 +30,7 @@ use Rattle.quic_pair.specs.Replies.{Answer, received_reply}
 use Rattle.quic_pair.specs.State.{PairState, OnEnd, with_end, with_sent}
 use Rattle.quic_pair.specs.Steps.{Next, Emits, Emitted, SentAfter, HandsOver, Delivers, Reports, SettlesPayload}
 use Rattle.quic_pair.specs.History.{Past, History, FramePlace, after, after_deliver, after_report, past_of}
-use Rattle.quic_pair.specs.From.{From, begun, next}
+use Rattle.quic_pair.specs.From.{PairFrom, begun, next}
 use Rattle.quic_pair.proofs.Lists.{slice_get-append_left, slice_get-push, slice_get-slice_set, slice_set-keeps, slice_get-set_same}
 use Rattle.quic_pair.proofs.Deeds.{sent-same}
 use Rattle.quic_pair.proofs.Grown.{past-after}
@@ -236,7 +236,7 @@ module _ (p : Past) (old new : PairState) (reply : Answer) (m : AreMarkedSo p.ac
   marks-next (steps.Ack number) n = marks_settles p old new m number Acknowledged AcksPayloadAt reply n
 
 -- whatever steps led to a pair, its marks are what their replies say
-pub marks-from : {a b : Config} {whole : History} {v : PairState} → From a b whole v → AreMarkedSo (past_of whole).accepted v.sent
+pub marks-from : {a b : Config} {whole : History} {v : PairState} → PairFrom a b whole v → AreMarkedSo (past_of whole).accepted v.sent
 marks-from {a} {b} {whole} {v} (begun n) =
     let P : PairState → Type 0 = λ u. AreMarkedSo [] u.sent in
     subst P (sym n.is) (record { listed = λ number index s got set. absurd (none-some s got); marked = λ at h. absurd h })

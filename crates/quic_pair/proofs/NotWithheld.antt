@@ -38,7 +38,7 @@ use Rattle.quic_pair.specs.State.{PairState, OnEnd, the_end}
 use Rattle.quic_pair.specs.Calls.{OnGiven, Writes, WritesChunksOrNone}
 use Rattle.quic_pair.specs.Steps.{Next}
 use Rattle.quic_pair.specs.Due.{IsFull}
-use Rattle.quic_pair.specs.From.{From as FromPair}
+use Rattle.quic_pair.specs.From.{PairFrom as FromPair}
 use Rattle.quic_pair.specs.History.{History, past_of}
 use Rattle.quic_pair.specs.Readable.{side_of}
 use Rattle.quic_pair.specs.Tale.{Tale, retained_by}

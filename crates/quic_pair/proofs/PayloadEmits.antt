@@ -20,7 +20,7 @@ use Rattle.quic_streams.specs.Payload.{control_order}
 use Rattle.quic_streams.specs.Settling.{SentView}
 use Rattle.quic_streams.specs.Sent.{sent_view}
 use Rattle.quic_streams.specs.Transmitting.{end_writer}
-use Rattle.quic_link.specs.Endpoints.{Endpoint, Linked, IsOneOf, written_on}
+use Rattle.quic_link.specs.Endpoints.{LinkedEnd, Linked, IsOneOf, written_on}
 use Rattle.quic_link.specs.Asked.{AreAsked}
 use Rattle.quic_link.proofs.Basics.{either-of}
 use Rattle.quic_link.proofs.Joint.{agrees}
@@ -49,8 +49,8 @@ use Rattle.quic_pair.proofs.PayloadPages.{Page, page-control}
 use Rattle.quic_pair.proofs.PayloadTurns.{turns-taken}
 
 -- x came to an end that is f, and wrote every frame of a payload, of which what was noted was asked for
-pub record Emptied (x y : Endpoint) (payload : PayloadView) (f : EndState) : Type 0 where
-  pub end : Endpoint
+pub record Emptied (x y : LinkedEnd) (payload : PayloadView) (f : EndState) : Type 0 where
+  pub end : LinkedEnd
   pub linked : Linked end y
   pub keeps : Keeps x end
   pub hears : HearsNothing x end
@@ -67,10 +67,10 @@ bare_world w bytes b = ap (λ r. record w { queue = record w.queue { reserved = 
 pub bare_after : (w v : World) (bytes : List ℕ) (frames : List StreamMeta) → v ≡ record w { out = v.out; queue = v.queue } → v.queue.reserved ≡ None → with_writer w (end_writer v bytes frames) ≡ v
 bare_after w v bytes frames e b = ap (λ r. record w { out = v.out; queue = record v.queue { reserved = r } }) (sym b) ∙ sym e
 
-asked_at : (x : Endpoint) (p q : Pending) → q ≡ p → AreAsked x p → AreAsked x q
+asked_at : (x : LinkedEnd) (p q : Pending) → q ≡ p → AreAsked x p → AreAsked x q
 asked_at x p q e a = let P : Pending → Type 0 = λ j. AreAsked x j in subst P (sym e) a
 
-module _ (x y : Endpoint) (payload : PayloadView) (between f : EndState) (bytes : List ℕ) (stats : FrameStats) (t : Page x y (place_at between bytes (control_in payload) stats)) where
+module _ (x y : LinkedEnd) (payload : PayloadView) (between f : EndState) (bytes : List ℕ) (stats : FrameStats) (t : Page x y (place_at between bytes (control_in payload) stats)) where
   -- STREAM frames stand behind the others
   streams_written : {most : ℕ} {fair : Bool} {answer : Result (Unit {0}) OutOfMemory} → EmitsStreams most fair between bytes answer f payload → Emptied x y payload f
   streams_written {most} s =
@@ -121,7 +121,7 @@ module _ (x y : Endpoint) (payload : PayloadView) (between f : EndState) (bytes 
         wrote = t.wrote;
       }
 
-emptied : {most : ℕ} {fair : Bool} {e f : EndState} {payload : PayloadView} {answer : Result (Unit {0}) OutOfMemory} (x y : Endpoint) → Linked x y → Stands x e → EmitsAt most fair e payload answer f → Emptied x y payload f
+emptied : {most : ℕ} {fair : Bool} {e f : EndState} {payload : PayloadView} {answer : Result (Unit {0}) OutOfMemory} (x y : LinkedEnd) → Linked x y → Stands x e → EmitsAt most fair e payload answer f → Emptied x y payload f
 emptied {most} {fair} {e} {f} {payload} x y l s (whole between bytes control streams) =
     streams_written x y payload between f bytes control.after (page-control x y most e control.before control_order (place_at between bytes (control_in payload) control.after) (Ok tt) l s control.writes) streams
 emptied {most} {fair} {e} {f} {payload} x y l s (cut {error} between bytes control none) =
@@ -133,7 +133,7 @@ no_marks : (s : SentText) (index : ℕ) → s.accepted ≡ [] → slice_index_or
 no_marks s index e h = let k = sym (ap (λ l. slice_index_or l index false) e) ∙ h in cc
 
 -- it is a payload of its writer, of which nothing was accepted
-payload_sent : (x y : Endpoint) (who : End) (payload : PayloadView) (f : EndState) (s : Sent) (t : Emptied x y payload f) → IsSentBy who payload s → IsPayloadOf t.end y s
+payload_sent : (x y : LinkedEnd) (who : End) (payload : PayloadView) (f : EndState) (s : Sent) (t : Emptied x y payload f) → IsSentBy who payload s → IsPayloadOf t.end y s
 payload_sent x y who payload f s t i =
     let P : List ℕ → Type 0 = λ b. AreFrames b t.all in
     record {
@@ -149,7 +149,7 @@ payload_sent x y who payload f s t i =
 pub stay_before : (sent : List Sent) (s : Sent) → StaySent sent (sent ++ s ∷ [])
 stay_before sent s k t h = (t, slice_get-append_left sent (s ∷ []) k t h, refl, refl)
 
-pub seen-emits : (p : Past) (who : End) (old new : PairState) (x y : Endpoint) (most : ℕ) (fair : Bool) (answer : Result (Unit {0}) OutOfMemory) (payload : PayloadView) → Seen p who old x y → Emits old who most fair answer payload new → Sees p who new x y
+pub seen-emits : (p : Past) (who : End) (old new : PairState) (x y : LinkedEnd) (most : ℕ) (fair : Bool) (answer : Result (Unit {0}) OutOfMemory) (payload : PayloadView) → Seen p who old x y → Emits old who most fair answer payload new → Sees p who new x y
 seen-emits p who old new x y most fair answer payload s k = seen-moved p who old new x y t.end k.end s t.linked t.keeps t.here p sents (tells-same p) stay own others heard kept_there kept_here k.is
   where
     t : Emptied x y payload k.end
@@ -185,7 +185,7 @@ seen-emits p who old new x y most fair answer payload s k = seen-moved p who old
 
 -- ---- all of these steps
 
-pub seen-emit : (p : Past) (who : End) (old new : PairState) (x y : Endpoint) (most : ℕ) (fair : Bool) (reply : Answer) → Seen p who old x y → Emitted old who most fair reply new → Sees (after p (steps.Emit who most fair) reply) who new x y
+pub seen-emit : (p : Past) (who : End) (old new : PairState) (x y : LinkedEnd) (most : ℕ) (fair : Bool) (reply : Answer) → Seen p who old x y → Emitted old who most fair reply new → Sees (after p (steps.Emit who most fair) reply) who new x y
 seen-emit p who old new x y most fair (Ok (Payload number bytes)) s k = seen-emits p who old new x y most fair (Ok tt) k.payload s k.emits
 seen-emit p who old new x y most fair (Err NoMemory) s k = elim k [
   | inl is ↦ seen-same p who old new x y s is

@@ -11,8 +11,8 @@ use Rattle.quic_history.specs.World.{World}
 use Rattle.quic_history.specs.Flows.{send_moved, has_send_side}
 use Rattle.quic_history.specs.declared.control.ControlKind.{ControlKind}
 use Rattle.quic_history.specs.SendEvents.{SendEvent, OpenedOwn, RaisedData, RaisedCount, RaisedLimit, StoppedOwn, AckedOwn, LostOwn, ResetAckedOwn, TookTurn}
-use Rattle.quic_history.specs.History.{Event, Received, ReceivedReset, Began, Stopped, Settled, Sending, Trace, Framed, WasReset, moved, with_move, with_kept_frame, move_of, is_kept, is_closed, opened_in_all, since, send_tale}
-use Rattle.quic_link.specs.Endpoints.{Endpoint, Linked, MayAct, acted, written_by, IsOneOf, sent_on, came_on, WasStoppedWith}
+use Rattle.quic_history.specs.History.{Event, Received, ReceivedReset, Began, Stopped, LeftPending, Sending, Trace, Framed, WasReset, moved, with_move, with_kept_frame, move_of, is_frame_kept, is_closed, opened_in_all, since, send_tale}
+use Rattle.quic_link.specs.Endpoints.{LinkedEnd, Linked, MayAct, acted, written_by, IsOneOf, sent_on, came_on, WasStoppedWith}
 use Rattle.quic_link.specs.Promises.{WasReadUnordered}
 use Rattle.quic_link.specs.Asked.{AreAsked}
 use Rattle.quic_link.proofs.Joint.{agrees}
@@ -32,7 +32,7 @@ pub record SameTrace (a b : Trace) : Type 0 where
   pub ended : a.ended ≡ b.ended
 
 -- x became z by calls that change nothing of these
-pub record Keeps (x z : Endpoint) : Type 0 where
+pub record Keeps (x z : LinkedEnd) : Type 0 where
   pub made : z.made ≡ x.made
   pub given : GaveNone x z
   pub flows : (q : ℕ) → SameFlow (sent_on z q) (sent_on x q)
@@ -49,10 +49,10 @@ flow-refl t = record { cuts = refl; finished = refl; reset = refl }
 pub trace-refl : (t : Trace) → SameTrace t t
 trace-refl t = record { given = refl; ended = refl }
 
-pub keeps-refl : (x : Endpoint) → Keeps x x
+pub keeps-refl : (x : LinkedEnd) → Keeps x x
 keeps-refl x = record { made = refl; given = λ id h. h; flows = λ q. flow-refl (sent_on x q); traces = λ q. trace-refl (came_on x q); stops = λ q code h. h; modes = λ q h. h; calls = λ e h. h; wrote = λ g h. h; asked = λ p h. h }
 
-pub keeps-both : (x y z : Endpoint) → Keeps x y → Keeps y z → Keeps x z
+pub keeps-both : (x y z : LinkedEnd) → Keeps x y → Keeps y z → Keeps x z
 keeps-both x y z a b = record {
   made = b.made ∙ a.made;
   given = λ id h. a.given id (b.given id h);
@@ -79,7 +79,7 @@ behind a (x ∷ xs) ys h = inr (behind a xs ys h)
 
 -- ---- one call
 
-keeps_call : (x y : Endpoint) (e : Event) (v : World) → GivesNone e → Linked x y → MayAct x y e v → ((q : ℕ) → SameFlow (sent_on (acted x e v) q) (sent_on x q)) → ((q : ℕ) → SameTrace (came_on (acted x e v) q) (came_on x q))
+keeps_call : (x y : LinkedEnd) (e : Event) (v : World) → GivesNone e → Linked x y → MayAct x y e v → ((q : ℕ) → SameFlow (sent_on (acted x e v) q) (sent_on x q)) → ((q : ℕ) → SameTrace (came_on (acted x e v) q) (came_on x q))
     → ((q code : ℕ) → Stopped q code (Ok tt) ≡ e → ⊥) → ((q : ℕ) → Began q false (Ok tt) ≡ e → ⊥) → Keeps x (acted x e v)
 keeps_call x y e v g l a f t n m = record {
   made = refl;
@@ -129,10 +129,10 @@ IsQuietSend (TookTurn most fair frame) = Unit {0}
 IsQuietSend _ = ⊥
 
 -- which streams have a sending side, as the calls tell
-abbrev sides : Endpoint → ℕ → Bool
+abbrev sides : LinkedEnd → ℕ → Bool
 sides x = has_send_side x.made.side (opened_in_all (since x.calls)) (send_tale x.made x.calls).may_open
 
-quiet_flow : (x : Endpoint) (e : SendEvent) (v : World) (q : ℕ) → IsQuietSend e → SameFlow (sent_on (acted x (Sending e) v) q) (sent_on x q)
+quiet_flow : (x : LinkedEnd) (e : SendEvent) (v : World) (q : ℕ) → IsQuietSend e → SameFlow (sent_on (acted x (Sending e) v) q) (sent_on x q)
 quiet_flow x (RaisedData limit) v q k = flow-refl (sent_on x q)
 quiet_flow x (RaisedCount dir count answer) v q k = flow-refl (sent_on x q)
 quiet_flow x (RaisedLimit id limit (Ok u)) v q k = quiet_moved id (WasPermitted limit) (sides x) q (sent_on x q) tt
@@ -153,10 +153,10 @@ quiet_given : (e : SendEvent) → IsQuietSend e → GivesNone (Sending e)
 quiet_given (OpenedOwn dir closed answer) k = absurd k
 quiet_given _ k = tt
 
-pub keeps-send : (x y : Endpoint) (e : SendEvent) (v : World) → IsQuietSend e → Linked x y → MayAct x y (Sending e) v → Keeps x (acted x (Sending e) v)
+pub keeps-send : (x y : LinkedEnd) (e : SendEvent) (v : World) → IsQuietSend e → Linked x y → MayAct x y (Sending e) v → Keeps x (acted x (Sending e) v)
 keeps-send x y e v k l a = keeps_call x y (Sending e) v (quiet_given e k) l a (λ q. quiet_flow x e v q k) (λ q. trace-refl (came_on x q)) (λ q code h. cc) (λ q h. cc)
 
-pub hears-send : (x : Endpoint) (e : SendEvent) (v : World) → IsNoFrame (Sending e) → HearsNothing x (acted x (Sending e) v)
+pub hears-send : (x : LinkedEnd) (e : SendEvent) (v : World) → IsNoFrame (Sending e) → HearsNothing x (acted x (Sending e) v)
 hears-send x e v w = hears-call x (Sending e) v w
 
 -- ---- frames that come
@@ -168,17 +168,17 @@ kept_trace offset bytes fin t = record t { high = max t.high (offset + length by
 abbrev reset_trace : ℕ → ℕ → Trace → Trace
 reset_trace code final t = record t { high = final; sized = true; reset = Some code; gone = t.stopped }
 
-pub keeps-received : (x y : Endpoint) (id offset : ℕ) (bytes : List ℕ) (fin : Bool) (answer : Result ShouldTransmit ReceiveError) (v : World) → Linked x y → MayAct x y (Received id offset bytes fin answer) v
+pub keeps-received : (x y : LinkedEnd) (id offset : ℕ) (bytes : List ℕ) (fin : Bool) (answer : Result ShouldTransmit ReceiveError) (v : World) → Linked x y → MayAct x y (Received id offset bytes fin answer) v
     → Keeps x (acted x (Received id offset bytes fin answer) v)
 keeps-received x y id offset bytes fin answer v l a = keeps_call x y (Received id offset bytes fin answer) v tt l a (λ q. flow-refl (sent_on x q)) (λ q. came q) (λ q code h. cc) (λ q h. cc)
   where
     framed : (t : Trace) → SameTrace (with_move (Framed offset bytes fin answer) t) t
-    framed t = trace_if (with_kept_frame offset bytes fin t) t t (is_kept answer) (trace_if t (kept_trace offset bytes fin t) t (is_closed t) (trace-refl t) (record { given = refl; ended = refl })) (trace-refl t)
+    framed t = trace_if (with_kept_frame offset bytes fin t) t t (is_frame_kept answer) (trace_if t (kept_trace offset bytes fin t) t (is_closed t) (trace-refl t) (record { given = refl; ended = refl })) (trace-refl t)
 
     came : (q : ℕ) → SameTrace (moved (Some (id, Framed offset bytes fin answer)) q (came_on x q)) (came_on x q)
     came q = trace_if (with_move (Framed offset bytes fin answer) (came_on x q)) (came_on x q) (came_on x q) (q == id) (framed (came_on x q)) (trace-refl (came_on x q))
 
-pub keeps-reset : (x y : Endpoint) (id code final : ℕ) (answer : Result ShouldTransmit ReceiveError) (v : World) → Linked x y → MayAct x y (ReceivedReset id code final answer) v
+pub keeps-reset : (x y : LinkedEnd) (id code final : ℕ) (answer : Result ShouldTransmit ReceiveError) (v : World) → Linked x y → MayAct x y (ReceivedReset id code final answer) v
     → Keeps x (acted x (ReceivedReset id code final answer) v)
 keeps-reset x y id code final (Err error) v l a = keeps_call x y (ReceivedReset id code final (Err error)) v tt l a (λ q. flow-refl (sent_on x q)) (λ q. trace-refl (came_on x q)) (λ q code h. cc) (λ q h. cc)
 keeps-reset x y id code final (Ok transmit) v l a = keeps_call x y (ReceivedReset id code final (Ok transmit)) v tt l a (λ q. flow-refl (sent_on x q)) (λ q. came q) (λ q code h. cc) (λ q h. cc)
@@ -191,13 +191,13 @@ keeps-reset x y id code final (Ok transmit) v l a = keeps_call x y (ReceivedRese
 
 -- ---- entries that are written
 
-settled_trace : (kind : ControlKind) (frame : Option Frame) (q : ℕ) (t : Trace) → SameTrace (moved (move_of (Settled kind frame)) q t) t
+settled_trace : (kind : ControlKind) (frame : Option Frame) (q : ℕ) (t : Trace) → SameTrace (moved (move_of (LeftPending kind frame)) q t) t
 settled_trace kind None q t = trace-refl t
 settled_trace kind (Some (frames.MaxStreamData id limit)) q t = trace_if _ t t (q == id) (record { given = refl; ended = refl }) (trace-refl t)
 settled_trace kind (Some _) q t = trace-refl t
 
-pub keeps-settled : (x y : Endpoint) (kind : ControlKind) (frame : Option Frame) (v : World) → Linked x y → MayAct x y (Settled kind frame) v → Keeps x (acted x (Settled kind frame) v)
-keeps-settled x y kind frame v l a = keeps_call x y (Settled kind frame) v tt l a (λ q. flow-refl (sent_on x q)) (λ q. settled_trace kind frame q (came_on x q)) (λ q code h. cc) (λ q h. cc)
+pub keeps-settled : (x y : LinkedEnd) (kind : ControlKind) (frame : Option Frame) (v : World) → Linked x y → MayAct x y (LeftPending kind frame) v → Keeps x (acted x (LeftPending kind frame) v)
+keeps-settled x y kind frame v l a = keeps_call x y (LeftPending kind frame) v tt l a (λ q. flow-refl (sent_on x q)) (λ q. settled_trace kind frame q (came_on x q)) (λ q code h. cc) (λ q h. cc)
 
-pub hears-settled : (x : Endpoint) (kind : ControlKind) (frame : Option Frame) (v : World) → HearsNothing x (acted x (Settled kind frame) v)
-hears-settled x kind frame v = hears-call x (Settled kind frame) v tt
+pub hears-settled : (x : LinkedEnd) (kind : ControlKind) (frame : Option Frame) (v : World) → HearsNothing x (acted x (LeftPending kind frame) v)
+hears-settled x kind frame v = hears-call x (LeftPending kind frame) v tt

@@ -9,7 +9,7 @@ use Rattle.quic_receiving.specs.declared.transmit.ShouldTransmit.{ShouldTransmit
 use Rattle.quic_retransmits.specs.Settling.{noted_in}
 use Rattle.quic_sending.specs.Buffer.{total_length}
 use Rattle.quic_history.specs.History.{Received}
-use Rattle.quic_link.specs.Endpoints.{Endpoint, Linked, IsOneOf, WasAccepted}
+use Rattle.quic_link.specs.Endpoints.{LinkedEnd, Linked, IsOneOf, WasAccepted}
 use Rattle.quic_link.specs.Promises.{CameWhole, CameAt}
 use Rattle.quic_link.specs.Truths.{amount_on}
 use Rattle.quic_endpoint.specs.Ends.{EndState}
@@ -59,7 +59,7 @@ stream-stays sent more who id ps qs Is stay place s =
 -- ---- what the steps tell
 
 -- it stays told once more is known, and more was sent
-pub knows-more : (p p' : Past) (sent more : List Sent) (who : End) (x y : Endpoint) → Tells p p' → StaySent sent more → Knows p sent who x y → Knows p' more who x y
+pub knows-more : (p p' : Past) (sent more : List Sent) (who : End) (x y : LinkedEnd) → Tells p p' → StaySent sent more → Knows p sent who x y → Knows p' more who x y
 knows-more p p' sent more who x y t stay k = record {
   ids = subst (AreGiven x) (sym (t.ids who)) k.ids;
   written = λ q. k.written q ∙ sym (ap (λ (f : Flow). f.written) (t.flow who q));
@@ -76,14 +76,14 @@ knows-more p p' sent more who x y t stay k = record {
 }
 
 -- what came whole from an end that is called still did
-whole_sender : (x y z : Endpoint) (q : ℕ) → Keeps x z → CameWhole x y q → CameWhole z y q
+whole_sender : (x y z : LinkedEnd) (q : ℕ) → Keeps x z → CameWhole x y q → CameWhole z y q
 whole_sender x y z q k c =
     let f = k.flows q in
     let amount : amount_on z q ≡ amount_on x q = ap total_length f.cuts in
     let P : ℕ → Type 0 = λ n. (at : ℕ) → at < n → CameAt y.calls q at in
     record { finished = f.finished ∙ c.finished; bytes = subst P (sym amount) c.bytes; end = c.end }
 
-whole_receiver : (x y z : Endpoint) (q : ℕ) → Keeps y z → CameWhole x y q → CameWhole x z q
+whole_receiver : (x y z : LinkedEnd) (q : ℕ) → Keeps y z → CameWhole x y q → CameWhole x z q
 whole_receiver x y z q k c = record {
   finished = c.finished;
   bytes = λ at h. came (c.bytes at h);
@@ -94,7 +94,7 @@ whole_receiver x y z q k c = record {
     came e = record { offset = e.offset; bytes = e.bytes; fin = e.fin; transmit = e.transmit; is = k.calls (Received q e.offset e.bytes e.fin (Ok e.transmit)) e.is; has = e.has }
 
 -- the end that sends is called
-pub knows-sender : (p : Past) (sent : List Sent) (who : End) (x y z : Endpoint) → Keeps x z → Knows p sent who x y → Knows p sent who z y
+pub knows-sender : (p : Past) (sent : List Sent) (who : End) (x y z : LinkedEnd) → Keeps x z → Knows p sent who x y → Knows p sent who z y
 knows-sender p sent who x y z k n = record {
   ids = given-still x z (p.ids who) k.calls k.given n.ids;
   written = λ q. ap concat (k.flows q).cuts ∙ n.written q;
@@ -111,11 +111,11 @@ knows-sender p sent who x y z k n = record {
 }
 
 -- each STREAM frame that was accepted was sent, and is listed
-abbrev pub HeardSent : Past → List Sent → End → Endpoint → Type 0
+abbrev pub HeardSent : Past → List Sent → End → LinkedEnd → Type 0
 HeardSent p sent who y = (q offset : ℕ) (bytes : List ℕ) (fin : Bool) (transmit : ShouldTransmit) → IsOneOf (Received q offset bytes fin (Ok transmit)) y.calls → SomeStream sent who q p.accepted (IsLike offset bytes fin)
 
 -- the end that receives is
-pub knows-receiver : (p : Past) (sent : List Sent) (who : End) (x y z : Endpoint) → Keeps y z → HeardSent p sent who z → Knows p sent who x y → Knows p sent who x z
+pub knows-receiver : (p : Past) (sent : List Sent) (who : End) (x y z : LinkedEnd) → Keeps y z → HeardSent p sent who z → Knows p sent who x y → Knows p sent who x z
 knows-receiver p sent who x y z k heard n = record {
   ids = n.ids;
   written = n.written;
@@ -133,19 +133,19 @@ knows-receiver p sent who x y z k heard n = record {
 
 -- ---- payloads
 
-pub payload-writer : (x y z : Endpoint) (s : Sent) → Keeps x z → IsPayloadOf x y s → IsPayloadOf z y s
+pub payload-writer : (x y z : LinkedEnd) (s : Sent) → Keeps x z → IsPayloadOf x y s → IsPayloadOf z y s
 payload-writer x y z s k i = record { all = i.all; spelled = i.spelled; wrote = λ g h. k.wrote g (i.wrote g h); control = λ r h. k.asked (noted_in r.control) (i.control r h); accepted = i.accepted }
 
-pub accepted-more : (y z : Endpoint) {id : ℕ} → Keeps y z → (offsets : Range ℕ) (fin : Bool) → WasAccepted y.calls id offsets fin → WasAccepted z.calls id offsets fin
+pub accepted-more : (y z : LinkedEnd) {id : ℕ} → Keeps y z → (offsets : Range ℕ) (fin : Bool) → WasAccepted y.calls id offsets fin → WasAccepted z.calls id offsets fin
 accepted-more y z {id} k offsets fin a = record { bytes = a.bytes; transmit = a.transmit; is = k.calls (Received id offsets.start a.bytes fin (Ok a.transmit)) a.is; behind = a.behind }
 
-pub payload-reader : (x y z : Endpoint) (s : Sent) → Keeps y z → IsPayloadOf x y s → IsPayloadOf x z s
+pub payload-reader : (x y z : LinkedEnd) (s : Sent) → Keeps y z → IsPayloadOf x y s → IsPayloadOf x z s
 payload-reader x y z s k i = record { all = i.all; spelled = i.spelled; wrote = i.wrote; control = i.control; accepted = λ index stream h m. accepted-more y z k (meta_of stream).offsets stream.fin (i.accepted index stream h m) }
 
 -- ---- a pair
 
 -- a pair of which one end is x now
-pub seen-made : (p : Past) (who : End) (old : PairState) (sent : List Sent) (x y : Endpoint) (f : EndState) → Linked x y → Stands x f → Stands y (the_end old (peer who)) → ArePayloadsOf sent who x y → ArePayloadsOf sent (peer who) y x
+pub seen-made : (p : Past) (who : End) (old : PairState) (sent : List Sent) (x y : LinkedEnd) (f : EndState) → Linked x y → Stands x f → Stands y (the_end old (peer who)) → ArePayloadsOf sent who x y → ArePayloadsOf sent (peer who) y x
     → Knows p sent who x y → Knows p sent (peer who) y x → KeptSent p sent who y → KeptSent p sent (peer who) x → Seen p who (with_sent (with_end old who f) sent) x y
 seen-made p A old sent x y f l here there own others sends receives kept heard = record { linked = l; here = here; there = there; own = own; others = others; sends = sends; receives = receives; kept_there = kept; kept_here = heard }
 seen-made p B old sent x y f l here there own others sends receives kept heard = record { linked = l; here = here; there = there; own = own; others = others; sends = sends; receives = receives; kept_there = kept; kept_here = heard }
@@ -154,7 +154,7 @@ same_sent : (old : PairState) (who : End) (f : EndState) → with_sent (with_end
 same_sent old A f = refl
 same_sent old B f = refl
 
-module _ (p : Past) (who : End) (old new : PairState) (x y z : Endpoint) (f : EndState) (s : Seen p who old x y) (l : Linked z y) (k : Keeps x z) (here : Stands z f) where
+module _ (p : Past) (who : End) (old new : PairState) (x y z : LinkedEnd) (f : EndState) (s : Seen p who old x y) (l : Linked z y) (k : Keeps x z) (here : Stands z f) where
   -- the end was called, and payloads and marks are more
   pub seen-moved : (p' : Past) (sent : List Sent) → Tells p p' → StaySent old.sent sent → ArePayloadsOf sent who z y → ArePayloadsOf sent (peer who) y z → HeardSent p' sent (peer who) z
       → KeptSent p' sent who y → KeptSent p' sent (peer who) z → new ≡ with_sent (with_end old who f) sent
@@ -177,5 +177,5 @@ module _ (p : Past) (who : End) (old new : PairState) (x y z : Endpoint) (f : En
       (is ∙ sym (same_sent old who f))
 
 -- nothing changed
-pub seen-same : (p : Past) (who : End) (old new : PairState) (x y : Endpoint) → Seen p who old x y → new ≡ old → Sees p who new x y
+pub seen-same : (p : Past) (who : End) (old new : PairState) (x y : LinkedEnd) → Seen p who old x y → new ≡ old → Sees p who new x y
 seen-same p who old new x y s is = record { end = x; made = refl; seen = let P : PairState → Type 0 = λ v. Seen p who v x y in subst P (sym is) s }

@@ -12,9 +12,9 @@ use Rattle.quic_retransmits.specs.Pending.{nothing}
 use Rattle.quic_history.specs.World.{World}
 use Rattle.quic_history.specs.Control.{SettlesEntry, kind_bound}
 use Rattle.quic_history.specs.declared.control.ControlKind.{ControlKind}
-use Rattle.quic_history.specs.History.{Settled}
+use Rattle.quic_history.specs.History.{LeftPending}
 use Rattle.quic_streams.specs.Payload.{Sheet, PayloadPlace, with_frame_written, with_frame_written_if, SettlesOne, SettlesSome, FitsIn, none, more, WritesKinds}
-use Rattle.quic_link.specs.Endpoints.{Endpoint, Linked, IsOneOf, acted, WasAskedFor}
+use Rattle.quic_link.specs.Endpoints.{LinkedEnd, Linked, IsOneOf, acted, WasAskedFor}
 use Rattle.quic_link.specs.Asked.{AreAsked}
 use Rattle.quic_link.proofs.Basics.{either-of, only}
 use Rattle.quic_link.proofs.Joint.{agrees}
@@ -27,8 +27,8 @@ use Rattle.quic_pair.proofs.KeptFrames.{HearsNothing, hears-none, hears-both}
 use Rattle.quic_pair.proofs.PayloadKeeps.{Keeps, keeps-refl, keeps-both, keeps-settled, hears-settled}
 
 -- x came to an end at a place of a payload, of which it wrote every frame, and what is left and what was noted was asked for
-pub record Page (x y : Endpoint) (p : PayloadPlace) : Type 0 where
-  pub end : Endpoint
+pub record Page (x y : LinkedEnd) (p : PayloadPlace) : Type 0 where
+  pub end : LinkedEnd
   pub linked : Linked end y
   pub keeps : Keeps x end
   pub hears : HearsNothing x end
@@ -40,7 +40,7 @@ pub record Page (x y : Endpoint) (p : PayloadPlace) : Type 0 where
   pub wrote : (g : Frame) → IsOneOf g all → IsOneOf g end.wrote
 
 -- an empty payload
-page_first : (x y : Endpoint) (e : EndState) (stats : FrameStats) → Linked x y → Stands x e → Page x y (place_at e [] nothing stats)
+page_first : (x y : LinkedEnd) (e : EndState) (stats : FrameStats) → Linked x y → Stands x e → Page x y (place_at e [] nothing stats)
 page_first x y e stats l s = record {
   end = x;
   linked = l;
@@ -56,7 +56,7 @@ page_first x y e stats l s = record {
 
 -- ---- one entry more
 
-module _ (x y : Endpoint) (p q : PayloadPlace) (t : Page x y p) (kind : ControlKind) where
+module _ (x y : LinkedEnd) (p q : PayloadPlace) (t : Page x y p) (kind : ControlKind) where
   settles_here : (frame : Option Frame) → SettlesEntry kind p.end p.pending frame q.end q.pending → SettlesEntry kind t.end.world p.pending frame q.end q.pending
   settles_here frame s = let P : World → Type 0 = λ u. SettlesEntry kind u p.pending frame q.end q.pending in subst P (sym t.world) s
 
@@ -67,7 +67,7 @@ module _ (x y : Endpoint) (p q : PayloadPlace) (t : Page x y p) (kind : ControlK
       let may = entry-may t.end y kind p.pending q.pending None q.end t.left k in
       let next = entry-linked t.end y kind p.pending q.pending None q.end t.linked t.left k in
       let keeps = keeps-settled t.end y kind None q.end t.linked may in
-      let z = acted t.end (Settled kind None) q.end in
+      let z = acted t.end (LeftPending kind None) q.end in
       let P : Sheet → Type 0 = λ h. AreAsked z h.sent in
       let Q : Sheet → Type 0 = λ h. (rest : List ℕ) → BeginsFrames (h.bytes ++ rest) t.all rest in
       record {
@@ -90,8 +90,8 @@ module _ (x y : Endpoint) (p q : PayloadPlace) (t : Page x y p) (kind : ControlK
       let may = entry-may t.end y kind p.pending q.pending (Some g) q.end t.left k in
       let next = entry-linked t.end y kind p.pending q.pending (Some g) q.end t.linked t.left k in
       let keeps = keeps-settled t.end y kind (Some g) q.end t.linked may in
-      let z = acted t.end (Settled kind (Some g)) q.end in
-      let told : WasAskedFor z g = frame-asked t.end y (Settled kind (Some g)) q.end ((agrees t.linked).0).comes may g (asked-written t.end p.pending t.left kind g q.end q.pending k) in
+      let z = acted t.end (LeftPending kind (Some g)) q.end in
+      let told : WasAskedFor z g = frame-asked t.end y (LeftPending kind (Some g)) q.end ((agrees t.linked).0).comes may g (asked-written t.end p.pending t.left kind g q.end q.pending k) in
       let P : Sheet → Type 0 = λ h. AreAsked z h.sent in
       let Q : Sheet → Type 0 = λ h. (rest : List ℕ) → BeginsFrames (h.bytes ++ rest) (t.all ++ g ∷ []) rest in
       record {
@@ -121,11 +121,11 @@ module _ (x y : Endpoint) (p q : PayloadPlace) (t : Page x y p) (kind : ControlK
 
 -- ---- all entries
 
-page_some : {kind : ControlKind} {most : ℕ} {p q : PayloadPlace} (x y : Endpoint) → Page x y p → SettlesSome kind most p q → Page x y q
+page_some : {kind : ControlKind} {most : ℕ} {p q : PayloadPlace} (x y : LinkedEnd) → Page x y p → SettlesSome kind most p q → Page x y q
 page_some x y t (none {p}) = t
 page_some {kind} x y t (more {p} {q} {r} before room s) = page_one x y q r (page_some x y t before) kind s
 
-page_kinds : (x y : Endpoint) (most : ℕ) (kinds : List ControlKind) (p q : PayloadPlace) (answer : Result (Unit {0}) OutOfMemory) → Page x y p → WritesKinds most kinds p answer q → Page x y q
+page_kinds : (x y : LinkedEnd) (most : ℕ) (kinds : List ControlKind) (p q : PayloadPlace) (answer : Result (Unit {0}) OutOfMemory) → Page x y p → WritesKinds most kinds p answer q → Page x y q
 page_kinds x y most [] p q (Ok u) t w = let P : PayloadPlace → Type 0 = λ k. Page x y k in subst P (sym w) t
 page_kinds x y most [] p q (Err e) t w = absurd w
 page_kinds x y most (k ∷ ks) p q answer t w = elim w [
@@ -134,6 +134,6 @@ page_kinds x y most (k ∷ ks) p q answer t w = elim w [
 ]
 
 -- what an end writes beside STREAM into an empty payload
-pub page-control : (x y : Endpoint) (most : ℕ) (e : EndState) (stats : FrameStats) (kinds : List ControlKind) (q : PayloadPlace) (answer : Result (Unit {0}) OutOfMemory) → Linked x y → Stands x e → WritesKinds most kinds (place_at e [] nothing stats) answer q
+pub page-control : (x y : LinkedEnd) (most : ℕ) (e : EndState) (stats : FrameStats) (kinds : List ControlKind) (q : PayloadPlace) (answer : Result (Unit {0}) OutOfMemory) → Linked x y → Stands x e → WritesKinds most kinds (place_at e [] nothing stats) answer q
     → Page x y q
 page-control x y most e stats kinds q answer l s w = page_kinds x y most kinds (place_at e [] nothing stats) q answer (page_first x y e stats l s) w

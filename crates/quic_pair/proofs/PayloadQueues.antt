@@ -9,7 +9,7 @@ use Rattle.quic_wire.specs.declared.error.ReceiveError.TheVariants as receive_er
 use Rattle.quic_queue.specs.declared.queue.Entry.{Entry}
 use Rattle.quic_queue.specs.declared.queue.Next.{Next}
 use Rattle.quic_queue.specs.declared.queue.Next.TheVariants.{LetGo, PutAnew, KeepBack}
-use Rattle.quic_queue.specs.SendOrder.{SendOrder, with_entry, without_first, settled}
+use Rattle.quic_queue.specs.SendOrder.{SendOrder, with_entry, without_next, with_turn_ended}
 use Rattle.quic_limits.specs.Own.{with_count}
 use Rattle.quic_outgoing.specs.Outgoing.{Outgoing, own_of, with_own, with_send_half}
 use Rattle.quic_writing.specs.Writer.{Writer, next_of}
@@ -19,7 +19,7 @@ use Rattle.quic_history.specs.Writes.{with_queued, WritesOwn}
 use Rattle.quic_history.specs.Early.{with_entries_put}
 use Rattle.quic_history.specs.Acknowledged.{with_send_freed, told_finished, frees_reset}
 use Rattle.quic_history.specs.SendEvents.{SendEvent, SendStep, GaveLimits, RaisedData, RaisedCount, RaisedLimit, StoppedOwn, SetWindow, OpenedOwn, WroteOwn, FinishedOwn, ResetOwn, SetOwnPriority, AckedOwn, LostOwn, ResetAckedOwn, TookTurn, Polled}
-use Rattle.quic_history.specs.History.{Event, Received, ReceivedReset, AddedCredits, Began, Gave, Ended, Stopped, ToldReset, Resized, SetConcurrent, Accepted, Settled, Sending, Step, Rejected, SentAgain, IsRun, From}
+use Rattle.quic_history.specs.History.{Event, Received, ReceivedReset, AddedCredits, Began, Gave, Ended, Stopped, ToldReset, Resized, SetConcurrent, Accepted, LeftPending, Sending, Step, Rejected, SentAgain, IsRun, From}
 use Rattle.quic_history.proofs.Limits.{firmly}
 use Rattle.quic_history.proofs.Credits.{limit-fits}
 use Rattle.quic_history.proofs.StreamSteps.{Steady, steady-noticed}
@@ -41,13 +41,13 @@ bare_put : (u w v : World) (id : ℕ) (o : Option ℤ) → v ≡ with_queued w i
 bare_put u w v id None e s b = ap (λ (x : World). x.queue.reserved) e ∙ ap (λ (x : SendOrder). x.reserved) s ∙ b
 bare_put u w v id (Some priority) e s b = ap (λ (x : World). x.queue.reserved) e
 
-bare_settled : (w : SendOrder) (e : Entry) (n : Next) → (settled w e n).reserved ≡ None
+bare_settled : (w : SendOrder) (e : Entry) (n : Next) → (with_turn_ended w e n).reserved ≡ None
 bare_settled w e LetGo = refl
 bare_settled w e (PutAnew p) = refl
 bare_settled w e KeepBack = refl
 
-bare_turn : (u v : World) (a b : Writer) (e : Entry) (n : Next) → v.queue ≡ b.queue → b.queue ≡ settled (without_first a.queue) e n → BareBy u v
-bare_turn u v a b e n after s bare = ap (λ (x : SendOrder). x.reserved) (after ∙ s) ∙ bare_settled (without_first a.queue) e n
+bare_turn : (u v : World) (a b : Writer) (e : Entry) (n : Next) → v.queue ≡ b.queue → b.queue ≡ with_turn_ended (without_next a.queue) e n → BareBy u v
+bare_turn u v a b e n after s bare = ap (λ (x : SendOrder). x.reserved) (after ∙ s) ∙ bare_settled (without_next a.queue) e n
 
 bare_entries : (q : SendOrder) (es : List Entry) → q.reserved ≡ None → (with_entries_put q es).reserved ≡ None
 bare_entries q [] b = b
@@ -158,7 +158,7 @@ bare_step h u (ToldReset id answer) v fits s = bare_same u v (let f = firmly h u
 bare_step h u (Resized window answer) v fits s = bare_same u v (let f = firmly h u (Resized window answer) v fits refl s in f.queue)
 bare_step h u (SetConcurrent dir count answer) v fits s = bare_same u v (let f = firmly h u (SetConcurrent dir count answer) v fits refl s in f.queue)
 bare_step h u (Accepted dir answer) v fits s = bare_same u v (let f = firmly h u (Accepted dir answer) v fits refl s in f.queue)
-bare_step h u (Settled kind frame) v fits s = bare_same u v (let f = firmly h u (Settled kind frame) v fits refl s in f.queue)
+bare_step h u (LeftPending kind frame) v fits s = bare_same u v (let f = firmly h u (LeftPending kind frame) v fits refl s in f.queue)
 bare_step h u Rejected v fits s = λ b. ap (λ (x : World). x.queue.reserved) s.1
 bare_step h u (SentAgain (Ok x)) v fits s = λ b. ap (λ (x : World). x.queue.reserved) s.1.2 ∙ bare_entries u.queue s.1.0 b
 bare_step h u (SentAgain (Err x)) v fits s = bare_same u v (ap (λ (x : World). x.queue) s.1)

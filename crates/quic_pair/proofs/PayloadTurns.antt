@@ -13,13 +13,13 @@ use Rattle.quic_history.specs.World.{World}
 use Rattle.quic_history.specs.Carrying.{with_writer}
 use Rattle.quic_history.specs.SendEvents.{SendStep, TookTurn}
 use Rattle.quic_history.specs.History.{Sending}
-use Rattle.quic_link.specs.Endpoints.{Endpoint, Linked, first_acts, MayAct, acted, IsOneOf, IsHonestSending, written_on}
+use Rattle.quic_link.specs.Endpoints.{LinkedEnd, Linked, first_acts, MayAct, acted, IsOneOf, IsHonestSending, written_on}
 use Rattle.quic_pair.proofs.KeptFrames.{HearsNothing, hears-none, hears-both}
 use Rattle.quic_pair.proofs.PayloadKeeps.{Keeps, keeps-refl, keeps-both, keeps-send, hears-send}
 
 -- x came to an end that is w with this writer, and wrote the frames that were handed back
-pub record Turned (x y : Endpoint) (w : World) (b : Writer) (frames : List StreamMeta) : Type 0 where
-  pub end : Endpoint
+pub record Turned (x y : LinkedEnd) (w : World) (b : Writer) (frames : List StreamMeta) : Type 0 where
+  pub end : LinkedEnd
   pub linked : Linked end y
   pub keeps : Keeps x end
   pub hears : HearsNothing x end
@@ -33,7 +33,7 @@ mapped_either f [] m g (inr h) = absurd h
 mapped_either f (k ∷ ms) m g (inl e) = inl (inl e)
 mapped_either f (k ∷ ms) m g (inr h) = elim (mapped_either f ms m g h) [ inl a ↦ inl (inr a) | inr b ↦ inr b ]
 
-module _ (x y : Endpoint) (most : ℕ) (fair : Bool) (w : World) (b c : Writer) (frames : List StreamMeta) (t : Turned x y w b frames) where
+module _ (x y : LinkedEnd) (most : ℕ) (fair : Bool) (w : World) (b c : Writer) (frames : List StreamMeta) (t : Turned x y w b frames) where
   turn_step : (frame : Option StreamMeta) → SendStep (with_writer w b) (TookTurn most fair frame) (with_writer w c) → MayAct t.end y (Sending (TookTurn most fair frame)) (with_writer w c)
   turn_step frame s = record { fits = tt; honest = honest frame; step = let P : World → Type 0 = λ u. SendStep u (TookTurn most fair frame) (with_writer w c) in subst P (sym t.world) s }
     where
@@ -74,7 +74,7 @@ module _ (x y : Endpoint) (most : ℕ) (fair : Bool) (w : World) (b c : Writer) 
         wrote = λ g h. elim (mapped_either (frame_with (written_on x)) frames m g h) [ inl before ↦ keeps.wrote g (t.wrote g before) | inr now ↦ inl (now ∙ sym same) ];
       }
 
-pub turns-taken : {most : ℕ} {fair : Bool} {a b : Writer} (x y : Endpoint) (w : World) → Linked x y → x.world ≡ with_writer w a → TakesTurns most fair a b → (frames : List StreamMeta) × (b.sent ≡ a.sent ++ frames) × Turned x y w b frames
+pub turns-taken : {most : ℕ} {fair : Bool} {a b : Writer} (x y : LinkedEnd) (w : World) → Linked x y → x.world ≡ with_writer w a → TakesTurns most fair a b → (frames : List StreamMeta) × (b.sent ≡ a.sent ++ frames) × Turned x y w b frames
 turns-taken x y w l e (none {a}) = ([], sym (append-nil a.sent), record { end = x; linked = l; keeps = keeps-refl x; hears = hears-none x; world = e; wrote = λ g h. absurd h })
 turns-taken {most} {fair} x y w l e (more {a} {b} {c} ts room (inl k)) =
     let before = turns-taken x y w l e ts in

@@ -40,7 +40,7 @@ use Rattle.quic_history.specs.History.{Event, Received, ReceivedReset, Began, Ga
 use Rattle.quic_history.proofs.Totals.{by_cases}
 use Rattle.quic_history.proofs.Traces.{itself}
 use Rattle.quic_history.proofs.StreamSteps.{half-from, known-from}
-use Rattle.quic_link.specs.Endpoints.{Endpoint, MayAct, WasGiven, came_on, sent_on}
+use Rattle.quic_link.specs.Endpoints.{LinkedEnd, MayAct, WasGiven, came_on, sent_on}
 use Rattle.quic_link.specs.Truths.{amount_on}
 use Rattle.quic_link.specs.Promises.{KeptAt, EndKept, given_in_order, IsOver as IsOverTrace}
 use Rattle.quic_link.proofs.Basics.{permits_now}
@@ -61,7 +61,7 @@ use Rattle.quic_pair.specs.Steps.{Next}
 use Rattle.quic_pair.specs.History.{Past, Flow, History, past_of, past_read, with_flow, reads_chunks, with_chunks_read}
 use Rattle.quic_pair.specs.Headline.{SomeStream, HasOffset, HasEnd}
 use Rattle.quic_pair.specs.Readable.{AreCut, SomeReset, SomeStop, StopTrue, EventTrue, HasNothingLeft, OnlySends, IsFlowOver, EndsReads, ReadsTrue, CodeTrue, WithholdsNothing, side_of}
-use Rattle.quic_pair.specs.From.{From}
+use Rattle.quic_pair.specs.From.{PairFrom}
 use Rattle.quic_pair.proofs.Joined.{Seen, Joined}
 use Rattle.quic_pair.proofs.KeptCalls.{kept-offset, kept-end, was-stopped, was-reset}
 use Rattle.quic_pair.proofs.Flips.{seen-as}
@@ -89,7 +89,7 @@ known_by w true Bi i l k = inr (below w.out.own_bi.opened i STREAM_STATE_ERROR k
 known_by w false d i l k = inr (below (remote_of w d).max_remote i STREAM_LIMIT_ERROR (omega (arith, l, k)))
 
 -- a stream that was given is known, or one that the end only sends on
-given_known : (x : Endpoint) → Comes x → (id : ℕ) → WasGiven x.world id → ((is_own x.world id ≡ true) × (dir_of id ≡ Uni)) ⊎ (id_refusal x.world id ≡ None)
+given_known : (x : LinkedEnd) → Comes x → (id : ℕ) → WasGiven x.world id → ((is_own x.world id ≡ true) × (dir_of id ≡ Uni)) ⊎ (id_refusal x.world id ≡ None)
 given_known x f id k =
     let r = permits_now x.made x.calls x.world f.from.run f.remotes (dir_of id) in
     let a = r.accepted in
@@ -111,7 +111,7 @@ some_code None e = cc
 flow_here : (P : Flow → Type 0) (who : End) (id : ℕ) (change : Flow → Flow) (p : Past) → P (change (p.flow who id)) → P ((with_flow who id change p).flow who id)
 flow_here P who id change p h = flow-changed P who id change p id (λ e. h) (λ n. absurd (let l = sym (itself id) ∙ n in cc))
 
-module _ (p : Past) (who : End) (v : PairState) (x y : Endpoint) (s : Seen p who v x y) (id most times : ℕ) (ordered : Bool) where
+module _ (p : Past) (who : End) (v : PairState) (x y : LinkedEnd) (s : Seen p who v x y) (id most times : ℕ) (ordered : Bool) where
   abbrev known : Flow
   known = p.flow (peer who) id
 
@@ -122,7 +122,7 @@ module _ (p : Past) (who : End) (v : PairState) (x y : Endpoint) (s : Seen p who
     calls_read = with_chunks id most ordered cs (Began id ordered (Ok tt) ∷ x.calls)
 
     -- the end before the read that gave none
-    abbrev between : Endpoint
+    abbrev between : LinkedEnd
     between = called x calls_read d.read
 
     goes : GoesOn x y between
@@ -245,7 +245,7 @@ module _ (p : Past) (who : End) (v : PairState) (x y : Endpoint) (s : Seen p who
 
 -- ---- stops that are told
 
-module _ (p : Past) (who : End) (v : PairState) (x y : Endpoint) (s : Seen p who v x y) where
+module _ (p : Past) (who : End) (v : PairState) (x y : LinkedEnd) (s : Seen p who v x y) where
   stop_told : (id code : ℕ) → (sent_on x id).stopped ≡ Some code → SomeStop v.sent (peer who) id code p.accepted
   stop_told id code e = s.kept_here.stops id code (stop-came x.made x.calls id code e)
 
@@ -327,7 +327,7 @@ module _ (a b : Config) (p : Past) (old new : PairState) (j : Joined a b p old) 
   ]
 
   stop_on : (who : End) (id : ℕ) (reply : Answer) {Does : EndState → EndState → Type 0} → OnEnd (λ e f. OnGiven e id reply f (Does e f)) old who new
-      → ((x y : Endpoint) (s : Seen p who old x y) (f : EndState) → Does (the_end old who) f → StopTrue p old.sent who id reply) → StopTrue p old.sent who id reply
+      → ((x y : LinkedEnd) (s : Seen p who old x y) (f : EndState) → Does (the_end old who) f → StopTrue p old.sent who id reply) → StopTrue p old.sent who id reply
   stop_on who id reply n does = elim n.does [
     | inl known ↦ seen-as a b p old who j (StopTrue p old.sent who id reply) (λ x y side s. does x y s n.end known.1)
     | inr unknown ↦ (let P : Answer → Type 0 = λ k. StopTrue p old.sent who id k in subst P (sym unknown.1) tt)
@@ -367,5 +367,5 @@ module _ (a b : Config) (p : Past) (old new : PairState) (j : Joined a b p old) 
   readable_next _ reply n = tt
 
 -- whatever the network did, nothing that was kept is withheld
-pub readable-so : (a b : Config) (h : History) (old new : PairState) (step : Step) (reply : Answer) → From a b h old → Next old step reply new → WithholdsNothing (past_of h) old.sent step reply
+pub readable-so : (a b : Config) (h : History) (old new : PairState) (step : Step) (reply : Answer) → PairFrom a b h old → Next old step reply new → WithholdsNothing (past_of h) old.sent step reply
 readable-so a b h old new step reply f n = readable_next a b (past_of h) old new (joined-from f) step reply n

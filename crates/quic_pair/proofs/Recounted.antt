@@ -8,7 +8,7 @@ use Rattle.quic_values.specs.declared.ids.Side.TheVariants.{Client, Server}
 use Rattle.quic_wire.specs.declared.frame.Frame.{Frame}
 use Rattle.quic_wire.specs.Frames.{AreFrames}
 use Rattle.quic_wire.proofs.Joins.{same}
-use Rattle.quic_retransmits.specs.Pending.{Pending, nothing, shown_if}
+use Rattle.quic_retransmits.specs.Pending.{Pending, nothing, thin_view}
 use Rattle.quic_history.specs.World.{Made}
 use Rattle.quic_history.specs.SendEvents.{GaveLimits, OpenedOwn, RaisedData, RaisedCount, RaisedLimit, StoppedOwn, SetWindow, WroteOwn, FinishedOwn, ResetOwn, AckedOwn, LostOwn, ResetAckedOwn, TookTurn}
 use Rattle.quic_history.specs.History.{Event, Sending, Rejected, SentAgain}
@@ -82,7 +82,7 @@ pub record IsDone (kind : Report) (u : Unsettled) (r : SentPayload) (answer : Re
   pub rest_is : u.rest ≡ Some r
   pub goes : goes_on kind u.begun ≡ true
   pub parts : parts_of (sent_view r) ≡ done ++ parts_of (unreported (report_view answer))
-  pub control : kind ≡ Lost → (back : SentPayload) → answer ≡ Err back → shown_if back.control ≡ shown_if r.control
+  pub control : kind ≡ Lost → (back : SentPayload) → answer ≡ Err back → thin_view back.control ≡ thin_view r.control
 
 only_lost : (kind : Report) → goes_on Lost (Some kind) ≡ true → kind ≡ Lost
 only_lost Lost e = refl

@@ -25,7 +25,7 @@ use Rattle.quic_pair.specs.State.{PairState, OnEnd, the_end}
 use Rattle.quic_pair.specs.Calls.{OnGiven}
 use Rattle.quic_pair.specs.Steps.{HasPayload, Next, Delivers, Reports, SettlesPayload}
 use Rattle.quic_pair.specs.History.{Past, History, FramePlace, past_of}
-use Rattle.quic_pair.specs.From.{From}
+use Rattle.quic_pair.specs.From.{PairFrom}
 use Rattle.quic_pair.specs.Refused.{IsTaken, IsKnownSo, IsFoundSo, HasBytes, Always, HasAllAccepted, HasOneUnaccepted, Needs, Misses, IsServedSo, IsReportedSo, IsRefusedSo}
 use Rattle.quic_pair.proofs.Lists.{slice_get-within, slice_get-there}
 use Rattle.quic_pair.proofs.Marks.{AreMarkedSo, marks-from}
@@ -123,7 +123,7 @@ module _ (p : Past) (old new : PairState) (t : AreSpelled old.sent) (m : AreMark
 -- ---- all steps
 
 -- whatever steps led to a pair, its payloads spell frames
-spelled-from : {a b : Config} {h : History} {v : PairState} → From a b h v → AreSpelled v.sent
+spelled-from : {a b : Config} {h : History} {v : PairState} → PairFrom a b h v → AreSpelled v.sent
 spelled-from f number s is = let honest = honest-from f number s is in (honest.all, honest.spelled)
 
 refused_by : (p : Past) (old new : PairState) (step : Step) (reply : Answer) → AreSpelled old.sent → AreMarkedSo p.accepted old.sent → AreSettledSo p.settled p.begun old.sent → ((who : End) → AreKnown old p who) → Next old step reply new → IsRefusedSo p old.sent step reply
@@ -147,5 +147,5 @@ refused_by p old new (steps.Lose number) reply t m u k n = settles_so p old new 
 refused_by p old new (steps.Ack number) reply t m u k n = settles_so p old new t m u number Acknowledged AcksPayloadAt reply n
 
 -- whatever steps led to a pair, the next one is refused exactly so
-pub refused-so : (a b : Config) (h : History) (old new : PairState) (step : Step) (reply : Answer) → From a b h old → Next old step reply new → IsRefusedSo (past_of h) old.sent step reply
+pub refused-so : (a b : Config) (h : History) (old new : PairState) (step : Step) (reply : Answer) → PairFrom a b h old → Next old step reply new → IsRefusedSo (past_of h) old.sent step reply
 refused-so a b h old new step reply f n = refused_by (past_of h) old new step reply (spelled-from f) (marks-from f) (settled-from f) (known-from f) n

@@ -7,7 +7,7 @@ use Rattle.quic_wire.specs.declared.frame.Frame.TheVariants as frames
 use Rattle.quic_wire.specs.declared.frame.Stream.{Stream}
 use Rattle.quic_wire.specs.declared.frame.StreamMeta.{StreamMeta}
 use Rattle.quic_wire.proofs.Joins.{same}
-use Rattle.quic_retransmits.specs.Pending.{Pending, nothing, merged_if, shown_if}
+use Rattle.quic_retransmits.specs.Pending.{Pending, nothing, merged_if, thin_view}
 use Rattle.quic_retransmits.specs.Settling.{noted_in}
 use Rattle.quic_history.specs.World.{World}
 use Rattle.quic_history.specs.Receiving.{with_max_streams}
@@ -16,7 +16,7 @@ use Rattle.quic_history.specs.History.{Sending}
 use Rattle.quic_streams.specs.declared.settling.SentPayload.{SentPayload}
 use Rattle.quic_streams.specs.Sent.{sent_view, report_view}
 use Rattle.quic_streams.specs.Settling.{SentView, EachInOrder, AcksMeta, LosesMeta, AcksResetOf, resets_of}
-use Rattle.quic_link.specs.Endpoints.{Endpoint, Linked, IsOneOf, first_acts, MayAct, acted, IsHonestSending, WasWrittenAs, WasAccepted}
+use Rattle.quic_link.specs.Endpoints.{LinkedEnd, Linked, IsOneOf, first_acts, MayAct, acted, IsHonestSending, WasWrittenAs, WasAccepted}
 use Rattle.quic_link.specs.Asked.{AreAsked}
 use Rattle.quic_link.proofs.AskedFor.{asked-merged}
 use Rattle.quic_endpoint.specs.Ends.{EndState, with_world, with_counts_told, with_counts_told_if}
@@ -48,39 +48,39 @@ use Rattle.quic_pair.proofs.Joined.{IsLike}
 -- ---- frames at their places
 
 -- a frame that stands in a payload at a place is that of its list
-pub frame-there : (x y : Endpoint) (s : Sent) (i : IsPayloadOf x y s) (index : ℕ) (g : Frame) → IsFrameAt s.text.bytes index g → slice_get i.all index ≡ Some g
+pub frame-there : (x y : LinkedEnd) (s : Sent) (i : IsPayloadOf x y s) (index : ℕ) (g : Frame) → IsFrameAt s.text.bytes index g → slice_get i.all index ≡ Some g
 frame-there x y s i index g at = ap (λ (fs : List Frame). slice_get fs index) (same s.text.bytes i.all at.all i.spelled at.spelled) ∙ at.at
 
 -- and its writer wrote it
-pub frame-wrote : (x y : Endpoint) (s : Sent) (i : IsPayloadOf x y s) (index : ℕ) (g : Frame) → IsFrameAt s.text.bytes index g → IsOneOf g x.wrote
+pub frame-wrote : (x y : LinkedEnd) (s : Sent) (i : IsPayloadOf x y s) (index : ℕ) (g : Frame) → IsFrameAt s.text.bytes index g → IsOneOf g x.wrote
 frame-wrote x y s i index g at = i.wrote g (got-one i.all index g (frame-there x y s i index g at))
 
 -- ---- calls of an end
 
 -- x came, by calls that the steps tell nothing of, to an end that is f
-pub record Reaches (x y : Endpoint) (f : EndState) : Type 0 where
-  pub end : Endpoint
+pub record Reaches (x y : LinkedEnd) (f : EndState) : Type 0 where
+  pub end : LinkedEnd
   pub linked : Linked end y
   pub keeps : Keeps x end
   pub hears : HearsNothing x end
   pub here : Stands end f
 
 -- MAX_STREAMS and MAX_DATA were not asked for
-pub asked-flags : (x : Endpoint) (p q : Pending) → q ≡ record p { max_data = q.max_data; max_streams_bi = q.max_streams_bi; max_streams_uni = q.max_streams_uni } → AreAsked x p → AreAsked x q
+pub asked-flags : (x : LinkedEnd) (p q : Pending) → q ≡ record p { max_data = q.max_data; max_streams_bi = q.max_streams_bi; max_streams_uni = q.max_streams_uni } → AreAsked x p → AreAsked x q
 asked-flags x p q e a = let P : Pending → Type 0 = λ j. AreAsked x j in subst P (sym e) (record { resets = a.resets; stops = a.stops; windows = a.windows })
 
-pub stands-told : (x : Endpoint) (e : EndState) → Stands x e → Stands x (with_counts_told e)
+pub stands-told : (x : LinkedEnd) (e : EndState) → Stands x e → Stands x (with_counts_told e)
 stands-told x e s = record { world = s.world; pending = asked-flags x e.pending (with_max_streams e.streams e.pending) refl s.pending }
 
-pub stands-told-if : (x : Endpoint) (b : Bool) (e : EndState) → Stands x e → Stands x (with_counts_told_if b e)
+pub stands-told-if : (x : LinkedEnd) (b : Bool) (e : EndState) → Stands x e → Stands x (with_counts_told_if b e)
 stands-told-if x true e s = stands-told x e s
 stands-told-if x false e s = s
 
-pub stands-at : (x : Endpoint) (e f : EndState) → e ≡ f → Stands x f → Stands x e
+pub stands-at : (x : LinkedEnd) (e f : EndState) → e ≡ f → Stands x f → Stands x e
 stands-at x e f k s = let P : EndState → Type 0 = λ j. Stands x j in subst P (sym k) s
 
 -- a call on the sending side that the steps tell nothing of, after which as much is pending
-pub reached-send : (x y : Endpoint) (e f : EndState) (event : SendEvent) → Linked x y → Stands x e → IsQuietSend event → IsNoFrame (Sending event) → IsHonestSending x y event → SendStep e.streams event f.streams → f.pending ≡ e.pending → Reaches x y f
+pub reached-send : (x y : LinkedEnd) (e f : EndState) (event : SendEvent) → Linked x y → Stands x e → IsQuietSend event → IsNoFrame (Sending event) → IsHonestSending x y event → SendStep e.streams event f.streams → f.pending ≡ e.pending → Reaches x y f
 reached-send x y e f event l s quiet none_heard honest step pending =
     let P : World → Type 0 = λ u. SendStep u event f.streams in
     let may : MayAct x y (Sending event) f.streams = record { fits = tt; honest = honest; step = subst P (sym s.world) step } in
@@ -94,10 +94,10 @@ reached-send x y e f event l s quiet none_heard honest step pending =
       here = record { world = refl; pending = subst Q (sym pending) (k.asked e.pending s.pending) };
     }
 
-pub reached-told : (x y : Endpoint) (e f : EndState) (b : Bool) → Reaches x y e → f ≡ with_counts_told_if b e → Reaches x y f
+pub reached-told : (x y : LinkedEnd) (e f : EndState) (b : Bool) → Reaches x y e → f ≡ with_counts_told_if b e → Reaches x y f
 reached-told x y e f b r is = record { end = r.end; linked = r.linked; keeps = r.keeps; hears = r.hears; here = stands-at r.end f (with_counts_told_if b e) is (stands-told-if r.end b e r.here) }
 
-pub reached-both : (x y : Endpoint) (f : EndState) (r : Reaches x y f) (g : EndState) → Reaches r.end y g → Reaches x y g
+pub reached-both : (x y : LinkedEnd) (f : EndState) (r : Reaches x y f) (g : EndState) → Reaches r.end y g → Reaches x y g
 reached-both x y f r g t = record {
   end = t.end;
   linked = t.linked;
@@ -106,68 +106,68 @@ reached-both x y f r g t = record {
   here = t.here;
 }
 
-pub reached-same : (x y : Endpoint) (e : EndState) → Linked x y → Stands x e → Reaches x y e
+pub reached-same : (x y : LinkedEnd) (e : EndState) → Linked x y → Stands x e → Reaches x y e
 reached-same x y e l s = record { end = x; linked = l; keeps = keeps-refl x; hears = hears-none x; here = s }
 
 -- another end, with as much pending as is asked for
-reached_as : (x y : Endpoint) (e f : EndState) (r : Reaches x y e) → f.streams ≡ e.streams → AreAsked r.end f.pending → Reaches x y f
+reached_as : (x y : LinkedEnd) (e f : EndState) (r : Reaches x y e) → f.streams ≡ e.streams → AreAsked r.end f.pending → Reaches x y f
 reached_as x y e f r world asked = record { end = r.end; linked = r.linked; keeps = r.keeps; hears = r.hears; here = record { world = r.here.world ∙ sym world; pending = asked } }
 
 -- ---- reports of one frame after another
 
-module _ {T : Type 0} (Each : World → T → World → Type 0) (Told : Endpoint → T → Type 0) (y : Endpoint)
-    (one : (x : Endpoint) (e : EndState) (t : T) (w : World) → Linked x y → Stands x e → Told x t → Each e.streams t w → Reaches x y (with_world e w)) (still : (x z : Endpoint) (t : T) → Keeps x z → Told x t → Told z t) where
-  row_reached : (ts : List T) (x : Endpoint) (e : EndState) (v : World) → Linked x y → Stands x e → ((t : T) → IsOneOf t ts → Told x t) → EachInOrder Each e.streams ts v → Reaches x y (with_world e v)
+module _ {T : Type 0} (Each : World → T → World → Type 0) (Told : LinkedEnd → T → Type 0) (y : LinkedEnd)
+    (one : (x : LinkedEnd) (e : EndState) (t : T) (w : World) → Linked x y → Stands x e → Told x t → Each e.streams t w → Reaches x y (with_world e w)) (still : (x z : LinkedEnd) (t : T) → Keeps x z → Told x t → Told z t) where
+  row_reached : (ts : List T) (x : LinkedEnd) (e : EndState) (v : World) → Linked x y → Stands x e → ((t : T) → IsOneOf t ts → Told x t) → EachInOrder Each e.streams ts v → Reaches x y (with_world e v)
   row_reached [] x e v l s told k = reached-same x y (with_world e v) l (stands-at x (with_world e v) e (ap (with_world e) k) s)
   row_reached (t ∷ ts) x e v l s told k =
       let r = one x e t k.0 l s (told t (inl refl)) k.1 in
       reached-both x y (with_world e k.0) r (with_world e v) (row_reached ts r.end (with_world e k.0) v r.linked r.here (λ j h. still x r.end j r.keeps (told j (inr h))) k.2)
 
-abbrev IsAccepted : Endpoint → Endpoint → StreamMeta → Type 0
+abbrev IsAccepted : LinkedEnd → LinkedEnd → StreamMeta → Type 0
 IsAccepted y x m = WasAccepted y.calls m.id m.offsets m.fin
 
-abbrev IsWritten : Endpoint → StreamMeta → Type 0
+abbrev IsWritten : LinkedEnd → StreamMeta → Type 0
 IsWritten x m = WasWrittenAs x.wrote m.id m.offsets m.fin
 
-abbrev IsAny : Endpoint → ℕ × ℕ → Type 0
+abbrev IsAny : LinkedEnd → ℕ × ℕ → Type 0
 IsAny x reset = Unit {0}
 
-module _ (y : Endpoint) where
-  ack_reached : (x : Endpoint) (e : EndState) (m : StreamMeta) (w : World) → Linked x y → Stands x e → IsAccepted y x m → AcksMeta e.streams m w → Reaches x y (with_world e w)
+module _ (y : LinkedEnd) where
+  ack_reached : (x : LinkedEnd) (e : EndState) (m : StreamMeta) (w : World) → Linked x y → Stands x e → IsAccepted y x m → AcksMeta e.streams m w → Reaches x y (with_world e w)
   ack_reached x e m w l s told k = reached-send x y e (with_world e w) (AckedOwn m.id m.offsets m.fin (Ok tt)) l s tt tt told k refl
 
-  loss_reached : (x : Endpoint) (e : EndState) (m : StreamMeta) (w : World) → Linked x y → Stands x e → IsWritten x m → LosesMeta e.streams m w → Reaches x y (with_world e w)
+  loss_reached : (x : LinkedEnd) (e : EndState) (m : StreamMeta) (w : World) → Linked x y → Stands x e → IsWritten x m → LosesMeta e.streams m w → Reaches x y (with_world e w)
   loss_reached x e m w l s told k = reached-send x y e (with_world e w) (LostOwn m.id m.offsets m.fin (Ok tt)) l s tt tt told k refl
 
-  reset_reached : (x : Endpoint) (e : EndState) (t : ℕ × ℕ) (w : World) → Linked x y → Stands x e → IsAny x t → AcksResetOf e.streams t w → Reaches x y (with_world e w)
+  reset_reached : (x : LinkedEnd) (e : EndState) (t : ℕ × ℕ) (w : World) → Linked x y → Stands x e → IsAny x t → AcksResetOf e.streams t w → Reaches x y (with_world e w)
   reset_reached x e t w l s told k = reached-send x y e (with_world e w) (ResetAckedOwn t.0 (Ok tt)) l s tt tt tt k refl
 
-  written_still : (x z : Endpoint) (m : StreamMeta) → Keeps x z → IsWritten x m → IsWritten z m
+  written_still : (x z : LinkedEnd) (m : StreamMeta) → Keeps x z → IsWritten x m → IsWritten z m
   written_still x z m k w = record { bytes = w.bytes; is = k.wrote _ w.is; behind = w.behind }
 
-  acks_reached : (ms : List StreamMeta) (x : Endpoint) (e : EndState) (v : World) → Linked x y → Stands x e → ((m : StreamMeta) → IsOneOf m ms → IsAccepted y x m) → EachInOrder AcksMeta e.streams ms v → Reaches x y (with_world e v)
+  acks_reached : (ms : List StreamMeta) (x : LinkedEnd) (e : EndState) (v : World) → Linked x y → Stands x e → ((m : StreamMeta) → IsOneOf m ms → IsAccepted y x m) → EachInOrder AcksMeta e.streams ms v → Reaches x y (with_world e v)
   acks_reached = row_reached AcksMeta (IsAccepted y) y ack_reached (λ x z m k a. a)
 
-  losses_reached : (ms : List StreamMeta) (x : Endpoint) (e : EndState) (v : World) → Linked x y → Stands x e → ((m : StreamMeta) → IsOneOf m ms → IsWritten x m) → EachInOrder LosesMeta e.streams ms v → Reaches x y (with_world e v)
+  losses_reached : (ms : List StreamMeta) (x : LinkedEnd) (e : EndState) (v : World) → Linked x y → Stands x e → ((m : StreamMeta) → IsOneOf m ms → IsWritten x m) → EachInOrder LosesMeta e.streams ms v → Reaches x y (with_world e v)
   losses_reached = row_reached LosesMeta IsWritten y loss_reached written_still
 
-  resets_reached : (ts : List (ℕ × ℕ)) (x : Endpoint) (e : EndState) (v : World) → Linked x y → Stands x e → EachInOrder AcksResetOf e.streams ts v → Reaches x y (with_world e v)
+  resets_reached : (ts : List (ℕ × ℕ)) (x : LinkedEnd) (e : EndState) (v : World) → Linked x y → Stands x e → EachInOrder AcksResetOf e.streams ts v → Reaches x y (with_world e v)
   resets_reached ts x e v l s k = row_reached AcksResetOf IsAny y reset_reached (λ x z t k a. tt) ts x e v l s (λ t h. tt) k
 
 -- ---- a loss
 
-merged_asked : (x : Endpoint) (p : Pending) (o : Option Pending) → AreAsked x p → AreAsked x (unwrap_or o nothing) → AreAsked x (merged_if p o)
+merged_asked : (x : LinkedEnd) (p : Pending) (o : Option Pending) → AreAsked x p → AreAsked x (unwrap_or o nothing) → AreAsked x (merged_if p o)
 merged_asked x p None a b = a
 merged_asked x p (Some q) a b = asked-merged x p q a b
 
-asked_as : (x : Endpoint) (p q : Pending) → q ≡ p → AreAsked x p → AreAsked x q
+asked_as : (x : LinkedEnd) (p q : Pending) → q ≡ p → AreAsked x p → AreAsked x q
 asked_as x p q e a = let P : Pending → Type 0 = λ j. AreAsked x j in subst P (sym e) a
 
 -- those that were reported before one are among all
 told_among : {T : Type 0} (t : T) (all told rest : List T) (next : T) → all ≡ told ++ next ∷ rest → IsOneOf t told → IsOneOf t all
 told_among {T} t all told rest next e h = let P : List T → Type 0 = λ l. IsOneOf t l in subst P (sym e) (one-of-first t told (next ∷ rest) h)
 
-module _ (x y : Endpoint) (e f : EndState) (r : SentView) (l : Linked x y) (s : Stands x e) (asked : AreAsked x (unwrap_or r.control nothing)) where
+module _ (x y : LinkedEnd) (e f : EndState) (r : SentView) (l : Linked x y) (s : Stands x e) (asked : AreAsked x (unwrap_or r.control nothing)) where
   loses_reached : (answer : Result (Unit {0}) SentView) → ((m : StreamMeta) → IsOneOf m r.streams → IsWritten x m) → LosesPayloadAt e r answer f → Reaches x y f
   loses_reached (Ok done) written k =
       let t = losses_reached y r.streams x e f.streams l s written k.0 in
@@ -212,7 +212,7 @@ module _ (x y : Endpoint) (e f : EndState) (r : SentView) (l : Linked x y) (s : 
 
 -- it was noted before
 abbrev IsPartOf : Option Pending → Option Pending → Type 0
-IsPartOf o p = (x : Endpoint) → AreAsked x (unwrap_or p nothing) → AreAsked x (unwrap_or o nothing)
+IsPartOf o p = (x : LinkedEnd) → AreAsked x (unwrap_or p nothing) → AreAsked x (unwrap_or o nothing)
 
 back_lost : (e f : EndState) (r back : SentView) → LosesPayloadAt e r (Err back) f → IsPartOf back.control r.control
 back_lost e f r back k = elim k.0 [
@@ -220,7 +220,7 @@ back_lost e f r back k = elim k.0 [
   | inr stop ↦ λ x a. asked_as x (unwrap_or r.control nothing) (unwrap_or back.control nothing) (ap (λ (v : SentView). unwrap_or v.control nothing) stop.left) a
 ]
 
-fewer_asked : (x : Endpoint) (p : Pending) (told rest : List (ℕ × ℕ)) (next : ℕ × ℕ) → p.reset_stream ≡ told ++ next ∷ rest → AreAsked x p → AreAsked x (record p { reset_stream = next ∷ rest })
+fewer_asked : (x : LinkedEnd) (p : Pending) (told rest : List (ℕ × ℕ)) (next : ℕ × ℕ) → p.reset_stream ≡ told ++ next ∷ rest → AreAsked x p → AreAsked x (record p { reset_stream = next ∷ rest })
 fewer_asked x p told rest next e a = record {
   resets = λ id code h. a.resets id code (let P : List (ℕ × ℕ) → Type 0 = λ l. IsOneOf (id, code) l in subst P (sym e) (later (id, code) told (next ∷ rest) h));
   stops = a.stops;
@@ -259,7 +259,7 @@ stay_settled sent number s u is k t h = elim (slice_set-keeps sent number k (wit
 ]
 
 -- what is left of it was asked for
-payload_settled : (x y : Endpoint) (s : Sent) (kind : Report) (r : SentPayload) (answer : Result (Unit {0}) SentPayload) → s.unsettled.rest ≡ Some r → ((back : SentPayload) → answer ≡ Err back → IsPartOf (shown_if back.control) (shown_if r.control))
+payload_settled : (x y : LinkedEnd) (s : Sent) (kind : Report) (r : SentPayload) (answer : Result (Unit {0}) SentPayload) → s.unsettled.rest ≡ Some r → ((back : SentPayload) → answer ≡ Err back → IsPartOf (thin_view back.control) (thin_view r.control))
     → IsPayloadOf x y s → IsPayloadOf x y (with_unsettled s (unsettled_after kind s.unsettled answer))
 payload_settled x y s kind r (Ok done) is part i = record { all = i.all; spelled = i.spelled; wrote = i.wrote; control = λ b h. absurd (none-some b h); accepted = i.accepted }
 payload_settled x y s kind r (Err back) is part i = record {
@@ -287,8 +287,8 @@ report_kept p number kind (Ok Done) = refl
 report_kept p number kind (Err NoMemory) = refl
 report_kept p number kind _ = refl
 
-module _ (p : Past) (who : End) (old new : PairState) (x y : Endpoint) (number : ℕ) (kind : Report) (reply : Answer) (s : Seen p who old x y) (sent : Sent) (is : slice_get old.sent number ≡ Some sent) (w : sent.writer ≡ who) (f : EndState) (t : Reaches x y f)
-    (r : SentPayload) (rest_is : sent.unsettled.rest ≡ Some r) (answer : Result (Unit {0}) SentPayload) (part : (back : SentPayload) → answer ≡ Err back → IsPartOf (shown_if back.control) (shown_if r.control)) where
+module _ (p : Past) (who : End) (old new : PairState) (x y : LinkedEnd) (number : ℕ) (kind : Report) (reply : Answer) (s : Seen p who old x y) (sent : Sent) (is : slice_get old.sent number ≡ Some sent) (w : sent.writer ≡ who) (f : EndState) (t : Reaches x y f)
+    (r : SentPayload) (rest_is : sent.unsettled.rest ≡ Some r) (answer : Result (Unit {0}) SentPayload) (part : (back : SentPayload) → answer ≡ Err back → IsPartOf (thin_view back.control) (thin_view r.control)) where
   settled_seen : new ≡ with_sent (with_end old who f) (slice_set old.sent number (with_unsettled sent (unsettled_after kind sent.unsettled answer))) → Sees (after_report p number kind reply) who new x y
   settled_seen e = seen-moved p who old new x y t.end f s t.linked t.keeps t.here later sents tells stay own others heard kept_there kept_here e
     where
@@ -332,7 +332,7 @@ module _ (p : Past) (who : End) (old new : PairState) (x y : Endpoint) (number :
 
 -- ---- these steps
 
-module _ (p : Past) (who : End) (old new : PairState) (x y : Endpoint) (number : ℕ) (reply : Answer) (s : Seen p who old x y) (told : ℕ → ℕ) (left : AreLeft old.sent told) where
+module _ (p : Past) (who : End) (old new : PairState) (x y : LinkedEnd) (number : ℕ) (reply : Answer) (s : Seen p who old x y) (told : ℕ → ℕ) (left : AreLeft old.sent told) where
   -- what is unreported are STREAM frames of the payload
   stream_in : (sent : Sent) → slice_get old.sent number ≡ Some sent → (i : IsPayloadOf x y sent) (r : SentPayload) → sent.unsettled.rest ≡ Some r → (m : StreamMeta) → IsOneOf m r.streams.items → (g : Stream) × IsOneOf (frames.Stream g) i.all × (m ≡ meta_of g)
   stream_in sent is i r rest_is m h = metas-among old.sent told left number sent is r rest_is i.all i.spelled m h

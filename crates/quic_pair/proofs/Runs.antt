@@ -8,7 +8,7 @@ use Rattle.quic_pair.specs.Replies.{Answer}
 use Rattle.quic_pair.specs.State.{PairState}
 use Rattle.quic_pair.specs.Steps.{Next}
 use Rattle.quic_pair.specs.History.{History, Past, past_of}
-use Rattle.quic_pair.specs.From.{From, next}
+use Rattle.quic_pair.specs.From.{PairFrom, next}
 use Rattle.quic_pair.specs.Runs.{StepByStep, none, more, TakesSteps, Behind, Around, Throughout, IsTrueOf, StaysIfRefused, AsksOf, WithholdsNone}
 use Rattle.quic_pair.proofs.Grown.{headline-from}
 use Rattle.quic_pair.proofs.Honest.{honest-from}
@@ -30,29 +30,29 @@ steps-more taken replies longer step reply count e run n =
     rw (e, zip-behind taken replies step reply count) (more step reply run n tt)
 
 -- the history goes on by the steps of a run
-pub from-steps : {a b : Config} {h : History} {old : PairState} {taken : History} {new : PairState} → From a b h old → TakesSteps old taken new → From a b (h ++ taken) new
+pub from-steps : {a b : Config} {h : History} {old : PairState} {taken : History} {new : PairState} → PairFrom a b h old → TakesSteps old taken new → PairFrom a b (h ++ taken) new
 from-steps {a} {b} {h} {old} f none = rw (append-nil h) f
 from-steps {a} {b} {h} {old} f (more {taken} {between} {new} step reply run n each) =
     rw (← append_assoc h taken ((step, reply) ∷ [])) (next step reply (from-steps f run) n)
 
 -- what holds of every step behind its history, holds of each step of a run
 pub each-behind : (Holds : Past → List Sent → Step → Answer → Type 0)
-    → ((a b : Config) (h : History) (old new : PairState) (step : Step) (reply : Answer) → From a b h old → Next old step reply new → Holds (past_of h) old.sent step reply)
-    → (a b : Config) (h : History) (old : PairState) (taken : History) (new : PairState) → From a b h old → TakesSteps old taken new → StepByStep (Behind Holds h) old taken new
+    → ((a b : Config) (h : History) (old new : PairState) (step : Step) (reply : Answer) → PairFrom a b h old → Next old step reply new → Holds (past_of h) old.sent step reply)
+    → (a b : Config) (h : History) (old : PairState) (taken : History) (new : PairState) → PairFrom a b h old → TakesSteps old taken new → StepByStep (Behind Holds h) old taken new
 each-behind Holds holds a b h old _ _ f none = none
 each-behind Holds holds a b h old _ _ f (more {taken} {between} {new} step reply run n each) =
     more step reply (each-behind Holds holds a b h old taken between f run) n (holds a b (h ++ taken) between new step reply (from-steps f run) n)
 
 -- so does what holds of the pair behind it, too
 pub each-around : (Holds : Past → List Sent → Step → Answer → PairState → Type 0)
-    → ((a b : Config) (h : History) (old new : PairState) (step : Step) (reply : Answer) → From a b h old → Next old step reply new → Holds (past_of h) old.sent step reply new)
-    → (a b : Config) (h : History) (old : PairState) (taken : History) (new : PairState) → From a b h old → TakesSteps old taken new → StepByStep (Around Holds h) old taken new
+    → ((a b : Config) (h : History) (old new : PairState) (step : Step) (reply : Answer) → PairFrom a b h old → Next old step reply new → Holds (past_of h) old.sent step reply new)
+    → (a b : Config) (h : History) (old : PairState) (taken : History) (new : PairState) → PairFrom a b h old → TakesSteps old taken new → StepByStep (Around Holds h) old taken new
 each-around Holds holds a b h old _ _ f none = none
 each-around Holds holds a b h old _ _ f (more {taken} {between} {new} step reply run n each) =
     more step reply (each-around Holds holds a b h old taken between f run) n (holds a b (h ++ taken) between new step reply (from-steps f run) n)
 
 -- what holds of every pair behind its history, holds behind each step of a run
-pub each-after : (a b : Config) (h : History) (old : PairState) (taken : History) (new : PairState) → From a b h old → TakesSteps old taken new → StepByStep (Throughout IsTrueOf h) old taken new
+pub each-after : (a b : Config) (h : History) (old : PairState) (taken : History) (new : PairState) → PairFrom a b h old → TakesSteps old taken new → StepByStep (Throughout IsTrueOf h) old taken new
 each-after a b h old _ _ f none = none
 each-after a b h old _ _ f (more {taken} {between} {new} step reply run n each) =
     let g = from-steps f (more step reply run n each) in
@@ -65,13 +65,13 @@ each-stays old _ _ (more {taken} {between} {new} step reply run n each) =
     more step reply (each-stays old taken between run) n (λ r. refused-stays between new step reply n r)
 
 -- no step of a run withheld what was due
-pub each-asks : (a b : Config) (h : History) (old : PairState) (taken : History) (new : PairState) → From a b h old → TakesSteps old taken new → StepByStep AsksOf old taken new
+pub each-asks : (a b : Config) (h : History) (old : PairState) (taken : History) (new : PairState) → PairFrom a b h old → TakesSteps old taken new → StepByStep AsksOf old taken new
 each-asks a b h old _ _ f none = none
 each-asks a b h old _ _ f (more {taken} {between} {new} step reply run n each) =
     more step reply (each-asks a b h old taken between f run) n (asks-for a b (h ++ taken) between new step reply (from-steps f run) n)
 
 -- nor what was permitted
-pub each-permits : (a b : Config) (h : History) (old : PairState) (taken : History) (new : PairState) → From a b h old → TakesSteps old taken new → StepByStep (WithholdsNone a b h) old taken new
+pub each-permits : (a b : Config) (h : History) (old : PairState) (taken : History) (new : PairState) → PairFrom a b h old → TakesSteps old taken new → StepByStep (WithholdsNone a b h) old taken new
 each-permits a b h old _ _ f none = none
 each-permits a b h old _ _ f (more {taken} {between} {new} step reply run n each) =
     more step reply (each-permits a b h old taken between f run) n (λ led. not-withheld a b (h ++ taken) between new step reply led n)

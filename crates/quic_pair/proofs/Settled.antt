@@ -30,7 +30,7 @@ use Rattle.quic_pair.specs.Replies.{Answer, report_reply}
 use Rattle.quic_pair.specs.State.{PairState, OnEnd}
 use Rattle.quic_pair.specs.Steps.{Next, Emits, Emitted, SentAfter, Delivers, Reports, SettlesPayload}
 use Rattle.quic_pair.specs.History.{Past, History, after, after_deliver, after_report, past_of}
-use Rattle.quic_pair.specs.From.{From, begun, next}
+use Rattle.quic_pair.specs.From.{PairFrom, begun, next}
 use Rattle.quic_pair.specs.Refused.{IsSettledFor}
 use Rattle.quic_pair.proofs.Lists.{slice_get-push, slice_get-slice_set, slice_get-split, slice_get-within, slice_set-length}
 use Rattle.quic_pair.proofs.Marks.{sent_on_end}
@@ -285,7 +285,7 @@ module _ (p : Past) (old new : PairState) (reply : Answer) (k : AreSettledSo p.s
   settled_next (steps.Ack number) n = settled_settles p old new k number Acknowledged AcksPayloadAt reply n
 
 -- whatever steps led to a pair, its payloads are settled as their replies say
-pub settled-from : {a b : Config} {whole : History} {v : PairState} → From a b whole v → AreSettledSo (past_of whole).settled (past_of whole).begun v.sent
+pub settled-from : {a b : Config} {whole : History} {v : PairState} → PairFrom a b whole v → AreSettledSo (past_of whole).settled (past_of whole).begun v.sent
 settled-from {a} {b} {whole} {v} (begun n) =
     let P : PairState → Type 0 = λ u. AreSettledSo [] [] u.sent in
     subst P (sym n.is) (record { each = λ number s got. absurd (none-some s got); settled_sent = λ number h. absurd h; begun_sent = λ number kind h. absurd h })

@@ -11,7 +11,7 @@ use Rattle.quic_receiving.specs.declared.transmit.ShouldTransmit.{ShouldTransmit
 use Rattle.quic_history.specs.World.{World}
 use Rattle.quic_history.specs.SendEvents.{RaisedLimit, RaisedCount}
 use Rattle.quic_history.specs.History.{Event, Received, ReceivedReset, Sending, Fits, Step as StepOf}
-use Rattle.quic_link.specs.Endpoints.{Endpoint, MayAct, IsHonest, IsOneOf}
+use Rattle.quic_link.specs.Endpoints.{LinkedEnd, MayAct, IsHonest, IsOneOf}
 use Rattle.quic_link.specs.Promises.{IsCrowded, IsUnrefused as IsUnrefusedCall}
 use Rattle.quic_link.proofs.Promised.{promised}
 use Rattle.quic_endpoint.specs.Ends.{EndState}
@@ -29,7 +29,7 @@ use Rattle.quic_pair.specs.State.{PairState, peer, the_end, with_end, with_sent}
 use Rattle.quic_pair.specs.Steps.{Next, Delivers, HandsOver}
 use Rattle.quic_pair.specs.History.{Past, FramePlace, History, past_of}
 use Rattle.quic_pair.specs.Unrefused.{BringsData, BringsTooMany, AnswersDelivery, RefusesNoFrame}
-use Rattle.quic_pair.specs.From.{From}
+use Rattle.quic_pair.specs.From.{PairFrom}
 use Rattle.quic_pair.proofs.Joined.{Seen, Joined}
 use Rattle.quic_pair.proofs.KeptFrames.{kept_in, count-kept}
 use Rattle.quic_pair.proofs.Flips.{peer-peer, seen-as}
@@ -41,7 +41,7 @@ true_false : (b : Bool) → b ≡ true → b ≡ false → ⊥
 true_false b e k = let l = sym e ∙ k in cc
 
 -- a frame of the other end is handed to the end x of a pair
-module _ (p : Past) (who : End) (v after : PairState) (x y : Endpoint) (s : Seen p who v x y) (at : FramePlace) (payload : Sent) (is : slice_get v.sent at.0 ≡ Some payload) (w : payload.writer ≡ peer who) (u : World) where
+module _ (p : Past) (who : End) (v after : PairState) (x y : LinkedEnd) (s : Seen p who v x y) (at : FramePlace) (payload : Sent) (is : slice_get v.sent at.0 ≡ Some payload) (w : payload.writer ≡ peer who) (u : World) where
   -- which the other wrote
   wrote : (g : Frame) → IsFrameAt payload.text.bytes at.1 g → IsOneOf g y.wrote
   wrote g there = frame-wrote y x payload (s.others at.0 payload is w) at.1 g there
@@ -133,5 +133,5 @@ module _ (a b : Config) (p : Past) (old new : PairState) (j : Joined a b p old) 
   unrefused_next _ reply n = tt
 
 -- whatever the network did, no delivery is
-pub unrefused-so : (a b : Config) (h : History) (old new : PairState) (step : Step) (reply : Answer) → From a b h old → Next old step reply new → RefusesNoFrame (past_of h) old.sent step reply new
+pub unrefused-so : (a b : Config) (h : History) (old new : PairState) (step : Step) (reply : Answer) → PairFrom a b h old → Next old step reply new → RefusesNoFrame (past_of h) old.sent step reply new
 unrefused-so a b h old new step reply f n = unrefused_next a b (past_of h) old new (joined-from f) step reply n

@@ -32,6 +32,6 @@ pub record IsNew (a b : Config) (v : PairState) : Type 0 where
   pub small_of_stream : (a.stream_receive_window < 2 ^ 62) × (b.stream_receive_window < 2 ^ 62)
 
 -- these steps with their replies may have led from a pair with these configs to such a one
-pub data From (a b : Config) : History → PairState → Type 0 where
-  begun : {v : PairState} → IsNew a b v → From a b [] v
-  next : {h : History} {old new : PairState} (step : Step) (reply : Answer) → From a b h old → Next old step reply new → From a b (h ++ (step, reply) ∷ []) new
+pub data PairFrom (a b : Config) : History → PairState → Type 0 where
+  begun : {v : PairState} → IsNew a b v → PairFrom a b [] v
+  next : {h : History} {old new : PairState} (step : Step) (reply : Answer) → PairFrom a b h old → Next old step reply new → PairFrom a b (h ++ (step, reply) ∷ []) new

@@ -29,7 +29,7 @@ abbrev pub AreMarks : List ℕ → List Bool → Type 0
 AreMarks bytes marks = (all : List Frame) → AreFrames bytes all → length marks ≡ length all
 
 -- frames that were read, or none yet; and of as many it is known whether they were accepted, or of none yet
-pub record IsKept (bytes : List ℕ) (all : List Frame) (accepted : List Bool) : Type 0 where
+pub record IsDecoded (bytes : List ℕ) (all : List Frame) (accepted : List Bool) : Type 0 where
   pub read : (all ≡ []) ⊎ AreRead bytes all
   pub marks : (accepted ≡ []) ⊎ AreMarks bytes accepted
 

@@ -7,7 +7,7 @@ use Rattle.quic_pair.specs.Replies.{Answer}
 use Rattle.quic_pair.specs.State.{PairState}
 use Rattle.quic_pair.specs.Steps.{Next}
 use Rattle.quic_pair.specs.History.{History, Past, past_of}
-use Rattle.quic_pair.specs.From.{From, begun, next}
+use Rattle.quic_pair.specs.From.{PairFrom, begun, next}
 use Rattle.quic_pair.specs.Headline.{Headline}
 use Rattle.quic_pair.specs.Honest.{AreHonest}
 use Rattle.quic_pair.specs.Refused.{IsRefused}
@@ -54,11 +54,11 @@ abbrev pub AsksOf : History → PairState → Step → Answer → PairState → 
 AsksOf before between step reply after = AsksFor between step reply after
 
 -- the payloads behind each of the steps that led to a pair
-abbrev pub sendings_of : {a b : Config} {h : History} {v : PairState} → From a b h v → Sendings h v.sent
+abbrev pub sendings_of : {a b : Config} {h : History} {v : PairState} → PairFrom a b h v → Sendings h v.sent
 sendings_of (begun new) = tale.none
 sendings_of (next {h} {old} {new} step reply before taken) = tale.more step reply new.sent (sendings_of before)
 
 -- a step withheld nothing on the sending side that was permitted, by whatever steps led to the pair before it: a history, and the
 -- steps of the run before this one
 abbrev pub WithholdsNone : Config → Config → History → History → PairState → Step → Answer → PairState → Type 0
-WithholdsNone a b h before between step reply after = (led : From a b (h ++ before) between) → NotWithheld a b (sendings_of led) step reply after.sent
+WithholdsNone a b h before between step reply after = (led : PairFrom a b (h ++ before) between) → NotWithheld a b (sendings_of led) step reply after.sent

@@ -3,7 +3,7 @@ use Rattle.std.specs.Prelude.{◌≡◌, List, []}
 use Rattle.quic_steps.specs.declared.steps.End.{End}
 use Rattle.quic_steps.specs.declared.steps.End.TheVariants.{A, B}
 use Rattle.quic_endpoint.specs.Ends.{EndState}
-use Rattle.quic_endpoint.specs.Shown.{end_state}
+use Rattle.quic_endpoint.specs.Shown.{endpoint_view}
 use Rattle.quic_pair.specs.declared.sent.Sent.{Sent}
 use Rattle.quic_pair.specs.declared.pair.Pair.{Pair}
 
@@ -15,8 +15,8 @@ pub record PairState : Type 0 where
   pub sent : List Sent
 
 -- what a pair is, as contracts see it
-unfoldable pub pair_state : Pair → PairState
-pair_state p = record { a = end_state p.a; b = end_state p.b; sent = p.sent.items }
+unfoldable pub pair_view : Pair → PairState
+pair_view p = record { a = endpoint_view p.a; b = endpoint_view p.b; sent = p.sent.items }
 
 -- the other end
 abbrev pub peer : End → End

@@ -89,7 +89,7 @@ SentAfter old number sent index (Ok transmit) new = (marked : SentText) × IsMar
 SentAfter old number sent index (Err error) new = new ≡ old
 
 -- an end takes a frame of a payload of so many bytes
-pub record TakesFrame (frame : Frame) (size : ℕ) (answer : Result ShouldTransmit ReceiveError) (e f : EndState) : Type 0 where
+pub record EndTakesFrame (frame : Frame) (size : ℕ) (answer : Result ShouldTransmit ReceiveError) (e f : EndState) : Type 0 where
   pub receives : ReceivesAt e frame answer f
   pub accounts : AccountsFrame e.streams frame size answer f.streams
 

@@ -2,7 +2,7 @@
 
 ghost use Rattle.std.specs.Prelude.{◌≡◌, IfOk};
 ghost use Rattle.quic_sending.specs.Source.{slice_lists};
-ghost use Rattle.quic_endpoint.specs.Shown.{end_state};
+ghost use Rattle.quic_endpoint.specs.Shown.{endpoint_view};
 ghost use Rattle.quic_pair.specs.Calls.{Opens, Accepts, OnGiven, Writes, WritesChunksOrNone, Finishes, ResetsOn, StopsOn, SetsPriorityOn, AsksReset, ReadsOn, SetsSendWindow, SetsReceiveWindow, SetsMaxConcurrent, Polls};
 
 use crate::replies::{
@@ -15,19 +15,19 @@ use quic_values::{Bytes, ChunkList, Dir, OutOfMemory, StreamId, VarInt};
 use std::alloc::Global;
 
 pub(crate) fn open(end: &mut Endpoint, dir: Dir) -> Result<Reply, PairError>
-    ensures { Opens (end_state end.old) dir result (end_state end.new) }
+    ensures { Opens (endpoint_view end.old) dir result (endpoint_view end.new) }
 {
     opened_reply(end.open(dir))
 }
 
 pub(crate) fn accept(end: &mut Endpoint, dir: Dir) -> Result<Reply, PairError>
-    ensures { Accepts (end_state end.old) dir result (end_state end.new) }
+    ensures { Accepts (endpoint_view end.old) dir result (endpoint_view end.new) }
 {
     accepted_reply(end.accept(dir))
 }
 
 pub(crate) fn write(end: &mut Endpoint, id: StreamId, bytes: Bytes) -> Result<Reply, PairError>
-    ensures { OnGiven (end_state end.old) id result (end_state end.new) (Writes (end_state end.old) id (slice_lists bytes) result (end_state end.new)) }
+    ensures { OnGiven (endpoint_view end.old) id result (endpoint_view end.new) (Writes (endpoint_view end.old) id (slice_lists bytes) result (endpoint_view end.new)) }
 {
     if !end.streams().was_given(id) {
         return Err(PairError::UnknownId);
@@ -37,7 +37,7 @@ pub(crate) fn write(end: &mut Endpoint, id: StreamId, bytes: Bytes) -> Result<Re
 
 // The same on a stream that was given.
 fn write_known(end: &mut Endpoint, id: StreamId, bytes: &Bytes) -> Result<Reply, PairError>
-    ensures { Writes (end_state end.old) id (slice_lists bytes.now) result (end_state end.new) }
+    ensures { Writes (endpoint_view end.old) id (slice_lists bytes.now) result (endpoint_view end.new) }
 {
     match end.write(id, bytes.as_slice()) {
         Ok(count) => Ok(Reply::Wrote(count)),
@@ -51,7 +51,7 @@ pub(crate) fn write_chunks(
     id: StreamId,
     chunks: &ChunkList,
 ) -> Result<Reply, PairError>
-    ensures { OnGiven (end_state end.old) id result (end_state end.new) (WritesChunksOrNone (end_state end.old) id chunks.now result (end_state end.new)) }
+    ensures { OnGiven (endpoint_view end.old) id result (endpoint_view end.new) (WritesChunksOrNone (endpoint_view end.old) id chunks.now result (endpoint_view end.new)) }
 {
     if !end.streams().was_given(id) {
         return Err(PairError::UnknownId);
@@ -74,7 +74,7 @@ fn copies_of(alloc: Global, chunks: &ChunkList) -> Result<Vec<Bytes>, OutOfMemor
 }
 
 pub(crate) fn finish(end: &mut Endpoint, id: StreamId) -> Result<Reply, PairError>
-    ensures { OnGiven (end_state end.old) id result (end_state end.new) (Finishes (end_state end.old) id result (end_state end.new)) }
+    ensures { OnGiven (endpoint_view end.old) id result (endpoint_view end.new) (Finishes (endpoint_view end.old) id result (endpoint_view end.new)) }
 {
     if !end.streams().was_given(id) {
         return Err(PairError::UnknownId);
@@ -83,7 +83,7 @@ pub(crate) fn finish(end: &mut Endpoint, id: StreamId) -> Result<Reply, PairErro
 }
 
 pub(crate) fn reset(end: &mut Endpoint, id: StreamId, code: VarInt) -> Result<Reply, PairError>
-    ensures { OnGiven (end_state end.old) id result (end_state end.new) (ResetsOn (end_state end.old) id code result (end_state end.new)) }
+    ensures { OnGiven (endpoint_view end.old) id result (endpoint_view end.new) (ResetsOn (endpoint_view end.old) id code result (endpoint_view end.new)) }
 {
     if !end.streams().was_given(id) {
         return Err(PairError::UnknownId);
@@ -92,7 +92,7 @@ pub(crate) fn reset(end: &mut Endpoint, id: StreamId, code: VarInt) -> Result<Re
 }
 
 pub(crate) fn stop(end: &mut Endpoint, id: StreamId, code: VarInt) -> Result<Reply, PairError>
-    ensures { OnGiven (end_state end.old) id result (end_state end.new) (StopsOn (end_state end.old) id code result (end_state end.new)) }
+    ensures { OnGiven (endpoint_view end.old) id result (endpoint_view end.new) (StopsOn (endpoint_view end.old) id code result (endpoint_view end.new)) }
 {
     if !end.streams().was_given(id) {
         return Err(PairError::UnknownId);
@@ -105,7 +105,7 @@ pub(crate) fn set_priority(
     id: StreamId,
     priority: i32,
 ) -> Result<Reply, PairError>
-    ensures { OnGiven (end_state end.old) id result (end_state end.new) (SetsPriorityOn (end_state end.old) id priority result (end_state end.new)) }
+    ensures { OnGiven (endpoint_view end.old) id result (endpoint_view end.new) (SetsPriorityOn (endpoint_view end.old) id priority result (endpoint_view end.new)) }
 {
     if !end.streams().was_given(id) {
         return Err(PairError::UnknownId);
@@ -114,7 +114,7 @@ pub(crate) fn set_priority(
 }
 
 pub(crate) fn received_reset(end: &mut Endpoint, id: StreamId) -> Result<Reply, PairError>
-    ensures { OnGiven (end_state end.old) id result (end_state end.new) (AsksReset (end_state end.old) id result (end_state end.new)) }
+    ensures { OnGiven (endpoint_view end.old) id result (endpoint_view end.new) (AsksReset (endpoint_view end.old) id result (endpoint_view end.new)) }
 {
     if !end.streams().was_given(id) {
         return Err(PairError::UnknownId);
@@ -129,7 +129,7 @@ pub(crate) fn read(
     max: usize,
     times: u16,
 ) -> Result<Reply, PairError>
-    ensures { OnGiven (end_state end.old) id result (end_state end.new) (ReadsOn (end_state end.old) id ordered max times result (end_state end.new)) }
+    ensures { OnGiven (endpoint_view end.old) id result (endpoint_view end.new) (ReadsOn (endpoint_view end.old) id ordered max times result (endpoint_view end.new)) }
 {
     if !end.streams().was_given(id) {
         return Err(PairError::UnknownId);
@@ -138,14 +138,14 @@ pub(crate) fn read(
 }
 
 pub(crate) fn set_send_window(end: &mut Endpoint, window: u64) -> Result<Reply, PairError>
-    ensures { SetsSendWindow (end_state end.old) window result (end_state end.new) }
+    ensures { SetsSendWindow (endpoint_view end.old) window result (endpoint_view end.new) }
 {
     end.set_send_window(window);
     Ok(Reply::Done)
 }
 
 pub(crate) fn set_receive_window(end: &mut Endpoint, window: VarInt) -> Result<Reply, PairError>
-    ensures { SetsReceiveWindow (end_state end.old) window result (end_state end.new) }
+    ensures { SetsReceiveWindow (endpoint_view end.old) window result (endpoint_view end.new) }
 {
     Ok(Reply::Expanded(end.set_receive_window(window)))
 }
@@ -155,13 +155,13 @@ pub(crate) fn set_max_concurrent(
     dir: Dir,
     count: VarInt,
 ) -> Result<Reply, PairError>
-    ensures { SetsMaxConcurrent (end_state end.old) dir count result (end_state end.new) }
+    ensures { SetsMaxConcurrent (endpoint_view end.old) dir count result (endpoint_view end.new) }
 {
     done_reply(end.set_max_concurrent(dir, count))
 }
 
 pub(crate) fn poll(end: &mut Endpoint) -> Result<Reply, PairError>
-    ensures { Polls (end_state end.old) result (end_state end.new) }
+    ensures { Polls (endpoint_view end.old) result (endpoint_view end.new) }
 {
     event_reply(end.poll())
 }

@@ -3,18 +3,18 @@
 ghost use Rattle.std.specs.Prelude.{◌≡◌, List, ◌∷◌, [], ◌++◌, length, IfSome, IfNone, IfOk, OnOk, OnErr, Some, option_map, slice_get, ◌≤◌};
 ghost use Rattle.std.specs.List.{zip};
 ghost use Rattle.quic_sending.specs.Source.{slice_lists};
-ghost use Rattle.quic_endpoint.specs.Shown.{end_state};
+ghost use Rattle.quic_endpoint.specs.Shown.{endpoint_view};
 ghost use Rattle.quic_endpoint.specs.Emitting.{EmitsAt, payload_view};
 ghost use Rattle.quic_endpoint.specs.Receiving.{data_length};
 ghost use Rattle.quic_endpoint.specs.Reports.{LosesPayloadAt, AcksPayloadAt};
 ghost use Rattle.quic_streams.specs.Sent.{sent_view, report_view};
-ghost use Rattle.quic_pair.specs.State.{pair_state, the_end, with_end, peer, two_ends, OnEnd};
+ghost use Rattle.quic_pair.specs.State.{pair_view, the_end, with_end, peer, two_ends, OnEnd};
 ghost use Rattle.quic_pair.specs.Calls.{Opens, Accepts, OnGiven, Writes, WritesChunks, Finishes, ResetsOn, StopsOn, SetsPriorityOn, AsksReset, ReadsOn, SetsSendWindow, SetsReceiveWindow, SetsMaxConcurrent, Polls};
-ghost use Rattle.quic_pair.specs.Steps.{Next, TakesFrame};
+ghost use Rattle.quic_pair.specs.Steps.{Next, EndTakesFrame};
 ghost use Rattle.quic_values.specs.Ids.{other_side};
-ghost use Rattle.quic_streams.specs.Shown.{shown};
+ghost use Rattle.quic_streams.specs.Shown.{streams_view};
 ghost use Rattle.quic_link.specs.Endpoints.{limits_of};
-ghost use Rattle.quic_pair.specs.From.{From, made_of, end_begun};
+ghost use Rattle.quic_pair.specs.From.{PairFrom, made_of, end_begun};
 ghost use Rattle.quic_pair.specs.History.{History, past_of};
 ghost use Rattle.quic_pair.specs.Headline.{Headline};
 ghost use Rattle.quic_pair.specs.Runs.{TakesSteps, StepByStep, Behind, Around, Throughout, IsTrueOf, StaysIfRefused, AsksOf, WithholdsNone, sendings_of};
@@ -65,7 +65,7 @@ fn limits_of(side: Side, config: &Config) -> PeerLimits
 
 // An end with the limits of its peer.
 fn end_of(alloc: Global, side: Side, own: &Config, peer: &Config) -> Result<Endpoint, OutOfMemory>
-    ensures { IfOk result (λ end. end_state end ≡ end_begun (made_of side own.now) (made_of (other_side side) peer.now)) }
+    ensures { IfOk result (λ end. endpoint_view end ≡ end_begun (made_of side own.now) (made_of (other_side side) peer.now)) }
 {
     let mut end = Endpoint::new(
         alloc,
@@ -88,7 +88,7 @@ fn emit_on(
     max_size: usize,
     fair: bool,
 ) -> (Payload, Result<(), OutOfMemory>)
-    ensures { OnEnd (λ e f. EmitsAt max_size fair e (payload_view result.0) result.1 f) (two_ends (end_state a.old) (end_state b.old)) who (two_ends (end_state a.new) (end_state b.new)) }
+    ensures { OnEnd (λ e f. EmitsAt max_size fair e (payload_view result.0) result.1 f) (two_ends (endpoint_view a.old) (endpoint_view b.old)) who (two_ends (endpoint_view a.new) (endpoint_view b.new)) }
 {
     match who {
         End::A => a.emit(max_size, fair),
@@ -96,10 +96,10 @@ fn emit_on(
     }
 }
 
-#[tactic(auto, unfolding(crate::specs::State::pair_state))]
+#[tactic(auto, unfolding(crate::specs::State::pair_view))]
 impl Pair {
     fn open(&mut self, who: End, dir: Dir) -> Result<Reply, PairError>
-        ensures { Next (pair_state self.old) (Step.Open who dir) result (pair_state self.new) }
+        ensures { Next (pair_view self.old) (Step.Open who dir) result (pair_view self.new) }
     {
         match who {
             End::A => calls::open(&mut self.a, dir),
@@ -108,7 +108,7 @@ impl Pair {
     }
 
     fn accept(&mut self, who: End, dir: Dir) -> Result<Reply, PairError>
-        ensures { Next (pair_state self.old) (Step.Accept who dir) result (pair_state self.new) }
+        ensures { Next (pair_view self.old) (Step.Accept who dir) result (pair_view self.new) }
     {
         match who {
             End::A => calls::accept(&mut self.a, dir),
@@ -117,7 +117,7 @@ impl Pair {
     }
 
     fn write(&mut self, who: End, id: StreamId, bytes: Bytes) -> Result<Reply, PairError>
-        ensures { Next (pair_state self.old) (Step.Write who id bytes) result (pair_state self.new) }
+        ensures { Next (pair_view self.old) (Step.Write who id bytes) result (pair_view self.new) }
     {
         match who {
             End::A => calls::write(&mut self.a, id, bytes),
@@ -131,7 +131,7 @@ impl Pair {
         id: StreamId,
         chunks: ChunkList,
     ) -> Result<Reply, PairError>
-        ensures { Next (pair_state self.old) (Step.WriteChunks who id chunks) result (pair_state self.new) }
+        ensures { Next (pair_view self.old) (Step.WriteChunks who id chunks) result (pair_view self.new) }
     {
         match who {
             End::A => calls::write_chunks(&mut self.a, self.alloc, id, &chunks),
@@ -140,7 +140,7 @@ impl Pair {
     }
 
     fn finish(&mut self, who: End, id: StreamId) -> Result<Reply, PairError>
-        ensures { Next (pair_state self.old) (Step.Finish who id) result (pair_state self.new) }
+        ensures { Next (pair_view self.old) (Step.Finish who id) result (pair_view self.new) }
     {
         match who {
             End::A => calls::finish(&mut self.a, id),
@@ -149,7 +149,7 @@ impl Pair {
     }
 
     fn reset(&mut self, who: End, id: StreamId, code: VarInt) -> Result<Reply, PairError>
-        ensures { Next (pair_state self.old) (Step.Reset who id code) result (pair_state self.new) }
+        ensures { Next (pair_view self.old) (Step.Reset who id code) result (pair_view self.new) }
     {
         match who {
             End::A => calls::reset(&mut self.a, id, code),
@@ -158,7 +158,7 @@ impl Pair {
     }
 
     fn stop(&mut self, who: End, id: StreamId, code: VarInt) -> Result<Reply, PairError>
-        ensures { Next (pair_state self.old) (Step.Stop who id code) result (pair_state self.new) }
+        ensures { Next (pair_view self.old) (Step.Stop who id code) result (pair_view self.new) }
     {
         match who {
             End::A => calls::stop(&mut self.a, id, code),
@@ -167,7 +167,7 @@ impl Pair {
     }
 
     fn set_priority(&mut self, who: End, id: StreamId, priority: i32) -> Result<Reply, PairError>
-        ensures { Next (pair_state self.old) (Step.SetPriority who id priority) result (pair_state self.new) }
+        ensures { Next (pair_view self.old) (Step.SetPriority who id priority) result (pair_view self.new) }
     {
         match who {
             End::A => calls::set_priority(&mut self.a, id, priority),
@@ -183,7 +183,7 @@ impl Pair {
         max: usize,
         times: u16,
     ) -> Result<Reply, PairError>
-        ensures { Next (pair_state self.old) (Step.Read who id ordered max times) result (pair_state self.new) }
+        ensures { Next (pair_view self.old) (Step.Read who id ordered max times) result (pair_view self.new) }
     {
         match who {
             End::A => calls::read(&mut self.a, id, ordered, max, times),
@@ -192,7 +192,7 @@ impl Pair {
     }
 
     fn received_reset(&mut self, who: End, id: StreamId) -> Result<Reply, PairError>
-        ensures { Next (pair_state self.old) (Step.ReceivedReset who id) result (pair_state self.new) }
+        ensures { Next (pair_view self.old) (Step.ReceivedReset who id) result (pair_view self.new) }
     {
         match who {
             End::A => calls::received_reset(&mut self.a, id),
@@ -201,7 +201,7 @@ impl Pair {
     }
 
     fn set_send_window(&mut self, who: End, window: u64) -> Result<Reply, PairError>
-        ensures { Next (pair_state self.old) (Step.SetSendWindow who window) result (pair_state self.new) }
+        ensures { Next (pair_view self.old) (Step.SetSendWindow who window) result (pair_view self.new) }
     {
         match who {
             End::A => calls::set_send_window(&mut self.a, window),
@@ -210,7 +210,7 @@ impl Pair {
     }
 
     fn set_receive_window(&mut self, who: End, window: VarInt) -> Result<Reply, PairError>
-        ensures { Next (pair_state self.old) (Step.SetReceiveWindow who window) result (pair_state self.new) }
+        ensures { Next (pair_view self.old) (Step.SetReceiveWindow who window) result (pair_view self.new) }
     {
         match who {
             End::A => calls::set_receive_window(&mut self.a, window),
@@ -219,7 +219,7 @@ impl Pair {
     }
 
     fn set_max_concurrent(&mut self, who: End, dir: Dir, count: VarInt) -> Result<Reply, PairError>
-        ensures { Next (pair_state self.old) (Step.SetMaxConcurrent who dir count) result (pair_state self.new) }
+        ensures { Next (pair_view self.old) (Step.SetMaxConcurrent who dir count) result (pair_view self.new) }
     {
         match who {
             End::A => calls::set_max_concurrent(&mut self.a, dir, count),
@@ -228,7 +228,7 @@ impl Pair {
     }
 
     fn poll(&mut self, who: End) -> Result<Reply, PairError>
-        ensures { Next (pair_state self.old) (Step.Poll who) result (pair_state self.new) }
+        ensures { Next (pair_view self.old) (Step.Poll who) result (pair_view self.new) }
     {
         match who {
             End::A => calls::poll(&mut self.a),
@@ -237,7 +237,7 @@ impl Pair {
     }
 
     fn emit(&mut self, who: End, max_size: usize, fair: bool) -> Result<Reply, PairError>
-        ensures { Next (pair_state self.old) (Step.Emit who max_size fair) result (pair_state self.new) }
+        ensures { Next (pair_view self.old) (Step.Emit who max_size fair) result (pair_view self.new) }
     {
         self.sent.reserve(1)?;
         let number = self.sent.len();
@@ -258,7 +258,7 @@ impl Pair {
         len: usize,
     ) -> Result<ShouldTransmit, ReceiveError>
         requires { data_length frame ≤ len }
-        ensures { OnEnd (TakesFrame frame len result) (pair_state self.old) (peer writer) (pair_state self.new) }
+        ensures { OnEnd (EndTakesFrame frame len result) (pair_view self.old) (peer writer) (pair_view self.new) }
     {
         match writer {
             End::A => self.b.receive(frame, len),
@@ -267,7 +267,7 @@ impl Pair {
     }
 
     fn deliver(&mut self, payload: usize, index: usize) -> Result<Reply, PairError>
-        ensures { Next (pair_state self.old) (Step.Deliver payload index) result (pair_state self.new) }
+        ensures { Next (pair_view self.old) (Step.Deliver payload index) result (pair_view self.new) }
     {
         let handed = match frame_at(&mut self.sent, self.alloc, payload, index) {
             Ok(found) => found,
@@ -280,7 +280,7 @@ impl Pair {
 
     // What is unreported of a payload is reported lost to the end that wrote it.
     fn lose_on(&mut self, writer: End, rest: SentPayload) -> Result<(), SentPayload>
-        ensures { OnEnd (λ e f. LosesPayloadAt e (sent_view rest) (report_view result) f) (pair_state self.old) writer (pair_state self.new) }
+        ensures { OnEnd (λ e f. LosesPayloadAt e (sent_view rest) (report_view result) f) (pair_view self.old) writer (pair_view self.new) }
     {
         match writer {
             End::A => self.a.lose(rest),
@@ -289,7 +289,7 @@ impl Pair {
     }
 
     fn lose(&mut self, payload: usize) -> Result<Reply, PairError>
-        ensures { Next (pair_state self.old) (Step.Lose payload) result (pair_state self.new) }
+        ensures { Next (pair_view self.old) (Step.Lose payload) result (pair_view self.new) }
     {
         let (writer, rest) = match rest_at(&mut self.sent, payload, Report::Lost) {
             Ok(taken) => taken,
@@ -301,7 +301,7 @@ impl Pair {
 
     // What is unreported of a payload is reported acknowledged to the end that wrote it.
     fn ack_on(&mut self, writer: End, rest: SentPayload) -> Result<(), SentPayload>
-        ensures { OnEnd (λ e f. AcksPayloadAt e (sent_view rest) (report_view result) f) (pair_state self.old) writer (pair_state self.new) }
+        ensures { OnEnd (λ e f. AcksPayloadAt e (sent_view rest) (report_view result) f) (pair_view self.old) writer (pair_view self.new) }
     {
         match writer {
             End::A => self.a.acknowledge(rest),
@@ -310,7 +310,7 @@ impl Pair {
     }
 
     fn ack(&mut self, payload: usize) -> Result<Reply, PairError>
-        ensures { Next (pair_state self.old) (Step.Ack payload) result (pair_state self.new) }
+        ensures { Next (pair_view self.old) (Step.Ack payload) result (pair_view self.new) }
     {
         let (writer, rest) = match rest_at(&mut self.sent, payload, Report::Acknowledged) {
             Ok(taken) => taken,
@@ -322,7 +322,7 @@ impl Pair {
 
     // One step, by its kind.
     fn dispatch(&mut self, step: Step) -> Result<Reply, PairError>
-        ensures { Next (pair_state self.old) step result (pair_state self.new) }
+        ensures { Next (pair_view self.old) step result (pair_view self.new) }
     {
         match step {
             Step::Open { who, dir } => self.open(who, dir),
@@ -358,7 +358,7 @@ impl Pair {
 
     /// Two ends that have sent nothing.
     pub fn new(alloc: Global, a: Config, b: Config) -> Result<Pair, OutOfMemory>
-        ensures { IfOk result (λ pair. From a b [] (pair_state pair)) }
+        ensures { IfOk result (λ pair. PairFrom a b [] (pair_view pair)) }
     {
         Ok(Pair {
             a: end_of(alloc, Side::Client, &a, &b)?,
@@ -370,17 +370,17 @@ impl Pair {
 
     /// One step. A refused one changes nothing, but for what [`PairError::OutOfMemory`] says.
     pub fn step(&mut self, step: Step) -> Result<Reply, PairError>
-        ensures next { Next (pair_state self.old) step result (pair_state self.new) }
-        ensures from { (a b : Config) (h : History) → From a b h (pair_state self.old) → From a b (h ++ (step, result) ∷ []) (pair_state self.new) }
-        ensures headline { (a b : Config) (h : History) → From a b h (pair_state self.old) → Headline (past_of (h ++ (step, result) ∷ [])) (pair_state self.new).sent }
-        ensures honest { (a b : Config) (h : History) → From a b h (pair_state self.old) → AreHonest (past_of (h ++ (step, result) ∷ [])) (pair_state self.new) }
-        ensures refused { (a b : Config) (h : History) → From a b h (pair_state self.old) → IsRefusedSo (past_of h) (pair_state self.old).sent step result }
-        ensures unchanged { IsRefused result → pair_state self.new ≡ pair_state self.old }
-        ensures unrefused { (a b : Config) (h : History) → From a b h (pair_state self.old) → RefusesNoFrame (past_of h) (pair_state self.old).sent step result (pair_state self.new) }
-        ensures readable { (a b : Config) (h : History) → From a b h (pair_state self.old) → WithholdsNothing (past_of h) (pair_state self.old).sent step result }
-        ensures drained { (a b : Config) (h : History) → From a b h (pair_state self.old) → Drains (past_of h) (pair_state self.old).sent step result }
-        ensures due { (a b : Config) (h : History) → From a b h (pair_state self.old) → AsksFor (pair_state self.old) step result (pair_state self.new) }
-        ensures not_withheld { (a b : Config) (h : History) (led : From a b h (pair_state self.old)) → NotWithheld a b (sendings_of led) step result (pair_state self.new).sent }
+        ensures next { Next (pair_view self.old) step result (pair_view self.new) }
+        ensures from { (a b : Config) (h : History) → PairFrom a b h (pair_view self.old) → PairFrom a b (h ++ (step, result) ∷ []) (pair_view self.new) }
+        ensures headline { (a b : Config) (h : History) → PairFrom a b h (pair_view self.old) → Headline (past_of (h ++ (step, result) ∷ [])) (pair_view self.new).sent }
+        ensures honest { (a b : Config) (h : History) → PairFrom a b h (pair_view self.old) → AreHonest (past_of (h ++ (step, result) ∷ [])) (pair_view self.new) }
+        ensures refused { (a b : Config) (h : History) → PairFrom a b h (pair_view self.old) → IsRefusedSo (past_of h) (pair_view self.old).sent step result }
+        ensures unchanged { IsRefused result → pair_view self.new ≡ pair_view self.old }
+        ensures unrefused { (a b : Config) (h : History) → PairFrom a b h (pair_view self.old) → RefusesNoFrame (past_of h) (pair_view self.old).sent step result (pair_view self.new) }
+        ensures readable { (a b : Config) (h : History) → PairFrom a b h (pair_view self.old) → WithholdsNothing (past_of h) (pair_view self.old).sent step result }
+        ensures drained { (a b : Config) (h : History) → PairFrom a b h (pair_view self.old) → Drains (past_of h) (pair_view self.old).sent step result }
+        ensures due { (a b : Config) (h : History) → PairFrom a b h (pair_view self.old) → AsksFor (pair_view self.old) step result (pair_view self.new) }
+        ensures not_withheld { (a b : Config) (h : History) (led : PairFrom a b h (pair_view self.old)) → NotWithheld a b (sendings_of led) step result (pair_view self.new).sent }
     {
         self.dispatch(step)
     }
@@ -388,19 +388,19 @@ impl Pair {
     /// Many steps, with the reply to each. Room for the replies is made first: if that is refused, no step was taken.
     pub fn run(&mut self, steps: Vec<Step>) -> Result<Vec<Result<Reply, PairError>>, OutOfMemory>
         ensures count { IfOk result (λ replies. length replies.items ≡ length steps.items) }
-        ensures next { IfOk result (λ replies. TakesSteps (pair_state self.old) (zip steps.items replies.items) (pair_state self.new)) }
-        ensures from { IfOk result (λ replies. (a b : Config) (h : History) → From a b h (pair_state self.old) → From a b (h ++ zip steps.items replies.items) (pair_state self.new)) }
-        ensures headline { IfOk result (λ replies. (a b : Config) (h : History) → From a b h (pair_state self.old) → Headline (past_of (h ++ zip steps.items replies.items)) (pair_state self.new).sent) }
-        ensures honest { IfOk result (λ replies. (a b : Config) (h : History) → From a b h (pair_state self.old) → AreHonest (past_of (h ++ zip steps.items replies.items)) (pair_state self.new)) }
-        ensures refused { IfOk result (λ replies. (a b : Config) (h : History) → From a b h (pair_state self.old) → StepByStep (Behind IsRefusedSo h) (pair_state self.old) (zip steps.items replies.items) (pair_state self.new)) }
-        ensures throughout { IfOk result (λ replies. (a b : Config) (h : History) → From a b h (pair_state self.old) → StepByStep (Throughout IsTrueOf h) (pair_state self.old) (zip steps.items replies.items) (pair_state self.new)) }
-        ensures unchanged { IfOk result (λ replies. StepByStep StaysIfRefused (pair_state self.old) (zip steps.items replies.items) (pair_state self.new)) }
-        ensures unrefused { IfOk result (λ replies. (a b : Config) (h : History) → From a b h (pair_state self.old) → StepByStep (Around RefusesNoFrame h) (pair_state self.old) (zip steps.items replies.items) (pair_state self.new)) }
-        ensures readable { IfOk result (λ replies. (a b : Config) (h : History) → From a b h (pair_state self.old) → StepByStep (Behind WithholdsNothing h) (pair_state self.old) (zip steps.items replies.items) (pair_state self.new)) }
-        ensures drained { IfOk result (λ replies. (a b : Config) (h : History) → From a b h (pair_state self.old) → StepByStep (Behind Drains h) (pair_state self.old) (zip steps.items replies.items) (pair_state self.new)) }
-        ensures due { IfOk result (λ replies. (a b : Config) (h : History) → From a b h (pair_state self.old) → StepByStep AsksOf (pair_state self.old) (zip steps.items replies.items) (pair_state self.new)) }
-        ensures not_withheld { IfOk result (λ replies. (a b : Config) (h : History) → From a b h (pair_state self.old) → StepByStep (WithholdsNone a b h) (pair_state self.old) (zip steps.items replies.items) (pair_state self.new)) }
-        ensures err { OnErr result (pair_state self.new ≡ pair_state self.old) }
+        ensures next { IfOk result (λ replies. TakesSteps (pair_view self.old) (zip steps.items replies.items) (pair_view self.new)) }
+        ensures from { IfOk result (λ replies. (a b : Config) (h : History) → PairFrom a b h (pair_view self.old) → PairFrom a b (h ++ zip steps.items replies.items) (pair_view self.new)) }
+        ensures headline { IfOk result (λ replies. (a b : Config) (h : History) → PairFrom a b h (pair_view self.old) → Headline (past_of (h ++ zip steps.items replies.items)) (pair_view self.new).sent) }
+        ensures honest { IfOk result (λ replies. (a b : Config) (h : History) → PairFrom a b h (pair_view self.old) → AreHonest (past_of (h ++ zip steps.items replies.items)) (pair_view self.new)) }
+        ensures refused { IfOk result (λ replies. (a b : Config) (h : History) → PairFrom a b h (pair_view self.old) → StepByStep (Behind IsRefusedSo h) (pair_view self.old) (zip steps.items replies.items) (pair_view self.new)) }
+        ensures throughout { IfOk result (λ replies. (a b : Config) (h : History) → PairFrom a b h (pair_view self.old) → StepByStep (Throughout IsTrueOf h) (pair_view self.old) (zip steps.items replies.items) (pair_view self.new)) }
+        ensures unchanged { IfOk result (λ replies. StepByStep StaysIfRefused (pair_view self.old) (zip steps.items replies.items) (pair_view self.new)) }
+        ensures unrefused { IfOk result (λ replies. (a b : Config) (h : History) → PairFrom a b h (pair_view self.old) → StepByStep (Around RefusesNoFrame h) (pair_view self.old) (zip steps.items replies.items) (pair_view self.new)) }
+        ensures readable { IfOk result (λ replies. (a b : Config) (h : History) → PairFrom a b h (pair_view self.old) → StepByStep (Behind WithholdsNothing h) (pair_view self.old) (zip steps.items replies.items) (pair_view self.new)) }
+        ensures drained { IfOk result (λ replies. (a b : Config) (h : History) → PairFrom a b h (pair_view self.old) → StepByStep (Behind Drains h) (pair_view self.old) (zip steps.items replies.items) (pair_view self.new)) }
+        ensures due { IfOk result (λ replies. (a b : Config) (h : History) → PairFrom a b h (pair_view self.old) → StepByStep AsksOf (pair_view self.old) (zip steps.items replies.items) (pair_view self.new)) }
+        ensures not_withheld { IfOk result (λ replies. (a b : Config) (h : History) → PairFrom a b h (pair_view self.old) → StepByStep (WithholdsNone a b h) (pair_view self.old) (zip steps.items replies.items) (pair_view self.new)) }
+        ensures err { OnErr result (pair_view self.new ≡ pair_view self.old) }
     {
         let mut replies = Vec::with_capacity(self.alloc, steps.len())?;
         for step in steps {
@@ -415,8 +415,8 @@ impl Pair {
 
     /// The bytes of a payload, none where no payload has the number.
     pub fn payload(&self, number: usize) -> Option<&[u8]>
-        ensures bytes { IfSome result (λ bytes. option_map (λ sent. sent.text.bytes) (slice_get (pair_state self.now).sent number) ≡ Some bytes.now) }
-        ensures none { IfNone result (length (pair_state self.now).sent ≤ number) }
+        ensures bytes { IfSome result (λ bytes. option_map (λ sent. sent.text.bytes) (slice_get (pair_view self.now).sent number) ≡ Some bytes.now) }
+        ensures none { IfNone result (length (pair_view self.now).sent ≤ number) }
     {
         let sent = self.sent.get(number)?;
         Some(sent.text.bytes())
@@ -424,7 +424,7 @@ impl Pair {
 
     /// The streams of an end.
     pub fn end(&self, who: End) -> &StreamsState
-        ensures { shown result.now ≡ (the_end (pair_state self.now) who).streams }
+        ensures { streams_view result.now ≡ (the_end (pair_view self.now) who).streams }
     {
         match who {
             End::A => self.a.streams(),

@@ -65,13 +65,13 @@ pub(crate) struct SentText {
 }
 
 impl Model for SentText {
-    ghost use Rattle.quic_pair.specs.Payloads.{SentText as SentValue, IsKept};
+    ghost use Rattle.quic_pair.specs.Payloads.{SentText as SentValue, IsDecoded};
 
     ghost Value = { SentValue };
 
     ghost view = { λ s. record { bytes = s.bytes.items; accepted = s.accepted.items } };
 
-    ghost invariant = { λ s. IsKept s.bytes.items s.frames.items s.accepted.items };
+    ghost invariant = { λ s. IsDecoded s.bytes.items s.frames.items s.accepted.items };
 }
 
 impl SentText {

@@ -34,8 +34,8 @@ abbrev pub first : SendOrder → Option Entry
 first q = slice_get (line q) 0
 
 -- the next one is taken out
-abbrev pub without_first : SendOrder → SendOrder
-without_first q = record q { waiting = if is_some q.kept then q.waiting else drop 1 q.waiting; kept = None }
+abbrev pub without_next : SendOrder → SendOrder
+without_next q = record q { waiting = if is_some q.kept then q.waiting else drop 1 q.waiting; kept = None }
 
 -- no entry has a higher priority
 abbrev pub NoneIsHigher : ℤ → List Entry → Type 0
@@ -50,10 +50,10 @@ abbrev pub Tells : (ℕ → Bool → Type 0) → (ℕ → Bool) → Type 0
 Tells answers test = (id : ℕ) (answer : Bool) → answers id answer → answer ≡ test id
 
 -- what becomes of an entry that was taken out, at the end of its turn
-abbrev pub settled : SendOrder → Entry → Next → SendOrder
-settled q e LetGo = record q { reserved = None }
-settled q e (PutAnew p) = with_entry q (record { priority = p; id = e.id })
-settled q e KeepBack = record q { kept = Some e; reserved = None }
+abbrev pub with_turn_ended : SendOrder → Entry → Next → SendOrder
+with_turn_ended q e LetGo = record q { reserved = None }
+with_turn_ended q e (PutAnew p) = with_entry q (record { priority = p; id = e.id })
+with_turn_ended q e KeepBack = record q { kept = Some e; reserved = None }
 
 -- there is room where an entry is put anew
 abbrev pub IsReserved : SendOrder → Next → Type 0

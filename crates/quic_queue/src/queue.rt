@@ -2,7 +2,7 @@
 
 ghost use Rattle.std.specs.Prelude.{◌≡◌, ◌≢◌, ◌==◌, int_lt, Some, None, Bool, true, false, not, is_some, IsOk, IfOk, OnOk, OnErr, IfSome, IsSomeAnd, length, slice_get, drop, ℕ, ℤ};
 ghost use Rattle.std.specs.List.{list_any};
-ghost use Rattle.quic_queue.specs.SendOrder.{empty_queue, put, with_entry, line, first, without_first, settled, IsReserved, HasTurnPlace, NoneIsHigher, Tells, ids_of};
+ghost use Rattle.quic_queue.specs.SendOrder.{empty_queue, put, with_entry, line, first, without_next, with_turn_ended, IsReserved, HasTurnPlace, NoneIsHigher, Tells, ids_of};
 ghost use Rattle.quic_queue.specs.Levels.{FirstIsEmpty, HasRoom, HasRoomAt, IsAbove, IsFilled, IsFirstPriority, KeepsOtherLevels, KeepsRoomAtOthers, entries_of, waiting_of};
 
 use quic_values::{OutOfMemory, StreamId};
@@ -450,7 +450,7 @@ impl SendQueue {
     #[inline]
     pub fn take_first(&mut self) -> Option<Entry>
         ensures entry { result ≡ first self.old }
-        ensures rest { self.new ≡ without_first self.old }
+        ensures rest { self.new ≡ without_next self.old }
     {
         if let Some(entry) = self.kept.take() {
             return Some(entry);
@@ -466,7 +466,7 @@ impl SendQueue {
     fn take_at(&mut self, priority: i32)
         requires none_kept { self.old.kept ≡ None }
         requires is_first { IsSomeAnd (slice_get self.old.waiting 0) (λ e. e.priority ≡ priority) }
-        ensures { self.new ≡ without_first self.old }
+        ensures { self.new ≡ without_next self.old }
     {
         if self.top.ids.pop_front().is_some() {
             return;
@@ -482,7 +482,7 @@ impl SendQueue {
     fn let_go_at(&mut self, priority: i32)
         requires none_kept { self.old.kept ≡ None }
         requires is_first { IsSomeAnd (slice_get self.old.waiting 0) (λ e. e.priority ≡ priority) }
-        ensures { self.new ≡ record (without_first self.old) { reserved = None } }
+        ensures { self.new ≡ record (without_next self.old) { reserved = None } }
     {
         self.take_at(priority);
         self.release();
@@ -504,7 +504,7 @@ impl SendQueue {
     pub fn end_turn(&mut self, entry: Entry, next: Next)
         requires is_first { first self.old ≡ Some entry }
         requires room { HasTurnPlace self.old entry next }
-        ensures { self.new ≡ settled (without_first self.old) entry next }
+        ensures { self.new ≡ with_turn_ended (without_next self.old) entry next }
     {
         if self.kept.take().is_some() {
             self.settle(entry, next);
@@ -529,7 +529,7 @@ impl SendQueue {
     fn turn(&mut self, entry: Entry)
         requires none_kept { self.old.kept ≡ None }
         requires is_first { first self.old ≡ Some entry }
-        ensures { self.new ≡ with_entry (without_first self.old) entry }
+        ensures { self.new ≡ with_entry (without_next self.old) entry }
     {
         self.release();
         if self.top.ids.pop_front().is_none() {
@@ -544,7 +544,7 @@ impl SendQueue {
     fn settle(&mut self, entry: Entry, next: Next)
         requires none_kept { self.old.kept ≡ None }
         requires room { IsReserved self.old next }
-        ensures { self.new ≡ settled self.old entry next }
+        ensures { self.new ≡ with_turn_ended self.old entry next }
     {
         match next {
             Next::LetGo => self.release(),

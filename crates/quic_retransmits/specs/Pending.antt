@@ -31,8 +31,8 @@ pub record Pending : Type 0 where
   pub handshake_done : Bool
   pub new_tokens : List SocketAddr
 
-abbrev pub shown_pending : Retransmits → Pending
-shown_pending r = record {
+abbrev pub pending_view : Retransmits → Pending
+pending_view r = record {
   max_data = r.max_data;
   data_blocked = r.data_blocked;
   max_streams_bi = slice_index_or r.max_stream_id 0 false;
@@ -94,11 +94,11 @@ merged_if a (Some b) = merged a b
 -- a list joined to what is there, from its first on
 abbrev pub collected : Pending → List Retransmits → Pending
 collected a [] = a
-collected a (r ∷ rs) = collected (merged a (shown_pending r)) rs
+collected a (r ∷ rs) = collected (merged a (pending_view r)) rs
 
 -- what is to be sent, if anything was asked for
-abbrev pub shown_if : ThinRetransmits → Option Pending
-shown_if t = option_map (λ b. shown_pending b.value) t.retransmits
+abbrev pub thin_view : ThinRetransmits → Option Pending
+thin_view t = option_map (λ b. pending_view b.value) t.retransmits
 
 -- there is room for all that the second has in the first
 pub record HasRoomFor (a b : Retransmits) : Type 0 where

@@ -6,7 +6,7 @@ use Rattle.quic_wire.specs.declared.frame.Frame.{Frame}
 use Rattle.quic_wire.specs.declared.frame.Frame.TheVariants as frames
 use Rattle.quic_retransmits.specs.declared.retransmits.Retransmits.{Retransmits}
 use Rattle.quic_retransmits.specs.declared.retransmits.ThinRetransmits.{ThinRetransmits}
-use Rattle.quic_retransmits.specs.Pending.{Pending, nothing, shown_if}
+use Rattle.quic_retransmits.specs.Pending.{Pending, nothing, thin_view}
 use Rattle.quic_retransmits.specs.Ids.{id_entries}
 use Rattle.quic_retransmits.specs.Queueing.{with_id}
 
@@ -24,7 +24,7 @@ noted p _ = p
 
 -- what was noted so far
 abbrev pub noted_in : ThinRetransmits → Pending
-noted_in t = unwrap_or (shown_if t) nothing
+noted_in t = unwrap_or (thin_view t) nothing
 
 -- a set without an id
 abbrev pub without_id : (ℕ → Bool) → ℕ → ℕ → Bool

@@ -3,7 +3,7 @@
 ghost use Rattle.std.specs.Prelude.{◌≡◌, ◌+◌, ◌-◌, ◌<◌, ◌≤◌, ◌++◌, ◌||◌, IsOk, OnOk, OnErr, IfOk, IfErr, false, length, vec_len};
 ghost use Rattle.std.specs.Vec.{vec_capacity};
 ghost use Rattle.std.specs.VecDeque.{deque_len, deque_capacity};
-ghost use Rattle.quic_retransmits.specs.Pending.{shown_pending, nothing, merged, shown_if, merged_if, collected, HasRoomFor, numbers_from, IsRetireRefusal};
+ghost use Rattle.quic_retransmits.specs.Pending.{pending_view, nothing, merged, thin_view, merged_if, collected, HasRoomFor, numbers_from, IsRetireRefusal};
 
 use crate::stream_ids::StreamIds;
 use quic_wire::frame::{Crypto, StopSending};
@@ -62,7 +62,7 @@ pub struct Retransmits {
 impl Retransmits {
     /// Nothing is to be sent. Takes no memory.
     pub fn new(alloc: Global) -> Self
-        ensures { shown_pending result ≡ nothing }
+        ensures { pending_view result ≡ nothing }
     {
         Retransmits {
             max_data: false,
@@ -86,13 +86,13 @@ impl Retransmits {
     /// Joins what `other` has: lists go behind, crypto in front, and sets are united. If refused, `other` comes back, and
     /// all is as it was.
     pub fn merge(&mut self, other: Retransmits) -> Result<(), Retransmits>
-        ensures ok { OnOk result (shown_pending self.new ≡ merged (shown_pending self.old) (shown_pending other)) }
-        ensures err { OnErr result (shown_pending self.new ≡ shown_pending self.old) }
+        ensures ok { OnOk result (pending_view self.new ≡ merged (pending_view self.old) (pending_view other)) }
+        ensures err { OnErr result (pending_view self.new ≡ pending_view self.old) }
         ensures value_returned { IfErr result (λ back. back ≡ other) }
 
         // What is empty adds nothing, on either side.
-        ensures with_nothing { shown_pending other ≡ nothing → shown_pending self.new ≡ shown_pending self.old }
-        ensures onto_nothing { shown_pending self.old ≡ nothing → OnOk result (shown_pending self.new ≡ shown_pending other) }
+        ensures with_nothing { pending_view other ≡ nothing → pending_view self.new ≡ pending_view self.old }
+        ensures onto_nothing { pending_view self.old ≡ nothing → OnOk result (pending_view self.new ≡ pending_view other) }
     {
         if self.make_room(&other).is_err() {
             return Err(other);
@@ -103,11 +103,11 @@ impl Retransmits {
 
     /// Joins what `other` has, if it has anything. If refused, `other` comes back, and all is as it was.
     pub fn merge_thin(&mut self, other: ThinRetransmits) -> Result<(), ThinRetransmits>
-        ensures ok { OnOk result (shown_pending self.new ≡ merged_if (shown_pending self.old) (shown_if other)) }
-        ensures err { OnErr result (shown_pending self.new ≡ shown_pending self.old) }
+        ensures ok { OnOk result (pending_view self.new ≡ merged_if (pending_view self.old) (thin_view other)) }
+        ensures err { OnErr result (pending_view self.new ≡ pending_view self.old) }
         ensures value_returned { IfErr result (λ back. back ≡ other) }
-        ensures with_none { shown_if other ≡ None → shown_pending self.new ≡ shown_pending self.old }
-        ensures accepts_none { shown_if other ≡ None → IsOk result }
+        ensures with_none { thin_view other ≡ None → pending_view self.new ≡ pending_view self.old }
+        ensures accepts_none { thin_view other ≡ None → IsOk result }
     {
         if let Some(retransmits) = &other.retransmits
             && self.make_room(retransmits).is_err()
@@ -123,7 +123,7 @@ impl Retransmits {
 
     /// Joins all of a list, from the first on.
     pub fn collect(alloc: Global, list: Vec<Retransmits>) -> Result<Self, OutOfMemory>
-        ensures { IfOk result (λ all. shown_pending all ≡ collected nothing list.items) }
+        ensures { IfOk result (λ all. pending_view all ≡ collected nothing list.items) }
     {
         let mut all = Retransmits::new(alloc);
         for part in list {
@@ -136,7 +136,7 @@ impl Retransmits {
 
     /// The same again.
     pub fn clone(&self) -> Result<Self, OutOfMemory>
-        ensures { IfOk result (λ copy. shown_pending copy ≡ shown_pending self.now) }
+        ensures { IfOk result (λ copy. pending_view copy ≡ pending_view self.now) }
     {
         let alloc = *self.reset_stream.allocator();
         Ok(Retransmits {
@@ -157,7 +157,7 @@ impl Retransmits {
     }
 
     fn make_room(&mut self, other: &Retransmits) -> Result<(), OutOfMemory>
-        ensures same { shown_pending self.new ≡ shown_pending self.old }
+        ensures same { pending_view self.new ≡ pending_view self.old }
         ensures ok { OnOk result (HasRoomFor self.new other.now) }
     {
         self.reset_stream.reserve(other.reset_stream.len())?;
@@ -175,7 +175,7 @@ impl Retransmits {
 
     fn take_in(&mut self, other: Retransmits)
         requires { HasRoomFor self.old other }
-        ensures { shown_pending self.new ≡ merged (shown_pending self.old) (shown_pending other) }
+        ensures { pending_view self.new ≡ merged (pending_view self.old) (pending_view other) }
     {
         let Retransmits {
             max_data,
@@ -211,12 +211,12 @@ impl Retransmits {
     /// Queues numbers to be retired. More than 50 never wait: past that it is a CONNECTION_ID_LIMIT_ERROR (RFC 9000
     /// section 5.1.2). If refused, all is as it was.
     pub fn retire_cids(&mut self, cids: Range<u64>) -> Result<(), ReceiveError>
-        ensures ok { OnOk result (shown_pending self.new ≡ record (shown_pending self.old) {
-          retire_cids = (shown_pending self.old).retire_cids ++ numbers_from cids.start (cids.end - cids.start);
+        ensures ok { OnOk result (pending_view self.new ≡ record (pending_view self.old) {
+          retire_cids = (pending_view self.old).retire_cids ++ numbers_from cids.start (cids.end - cids.start);
         }) }
-        ensures few { OnOk result (length (shown_pending self.new).retire_cids ≤ 50) }
-        ensures err { OnErr result (shown_pending self.new ≡ shown_pending self.old) }
-        ensures refusal { IfErr result (λ e. IsRetireRefusal (length (shown_pending self.old).retire_cids + (cids.end - cids.start)) e) }
+        ensures few { OnOk result (length (pending_view self.new).retire_cids ≤ 50) }
+        ensures err { OnErr result (pending_view self.new ≡ pending_view self.old) }
+        ensures refusal { IfErr result (λ e. IsRetireRefusal (length (pending_view self.old).retire_cids + (cids.end - cids.start)) e) }
     {
         let count = cids.end.saturating_sub(cids.start);
         let waiting = self.retire_cids.len();
@@ -298,7 +298,7 @@ impl ThinRetransmits {
 
     /// Nothing is to be sent. Takes no memory.
     pub fn new(alloc: Global) -> Self
-        ensures { shown_if result ≡ None }
+        ensures { thin_view result ≡ None }
     {
         ThinRetransmits {
             retransmits: None,
@@ -308,7 +308,7 @@ impl ThinRetransmits {
 
     /// What is to be sent, if anything was asked for.
     pub fn get(&self) -> Option<&Retransmits>
-        ensures { option_map (λ r. shown_pending r.now) result ≡ shown_if self.now }
+        ensures { option_map (λ r. pending_view r.now) result ≡ thin_view self.now }
     {
         match &self.retransmits {
             Some(retransmits) => Some(retransmits),
@@ -318,7 +318,7 @@ impl ThinRetransmits {
 
     /// The same again.
     pub fn clone(&self) -> Result<Self, OutOfMemory>
-        ensures { IfOk result (λ copy. shown_if copy ≡ shown_if self.now) }
+        ensures { IfOk result (λ copy. thin_view copy ≡ thin_view self.now) }
     {
         let mut copy = ThinRetransmits::new(self.alloc);
         if let Some(retransmits) = self.get() {
@@ -330,7 +330,7 @@ impl ThinRetransmits {
     /// What is to be sent, to be changed. Takes memory where nothing was asked for before.
     pub fn get_or_create(&mut self) -> Result<&mut Retransmits, OutOfMemory>
         ensures* lends { sem 𝓛 (LendsPending self.entry result) }
-        ensures before { IfOk result (λ r. shown_pending r.now ≡ unwrap_or (shown_if self.old) nothing) }
+        ensures before { IfOk result (λ r. pending_view r.now ≡ unwrap_or (thin_view self.old) nothing) }
     {
         self.create()?;
         match &mut self.retransmits {
@@ -340,8 +340,8 @@ impl ThinRetransmits {
     }
 
     fn create(&mut self) -> Result<(), OutOfMemory>
-        ensures ok { OnOk result (shown_if self.new ≡ Some (unwrap_or (shown_if self.old) nothing)) }
-        ensures err { OnErr result (shown_if self.new ≡ shown_if self.old) }
+        ensures ok { OnOk result (thin_view self.new ≡ Some (unwrap_or (thin_view self.old) nothing)) }
+        ensures err { OnErr result (thin_view self.new ≡ thin_view self.old) }
     {
         if self.retransmits.is_none() {
             let retransmits = Box::new(self.alloc, Retransmits::new(self.alloc))?;

@@ -1,7 +1,7 @@
 //! What leaves what is pending when it is written, and what is noted of it.
 
 ghost use Rattle.std.specs.Prelude.{◌≡◌, ◌∷◌, ◌++◌, ◌<◌, [], ℕ, List, drop, true, false, OnOk, OnErr};
-ghost use Rattle.quic_retransmits.specs.Pending.{Pending, shown_pending, shown_if};
+ghost use Rattle.quic_retransmits.specs.Pending.{Pending, pending_view, thin_view};
 ghost use Rattle.std.specs.Option.{option_map};
 ghost use Rattle.quic_retransmits.specs.Settling.{noted, noted_in, without_id, IsLastIn, IsSomeIn, entry_count, max_streams_in, without_max_streams};
 
@@ -14,8 +14,8 @@ impl Retransmits {
     // Notes a frame that is sent. A refusal changes nothing.
     #[inline]
     pub(crate) fn note(&mut self, frame: &Frame) -> Result<(), OutOfMemory>
-        ensures ok { OnOk result (shown_pending self.new ≡ noted (shown_pending self.old) frame.now) }
-        ensures err { OnErr result (shown_pending self.new ≡ shown_pending self.old) }
+        ensures ok { OnOk result (pending_view self.new ≡ noted (pending_view self.old) frame.now) }
+        ensures err { OnErr result (pending_view self.new ≡ pending_view self.old) }
     {
         match frame {
             Frame::ResetStream(frame) => {
@@ -42,7 +42,7 @@ impl Retransmits {
     /// The RESET_STREAM that is written next, the last one that was queued: the stream, and why it is given up.
     #[inline]
     pub fn next_reset(&self) -> Option<(StreamId, VarInt)>
-        ensures { IsLastIn (shown_pending self.now).reset_stream result }
+        ensures { IsLastIn (pending_view self.now).reset_stream result }
     {
         match self.reset_stream.last() {
             Some(last) => Some(*last),
@@ -53,16 +53,16 @@ impl Retransmits {
     /// That RESET_STREAM leaves what is pending. Nothing changes where there is none.
     #[inline]
     pub fn settle_reset(&mut self)
-        ensures settled { (id code : ℕ) (front : List (ℕ × ℕ)) → (shown_pending self.old).reset_stream ≡ front ++ (id, code) ∷ [] → shown_pending self.new ≡ record (shown_pending self.old) { reset_stream = front } }
-        ensures fewer { (id code : ℕ) (front : List (ℕ × ℕ)) → (shown_pending self.old).reset_stream ≡ front ++ (id, code) ∷ [] → entry_count self.new < entry_count self.old }
-        ensures empty { (shown_pending self.old).reset_stream ≡ [] → shown_pending self.new ≡ shown_pending self.old }
+        ensures settled { (id code : ℕ) (front : List (ℕ × ℕ)) → (pending_view self.old).reset_stream ≡ front ++ (id, code) ∷ [] → pending_view self.new ≡ record (pending_view self.old) { reset_stream = front } }
+        ensures fewer { (id code : ℕ) (front : List (ℕ × ℕ)) → (pending_view self.old).reset_stream ≡ front ++ (id, code) ∷ [] → entry_count self.new < entry_count self.old }
+        ensures empty { (pending_view self.old).reset_stream ≡ [] → pending_view self.new ≡ pending_view self.old }
     {
         let _ = self.reset_stream.pop();
     }
 
     // The first resets leave, so many, or all where there are fewer.
     fn drop_resets(&mut self, count: usize)
-        ensures { shown_pending self.new ≡ record (shown_pending self.old) { reset_stream = drop count (shown_pending self.old).reset_stream } }
+        ensures { pending_view self.new ≡ record (pending_view self.old) { reset_stream = drop count (pending_view self.old).reset_stream } }
     {
         let count = count.min(self.reset_stream.len());
         self.reset_stream.drain(..count);
@@ -71,7 +71,7 @@ impl Retransmits {
     /// The STOP_SENDING that is written next, the last one that was queued.
     #[inline]
     pub fn next_stop(&self) -> Option<StopSending>
-        ensures { IsLastIn (shown_pending self.now).stop_sending result }
+        ensures { IsLastIn (pending_view self.now).stop_sending result }
     {
         self.stop_sending.last().copied()
     }
@@ -79,9 +79,9 @@ impl Retransmits {
     /// That STOP_SENDING leaves what is pending. Nothing changes where there is none.
     #[inline]
     pub fn settle_stop(&mut self)
-        ensures settled { (frame : StopSending) (front : List StopSending) → (shown_pending self.old).stop_sending ≡ front ++ frame ∷ [] → shown_pending self.new ≡ record (shown_pending self.old) { stop_sending = front } }
-        ensures fewer { (frame : StopSending) (front : List StopSending) → (shown_pending self.old).stop_sending ≡ front ++ frame ∷ [] → entry_count self.new < entry_count self.old }
-        ensures empty { (shown_pending self.old).stop_sending ≡ [] → shown_pending self.new ≡ shown_pending self.old }
+        ensures settled { (frame : StopSending) (front : List StopSending) → (pending_view self.old).stop_sending ≡ front ++ frame ∷ [] → pending_view self.new ≡ record (pending_view self.old) { stop_sending = front } }
+        ensures fewer { (frame : StopSending) (front : List StopSending) → (pending_view self.old).stop_sending ≡ front ++ frame ∷ [] → entry_count self.new < entry_count self.old }
+        ensures empty { (pending_view self.old).stop_sending ≡ [] → pending_view self.new ≡ pending_view self.old }
     {
         let _ = self.stop_sending.pop();
     }
@@ -89,7 +89,7 @@ impl Retransmits {
     /// A stream for which MAX_STREAM_DATA is pending.
     #[inline]
     pub fn next_window(&self) -> Option<StreamId>
-        ensures { IsSomeIn (shown_pending self.now).max_stream_data result }
+        ensures { IsSomeIn (pending_view self.now).max_stream_data result }
     {
         self.max_stream_data.some()
     }
@@ -97,8 +97,8 @@ impl Retransmits {
     /// The MAX_STREAM_DATA of a stream leaves what is pending.
     #[inline]
     pub fn settle_window(&mut self, id: StreamId)
-        ensures settled { shown_pending self.new ≡ record (shown_pending self.old) { max_stream_data = without_id (shown_pending self.old).max_stream_data id } }
-        ensures fewer { (shown_pending self.old).max_stream_data id ≡ true → entry_count self.new < entry_count self.old }
+        ensures settled { pending_view self.new ≡ record (pending_view self.old) { max_stream_data = without_id (pending_view self.old).max_stream_data id } }
+        ensures fewer { (pending_view self.old).max_stream_data id ≡ true → entry_count self.new < entry_count self.old }
     {
         self.max_stream_data.remove(id);
     }
@@ -106,7 +106,7 @@ impl Retransmits {
     /// A stream for which STREAM_DATA_BLOCKED is pending.
     #[inline]
     pub fn next_stream_blocked(&self) -> Option<StreamId>
-        ensures { IsSomeIn (shown_pending self.now).stream_data_blocked result }
+        ensures { IsSomeIn (pending_view self.now).stream_data_blocked result }
     {
         self.stream_data_blocked.some()
     }
@@ -114,8 +114,8 @@ impl Retransmits {
     /// The STREAM_DATA_BLOCKED of a stream leaves what is pending.
     #[inline]
     pub fn settle_stream_blocked(&mut self, id: StreamId)
-        ensures settled { shown_pending self.new ≡ record (shown_pending self.old) { stream_data_blocked = without_id (shown_pending self.old).stream_data_blocked id } }
-        ensures fewer { (shown_pending self.old).stream_data_blocked id ≡ true → entry_count self.new < entry_count self.old }
+        ensures settled { pending_view self.new ≡ record (pending_view self.old) { stream_data_blocked = without_id (pending_view self.old).stream_data_blocked id } }
+        ensures fewer { (pending_view self.old).stream_data_blocked id ≡ true → entry_count self.new < entry_count self.old }
     {
         self.stream_data_blocked.remove(id);
     }
@@ -123,8 +123,8 @@ impl Retransmits {
     /// MAX_DATA leaves what is pending.
     #[inline]
     pub fn settle_max_data(&mut self)
-        ensures settled { shown_pending self.new ≡ record (shown_pending self.old) { max_data = false } }
-        ensures fewer { (shown_pending self.old).max_data ≡ true → entry_count self.new < entry_count self.old }
+        ensures settled { pending_view self.new ≡ record (pending_view self.old) { max_data = false } }
+        ensures fewer { (pending_view self.old).max_data ≡ true → entry_count self.new < entry_count self.old }
     {
         self.max_data = false;
     }
@@ -132,8 +132,8 @@ impl Retransmits {
     /// DATA_BLOCKED leaves what is pending.
     #[inline]
     pub fn settle_data_blocked(&mut self)
-        ensures settled { shown_pending self.new ≡ record (shown_pending self.old) { data_blocked = false } }
-        ensures fewer { (shown_pending self.old).data_blocked ≡ true → entry_count self.new < entry_count self.old }
+        ensures settled { pending_view self.new ≡ record (pending_view self.old) { data_blocked = false } }
+        ensures fewer { (pending_view self.old).data_blocked ≡ true → entry_count self.new < entry_count self.old }
     {
         self.data_blocked = false;
     }
@@ -141,7 +141,7 @@ impl Retransmits {
     /// Whether MAX_STREAMS of a direction is pending.
     #[inline]
     pub fn has_max_streams(&self, dir: Dir) -> bool
-        ensures { result ≡ max_streams_in (shown_pending self.now) dir }
+        ensures { result ≡ max_streams_in (pending_view self.now) dir }
     {
         match dir {
             Dir::Bi => self.max_stream_id[0],
@@ -152,8 +152,8 @@ impl Retransmits {
     /// MAX_STREAMS of a direction leaves what is pending.
     #[inline]
     pub fn settle_max_streams(&mut self, dir: Dir)
-        ensures settled { shown_pending self.new ≡ without_max_streams (shown_pending self.old) dir }
-        ensures fewer { max_streams_in (shown_pending self.old) dir ≡ true → entry_count self.new < entry_count self.old }
+        ensures settled { pending_view self.new ≡ without_max_streams (pending_view self.old) dir }
+        ensures fewer { max_streams_in (pending_view self.old) dir ≡ true → entry_count self.new < entry_count self.old }
     {
         match dir {
             Dir::Bi => self.max_stream_id[0] = false,
@@ -168,7 +168,7 @@ impl ThinRetransmits {
     #[inline]
     pub fn note(&mut self, frame: &Frame) -> Result<(), OutOfMemory>
         ensures ok { OnOk result (noted_in self.new ≡ noted (noted_in self.old) frame.now) }
-        ensures err { OnErr result (shown_if self.new ≡ shown_if self.old) }
+        ensures err { OnErr result (thin_view self.new ≡ thin_view self.old) }
     {
         if let Some(retransmits) = &mut self.retransmits {
             return retransmits.note(frame);
@@ -182,7 +182,7 @@ impl ThinRetransmits {
     /// The first `count` of the RESET_STREAM frames that were noted are not sent again: they were acknowledged (RFC 9000
     /// section 13.3). All of them where there are fewer. Takes no memory.
     pub fn drop_resets(&mut self, count: usize)
-        ensures { shown_if self.new ≡ option_map (λ (p : Pending). record p { reset_stream = drop count p.reset_stream }) (shown_if self.old) }
+        ensures { thin_view self.new ≡ option_map (λ (p : Pending). record p { reset_stream = drop count p.reset_stream }) (thin_view self.old) }
     {
         if let Some(retransmits) = &mut self.retransmits {
             retransmits.drop_resets(count);

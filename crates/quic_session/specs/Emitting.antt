@@ -20,7 +20,7 @@ use Rattle.quic_session.specs.declared.session.Session.{Session}
 use Rattle.quic_session.specs.declared.emitting.Draft.{Draft}
 use Rattle.quic_session.specs.declared.emitting.Emitted.{Emitted}
 use Rattle.quic_session.specs.declared.emitting.Parts.{Parts}
-use Rattle.quic_session.specs.Sessions.{Datagrams, end_of, datagrams_of}
+use Rattle.quic_session.specs.Sessions.{Datagrams, end_of, datagrams_view}
 use Rattle.quic_session.specs.Tokens.{unsettled, KeepsNew}
 
 -- bytes: the frames, encoded one after another
@@ -42,11 +42,11 @@ abbrev pub payload_of : Draft → PayloadView
 payload_of d = record { bytes = d.bytes.items; control = noted_in d.sent.control; streams = d.sent.streams.items }
 
 abbrev pub writing_of : Session → Draft → Writing
-writing_of s d = record { end = end_of s; datagrams = datagrams_of s; payload = payload_of d }
+writing_of s d = record { end = end_of s; datagrams = datagrams_view s; payload = payload_of d }
 
 -- a session with an empty payload
 abbrev pub blank : Session → Writing
-blank s = record { end = end_of s; datagrams = datagrams_of s; payload = record { bytes = []; control = nothing; streams = [] } }
+blank s = record { end = end_of s; datagrams = datagrams_view s; payload = record { bytes = []; control = nothing; streams = [] } }
 
 -- the end that writes, with its payload and the counters of its frames
 abbrev pub place_in : Writing → FrameStats → PayloadPlace
@@ -117,7 +117,7 @@ pub data WritesParts (most : ℕ) (parts : Parts) (fair : Bool) (a : Writing) : 
 
 -- the end and the datagrams are as they were left
 abbrev pub IsLeftAs : Writing → Session → Type 0
-IsLeftAs a s = (end_of s ≡ a.end) × (datagrams_of s ≡ a.datagrams)
+IsLeftAs a s = (end_of s ≡ a.end) × (datagrams_view s ≡ a.datagrams)
 
 -- no payload was kept
 abbrev pub KeepsNone : Session → Session → Type 0
@@ -156,7 +156,7 @@ pub record WritesPayload (parts : Parts) (fair : Bool) (s : Session) (out : List
 abbrev pub Emits : Session → Parts → Bool → List ℕ → Result (Option Emitted) OutOfMemory → Session → List ℕ → Type 0
 Emits s parts fair out (Ok (Some e)) t new = WritesPayload parts fair s out e t new
 Emits s parts fair out (Ok None) t new = (new ≡ out) × KeepsNone s t × WritesNothing (length out) parts fair s (Ok tt) t
-Emits s parts fair out (Err error) t new = (new ≡ out) × KeepsNone s t × (((end_of t ≡ end_of s) × (datagrams_of t ≡ datagrams_of s)) ⊎ WritesNothing (length out) parts fair s (Err error) t)
+Emits s parts fair out (Err error) t new = (new ≡ out) × KeepsNone s t × (((end_of t ≡ end_of s) × (datagrams_view t ≡ datagrams_view s)) ⊎ WritesNothing (length out) parts fair s (Err error) t)
 
 -- entries left what was pending, and streams had their turns: whatever history came before, it goes on with them
 pub record GoesOnWithFrames (most : ℕ) (fair : Bool) (w v : World) : Type 0 where

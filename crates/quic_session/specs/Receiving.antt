@@ -14,7 +14,7 @@ use Rattle.quic_session.specs.declared.session.Session.{Session}
 use Rattle.quic_session.specs.declared.receiving.Received.{Received}
 use Rattle.quic_session.specs.declared.receiving.PayloadError.{PayloadError}
 use Rattle.quic_session.specs.declared.receiving.PayloadError.TheVariants as payload_error
-use Rattle.quic_session.specs.Sessions.{Datagrams, end_of, datagrams_of}
+use Rattle.quic_session.specs.Sessions.{Datagrams, end_of, datagrams_view}
 
 -- a datagram was queued: the oldest went until it fits, and that one came is to be told where none waited
 pub record QueuesDatagram (d : Datagrams) (datagram : Datagram) (e : Datagrams) : Type 0 where
@@ -34,7 +34,7 @@ IsNoDatagram frame = (d : Datagram) → frame ≡ frames.Datagram d → ⊥
 pub record ReceivesDatagram (s : Session) (frame : Frame) (answer : Result ShouldTransmit ReceiveError) (t : Session) : Type 0 where
   pub datagram : Datagram
   pub is : frame ≡ frames.Datagram datagram
-  pub keeps : KeepsDatagram (datagrams_of s) datagram answer (datagrams_of t)
+  pub keeps : KeepsDatagram (datagrams_view s) datagram answer (datagrams_view t)
   pub end : end_of t ≡ end_of s
 
 -- what came of another frame that was in a payload of so many bytes
@@ -42,7 +42,7 @@ pub record ReceivesOther (s : Session) (frame : Frame) (size : ℕ) (answer : Re
   pub other : IsNoDatagram frame
   pub receives : ReceivesAt (end_of s) frame answer (end_of t)
   pub accounts : AccountsFrame (end_of s).streams frame size answer (end_of t).streams
-  pub datagrams : datagrams_of t ≡ datagrams_of s
+  pub datagrams : datagrams_view t ≡ datagrams_view s
 
 -- what came of a frame
 abbrev pub ReceivesFrame : Session → Frame → ℕ → Result ShouldTransmit ReceiveError → Session → Type 0

@@ -6,8 +6,8 @@ use Rattle.quic_datagrams.specs.Queue.{no_longer_than}
 use Rattle.quic_datagrams.specs.Sending.{after_drop, has_unblocked}
 use Rattle.quic_wire.specs.declared.frame.Datagram.{Datagram}
 use Rattle.quic_streams.specs.declared.streams.ConnState.{ConnState}
-use Rattle.quic_streams.specs.Shown.{shown}
-use Rattle.quic_retransmits.specs.Pending.{shown_pending}
+use Rattle.quic_streams.specs.Shown.{streams_view}
+use Rattle.quic_retransmits.specs.Pending.{pending_view}
 use Rattle.quic_endpoint.specs.Ends.{EndState}
 use Rattle.quic_session.specs.declared.unsettled.Unsettled.{Unsettled}
 use Rattle.quic_session.specs.declared.session.Session.{Session}
@@ -16,7 +16,7 @@ use Rattle.quic_session.specs.declared.datagrams.DatagramEvent.TheVariants as da
 
 -- the end of the connection
 unfoldable pub end_of : Session → EndState
-end_of s = record { streams = shown s.streams; pending = shown_pending s.pending }
+end_of s = record { streams = streams_view s.streams; pending = pending_view s.pending }
 
 -- datagrams: those that wait, at either side
 -- limits: what is permitted of them
@@ -30,8 +30,8 @@ pub record Datagrams : Type 0 where
   pub told_received : Bool
   pub told_room : Bool
 
-abbrev pub datagrams_of : Session → Datagrams
-datagrams_of s = record { state = s.datagrams; limits = s.limits; waiting = s.waiting; told_received = s.told_received; told_room = s.told_room }
+abbrev pub datagrams_view : Session → Datagrams
+datagrams_view s = record { state = s.datagrams; limits = s.limits; waiting = s.waiting; told_received = s.told_received; told_room = s.told_room }
 
 -- what stands beside the end
 -- conn: whether the connection is open
@@ -43,7 +43,7 @@ pub record Beside : Type 0 where
   pub unsettled : Unsettled
 
 abbrev pub beside_of : Session → Beside
-beside_of s = record { conn = s.conn; datagrams = datagrams_of s; unsettled = s.unsettled }
+beside_of s = record { conn = s.conn; datagrams = datagrams_view s; unsettled = s.unsettled }
 
 abbrev pub with_datagrams : Beside → Datagrams → Beside
 with_datagrams b d = record b { datagrams = d }

@@ -9,7 +9,7 @@ use Rattle.quic_endpoint.specs.Ends.{EndState, with_counts_told}
 use Rattle.quic_session.specs.declared.session.Session.{Session}
 use Rattle.quic_session.specs.declared.settling.SettleError.{SettleError}
 use Rattle.quic_session.specs.declared.settling.SettleError.TheVariants as settle_error
-use Rattle.quic_session.specs.Sessions.{end_of, datagrams_of}
+use Rattle.quic_session.specs.Sessions.{end_of, datagrams_view}
 use Rattle.quic_session.specs.Tokens.{unsettled, with_payload}
 
 -- nothing changed of the end, and of what is kept
@@ -69,4 +69,4 @@ LosesToken s token (Err settle_error.OutOfMemory) t = SettlesNothing s t ⊎ Los
 
 -- nothing changed beside the end and the payloads
 abbrev pub SettlesOnly : Session → Session → Type 0
-SettlesOnly s t = (t.conn ≡ s.conn) × (datagrams_of t ≡ datagrams_of s) × (t.unsettled.next ≡ s.unsettled.next)
+SettlesOnly s t = (t.conn ≡ s.conn) × (datagrams_view t ≡ datagrams_view s) × (t.unsettled.next ≡ s.unsettled.next)

@@ -3,7 +3,7 @@
 ghost use Rattle.std.specs.Prelude.{◌≡◌, ◌-◌, OnOk, IfErr, None, length, option_map};
 ghost use Rattle.quic_datagrams.specs.Sending.{send_refusal};
 ghost use Rattle.quic_datagrams.specs.Queue.{with_newest, total_cost};
-ghost use Rattle.quic_session.specs.Sessions.{end_of, datagrams_of, beside_of, with_datagrams, with_oldest_out, with_max, next_told, with_told};
+ghost use Rattle.quic_session.specs.Sessions.{end_of, datagrams_view, beside_of, with_datagrams, with_oldest_out, with_max, next_told, with_told};
 ghost use Rattle.quic_session.specs.Datagrams.{IsRefusedAs, after_error};
 
 use crate::session::Session;
@@ -46,9 +46,9 @@ impl Session {
     pub fn send_datagram(&mut self, content: &[u8], drop_oldest: bool) -> Result<(), DatagramError>
         ensures permitted { OnOk result (send_refusal self.old.limits self.old.datagrams.outgoing content.now drop_oldest ≡ None) }
         ensures queued { OnOk result (self.new.datagrams ≡ record self.old.datagrams { outgoing = with_newest self.old.limits.send self.old.datagrams.outgoing (record { bytes = content.now }) }) }
-        ensures refusal { IfErr result (λ e. IsRefusedAs (datagrams_of self.old) content.now drop_oldest e) }
+        ensures refusal { IfErr result (λ e. IsRefusedAs (datagrams_view self.old) content.now drop_oldest e) }
         ensures err { IfErr result (λ e. self.new.datagrams ≡ after_error self.old.datagrams e) }
-        ensures others { beside_of self.new ≡ with_datagrams (beside_of self.old) (record (datagrams_of self.old) { state = self.new.datagrams }) }
+        ensures others { beside_of self.new ≡ with_datagrams (beside_of self.old) (record (datagrams_view self.old) { state = self.new.datagrams }) }
         ensures end { end_of self.new ≡ end_of self.old }
     {
         let Ok(bytes) = Bytes::copy_from_slice(self.alloc, content) else {
@@ -66,8 +66,8 @@ impl Session {
 
     /// How many bytes the oldest received datagram has, if one waits.
     pub fn datagram_length(&mut self) -> Option<usize>
-        ensures length { result ≡ option_map length (with_oldest_out (datagrams_of self.old)).waiting }
-        ensures datagrams { beside_of self.new ≡ with_datagrams (beside_of self.old) (with_oldest_out (datagrams_of self.old)) }
+        ensures length { result ≡ option_map length (with_oldest_out (datagrams_view self.old)).waiting }
+        ensures datagrams { beside_of self.new ≡ with_datagrams (beside_of self.old) (with_oldest_out (datagrams_view self.old)) }
         ensures end { end_of self.new ≡ end_of self.old }
     {
         if self.waiting.is_none() {
@@ -81,8 +81,8 @@ impl Session {
 
     /// Takes the oldest received datagram out, if one waits.
     pub fn recv_datagram(&mut self) -> Option<Bytes>
-        ensures oldest { result ≡ (with_oldest_out (datagrams_of self.old)).waiting }
-        ensures datagrams { beside_of self.new ≡ with_datagrams (beside_of self.old) (record (with_oldest_out (datagrams_of self.old)) { waiting = None }) }
+        ensures oldest { result ≡ (with_oldest_out (datagrams_view self.old)).waiting }
+        ensures datagrams { beside_of self.new ≡ with_datagrams (beside_of self.old) (record (with_oldest_out (datagrams_view self.old)) { waiting = None }) }
         ensures end { end_of self.new ≡ end_of self.old }
     {
         match self.waiting.take() {
@@ -109,7 +109,7 @@ impl Session {
 
     /// Sets the greatest length that the path and the peer take, and drops what waits and is longer.
     pub fn set_max_datagram(&mut self, max: Option<usize>)
-        ensures datagrams { beside_of self.new ≡ with_datagrams (beside_of self.old) (with_max (datagrams_of self.old) max) }
+        ensures datagrams { beside_of self.new ≡ with_datagrams (beside_of self.old) (with_max (datagrams_view self.old) max) }
         ensures end { end_of self.new ≡ end_of self.old }
     {
         self.limits.max = max;
@@ -121,8 +121,8 @@ impl Session {
 
     /// What is to be told of datagrams next, if there is something.
     pub fn poll_datagrams(&mut self) -> Option<DatagramEvent>
-        ensures event { result ≡ next_told (datagrams_of self.old) }
-        ensures told { beside_of self.new ≡ with_datagrams (beside_of self.old) (with_told (datagrams_of self.old)) }
+        ensures event { result ≡ next_told (datagrams_view self.old) }
+        ensures told { beside_of self.new ≡ with_datagrams (beside_of self.old) (with_told (datagrams_view self.old)) }
         ensures end { end_of self.new ≡ end_of self.old }
     {
         if !self.told_received {

@@ -2,7 +2,7 @@
 
 ghost use Rattle.std.specs.Prelude.{◌≡◌, ◌≤◌, ◌<◌, ◌+◌, IfOk, IfSome, OnOk, OnErr, [], length};
 ghost use Rattle.quic_retransmits.specs.Pending.{nothing};
-ghost use Rattle.quic_session.specs.Sessions.{end_of, datagrams_of, beside_of};
+ghost use Rattle.quic_session.specs.Sessions.{end_of, datagrams_view, beside_of};
 ghost use Rattle.quic_session.specs.Tokens.{unsettled, places, KeepsNew};
 ghost use Rattle.quic_session.specs.Emitting.{payload_of, writing_of, WritesControl, WritesDatagrams, WritesStreams, SendsOldest, AreSent, with_sent, IfAsked, WritesParts, Emits, IsPutOut, GoesOnWithFrames};
 
@@ -95,7 +95,7 @@ impl Session {
         ensures keeps { KeepsNew (unsettled self.old.unsettled) self.old.unsettled.next draft.sent result.token (unsettled self.new.unsettled) self.new.unsettled.next }
         ensures end { end_of self.new ≡ end_of self.old }
         ensures conn { self.new.conn ≡ self.old.conn }
-        ensures datagrams { datagrams_of self.new ≡ datagrams_of self.old }
+        ensures datagrams { datagrams_view self.new ≡ datagrams_view self.old }
     {
         let Draft { bytes, sent } = draft;
         let len = bytes.len().min(out.len());
@@ -167,7 +167,7 @@ impl Session {
 
     // A blocked sender is to be told that there is room, if datagrams were written.
     fn tell_room_if(&mut self, sent: bool)
-        ensures told { datagrams_of self.new ≡ with_sent (datagrams_of self.old) sent self.old.datagrams.outgoing }
+        ensures told { datagrams_view self.new ≡ with_sent (datagrams_view self.old) sent self.old.datagrams.outgoing }
         ensures end { end_of self.new ≡ end_of self.old }
         ensures payloads { self.new.unsettled ≡ self.old.unsettled }
         ensures conn { self.new.conn ≡ self.old.conn }

@@ -5,7 +5,7 @@ ghost use Rattle.quic_wire.specs.Frames.{IsFrameWithin};
 ghost use Rattle.quic_history.specs.World.{Made};
 ghost use Rattle.quic_history.specs.History.{Event, From};
 ghost use Rattle.quic_endpoint.specs.Receiving.{data_length, event_of, with_call_made, MakesCall, MayAnswer, with_answer_told, ReceivesAt, AccountsFrame};
-ghost use Rattle.quic_session.specs.Sessions.{end_of, datagrams_of, beside_of};
+ghost use Rattle.quic_session.specs.Sessions.{end_of, datagrams_view, beside_of};
 ghost use Rattle.quic_session.specs.Receiving.{KeepsDatagram, ReceivesFrame, ReceivesOnly, ReceivesPayload, ReceivesFrames, ReceivesFrom, payload_answer};
 
 use crate::session::Session;
@@ -139,7 +139,7 @@ impl Session {
 
     // Takes a datagram (RFC 9221 section 4).
     fn receive_datagram(&mut self, datagram: Datagram) -> Result<ShouldTransmit, ReceiveError>
-        ensures keeps { KeepsDatagram (datagrams_of self.old) datagram result (datagrams_of self.new) }
+        ensures keeps { KeepsDatagram (datagrams_view self.old) datagram result (datagrams_view self.new) }
         ensures end { end_of self.new ≡ end_of self.old }
         ensures others { ReceivesOnly self.old self.new }
     {
@@ -150,7 +150,7 @@ impl Session {
 
     // That a datagram came is to be told, if none waited.
     fn tell_received_if(&mut self, was_empty: bool)
-        ensures told { datagrams_of self.new ≡ record (datagrams_of self.old) { told_received = self.old.told_received && not was_empty } }
+        ensures told { datagrams_view self.new ≡ record (datagrams_view self.old) { told_received = self.old.told_received && not was_empty } }
         ensures end { end_of self.new ≡ end_of self.old }
         ensures others { ReceivesOnly self.old self.new }
     {

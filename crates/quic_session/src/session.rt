@@ -8,11 +8,11 @@ ghost use Rattle.quic_history.specs.Sends.{with_out, TellsNext};
 ghost use Rattle.quic_limits.specs.SendingCredit.{with_window};
 ghost use Rattle.quic_outgoing.specs.Outgoing.{with_params};
 ghost use Rattle.quic_retransmits.specs.Pending.{nothing};
-ghost use Rattle.quic_streams.specs.Shown.{shown};
+ghost use Rattle.quic_streams.specs.Shown.{streams_view};
 ghost use Rattle.quic_endpoint.specs.Ends.{with_world, with_counts_told_if, with_window_set, SetsConcurrentAt};
 ghost use Rattle.quic_limits.specs.Remote.{open_now};
 ghost use Rattle.quic_streams.specs.Waiting.{TellsEmpty};
-ghost use Rattle.quic_session.specs.Sessions.{end_of, beside_of, datagrams_of, no_datagrams};
+ghost use Rattle.quic_session.specs.Sessions.{end_of, beside_of, datagrams_view, no_datagrams};
 ghost use Rattle.quic_session.specs.Tokens.{unsettled};
 
 use crate::unsettled::Unsettled;
@@ -72,7 +72,7 @@ impl Session {
         ensures start { IfOk result (λ s. end_of s ≡ record { streams = start (made_with config.now.side config.now.max_remote_uni config.now.max_remote_bi config.now.send_window config.now.receive_window config.now.stream_window); pending = nothing }) }
         ensures from { IfOk result (λ s. From (made_with config.now.side config.now.max_remote_uni config.now.max_remote_bi config.now.send_window config.now.receive_window config.now.stream_window) [] (end_of s).streams) }
         ensures begun { IfOk result (λ s. s.conn ≡ ConnState.Open) }
-        ensures datagrams { IfOk result (λ s. datagrams_of s ≡ no_datagrams config.now.datagrams) }
+        ensures datagrams { IfOk result (λ s. datagrams_view s ≡ no_datagrams config.now.datagrams) }
         ensures payloads { IfOk result (λ s. unsettled s.unsettled ≡ (λ token. None)) }
         ensures token { IfOk result (λ s. s.unsettled.next ≡ 1) }
     {
@@ -164,7 +164,7 @@ impl Session {
 
     /// The state of the streams.
     pub fn streams(&self) -> &StreamsState
-        ensures { shown result.now ≡ (end_of self.now).streams }
+        ensures { streams_view result.now ≡ (end_of self.now).streams }
     {
         &self.streams
     }

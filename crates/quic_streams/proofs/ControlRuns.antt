@@ -9,7 +9,7 @@ use Rattle.quic_wire.specs.Text.{text}
 use Rattle.quic_retransmits.specs.Pending.{Pending}
 use Rattle.quic_retransmits.specs.Settling.{max_streams_in, without_max_streams, without_id}
 use Rattle.quic_history.specs.World.{World}
-use Rattle.quic_history.specs.History.{Event, Settled, From}
+use Rattle.quic_history.specs.History.{Event, LeftPending, From}
 use Rattle.quic_history.specs.declared.control.ControlKind.{ControlKind}
 use Rattle.quic_history.specs.declared.control.ControlKind.TheVariants as kinds
 use Rattle.quic_history.specs.Control.{SettlesEntry, HasNoneOf, kind_bound}
@@ -183,7 +183,7 @@ sheet_with-more s (e ∷ es) fs = sheet_with-more (with_frame_written_if s e.fra
 
 with_entries-more : (es fs : List Entry) (h : List Event) → with_entries (es ++ fs) h ≡ with_entries fs (with_entries es h)
 with_entries-more [] fs h = refl
-with_entries-more (e ∷ es) fs h = with_entries-more es fs (Settled e.kind e.frame ∷ h)
+with_entries-more (e ∷ es) fs h = with_entries-more es fs (LeftPending e.kind e.frame ∷ h)
 
 entries_none : (a : PayloadPlace) → WritesEntries a.sheet a.sheet a.end a.end
 entries_none a = record { entries = []; sheet = refl; from = λ m h f. f }
@@ -200,7 +200,7 @@ turn_entry : (k : ControlKind) (a b : PayloadPlace) → SettlesOne k a b → Wri
 turn_entry k a b t = record {
   entries = record { kind = k; frame = t.frame } ∷ [];
   sheet = t.written;
-  from = λ m h f. next m h a.end (Settled k t.frame) b.end tt f (a.pending, b.pending, t.settles);
+  from = λ m h f. next m h a.end (LeftPending k t.frame) b.end tt f (a.pending, b.pending, t.settles);
 }
 
 turns_entries : {k : ControlKind} {most : ℕ} {a b : PayloadPlace} → SettlesSome k most a b → WritesEntries a.sheet b.sheet a.end b.end

@@ -25,7 +25,7 @@ use Rattle.quic_receiving.specs.declared.errors.ReadableError.TheVariants as rea
 use Rattle.quic_receiving.specs.declared.transmit.ShouldTransmit.{ShouldTransmit}
 use Rattle.quic_history.specs.Halves.{Halves, with_half}
 use Rattle.quic_history.specs.World.{World, id_refusal, noticed, remote_of, with_counted, with_freed, with_receive, with_remote, advanced}
-use Rattle.quic_streams.specs.Accounting.{IsWanted, KeepsAlive, Accounts, buffered}
+use Rattle.quic_streams.specs.Accounting.{IsWanted, TellsHalfPieces, CountsPieces, buffered}
 use Rattle.quic_history.specs.Receiving.{IsDropped, Reaches, Receives}
 use Rattle.quic_history.specs.declared.progress.Progress.{Progress}
 use Rattle.quic_history.specs.declared.progress.Progress.TheVariants as progress
@@ -186,7 +186,7 @@ counts-kept x Uni r e = e
 unchanged-pieces : (h : Half) (offset : ℕ) (bytes : List ℕ) (size : ℕ) → TellsPieces h.buffer offset bytes size (Err insert_error.OutOfMemory) h.buffer
 unchanged-pieces h offset bytes size = record { stale = λ s. refl; settled = tt; many = λ e. cc }
 
-pub accounts-none : (w v : World) (id offset : ℕ) (bytes : List ℕ) (fin : Bool) (size : ℕ) → v ≡ w → Accounts w id offset bytes fin size (Err receive_error.OutOfMemory) v
+pub accounts-none : (w v : World) (id offset : ℕ) (bytes : List ℕ) (fin : Bool) (size : ℕ) → v ≡ w → CountsPieces w id offset bytes fin size (Err receive_error.OutOfMemory) v
 accounts-none w v id offset bytes fin size same = λ h k. record {
   new = h;
   half = ap (λ x. x.receive id) same ∙ k.half;
@@ -195,12 +195,12 @@ accounts-none w v id offset bytes fin size same = λ h k. record {
 
 -- a frame that is refused for its id reaches no half
 pub accounts-unknown : (w v : World) (id offset : ℕ) (bytes : List ℕ) (fin : Bool) (size : ℕ) (result : Result ShouldTransmit ReceiveError) (code : ℕ)
-    → id_refusal w id ≡ Some code → Accounts w id offset bytes fin size result v
+    → id_refusal w id ≡ Some code → CountsPieces w id offset bytes fin size result v
 accounts-unknown w v id offset bytes fin size result code known = λ h k. let e = sym k.known ∙ known in cc
 
 -- and one that is dropped reaches none that is read
 pub accounts-dropped : (w v : World) (id offset : ℕ) (bytes : List ℕ) (fin : Bool) (size : ℕ) (result : Result ShouldTransmit ReceiveError)
-    → IsDropped (w.receive id) → Accounts w id offset bytes fin size result v
+    → IsDropped (w.receive id) → CountsPieces w id offset bytes fin size result v
 accounts-dropped w v id offset bytes fin size result dropped = λ h k.
     let reset : is_some h.reset ≡ true = (rw k.half at dropped) in
     absurd (false≢true (sym (ap is_some k.running) ∙ reset))
@@ -281,11 +281,11 @@ module _ (w u v : World) (id offset : ℕ) (bytes : List ℕ) (fin : Bool) (size
     is_running : taken.stopped ≡ false
     is_running = s.ingests.stopped ∙ ap (λ x. x.stopped) is_old ∙ k.wanted
 
-    alive : (result : Result ShouldTransmit ReceiveError) → buffered result ≡ buffer_answer taken.answer → v.receive id ≡ Some s.new → KeepsAlive id offset bytes size result h v
+    alive : (result : Result ShouldTransmit ReceiveError) → buffered result ≡ buffer_answer taken.answer → v.receive id ≡ Some s.new → TellsHalfPieces id offset bytes size result h v
     alive result same there = record { new = s.new; half = there; pieces = rw same pieces }
 
     alive_by : (answer : Result (ℕ × Bool) ReceiveError) (result : Result ShouldTransmit ReceiveError) (stopped : Bool) → answer ≡ taken.answer → stopped ≡ false
-        → TellsFrame u id stopped taken.grown answer result v → KeepsAlive id offset bytes size result h v
+        → TellsFrame u id stopped taken.grown answer result v → TellsHalfPieces id offset bytes size result h v
     alive_by (Ok answer) (Ok transmit) true is runs t = absurd (false≢true (sym runs))
     alive_by (Ok answer) (Ok transmit) false is runs t = alive (Ok transmit) (ap buffer_answer is) (ap (λ x. x.receive id) t.1 ∙ noticed-put (with_counted u taken.grown) refl)
     alive_by (Ok answer) (Err told) stopped is runs t = absurd t
@@ -294,5 +294,5 @@ module _ (w u v : World) (id offset : ℕ) (bytes : List ℕ) (fin : Bool) (size
         alive (Err told) (ap (λ x. buffered (Err x)) t.0 ∙ same-error error ∙ ap buffer_answer is) (ap (λ x. x.receive id) t.1 ∙ put)
 
   -- the data of a frame that is taken keep its payload alive
-  pub accounts-in : (result : Result ShouldTransmit ReceiveError) → TellsFrame u id taken.stopped taken.grown taken.answer result v → Accounts w id offset bytes fin size result v
+  pub accounts-in : (result : Result ShouldTransmit ReceiveError) → TellsFrame u id taken.stopped taken.grown taken.answer result v → CountsPieces w id offset bytes fin size result v
   accounts-in result t = λ h k. alive_by h k taken.answer result taken.stopped refl (is_running h k) t

@@ -25,11 +25,11 @@ pub record IsWanted (w : World) (id offset : ℕ) (bytes : List ℕ) (fin : Bool
   pub taken : verdict h offset (length bytes) fin w.credit.data_recvd w.credit.local_max_data ≡ Taken
 
 -- its data keep so many bytes alive, whatever their own number
-pub record KeepsAlive (id offset : ℕ) (bytes : List ℕ) (size : ℕ) (result : Result ShouldTransmit ReceiveError) (h : Half) (v : World) : Type 0 where
+pub record TellsHalfPieces (id offset : ℕ) (bytes : List ℕ) (size : ℕ) (result : Result ShouldTransmit ReceiveError) (h : Half) (v : World) : Type 0 where
   pub new : Half
   pub half : v.receive id ≡ Some new
   pub pieces : TellsPieces h.buffer offset bytes size (buffered result) new.buffer
 
 -- what a frame of a payload of so many bytes does with the pieces of its half
-abbrev pub Accounts : World → ℕ → ℕ → List ℕ → Bool → ℕ → Result ShouldTransmit ReceiveError → World → Type 0
-Accounts w id offset bytes fin size result v = (h : Half) → IsWanted w id offset bytes fin h → KeepsAlive id offset bytes size result h v
+abbrev pub CountsPieces : World → ℕ → ℕ → List ℕ → Bool → ℕ → Result ShouldTransmit ReceiveError → World → Type 0
+CountsPieces w id offset bytes fin size result v = (h : Half) → IsWanted w id offset bytes fin h → TellsHalfPieces id offset bytes size result h v

@@ -13,8 +13,8 @@ half_in window None = new_half window
 half_in window (Some b) = b.value
 
 -- the halves that are held
-unfoldable pub held : ReceiveHalves → Halves
-held h = λ q. option_map (half_in h.window) (get ◌==◌ h.entries q)
+unfoldable pub halves_view : ReceiveHalves → Halves
+halves_view h = λ q. option_map (half_in h.window) (get ◌==◌ h.entries q)
 
 -- how many more halves can be held without new memory
 abbrev pub room : ReceiveHalves → ℕ

@@ -10,12 +10,12 @@ use Rattle.quic_datagrams.specs.Counting.{with_frame}
 use Rattle.std.specs.Global.{Vec}
 use Rattle.quic_retransmits.specs.declared.retransmits.Retransmits.{Retransmits}
 use Rattle.quic_retransmits.specs.declared.retransmits.ThinRetransmits.{ThinRetransmits}
-use Rattle.quic_retransmits.specs.Pending.{Pending, shown_pending}
+use Rattle.quic_retransmits.specs.Pending.{Pending, pending_view}
 use Rattle.quic_streams.specs.declared.state.StreamsState.{StreamsState}
-use Rattle.quic_streams.specs.Shown.{shown}
+use Rattle.quic_streams.specs.Shown.{streams_view}
 use Rattle.quic_retransmits.specs.Settling.{noted, noted_in}
 use Rattle.quic_history.specs.World.{World, Made}
-use Rattle.quic_history.specs.History.{Event, Settled, From}
+use Rattle.quic_history.specs.History.{Event, LeftPending, From}
 use Rattle.quic_history.specs.declared.control.ControlKind.{ControlKind}
 use Rattle.quic_history.specs.declared.control.ControlKind.TheVariants as kinds
 use Rattle.quic_history.specs.Control.{SettlesEntry, HasNoneOf, kind_bound}
@@ -106,7 +106,7 @@ sheet_with s (e ∷ es) = sheet_with (with_frame_written_if s e.frame) es
 -- a history with them
 abbrev pub with_entries : List Entry → List Event → List Event
 with_entries [] h = h
-with_entries (e ∷ es) h = with_entries es (Settled e.kind e.frame ∷ h)
+with_entries (e ∷ es) h = with_entries es (LeftPending e.kind e.frame ∷ h)
 
 -- entries left what was pending, and a payload has their frames; whatever history came before, it goes on with them
 pub record WritesEntries (a b : Sheet) (u v : World) : Type 0 where
@@ -116,4 +116,4 @@ pub record WritesEntries (a b : Sheet) (u v : World) : Type 0 where
 
 -- an end and a payload, as a call finds and leaves them
 abbrev pub place_of : StreamsState → Retransmits → Vec ℕ → ThinRetransmits → FrameStats → PayloadPlace
-place_of s p buf sent stats = record { end = shown s; pending = shown_pending p; sheet = record { bytes = buf.items; sent = noted_in sent; stats = stats } }
+place_of s p buf sent stats = record { end = streams_view s; pending = pending_view p; sheet = record { bytes = buf.items; sent = noted_in sent; stats = stats } }

@@ -1,13 +1,13 @@
 -- What a writer handed back for a payload, as contracts see it.
 use Rattle.std.specs.Prelude.{ℕ, ◌≡◌, List, length, Option, Some, Result, Ok, Err}
-use Rattle.quic_retransmits.specs.Pending.{shown_if}
+use Rattle.quic_retransmits.specs.Pending.{thin_view}
 use Rattle.quic_retransmits.specs.Pending.{Pending}
 use Rattle.quic_history.specs.World.{World}
 use Rattle.quic_streams.specs.Settling.{SentView, StopsIn, AcksResetOf, RefusesReset}
 use Rattle.quic_streams.specs.declared.settling.SentPayload.{SentPayload}
 
 abbrev pub sent_view : SentPayload → SentView
-sent_view sent = record { streams = sent.streams.items; control = shown_if sent.control }
+sent_view sent = record { streams = sent.streams.items; control = thin_view sent.control }
 
 -- the answer of a report, with what comes back
 abbrev pub report_view : Result (Unit {0}) SentPayload → Result (Unit {0}) SentView

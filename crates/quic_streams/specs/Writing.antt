@@ -4,7 +4,7 @@ use Rattle.quic_sending.specs.declared.send.Send.{Send}
 use Rattle.quic_sending.specs.declared.send.Written.{Written}
 use Rattle.quic_sending.specs.declared.send.WriteError.{WriteError}
 use Rattle.quic_outgoing.specs.Calls.{HasNoMore}
-use Rattle.quic_outgoing.specs.Shown.{view_of}
+use Rattle.quic_outgoing.specs.Shown.{outgoing_view}
 use Rattle.quic_streams.specs.declared.state.StreamsState.{StreamsState}
 
 -- an answer that is the number of bytes of one that says more, of which this is true
@@ -18,7 +18,7 @@ IsPlaceOf None reserved = Unit {0}
 IsPlaceOf (Some s) reserved = HasNoMore s → reserved ≡ Some s.priority
 
 abbrev pub HasPlace : StreamsState → ℕ → Type 0
-HasPlace s id = IsPlaceOf ((view_of s.outgoing).halves id) s.queue.reserved
+HasPlace s id = IsPlaceOf ((outgoing_view s.outgoing).halves id) s.queue.reserved
 
 -- there is room in the queue where it is asked for
 abbrev pub HasPlaceAt : StreamsState → Option ℤ → Type 0

@@ -2,7 +2,7 @@
 
 ghost use Rattle.std.specs.Prelude.{ℕ, List, ◌∷◌, ◌≡◌, ◌≤◌, OnOk, OnErr, is_some, true, false};
 ghost use Rattle.quic_streams.specs.Room.{rooms, HasEventRoom};
-ghost use Rattle.quic_streams.specs.Shown.{shown};
+ghost use Rattle.quic_streams.specs.Shown.{streams_view};
 ghost use Rattle.quic_history.specs.World.{Made};
 ghost use Rattle.quic_history.specs.Acknowledged.{AcksOwn, LosesOwn, AcksReset, with_send_freed, without_sender, without_send_half};
 ghost use Rattle.quic_history.specs.SendEvents.{AckedOwn, LostOwn, ResetAckedOwn};
@@ -12,7 +12,7 @@ use crate::state::StreamsState;
 use quic_values::{Dir, OutOfMemory, StreamId};
 use quic_wire::{StreamEvent, frame};
 
-#[tactic(auto, unfolding(crate::specs::Shown::shown, crate::specs::Room::rooms, crate::specs::Room::HasEventRoom))]
+#[tactic(auto, unfolding(crate::specs::Shown::streams_view, crate::specs::Room::rooms, crate::specs::Room::HasEventRoom))]
 impl StreamsState {
     /// A STREAM frame was acknowledged (RFC 9000 section 13.3): its data are not sent again, and count no more for the
     /// send window. Where by this the end and every byte of a stream are acknowledged, its send half is freed, the
@@ -21,16 +21,16 @@ impl StreamsState {
     /// The report of a stream that is freed or was reset, or of data that were not sent, changes nothing. If refused, all
     /// is as it was; of a stream that is freed none is.
     pub fn received_ack_of(&mut self, frame: frame::StreamMeta) -> Result<(), OutOfMemory>
-        ensures acks { AcksOwn (shown self.old) frame.id frame.offsets frame.fin result (shown self.new) }
-        ensures from { (m : Made) (h : List Event) → From m h (shown self.old)
-            → From m (Sending (AckedOwn frame.id frame.offsets frame.fin result) ∷ h) (shown self.new) }
+        ensures acks { AcksOwn (streams_view self.old) frame.id frame.offsets frame.fin result (streams_view self.new) }
+        ensures from { (m : Made) (h : List Event) → From m h (streams_view self.old)
+            → From m (Sending (AckedOwn frame.id frame.offsets frame.fin result) ∷ h) (streams_view self.new) }
     {
         self.take_ack(frame)
     }
 
     // The same, each way out.
     pub(crate) fn take_ack(&mut self, frame: frame::StreamMeta) -> Result<(), OutOfMemory>
-        ensures { AcksOwn (shown self.old) frame.id frame.offsets frame.fin result (shown self.new) }
+        ensures { AcksOwn (streams_view self.old) frame.id frame.offsets frame.fin result (streams_view self.new) }
     {
         let id = frame.id;
         if !self.is_permitted(id) {
@@ -49,8 +49,8 @@ impl StreamsState {
     // Memory lacks for the report of a frame. Of a stream that is freed none is refused.
     #[inline(never)]
     fn refuse_held(&self, id: StreamId, refused: OutOfMemory) -> Result<(), OutOfMemory>
-        ensures freed { OnOk result (is_some ((shown self.now).out.halves id) ≡ false) }
-        ensures held { OnErr result (is_some ((shown self.now).out.halves id) ≡ true) }
+        ensures freed { OnOk result (is_some ((streams_view self.now).out.halves id) ≡ false) }
+        ensures held { OnErr result (is_some ((streams_view self.now).out.halves id) ≡ true) }
     {
         if self.outgoing.contains(id) {
             Err(refused)
@@ -65,16 +65,16 @@ impl StreamsState {
     /// The report of a stream that is freed or was reset, or of data that were not sent, changes nothing. If refused, all
     /// is as it was; of a stream that is freed none is.
     pub fn retransmit(&mut self, frame: frame::StreamMeta) -> Result<(), OutOfMemory>
-        ensures loses { LosesOwn (shown self.old) frame.id frame.offsets frame.fin result (shown self.new) }
-        ensures from { (m : Made) (h : List Event) → From m h (shown self.old)
-            → From m (Sending (LostOwn frame.id frame.offsets frame.fin result) ∷ h) (shown self.new) }
+        ensures loses { LosesOwn (streams_view self.old) frame.id frame.offsets frame.fin result (streams_view self.new) }
+        ensures from { (m : Made) (h : List Event) → From m h (streams_view self.old)
+            → From m (Sending (LostOwn frame.id frame.offsets frame.fin result) ∷ h) (streams_view self.new) }
     {
         self.take_loss(frame)
     }
 
     // The same, each way out.
     pub(crate) fn take_loss(&mut self, frame: frame::StreamMeta) -> Result<(), OutOfMemory>
-        ensures { LosesOwn (shown self.old) frame.id frame.offsets frame.fin result (shown self.new) }
+        ensures { LosesOwn (streams_view self.old) frame.id frame.offsets frame.fin result (streams_view self.new) }
     {
         let id = frame.id;
         self.reserve_place(id)?;
@@ -93,15 +93,15 @@ impl StreamsState {
     /// The RESET_STREAM of a stream was acknowledged (RFC 9000 section 3.1): the send half of one that was reset is
     /// freed, and one of the peer that is wholly freed by it makes room for another. If refused, all is as it was.
     pub fn reset_acked(&mut self, id: StreamId) -> Result<(), OutOfMemory>
-        ensures acks { AcksReset (shown self.old) id result (shown self.new) }
-        ensures from { (m : Made) (h : List Event) → From m h (shown self.old) → From m (Sending (ResetAckedOwn id result) ∷ h) (shown self.new) }
+        ensures acks { AcksReset (streams_view self.old) id result (streams_view self.new) }
+        ensures from { (m : Made) (h : List Event) → From m h (streams_view self.old) → From m (Sending (ResetAckedOwn id result) ∷ h) (streams_view self.new) }
     {
         self.take_reset_ack(id)
     }
 
     // The same, each way out.
     pub(crate) fn take_reset_ack(&mut self, id: StreamId) -> Result<(), OutOfMemory>
-        ensures { AcksReset (shown self.old) id result (shown self.new) }
+        ensures { AcksReset (streams_view self.old) id result (streams_view self.new) }
     {
         let frees = self.is_permitted(id) && self.outgoing.is_reset(id);
         if !frees {
@@ -116,7 +116,7 @@ impl StreamsState {
     // The send half of a stream was let go. There is room for a stream in its place.
     fn free_send(&mut self, id: StreamId)
         requires { 1 ≤ rooms self.old }
-        ensures freed { shown self.new ≡ with_send_freed (shown self.old) id }
+        ensures freed { streams_view self.new ≡ with_send_freed (streams_view self.old) id }
         ensures events { HasEventRoom self.old → HasEventRoom self.new }
     {
         self.discount(id);
@@ -125,7 +125,7 @@ impl StreamsState {
 
     // It counts no more, if it was opened or accepted.
     fn discount(&mut self, id: StreamId)
-        ensures discounted { shown self.new ≡ without_sender (shown self.old) id }
+        ensures discounted { streams_view self.new ≡ without_sender (streams_view self.old) id }
         ensures rooms { rooms self.new ≡ rooms self.old }
         ensures events { HasEventRoom self.old → HasEventRoom self.new }
     {
@@ -137,7 +137,7 @@ impl StreamsState {
     // A stream of the peer is wholly freed, unless its receive half is held.
     fn release_send(&mut self, id: StreamId)
         requires { 1 ≤ rooms self.old }
-        ensures released { shown self.new ≡ without_send_half (shown self.old) id }
+        ensures released { streams_view self.new ≡ without_send_half (streams_view self.old) id }
         ensures events { HasEventRoom self.old → HasEventRoom self.new }
     {
         if self.is_own(id) {

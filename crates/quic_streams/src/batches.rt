@@ -4,9 +4,9 @@ ghost use Rattle.std.specs.Prelude.{List, ◌∷◌, ◌≡◌, ◌≤◌, true,
 ghost use Rattle.quic_history.specs.World.{Made, with_freed};
 ghost use Rattle.quic_history.specs.History.{Event, Began, From, with_reads};
 ghost use Rattle.quic_history.specs.Reading.{Begins, ReadsSome, is_ended, progress_of};
-ghost use Rattle.quic_retransmits.specs.Pending.{shown_pending as listed};
+ghost use Rattle.quic_retransmits.specs.Pending.{pending_view};
 ghost use Rattle.quic_streams.specs.Room.{rooms};
-ghost use Rattle.quic_streams.specs.Shown.{shown};
+ghost use Rattle.quic_streams.specs.Shown.{streams_view};
 
 use crate::reading::give_credit;
 use crate::recv_stream::RecvStream;
@@ -44,13 +44,13 @@ impl RecvStream<'_> {
         ensures same_state { self.new.state.ghost_name ≡ self.old.state.ghost_name }
         ensures same_pending { self.new.pending.ghost_name ≡ self.old.pending.ghost_name }
         ensures id { self.new.id ≡ self.old.id }
-        ensures reads { IfOk result (λ r. ReadsSome (shown self.old.state.now) self.old.id max_length times ordered (listed self.old.pending.now) r.chunks.items r.last r.transmit.0 (shown self.new.state.now) (listed self.new.pending.now)) }
-        ensures refused { IfErr result (λ error. Begins (shown self.old.state.now) self.old.id ordered (Err error) (shown self.new.state.now)) }
-        ensures refused_pending { IfErr result (λ error. listed self.new.pending.now ≡ listed self.old.pending.now) }
-        ensures from { IfOk result (λ r. (m : Made) (h : List Event) → From m h (shown self.old.state.now)
-            → From m (with_reads self.old.id max_length ordered r.chunks.items r.last h) (shown self.new.state.now)) }
-        ensures from_refused { IfErr result (λ error. (m : Made) (h : List Event) → From m h (shown self.old.state.now)
-            → From m (Began self.old.id ordered (Err error) ∷ h) (shown self.new.state.now)) }
+        ensures reads { IfOk result (λ r. ReadsSome (streams_view self.old.state.now) self.old.id max_length times ordered (pending_view self.old.pending.now) r.chunks.items r.last r.transmit.0 (streams_view self.new.state.now) (pending_view self.new.pending.now)) }
+        ensures refused { IfErr result (λ error. Begins (streams_view self.old.state.now) self.old.id ordered (Err error) (streams_view self.new.state.now)) }
+        ensures refused_pending { IfErr result (λ error. pending_view self.new.pending.now ≡ pending_view self.old.pending.now) }
+        ensures from { IfOk result (λ r. (m : Made) (h : List Event) → From m h (streams_view self.old.state.now)
+            → From m (with_reads self.old.id max_length ordered r.chunks.items r.last h) (streams_view self.new.state.now)) }
+        ensures from_refused { IfErr result (λ error. (m : Made) (h : List Event) → From m h (streams_view self.old.state.now)
+            → From m (Began self.old.id ordered (Err error) ∷ h) (streams_view self.new.state.now)) }
     {
         let list = Vec::new(self.state.receive.alloc);
         self.read_some_into(ordered, max_length, times, list)
@@ -68,13 +68,13 @@ impl RecvStream<'_> {
         ensures same_state { self.new.state.ghost_name ≡ self.old.state.ghost_name }
         ensures same_pending { self.new.pending.ghost_name ≡ self.old.pending.ghost_name }
         ensures id { self.new.id ≡ self.old.id }
-        ensures reads { IfOk result (λ r. ReadsSome (shown self.old.state.now) self.old.id max_length times ordered (listed self.old.pending.now) r.chunks.items r.last r.transmit.0 (shown self.new.state.now) (listed self.new.pending.now)) }
-        ensures refused { IfErr result (λ error. Begins (shown self.old.state.now) self.old.id ordered (Err error) (shown self.new.state.now)) }
-        ensures refused_pending { IfErr result (λ error. listed self.new.pending.now ≡ listed self.old.pending.now) }
-        ensures from { IfOk result (λ r. (m : Made) (h : List Event) → From m h (shown self.old.state.now)
-            → From m (with_reads self.old.id max_length ordered r.chunks.items r.last h) (shown self.new.state.now)) }
-        ensures from_refused { IfErr result (λ error. (m : Made) (h : List Event) → From m h (shown self.old.state.now)
-            → From m (Began self.old.id ordered (Err error) ∷ h) (shown self.new.state.now)) }
+        ensures reads { IfOk result (λ r. ReadsSome (streams_view self.old.state.now) self.old.id max_length times ordered (pending_view self.old.pending.now) r.chunks.items r.last r.transmit.0 (streams_view self.new.state.now) (pending_view self.new.pending.now)) }
+        ensures refused { IfErr result (λ error. Begins (streams_view self.old.state.now) self.old.id ordered (Err error) (streams_view self.new.state.now)) }
+        ensures refused_pending { IfErr result (λ error. pending_view self.new.pending.now ≡ pending_view self.old.pending.now) }
+        ensures from { IfOk result (λ r. (m : Made) (h : List Event) → From m h (streams_view self.old.state.now)
+            → From m (with_reads self.old.id max_length ordered r.chunks.items r.last h) (streams_view self.new.state.now)) }
+        ensures from_refused { IfErr result (λ error. (m : Made) (h : List Event) → From m h (streams_view self.old.state.now)
+            → From m (Began self.old.id ordered (Err error) ∷ h) (streams_view self.new.state.now)) }
     {
         self.state
             .read_some(self.pending, self.id, ordered, max_length, times, list)
@@ -92,9 +92,9 @@ impl StreamsState {
         times: u16,
         list: Vec<Chunk>,
     ) -> Result<ReadSome, ReadableError>
-        ensures reads { IfOk result (λ r. ReadsSome (shown self.old) id max_length times ordered (listed pending.old) r.chunks.items r.last r.transmit.0 (shown self.new) (listed pending.new)) }
-        ensures refused { IfErr result (λ error. Begins (shown self.old) id ordered (Err error) (shown self.new)) }
-        ensures refused_pending { IfErr result (λ error. listed pending.new ≡ listed pending.old) }
+        ensures reads { IfOk result (λ r. ReadsSome (streams_view self.old) id max_length times ordered (pending_view pending.old) r.chunks.items r.last r.transmit.0 (streams_view self.new) (pending_view pending.new)) }
+        ensures refused { IfErr result (λ error. Begins (streams_view self.old) id ordered (Err error) (streams_view self.new)) }
+        ensures refused_pending { IfErr result (λ error. pending_view pending.new ≡ pending_view pending.old) }
     {
         let mut chunks = list;
         chunks.clear();
@@ -125,8 +125,8 @@ impl StreamsState {
     #[inline]
     fn free_if_ended(&mut self, id: StreamId, last: &LastAnswer)
         requires { 1 ≤ rooms self.old }
-        ensures ended { is_ended (progress_of last.now) ≡ true → shown self.new ≡ with_freed (shown self.old) id }
-        ensures going { is_ended (progress_of last.now) ≡ false → shown self.new ≡ shown self.old }
+        ensures ended { is_ended (progress_of last.now) ≡ true → streams_view self.new ≡ with_freed (streams_view self.old) id }
+        ensures going { is_ended (progress_of last.now) ≡ false → streams_view self.new ≡ streams_view self.old }
     {
         if last.progress().is_ended() {
             self.free_receive(id);

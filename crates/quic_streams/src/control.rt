@@ -1,12 +1,12 @@
 //! The frames beside STREAM that an end writes.
 
 ghost use Rattle.std.specs.Prelude.{◌≡◌, ◌<◌, ◌≤◌, ◌+◌, ◌^◌, ℕ, List, true, false, Ok, IfSome, IfOk, OnOk, OnErr, length};
-ghost use Rattle.quic_retransmits.specs.Pending.{shown_pending as listed};
+ghost use Rattle.quic_retransmits.specs.Pending.{pending_view};
 ghost use Rattle.quic_retransmits.specs.Settling.{entry_count};
 ghost use Rattle.quic_limits.specs.Remote.{streams_announced};
 ghost use Rattle.quic_history.specs.World.{remote_of, with_remote};
 ghost use Rattle.quic_history.specs.Control.{kind_bound, HasNoneOf, IsOfKind, reset_frame, window_frame, data_blocked_frame, stream_blocked_frame};
-ghost use Rattle.quic_streams.specs.Shown.{shown};
+ghost use Rattle.quic_streams.specs.Shown.{streams_view};
 ghost use Rattle.quic_streams.specs.Payload.{sheet_of, Tries, SettlesSome, IsKindDone, WritesKinds, WritesEntries, LeavesKind, control_order, place_of};
 
 use crate::payload::ControlPayload;
@@ -19,7 +19,7 @@ use quic_wire::Frame;
 use quic_wire::frame::ResetStream;
 use std::mem;
 
-#[tactic(auto, unfolding(crate::specs::Shown::shown))]
+#[tactic(auto, unfolding(crate::specs::Shown::streams_view))]
 impl StreamsState {
     /// Appends the frames of `pending` to a payload that is to have at most `max_size` bytes (RFC 9000 section 19):
     /// RESET_STREAM, STOP_SENDING, MAX_DATA, MAX_STREAM_DATA, MAX_STREAMS of both directions, DATA_BLOCKED and
@@ -42,7 +42,7 @@ impl StreamsState {
         ensures full { OnOk result ((kind : ControlKind) → IsKindDone kind max_size (place_of self.new pending.new buf.new sent.new stats.new)) }
         ensures refused { OnErr result (LeavesKind max_size (place_of self.new pending.new buf.new sent.new stats.new)) }
         ensures within { length buf.old.items ≤ max_size → length buf.new.items ≤ max_size }
-        ensures from { WritesEntries (place_of self.old pending.old buf.old sent.old stats.old).sheet (place_of self.new pending.new buf.new sent.new stats.new).sheet (shown self.old) (shown self.new) }
+        ensures from { WritesEntries (place_of self.old pending.old buf.old sent.old stats.old).sheet (place_of self.new pending.new buf.new sent.new stats.new).sheet (streams_view self.old) (streams_view self.new) }
     {
         self.write_control(buf, pending, sent, stats, max_size)
     }
@@ -76,7 +76,7 @@ impl StreamsState {
     // The RESET_STREAM of a stream whose half is held.
     #[inline]
     fn reset_frame(&self, id: StreamId, error_code: VarInt) -> Option<Frame>
-        ensures frame { result ≡ reset_frame id error_code ((shown self.now).out.halves id) }
+        ensures frame { result ≡ reset_frame id error_code ((streams_view self.now).out.halves id) }
         ensures kind { IfSome result (IsOfKind ControlKind.ResetStream) }
     {
         match self.outgoing.final_size(id) {
@@ -92,7 +92,7 @@ impl StreamsState {
     // The MAX_STREAM_DATA of a stream on which more data may come and are wanted.
     #[inline]
     fn window_frame(&self, id: StreamId) -> Option<Frame>
-        ensures frame { result ≡ window_frame (shown self.now).window id ((shown self.now).receive id) }
+        ensures frame { result ≡ window_frame (streams_view self.now).window id ((streams_view self.now).receive id) }
         ensures kind { IfSome result (IsOfKind ControlKind.MaxStreamData) }
     {
         match self.receive.announced_end(id) {
@@ -104,7 +104,7 @@ impl StreamsState {
     // The DATA_BLOCKED for the limit that is held, if it was queued for that.
     #[inline]
     fn data_blocked_frame(&self) -> Option<Frame>
-        ensures frame { result ≡ data_blocked_frame (shown self.now) }
+        ensures frame { result ≡ data_blocked_frame (streams_view self.now) }
         ensures kind { IfSome result (IsOfKind ControlKind.DataBlocked) }
     {
         if !self.outgoing.can_send_data_blocked() {
@@ -117,7 +117,7 @@ impl StreamsState {
     // The STREAM_DATA_BLOCKED for the limit that a stream holds, if it was queued for that.
     #[inline]
     fn stream_blocked_frame(&self, id: StreamId) -> Option<Frame>
-        ensures frame { result ≡ stream_blocked_frame id ((shown self.now).out.halves id) }
+        ensures frame { result ≡ stream_blocked_frame id ((streams_view self.now).out.halves id) }
         ensures kind { IfSome result (IsOfKind ControlKind.StreamDataBlocked) }
     {
         match self.outgoing.stream_data_blocked_limit(id) {
@@ -132,7 +132,7 @@ impl StreamsState {
     // That count was announced.
     #[inline]
     fn announce_streams(&mut self, dir: Dir)
-        ensures { shown self.new ≡ with_remote (shown self.old) dir (streams_announced (remote_of (shown self.old) dir)) }
+        ensures { streams_view self.new ≡ with_remote (streams_view self.old) dir (streams_announced (remote_of (streams_view self.old) dir)) }
     {
         match dir {
             Dir::Bi => self.bi.announce(),
@@ -148,9 +148,9 @@ impl StreamsState {
         payload: &mut ControlPayload,
         stats: &mut FrameStats,
     ) -> Result<bool, OutOfMemory>
-        ensures tries { Tries ControlKind.ResetStream (record { end = shown self.old; pending = listed pending.old; sheet = sheet_of payload.old stats.old }) result (record { end = shown self.new; pending = listed pending.new; sheet = sheet_of payload.new stats.new }) }
+        ensures tries { Tries ControlKind.ResetStream (record { end = streams_view self.old; pending = pending_view pending.old; sheet = sheet_of payload.old stats.old }) result (record { end = streams_view self.new; pending = pending_view pending.new; sheet = sheet_of payload.new stats.new }) }
         ensures fewer { IfOk result (λ some. some ≡ true → entry_count pending.new < entry_count pending.old) }
-        ensures wanted { OnErr result (HasNoneOf ControlKind.ResetStream (listed pending.old) → ⊥) }
+        ensures wanted { OnErr result (HasNoneOf ControlKind.ResetStream (pending_view pending.old) → ⊥) }
     {
         let Some((id, error_code)) = pending.next_reset() else {
             return Ok(false);
@@ -172,9 +172,9 @@ impl StreamsState {
         payload: &mut ControlPayload,
         stats: &mut FrameStats,
     ) -> Result<bool, OutOfMemory>
-        ensures tries { Tries ControlKind.StopSending (record { end = shown self.old; pending = listed pending.old; sheet = sheet_of payload.old stats.old }) result (record { end = shown self.new; pending = listed pending.new; sheet = sheet_of payload.new stats.new }) }
+        ensures tries { Tries ControlKind.StopSending (record { end = streams_view self.old; pending = pending_view pending.old; sheet = sheet_of payload.old stats.old }) result (record { end = streams_view self.new; pending = pending_view pending.new; sheet = sheet_of payload.new stats.new }) }
         ensures fewer { IfOk result (λ some. some ≡ true → entry_count pending.new < entry_count pending.old) }
-        ensures wanted { OnErr result (HasNoneOf ControlKind.StopSending (listed pending.old) → ⊥) }
+        ensures wanted { OnErr result (HasNoneOf ControlKind.StopSending (pending_view pending.old) → ⊥) }
     {
         let Some(stop) = pending.next_stop() else {
             return Ok(false);
@@ -196,9 +196,9 @@ impl StreamsState {
         payload: &mut ControlPayload,
         stats: &mut FrameStats,
     ) -> Result<bool, OutOfMemory>
-        ensures tries { Tries ControlKind.MaxData (record { end = shown self.old; pending = listed pending.old; sheet = sheet_of payload.old stats.old }) result (record { end = shown self.new; pending = listed pending.new; sheet = sheet_of payload.new stats.new }) }
+        ensures tries { Tries ControlKind.MaxData (record { end = streams_view self.old; pending = pending_view pending.old; sheet = sheet_of payload.old stats.old }) result (record { end = streams_view self.new; pending = pending_view pending.new; sheet = sheet_of payload.new stats.new }) }
         ensures fewer { IfOk result (λ some. some ≡ true → entry_count pending.new < entry_count pending.old) }
-        ensures wanted { OnErr result (HasNoneOf ControlKind.MaxData (listed pending.old) → ⊥) }
+        ensures wanted { OnErr result (HasNoneOf ControlKind.MaxData (pending_view pending.old) → ⊥) }
     {
         if !pending.max_data {
             return Ok(false);
@@ -218,9 +218,9 @@ impl StreamsState {
         payload: &mut ControlPayload,
         stats: &mut FrameStats,
     ) -> Result<bool, OutOfMemory>
-        ensures tries { Tries ControlKind.MaxStreamData (record { end = shown self.old; pending = listed pending.old; sheet = sheet_of payload.old stats.old }) result (record { end = shown self.new; pending = listed pending.new; sheet = sheet_of payload.new stats.new }) }
+        ensures tries { Tries ControlKind.MaxStreamData (record { end = streams_view self.old; pending = pending_view pending.old; sheet = sheet_of payload.old stats.old }) result (record { end = streams_view self.new; pending = pending_view pending.new; sheet = sheet_of payload.new stats.new }) }
         ensures fewer { IfOk result (λ some. some ≡ true → entry_count pending.new < entry_count pending.old) }
-        ensures wanted { OnErr result (HasNoneOf ControlKind.MaxStreamData (listed pending.old) → ⊥) }
+        ensures wanted { OnErr result (HasNoneOf ControlKind.MaxStreamData (pending_view pending.old) → ⊥) }
     {
         let Some(id) = pending.next_window() else {
             return Ok(false);
@@ -240,9 +240,9 @@ impl StreamsState {
         stats: &mut FrameStats,
         dir: Dir,
     ) -> Result<bool, OutOfMemory>
-        ensures tries { Tries (ControlKind.MaxStreams dir) (record { end = shown self.old; pending = listed pending.old; sheet = sheet_of payload.old stats.old }) result (record { end = shown self.new; pending = listed pending.new; sheet = sheet_of payload.new stats.new }) }
+        ensures tries { Tries (ControlKind.MaxStreams dir) (record { end = streams_view self.old; pending = pending_view pending.old; sheet = sheet_of payload.old stats.old }) result (record { end = streams_view self.new; pending = pending_view pending.new; sheet = sheet_of payload.new stats.new }) }
         ensures fewer { IfOk result (λ some. some ≡ true → entry_count pending.new < entry_count pending.old) }
-        ensures wanted { OnErr result (HasNoneOf (ControlKind.MaxStreams dir) (listed pending.old) → ⊥) }
+        ensures wanted { OnErr result (HasNoneOf (ControlKind.MaxStreams dir) (pending_view pending.old) → ⊥) }
     {
         if !pending.has_max_streams(dir) {
             return Ok(false);
@@ -263,9 +263,9 @@ impl StreamsState {
         payload: &mut ControlPayload,
         stats: &mut FrameStats,
     ) -> Result<bool, OutOfMemory>
-        ensures tries { Tries ControlKind.DataBlocked (record { end = shown self.old; pending = listed pending.old; sheet = sheet_of payload.old stats.old }) result (record { end = shown self.new; pending = listed pending.new; sheet = sheet_of payload.new stats.new }) }
+        ensures tries { Tries ControlKind.DataBlocked (record { end = streams_view self.old; pending = pending_view pending.old; sheet = sheet_of payload.old stats.old }) result (record { end = streams_view self.new; pending = pending_view pending.new; sheet = sheet_of payload.new stats.new }) }
         ensures fewer { IfOk result (λ some. some ≡ true → entry_count pending.new < entry_count pending.old) }
-        ensures wanted { OnErr result (HasNoneOf ControlKind.DataBlocked (listed pending.old) → ⊥) }
+        ensures wanted { OnErr result (HasNoneOf ControlKind.DataBlocked (pending_view pending.old) → ⊥) }
     {
         if !pending.data_blocked {
             return Ok(false);
@@ -283,9 +283,9 @@ impl StreamsState {
         payload: &mut ControlPayload,
         stats: &mut FrameStats,
     ) -> Result<bool, OutOfMemory>
-        ensures tries { Tries ControlKind.StreamDataBlocked (record { end = shown self.old; pending = listed pending.old; sheet = sheet_of payload.old stats.old }) result (record { end = shown self.new; pending = listed pending.new; sheet = sheet_of payload.new stats.new }) }
+        ensures tries { Tries ControlKind.StreamDataBlocked (record { end = streams_view self.old; pending = pending_view pending.old; sheet = sheet_of payload.old stats.old }) result (record { end = streams_view self.new; pending = pending_view pending.new; sheet = sheet_of payload.new stats.new }) }
         ensures fewer { IfOk result (λ some. some ≡ true → entry_count pending.new < entry_count pending.old) }
-        ensures wanted { OnErr result (HasNoneOf ControlKind.StreamDataBlocked (listed pending.old) → ⊥) }
+        ensures wanted { OnErr result (HasNoneOf ControlKind.StreamDataBlocked (pending_view pending.old) → ⊥) }
     {
         let Some(id) = pending.next_stream_blocked() else {
             return Ok(false);
@@ -308,9 +308,9 @@ impl StreamsState {
         payload: &mut ControlPayload,
         stats: &mut FrameStats,
     ) -> Result<bool, OutOfMemory>
-        ensures tries { Tries kind.now (record { end = shown self.old; pending = listed pending.old; sheet = sheet_of payload.old stats.old }) result (record { end = shown self.new; pending = listed pending.new; sheet = sheet_of payload.new stats.new }) }
+        ensures tries { Tries kind.now (record { end = streams_view self.old; pending = pending_view pending.old; sheet = sheet_of payload.old stats.old }) result (record { end = streams_view self.new; pending = pending_view pending.new; sheet = sheet_of payload.new stats.new }) }
         ensures fewer { IfOk result (λ some. some ≡ true → entry_count pending.new < entry_count pending.old) }
-        ensures wanted { OnErr result (HasNoneOf kind.now (listed pending.old) → ⊥) }
+        ensures wanted { OnErr result (HasNoneOf kind.now (pending_view pending.old) → ⊥) }
     {
         match kind {
             ControlKind::ResetStream => self.settle_reset(pending, payload, stats),
@@ -333,9 +333,9 @@ impl StreamsState {
         stats: &mut FrameStats,
         max_size: usize,
     ) -> Result<(), OutOfMemory>
-        ensures turns { SettlesSome kind.now max_size (record { end = shown self.old; pending = listed pending.old; sheet = sheet_of payload.old stats.old }) (record { end = shown self.new; pending = listed pending.new; sheet = sheet_of payload.new stats.new }) }
-        ensures done { OnOk result (IsKindDone kind.now max_size (record { end = shown self.new; pending = listed pending.new; sheet = sheet_of payload.new stats.new })) }
-        ensures refused { OnErr result (IsKindDone kind.now max_size (record { end = shown self.new; pending = listed pending.new; sheet = sheet_of payload.new stats.new }) → ⊥) }
+        ensures turns { SettlesSome kind.now max_size (record { end = streams_view self.old; pending = pending_view pending.old; sheet = sheet_of payload.old stats.old }) (record { end = streams_view self.new; pending = pending_view pending.new; sheet = sheet_of payload.new stats.new }) }
+        ensures done { OnOk result (IsKindDone kind.now max_size (record { end = streams_view self.new; pending = pending_view pending.new; sheet = sheet_of payload.new stats.new })) }
+        ensures refused { OnErr result (IsKindDone kind.now max_size (record { end = streams_view self.new; pending = pending_view pending.new; sheet = sheet_of payload.new stats.new }) → ⊥) }
     {
         while payload.bytes.len() + kind.size_bound() < max_size {
             if !self.settle(kind, pending, payload, stats)? {
@@ -353,8 +353,8 @@ impl StreamsState {
         stats: &mut FrameStats,
         max_size: usize,
     ) -> Result<(), OutOfMemory>
-        ensures writes { WritesKinds max_size control_order (record { end = shown self.old; pending = listed pending.old; sheet = sheet_of payload.old stats.old }) result (record { end = shown self.new; pending = listed pending.new; sheet = sheet_of payload.new stats.new }) }
-        ensures refused { OnErr result (LeavesKind max_size (record { end = shown self.new; pending = listed pending.new; sheet = sheet_of payload.new stats.new })) }
+        ensures writes { WritesKinds max_size control_order (record { end = streams_view self.old; pending = pending_view pending.old; sheet = sheet_of payload.old stats.old }) result (record { end = streams_view self.new; pending = pending_view pending.new; sheet = sheet_of payload.new stats.new }) }
+        ensures refused { OnErr result (LeavesKind max_size (record { end = streams_view self.new; pending = pending_view pending.new; sheet = sheet_of payload.new stats.new })) }
     {
         self.write_kind(&ControlKind::ResetStream, pending, payload, stats, max_size)?;
         self.write_kind(&ControlKind::StopSending, pending, payload, stats, max_size)?;
@@ -394,7 +394,7 @@ impl StreamsState {
 
 // Whether something is pending of a kind that is written here.
 fn has_control(pending: &Retransmits) -> bool
-    ensures { result ≡ false → (kind : ControlKind) → HasNoneOf kind (listed pending.now) }
+    ensures { result ≡ false → (kind : ControlKind) → HasNoneOf kind (pending_view pending.now) }
 {
     let [bi, uni] = pending.max_stream_id;
     if pending.max_data || pending.data_blocked || bi || uni {

@@ -5,19 +5,19 @@ ghost use Rattle.quic_values.specs.declared.ids.Side.TheVariants.{Client};
 ghost use Rattle.quic_queue.specs.declared.queue.Entry.{Entry};
 ghost use Rattle.quic_outgoing.specs.Outgoing.{own_of};
 ghost use Rattle.quic_outgoing.specs.Early.{NoneAcked, QueuesUnsent};
-ghost use Rattle.quic_outgoing.specs.Shown.{view_of};
+ghost use Rattle.quic_outgoing.specs.Shown.{outgoing_view};
 ghost use Rattle.quic_values.specs.Ids.{other_side};
 ghost use Rattle.quic_history.specs.World.{Made};
 ghost use Rattle.quic_history.specs.Used.{halves_among};
 ghost use Rattle.quic_history.specs.Early.{IsEarly, with_rejection, SendsAgain, AreUnsentOf, entry_at, first_ids, with_entries_put};
 ghost use Rattle.quic_history.specs.History.{Event, Rejected, SentAgain, IsUnanswered, From};
-ghost use Rattle.quic_streams.specs.Shown.{shown};
+ghost use Rattle.quic_streams.specs.Shown.{streams_view};
 
 use crate::state::StreamsState;
 use quic_queue::SendQueue;
 use quic_values::{Dir, OutOfMemory, StreamId};
 
-#[tactic(auto, unfolding(crate::specs::Shown::shown))]
+#[tactic(auto, unfolding(crate::specs::Shown::streams_view))]
 impl StreamsState {
     /// The peer rejected the early start of a client: its streams are gone, and whatever was sent was in vain. Nothing
     /// may be sent until the peer gives its limits ([`StreamsState::set_params`]), and indices begin anew. Takes no
@@ -26,16 +26,16 @@ impl StreamsState {
     /// What is to be sent beside data is the caller's, who empties it. The history goes on with this while the peer has
     /// not answered: no data and no reset came, and nothing was acknowledged.
     pub fn zero_rtt_rejected(&mut self)
-        ensures rejects { shown self.new ≡ with_rejection (shown self.old) }
-        ensures from { (m : Made) (h : List Event) → IsEarly (shown self.old) → From m h (shown self.old) → From m (Rejected ∷ h) (shown self.new) }
-        ensures unanswered { (m : Made) (h : List Event) → m.side ≡ Client → IsUnanswered h → From m h (shown self.old) → From m (Rejected ∷ h) (shown self.new) }
+        ensures rejects { streams_view self.new ≡ with_rejection (streams_view self.old) }
+        ensures from { (m : Made) (h : List Event) → IsEarly (streams_view self.old) → From m h (streams_view self.old) → From m (Rejected ∷ h) (streams_view self.new) }
+        ensures unanswered { (m : Made) (h : List Event) → m.side ≡ Client → IsUnanswered h → From m h (streams_view self.old) → From m (Rejected ∷ h) (streams_view self.new) }
     {
         self.reject_early();
     }
 
     // The same.
     fn reject_early(&mut self)
-        ensures { shown self.new ≡ with_rejection (shown self.old) }
+        ensures { streams_view self.new ≡ with_rejection (streams_view self.old) }
     {
         self.send_streams = self.accepted_halves();
         self.outgoing.reject_early();
@@ -49,7 +49,7 @@ impl StreamsState {
 
     // How many send halves are held of the streams of the peer that were accepted.
     fn accepted_halves(&self) -> usize
-        ensures { result ≡ halves_among (shown self.now) (other_side (shown self.now).out.side) Dir.Bi (shown self.now).bi.next_reported }
+        ensures { result ≡ halves_among (streams_view self.now) (other_side (streams_view self.now).out.side) Dir.Bi (streams_view self.now).bi.next_reported }
     {
         let peer = !self.outgoing.side();
         let mut count: usize = 0;
@@ -66,20 +66,20 @@ impl StreamsState {
     ///
     /// This is meant for a time at which nothing was acknowledged: a stream of which something was stays as it is.
     pub fn retransmit_all_for_0rtt(&mut self) -> Result<(), OutOfMemory>
-        ensures sends { NoneAcked (shown self.old).out.side (shown self.old).out.halves → SendsAgain (shown self.old) result (shown self.new) }
-        ensures err { OnErr result (shown self.new ≡ shown self.old) }
-        ensures from { (m : Made) (h : List Event) → NoneAcked (shown self.old).out.side (shown self.old).out.halves → From m h (shown self.old)
-            → From m (SentAgain result ∷ h) (shown self.new) }
-        ensures unanswered { (m : Made) (h : List Event) → IsUnanswered h → From m h (shown self.old)
-            → SendsAgain (shown self.old) result (shown self.new) × From m (SentAgain result ∷ h) (shown self.new) }
+        ensures sends { NoneAcked (streams_view self.old).out.side (streams_view self.old).out.halves → SendsAgain (streams_view self.old) result (streams_view self.new) }
+        ensures err { OnErr result (streams_view self.new ≡ streams_view self.old) }
+        ensures from { (m : Made) (h : List Event) → NoneAcked (streams_view self.old).out.side (streams_view self.old).out.halves → From m h (streams_view self.old)
+            → From m (SentAgain result ∷ h) (streams_view self.new) }
+        ensures unanswered { (m : Made) (h : List Event) → IsUnanswered h → From m h (streams_view self.old)
+            → SendsAgain (streams_view self.old) result (streams_view self.new) × From m (SentAgain result ∷ h) (streams_view self.new) }
     {
         self.send_again()
     }
 
     // The same.
     fn send_again(&mut self) -> Result<(), OutOfMemory>
-        ensures sends { NoneAcked (shown self.old).out.side (shown self.old).out.halves → SendsAgain (shown self.old) result (shown self.new) }
-        ensures err { OnErr result (shown self.new ≡ shown self.old) }
+        ensures sends { NoneAcked (streams_view self.old).out.side (streams_view self.old).out.halves → SendsAgain (streams_view self.old) result (streams_view self.new) }
+        ensures err { OnErr result (streams_view self.new ≡ streams_view self.old) }
     {
         let mut queue = self.queue.copy()?;
         self.queue_unsent(Dir::Bi, &mut queue)?;
@@ -91,7 +91,7 @@ impl StreamsState {
 
     // Queues the streams of a direction that have something to be sent once all counts as not sent.
     fn queue_unsent(&self, dir: Dir, queue: &mut SendQueue) -> Result<(), OutOfMemory>
-        ensures { OnOk result ((es : List Entry) × AreUnsentOf (view_of self.now.outgoing) (first_ids (view_of self.now.outgoing).side dir (own_of (view_of self.now.outgoing) dir).opened) es
+        ensures { OnOk result ((es : List Entry) × AreUnsentOf (outgoing_view self.now.outgoing) (first_ids (outgoing_view self.now.outgoing).side dir (own_of (outgoing_view self.now.outgoing) dir).opened) es
             × (queue.new ≡ with_entries_put queue.old es)) }
     {
         let side = self.outgoing.side();
@@ -103,7 +103,7 @@ impl StreamsState {
 
     // Queues one of them, where it has something to be sent then, and had nothing before.
     fn queue_if_unsent(&self, id: StreamId, queue: &mut SendQueue) -> Result<(), OutOfMemory>
-        ensures { OnOk result ((at : Option ℤ) × QueuesUnsent ((view_of self.now.outgoing).halves id) at × (queue.new ≡ with_entries_put queue.old (entry_at id at))) }
+        ensures { OnOk result ((at : Option ℤ) × QueuesUnsent ((outgoing_view self.now.outgoing).halves id) at × (queue.new ≡ with_entries_put queue.old (entry_at id at))) }
     {
         match self.outgoing.queue_unsent(id) {
             None => Ok(()),

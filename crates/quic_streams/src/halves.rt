@@ -5,7 +5,7 @@ ghost use Rattle.std.specs.Option.{option_map};
 ghost use Rattle.std.specs.Vec.{vec_capacity};
 ghost use Rattle.quic_receiving.specs.Half.{new_half, is_window_due};
 ghost use Rattle.quic_receiving.specs.Calls.{Reads};
-ghost use Rattle.quic_streams.specs.Held.{held, half_in, room};
+ghost use Rattle.quic_streams.specs.Held.{halves_view, half_in, room};
 ghost use Rattle.quic_streams.specs.InPlace.{mode_of, IsInMode, ReadsIn, AsksHalf, AsksIn, IngestsOn, IngestsIn};
 ghost use Rattle.quic_streams.specs.HalfReads.{ReadsSomeIn, is_due_after};
 ghost use Rattle.quic_history.specs.Reading.{is_reading, bytes_in};
@@ -45,11 +45,11 @@ pub struct Ingested {
     pub(crate) stopped: bool,
 }
 
-#[tactic(auto, unfolding(crate::specs::Held::held, quic_history::specs::Halves::with_half))]
+#[tactic(auto, unfolding(crate::specs::Held::halves_view, quic_history::specs::Halves::with_half))]
 impl ReceiveHalves {
     /// No halves. Takes no memory.
     pub(crate) fn new(alloc: Global, window: VarInt) -> Self
-        ensures held { held result ≡ (λ id. None) }
+        ensures held { halves_view result ≡ (λ id. None) }
         ensures window { result.window ≡ window }
     {
         ReceiveHalves {
@@ -62,7 +62,7 @@ impl ReceiveHalves {
     /// Makes room for so many more.
     #[inline]
     pub(crate) fn reserve(&mut self, additional: usize) -> Result<(), OutOfMemory>
-        ensures held { held self.new ≡ held self.old }
+        ensures held { halves_view self.new ≡ halves_view self.old }
         ensures window { self.new.window ≡ self.old.window }
         ensures ok { OnOk result (additional ≤ room self.new) }
         ensures room { room self.old ≤ room self.new }
@@ -74,7 +74,7 @@ impl ReceiveHalves {
     /// A stream is permitted, for which there is room.
     pub(crate) fn permit(&mut self, id: StreamId)
         requires { 0 < room self.old }
-        ensures held { held self.new ≡ with_half (held self.old) id (Some (new_half self.old.window)) }
+        ensures held { halves_view self.new ≡ with_half (halves_view self.old) id (Some (new_half self.old.window)) }
         ensures window { self.new.window ≡ self.old.window }
         ensures room { room self.old ≤ room self.new + 1 }
     {
@@ -89,7 +89,7 @@ impl ReceiveHalves {
         count: u64,
     ) -> Result<(), OutOfMemory>
         requires { count ≤ 2 ^ 60 }
-        ensures held { OnOk result (held self.new ≡ with_first (held self.old) initiator dir count (Some (new_half self.old.window))) }
+        ensures held { OnOk result (halves_view self.new ≡ with_first (halves_view self.old) initiator dir count (Some (new_half self.old.window))) }
         ensures window { self.new.window ≡ self.old.window }
     {
         self.reserve(count as usize)?;
@@ -103,7 +103,7 @@ impl ReceiveHalves {
     pub(crate) fn permit_more(&mut self, initiator: Side, dir: Dir, first: u64, count: u64)
         requires room { count ≤ room self.old }
         requires few { first + count ≤ 2 ^ 60 }
-        ensures held { held self.new ≡ with_more (held self.old) initiator dir first count (Some (new_half self.old.window)) }
+        ensures held { halves_view self.new ≡ with_more (halves_view self.old) initiator dir first count (Some (new_half self.old.window)) }
         ensures window { self.new.window ≡ self.old.window }
     {
         for offset in 0..count {
@@ -114,14 +114,14 @@ impl ReceiveHalves {
     /// Whether the half of a stream is held.
     #[inline]
     pub(crate) fn contains(&self, id: StreamId) -> bool
-        ensures { result ≡ is_some (held self.now id) }
+        ensures { result ≡ is_some (halves_view self.now id) }
     {
         self.entries.contains_key(&id)
     }
 
     /// Whether the half of a stream is held, is not stopped, and its final size is not known.
     pub(crate) fn is_flow_controlled(&self, id: StreamId) -> bool
-        ensures { result ≡ is_flow_controlled (held self.now id) }
+        ensures { result ≡ is_flow_controlled (halves_view self.now id) }
     {
         match self.entries.get(&id) {
             None => false,
@@ -133,10 +133,10 @@ impl ReceiveHalves {
     /// Takes a half out, to be put back or removed. It is made where nothing came yet.
     #[inline]
     pub(crate) fn take(&mut self, id: StreamId) -> Result<Option<Box<Recv>>, OutOfMemory>
-        ensures half { IfOk result (λ half. option_map (λ b. b.value) half ≡ held self.old id) }
-        ensures held { IfOk result (λ half. held self.new ≡ taken (held self.old) id self.old.window (held self.old id)) }
-        ensures err { OnErr result (held self.new ≡ held self.old) }
-        ensures err_new { OnErr result (held self.old id ≡ Some (new_half self.old.window)) }
+        ensures half { IfOk result (λ half. option_map (λ b. b.value) half ≡ halves_view self.old id) }
+        ensures held { IfOk result (λ half. halves_view self.new ≡ taken (halves_view self.old) id self.old.window (halves_view self.old id)) }
+        ensures err { OnErr result (halves_view self.new ≡ halves_view self.old) }
+        ensures err_new { OnErr result (halves_view self.old id ≡ Some (new_half self.old.window)) }
         ensures window { self.new.window ≡ self.old.window }
         ensures room { room self.new ≡ room self.old }
     {
@@ -161,8 +161,8 @@ impl ReceiveHalves {
         max_length: usize,
         ordered: bool,
     ) -> Result<Option<Chunk>, ReadError>
-        requires { IsInMode (held self.old id) ordered }
-        ensures reads { ReadsIn (held self.old) id max_length ordered result (held self.new) }
+        requires { IsInMode (halves_view self.old id) ordered }
+        ensures reads { ReadsIn (halves_view self.old) id max_length ordered result (halves_view self.new) }
         ensures window { self.new.window ≡ self.old.window }
         ensures room { room self.new ≡ room self.old }
     {
@@ -185,10 +185,10 @@ impl ReceiveHalves {
     ) -> Result<HalfReads, ReadableError>
         requires empty { list.items ≡ [] }
         requires places { times ≤ vec_capacity list }
-        ensures reads { IfOk result (λ r. ReadsSomeIn (held self.old) id max_length times ordered r.chunks.items r.last (held self.new)) }
+        ensures reads { IfOk result (λ r. ReadsSomeIn (halves_view self.old) id max_length times ordered r.chunks.items r.last (halves_view self.new)) }
         ensures bytes { IfOk result (λ r. r.read ≡ bytes_in r.chunks.items) }
-        ensures due { IfOk result (λ r. r.window_due ≡ is_due_after r.last self.new.window (held self.new id)) }
-        ensures refused { IfErr result (λ error. AsksIn (held self.old) id ordered (Err error) (held self.new)) }
+        ensures due { IfOk result (λ r. r.window_due ≡ is_due_after r.last self.new.window (halves_view self.new id)) }
+        ensures refused { IfErr result (λ error. AsksIn (halves_view self.old) id ordered (Err error) (halves_view self.new)) }
         ensures window { self.new.window ≡ self.old.window }
         ensures room { room self.new ≡ room self.old }
     {
@@ -209,8 +209,8 @@ impl ReceiveHalves {
     /// Asks a half for a mode, where it lies.
     #[inline]
     pub(crate) fn ask(&mut self, id: StreamId, ordered: bool) -> Result<(), ReadableError>
-        ensures asks { AsksIn (held self.old) id ordered result (held self.new) }
-        ensures reading { OnOk result (is_reading Progress.Readable (held self.new id) ordered 0 ≡ true) }
+        ensures asks { AsksIn (halves_view self.old) id ordered result (halves_view self.new) }
+        ensures reading { OnOk result (is_reading Progress.Readable (halves_view self.new id) ordered 0 ≡ true) }
         ensures window { self.new.window ≡ self.old.window }
         ensures room { room self.new ≡ room self.old }
     {
@@ -231,8 +231,8 @@ impl ReceiveHalves {
         permitted: u64,
     ) -> Result<Option<Ingested>, OutOfMemory>
         requires { length frame.bytes ≤ payload_len }
-        ensures ingests { IfOk result (λ taken. IngestsIn (held self.old) frame.id frame.offset frame.bytes frame.fin payload_len received permitted taken (held self.new)) }
-        ensures err { OnErr result (held self.new ≡ held self.old) }
+        ensures ingests { IfOk result (λ taken. IngestsIn (halves_view self.old) frame.id frame.offset frame.bytes frame.fin payload_len received permitted taken (halves_view self.new)) }
+        ensures err { OnErr result (halves_view self.new ≡ halves_view self.old) }
         ensures window { self.new.window ≡ self.old.window }
         ensures room { room self.new ≡ room self.old }
     {
@@ -255,7 +255,7 @@ impl ReceiveHalves {
     /// Whether MAX_STREAM_DATA is worth a frame on a stream.
     #[inline]
     pub(crate) fn is_window_due(&self, id: StreamId) -> bool
-        ensures { result ≡ is_due_in self.now.window (held self.now id) }
+        ensures { result ≡ is_due_in self.now.window (halves_view self.now id) }
     {
         match self.entries.get(&id) {
             None => false,
@@ -265,7 +265,7 @@ impl ReceiveHalves {
 
     /// The limit to announce for a stream, where more data may come and are wanted.
     pub(crate) fn announced_end(&self, id: StreamId) -> Option<u64>
-        ensures limit { result ≡ announced_end self.now.window (held self.now id) }
+        ensures limit { result ≡ announced_end self.now.window (halves_view self.now id) }
         ensures small { IfSome result (λ limit. limit < 2 ^ 62) }
     {
         match self.entries.get(&id) {
@@ -282,7 +282,7 @@ impl ReceiveHalves {
 
     /// The limit of [`ReceiveHalves::announced_end`], if there is one, was announced.
     pub(crate) fn announce(&mut self, id: StreamId)
-        ensures held { held self.new ≡ after_announced (held self.old) self.old.window id (held self.old id) }
+        ensures held { halves_view self.new ≡ after_announced (halves_view self.old) self.old.window id (halves_view self.old id) }
         ensures window { self.new.window ≡ self.old.window }
         ensures room { room self.new ≡ room self.old }
     {
@@ -295,7 +295,7 @@ impl ReceiveHalves {
 
     /// The code of the reset of a stream that is not stopped, if it was reset.
     pub(crate) fn reset_code(&self, id: StreamId) -> Result<Option<VarInt>, ClosedStream>
-        ensures { TellsCode (held self.now id) result }
+        ensures { TellsCode (halves_view self.now id) result }
     {
         match self.entries.get(&id) {
             None => Err(ClosedStream),
@@ -312,8 +312,8 @@ impl ReceiveHalves {
     /// Puts a half back.
     #[inline]
     pub(crate) fn put(&mut self, id: StreamId, half: Box<Recv>)
-        requires { is_some (held self.old id) ≡ true }
-        ensures held { held self.new ≡ with_half (held self.old) id (Some half.value) }
+        requires { is_some (halves_view self.old id) ≡ true }
+        ensures held { halves_view self.new ≡ with_half (halves_view self.old) id (Some half.value) }
         ensures window { self.new.window ≡ self.old.window }
         ensures room { room self.new ≡ room self.old }
     {
@@ -325,7 +325,7 @@ impl ReceiveHalves {
 
     /// Lets a half go.
     pub(crate) fn remove(&mut self, id: StreamId)
-        ensures held { held self.new ≡ with_half (held self.old) id None }
+        ensures held { halves_view self.new ≡ with_half (halves_view self.old) id None }
         ensures window { self.new.window ≡ self.old.window }
         ensures room { room self.old ≤ room self.new }
     {
@@ -334,7 +334,7 @@ impl ReceiveHalves {
 
     /// Lets the halves of the streams of one end go.
     pub(crate) fn remove_of(&mut self, side: Side)
-        ensures held { held self.new ≡ without_own side (held self.old) }
+        ensures held { halves_view self.new ≡ without_own side (halves_view self.old) }
         ensures window { self.new.window ≡ self.old.window }
         ensures room { room self.old ≤ room self.new }
     {

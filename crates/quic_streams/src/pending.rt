@@ -3,9 +3,9 @@
 ghost use Rattle.std.specs.Prelude.{◌≡◌, ◌==◌, ℕ, Bool, unwrap_or};
 ghost use Rattle.std.specs.HashSet.{contains};
 ghost use Rattle.quic_queue.specs.SendOrder.{Tells};
-ghost use Rattle.quic_retransmits.specs.Pending.{Pending, shown_pending, shown_if, nothing};
+ghost use Rattle.quic_retransmits.specs.Pending.{Pending, pending_view, thin_view, nothing};
 ghost use Rattle.quic_retransmits.specs.Ids.{is_in_ids, is_in_table};
-ghost use Rattle.quic_streams.specs.Shown.{shown};
+ghost use Rattle.quic_streams.specs.Shown.{streams_view};
 ghost use Rattle.quic_streams.specs.Waiting.{TellsAny, TellsEmpty, has_lasting, window_counts, limit_counts};
 
 use crate::state::StreamsState;
@@ -22,11 +22,11 @@ pub trait PendingFrames {
     /// while the limit is held for which they were queued, and MAX_STREAM_DATA only where more data may come on its
     /// stream and are wanted.
     fn is_empty(&self, streams: &StreamsState) -> bool
-        ensures { TellsEmpty (shown streams.now) (pending self.now) result };
+        ensures { TellsEmpty (streams_view streams.now) (pending self.now) result };
 }
 
 impl PendingFrames for Retransmits {
-    ghost pending = { λ r. shown_pending r };
+    ghost pending = { λ r. pending_view r };
 
     fn is_empty(&self, streams: &StreamsState) -> bool {
         streams.has_nothing_of(self)
@@ -34,7 +34,7 @@ impl PendingFrames for Retransmits {
 }
 
 impl PendingFrames for ThinRetransmits {
-    ghost pending = { λ t. unwrap_or (shown_if t) nothing };
+    ghost pending = { λ t. unwrap_or (thin_view t) nothing };
 
     fn is_empty(&self, streams: &StreamsState) -> bool {
         match self.get() {
@@ -79,11 +79,11 @@ fn any_other<F: Fn(StreamId) -> bool>(ids: &HashSet<StreamId>, test: &F) -> bool
     false
 }
 
-#[tactic(auto, unfolding(crate::specs::Shown::shown))]
+#[tactic(auto, unfolding(crate::specs::Shown::streams_view))]
 impl StreamsState {
     // Whether nothing that is pending could be sent.
     fn has_nothing_of(&self, pending: &Retransmits) -> bool
-        ensures { TellsEmpty (shown self.now) (shown_pending pending.now) result }
+        ensures { TellsEmpty (streams_view self.now) (pending_view pending.now) result }
     {
         if self.has_lasting(pending) || self.has_window(&pending.max_stream_data) {
             return false;
@@ -93,21 +93,21 @@ impl StreamsState {
 
     // Whether MAX_STREAM_DATA is of use on any of some streams.
     fn has_window(&self, ids: &StreamIds) -> bool
-        ensures { TellsAny (is_in_ids ids.now) (window_counts (shown self.now)) result }
+        ensures { TellsAny (is_in_ids ids.now) (window_counts (streams_view self.now)) result }
     {
         any_id(ids, &|id| self.can_send_flow_control(id))
     }
 
     // Whether STREAM_DATA_BLOCKED is of use on any of some streams.
     fn has_limit(&self, ids: &StreamIds) -> bool
-        ensures { TellsAny (is_in_ids ids.now) (limit_counts (shown self.now)) result }
+        ensures { TellsAny (is_in_ids ids.now) (limit_counts (streams_view self.now)) result }
     {
         any_id(ids, &|id| self.stream_data_blocked_limit(id).is_some())
     }
 
     // Whether something is pending that is of no stream's window.
     fn has_lasting(&self, pending: &Retransmits) -> bool
-        ensures { result ≡ has_lasting (shown self.now) (shown_pending pending.now) }
+        ensures { result ≡ has_lasting (streams_view self.now) (pending_view pending.now) }
     {
         pending.max_data
             || pending.data_blocked && self.can_send_data_blocked()

@@ -3,7 +3,7 @@
 ghost use Rattle.std.specs.Prelude.{ℕ, List, ◌∷◌, ◌≡◌, ◌+◌, ◌<◌, ◌≤◌, ◌^◌, OnOk, nat_lt};
 ghost use Rattle.quic_limits.specs.Remote.{open_now, with_concurrent};
 ghost use Rattle.quic_streams.specs.Held.{room};
-ghost use Rattle.quic_streams.specs.Shown.{shown};
+ghost use Rattle.quic_streams.specs.Shown.{streams_view};
 ghost use Rattle.quic_history.specs.World.{Made, remote_of, with_receive_window};
 ghost use Rattle.quic_history.specs.Permitting.{SetsConcurrent, is_flow_controlled};
 ghost use Rattle.quic_history.specs.History.{Event, Resized, SetConcurrent, From};
@@ -11,15 +11,15 @@ ghost use Rattle.quic_history.specs.History.{Event, Resized, SetConcurrent, From
 use crate::state::StreamsState;
 use quic_values::{Dir, OutOfMemory, StreamId, VarInt};
 
-#[tactic(auto, unfolding(crate::specs::Shown::shown))]
+#[tactic(auto, unfolding(crate::specs::Shown::streams_view))]
 impl StreamsState {
     /// Sets how many bytes of all streams may be received and not consumed (RFC 9000 section 4.1). A larger window
     /// raises the limit of the connection by the gain, and the answer is true: MAX_DATA is to be sent. A smaller one
     /// leaves the limit, and bytes that are consumed give no credit until the loss is made up.
     pub fn set_receive_window(&mut self, receive_window: VarInt) -> bool
-        ensures window { shown self.new ≡ with_receive_window (shown self.old) receive_window }
-        ensures rises { result ≡ nat_lt (shown self.old).credit.receive_window receive_window }
-        ensures from { (m : Made) (h : List Event) → From m h (shown self.old) → From m (Resized receive_window result ∷ h) (shown self.new) }
+        ensures window { streams_view self.new ≡ with_receive_window (streams_view self.old) receive_window }
+        ensures rises { result ≡ nat_lt (streams_view self.old).credit.receive_window receive_window }
+        ensures from { (m : Made) (h : List Event) → From m h (streams_view self.old) → From m (Resized receive_window result ∷ h) (streams_view self.new) }
     {
         self.credit.set_receive_window(receive_window)
     }
@@ -28,15 +28,15 @@ impl StreamsState {
     /// use fewer, more are permitted at once; a lower count takes nothing back. [`StreamsState::queue_max_stream_id`]
     /// then queues what tells the peer. A refusal changes nothing.
     pub fn set_max_concurrent(&mut self, dir: Dir, count: VarInt) -> Result<(), OutOfMemory>
-        ensures sets { SetsConcurrent (shown self.old) dir count result (shown self.new) }
-        ensures from { (m : Made) (h : List Event) → From m h (shown self.old) → From m (SetConcurrent dir count result ∷ h) (shown self.new) }
+        ensures sets { SetsConcurrent (streams_view self.old) dir count result (streams_view self.new) }
+        ensures from { (m : Made) (h : List Event) → From m h (streams_view self.old) → From m (SetConcurrent dir count result ∷ h) (streams_view self.new) }
     {
         self.set_concurrent(dir, count)
     }
 
     // The same, by direction.
     fn set_concurrent(&mut self, dir: Dir, count: VarInt) -> Result<(), OutOfMemory>
-        ensures { SetsConcurrent (shown self.old) dir count result (shown self.new) }
+        ensures { SetsConcurrent (streams_view self.old) dir count result (streams_view self.new) }
     {
         match dir {
             Dir::Bi => self.set_concurrent_bi(count),
@@ -45,7 +45,7 @@ impl StreamsState {
     }
 
     fn set_concurrent_bi(&mut self, count: VarInt) -> Result<(), OutOfMemory>
-        ensures { SetsConcurrent (shown self.old) Dir.Bi count result (shown self.new) }
+        ensures { SetsConcurrent (streams_view self.old) Dir.Bi count result (streams_view self.new) }
     {
         let (first, more) = (self.bi.max_remote(), self.bi.lacking(count));
         self.receive.reserve(more as usize)?;
@@ -59,7 +59,7 @@ impl StreamsState {
     }
 
     fn set_concurrent_uni(&mut self, count: VarInt) -> Result<(), OutOfMemory>
-        ensures { SetsConcurrent (shown self.old) Dir.Uni count result (shown self.new) }
+        ensures { SetsConcurrent (streams_view self.old) Dir.Uni count result (streams_view self.new) }
     {
         let (first, more) = (self.uni.max_remote(), self.uni.lacking(count));
         self.receive.reserve(more as usize)?;
@@ -72,7 +72,7 @@ impl StreamsState {
 
     /// How many streams of a direction the peer may use now: those that were permitted and are not wholly freed.
     pub fn max_concurrent(&self, dir: Dir) -> u64
-        ensures { result ≡ (remote_of (shown self.now) dir).allocated }
+        ensures { result ≡ (remote_of (streams_view self.now) dir).allocated }
     {
         match dir {
             Dir::Bi => self.bi.allocated(),
@@ -82,21 +82,21 @@ impl StreamsState {
 
     /// How many bytes the peer may send in all, on all streams: the limit that is enforced (RFC 9000 section 4.1).
     pub fn local_max_data(&self) -> u64
-        ensures { result ≡ (shown self.now).credit.local_max_data }
+        ensures { result ≡ (streams_view self.now).credit.local_max_data }
     {
         self.credit.local_max_data()
     }
 
     /// How many bytes the peer sent: the sum of the highest offsets of all streams (RFC 9000 section 4.1).
     pub fn data_recvd(&self) -> u64
-        ensures { result ≡ (shown self.now).credit.data_recvd }
+        ensures { result ≡ (streams_view self.now).credit.data_recvd }
     {
         self.credit.data_recvd()
     }
 
     /// How many streams of a direction the peer may open in all: the limit that is enforced (RFC 9000 section 4.6).
     pub fn max_remote(&self, dir: Dir) -> u64
-        ensures count { result ≡ (remote_of (shown self.now) dir).max_remote }
+        ensures count { result ≡ (remote_of (streams_view self.now) dir).max_remote }
         ensures small { result ≤ 2 ^ 60 }
     {
         match dir {
@@ -108,7 +108,7 @@ impl StreamsState {
     /// The lowest index of a direction that the peer did not open: how many streams it opened in all (RFC 9000 section
     /// 2.1).
     pub fn next_remote(&self, dir: Dir) -> u64
-        ensures { result ≡ (remote_of (shown self.now) dir).next_remote }
+        ensures { result ≡ (remote_of (streams_view self.now) dir).next_remote }
     {
         match dir {
             Dir::Bi => self.bi.next_remote(),
@@ -118,7 +118,7 @@ impl StreamsState {
 
     // How many streams of a direction the peer has open.
     pub(crate) fn remote_open(&self, dir: Dir) -> u64
-        ensures { result ≡ open_now (remote_of (shown self.now) dir) }
+        ensures { result ≡ open_now (remote_of (streams_view self.now) dir) }
     {
         match dir {
             Dir::Bi => self.bi.open_now(),
@@ -129,7 +129,7 @@ impl StreamsState {
     /// Whether MAX_STREAM_DATA would be of use to the peer on a stream: its receive half is held and not stopped, and the
     /// final size is not known (RFC 9000 section 4.1).
     pub fn can_send_flow_control(&self, id: StreamId) -> bool
-        ensures { result ≡ is_flow_controlled ((shown self.now).receive id) }
+        ensures { result ≡ is_flow_controlled ((streams_view self.now).receive id) }
     {
         self.receive.is_flow_controlled(id)
     }

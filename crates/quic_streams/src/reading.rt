@@ -1,9 +1,9 @@
 //! Reading of streams.
 
 ghost use Rattle.std.specs.Prelude.{◌≡◌, ◌+◌, ◌<◌, ◌≤◌, ◌^◌, true, Err, OnOk, List, ◌∷◌};
-ghost use Rattle.quic_streams.specs.Shown.{shown};
+ghost use Rattle.quic_streams.specs.Shown.{streams_view};
 ghost use Rattle.quic_history.specs.World.{Made, with_credit};
-ghost use Rattle.quic_retransmits.specs.Pending.{shown_pending as listed};
+ghost use Rattle.quic_retransmits.specs.Pending.{pending_view};
 ghost use Rattle.quic_history.specs.Reading.{Begins, Nexts, ReadsHalf, is_reading, needed, pending_after, is_transmit_due, is_window_queued, progress_after, given_by};
 ghost use Rattle.quic_history.specs.History.{Event, Ended, From, given, with_next};
 ghost use Rattle.quic_streams.specs.HalfReads.{credit_queued, is_credit_queued};
@@ -28,7 +28,7 @@ pub struct Chunks<'a> {
     progress: Progress,
     // How many bytes were read.
     read: u64,
-    ghost reading: { is_reading progress ((shown streams.now).receive id) ordered read ≡ true },
+    ghost reading: { is_reading progress ((streams_view streams.now).receive id) ordered read ≡ true },
     ghost room: { needed progress ≤ rooms streams.now },
     ghost window_room: { needed progress ≤ window_rooms pending.now id },
 }
@@ -41,7 +41,7 @@ impl<'a> Chunks<'a> {
         id: StreamId,
         ordered: bool,
     ) -> Chunks<'a>
-        requires reading { is_reading Progress.Readable ((shown streams.old).receive id) ordered 0 ≡ true }
+        requires reading { is_reading Progress.Readable ((streams_view streams.old).receive id) ordered 0 ≡ true }
         requires room { 1 ≤ rooms streams.old }
         requires window_room { 1 ≤ window_rooms pending.old id }
         ensures same_streams { result.streams.ghost_name ≡ streams.entry.ghost_name }
@@ -73,11 +73,11 @@ impl<'a> Chunks<'a> {
         ensures pending { self.new.pending.now ≡ self.old.pending.now }
         ensures id { self.new.id ≡ self.old.id }
         ensures ordered { self.new.ordered ≡ self.old.ordered }
-        ensures next { Nexts self.old.progress (shown self.old.streams.now) self.old.id max_length self.old.ordered result (shown self.new.streams.now) }
+        ensures next { Nexts self.old.progress (streams_view self.old.streams.now) self.old.id max_length self.old.ordered result (streams_view self.new.streams.now) }
         ensures progress { self.new.progress ≡ progress_after result }
         ensures read { self.new.read ≡ self.old.read + given_by result }
-        ensures from { (m : Made) (h : List Event) → From m h (shown self.old.streams.now)
-            → From m (with_next self.old.progress self.old.id max_length self.old.ordered result h) (shown self.new.streams.now) }
+        ensures from { (m : Made) (h : List Event) → From m h (streams_view self.old.streams.now)
+            → From m (with_next self.old.progress self.old.id max_length self.old.ordered result h) (streams_view self.new.streams.now) }
     {
         if self.progress.is_ended() {
             return self.progress.last_answer();
@@ -93,11 +93,11 @@ impl<'a> Chunks<'a> {
     /// Gives the peer credit for what was read, and queues the frames that tell it. Takes no memory. Answers whether
     /// one was queued.
     pub fn finalize(self) -> ShouldTransmit
-        ensures streams { shown self.exit.0.now ≡ with_credit (shown self.entry.streams.now) self.entry.read }
-        ensures pending { listed self.exit.1.0.now ≡ pending_after self.entry.progress (shown self.entry.streams.now) self.entry.id self.entry.read (listed self.entry.pending.now) }
-        ensures transmit { result.0 ≡ is_transmit_due self.entry.progress (shown self.entry.streams.now) self.entry.id self.entry.read }
-        ensures from { (m : Made) (h : List Event) → From m h (shown self.entry.streams.now) → self.entry.read ≡ given h
-            → From m (Ended self.entry.id self.entry.read ∷ h) (shown self.exit.0.now) }
+        ensures streams { streams_view self.exit.0.now ≡ with_credit (streams_view self.entry.streams.now) self.entry.read }
+        ensures pending { pending_view self.exit.1.0.now ≡ pending_after self.entry.progress (streams_view self.entry.streams.now) self.entry.id self.entry.read (pending_view self.entry.pending.now) }
+        ensures transmit { result.0 ≡ is_transmit_due self.entry.progress (streams_view self.entry.streams.now) self.entry.id self.entry.read }
+        ensures from { (m : Made) (h : List Event) → From m h (streams_view self.entry.streams.now) → self.entry.read ≡ given h
+            → From m (Ended self.entry.id self.entry.read ∷ h) (streams_view self.exit.0.now) }
     {
         let Chunks {
             streams,
@@ -113,10 +113,10 @@ impl<'a> Chunks<'a> {
 
 impl Drop for Chunks<'_> {
     fn drop(self)
-        ensures streams { shown self.exit.0.now ≡ with_credit (shown self.entry.streams.now) self.entry.read }
-        ensures pending { listed self.exit.1.0.now ≡ pending_after self.entry.progress (shown self.entry.streams.now) self.entry.id self.entry.read (listed self.entry.pending.now) }
-        ensures from { (m : Made) (h : List Event) → From m h (shown self.entry.streams.now) → self.entry.read ≡ given h
-            → From m (Ended self.entry.id self.entry.read ∷ h) (shown self.exit.0.now) }
+        ensures streams { streams_view self.exit.0.now ≡ with_credit (streams_view self.entry.streams.now) self.entry.read }
+        ensures pending { pending_view self.exit.1.0.now ≡ pending_after self.entry.progress (streams_view self.entry.streams.now) self.entry.id self.entry.read (pending_view self.entry.pending.now) }
+        ensures from { (m : Made) (h : List Event) → From m h (streams_view self.entry.streams.now) → self.entry.read ≡ given h
+            → From m (Ended self.entry.id self.entry.read ∷ h) (streams_view self.exit.0.now) }
     {
         let Chunks {
             streams,
@@ -172,11 +172,11 @@ pub(crate) fn finish(
     read: u64,
 ) -> ShouldTransmit
     requires { needed progress ≤ window_rooms pending.old id }
-    ensures streams { shown streams.new ≡ with_credit (shown streams.old) read }
+    ensures streams { streams_view streams.new ≡ with_credit (streams_view streams.old) read }
     ensures rooms { rooms streams.new ≡ rooms streams.old }
-    ensures pending { listed pending.new ≡ pending_after progress (shown streams.old) id read (listed pending.old) }
+    ensures pending { pending_view pending.new ≡ pending_after progress (streams_view streams.old) id read (pending_view pending.old) }
     ensures window_room { needed progress ≤ window_rooms pending.new id }
-    ensures transmit { result.0 ≡ is_transmit_due progress (shown streams.old) id read }
+    ensures transmit { result.0 ≡ is_transmit_due progress (streams_view streams.old) id read }
 {
     let window_due = streams.is_window_queued(progress, id);
     give_credit(streams, pending, id, window_due, read)
@@ -191,11 +191,11 @@ pub(crate) fn give_credit(
     read: u64,
 ) -> ShouldTransmit
     requires { window_due ≡ true → 1 ≤ window_rooms pending.old id }
-    ensures streams { shown streams.new ≡ with_credit (shown streams.old) read }
+    ensures streams { streams_view streams.new ≡ with_credit (streams_view streams.old) read }
     ensures rooms { rooms streams.new ≡ rooms streams.old }
-    ensures pending { listed pending.new ≡ credit_queued window_due (shown streams.old) id read (listed pending.old) }
+    ensures pending { pending_view pending.new ≡ credit_queued window_due (streams_view streams.old) id read (pending_view pending.old) }
     ensures window_room { 1 ≤ window_rooms pending.old id → 1 ≤ window_rooms pending.new id }
-    ensures transmit { result.0 ≡ is_credit_queued window_due (shown streams.old) read }
+    ensures transmit { result.0 ≡ is_credit_queued window_due (streams_view streams.old) read }
 {
     let streams_due = streams.queue_max_stream_id(pending);
     pending.queue_window(id, window_due);
@@ -213,9 +213,9 @@ impl StreamsState {
         id: StreamId,
         ordered: bool,
     ) -> Result<(), ReadableError>
-        ensures begins { Begins (shown self.old) id ordered result (shown self.new) }
-        ensures pending { listed pending.new ≡ listed pending.old }
-        ensures reading { OnOk result (is_reading Progress.Readable ((shown self.new).receive id) ordered 0 ≡ true) }
+        ensures begins { Begins (streams_view self.old) id ordered result (streams_view self.new) }
+        ensures pending { pending_view pending.new ≡ pending_view pending.old }
+        ensures reading { OnOk result (is_reading Progress.Readable ((streams_view self.new).receive id) ordered 0 ≡ true) }
         ensures rooms { OnOk result (1 ≤ rooms self.new) }
         ensures window_room { OnOk result (1 ≤ window_rooms pending.new id) }
     {
@@ -230,7 +230,7 @@ impl StreamsState {
 
     // Whether MAX_STREAM_DATA is to be queued at the end of a reader.
     fn is_window_queued(&self, progress: Progress, id: StreamId) -> bool
-        ensures { result ≡ is_window_queued progress (shown self.now) ((shown self.now).receive id) }
+        ensures { result ≡ is_window_queued progress (streams_view self.now) ((streams_view self.now).receive id) }
     {
         match progress {
             Progress::Readable => self.is_window_due(id),
@@ -249,10 +249,10 @@ impl StreamsState {
         ordered: bool,
         read: u64,
     ) -> Result<Option<Chunk>, ReadError>
-        requires reading { is_reading Progress.Readable ((shown self.old).receive id) ordered read ≡ true }
+        requires reading { is_reading Progress.Readable ((streams_view self.old).receive id) ordered read ≡ true }
         requires rooms { 1 ≤ rooms self.old }
-        ensures reads { ReadsHalf (shown self.old) id max_length ordered result (shown self.new) }
-        ensures reading { is_reading (progress_after result) ((shown self.new).receive id) ordered (read + given_by result) ≡ true }
+        ensures reads { ReadsHalf (streams_view self.old) id max_length ordered result (streams_view self.new) }
+        ensures reading { is_reading (progress_after result) ((streams_view self.new).receive id) ordered (read + given_by result) ≡ true }
         ensures rooms { needed (progress_after result) ≤ rooms self.new }
         ensures bound { read + given_by result < 2 ^ 64 }
     {

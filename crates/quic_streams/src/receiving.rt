@@ -6,11 +6,11 @@ ghost use Rattle.quic_limits.specs.Remote.{is_max_streams_due};
 ghost use Rattle.quic_streams.specs.Room.{rooms, HasEventRoom};
 ghost use Rattle.quic_retransmits.specs.Queueing.{window_rooms};
 ghost use Rattle.quic_streams.specs.InPlace.{TellsFrame};
-ghost use Rattle.quic_streams.specs.Shown.{shown};
+ghost use Rattle.quic_streams.specs.Shown.{streams_view};
 ghost use Rattle.quic_history.specs.World.{Made, id_refusal, with_freed, with_credit, with_receive};
 ghost use Rattle.quic_history.specs.History.{Event, Received, ReceivedReset, AddedCredits, From};
-ghost use Rattle.quic_retransmits.specs.Pending.{shown_pending as listed};
-ghost use Rattle.quic_streams.specs.Accounting.{Accounts};
+ghost use Rattle.quic_retransmits.specs.Pending.{pending_view};
+ghost use Rattle.quic_streams.specs.Accounting.{CountsPieces};
 ghost use Rattle.quic_history.specs.Receiving.{Receives, ReceivesReset, with_max_streams, with_rest};
 
 use crate::halves::Ingested;
@@ -34,10 +34,10 @@ impl StreamsState {
         payload_len: usize,
     ) -> Result<ShouldTransmit, ReceiveError>
         requires { length frame.bytes ≤ payload_len }
-        ensures receives { Receives (shown self.old) frame.id frame.offset frame.bytes frame.fin result (shown self.new) }
-        ensures accounts { Accounts (shown self.old) frame.id frame.offset frame.bytes frame.fin payload_len result (shown self.new) }
-        ensures from { (m : Made) (h : List Event) → From m h (shown self.old)
-            → From m (Received frame.id frame.offset frame.bytes frame.fin result ∷ h) (shown self.new) }
+        ensures receives { Receives (streams_view self.old) frame.id frame.offset frame.bytes frame.fin result (streams_view self.new) }
+        ensures accounts { CountsPieces (streams_view self.old) frame.id frame.offset frame.bytes frame.fin payload_len result (streams_view self.new) }
+        ensures from { (m : Made) (h : List Event) → From m h (streams_view self.old)
+            → From m (Received frame.id frame.offset frame.bytes frame.fin result ∷ h) (streams_view self.new) }
     {
         self.receive_frame(frame, payload_len)
     }
@@ -51,8 +51,8 @@ impl StreamsState {
         payload_len: usize,
     ) -> Result<ShouldTransmit, ReceiveError>
         requires { length frame.bytes ≤ payload_len }
-        ensures receives { Receives (shown self.old) frame.id frame.offset frame.bytes frame.fin result (shown self.new) }
-        ensures accounts { Accounts (shown self.old) frame.id frame.offset frame.bytes frame.fin payload_len result (shown self.new) }
+        ensures receives { Receives (streams_view self.old) frame.id frame.offset frame.bytes frame.fin result (streams_view self.new) }
+        ensures accounts { CountsPieces (streams_view self.old) frame.id frame.offset frame.bytes frame.fin payload_len result (streams_view self.new) }
     {
         let id = frame.id;
         if let Err(error) = self.validate_receive_id(id) {
@@ -72,11 +72,11 @@ impl StreamsState {
     // Counts what a frame brought that reached a half, and tells of it.
     #[inline]
     fn tell_frame(&mut self, id: StreamId, taken: Ingested) -> Result<ShouldTransmit, ReceiveError>
-        requires known { id_refusal (shown self.old) id ≡ None }
-        requires count { (shown self.old).credit.data_recvd + taken.grown < 2 ^ 64 }
+        requires known { id_refusal (streams_view self.old) id ≡ None }
+        requires count { (streams_view self.old).credit.data_recvd + taken.grown < 2 ^ 64 }
         requires events { HasEventRoom self.old }
         requires rooms { 1 ≤ rooms self.old }
-        ensures { TellsFrame (shown self.old) id taken.stopped taken.grown taken.answer result (shown self.new) }
+        ensures { TellsFrame (streams_view self.old) id taken.stopped taken.grown taken.answer result (streams_view self.new) }
     {
         let Ingested {
             answer,
@@ -99,8 +99,8 @@ impl StreamsState {
     // Bytes that came on a stopped stream give credit at once, and its end frees it.
     fn discard(&mut self, id: StreamId, new_bytes: u64, closed: bool) -> ShouldTransmit
         requires { 1 ≤ rooms self.old }
-        ensures discarded { shown self.new ≡ with_credit (if closed then with_freed (shown self.old) id else shown self.old) new_bytes }
-        ensures due { result.0 ≡ is_max_data_due (shown self.new).credit }
+        ensures discarded { streams_view self.new ≡ with_credit (if closed then with_freed (streams_view self.old) id else streams_view self.old) new_bytes }
+        ensures due { result.0 ≡ is_max_data_due (streams_view self.new).credit }
     {
         if closed {
             self.free_receive(id);
@@ -116,16 +116,16 @@ impl StreamsState {
         &mut self,
         frame: frame::ResetStream,
     ) -> Result<ShouldTransmit, ReceiveError>
-        ensures receives { ReceivesReset (shown self.old) frame.id frame.error_code frame.final_offset result (shown self.new) }
-        ensures from { (m : Made) (h : List Event) → From m h (shown self.old)
-            → From m (ReceivedReset frame.id frame.error_code frame.final_offset result ∷ h) (shown self.new) }
+        ensures receives { ReceivesReset (streams_view self.old) frame.id frame.error_code frame.final_offset result (streams_view self.new) }
+        ensures from { (m : Made) (h : List Event) → From m h (streams_view self.old)
+            → From m (ReceivedReset frame.id frame.error_code frame.final_offset result ∷ h) (streams_view self.new) }
     {
         self.receive_reset(frame)
     }
 
     // The same, each way out.
     fn receive_reset(&mut self, frame: frame::ResetStream) -> Result<ShouldTransmit, ReceiveError>
-        ensures { ReceivesReset (shown self.old) frame.id frame.error_code frame.final_offset result (shown self.new) }
+        ensures { ReceivesReset (streams_view self.old) frame.id frame.error_code frame.final_offset result (streams_view self.new) }
     {
         let id = frame.id;
         if let Err(error) = self.validate_receive_id(id) {
@@ -150,13 +150,13 @@ impl StreamsState {
         received: u64,
         permitted: u64,
     ) -> Result<ShouldTransmit, ReceiveError>
-        requires known { id_refusal (shown self.old) frame.id ≡ None }
-        requires there { is_some ((shown self.old).receive frame.id) ≡ true }
-        requires received { received ≡ (shown self.old).credit.data_recvd }
-        requires permitted { permitted ≡ (shown self.old).credit.local_max_data }
+        requires known { id_refusal (streams_view self.old) frame.id ≡ None }
+        requires there { is_some ((streams_view self.old).receive frame.id) ≡ true }
+        requires received { received ≡ (streams_view self.old).credit.data_recvd }
+        requires permitted { permitted ≡ (streams_view self.old).credit.local_max_data }
         requires events { HasEventRoom self.old }
         requires rooms { 1 ≤ rooms self.old }
-        ensures { ReceivesReset (with_receive (shown self.old) frame.id (Some half.value)) frame.id frame.error_code frame.final_offset result (shown self.new) }
+        ensures { ReceivesReset (with_receive (streams_view self.old) frame.id (Some half.value)) frame.id frame.error_code frame.final_offset result (streams_view self.new) }
     {
         let id = frame.id;
         let mut half = half;
@@ -181,8 +181,8 @@ impl StreamsState {
 
     // Gives credit for bytes, if they are some.
     fn add_rest(&mut self, rest: u64) -> ShouldTransmit
-        ensures credit { shown self.new ≡ with_rest (shown self.old) rest }
-        ensures due { result.0 ≡ (not (rest == 0) && is_max_data_due (shown self.new).credit) }
+        ensures credit { streams_view self.new ≡ with_rest (streams_view self.old) rest }
+        ensures due { result.0 ≡ (not (rest == 0) && is_max_data_due (streams_view self.new).credit) }
     {
         if rest == 0 {
             return ShouldTransmit(false);
@@ -191,15 +191,15 @@ impl StreamsState {
     }
 }
 
-#[tactic(auto, unfolding(crate::specs::Shown::shown, crate::specs::Room::rooms))]
+#[tactic(auto, unfolding(crate::specs::Shown::streams_view, crate::specs::Room::rooms))]
 impl StreamsState {
     /// Gives credit for bytes that were consumed (RFC 9000 section 4.2). Answers whether MAX_DATA is to be sent.
     #[inline]
     pub fn add_read_credits(&mut self, credits: u64) -> ShouldTransmit
-        ensures credit { shown self.new ≡ with_credit (shown self.old) credits }
-        ensures due { result.0 ≡ is_max_data_due (shown self.new).credit }
+        ensures credit { streams_view self.new ≡ with_credit (streams_view self.old) credits }
+        ensures due { result.0 ≡ is_max_data_due (streams_view self.new).credit }
         ensures rooms { rooms self.new ≡ rooms self.old }
-        ensures from { (m : Made) (h : List Event) → From m h (shown self.old) → From m (AddedCredits credits result ∷ h) (shown self.new) }
+        ensures from { (m : Made) (h : List Event) → From m h (streams_view self.old) → From m (AddedCredits credits result ∷ h) (streams_view self.new) }
     {
         ShouldTransmit(self.credit.add(credits))
     }
@@ -207,9 +207,9 @@ impl StreamsState {
     /// Queues MAX_STREAMS for each direction in which enough streams were permitted since the last (RFC 9000 section
     /// 4.6). Answers whether one was due.
     pub fn queue_max_stream_id(&self, pending: &mut Retransmits) -> bool
-        ensures pending { listed pending.new ≡ with_max_streams (shown self.now) (listed pending.old) }
+        ensures pending { pending_view pending.new ≡ with_max_streams (streams_view self.now) (pending_view pending.old) }
         ensures rooms { (id : ℕ) → window_rooms pending.new id ≡ window_rooms pending.old id }
-        ensures due { result ≡ (is_max_streams_due (shown self.now).bi || is_max_streams_due (shown self.now).uni) }
+        ensures due { result ≡ (is_max_streams_due (streams_view self.now).bi || is_max_streams_due (streams_view self.now).uni) }
     {
         let (bi, uni) = (self.bi.is_max_streams_due(), self.uni.is_max_streams_due());
         let [had_bi, had_uni] = pending.max_stream_id;

@@ -3,8 +3,8 @@
 ghost use Rattle.std.specs.Prelude.{◌≡◌, ◌≤◌, is_some, IfOk, IfErr, Ok, Err, Some, true, List, ◌∷◌};
 ghost use Rattle.quic_history.specs.History.{Event, Began, Stopped, ToldReset, From};
 ghost use Rattle.quic_history.specs.World.{Made, World, with_receive};
-ghost use Rattle.quic_streams.specs.Shown.{shown};
-ghost use Rattle.quic_retransmits.specs.Pending.{shown_pending as listed};
+ghost use Rattle.quic_streams.specs.Shown.{streams_view};
+ghost use Rattle.quic_retransmits.specs.Pending.{pending_view};
 ghost use Rattle.quic_history.specs.Reading.{Begins, Stops, TellsReset};
 ghost use Rattle.quic_streams.specs.Room.{rooms};
 ghost use Rattle.quic_retransmits.specs.Queueing.{stop_rooms};
@@ -42,15 +42,15 @@ impl<'a> RecvStream<'a> {
     /// This makes the room that the reader may need, so that its end takes no memory. What the reader does to the
     /// state its own calls say.
     pub fn read(&mut self, ordered: bool) -> Result<Chunks<'_>, ReadableError>
-        ensures begins { IfOk result (λ chunks. Begins (shown self.old.state.now) self.old.id ordered (Ok tt) (shown chunks.streams.now)) }
-        ensures refused { IfErr result (λ error. (after : World) × Begins (shown self.old.state.now) self.old.id ordered (Err error) after) }
-        ensures pending { IfOk result (λ chunks. listed chunks.pending.now ≡ listed self.old.pending.now) }
+        ensures begins { IfOk result (λ chunks. Begins (streams_view self.old.state.now) self.old.id ordered (Ok tt) (streams_view chunks.streams.now)) }
+        ensures refused { IfErr result (λ error. (after : World) × Begins (streams_view self.old.state.now) self.old.id ordered (Err error) after) }
+        ensures pending { IfOk result (λ chunks. pending_view chunks.pending.now ≡ pending_view self.old.pending.now) }
         ensures id { IfOk result (λ chunks. chunks.id ≡ self.old.id) }
         ensures ordered { IfOk result (λ chunks. chunks.ordered ≡ ordered) }
         ensures progress { IfOk result (λ chunks. chunks.progress ≡ Progress.Readable) }
         ensures read { IfOk result (λ chunks. chunks.read ≡ 0) }
-        ensures from { IfOk result (λ chunks. (m : Made) (h : List Event) → From m h (shown self.old.state.now)
-            → From m (Began self.old.id ordered (Ok tt) ∷ h) (shown chunks.streams.now)) }
+        ensures from { IfOk result (λ chunks. (m : Made) (h : List Event) → From m h (streams_view self.old.state.now)
+            → From m (Began self.old.id ordered (Ok tt) ∷ h) (streams_view chunks.streams.now)) }
     {
         self.state.begin(self.pending, self.id, ordered)?;
         let RecvStream { id, state, pending } = self;
@@ -63,8 +63,8 @@ impl<'a> RecvStream<'a> {
         ensures same_state { self.new.state.ghost_name ≡ self.old.state.ghost_name }
         ensures same_pending { self.new.pending.ghost_name ≡ self.old.pending.ghost_name }
         ensures id { self.new.id ≡ self.old.id }
-        ensures stops { Stops (shown self.old.state.now) self.old.id error_code (listed self.old.pending.now) result (shown self.new.state.now) (listed self.new.pending.now) }
-        ensures from { (m : Made) (h : List Event) → From m h (shown self.old.state.now) → From m (Stopped self.old.id error_code result ∷ h) (shown self.new.state.now) }
+        ensures stops { Stops (streams_view self.old.state.now) self.old.id error_code (pending_view self.old.pending.now) result (streams_view self.new.state.now) (pending_view self.new.pending.now) }
+        ensures from { (m : Made) (h : List Event) → From m h (streams_view self.old.state.now) → From m (Stopped self.old.id error_code result ∷ h) (streams_view self.new.state.now) }
     {
         self.state.stop(self.pending, self.id, error_code)
     }
@@ -74,8 +74,8 @@ impl<'a> RecvStream<'a> {
         ensures same_state { self.new.state.ghost_name ≡ self.old.state.ghost_name }
         ensures same_pending { self.new.pending.ghost_name ≡ self.old.pending.ghost_name }
         ensures id { self.new.id ≡ self.old.id }
-        ensures tells { TellsReset (shown self.old.state.now) self.old.id (listed self.old.pending.now) result (shown self.new.state.now) (listed self.new.pending.now) }
-        ensures from { (m : Made) (h : List Event) → From m h (shown self.old.state.now) → From m (ToldReset self.old.id result ∷ h) (shown self.new.state.now) }
+        ensures tells { TellsReset (streams_view self.old.state.now) self.old.id (pending_view self.old.pending.now) result (streams_view self.new.state.now) (pending_view self.new.pending.now) }
+        ensures from { (m : Made) (h : List Event) → From m h (streams_view self.old.state.now) → From m (ToldReset self.old.id result ∷ h) (streams_view self.new.state.now) }
     {
         self.state.tell_reset(self.pending, self.id)
     }
@@ -90,7 +90,7 @@ impl StreamsState {
         id: StreamId,
         error_code: VarInt,
     ) -> Result<(), HandleError>
-        ensures { Stops (shown self.old) id error_code (listed pending.old) result (shown self.new) (listed pending.new) }
+        ensures { Stops (streams_view self.old) id error_code (pending_view pending.old) result (streams_view self.new) (pending_view pending.new) }
     {
         if pending.reserve_stop().is_err() {
             return Err(HandleError::OutOfMemory);
@@ -113,10 +113,10 @@ impl StreamsState {
         half: Box<Recv>,
         error_code: VarInt,
     ) -> Result<(), HandleError>
-        requires there { is_some ((shown self.old).receive id) ≡ true }
+        requires there { is_some ((streams_view self.old).receive id) ≡ true }
         requires rooms { 1 ≤ rooms self.old }
         requires stop_room { 1 ≤ stop_rooms pending.old }
-        ensures { Stops (with_receive (shown self.old) id (Some half.value)) id error_code (listed pending.old) result (shown self.new) (listed pending.new) }
+        ensures { Stops (with_receive (streams_view self.old) id (Some half.value)) id error_code (pending_view pending.old) result (streams_view self.new) (pending_view pending.new) }
     {
         let mut half = half;
         let ended = !half.final_offset_unknown();
@@ -142,7 +142,7 @@ impl StreamsState {
         pending: &mut Retransmits,
         id: StreamId,
     ) -> Result<Option<VarInt>, HandleError>
-        ensures { TellsReset (shown self.old) id (listed pending.old) result (shown self.new) (listed pending.new) }
+        ensures { TellsReset (streams_view self.old) id (pending_view pending.old) result (streams_view self.new) (pending_view pending.new) }
     {
         match self.reset_code(id) {
             Err(_) => Err(HandleError::ClosedStream),

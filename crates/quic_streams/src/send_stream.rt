@@ -3,9 +3,9 @@
 ghost use Rattle.std.specs.Prelude.{ℕ, List, ◌∷◌, ◌≡◌, ◌≤◌, IfOk, IfErr, OnOk, Ok, Err, None, Some};
 ghost use Rattle.quic_sending.specs.Source.{slice_lists};
 ghost use Rattle.quic_outgoing.specs.Calls.{told_of_half};
-ghost use Rattle.quic_retransmits.specs.Pending.{Pending, shown_pending as listed};
+ghost use Rattle.quic_retransmits.specs.Pending.{Pending, pending_view};
 ghost use Rattle.quic_streams.specs.Connection.{is_shut};
-ghost use Rattle.quic_streams.specs.Shown.{shown};
+ghost use Rattle.quic_streams.specs.Shown.{streams_view};
 ghost use Rattle.quic_streams.specs.Writing.{IsWrittenAs};
 ghost use Rattle.quic_history.specs.World.{Made, World};
 ghost use Rattle.quic_history.specs.Writes.{WritesOwn, FinishesOwn, ResetsOwn, SetsOwnPriority};
@@ -59,9 +59,9 @@ impl<'a> SendStream<'a> {
         ensures same_pending { self.new.pending.ghost_name ≡ self.old.pending.ghost_name }
         ensures id { self.new.id ≡ self.old.id }
         ensures conn { self.new.conn ≡ self.old.conn }
-        ensures writes { IsWrittenAs result (λ written. (left : List (List ℕ)) × WritesOwn (shown self.old.state.now) self.old.id (slice_lists bytes.now) (is_shut self.old.conn) (listed self.old.pending.now) written (shown self.new.state.now) left (listed self.new.pending.now)) }
-        ensures from { IsWrittenAs result (λ written. (m : Made) (h : List Event) → From m h (shown self.old.state.now)
-            → From m (Sending (WroteOwn self.old.id (slice_lists bytes.now) (is_shut self.old.conn) written) ∷ h) (shown self.new.state.now)) }
+        ensures writes { IsWrittenAs result (λ written. (left : List (List ℕ)) × WritesOwn (streams_view self.old.state.now) self.old.id (slice_lists bytes.now) (is_shut self.old.conn) (pending_view self.old.pending.now) written (streams_view self.new.state.now) left (pending_view self.new.pending.now)) }
+        ensures from { IsWrittenAs result (λ written. (m : Made) (h : List Event) → From m h (streams_view self.old.state.now)
+            → From m (Sending (WroteOwn self.old.id (slice_lists bytes.now) (is_shut self.old.conn) written) ∷ h) (streams_view self.new.state.now)) }
     {
         self.state
             .write_bytes(self.pending, self.id, bytes, self.conn)
@@ -75,18 +75,18 @@ impl<'a> SendStream<'a> {
         ensures same_pending { self.new.pending.ghost_name ≡ self.old.pending.ghost_name }
         ensures id { self.new.id ≡ self.old.id }
         ensures conn { self.new.conn ≡ self.old.conn }
-        ensures writes { (left : List (List ℕ)) × WritesOwn (shown self.old.state.now) self.old.id chunks.old (is_shut self.old.conn) (listed self.old.pending.now) result (shown self.new.state.now) left (listed self.new.pending.now) }
-        ensures from { (m : Made) (h : List Event) → From m h (shown self.old.state.now)
-            → From m (Sending (WroteOwn self.old.id chunks.old (is_shut self.old.conn) result) ∷ h) (shown self.new.state.now) }
+        ensures writes { (left : List (List ℕ)) × WritesOwn (streams_view self.old.state.now) self.old.id chunks.old (is_shut self.old.conn) (pending_view self.old.pending.now) result (streams_view self.new.state.now) left (pending_view self.new.pending.now) }
+        ensures from { (m : Made) (h : List Event) → From m h (streams_view self.old.state.now)
+            → From m (Sending (WroteOwn self.old.id chunks.old (is_shut self.old.conn) result) ∷ h) (streams_view self.new.state.now) }
     {
         self.state
             .write_lists(self.pending, self.id, chunks, self.conn)
     }
 
     /// The code of the first STOP_SENDING that came for the stream, if one did (RFC 9000 section 19.5).
-    #[tactic(auto, unfolding(crate::specs::Shown::shown))]
+    #[tactic(auto, unfolding(crate::specs::Shown::streams_view))]
     pub fn stopped(&self) -> Result<Option<VarInt>, ClosedStream>
-        ensures { result ≡ told_of_half (λ s. s.stop_reason) ((shown self.now.state.now).out.halves self.now.id) }
+        ensures { result ≡ told_of_half (λ s. s.stop_reason) ((streams_view self.now.state.now).out.halves self.now.id) }
     {
         self.state.outgoing.stopped(self.id)
     }
@@ -97,8 +97,8 @@ impl<'a> SendStream<'a> {
         ensures pending { self.new.pending ≡ self.old.pending }
         ensures id { self.new.id ≡ self.old.id }
         ensures conn { self.new.conn ≡ self.old.conn }
-        ensures finishes { FinishesOwn (shown self.old.state.now) self.old.id result (shown self.new.state.now) }
-        ensures from { (m : Made) (h : List Event) → From m h (shown self.old.state.now) → From m (Sending (FinishedOwn self.old.id result) ∷ h) (shown self.new.state.now) }
+        ensures finishes { FinishesOwn (streams_view self.old.state.now) self.old.id result (streams_view self.new.state.now) }
+        ensures from { (m : Made) (h : List Event) → From m h (streams_view self.old.state.now) → From m (Sending (FinishedOwn self.old.id result) ∷ h) (streams_view self.new.state.now) }
     {
         self.state.finish(self.id)
     }
@@ -110,8 +110,8 @@ impl<'a> SendStream<'a> {
         ensures same_pending { self.new.pending.ghost_name ≡ self.old.pending.ghost_name }
         ensures id { self.new.id ≡ self.old.id }
         ensures conn { self.new.conn ≡ self.old.conn }
-        ensures resets { ResetsOwn (shown self.old.state.now) self.old.id error_code (listed self.old.pending.now) result (shown self.new.state.now) (listed self.new.pending.now) }
-        ensures from { (m : Made) (h : List Event) → From m h (shown self.old.state.now) → From m (Sending (ResetOwn self.old.id error_code result) ∷ h) (shown self.new.state.now) }
+        ensures resets { ResetsOwn (streams_view self.old.state.now) self.old.id error_code (pending_view self.old.pending.now) result (streams_view self.new.state.now) (pending_view self.new.pending.now) }
+        ensures from { (m : Made) (h : List Event) → From m h (streams_view self.old.state.now) → From m (Sending (ResetOwn self.old.id error_code result) ∷ h) (streams_view self.new.state.now) }
     {
         self.state.reset_sending(self.pending, self.id, error_code)
     }
@@ -123,16 +123,16 @@ impl<'a> SendStream<'a> {
         ensures pending { self.new.pending ≡ self.old.pending }
         ensures id { self.new.id ≡ self.old.id }
         ensures conn { self.new.conn ≡ self.old.conn }
-        ensures sets { SetsOwnPriority (shown self.old.state.now) self.old.id priority result (shown self.new.state.now) }
-        ensures from { (m : Made) (h : List Event) → From m h (shown self.old.state.now) → From m (Sending (SetOwnPriority self.old.id priority result) ∷ h) (shown self.new.state.now) }
+        ensures sets { SetsOwnPriority (streams_view self.old.state.now) self.old.id priority result (streams_view self.new.state.now) }
+        ensures from { (m : Made) (h : List Event) → From m h (streams_view self.old.state.now) → From m (Sending (SetOwnPriority self.old.id priority result) ∷ h) (streams_view self.new.state.now) }
     {
         self.state.set_priority(self.id, priority)
     }
 
     /// The priority that was set last; 0 at first.
-    #[tactic(auto, unfolding(crate::specs::Shown::shown))]
+    #[tactic(auto, unfolding(crate::specs::Shown::streams_view))]
     pub fn priority(&self) -> Result<i32, ClosedStream>
-        ensures { result ≡ told_of_half (λ s. s.priority) ((shown self.now.state.now).out.halves self.now.id) }
+        ensures { result ≡ told_of_half (λ s. s.priority) ((streams_view self.now.state.now).out.halves self.now.id) }
     {
         self.state.outgoing.priority(self.id)
     }

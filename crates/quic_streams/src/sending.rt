@@ -5,7 +5,7 @@ ghost use Rattle.quic_values.specs.Ids.{dir_of, index_of};
 ghost use Rattle.quic_limits.specs.SendingCredit.{writable, with_limit, with_window, is_blocked_reported};
 ghost use Rattle.quic_outgoing.specs.Outgoing.{own_of, with_params};
 ghost use Rattle.quic_outgoing.specs.Calls.{blocked_limit};
-ghost use Rattle.quic_streams.specs.Shown.{shown};
+ghost use Rattle.quic_streams.specs.Shown.{streams_view};
 ghost use Rattle.quic_streams.specs.Room.{HasEventRoom};
 ghost use Rattle.quic_history.specs.World.{Made, World, remote_of};
 ghost use Rattle.quic_history.specs.SendEvents.{GaveLimits, RaisedData, RaisedCount, RaisedLimit, StoppedOwn, SetWindow, Polled};
@@ -17,29 +17,29 @@ use quic_outgoing::PeerLimits;
 use quic_values::{Dir, MAX_STREAM_COUNT, OutOfMemory, StreamId, VarInt};
 use quic_wire::{ReceiveError, StreamEvent, TransportError};
 
-#[tactic(auto, unfolding(crate::specs::Shown::shown, crate::specs::Room::HasEventRoom))]
+#[tactic(auto, unfolding(crate::specs::Shown::streams_view, crate::specs::Room::HasEventRoom))]
 impl StreamsState {
     /// Takes the limits of the peer's transport parameters (RFC 9000 section 7.4). Each counts that is above the one that
     /// was held. The application is told of none of them.
     pub fn set_params(&mut self, params: &PeerLimits)
-        ensures params { shown self.new ≡ with_out (shown self.old) (with_params (shown self.old).out params.now) }
-        ensures from { (m : Made) (h : List Event) → From m h (shown self.old) → From m (Sending (GaveLimits params.now) ∷ h) (shown self.new) }
+        ensures params { streams_view self.new ≡ with_out (streams_view self.old) (with_params (streams_view self.old).out params.now) }
+        ensures from { (m : Made) (h : List Event) → From m h (streams_view self.old) → From m (Sending (GaveLimits params.now) ∷ h) (streams_view self.new) }
     {
         self.outgoing.set_params(params);
     }
 
     /// Takes a MAX_DATA frame (RFC 9000 section 19.9). A limit does not fall.
     pub fn received_max_data(&mut self, limit: VarInt)
-        ensures raised { shown self.new ≡ with_out (shown self.old) (record (shown self.old).out { budget = with_limit (shown self.old).out.budget limit }) }
-        ensures from { (m : Made) (h : List Event) → From m h (shown self.old) → From m (Sending (RaisedData limit) ∷ h) (shown self.new) }
+        ensures raised { streams_view self.new ≡ with_out (streams_view self.old) (record (streams_view self.old).out { budget = with_limit (streams_view self.old).out.budget limit }) }
+        ensures from { (m : Made) (h : List Event) → From m h (streams_view self.old) → From m (Sending (RaisedData limit) ∷ h) (streams_view self.new) }
     {
         self.outgoing.raise_data(limit);
     }
 
     /// Sets how many bytes that were written are retained at most until they are acknowledged.
     pub fn set_send_window(&mut self, send_window: u64)
-        ensures window { shown self.new ≡ with_out (shown self.old) (record (shown self.old).out { budget = with_window (shown self.old).out.budget send_window }) }
-        ensures from { (m : Made) (h : List Event) → From m h (shown self.old) → From m (Sending (SetWindow send_window) ∷ h) (shown self.new) }
+        ensures window { streams_view self.new ≡ with_out (streams_view self.old) (record (streams_view self.old).out { budget = with_window (streams_view self.old).out.budget send_window }) }
+        ensures from { (m : Made) (h : List Event) → From m h (streams_view self.old) → From m (Sending (SetWindow send_window) ∷ h) (streams_view self.new) }
     {
         self.outgoing.set_send_window(send_window);
     }
@@ -48,21 +48,21 @@ impl StreamsState {
     /// window leave.
     #[inline]
     pub fn write_limit(&self) -> u64
-        ensures { result ≡ writable (shown self.now).out.budget }
+        ensures { result ≡ writable (streams_view self.now).out.budget }
     {
         self.outgoing.write_limit()
     }
 
     /// Whether the index of a stream is at least the number of streams of its direction that this end opened.
     pub fn is_local_unopened(&self, id: StreamId) -> bool
-        ensures { result ≡ nat_le (own_of (shown self.now).out (dir_of id)).opened (index_of id) }
+        ensures { result ≡ nat_le (own_of (streams_view self.now).out (dir_of id)).opened (index_of id) }
     {
         self.outgoing.is_local_unopened(id)
     }
 
     /// Whether DATA_BLOCKED was queued for the limit that is held now.
     pub fn can_send_data_blocked(&self) -> bool
-        ensures { result ≡ is_blocked_reported (shown self.now).out.budget }
+        ensures { result ≡ is_blocked_reported (streams_view self.now).out.budget }
     {
         self.outgoing.can_send_data_blocked()
     }
@@ -70,7 +70,7 @@ impl StreamsState {
     /// The limit of a stream for which STREAM_DATA_BLOCKED was queued, if it is the one held now, and data may still be
     /// written on the stream but for it.
     pub fn stream_data_blocked_limit(&self, id: StreamId) -> Option<VarInt>
-        ensures { result ≡ blocked_limit ((shown self.now).out.halves id) }
+        ensures { result ≡ blocked_limit ((streams_view self.now).out.halves id) }
     {
         self.outgoing.stream_data_blocked_limit(id)
     }
@@ -78,15 +78,15 @@ impl StreamsState {
     /// Takes a MAX_STREAMS frame (RFC 9000 section 19.11). The application is told of a rise. A count above 2^60 is a
     /// FRAME_ENCODING_ERROR.
     pub fn received_max_streams(&mut self, dir: Dir, count: u64) -> Result<(), ReceiveError>
-        ensures raises { RaisesCount (shown self.old) dir count result (shown self.new) }
-        ensures from { (m : Made) (h : List Event) → From m h (shown self.old) → From m (Sending (RaisedCount dir count result) ∷ h) (shown self.new) }
+        ensures raises { RaisesCount (streams_view self.old) dir count result (streams_view self.new) }
+        ensures from { (m : Made) (h : List Event) → From m h (streams_view self.old) → From m (Sending (RaisedCount dir count result) ∷ h) (streams_view self.new) }
     {
         self.raise_count(dir, count)
     }
 
     // The same, each way out.
     fn raise_count(&mut self, dir: Dir, count: u64) -> Result<(), ReceiveError>
-        ensures { RaisesCount (shown self.old) dir count result (shown self.new) }
+        ensures { RaisesCount (streams_view self.old) dir count result (streams_view self.new) }
     {
         let rises = count > self.outgoing.max_streams(dir);
         if count <= MAX_STREAM_COUNT && rises && self.events.reserve(1).is_err() {
@@ -112,15 +112,15 @@ impl StreamsState {
         id: StreamId,
         offset: u64,
     ) -> Result<(), ReceiveError>
-        ensures raises { RaisesLimit (shown self.old) id offset result (shown self.new) }
-        ensures from { (m : Made) (h : List Event) → From m h (shown self.old) → From m (Sending (RaisedLimit id offset result) ∷ h) (shown self.new) }
+        ensures raises { RaisesLimit (streams_view self.old) id offset result (streams_view self.new) }
+        ensures from { (m : Made) (h : List Event) → From m h (streams_view self.old) → From m (Sending (RaisedLimit id offset result) ∷ h) (streams_view self.new) }
     {
         self.raise_limit(id, offset)
     }
 
     // The same, each way out.
     fn raise_limit(&mut self, id: StreamId, offset: u64) -> Result<(), ReceiveError>
-        ensures { RaisesLimit (shown self.old) id offset result (shown self.new) }
+        ensures { RaisesLimit (streams_view self.old) id offset result (streams_view self.new) }
     {
         if let Err(error) = self.validate_send_id(id) {
             return Err(ReceiveError::Transport(error));
@@ -140,8 +140,8 @@ impl StreamsState {
 
     // The error of a frame on the sending side of a stream.
     fn validate_send_id(&self, id: StreamId) -> Result<(), TransportError>
-        ensures ok { OnOk result (sending_refusal (shown self.now) id ≡ None) }
-        ensures err { IfErr result (λ error. sending_refusal (shown self.now) id ≡ Some error.code) }
+        ensures ok { OnOk result (sending_refusal (streams_view self.now) id ≡ None) }
+        ensures err { IfErr result (λ error. sending_refusal (streams_view self.now) id ≡ Some error.code) }
     {
         if self.is_own(id) {
             if self.outgoing.is_local_unopened(id) {
@@ -167,7 +167,7 @@ impl StreamsState {
     // The application is to be told that it may write on a stream.
     fn tell_writable(&mut self, id: StreamId, writable: bool)
         requires { HasEventRoom self.old }
-        ensures { shown self.new ≡ told_writable (shown self.old) id writable }
+        ensures { streams_view self.new ≡ told_writable (streams_view self.old) id writable }
     {
         if writable {
             self.events.push_back_reserved(StreamEvent::Writable { id });
@@ -181,15 +181,15 @@ impl StreamsState {
         id: StreamId,
         error_code: VarInt,
     ) -> Result<(), OutOfMemory>
-        ensures stops { StopsOwn (shown self.old) id error_code result (shown self.new) }
-        ensures from { (m : Made) (h : List Event) → From m h (shown self.old) → From m (Sending (StoppedOwn id error_code result) ∷ h) (shown self.new) }
+        ensures stops { StopsOwn (streams_view self.old) id error_code result (streams_view self.new) }
+        ensures from { (m : Made) (h : List Event) → From m h (streams_view self.old) → From m (Sending (StoppedOwn id error_code result) ∷ h) (streams_view self.new) }
     {
         self.stop_sending(id, error_code)
     }
 
     // The same, each way out.
     fn stop_sending(&mut self, id: StreamId, error_code: VarInt) -> Result<(), OutOfMemory>
-        ensures { StopsOwn (shown self.old) id error_code result (shown self.new) }
+        ensures { StopsOwn (streams_view self.old) id error_code result (streams_view self.new) }
     {
         if !self.is_permitted(id) {
             return Ok(());
@@ -205,7 +205,7 @@ impl StreamsState {
 
     // Whether a stream is this end's, or one that the peer may open.
     pub(crate) fn is_permitted(&self, id: StreamId) -> bool
-        ensures { result ≡ is_permitted (shown self.now) id }
+        ensures { result ≡ is_permitted (streams_view self.now) id }
     {
         if self.is_own(id) {
             return true;
@@ -220,15 +220,15 @@ impl StreamsState {
     /// What the application is to be told next, if there is something: that the peer opened streams, that a stream which
     /// waited may be written on, or what is queued, in the order in which it came.
     pub fn poll(&mut self) -> Option<StreamEvent>
-        ensures polls { TellsNext (shown self.old) result (shown self.new) }
-        ensures from { (m : Made) (h : List Event) → From m h (shown self.old) → From m (Sending (Polled result) ∷ h) (shown self.new) }
+        ensures polls { TellsNext (streams_view self.old) result (streams_view self.new) }
+        ensures from { (m : Made) (h : List Event) → From m h (streams_view self.old) → From m (Sending (Polled result) ∷ h) (streams_view self.new) }
     {
         self.poll_next()
     }
 
     // The same, each way out.
     fn poll_next(&mut self) -> Option<StreamEvent>
-        ensures { TellsNext (shown self.old) result (shown self.new) }
+        ensures { TellsNext (streams_view self.old) result (streams_view self.new) }
     {
         if self.bi.tell_opened() {
             return Some(StreamEvent::Opened { dir: Dir::Bi });

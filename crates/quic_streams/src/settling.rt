@@ -3,8 +3,8 @@
 ghost use Rattle.std.specs.Prelude.{ℕ, List, ◌∷◌, ◌≡◌, ◌≤◌, drop, OnOk, IfErr};
 ghost use Rattle.smallvec.specs.SmallVec.{small_vec_len};
 ghost use Rattle.quic_wire.specs.declared.frame.StreamMeta.{StreamMeta};
-ghost use Rattle.quic_retransmits.specs.Pending.{shown_pending, shown_if};
-ghost use Rattle.quic_streams.specs.Shown.{shown};
+ghost use Rattle.quic_retransmits.specs.Pending.{pending_view, thin_view};
+ghost use Rattle.quic_streams.specs.Shown.{streams_view};
 ghost use Rattle.quic_streams.specs.Sent.{sent_view, report_view, StopsAfter, StopsAfterResets};
 ghost use Rattle.quic_history.specs.World.{Made};
 ghost use Rattle.quic_history.specs.History.{Event, From};
@@ -33,16 +33,16 @@ impl StreamsState {
     /// Where memory is wanting, what is unreported comes back, to be reported again: the frame whose report was refused,
     /// and all behind it. Nothing stays of the report that was refused.
     pub fn acked(&mut self, sent: SentPayload) -> Result<(), SentPayload>
-        ensures acks { AcksWhole (shown self.old) (sent_view sent) (report_view result) (shown self.new) }
-        ensures from { (m : Made) (h : List Event) → From m h (shown self.old)
-            → From m (acks_told (sent_view sent) (report_view result) h) (shown self.new) }
+        ensures acks { AcksWhole (streams_view self.old) (sent_view sent) (report_view result) (streams_view self.new) }
+        ensures from { (m : Made) (h : List Event) → From m h (streams_view self.old)
+            → From m (acks_told (sent_view sent) (report_view result) h) (streams_view self.new) }
     {
         self.take_acked(sent)
     }
 
     // The same, each way out.
     fn take_acked(&mut self, sent: SentPayload) -> Result<(), SentPayload>
-        ensures { AcksWhole (shown self.old) (sent_view sent) (report_view result) (shown self.new) }
+        ensures { AcksWhole (streams_view self.old) (sent_view sent) (report_view result) (streams_view self.new) }
     {
         let SentPayload {
             mut streams,
@@ -64,8 +64,8 @@ impl StreamsState {
 
     // The STREAM frames of a list were acknowledged. A refusal answers how many were reported before it.
     fn ack_frames(&mut self, frames: &[StreamMeta]) -> Result<(), usize>
-        ensures ok { OnOk result (EachInOrder AcksMeta (shown self.old) frames.now (shown self.new)) }
-        ensures err { IfErr result (StopsAfter StreamMeta AcksMeta RefusesAck (shown self.old) frames.now (shown self.new)) }
+        ensures ok { OnOk result (EachInOrder AcksMeta (streams_view self.old) frames.now (streams_view self.new)) }
+        ensures err { IfErr result (StopsAfter StreamMeta AcksMeta RefusesAck (streams_view self.old) frames.now (streams_view self.new)) }
     {
         for index in 0..frames.len() {
             self.ack_frame(&frames[index], index)?;
@@ -75,8 +75,8 @@ impl StreamsState {
 
     // The same of one that so many stand before.
     fn ack_frame(&mut self, frame: &StreamMeta, index: usize) -> Result<(), usize>
-        ensures ok { OnOk result (AcksMeta (shown self.old) frame.now (shown self.new)) }
-        ensures err { IfErr result (λ before. (before ≡ index) × RefusesAck (shown self.old) frame.now × (shown self.new ≡ shown self.old)) }
+        ensures ok { OnOk result (AcksMeta (streams_view self.old) frame.now (streams_view self.new)) }
+        ensures err { IfErr result (λ before. (before ≡ index) × RefusesAck (streams_view self.old) frame.now × (streams_view self.new ≡ streams_view self.old)) }
     {
         match self.take_ack(same_frame(frame)) {
             Ok(()) => Ok(()),
@@ -86,8 +86,8 @@ impl StreamsState {
 
     // The RESET_STREAM frames that were noted were acknowledged. A refusal answers how many were reported before it.
     fn ack_noted(&mut self, control: &ThinRetransmits) -> Result<(), usize>
-        ensures ok { OnOk result (EachInOrder AcksResetOf (shown self.old) (resets_of (shown_if control.now)) (shown self.new)) }
-        ensures err { IfErr result (StopsAfterResets (shown self.old) (shown_if control.now) (shown self.new)) }
+        ensures ok { OnOk result (EachInOrder AcksResetOf (streams_view self.old) (resets_of (thin_view control.now)) (streams_view self.new)) }
+        ensures err { IfErr result (StopsAfterResets (streams_view self.old) (thin_view control.now) (streams_view self.new)) }
     {
         match control.get() {
             None => Ok(()),
@@ -97,8 +97,8 @@ impl StreamsState {
 
     // The same of a list.
     fn ack_resets(&mut self, resets: &[(StreamId, VarInt)]) -> Result<(), usize>
-        ensures ok { OnOk result (EachInOrder AcksResetOf (shown self.old) resets.now (shown self.new)) }
-        ensures err { IfErr result (StopsAfter (ℕ × ℕ) AcksResetOf RefusesReset (shown self.old) resets.now (shown self.new)) }
+        ensures ok { OnOk result (EachInOrder AcksResetOf (streams_view self.old) resets.now (streams_view self.new)) }
+        ensures err { IfErr result (StopsAfter (ℕ × ℕ) AcksResetOf RefusesReset (streams_view self.old) resets.now (streams_view self.new)) }
     {
         for index in 0..resets.len() {
             self.ack_reset(resets[index], index)?;
@@ -108,8 +108,8 @@ impl StreamsState {
 
     // The same of one that so many stand before.
     fn ack_reset(&mut self, reset: (StreamId, VarInt), index: usize) -> Result<(), usize>
-        ensures ok { OnOk result (AcksResetOf (shown self.old) reset (shown self.new)) }
-        ensures err { IfErr result (λ before. (before ≡ index) × RefusesReset (shown self.old) reset × (shown self.new ≡ shown self.old)) }
+        ensures ok { OnOk result (AcksResetOf (streams_view self.old) reset (streams_view self.new)) }
+        ensures err { IfErr result (λ before. (before ≡ index) × RefusesReset (streams_view self.old) reset × (streams_view self.new ≡ streams_view self.old)) }
     {
         match self.take_reset_ack(reset.0) {
             Ok(()) => Ok(()),
@@ -124,16 +124,16 @@ impl StreamsState {
     /// Where memory is wanting, what is unreported comes back, to be reported again: the frame whose report was refused,
     /// all behind it, and what was noted of the others. Nothing stays of the report that was refused.
     pub fn lost(&mut self, sent: SentPayload, pending: &mut Retransmits) -> Result<(), SentPayload>
-        ensures loses { LosesWhole (shown self.old) (shown_pending pending.old) (sent_view sent) (report_view result) (shown self.new) (shown_pending pending.new) }
-        ensures from { (m : Made) (h : List Event) → From m h (shown self.old)
-            → From m (losses_told (sent_view sent) (report_view result) h) (shown self.new) }
+        ensures loses { LosesWhole (streams_view self.old) (pending_view pending.old) (sent_view sent) (report_view result) (streams_view self.new) (pending_view pending.new) }
+        ensures from { (m : Made) (h : List Event) → From m h (streams_view self.old)
+            → From m (losses_told (sent_view sent) (report_view result) h) (streams_view self.new) }
     {
         self.take_lost(sent, pending)
     }
 
     // The same, each way out.
     fn take_lost(&mut self, sent: SentPayload, pending: &mut Retransmits) -> Result<(), SentPayload>
-        ensures { LosesWhole (shown self.old) (shown_pending pending.old) (sent_view sent) (report_view result) (shown self.new) (shown_pending pending.new) }
+        ensures { LosesWhole (streams_view self.old) (pending_view pending.old) (sent_view sent) (report_view result) (streams_view self.new) (pending_view pending.new) }
     {
         let SentPayload {
             mut streams,
@@ -154,8 +154,8 @@ impl StreamsState {
 
     // The STREAM frames of a list were lost. A refusal answers how many were reported before it.
     fn lose_frames(&mut self, frames: &[StreamMeta]) -> Result<(), usize>
-        ensures ok { OnOk result (EachInOrder LosesMeta (shown self.old) frames.now (shown self.new)) }
-        ensures err { IfErr result (StopsAfter StreamMeta LosesMeta RefusesLoss (shown self.old) frames.now (shown self.new)) }
+        ensures ok { OnOk result (EachInOrder LosesMeta (streams_view self.old) frames.now (streams_view self.new)) }
+        ensures err { IfErr result (StopsAfter StreamMeta LosesMeta RefusesLoss (streams_view self.old) frames.now (streams_view self.new)) }
     {
         for index in 0..frames.len() {
             self.lose_frame(&frames[index], index)?;
@@ -165,8 +165,8 @@ impl StreamsState {
 
     // The same of one that so many stand before.
     fn lose_frame(&mut self, frame: &StreamMeta, index: usize) -> Result<(), usize>
-        ensures ok { OnOk result (LosesMeta (shown self.old) frame.now (shown self.new)) }
-        ensures err { IfErr result (λ before. (before ≡ index) × RefusesLoss (shown self.old) frame.now × (shown self.new ≡ shown self.old)) }
+        ensures ok { OnOk result (LosesMeta (streams_view self.old) frame.now (streams_view self.new)) }
+        ensures err { IfErr result (λ before. (before ≡ index) × RefusesLoss (streams_view self.old) frame.now × (streams_view self.new ≡ streams_view self.old)) }
     {
         match self.take_loss(same_frame(frame)) {
             Ok(()) => Ok(()),

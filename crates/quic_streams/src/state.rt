@@ -9,12 +9,12 @@ ghost use Rattle.quic_streams.specs.InPlace.{IsInMode, ReadsIn, AsksIn, IngestsI
 ghost use Rattle.quic_streams.specs.HalfReads.{ReadsSomeIn, is_due_after};
 ghost use Rattle.quic_history.specs.Reading.{is_reading, bytes_in};
 ghost use Rattle.quic_history.specs.Halves.{is_due_in, TellsCode};
-ghost use Rattle.quic_outgoing.specs.Shown.{view_of, permit_room};
+ghost use Rattle.quic_outgoing.specs.Shown.{outgoing_view, permit_room};
 ghost use Rattle.quic_streams.specs.Room.{rooms, HasEventRoom};
 ghost use Rattle.quic_history.specs.History.{From};
 ghost use Rattle.quic_history.specs.World.{made_with, World, start, id_refusal, is_own, is_same_side, own_refusal, with_permitted, replaced_in, released, with_freed, told_readable, noticed, with_receive, with_counted};
 ghost use Rattle.quic_history.specs.Sends.{is_permitted};
-ghost use Rattle.quic_streams.specs.Shown.{shown};
+ghost use Rattle.quic_streams.specs.Shown.{streams_view};
 
 use crate::half_reads::HalfReads;
 use crate::halves::{Ingested, ReceiveHalves};
@@ -48,7 +48,7 @@ pub struct StreamsState {
     pub(crate) adjusted: bool,
 }
 
-#[tactic(auto, unfolding(crate::specs::Shown::shown, quic_history::specs::World::with_receive, crate::specs::Room::rooms, crate::specs::Room::HasEventRoom))]
+#[tactic(auto, unfolding(crate::specs::Shown::streams_view, quic_history::specs::World::with_receive, crate::specs::Room::rooms, crate::specs::Room::HasEventRoom))]
 impl StreamsState {
     /// The streams of one end, of which none is open. The peer may open so many unidirectional and bidirectional
     /// streams, and send `receive_window` bytes in all, and `stream_window` on each stream, before credit is
@@ -64,8 +64,8 @@ impl StreamsState {
     ) -> Result<Self, OutOfMemory>
         requires uni { max_remote_uni ≤ 2 ^ 60 }
         requires bi { max_remote_bi ≤ 2 ^ 60 }
-        ensures start { IfOk result (λ state. shown state ≡ start (made_with side max_remote_uni max_remote_bi send_window receive_window stream_window)) }
-        ensures from { IfOk result (λ state. From (made_with side max_remote_uni max_remote_bi send_window receive_window stream_window) [] (shown state)) }
+        ensures start { IfOk result (λ state. streams_view state ≡ start (made_with side max_remote_uni max_remote_bi send_window receive_window stream_window)) }
+        ensures from { IfOk result (λ state. From (made_with side max_remote_uni max_remote_bi send_window receive_window stream_window) [] (streams_view state)) }
     {
         let (uni, bi) = (max_remote_uni.into_inner(), max_remote_bi.into_inner());
         let mut receive = ReceiveHalves::new(alloc, stream_window);
@@ -90,7 +90,7 @@ impl StreamsState {
     // Whether this end opened a stream, or is to open it.
     #[inline]
     pub(crate) fn is_own(&self, id: StreamId) -> bool
-        ensures { result ≡ is_own (shown self.now) id }
+        ensures { result ≡ is_own (streams_view self.now) id }
     {
         is_same_side(self.outgoing.side(), id.initiator())
     }
@@ -98,8 +98,8 @@ impl StreamsState {
     // The error of a frame on a stream that the peer may not send on, or may not open.
     #[inline]
     pub(crate) fn validate_receive_id(&self, id: StreamId) -> Result<(), TransportError>
-        ensures ok { OnOk result (id_refusal (shown self.now) id ≡ None) }
-        ensures err { IfErr result (λ error. id_refusal (shown self.now) id ≡ Some error.code) }
+        ensures ok { OnOk result (id_refusal (streams_view self.now) id ≡ None) }
+        ensures err { IfErr result (λ error. id_refusal (streams_view self.now) id ≡ Some error.code) }
     {
         if self.is_own(id) {
             return self.validate_own(id.dir(), id.index());
@@ -116,8 +116,8 @@ impl StreamsState {
 
     // The same for a stream of this end.
     fn validate_own(&self, dir: Dir, index: u64) -> Result<(), TransportError>
-        ensures ok { OnOk result (own_refusal (shown self.now) dir index ≡ None) }
-        ensures err { IfErr result (λ error. own_refusal (shown self.now) dir index ≡ Some error.code) }
+        ensures ok { OnOk result (own_refusal (streams_view self.now) dir index ≡ None) }
+        ensures err { IfErr result (λ error. own_refusal (streams_view self.now) dir index ≡ Some error.code) }
     {
         match dir {
             Dir::Uni => Err(TransportError::stream_state_error(
@@ -135,7 +135,7 @@ impl StreamsState {
     // Makes room for a stream that takes the place of a freed one.
     #[inline]
     pub(crate) fn make_stream_room(&mut self) -> Result<(), OutOfMemory>
-        ensures same { shown self.new ≡ shown self.old }
+        ensures same { streams_view self.new ≡ streams_view self.old }
         ensures rooms { OnOk result (1 ≤ rooms self.new) }
     {
         self.receive.reserve(1)?;
@@ -146,7 +146,7 @@ impl StreamsState {
     // Makes the room that a frame may need: for an event, and for a stream that takes the place of a freed one.
     #[inline]
     pub(crate) fn make_room(&mut self) -> Result<(), OutOfMemory>
-        ensures same { shown self.new ≡ shown self.old }
+        ensures same { streams_view self.new ≡ streams_view self.old }
         ensures rooms { OnOk result (1 ≤ rooms self.new) }
         ensures events { OnOk result (HasEventRoom self.new) }
     {
@@ -158,11 +158,11 @@ impl StreamsState {
     // Takes a receive half out, to be put back or freed. It is made where nothing came yet.
     #[inline]
     pub(crate) fn take_half(&mut self, id: StreamId) -> Result<Option<Box<Recv>>, OutOfMemory>
-        ensures half { IfOk result (λ half. option_map (λ b. b.value) half ≡ (shown self.old).receive id) }
-        ensures taken { IfOk result (λ half. IfSome half (λ _. shown self.new ≡ with_receive (shown self.old) id (Some (new_half (shown self.old).window)))) }
-        ensures none { IfOk result (λ half. IfNone half (shown self.new ≡ shown self.old)) }
-        ensures err { OnErr result (shown self.new ≡ shown self.old) }
-        ensures err_new { OnErr result ((shown self.old).receive id ≡ Some (new_half (shown self.old).window)) }
+        ensures half { IfOk result (λ half. option_map (λ b. b.value) half ≡ (streams_view self.old).receive id) }
+        ensures taken { IfOk result (λ half. IfSome half (λ _. streams_view self.new ≡ with_receive (streams_view self.old) id (Some (new_half (streams_view self.old).window)))) }
+        ensures none { IfOk result (λ half. IfNone half (streams_view self.new ≡ streams_view self.old)) }
+        ensures err { OnErr result (streams_view self.new ≡ streams_view self.old) }
+        ensures err_new { OnErr result ((streams_view self.old).receive id ≡ Some (new_half (streams_view self.old).window)) }
         ensures events { HasEventRoom self.old → HasEventRoom self.new }
         ensures rooms { rooms self.new ≡ rooms self.old }
     {
@@ -172,8 +172,8 @@ impl StreamsState {
     // Puts a receive half back.
     #[inline]
     pub(crate) fn put_half(&mut self, id: StreamId, half: Box<Recv>)
-        requires { is_some ((shown self.old).receive id) ≡ true }
-        ensures put { shown self.new ≡ with_receive (shown self.old) id (Some half.value) }
+        requires { is_some ((streams_view self.old).receive id) ≡ true }
+        ensures put { streams_view self.new ≡ with_receive (streams_view self.old) id (Some half.value) }
         ensures events { HasEventRoom self.old → HasEventRoom self.new }
         ensures rooms { rooms self.new ≡ rooms self.old }
     {
@@ -188,9 +188,9 @@ impl StreamsState {
         max_length: usize,
         ordered: bool,
     ) -> Result<Option<Chunk>, ReadError>
-        requires { IsInMode ((shown self.old).receive id) ordered }
-        ensures reads { ReadsIn (shown self.old).receive id max_length ordered result (shown self.new).receive }
-        ensures halves { ChangesHalves (shown self.old) (shown self.new) }
+        requires { IsInMode ((streams_view self.old).receive id) ordered }
+        ensures reads { ReadsIn (streams_view self.old).receive id max_length ordered result (streams_view self.new).receive }
+        ensures halves { ChangesHalves (streams_view self.old) (streams_view self.new) }
         ensures events { HasEventRoom self.old → HasEventRoom self.new }
         ensures rooms { rooms self.new ≡ rooms self.old }
     {
@@ -210,11 +210,11 @@ impl StreamsState {
     ) -> Result<HalfReads, ReadableError>
         requires empty { list.items ≡ [] }
         requires places { times ≤ vec_capacity list }
-        ensures reads { IfOk result (λ r. ReadsSomeIn (shown self.old).receive id max_length times ordered r.chunks.items r.last (shown self.new).receive) }
+        ensures reads { IfOk result (λ r. ReadsSomeIn (streams_view self.old).receive id max_length times ordered r.chunks.items r.last (streams_view self.new).receive) }
         ensures bytes { IfOk result (λ r. r.read ≡ bytes_in r.chunks.items) }
-        ensures due { IfOk result (λ r. r.window_due ≡ is_due_after r.last (shown self.new).window ((shown self.new).receive id)) }
-        ensures refused { IfErr result (λ error. AsksIn (shown self.old).receive id ordered (Err error) (shown self.new).receive) }
-        ensures halves { ChangesHalves (shown self.old) (shown self.new) }
+        ensures due { IfOk result (λ r. r.window_due ≡ is_due_after r.last (streams_view self.new).window ((streams_view self.new).receive id)) }
+        ensures refused { IfErr result (λ error. AsksIn (streams_view self.old).receive id ordered (Err error) (streams_view self.new).receive) }
+        ensures halves { ChangesHalves (streams_view self.old) (streams_view self.new) }
         ensures rooms { rooms self.new ≡ rooms self.old }
     {
         self.receive.read_some(id, ordered, max_length, times, list)
@@ -223,9 +223,9 @@ impl StreamsState {
     // Asks a receive half for a mode, where it lies.
     #[inline]
     pub(crate) fn ask_in_place(&mut self, id: StreamId, ordered: bool) -> Result<(), ReadableError>
-        ensures asks { AsksIn (shown self.old).receive id ordered result (shown self.new).receive }
-        ensures reading { OnOk result (is_reading Progress.Readable ((shown self.new).receive id) ordered 0 ≡ true) }
-        ensures halves { ChangesHalves (shown self.old) (shown self.new) }
+        ensures asks { AsksIn (streams_view self.old).receive id ordered result (streams_view self.new).receive }
+        ensures reading { OnOk result (is_reading Progress.Readable ((streams_view self.new).receive id) ordered 0 ≡ true) }
+        ensures halves { ChangesHalves (streams_view self.old) (streams_view self.new) }
         ensures rooms { rooms self.new ≡ rooms self.old }
     {
         self.receive.ask(id, ordered)
@@ -241,9 +241,9 @@ impl StreamsState {
         permitted: u64,
     ) -> Result<Option<Ingested>, OutOfMemory>
         requires { length frame.bytes ≤ payload_len }
-        ensures ingests { IfOk result (λ taken. IngestsIn (shown self.old).receive frame.id frame.offset frame.bytes frame.fin payload_len received permitted taken (shown self.new).receive) }
-        ensures err { OnErr result (shown self.new ≡ shown self.old) }
-        ensures halves { ChangesHalves (shown self.old) (shown self.new) }
+        ensures ingests { IfOk result (λ taken. IngestsIn (streams_view self.old).receive frame.id frame.offset frame.bytes frame.fin payload_len received permitted taken (streams_view self.new).receive) }
+        ensures err { OnErr result (streams_view self.new ≡ streams_view self.old) }
+        ensures halves { ChangesHalves (streams_view self.old) (streams_view self.new) }
         ensures events { HasEventRoom self.old → HasEventRoom self.new }
         ensures rooms { rooms self.new ≡ rooms self.old }
     {
@@ -253,14 +253,14 @@ impl StreamsState {
     // Whether MAX_STREAM_DATA is worth a frame on a stream.
     #[inline]
     pub(crate) fn is_window_due(&self, id: StreamId) -> bool
-        ensures { result ≡ is_due_in (shown self.now).window ((shown self.now).receive id) }
+        ensures { result ≡ is_due_in (streams_view self.now).window ((streams_view self.now).receive id) }
     {
         self.receive.is_window_due(id)
     }
 
     // The code of the reset of a stream that is not stopped, if it was reset.
     pub(crate) fn reset_code(&self, id: StreamId) -> Result<Option<VarInt>, ClosedStream>
-        ensures { TellsCode ((shown self.now).receive id) result }
+        ensures { TellsCode ((streams_view self.now).receive id) result }
     {
         self.receive.reset_code(id)
     }
@@ -268,8 +268,8 @@ impl StreamsState {
     // How many bytes of all streams were received, and how many are permitted.
     #[inline]
     pub(crate) fn received_of_permitted(&self) -> (u64, u64)
-        ensures received { result.0 ≡ (shown self.now).credit.data_recvd }
-        ensures permitted { result.1 ≡ (shown self.now).credit.local_max_data }
+        ensures received { result.0 ≡ (streams_view self.now).credit.data_recvd }
+        ensures permitted { result.1 ≡ (streams_view self.now).credit.local_max_data }
     {
         (self.credit.data_recvd(), self.credit.local_max_data())
     }
@@ -277,8 +277,8 @@ impl StreamsState {
     // Counts bytes that lie above what was received before.
     #[inline]
     pub(crate) fn count(&mut self, new_bytes: u64)
-        requires { (shown self.old).credit.data_recvd + new_bytes < 2 ^ 64 }
-        ensures counted { shown self.new ≡ with_counted (shown self.old) new_bytes }
+        requires { (streams_view self.old).credit.data_recvd + new_bytes < 2 ^ 64 }
+        ensures counted { streams_view self.new ≡ with_counted (streams_view self.old) new_bytes }
         ensures events { HasEventRoom self.old → HasEventRoom self.new }
         ensures rooms { rooms self.new ≡ rooms self.old }
     {
@@ -289,7 +289,7 @@ impl StreamsState {
     fn permit_uni(&mut self, index: u64)
         requires room { 0 < room self.old.receive }
         requires index { index < 2 ^ 60 }
-        ensures { shown self.new ≡ with_permitted (shown self.old) Dir.Uni index }
+        ensures { streams_view self.new ≡ with_permitted (streams_view self.old) Dir.Uni index }
     {
         self.receive
             .permit(StreamId::new(!self.outgoing.side(), Dir::Uni, index));
@@ -299,7 +299,7 @@ impl StreamsState {
         requires room { 0 < room self.old.receive }
         requires send_room { 0 < permit_room self.old.outgoing }
         requires index { index < 2 ^ 60 }
-        ensures permitted { shown self.new ≡ with_permitted (shown self.old) Dir.Bi index }
+        ensures permitted { streams_view self.new ≡ with_permitted (streams_view self.old) Dir.Bi index }
         ensures events { HasEventRoom self.old → HasEventRoom self.new }
     {
         let id = StreamId::new(!self.outgoing.side(), Dir::Bi, index);
@@ -310,7 +310,7 @@ impl StreamsState {
     // A stream of the peer was wholly freed, and another may take its place.
     fn replace_uni(&mut self)
         requires { 0 < room self.old.receive }
-        ensures { shown self.new ≡ replaced_in (shown self.old) Dir.Uni }
+        ensures { streams_view self.new ≡ replaced_in (streams_view self.old) Dir.Uni }
     {
         if let Some(index) = self.uni.replace() {
             self.permit_uni(index);
@@ -320,7 +320,7 @@ impl StreamsState {
     pub(crate) fn replace_bi(&mut self)
         requires room { 0 < room self.old.receive }
         requires send_room { 0 < permit_room self.old.outgoing }
-        ensures replaced { shown self.new ≡ replaced_in (shown self.old) Dir.Bi }
+        ensures replaced { streams_view self.new ≡ replaced_in (streams_view self.old) Dir.Bi }
         ensures events { HasEventRoom self.old → HasEventRoom self.new }
     {
         if let Some(index) = self.bi.replace() {
@@ -331,7 +331,7 @@ impl StreamsState {
     // A receive half is freed. There is room for a stream in its place.
     pub(crate) fn free_receive(&mut self, id: StreamId)
         requires { 1 ≤ rooms self.old }
-        ensures { shown self.new ≡ with_freed (shown self.old) id }
+        ensures { streams_view self.new ≡ with_freed (streams_view self.old) id }
     {
         self.receive.remove(id);
         if self.is_own(id) {
@@ -351,7 +351,7 @@ impl StreamsState {
     #[inline]
     fn tell_readable(&mut self, id: StreamId, readable: bool)
         requires { HasEventRoom self.old }
-        ensures told { shown self.new ≡ told_readable (shown self.old) id readable }
+        ensures told { streams_view self.new ≡ told_readable (streams_view self.old) id readable }
         ensures rooms { rooms self.new ≡ rooms self.old }
     {
         if readable {
@@ -361,8 +361,8 @@ impl StreamsState {
 
     // A frame that is not for the application came on a stream. It opens one of the peer that was not open.
     pub(crate) fn notice_open(&mut self, id: StreamId)
-        requires { is_permitted (shown self.old) id ≡ true }
-        ensures { shown self.new ≡ noticed (shown self.old) id false }
+        requires { is_permitted (streams_view self.old) id ≡ true }
+        ensures { streams_view self.new ≡ noticed (streams_view self.old) id false }
     {
         if self.is_own(id) {
             return;
@@ -377,8 +377,8 @@ impl StreamsState {
     #[inline]
     pub(crate) fn notice(&mut self, id: StreamId, readable: bool)
         requires event { HasEventRoom self.old }
-        requires known { id_refusal (shown self.old) id ≡ None }
-        ensures noticed { shown self.new ≡ noticed (shown self.old) id readable }
+        requires known { id_refusal (streams_view self.old) id ≡ None }
+        ensures noticed { streams_view self.new ≡ noticed (streams_view self.old) id readable }
         ensures rooms { rooms self.new ≡ rooms self.old }
     {
         if self.is_own(id) {

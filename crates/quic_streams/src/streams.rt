@@ -4,7 +4,7 @@ ghost use Rattle.std.specs.Prelude.{ℕ, List, ◌∷◌, ◌≡◌, ◌<◌, �
 ghost use Rattle.std.specs.Borrow.{sem};
 ghost use Rattle.std.specs.Option.{option_map};
 ghost use Rattle.quic_limits.specs.Remote.{open_now, one_accepted, acceptable_index};
-ghost use Rattle.quic_streams.specs.Shown.{shown};
+ghost use Rattle.quic_streams.specs.Shown.{streams_view};
 ghost use Rattle.quic_history.specs.Used.{used_halves};
 ghost use Rattle.quic_history.specs.Acknowledged.{was_given};
 ghost use Rattle.quic_history.specs.World.{Made, remote_of};
@@ -59,8 +59,8 @@ impl<'a> Streams<'a> {
     pub fn open(&mut self, dir: Dir) -> Result<Option<StreamId>, OutOfMemory>
         ensures same_state { self.new.state.ghost_name ≡ self.old.state.ghost_name }
         ensures conn { self.new.conn ≡ self.old.conn }
-        ensures opens { OpensOwn (shown self.old.state.now) dir (is_shut self.old.conn) result (shown self.new.state.now) }
-        ensures from { (m : Made) (h : List Event) → From m h (shown self.old.state.now) → From m (Sending (OpenedOwn dir (is_shut self.old.conn) result) ∷ h) (shown self.new.state.now) }
+        ensures opens { OpensOwn (streams_view self.old.state.now) dir (is_shut self.old.conn) result (streams_view self.new.state.now) }
+        ensures from { (m : Made) (h : List Event) → From m h (streams_view self.old.state.now) → From m (Sending (OpenedOwn dir (is_shut self.old.conn) result) ∷ h) (streams_view self.new.state.now) }
     {
         self.state.open(dir, self.conn)
     }
@@ -70,9 +70,9 @@ impl<'a> Streams<'a> {
     pub fn accept(&mut self, dir: Dir) -> Option<StreamId>
         ensures same_state { self.new.state.ghost_name ≡ self.old.state.ghost_name }
         ensures conn { self.new.conn ≡ self.old.conn }
-        ensures id { result ≡ acceptable (shown self.old.state.now) dir }
-        ensures accepted { shown self.new.state.now ≡ with_accepted (shown self.old.state.now) dir }
-        ensures from { (m : Made) (h : List Event) → From m h (shown self.old.state.now) → From m (Accepted dir result ∷ h) (shown self.new.state.now) }
+        ensures id { result ≡ acceptable (streams_view self.old.state.now) dir }
+        ensures accepted { streams_view self.new.state.now ≡ with_accepted (streams_view self.old.state.now) dir }
+        ensures from { (m : Made) (h : List Event) → From m h (streams_view self.old.state.now) → From m (Accepted dir result ∷ h) (streams_view self.new.state.now) }
     {
         self.state.accept(dir)
     }
@@ -87,7 +87,7 @@ impl<'a> Streams<'a> {
 
     /// How many streams of a direction the peer has open: those that it opened, less those that were wholly freed.
     pub fn remote_open_streams(&self, dir: Dir) -> u64
-        ensures { result ≡ open_now (remote_of (shown self.now.state.now) dir) }
+        ensures { result ≡ open_now (remote_of (streams_view self.now.state.now) dir) }
     {
         self.state.remote_open(dir)
     }
@@ -95,19 +95,19 @@ impl<'a> Streams<'a> {
     /// How many streams have a send half that is held: those that this end opened, and those of the peer that were
     /// accepted. One is held until the stream's end and all its data, or its reset, were acknowledged.
     pub fn send_streams(&self) -> usize
-        ensures count { result ≡ (shown self.now.state.now).send_streams }
-        ensures used { (m : Made) (h : List Event) → From m h (shown self.now.state.now) → result ≡ used_halves (shown self.now.state.now) }
+        ensures count { result ≡ (streams_view self.now.state.now).send_streams }
+        ensures used { (m : Made) (h : List Event) → From m h (streams_view self.now.state.now) → result ≡ used_halves (streams_view self.now.state.now) }
     {
         self.state.used_halves()
     }
 }
 
-#[tactic(auto, unfolding(crate::specs::Shown::shown, quic_history::specs::World::with_receive))]
+#[tactic(auto, unfolding(crate::specs::Shown::streams_view, quic_history::specs::World::with_receive))]
 impl StreamsState {
     /// Whether the application was given a stream: it was opened by [`Streams::open`], or accepted by
     /// [`Streams::accept`].
     pub fn was_given(&self, id: StreamId) -> bool
-        ensures { result ≡ was_given (shown self.now) id }
+        ensures { result ≡ was_given (streams_view self.now) id }
     {
         let given = match (self.is_own(id), id.dir()) {
             (true, dir) => self.outgoing.opened(dir),
@@ -119,7 +119,7 @@ impl StreamsState {
 
     // Opens the next stream of a direction.
     fn open(&mut self, dir: Dir, conn: ConnState) -> Result<Option<StreamId>, OutOfMemory>
-        ensures { OpensOwn (shown self.old) dir (is_shut conn) result (shown self.new) }
+        ensures { OpensOwn (streams_view self.old) dir (is_shut conn) result (streams_view self.new) }
     {
         if matches!(conn, ConnState::Closed) {
             return Ok(None);
@@ -132,7 +132,7 @@ impl StreamsState {
 
     // Opens the next unidirectional stream.
     fn open_uni(&mut self) -> Result<Option<StreamId>, OutOfMemory>
-        ensures { OpensOwn (shown self.old) Dir.Uni false result (shown self.new) }
+        ensures { OpensOwn (streams_view self.old) Dir.Uni false result (streams_view self.new) }
     {
         match self.outgoing.open(Dir::Uni)? {
             None => Ok(None),
@@ -145,15 +145,15 @@ impl StreamsState {
 
     // How many send halves are held of the streams that this end opened or accepted.
     fn used_halves(&self) -> usize
-        ensures count { result ≡ (shown self.now).send_streams }
-        ensures used { (m : Made) (h : List Event) → From m h (shown self.now) → result ≡ used_halves (shown self.now) }
+        ensures count { result ≡ (streams_view self.now).send_streams }
+        ensures used { (m : Made) (h : List Event) → From m h (streams_view self.now) → result ≡ used_halves (streams_view self.now) }
     {
         self.send_streams
     }
 
     // Opens the next bidirectional stream, with both halves.
     fn open_bi(&mut self) -> Result<Option<StreamId>, OutOfMemory>
-        ensures { OpensOwn (shown self.old) Dir.Bi false result (shown self.new) }
+        ensures { OpensOwn (streams_view self.old) Dir.Bi false result (streams_view self.new) }
     {
         self.receive.reserve(1)?;
         match self.outgoing.open(Dir::Bi)? {
@@ -168,8 +168,8 @@ impl StreamsState {
 
     // Accepts the next stream of a direction.
     pub(crate) fn accept(&mut self, dir: Dir) -> Option<StreamId>
-        ensures id { result ≡ acceptable (shown self.old) dir }
-        ensures accepted { shown self.new ≡ with_accepted (shown self.old) dir }
+        ensures id { result ≡ acceptable (streams_view self.old) dir }
+        ensures accepted { streams_view self.new ≡ with_accepted (streams_view self.old) dir }
     {
         match dir {
             Dir::Bi => self.accept_bi(),
@@ -179,8 +179,8 @@ impl StreamsState {
 
     // Accepts the next bidirectional stream, on which this end sends as well while its send half is held.
     fn accept_bi(&mut self) -> Option<StreamId>
-        ensures id { result ≡ acceptable (shown self.old) Dir.Bi }
-        ensures accepted { shown self.new ≡ with_accepted (shown self.old) Dir.Bi }
+        ensures id { result ≡ acceptable (streams_view self.old) Dir.Bi }
+        ensures accepted { streams_view self.new ≡ with_accepted (streams_view self.old) Dir.Bi }
     {
         let index = self.bi.accept()?;
         let id = StreamId::new(!self.outgoing.side(), Dir::Bi, index);
@@ -192,8 +192,8 @@ impl StreamsState {
 
     // Accepts the next unidirectional stream.
     fn accept_uni(&mut self) -> Option<StreamId>
-        ensures id { result ≡ acceptable (shown self.old) Dir.Uni }
-        ensures accepted { shown self.new ≡ with_accepted (shown self.old) Dir.Uni }
+        ensures id { result ≡ acceptable (streams_view self.old) Dir.Uni }
+        ensures accepted { streams_view self.new ≡ with_accepted (streams_view self.old) Dir.Uni }
     {
         let index = self.uni.accept()?;
         Some(StreamId::new(!self.outgoing.side(), Dir::Uni, index))

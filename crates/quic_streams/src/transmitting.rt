@@ -7,14 +7,14 @@ ghost use Rattle.quic_outgoing.specs.Transmitting.{sending_priority};
 ghost use Rattle.quic_writing.specs.Appended.{AreWritten, AppendsFrames};
 ghost use Rattle.quic_history.specs.World.{Made};
 ghost use Rattle.quic_history.specs.History.{Event, From};
-ghost use Rattle.quic_streams.specs.Shown.{shown};
+ghost use Rattle.quic_streams.specs.Shown.{streams_view};
 ghost use Rattle.quic_streams.specs.Transmitting.{end_writer, WritesStreamFrames, GoesOnWithTurns, told_bytes};
 
 use crate::state::StreamsState;
 use quic_values::OutOfMemory;
 use quic_writing::{StreamMetaVec, write_stream_frames};
 
-#[tactic(auto, unfolding(crate::specs::Shown::shown))]
+#[tactic(auto, unfolding(crate::specs::Shown::streams_view))]
 impl StreamsState {
     /// Appends STREAM frames (RFC 9000 section 19.8) to a payload of at most `max_buf_size` bytes, and to `sent` what
     /// each of them carries, as long as a stream is queued and a frame with the greatest head still fits.
@@ -31,12 +31,12 @@ impl StreamsState {
         max_buf_size: usize,
         fair: bool,
     ) -> Result<(), OutOfMemory>
-        ensures writes { WritesStreamFrames max_buf_size fair (shown self.old) buf.old.items sent.old.items (shown self.new) buf.new.items sent.new.items }
-        ensures full { OnOk result ((line (shown self.new).queue ≡ []) ⊎ (max_buf_size ≤ length buf.new.items + 25)) }
-        ensures refused { OnErr result ((0 < length (line (shown self.new).queue)) × (length buf.new.items + 25 < max_buf_size)) }
-        ensures carries { (m : Made) (h : List Event) → From m h (shown self.old) → AppendsFrames (told_bytes m h) max_buf_size (end_writer (shown self.old) buf.old.items sent.old.items) (end_writer (shown self.new) buf.new.items sent.new.items) }
-        ensures from { GoesOnWithTurns max_buf_size fair sent.old.items sent.new.items (shown self.old) (shown self.new) }
-        ensures text { (written : ℕ → List ℕ) → AreWritten written (shown self.old).out → AppendsFrames written max_buf_size (end_writer (shown self.old) buf.old.items sent.old.items) (end_writer (shown self.new) buf.new.items sent.new.items) }
+        ensures writes { WritesStreamFrames max_buf_size fair (streams_view self.old) buf.old.items sent.old.items (streams_view self.new) buf.new.items sent.new.items }
+        ensures full { OnOk result ((line (streams_view self.new).queue ≡ []) ⊎ (max_buf_size ≤ length buf.new.items + 25)) }
+        ensures refused { OnErr result ((0 < length (line (streams_view self.new).queue)) × (length buf.new.items + 25 < max_buf_size)) }
+        ensures carries { (m : Made) (h : List Event) → From m h (streams_view self.old) → AppendsFrames (told_bytes m h) max_buf_size (end_writer (streams_view self.old) buf.old.items sent.old.items) (end_writer (streams_view self.new) buf.new.items sent.new.items) }
+        ensures from { GoesOnWithTurns max_buf_size fair sent.old.items sent.new.items (streams_view self.old) (streams_view self.new) }
+        ensures text { (written : ℕ → List ℕ) → AreWritten written (streams_view self.old).out → AppendsFrames written max_buf_size (end_writer (streams_view self.old) buf.old.items sent.old.items) (end_writer (streams_view self.new) buf.new.items sent.new.items) }
     {
         self.write_streams(buf, sent, max_buf_size, fair)
     }
@@ -49,10 +49,10 @@ impl StreamsState {
         max_buf_size: usize,
         fair: bool,
     ) -> Result<(), OutOfMemory>
-        ensures writes { WritesStreamFrames max_buf_size fair (shown self.old) buf.old.items sent.old.items (shown self.new) buf.new.items sent.new.items }
-        ensures full { OnOk result ((line (shown self.new).queue ≡ []) ⊎ (max_buf_size ≤ length buf.new.items + 25)) }
-        ensures refused { OnErr result ((0 < length (line (shown self.new).queue)) × (length buf.new.items + 25 < max_buf_size)) }
-        ensures text { (written : ℕ → List ℕ) → AreWritten written (shown self.old).out → AppendsFrames written max_buf_size (end_writer (shown self.old) buf.old.items sent.old.items) (end_writer (shown self.new) buf.new.items sent.new.items) }
+        ensures writes { WritesStreamFrames max_buf_size fair (streams_view self.old) buf.old.items sent.old.items (streams_view self.new) buf.new.items sent.new.items }
+        ensures full { OnOk result ((line (streams_view self.new).queue ≡ []) ⊎ (max_buf_size ≤ length buf.new.items + 25)) }
+        ensures refused { OnErr result ((0 < length (line (streams_view self.new).queue)) × (length buf.new.items + 25 < max_buf_size)) }
+        ensures text { (written : ℕ → List ℕ) → AreWritten written (streams_view self.old).out → AppendsFrames written max_buf_size (end_writer (streams_view self.old) buf.old.items sent.old.items) (end_writer (streams_view self.new) buf.new.items sent.new.items) }
     {
         let (streams, queue) = (&mut self.outgoing, &mut self.queue);
         write_stream_frames(streams, queue, buf, sent, max_buf_size, fair)
@@ -61,7 +61,7 @@ impl StreamsState {
     /// Whether a stream is queued on which data may be sent: one that is held and was not reset. A queued stream that was
     /// reset or is gone takes its turn without a frame.
     pub fn can_send_stream_data(&self) -> bool
-        ensures { result ≡ list_any (λ id. is_some (sending_priority ((shown self.now).out.halves id))) (ids_of (line (shown self.now).queue)) }
+        ensures { result ≡ list_any (λ id. is_some (sending_priority ((streams_view self.now).out.halves id))) (ids_of (line (streams_view self.now).queue)) }
     {
         let streams = &self.outgoing;
         self.queue.any(|id| streams.sending_priority(id).is_some())

@@ -4,8 +4,8 @@ ghost use Rattle.std.specs.Prelude.{List, ◌∷◌, ◌≡◌, Err, IfOk, IfErr
 ghost use Rattle.quic_history.specs.History.{Event, Began, From};
 ghost use Rattle.quic_history.specs.Reading.{Begins};
 ghost use Rattle.quic_history.specs.World.{Made};
-ghost use Rattle.quic_retransmits.specs.Pending.{shown_pending as listed};
-ghost use Rattle.quic_streams.specs.Shown.{shown};
+ghost use Rattle.quic_retransmits.specs.Pending.{pending_view};
+ghost use Rattle.quic_streams.specs.Shown.{streams_view};
 ghost use Rattle.quic_streams.specs.Visits.{NextCall, Visits, ReadsWith};
 
 use crate::reading::Chunks;
@@ -30,7 +30,7 @@ pub trait ReadVisitor {
         ensures pending { reader.new.pending.now ≡ reader.old.pending.now }
         ensures id { reader.new.id ≡ reader.old.id }
         ensures ordered { reader.new.ordered ≡ reader.old.ordered }
-        ensures visits { Visits (shown reader.old.streams.now) reader.old.id reader.old.ordered (shown reader.new.streams.now) reader.new.progress reader.new.read (λ calls. does self.old calls self.new) };
+        ensures visits { Visits (streams_view reader.old.streams.now) reader.old.id reader.old.ordered (streams_view reader.new.streams.now) reader.new.progress reader.new.read (λ calls. does self.old calls self.new) };
 }
 
 impl RecvStream<'_> {
@@ -48,12 +48,12 @@ impl RecvStream<'_> {
         ensures same_state { self.new.state.ghost_name ≡ self.old.state.ghost_name }
         ensures same_pending { self.new.pending.ghost_name ≡ self.old.pending.ghost_name }
         ensures id { self.new.id ≡ self.old.id }
-        ensures reads { IfOk result (λ transmit. ReadsWith (shown self.old.state.now) self.old.id ordered (listed self.old.pending.now) (λ calls. V.does visitor.old calls visitor.new) transmit.0 (shown self.new.state.now) (listed self.new.pending.now)) }
-        ensures refused { IfErr result (λ error. Begins (shown self.old.state.now) self.old.id ordered (Err error) (shown self.new.state.now)) }
-        ensures refused_pending { OnErr result (listed self.new.pending.now ≡ listed self.old.pending.now) }
+        ensures reads { IfOk result (λ transmit. ReadsWith (streams_view self.old.state.now) self.old.id ordered (pending_view self.old.pending.now) (λ calls. V.does visitor.old calls visitor.new) transmit.0 (streams_view self.new.state.now) (pending_view self.new.pending.now)) }
+        ensures refused { IfErr result (λ error. Begins (streams_view self.old.state.now) self.old.id ordered (Err error) (streams_view self.new.state.now)) }
+        ensures refused_pending { OnErr result (pending_view self.new.pending.now ≡ pending_view self.old.pending.now) }
         ensures refused_visitor { OnErr result (visitor.new ≡ visitor.old) }
-        ensures from_refused { IfErr result (λ error. (m : Made) (h : List Event) → From m h (shown self.old.state.now)
-            → From m (Began self.old.id ordered (Err error) ∷ h) (shown self.new.state.now)) }
+        ensures from_refused { IfErr result (λ error. (m : Made) (h : List Event) → From m h (streams_view self.old.state.now)
+            → From m (Began self.old.id ordered (Err error) ∷ h) (streams_view self.new.state.now)) }
     {
         self.state.begin(self.pending, self.id, ordered)?;
         let mut reader = Chunks::new(self.state, self.pending, self.id, ordered);

@@ -2,11 +2,11 @@
 
 ghost use Rattle.std.specs.Prelude.{ℕ, ℤ, List, ◌∷◌, ◌≡◌, ◌≤◌, OnErr, OnOk, IfOk, None, Some, Ok, is_some, true, false};
 ghost use Rattle.quic_sending.specs.Source.{slice_lists};
-ghost use Rattle.quic_retransmits.specs.Pending.{shown_pending as listed};
+ghost use Rattle.quic_retransmits.specs.Pending.{pending_view};
 ghost use Rattle.quic_outgoing.specs.Outgoing.{is_stuck};
-ghost use Rattle.quic_outgoing.specs.Shown.{view_of};
+ghost use Rattle.quic_outgoing.specs.Shown.{outgoing_view};
 ghost use Rattle.quic_streams.specs.Connection.{is_shut};
-ghost use Rattle.quic_streams.specs.Shown.{shown};
+ghost use Rattle.quic_streams.specs.Shown.{streams_view};
 ghost use Rattle.quic_streams.specs.Writing.{IsWrittenAs, HasPlace, HasPlaceAt};
 ghost use Rattle.quic_history.specs.Writes.{WritesOwn, FinishesOwn, ResetsOwn, SetsOwnPriority, with_queued};
 
@@ -17,7 +17,7 @@ use quic_retransmits::Retransmits;
 use quic_sending::{ByteSlice, BytesArray, BytesSource, FinishError, WriteError, Written};
 use quic_values::{Bytes, OutOfMemory, StreamId, VarInt};
 
-#[tactic(auto, unfolding(crate::specs::Shown::shown))]
+#[tactic(auto, unfolding(crate::specs::Shown::streams_view))]
 impl StreamsState {
     // Writes the first bytes of a slice.
     pub(crate) fn write_bytes(
@@ -27,7 +27,7 @@ impl StreamsState {
         bytes: &[u8],
         conn: ConnState,
     ) -> Result<usize, WriteError>
-        ensures { IsWrittenAs result (λ written. (left : List (List ℕ)) × WritesOwn (shown self.old) id (slice_lists bytes.now) (is_shut conn) (listed pending.old) written (shown self.new) left (listed pending.new)) }
+        ensures { IsWrittenAs result (λ written. (left : List (List ℕ)) × WritesOwn (streams_view self.old) id (slice_lists bytes.now) (is_shut conn) (pending_view pending.old) written (streams_view self.new) left (pending_view pending.new)) }
     {
         let mut source = ByteSlice::from_slice(self.receive.alloc, bytes);
         match self.write_source(pending, id, &mut source, conn) {
@@ -44,7 +44,7 @@ impl StreamsState {
         chunks: &mut [Bytes],
         conn: ConnState,
     ) -> Result<Written, WriteError>
-        ensures { (left : List (List ℕ)) × WritesOwn (shown self.old) id chunks.old (is_shut conn) (listed pending.old) result (shown self.new) left (listed pending.new) }
+        ensures { (left : List (List ℕ)) × WritesOwn (streams_view self.old) id chunks.old (is_shut conn) (pending_view pending.old) result (streams_view self.new) left (pending_view pending.new) }
     {
         let mut source = BytesArray::from_chunks(self.receive.alloc, chunks);
         self.write_source(pending, id, &mut source, conn)
@@ -58,7 +58,7 @@ impl StreamsState {
         source: &mut S,
         conn: ConnState,
     ) -> Result<Written, WriteError>
-        ensures { WritesOwn (shown self.old) id (S.lists source.old) (is_shut conn) (listed pending.old) result (shown self.new) (S.lists source.new) (listed pending.new) }
+        ensures { WritesOwn (streams_view self.old) id (S.lists source.old) (is_shut conn) (pending_view pending.old) result (streams_view self.new) (S.lists source.new) (pending_view pending.new) }
     {
         if matches!(conn, ConnState::Closed) {
             return Err(WriteError::Blocked);
@@ -79,8 +79,8 @@ impl StreamsState {
     // Makes the room to queue a stream that is to be written, unless nothing may be written on any.
     #[inline]
     fn reserve_write_place(&mut self, id: StreamId) -> Result<(), OutOfMemory>
-        ensures same { shown self.new ≡ shown self.old }
-        ensures ok { OnOk result (is_stuck (view_of self.old.outgoing) ≡ false → HasPlace self.new id) }
+        ensures same { streams_view self.new ≡ streams_view self.old }
+        ensures ok { OnOk result (is_stuck (outgoing_view self.old.outgoing) ≡ false → HasPlace self.new id) }
     {
         if self.outgoing.write_limit() == 0 {
             return Ok(());
@@ -91,9 +91,9 @@ impl StreamsState {
     // Makes the room to queue a stream at its priority, where it is held and nothing is to be sent on it.
     #[inline]
     pub(crate) fn reserve_place(&mut self, id: StreamId) -> Result<(), OutOfMemory>
-        ensures same { shown self.new ≡ shown self.old }
+        ensures same { streams_view self.new ≡ streams_view self.old }
         ensures ok { OnOk result (HasPlace self.new id) }
-        ensures held { OnErr result (is_some ((shown self.old).out.halves id) ≡ true) }
+        ensures held { OnErr result (is_some ((streams_view self.old).out.halves id) ≡ true) }
     {
         match self.outgoing.queue_place(id) {
             None => Ok(()),
@@ -105,7 +105,7 @@ impl StreamsState {
     #[inline]
     pub(crate) fn queue_at(&mut self, id: StreamId, priority: Option<i32>)
         requires { HasPlaceAt self.old priority }
-        ensures { shown self.new ≡ with_queued (shown self.old) id priority }
+        ensures { streams_view self.new ≡ with_queued (streams_view self.old) id priority }
     {
         match priority {
             Some(priority) => self.queue.put(id, priority),
@@ -115,7 +115,7 @@ impl StreamsState {
 
     // Ends a stream.
     pub(crate) fn finish(&mut self, id: StreamId) -> Result<(), FinishError>
-        ensures { FinishesOwn (shown self.old) id result (shown self.new) }
+        ensures { FinishesOwn (streams_view self.old) id result (streams_view self.new) }
     {
         self.reserve_place(id)?;
         match self.outgoing.finish(id) {
@@ -137,14 +137,14 @@ impl StreamsState {
         id: StreamId,
         error_code: VarInt,
     ) -> Result<(), HandleError>
-        ensures { ResetsOwn (shown self.old) id error_code (listed pending.old) result (shown self.new) (listed pending.new) }
+        ensures { ResetsOwn (streams_view self.old) id error_code (pending_view pending.old) result (streams_view self.new) (pending_view pending.new) }
     {
         self.outgoing.reset(pending, id, error_code)
     }
 
     // Gives a stream a priority.
     pub(crate) fn set_priority(&mut self, id: StreamId, priority: i32) -> Result<(), HandleError>
-        ensures { SetsOwnPriority (shown self.old) id priority result (shown self.new) }
+        ensures { SetsOwnPriority (streams_view self.old) id priority result (streams_view self.new) }
     {
         self.outgoing.set_priority(id, priority)
     }

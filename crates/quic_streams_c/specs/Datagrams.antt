@@ -4,7 +4,7 @@ use Rattle.quic_datagrams.specs.Queue.{total_cost, with_newest}
 use Rattle.quic_datagrams.specs.Sending.{send_refusal}
 use Rattle.quic_session.specs.declared.session.Session.{Session}
 use Rattle.quic_session.specs.declared.datagrams.DatagramError.{DatagramError}
-use Rattle.quic_session.specs.Sessions.{end_of, datagrams_of, beside_of, with_datagrams, with_oldest_out, with_max}
+use Rattle.quic_session.specs.Sessions.{end_of, datagrams_view, beside_of, with_datagrams, with_oldest_out, with_max}
 use Rattle.quic_session.specs.Datagrams.{IsRefusedAs, after_error}
 use Rattle.quic_streams_c.specs.Answers.{TellsDone, datagram_code, TellsOption}
 use Rattle.quic_streams_c.specs.Sessions.{Unchanged}
@@ -15,25 +15,25 @@ pub record QueuesRaw (s : Session) (content : List ℕ) (drop_oldest : ℕ) (cod
   pub answer : Result (Unit {0}) DatagramError
   pub permitted : OnOk answer (send_refusal s.limits s.datagrams.outgoing content (not (drop_oldest == 0)) ≡ None)
   pub queued : OnOk answer (t.datagrams ≡ record s.datagrams { outgoing = with_newest s.limits.send s.datagrams.outgoing (record { bytes = content }) })
-  pub refusal : IfErr answer (λ e. IsRefusedAs (datagrams_of s) content (not (drop_oldest == 0)) e)
+  pub refusal : IfErr answer (λ e. IsRefusedAs (datagrams_view s) content (not (drop_oldest == 0)) e)
   pub err : IfErr answer (λ e. t.datagrams ≡ after_error s.datagrams e)
-  pub others : beside_of t ≡ with_datagrams (beside_of s) (record (datagrams_of s) { state = t.datagrams })
+  pub others : beside_of t ≡ with_datagrams (beside_of s) (record (datagrams_view s) { state = t.datagrams })
   pub end : end_of t ≡ end_of s
   pub tells : TellsDone datagram_code answer code
 
 -- the oldest datagram is taken, unless it is longer than the buffer: then its length alone is told
 abbrev pub TakesOldest : Session → Option (List ℕ) → List ℕ → ℤ → Session → List ℕ → ℕ → ℕ → Type 0
-TakesOldest s None out code t new was now = (code ≡ pos 1) × (new ≡ out) × (now ≡ was) × (beside_of t ≡ with_datagrams (beside_of s) (with_oldest_out (datagrams_of s)))
+TakesOldest s None out code t new was now = (code ≡ pos 1) × (new ≡ out) × (now ≡ was) × (beside_of t ≡ with_datagrams (beside_of s) (with_oldest_out (datagrams_view s)))
 TakesOldest s (Some bytes) out code t new was now = (now ≡ length bytes) × Copies (nat_lt (length out) (length bytes))
   where
     Copies : Bool → Type 0
-    Copies true = (code ≡ negsuc 14) × (new ≡ out) × (beside_of t ≡ with_datagrams (beside_of s) (with_oldest_out (datagrams_of s)))
+    Copies true = (code ≡ negsuc 14) × (new ≡ out) × (beside_of t ≡ with_datagrams (beside_of s) (with_oldest_out (datagrams_view s)))
     Copies false = (code ≡ pos 0) × (new ≡ bytes ++ drop (length bytes) out)
-        × (beside_of t ≡ with_datagrams (beside_of s) (record (with_oldest_out (datagrams_of s)) { waiting = None }))
+        × (beside_of t ≡ with_datagrams (beside_of s) (record (with_oldest_out (datagrams_view s)) { waiting = None }))
 
 -- qs_datagram_recv
 abbrev pub TakesRaw : Session → List ℕ → ℤ → Session → List ℕ → ℕ → ℕ → Type 0
-TakesRaw s out code t new was now = (end_of t ≡ end_of s) × TakesOldest s (with_oldest_out (datagrams_of s)).waiting out code t new was now
+TakesRaw s out code t new was now = (end_of t ≡ end_of s) × TakesOldest s (with_oldest_out (datagrams_view s)).waiting out code t new was now
 
 -- qs_datagram_max_size
 abbrev pub TellsMax : Session → ℤ → Session → ℕ → ℕ → Type 0
@@ -45,4 +45,4 @@ TellsSpace s code t now = (code ≡ pos 0) × (now ≡ s.limits.send - total_cos
 
 -- qs_datagram_set_max_size
 abbrev pub SetsMax : Session → ℕ → ℤ → Session → Type 0
-SetsMax s size code t = (code ≡ pos 0) × (end_of t ≡ end_of s) × (beside_of t ≡ with_datagrams (beside_of s) (with_max (datagrams_of s) (length_at size)))
+SetsMax s size code t = (code ≡ pos 0) × (end_of t ≡ end_of s) × (beside_of t ≡ with_datagrams (beside_of s) (with_max (datagrams_view s) (length_at size)))

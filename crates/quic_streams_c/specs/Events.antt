@@ -9,7 +9,7 @@ use Rattle.quic_history.specs.Sends.{TellsNext}
 use Rattle.quic_session.specs.declared.session.Session.{Session}
 use Rattle.quic_session.specs.declared.datagrams.DatagramEvent.{DatagramEvent}
 use Rattle.quic_session.specs.declared.datagrams.DatagramEvent.TheVariants as datagram_event
-use Rattle.quic_session.specs.Sessions.{end_of, datagrams_of, beside_of, with_datagrams, next_told, with_told}
+use Rattle.quic_session.specs.Sessions.{end_of, datagrams_view, beside_of, with_datagrams, next_told, with_told}
 use Rattle.quic_streams_c.specs.declared.connection.RawEvent.{RawEvent}
 use Rattle.quic_streams_c.specs.Numbers.{number_of}
 use Rattle.quic_streams_c.specs.Sessions.{GoesOn}
@@ -37,12 +37,12 @@ pub record Polls (s : Session) (answer : Option RawEvent) (t : Session) : Type 0
   pub polls : TellsNext (end_of s).streams told (end_of t).streams
   pub pending : (end_of t).pending ≡ (end_of s).pending
   pub from : GoesOn s (Sending (Polled told)) t
-  pub beside : beside_of t ≡ with_datagrams (beside_of s) (with_told (datagrams_of s))
+  pub beside : beside_of t ≡ with_datagrams (beside_of s) (with_told (datagrams_view s))
   pub answers : answer ≡ option_map event_at told
 
 -- what is to be told of datagrams is told before that
 abbrev pub TellsEvent : Option DatagramEvent → Session → Option RawEvent → Session → Type 0
-TellsEvent (Some e) s answer t = (answer ≡ Some (datagram_event_at e)) × (end_of t ≡ end_of s) × (beside_of t ≡ with_datagrams (beside_of s) (with_told (datagrams_of s)))
+TellsEvent (Some e) s answer t = (answer ≡ Some (datagram_event_at e)) × (end_of t ≡ end_of s) × (beside_of t ≡ with_datagrams (beside_of s) (with_told (datagrams_view s)))
 TellsEvent None s answer t = Polls s answer t
 
 -- what is written
@@ -52,4 +52,4 @@ TellsRaw None code was now = (code ≡ pos 1) × (now ≡ was)
 
 -- qs_poll
 abbrev pub PollsRaw : Session → ℤ → Session → RawEvent → RawEvent → Type 0
-PollsRaw s code t was now = (next : Option RawEvent) × TellsEvent (next_told (datagrams_of s)) s next t × TellsRaw next code was now
+PollsRaw s code t was now = (next : Option RawEvent) × TellsEvent (next_told (datagrams_view s)) s next t × TellsRaw next code was now

@@ -23,7 +23,7 @@ use Rattle.quic_streams.specs.declared.streams.ConnState.TheVariants as conn_sta
 use Rattle.quic_endpoint.specs.Ends.{with_world, with_window_set, SetsConcurrentAt}
 use Rattle.quic_session.specs.declared.session.Session.{Session}
 use Rattle.quic_session.specs.declared.session.Config.{Config}
-use Rattle.quic_session.specs.Sessions.{end_of, datagrams_of, beside_of, with_datagrams, no_datagrams, with_max}
+use Rattle.quic_session.specs.Sessions.{end_of, datagrams_view, beside_of, with_datagrams, no_datagrams, with_max}
 use Rattle.quic_session.specs.Tokens.{unsettled, payload_count}
 use Rattle.quic_session.specs.Settling.{SettlesOnly}
 use Rattle.quic_streams_c.specs.declared.connection.RawConfig.{RawConfig}
@@ -70,7 +70,7 @@ pub record IsNewOf (c : Config) (s : Session) : Type 0 where
   pub end : end_of s ≡ record { streams = start (made_by c); pending = nothing }
   pub from : From (made_by c) [] (end_of s).streams
   pub conn : s.conn ≡ conn_state.Open
-  pub datagrams : datagrams_of s ≡ no_datagrams c.datagrams
+  pub datagrams : datagrams_view s ≡ no_datagrams c.datagrams
   pub payloads : unsettled s.unsettled ≡ (λ token. None)
 
 -- a session is made, unless a number is above its bound or memory is wanting
@@ -110,7 +110,7 @@ pub record TakesLimits (s : Session) (r : RawLimits) (code : ℤ) (t : Session) 
   pub limits : AreLimits r
   pub end : end_of t ≡ with_world (end_of s) (with_out (end_of s).streams (with_params (end_of s).streams.out (peer_limits r)))
   pub from : GoesOn s (Sending (GaveLimits (peer_limits r))) t
-  pub beside : beside_of t ≡ with_datagrams (beside_of s) (with_max (datagrams_of s) (length_at r.max_datagram))
+  pub beside : beside_of t ≡ with_datagrams (beside_of s) (with_max (datagrams_view s) (length_at r.max_datagram))
 
 -- qs_set_peer_limits
 abbrev pub SetsLimits : Session → RawLimits → ℤ → Session → Type 0

@@ -7,7 +7,7 @@ ghost use Rattle.quic_streams_c.specs.Answers.{TellsDone, memory_code};
 ghost use Rattle.quic_streams_c.specs.Calls.{Calls};
 ghost use Rattle.quic_streams_c.specs.Events.{raw_event, event_at, TellsEvent, TellsRaw, PollsRaw};
 ghost use Rattle.quic_streams_c.specs.Settings.{side_at, limits_of, IsConfig, IsConfigOf, IsNewOf, Begins, AreLimits, peer_limits, SetsLimits, Closes, Rejects, SendsEarlyAgain, SetsSendWindow, SetsReceiveWindow, SetsConcurrentRaw, flag, IsInfo, TellsInfo};
-ghost use Rattle.quic_session.specs.Sessions.{datagrams_of, next_told};
+ghost use Rattle.quic_session.specs.Sessions.{datagrams_view, next_told};
 
 use crate::codes::{
     ARGUMENT, CLOSED, DONE, IN_USE, NO_MEMORY, OK, dir_of, id_of, length_of, number_of, small,
@@ -401,7 +401,7 @@ fn event_of(told: StreamEvent) -> RawEvent
 
 // The next event of a session, if there is one.
 fn next_event(session: &mut Session) -> Option<RawEvent>
-    ensures { TellsEvent (next_told (datagrams_of session.old)) session.old result session.new }
+    ensures { TellsEvent (next_told (datagrams_view session.old)) session.old result session.new }
 {
     match session.poll_datagrams() {
         Some(DatagramEvent::Received) => Some(event(7, 0, 0, 0)),

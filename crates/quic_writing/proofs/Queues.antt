@@ -5,15 +5,15 @@ use Rattle.std.proofs.lemmas.Option.{none-some}
 use Rattle.quic_queue.specs.declared.queue.Entry.{Entry}
 use Rattle.quic_queue.specs.declared.queue.Next.{Next}
 use Rattle.quic_queue.specs.declared.queue.Next.TheVariants.{LetGo, PutAnew, KeepBack}
-use Rattle.quic_queue.specs.SendOrder.{SendOrder, put, line, first, without_first, settled, HasTurnPlace}
+use Rattle.quic_queue.specs.SendOrder.{SendOrder, put, line, first, without_next, with_turn_ended, HasTurnPlace}
 use Rattle.quic_writing.specs.Writer.{unreserved, next_of}
 
 -- the room does not show in what becomes of the first stream
 pub settled-unreserved : (q r : SendOrder) (e : Entry) (next : Next) → unreserved r ≡ unreserved q
-    → unreserved (settled (without_first r) e next) ≡ settled (without_first (unreserved q)) e next
-settled-unreserved q r e LetGo same = ap (λ (x : SendOrder). settled (without_first x) e LetGo) same
-settled-unreserved q r e (PutAnew p) same = ap (λ (x : SendOrder). settled (without_first x) e (PutAnew p)) same
-settled-unreserved q r e KeepBack same = ap (λ (x : SendOrder). settled (without_first x) e KeepBack) same
+    → unreserved (with_turn_ended (without_next r) e next) ≡ with_turn_ended (without_next (unreserved q)) e next
+settled-unreserved q r e LetGo same = ap (λ (x : SendOrder). with_turn_ended (without_next x) e LetGo) same
+settled-unreserved q r e (PutAnew p) same = ap (λ (x : SendOrder). with_turn_ended (without_next x) e (PutAnew p)) same
+settled-unreserved q r e KeepBack same = ap (λ (x : SendOrder). with_turn_ended (without_next x) e KeepBack) same
 
 -- there is room where a stream is put anew
 pub has-place : (q : SendOrder) (e : Entry) (fair : Bool) (priority : ℤ) (has_more : Bool) → (fair ≡ true → q.reserved ≡ Some priority) → HasTurnPlace q e (next_of fair priority has_more)
@@ -44,17 +44,17 @@ length-drop (x ∷ xs) e is = omega arith
 
 without : (waiting : List Entry) (kept : Option Entry) (reserved : Option ℤ) (e : Entry)
     → first (record { waiting = waiting; kept = kept; reserved = reserved }) ≡ Some e
-    → length (without_first (record { waiting = waiting; kept = kept; reserved = reserved })).waiting + 1 ≡ length (line (record { waiting = waiting; kept = kept; reserved = reserved }))
+    → length (without_next (record { waiting = waiting; kept = kept; reserved = reserved })).waiting + 1 ≡ length (line (record { waiting = waiting; kept = kept; reserved = reserved }))
 without waiting None reserved e is = length-drop waiting e is
 without waiting (Some k) reserved e is = omega arith
 
 -- the line grows shorter where the first stream is let go, and never longer
-pub line-let_go : (q : SendOrder) (e : Entry) → first q ≡ Some e → length (line (settled (without_first q) e LetGo)) + 1 ≡ length (line q)
+pub line-let_go : (q : SendOrder) (e : Entry) → first q ≡ Some e → length (line (with_turn_ended (without_next q) e LetGo)) + 1 ≡ length (line q)
 line-let_go q e is = without q.waiting q.kept q.reserved e is
 
-pub line-settled : (q : SendOrder) (e : Entry) (next : Next) → first q ≡ Some e → length (line (settled (without_first q) e next)) ≤ length (line q)
+pub line-settled : (q : SendOrder) (e : Entry) (next : Next) → first q ≡ Some e → length (line (with_turn_ended (without_next q) e next)) ≤ length (line q)
 line-settled q e LetGo is = omega (arith, without q.waiting q.kept q.reserved e is)
-line-settled q e (PutAnew p) is = let size = length-put (without_first q).waiting (record { priority = p; id = e.id }) in let rest = without q.waiting q.kept q.reserved e is in omega arith
+line-settled q e (PutAnew p) is = let size = length-put (without_next q).waiting (record { priority = p; id = e.id }) in let rest = without q.waiting q.kept q.reserved e is in omega arith
 line-settled q e KeepBack is = let rest = without q.waiting q.kept q.reserved e is in omega arith
 
 pub line-empty : (q : SendOrder) → first q ≡ None → line q ≡ []

@@ -4,7 +4,7 @@ use Rattle.quic_wire.specs.declared.frame.StreamMeta.{StreamMeta}
 use Rattle.quic_queue.specs.declared.queue.Entry.{Entry}
 use Rattle.quic_queue.specs.declared.queue.Next.{Next}
 use Rattle.quic_queue.specs.declared.queue.Next.TheVariants.{LetGo, PutAnew, KeepBack}
-use Rattle.quic_queue.specs.SendOrder.{SendOrder, first, without_first, settled}
+use Rattle.quic_queue.specs.SendOrder.{SendOrder, first, without_next, with_turn_ended}
 use Rattle.quic_outgoing.specs.declared.transmitting.WrittenFrame.{WrittenFrame}
 use Rattle.quic_outgoing.specs.Outgoing.{Outgoing}
 use Rattle.quic_outgoing.specs.Transmitting.{TransmitsFrame, sending_priority}
@@ -38,7 +38,7 @@ pub record SkipsFirst (a b : Writer) : Type 0 where
   pub entry : Entry
   pub is_first : first a.queue ≡ Some entry
   pub closed : sending_priority (a.streams.halves entry.id) ≡ None
-  pub is : b ≡ record a { queue = settled (without_first a.queue) entry LetGo }
+  pub is : b ≡ record a { queue = with_turn_ended (without_next a.queue) entry LetGo }
 
 -- a frame of the first stream in the queue is written
 pub record ServesFirst (most : ℕ) (fair : Bool) (a b : Writer) : Type 0 where
@@ -49,7 +49,7 @@ pub record ServesFirst (most : ℕ) (fair : Bool) (a b : Writer) : Type 0 where
   pub free : sending_priority (a.streams.halves entry.id) ≡ Some priority
   pub transmits : TransmitsFrame a.streams.halves entry.id most a.bytes frame b.streams.halves b.bytes
   pub others : b.streams ≡ record a.streams { halves = b.streams.halves }
-  pub queue : b.queue ≡ settled (without_first a.queue) entry (next_of fair priority frame.has_more)
+  pub queue : b.queue ≡ with_turn_ended (without_next a.queue) entry (next_of fair priority frame.has_more)
   pub sent : b.sent ≡ a.sent ++ frame.meta ∷ []
 
 -- the first stream in the queue has its turn

@@ -2,7 +2,7 @@
 
 ghost use Rattle.std.specs.Prelude.{◌≡◌, ◌+◌, ◌<◌, ◌≤◌, ◌⊎◌, ℕ, List, [], IfOk, OnOk, OnErr, Some, true, false, length};
 ghost use Rattle.smallvec.specs.SmallVec.{HasRoomFor};
-ghost use Rattle.quic_outgoing.specs.Shown.{view_of};
+ghost use Rattle.quic_outgoing.specs.Shown.{outgoing_view};
 ghost use Rattle.quic_outgoing.specs.Transmitting.{sending_priority};
 ghost use Rattle.quic_queue.specs.SendOrder.{first, line};
 ghost use Rattle.quic_writing.specs.Appended.{AreWritten, AppendsFrames};
@@ -36,10 +36,10 @@ pub fn write_stream_frames(
     max_size: usize,
     fair: bool,
 ) -> Result<(), OutOfMemory>
-    ensures turns { TakesTurns max_size fair (writer (view_of streams.old) queue.old buf.old.items sent.old.items) (writer (view_of streams.new) queue.new buf.new.items sent.new.items) }
+    ensures turns { TakesTurns max_size fair (writer (outgoing_view streams.old) queue.old buf.old.items sent.old.items) (writer (outgoing_view streams.new) queue.new buf.new.items sent.new.items) }
     ensures full { OnOk result ((line queue.new ≡ []) ⊎ (max_size ≤ length buf.new.items + 25)) }
     ensures refused { OnErr result ((0 < length (line queue.new)) × (length buf.new.items + 25 < max_size)) }
-    ensures text { (written : ℕ → List ℕ) → AreWritten written (view_of streams.old) → AppendsFrames written max_size (writer (view_of streams.old) queue.old buf.old.items sent.old.items) (writer (view_of streams.new) queue.new buf.new.items sent.new.items) }
+    ensures text { (written : ℕ → List ℕ) → AreWritten written (outgoing_view streams.old) → AppendsFrames written max_size (writer (outgoing_view streams.old) queue.old buf.old.items sent.old.items) (writer (outgoing_view streams.new) queue.new buf.new.items sent.new.items) }
 {
     take_turns(streams, queue, buf, sent, max_size, fair)
 }
@@ -53,7 +53,7 @@ fn take_turns(
     max_size: usize,
     fair: bool,
 ) -> Result<(), OutOfMemory>
-    ensures turns { TakesTurns max_size fair (writer (view_of streams.old) queue.old buf.old.items sent.old.items) (writer (view_of streams.new) queue.new buf.new.items sent.new.items) }
+    ensures turns { TakesTurns max_size fair (writer (outgoing_view streams.old) queue.old buf.old.items sent.old.items) (writer (outgoing_view streams.new) queue.new buf.new.items sent.new.items) }
     ensures full { OnOk result ((line queue.new ≡ []) ⊎ (max_size ≤ length buf.new.items + 25)) }
     ensures refused { OnErr result ((0 < length (line queue.new)) × (length buf.new.items + 25 < max_size)) }
 {
@@ -75,10 +75,10 @@ fn take_turn(
     fair: bool,
 ) -> Result<bool, OutOfMemory>
     requires { length buf.old.items + 25 < max_size }
-    ensures turn { IfOk result (λ served. served ≡ true → TakesTurn max_size fair (writer (view_of streams.old) queue.old buf.old.items sent.old.items) (writer (view_of streams.new) queue.new buf.new.items sent.new.items)) }
-    ensures idle { IfOk result (λ served. served ≡ false → (line queue.old ≡ []) × (writer (view_of streams.new) queue.new buf.new.items sent.new.items ≡ writer (view_of streams.old) queue.old buf.old.items sent.old.items)) }
+    ensures turn { IfOk result (λ served. served ≡ true → TakesTurn max_size fair (writer (outgoing_view streams.old) queue.old buf.old.items sent.old.items) (writer (outgoing_view streams.new) queue.new buf.new.items sent.new.items)) }
+    ensures idle { IfOk result (λ served. served ≡ false → (line queue.old ≡ []) × (writer (outgoing_view streams.new) queue.new buf.new.items sent.new.items ≡ writer (outgoing_view streams.old) queue.old buf.old.items sent.old.items)) }
     ensures some { OnErr result (0 < length (line queue.new)) }
-    ensures err { OnErr result (writer (view_of streams.new) queue.new buf.new.items sent.new.items ≡ writer (view_of streams.old) queue.old buf.old.items sent.old.items) }
+    ensures err { OnErr result (writer (outgoing_view streams.new) queue.new buf.new.items sent.new.items ≡ writer (outgoing_view streams.old) queue.old buf.old.items sent.old.items) }
 {
     let Some(entry) = queue.first() else {
         return Ok(false);
@@ -104,9 +104,9 @@ fn take_common_turn(
 ) -> Result<bool, OutOfMemory>
     requires is_first { first queue.old ≡ Some entry.now }
     requires room { length buf.old.items + 25 < max_size }
-    ensures turn { IfOk result (λ served. served ≡ true → TakesTurn max_size fair (writer (view_of streams.old) queue.old buf.old.items sent.old.items) (writer (view_of streams.new) queue.new buf.new.items sent.new.items)) }
-    ensures passed { IfOk result (λ served. served ≡ false → writer (view_of streams.new) queue.new buf.new.items sent.new.items ≡ writer (view_of streams.old) queue.old buf.old.items sent.old.items) }
-    ensures err { OnErr result (writer (view_of streams.new) queue.new buf.new.items sent.new.items ≡ writer (view_of streams.old) queue.old buf.old.items sent.old.items) }
+    ensures turn { IfOk result (λ served. served ≡ true → TakesTurn max_size fair (writer (outgoing_view streams.old) queue.old buf.old.items sent.old.items) (writer (outgoing_view streams.new) queue.new buf.new.items sent.new.items)) }
+    ensures passed { IfOk result (λ served. served ≡ false → writer (outgoing_view streams.new) queue.new buf.new.items sent.new.items ≡ writer (outgoing_view streams.old) queue.old buf.old.items sent.old.items) }
+    ensures err { OnErr result (writer (outgoing_view streams.new) queue.new buf.new.items sent.new.items ≡ writer (outgoing_view streams.old) queue.old buf.old.items sent.old.items) }
 {
     if fair && !queue.keeps_none() {
         return Ok(false);
@@ -135,8 +135,8 @@ fn take_other_turn(
 ) -> Result<(), OutOfMemory>
     requires is_first { first queue.old ≡ Some entry.now }
     requires room { length buf.old.items + 25 < max_size }
-    ensures turn { OnOk result (TakesTurn max_size fair (writer (view_of streams.old) queue.old buf.old.items sent.old.items) (writer (view_of streams.new) queue.new buf.new.items sent.new.items)) }
-    ensures err { OnErr result (writer (view_of streams.new) queue.new buf.new.items sent.new.items ≡ writer (view_of streams.old) queue.old buf.old.items sent.old.items) }
+    ensures turn { OnOk result (TakesTurn max_size fair (writer (outgoing_view streams.old) queue.old buf.old.items sent.old.items) (writer (outgoing_view streams.new) queue.new buf.new.items sent.new.items)) }
+    ensures err { OnErr result (writer (outgoing_view streams.new) queue.new buf.new.items sent.new.items ≡ writer (outgoing_view streams.old) queue.old buf.old.items sent.old.items) }
 {
     let Some(priority) = streams.sending_priority(entry.id) else {
         queue.end_turn(*entry, Next::LetGo);

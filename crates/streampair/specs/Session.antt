@@ -7,9 +7,9 @@ use Rattle.std.specs.Io.KnownBytes.{Appends}
 use Rattle.quic_steps.specs.declared.steps.Config.{Config}
 use Rattle.quic_steps.specs.declared.steps.Step.{Step}
 use Rattle.quic_pair.specs.Replies.{Answer}
-use Rattle.quic_pair.specs.State.{PairState, pair_state}
+use Rattle.quic_pair.specs.State.{PairState, pair_view}
 use Rattle.quic_pair.specs.Steps.{Next}
-use Rattle.quic_pair.specs.From.{From}
+use Rattle.quic_pair.specs.From.{PairFrom}
 use Rattle.streampair.specs.declared.session.Session.{Session}
 use Rattle.streampair.specs.declared.session.Session.TheVariants.{Start, Configured, Running}
 use Rattle.streampair.specs.declared.session.Stop.{Stop}
@@ -49,14 +49,14 @@ pub record TakesStep (line : List ℕ) (old : PairState) (text : List ℕ) (new 
 pub record IsReady (a : Config) (line text : List ℕ) (pair : PairState) : Type 0 where
   pub b : Config
   pub means : MeansConfig line B b
-  pub from : From a b [] pair
+  pub from : PairFrom a b [] pair
   pub text_is : text ≡ ok_line
 
 -- a session answers a line by this text, and goes on so
 abbrev pub Answers : Session → List ℕ → List ℕ → Session → Type 0
 Answers Start line text (Configured config) = MeansConfig line A config × (text ≡ ok_line)
-Answers (Configured config) line text (Running pair) = IsReady config line text (pair_state pair)
-Answers (Running old) line text (Running new) = TakesStep line (pair_state old) text (pair_state new)
+Answers (Configured config) line text (Running pair) = IsReady config line text (pair_view pair)
+Answers (Running old) line text (Running new) = TakesStep line (pair_view old) text (pair_view new)
 Answers _ line text _ = ⊥
 
 -- a session took a line, and its answer was written

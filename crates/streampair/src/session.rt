@@ -1,6 +1,6 @@
 ghost use Rattle.std.specs.Prelude.{◌≡◌, ◌≤◌, ◌++◌, IfOk, IfErr, IfSome, OnOk, None, string_bytes, codes};
 ghost use Rattle.std.specs.Io.BufRead.{strip_last};
-ghost use Rattle.quic_pair.specs.State.{pair_state};
+ghost use Rattle.quic_pair.specs.State.{pair_view};
 ghost use Rattle.streampair.specs.Session.{answer_line, AnswersLine, IsStep, IsServed, IsMalformed, StopsAt, StopsWith, stop_of};
 
 use quic_lines::{LineError, parse_config, parse_step, refusal_line, reply_line};
@@ -66,7 +66,7 @@ enum Session {
 
 // Takes a step. Answers its reply, as a line with its line feed.
 fn answer_step(alloc: Global, pair: &mut Pair, step: Step) -> Result<String, OutOfMemory>
-    ensures { IfOk result (λ line. IsStep (pair_state pair.old) step (string_bytes line) (pair_state pair.new)) }
+    ensures { IfOk result (λ line. IsStep (pair_view pair.old) step (string_bytes line) (pair_view pair.new)) }
 {
     let answer = pair.step(step);
     let line = answer_line(alloc, &answer)?;

@@ -1,5 +1,5 @@
 use Rattle.std.proofs.Common.{rules, ◌≡◌, ◌∙◌, ap, Some, inr, true}
-use Rattle.quic_queue.specs.SendOrder.{settled, without_first}
+use Rattle.quic_queue.specs.SendOrder.{with_turn_ended, without_next}
 use Rattle.quic_writing.specs.Writer.{unreserved, next_of}
 use Rattle.quic_writing.proofs.Queues.{first-unreserved, has-place, settled-unreserved}
 use Rattle.quic_writing.proofs.stream_frames.take_other_turn.Goals as goal
@@ -15,7 +15,7 @@ end_turn-requires-2-clause-room c =
 
 pub returns-clause-turn : goal.returns-clause-turn
 returns-clause-turn c =
-    let queue : unreserved c.end_turn-2.new.self ≡ settled (without_first (unreserved c.args.queue.now)) c.args.entry.now c.next_of-next.result =
+    let queue : unreserved c.end_turn-2.new.self ≡ with_turn_ended (without_next (unreserved c.args.queue.now)) c.args.entry.now c.next_of-next.result =
     ap unreserved c.end_turn-2.ensures ∙ settled-unreserved c.args.queue.now c.reserve_place.new.queue c.args.entry.now c.next_of-next.result c.reserve_place.ensures.same in
     let next : c.next_of-next.result ≡ next_of c.args.fair c.in-Some.priority c.in_ok-frame.frame.has_more = search rules in
     inr (record {
@@ -26,6 +26,6 @@ returns-clause-turn c =
       free = search rules;
       transmits = c.in_ok-frame.ensures.transmits.0;
       others = c.in_ok-frame.ensures.transmits.1;
-      queue = queue ∙ ap (settled (without_first (unreserved c.args.queue.now)) c.args.entry.now) next;
+      queue = queue ∙ ap (with_turn_ended (without_next (unreserved c.args.queue.now)) c.args.entry.now) next;
       sent = search rules;
     })

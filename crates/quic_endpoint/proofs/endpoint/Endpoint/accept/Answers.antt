@@ -1,6 +1,6 @@
-use Rattle.quic_endpoint.specs.Shown.{end_state}
+use Rattle.quic_endpoint.specs.Shown.{endpoint_view}
 use Rattle.quic_endpoint.proofs.endpoint.Endpoint.accept.Goals as goal
 
 pub returns-clause-from : goal.returns-clause-from
-unfolding end_state
+unfolding endpoint_view
 returns-clause-from c = rw (c.new.ensures.state) at c.accept.ensures.from

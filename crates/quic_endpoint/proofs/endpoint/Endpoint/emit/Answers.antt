@@ -1,22 +1,22 @@
 use Rattle.std.proofs.Common.{length, ◌≤◌, Ok, Err, arith, refl}
-use Rattle.quic_retransmits.specs.Pending.{shown_pending}
+use Rattle.quic_retransmits.specs.Pending.{pending_view}
 use Rattle.quic_retransmits.specs.Settling.{noted_in}
-use Rattle.quic_streams.specs.Shown.{shown}
+use Rattle.quic_streams.specs.Shown.{streams_view}
 use Rattle.quic_streams.specs.Payload.{with_entries}
-use Rattle.quic_endpoint.specs.Shown.{end_state}
+use Rattle.quic_endpoint.specs.Shown.{endpoint_view}
 use Rattle.quic_endpoint.specs.Ends.{EndState}
 use Rattle.quic_endpoint.specs.Emitting.{EmitsControl, whole, cut}
 use Rattle.quic_endpoint.proofs.endpoint.Endpoint.emit.Goals as goal
 
 pub returns-in-Err-clause-emits : goal.returns-in-Err-clause-emits
-unfolding end_state
+unfolding endpoint_view
 returns-in-Err-clause-emits c =
     let w = c.write_control_frames-written in
     let bytes_none = c.new-payload.ensures.bytes in
     let noted_none = c.new-payload.ensures.control in
     let streams_none = c.new-payload.ensures.streams in
-    let between : EndState = record { streams = shown w.new.self; pending = shown_pending w.new.pending } in
-    let control : EmitsControl c.args.max_size (end_state c.args.self.now) (Err c.in-Err.error) between w.new.buf.items (noted_in w.new.sent) = record {
+    let between : EndState = record { streams = streams_view w.new.self; pending = pending_view w.new.pending } in
+    let control : EmitsControl c.args.max_size (endpoint_view c.args.self.now) (Err c.in-Err.error) between w.new.buf.items (noted_in w.new.sent) = record {
       before = c.new-counters.result;
       after = w.new.stats;
       writes = rw (bytes_none, noted_none, c.in-Err.is) at w.ensures.writes;
@@ -27,15 +27,15 @@ returns-in-Err-clause-emits c =
     cut between w.new.buf.items control (record { same = refl; bytes_are = refl; none = streams_none })
 
 pub returns-clause-emits : goal.returns-clause-emits
-unfolding end_state
+unfolding endpoint_view
 returns-clause-emits c =
     let w = c.write_control_frames-written in
     let v = c.write_stream_frames-answer in
     let bytes_none = c.new-payload.ensures.bytes in
     let noted_none = c.new-payload.ensures.control in
     let streams_none = c.new-payload.ensures.streams in
-    let between : EndState = record { streams = shown w.new.self; pending = shown_pending w.new.pending } in
-    let control : EmitsControl c.args.max_size (end_state c.args.self.now) (Ok tt) between w.new.buf.items (noted_in w.new.sent) = record {
+    let between : EndState = record { streams = streams_view w.new.self; pending = pending_view w.new.pending } in
+    let control : EmitsControl c.args.max_size (endpoint_view c.args.self.now) (Ok tt) between w.new.buf.items (noted_in w.new.sent) = record {
       before = c.new-counters.result;
       after = w.new.stats;
       writes = rw (bytes_none, noted_none, c.in_default.is) at w.ensures.writes;
@@ -53,7 +53,7 @@ returns-clause-emits c =
     })
 
 pub returns-clause-within : goal.returns-clause-within
-unfolding end_state
+unfolding endpoint_view
 returns-clause-within c = λ m h f.
     let w = c.write_control_frames-written in
     let v = c.write_stream_frames-answer in

@@ -1,17 +1,17 @@
 use Rattle.std.proofs.Common.{◌≡◌, ap, ◌∙◌, subst, sym, ◌∷◌}
 use Rattle.quic_history.specs.World.{World}
 use Rattle.quic_history.specs.History.{SetConcurrent, From}
-use Rattle.quic_streams.specs.Shown.{shown}
-use Rattle.quic_retransmits.specs.Pending.{shown_pending}
-use Rattle.quic_endpoint.specs.Shown.{end_state}
+use Rattle.quic_streams.specs.Shown.{streams_view}
+use Rattle.quic_retransmits.specs.Pending.{pending_view}
+use Rattle.quic_endpoint.specs.Shown.{endpoint_view}
 use Rattle.quic_endpoint.specs.Ends.{EndState}
 use Rattle.quic_endpoint.proofs.Told.{told-streams}
 use Rattle.quic_endpoint.proofs.endpoint.Endpoint.set_max_concurrent.Goals as goal
 
 pub returns-clause-from : goal.returns-clause-from
-unfolding end_state
+unfolding endpoint_view
 returns-clause-from c = λ m h f.
-    let after : EndState = record { streams = shown c.set_max_concurrent-answer.new.self; pending = shown_pending c.args.self.now.pending } in
-    let e : (end_state c.tell_counts_if.new.self).streams ≡ after.streams = ap (λ x. x.streams) c.tell_counts_if.ensures ∙ told-streams _ after in
+    let after : EndState = record { streams = streams_view c.set_max_concurrent-answer.new.self; pending = pending_view c.args.self.now.pending } in
+    let e : (endpoint_view c.tell_counts_if.new.self).streams ≡ after.streams = ap (λ x. x.streams) c.tell_counts_if.ensures ∙ told-streams _ after in
     let P : World → Type 0 = λ w. From m (SetConcurrent c.args.dir c.args.count c.set_max_concurrent-answer.result ∷ h) w in
     subst P (sym e) (c.set_max_concurrent-answer.ensures.from m h f)

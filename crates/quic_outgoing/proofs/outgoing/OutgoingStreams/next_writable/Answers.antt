@@ -1,7 +1,7 @@
 use Rattle.std.proofs.Common.{rules, ◌≡◌, refl, sym, ap, ◌∙◌, [], ◌∷◌, ◌++◌, false}
 use Rattle.std.proofs.lemmas.List.{append-nil, append_assoc}
 use Rattle.std.proofs.lemmas.List.Elements.{All-cons}
-use Rattle.quic_outgoing.specs.Shown.{view_of}
+use Rattle.quic_outgoing.specs.Shown.{outgoing_view}
 use Rattle.quic_outgoing.specs.Seen.{senders}
 use Rattle.quic_outgoing.specs.Calls.{can_take, unmarked}
 use Rattle.quic_outgoing.proofs.Marks.{marks-none, marks-more, can_take-marks, all-none}
@@ -11,7 +11,7 @@ pub loop-id-init : goal.loop-id-init
 loop-id-init c = ([], sym (append-nil c.args.self.now.blocked.items), all-none _, marks-none (senders c.args.self.now.halves), refl, refl, refl, refl, refl)
 
 pub returns-then-can_take : goal.returns-then-can_take
-unfolding view_of
+unfolding outgoing_view
 returns-then-can_take c =
     let i = c.loop-id.invariant in
     let f = senders c.args.self.now.halves in

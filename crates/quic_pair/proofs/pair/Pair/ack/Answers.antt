@@ -2,23 +2,23 @@ use Rattle.std.proofs.Common.{ap, refl, subst, ◌∙◌, ◌≡◌}
 use Rattle.quic_endpoint.specs.Reports.{AcksPayloadAt}
 use Rattle.quic_pair.specs.declared.unsettled.Report.TheVariants.{Acknowledged}
 use Rattle.quic_pair.specs.Reports.{KeepsBack}
-use Rattle.quic_pair.specs.State.{PairState, pair_state}
+use Rattle.quic_pair.specs.State.{PairState, pair_view}
 use Rattle.quic_pair.proofs.Deeds.{report-refused, report-so, sent-same}
 use Rattle.quic_pair.proofs.pair.Pair.ack.Goals as goal
 
 pub returns-in-Err : goal.returns-in-Err
-unfolding pair_state
+unfolding pair_view
 returns-in-Err c =
-    let old : PairState = pair_state c.args.self.now in
+    let old : PairState = pair_view c.args.self.now in
     let new : PairState = record { a = old.a; b = old.b; sent = c.rest_at.new.sent.items } in
     report-refused Acknowledged AcksPayloadAt old new c.args.payload c.in-Err.error (rw c.in-Err.is at c.rest_at.ensures.refused) (ap (λ l. record { a = old.a; b = old.b; sent = l }) (rw c.in-Err.is at c.rest_at.ensures.same))
 
 pub returns : goal.returns
-unfolding pair_state
+unfolding pair_view
 returns c =
-    let old : PairState = pair_state c.args.self.now in
+    let old : PairState = pair_view c.args.self.now in
     let taken : PairState = record { a = old.a; b = old.b; sent = c.rest_at.new.sent.items } in
-    let mid : PairState = pair_state c.ack_on-answer.new.self in
+    let mid : PairState = pair_view c.ack_on-answer.new.self in
     let new : PairState = record { a = mid.a; b = mid.b; sent = c.settle.new.sent.items } in
     let t = rw c.in-Ok.is at c.rest_at.ensures.taken in
     let d = c.ack_on-answer.ensures in

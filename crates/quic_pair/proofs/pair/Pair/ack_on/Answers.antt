@@ -1,12 +1,12 @@
 use Rattle.std.proofs.Common.{refl}
-use Rattle.quic_endpoint.specs.Shown.{end_state}
-use Rattle.quic_pair.specs.State.{pair_state}
+use Rattle.quic_endpoint.specs.Shown.{endpoint_view}
+use Rattle.quic_pair.specs.State.{pair_view}
 use Rattle.quic_pair.proofs.pair.Pair.ack_on.Goals as goal
 
 pub returns-in-A : goal.returns-in-A
-unfolding pair_state
-returns-in-A c = rw c.in-A.is (record { end = end_state c.acknowledge.new.self; does = c.acknowledge.ensures.acks; is = refl })
+unfolding pair_view
+returns-in-A c = rw c.in-A.is (record { end = endpoint_view c.acknowledge.new.self; does = c.acknowledge.ensures.acks; is = refl })
 
 pub returns-in-B : goal.returns-in-B
-unfolding pair_state
-returns-in-B c = rw c.in-B.is (record { end = end_state c.acknowledge-in-B.new.self; does = c.acknowledge-in-B.ensures.acks; is = refl })
+unfolding pair_view
+returns-in-B c = rw c.in-B.is (record { end = endpoint_view c.acknowledge-in-B.new.self; does = c.acknowledge-in-B.ensures.acks; is = refl })

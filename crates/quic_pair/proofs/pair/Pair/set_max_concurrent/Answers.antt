@@ -1,12 +1,12 @@
 use Rattle.std.proofs.Common.{refl}
-use Rattle.quic_endpoint.specs.Shown.{end_state}
-use Rattle.quic_pair.specs.State.{pair_state}
+use Rattle.quic_endpoint.specs.Shown.{endpoint_view}
+use Rattle.quic_pair.specs.State.{pair_view}
 use Rattle.quic_pair.proofs.pair.Pair.set_max_concurrent.Goals as goal
 
 pub returns-in-A : goal.returns-in-A
-unfolding pair_state
-returns-in-A c = rw c.in-A.is (record { end = end_state c.set_max_concurrent.new.end; does = c.set_max_concurrent.ensures; is = refl })
+unfolding pair_view
+returns-in-A c = rw c.in-A.is (record { end = endpoint_view c.set_max_concurrent.new.end; does = c.set_max_concurrent.ensures; is = refl })
 
 pub returns-in-B : goal.returns-in-B
-unfolding pair_state
-returns-in-B c = rw c.in-B.is (record { end = end_state c.set_max_concurrent-in-B.new.end; does = c.set_max_concurrent-in-B.ensures; is = refl })
+unfolding pair_view
+returns-in-B c = rw c.in-B.is (record { end = endpoint_view c.set_max_concurrent-in-B.new.end; does = c.set_max_concurrent-in-B.ensures; is = refl })

@@ -1,12 +1,12 @@
 use Rattle.std.proofs.Common.{refl}
-use Rattle.quic_endpoint.specs.Shown.{end_state}
-use Rattle.quic_pair.specs.State.{pair_state}
+use Rattle.quic_endpoint.specs.Shown.{endpoint_view}
+use Rattle.quic_pair.specs.State.{pair_view}
 use Rattle.quic_pair.proofs.pair.Pair.write.Goals as goal
 
 pub returns-in-A : goal.returns-in-A
-unfolding pair_state
-returns-in-A c = rw c.in-A.is (record { end = end_state c.write.new.end; does = c.write.ensures; is = refl })
+unfolding pair_view
+returns-in-A c = rw c.in-A.is (record { end = endpoint_view c.write.new.end; does = c.write.ensures; is = refl })
 
 pub returns-in-B : goal.returns-in-B
-unfolding pair_state
-returns-in-B c = rw c.in-B.is (record { end = end_state c.write-in-B.new.end; does = c.write-in-B.ensures; is = refl })
+unfolding pair_view
+returns-in-B c = rw c.in-B.is (record { end = endpoint_view c.write-in-B.new.end; does = c.write-in-B.ensures; is = refl })

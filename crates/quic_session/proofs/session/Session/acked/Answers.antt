@@ -1,10 +1,10 @@
 use Rattle.std.proofs.Common.{◌≡◌, refl, sym, ap, ◌∙◌, subst, inl, inr, Some, None, Ok, Err, true}
 use Rattle.quic_history.specs.World.{World}
 use Rattle.quic_history.specs.History.{From}
-use Rattle.quic_streams.specs.Shown.{shown}
+use Rattle.quic_streams.specs.Shown.{streams_view}
 use Rattle.quic_streams.specs.Sent.{sent_view}
 use Rattle.quic_streams.specs.Settling.{AcksWhole, acks_told}
-use Rattle.quic_retransmits.specs.Pending.{shown_pending}
+use Rattle.quic_retransmits.specs.Pending.{pending_view}
 use Rattle.quic_endpoint.specs.Ends.{EndState, with_counts_told_if}
 use Rattle.quic_endpoint.proofs.Told.{told-streams}
 use Rattle.quic_session.specs.Sessions.{Beside, end_of}
@@ -24,7 +24,7 @@ pub returns-in-Ok-clause-acks : goal.returns-in-Ok-clause-acks
 unfolding end_of
 returns-in-Ok-clause-acks c =
     let token = c.args.token in
-    let after : EndState = record { streams = shown c.acked.new.self; pending = shown_pending c.args.self.now.pending } in
+    let after : EndState = record { streams = streams_view c.acked.new.self; pending = pending_view c.args.self.now.pending } in
     let told : end_of c.tell_counts_if.new.self ≡ with_counts_told_if true after = c.tell_counts_if.ensures.told in
     record {
       sent = c.in-Some.payload;
@@ -43,7 +43,7 @@ unfolding end_of
 returns-in-Err-clause-acks c =
     let token = c.args.token in
     let now = c.put_rest_back.ensures.end in
-    let P : World → Type 0 = λ w. AcksWhole (shown c.args.self.now.streams) (sent_view c.in-Some.payload) (Err (sent_view c.in-Err.rest)) w in
+    let P : World → Type 0 = λ w. AcksWhole (streams_view c.args.self.now.streams) (sent_view c.in-Some.payload) (Err (sent_view c.in-Err.rest)) w in
     rw c.put_rest_back.ensures.error (inr (record {
       sent = c.in-Some.payload;
       rest = c.in-Err.rest;

@@ -1,10 +1,10 @@
 use Rattle.std.proofs.Common.{◌≡◌, refl, sym, ap, ◌∙◌, subst, inl, inr, Some, None, Err}
 use Rattle.quic_history.specs.World.{World}
 use Rattle.quic_history.specs.History.{From}
-use Rattle.quic_streams.specs.Shown.{shown}
+use Rattle.quic_streams.specs.Shown.{streams_view}
 use Rattle.quic_streams.specs.Sent.{sent_view}
 use Rattle.quic_streams.specs.Settling.{LosesWhole, losses_told}
-use Rattle.quic_retransmits.specs.Pending.{shown_pending}
+use Rattle.quic_retransmits.specs.Pending.{pending_view}
 use Rattle.quic_endpoint.specs.Ends.{EndState}
 use Rattle.quic_session.specs.Sessions.{end_of}
 use Rattle.quic_session.specs.Tokens.{with_payload}
@@ -24,7 +24,7 @@ unfolding end_of
 returns-in-Err-clause-loses c =
     let token = c.args.token in
     let now = c.put_rest_back.ensures.end in
-    let P : EndState → Type 0 = λ e. LosesWhole (shown c.args.self.now.streams) (shown_pending c.args.self.now.pending) (sent_view c.in-Some.payload) (Err (sent_view c.in-Err.rest)) e.streams e.pending in
+    let P : EndState → Type 0 = λ e. LosesWhole (streams_view c.args.self.now.streams) (pending_view c.args.self.now.pending) (sent_view c.in-Some.payload) (Err (sent_view c.in-Err.rest)) e.streams e.pending in
     rw c.put_rest_back.ensures.error (inr (record {
       sent = c.in-Some.payload;
       rest = c.in-Err.rest;

@@ -1,8 +1,8 @@
 use Rattle.std.proofs.Common.{rules, Some}
-use Rattle.quic_streams.specs.Held.{held}
+use Rattle.quic_streams.specs.Held.{halves_view}
 use Rattle.quic_streams.proofs.HeldMaps.{held-put}
 use Rattle.quic_streams.proofs.halves.ReceiveHalves.put.Goals as goal
 
 pub returns-clause-held : goal.returns-clause-held
-unfolding held
+unfolding halves_view
 returns-clause-held c = held-put c.args.self.now.window _ _ c.args.id _ ((c.get_mut.follows.holds (Some c.args.half)).3 (search rules)).0

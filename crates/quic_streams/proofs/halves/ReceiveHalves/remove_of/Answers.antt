@@ -4,12 +4,12 @@ use Rattle.std.proofs.lemmas.Bool.{eqb-true}
 use Rattle.std.proofs.lemmas.Map.Entries.{lookup-filter-keys}
 use Rattle.std.proofs.lemmas.Map.Made.{filter_same_pairs}
 use Rattle.quic_outgoing.specs.Senders.{is_local}
-use Rattle.quic_streams.specs.Held.{held}
+use Rattle.quic_streams.specs.Held.{halves_view}
 use Rattle.quic_streams.proofs.HeldMaps.{held-without}
 use Rattle.quic_streams.proofs.halves.ReceiveHalves.remove_of.Goals as goal
 
 pub returns-clause-held : goal.returns-clause-held
-unfolding held
+unfolding halves_view
 returns-clause-held c =
     let side = c.args.side in
     let es = c.args.self.now.entries.entries in

@@ -1,8 +1,8 @@
 use Rattle.std.proofs.Common.{ℕ, List, ◌∷◌}
 use Rattle.quic_sending.specs.Source.{slice_lists}
-use Rattle.quic_retransmits.specs.Pending.{shown_pending as listed}
+use Rattle.quic_retransmits.specs.Pending.{pending_view}
 use Rattle.quic_streams.specs.Connection.{is_shut}
-use Rattle.quic_streams.specs.Shown.{shown}
+use Rattle.quic_streams.specs.Shown.{streams_view}
 use Rattle.quic_history.specs.World.{Made}
 use Rattle.quic_history.specs.Writes.{WritesOwn}
 use Rattle.quic_history.specs.SendEvents.{WroteOwn}
@@ -13,10 +13,10 @@ use Rattle.quic_streams.proofs.send_stream.SendStream.write.Goals as goal
 
 pub returns-clause-from : goal.returns-clause-from
 returns-clause-from c =
-    let u = shown c.args.self.now.state.now in
-    let v = shown c.write_bytes.new.self in
-    let p = listed c.args.self.now.pending.now in
-    let q = listed c.write_bytes.new.pending in
+    let u = streams_view c.args.self.now.state.now in
+    let v = streams_view c.write_bytes.new.self in
+    let p = pending_view c.args.self.now.pending.now in
+    let q = pending_view c.write_bytes.new.pending in
     let id : ℕ = c.args.self.now.id in
     let lists = slice_lists c.args.bytes.now in
     let closed = is_shut c.args.self.now.conn in

@@ -3,21 +3,21 @@ use Rattle.std.specs.Option.{is_some}
 use Rattle.quic_values.specs.declared.ids.Side.{Side}
 use Rattle.quic_values.specs.declared.ids.Dir.TheVariants.{Bi}
 use Rattle.quic_values.specs.Ids.{stream_id, other_side}
-use Rattle.quic_outgoing.specs.Shown.{view_of}
+use Rattle.quic_outgoing.specs.Shown.{outgoing_view}
 use Rattle.quic_history.specs.World.{World, sends}
 use Rattle.quic_history.specs.Used.{halves_among}
 use Rattle.quic_history.proofs.UsedHistory.{none-among, one-among}
-use Rattle.quic_streams.specs.Shown.{shown}
+use Rattle.quic_streams.specs.Shown.{streams_view}
 use Rattle.quic_streams.proofs.state.StreamsState.accepted_halves.Goals as goal
 use Rattle.quic_streams.proofs.state.StreamsState.accepted_halves.Goals.{then-contains, else-contains}
 
 pub loop-index-init : goal.loop-index-init
-loop-index-init c = let w : World = shown c.args.self.now in (none-among w (other_side w.out.side) Bi, omega arith)
+loop-index-init c = let w : World = streams_view c.args.self.now in (none-among w (other_side w.out.side) Bi, omega arith)
 
 pub loop-index-preserved : goal.loop-index-preserved
-unfolding shown
+unfolding streams_view
 loop-index-preserved c =
-    let w : World = shown c.args.self.now in
+    let w : World = streams_view c.args.self.now in
     let peer : Side = other_side w.out.side in
     let n : ℕ = c.loop-index.index in
     let id : c.new.result ≡ stream_id peer Bi n = c.new.ensures.number ∙ ap (λ (s : Side). stream_id s Bi n) (c.not-peer.ensures ∙ ap other_side c.side.ensures) in

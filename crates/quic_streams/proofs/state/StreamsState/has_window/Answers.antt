@@ -1,8 +1,8 @@
 use Rattle.std.proofs.Common.{rules}
-use Rattle.quic_streams.specs.Shown.{shown}
+use Rattle.quic_streams.specs.Shown.{streams_view}
 use Rattle.quic_streams.specs.Waiting.{window_counts}
 use Rattle.quic_streams.proofs.state.StreamsState.has_window.Goals as goal
 
 pub returns : goal.returns
-unfolding shown
-returns c = c.any_id.ensures (window_counts (shown c.args.self.now)) (λ id answer post. search rules)
+unfolding streams_view
+returns c = c.any_id.ensures (window_counts (streams_view c.args.self.now)) (λ id answer post. search rules)

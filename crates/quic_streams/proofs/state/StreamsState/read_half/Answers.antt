@@ -1,5 +1,5 @@
 use Rattle.std.proofs.Common.{rules}
-use Rattle.quic_streams.specs.Shown.{shown}
+use Rattle.quic_streams.specs.Shown.{streams_view}
 use Rattle.quic_streams.proofs.InPlace.{reader-in-mode, read-ended, read-going, still-reading}
 use Rattle.quic_streams.proofs.state.StreamsState.read_half.Goals as goal
 
@@ -9,17 +9,17 @@ read_in_place-answer-requires c = reader-in-mode _ c.args.ordered c.args.read c.
 pub returns-then-is_ended-clause-reads : goal.returns-then-is_ended-clause-reads
 returns-then-is_ended-clause-reads c =
     let a = c.read_in_place-answer in
-    read-ended (shown c.args.self.now) (shown a.new.self) c.args.id c.args.max_length c.args.ordered c.args.read a.result
-    c.requires.reading a.ensures.reads a.ensures.halves (shown c.free_receive.new.self) (search rules) c.free_receive.ensures
+    read-ended (streams_view c.args.self.now) (streams_view a.new.self) c.args.id c.args.max_length c.args.ordered c.args.read a.result
+    c.requires.reading a.ensures.reads a.ensures.halves (streams_view c.free_receive.new.self) (search rules) c.free_receive.ensures
 
 pub returns-else-is_ended-clause-reads : goal.returns-else-is_ended-clause-reads
 returns-else-is_ended-clause-reads c =
     let a = c.read_in_place-answer in
-    read-going (shown c.args.self.now) (shown a.new.self) c.args.id c.args.max_length c.args.ordered c.args.read a.result
+    read-going (streams_view c.args.self.now) (streams_view a.new.self) c.args.id c.args.max_length c.args.ordered c.args.read a.result
     c.requires.reading a.ensures.reads a.ensures.halves (search rules)
 
 pub returns-else-is_ended-clause-reading : goal.returns-else-is_ended-clause-reading
 returns-else-is_ended-clause-reading c =
     let a = c.read_in_place-answer in
-    still-reading (shown c.args.self.now) (shown a.new.self) c.args.id c.args.max_length c.args.ordered c.args.read a.result
+    still-reading (streams_view c.args.self.now) (streams_view a.new.self) c.args.id c.args.max_length c.args.ordered c.args.read a.result
     c.requires.reading a.ensures.reads a.ensures.halves

@@ -1,4 +1,4 @@
-use Rattle.quic_streams.specs.Shown.{shown}
+use Rattle.quic_streams.specs.Shown.{streams_view}
 use Rattle.quic_history.specs.History.{Sending}
 use Rattle.quic_history.specs.SendEvents.{RaisedLimit}
 use Rattle.quic_history.proofs.Histories.{next}
@@ -7,4 +7,4 @@ use Rattle.quic_streams.proofs.state.StreamsState.received_max_stream_data.Goals
 pub returns-clause-from : goal.returns-clause-from
 returns-clause-from c = λ m h f.
     let e = Sending (RaisedLimit c.args.id c.args.offset c.raise_limit.result) in
-    next m h (shown c.args.self.now) e (shown c.raise_limit.new.self) tt f c.raise_limit.ensures
+    next m h (streams_view c.args.self.now) e (streams_view c.raise_limit.new.self) tt f c.raise_limit.ensures

@@ -3,20 +3,20 @@ use Rattle.quic_values.specs.declared.ids.Dir.TheVariants.{Bi, Uni}
 use Rattle.quic_queue.specs.SendOrder.{SendOrder}
 use Rattle.quic_outgoing.specs.Outgoing.{Outgoing}
 use Rattle.quic_outgoing.specs.Early.{with_all_unsent}
-use Rattle.quic_outgoing.specs.Shown.{view_of}
+use Rattle.quic_outgoing.specs.Shown.{outgoing_view}
 use Rattle.quic_history.specs.World.{World}
 use Rattle.quic_history.specs.Early.{first_ids}
-use Rattle.quic_streams.specs.Shown.{shown}
+use Rattle.quic_streams.specs.Shown.{streams_view}
 use Rattle.quic_streams.proofs.Unsent.{unsent-both, all-queued}
 use Rattle.quic_streams.proofs.state.StreamsState.send_again.Goals as goal
 
 pub returns-clause-sends : goal.returns-clause-sends
-unfolding shown
+unfolding streams_view
 returns-clause-sends c = λ none.
-    let o = view_of c.args.self.now.outgoing in
+    let o = outgoing_view c.args.self.now.outgoing in
     let one = c.in_ok-queue_unsent.ensures in
     let two = c.in_ok-queue_unsent-2.ensures in
-    let u = shown c.args.self.now in
+    let u = streams_view c.args.self.now in
     let with_both : Outgoing → SendOrder → World = λ a q. record u { out = a; queue = q } in (
       one.0 ++ two.0,
       unsent-both o (first_ids o.side Bi o.own_bi.opened) (first_ids o.side Uni o.own_uni.opened) one.0 two.0 one.1 two.1,

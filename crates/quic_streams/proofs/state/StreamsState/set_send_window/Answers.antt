@@ -1,6 +1,6 @@
 use Rattle.std.proofs.Common.{ap}
-use Rattle.quic_outgoing.specs.Shown.{view_of}
-use Rattle.quic_streams.specs.Shown.{shown}
+use Rattle.quic_outgoing.specs.Shown.{outgoing_view}
+use Rattle.quic_streams.specs.Shown.{streams_view}
 use Rattle.quic_history.specs.History.{Sending}
 use Rattle.quic_history.specs.SendEvents.{SetWindow}
 use Rattle.quic_history.specs.Sends.{with_out}
@@ -8,8 +8,8 @@ use Rattle.quic_history.proofs.Histories.{next}
 use Rattle.quic_streams.proofs.state.StreamsState.set_send_window.Goals as goal
 
 pub returns-clause-from : goal.returns-clause-from
-unfolding shown
+unfolding streams_view
 returns-clause-from c = λ m h f.
-    let u = shown c.args.self.now in
-    let v = with_out u (view_of c.set_send_window.new.self) in
+    let u = streams_view c.args.self.now in
+    let v = with_out u (outgoing_view c.set_send_window.new.self) in
     next m h u (Sending (SetWindow c.args.send_window)) v tt f (ap (with_out u) c.set_send_window.ensures.window)
