@@ -5,6 +5,7 @@ use Rattle.std.specs.BTreeMap.{insert_entry}
 use Rattle.std.specs.Ordering.{nat_cmp}
 use Rattle.quic_values.specs.Runs.{Run, is_in, contains, AreRuns, end_at, NoneBegins, IsLast, EndBefore, EndBy}
 use Rattle.quic_values.proofs.Entries.{joins, without-none, contains_last, contains_none}
+use Rattle.quic_values.proofs.Placed.{none_begins-insert}
 use Rattle.quic_values.proofs.Order.{at_most_last, inside, widened, EndBefore-start, EndBy-past}
 
 -- the set with the run from a to b put in is that of rs, with the numbers from x to b
@@ -18,16 +19,16 @@ pub record Free (a b : ℕ) (rs : List Run) : Type 0 where
   pub by : EndBy rs b
   pub out : contains rs a ≡ false
 
-pub placed : (a b : ℕ) (rs new : List Run) → AreRuns 0 rs → a < b → EndBefore rs a → EndBy rs b → new ≡ insert_entry nat_cmp rs a b → NoneBegins new (a + 1) b → Put a a b rs new
+pub placed : (a b : ℕ) (rs new : List Run) → AreRuns 0 rs → a < b → EndBefore rs a → EndBy rs b → new ≡ insert_entry nat_cmp rs a b → NoneBegins rs (a + 1) b → Put a a b rs new
 placed a b rs new runs some before by is none =
     let h = joins 0 a b rs runs (omega arith) some before by in
-    let e = without-none (insert_entry nat_cmp rs a b) (a + 1) b (rw is at none) in
+    let e = without-none (insert_entry nat_cmp rs a b) (a + 1) b (none_begins-insert a b b rs none) in
     record { runs = rw is (rw e at h.runs); set = λ n. rw (is, ← e) (h.adds n) }
 
 -- the run that holds x, from a to e, goes on to b
-pub longer : (a e x b : ℕ) (rs new : List Run) → AreRuns 0 rs → IsLast rs a e b → a ≤ x → x ≤ e → x < b → e < b → new ≡ insert_entry nat_cmp rs a b → NoneBegins new (a + 1) b → Put x a b rs new
-longer a e x b rs new runs last from to some more is none =
-    let h = placed a b rs new runs (omega arith) (EndBefore-start a e rs runs last.found) (EndBy-past a e b rs runs last (omega arith)) is none in
+pub longer : (a e x b : ℕ) (rs new : List Run) → AreRuns 0 rs → IsLast rs a e b → a ≤ x → x ≤ e → x < b → e < b → new ≡ insert_entry nat_cmp rs a b → Put x a b rs new
+longer a e x b rs new runs last from to some more is =
+    let h = placed a b rs new runs (omega arith) (EndBefore-start a e rs runs last.found) (EndBy-past a e b rs runs last (omega arith)) is last.last in
     record {
       runs = h.runs;
       set = λ n. h.set n ∙ widened rs a b x b n from (omega arith) (λ k low high. inside 0 a e k rs runs last.found low (omega arith)) (λ k low high. absurd (omega arith));

@@ -2,7 +2,6 @@
 use Rattle.std.proofs.Common.{ap, ◌∙◌, ◌≡◌, ℕ, ◌+◌, ◌<◌, ◌≤◌, Bool, true, false, ◌||◌, ◌⊎◌, List, [], ◌∷◌, length, Option, Some, None, refl, sym, inl, inr, arith}
 use Rattle.std.proofs.lemmas.Bool.{cases_lt, cases_Bool, or_parts}
 use Rattle.std.proofs.lemmas.Bool.Decides.{nat_tests}
-use Rattle.std.specs.Prelude.{slice_get}
 use Rattle.quic_values.specs.Runs.{Run, is_in, contains, AreRuns, end_at, EndBy, EndBefore, EndUpTo, NoneBegins, IsLast, IsRunOf, range_of}
 use Rattle.quic_values.proofs.Entries.{some_later, end_at-bounds, contains_below, is_in_out, NoneBegins-head, NoneBegins-later}
 
@@ -47,6 +46,17 @@ outside low s e (r ∷ rs) runs found =
       | inr there ↦
           let g = end_at-bounds (r.1 + 1) s e rs runs.2 there.1 in
           rw (is_in_out r e (λ p q. omega arith)) (outside (r.1 + 1) s e rs runs.2 there.1)
+    ]
+
+-- no run touches the start of another
+pub touches_none : (low s e k : ℕ) (rs : List Run) → AreRuns low rs → end_at rs s ≡ Some e → k + 1 ≡ s → contains rs k ≡ false
+touches_none low s e k [] runs found next = absurd cc
+touches_none low s e k (r ∷ rs) runs found next =
+    elim (some_later r rs s e found) [
+      | inl here ↦ rw (is_in_out r k (λ p q. omega arith)) (contains_below (r.1 + 1) k rs runs.2 (omega arith))
+      | inr there ↦
+          let g = end_at-bounds (r.1 + 1) s e rs runs.2 there.1 in
+          rw (is_in_out r k (λ p q. omega arith)) (touches_none (r.1 + 1) s e k rs runs.2 there.1 next)
     ]
 
 none_some : (o : Option ℕ) (v : ℕ) → o ≡ None → o ≡ Some v → ⊥
@@ -131,23 +141,18 @@ IsRunOf-first low r rs runs = record {
 pub below_first : (low n : ℕ) (r : Run) (rs : List Run) → AreRuns low (r ∷ rs) → n < r.0 → contains (r ∷ rs) n ≡ false
 below_first low n r rs runs lt = contains_below r.0 n (r ∷ rs) (omega arith, runs.1, runs.2) lt
 
-pub first_is : (rs : List Run) (r : Run) → slice_get rs 0 ≡ Some r → (t : List Run) × (rs ≡ r ∷ t)
-first_is [] r e = absurd cc
-first_is (x ∷ t) r e = (t, cc)
-
-pub lowest : (rs : List Run) (r : Run) → AreRuns 0 rs → slice_get rs 0 ≡ Some r → (contains rs r.0 ≡ true) × ((n : ℕ) → n < r.0 → contains rs n ≡ false)
-lowest rs r runs e =
-    let f = first_is rs r e in
+pub lowest : (rs : List Run) (r : Run) → AreRuns 0 rs → (t : List Run) × (rs ≡ r ∷ t) → (contains rs r.0 ≡ true) × ((n : ℕ) → n < r.0 → contains rs n ≡ false)
+lowest rs r runs f =
     let h : AreRuns 0 (r ∷ f.0) = rw f.1 at runs in
     rw f.1 ((IsRunOf-first 0 r f.0 h).inside r.0 (omega arith) h.1, λ n lt. below_first 0 n r f.0 h lt)
 
-pub nothing_in : (rs : List Run) (n : ℕ) → length rs ≡ 0 → contains rs n ≡ false
-nothing_in [] n e = refl
-nothing_in (r ∷ rs) n e = absurd (omega arith)
+pub nothing_in : (rs : List Run) (n : ℕ) → rs ≡ [] → contains rs n ≡ false
+nothing_in rs n e = rw e refl
 
-pub empty_from : (rs : List Run) → AreRuns 0 rs → ((n : ℕ) → contains rs n ≡ false) → length rs ≡ 0
-empty_from [] runs none = refl
-empty_from (r ∷ rs) runs none = absurd (let a = none r.0 in let b = (IsRunOf-first 0 r rs runs).inside r.0 (omega arith) runs.1 in cc)
+pub empty_is : (t : Bool) (rs : List Run) → AreRuns 0 rs → (t ≡ false → 0 < length rs) → ((n : ℕ) → contains rs n ≡ false) → t ≡ true
+empty_is true rs runs some none = refl
+empty_is false [] runs some none = absurd (let h = some refl in omega (arith, h))
+empty_is false (r ∷ rs) runs some none = absurd (let a = none r.0 in let b = (IsRunOf-first 0 r rs runs).inside r.0 (omega arith) runs.1 in cc)
 
 -- where n is not in the set, and no run begins from n to k
 pub gap : (low n k : ℕ) (rs : List Run) → AreRuns low rs → contains rs n ≡ false → n ≤ k → NoneBegins rs n k → contains rs k ≡ false

@@ -1,12 +1,37 @@
 use Rattle.std.proofs.Common.{arith}
+use Rattle.block_map.specs.Rows.{place_among}
+use Rattle.quic_values.specs.Runs.{Run}
 use Rattle.quic_values.proofs.Order.{inside, EndBy-end, EndBy-past}
+use Rattle.quic_values.proofs.Placed.{is_last, last_by_end}
 use Rattle.quic_values.proofs.range_set.end_of.Goals as goal
 
-pub returns-in-Some-clause-ends : goal.returns-in-Some-clause-ends
-returns-in-Some-clause-ends c = EndBy-end _ c.in-Some.end c.args.n c.args.runs.now.entries c.requires c.in-Some.ensures.found.found
+pub returns-then-n-end-clause-ends : goal.returns-then-n-end-clause-ends
+returns-then-n-end-clause-ends c =
+    let rs = c.args.runs.now.items in
+    let at = place_among c.args.runs.now.rows c.args.last.block c.args.last.index in
+    let r : Run = c.entry-start.result in
+    let last = is_last rs c.args.n at r c.requires.rises c.requires.last c.entry-start.ensures in
+    EndBy-end r.0 r.1 c.args.n rs c.requires.runs last.found
 
-pub returns-in-Some-clause-covered : goal.returns-in-Some-clause-covered
-returns-in-Some-clause-covered c = λ k low high. inside 0 _ c.in-Some.end k c.args.runs.now.entries c.requires c.in-Some.ensures.found.found (omega (arith, c.in-Some.ensures.found.up_to)) high
+pub returns-then-n-end-clause-covered : goal.returns-then-n-end-clause-covered
+returns-then-n-end-clause-covered c = λ k low high.
+    let rs = c.args.runs.now.items in
+    let at = place_among c.args.runs.now.rows c.args.last.block c.args.last.index in
+    let r : Run = c.entry-start.result in
+    let last = is_last rs c.args.n at r c.requires.rises c.requires.last c.entry-start.ensures in
+    inside 0 r.0 r.1 k rs c.requires.runs last.found (omega (arith, last.up_to, low)) high
 
-pub returns-in_default-clause-ends : goal.returns-in_default-clause-ends
-returns-in_default-clause-ends c = EndBy-past _ c.in-Some.end c.args.n c.args.runs.now.entries c.requires c.in-Some.ensures.found c.if-n-end.false
+pub returns-then-n-end-clause-last : goal.returns-then-n-end-clause-last
+returns-then-n-end-clause-last c =
+    let rs = c.args.runs.now.items in
+    let at = place_among c.args.runs.now.rows c.args.last.block c.args.last.index in
+    let r : Run = c.entry-start.result in
+    last_by_end rs c.args.n at r c.requires.runs c.requires.rises c.requires.last c.entry-start.ensures
+
+pub returns-else-n-end-clause-ends : goal.returns-else-n-end-clause-ends
+returns-else-n-end-clause-ends c =
+    let rs = c.args.runs.now.items in
+    let at = place_among c.args.runs.now.rows c.args.last.block c.args.last.index in
+    let r : Run = c.entry-start.result in
+    let last = is_last rs c.args.n at r c.requires.rises c.requires.last c.entry-start.ensures in
+    EndBy-past r.0 r.1 c.args.n rs c.requires.runs last c.if-n-end.false

@@ -1,24 +1,9 @@
-use Rattle.std.proofs.Common.{◌≡◌, false, arith, Option, Some, None, refl}
-use Rattle.std.specs.Prelude.{IsSome}
-use Rattle.std.specs.Ordering.{nat_cmp, is_gt}
-use Rattle.std.proofs.lemmas.Bool.Decides.{nat_tests}
-use Rattle.std.proofs.lemmas.Map.Keys.{ge_from_not_lt, le_from_not_gt}
+use Rattle.block_map.specs.Rows.{place_among}
+use Rattle.quic_values.proofs.Placed.{is_last, none_up_to}
 use Rattle.quic_values.proofs.range_set.last_up_to.Goals as goal
 
-none_since : {A : Type 0} (o : Option A) → (IsSome o → ⊥) → o ≡ None
-none_since None h = refl
-none_since (Some x) h = absurd (h refl)
-
 pub returns-in-Some-clause-found : goal.returns-in-Some-clause-found
-returns-in-Some-clause-found c =
-    let part = c.range.ensures.in_range tt in
-    let at = part.3 _ _ c.in-Some.ensures.steps in
-    let h = part.4 _ _ c.in-Some.ensures.steps in
-    record {
-      found = at.1;
-      up_to = le_from_not_gt c.in-Some.start.now c.args.n at.0.1;
-      last = λ q from to. none_since _ (λ found.
-          let up_to : is_gt (nat_cmp q c.args.n) ≡ false = grind (arith, nat_tests) in
-          let le = ge_from_not_lt c.in-Some.start.now q (h q (tt, up_to) found) in
-          omega arith);
-    }
+returns-in-Some-clause-found c = is_last c.args.runs.now.items c.args.n (place_among c.args.runs.now.rows c.in-Some.place.block c.in-Some.place.index) c.entry.result c.find.ensures.rises c.in-Some.ensures.last c.entry.ensures
+
+pub returns-in-None-clause-none : goal.returns-in-None-clause-none
+returns-in-None-clause-none c = none_up_to c.args.runs.now.items c.args.n c.in-None.ensures.none
