@@ -1,10 +1,10 @@
 -- One run put where none begins behind its start.
-use Rattle.std.proofs.Common.{◌≡◌, ◌∙◌, ℕ, ◌+◌, ◌<◌, ◌≤◌, false, ◌||◌, List, Some, None, inl, inr, arith}
+use Rattle.std.proofs.Common.{◌≡◌, ◌∙◌, ℕ, ◌+◌, ◌<◌, ◌≤◌, false, ◌||◌, List, inl, inr, arith}
 use Rattle.std.proofs.lemmas.Bool.{le-ltb}
 use Rattle.std.specs.BTreeMap.{insert_entry}
 use Rattle.std.specs.Ordering.{nat_cmp}
-use Rattle.quic_values.specs.Runs.{Run, is_in, contains, AreRuns, end_at, NoneBegins, IsLast, EndBefore, EndBy}
-use Rattle.quic_values.proofs.Entries.{joins, without-none, contains_last, contains_none}
+use Rattle.quic_values.specs.Runs.{Run, is_in, contains, AreRuns, NoneBegins, IsLast, EndBefore, EndBy}
+use Rattle.quic_values.proofs.Entries.{joins, without-none, contains_last}
 use Rattle.quic_values.proofs.Placed.{none_begins-insert}
 use Rattle.quic_values.proofs.Order.{at_most_last, inside, widened, EndBefore-start, EndBy-past}
 
@@ -33,17 +33,6 @@ longer a e x b rs new runs last from to some more is =
       runs = h.runs;
       set = λ n. h.set n ∙ widened rs a b x b n from (omega arith) (λ k low high. inside 0 a e k rs runs last.found low (omega arith)) (λ k low high. absurd (omega arith));
     }
-
-some_none : (k v : ℕ) (rs : List Run) → end_at rs k ≡ None → end_at rs k ≡ Some v → ⊥
-some_none k v rs e f = cc
-
--- no run begins up to b
-pub free_none : (a b : ℕ) (rs : List Run) → AreRuns 0 rs → a < b → NoneBegins rs 0 b → Free a b rs
-free_none a b rs runs some none = record {
-  before = λ k v e lt. absurd (some_none k v rs (none k (omega arith) (omega arith)) e);
-  by = λ k v e le. absurd (some_none k v rs (none k (omega arith) le) e);
-  out = contains_none 0 a rs runs (λ q p t. none q p (omega arith));
-}
 
 -- the last run that begins up to b ends before a
 pub free_past : (s e a b : ℕ) (rs : List Run) → AreRuns 0 rs → a < b → IsLast rs s e b → s ≤ a → e < a → Free a b rs

@@ -1,6 +1,6 @@
 -- Taking the numbers from a up to b out of a set.
 use Rattle.std.proofs.Common.{◌≡◌, ℕ, ◌+◌, ◌-◌, ◌<◌, ◌≤◌, Bool, true, false, not, ◌&&◌, ◌||◌, ltb, List, [], ◌∷◌, Option, Some, None, refl, sym, ap, ◌∙◌, inl, inr, arith}
-use Rattle.std.specs.Prelude.{MatchOption, IfSome, IfNone, IsSomeAnd}
+use Rattle.std.specs.Prelude.{MatchOption, IfSome, IfNone}
 use Rattle.std.specs.BTreeMap.{insert_entry}
 use Rattle.std.specs.Ordering.{nat_cmp}
 use Rattle.std.proofs.lemmas.Bool.{cases_lt, lt-ltb, le-ltb}
@@ -220,12 +220,6 @@ cuts low a b s e (r ∷ rs) left runs some more last h =
 pub is_left : (rs : List Run) (a : ℕ) (left : Option ℕ) → IfSome left (λ l. (v : ℕ) × (end_at rs l ≡ Some v) × (l < a) × (a < v)) → IfNone left (EndUpTo rs a) → IsLeft rs a left
 is_left rs a None some none = none
 is_left rs a (Some l) some none = some
-
--- the left part is in the map, also behind keep_right, so setting its end takes no memory
-pub left_is_there : (rs mid : List Run) (a b : ℕ) (left : Option ℕ) → a < b → IfSome left (λ l. (v : ℕ) × (end_at rs l ≡ Some v) × (l < a) × (a < v))
-    → ((q : ℕ) → q < b → end_at mid q ≡ end_at rs q) → IsSomeAnd left (λ l. end_at mid l ≡ None) → ⊥
-left_is_there rs mid a b None lt some same lost = lost
-left_is_there rs mid a b (Some l) lt some same lost = let e = same l (omega arith) in cc
 
 pub removes_nothing : (rs : List Run) (a b n : ℕ) → ((k : ℕ) → a ≤ k → k < b → contains rs k ≡ false) → contains rs n ≡ (contains rs n && not (is_in (a, b) n))
 removes_nothing rs a b n none = zones a b n (contains rs n) (contains rs n) (λ lt. refl) (none n) (λ ge. refl)

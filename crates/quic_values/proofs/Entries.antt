@@ -1,6 +1,5 @@
 -- What a change of the map does to the list of its runs.
 use Rattle.std.proofs.Common.{◌≡◌, ℕ, ◌+◌, ◌<◌, ◌≤◌, Bool, true, false, ◌||◌, ◌⊎◌, ltb, List, [], ◌∷◌, Some, None, refl, sym, ap, ◌∙◌, inl, inr, ⊎_elim, arith}
-use Rattle.std.specs.Map.{remove_entry}
 use Rattle.std.specs.BTreeMap.{is_at, insert_entry}
 use Rattle.std.specs.Ordering.{nat_cmp}
 use Rattle.std.proofs.lemmas.Bool.{cases_eq, cases_lt, cases_order}
@@ -19,15 +18,7 @@ end_at-here r rs q e = rw (is_at-same q r.0 e) refl
 pub end_at-later : (r : Run) (rs : List Run) (q : ℕ) → (q ≡ r.0 → ⊥) → end_at (r ∷ rs) q ≡ end_at rs q
 end_at-later r rs q ne = rw (is_at-apart q r.0 ne) refl
 
--- ---- the runs that remove_runs leaves
-
-without_step : (s from to : ℕ) (r : Run) (rs : List Run) → from ≤ s → s ≤ to → without (remove_entry (is_at (nat_cmp s)) rs) from to ≡ without rs from to
-    → without (remove_entry (is_at (nat_cmp s)) (r ∷ rs)) from to ≡ without (r ∷ rs) from to
-without_step s from to r rs low high e = grind (arith, nat_tests, is_at-same, is_at-apart)
-
-pub without-remove_entry : (s from to : ℕ) (rs : List Run) → from ≤ s → s ≤ to → without (remove_entry (is_at (nat_cmp s)) rs) from to ≡ without rs from to
-without-remove_entry s from to [] low high = refl
-without-remove_entry s from to (r ∷ rs) low high = without_step s from to r rs low high (without-remove_entry s from to rs low high)
+-- ---- the runs that are left
 
 pub none_later : (r : Run) (rs : List Run) (q : ℕ) → end_at (r ∷ rs) q ≡ None → (end_at rs q ≡ None) × (q ≡ r.0 → ⊥)
 none_later r rs q e =
@@ -108,11 +99,6 @@ EndBefore-later low r rs b runs h k v e lt = h k v (later_some low r rs k v runs
 
 pub without_drops : (r : Run) (rs : List Run) (from to : ℕ) → from ≤ r.0 → r.0 ≤ to → without (r ∷ rs) from to ≡ without rs from to
 without_drops r rs from to low high = grind (arith, nat_tests)
-
-or_swap : (x y a : Bool) → (x || (y || a)) ≡ (y || (x || a))
-or_swap true true a = refl
-or_swap true false a = refl
-or_swap false y a = refl
 
 or_last : (x a b : Bool) → (x || (a || b)) ≡ ((x || a) || b)
 or_last true a b = refl

@@ -52,9 +52,6 @@ is_last rs n at r rises last is = record {
 pub none_up_to : (rs : List Run) (n : ℕ) → ((k : ℕ) (d : Run) → k < length rs → n < (slice_index_or rs k d).0) → NoneBegins rs 0 n
 none_up_to rs n above = none_begins rs 0 n (λ k d lt low high. let h = above k d lt in absurd (omega (arith, h, high)))
 
-pub none_from : (rs : List Run) (n k : ℕ) → ((i : ℕ) (d : Run) → i < length rs → (slice_index_or rs i d).0 < n) → NoneBegins rs n k
-none_from rs n k below = none_begins rs n k (λ i d lt low high. let h = below i d lt in absurd (omega (arith, h, low)))
-
 -- before the first run that begins from n on, none does
 pub none_before : (rs : List Run) (n at k : ℕ) (r : Run) → KeysRise rs → IsFirstFrom rs n at → StandsAt rs at r → k < r.0 → NoneBegins rs n k
 none_before rs n at k r rises first is lt = none_begins rs n k (λ i d less low high.

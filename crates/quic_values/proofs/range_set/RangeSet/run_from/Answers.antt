@@ -1,4 +1,4 @@
-use Rattle.std.proofs.Common.{◌≡◌, ◌<◌, false, arith, ◌∙◌}
+use Rattle.std.proofs.Common.{◌≡◌, false, arith, ◌∙◌}
 use Rattle.std.proofs.lemmas.Bool.{le-ltb}
 use Rattle.block_map.specs.Rows.{place_among}
 use Rattle.quic_values.specs.Runs.{Run, contains}
