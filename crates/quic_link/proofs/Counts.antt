@@ -12,7 +12,7 @@ use Rattle.quic_history.specs.World.{World, Made, count_of, remote_of}
 use Rattle.quic_history.specs.SendEvents.{GaveLimits, RaisedData, RaisedCount, RaisedLimit, StoppedOwn, WroteOwn, FinishedOwn, LostOwn}
 use Rattle.quic_history.specs.History.{Event, Received, ReceivedReset, Sending, opened_in_all, count_by, greatest_limit, limit_by}
 use Rattle.quic_history.proofs.Credits.{limit-fits}
-use Rattle.quic_link.specs.Endpoints.{LinkedEnd, MayAct, acted, written_by, IsHonest, limits_of}
+use Rattle.quic_link.specs.Endpoints.{LinkedEnd, MayAct, acted, written_by, IsHonest, limits_of, LimitsWithin}
 use Rattle.quic_link.proofs.Ends.{Comes, plain-call}
 use Rattle.quic_link.proofs.TrueFrames.{AllTrue, count-grows, limit-grows}
 use Rattle.quic_link.proofs.Meets.{nexts, next_of_dir, MeetsBy, frame_id, meets-step}
@@ -68,9 +68,9 @@ met_after x y v (Some id) side other m k l d = elim (m d) [
 
 -- ---- counts of streams
 
-count_is : (m : Made) (d : Dir) → count_in (limits_of m) d ≡ count_of m d
-count_is m Bi = refl
-count_is m Uni = refl
+count_most : (m : Made) (limits : PeerLimits) (d : Dir) → LimitsWithin limits (limits_of m) → count_in limits d ≤ count_of m d
+count_most m limits Bi w = w.streams_bidi
+count_most m limits Uni w = w.streams_uni
 
 given_most : (e d : Dir) (n : ℕ) (most : Dir → ℕ) → n ≤ most e → given_for e d n ≤ most d
 given_most Bi Bi n most l = l
@@ -80,7 +80,7 @@ given_most Uni Uni n most l = l
 
 count_true : (x y : LinkedEnd) (e : Event) → AllTrue y → ((d : Dir) → count_of y.made d ≤ (remote_of y.world d).max_remote) → IsHonest x y e → (d : Dir) → count_by e d ≤ (remote_of y.world d).max_remote
 count_true x y (Sending (GaveLimits limits)) t base k d =
-    let a : count_in limits d ≡ count_of y.made d = ap (λ p. count_in p d) k ∙ count_is y.made d in
+    let a = count_most y.made limits d k in
     let b = base d in
     omega arith
 count_true x y (Sending (RaisedCount dir count (Ok u))) t base k d =
@@ -97,7 +97,7 @@ pub record DataSo (x y : LinkedEnd) : Type 0 where
   pub base : x.made.receive_window ≤ x.world.credit.local_max_data
 
 limit_true : (x y : LinkedEnd) (e : Event) → AllTrue y → y.made.receive_window ≤ y.world.credit.local_max_data → IsHonest x y e → limit_by e ≤ y.world.credit.local_max_data
-limit_true x y (Sending (GaveLimits limits)) t base k = let a : limits.initial_max_data ≡ y.made.receive_window = ap (λ (p : PeerLimits). p.initial_max_data) k in omega arith
+limit_true x y (Sending (GaveLimits limits)) t base k = let a = k.of_connection in omega arith
 limit_true x y (Sending (RaisedData limit)) t base k = t (frames.MaxData limit) k
 limit_true x y _ t base k = omega arith
 

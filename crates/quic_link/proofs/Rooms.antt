@@ -18,7 +18,7 @@ use Rattle.quic_history.specs.SendEvents.{SendEvent, SendStep, GaveLimits, Raise
 use Rattle.quic_history.specs.History.{Event, Sending, Step, From, flow, send_move_of, limits_in, taken_by, taken_in_all, total_over, opened_in_all, send_tale, write_room, joint_move_of, since}
 use Rattle.quic_history.proofs.Totals.{by_cases, same, IsOnce}
 use Rattle.quic_link.proofs.Ends.{ArePlain}
-use Rattle.quic_link.specs.Endpoints.{LinkedEnd, IsHonest, limits_of}
+use Rattle.quic_link.specs.Endpoints.{LinkedEnd, IsHonest, limits_of, LimitsWithin}
 use Rattle.quic_link.proofs.Sums.{total-most, total-grows}
 
 -- how many bytes were written on a stream
@@ -121,10 +121,13 @@ room_moved (Some m) there f q k r = by_cases (eqb q m.0)
     room_if _ (f q) (eqb q m.0 && there q) (room_move m.1 (f q) at r) r)
     (λ n. rw n r)
 
--- the limits that are handed in are those of the other end
+-- the limits that are handed in are within those of the other end
 abbrev pub AreLimitsOf : Made → Option PeerLimits → Type 0
 AreLimitsOf m None = Unit {0}
-AreLimitsOf m (Some limits) = limits ≡ limits_of m
+AreLimitsOf m (Some limits) = LimitsWithin limits (limits_of m)
+
+pub within-same : (p : PeerLimits) → LimitsWithin p p
+within-same p = record { of_connection = omega arith; streams_bidi = omega arith; streams_uni = omega arith; of_uni = omega arith; of_bidi_local = omega arith; of_bidi_remote = omega arith }
 
 pub first-is : (m : Made) (side : Side) (q : ℕ) → first_limit side (first_of (limits_of m)) q ≡ m.window
 first-is m side q = by_dir (is_local side q) (dir_of q)
@@ -135,12 +138,21 @@ first-is m side q = by_dir (is_local side q) (dir_of q)
     by_dir false Bi = refl
     by_dir false Uni = refl
 
+-- so no stream begins with more than its window
+pub first-most : (m : Made) (limits : PeerLimits) (side : Side) (q : ℕ) → LimitsWithin limits (limits_of m) → first_limit side (first_of limits) q ≤ m.window
+first-most m limits side q w = by_dir (is_local side q) (dir_of q)
+  where
+    by_dir : (own : Bool) (d : Dir) → first_for own d (first_of limits) ≤ m.window
+    by_dir true Bi = w.of_bidi_remote
+    by_dir true Uni = w.of_uni
+    by_dir false Bi = w.of_bidi_local
+    by_dir false Uni = w.of_uni
+
 room_limits : (m : Made) (l : Option PeerLimits) (side : Side) (q : ℕ) (t : SendFlow) → m.window < 2 ^ 62 → AreLimitsOf m l → RoomSo t → RoomSo (with_first_limits l side q t)
 room_limits m None side q t s a r = r
 room_limits m (Some limits) side q t s a r =
-    let P : PeerLimits → Type 0 = λ p. RoomSo (with_least_limit (first_limit side (first_of p) q) t) in
-    let n = first-is m side q in
-    subst P (sym a) (room_least t (first_limit side (first_of (limits_of m)) q) (omega arith) r)
+    let n = first-most m limits side q a in
+    room_least t (first_limit side (first_of limits) q) (omega arith) r
 
 pub limits-honest : (x y : LinkedEnd) (e : Event) → IsHonest x y e → AreLimitsOf y.made (limits_in e)
 limits-honest x y (Sending (GaveLimits limits)) k = k

@@ -23,7 +23,7 @@ use Rattle.quic_link.proofs.Ends.{plain-call}
 use Rattle.quic_link.specs.Endpoints.{LinkedEnd, acted, sent_on, came_on, IsHonest, limits_of}
 use Rattle.quic_link.specs.Truths.{AreBytesOf}
 use Rattle.quic_link.proofs.Growth.{Grows, still-closed}
-use Rattle.quic_link.proofs.Rooms.{amount, AreLimitsOf, first-is}
+use Rattle.quic_link.proofs.Rooms.{amount, AreLimitsOf, first-most}
 use Rattle.quic_link.proofs.Texts.{byte-more}
 use Rattle.quic_link.proofs.TrueFrames.{AllTrue, announced-grows}
 use Rattle.quic_link.proofs.Basics.{either_true, ended_closed, or_left}
@@ -216,10 +216,9 @@ limit_moved window (Some m) there f t q k l = by_cases (eqb q m.0)
 limit_first : (m : Made) (l : Option PeerLimits) (side : Side) (q : ℕ) (f : SendFlow) (t : Trace) → AreLimitsOf m l → LimitSo m.window f t → LimitSo m.window (with_first_limits l side q f) t
 limit_first m None side q f t a k = k
 limit_first m (Some limits) side q f t a k =
-    let P : PeerLimits → Type 0 = λ p. LimitSo m.window (with_least_limit (first_limit side (first_of p) q) f) t in
-    let n = first-is m side q in
-    let x : max f.limit (first_limit side (first_of (limits_of m)) q) ≤ max m.window t.announced = omega arith in
-    subst P (sym a) x
+    let n = first-most m limits side q a in
+    let x : max f.limit (first_limit side (first_of limits) q) ≤ max m.window t.announced = omega arith in
+    x
 
 limit_true : (x y : LinkedEnd) (e : Event) → AllTrue y → IsHonest x y e → TrueLimit (came_on y) (send_move_of e)
 limit_true x y (Sending (RaisedLimit id limit (Ok u))) t k = (t (frames.MaxStreamData id limit) k).0

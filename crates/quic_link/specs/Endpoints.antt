@@ -1,5 +1,5 @@
 -- Two ends of a connection and the network between them: what each may do, by what the other wrote and answered.
-use Rattle.std.specs.Prelude.{ℕ, Bool, ◌≡◌, ◌<◌, ◌+◌, ◌^◌, ◌⊎◌, if◌then◌else◌, List, [], ◌∷◌, ◌++◌, length, Some, Ok}
+use Rattle.std.specs.Prelude.{ℕ, Bool, ◌≡◌, ◌<◌, ◌≤◌, ◌+◌, ◌^◌, ◌⊎◌, if◌then◌else◌, List, [], ◌∷◌, ◌++◌, length, Some, Ok}
 use Rattle.std.specs.List.{concat}
 use Rattle.std.specs.declared.ops.Range.{Range}
 use Rattle.quic_values.specs.declared.ids.Dir.{Dir}
@@ -91,10 +91,20 @@ limits_of m = record {
   initial_max_stream_data_bidi_remote = m.window;
 }
 
--- what end x is told on its sending side comes from end y: its limits, frames that it wrote, a frame that it accepted.
+-- no limit is above that of others
+pub record LimitsWithin (limits most : PeerLimits) : Type 0 where
+  pub of_connection : limits.initial_max_data ≤ most.initial_max_data
+  pub streams_bidi : limits.initial_max_streams_bidi ≤ most.initial_max_streams_bidi
+  pub streams_uni : limits.initial_max_streams_uni ≤ most.initial_max_streams_uni
+  pub of_uni : limits.initial_max_stream_data_uni ≤ most.initial_max_stream_data_uni
+  pub of_bidi_local : limits.initial_max_stream_data_bidi_local ≤ most.initial_max_stream_data_bidi_local
+  pub of_bidi_remote : limits.initial_max_stream_data_bidi_remote ≤ most.initial_max_stream_data_bidi_remote
+
+-- what end x is told on its sending side comes from end y: limits within those of y, as what was remembered of them is,
+-- frames that y wrote, a frame that it accepted.
 -- A frame that was lost was written. A write takes bytes, and an end is taken, of streams that the application was given
 abbrev pub IsHonestSending : LinkedEnd → LinkedEnd → SendEvent → Type 0
-IsHonestSending x y (GaveLimits limits) = limits ≡ limits_of y.made
+IsHonestSending x y (GaveLimits limits) = LimitsWithin limits (limits_of y.made)
 IsHonestSending x y (RaisedData limit) = IsOneOf (frames.MaxData limit) y.wrote
 IsHonestSending x y (RaisedCount dir count answer) = IsOneOf (frames.MaxStreams dir count) y.wrote
 IsHonestSending x y (RaisedLimit id limit answer) = IsOneOf (frames.MaxStreamData id limit) y.wrote
