@@ -16,8 +16,10 @@ use Rattle.quic_history.specs.World.{World, Made}
 use Rattle.quic_history.specs.Flows.{send_moved, with_first_limits, room_on, has_send_side}
 use Rattle.quic_history.specs.SendEvents.{SendEvent, SendStep, GaveLimits, RaisedLimit, StoppedOwn, WroteOwn, FinishedOwn, ResetOwn, AckedOwn, LostOwn, ResetAckedOwn, TookTurn}
 use Rattle.quic_history.specs.History.{Event, Sending, Step, From, flow, send_move_of, limits_in, taken_by, taken_in_all, total_over, opened_in_all, send_tale, write_room, joint_move_of, since}
+use Rattle.quic_history.specs.Early.{begins_anew}
 use Rattle.quic_history.proofs.Totals.{by_cases, same, IsOnce}
 use Rattle.quic_link.proofs.Ends.{ArePlain}
+use Rattle.quic_link.proofs.Unsent.{flow_unsent, flow-called}
 use Rattle.quic_link.specs.Endpoints.{LinkedEnd, IsHonest, limits_of, LimitsWithin}
 use Rattle.quic_link.proofs.Sums.{total-most, total-grows}
 
@@ -193,8 +195,9 @@ module _ (m : Made) (h : List Event) (u v : World) (f : From m h u) where
   room_any _ s = tt
 
   -- no call goes beyond the limit of a stream
-  pub room-kept : (n : Made) (e : Event) → joint_move_of e ≡ None → Step u e v → n.window < 2 ^ 62 → AreLimitsOf n (limits_in e) → (q : ℕ) → RoomSo (flow m h q) → RoomSo (flow m (e ∷ h) q)
-  room-kept n e plain s small a q r = rw plain (room_limits n (limits_in e) m.side q _ small a (room_moved (send_move_of e) _ (flow m h) q (room_any e s) r))
+  pub room-kept : (n : Made) (e : Event) → begins_anew (joint_move_of e) ≡ false → Step u e v → n.window < 2 ^ 62 → AreLimitsOf n (limits_in e) → (q : ℕ) → RoomSo (flow m h q) → RoomSo (flow m (e ∷ h) q)
+  room-kept n e plain s small a q r = flow-called (λ t. RoomSo t) m e h q plain (λ t k. room_same t (flow_unsent t) refl refl k)
+      (room_limits n (limits_in e) m.side q _ small a (room_moved (send_move_of e) _ (flow m h) q (room_any e s) r))
 
 -- a call writes no more than is counted
 written_counts : (e : Event) → bytes_in_move (send_move_of e) ≤ taken_by e
@@ -218,6 +221,9 @@ written_counts (Sending (TookTurn most fair None)) = omega arith
 written_counts (Sending (TookTurn most fair (Some frame))) = omega arith
 written_counts _ = omega arith
 
+most_self : (n : ℕ) → n ≤ n
+most_self n = omega arith
+
 -- the sum over any streams, each once, is no more than what is counted
 pub sum-written : (m : Made) (h : List Event) (xs : List ℕ) → ArePlain h → IsOnce xs → total_over (λ q. amount (flow m h q)) xs ≤ taken_in_all h
 sum-written m [] xs plain once = none_written xs
@@ -227,7 +233,9 @@ sum-written m [] xs plain once = none_written xs
     none_written (y ∷ ys) = omega (arith, none_written ys)
 sum-written m (e ∷ h) xs plain once =
     let there : ℕ → Bool = has_send_side m.side (opened_in_all (since h)) (send_tale m h).may_open in
+    let moved : ℕ → SendFlow = λ q. with_first_limits (limits_in e) m.side q (send_moved (send_move_of e) there q (flow m h q)) in
     let a = sum_moved (send_move_of e) (limits_in e) m.side there (flow m h) xs once in
     let b = written_counts e in
     let c = sum-written m h xs plain.1 once in
-    rw plain.0 (omega arith)
+    let d = total-most (λ q. amount (moved q)) (λ q. amount (flow m (e ∷ h) q)) xs (λ q. flow-called (λ t. amount t ≤ amount (moved q)) m e h q plain.0 (λ t l. l) (most_self (amount (moved q)))) in
+    omega arith
