@@ -1,5 +1,5 @@
 -- Streams and limits that one end counts on, the other permits; kept by each call.
-use Rattle.std.proofs.Common.{◌≡◌, ℕ, zero, suc, Bool, true, false, [], ◌∷◌, Option, Some, None, Ok, Err, refl, sym, ap, ◌∙◌, subst, inl, inr, arith, ◌≤◌, ◌<◌}
+use Rattle.std.proofs.Common.{◌≡◌, ℕ, zero, suc, Bool, true, false, [], ◌∷◌, Option, Some, None, Ok, Err, sym, ap, ◌∙◌, subst, inl, inr, arith, ◌≤◌, ◌<◌}
 use Rattle.std.specs.Prelude.{not, max}
 use Rattle.quic_values.specs.declared.ids.Dir.{Dir}
 use Rattle.quic_values.specs.declared.ids.Dir.TheVariants.{Bi, Uni}

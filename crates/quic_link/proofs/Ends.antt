@@ -3,7 +3,7 @@ use Rattle.std.proofs.Common.{◌≡◌, ℕ, sym, ap, ◌∙◌, refl, subst, f
 use Rattle.quic_values.specs.Ids.{other_side}
 use Rattle.quic_history.specs.World.{World}
 use Rattle.quic_history.specs.SendTotals.{send_totals}
-use Rattle.quic_history.specs.History.{From, Event, Rejected, SentAgain, IsRun, Facts, GivenSo, EndsSo, TellsEnds, EverPermits, SentSo, FlowsSo, TellsWrites, AreQueued, trace, since, joint_move_of}
+use Rattle.quic_history.specs.History.{From, Event, Rejected, SentAgain, Facts, GivenSo, EndsSo, TellsEnds, EverPermits, SentSo, FlowsSo, TellsWrites, AreQueued, trace, since, joint_move_of}
 use Rattle.quic_history.specs.Early.{begins_anew}
 use Rattle.quic_history.proofs.Histories.{next}
 use Rattle.quic_history.proofs.Beginnings.{begins}
