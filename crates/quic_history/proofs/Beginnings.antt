@@ -7,21 +7,21 @@ use Rattle.quic_values.specs.declared.ids.Side.TheVariants.{Client, Server}
 use Rattle.quic_values.specs.declared.ids.Dir.{Dir}
 use Rattle.quic_values.specs.declared.ids.Dir.TheVariants.{Bi, Uni}
 use Rattle.quic_values.specs.Ids.{stream_id, other_side, index_of}
-use Rattle.quic_limits.specs.Remote.{new_remote}
+use Rattle.quic_limits.specs.Remote.{Remote, new_remote}
 use Rattle.quic_receiving.specs.Counted.{number}
 use Rattle.quic_receiving.specs.Half.{new_half}
 use Rattle.quic_history.specs.Halves.{is_among, with_first}
-use Rattle.quic_history.specs.World.{World, Made, count_of, start, is_same_side}
+use Rattle.quic_history.specs.World.{World, Made, made_with, IsUnusedCredit, IsUnusedRemote, count_of, remote_of, start, is_same_side}
 use Rattle.quic_queue.specs.SendOrder.{empty_queue}
 use Rattle.quic_history.proofs.RestHistory.{rest-start}
 use Rattle.quic_history.proofs.Endings.{tells-ends}
 use Rattle.quic_history.specs.SendTotals.{send_totals}
-use Rattle.quic_history.specs.Used.{used_halves}
+use Rattle.quic_history.specs.Used.{used_halves, halves_among}
 use Rattle.quic_history.proofs.SentHistory.{sent-start}
 use Rattle.quic_history.proofs.FlowHistory.{sends-start}
 use Rattle.quic_history.proofs.WritesTold.{writes-told}
 use Rattle.quic_history.proofs.Remotes.{AllRemotes}
-use Rattle.quic_history.specs.History.{StreamFrom, RemoteFrom, untouched, trace, Facts, From}
+use Rattle.quic_history.specs.History.{StreamFrom, RemoteFrom, untouched, trace, Facts, IsStart, From}
 use Rattle.quic_history.proofs.Refusals.{refusal_by, refusal-is}
 use Rattle.quic_history.proofs.Credits.{credit-start}
 use Rattle.quic_history.proofs.StreamSteps.{AllFrom, new-half-from}
@@ -90,51 +90,71 @@ all_start : (m : Made) → AllFrom (λ q. untouched) (start m)
 unfolding with_first
 all_start m q =
     let w = start m in
-    rw (refusal-is w q, among (other_side m.side) Uni m.uni q (q % 2 == 0) (q / 2 % 2 == 0) refl refl, among (other_side m.side) Bi m.bi q (q % 2 == 0) (q / 2 % 2 == 0) refl refl)
-    (by_bits m.side (q % 2 == 0) (q / 2 % 2 == 0) m.uni m.bi m.window (index_of q))
+    rw (refusal-is w q, among (other_side m.side) Uni m.uni.max_remote q (q % 2 == 0) (q / 2 % 2 == 0) refl refl, among (other_side m.side) Bi m.bi.max_remote q (q % 2 == 0) (q / 2 % 2 == 0) refl refl)
+    (by_bits m.side (q % 2 == 0) (q / 2 % 2 == 0) m.uni.max_remote m.bi.max_remote m.window (index_of q))
 
-facts_start : (m : Made) → m.receive_window < 2 ^ 62 → Facts m.receive_window [] (start m)
-facts_start m small = record { credit = credit-start m.receive_window small; streams = all_start m }
+facts_start : (m : Made) → IsUnusedCredit m.credit → Facts m.credit [] (start m)
+facts_start m unused = record { credit = credit-start m.credit unused; streams = all_start m }
 
 none_over : (n : ℕ) (over : ℕ → Bool) → ((i : ℕ) → over i ≡ false) → number over n ≡ 0
 unfolding number
 none_over zero over none = refl
 none_over (suc n) over none = let e = none n in rw e (omega (arith, none_over n over none))
 
-remote_start : (over : ℕ → Bool) (count : ℕ) → ((i : ℕ) → over i ≡ false) → count ≤ 2 ^ 60 → RemoteFrom count 0 over (new_remote count)
-remote_start over count none few =
-    let e = none_over count over none in
-    let p : count ≡ max 0 (min (count + number over count) (2 ^ 60)) = omega arith in
+remote_start : (over : ℕ → Bool) (r : Remote) → ((i : ℕ) → over i ≡ false) → IsUnusedRemote r → RemoteFrom r.max_concurrent r.max_remote over r
+remote_start over r none unused =
+    let e = none_over r.max_remote over none in
+    let all = unused.allocated in
+    let next = unused.next in
+    let reported = unused.reported in
+    let enough = unused.enough in
+    let p : r.max_remote ≡ max r.max_remote (min (r.max_concurrent + number over r.max_remote) (2 ^ 60)) = omega arith in
     record { concurrent = refl; allocated = omega arith; permitted = p; opened = omega arith; accepted = omega arith }
 
 -- no stream was freed
-remotes_start : (m : Made) → m.uni ≤ 2 ^ 60 → m.bi ≤ 2 ^ 60 → AllRemotes (count_of m) (λ d. 0) (trace []) (start m)
-remotes_start m few_uni few_bi Bi = remote_start _ m.bi (λ i. refl) few_bi
-remotes_start m few_uni few_bi Uni = remote_start _ m.uni (λ i. refl) few_uni
+remotes_start : (m : Made) → IsUnusedRemote m.uni → IsUnusedRemote m.bi → AllRemotes (count_of m) (λ d. (remote_of (start m) d).max_remote) (trace []) (start m)
+remotes_start m uni bi Bi = remote_start _ m.bi (λ i. refl) bi
+remotes_start m uni bi Uni = remote_start _ m.uni (λ i. refl) uni
+
+-- and none was accepted
+used_start : (m : Made) → m.bi.next_reported ≡ 0 → 0 ≡ used_halves (start m)
+unfolding number
+used_start m none = let e : halves_among (start m) (other_side m.side) Bi m.bi.next_reported ≡ 0 = ap (halves_among (start m) (other_side m.side) Bi) none in sym (ap (λ n. 0 + n) e)
 
 -- an end that was just made may come from what it was made with and no calls
-used_start : (m : Made) → 0 ≡ used_halves (start m)
-unfolding number
-used_start m = refl
-
-pub begins : (m : Made) (v : World) → m.uni ≤ 2 ^ 60 → m.bi ≤ 2 ^ 60 → m.receive_window < 2 ^ 62 → v ≡ start m → From m [] v
-begins m v few_uni few_bi small e =
+pub begins : (m : Made) (v : World) → IsStart m v → From m [] v
+begins m v s =
     let P : World → Type 0 = λ x. From m [] x in
-    let facts = facts_start m small in
+    let facts = facts_start m s.credit in
     let sent = sent-start (send_totals (start m).out) refl refl refl refl in
-    subst P (sym e) (record {
-      run = record { few_uni = few_uni; few_bi = few_bi; small = small; is = refl };
+    subst P (sym s.is) (record {
+      run = record { uni = s.uni; bi = s.bi; credit = s.credit; is = refl };
       side = refl;
       window = refl;
       facts = facts;
       given = λ q. record { came = λ at byte h. absurd h; once = tt };
       ends = λ q. record { freed = λ k. cc; sized = λ k. cc; all = λ k. cc };
-      tells = tells-ends m.receive_window [] (start m) facts;
-      remotes = remotes_start m few_uni few_bi;
+      tells = tells-ends m.credit [] (start m) facts;
+      remotes = remotes_start m s.uni s.bi;
       sent = sent;
       sends = sends-start m;
       writes = writes-told m [] (start m) refl sent (sends-start m);
       queued = refl;
       rest = rest-start m empty_queue;
-      used = used_start m;
+      used = used_start m s.bi.reported;
     })
+
+-- ---- with counts and windows
+
+unused_remote : (count : ℕ) → count ≤ 2 ^ 60 → IsUnusedRemote (new_remote count)
+unused_remote count few = record { next = refl; reported = refl; told = refl; allocated = refl; few = few; enough = omega arith }
+
+-- up to 2^60 streams of each direction, and a receive window that can be announced
+pub start-with : (side : Side) (uni bi send_window receive_window window : ℕ) → uni ≤ 2 ^ 60 → bi ≤ 2 ^ 60 → receive_window < 2 ^ 62
+    → let m = made_with side uni bi send_window receive_window window in IsStart m (start m)
+start-with side uni bi send_window receive_window window few_uni few_bi small = record {
+  uni = unused_remote uni few_uni;
+  bi = unused_remote bi few_bi;
+  credit = record { received = refl; limit = omega arith; debt_fits = omega arith };
+  is = refl;
+}

@@ -274,22 +274,22 @@ streams_kept (kinds.MaxStreams d) u p o v q s none f a = all_at f _ v s.end (all
 streams_kept kinds.DataBlocked u p o v q s none f a = all_at f u v s.end a
 streams_kept kinds.StreamDataBlocked u p o v q s none f a = all_at f u v s.end a
 
-credit_settled : (window : ℕ) (h : List Event) (u v : World) → Facts window h u → Announces u v → CreditFrom (last_window window h) (consumed h) (debt window h) (received h) v.credit
-credit_settled window h u v f s = credit_moved _ _ _ _ u.credit v.credit s.credit_window s.credit_limit s.credit_came s.credit_debt f.credit
+credit_settled : (begun : Credit) (h : List Event) (u v : World) → Facts begun h u → Announces u v → CreditFrom (last_window begun h) (consumed h) (debt begun h) (received h) v.credit
+credit_settled begun h u v f s = credit_moved _ _ _ _ u.credit v.credit s.credit_window s.credit_limit s.credit_came s.credit_debt f.credit
 
-facts_idle : (window : ℕ) (h : List Event) (u v : World) → Facts window h u → Announces u v → (n : ℕ) → n ≡ received h → CreditFrom (last_window window h) (consumed h + 0) (debt window h - 0) n v.credit
-facts_idle window h u v f s n e = credit-same (last_window window h) (consumed h) (debt window h) (received h) _ _ _ v.credit (omega arith) (omega arith) e (credit_settled window h u v f s)
+facts_idle : (begun : Credit) (h : List Event) (u v : World) → Facts begun h u → Announces u v → (n : ℕ) → n ≡ received h → CreditFrom (last_window begun h) (consumed h + 0) (debt begun h - 0) n v.credit
+facts_idle begun h u v f s n e = credit-same (last_window begun h) (consumed h) (debt begun h) (received h) _ _ _ v.credit (omega arith) (omega arith) e (credit_settled begun h u v f s)
 
-pub facts-settled : (window : ℕ) (h : List Event) (k : ControlKind) (o : Option Frame) (u v : World) (p q : Pending) → Facts window h u → SettlesEntry k u p o v q → Facts window (LeftPending k o ∷ h) v
-facts-settled window h k (Some (frames.MaxStreamData id limit)) u v p q f s =
+pub facts-settled : (begun : Credit) (h : List Event) (k : ControlKind) (o : Option Frame) (u v : World) (p q : Pending) → Facts begun h u → SettlesEntry k u p o v q → Facts begun (LeftPending k o ∷ h) v
+facts-settled begun h k (Some (frames.MaxStreamData id limit)) u v p q f s =
     let limit_told = announces_limit k u p id limit v q s in
     record {
-      credit = facts_idle window h u v f (announces k u p _ v q s) (received (LeftPending k (Some (frames.MaxStreamData id limit)) ∷ h))
+      credit = facts_idle begun h u v f (announces k u p _ v q s) (received (LeftPending k (Some (frames.MaxStreamData id limit)) ∷ h))
           (received-kept h (trace (LeftPending k (Some (frames.MaxStreamData id limit)) ∷ h)) id (λ j n. rw n refl) (rw (itself id) refl));
       streams = told_limit (trace h) u id limit v limit_told f.streams;
     }
-facts-settled window h k o u v p q f s = let a = announces k u p o v q s in record {
-  credit = facts_idle window h u v f a (received h) refl;
+facts-settled begun h k o u v p q f s = let a = announces k u p o v q s in record {
+  credit = facts_idle begun h u v f a (received h) refl;
   streams = streams_kept k u p o v q s refl (trace h) f.streams;
 }
 

@@ -2,16 +2,17 @@
 use Rattle.std.proofs.Common.{◌≡◌, ℕ, Bool, true, false, refl, arith, ◌+◌, ◌-◌, ◌≤◌, ◌<◌, ◌^◌}
 use Rattle.std.specs.Prelude.{min, nat_lt, if◌then◌else◌}
 use Rattle.std.proofs.lemmas.Bool.Decides.{nat_tests}
-use Rattle.quic_limits.specs.Credit.{Credit, new_credit, credited, counted, resized}
+use Rattle.quic_limits.specs.Credit.{Credit, credited, counted, resized}
+use Rattle.quic_history.specs.World.{IsUnusedCredit}
 use Rattle.quic_history.specs.History.{CreditFrom}
 
-pub credit-start : (window : ℕ) → window < 2 ^ 62 → CreditFrom window 0 0 0 (new_credit window)
-credit-start window small = record {
+pub credit-start : (c : Credit) → IsUnusedCredit c → CreditFrom c.receive_window 0 c.shrink_debt 0 c
+credit-start c s = let limit = s.limit in let came = s.received in record {
   receive_window = refl;
   debt = refl;
-  debt_fits = omega arith;
+  debt_fits = s.debt_fits;
   limit = omega arith;
-  received = refl;
+  received = came;
   permitted = omega arith;
   unread = omega arith;
 }

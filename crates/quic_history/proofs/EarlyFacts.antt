@@ -14,6 +14,7 @@ use Rattle.quic_receiving.specs.Half.{Half}
 use Rattle.quic_outgoing.specs.Senders.{is_local, are_one_end, new_sender}
 use Rattle.quic_sending.specs.declared.send.Send.{Send}
 use Rattle.quic_outgoing.specs.Early.{of_peer_anew, own_unsent, as_unsent, with_all_unsent}
+use Rattle.quic_limits.specs.Credit.{Credit}
 use Rattle.quic_history.specs.World.{World, sends, id_refusal, is_own, is_same_side, own_refusal, remote_of}
 use Rattle.quic_history.specs.Early.{IsEarly, without_own, with_rejection, announced_anew}
 use Rattle.quic_history.specs.History.{Event, Rejected, SentAgain, Trace, untouched, trace, told_still, streams, received, consumed, debt, last_window, is_freed, GivenSo, EndsSo, StreamFrom, Facts}
@@ -121,9 +122,9 @@ streams_rejected f u early all q = there
 
 -- ---- what a history says
 
-pub facts-rejected : (window : ℕ) (h : List Event) (u v : World) → Facts window h u → IsEarly u → v ≡ with_rejection u → Facts window (Rejected ∷ h) v
-facts-rejected window h u v f early e = rw e (record {
-  credit = credit-same (last_window window h) (consumed h) (debt window h) (received h) _ _ _ u.credit (omega arith) (omega arith)
+pub facts-rejected : (begun : Credit) (h : List Event) (u v : World) → Facts begun h u → IsEarly u → v ≡ with_rejection u → Facts begun (Rejected ∷ h) v
+facts-rejected begun h u v f early e = rw e (record {
+  credit = credit-same (last_window begun h) (consumed h) (debt begun h) (received h) _ _ _ u.credit (omega arith) (omega arith)
       (total_same (λ q. (trace h q).high) (λ q. (trace (Rejected ∷ h) q).high) (streams h) (told_high (trace h) u early f.streams)) f.credit;
   streams = streams_rejected (trace h) u early f.streams;
 })
@@ -189,14 +190,14 @@ spares-again u v q e = let P : World → Type 0 = λ w. Spares u w in
     limits Bi = limits-refl u.bi
     limits Uni = limits-refl u.uni
 
-pub facts-again : (window : ℕ) (h : List Event) (u v : World) (answer : Result (Unit {0}) OutOfMemory) → Facts window h u → Spares u v → Facts window (SentAgain answer ∷ h) v
-facts-again window h u v (Ok x) f s = record {
-  credit = rw s.credit (credit-same (last_window window h) (consumed h) (debt window h) (received h) _ _ _ u.credit (omega arith) (omega arith) refl f.credit);
+pub facts-again : (begun : Credit) (h : List Event) (u v : World) (answer : Result (Unit {0}) OutOfMemory) → Facts begun h u → Spares u v → Facts begun (SentAgain answer ∷ h) v
+facts-again begun h u v (Ok x) f s = record {
+  credit = rw s.credit (credit-same (last_window begun h) (consumed h) (debt begun h) (received h) _ _ _ u.credit (omega arith) (omega arith) refl f.credit);
   streams = let bi = s.limits Bi in let uni = s.limits Uni in
       all-same (trace h) u v s.window (λ q. refusal-same v u q s.side s.opened bi.max uni.max) (λ q. ap (λ (k : Halves). k q) s.receive) f.streams;
 }
-facts-again window h u v (Err x) f s = record {
-  credit = rw s.credit (credit-same (last_window window h) (consumed h) (debt window h) (received h) _ _ _ u.credit (omega arith) (omega arith) refl f.credit);
+facts-again begun h u v (Err x) f s = record {
+  credit = rw s.credit (credit-same (last_window begun h) (consumed h) (debt begun h) (received h) _ _ _ u.credit (omega arith) (omega arith) refl f.credit);
   streams = let bi = s.limits Bi in let uni = s.limits Uni in
       all-same (trace h) u v s.window (λ q. refusal-same v u q s.side s.opened bi.max uni.max) (λ q. ap (λ (k : Halves). k q) s.receive) f.streams;
 }

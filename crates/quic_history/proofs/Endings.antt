@@ -13,6 +13,7 @@ use Rattle.quic_receiving.specs.Calls.{Reads}
 use Rattle.quic_receiving.specs.declared.errors.ReadError.{ReadError}
 use Rattle.quic_receiving.specs.declared.errors.ReadError.TheVariants as read_error
 use Rattle.quic_receiving.proofs.Data.{all_given}
+use Rattle.quic_limits.specs.Credit.{Credit}
 use Rattle.quic_history.specs.World.{World}
 use Rattle.quic_history.specs.History.{Event, Received, ReceivedReset, Gave, Stopped, ToldReset, Rejected, SentAgain, Step, Move, Framed, WasReset, WasRead, WasStopped, WasTold, WasAnnounced, LeftPending, Trace, HalfFrom, Facts, GivenSo, EndsSo, TellsEnds, slices, trace, moved, is_closed, is_frame_kept, with_kept_frame, with_reset, with_read, with_stop, with_move}
 use Rattle.quic_history.proofs.EarlyFacts.{told-rejected}
@@ -57,8 +58,8 @@ half_tells n t h x running unreset size sized =
     let most : h.buffer.highest ≤ size = omega (arith, x.within, end) in
     all_given t.kept (slices t.given) h.buffer size most (x.holds (sym x.stopped ∙ running) (sym x.reset ∙ unreset))
 
-pub tells-ends : (window : ℕ) (h : List Event) (v : World) → Facts window h v → TellsEnds h v
-tells-ends window h v f q half there running unreset size sized =
+pub tells-ends : (begun : Credit) (h : List Event) (v : World) → Facts begun h v → TellsEnds h v
+tells-ends begun h v f q half there running unreset size sized =
     half_tells v.window (trace h q) half (half-from (trace h) v q half f.streams (known-from (trace h) v q half f.streams there) there) running unreset size sized
 
 -- the end is told where the final size is known and every byte was given
@@ -136,23 +137,23 @@ told_code t p = (record { freed = λ e. refl; sized = p.0.sized; all = p.0.all }
 told_announced : (t : Trace) (limit : ℕ) → IsTold t → IsTold (record t { announced = max t.announced limit })
 told_announced t limit p = (record { freed = p.0.freed; sized = p.0.sized; all = p.0.all }, record { came = p.1.came; once = p.1.once })
 
-pub kept-told-of : (window : ℕ) (h : List Event) (u : World) (e : Event) (v : World) → Facts window h u → Step u e v → ((q : ℕ) → IsTold (trace h q)) → (q : ℕ) → IsTold (trace (e ∷ h) q)
-kept-told-of window h u (Received id offset bytes fin answer) v f s p q =
+pub kept-told-of : (begun : Credit) (h : List Event) (u : World) (e : Event) (v : World) → Facts begun h u → Step u e v → ((q : ℕ) → IsTold (trace h q)) → (q : ℕ) → IsTold (trace (e ∷ h) q)
+kept-told-of begun h u (Received id offset bytes fin answer) v f s p q =
     told_moved h q id (Framed offset bytes fin answer) (λ t. told_frame (trace h id) offset bytes fin answer (p id)) (p q)
-kept-told-of window h u (ReceivedReset id code final (Ok transmit)) v f s p q =
+kept-told-of begun h u (ReceivedReset id code final (Ok transmit)) v f s p q =
     told_moved h q id (WasReset code final) (λ t. (ends_reset (trace h id) code final (p id).0, given_reset (trace h id) code final (p id).1)) (p q)
-kept-told-of window h u (Gave id most ordered answer) v f s p q =
+kept-told-of begun h u (Gave id most ordered answer) v f s p q =
     let known = known-from (trace h) u id s.old f.streams s.half in
     let was = half-from (trace h) u id s.old f.streams known s.half in
     told_moved h q id (WasRead ordered answer)
     (λ t. (ends_read u.window (trace h id) ordered s.old s.new most answer was s.running s.reads (p id).0, given_read u.window (trace h id) ordered s.old s.new most answer was s.running s.reads (p id).1)) (p q)
-kept-told-of window h u (Stopped id code (Ok x)) v f s p q =
+kept-told-of begun h u (Stopped id code (Ok x)) v f s p q =
     let known = known-from (trace h) u id s.2.0 f.streams s.2.2 in
     told_moved h q id WasStopped (λ t. told_stopped u.window (trace h id) s.2.0 (half-from (trace h) u id s.2.0 f.streams known s.2.2) (p id)) (p q)
-kept-told-of window h u (ToldReset id (Ok (Some code))) v f s p q = told_moved h q id WasTold (λ t. told_code (trace h id) (p id)) (p q)
-kept-told-of window h u (LeftPending kind (Some (frames.MaxStreamData id limit))) v f s p q =
+kept-told-of begun h u (ToldReset id (Ok (Some code))) v f s p q = told_moved h q id WasTold (λ t. told_code (trace h id) (p id)) (p q)
+kept-told-of begun h u (LeftPending kind (Some (frames.MaxStreamData id limit))) v f s p q =
     told_moved h q id (WasAnnounced limit) (λ t. told_announced (trace h id) limit (p id)) (p q)
-kept-told-of window h u Rejected v f s p q = told-rejected q (trace h q) (p q)
-kept-told-of window h u (SentAgain (Ok x)) v f s p q = p q
-kept-told-of window h u (SentAgain (Err x)) v f s p q = p q
-kept-told-of window h u _ v f s p q = p q
+kept-told-of begun h u Rejected v f s p q = told-rejected q (trace h q) (p q)
+kept-told-of begun h u (SentAgain (Ok x)) v f s p q = p q
+kept-told-of begun h u (SentAgain (Err x)) v f s p q = p q
+kept-told-of begun h u _ v f s p q = p q

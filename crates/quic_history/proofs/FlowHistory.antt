@@ -444,10 +444,10 @@ flows_first side window q =
 pub sends-start : (m : Made) → FlowsSo m [] (start m)
 sends-start m =
     let o = no_streams m.side m.send_window in
-    let P : ℕ → Type 0 = λ n. AllFlows (λ q. new_flow 0) (with_more_streams o 0 m.bi) n in
-    let sum : 0 + m.bi ≡ m.bi = omega arith in
+    let P : ℕ → Type 0 = λ n. AllFlows (λ q. new_flow 0) (with_more_streams o 0 m.bi.max_remote) n in
+    let sum : 0 + m.bi.max_remote ≡ m.bi.max_remote = omega arith in
     record {
-      flows = subst P sum (flows-more (λ q. new_flow 0) o 0 m.bi (flows_first m.side m.send_window));
+      flows = subst P sum (flows-more (λ q. new_flow 0) o 0 m.bi.max_remote (flows_first m.side m.send_window));
       first = refl;
       may_open = refl;
       send_window = refl;

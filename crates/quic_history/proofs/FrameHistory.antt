@@ -11,6 +11,7 @@ use Rattle.quic_receiving.specs.Calls.{Inserted, KeepsBytes, TakesFrame, Ingests
 use Rattle.quic_receiving.proofs.Data.{data-inserted}
 use Rattle.quic_receiving.specs.declared.transmit.ShouldTransmit.{ShouldTransmit}
 use Rattle.quic_values.specs.Ids.{index_of}
+use Rattle.quic_limits.specs.Credit.{Credit}
 use Rattle.quic_history.specs.World.{World, id_refusal, is_own, with_receive, with_credit, advanced, noticed, with_freed}
 use Rattle.quic_history.specs.Receiving.{IsDropped, Receives, after_data}
 use Rattle.quic_history.specs.History.{Event, Received, Trace, HalfFrom, StreamFrom, CreditFrom, Facts, slices, trace, is_closed, is_frame_kept, consumed, consumed_by, last_window, debt, received}
@@ -153,7 +154,7 @@ and_both b c e k = rw (e, k) refl
 
 -- ---- a frame that was kept, on a half that was not reset
 
-module _ (window : ℕ) (h : List Event) (u : World) (id offset : ℕ) (bytes : List ℕ) (fin : Bool) (answer : Result ShouldTransmit ReceiveError) (old new : Half) (f : Facts window h u)
+module _ (begun : Credit) (h : List Event) (u : World) (id offset : ℕ) (bytes : List ℕ) (fin : Bool) (answer : Result ShouldTransmit ReceiveError) (old new : Half) (f : Facts begun h u)
     (known : id_refusal u id ≡ None) (half : u.receive id ≡ Some old) (running : old.reset ≡ None) (grows : Grows old new offset bytes fin)
     (passed : Passes old (offset + length bytes) fin u.credit.data_recvd u.credit.local_max_data) (kept : is_frame_kept answer ≡ true) where
   abbrev e : Event
@@ -193,25 +194,25 @@ module _ (window : ℕ) (h : List Event) (u : World) (id offset : ℕ) (bytes : 
       let b = grows.high in
       omega arith
 
-  counted-credit : CreditFrom (last_window window h) (consumed h) (debt window h) (received (e ∷ h)) w.credit
+  counted-credit : CreditFrom (last_window begun h) (consumed h) (debt begun h) (received (e ∷ h)) w.credit
   counted-credit = rw (credit-with_receive u id (Some new))
-      (credit-counted (last_window window h) (consumed h) (debt window h) (received h) (new.end - old.end) (received (e ∷ h)) u.credit f.credit came (let b = grows.high in let fits = passed.fits in omega arith))
+      (credit-counted (last_window begun h) (consumed h) (debt begun h) (received h) (new.end - old.end) (received (e ∷ h)) u.credit f.credit came (let b = grows.high in let fits = passed.fits in omega arith))
 
   used : (n : ℕ) → (if t.stopped then end - t.high else 0) ≡ n → consumed_by h e ≡ n
   used n is = rw (kept, open-trace t old was running) is
 
   -- the half is read
-  facts_running : old.stopped ≡ false → Facts window (e ∷ h) w
+  facts_running : old.stopped ≡ false → Facts begun (e ∷ h) w
   facts_running s =
       let stopped : t.stopped ≡ false = sym was.stopped ∙ s in
       let none : consumed_by h e ≡ 0 = used 0 (rw stopped refl) in
       record {
-        credit = credit-same (last_window window h) (consumed h) (debt window h) (received (e ∷ h)) (consumed (e ∷ h)) (debt window (e ∷ h)) (received (e ∷ h)) w.credit (omega arith) (omega arith) refl counted-credit;
+        credit = credit-same (last_window begun h) (consumed h) (debt begun h) (received (e ∷ h)) (consumed (e ∷ h)) (debt begun (e ∷ h)) (received (e ∷ h)) w.credit (omega arith) (omega arith) refl counted-credit;
         streams = put (ap (λ k. k.gone) here ∙ ap (λ b. b && fin) stopped);
       }
 
   -- and the frame is noticed
-  facts_noticed : old.stopped ≡ false → Facts window (e ∷ h) (noticed w id true)
+  facts_noticed : old.stopped ≡ false → Facts begun (e ∷ h) (noticed w id true)
   facts_noticed s = let r = facts_running s in record {
     credit = rw (credit-noticed w id true) r.credit;
     streams = all-noticed g w id true r.streams;
@@ -222,7 +223,7 @@ module _ (window : ℕ) (h : List Event) (u : World) (id offset : ℕ) (bytes : 
   credit_freed false = refl
 
   -- its bytes are discarded
-  facts_discarded : old.stopped ≡ true → Facts window (e ∷ h) (with_credit (if fin then with_freed w id else w) (new.end - old.end))
+  facts_discarded : old.stopped ≡ true → Facts begun (e ∷ h) (with_credit (if fin then with_freed w id else w) (new.end - old.end))
   facts_discarded s =
       let stopped : t.stopped ≡ true = sym was.stopped ∙ s in
       let high = was.high in
@@ -231,8 +232,8 @@ module _ (window : ℕ) (h : List Event) (u : World) (id offset : ℕ) (bytes : 
       let some : consumed_by h e ≡ count = used count (rw stopped (omega arith)) in
       let known_now : id_refusal w id ≡ None = refusal-advanced u id id old new ∙ known in
       record {
-        credit = rw (credit_freed fin) (credit-same (last_window window h) (consumed h + count) (debt window h - count) (received (e ∷ h)) (consumed (e ∷ h)) (debt window (e ∷ h)) (received (e ∷ h)) _
-            (omega arith) (omega arith) refl (credit-credited (last_window window h) (consumed h) (debt window h) (received (e ∷ h)) count w.credit counted-credit));
+        credit = rw (credit_freed fin) (credit-same (last_window begun h) (consumed h + count) (debt begun h - count) (received (e ∷ h)) (consumed (e ∷ h)) (debt begun (e ∷ h)) (received (e ∷ h)) _
+            (omega arith) (omega arith) refl (credit-credited (last_window begun h) (consumed h) (debt begun h) (received (e ∷ h)) count w.credit counted-credit));
         streams = when g (with_freed w id) w fin
             (λ c. all-freed g w id but known_now (ap (λ k. k.gone) here ∙ and_both t.stopped fin stopped c))
             (λ c. put (ap (λ k. k.gone) here ∙ and_none t.stopped fin c));
@@ -251,7 +252,7 @@ pub dropped-closed : (n : ℕ) (t : Trace) (r : Option ℕ) (o : Option Half) �
 dropped-closed n t r None k s d = let gone : t.gone ≡ true = rw k at s in or_second (is_some t.reset) t.gone gone
 dropped-closed n t r (Some half) k s d = let x : HalfFrom n t half = rw k at s in or_first (is_some t.reset) t.gone (ap (λ (o : Option ℕ). is_some o) (sym x.reset) ∙ d)
 
-module _ (window : ℕ) (h : List Event) (u : World) (id offset : ℕ) (bytes : List ℕ) (fin : Bool) (answer : Result ShouldTransmit ReceiveError) (f : Facts window h u)
+module _ (begun : Credit) (h : List Event) (u : World) (id offset : ℕ) (bytes : List ℕ) (fin : Bool) (answer : Result ShouldTransmit ReceiveError) (f : Facts begun h u)
     (closed : is_frame_kept answer ≡ true → is_closed (trace h id) ≡ true) where
   abbrev e0 : Event
   e0 = Received id offset bytes fin answer
@@ -269,18 +270,18 @@ module _ (window : ℕ) (h : List Event) (u : World) (id offset : ℕ) (bytes : 
   unused : consumed_by h e0 ≡ 0
   unused = by_cases (is_frame_kept answer) (λ k. rw (k, closed k) refl) (λ k. rw k refl)
 
-  facts_unchanged : Facts window (e0 ∷ h) u
+  facts_unchanged : Facts begun (e0 ∷ h) u
   facts_unchanged =
       let change = received-change h g0 id (λ q n. untold q) in
       let high : (g0 id).high ≡ (trace h id).high = ap (λ k. k.high) (untold id) in
       let none = unused in
       record {
-        credit = credit-same (last_window window h) (consumed h) (debt window h) (received h) (consumed (e0 ∷ h)) (debt window (e0 ∷ h)) (received (e0 ∷ h)) u.credit (omega arith) (omega arith) (omega arith) f.credit;
+        credit = credit-same (last_window begun h) (consumed h) (debt begun h) (received h) (consumed (e0 ∷ h)) (debt begun (e0 ∷ h)) (received (e0 ∷ h)) u.credit (omega arith) (omega arith) (omega arith) f.credit;
         streams = all-told (trace h) g0 u untold f.streams;
       }
 
-pub facts-at : (window : ℕ) (h : List Event) (v w : World) → v ≡ w → Facts window h w → Facts window h v
-facts-at window h v w e f = let P : World → Type 0 = λ x. Facts window h x in subst P (sym e) f
+pub facts-at : (begun : Credit) (h : List Event) (v w : World) → v ≡ w → Facts begun h w → Facts begun h v
+facts-at begun h v w e f = let P : World → Type 0 = λ x. Facts begun h x in subst P (sym e) f
 
 refusal_by_code : (own bi : Bool) (opened m n index code : ℕ) → refusal_by own bi opened m n index ≡ Some code → (code == 1) ≡ false
 refusal_by_code true true opened m n index code h = state_if (nat_le opened index) code h
@@ -320,36 +321,36 @@ after_data_running u id old new fin s = rw s refl
 
 -- ---- every answer
 
-pub kept-received : (window : ℕ) (h : List Event) (u v : World) (id offset : ℕ) (bytes : List ℕ) (fin : Bool) (answer : Result ShouldTransmit ReceiveError)
-    → Facts window h u → Receives u id offset bytes fin answer v → Facts window (Received id offset bytes fin answer ∷ h) v
-kept-received window h u v id offset bytes fin (Ok transmit) f (inl s) =
-    facts-at window _ v u s.3 (facts_unchanged window h u id offset bytes fin (Ok transmit) f (λ k. dropped-closed u.window (trace h id) (id_refusal u id) (u.receive id) s.0 (f.streams id) s.1))
-kept-received window h u v id offset bytes fin (Ok transmit) f (inr s) =
+pub kept-received : (begun : Credit) (h : List Event) (u v : World) (id offset : ℕ) (bytes : List ℕ) (fin : Bool) (answer : Result ShouldTransmit ReceiveError)
+    → Facts begun h u → Receives u id offset bytes fin answer v → Facts begun (Received id offset bytes fin answer ∷ h) v
+kept-received begun h u v id offset bytes fin (Ok transmit) f (inl s) =
+    facts-at begun _ v u s.3 (facts_unchanged begun h u id offset bytes fin (Ok transmit) f (λ k. dropped-closed u.window (trace h id) (id_refusal u id) (u.receive id) s.0 (f.streams id) s.1))
+kept-received begun h u v id offset bytes fin (Ok transmit) f (inr s) =
     let old = s.1 in
     let new = s.2 in
     let r = s.3 in
     let grows = grows-takes old new offset bytes fin r.ingests.3 in
     let passed = passes old offset (length bytes) fin u.credit.data_recvd u.credit.local_max_data r.ingests.0 in
     by_cases old.stopped
-    (λ k. facts-at window _ v _ (s.5 ∙ after_data_stopped u id old new fin k) (facts_discarded window h u id offset bytes fin (Ok transmit) old new f r.known r.half r.running grows passed refl k))
-    (λ k. facts-at window _ v _ (s.5 ∙ after_data_running u id old new fin k) (facts_noticed window h u id offset bytes fin (Ok transmit) old new f r.known r.half r.running grows passed refl k))
-kept-received window h u v id offset bytes fin (Err (receive_error.Transport error)) f (inl s) =
-    facts-at window _ v u s.1 (facts_unchanged window h u id offset bytes fin (Err (receive_error.Transport error)) f (not_kept _ (refusal-code u id error.code s.0)))
-kept-received window h u v id offset bytes fin (Err (receive_error.Transport error)) f (inr s) = refused s.2.ingests
+    (λ k. facts-at begun _ v _ (s.5 ∙ after_data_stopped u id old new fin k) (facts_discarded begun h u id offset bytes fin (Ok transmit) old new f r.known r.half r.running grows passed refl k))
+    (λ k. facts-at begun _ v _ (s.5 ∙ after_data_running u id old new fin k) (facts_noticed begun h u id offset bytes fin (Ok transmit) old new f r.known r.half r.running grows passed refl k))
+kept-received begun h u v id offset bytes fin (Err (receive_error.Transport error)) f (inl s) =
+    facts-at begun _ v u s.1 (facts_unchanged begun h u id offset bytes fin (Err (receive_error.Transport error)) f (not_kept _ (refusal-code u id error.code s.0)))
+kept-received begun h u v id offset bytes fin (Err (receive_error.Transport error)) f (inr s) = refused s.2.ingests
   where
-    refused : Ingests s.0 offset bytes fin u.credit.data_recvd u.credit.local_max_data (Err (receive_error.Transport error)) s.1 → Facts window (Received id offset bytes fin (Err (receive_error.Transport error)) ∷ h) v
+    refused : Ingests s.0 offset bytes fin u.credit.data_recvd u.credit.local_max_data (Err (receive_error.Transport error)) s.1 → Facts begun (Received id offset bytes fin (Err (receive_error.Transport error)) ∷ h) v
     refused (inl k) =
-        facts-at window _ v u (s.3 ∙ unmoved u id s.0 s.1 s.2.half k.1)
-        (facts_unchanged window h u id offset bytes fin (Err (receive_error.Transport error)) f
+        facts-at begun _ v u (s.3 ∙ unmoved u id s.0 s.1 s.2.half k.1)
+        (facts_unchanged begun h u id offset bytes fin (Err (receive_error.Transport error)) f
         (not_kept _ (refused-other s.0 offset (length bytes) fin u.credit.data_recvd u.credit.local_max_data error.code k.0)))
     refused (inr k) =
         let passed = passes s.0 offset (length bytes) fin u.credit.data_recvd u.credit.local_max_data k.0 in
-        facts-at window _ v _ s.3 (facts_running window h u id offset bytes fin (Err (receive_error.Transport error)) s.0 s.1 f s.2.known s.2.half s.2.running
+        facts-at begun _ v _ s.3 (facts_running begun h u id offset bytes fin (Err (receive_error.Transport error)) s.0 s.1 f s.2.known s.2.half s.2.running
         (grows-keeps s.0 s.1 offset bytes fin k.4) passed (rw k.1 refl) k.4.running)
-kept-received window h u v id offset bytes fin (Err receive_error.CompactionMemory) f s =
+kept-received begun h u v id offset bytes fin (Err receive_error.CompactionMemory) f s =
     let k = s.2.ingests in
     let passed = passes s.0 offset (length bytes) fin u.credit.data_recvd u.credit.local_max_data k.0 in
-    facts-at window _ v _ s.3 (facts_running window h u id offset bytes fin (Err receive_error.CompactionMemory) s.0 s.1 f s.2.known s.2.half s.2.running
+    facts-at begun _ v _ s.3 (facts_running begun h u id offset bytes fin (Err receive_error.CompactionMemory) s.0 s.1 f s.2.known s.2.half s.2.running
     (grows-keeps s.0 s.1 offset bytes fin k.2) passed refl k.2.running)
-kept-received window h u v id offset bytes fin (Err receive_error.OutOfMemory) f s =
-    facts-at window _ v u s (facts_unchanged window h u id offset bytes fin (Err receive_error.OutOfMemory) f (not_kept false refl))
+kept-received begun h u v id offset bytes fin (Err receive_error.OutOfMemory) f s =
+    facts-at begun _ v u s (facts_unchanged begun h u id offset bytes fin (Err receive_error.OutOfMemory) f (not_kept false refl))

@@ -7,6 +7,7 @@ use Rattle.quic_wire.specs.declared.error.ReceiveError.TheVariants as receive_er
 use Rattle.quic_receiving.specs.Half.{Half, Refused, Taken, reset_verdict, is_unfit, is_beyond}
 use Rattle.quic_receiving.specs.Calls.{Clears}
 use Rattle.quic_receiving.specs.declared.transmit.ShouldTransmit.{ShouldTransmit}
+use Rattle.quic_limits.specs.Credit.{Credit}
 use Rattle.quic_history.specs.World.{World, id_refusal, with_credit, advanced, noticed, with_freed}
 use Rattle.quic_history.specs.Receiving.{ReceivesReset, after_reset, with_rest, credited_to}
 use Rattle.quic_history.specs.History.{Event, ReceivedReset, Trace, HalfFrom, CreditFrom, Facts, trace, is_closed, consumed, consumed_by, last_window, debt, received}
@@ -48,7 +49,7 @@ all_rest g n w s = when g w (with_credit w n) (n == 0) (λ _. s) (λ _. s)
 
 -- ---- the first reset that is taken, on a half that is there
 
-module _ (window : ℕ) (h : List Event) (u : World) (id code final : ℕ) (transmit : ShouldTransmit) (old new : Half) (f : Facts window h u)
+module _ (begun : Credit) (h : List Event) (u : World) (id code final : ℕ) (transmit : ShouldTransmit) (old new : Half) (f : Facts begun h u)
     (known : id_refusal u id ≡ None) (half : u.receive id ≡ Some old) (running : old.reset ≡ None) (passed : Passes old final u.credit.data_recvd u.credit.local_max_data)
     (clears : Clears old.buffer new.buffer) (is : new ≡ record old { buffer = new.buffer; size = Some final; reset = Some code; end = final }) where
   abbrev e : Event
@@ -89,9 +90,9 @@ module _ (window : ℕ) (h : List Event) (u : World) (id code final : ℕ) (tran
       let c = low in
       omega arith
 
-  counted-credit : CreditFrom (last_window window h) (consumed h) (debt window h) (received (e ∷ h)) w.credit
+  counted-credit : CreditFrom (last_window begun h) (consumed h) (debt begun h) (received (e ∷ h)) w.credit
   counted-credit = rw (credit-with_receive u id (Some new))
-      (credit-counted (last_window window h) (consumed h) (debt window h) (received h) (new.end - old.end) (received (e ∷ h)) u.credit f.credit came (let b = end_is in let fits = passed.fits in omega arith))
+      (credit-counted (last_window begun h) (consumed h) (debt begun h) (received h) (new.end - old.end) (received (e ∷ h)) u.credit f.credit came (let b = end_is in let fits = passed.fits in omega arith))
 
   half_reset : t.stopped ≡ false → HalfFrom u.window (g id) new
   half_reset s = record {
@@ -121,15 +122,15 @@ module _ (window : ℕ) (h : List Event) (u : World) (id code final : ℕ) (tran
   credit_freed true = credit-freed x id ∙ credit-noticed w id (not old.stopped)
   credit_freed false = credit-noticed w id (not old.stopped)
 
-  facts_reset : Facts window (e ∷ h) (after_reset u id old new)
+  facts_reset : Facts begun (e ∷ h) (after_reset u id old new)
   facts_reset =
       let n : ℕ = new.end - credited_to old in
       let y = if old.stopped then with_freed x id else x in
-      let base : CreditFrom (last_window window h) (consumed h) (debt window h) (received (e ∷ h)) y.credit = rw (credit_freed old.stopped) counted-credit in
+      let base : CreditFrom (last_window begun h) (consumed h) (debt begun h) (received (e ∷ h)) y.credit = rw (credit_freed old.stopped) counted-credit in
       let some = used in
       record {
-        credit = credit-same (last_window window h) (consumed h + n) (debt window h - n) (received (e ∷ h)) (consumed (e ∷ h)) (debt window (e ∷ h)) (received (e ∷ h)) (with_rest y n).credit
-            (omega arith) (omega arith) refl (rest_if (last_window window h) (n == 0) n (consumed h) (debt window h) (received (e ∷ h)) y refl base);
+        credit = credit-same (last_window begun h) (consumed h + n) (debt begun h - n) (received (e ∷ h)) (consumed (e ∷ h)) (debt begun (e ∷ h)) (received (e ∷ h)) (with_rest y n).credit
+            (omega arith) (omega arith) refl (rest_if (last_window begun h) (n == 0) n (consumed h) (debt begun h) (received (e ∷ h)) y refl base);
         streams = all_rest g n y (when g (with_freed x id) x old.stopped
             (λ s. all-freed g x id (but-noticed g w id id (not old.stopped) but) (refusal-noticed w id (not old.stopped) id ∙ refusal-advanced u id id old new ∙ known)
             (ap (λ k. k.gone) here ∙ sym was.stopped ∙ s))
@@ -138,7 +139,7 @@ module _ (window : ℕ) (h : List Event) (u : World) (id code final : ℕ) (tran
 
 -- ---- a reset that changes nothing
 
-module _ (window : ℕ) (h : List Event) (u : World) (id code final : ℕ) (answer : Result ShouldTransmit ReceiveError) (f : Facts window h u)
+module _ (begun : Credit) (h : List Event) (u : World) (id code final : ℕ) (answer : Result ShouldTransmit ReceiveError) (f : Facts begun h u)
     (untold : (q : ℕ) → trace (ReceivedReset id code final answer ∷ h) q ≡ trace h q) (unused : consumed_by h (ReceivedReset id code final answer) ≡ 0)
     (came : received (ReceivedReset id code final answer ∷ h) ≡ received h) where
   abbrev e0 : Event
@@ -147,23 +148,23 @@ module _ (window : ℕ) (h : List Event) (u : World) (id code final : ℕ) (answ
   abbrev g0 : ℕ → Trace
   g0 = trace (e0 ∷ h)
 
-  facts_unchanged : Facts window (e0 ∷ h) u
+  facts_unchanged : Facts begun (e0 ∷ h) u
   facts_unchanged =
       let none = unused in
       record {
-        credit = credit-same (last_window window h) (consumed h) (debt window h) (received h) (consumed (e0 ∷ h)) (debt window (e0 ∷ h)) (received (e0 ∷ h)) u.credit (omega arith) (omega arith) came f.credit;
+        credit = credit-same (last_window begun h) (consumed h) (debt begun h) (received h) (consumed (e0 ∷ h)) (debt begun (e0 ∷ h)) (received (e0 ∷ h)) u.credit (omega arith) (omega arith) came f.credit;
         streams = all-told (trace h) g0 u untold f.streams;
       }
 
 -- on a stream that is closed
-module _ (window : ℕ) (h : List Event) (u : World) (id code final : ℕ) (transmit : ShouldTransmit) (f : Facts window h u) (closed : is_closed (trace h id) ≡ true) where
+module _ (begun : Credit) (h : List Event) (u : World) (id code final : ℕ) (transmit : ShouldTransmit) (f : Facts begun h u) (closed : is_closed (trace h id) ≡ true) where
   pub untold-closed : (q : ℕ) → trace (ReceivedReset id code final (Ok transmit) ∷ h) q ≡ trace h q
   untold-closed q = by_cases (eqb q id)
       (λ t. let c : is_closed (trace h q) ≡ true = ap (λ x. is_closed (trace h x)) (same q id t) ∙ closed in rw (t, c) refl)
       (λ n. rw n refl)
 
-  facts_closed : Facts window (ReceivedReset id code final (Ok transmit) ∷ h) u
-  facts_closed = facts_unchanged window h u id code final (Ok transmit) f untold-closed (rw closed refl)
+  facts_closed : Facts begun (ReceivedReset id code final (Ok transmit) ∷ h) u
+  facts_closed = facts_unchanged begun h u id code final (Ok transmit) f untold-closed (rw closed refl)
       (received-kept h (trace (ReceivedReset id code final (Ok transmit) ∷ h)) id (λ q n. untold-closed q) (ap (λ k. k.high) (untold-closed id)))
 
 pub or-second : (b c : Bool) → c ≡ true → (b || c) ≡ true
@@ -175,18 +176,18 @@ or-first b c e = rw e refl
 
 -- ---- every answer
 
-pub kept-reset : (window : ℕ) (h : List Event) (u v : World) (id code final : ℕ) (answer : Result ShouldTransmit ReceiveError)
-    → Facts window h u → ReceivesReset u id code final answer v → Facts window (ReceivedReset id code final answer ∷ h) v
-kept-reset window h u v id code final (Ok transmit) f (inl s) =
-    facts-at window _ v u s.3 (facts_closed window h u id code final transmit f (or-second (is_some (trace h id).reset) (trace h id).gone (gone-from (trace h) u id f.streams s.0 s.1)))
-kept-reset window h u v id code final (Ok transmit) f (inr (inl s)) =
+pub kept-reset : (begun : Credit) (h : List Event) (u v : World) (id code final : ℕ) (answer : Result ShouldTransmit ReceiveError)
+    → Facts begun h u → ReceivesReset u id code final answer v → Facts begun (ReceivedReset id code final answer ∷ h) v
+kept-reset begun h u v id code final (Ok transmit) f (inl s) =
+    facts-at begun _ v u s.3 (facts_closed begun h u id code final transmit f (or-second (is_some (trace h id).reset) (trace h id).gone (gone-from (trace h) u id f.streams s.0 s.1)))
+kept-reset begun h u v id code final (Ok transmit) f (inr (inl s)) =
     let x = half-from (trace h) u id s.0 f.streams s.2.known s.2.half in
-    facts-at window _ v u s.4 (facts_closed window h u id code final transmit f (or-first (is_some (trace h id).reset) (trace h id).gone (ap is_some (sym x.reset) ∙ s.2.resets.1)))
-kept-reset window h u v id code final (Ok transmit) f (inr (inr s)) =
+    facts-at begun _ v u s.4 (facts_closed begun h u id code final transmit f (or-first (is_some (trace h id).reset) (trace h id).gone (ap is_some (sym x.reset) ∙ s.2.resets.1)))
+kept-reset begun h u v id code final (Ok transmit) f (inr (inr s)) =
     let r = s.2 in
-    facts-at window _ v _ s.4 (facts_reset window h u id code final transmit s.0 s.1 f r.known r.half r.resets.1
+    facts-at begun _ v _ s.4 (facts_reset begun h u id code final transmit s.0 s.1 f r.known r.half r.resets.1
     (passes s.0 final u.credit.data_recvd u.credit.local_max_data r.resets.0) r.resets.2 r.resets.3)
-kept-reset window h u v id code final (Err (receive_error.Transport error)) f (inl s) = facts-at window _ v u s.1 (facts_unchanged window h u id code final (Err (receive_error.Transport error)) f (λ q. refl) refl refl)
-kept-reset window h u v id code final (Err (receive_error.Transport error)) f (inr s) = facts-at window _ v u s.3 (facts_unchanged window h u id code final (Err (receive_error.Transport error)) f (λ q. refl) refl refl)
-kept-reset window h u v id code final (Err receive_error.CompactionMemory) f s = absurd s
-kept-reset window h u v id code final (Err receive_error.OutOfMemory) f s = facts-at window _ v u s (facts_unchanged window h u id code final (Err receive_error.OutOfMemory) f (λ q. refl) refl refl)
+kept-reset begun h u v id code final (Err (receive_error.Transport error)) f (inl s) = facts-at begun _ v u s.1 (facts_unchanged begun h u id code final (Err (receive_error.Transport error)) f (λ q. refl) refl refl)
+kept-reset begun h u v id code final (Err (receive_error.Transport error)) f (inr s) = facts-at begun _ v u s.3 (facts_unchanged begun h u id code final (Err (receive_error.Transport error)) f (λ q. refl) refl refl)
+kept-reset begun h u v id code final (Err receive_error.CompactionMemory) f s = absurd s
+kept-reset begun h u v id code final (Err receive_error.OutOfMemory) f s = facts-at begun _ v u s (facts_unchanged begun h u id code final (Err receive_error.OutOfMemory) f (λ q. refl) refl refl)

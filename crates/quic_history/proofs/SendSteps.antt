@@ -35,6 +35,7 @@ use Rattle.quic_outgoing.specs.Outgoing.{Outgoing, own_of, with_own, with_send_h
 use Rattle.quic_outgoing.specs.Calls.{OpensStream, RaisesStream, StopsSending, PollsWritable, ResetsStream, SetsPriority, after_rise, with_rise, is_woken, without_marks}
 use Rattle.quic_outgoing.specs.Calls as calls
 use Rattle.quic_outgoing.specs.Acknowledging.{AcksHalf, LosesOnStream, were_sent, is_given_up}
+use Rattle.quic_limits.specs.Credit.{Credit}
 use Rattle.quic_history.specs.Halves.{Halves, with_half}
 use Rattle.quic_history.specs.World.{World, sends, id_refusal, is_own, is_same_side, remote_of, with_remote, with_receive, with_send_streams, told, told_readable, noticed}
 use Rattle.quic_history.specs.SendEvents.{SendEvent, SendStep, GaveLimits, OpenedOwn, RaisedData, RaisedCount, RaisedLimit, StoppedOwn, SetWindow, Polled, WroteOwn, FinishedOwn, ResetOwn, SetOwnPriority, AckedOwn, LostOwn, ResetAckedOwn, TookTurn}
@@ -334,9 +335,9 @@ steadies_priority a id n (Err handle_error.OutOfMemory) b s = steadies_at a b a 
 
 -- ---- what it leaves is true of the end as before
 
-pub facts-spared : (window : ℕ) (h : List Event) (u : World) (e : SendEvent) (v : World) → Facts window h u → Spares u v → Facts window (Sending e ∷ h) v
-facts-spared window h u e v f s = record {
-  credit = rw s.credit (credit-same (last_window window h) (consumed h) (debt window h) (received h) _ _ _ u.credit (omega arith) (omega arith) refl f.credit);
+pub facts-spared : (begun : Credit) (h : List Event) (u : World) (e : SendEvent) (v : World) → Facts begun h u → Spares u v → Facts begun (Sending e ∷ h) v
+facts-spared begun h u e v f s = record {
+  credit = rw s.credit (credit-same (last_window begun h) (consumed h) (debt begun h) (received h) _ _ _ u.credit (omega arith) (omega arith) refl f.credit);
   streams = let bi = s.limits Bi in let uni = s.limits Uni in
       all-same (trace h) u v s.window (λ q. refusal-same v u q s.side s.opened bi.max uni.max) (λ q. ap (λ (k : Halves). k q) s.receive) f.streams;
 }
@@ -538,17 +539,17 @@ kind-of u (LostOwn id offsets fin answer) v s = inl (loses u id offsets fin answ
 kind-of u (ResetAckedOwn id answer) v s = or_frees (acks_reset u id answer v s)
 kind-of u (TookTurn most fair frame) v s = inl (turns u most fair frame v s)
 
-facts_opened : (window : ℕ) (h : List Event) (u : World) (e : SendEvent) (v : World) → Facts window h u → OpensOne u v → Facts window (Sending e ∷ h) v
-facts_opened window h u e v f k = let P : World → Type 0 = λ w. Facts window (Sending e ∷ h) w in
+facts_opened : (begun : Credit) (h : List Event) (u : World) (e : SendEvent) (v : World) → Facts begun h u → OpensOne u v → Facts begun (Sending e ∷ h) v
+facts_opened begun h u e v f k = let P : World → Type 0 = λ w. Facts begun (Sending e ∷ h) w in
     let j : ℕ = stream_id u.out.side k.dir (own_of u.out k.dir).opened in
     subst P (sym k.is) (record {
-      credit = rw (opened_credit u k.dir j (opening u k.dir j)) (credit-same (last_window window h) (consumed h) (debt window h) (received h) _ _ _ u.credit (omega arith) (omega arith) refl f.credit);
+      credit = rw (opened_credit u k.dir j (opening u k.dir j)) (credit-same (last_window begun h) (consumed h) (debt begun h) (received h) _ _ _ u.credit (omega arith) (omega arith) refl f.credit);
       streams = opened_all (trace h) u k.dir k.few f.streams;
     })
 
 -- a half that is let go leaves what is told of the streams
-facts_freed : (window : ℕ) (h : List Event) (u : World) (id : ℕ) (c : SendingCredit) → Facts window h u → Facts window h (with_send_freed (without_half u id c) id)
-facts_freed window h u id c f = record {
+facts_freed : (begun : Credit) (h : List Event) (u : World) (id : ℕ) (c : SendingCredit) → Facts begun h u → Facts begun h (with_send_freed (without_half u id c) id)
+facts_freed begun h u id c f = record {
   credit = rw (ap (λ k. k.credit) (steady-send-freed (without_half u id c) id)) f.credit;
   streams = all-send-freed (trace h) u id c f.streams;
 }
@@ -560,11 +561,11 @@ goes_freed u id c = let e = steady-send-freed (without_half u id c) id in
 goes_then : (u w v : World) → Goes u w → Goes w v → Goes u v
 goes_then u w v a b = let l = a.limit in let m = b.limit in record { side = b.side ∙ a.side; window = b.window ∙ a.window; limit = omega arith }
 
-pub facts-sending : (window : ℕ) (h : List Event) (u : World) (e : SendEvent) (v : World) → Facts window h u → SendStep u e v → Facts window (Sending e ∷ h) v
-facts-sending window h u e v f s = elim (kind-of u e v s) [
-  | inl k ↦ facts-spared window h u e v f k
-  | inr (inl k) ↦ facts_opened window h u e v f k
-  | inr (inr k) ↦ facts-spared window h (with_send_freed (without_half u k.id k.budget) k.id) e v (facts_freed window h u k.id k.budget f) k.rest
+pub facts-sending : (begun : Credit) (h : List Event) (u : World) (e : SendEvent) (v : World) → Facts begun h u → SendStep u e v → Facts begun (Sending e ∷ h) v
+facts-sending begun h u e v f s = elim (kind-of u e v s) [
+  | inl k ↦ facts-spared begun h u e v f k
+  | inr (inl k) ↦ facts_opened begun h u e v f k
+  | inr (inr k) ↦ facts-spared begun h (with_send_freed (without_half u k.id k.budget) k.id) e v (facts_freed begun h u k.id k.budget f) k.rest
 ]
 
 pub remotes-sending : (at_once b : Dir → ℕ) (f : ℕ → Trace) (u : World) (e : SendEvent) (v : World) → AllFrom f u → AllRemotes at_once b f u → SendStep u e v → AllRemotes at_once b f v

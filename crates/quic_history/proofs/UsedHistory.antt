@@ -52,14 +52,14 @@ greatest_few : (h : List Event) (d : Dir) → greatest_count h d ≤ 2 ^ 60
 greatest_few [] d = omega arith
 greatest_few (e ∷ h) d = let a = greatest_few h d in let b = count_few e d in omega arith
 
-may_open_few : (m : Made) (h : List Event) → m.bi ≤ 2 ^ 60 → (send_tale m h).may_open ≤ 2 ^ 60
+may_open_few : (m : Made) (h : List Event) → m.bi.max_remote ≤ 2 ^ 60 → (send_tale m h).may_open ≤ 2 ^ 60
 may_open_few m [] l = l
 may_open_few m (e ∷ h) l = let a = may_open_few m h l in omega arith
 
 opened_few : (h : List Event) (v : World) (d : Dir) → SentSo h (send_totals v.out) → (own_total (send_totals v.out) d).opened ≤ 2 ^ 60
 opened_few h v d f = let a = f.opened d in let b = f.few d in let c = greatest_few h d in omega arith
 
-pub used-few : (m : Made) (h : List Event) (v : World) → m.bi ≤ 2 ^ 60 → SentSo (since h) (send_totals v.out) → FlowsSo m h v → v.bi.next_reported ≤ v.bi.max_remote → used_halves v < 2 ^ 64
+pub used-few : (m : Made) (h : List Event) (v : World) → m.bi.max_remote ≤ 2 ^ 60 → SentSo (since h) (send_totals v.out) → FlowsSo m h v → v.bi.next_reported ≤ v.bi.max_remote → used_halves v < 2 ^ 64
 used-few m h v l sent sends room =
     let s : Side = v.out.side in
     let a = opened_few (since h) v Bi sent in

@@ -27,7 +27,7 @@ use Rattle.quic_history.specs.declared.progress.LastAnswer.{LastAnswer}
 use Rattle.quic_history.specs.declared.progress.LastAnswer.TheVariants as last_answer
 use Rattle.quic_retransmits.specs.Pending.{Pending}
 use Rattle.quic_values.specs.declared.memory.OutOfMemory.{OutOfMemory}
-use Rattle.quic_history.specs.World.{World, Made, count_of, start, id_refusal, remote_of, sends, with_credit, with_receive_window}
+use Rattle.quic_history.specs.World.{World, Made, IsUnusedCredit, IsUnusedRemote, count_of, start, id_refusal, remote_of, sends, with_credit, with_receive_window}
 use Rattle.quic_history.specs.Used.{used_halves}
 use Rattle.quic_outgoing.specs.History.{count_in, given_for}
 use Rattle.quic_history.specs.SendTotals.{SendTotals, send_totals, own_total}
@@ -163,9 +163,9 @@ Fits h _ = Unit {0}
 
 -- how an end begins
 pub record IsStart (m : Made) (v : World) : Type 0 where
-  pub few_uni : m.uni ≤ 2 ^ 60
-  pub few_bi : m.bi ≤ 2 ^ 60
-  pub small : m.receive_window < 2 ^ 62
+  pub uni : IsUnusedRemote m.uni
+  pub bi : IsUnusedRemote m.bi
+  pub credit : IsUnusedCredit m.credit
   pub is : v ≡ start m
 
 -- what every call leaves: which end it is, the first limit of a stream, and that the limit of the connection does not fall
@@ -363,21 +363,21 @@ abbrev pub window_set : Event → Option ℕ
 window_set (Resized window answer) = Some window
 window_set _ = None
 
--- the receive window that was set last, if not the first
-abbrev pub last_window : ℕ → List Event → ℕ
-last_window w [] = w
-last_window w (e ∷ h) = unwrap_or (window_set e) (last_window w h)
+-- the receive window that was set last, if not that of the first credit
+abbrev pub last_window : Credit → List Event → ℕ
+last_window c [] = c.receive_window
+last_window c (e ∷ h) = unwrap_or (window_set e) (last_window c h)
 
 -- what is taken off a window is owed, up to the greatest number of 64 bits
 abbrev pub with_owed : Option ℕ → ℕ → ℕ → ℕ
 with_owed None w n = n
 with_owed (Some window) w n = min (n + (w - window)) (2 ^ 64 - 1)
 
--- how many bytes that are consumed give no credit: as many as were taken off the window, and each that is consumed is one
--- less
-abbrev pub debt : ℕ → List Event → ℕ
-debt w [] = 0
-debt w (e ∷ h) = with_owed (window_set e) (last_window w h) (debt w h - consumed_by h e)
+-- how many bytes that are consumed give no credit: what the first credit owes, and as many as were taken off the window,
+-- and each that is consumed is one less
+abbrev pub debt : Credit → List Event → ℕ
+debt c [] = c.shrink_debt
+debt c (e ∷ h) = with_owed (window_set e) (last_window c h) (debt c h - consumed_by h e)
 
 -- the credit of a connection with such a window, of which so many bytes were consumed, with such a debt, and so many came
 pub record CreditFrom (window used owed came : ℕ) (c : Credit) : Type 0 where
@@ -452,9 +452,9 @@ pub record EndsSo (t : Trace) : Type 0 where
   pub sized : t.ended ≡ true → t.sized ≡ true
   pub all : t.ended ≡ true → IsAllGiven (slices t.given) t.high
 
--- what a history says of the end that it led to
-pub record Facts (window : ℕ) (h : List Event) (v : World) : Type 0 where
-  pub credit : CreditFrom (last_window window h) (consumed h) (debt window h) (received h) v.credit
+-- what a history says of the end that it led to, which began with a credit
+pub record Facts (begun : Credit) (h : List Event) (v : World) : Type 0 where
+  pub credit : CreditFrom (last_window begun h) (consumed h) (debt begun h) (received h) v.credit
   pub streams : (q : ℕ) → StreamFrom v.window (trace h q) (id_refusal v q) (v.receive q)
 
 -- of a stream that is neither stopped nor reset, as many bytes were read as a known final size tells, where reads tell the end, exactly where each byte below it was given
@@ -524,9 +524,9 @@ abbrev pub counts : (Dir → ℕ) → List Event → Dir → ℕ
 counts f [] = f
 counts f (e ∷ h) = with_count_set e (counts f h)
 
--- how many streams the peer might open before the last call
+-- how many streams the peer might open before the last call, or at the start
 abbrev pub before : (m : Made) (h : List Event) (v : World) → IsRun m h v → Dir → ℕ
-before m [] v run d = 0
+before m [] v run d = (remote_of (start m) d).max_remote
 before m (e ∷ h) v run d = (remote_of run.0 d).max_remote
 
 -- how many streams the peer may open, now
@@ -586,7 +586,7 @@ may_open_after m e h tale = max tale.may_open (min (counts (count_of m) (e ∷ h
 
 -- what the calls tell of the sending sides
 abbrev pub send_tale : Made → List Event → SendTale
-send_tale m [] = record { flow = λ q. new_flow 0; may_open = m.bi }
+send_tale m [] = record { flow = λ q. new_flow 0; may_open = m.bi.max_remote }
 send_tale m (e ∷ h) = record { flow = flow_after m.side e h (send_tale m h); may_open = may_open_after m e h (send_tale m h) }
 
 -- what they tell of that of one stream
@@ -676,7 +676,7 @@ pub record From (m : Made) (h : List Event) (v : World) : Type 0 where
   pub run : IsRun m h v
   pub side : v.out.side ≡ m.side
   pub window : v.window ≡ m.window
-  pub facts : Facts m.receive_window h v
+  pub facts : Facts m.credit h v
   pub given : (q : ℕ) → GivenSo (trace h q)
   pub ends : (q : ℕ) → EndsSo (trace h q)
   pub tells : TellsEnds h v

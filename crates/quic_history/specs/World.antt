@@ -1,5 +1,5 @@
 -- The streams of one end of a connection, as contracts see them.
-use Rattle.std.specs.Prelude.{ℕ, Bool, true, false, ◌-◌, nat_le, if◌then◌else◌, List, [], ◌∷◌, ◌++◌, Option, Some, None, is_some}
+use Rattle.std.specs.Prelude.{ℕ, Bool, true, false, ◌≡◌, ◌+◌, ◌-◌, ◌^◌, ◌≤◌, ◌<◌, min, nat_le, if◌then◌else◌, List, [], ◌∷◌, ◌++◌, Option, Some, None, is_some}
 use Rattle.quic_values.specs.declared.ids.Side.{Side}
 use Rattle.quic_values.specs.declared.ids.Side.TheVariants.{Client, Server}
 use Rattle.quic_values.specs.declared.ids.Dir.{Dir}
@@ -36,34 +36,72 @@ pub record World : Type 0 where
   pub send_streams : ℕ
   pub adjusted : Bool
 
--- what an end is made with: which end it is, how many streams of each direction the peer may open, and the windows of
--- sending, of receiving, and of receiving on one stream
+-- what an end is made with: which end it is, the streams of each direction that the peer may open, the send window, the
+-- credit for the data of all streams together, the first limit of each stream, and whether it was set how many streams the
+-- peer is to be able to use at a time
 pub record Made : Type 0 where
   pub side : Side
-  pub uni : ℕ
-  pub bi : ℕ
+  pub uni : Remote
+  pub bi : Remote
   pub send_window : ℕ
-  pub receive_window : ℕ
+  pub credit : Credit
   pub window : ℕ
+  pub adjusted : Bool
 
+-- with so many streams, and with these windows of sending, of receiving, and of receiving on one stream
 abbrev pub made_with : Side → ℕ → ℕ → ℕ → ℕ → ℕ → Made
-made_with side uni bi send_window receive_window window =
-    record { side = side; uni = uni; bi = bi; send_window = send_window; receive_window = receive_window; window = window }
+made_with side uni bi send_window receive_window window = record {
+  side = side;
+  uni = new_remote uni;
+  bi = new_remote bi;
+  send_window = send_window;
+  credit = new_credit receive_window;
+  window = window;
+  adjusted = false;
+}
+
+-- with what an end holds that is not of its own streams
+abbrev pub made_again : World → Made
+made_again w = record {
+  side = w.out.side;
+  uni = w.uni;
+  bi = w.bi;
+  send_window = w.out.budget.send_window;
+  credit = w.credit;
+  window = w.window;
+  adjusted = w.adjusted;
+}
 
 -- how an end begins: the streams that the peer may open have new halves
 abbrev pub start : Made → World
 start m = record {
-  credit = new_credit m.receive_window;
-  bi = new_remote m.bi;
-  uni = new_remote m.uni;
-  out = with_more_streams (no_streams m.side m.send_window) 0 m.bi;
+  credit = m.credit;
+  bi = m.bi;
+  uni = m.uni;
+  out = with_more_streams (no_streams m.side m.send_window) 0 m.bi.max_remote;
   queue = empty_queue;
-  receive = with_first (with_first (λ id. None) (other_side m.side) Bi m.bi (Some (new_half m.window))) (other_side m.side) Uni m.uni (Some (new_half m.window));
+  receive = with_first (with_first (λ id. None) (other_side m.side) Bi m.bi.max_remote (Some (new_half m.window))) (other_side m.side) Uni m.uni.max_remote (Some (new_half m.window));
   window = m.window;
   events = [];
   send_streams = 0;
-  adjusted = false;
+  adjusted = m.adjusted;
 }
+
+-- a credit of which nothing was used: no data came, and the limit is the window and the debt
+pub record IsUnusedCredit (c : Credit) : Type 0 where
+  pub received : c.data_recvd ≡ 0
+  pub limit : c.local_max_data ≡ min (c.receive_window + c.shrink_debt) (2 ^ 64 - 1)
+  pub debt_fits : c.shrink_debt < 2 ^ 64
+
+-- streams of the peer of which none was opened: it may use all that it may open, which are as many as it is to be able to
+-- use at a time, or more
+pub record IsUnusedRemote (r : Remote) : Type 0 where
+  pub next : r.next_remote ≡ 0
+  pub reported : r.next_reported ≡ 0
+  pub told : r.opened ≡ false
+  pub allocated : r.allocated ≡ r.max_remote
+  pub few : r.max_remote ≤ 2 ^ 60
+  pub enough : min r.max_concurrent (2 ^ 60) ≤ r.max_remote
 
 -- whether the send half of a stream is held
 abbrev pub sends : World → ℕ → Bool
@@ -71,8 +109,8 @@ sends w = λ q. is_some (w.out.halves q)
 
 -- how many streams of a direction the peer is to be able to use at a time
 abbrev pub count_of : Made → Dir → ℕ
-count_of m Bi = m.bi
-count_of m Uni = m.uni
+count_of m Bi = m.bi.max_concurrent
+count_of m Uni = m.uni.max_concurrent
 
 -- whether two ends are one
 abbrev pub is_same_side : Side → Side → Bool

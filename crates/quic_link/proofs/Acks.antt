@@ -19,6 +19,7 @@ use Rattle.quic_history.proofs.Totals.{by_cases, same}
 use Rattle.quic_link.specs.Endpoints.{LinkedEnd, IsOneOf, MayAct, acted, sent_on, IsHonest, WasStoppedWith}
 use Rattle.quic_link.specs.Promises.{CameAt, EndCame}
 use Rattle.quic_link.proofs.Ends.{Comes, plain-call}
+use Rattle.quic_link.proofs.Unsent.{flow_unsent, flow-called}
 use Rattle.quic_link.proofs.Growth.{MayMove, CanMove, can-move}
 use Rattle.quic_link.proofs.Rooms.{amount}
 use Rattle.quic_link.proofs.TrueFrames.{AllTrue}
@@ -191,7 +192,8 @@ ack_true x y _ t k = tt
 -- the end that sends was called
 pub acked-sent : (x y : LinkedEnd) (e : Event) (v : World) → Comes x → AllTrue y → MayAct x y e v → ((q : ℕ) → AckedSo (sent_on x q) y.calls q) → (q : ℕ) → AckedSo (sent_on (acted x e v) q) y.calls q
 acked-sent x y e v f t a s q =
-    rw (plain-call x y e a.honest) (acked_limits y.calls q (limits_in e) x.made.side _
+    flow-called (λ t. AckedSo t y.calls q) x.made e x.calls q (plain-call x y e a.honest) (λ t k. acked_same y.calls q t (flow_unsent t) refl refl refl refl refl refl refl k)
+    (acked_limits y.calls q (limits_in e) x.made.side _
     (acked_moved y.calls (send_move_of e) (has_send_side x.made.side (opened_in_all (since x.calls)) (send_tale x.made x.calls).may_open) (sent_on x) q (can-move x.made x.calls x.world v f.from e a.step) (ack_true x y e t a.honest) (s q)))
 
 -- the end that receives was

@@ -1,24 +1,29 @@
 -- Streams and limits that one end counts on, the other permits; kept by each call.
-use Rattle.std.proofs.Common.{◌≡◌, ℕ, Bool, true, false, Option, Some, None, Ok, Err, refl, sym, ap, ◌∙◌, subst, inl, inr, arith, ◌≤◌, ◌<◌}
+use Rattle.std.proofs.Common.{◌≡◌, ℕ, zero, suc, Bool, true, false, [], ◌∷◌, Option, Some, None, Ok, Err, sym, ap, ◌∙◌, subst, inl, inr, arith, ◌≤◌, ◌<◌}
 use Rattle.std.specs.Prelude.{not, max}
 use Rattle.quic_values.specs.declared.ids.Dir.{Dir}
 use Rattle.quic_values.specs.declared.ids.Dir.TheVariants.{Bi, Uni}
-use Rattle.quic_values.specs.Ids.{other_side, dir_of, index_of}
+use Rattle.quic_values.specs.declared.ids.Side.{Side}
+use Rattle.quic_values.specs.Ids.{other_side, stream_id, dir_of, index_of}
 use Rattle.quic_wire.specs.declared.frame.Frame.TheVariants as frames
 use Rattle.quic_outgoing.specs.declared.limits.PeerLimits.{PeerLimits}
 use Rattle.quic_outgoing.specs.History.{count_in, given_for}
 use Rattle.quic_outgoing.specs.Senders.{is_local}
+use Rattle.quic_outgoing.specs.Outgoing.{own_of}
 use Rattle.quic_history.specs.World.{World, Made, count_of, remote_of}
 use Rattle.quic_history.specs.SendEvents.{GaveLimits, RaisedData, RaisedCount, RaisedLimit, StoppedOwn, WroteOwn, FinishedOwn, LostOwn}
-use Rattle.quic_history.specs.History.{Event, Received, ReceivedReset, Sending, opened_in_all, count_by, greatest_limit, limit_by}
+use Rattle.quic_history.specs.Early.{first_ids, own_ids}
+use Rattle.quic_history.specs.History.{Event, Received, ReceivedReset, Sending, SentAgain, opened_in_all, count_by, greatest_limit, limit_by}
 use Rattle.quic_history.proofs.Credits.{limit-fits}
-use Rattle.quic_link.specs.Endpoints.{LinkedEnd, MayAct, acted, written_by, IsHonest, limits_of}
+use Rattle.quic_history.proofs.Refusals.{index-id}
+use Rattle.quic_link.specs.Endpoints.{LinkedEnd, IsOneOf, MayAct, acted, written_by, IsHonest, limits_of, LimitsWithin}
 use Rattle.quic_link.proofs.Ends.{Comes, plain-call}
 use Rattle.quic_link.proofs.TrueFrames.{AllTrue, count-grows, limit-grows}
 use Rattle.quic_link.proofs.Meets.{nexts, next_of_dir, MeetsBy, frame_id, meets-step}
-use Rattle.quic_link.proofs.Queues.{queued_id, queues-step}
-use Rattle.quic_link.proofs.Opens.{IdsSo, IsOpenAt, OpenBy, own-local, local-other, open_first, open_second, frame_first, frame_second, opened_grows, given-open, new_open}
-use Rattle.quic_link.proofs.Basics.{either-of}
+use Rattle.quic_link.proofs.Queues.{queued_id, MayQueue, queues-step}
+use Rattle.quic_link.proofs.Opens.{IdsSo, IsOpenAt, OpenBy, own-local, local-other, open_first, open_second, frame_first, frame_second, opened_grows, opened-is, given-open, new_open}
+use Rattle.quic_link.proofs.GivenIds.{local_own, dir_is}
+use Rattle.quic_link.proofs.Basics.{either-of, only}
 
 -- ---- the queue
 
@@ -35,6 +40,42 @@ queued_open x y (Sending (LostOwn id offsets fin (Ok u))) f s k =
     let sends = s.frames_open (frames.Stream (record { id = id; offset = offsets.start; fin = fin; bytes = k.bytes })) k.is in sends.opened
 queued_open x y (Sending (LostOwn id offsets fin (Err error))) f s k = tt
 queued_open x y _ f s k = tt
+
+-- the streams of a direction that an end opened
+first_has : (s : Side) (d : Dir) (n q : ℕ) → IsOneOf q (first_ids s d n) → (i : ℕ) × (i < n) × (q ≡ stream_id s d i)
+first_has s d zero q h = absurd h
+first_has s d (suc n) q h = elim (either-of q (first_ids s d n) (stream_id s d n ∷ []) h) [
+  | inl k ↦ (let t = first_has s d n q k in let l = t.1 in let m : t.0 < suc n = omega arith in (t.0, m, t.2))
+  | inr k ↦ (let m : n < suc n = omega arith in (n, m, only q (stream_id s d n) k))
+]
+
+opened_open : (x y : LinkedEnd) (d : Dir) (i q : ℕ) → q ≡ stream_id x.made.side d i → i < opened_in_all x.calls d → IsOpenAt x y q
+opened_open x y d i q e l =
+    let own : is_local x.made.side q ≡ true = ap (is_local x.made.side) e ∙ local_own x.made.side d i in
+    let dir : dir_of q ≡ d = ap dir_of e ∙ dir_is x.made.side d i in
+    let index : index_of q ≡ i = ap index_of e ∙ index-id x.made.side d i in
+    let P : Bool → Type 0 = λ b. OpenBy b (opened_in_all x.calls) (opened_in_all y.calls) q in
+    let Q : Dir → Type 0 = λ c. index_of q < opened_in_all x.calls c in
+    let here : index_of q < opened_in_all x.calls d = omega arith in
+    subst P (sym own) (subst Q (sym dir) here)
+
+own_ids_open : (x y : LinkedEnd) → Comes x → (q : ℕ) → IsOneOf q (own_ids x.world.out) → IsOpenAt x y q
+own_ids_open x y f q h = elim (either-of q (first_ids x.world.out.side Bi x.world.out.own_bi.opened) (first_ids x.world.out.side Uni x.world.out.own_uni.opened) h) [
+  | inl k ↦ by_dir Bi k
+  | inr k ↦ by_dir Uni k
+]
+  where
+    by_dir : (d : Dir) → IsOneOf q (first_ids x.world.out.side d (own_of x.world.out d).opened) → IsOpenAt x y q
+    by_dir d k =
+        let t = first_has x.world.out.side d (own_of x.world.out d).opened q k in
+        let n = opened-is x d f in
+        let l = t.1 in
+        opened_open x y d t.0 q (t.2 ∙ ap (λ s. stream_id s d t.0) f.side) (omega arith)
+
+-- so a call queues only streams that are open
+may_queue_open : (x y : LinkedEnd) (e : Event) → Comes x → IdsSo x y → IsHonest x y e → (q : ℕ) → MayQueue x.world e q → IsOpenAt x y q
+may_queue_open x y (SentAgain (Ok u)) f s k q m = own_ids_open x y f q m
+may_queue_open x y e f s k q m = let P : Option ℕ → Type 0 = λ o. QueuedOpen x y o in subst P m (queued_open x y e f s k)
 
 -- ---- streams that frames open
 
@@ -68,9 +109,9 @@ met_after x y v (Some id) side other m k l d = elim (m d) [
 
 -- ---- counts of streams
 
-count_is : (m : Made) (d : Dir) → count_in (limits_of m) d ≡ count_of m d
-count_is m Bi = refl
-count_is m Uni = refl
+count_most : (m : Made) (limits : PeerLimits) (d : Dir) → LimitsWithin limits (limits_of m) → count_in limits d ≤ count_of m d
+count_most m limits Bi w = w.streams_bidi
+count_most m limits Uni w = w.streams_uni
 
 given_most : (e d : Dir) (n : ℕ) (most : Dir → ℕ) → n ≤ most e → given_for e d n ≤ most d
 given_most Bi Bi n most l = l
@@ -80,7 +121,7 @@ given_most Uni Uni n most l = l
 
 count_true : (x y : LinkedEnd) (e : Event) → AllTrue y → ((d : Dir) → count_of y.made d ≤ (remote_of y.world d).max_remote) → IsHonest x y e → (d : Dir) → count_by e d ≤ (remote_of y.world d).max_remote
 count_true x y (Sending (GaveLimits limits)) t base k d =
-    let a : count_in limits d ≡ count_of y.made d = ap (λ p. count_in p d) k ∙ count_is y.made d in
+    let a = count_most y.made limits d k in
     let b = base d in
     omega arith
 count_true x y (Sending (RaisedCount dir count (Ok u))) t base k d =
@@ -97,7 +138,7 @@ pub record DataSo (x y : LinkedEnd) : Type 0 where
   pub base : x.made.receive_window ≤ x.world.credit.local_max_data
 
 limit_true : (x y : LinkedEnd) (e : Event) → AllTrue y → y.made.receive_window ≤ y.world.credit.local_max_data → IsHonest x y e → limit_by e ≤ y.world.credit.local_max_data
-limit_true x y (Sending (GaveLimits limits)) t base k = let a : limits.initial_max_data ≡ y.made.receive_window = ap (λ (p : PeerLimits). p.initial_max_data) k in omega arith
+limit_true x y (Sending (GaveLimits limits)) t base k = let a = k.of_connection in omega arith
 limit_true x y (Sending (RaisedData limit)) t base k = t (frames.MaxData limit) k
 limit_true x y _ t base k = omega arith
 
@@ -115,7 +156,7 @@ module _ (x y : LinkedEnd) (e : Event) (v : World) (f : Comes x) (a : MayAct x y
         ];
         queue = λ q h. elim (queues q h) [
           | inl k ↦ open_first x y e v q (s.queue q k)
-          | inr k ↦ open_first x y e v q (let P : Option ℕ → Type 0 = λ o. QueuedOpen x y o in subst P k (queued_open x y e f s a.honest))
+          | inr k ↦ open_first x y e v q (may_queue_open x y e f s a.honest q k)
         ];
         met = met_after x y v (frame_id e) f.side other (meets-step x.world e v (plain-call x y e a.honest) a.step) (met_open x y e r a.honest) s.met;
         counts = λ d. let k = s.counts d in let l = count_true x y e t r.base a.honest d in omega arith;

@@ -1,24 +1,26 @@
 -- Each of two ends may come from its calls.
-use Rattle.std.proofs.Common.{◌≡◌, ℕ, sym, ap, ◌∙◌, refl, subst, List, [], ◌∷◌, Option, None, Result, Ok, Err}
+use Rattle.std.proofs.Common.{◌≡◌, ℕ, sym, ap, ◌∙◌, refl, subst, false, List, [], ◌∷◌, Ok, Err}
 use Rattle.quic_values.specs.Ids.{other_side}
 use Rattle.quic_history.specs.World.{World}
 use Rattle.quic_history.specs.SendTotals.{send_totals}
-use Rattle.quic_history.specs.History.{From, Event, Rejected, SentAgain, IsRun, Facts, GivenSo, EndsSo, TellsEnds, EverPermits, SentSo, FlowsSo, TellsWrites, AreQueued, trace, since, joint_move_of}
+use Rattle.quic_history.specs.History.{From, Event, Rejected, SentAgain, Facts, GivenSo, EndsSo, TellsEnds, EverPermits, SentSo, FlowsSo, TellsWrites, AreQueued, trace, since, joint_move_of}
+use Rattle.quic_history.specs.Early.{begins_anew}
 use Rattle.quic_history.proofs.Histories.{next}
 use Rattle.quic_history.proofs.Beginnings.{begins}
 use Rattle.quic_link.specs.Endpoints.{LinkedEnd, MayAct, IsHonest, acted, IsNewEnd, Linked, begun, first_acts, second_acts}
 use Rattle.quic_link.proofs.Basics.{other_other}
 
--- a call that is honest is none of an early start
-pub plain-call : (x y : LinkedEnd) (e : Event) → IsHonest x y e → joint_move_of e ≡ None
+-- a call that is honest rejects no early start
+pub plain-call : (x y : LinkedEnd) (e : Event) → IsHonest x y e → begins_anew (joint_move_of e) ≡ false
 plain-call x y Rejected h = absurd h
-plain-call x y (SentAgain answer) h = absurd h
+plain-call x y (SentAgain (Ok u)) h = refl
+plain-call x y (SentAgain (Err u)) h = refl
 plain-call x y _ h = refl
 
--- no call is
+-- no call does
 abbrev pub ArePlain : List Event → Type 0
 ArePlain [] = Unit {0}
-ArePlain (e ∷ h) = (joint_move_of e ≡ None) × ArePlain h
+ArePlain (e ∷ h) = (begins_anew (joint_move_of e) ≡ false) × ArePlain h
 
 pub since-plain : (h : List Event) → ArePlain h → since h ≡ h
 since-plain [] p = refl

@@ -15,6 +15,7 @@ use Rattle.quic_link.specs.Promises.{TellsTruth, CameAt}
 use Rattle.quic_link.proofs.Ends.{Comes}
 use Rattle.quic_link.proofs.Joint.{agrees}
 use Rattle.quic_link.proofs.Opens.{own-local, opened-is}
+use Rattle.quic_link.proofs.Rooms.{within-same}
 use Rattle.quic_link.proofs.Truthful.{truthful}
 
 -- an end was given the streams that it opened
@@ -94,7 +95,7 @@ module _ (t1 t2 : ShouldTransmit) (v0 v1 v2 v3 v4 v5 v6 w0 w1 w2 w3 w4 w5 w6 : W
   at_first = begun (record { start = cs; calls = refl; wrote = refl; small = omega arith }) (record { start = ss; calls = refl; wrote = refl; small = omega arith }) refl
 
   opened : Linked x3 (new_at server w0)
-  opened = first_acts opens v2 (first_acts gives v1 at_first (record { fits = tt; honest = refl; step = c1 })) (record { fits = tt; honest = tt; step = c2 })
+  opened = first_acts opens v2 (first_acts gives v1 at_first (record { fits = tt; honest = within-same (limits_of server); step = c1 })) (record { fits = tt; honest = tt; step = c2 })
 
   -- the stream was given, before and after it was written
   given_once : {y : LinkedEnd} → Linked x3 y → WasGiven v2 2

@@ -1,5 +1,5 @@
 -- A stream that the application was given stays so.
-use Rattle.std.proofs.Common.{◌≡◌, ℕ, Bool, true, false, ◌∷◌, refl, sym, ap, subst, arith, ◌+◌, ◌≤◌, ◌<◌, None}
+use Rattle.std.proofs.Common.{◌≡◌, ℕ, Bool, true, false, ◌∷◌, refl, sym, ap, subst, arith, ◌+◌, ◌≤◌, ◌<◌}
 use Rattle.std.specs.Prelude.{nat_lt, if◌then◌else◌}
 use Rattle.quic_values.specs.declared.ids.Dir.{Dir}
 use Rattle.quic_values.specs.declared.ids.Dir.TheVariants.{Bi, Uni}
@@ -9,6 +9,7 @@ use Rattle.quic_outgoing.specs.Outgoing.{own_of}
 use Rattle.quic_outgoing.specs.Senders.{is_local}
 use Rattle.quic_history.specs.World.{World, remote_of}
 use Rattle.quic_history.specs.Permitting.{with_accepted}
+use Rattle.quic_history.specs.Early.{begins_anew}
 use Rattle.quic_history.specs.History.{Event, Accepted, Step, opened_in_all, joint_move_of}
 use Rattle.quic_link.specs.Endpoints.{LinkedEnd, MayAct, acted, WasGiven}
 use Rattle.quic_link.proofs.Ends.{Comes, comes-acted, plain-call}
@@ -30,7 +31,7 @@ same_reports : (u v : World) (d : Dir) → reports v ≡ reports u → next_of_d
 same_reports u v d e = let k : next_of_dir (reports v) d ≡ next_of_dir (reports u) d = ap (λ p. next_of_dir p d) e in omega arith
 
 -- the application accepts more and more
-reports_grow : (u : World) (e : Event) (v : World) → joint_move_of e ≡ None → Step u e v → (d : Dir) → next_of_dir (reports u) d ≤ next_of_dir (reports v) d
+reports_grow : (u : World) (e : Event) (v : World) → begins_anew (joint_move_of e) ≡ false → Step u e v → (d : Dir) → next_of_dir (reports u) d ≤ next_of_dir (reports v) d
 reports_grow u (Accepted dir answer) v plain s d = accepted_grows u v dir d s.0
 reports_grow u e v plain s d = same_reports u v d (reports-step u e v plain refl s)
 

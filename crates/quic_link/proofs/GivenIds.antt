@@ -42,7 +42,7 @@ initiator_is : (s : Side) (d : Dir) (n : ℕ) → initiator_of (stream_id s d n)
 initiator_is Client d n = ap (λ b. if b then Client else Server) (side-bit Client d n)
 initiator_is Server d n = ap (λ b. if b then Client else Server) (side-bit Server d n)
 
-dir_is : (s : Side) (d : Dir) (n : ℕ) → dir_of (stream_id s d n) ≡ d
+pub dir_is : (s : Side) (d : Dir) (n : ℕ) → dir_of (stream_id s d n) ≡ d
 dir_is s Bi n = ap (λ b. if b then Bi else Uni) (dir-bit s Bi n)
 dir_is s Uni n = ap (λ b. if b then Bi else Uni) (dir-bit s Uni n)
 
@@ -66,7 +66,7 @@ other_one : (a : Side) → are_one_end a (other_side a) ≡ false
 other_one Client = refl
 other_one Server = refl
 
-local_own : (s : Side) (d : Dir) (n : ℕ) → is_local s (stream_id s d n) ≡ true
+pub local_own : (s : Side) (d : Dir) (n : ℕ) → is_local s (stream_id s d n) ≡ true
 local_own s d n = ap (are_one_end s) (initiator_is s d n) ∙ own_one s
 
 local_peer : (s : Side) (d : Dir) (n : ℕ) → is_local s (stream_id (other_side s) d n) ≡ false

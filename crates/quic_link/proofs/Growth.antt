@@ -13,8 +13,10 @@ use Rattle.quic_history.specs.World.{World, Made}
 use Rattle.quic_history.specs.Flows.{has_side_in, send_moved, with_first_limits, refusal_told, refusal_where, room_on}
 use Rattle.quic_history.specs.SendEvents.{SendEvent, SendStep, RaisedLimit, StoppedOwn, WroteOwn, FinishedOwn, ResetOwn, AckedOwn, LostOwn, ResetAckedOwn, TookTurn}
 use Rattle.quic_history.specs.History.{Event, Sending, Step, From, flow, send_move_of, limits_in, is_sent_on, room_in_connection, room_in_window, joint_move_of}
+use Rattle.quic_history.specs.Early.{begins_anew}
 use Rattle.quic_history.proofs.Totals.{by_cases, same}
 use Rattle.quic_history.proofs.SendSides.{held-flow}
+use Rattle.quic_link.proofs.Unsent.{flow_unsent, flow-called}
 
 pub record Grows (t t' : SendFlow) : Type 0 where
   pub more : List (List ℕ)
@@ -83,6 +85,9 @@ grows_limits : (l : Option PeerLimits) (side : Side) (q : ℕ) (t t' : SendFlow)
 grows_limits None side q t t' g = g
 grows_limits (Some limits) side q t t' g = record { more = g.more; cuts = g.cuts; closed = g.closed; finished = g.finished; reset = g.reset }
 
+grows_unsent : (t t' : SendFlow) → Grows t t' → Grows t (flow_unsent t')
+grows_unsent t t' g = record { more = g.more; cuts = g.cuts; closed = g.closed; finished = g.finished; reset = g.reset }
+
 -- ---- what a call does may be done
 
 unrefused : (sent : Bool) (room : ℕ) (t : SendFlow) → refusal_told sent room t ≡ None → takes_data t.reset t.finished ≡ true
@@ -138,5 +143,6 @@ module _ (m : Made) (h : List Event) (u v : World) (f : From m h u) where
   can-move _ s = tt
 
   -- each call lets what is told of a sending side grow
-  pub grows : (e : Event) → joint_move_of e ≡ None → Step u e v → (q : ℕ) → Grows (flow m h q) (flow m (e ∷ h) q)
-  grows e plain s q = rw plain (grows_limits (limits_in e) m.side q (flow m h q) _ (grows_moved (send_move_of e) _ (flow m h) q (can-move e s)))
+  pub grows : (e : Event) → begins_anew (joint_move_of e) ≡ false → Step u e v → (q : ℕ) → Grows (flow m h q) (flow m (e ∷ h) q)
+  grows e plain s q = flow-called (λ t. Grows (flow m h q) t) m e h q plain (λ t g. grows_unsent (flow m h q) t g)
+      (grows_limits (limits_in e) m.side q (flow m h q) _ (grows_moved (send_move_of e) _ (flow m h) q (can-move e s)))

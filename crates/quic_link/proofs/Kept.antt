@@ -8,6 +8,7 @@ use Rattle.quic_receiving.specs.Data.{is_in_slices}
 use Rattle.quic_receiving.specs.declared.transmit.ShouldTransmit.{ShouldTransmit}
 use Rattle.quic_receiving.specs.declared.errors.ReadError.TheVariants as read_error
 use Rattle.quic_history.specs.World.{World, Made}
+use Rattle.quic_history.specs.Early.{begins_anew}
 use Rattle.quic_history.specs.History.{Event, Move, Framed, WasReset, WasRead, WasStopped, WasTold, WasAnnounced, Received, ReceivedReset, Stopped, ToldReset, LeftPending, Step, From, Trace, trace, move_of, moved, with_move, with_kept_frame, is_frame_kept, is_closed, joint_move_of}
 use Rattle.quic_history.proofs.StreamSteps.{half-from, known-from}
 use Rattle.quic_history.proofs.Totals.{by_cases, same}
@@ -130,7 +131,7 @@ module _ (m : Made) (h : List Event) (u : World) (f : From m h u) where
   stops_true (LeftPending kind (Some _)) v s = tt
   stops_true _ v s = tt
 
-  pub kept-step : (e : Event) (v : World) → joint_move_of e ≡ None → Step u e v → KeptSo h → KeptSo (e ∷ h)
+  pub kept-step : (e : Event) (v : World) → begins_anew (joint_move_of e) ≡ false → Step u e v → KeptSo h → KeptSo (e ∷ h)
   kept-step e v plain s k =
       let t = stops_true e v s in
       record {

@@ -1,5 +1,6 @@
 pub mod Basics
 pub mod Ends
+pub mod Unsent
 pub mod Growth
 pub mod Sums
 pub mod Rooms

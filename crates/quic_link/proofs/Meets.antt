@@ -33,6 +33,7 @@ use Rattle.quic_history.specs.Sends.{with_out, with_opened, told_writable, after
 use Rattle.quic_history.specs.Writes.{with_queued, WritesOwn}
 use Rattle.quic_history.specs.Acknowledged.{with_send_freed, send_released, told_finished, frees_reset, without_sender, without_send_half}
 use Rattle.quic_history.specs.SendEvents.{SendEvent, SendStep, GaveLimits, RaisedData, RaisedCount, RaisedLimit, StoppedOwn, SetWindow, OpenedOwn, WroteOwn, FinishedOwn, ResetOwn, SetOwnPriority, AckedOwn, LostOwn, ResetAckedOwn, TookTurn, Polled}
+use Rattle.quic_history.specs.Early.{begins_anew}
 use Rattle.quic_history.specs.History.{Event, Received, ReceivedReset, AddedCredits, Began, Gave, Ended, Stopped, ToldReset, Resized, SetConcurrent, Accepted, LeftPending, Sending, Step, Rejected, SentAgain, joint_move_of}
 use Rattle.quic_history.proofs.SendSteps.{either-way}
 
@@ -343,7 +344,7 @@ stays_read u id new (Err (read_error.Reset code)) = stays_freed u id
 stays_read u id new (Err read_error.OutOfMemory) = stays_put u id (Some new)
 
 -- a call makes the peer's streams count as opened only by a frame
-pub meets-step : (u : World) (e : Event) (v : World) → joint_move_of e ≡ None → Step u e v → MeetsBy u v (frame_id e)
+pub meets-step : (u : World) (e : Event) (v : World) → begins_anew (joint_move_of e) ≡ false → Step u e v → MeetsBy u v (frame_id e)
 meets-step u (Received id offset bytes fin answer) v p s = meets_received u v id offset bytes fin answer s
 meets-step u (ReceivedReset id code final answer) v p s = meets_reset u v id code final answer s
 meets-step u (AddedCredits count answer) v p s = ap nexts s.0
@@ -368,5 +369,5 @@ meets-step u (Accepted dir answer) v p s = ap nexts s.0 ∙ stays_remote u dir (
 meets-step u (LeftPending kind frame) v p s = stays_settled kind u s.0 frame v s.1 s.2
 meets-step u (Sending e) v p s = meets_send u e v s
 meets-step u Rejected v p s = cc
-meets-step u (SentAgain (Ok x)) v p s = cc
+meets-step u (SentAgain (Ok x)) v p s = ap nexts s.1.2
 meets-step u (SentAgain (Err x)) v p s = ap nexts s.1

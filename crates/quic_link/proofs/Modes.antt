@@ -37,6 +37,7 @@ use Rattle.quic_history.specs.Sends.{with_out, with_opened, told_writable, after
 use Rattle.quic_history.specs.Writes.{with_queued, WritesOwn}
 use Rattle.quic_history.specs.Acknowledged.{with_send_freed, send_released, told_finished, frees_reset, without_sender, without_send_half}
 use Rattle.quic_history.specs.SendEvents.{SendEvent, SendStep, GaveLimits, RaisedData, RaisedCount, RaisedLimit, StoppedOwn, SetWindow, OpenedOwn, WroteOwn, FinishedOwn, ResetOwn, SetOwnPriority, AckedOwn, LostOwn, ResetAckedOwn, TookTurn, Polled}
+use Rattle.quic_history.specs.Early.{begins_anew}
 use Rattle.quic_history.specs.History.{Event, Received, ReceivedReset, AddedCredits, Began, Gave, Ended, Stopped, ToldReset, Resized, SetConcurrent, Accepted, LeftPending, Sending, Step, is_frame_kept, Rejected, SentAgain, joint_move_of}
 use Rattle.quic_history.proofs.SendSteps.{either-way}
 use Rattle.quic_history.proofs.StreamSteps.{noticed-any}
@@ -396,7 +397,7 @@ abbrev pub ModesBy : Event → World → World → Type 0
 ModesBy e u v = Modes (begun_by e) (frames_kept e) u v
 
 -- a call leaves each half in its mode, or lets it read bytes as they come
-pub modes-step : (u : World) (e : Event) (v : World) → joint_move_of e ≡ None → Step u e v → ModesBy e u v
+pub modes-step : (u : World) (e : Event) (v : World) → begins_anew (joint_move_of e) ≡ false → Step u e v → ModesBy e u v
 modes-step u (Received id offset bytes fin answer) v p s = modes_frame (begun_by (Received id offset bytes fin answer)) (frames_kept (Received id offset bytes fin answer)) u v id offset bytes fin answer (kept_one id (is_frame_kept answer)) s
 modes-step u (ReceivedReset id code final answer) v p s = modes_reset (begun_by (ReceivedReset id code final answer)) (frames_kept (ReceivedReset id code final answer)) u v id code final answer s
 modes-step u (AddedCredits count answer) v p s = modes_of (begun_by (AddedCredits count answer)) (frames_kept (AddedCredits count answer)) u v (tails_same u v (ap (λ (w : World). w.receive) s.0))
@@ -420,5 +421,5 @@ modes-step u (Accepted dir answer) v p s = modes_of (begun_by (Accepted dir answ
 modes-step u (LeftPending kind frame) v p s = modes_settled (begun_by (LeftPending kind frame)) (frames_kept (LeftPending kind frame)) kind u s.0 frame v s.1 s.2
 modes-step u (Sending e) v p s = modes_of (begun_by (Sending e)) (frames_kept (Sending e)) u v (tails_send u e v s)
 modes-step u Rejected v p s = cc
-modes-step u (SentAgain (Ok x)) v p s = cc
+modes-step u (SentAgain (Ok x)) v p s = modes_of (begun_by (SentAgain (Ok x))) (frames_kept (SentAgain (Ok x))) u v (tails_same u v (ap (λ (w : World). w.receive) s.1.2))
 modes-step u (SentAgain (Err x)) v p s = modes_of (begun_by (SentAgain (Err x))) (frames_kept (SentAgain (Err x))) u v (tails_same u v (ap (λ (w : World). w.receive) s.1))

@@ -1,10 +1,10 @@
 -- What an end announced of a stream is no more than what was read of it and the window.
-use Rattle.std.proofs.Common.{◌≡◌, ℕ, Bool, true, false, eqb, List, [], ◌∷◌, length, Option, Some, None, Ok, Err, refl, sym, ap, ◌∙◌, subst, inl, arith, ◌+◌, ◌≤◌}
+use Rattle.std.proofs.Common.{◌≡◌, ℕ, Bool, true, false, eqb, Option, Some, None, Ok, Err, refl, sym, subst, inl, arith, ◌+◌, ◌≤◌}
 use Rattle.std.specs.Prelude.{◌==◌, if◌then◌else◌}
 use Rattle.quic_wire.specs.declared.frame.Frame.TheVariants as frames
 use Rattle.quic_receiving.specs.declared.errors.ReadError.TheVariants as read_error
 use Rattle.quic_history.specs.World.{World}
-use Rattle.quic_history.specs.History.{Event, Move, Framed, WasReset, WasRead, WasStopped, WasTold, WasAnnounced, Received, ReceivedReset, Gave, Stopped, ToldReset, LeftPending, Trace, trace, move_of, moved, with_move, with_kept_frame, is_frame_kept, is_closed, joint_move_of}
+use Rattle.quic_history.specs.History.{Event, Move, Framed, WasReset, WasRead, WasStopped, WasTold, WasAnnounced, Received, ReceivedReset, Gave, Stopped, ToldReset, LeftPending, Trace, move_of, moved, with_move, with_kept_frame, is_frame_kept, is_closed}
 use Rattle.quic_history.proofs.Totals.{by_cases, same}
 use Rattle.quic_link.specs.Endpoints.{LinkedEnd, MayAct, acted, came_on}
 use Rattle.quic_link.proofs.Ends.{plain-call}

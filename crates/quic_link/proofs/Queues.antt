@@ -1,6 +1,6 @@
 -- Which streams come into the send queue: those that are written, ended, or of which a frame was lost.
 use Rattle.std.proofs.Common.{◌≡◌, ◌⊎◌, ℕ, ℤ, Bool, true, false, List, [], ◌∷◌, Option, Some, None, Ok, Err, refl, sym, ap, ◌∙◌, inl, inr, arith}
-use Rattle.std.specs.Prelude.{◌==◌, ◌||◌, ◌^◌, ◌<◌, drop, int_lt, is_some, slice_get, nat_lt, if◌then◌else◌}
+use Rattle.std.specs.Prelude.{◌++◌, ◌==◌, ◌||◌, ◌^◌, ◌<◌, drop, int_lt, is_some, slice_get, nat_lt, if◌then◌else◌}
 use Rattle.std.proofs.lemmas.Bool.Decides.{nat_tests}
 use Rattle.quic_values.specs.declared.ids.Dir.{Dir}
 use Rattle.quic_values.specs.declared.ids.Dir.TheVariants.{Bi, Uni}
@@ -21,10 +21,12 @@ use Rattle.quic_history.specs.Writes.{with_queued, WritesOwn}
 use Rattle.quic_history.specs.Acknowledged.{with_send_freed, told_finished, frees_reset}
 use Rattle.quic_history.specs.SendEvents.{SendEvent, SendStep, GaveLimits, RaisedData, RaisedCount, RaisedLimit, StoppedOwn, SetWindow, OpenedOwn, WroteOwn, FinishedOwn, ResetOwn, SetOwnPriority, AckedOwn, LostOwn, ResetAckedOwn, TookTurn, Polled}
 use Rattle.quic_history.specs.History.{Event, Received, ReceivedReset, AddedCredits, Began, Gave, Ended, Stopped, ToldReset, Resized, SetConcurrent, Accepted, LeftPending, Sending, Step, Rejected, SentAgain, joint_move_of}
+use Rattle.quic_history.specs.Early.{begins_anew, own_ids, entry_at, AreUnsentOf, with_entries_put}
 use Rattle.quic_history.proofs.Limits.{firmly, is_of_sending}
 use Rattle.quic_history.proofs.StreamSteps.{Steady, steady-noticed}
 use Rattle.quic_history.proofs.SendFreed.{steady-send-freed}
 use Rattle.quic_history.proofs.SendSteps.{either-way}
+use Rattle.quic_link.specs.Endpoints.{IsOneOf}
 use Rattle.quic_link.proofs.Basics.{either_true, or_left, or_right, same_id}
 
 -- ---- entries
@@ -87,6 +89,23 @@ turn_from q w e n f h = by_next n h
     by_next LetGo k = left_from q w k
     by_next (PutAnew p) k = elim (entry_from q (without_next w) (record { priority = p; id = e.id }) k) [ inl a ↦ left_from q w a | inr b ↦ here b ]
     by_next KeepBack k = elim (either_true (q == e.id) (stands q (without_next w).waiting) k) [ inl a ↦ here (same_id q e.id a) | inr b ↦ left_from q w b ]
+
+-- one that stands there once entries were put stood there before, or is of one of them
+entries_from : (q : ℕ) (w : SendOrder) (es : List Entry) → stands q (line (with_entries_put w es)) ≡ true → (stands q (line w) ≡ true) ⊎ (stands q es ≡ true)
+entries_from q w [] h = inl h
+entries_from q w (e ∷ es) h = elim (entries_from q (with_entry w e) es h) [
+  | inl a ↦ elim (entry_from q w e a) [ inl b ↦ inl b | inr b ↦ inr (or_left (q == e.id) (stands q es) (ap (λ (i : ℕ). i == e.id) b ∙ itself e.id)) ]
+  | inr b ↦ inr (or_right (q == e.id) (stands q es) b)
+]
+
+-- the entries of some streams are of no others
+unsent_from : (o : Outgoing) (q : ℕ) (ids : List ℕ) (es : List Entry) → AreUnsentOf o ids es → stands q es ≡ true → IsOneOf q ids
+unsent_from o q [] es a h = let k = sym (ap (stands q) a) ∙ h in cc
+unsent_from o q (id ∷ ids) es a h = by_queue a.0 (sym (ap (stands q) a.4) ∙ h) (λ k. unsent_from o q ids a.2 a.3 k)
+  where
+    by_queue : (x : Option ℤ) → stands q (entry_at id x ++ a.2) ≡ true → (stands q a.2 ≡ true → IsOneOf q ids) → IsOneOf q (id ∷ ids)
+    by_queue None k later = inr (later k)
+    by_queue (Some p) k later = elim (either_true (q == id) (stands q a.2) k) [ inl b ↦ inl (same_id q id b) | inr b ↦ inr (later b) ]
 
 -- ---- calls
 
@@ -212,8 +231,14 @@ module _ (h : List Event) (u : World) (e : Event) (v : World) where
   firm_queue : u.credit.local_max_data < 2 ^ 64 → is_of_sending e ≡ false → Step u e v → QueuesBy u v None
   firm_queue fits n s = let f = firmly h u e v fits n s in queues_same u v None f.queue
 
--- a call puts no other stream into the queue
-pub queues-step : (h : List Event) (u : World) (e : Event) (v : World) → u.credit.local_max_data < 2 ^ 64 → joint_move_of e ≡ None → Step u e v → QueuesBy u v (queued_id e)
+-- the streams that a call may put into the queue: where all is sent again, those that the end opened
+abbrev pub MayQueue : World → Event → ℕ → Type 0
+MayQueue u (SentAgain (Ok x)) q = IsOneOf q (own_ids u.out)
+MayQueue u e q = queued_id e ≡ Some q
+
+-- it puts no others
+pub queues-step : (h : List Event) (u : World) (e : Event) (v : World) → u.credit.local_max_data < 2 ^ 64 → begins_anew (joint_move_of e) ≡ false → Step u e v → (q : ℕ) → stands q (line v.queue) ≡ true
+    → (stands q (line u.queue) ≡ true) ⊎ MayQueue u e q
 queues-step h u (Sending e) v fits p s = queues_send u e v s
 queues-step h u (Received id offset bytes fin answer) v fits p s = firm_queue h u (Received id offset bytes fin answer) v fits refl s
 queues-step h u (ReceivedReset id code final answer) v fits p s = firm_queue h u (ReceivedReset id code final answer) v fits refl s
@@ -228,5 +253,8 @@ queues-step h u (SetConcurrent dir count answer) v fits p s = firm_queue h u (Se
 queues-step h u (Accepted dir answer) v fits p s = firm_queue h u (Accepted dir answer) v fits refl s
 queues-step h u (LeftPending kind frame) v fits p s = firm_queue h u (LeftPending kind frame) v fits refl s
 queues-step h u Rejected v fits p s = cc
-queues-step h u (SentAgain (Ok x)) v fits p s = cc
+queues-step h u (SentAgain (Ok x)) v fits p s = λ q k. elim (entries_from q u.queue s.1.0 (sym (ap (λ (w : World). stands q (line w.queue)) s.1.2) ∙ k)) [
+  | inl a ↦ inl a
+  | inr b ↦ inr (unsent_from u.out q (own_ids u.out) s.1.0 s.1.1 b)
+]
 queues-step h u (SentAgain (Err x)) v fits p s = queues_same u v None (ap (λ (x : World). x.queue) s.1)

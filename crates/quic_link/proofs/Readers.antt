@@ -12,6 +12,7 @@ use Rattle.quic_history.specs.Halves.{is_among, with_first}
 use Rattle.quic_receiving.specs.declared.errors.ReadError.{ReadError}
 use Rattle.quic_receiving.specs.declared.errors.ReadError.TheVariants as read_error
 use Rattle.quic_history.specs.World.{World, Made, start}
+use Rattle.quic_history.specs.Early.{begins_anew}
 use Rattle.quic_history.specs.History.{Event, Move, Framed, WasReset, WasRead, WasStopped, WasTold, WasAnnounced, ReceivedReset, Began, Gave, Stopped, ToldReset, LeftPending, Step, From, Trace, ReadChunk, HalfFrom, EndsSo, trace, move_of, moved, with_move, with_kept_frame, is_frame_kept, is_closed, joint_move_of}
 use Rattle.quic_history.specs.Reading.{ReadsHalf}
 use Rattle.quic_history.proofs.StreamSteps.{half-from, known-from}
@@ -172,7 +173,7 @@ module _ (m : Made) (h : List Event) (u : World) (f : From m h u) (s : ReadsSo h
   reads_true (LeftPending kind (Some _)) v r = tt
   reads_true _ v r = tt
 
-  pub reads-kept : (e : Event) (v : World) → joint_move_of e ≡ None → Step u e v → From m (e ∷ h) v → ReadsSo (e ∷ h) v
+  pub reads-kept : (e : Event) (v : World) → begins_anew (joint_move_of e) ≡ false → Step u e v → From m (e ∷ h) v → ReadsSo (e ∷ h) v
   reads-kept e v plain r after =
       let k = reads_true e v r in
       let traces : (q : ℕ) → TraceSo (trace (e ∷ h) q) = λ q. rw plain (so_moved u (trace h) (move_of e) q (f.ends q) k (s.traces q)) in

@@ -31,6 +31,7 @@ use Rattle.quic_history.specs.Sends.{with_out, with_opened, told_writable, after
 use Rattle.quic_history.specs.Writes.{with_queued, WritesOwn}
 use Rattle.quic_history.specs.Acknowledged.{with_send_freed, send_released, told_finished, frees_reset, without_sender, without_send_half}
 use Rattle.quic_history.specs.SendEvents.{SendEvent, SendStep, GaveLimits, RaisedData, RaisedCount, RaisedLimit, StoppedOwn, SetWindow, OpenedOwn, WroteOwn, FinishedOwn, ResetOwn, SetOwnPriority, AckedOwn, LostOwn, ResetAckedOwn, TookTurn, Polled}
+use Rattle.quic_history.specs.Early.{begins_anew}
 use Rattle.quic_history.specs.History.{Event, Received, ReceivedReset, AddedCredits, Began, Gave, Ended, Stopped, ToldReset, Resized, SetConcurrent, Accepted, LeftPending, Sending, Step, Rejected, SentAgain, joint_move_of}
 use Rattle.quic_history.proofs.SendSteps.{either-way}
 use Rattle.quic_history.proofs.StreamSteps.{noticed-any}
@@ -241,7 +242,7 @@ is_accepting (Accepted dir answer) = true
 is_accepting _ = false
 
 -- no other call makes one count as accepted
-pub reports-step : (u : World) (e : Event) (v : World) → joint_move_of e ≡ None → is_accepting e ≡ false → Step u e v → reports v ≡ reports u
+pub reports-step : (u : World) (e : Event) (v : World) → begins_anew (joint_move_of e) ≡ false → is_accepting e ≡ false → Step u e v → reports v ≡ reports u
 reports-step u (Received id offset bytes fin answer) v p n s = stays_received u v id offset bytes fin answer s
 reports-step u (ReceivedReset id code final answer) v p n s = stays_reset u v id code final answer s
 reports-step u (AddedCredits count answer) v p n s = ap reports s.0
@@ -266,5 +267,5 @@ reports-step u (Accepted dir answer) v p n s = cc
 reports-step u (LeftPending kind frame) v p n s = stays_settled kind u s.0 frame v s.1 s.2
 reports-step u (Sending e) v p n s = stays_send u e v s
 reports-step u Rejected v p n s = cc
-reports-step u (SentAgain (Ok x)) v p n s = cc
+reports-step u (SentAgain (Ok x)) v p n s = ap reports s.1.2
 reports-step u (SentAgain (Err x)) v p n s = ap reports s.1

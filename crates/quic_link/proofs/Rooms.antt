@@ -16,9 +16,11 @@ use Rattle.quic_history.specs.World.{World, Made}
 use Rattle.quic_history.specs.Flows.{send_moved, with_first_limits, room_on, has_send_side}
 use Rattle.quic_history.specs.SendEvents.{SendEvent, SendStep, GaveLimits, RaisedLimit, StoppedOwn, WroteOwn, FinishedOwn, ResetOwn, AckedOwn, LostOwn, ResetAckedOwn, TookTurn}
 use Rattle.quic_history.specs.History.{Event, Sending, Step, From, flow, send_move_of, limits_in, taken_by, taken_in_all, total_over, opened_in_all, send_tale, write_room, joint_move_of, since}
+use Rattle.quic_history.specs.Early.{begins_anew}
 use Rattle.quic_history.proofs.Totals.{by_cases, same, IsOnce}
 use Rattle.quic_link.proofs.Ends.{ArePlain}
-use Rattle.quic_link.specs.Endpoints.{LinkedEnd, IsHonest, limits_of}
+use Rattle.quic_link.proofs.Unsent.{flow_unsent, flow-called}
+use Rattle.quic_link.specs.Endpoints.{LinkedEnd, IsHonest, limits_of, LimitsWithin}
 use Rattle.quic_link.proofs.Sums.{total-most, total-grows}
 
 -- how many bytes were written on a stream
@@ -121,10 +123,13 @@ room_moved (Some m) there f q k r = by_cases (eqb q m.0)
     room_if _ (f q) (eqb q m.0 && there q) (room_move m.1 (f q) at r) r)
     (λ n. rw n r)
 
--- the limits that are handed in are those of the other end
+-- the limits that are handed in are within those of the other end
 abbrev pub AreLimitsOf : Made → Option PeerLimits → Type 0
 AreLimitsOf m None = Unit {0}
-AreLimitsOf m (Some limits) = limits ≡ limits_of m
+AreLimitsOf m (Some limits) = LimitsWithin limits (limits_of m)
+
+pub within-same : (p : PeerLimits) → LimitsWithin p p
+within-same p = record { of_connection = omega arith; streams_bidi = omega arith; streams_uni = omega arith; of_uni = omega arith; of_bidi_local = omega arith; of_bidi_remote = omega arith }
 
 pub first-is : (m : Made) (side : Side) (q : ℕ) → first_limit side (first_of (limits_of m)) q ≡ m.window
 first-is m side q = by_dir (is_local side q) (dir_of q)
@@ -135,12 +140,21 @@ first-is m side q = by_dir (is_local side q) (dir_of q)
     by_dir false Bi = refl
     by_dir false Uni = refl
 
+-- so no stream begins with more than its window
+pub first-most : (m : Made) (limits : PeerLimits) (side : Side) (q : ℕ) → LimitsWithin limits (limits_of m) → first_limit side (first_of limits) q ≤ m.window
+first-most m limits side q w = by_dir (is_local side q) (dir_of q)
+  where
+    by_dir : (own : Bool) (d : Dir) → first_for own d (first_of limits) ≤ m.window
+    by_dir true Bi = w.of_bidi_remote
+    by_dir true Uni = w.of_uni
+    by_dir false Bi = w.of_bidi_local
+    by_dir false Uni = w.of_uni
+
 room_limits : (m : Made) (l : Option PeerLimits) (side : Side) (q : ℕ) (t : SendFlow) → m.window < 2 ^ 62 → AreLimitsOf m l → RoomSo t → RoomSo (with_first_limits l side q t)
 room_limits m None side q t s a r = r
 room_limits m (Some limits) side q t s a r =
-    let P : PeerLimits → Type 0 = λ p. RoomSo (with_least_limit (first_limit side (first_of p) q) t) in
-    let n = first-is m side q in
-    subst P (sym a) (room_least t (first_limit side (first_of (limits_of m)) q) (omega arith) r)
+    let n = first-most m limits side q a in
+    room_least t (first_limit side (first_of limits) q) (omega arith) r
 
 pub limits-honest : (x y : LinkedEnd) (e : Event) → IsHonest x y e → AreLimitsOf y.made (limits_in e)
 limits-honest x y (Sending (GaveLimits limits)) k = k
@@ -181,8 +195,9 @@ module _ (m : Made) (h : List Event) (u v : World) (f : From m h u) where
   room_any _ s = tt
 
   -- no call goes beyond the limit of a stream
-  pub room-kept : (n : Made) (e : Event) → joint_move_of e ≡ None → Step u e v → n.window < 2 ^ 62 → AreLimitsOf n (limits_in e) → (q : ℕ) → RoomSo (flow m h q) → RoomSo (flow m (e ∷ h) q)
-  room-kept n e plain s small a q r = rw plain (room_limits n (limits_in e) m.side q _ small a (room_moved (send_move_of e) _ (flow m h) q (room_any e s) r))
+  pub room-kept : (n : Made) (e : Event) → begins_anew (joint_move_of e) ≡ false → Step u e v → n.window < 2 ^ 62 → AreLimitsOf n (limits_in e) → (q : ℕ) → RoomSo (flow m h q) → RoomSo (flow m (e ∷ h) q)
+  room-kept n e plain s small a q r = flow-called (λ t. RoomSo t) m e h q plain (λ t k. room_same t (flow_unsent t) refl refl k)
+      (room_limits n (limits_in e) m.side q _ small a (room_moved (send_move_of e) _ (flow m h) q (room_any e s) r))
 
 -- a call writes no more than is counted
 written_counts : (e : Event) → bytes_in_move (send_move_of e) ≤ taken_by e
@@ -206,6 +221,9 @@ written_counts (Sending (TookTurn most fair None)) = omega arith
 written_counts (Sending (TookTurn most fair (Some frame))) = omega arith
 written_counts _ = omega arith
 
+most_self : (n : ℕ) → n ≤ n
+most_self n = omega arith
+
 -- the sum over any streams, each once, is no more than what is counted
 pub sum-written : (m : Made) (h : List Event) (xs : List ℕ) → ArePlain h → IsOnce xs → total_over (λ q. amount (flow m h q)) xs ≤ taken_in_all h
 sum-written m [] xs plain once = none_written xs
@@ -215,7 +233,9 @@ sum-written m [] xs plain once = none_written xs
     none_written (y ∷ ys) = omega (arith, none_written ys)
 sum-written m (e ∷ h) xs plain once =
     let there : ℕ → Bool = has_send_side m.side (opened_in_all (since h)) (send_tale m h).may_open in
+    let moved : ℕ → SendFlow = λ q. with_first_limits (limits_in e) m.side q (send_moved (send_move_of e) there q (flow m h q)) in
     let a = sum_moved (send_move_of e) (limits_in e) m.side there (flow m h) xs once in
     let b = written_counts e in
     let c = sum-written m h xs plain.1 once in
-    rw plain.0 (omega arith)
+    let d = total-most (λ q. amount (moved q)) (λ q. amount (flow m (e ∷ h) q)) xs (λ q. flow-called (λ t. amount t ≤ amount (moved q)) m e h q plain.0 (λ t l. l) (most_self (amount (moved q)))) in
+    omega arith

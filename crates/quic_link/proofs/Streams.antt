@@ -10,20 +10,22 @@ use Rattle.quic_sending.specs.Buffer.{total_length}
 use Rattle.quic_sending.proofs.Pieces.{total-append}
 use Rattle.quic_receiving.specs.Data.{Carries}
 use Rattle.quic_receiving.specs.declared.errors.ReadError.TheVariants as read_error
-use Rattle.quic_flows.specs.Flow.{SendMove, WasWritten, WasFinished, WasGivenUp, WasAskedToStop, WasPermitted, WasCarried, WasAcked, WasLost, WasResetAcked, SendFlow, takes_data, with_least_limit, with_send_move}
+use Rattle.quic_flows.specs.Flow.{SendMove, WasWritten, WasFinished, WasGivenUp, WasAskedToStop, WasPermitted, WasCarried, WasAcked, WasLost, WasResetAcked, SendFlow, takes_data, with_send_move}
 use Rattle.quic_outgoing.specs.declared.limits.PeerLimits.{PeerLimits}
 use Rattle.quic_outgoing.specs.Outgoing.{first_of}
 use Rattle.quic_outgoing.specs.Senders.{first_limit}
 use Rattle.quic_history.specs.World.{World, Made}
 use Rattle.quic_history.specs.Flows.{send_moved, with_first_limits, has_send_side}
 use Rattle.quic_history.specs.SendEvents.{RaisedLimit, StoppedOwn, WroteOwn, FinishedOwn, ResetOwn, AckedOwn, LostOwn, ResetAckedOwn, TookTurn}
+use Rattle.quic_history.specs.Early.{begins_anew}
 use Rattle.quic_history.specs.History.{Event, Move, Framed, WasReset, WasRead, WasStopped, WasTold, WasAnnounced, Received, ReceivedReset, Stopped, ToldReset, LeftPending, Sending, Trace, untouched, move_of, moved, with_move, with_kept_frame, with_reset, is_frame_kept, is_closed, send_move_of, limits_in, opened_in_all, send_tale, joint_move_of, since}
 use Rattle.quic_history.proofs.Totals.{by_cases, same}
 use Rattle.quic_link.proofs.Ends.{plain-call}
-use Rattle.quic_link.specs.Endpoints.{LinkedEnd, acted, sent_on, came_on, IsHonest, limits_of}
+use Rattle.quic_link.proofs.Unsent.{flow-called}
+use Rattle.quic_link.specs.Endpoints.{LinkedEnd, acted, sent_on, came_on, IsHonest}
 use Rattle.quic_link.specs.Truths.{AreBytesOf}
 use Rattle.quic_link.proofs.Growth.{Grows, still-closed}
-use Rattle.quic_link.proofs.Rooms.{amount, AreLimitsOf, first-is}
+use Rattle.quic_link.proofs.Rooms.{amount, AreLimitsOf, first-most}
 use Rattle.quic_link.proofs.Texts.{byte-more}
 use Rattle.quic_link.proofs.TrueFrames.{AllTrue, announced-grows}
 use Rattle.quic_link.proofs.Basics.{either_true, ended_closed, or_left}
@@ -216,10 +218,9 @@ limit_moved window (Some m) there f t q k l = by_cases (eqb q m.0)
 limit_first : (m : Made) (l : Option PeerLimits) (side : Side) (q : ℕ) (f : SendFlow) (t : Trace) → AreLimitsOf m l → LimitSo m.window f t → LimitSo m.window (with_first_limits l side q f) t
 limit_first m None side q f t a k = k
 limit_first m (Some limits) side q f t a k =
-    let P : PeerLimits → Type 0 = λ p. LimitSo m.window (with_least_limit (first_limit side (first_of p) q) f) t in
-    let n = first-is m side q in
-    let x : max f.limit (first_limit side (first_of (limits_of m)) q) ≤ max m.window t.announced = omega arith in
-    subst P (sym a) x
+    let n = first-most m limits side q a in
+    let x : max f.limit (first_limit side (first_of limits) q) ≤ max m.window t.announced = omega arith in
+    x
 
 limit_true : (x y : LinkedEnd) (e : Event) → AllTrue y → IsHonest x y e → TrueLimit (came_on y) (send_move_of e)
 limit_true x y (Sending (RaisedLimit id limit (Ok u))) t k = (t (frames.MaxStreamData id limit) k).0
@@ -245,10 +246,10 @@ limit_true x y _ t k = tt
 -- the end that sends was called
 pub limits-sent : (x y : LinkedEnd) (e : Event) (v : World) → AllTrue y → IsHonest x y e → AreLimitsOf y.made (limits_in e) → ((q : ℕ) → LimitSo y.made.window (sent_on x q) (came_on y q))
     → (q : ℕ) → LimitSo y.made.window (sent_on (acted x e v) q) (came_on y q)
-limits-sent x y e v t k a l q = rw (plain-call x y e k) (
+limits-sent x y e v t k a l q = flow-called (λ f. LimitSo y.made.window f (came_on y q)) x.made e x.calls q (plain-call x y e k) (λ f l. l) (
     limit_first y.made (limits_in e) x.made.side q _ (came_on y q) a
     (limit_moved y.made.window (send_move_of e) (has_send_side x.made.side (opened_in_all (since x.calls)) (send_tale x.made x.calls).may_open) (sent_on x) (came_on y) q (limit_true x y e t k) (l q)))
 
 -- the end that receives was
-pub limits-came : (x y : LinkedEnd) (e : Event) (v : World) → joint_move_of e ≡ None → ((q : ℕ) → LimitSo y.made.window (sent_on x q) (came_on y q)) → (q : ℕ) → LimitSo y.made.window (sent_on x q) (came_on (acted y e v) q)
+pub limits-came : (x y : LinkedEnd) (e : Event) (v : World) → begins_anew (joint_move_of e) ≡ false → ((q : ℕ) → LimitSo y.made.window (sent_on x q) (came_on y q)) → (q : ℕ) → LimitSo y.made.window (sent_on x q) (came_on (acted y e v) q)
 limits-came x y e v plain l q = let a = announced-grows e y.calls plain q in let b = l q in omega arith

@@ -21,6 +21,7 @@ use Rattle.quic_history.specs.declared.control.ControlKind.TheVariants as kinds
 use Rattle.quic_history.specs.Control.{SettlesEntry, reset_frame, window_frame, stream_blocked_frame}
 use Rattle.quic_history.specs.Carrying.{CarriesFrame}
 use Rattle.quic_history.specs.SendEvents.{TookTurn}
+use Rattle.quic_history.specs.Early.{begins_anew}
 use Rattle.quic_history.specs.History.{Event, Move, Framed, WasReset, WasRead, WasStopped, WasTold, WasAnnounced, LeftPending, Sending, Step, From, Trace, trace, move_of, moved, with_move, with_kept_frame, is_frame_kept, is_closed, is_freed, before, counts, joint_move_of, StreamFrom, flow, send_move_of, limits_in}
 use Rattle.quic_history.specs.World.{id_refusal}
 use Rattle.quic_history.specs.Flows.{send_moved, with_first_limits}
@@ -36,6 +37,7 @@ use Rattle.quic_history.proofs.Traces.{itself}
 use Rattle.quic_link.specs.Endpoints.{LinkedEnd, IsOneOf, MayAct, acted, written_by, written_on, sent_on, WasAskedFor}
 use Rattle.quic_link.specs.Truths.{IsFrameTrue, amount_on}
 use Rattle.quic_link.proofs.Ends.{Comes, plain-call}
+use Rattle.quic_link.proofs.Unsent.{flow-called}
 use Rattle.quic_link.proofs.Growth.{Grows, grows, held-told}
 use Rattle.quic_link.proofs.Texts.{cuts-more, bytes-between, length-between}
 use Rattle.quic_link.proofs.Basics.{both, either-of, only, permits_now, same_id, some_same}
@@ -85,7 +87,7 @@ read_moved None q t = omega arith
 read_moved (Some m) q t = read_if t (with_move m.1 t) t (q == m.0) (read_move m.1 t) (omega arith)
 
 -- reads take nothing back
-read-grows : (e : Event) (h : List Event) → joint_move_of e ≡ None → (q : ℕ) → (trace h q).read ≤ (trace (e ∷ h) q).read
+read-grows : (e : Event) (h : List Event) → begins_anew (joint_move_of e) ≡ false → (q : ℕ) → (trace h q).read ≤ (trace (e ∷ h) q).read
 read-grows e h plain q = rw plain (read_moved (move_of e) q (trace h q))
 
 permitted_if : (t a b : SendFlow) (k : Bool) → t.limit ≤ a.limit → t.limit ≤ b.limit → t.limit ≤ (if k then a else b).limit
@@ -114,11 +116,11 @@ permitted_first None side q t k g = g
 permitted_first (Some limits) side q t k g = omega arith
 
 -- nor does the limit that the peer gave for a stream fall
-permitted-grows : (m : Made) (e : Event) (h : List Event) → joint_move_of e ≡ None → (q : ℕ) → (flow m h q).limit ≤ (flow m (e ∷ h) q).limit
-permitted-grows m e h plain q = rw plain (permitted_first (limits_in e) m.side q (flow m h q) _ (permitted_moved (send_move_of e) _ q (flow m h q)))
+permitted-grows : (m : Made) (e : Event) (h : List Event) → begins_anew (joint_move_of e) ≡ false → (q : ℕ) → (flow m h q).limit ≤ (flow m (e ∷ h) q).limit
+permitted-grows m e h plain q = flow-called (λ t. (flow m h q).limit ≤ t.limit) m e h q plain (λ t l. l) (permitted_first (limits_in e) m.side q (flow m h q) _ (permitted_moved (send_move_of e) _ q (flow m h q)))
 
 -- the limit of a stream that was announced does not fall
-pub announced-grows : (e : Event) (h : List Event) → joint_move_of e ≡ None → (q : ℕ) → (trace h q).announced ≤ (trace (e ∷ h) q).announced
+pub announced-grows : (e : Event) (h : List Event) → begins_anew (joint_move_of e) ≡ false → (q : ℕ) → (trace h q).announced ≤ (trace (e ∷ h) q).announced
 announced-grows e h plain q = rw plain (announced_moved (move_of e) q (trace h q))
 
 module _ (m : Made) (h : List Event) (u : World) (f : From m h u) (e : Event) (v : World) (s : Step u e v) where

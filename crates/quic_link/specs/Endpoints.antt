@@ -1,5 +1,5 @@
 -- Two ends of a connection and the network between them: what each may do, by what the other wrote and answered.
-use Rattle.std.specs.Prelude.{ℕ, Bool, ◌≡◌, ◌<◌, ◌+◌, ◌^◌, ◌⊎◌, if◌then◌else◌, List, [], ◌∷◌, ◌++◌, length, Some, Ok}
+use Rattle.std.specs.Prelude.{ℕ, Bool, ◌≡◌, ◌<◌, ◌≤◌, ◌+◌, ◌^◌, ◌⊎◌, if◌then◌else◌, List, [], ◌∷◌, ◌++◌, length, Some, Ok}
 use Rattle.std.specs.List.{concat}
 use Rattle.std.specs.declared.ops.Range.{Range}
 use Rattle.quic_values.specs.declared.ids.Dir.{Dir}
@@ -13,7 +13,7 @@ use Rattle.quic_outgoing.specs.Outgoing.{own_of}
 use Rattle.quic_writing.specs.Appended.{frame_with}
 use Rattle.quic_history.specs.World.{World, Made, is_own, remote_of}
 use Rattle.quic_history.specs.SendEvents.{SendEvent, GaveLimits, RaisedData, RaisedCount, RaisedLimit, StoppedOwn, OpenedOwn, WroteOwn, FinishedOwn, AckedOwn, LostOwn, TookTurn}
-use Rattle.quic_history.specs.History.{Event, Received, ReceivedReset, Stopped, Accepted, LeftPending, Sending, Rejected, SentAgain, Step, Fits, IsStart, Trace, trace, flow}
+use Rattle.quic_history.specs.History.{Event, Received, ReceivedReset, Stopped, Accepted, LeftPending, Sending, Rejected, Step, Fits, IsStart, Trace, trace, flow}
 
 -- made: what the end was made with
 -- calls: the calls on it with their answers, the newest first
@@ -91,10 +91,20 @@ limits_of m = record {
   initial_max_stream_data_bidi_remote = m.window;
 }
 
--- what end x is told on its sending side comes from end y: its limits, frames that it wrote, a frame that it accepted.
--- A frame that was lost was written. A write takes bytes, and an end is taken, of streams that the application was given
+-- no limit is above that of others
+pub record LimitsWithin (limits most : PeerLimits) : Type 0 where
+  pub of_connection : limits.initial_max_data ≤ most.initial_max_data
+  pub streams_bidi : limits.initial_max_streams_bidi ≤ most.initial_max_streams_bidi
+  pub streams_uni : limits.initial_max_streams_uni ≤ most.initial_max_streams_uni
+  pub of_uni : limits.initial_max_stream_data_uni ≤ most.initial_max_stream_data_uni
+  pub of_bidi_local : limits.initial_max_stream_data_bidi_local ≤ most.initial_max_stream_data_bidi_local
+  pub of_bidi_remote : limits.initial_max_stream_data_bidi_remote ≤ most.initial_max_stream_data_bidi_remote
+
+-- what end x is told on its sending side comes from end y: limits within those of y, as a client remembers them of an
+-- earlier connection (RFC 9000 section 7.4.1), frames that y wrote, a frame that it accepted. A frame that was lost was
+-- written. A write takes bytes, and an end is taken, of streams that the application was given
 abbrev pub IsHonestSending : LinkedEnd → LinkedEnd → SendEvent → Type 0
-IsHonestSending x y (GaveLimits limits) = limits ≡ limits_of y.made
+IsHonestSending x y (GaveLimits limits) = LimitsWithin limits (limits_of y.made)
 IsHonestSending x y (RaisedData limit) = IsOneOf (frames.MaxData limit) y.wrote
 IsHonestSending x y (RaisedCount dir count answer) = IsOneOf (frames.MaxStreams dir count) y.wrote
 IsHonestSending x y (RaisedLimit id limit answer) = IsOneOf (frames.MaxStreamData id limit) y.wrote
@@ -105,14 +115,14 @@ IsHonestSending x y (AckedOwn id offsets fin answer) = WasAccepted y.calls id of
 IsHonestSending x y (LostOwn id offsets fin answer) = WasWrittenAs x.wrote id offsets fin
 IsHonestSending x y _ = Unit {0}
 
--- what end x is told comes from end y, and nothing is sent early
+-- what end x is told comes from end y. All that it sent early may be sent again; an early start that is rejected is not
+-- among these calls
 abbrev pub IsHonest : LinkedEnd → LinkedEnd → Event → Type 0
 IsHonest x y (Received id offset bytes fin answer) = IsOneOf (frames.Stream (record { id = id; offset = offset; fin = fin; bytes = bytes })) y.wrote
 IsHonest x y (ReceivedReset id code final answer) = IsOneOf (frames.ResetStream (record { id = id; error_code = code; final_offset = final })) y.wrote
 IsHonest x y (LeftPending kind (Some frame)) = WasAskedFor x frame
 IsHonest x y (Sending e) = IsHonestSending x y e
 IsHonest x y Rejected = ⊥
-IsHonest x y (SentAgain answer) = ⊥
 IsHonest x y _ = Unit {0}
 
 -- end x may be called so, with end y beside it, and have the value v then

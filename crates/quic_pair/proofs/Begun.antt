@@ -9,6 +9,7 @@ use Rattle.quic_history.specs.SendEvents.{GaveLimits}
 use Rattle.quic_history.specs.History.{Sending, IsStart}
 use Rattle.quic_link.specs.Endpoints.{LinkedEnd, Linked, begun, first_acts, second_acts, acted, limits_of}
 use Rattle.quic_link.proofs.AskedFor.{asked-nothing}
+use Rattle.quic_link.proofs.Rooms.{within-same}
 use Rattle.quic_steps.specs.declared.steps.Config.{Config}
 use Rattle.quic_steps.specs.declared.steps.End.{End}
 use Rattle.quic_steps.specs.declared.steps.End.TheVariants.{A, B}
@@ -29,8 +30,8 @@ made_beside m n = acted (made_alone m) (Sending (GaveLimits (limits_of n))) (wit
 linked-begun : (m n : Made) → IsStart m (start m) → IsStart n (start n) → m.window < 2 ^ 62 → n.window < 2 ^ 62 → n.side ≡ other_side m.side → Linked (made_beside m n) (made_beside n m)
 linked-begun m n s t small_m small_n sides =
     let first : Linked (made_alone m) (made_alone n) = begun (record { start = s; calls = refl; wrote = refl; small = small_m }) (record { start = t; calls = refl; wrote = refl; small = small_n }) sides in
-    let second : Linked (made_beside m n) (made_alone n) = first_acts (Sending (GaveLimits (limits_of n))) _ first (record { fits = tt; honest = refl; step = refl }) in
-    second_acts (Sending (GaveLimits (limits_of m))) _ second (record { fits = tt; honest = refl; step = refl })
+    let second : Linked (made_beside m n) (made_alone n) = first_acts (Sending (GaveLimits (limits_of n))) _ first (record { fits = tt; honest = within-same (limits_of n); step = refl }) in
+    second_acts (Sending (GaveLimits (limits_of m))) _ second (record { fits = tt; honest = within-same (limits_of m); step = refl })
 
 knows-nothing : (who : End) (m n : Made) → Knows nothing_yet [] who (made_beside m n) (made_beside n m)
 knows-nothing who m n = record {

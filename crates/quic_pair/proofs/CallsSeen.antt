@@ -10,6 +10,7 @@ use Rattle.quic_history.specs.History.{Event, Received, ReceivedReset, Began, St
 use Rattle.quic_link.specs.Endpoints.{LinkedEnd, MayAct, acted, IsOneOf, sent_on, came_on}
 use Rattle.quic_link.specs.Asked.{AreAsked}
 use Rattle.quic_link.proofs.Ends.{plain-call}
+use Rattle.quic_link.proofs.Unsent.{flow-called}
 use Rattle.quic_endpoint.specs.Ends.{EndState}
 use Rattle.quic_steps.specs.declared.steps.End.{End}
 use Rattle.quic_steps.specs.declared.steps.End.TheVariants.{A, B}
@@ -165,9 +166,10 @@ quiet-accepts x e v w = hears-call x e v (no_frame e w)
 -- a call that moves nothing on a sending side
 pub sends-same : (x y : LinkedEnd) (e : Event) (v : World) → MayAct x y e v → send_move_of e ≡ None → limits_in e ≡ None → (q : ℕ) → SendsSame x (acted x e v) q
 sends-same x y e v a m l q =
-    let plain = plain-call x y e a.honest in
-    let k : sent_on (acted x e v) q ≡ sent_on x q = rw (plain, m, l) refl in
-    record { written = ap (λ (t : SendFlow). concat t.cuts) k; finished = ap (λ (t : SendFlow). t.finished) k; reset = ap (λ (t : SendFlow). t.reset) k }
+    let f = sent_on x q in
+    let P : SendFlow → Type 0 = λ t. (t.cuts ≡ f.cuts) × (t.finished ≡ f.finished) × (t.reset ≡ f.reset) in
+    let k : P (sent_on (acted x e v) q) = flow-called P x.made e x.calls q (plain-call x y e a.honest) (λ t p. p) (rw (m, l) (refl, refl, refl)) in
+    record { written = ap concat k.0; finished = k.1; reset = k.2 }
 
 -- and one that moves nothing on a receiving side
 pub reads-same : (x y : LinkedEnd) (e : Event) (v : World) → MayAct x y e v → move_of e ≡ None → IsQuiet e → (q : ℕ) → ReadsSame x (acted x e v) q

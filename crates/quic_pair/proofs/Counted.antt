@@ -11,6 +11,7 @@ use Rattle.quic_outgoing.specs.Senders.{is_local}
 use Rattle.quic_history.specs.World.{World, Made}
 use Rattle.quic_history.specs.Flows.{has_send_side, has_side_in, is_answered_on, send_moved}
 use Rattle.quic_history.specs.History.{Event, Step, Fits, From, flow, since, send_tale, moved_streams, taken_in_all, taken_by, greatest_limit, limit_by, last_send_window, send_window_in, opened_in_all, opens_by, greatest_count, count_by, send_move_of, limits_in, joint_move_of, with_stream}
+use Rattle.quic_history.specs.Early.{begins_anew}
 use Rattle.quic_history.proofs.Histories.{next}
 use Rattle.quic_history.proofs.SendSides.{held-side}
 use Rattle.quic_history.proofs.FlowHistory.{known-by}
@@ -68,7 +69,7 @@ tells-untold m h e t u k = record {
 }
 
 pub counted-untold : (m : Made) (w v : World) (t : Tale) (e : Event) → IsUntold e → ((h : List Event) → Fits h e) → Counted m w t → Step w e v → Counted m v t
-counted-untold m w v t e u fits c s = record { calls = e ∷ c.calls; from = next m c.calls w e v (fits c.calls) c.from s; plain = (u.joint, c.plain); tells = tells-untold m c.calls e t u c.tells }
+counted-untold m w v t e u fits c s = record { calls = e ∷ c.calls; from = next m c.calls w e v (fits c.calls) c.from s; plain = (ap begins_anew u.joint, c.plain); tells = tells-untold m c.calls e t u c.tells }
 
 -- ---- calls that do something on the sending side of a stream
 
@@ -120,7 +121,7 @@ pub counted-taken : (m : Made) (w v : World) (t : Tale) (e : Event) (id : ℕ) (
 counted-taken m w v t e id move count d fits there c s = record {
   calls = e ∷ c.calls;
   from = next m c.calls w e v (fits c.calls) c.from s;
-  plain = (d.joint, c.plain);
+  plain = (ap begins_anew d.joint, c.plain);
   tells = tells-deed m c.calls e t id move count d (sides-known c id there) c.tells;
 }
 
@@ -147,7 +148,7 @@ pub by-counted : {m : Made} {w : World} {t : Tale} (c : Counted m w t) → Count
 by-counted c = record { from = c.from; plain = c.plain; tells = c.tells }
 
 pub by-untold : (m : Made) (h : List Event) (w v : World) (t : Tale) (e : Event) → IsUntold e → Fits h e → CountedBy m h w t → Step w e v → CountedBy m (e ∷ h) v t
-by-untold m h w v t e u fits c s = record { from = next m h w e v fits c.from s; plain = (u.joint, c.plain); tells = tells-untold m h e t u c.tells }
+by-untold m h w v t e u fits c s = record { from = next m h w e v fits c.from s; plain = (ap begins_anew u.joint, c.plain); tells = tells-untold m h e t u c.tells }
 
 pub counted-at : {m : Made} {w : World} {t : Tale} (v : World) → v ≡ w → Counted m w t → Counted m v t
 counted-at {m} {w} {t} v e c = let P : World → Type 0 = λ u. Counted m u t in subst P (sym e) c
@@ -170,7 +171,7 @@ sides-stay m h e id p k =
 pub by-deed : (m : Made) (h : List Event) (w v : World) (t : Tale) (e : Event) (id : ℕ) (move : SendMove) → IsDeed e id move 0 → Fits h e → sides_told m h id ≡ true → CountedBy m h w t → Step w e v → CountedBy m (e ∷ h) v (with_deed id move t)
 by-deed m h w v t e id move d fits there c s =
     let P : ℕ → Type 0 = λ n. CountedBy m (e ∷ h) v (record (with_deed id move t) { written = n }) in
-    subst P (none_more t.written) (record { from = next m h w e v fits c.from s; plain = (d.joint, c.plain); tells = tells-deed m h e t id move 0 d there c.tells })
+    subst P (none_more t.written) (record { from = next m h w e v fits c.from s; plain = (ap begins_anew d.joint, c.plain); tells = tells-deed m h e t id move 0 d there c.tells })
 
 pub by-at : {m : Made} {h : List Event} {w : World} {t : Tale} (v : World) → v ≡ w → CountedBy m h w t → CountedBy m h v t
 by-at {m} {h} {w} {t} v e c = let P : World → Type 0 = λ u. CountedBy m h u t in subst P (sym e) c

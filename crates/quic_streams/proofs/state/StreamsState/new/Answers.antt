@@ -1,7 +1,7 @@
 use Rattle.std.proofs.Common.{rules, ◌≡◌, ◌<◌, ◌^◌, false}
 use Rattle.quic_history.specs.World.{World, start, made_with}
 use Rattle.quic_streams.specs.Shown.{streams_view}
-use Rattle.quic_history.proofs.Beginnings.{begins}
+use Rattle.quic_history.proofs.Beginnings.{begins, start-with}
 use Rattle.quic_streams.proofs.state.StreamsState.new.Goals as goal
 
 pub returns-clause-from : goal.returns-clause-from
@@ -12,4 +12,5 @@ returns-clause-from c =
     let w : World = start m in
     let is : v ≡ w = search rules in
     let small : c.args.receive_window < 2 ^ 62 = search rules in
-    begins m v c.requires.uni c.requires.bi small is
+    let s = start-with c.args.side c.args.max_remote_uni c.args.max_remote_bi c.args.send_window c.args.receive_window c.args.stream_window c.requires.uni c.requires.bi small in
+    begins m v (record { uni = s.uni; bi = s.bi; credit = s.credit; is = is })
