@@ -11,7 +11,7 @@ ROOT = os.path.dirname(os.path.dirname(os.path.abspath(__file__)))
 WIDTH, BOX, BEND, HEIGHT, ROW, TOP, LEGEND = 1060, 150, 16, 30, 74, 84, 960
 # What a crate is part of, by the words of its name; programs are those that nothing stands on.
 PARTS = [
-    ("receive side", "#56b4e9", ("quic_assembler", "quic_ordered", "quic_receiving", "block_map")),
+    ("receive side", "#56b4e9", ("quic_assembler", "quic_ordered", "quic_receiving")),
     ("send side", "#e69f00", ("quic_sending", "quic_queue", "quic_outgoing", "quic_writing", "quic_flows", "quic_retransmits")),
     ("one end", "#009e73", ("quic_history", "quic_streams", "quic_endpoint", "quic_session")),
     ("two ends", "#cc79a7", ("quic_link", "quic_pair", "quic_steps")),
