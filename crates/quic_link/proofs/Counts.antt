@@ -10,7 +10,7 @@ use Rattle.quic_outgoing.specs.declared.limits.PeerLimits.{PeerLimits}
 use Rattle.quic_outgoing.specs.History.{count_in, given_for}
 use Rattle.quic_outgoing.specs.Senders.{is_local}
 use Rattle.quic_outgoing.specs.Outgoing.{own_of}
-use Rattle.quic_history.specs.World.{World, Made, count_of, remote_of}
+use Rattle.quic_history.specs.World.{World, Made, start, remote_of}
 use Rattle.quic_history.specs.SendEvents.{GaveLimits, RaisedData, RaisedCount, RaisedLimit, StoppedOwn, WroteOwn, FinishedOwn, LostOwn}
 use Rattle.quic_history.specs.Early.{first_ids, own_ids}
 use Rattle.quic_history.specs.History.{Event, Received, ReceivedReset, Sending, SentAgain, opened_in_all, count_by, greatest_limit, limit_by}
@@ -109,7 +109,7 @@ met_after x y v (Some id) side other m k l d = elim (m d) [
 
 -- ---- counts of streams
 
-count_most : (m : Made) (limits : PeerLimits) (d : Dir) → LimitsWithin limits (limits_of m) → count_in limits d ≤ count_of m d
+count_most : (m : Made) (limits : PeerLimits) (d : Dir) → LimitsWithin limits (limits_of m) → count_in limits d ≤ (remote_of (start m) d).max_remote
 count_most m limits Bi w = w.streams_bidi
 count_most m limits Uni w = w.streams_uni
 
@@ -119,7 +119,7 @@ given_most Bi Uni n most l = omega arith
 given_most Uni Bi n most l = omega arith
 given_most Uni Uni n most l = l
 
-count_true : (x y : LinkedEnd) (e : Event) → AllTrue y → ((d : Dir) → count_of y.made d ≤ (remote_of y.world d).max_remote) → IsHonest x y e → (d : Dir) → count_by e d ≤ (remote_of y.world d).max_remote
+count_true : (x y : LinkedEnd) (e : Event) → AllTrue y → ((d : Dir) → (remote_of (start y.made) d).max_remote ≤ (remote_of y.world d).max_remote) → IsHonest x y e → (d : Dir) → count_by e d ≤ (remote_of y.world d).max_remote
 count_true x y (Sending (GaveLimits limits)) t base k d =
     let a = count_most y.made limits d k in
     let b = base d in
@@ -132,12 +132,12 @@ count_true x y _ t base k d = omega arith
 
 -- ---- the limit of the connection
 
--- no higher limit is held than is enforced, which is at least the first window
+-- no higher limit is held than is enforced, which is at least the first one
 pub record DataSo (x y : LinkedEnd) : Type 0 where
   pub limit : greatest_limit x.calls ≤ y.world.credit.local_max_data
-  pub base : x.made.receive_window ≤ x.world.credit.local_max_data
+  pub base : x.made.credit.local_max_data ≤ x.world.credit.local_max_data
 
-limit_true : (x y : LinkedEnd) (e : Event) → AllTrue y → y.made.receive_window ≤ y.world.credit.local_max_data → IsHonest x y e → limit_by e ≤ y.world.credit.local_max_data
+limit_true : (x y : LinkedEnd) (e : Event) → AllTrue y → y.made.credit.local_max_data ≤ y.world.credit.local_max_data → IsHonest x y e → limit_by e ≤ y.world.credit.local_max_data
 limit_true x y (Sending (GaveLimits limits)) t base k = let a = k.of_connection in omega arith
 limit_true x y (Sending (RaisedData limit)) t base k = t (frames.MaxData limit) k
 limit_true x y _ t base k = omega arith

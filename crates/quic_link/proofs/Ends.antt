@@ -32,7 +32,7 @@ pub record Comes (x : LinkedEnd) : Type 0 where
   pub plain : ArePlain x.calls
   pub side : x.world.out.side ≡ x.made.side
   pub window : x.world.window ≡ x.made.window
-  pub facts : Facts x.made.receive_window x.calls x.world
+  pub facts : Facts x.made.credit x.calls x.world
   pub given : (q : ℕ) → GivenSo (trace x.calls q)
   pub ends : (q : ℕ) → EndsSo (trace x.calls q)
   pub tells : TellsEnds x.calls x.world
@@ -67,10 +67,9 @@ turned (second_acts e v l a) = first_acts e v (turned l) a
 
 pub comes-new : (x : LinkedEnd) → IsNewEnd x → Comes x
 comes-new x n =
-    let s = n.start in
     let P : List Event → Type 0 = λ h. From x.made h x.world in
     let Q : List Event → Type 0 = λ h. ArePlain h in
-    comes-from x (subst P (sym n.calls) (begins x.made x.world s.few_uni s.few_bi s.small s.is)) (subst Q (sym n.calls) tt)
+    comes-from x (subst P (sym n.calls) (begins x.made x.world n.start)) (subst Q (sym n.calls) tt)
 
 pub comes-acted : (x y : LinkedEnd) (e : Event) (v : World) → Comes x → MayAct x y e v → Comes (acted x e v)
 comes-acted x y e v f a = comes-from (acted x e v) (next x.made x.calls x.world e v a.fits f.from a.step) (plain-call x y e a.honest, f.plain)

@@ -3,8 +3,8 @@ use Rattle.std.proofs.Common.{◌≡◌, ℕ, [], refl, sym, ap, ◌∙◌, subs
 use Rattle.quic_values.specs.declared.ids.Dir.{Dir}
 use Rattle.quic_values.specs.declared.ids.Dir.TheVariants.{Bi, Uni}
 use Rattle.quic_values.specs.Ids.{other_side}
-use Rattle.quic_history.specs.World.{World, Made, start, count_of, remote_of}
-use Rattle.quic_history.specs.History.{Event, move_of}
+use Rattle.quic_history.specs.World.{World, Made, start, remote_of}
+use Rattle.quic_history.specs.History.{Event, IsStart, move_of}
 use Rattle.quic_link.specs.Endpoints.{LinkedEnd, MayAct, acted, IsNewEnd, Linked, begun, first_acts, second_acts, sent_on, came_on}
 use Rattle.quic_link.proofs.Ends.{Comes, comes-new, comes-acted, plain-call}
 use Rattle.quic_link.proofs.Growth.{grows}
@@ -54,27 +54,23 @@ is_new x n =
     ∙ ap (λ w. record { made = x.made; calls = []; world = x.world; wrote = w }) n.wrote
     ∙ ap (λ w. record { made = x.made; calls = []; world = w; wrote = [] }) n.start.is
 
-new_ids : (m n : Made) → IdsSo (new_end m) (new_end n)
-new_ids m n = record { frames_open = λ g h. absurd h; queue = λ q h. cc; met = met; counts = λ d. omega arith; base = base }
+new_ids : (m n : Made) → IsStart m (start m) → IdsSo (new_end m) (new_end n)
+new_ids m n s = record { frames_open = λ g h. absurd h; queue = λ q h. cc; met = met; counts = λ d. omega arith; base = λ d. omega arith }
   where
     met : (d : Dir) → next_of_dir (nexts (start m)) d ≤ 0
-    met Bi = omega arith
-    met Uni = omega arith
+    met Bi = let e = s.bi.next in omega arith
+    met Uni = let e = s.uni.next in omega arith
 
-    base : (d : Dir) → count_of m d ≤ (remote_of (start m) d).max_remote
-    base Bi = omega arith
-    base Uni = omega arith
-
-agrees_new : (m n : Made) → Comes (new_end m) → m.uni ≤ 2 ^ 60 → m.bi ≤ 2 ^ 60 → m.window < 2 ^ 62 → n.side ≡ other_side m.side → Agrees (new_end m) (new_end n)
-agrees_new m n f few_uni few_bi small other = record {
+agrees_new : (m n : Made) → Comes (new_end m) → IsStart m (start m) → m.window < 2 ^ 62 → n.side ≡ other_side m.side → Agrees (new_end m) (new_end n)
+agrees_new m n f s small other = record {
   comes = f;
   small = small;
   few = few;
   other = other;
   truth = λ g h. absurd h;
   asked = λ g h. absurd h;
-  given = given-new (new_end m) f refl refl;
-  ids = new_ids m n;
+  given = given-new (new_end m) f refl (ap (λ (n : ℕ). (n, m.uni.next_reported)) s.bi.reported ∙ ap (λ (n : ℕ). (0, n)) s.uni.reported);
+  ids = new_ids m n s;
   credit = record { limit = omega arith; base = omega arith };
   reads = reads-new m;
   keeps = kept-new;
@@ -87,8 +83,12 @@ agrees_new m n f few_uni few_bi small other = record {
 }
   where
     few : (d : Dir) → (remote_of (start m) d).max_remote ≤ 2 ^ 60
-    few Bi = omega arith
-    few Uni = omega arith
+    few Bi = s.bi.few
+    few Uni = s.uni.few
+
+-- an end that may have begun so may begin so
+begun_at : (m : Made) (v : World) → IsStart m v → IsStart m (start m)
+begun_at m v s = let P : World → Type 0 = λ w. IsStart m w in subst P s.is s
 
 agrees_begun : (x y : LinkedEnd) → IsNewEnd x → IsNewEnd y → y.made.side ≡ other_side x.made.side → Agrees x y
 agrees_begun x y a b other =
@@ -97,7 +97,7 @@ agrees_begun x y a b other =
     let P : LinkedEnd → Type 0 = λ z. Agrees z y in
     let Q : LinkedEnd → Type 0 = λ z. Agrees (new_end x.made) z in
     let R : LinkedEnd → Type 0 = λ z. Comes z in
-    subst P (sym e) (subst Q (sym k) (agrees_new x.made y.made (subst R e (comes-new x a)) a.start.few_uni a.start.few_bi a.small other))
+    subst P (sym e) (subst Q (sym k) (agrees_new x.made y.made (subst R e (comes-new x a)) (begun_at x.made x.world a.start) a.small other))
 
 -- ---- a call of the end that sends
 

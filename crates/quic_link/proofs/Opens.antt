@@ -17,7 +17,7 @@ use Rattle.quic_retransmits.specs.Pending.{Pending}
 use Rattle.quic_outgoing.specs.Outgoing.{own_of}
 use Rattle.quic_outgoing.specs.Senders.{is_local, are_one_end}
 use Rattle.quic_writing.specs.Appended.{frame_with}
-use Rattle.quic_history.specs.World.{World, count_of, is_own, is_same_side, remote_of, id_refusal, own_refusal}
+use Rattle.quic_history.specs.World.{World, start, is_own, is_same_side, remote_of, id_refusal, own_refusal}
 use Rattle.quic_history.specs.Flows.{stands, has_side_in, is_answered_on}
 use Rattle.quic_history.specs.Carrying.{CarriesFrame}
 use Rattle.quic_history.specs.declared.control.ControlKind.{ControlKind}
@@ -85,7 +85,7 @@ pub record IdsSo (x y : LinkedEnd) : Type 0 where
   pub queue : (q : ℕ) → stands q (line x.world.queue) ≡ true → IsOpenAt x y q
   pub met : (d : Dir) → next_of_dir (nexts x.world) d ≤ opened_in_all y.calls d
   pub counts : (d : Dir) → greatest_count x.calls d ≤ (remote_of y.world d).max_remote
-  pub base : (d : Dir) → count_of x.made d ≤ (remote_of x.world d).max_remote
+  pub base : (d : Dir) → (remote_of (start x.made) d).max_remote ≤ (remote_of x.world d).max_remote
 
 -- more streams are opened
 open_more : (own : Bool) (a b c d : Dir → ℕ) (id : ℕ) → ((k : Dir) → a k ≤ c k) → ((k : Dir) → b k ≤ d k) → OpenBy own a b id → OpenBy own c d id

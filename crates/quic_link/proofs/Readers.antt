@@ -200,7 +200,7 @@ module _ (m : Made) (h : List Event) (u : World) (f : From m h u) (s : ReadsSo h
 -- at first nothing came of any half
 start_new : (m : Made) (q : ℕ) (half : Half) → (start m).receive q ≡ Some half → IsNewHalf half
 unfolding with_first
-start_new m q half e = by_two (is_among (other_side m.side) Uni m.uni q) (is_among (other_side m.side) Bi m.bi q) e
+start_new m q half e = by_two (is_among (other_side m.side) Uni m.uni.max_remote q) (is_among (other_side m.side) Bi m.bi.max_remote q) e
   where
     by_two : (a b : Bool) → (if a then Some (new_half m.window) else (if b then Some (new_half m.window) else None)) ≡ Some half → IsNewHalf half
     by_two true b k = read_none half m.window (some_same (new_half m.window) half k)

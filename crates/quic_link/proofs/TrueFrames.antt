@@ -131,7 +131,7 @@ module _ (m : Made) (h : List Event) (u : World) (f : From m h u) (e : Event) (v
   -- nor how many streams the peer may open
   pub count-grows : (d : Dir) → (remote_of u d).max_remote ≤ (remote_of v d).max_remote
   count-grows d =
-      let k = kept-remotes m.receive_window (counts (count_of m) h) h u e v f.facts
+      let k = kept-remotes m.credit (counts (count_of m) h) h u e v f.facts
       (λ c. rebased (counts (count_of m) h c) (before m h u f.run c) (is_freed (trace h) u.out.side (sends u) c) (remote_of u c) (permits_now m h u f.run f.remotes c)) s d in
       let p = k.permitted in
       omega arith
@@ -139,7 +139,7 @@ module _ (m : Made) (h : List Event) (u : World) (f : From m h u) (e : Event) (v
   -- and it is at most 2^60
   pub count-few : (d : Dir) → (remote_of u d).max_remote ≤ 2 ^ 60 → (remote_of v d).max_remote ≤ 2 ^ 60
   count-few d few =
-      let k = kept-remotes m.receive_window (counts (count_of m) h) h u e v f.facts
+      let k = kept-remotes m.credit (counts (count_of m) h) h u e v f.facts
       (λ c. rebased (counts (count_of m) h c) (before m h u f.run c) (is_freed (trace h) u.out.side (sends u) c) (remote_of u c) (permits_now m h u f.run f.remotes c)) s d in
       let p = k.permitted in
       omega arith

@@ -83,9 +83,9 @@ WasAskedFor x _ = Unit {0}
 -- what the transport parameters of an end say
 abbrev pub limits_of : Made → PeerLimits
 limits_of m = record {
-  initial_max_data = m.receive_window;
-  initial_max_streams_bidi = m.bi;
-  initial_max_streams_uni = m.uni;
+  initial_max_data = m.credit.local_max_data;
+  initial_max_streams_bidi = m.bi.max_remote;
+  initial_max_streams_uni = m.uni.max_remote;
   initial_max_stream_data_uni = m.window;
   initial_max_stream_data_bidi_local = m.window;
   initial_max_stream_data_bidi_remote = m.window;

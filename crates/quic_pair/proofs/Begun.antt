@@ -7,6 +7,7 @@ use Rattle.quic_history.specs.World.{Made, start}
 use Rattle.quic_history.specs.Sends.{with_out}
 use Rattle.quic_history.specs.SendEvents.{GaveLimits}
 use Rattle.quic_history.specs.History.{Sending, IsStart}
+use Rattle.quic_history.proofs.Beginnings.{start-with}
 use Rattle.quic_link.specs.Endpoints.{LinkedEnd, Linked, begun, first_acts, second_acts, acted, limits_of}
 use Rattle.quic_link.proofs.AskedFor.{asked-nothing}
 use Rattle.quic_link.proofs.Rooms.{within-same}
@@ -65,8 +66,8 @@ pub joined-new : (a b : Config) (v : PairState) → IsNew a b v → Joined a b n
 joined-new a b v n =
     let m = made_of Client a in
     let o = made_of Server b in
-    let s : IsStart m (start m) = record { few_uni = n.few_uni.0; few_bi = n.few_bi.0; small = n.small.0; is = refl } in
-    let t : IsStart o (start o) = record { few_uni = n.few_uni.1; few_bi = n.few_bi.1; small = n.small.1; is = refl } in
+    let s : IsStart m (start m) = start-with Client a.max_remote_uni a.max_remote_bi a.send_window a.receive_window a.stream_receive_window n.few_uni.0 n.few_bi.0 n.small.0 in
+    let t : IsStart o (start o) = start-with Server b.max_remote_uni b.max_remote_bi b.send_window b.receive_window b.stream_receive_window n.few_uni.1 n.few_bi.1 n.small.1 in
     rw n.is
     (record {
       first = made_beside m o;

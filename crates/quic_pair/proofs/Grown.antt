@@ -12,7 +12,7 @@ use Rattle.quic_outgoing.specs.Senders.{first_limit}
 use Rattle.quic_history.specs.World.{Made, start}
 use Rattle.quic_history.specs.SendEvents.{GaveLimits}
 use Rattle.quic_history.specs.History.{Sending, greatest_count}
-use Rattle.quic_history.proofs.Beginnings.{begins}
+use Rattle.quic_history.proofs.Beginnings.{begins, start-with}
 use Rattle.quic_history.proofs.Histories.{next as next-call}
 use Rattle.quic_link.specs.Endpoints.{limits_of}
 use Rattle.quic_link.proofs.Rooms.{first-is}
@@ -73,7 +73,7 @@ module _ (a b : Config) (p : Past) (old new : PairState) (reply : Answer) (j : J
 flow_begun : (side : Side) (limit other : ℕ) → limit ≡ other → with_least_limit limit (new_flow 0) ≡ new_flow other
 flow_begun side limit other e = let l : max 0 limit ≡ other = omega arith in ap (λ n. record (new_flow 0) { limit = n }) l
 
-counts_begun : (other : Config) (m : Made) → m.bi ≡ other.max_remote_bi → m.uni ≡ other.max_remote_uni → other.max_remote_bi ≤ 2 ^ 60 → other.max_remote_uni ≤ 2 ^ 60 → (d : Dir) → greatest_count (Sending (GaveLimits (limits_of m)) ∷ []) d ≡ first_count other d
+counts_begun : (other : Config) (m : Made) → m.bi.max_remote ≡ other.max_remote_bi → m.uni.max_remote ≡ other.max_remote_uni → other.max_remote_bi ≤ 2 ^ 60 → other.max_remote_uni ≤ 2 ^ 60 → (d : Dir) → greatest_count (Sending (GaveLimits (limits_of m)) ∷ []) d ≡ first_count other d
 counts_begun other m e k few_bi few_uni Bi = omega arith
 counts_begun other m e k few_bi few_uni Uni = omega arith
 
@@ -85,7 +85,7 @@ counted_begun s t own other bi uni small others_bi others_uni =
     let e = Sending (GaveLimits (limits_of n)) in
     record {
       calls = e ∷ [];
-      from = next-call m [] (start m) e (end_begun m n).streams tt (begins m (start m) uni bi small refl) refl;
+      from = next-call m [] (start m) e (end_begun m n).streams tt (begins m (start m) (start-with s own.max_remote_uni own.max_remote_bi own.send_window own.receive_window own.stream_receive_window uni bi small)) refl;
       plain = (refl, tt);
       tells = record {
         flow_is = λ q. flow_begun s (first_limit s (first_of (limits_of n)) q) other.stream_receive_window (first-is n s q);
