@@ -26,16 +26,16 @@ use Rattle.quic_history.proofs.Refusals.{refusal_by, refusal-is}
 use Rattle.quic_history.proofs.Credits.{credit-start}
 use Rattle.quic_history.proofs.StreamSteps.{AllFrom, new-half-from}
 
-abbrev has_side : Side → Bool → Bool
+abbrev pub has_side : Side → Bool → Bool
 has_side Client b = b
 has_side Server b = not b
 
-abbrev has_dir : Dir → Bool → Bool
+abbrev pub has_dir : Dir → Bool → Bool
 has_dir Bi c = c
 has_dir Uni c = not c
 
 -- an id is spelled by an initiator and a direction, by its two bits
-spelled : (i : Side) (d : Dir) (q : ℕ) (b c : Bool) → (q % 2 == 0) ≡ b → (q / 2 % 2 == 0) ≡ c → (q == stream_id i d (index_of q)) ≡ (has_side i b && has_dir d c)
+pub spelled : (i : Side) (d : Dir) (q : ℕ) (b c : Bool) → (q % 2 == 0) ≡ b → (q / 2 % 2 == 0) ≡ c → (q == stream_id i d (index_of q)) ≡ (has_side i b && has_dir d c)
 spelled Client Bi q true true e k = grind (arith, nat_tests)
 spelled Client Bi q true false e k = grind (arith, nat_tests)
 spelled Client Bi q false true e k = grind (arith, nat_tests)
@@ -53,11 +53,11 @@ spelled Server Uni q true false e k = grind (arith, nat_tests)
 spelled Server Uni q false true e k = grind (arith, nat_tests)
 spelled Server Uni q false false e k = grind (arith, nat_tests)
 
-among : (i : Side) (d : Dir) (count q : ℕ) (b c : Bool) → (q % 2 == 0) ≡ b → (q / 2 % 2 == 0) ≡ c
+pub among : (i : Side) (d : Dir) (count q : ℕ) (b c : Bool) → (q % 2 == 0) ≡ b → (q / 2 % 2 == 0) ≡ c
     → is_among i d count q ≡ ((has_side i b && has_dir d c) && nat_lt (index_of q) count)
 among i d count q b c e k = ap (λ x. x && nat_lt (index_of q) count) (spelled i d q b c e k)
 
-least : (n : ℕ) → nat_le 0 n ≡ true
+pub least : (n : ℕ) → nat_le 0 n ≡ true
 least n = grind (arith, nat_tests)
 
 le_not_lt : (m n : ℕ) → nat_le m n ≡ not (nat_lt n m)
@@ -96,14 +96,14 @@ all_start m q =
 facts_start : (m : Made) → IsUnusedCredit m.credit → Facts m.credit [] (start m)
 facts_start m unused = record { credit = credit-start m.credit unused; streams = all_start m }
 
-none_over : (n : ℕ) (over : ℕ → Bool) → ((i : ℕ) → over i ≡ false) → number over n ≡ 0
+pub none-over : (n : ℕ) (over : ℕ → Bool) → ((i : ℕ) → over i ≡ false) → number over n ≡ 0
 unfolding number
-none_over zero over none = refl
-none_over (suc n) over none = let e = none n in rw e (omega (arith, none_over n over none))
+none-over zero over none = refl
+none-over (suc n) over none = let e = none n in rw e (omega (arith, none-over n over none))
 
 remote_start : (over : ℕ → Bool) (r : Remote) → ((i : ℕ) → over i ≡ false) → IsUnusedRemote r → RemoteFrom r.max_concurrent r.max_remote over r
 remote_start over r none unused =
-    let e = none_over r.max_remote over none in
+    let e = none-over r.max_remote over none in
     let all = unused.allocated in
     let next = unused.next in
     let reported = unused.reported in

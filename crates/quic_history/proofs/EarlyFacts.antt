@@ -28,11 +28,11 @@ use Rattle.quic_queue.specs.SendOrder.{SendOrder}
 use Rattle.quic_history.specs.Halves.{Halves}
 use Rattle.quic_history.proofs.Remotes.{AllRemotes, SameLimits, limits-refl, remote-same}
 
-same_ends : (a b : Side) → is_same_side a b ≡ are_one_end a b
-same_ends Client Client = refl
-same_ends Client Server = refl
-same_ends Server Client = refl
-same_ends Server Server = refl
+pub same-ends : (a b : Side) → is_same_side a b ≡ are_one_end a b
+same-ends Client Client = refl
+same-ends Client Server = refl
+same-ends Server Client = refl
+same-ends Server Server = refl
 
 -- the streams of the peer are none of a client's
 peer_of : (d : Dir) (i : ℕ) → is_local Client (stream_id (other_side Client) d i) ≡ false
@@ -77,9 +77,9 @@ others_refused : (b : Bool) (opened opened' bi uni index : ℕ) → refusal_by f
 others_refused true opened opened' bi uni index = refl
 others_refused false opened opened' bi uni index = refl
 
-announced_most : (b : Bool) (r : Remote) → (announced_anew b r).max_remote ≡ r.max_remote
-announced_most true r = refl
-announced_most false r = refl
+pub announced-most : (b : Bool) (r : Remote) → (announced_anew b r).max_remote ≡ r.max_remote
+announced-most true r = refl
+announced-most false r = refl
 
 -- a frame on a stream of the peer is refused as before
 peer_refused : (u : World) (q : ℕ) → is_own u q ≡ false → id_refusal (with_rejection u) q ≡ id_refusal u q
@@ -87,8 +87,8 @@ peer_refused u q e =
     let b = q / 2 % 2 == 0 in
     refusal-is (with_rejection u) q
     ∙ ap (λ own. refusal_by own b 0 (announced_anew u.adjusted u.bi).max_remote (announced_anew u.adjusted u.uni).max_remote (index_of q)) e
-    ∙ ap (λ n. refusal_by false b 0 n (announced_anew u.adjusted u.uni).max_remote (index_of q)) (announced_most u.adjusted u.bi)
-    ∙ ap (λ n. refusal_by false b 0 u.bi.max_remote n (index_of q)) (announced_most u.adjusted u.uni)
+    ∙ ap (λ n. refusal_by false b 0 n (announced_anew u.adjusted u.uni).max_remote (index_of q)) (announced-most u.adjusted u.bi)
+    ∙ ap (λ n. refusal_by false b 0 u.bi.max_remote n (index_of q)) (announced-most u.adjusted u.uni)
     ∙ others_refused b 0 u.out.own_bi.opened u.bi.max_remote u.uni.max_remote (index_of q)
     ∙ ap (λ own. refusal_by own b u.out.own_bi.opened u.bi.max_remote u.uni.max_remote (index_of q)) (sym e)
     ∙ sym (refusal-is u q)
@@ -108,7 +108,7 @@ streams_rejected f u early all q = there
     side = ap (λ s. is_local s q) early.client
 
     own : (b : Bool) → is_local Client q ≡ b → is_own w q ≡ b
-    own b e = same_ends u.out.side (initiator_of q) ∙ side ∙ e
+    own b e = same-ends u.out.side (initiator_of q) ∙ side ∙ e
 
     refused : is_local Client q ≡ true → (error : ℕ) × (id_refusal w q ≡ Some error)
     refused e = let k = no_error w (dir_of q) (index_of q) refl in (k.0, rw (own true e) k.1)

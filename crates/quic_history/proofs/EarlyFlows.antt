@@ -23,11 +23,11 @@ use Rattle.quic_history.proofs.SendSides.{none-held}
 
 -- ---- a rejection
 
-none_first : (own : Bool) (d : Dir) → first_for own d no_limits ≡ 0
-none_first true Bi = refl
-none_first true Uni = refl
-none_first false Bi = refl
-none_first false Uni = refl
+pub none-first : (own : Bool) (d : Dir) → first_for own d no_limits ≡ 0
+none-first true Bi = refl
+none-first true Uni = refl
+none-first false Bi = refl
+none-first false Uni = refl
 
 not_open : (first : ℕ) → first ≡ 0 → FlowAt first (new_flow 0) false None
 not_open first z = ap new_flow (sym z)
@@ -49,11 +49,11 @@ flows-rejected f u early all q = by (is_local u.out.side q) refl
     by : (b : Bool) → is_local u.out.side q ≡ b
         → FlowAt (first_for b (dir_of q) no_limits) (new_flow 0) (if b then nat_lt (index_of q) (own_of (after_rejection u.out) (dir_of q)).opened else is_answered_on (dir_of q) u.bi.max_remote (index_of q))
         (if b then None else option_map (λ s. new_sender 0) (u.out.halves q))
-    by true e = rw (none_opened u.out (dir_of q) (index_of q)) (not_open (first_for true (dir_of q) no_limits) (none_first true (dir_of q)))
+    by true e = rw (none_opened u.out (dir_of q) (index_of q)) (not_open (first_for true (dir_of q) no_limits) (none-first true (dir_of q)))
     by false e =
         let side : has_side_in u.out u.bi.max_remote q ≡ is_answered_on (dir_of q) u.bi.max_remote (index_of q) =
         ap (λ b. if b then nat_lt (index_of q) (own_of u.out (dir_of q)).opened else is_answered_on (dir_of q) u.bi.max_remote (index_of q)) e in
-        peer_anew (first_for false (dir_of q) no_limits) (is_answered_on (dir_of q) u.bi.max_remote (index_of q)) (u.out.halves q) (none_first false (dir_of q))
+        peer_anew (first_for false (dir_of q) no_limits) (is_answered_on (dir_of q) u.bi.max_remote (index_of q)) (u.out.halves q) (none-first false (dir_of q))
         (λ t. early.peer q e (side ∙ t))
         (λ n. none-held _ (f q) (has_side_in u.out u.bi.max_remote q) (u.out.halves q) (side ∙ n) (all q))
 

@@ -65,7 +65,7 @@ kept begun h u Rejected v f s = facts-rejected begun h u v f s.0 s.1
 kept begun h u (SentAgain (Ok x)) v f s = facts-again begun h u v (Ok x) f (spares-again u v _ s.1.2)
 kept begun h u (SentAgain (Err x)) v f s = facts-again begun h u v (Err x) f (spares-nothing u v s.1)
 
-permits-now : (m : Made) (h : List Event) (v : World) (run : IsRun m h v) → EverPermits m h v run → PermitsNow m h v run
+pub permits-now : (m : Made) (h : List Event) (v : World) (run : IsRun m h v) → EverPermits m h v run → PermitsNow m h v run
 permits-now m [] v run p = p
 permits-now m (e ∷ h) v run p = p.0
 

@@ -39,3 +39,5 @@ pub mod JointMoves
 pub mod EarlyFlows
 pub mod EarlyFacts
 pub mod Unanswered
+pub mod Bare
+pub mod Renewed

@@ -24,16 +24,18 @@ use Rattle.quic_history.proofs.EarlyFlows.{reset_state}
 -- ---- what was received
 
 -- nothing came on a stream
-record IsQuiet (t : Trace) : Type 0 where
-  high : t.high ≡ 0
-  sized : t.sized ≡ false
-  there : t.gone ≡ false
+pub record IsQuiet (t : Trace) : Type 0 where
+  pub high : t.high ≡ 0
+  pub sized : t.sized ≡ false
+  pub there : t.gone ≡ false
+  pub reset : t.reset ≡ None
+  pub kept : t.kept ≡ []
 
 quiet_still : (e : Event) (q : ℕ) (t : Trace) → IsQuiet t → IsQuiet (told_still e q t)
 quiet_still e q t k = by (begins_anew (joint_move_of e) && is_local Client q)
   where
     by : (b : Bool) → IsQuiet (if b then untouched else t)
-    by true = record { high = refl; sized = refl; there = refl }
+    by true = record { high = refl; sized = refl; there = refl; reset = refl; kept = refl }
     by false = k
 
 quiet_if : (b : Bool) (t u : Trace) → IsQuiet t → IsQuiet u → IsQuiet (if b then t else u)
@@ -45,20 +47,20 @@ quiet_moved : (e : Event) (q : ℕ) (t : Trace) → tells_answer e ≡ false →
 quiet_moved (Received id offset bytes fin answer) q t n k = cc
 quiet_moved (ReceivedReset id code final answer) q t n k = cc
 quiet_moved (Gave id most ordered (Ok (Some chunk))) q t n k =
-    quiet_if (q == id) (with_move (WasRead ordered (Ok (Some chunk))) t) t (record { high = k.high; sized = k.sized; there = k.there }) k
+    quiet_if (q == id) (with_move (WasRead ordered (Ok (Some chunk))) t) t (record { high = k.high; sized = k.sized; there = k.there; reset = k.reset; kept = k.kept }) k
 quiet_moved (Gave id most ordered (Ok None)) q t n k = cc
 quiet_moved (Gave id most ordered (Err read_error.Blocked)) q t n k = quiet_if (q == id) t t k k
 quiet_moved (Gave id most ordered (Err (read_error.Reset code))) q t n k = cc
 quiet_moved (Gave id most ordered (Err read_error.OutOfMemory)) q t n k = quiet_if (q == id) t t k k
-quiet_moved (Stopped id code (Ok x)) q t n k = quiet_if (q == id) (with_move WasStopped t) t (record { high = k.high; sized = k.sized; there = k.sized }) k
+quiet_moved (Stopped id code (Ok x)) q t n k = quiet_if (q == id) (with_move WasStopped t) t (record { high = k.high; sized = k.sized; there = k.sized; reset = k.reset; kept = k.kept }) k
 quiet_moved (ToldReset id (Ok (Some code))) q t n k = cc
 quiet_moved (LeftPending kind (Some (frames.MaxStreamData id limit))) q t n k =
-    quiet_if (q == id) (with_move (WasAnnounced limit) t) t (record { high = k.high; sized = k.sized; there = k.there }) k
+    quiet_if (q == id) (with_move (WasAnnounced limit) t) t (record { high = k.high; sized = k.sized; there = k.there; reset = k.reset; kept = k.kept }) k
 quiet_moved _ q t n k = k
 
-quiet_trace : (h : List Event) → IsUnanswered h → (q : ℕ) → IsQuiet (trace h q)
-quiet_trace [] u q = record { high = refl; sized = refl; there = refl }
-quiet_trace (e ∷ h) u q = quiet_moved e q (told_still e q (trace h q)) u.0 (quiet_still e q (trace h q) (quiet_trace h u.1 q))
+pub quiet-trace : (h : List Event) → IsUnanswered h → (q : ℕ) → IsQuiet (trace h q)
+quiet-trace [] u q = record { high = refl; sized = refl; there = refl; reset = refl; kept = refl }
+quiet-trace (e ∷ h) u q = quiet_moved e q (told_still e q (trace h q)) u.0 (quiet_still e q (trace h q) (quiet-trace h u.1 q))
 
 -- ---- what was sent
 
@@ -121,7 +123,7 @@ held_send first t false o k e f = cc
 pub is-early : (m : Made) (h : List Event) (u : World) → m.side ≡ Client → IsUnanswered h → From m h u → IsEarly u
 is-early m h u client quiet f = record {
   client = f.side ∙ client;
-  own = λ q e k. held_half u.window (trace h q) (u.receive q) (quiet_trace h quiet q) (subst (λ (r : Option ℕ). StreamFrom u.window (trace h q) r (u.receive q)) k (f.facts.streams q));
+  own = λ q e k. held_half u.window (trace h q) (u.receive q) (quiet-trace h quiet q) (subst (λ (r : Option ℕ). StreamFrom u.window (trace h q) r (u.receive q)) k (f.facts.streams q));
   peer = λ q e k. held_send _ (flow m h q) (has_side_in u.out u.bi.max_remote q) (u.out.halves q) (unacked_flow m h quiet q) k (f.sends.flows q);
 }
 

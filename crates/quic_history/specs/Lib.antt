@@ -14,3 +14,4 @@ pub mod Acknowledged
 pub mod SendEvents
 pub mod Permitting
 pub mod Early
+pub mod OwnDoings

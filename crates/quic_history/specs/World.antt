@@ -72,6 +72,14 @@ made_again w = record {
   adjusted = w.adjusted;
 }
 
+-- the peer of an end that is made like n may send and open no less than that of one that is made like m
+pub record PermitsNoLess (m n : Made) : Type 0 where
+  pub side : n.side ≡ m.side
+  pub limit : m.credit.local_max_data ≤ n.credit.local_max_data
+  pub uni : m.uni.max_remote ≤ n.uni.max_remote
+  pub bi : m.bi.max_remote ≤ n.bi.max_remote
+  pub window : n.window ≡ m.window
+
 -- how an end begins: the streams that the peer may open have new halves
 abbrev pub start : Made → World
 start m = record {

@@ -1,16 +1,17 @@
 //! An early start (RFC 9001 section 4.6): a client sends before the peer has answered.
 
-ghost use Rattle.std.specs.Prelude.{ℕ, ℤ, List, ◌∷◌, ◌≡◌, Option, OnOk, OnErr};
+ghost use Rattle.std.specs.Prelude.{ℕ, ℤ, List, [], ◌∷◌, ◌≡◌, Option, OnOk, OnErr};
 ghost use Rattle.quic_values.specs.declared.ids.Side.TheVariants.{Client};
 ghost use Rattle.quic_queue.specs.declared.queue.Entry.{Entry};
 ghost use Rattle.quic_outgoing.specs.Outgoing.{own_of};
 ghost use Rattle.quic_outgoing.specs.Early.{NoneAcked, QueuesUnsent};
 ghost use Rattle.quic_outgoing.specs.Shown.{outgoing_view};
 ghost use Rattle.quic_values.specs.Ids.{other_side};
-ghost use Rattle.quic_history.specs.World.{Made};
+ghost use Rattle.quic_history.specs.World.{Made, PermitsNoLess, made_again};
 ghost use Rattle.quic_history.specs.Used.{halves_among};
 ghost use Rattle.quic_history.specs.Early.{IsEarly, with_rejection, SendsAgain, AreUnsentOf, entry_at, first_ids, with_entries_put};
 ghost use Rattle.quic_history.specs.History.{Event, Rejected, SentAgain, IsUnanswered, From};
+ghost use Rattle.quic_history.specs.OwnDoings.{AreOwnDoings};
 ghost use Rattle.quic_streams.specs.Shown.{streams_view};
 
 use crate::state::StreamsState;
@@ -24,11 +25,15 @@ impl StreamsState {
     /// memory.
     ///
     /// What is to be sent beside data is the caller's, who empties it. The history goes on with this while the peer has
-    /// not answered: no data and no reset came, and nothing was acknowledged.
+    /// not answered: no data and no reset came, and nothing was acknowledged. Where nothing came from the peer at all, this
+    /// is a new end with no history, made with what it keeps, and permits the peer no less than before.
     pub fn zero_rtt_rejected(&mut self)
         ensures rejects { streams_view self.new ≡ with_rejection (streams_view self.old) }
         ensures from { (m : Made) (h : List Event) → IsEarly (streams_view self.old) → From m h (streams_view self.old) → From m (Rejected ∷ h) (streams_view self.new) }
         ensures unanswered { (m : Made) (h : List Event) → m.side ≡ Client → IsUnanswered h → From m h (streams_view self.old) → From m (Rejected ∷ h) (streams_view self.new) }
+        ensures anew { (m : Made) (h : List Event) → m.side ≡ Client → AreOwnDoings h → From m h (streams_view self.old)
+            → From (made_again (streams_view self.new)) [] (streams_view self.new) }
+        ensures permits { (m : Made) (h : List Event) → From m h (streams_view self.old) → PermitsNoLess m (made_again (streams_view self.new)) }
     {
         self.reject_early();
     }
