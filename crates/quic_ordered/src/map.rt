@@ -197,7 +197,10 @@ impl PieceMap {
             return Ok(Some(self.replace(piece)));
         }
         match self.put_new(piece) {
-            Ok(()) => Ok(None),
+            Ok(()) => {
+                let _count = self.pieces.len();
+                Ok(None)
+            }
             Err(_) => Err(OutOfMemory),
         }
     }

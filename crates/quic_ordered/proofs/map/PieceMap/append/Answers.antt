@@ -1,8 +1,13 @@
-use Rattle.std.proofs.Common.{arith, sym, ap, ◌∙◌, ◌≡◌, length, List, ℕ, Option, Some, None, length-append}
+use Rattle.std.proofs.Common.{arith, sym, ap, subst, ◌∙◌, ◌≡◌, ◌+◌, length, List, ℕ, Option, Some, None, length-append}
+use Rattle.std.specs.Prelude.{is_some, if◌then◌else◌}
+use Rattle.std.specs.BTreeMap.{is_at}
+use Rattle.std.specs.Ordering.{nat_cmp}
+use Rattle.std.specs.Map.{set_value}
 use Rattle.quic_assembler.specs.Piece.{PieceView}
 use Rattle.quic_ordered.specs.Entries.{piece_at, piece_of}
-use Rattle.quic_ordered.specs.Rows.{FitsWords, joined_with}
-use Rattle.quic_ordered.proofs.Slotted.{joined_fits}
+use Rattle.quic_ordered.specs.Rows.{FitsWords, IsSummedMap, tidied, joined_with}
+use Rattle.quic_ordered.specs.Slotted.{Slots}
+use Rattle.quic_ordered.proofs.Slotted.{joined_fits, set_at, set_apart}
 use Rattle.quic_ordered.proofs.Totals.{map_total_bound, replaced, inserted_le}
 use Rattle.quic_ordered.proofs.map.PieceMap.append.Goals as goal
 
@@ -17,14 +22,27 @@ overflow_sub-self c =
     let es = c.self.inside.pieces.entries in
     let v = rw (← c.self.view_is) at c.requires in
     let l = inserted_le _ _ es c.args.offset v.0 v.0 c.self.invariant (sym v.1) in
-    let b = c.in_ok-append.ensures.before v.0 v.1 in
+    let b = c.in_ok-before.ensures.before v.0 v.1 in
     omega (arith, l.1, b)
 
 pub invariant_of-self : goal.invariant_of-self
-invariant_of-self c =
+invariant_of-self c = subst (λ (m : Slots). IsSummedMap _ _ m.entries) (sym c.in_err-before.ensures.err) c.self.invariant
+
+pub invariant_of-self-2 : goal.invariant_of-self-2
+invariant_of-self-2 c =
     let es = c.self.inside.pieces.entries in
     let v = rw (← c.self.view_is) at c.requires in
     let l = length-append v.0.bytes c.args.bytes.now in
-    replaced _ _ _ _ _ _ c.args.offset v.0 (joined_with v.0 (piece_of 0 c.args.bytes.now 0)) c.self.invariant (c.in_ok-append.ensures.ok v.0 v.1) v.1
+    replaced _ _ _ _ _ _ c.args.offset v.0 (joined_with v.0 (piece_of 0 c.args.bytes.now 0)) c.self.invariant (c.in_ok-before.ensures.ok v.0 v.1) v.1
     (joined_fits v.0 c.args.bytes.now v.2) c.append.ensures.rises
-    (omega (arith, l, c.len-length.ensures)) (let b = c.in_ok-append.ensures.before v.0 v.1 in let a = c.in_ok-append.ensures.after v.0 v.1 in omega (arith, a, b))
+    (omega (arith, l)) (let b = c.in_ok-before.ensures.before v.0 v.1 in let a = c.in_ok-before.ensures.after v.0 v.1 in omega (arith, a, b))
+
+pub returns-clause-joined : goal.returns-clause-joined
+returns-clause-joined c =
+    rw (← c.self.view_is) (λ v found. ap (λ (xs : List (ℕ × PieceView)). piece_at xs  c.args.offset) (c.in_ok-before.ensures.ok v found) ∙ set_at c.self.inside.pieces.entries c.args.offset v (joined_with v (piece_of 0 c.args.bytes.now 0)) found)
+
+pub returns-clause-others : goal.returns-clause-others
+returns-clause-others c =
+    let es = c.self.inside.pieces.entries in
+    let v = rw (← c.self.view_is) at c.requires in
+    rw (← c.self.view_is) (λ r ne. ap (λ (xs : List (ℕ × PieceView)). piece_at xs  r) (c.in_ok-before.ensures.ok v.0 v.1) ∙ set_apart es c.args.offset r (joined_with v.0 (piece_of 0 c.args.bytes.now 0)) ne)
