@@ -197,12 +197,10 @@ impl PieceMap {
             return Ok(Some(self.replace(piece)));
         }
         match self.put_new(piece) {
-            Ok(()) => {
-                let _count = self.pieces.len();
-                Ok(None)
-            }
-            Err(_) => Err(OutOfMemory),
+            Ok(()) => return Ok(None),
+            Err(_) => {}
         }
+        Err(OutOfMemory)
     }
 
     /// Puts a piece in the place of the one that begins at its offset, and gives that.

@@ -26,7 +26,7 @@ invariant_of-self c =
 pub invariant_of-self-in_default : goal.invariant_of-self-in_default
 invariant_of-self-in_default c =
     let es = c.self.inside.pieces.entries in
-    subst (λ (xs : List (ℕ × PieceView)). IsSummedMap _ _ xs) (sym (c.remove-old.ensures.entries ∙ remove_none es c.args.offset (sym c.remove-old.ensures.value ∙ c.in_default.is))) c.self.invariant
+    subst (λ (xs : List (ℕ × PieceView)). IsSummedMap c.self.inside.total c.self.inside.allocated xs) (sym (c.remove-old.ensures.entries ∙ remove_none es c.args.offset (sym c.remove-old.ensures.value ∙ c.in_default.is))) c.self.invariant
 
 pub returns-in-Some-clause-gone : goal.returns-in-Some-clause-gone
 returns-in-Some-clause-gone c = ap (λ (xs : List (ℕ × PieceView)). piece_at xs  c.args.offset) c.remove-old.ensures.entries ∙ piece_gone c.self.inside.pieces.entries c.args.offset c.self.invariant.rises

@@ -25,7 +25,7 @@ overflow_sub-self c =
     omega (arith, l.1, b)
 
 pub invariant_of-self : goal.invariant_of-self
-invariant_of-self c = subst (λ (m : Slots). IsSummedMap _ _ m.entries) (sym c.in_err-before.ensures.err) c.self.invariant
+invariant_of-self c = subst (λ (m : Slots). IsSummedMap c.self.inside.total c.self.inside.allocated m.entries) (sym c.in_err-before.ensures.err) c.self.invariant
 
 pub invariant_of-self-2 : goal.invariant_of-self-2
 invariant_of-self-2 c =
