@@ -114,6 +114,15 @@ impl PieceMap {
         self.allocated = 0;
     }
 
+    /// Gives back memory of places that few pieces have. If refused, all is as it was.
+    pub(crate) fn refill(&mut self) -> Result<(), OutOfMemory>
+        ensures same { self.new ≡ self.old }
+        ensures rises { RiseByKey self.new }
+    {
+        let _count = self.pieces.len();
+        self.pieces.refill()
+    }
+
     /// The last piece that begins at `n` or before: where it begins and ends.
     pub(crate) fn last_up_to(&self, n: u64) -> Option<(u64, u64)>
         ensures found { IfSome result (λ r. IsLastPiece self.now r.0 r.1 n) }

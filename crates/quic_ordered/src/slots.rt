@@ -152,6 +152,18 @@ impl PieceSlots {
         self.pieces = Slab::new(self.alloc);
     }
 
+    /// Joins blocks that have few entries. If refused, all is as it was.
+    pub(crate) fn refill(&mut self) -> Result<(), OutOfMemory>
+        ensures { self.new.entries ≡ self.old.entries }
+    {
+        let done = self.places.refill();
+        let _count = self.places.len();
+        match done {
+            Ok(()) => Ok(()),
+            Err(_) => Err(OutOfMemory),
+        }
+    }
+
     /// Whether a piece begins at an offset.
     pub(crate) fn contains(&self, offset: u64) -> bool
         ensures { result ≡ is_some (piece_at self.now.entries offset) }
@@ -277,7 +289,11 @@ impl PieceSlots {
 
     /// Appends bytes to the piece that begins at an offset. Gives how much memory it keeps alive before and afterwards. If
     /// refused, all is as it was.
-    pub(crate) fn append(&mut self, offset: u64, bytes: &[u8]) -> Result<(usize, usize), OutOfMemory>
+    pub(crate) fn append(
+        &mut self,
+        offset: u64,
+        bytes: &[u8],
+    ) -> Result<(usize, usize), OutOfMemory>
         requires { (v : PieceView) × (piece_at self.old.entries offset ≡ Some v) × (run_end v + length bytes.now < 2 ^ 62) }
         ensures ok { OnOk result ((v : PieceView) → piece_at self.old.entries offset ≡ Some v → self.new.entries ≡ set_value (is_at (nat_cmp offset)) self.old.entries (joined_with v (piece_of 0 bytes.now 0))) }
         ensures before { IfOk result (λ r. (v : PieceView) → piece_at self.old.entries offset ≡ Some v → r.0 ≡ v.allocation_size) }

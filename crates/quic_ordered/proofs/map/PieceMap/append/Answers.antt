@@ -39,10 +39,10 @@ invariant_of-self-2 c =
 
 pub returns-clause-joined : goal.returns-clause-joined
 returns-clause-joined c =
-    rw (← c.self.view_is) (λ v found. ap (λ (xs : List (ℕ × PieceView)). piece_at xs  c.args.offset) (c.in_ok-before.ensures.ok v found) ∙ set_at c.self.inside.pieces.entries c.args.offset v (joined_with v (piece_of 0 c.args.bytes.now 0)) found)
+    rw (← c.self.view_is) (λ v found. ap (λ (xs : List (ℕ × PieceView)). piece_at xs c.args.offset) (c.in_ok-before.ensures.ok v found) ∙ set_at c.self.inside.pieces.entries c.args.offset v (joined_with v (piece_of 0 c.args.bytes.now 0)) found)
 
 pub returns-clause-others : goal.returns-clause-others
 returns-clause-others c =
     let es = c.self.inside.pieces.entries in
     let v = rw (← c.self.view_is) at c.requires in
-    rw (← c.self.view_is) (λ r ne. ap (λ (xs : List (ℕ × PieceView)). piece_at xs  r) (c.in_ok-before.ensures.ok v.0 v.1) ∙ set_apart es c.args.offset r (joined_with v.0 (piece_of 0 c.args.bytes.now 0)) ne)
+    rw (← c.self.view_is) (λ r ne. ap (λ (xs : List (ℕ × PieceView)). piece_at xs r) (c.in_ok-before.ensures.ok v.0 v.1) ∙ set_apart es c.args.offset r (joined_with v.0 (piece_of 0 c.args.bytes.now 0)) ne)

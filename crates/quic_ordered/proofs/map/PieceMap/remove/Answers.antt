@@ -29,20 +29,20 @@ invariant_of-self-in_default c =
     subst (λ (xs : List (ℕ × PieceView)). IsSummedMap c.self.inside.total c.self.inside.allocated xs) (sym (c.remove-old.ensures.entries ∙ remove_none es c.args.offset (sym c.remove-old.ensures.value ∙ c.in_default.is))) c.self.invariant
 
 pub returns-in-Some-clause-gone : goal.returns-in-Some-clause-gone
-returns-in-Some-clause-gone c = ap (λ (xs : List (ℕ × PieceView)). piece_at xs  c.args.offset) c.remove-old.ensures.entries ∙ piece_gone c.self.inside.pieces.entries c.args.offset c.self.invariant.rises
+returns-in-Some-clause-gone c = ap (λ (xs : List (ℕ × PieceView)). piece_at xs c.args.offset) c.remove-old.ensures.entries ∙ piece_gone c.self.inside.pieces.entries c.args.offset c.self.invariant.rises
 
 pub returns-in-Some-clause-others : goal.returns-in-Some-clause-others
-returns-in-Some-clause-others c = rw (← c.self.view_is) (λ r ne. ap (λ (xs : List (ℕ × PieceView)). piece_at xs  r) c.remove-old.ensures.entries ∙ remove_apart c.self.inside.pieces.entries c.args.offset r ne)
+returns-in-Some-clause-others c = rw (← c.self.view_is) (λ r ne. ap (λ (xs : List (ℕ × PieceView)). piece_at xs r) c.remove-old.ensures.entries ∙ remove_apart c.self.inside.pieces.entries c.args.offset r ne)
 
 pub returns-in-Some-clause-len : goal.returns-in-Some-clause-len
 returns-in-Some-clause-len c =
     rw (← c.self.view_is) (ap (λ (xs : List (ℕ × PieceView)). length xs + (if is_some c.remove-old.result then 1 else 0)) c.remove-old.ensures.entries ∙ piece_left c.self.inside.pieces.entries c.args.offset c.remove-old.result c.remove-old.ensures.value)
 
 pub returns-in_default-clause-gone : goal.returns-in_default-clause-gone
-returns-in_default-clause-gone c = ap (λ (xs : List (ℕ × PieceView)). piece_at xs  c.args.offset) c.remove-old.ensures.entries ∙ piece_gone c.self.inside.pieces.entries c.args.offset c.self.invariant.rises
+returns-in_default-clause-gone c = ap (λ (xs : List (ℕ × PieceView)). piece_at xs c.args.offset) c.remove-old.ensures.entries ∙ piece_gone c.self.inside.pieces.entries c.args.offset c.self.invariant.rises
 
 pub returns-in_default-clause-others : goal.returns-in_default-clause-others
-returns-in_default-clause-others c = rw (← c.self.view_is) (λ r ne. ap (λ (xs : List (ℕ × PieceView)). piece_at xs  r) c.remove-old.ensures.entries ∙ remove_apart c.self.inside.pieces.entries c.args.offset r ne)
+returns-in_default-clause-others c = rw (← c.self.view_is) (λ r ne. ap (λ (xs : List (ℕ × PieceView)). piece_at xs r) c.remove-old.ensures.entries ∙ remove_apart c.self.inside.pieces.entries c.args.offset r ne)
 
 pub returns-in_default-clause-len : goal.returns-in_default-clause-len
 returns-in_default-clause-len c =

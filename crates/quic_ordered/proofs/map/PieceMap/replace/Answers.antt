@@ -34,10 +34,10 @@ invariant_of-self c =
     (omega (arith, c.len-length.ensures.value, c.len.ensures.value)) (omega (arith, c.allocation_size-allocated.ensures.value, c.allocation_size.ensures.value))
 
 pub returns-clause-here : goal.returns-clause-here
-returns-clause-here c = ap (λ (xs : List (ℕ × PieceView)). piece_at xs  c.args.piece.offset) c.replace-old.ensures.entries ∙ set_at c.self.inside.pieces.entries c.args.piece.offset c.replace-old.result c.args.piece c.replace-old.ensures.old
+returns-clause-here c = ap (λ (xs : List (ℕ × PieceView)). piece_at xs c.args.piece.offset) c.replace-old.ensures.entries ∙ set_at c.self.inside.pieces.entries c.args.piece.offset c.replace-old.result c.args.piece c.replace-old.ensures.old
 
 pub returns-clause-others : goal.returns-clause-others
-returns-clause-others c = rw (← c.self.view_is) (λ r ne. ap (λ (xs : List (ℕ × PieceView)). piece_at xs  r) c.replace-old.ensures.entries ∙ set_apart c.self.inside.pieces.entries c.args.piece.offset r c.args.piece ne)
+returns-clause-others c = rw (← c.self.view_is) (λ r ne. ap (λ (xs : List (ℕ × PieceView)). piece_at xs r) c.replace-old.ensures.entries ∙ set_apart c.self.inside.pieces.entries c.args.piece.offset r c.args.piece ne)
 
 pub returns-clause-len : goal.returns-clause-len
 returns-clause-len c = rw (← c.self.view_is) (ap (λ (xs : List (ℕ × PieceView)). length xs) c.replace-old.ensures.entries ∙ length-set_value (is_at (nat_cmp c.args.piece.offset)) c.self.inside.pieces.entries c.args.piece)

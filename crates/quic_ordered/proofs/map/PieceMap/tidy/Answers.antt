@@ -38,10 +38,10 @@ invariant_of-self-2 c =
 
 pub returns-clause-tidied : goal.returns-clause-tidied
 returns-clause-tidied c =
-    rw (← c.self.view_is) (λ v found. ap (λ (xs : List (ℕ × PieceView)). piece_at xs  c.args.offset) (c.in_ok-before.ensures.ok v found) ∙ set_at c.self.inside.pieces.entries c.args.offset v (tidied v) found)
+    rw (← c.self.view_is) (λ v found. ap (λ (xs : List (ℕ × PieceView)). piece_at xs c.args.offset) (c.in_ok-before.ensures.ok v found) ∙ set_at c.self.inside.pieces.entries c.args.offset v (tidied v) found)
 
 pub returns-clause-others : goal.returns-clause-others
 returns-clause-others c =
     let es = c.self.inside.pieces.entries in
     let v = some_of (piece_at es c.args.offset) (rw (← c.self.view_is) at c.requires) in
-    rw (← c.self.view_is) (λ r ne. ap (λ (xs : List (ℕ × PieceView)). piece_at xs  r) (c.in_ok-before.ensures.ok v.0 v.1) ∙ set_apart es c.args.offset r (tidied v.0) ne)
+    rw (← c.self.view_is) (λ r ne. ap (λ (xs : List (ℕ × PieceView)). piece_at xs r) (c.in_ok-before.ensures.ok v.0 v.1) ∙ set_apart es c.args.offset r (tidied v.0) ne)

@@ -32,10 +32,12 @@ returns-in-Some-clause-some c =
     let s = c.self.inside.pieces in
     let is = subst (λ (o : Option KeyAndValue). es ≡ option_to_list o ++ es') c.in-Some.is c.pop_first-first.ensures.popped in
     let out = first_out es es' e is in
-    rw (← c.self.view_is) (e.0,
+    rw (← c.self.view_is) (
+      e.0,
       ap (λ (xs : List KeyAndValue). in_slots s xs) is
-      ∙ (ap (λ (v : PieceView). (e.0, v) ∷ in_slots s es') (in_slot_is s e.1 c.remove.result c.remove.ensures.value)
-      ∙ ap (λ (xs : List (ℕ × PieceView)). (e.0, c.remove.result) ∷ xs) (sym (left_same es es' s c.remove.new.self e.0 e.1 c.self.invariant out.0 out.1 c.len-count.ensures.rises c.remove.ensures.updates))))
+          ∙ (ap (λ (v : PieceView). (e.0, v) ∷ in_slots s es') (in_slot_is s e.1 c.remove.result c.remove.ensures.value)
+          ∙ ap (λ (xs : List (ℕ × PieceView)). (e.0, c.remove.result) ∷ xs) (sym (left_same es es' s c.remove.new.self e.0 e.1 c.self.invariant out.0 out.1 c.len-count.ensures.rises c.remove.ensures.updates))),
+    )
 
 pub returns-in-Some-clause-rises : goal.returns-in-Some-clause-rises
 returns-in-Some-clause-rises c = rises_in c.remove.new.self c.pop_first-first.new.self.items c.len-count.ensures.rises

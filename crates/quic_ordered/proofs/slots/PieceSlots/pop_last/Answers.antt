@@ -30,11 +30,13 @@ returns-in-Some-clause-some c =
     let e : KeyAndValue = c.remove_at-entry.result in
     let es' = c.remove_at-entry.new.self.items in
     let out = last_out es es' at e c.self.invariant.rises c.in-Some.ensures.last c.remove_at-entry.ensures.value c.remove_at-entry.ensures.items in
-    rw (← c.self.view_is) (e.0,
+    rw (← c.self.view_is) (
+      e.0,
       ap (λ (xs : List KeyAndValue). in_slots s xs) out.1.1
-      ∙ (in_push s es' e
-      ∙ (ap (λ (v : PieceView). in_slots s es' ++ (e.0, v) ∷ []) (in_slot_is s e.1 c.remove.result c.remove.ensures.value)
-      ∙ ap (λ (xs : List (ℕ × PieceView)). xs ++ (e.0, c.remove.result) ∷ []) (sym (left_same es es' s c.remove.new.self e.0 e.1 c.self.invariant out.0 out.1.0 c.len-left.ensures.rises c.remove.ensures.updates)))))
+          ∙ (in_push s es' e
+          ∙ (ap (λ (v : PieceView). in_slots s es' ++ (e.0, v) ∷ []) (in_slot_is s e.1 c.remove.result c.remove.ensures.value)
+          ∙ ap (λ (xs : List (ℕ × PieceView)). xs ++ (e.0, c.remove.result) ∷ []) (sym (left_same es es' s c.remove.new.self e.0 e.1 c.self.invariant out.0 out.1.0 c.len-left.ensures.rises c.remove.ensures.updates)))),
+    )
 
 pub returns-in-Some-clause-rises : goal.returns-in-Some-clause-rises
 returns-in-Some-clause-rises c = rises_in c.remove.new.self c.remove_at-entry.new.self.items c.len-left.ensures.rises

@@ -24,8 +24,8 @@ returns-clause-ok c =
     let found = sym c.get.ensures ∙ c.in-Some.is in
     let here = found_some s es c.args.offset c.in-Some.slot found in
     rw (← c.self.view_is) (on_ok c.tidy_in.result c.tidy_in.ensures.ok (λ u v other.
-      set_in es s c.tidy_in.new.pieces c.args.offset c.in-Some.slot (tidied (in_slot s c.in-Some.slot)) c.self.invariant found u
-      ∙ ap (λ (w : PieceView). set_value (is_at (nat_cmp c.args.offset)) (in_slots s es) (tidied w)) (some_is _ (in_slot s c.in-Some.slot) v here other)))
+    set_in es s c.tidy_in.new.pieces c.args.offset c.in-Some.slot (tidied (in_slot s c.in-Some.slot)) c.self.invariant found u
+    ∙ ap (λ (w : PieceView). set_value (is_at (nat_cmp c.args.offset)) (in_slots s es) (tidied w)) (some_is _ (in_slot s c.in-Some.slot) v here other)))
 
 pub returns-clause-before : goal.returns-clause-before
 returns-clause-before c =
