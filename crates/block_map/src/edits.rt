@@ -38,6 +38,7 @@ impl BlockMap {
         ensures items { self.new.items ≡ self.old.items }
         ensures rows { self.new.rows ≡ self.old.rows }
         ensures room { OnOk result (self.new.room ≡ true) }
+        ensures few { OnOk result (length self.new.items < 2 ^ 62) }
         ensures roomy { self.old.room ≡ true → result ≡ Ok tt }
         ensures err { OnErr result (self.new ≡ self.old) }
     {

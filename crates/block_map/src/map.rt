@@ -61,7 +61,8 @@ impl BlockMap {
 
     #[inline(always)]
     pub fn len(&self) -> usize
-        ensures { result ≡ length self.now.items }
+        ensures len { result ≡ length self.now.items }
+        ensures rises { KeysRise self.now.items }
     {
         self.len
     }
