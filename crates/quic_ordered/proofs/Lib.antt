@@ -10,6 +10,7 @@ pub mod Taking
 pub mod Compacting
 pub mod Places
 pub mod Placed
+pub mod Slotted
 pub mod Fresh
 pub mod Added
 pub mod Assembling

@@ -30,7 +30,7 @@ none_of (Some v) h = absurd (h v refl)
 pub one_entry : (e f : ℕ × PieceView) → e.0 ≡ f.0 → e.1 ≡ f.1 → e ≡ f
 one_entry (a, b) (c, d) p q = cc
 
-after_not : (e : ℕ × PieceView) (es : List (ℕ × PieceView)) (q : ℕ) → RiseByKey (e ∷ es) → q ≡ e.0 → piece_at es q ≡ None
+pub after_not : (e : ℕ × PieceView) (es : List (ℕ × PieceView)) (q : ℕ) → RiseByKey (e ∷ es) → q ≡ e.0 → piece_at es q ≡ None
 after_not e es q rises same = none_of (piece_at es q) (λ v found. let l = after_head e es q v rises found in absurd (omega arith))
 
 same_tail : (e f : ℕ × PieceView) (es fs : List (ℕ × PieceView)) (q : ℕ) → RiseByKey (e ∷ es) → RiseByKey (f ∷ fs) → e.0 ≡ f.0 → piece_at (e ∷ es) q ≡ piece_at (f ∷ fs) q → piece_at es q ≡ piece_at fs q

@@ -1,5 +1,5 @@
 -- The sums of what pieces come to.
-use Rattle.std.proofs.Common.{◌≡◌, ℕ, ◌+◌, ◌-◌, ◌*◌, ◌^◌, ◌≤◌, ◌<◌, ap, sym, ◌∙◌, List, [], ◌∷◌, ◌++◌, length, take, drop, arith, sum_by, Option, Some, None, length-append}
+use Rattle.std.proofs.Common.{◌≡◌, ℕ, ◌+◌, ◌-◌, ◌*◌, ◌^◌, ◌≤◌, ◌<◌, ap, sym, subst, refl, ◌∙◌, List, [], ◌∷◌, ◌++◌, length, take, drop, arith, sum_by, Option, Some, None, length-append}
 use Rattle.std.specs.List.{All}
 use Rattle.std.specs.Option.{unwrap_or, option_map}
 use Rattle.std.specs.Map.{values_of, lookup, remove_entry, set_value}
@@ -7,7 +7,7 @@ use Rattle.std.specs.BTreeMap.{is_at, insert_entry}
 use Rattle.std.specs.Ordering.{nat_cmp}
 use Rattle.std.specs.Cmp.{nat_cmp_total}
 use Rattle.std.proofs.lemmas.List.Sums.{sum_by-cons, sum_by-append, sum_by-insert}
-use Rattle.std.proofs.lemmas.List.Elements.{All-head, All-tail, All-push, All-cons, All-pop, All-rest, All-append, All-take, All-drop}
+use Rattle.std.proofs.lemmas.List.Elements.{All-nil, All-head, All-tail, All-push, All-cons, All-pop, All-rest, All-append, All-take, All-drop}
 use Rattle.std.specs.List.Sorted.{IsStrictlySortedBy}
 use Rattle.std.proofs.lemmas.List.{map-append}
 use Rattle.std.proofs.lemmas.Map.Entries.{sum_by-insert_entry, sum_by-remove_entry, sum_by-set_value, length-values_of}
@@ -200,6 +200,11 @@ sums_fit rs all le = (omega (arith, total_le rs all, le), omega (arith, allocate
 pub rises_none : RiseByKey []
 unfolding IsStrictlySortedBy
 rises_none = tt
+
+pub empty_map : (es : List (ℕ × PieceView)) → es ≡ [] → IsSummedMap 0 0 es
+empty_map es is =
+    subst (λ (xs : List (ℕ × PieceView)). IsSummedMap 0 0 xs) (sym is)
+    (record { rises = rises_none; sums = record { total_is = refl; allocated_is = refl; sound = All-nil FitsWords } })
 
 -- a piece took the place of another
 pub replaced : (t a t' a' : ℕ) (es es' : List (ℕ × PieceView)) (k : ℕ) (v w : PieceView) → IsSummedMap t a es → es' ≡ set_value (is_at (nat_cmp k)) es w → piece_at es k ≡ Some v → FitsWords w → RiseByKey es'

@@ -1,4 +1,5 @@
 pub mod Assembly
 pub mod Entries
 pub mod Rows
+pub mod Slotted
 pub mod Sweeping

@@ -63,7 +63,7 @@ pub(crate) fn compact(pieces: &mut PieceMap, alloc: Global) -> Result<(), OutOfM
     loop {
         let passed = pieces.pass_over(last, end, &mut bytes)?;
         let Some(run) = passed.next else {
-            return Ok(());
+            return pieces.refill();
         };
         join_run(pieces, run, &bytes)?;
         last = Some(run.base);

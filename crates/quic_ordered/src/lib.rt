@@ -9,6 +9,7 @@ mod piece;
 mod pieces;
 mod placing;
 mod row;
+mod slots;
 mod store;
 mod unreceived;
 

@@ -1,8 +1,8 @@
 // Pieces by the offsets at which they begin, with their sums.
 ghost use Rattle.std.specs.Prelude.{List, ◌≡◌, ℕ, ◌+◌, ◌-◌, ◌^◌, ◌<◌, ◌≤◌, [], ◌∷◌, ◌++◌, length, sum_by, IfOk, OnOk, OnErr, IfSome, IfNone, IsSome, Some, None, is_some, if◌then◌else◌, IfErr};
-ghost use Rattle.std.specs.Map.{values_of, keys_of};
+ghost use Rattle.std.specs.Map.{values_of, keys_of, set_value};
 ghost use Rattle.std.specs.List.{All};
-ghost use Rattle.std.specs.BTreeMap.{insert_entry};
+ghost use Rattle.std.specs.BTreeMap.{insert_entry, is_at};
 ghost use Rattle.std.specs.Ordering.{nat_cmp};
 ghost use Rattle.quic_assembler.specs.Piece.{PieceView, run_end, run_length, run_allocation};
 ghost use Rattle.quic_ordered.specs.Entries.{piece_at, piece_of, NoPieceBegins, IsLastPiece, IsFirstPiece};
@@ -10,11 +10,10 @@ ghost use Rattle.quic_ordered.specs.Rows.{RiseByKey, FitsWords, tidied, joined_w
 ghost use Rattle.quic_ordered.specs.Sweeping.{IsSwept, IsNextRun};
 
 use crate::piece::Piece;
+use crate::slots::PieceSlots;
 use quic_values::OutOfMemory;
 use std::alloc::Global;
-use std::collections::BTreeMap;
 use std::marker::Model;
-use std::mem;
 
 /// A piece, and behind it those that touch, one behind another, from its end on up to an offset.
 #[derive(Clone, Copy)]
@@ -50,7 +49,7 @@ impl Passed {
 
 #[derive(Drop)]
 pub(crate) struct PieceMap {
-    pieces: BTreeMap<u64, Piece>,
+    pieces: PieceSlots,
     // The sum of the lengths.
     total: u128,
     // The sum of the allocation sizes.
@@ -75,7 +74,7 @@ impl PieceMap {
         ensures rises { RiseByKey result }
     {
         PieceMap {
-            pieces: BTreeMap::new(alloc),
+            pieces: PieceSlots::new(alloc),
             total: 0,
             allocated: 0,
         }
@@ -115,14 +114,23 @@ impl PieceMap {
         self.allocated = 0;
     }
 
+    /// Gives back memory of places that few pieces have. If refused, all is as it was.
+    pub(crate) fn refill(&mut self) -> Result<(), OutOfMemory>
+        ensures same { self.new ≡ self.old }
+        ensures rises { RiseByKey self.new }
+    {
+        let _count = self.pieces.len();
+        self.pieces.refill()
+    }
+
     /// The last piece that begins at `n` or before: where it begins and ends.
     pub(crate) fn last_up_to(&self, n: u64) -> Option<(u64, u64)>
         ensures found { IfSome result (λ r. IsLastPiece self.now r.0 r.1 n) }
         ensures none { IfNone result (NoPieceBegins self.now 0 n) }
         ensures bound { IfSome result (λ r. r.1 < 2 ^ 62) }
     {
-        match self.pieces.range(..=n).next_back() {
-            Some((start, piece)) => Some((*start, piece.end())),
+        match self.pieces.last_up_to(n) {
+            Some((start, piece)) => Some((start, piece.end())),
             None => None,
         }
     }
@@ -132,10 +140,7 @@ impl PieceMap {
         ensures found { IfSome result (λ start. IsFirstPiece self.now start n) }
         ensures none { IfNone result ((q : ℕ) → n ≤ q → piece_at self.now q ≡ None) }
     {
-        match self.pieces.range(n..).next() {
-            Some((start, _)) => Some(*start),
-            None => None,
-        }
+        self.pieces.first_from(n)
     }
 
     /// Passes over the pieces from `end` on that are to stay as they are, up to the first that touches the one before it
@@ -155,25 +160,26 @@ impl PieceMap {
         bytes.clear();
         let (mut last, mut floor) = (last, end);
         let mut found: Option<Run> = None;
-        for (start, piece) in self.pieces.range(end..) {
+        let mut place = self.pieces.place_from(end);
+        while let Some((start, piece)) = self.pieces.step(&mut place) {
             let stop = piece.end();
             match found {
                 None => match last {
-                    Some(base) if floor == *start => {
+                    Some(base) if floor == start => {
                         bytes.extend_from_slice(piece.as_slice())?;
                         found = Some(Run::new(base, floor, stop));
                     }
                     _ => {
                         if piece.is_little() {
-                            last = Some(*start);
+                            last = Some(start);
                             floor = stop;
                         } else {
-                            found = Some(Run::new(*start, stop, stop));
+                            found = Some(Run::new(start, stop, stop));
                         }
                     }
                 },
                 Some(run) => {
-                    if run.stop != *start {
+                    if run.stop != start {
                         return Ok(Passed::new(last, floor, found));
                     }
                     bytes.extend_from_slice(piece.as_slice())?;
@@ -195,18 +201,15 @@ impl PieceMap {
         ensures len { IfOk result (λ old. length self.new ≡ length self.old + (if is_some old then 0 else 1)) }
         ensures rises { RiseByKey self.new }
     {
-        let offset = piece.offset();
-        let length = piece.len() as u128;
-        let allocated = piece.allocation_size() as u128;
         let _count = self.pieces.len();
-        let old = self.pieces.insert(offset, piece)?;
-        self.total += length;
-        self.allocated += allocated;
-        if let Some(first) = &old {
-            self.total -= first.len() as u128;
-            self.allocated -= first.allocation_size() as u128;
+        if self.pieces.contains(piece.offset()) {
+            return Ok(Some(self.replace(piece)));
         }
-        Ok(old)
+        match self.put_new(piece) {
+            Ok(()) => return Ok(None),
+            Err(_) => {}
+        }
+        Err(OutOfMemory)
     }
 
     /// Puts a piece in the place of the one that begins at its offset, and gives that.
@@ -216,21 +219,16 @@ impl PieceMap {
         ensures here { piece_at self.new piece.offset ≡ Some piece }
         ensures others { (q : ℕ) → (q ≡ piece.offset → ⊥) → piece_at self.new q ≡ piece_at self.old q }
         ensures len { length self.new ≡ length self.old }
+        ensures entries { self.new ≡ set_value (is_at (nat_cmp piece.offset)) self.old piece }
         ensures rises { RiseByKey self.new }
     {
         let _count = self.pieces.len();
-        let offset = piece.offset();
         let length = piece.len() as u128;
         let allocated = piece.allocation_size() as u128;
-        match self.pieces.get_mut(&offset) {
-            Some(place) => {
-                let old = mem::replace(place, piece);
-                self.total = self.total + length - old.len() as u128;
-                self.allocated = self.allocated + allocated - old.allocation_size() as u128;
-                old
-            }
-            None => unreachable!(),
-        }
+        let old = self.pieces.replace(piece);
+        self.total = self.total + length - old.len() as u128;
+        self.allocated = self.allocated + allocated - old.allocation_size() as u128;
+        old
     }
 
     /// Copies the piece that begins at an offset where it keeps much more memory alive than it has bytes. If refused,
@@ -243,16 +241,9 @@ impl PieceMap {
         ensures rises { RiseByKey self.new }
     {
         let _count = self.pieces.len();
-        match self.pieces.get_mut(&offset) {
-            Some(piece) => {
-                let before = piece.allocation_size() as u128;
-                let done = piece.tidy();
-                let _end = piece.end();
-                self.allocated = self.allocated + piece.allocation_size() as u128 - before;
-                done
-            }
-            None => unreachable!(),
-        }
+        let (before, after) = self.pieces.tidy(offset)?;
+        self.allocated = self.allocated + after as u128 - before as u128;
+        Ok(())
     }
 
     /// Appends bytes to the piece that begins at an offset. If refused, all is as it was.
@@ -265,17 +256,10 @@ impl PieceMap {
     {
         let _count = self.pieces.len();
         let length = bytes.len() as u128;
-        match self.pieces.get_mut(&offset) {
-            Some(piece) => {
-                let before = piece.allocation_size() as u128;
-                piece.append_bytes(bytes)?;
-                let _end = piece.end();
-                self.total += length;
-                self.allocated = self.allocated + piece.allocation_size() as u128 - before;
-                Ok(())
-            }
-            None => unreachable!(),
-        }
+        let (before, after) = self.pieces.append(offset, bytes)?;
+        self.total += length;
+        self.allocated = self.allocated + after as u128 - before as u128;
+        Ok(())
     }
 
     /// Takes the piece that begins at an offset out.
@@ -287,7 +271,7 @@ impl PieceMap {
         ensures len { length self.new + (if is_some result then 1 else 0) ≡ length self.old }
         ensures rises { RiseByKey self.new }
     {
-        let old = self.pieces.remove(&offset);
+        let old = self.pieces.remove(offset);
         if let Some(piece) = &old {
             self.total -= piece.len() as u128;
             self.allocated -= piece.allocation_size() as u128;
@@ -303,17 +287,16 @@ impl PieceMap {
         ensures err { OnErr result (self.new ≡ self.old) }
         ensures rises { RiseByKey self.new }
     {
-        let offset = piece.offset();
         let length = piece.len() as u128;
         let allocated = piece.allocation_size() as u128;
         let _count = self.pieces.len();
-        match self.pieces.insert(offset, piece) {
-            Ok(_) => {
+        match self.pieces.put_new(piece) {
+            Ok(()) => {
                 self.total += length;
                 self.allocated += allocated;
                 Ok(())
             }
-            Err(failed) => Err(failed.value.1),
+            Err(piece) => Err(piece),
         }
     }
 
@@ -345,8 +328,8 @@ impl PieceMap {
         ensures some { IfSome result (λ offset. (key : ℕ) × (piece : PieceView) × (rest : _) × (self.now ≡ (key, piece) ∷ rest) × (offset ≡ piece.offset)) }
         ensures none { IfNone result (self.now ≡ []) }
     {
-        match self.pieces.first_key_value() {
-            Some((_, piece)) => Some(piece.offset()),
+        match self.pieces.first() {
+            Some(piece) => Some(piece.offset()),
             None => None,
         }
     }
@@ -356,8 +339,8 @@ impl PieceMap {
         ensures some { IfSome result (λ end. (others : _) × (key : ℕ) × (last : PieceView) × (self.now ≡ others ++ (key, last) ∷ []) × (end ≡ run_end last)) }
         ensures none { IfNone result (self.now ≡ []) }
     {
-        match self.pieces.last_key_value() {
-            Some((_, piece)) => Some(piece.end()),
+        match self.pieces.last() {
+            Some(piece) => Some(piece.end()),
             None => None,
         }
     }
@@ -370,7 +353,7 @@ impl PieceMap {
         ensures rises { RiseByKey self.new }
     {
         match self.pieces.pop_first() {
-            Some((_, piece)) => {
+            Some(piece) => {
                 self.total -= piece.len() as u128;
                 self.allocated -= piece.allocation_size() as u128;
                 Some(piece)
@@ -386,7 +369,7 @@ impl PieceMap {
         ensures rises { RiseByKey self.new }
     {
         match self.pieces.pop_last() {
-            Some((_, piece)) => {
+            Some(piece) => {
                 self.total -= piece.len() as u128;
                 self.allocated -= piece.allocation_size() as u128;
                 Some(piece)

@@ -1,5 +1,8 @@
-use Rattle.std.proofs.Common.{◌≡◌, Option, Some, None, arith, subst, refl}
-use Rattle.std.specs.Prelude.{IfSome, IfNone}
+use Rattle.std.proofs.Common.{◌≡◌, ℕ, List, Option, Some, None, arith, sym, subst, refl}
+use Rattle.std.specs.Prelude.{IfSome, IfNone, Result, Ok, Err, OnOk}
+use Rattle.std.specs.List.{All}
+use Rattle.quic_assembler.specs.Piece.{PieceView}
+use Rattle.quic_ordered.specs.Rows.{LieWithGaps, IsTidy}
 use Rattle.std.specs.Map.{values_of}
 use Rattle.quic_ordered.specs.declared.map.Run.{Run}
 use Rattle.quic_ordered.specs.Sweeping.{IsNextRun}
@@ -10,6 +13,10 @@ use Rattle.quic_ordered.proofs.compaction.compact.Goals as goal
 left_none : {A : Type 0} {P : Type 0} (o : Option A) → ((x : A) → o ≡ Some x → ⊥) → IfNone o P → P
 left_none None not h = h
 left_none (Some x) not h = absurd (not x refl)
+
+on_any : {T E : Type 0} {A : Type 0} (r : Result T E) → A → OnOk r A
+on_any (Ok x) h = h
+on_any (Err e) h = tt
 
 pub loop-bytes-init : goal.loop-bytes-init
 loop-bytes-init c = record { swept = swept_none c.args.pieces.now c.requires.keyed c.requires.order; rises = c.len-count.ensures.rises }
@@ -55,10 +62,12 @@ pub returns-in_default-clause-apart : goal.returns-in_default-clause-apart
 returns-in_default-clause-apart c =
     let p = c.in_ok-passed.passed in
     let s = c.in_ok-passed.ensures.swept (values_of c.args.pieces.now) c.loop-bytes.invariant.swept in
-    (swept_all (values_of c.args.pieces.now) p.last p.end c.loop-bytes.pieces s (left_none p.next (λ x e. c.in_default.not-Some x e) c.in_ok-passed.ensures.none)).0
+    on_any c.refill.result (subst (λ (es : List (ℕ × PieceView)). LieWithGaps 0 (values_of es)) (sym c.refill.ensures.same)
+    (swept_all (values_of c.args.pieces.now) p.last p.end c.loop-bytes.pieces s (left_none p.next (λ x e. c.in_default.not-Some x e) c.in_ok-passed.ensures.none)).0)
 
 pub returns-in_default-clause-tidy : goal.returns-in_default-clause-tidy
 returns-in_default-clause-tidy c =
     let p = c.in_ok-passed.passed in
     let s = c.in_ok-passed.ensures.swept (values_of c.args.pieces.now) c.loop-bytes.invariant.swept in
-    (swept_all (values_of c.args.pieces.now) p.last p.end c.loop-bytes.pieces s (left_none p.next (λ x e. c.in_default.not-Some x e) c.in_ok-passed.ensures.none)).1
+    on_any c.refill.result (subst (λ (es : List (ℕ × PieceView)). All IsTidy (values_of es)) (sym c.refill.ensures.same)
+    (swept_all (values_of c.args.pieces.now) p.last p.end c.loop-bytes.pieces s (left_none p.next (λ x e. c.in_default.not-Some x e) c.in_ok-passed.ensures.none)).1)

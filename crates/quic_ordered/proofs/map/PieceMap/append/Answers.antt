@@ -1,40 +1,44 @@
-use Rattle.std.proofs.Common.{arith, sym, ap, ◌∙◌, length, length-append}
-use Rattle.std.specs.Prelude.{Result, Ok, Err, OnErr}
+use Rattle.std.proofs.Common.{arith, sym, ap, subst, ◌∙◌, List, ℕ, length-append}
 use Rattle.quic_assembler.specs.Piece.{PieceView}
-use Rattle.quic_ordered.specs.Rows.{FitsWords}
-use Rattle.quic_ordered.proofs.Totals.{map_total_bound, replaced, put_same}
+use Rattle.quic_ordered.specs.Entries.{piece_at, piece_of}
+use Rattle.quic_ordered.specs.Rows.{IsSummedMap, joined_with}
+use Rattle.quic_ordered.specs.Slotted.{Slots}
+use Rattle.quic_ordered.proofs.Slotted.{joined_fits, set_at, set_apart}
+use Rattle.quic_ordered.proofs.Totals.{map_total_bound, replaced, inserted_le}
 use Rattle.quic_ordered.proofs.map.PieceMap.append.Goals as goal
-
-on_err : {T E : Type 0} {P : Type 0} (r : Result T E) → P → OnErr r P
-on_err (Ok x) p = tt
-on_err (Err e) p = p
-
-pub invariant_of-self : goal.invariant_of-self
-invariant_of-self c =
-    let w = c.append_bytes.new.self in
-    let h = c.get_mut.follows.holds w in
-    let same = put_same _ _ c.args.offset c.in-Some.piece.now w h.0 (sym c.in-Some.ensures.value) c.in_err-append_bytes-in-Some.ensures.err in
-    rw same c.self.invariant
-
-pub returns-in_err-append_bytes-in-Some-clause-err : goal.returns-in_err-append_bytes-in-Some-clause-err
-returns-in_err-append_bytes-in-Some-clause-err c =
-    let w = c.append_bytes.new.self in
-    let h = c.get_mut.follows.holds w in
-    on_err c.from_residual.result (put_same _ _ c.args.offset c.in-Some.piece.now w h.0 (sym c.in-Some.ensures.value) c.in_err-append_bytes-in-Some.ensures.err ∙ c.self.view_is)
 
 pub overflow_add-self : goal.overflow_add-self
 overflow_add-self c = omega (arith, map_total_bound _ _ _ c.self.invariant)
 
-pub overflow_add-self-in-Some : goal.overflow_add-self-in-Some
-overflow_add-self-in-Some c = omega (arith, map_total_bound _ _ _ c.self.invariant)
+pub overflow_add-self-2 : goal.overflow_add-self-2
+overflow_add-self-2 c = omega (arith, map_total_bound _ _ _ c.self.invariant)
 
-pub invariant_of-self-in-Some : goal.invariant_of-self-in-Some
-invariant_of-self-in-Some c =
-    let w = c.append_bytes.new.self in
-    let h = c.get_mut.follows.holds w in
-    let j = c.in_ok-append_bytes-in-Some.ensures.ok in
-    let x = ap (λ (r : PieceView). length r.bytes) j in
-    let l = length-append c.in-Some.piece.now.bytes c.args.bytes.now in
-    let fits : FitsWords w = record { below = c.end-end.ensures.bound; allocation = c.allocation_size.ensures.bound } in
-    replaced _ _ _ _ _ _ c.args.offset c.in-Some.piece.now w c.self.invariant h.0 (sym c.in-Some.ensures.value) fits h.4
-    (omega (arith, x, l)) (omega (arith, c.allocation_size-before.ensures.value, c.allocation_size.ensures.value))
+pub overflow_sub-self : goal.overflow_sub-self
+overflow_sub-self c =
+    let es = c.self.inside.pieces.entries in
+    let v = rw (← c.self.view_is) at c.requires in
+    let l = inserted_le _ _ es c.args.offset v.0 v.0 c.self.invariant (sym v.1) in
+    let b = c.in_ok-before.ensures.before v.0 v.1 in
+    omega (arith, l.1, b)
+
+pub invariant_of-self : goal.invariant_of-self
+invariant_of-self c = subst (λ (m : Slots). IsSummedMap c.self.inside.total c.self.inside.allocated m.entries) (sym c.in_err-before.ensures.err) c.self.invariant
+
+pub invariant_of-self-2 : goal.invariant_of-self-2
+invariant_of-self-2 c =
+    let es = c.self.inside.pieces.entries in
+    let v = rw (← c.self.view_is) at c.requires in
+    let l = length-append v.0.bytes c.args.bytes.now in
+    replaced _ _ _ _ _ _ c.args.offset v.0 (joined_with v.0 (piece_of 0 c.args.bytes.now 0)) c.self.invariant (c.in_ok-before.ensures.ok v.0 v.1) v.1
+    (joined_fits v.0 c.args.bytes.now v.2) c.append.ensures.rises
+    (omega (arith, l)) (let b = c.in_ok-before.ensures.before v.0 v.1 in let a = c.in_ok-before.ensures.after v.0 v.1 in omega (arith, a, b))
+
+pub returns-clause-joined : goal.returns-clause-joined
+returns-clause-joined c =
+    rw (← c.self.view_is) (λ v found. ap (λ (xs : List (ℕ × PieceView)). piece_at xs c.args.offset) (c.in_ok-before.ensures.ok v found) ∙ set_at c.self.inside.pieces.entries c.args.offset v (joined_with v (piece_of 0 c.args.bytes.now 0)) found)
+
+pub returns-clause-others : goal.returns-clause-others
+returns-clause-others c =
+    let es = c.self.inside.pieces.entries in
+    let v = rw (← c.self.view_is) at c.requires in
+    rw (← c.self.view_is) (λ r ne. ap (λ (xs : List (ℕ × PieceView)). piece_at xs r) (c.in_ok-before.ensures.ok v.0 v.1) ∙ set_apart es c.args.offset r (joined_with v.0 (piece_of 0 c.args.bytes.now 0)) ne)

@@ -1,29 +1,23 @@
-use Rattle.std.proofs.Common.{arith, sym, ◌∙◌}
-use Rattle.quic_ordered.proofs.Totals.{map_total_bound, inserted_le, inserted_over, inserted_new}
+use Rattle.std.proofs.Common.{sym, ap, subst, ◌∙◌, length, List, ℕ}
+use Rattle.std.specs.Prelude.{is_some}
+use Rattle.quic_assembler.specs.Piece.{PieceView}
+use Rattle.quic_ordered.specs.Entries.{piece_at}
+use Rattle.quic_ordered.specs.Rows.{RiseByKey}
+use Rattle.quic_ordered.proofs.Slotted.{insert_is_set, insert_at, insert_apart, insert_len, none_is_none}
 use Rattle.quic_ordered.proofs.map.PieceMap.insert.Goals as goal
 
-pub overflow_add-self : goal.overflow_add-self
-overflow_add-self c = omega (arith, map_total_bound _ _ _ c.self.invariant)
+pub returns-then-contains-clause-entries : goal.returns-then-contains-clause-entries
+returns-then-contains-clause-entries c =
+    c.replace.ensures.entries ∙ sym (insert_is_set c.args.self.now c.args.piece.offset c.replace.result c.args.piece (subst RiseByKey c.self.view_is c.self.invariant.rises) c.replace.ensures.old)
 
-pub overflow_add-self-2 : goal.overflow_add-self-2
-overflow_add-self-2 c = omega (arith, map_total_bound _ _ _ c.self.invariant)
+pub returns-in-Ok-clause-here : goal.returns-in-Ok-clause-here
+returns-in-Ok-clause-here c = ap (λ (xs : List (ℕ × PieceView)). piece_at xs c.args.piece.offset) c.in-Ok.ensures.entries ∙ insert_at c.args.self.now c.args.piece.offset c.args.piece
 
-pub overflow_sub-self : goal.overflow_sub-self
-overflow_sub-self c =
-    let l = inserted_le _ _ _ c.offset-offset.result c.args.piece c.in-Some.first c.self.invariant (sym c.in-Some.is ∙ c.in_ok-old.ensures.old) in omega (arith, l)
+pub returns-in-Ok-clause-others : goal.returns-in-Ok-clause-others
+returns-in-Ok-clause-others c = λ r ne. ap (λ (xs : List (ℕ × PieceView)). piece_at xs r) c.in-Ok.ensures.entries ∙ insert_apart c.args.self.now c.args.piece.offset r c.args.piece ne
 
-pub overflow_sub-self-in-Some : goal.overflow_sub-self-in-Some
-overflow_sub-self-in-Some c =
-    let l = inserted_le _ _ _ c.offset-offset.result c.args.piece c.in-Some.first c.self.invariant (sym c.in-Some.is ∙ c.in_ok-old.ensures.old) in omega (arith, l)
-
-pub invariant_of-self-in-Some : goal.invariant_of-self-in-Some
-invariant_of-self-in-Some c =
-    inserted_over _ _ _ _ _ _ c.offset-offset.result c.args.piece c.in-Some.first c.self.invariant (record { below = c.len-length.ensures.bound; allocation = c.allocation_size-allocated.ensures.bound })
-    c.in_ok-old.ensures.entries (sym c.in-Some.is ∙ c.in_ok-old.ensures.old) c.in_ok-old.ensures.ordered
-    (omega (arith, c.len-length.ensures.value, c.len.ensures.value)) (omega (arith, c.allocation_size-allocated.ensures.value, c.allocation_size.ensures.value))
-
-pub invariant_of-self-in_default : goal.invariant_of-self-in_default
-invariant_of-self-in_default c =
-    inserted_new _ _ _ _ _ _ c.offset-offset.result c.args.piece c.self.invariant (record { below = c.len-length.ensures.bound; allocation = c.allocation_size-allocated.ensures.bound })
-    c.in_ok-old.ensures.entries (sym c.in_default.is ∙ c.in_ok-old.ensures.old) c.in_ok-old.ensures.ordered
-    (omega (arith, c.len-length.ensures.value)) (omega (arith, c.allocation_size-allocated.ensures.value))
+pub returns-in-Ok-clause-len : goal.returns-in-Ok-clause-len
+returns-in-Ok-clause-len c =
+    let es = c.self.inside.pieces.entries in
+    let none = none_is_none (piece_at es c.args.piece.offset) (sym c.if-contains.false ∙ (c.contains.ensures ∙ ap (λ (n : ℕ). is_some (piece_at es n)) c.offset.ensures.value)) in
+    ap (λ (xs : List (ℕ × PieceView)). length xs) c.in-Ok.ensures.entries ∙ insert_len c.args.self.now c.args.piece.offset c.args.piece (ap (λ (xs : List (ℕ × PieceView)). piece_at xs c.args.piece.offset) (sym c.self.view_is) ∙ none)

@@ -3,5 +3,5 @@ use Rattle.quic_ordered.proofs.Totals.{map_left_back}
 use Rattle.quic_ordered.proofs.map.PieceMap.pop_last.Goals as goal
 
 pub invariant_of-self : goal.invariant_of-self
-invariant_of-self c = map_left_back _ _ _ _ _ _ _ c.in-Some.piece c.self.invariant c.in-Some.ensures.removal c.in-Some.ensures.ordered
+invariant_of-self c = map_left_back _ _ _ _ _ _ _ c.in-Some.piece c.self.invariant c.in-Some.ensures.some.1 c.pop_last.ensures.rises
     (omega (arith, c.len.ensures.value)) (omega (arith, c.allocation_size.ensures.value))

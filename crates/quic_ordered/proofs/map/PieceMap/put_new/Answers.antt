@@ -1,6 +1,4 @@
-use Rattle.std.proofs.Common.{arith, sym, ap, ◌∙◌, ℕ}
-use Rattle.std.specs.BTreeMap.{insert_entry}
-use Rattle.std.specs.Ordering.{nat_cmp}
+use Rattle.std.proofs.Common.{arith, sym}
 use Rattle.quic_ordered.proofs.Totals.{map_total_bound, inserted_new}
 use Rattle.quic_ordered.proofs.map.PieceMap.put_new.Goals as goal
 
@@ -12,9 +10,6 @@ overflow_add-self-in-Ok c = omega (arith, map_total_bound _ _ _ c.self.invariant
 
 pub invariant_of-self : goal.invariant_of-self
 invariant_of-self c =
-    inserted_new _ _ _ _ _ _ c.offset-offset.result c.args.piece c.self.invariant (record { below = c.len-length.ensures.bound; allocation = c.allocation_size-allocated.ensures.bound })
-    c.in-Ok.ensures.entries (sym (rw (c.offset-offset.ensures.value) (rw (← c.self.view_is) at c.requires))) c.in-Ok.ensures.ordered
+    inserted_new _ _ _ _ _ _ c.args.piece.offset c.args.piece c.self.invariant (record { below = c.len-length.ensures.bound; allocation = c.allocation_size-allocated.ensures.bound })
+    c.in-Ok.ensures.entries (sym (rw (← c.self.view_is) at c.requires)) c.put_new.ensures.rises
     (omega (arith, c.len-length.ensures.value)) (omega (arith, c.allocation_size-allocated.ensures.value))
-
-pub returns-in-Ok-clause-entries : goal.returns-in-Ok-clause-entries
-returns-in-Ok-clause-entries c = rw (← c.self.view_is) (c.in-Ok.ensures.entries ∙ ap (λ (n : ℕ). insert_entry nat_cmp c.self.inside.pieces.entries n c.args.piece) c.offset-offset.ensures.value)
