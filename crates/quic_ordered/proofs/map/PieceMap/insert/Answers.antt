@@ -1,12 +1,8 @@
-use Rattle.std.proofs.Common.{arith, sym, ap, subst, ◌∙◌, ◌≡◌, ◌+◌, length, List, ℕ, Option, Some, None, length-append}
-use Rattle.std.specs.Prelude.{is_some, if◌then◌else◌}
-use Rattle.std.specs.BTreeMap.{is_at}
-use Rattle.std.specs.Ordering.{nat_cmp}
-use Rattle.std.specs.Map.{set_value}
+use Rattle.std.proofs.Common.{sym, ap, subst, ◌∙◌, length, List, ℕ}
+use Rattle.std.specs.Prelude.{is_some}
 use Rattle.quic_assembler.specs.Piece.{PieceView}
-use Rattle.quic_ordered.specs.Entries.{piece_at, piece_of}
-use Rattle.quic_ordered.specs.Rows.{RiseByKey, FitsWords, IsSummedMap, tidied, joined_with}
-use Rattle.std.proofs.Common.{false}
+use Rattle.quic_ordered.specs.Entries.{piece_at}
+use Rattle.quic_ordered.specs.Rows.{RiseByKey}
 use Rattle.quic_ordered.proofs.Slotted.{insert_is_set, insert_at, insert_apart, insert_len, none_is_none}
 use Rattle.quic_ordered.proofs.map.PieceMap.insert.Goals as goal
 

@@ -1,11 +1,7 @@
-use Rattle.std.proofs.Common.{arith, sym, ap, subst, ◌∙◌, ◌≡◌, ◌+◌, length, List, ℕ, Option, Some, None, length-append}
-use Rattle.std.specs.Prelude.{is_some, if◌then◌else◌}
-use Rattle.std.specs.BTreeMap.{is_at}
-use Rattle.std.specs.Ordering.{nat_cmp}
-use Rattle.std.specs.Map.{set_value}
+use Rattle.std.proofs.Common.{arith, sym, ap, subst, ◌∙◌, length, List, ℕ}
 use Rattle.quic_assembler.specs.Piece.{PieceView}
-use Rattle.quic_ordered.specs.Entries.{piece_at, piece_of}
-use Rattle.quic_ordered.specs.Rows.{FitsWords, IsSummedMap, tidied, joined_with}
+use Rattle.quic_ordered.specs.Entries.{piece_at}
+use Rattle.quic_ordered.specs.Rows.{FitsWords, IsSummedMap, tidied}
 use Rattle.quic_ordered.specs.Slotted.{Slots}
 use Rattle.quic_ordered.proofs.Compacting.{tidied_is}
 use Rattle.quic_ordered.proofs.Placed.{value_at}

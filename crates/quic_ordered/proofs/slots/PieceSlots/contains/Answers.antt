@@ -1,4 +1,4 @@
-use Rattle.std.proofs.Common.{◌≡◌, ℕ, ◌+◌, ◌<◌, ◌≤◌, sym, ap, subst, refl, ◌∙◌, List, [], ◌∷◌, ◌++◌, length, arith, Option, Some, None, true, false}
+use Rattle.std.proofs.Common.{ℕ, sym, ap, ◌∙◌, Option}
 use Rattle.std.specs.Prelude.{is_some}
 use Rattle.quic_ordered.proofs.Slotted.{is_some_in}
 use Rattle.quic_ordered.proofs.slots.PieceSlots.contains.Goals as goal

@@ -1,7 +1,5 @@
-use Rattle.std.proofs.Common.{◌≡◌, ℕ, ◌+◌, ◌<◌, ◌≤◌, sym, ap, subst, refl, ◌∙◌, List, [], ◌∷◌, ◌++◌, length, arith, Option, Some, None, true, false}
-use Rattle.block_map.specs.Sorted.{KeyAndValue, KeysRise}
+use Rattle.block_map.specs.Sorted.{KeyAndValue}
 use Rattle.block_map.specs.Rows.{place_among}
-use Rattle.quic_assembler.specs.Piece.{PieceView, run_end}
 use Rattle.quic_ordered.proofs.Slotted.{first_piece, none_from}
 use Rattle.quic_ordered.proofs.slots.PieceSlots.first_from.Goals as goal
 

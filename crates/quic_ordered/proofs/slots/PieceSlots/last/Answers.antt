@@ -1,8 +1,5 @@
-use Rattle.std.proofs.Common.{◌≡◌, ℕ, ◌+◌, ◌<◌, ◌≤◌, sym, ap, subst, refl, ◌∙◌, List, [], ◌∷◌, ◌++◌, length, arith, Option, Some, None, true, false}
-use Rattle.block_map.specs.Sorted.{KeyAndValue, KeysRise}
-use Rattle.block_map.specs.Rows.{place_among}
-use Rattle.quic_assembler.specs.Piece.{PieceView, run_end}
-use Rattle.quic_ordered.proofs.Slotted.{slot_last, in_push}
+use Rattle.block_map.specs.Sorted.{KeyAndValue}
+use Rattle.quic_ordered.proofs.Slotted.{slot_last}
 use Rattle.quic_ordered.proofs.slots.PieceSlots.last.Goals as goal
 
 pub piece_in-requires : goal.piece_in-requires

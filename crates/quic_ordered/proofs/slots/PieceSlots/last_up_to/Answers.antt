@@ -1,7 +1,7 @@
-use Rattle.std.proofs.Common.{◌≡◌, ℕ, ◌+◌, ◌<◌, ◌≤◌, sym, ap, subst, refl, ◌∙◌, List, [], ◌∷◌, ◌++◌, length, arith, Option, Some, None, true, false}
-use Rattle.block_map.specs.Sorted.{KeyAndValue, KeysRise}
+use Rattle.std.proofs.Common.{sym, ap, ◌∙◌, Some}
+use Rattle.block_map.specs.Sorted.{KeyAndValue}
 use Rattle.block_map.specs.Rows.{place_among}
-use Rattle.quic_assembler.specs.Piece.{PieceView, run_end}
+use Rattle.quic_assembler.specs.Piece.{PieceView}
 use Rattle.quic_ordered.proofs.Slotted.{held_here, slot_here, found_some, last_low, none_since, none_up_to}
 use Rattle.quic_ordered.proofs.slots.PieceSlots.last_up_to.Goals as goal
 

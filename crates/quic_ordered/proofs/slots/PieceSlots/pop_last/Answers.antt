@@ -1,7 +1,7 @@
-use Rattle.std.proofs.Common.{◌≡◌, ℕ, ◌+◌, ◌<◌, ◌≤◌, sym, ap, subst, refl, ◌∙◌, List, [], ◌∷◌, ◌++◌, length, arith, Option, Some, None, true, false}
-use Rattle.block_map.specs.Sorted.{KeyAndValue, KeysRise}
+use Rattle.std.proofs.Common.{ℕ, sym, ap, ◌∙◌, List, [], ◌∷◌, ◌++◌}
+use Rattle.block_map.specs.Sorted.{KeyAndValue}
 use Rattle.block_map.specs.Rows.{place_among}
-use Rattle.quic_assembler.specs.Piece.{PieceView, run_end}
+use Rattle.quic_assembler.specs.Piece.{PieceView}
 use Rattle.quic_ordered.specs.Slotted.{in_slots}
 use Rattle.quic_ordered.proofs.Slotted.{last_out, left_slots, left_same, in_slot_is, rises_in, in_push}
 use Rattle.quic_ordered.proofs.slots.PieceSlots.pop_last.Goals as goal

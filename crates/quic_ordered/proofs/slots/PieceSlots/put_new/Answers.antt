@@ -1,7 +1,6 @@
-use Rattle.std.proofs.Common.{◌≡◌, ℕ, ◌+◌, ◌<◌, ◌≤◌, sym, ap, subst, refl, ◌∙◌, List, [], ◌∷◌, ◌++◌, length, arith, Option, Some, None, true, false}
-use Rattle.block_map.specs.Sorted.{KeyAndValue, KeysRise}
-use Rattle.block_map.specs.Rows.{place_among}
-use Rattle.quic_assembler.specs.Piece.{PieceView, run_end}
+use Rattle.std.proofs.Common.{ℕ, ap, ◌∙◌, List}
+use Rattle.block_map.specs.Sorted.{KeyAndValue}
+use Rattle.quic_assembler.specs.Piece.{PieceView}
 use Rattle.std.specs.BTreeMap.{insert_entry}
 use Rattle.std.specs.Ordering.{nat_cmp}
 use Rattle.quic_ordered.specs.Slotted.{in_slots, slot_at}

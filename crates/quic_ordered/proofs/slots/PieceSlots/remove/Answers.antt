@@ -1,10 +1,6 @@
-use Rattle.std.proofs.Common.{◌≡◌, ℕ, ◌+◌, ◌<◌, ◌≤◌, sym, ap, subst, refl, ◌∙◌, List, [], ◌∷◌, ◌++◌, length, arith, Option, Some, None, true, false}
-use Rattle.block_map.specs.Sorted.{KeyAndValue, KeysRise}
-use Rattle.block_map.specs.Rows.{place_among}
-use Rattle.quic_assembler.specs.Piece.{PieceView, run_end}
-use Rattle.std.specs.BTreeMap.{is_at}
-use Rattle.std.specs.Ordering.{nat_cmp}
-use Rattle.std.specs.Map.{remove_entry}
+use Rattle.std.proofs.Common.{sym, ap, refl, ◌∙◌, List, Some}
+use Rattle.block_map.specs.Sorted.{KeyAndValue}
+use Rattle.quic_assembler.specs.Piece.{PieceView}
 use Rattle.quic_ordered.specs.Slotted.{in_slots}
 use Rattle.quic_ordered.proofs.Slotted.{left_slots, left_in, in_slot_is, rises_in, found_some, found_none, moved_slots, remove_none}
 use Rattle.quic_ordered.proofs.slots.PieceSlots.remove.Goals as goal

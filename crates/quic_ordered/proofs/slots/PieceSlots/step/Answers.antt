@@ -1,7 +1,7 @@
-use Rattle.std.proofs.Common.{◌≡◌, ℕ, ◌+◌, ◌<◌, ◌≤◌, sym, ap, subst, refl, ◌∙◌, List, [], ◌∷◌, ◌++◌, length, arith, drop, Option, Some, None, true, false}
-use Rattle.block_map.specs.Sorted.{KeyAndValue, KeysRise}
+use Rattle.std.proofs.Common.{ℕ, ◌+◌, sym, ap, ◌∙◌, List, ◌∷◌, length, arith, drop}
+use Rattle.block_map.specs.Sorted.{KeyAndValue}
 use Rattle.block_map.specs.Rows.{place_among}
-use Rattle.quic_assembler.specs.Piece.{PieceView, run_end}
+use Rattle.quic_assembler.specs.Piece.{PieceView}
 use Rattle.quic_ordered.specs.Slotted.{Slots, as_slots, from_place, in_slots}
 use Rattle.quic_ordered.proofs.Slotted.{held_here, drop_place, next_fits, next_rest}
 use Rattle.quic_ordered.proofs.slots.PieceSlots.step.Goals as goal

@@ -1,15 +1,11 @@
-use Rattle.std.proofs.Common.{◌≡◌, ℕ, ◌+◌, ◌<◌, ◌≤◌, sym, ap, subst, refl, ◌∙◌, List, [], ◌∷◌, ◌++◌, length, arith, Option, Some, None, true, false}
-use Rattle.block_map.specs.Sorted.{KeyAndValue, KeysRise}
-use Rattle.block_map.specs.Rows.{place_among}
-use Rattle.quic_assembler.specs.Piece.{PieceView, run_end}
-use Rattle.std.specs.Prelude.{Result, Ok, Err, OnOk, IfOk}
+use Rattle.std.proofs.Common.{sym, ap, ◌∙◌}
+use Rattle.quic_assembler.specs.Piece.{PieceView}
 use Rattle.std.specs.BTreeMap.{is_at}
 use Rattle.std.specs.Ordering.{nat_cmp}
 use Rattle.std.specs.Map.{set_value}
-use Rattle.quic_ordered.specs.Entries.{piece_at, piece_of}
-use Rattle.quic_ordered.specs.Rows.{tidied, joined_with}
+use Rattle.quic_ordered.specs.Rows.{tidied}
 use Rattle.quic_ordered.specs.Slotted.{in_slot, in_slots}
-use Rattle.quic_ordered.proofs.Held.{some_is, none_some}
+use Rattle.quic_ordered.proofs.Held.{some_is}
 use Rattle.quic_ordered.proofs.Firsts.{on_ok}
 use Rattle.quic_ordered.proofs.Slotted.{set_in, rises_in, found_some, found_none, if_ok}
 use Rattle.quic_ordered.proofs.slots.PieceSlots.tidy.Goals as goal
