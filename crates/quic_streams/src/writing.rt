@@ -7,7 +7,7 @@ ghost use Rattle.quic_outgoing.specs.Outgoing.{is_stuck};
 ghost use Rattle.quic_outgoing.specs.Shown.{outgoing_view};
 ghost use Rattle.quic_streams.specs.Connection.{is_shut};
 ghost use Rattle.quic_streams.specs.Shown.{streams_view};
-ghost use Rattle.quic_streams.specs.Writing.{IsWrittenAs, HasPlace, HasPlaceAt};
+ghost use Rattle.quic_streams.specs.Writing.{IsWrittenAs, HasPlace, HasPlaceAt, MayWantPlace};
 ghost use Rattle.quic_history.specs.Writes.{WritesOwn, FinishesOwn, ResetsOwn, SetsOwnPriority, with_queued};
 
 use crate::state::StreamsState;
@@ -94,6 +94,7 @@ impl StreamsState {
         ensures same { streams_view self.new ≡ streams_view self.old }
         ensures ok { OnOk result (HasPlace self.new id) }
         ensures held { OnErr result (is_some ((streams_view self.old).out.halves id) ≡ true) }
+        ensures memory { OnErr result (MayWantPlace ((streams_view self.old).out.halves id)) }
     {
         match self.outgoing.queue_place(id) {
             None => Ok(()),
