@@ -591,6 +591,25 @@ fn counters_stop(rt: HostRuntime) -> Result<(), Fail> {
     Ok(())
 }
 
+fn are_zero(rt: &impl Abort, alloc: Global, stats: FrameStats) -> Result<(), Fail> {
+    let wanted = concat!(
+        "FrameStats { ACK: 0, ACK_FREQUENCY: 0, CONNECTION_CLOSE: 0, CRYPTO: 0, DATA_BLOCKED: 0, DATAGRAM: 0, ",
+        "HANDSHAKE_DONE: 0, IMMEDIATE_ACK: 0, MAX_DATA: 0, MAX_STREAM_DATA: 0, MAX_STREAMS_BIDI: 0, ",
+        "MAX_STREAMS_UNI: 0, NEW_CONNECTION_ID: 0, NEW_TOKEN: 0, PATH_CHALLENGE: 0, PATH_RESPONSE: 0, PING: 0, ",
+        "RESET_STREAM: 0, RETIRE_CONNECTION_ID: 0, STREAM_DATA_BLOCKED: 0, STREAMS_BLOCKED_BIDI: 0, ",
+        "STREAMS_BLOCKED_UNI: 0, STOP_SENDING: 0, STREAM: 0 }"
+    );
+    same(rt, format!(in alloc; "{stats:?}")?.as_str(), wanted);
+    Ok(())
+}
+
+#[test]
+fn counters_begin_at_zero(rt: HostRuntime) -> Result<(), Fail> {
+    are_zero(&rt, rt.alloc(), FrameStats::default())?;
+    are_zero(&rt, rt.alloc(), no_frames())?;
+    Ok(())
+}
+
 // The name of each counter stands before its own number.
 #[test]
 fn counters_by_name(rt: HostRuntime) -> Result<(), Fail> {

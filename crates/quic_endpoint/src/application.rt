@@ -1,12 +1,12 @@
 //! The calls of the application of an end.
 
-ghost use Rattle.std.specs.Prelude.{ℕ, List, ◌∷◌, ◌≡◌, false, Ok, Err, IfOk, IfErr};
+ghost use Rattle.std.specs.Prelude.{ℕ, List, ◌∷◌, ◌≡◌, false, Ok, Err, IfOk, IfErr, OnErr};
 ghost use Rattle.quic_history.specs.World.{Made};
 ghost use Rattle.quic_history.specs.History.{Event, Sending, Accepted, Stopped, ToldReset, Began, From, with_reads};
 ghost use Rattle.quic_history.specs.SendEvents.{OpenedOwn, WroteOwn, FinishedOwn, ResetOwn, SetOwnPriority};
 ghost use Rattle.quic_history.specs.Permitting.{with_accepted, acceptable};
 ghost use Rattle.quic_history.specs.Reading.{Stops, TellsReset, ReadsSome, Begins};
-ghost use Rattle.quic_sending.specs.Source.{slice_lists};
+ghost use Rattle.quic_sending.specs.Source.{slice_lists, without_first};
 ghost use Rattle.quic_streams.specs.Writing.{IsWrittenAs};
 ghost use Rattle.quic_endpoint.specs.Shown.{endpoint_view};
 ghost use Rattle.quic_endpoint.specs.Ends.{with_world, OpensAt, WritesAt, FinishesAt, ResetsAt, SetsPriorityAt, StopsReading, TellsResetAt, ReadsAt, RefusesRead, is_handled, is_opened};
@@ -57,6 +57,8 @@ impl Endpoint {
     ) -> Result<Written, WriteError>
         ensures writes { WritesAt (endpoint_view self.old) id chunks.old result (endpoint_view self.new) }
         ensures from { (m : Made) (h : List Event) → From m h (endpoint_view self.old).streams → From m (Sending (WroteOwn id chunks.old false result) ∷ h) (endpoint_view self.new).streams }
+        ensures left { IfOk result (λ written. chunks.new ≡ without_first written.bytes chunks.old) }
+        ensures kept { OnErr result (chunks.new ≡ chunks.old) }
     {
         let (streams, pending) = (&mut self.streams, &mut self.pending);
         SendStream::new(id, streams, pending, ConnState::Open).write_chunks(chunks)

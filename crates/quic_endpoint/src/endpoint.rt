@@ -1,11 +1,12 @@
 //! An end, and the calls of its application.
 
-ghost use Rattle.std.specs.Prelude.{ℕ, List, ◌∷◌, [], ◌≡◌, ◌≤◌, ◌^◌, IfOk, nat_lt};
-ghost use Rattle.quic_history.specs.World.{Made, made_with, start};
+ghost use Rattle.std.specs.Prelude.{ℕ, List, ◌∷◌, [], ◌≡◌, ◌≤◌, ◌^◌, IfOk, IsOk, nat_lt};
+ghost use Rattle.quic_history.specs.World.{Made, made_with, start, remote_of};
 ghost use Rattle.quic_history.specs.History.{Event, Sending, Resized, SetConcurrent, From};
 ghost use Rattle.quic_history.specs.SendEvents.{GaveLimits, SetWindow, Polled};
 ghost use Rattle.quic_history.specs.Sends.{with_out, TellsNext};
 ghost use Rattle.quic_limits.specs.SendingCredit.{with_window};
+ghost use Rattle.quic_limits.specs.Remote.{lacking};
 ghost use Rattle.quic_outgoing.specs.Outgoing.{with_params};
 ghost use Rattle.quic_retransmits.specs.Pending.{nothing};
 ghost use Rattle.quic_streams.specs.Shown.{streams_view};
@@ -89,9 +90,10 @@ impl Endpoint {
     }
 
     /// Sets how many streams of a direction the peer is to be able to use at a time, and queues MAX_STREAMS where it is
-    /// due. A refusal changes nothing.
+    /// due. A refusal changes nothing; where no more streams are permitted there is none.
     pub fn set_max_concurrent(&mut self, dir: Dir, count: VarInt) -> Result<(), OutOfMemory>
         ensures sets { SetsConcurrentAt (endpoint_view self.old) dir count result (endpoint_view self.new) }
+        ensures unneeded { lacking (remote_of (endpoint_view self.old).streams dir) count ≡ 0 → IsOk result }
         ensures from { (m : Made) (h : List Event) → From m h (endpoint_view self.old).streams → From m (SetConcurrent dir count result ∷ h) (endpoint_view self.new).streams }
     {
         let answer = self.streams.set_max_concurrent(dir, count);

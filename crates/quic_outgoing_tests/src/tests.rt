@@ -270,7 +270,9 @@ fn write_chunks(
     stream: StreamId,
     chunks: &mut [Bytes],
 ) -> Written {
-    match write(subject, stream, &mut BytesArray::from_chunks(alloc, chunks)) {
+    let mut part = Bytes::new(alloc);
+    let mut source = BytesArray::from_chunks(alloc, chunks, &mut part);
+    match write(subject, stream, &mut source) {
         Ok(wrote) => wrote.written,
         Err(_) => Written::default(),
     }

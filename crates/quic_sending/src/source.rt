@@ -101,32 +101,36 @@ impl BytesSource for ByteSlice<'_> {
 
 /// Chunks of bytes that are taken whole, without a copy. Of the last one a part may be taken: that
 /// is copied by `prepare`, and the chunk keeps its rest. A chunk that was taken is empty from then on.
+///
+/// The copy lies in a place that the caller lends: so a source owns no memory, and what is left in the
+/// chunks is known once it is gone.
 #[derive(Drop)]
 pub struct BytesArray<'a> {
     chunks: &'a mut [Bytes],
     // How many chunks were taken whole. They are empty now.
     consumed: usize,
     // The piece that will be cut off.
-    part: Bytes,
+    part: &'a mut Bytes,
     ready: usize,
     alloc: Global,
     ghost in_range: { consumed ≤ length chunks.now },
     ghost taken: { take consumed chunks.now ≡ replicate consumed [] },
-    ghost is_part: { part ≡ cut_piece ready (drop consumed chunks.now) },
+    ghost is_part: { part.now ≡ cut_piece ready (drop consumed chunks.now) },
 }
 
 impl<'a> BytesArray<'a> {
-    /// All bytes of these chunks. Takes no memory.
+    /// All bytes of these chunks. What `part` holds is let go. Takes no memory.
     #[inline]
-    pub fn from_chunks(alloc: Global, chunks: &'a mut [Bytes]) -> Self
+    pub fn from_chunks(alloc: Global, chunks: &'a mut [Bytes], part: &'a mut Bytes) -> Self
         ensures lists { ⟦<BytesArray<'a> as BytesSource>⟧.lists result ≡ chunks.entry.now }
         ensures borrow { ⟦<BytesArray<'a> as BytesSource>⟧.borrow result ≡ chunks.entry.ghost_name }
         ensures list_count { ⟦<BytesArray<'a> as BytesSource>⟧.list_count result ≡ length chunks.entry.now }
     {
+        *part = Bytes::new(alloc);
         BytesArray {
             chunks,
             consumed: 0,
-            part: Bytes::new(alloc),
+            part,
             ready: 0,
             alloc,
         }
@@ -145,7 +149,7 @@ impl BytesSource for BytesArray<'_> {
     fn prepare(&mut self, limit: usize) -> Result<usize, OutOfMemory> {
         let chunks = &mut *self.chunks;
         let (count, part) = prepare_chunks(self.alloc, chunks, self.consumed, limit)?;
-        self.part = part;
+        *self.part = part;
         self.ready = limit;
         Ok(count)
     }
@@ -162,7 +166,7 @@ impl BytesSource for BytesArray<'_> {
         if limit < chunk.len() {
             chunk.advance(limit);
             self.ready = 0;
-            return (mem::replace(&mut self.part, Bytes::new(self.alloc)), ended);
+            return (mem::replace(self.part, Bytes::new(self.alloc)), ended);
         }
         let whole = mem::replace(chunk, Bytes::new(self.alloc));
         self.consumed += 1;

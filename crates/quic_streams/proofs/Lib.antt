@@ -8,3 +8,4 @@ pub mod Unsent
 pub mod PayloadReports
 pub mod Sent
 pub mod Visits
+pub mod LeftChunks

@@ -20,6 +20,11 @@ IsPlaceOf (Some s) reserved = HasNoMore s → reserved ≡ Some s.priority
 abbrev pub HasPlace : StreamsState → ℕ → Type 0
 HasPlace s id = IsPlaceOf ((outgoing_view s.outgoing).halves id) s.queue.reserved
 
+-- memory may be wanted to queue a stream: it is held, and nothing is to be sent on it
+abbrev pub MayWantPlace : Option Send → Type 0
+MayWantPlace None = ⊥
+MayWantPlace (Some s) = HasNoMore s
+
 -- there is room in the queue where it is asked for
 abbrev pub HasPlaceAt : StreamsState → Option ℤ → Type 0
 HasPlaceAt s None = Unit {0}

@@ -1,6 +1,8 @@
 //! Acknowledgements and losses of what this end sent.
 
-ghost use Rattle.std.specs.Prelude.{ℕ, List, ◌∷◌, ◌≡◌, ◌≤◌, OnOk, OnErr, is_some, true, false};
+ghost use Rattle.std.specs.Prelude.{ℕ, List, ◌∷◌, ◌≡◌, ◌≤◌, ◌⊎◌, OnOk, OnErr, is_some, true, false};
+ghost use Rattle.quic_outgoing.specs.Acknowledging.{LossMayWantMemory};
+ghost use Rattle.quic_streams.specs.Writing.{MayWantPlace};
 ghost use Rattle.quic_streams.specs.Room.{rooms, HasEventRoom};
 ghost use Rattle.quic_streams.specs.Shown.{streams_view};
 ghost use Rattle.quic_history.specs.World.{Made};
@@ -63,9 +65,11 @@ impl StreamsState {
     /// and the end of the stream, if the frame had it. The stream is queued where nothing was to be sent on it before.
     ///
     /// The report of a stream that is freed or was reset, or of data that were not sent, changes nothing. If refused, all
-    /// is as it was; of a stream that is freed none is.
+    /// is as it was; of a stream that is freed none is. Where something is to be sent on the stream already, only data that
+    /// are not acknowledged want memory.
     pub fn retransmit(&mut self, frame: frame::StreamMeta) -> Result<(), OutOfMemory>
         ensures loses { LosesOwn (streams_view self.old) frame.id frame.offsets frame.fin result (streams_view self.new) }
+        ensures memory { OnErr result (MayWantPlace ((streams_view self.old).out.halves frame.id) ⊎ LossMayWantMemory frame.offsets ((streams_view self.old).out.halves frame.id)) }
         ensures from { (m : Made) (h : List Event) → From m h (streams_view self.old)
             → From m (Sending (LostOwn frame.id frame.offsets frame.fin result) ∷ h) (streams_view self.new) }
     {
@@ -74,7 +78,8 @@ impl StreamsState {
 
     // The same, each way out.
     pub(crate) fn take_loss(&mut self, frame: frame::StreamMeta) -> Result<(), OutOfMemory>
-        ensures { LosesOwn (streams_view self.old) frame.id frame.offsets frame.fin result (streams_view self.new) }
+        ensures loses { LosesOwn (streams_view self.old) frame.id frame.offsets frame.fin result (streams_view self.new) }
+        ensures memory { OnErr result (MayWantPlace ((streams_view self.old).out.halves frame.id) ⊎ LossMayWantMemory frame.offsets ((streams_view self.old).out.halves frame.id)) }
     {
         let id = frame.id;
         self.reserve_place(id)?;

@@ -1,7 +1,7 @@
 //! How much the peer may send and open.
 
-ghost use Rattle.std.specs.Prelude.{ℕ, List, ◌∷◌, ◌≡◌, ◌+◌, ◌<◌, ◌≤◌, ◌^◌, OnOk, nat_lt};
-ghost use Rattle.quic_limits.specs.Remote.{open_now, with_concurrent};
+ghost use Rattle.std.specs.Prelude.{ℕ, List, ◌∷◌, ◌≡◌, ◌+◌, ◌<◌, ◌≤◌, ◌^◌, OnOk, IsOk, nat_lt};
+ghost use Rattle.quic_limits.specs.Remote.{open_now, with_concurrent, lacking};
 ghost use Rattle.quic_streams.specs.Held.{room};
 ghost use Rattle.quic_streams.specs.Shown.{streams_view};
 ghost use Rattle.quic_history.specs.World.{Made, remote_of, with_receive_window};
@@ -26,9 +26,10 @@ impl StreamsState {
 
     /// Sets how many streams of a direction the peer is to be able to use at a time (RFC 9000 section 4.6). Where it may
     /// use fewer, more are permitted at once; a lower count takes nothing back. [`StreamsState::queue_max_stream_id`]
-    /// then queues what tells the peer. A refusal changes nothing.
+    /// then queues what tells the peer. A refusal changes nothing; where no more are permitted there is none.
     pub fn set_max_concurrent(&mut self, dir: Dir, count: VarInt) -> Result<(), OutOfMemory>
         ensures sets { SetsConcurrent (streams_view self.old) dir count result (streams_view self.new) }
+        ensures unneeded { lacking (remote_of (streams_view self.old) dir) count ≡ 0 → IsOk result }
         ensures from { (m : Made) (h : List Event) → From m h (streams_view self.old) → From m (SetConcurrent dir count result ∷ h) (streams_view self.new) }
     {
         self.set_concurrent(dir, count)
@@ -36,7 +37,8 @@ impl StreamsState {
 
     // The same, by direction.
     fn set_concurrent(&mut self, dir: Dir, count: VarInt) -> Result<(), OutOfMemory>
-        ensures { SetsConcurrent (streams_view self.old) dir count result (streams_view self.new) }
+        ensures sets { SetsConcurrent (streams_view self.old) dir count result (streams_view self.new) }
+        ensures unneeded { lacking (remote_of (streams_view self.old) dir) count ≡ 0 → IsOk result }
     {
         match dir {
             Dir::Bi => self.set_concurrent_bi(count),
@@ -45,11 +47,14 @@ impl StreamsState {
     }
 
     fn set_concurrent_bi(&mut self, count: VarInt) -> Result<(), OutOfMemory>
-        ensures { SetsConcurrent (streams_view self.old) Dir.Bi count result (streams_view self.new) }
+        ensures sets { SetsConcurrent (streams_view self.old) Dir.Bi count result (streams_view self.new) }
+        ensures unneeded { lacking (remote_of (streams_view self.old) Dir.Bi) count ≡ 0 → IsOk result }
     {
         let (first, more) = (self.bi.max_remote(), self.bi.lacking(count));
-        self.receive.reserve(more as usize)?;
-        self.outgoing.reserve(more as usize)?;
+        if more > 0 {
+            self.receive.reserve(more as usize)?;
+            self.outgoing.reserve(more as usize)?;
+        }
         self.receive
             .permit_more(!self.outgoing.side(), Dir::Bi, first, more);
         self.outgoing.permit_more(first, more);
@@ -59,10 +64,13 @@ impl StreamsState {
     }
 
     fn set_concurrent_uni(&mut self, count: VarInt) -> Result<(), OutOfMemory>
-        ensures { SetsConcurrent (streams_view self.old) Dir.Uni count result (streams_view self.new) }
+        ensures sets { SetsConcurrent (streams_view self.old) Dir.Uni count result (streams_view self.new) }
+        ensures unneeded { lacking (remote_of (streams_view self.old) Dir.Uni) count ≡ 0 → IsOk result }
     {
         let (first, more) = (self.uni.max_remote(), self.uni.lacking(count));
-        self.receive.reserve(more as usize)?;
+        if more > 0 {
+            self.receive.reserve(more as usize)?;
+        }
         self.receive
             .permit_more(!self.outgoing.side(), Dir::Uni, first, more);
         self.uni.set_max_concurrent(count);

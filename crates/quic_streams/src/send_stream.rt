@@ -1,7 +1,7 @@
 //! The send half of a stream, for the application.
 
-ghost use Rattle.std.specs.Prelude.{ℕ, List, ◌∷◌, ◌≡◌, ◌≤◌, IfOk, IfErr, OnOk, Ok, Err, None, Some};
-ghost use Rattle.quic_sending.specs.Source.{slice_lists};
+ghost use Rattle.std.specs.Prelude.{ℕ, List, ◌∷◌, ◌≡◌, ◌≤◌, IfOk, IfErr, OnOk, OnErr, Ok, Err, None, Some};
+ghost use Rattle.quic_sending.specs.Source.{slice_lists, without_first};
 ghost use Rattle.quic_outgoing.specs.Calls.{told_of_half};
 ghost use Rattle.quic_retransmits.specs.Pending.{Pending, pending_view};
 ghost use Rattle.quic_streams.specs.Connection.{is_shut};
@@ -76,6 +76,8 @@ impl<'a> SendStream<'a> {
         ensures id { self.new.id ≡ self.old.id }
         ensures conn { self.new.conn ≡ self.old.conn }
         ensures writes { (left : List (List ℕ)) × WritesOwn (streams_view self.old.state.now) self.old.id chunks.old (is_shut self.old.conn) (pending_view self.old.pending.now) result (streams_view self.new.state.now) left (pending_view self.new.pending.now) }
+        ensures left { IfOk result (λ written. chunks.new ≡ without_first written.bytes chunks.old) }
+        ensures kept { OnErr result (chunks.new ≡ chunks.old) }
         ensures from { (m : Made) (h : List Event) → From m h (streams_view self.old.state.now)
             → From m (Sending (WroteOwn self.old.id chunks.old (is_shut self.old.conn) result) ∷ h) (streams_view self.new.state.now) }
     {

@@ -1,13 +1,13 @@
 //! Writes, ends and resets of a stream, on the state.
 
 ghost use Rattle.std.specs.Prelude.{ℕ, ℤ, List, ◌∷◌, ◌≡◌, ◌≤◌, OnErr, OnOk, IfOk, None, Some, Ok, is_some, true, false};
-ghost use Rattle.quic_sending.specs.Source.{slice_lists};
+ghost use Rattle.quic_sending.specs.Source.{slice_lists, without_first};
 ghost use Rattle.quic_retransmits.specs.Pending.{pending_view};
 ghost use Rattle.quic_outgoing.specs.Outgoing.{is_stuck};
 ghost use Rattle.quic_outgoing.specs.Shown.{outgoing_view};
 ghost use Rattle.quic_streams.specs.Connection.{is_shut};
 ghost use Rattle.quic_streams.specs.Shown.{streams_view};
-ghost use Rattle.quic_streams.specs.Writing.{IsWrittenAs, HasPlace, HasPlaceAt};
+ghost use Rattle.quic_streams.specs.Writing.{IsWrittenAs, HasPlace, HasPlaceAt, MayWantPlace};
 ghost use Rattle.quic_history.specs.Writes.{WritesOwn, FinishesOwn, ResetsOwn, SetsOwnPriority, with_queued};
 
 use crate::state::StreamsState;
@@ -36,7 +36,7 @@ impl StreamsState {
         }
     }
 
-    // Writes the first bytes of some chunks.
+    // Writes the first bytes of some chunks, and leaves the others in them.
     pub(crate) fn write_lists(
         &mut self,
         pending: &mut Retransmits,
@@ -44,9 +44,12 @@ impl StreamsState {
         chunks: &mut [Bytes],
         conn: ConnState,
     ) -> Result<Written, WriteError>
-        ensures { (left : List (List ℕ)) × WritesOwn (streams_view self.old) id chunks.old (is_shut conn) (pending_view pending.old) result (streams_view self.new) left (pending_view pending.new) }
+        ensures writes { (left : List (List ℕ)) × WritesOwn (streams_view self.old) id chunks.old (is_shut conn) (pending_view pending.old) result (streams_view self.new) left (pending_view pending.new) }
+        ensures left { IfOk result (λ written. chunks.new ≡ without_first written.bytes chunks.old) }
+        ensures kept { OnErr result (chunks.new ≡ chunks.old) }
     {
-        let mut source = BytesArray::from_chunks(self.receive.alloc, chunks);
+        let mut part = Bytes::new(self.receive.alloc);
+        let mut source = BytesArray::from_chunks(self.receive.alloc, chunks, &mut part);
         self.write_source(pending, id, &mut source, conn)
     }
 
@@ -58,7 +61,9 @@ impl StreamsState {
         source: &mut S,
         conn: ConnState,
     ) -> Result<Written, WriteError>
-        ensures { WritesOwn (streams_view self.old) id (S.lists source.old) (is_shut conn) (pending_view pending.old) result (streams_view self.new) (S.lists source.new) (pending_view pending.new) }
+        ensures writes { WritesOwn (streams_view self.old) id (S.lists source.old) (is_shut conn) (pending_view pending.old) result (streams_view self.new) (S.lists source.new) (pending_view pending.new) }
+        ensures borrow { S.borrow source.new ≡ S.borrow source.old }
+        ensures list_count { S.list_count source.new ≡ S.list_count source.old }
     {
         if matches!(conn, ConnState::Closed) {
             return Err(WriteError::Blocked);
@@ -94,6 +99,7 @@ impl StreamsState {
         ensures same { streams_view self.new ≡ streams_view self.old }
         ensures ok { OnOk result (HasPlace self.new id) }
         ensures held { OnErr result (is_some ((streams_view self.old).out.halves id) ≡ true) }
+        ensures memory { OnErr result (MayWantPlace ((streams_view self.old).out.halves id)) }
     {
         match self.outgoing.queue_place(id) {
             None => Ok(()),

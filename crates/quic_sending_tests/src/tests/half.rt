@@ -22,8 +22,8 @@ fn slice_source<'a>(alloc: Global, text: &'a [u8]) -> ByteSlice<'a> {
     ByteSlice::from_slice(alloc, text)
 }
 
-fn chunk_source<'a>(alloc: Global, chunks: &'a mut [Bytes]) -> BytesArray<'a> {
-    BytesArray::from_chunks(alloc, chunks)
+fn chunk_source<'a>(alloc: Global, chunks: &'a mut [Bytes], part: &'a mut Bytes) -> BytesArray<'a> {
+    BytesArray::from_chunks(alloc, chunks, part)
 }
 
 fn offset(send: &Send) -> u64 {
@@ -133,7 +133,12 @@ fn write_chunks(
     chunks: &mut [Bytes],
     limit: u64,
 ) -> Result<Written, WriteError> {
-    write(send, &mut BytesArray::from_chunks(alloc, chunks), limit)
+    let mut part = Bytes::new(alloc);
+    write(
+        send,
+        &mut BytesArray::from_chunks(alloc, chunks, &mut part),
+        limit,
+    )
 }
 
 // What a write of these chunks takes under a stream limit, and what is left of them.
@@ -216,7 +221,8 @@ fn refused_memory_changes_no_source(rt: HostRuntime) -> Result<(), Fail> {
         return Ok(());
     };
     let mut send = half(rt.alloc(), 100);
-    let mut source = chunk_source(rt.alloc(), chunks.as_mut_slice());
+    let mut part = Bytes::new(rt.alloc());
+    let mut source = chunk_source(rt.alloc(), chunks.as_mut_slice(), &mut part);
     takes_again(&rt, &mut send, &mut source, 7, written(7, 2))?;
     let mut source = slice_source(rt.alloc(), b"rld!");
     takes_again(&rt, &mut send, &mut source, 3, written(3, 0))?;

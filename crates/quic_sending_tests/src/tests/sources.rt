@@ -41,7 +41,12 @@ fn take_out<S: BytesSource>(
 }
 
 fn take_chunks(alloc: Global, chunks: &mut [Bytes], limit: usize) -> Result<Taken, OutOfMemory> {
-    take_out(alloc, &mut BytesArray::from_chunks(alloc, chunks), limit)
+    let mut part = Bytes::new(alloc);
+    take_out(
+        alloc,
+        &mut BytesArray::from_chunks(alloc, chunks, &mut part),
+        limit,
+    )
 }
 
 // The chunks, what is taken of them at a limit, and what is left.

@@ -7,7 +7,7 @@ pub invariant_of-self : goal.invariant_of-self
 invariant_of-self c =
     let s = c.args.self.now in
     let pops = pops_at_end s.chunks.now s.consumed _ c.args.limit c.count_empty-ended.ensures.left (omega arith) in
-    let was : s.part ≡ cut_piece c.args.limit (drop s.consumed s.chunks.now) = s.is_part ∙ ap (λ (n : ℕ). cut_piece n (drop s.consumed s.chunks.now)) (sym c.requires) in
+    let was : s.part.now ≡ cut_piece c.args.limit (drop s.consumed s.chunks.now) = s.is_part ∙ ap (λ (n : ℕ). cut_piece n (drop s.consumed s.chunks.now)) (sym c.requires) in
     record {
       in_range = omega arith;
       taken = taken_front s.chunks.now s.consumed c.count_empty-ended.result (omega arith) s.taken c.count_empty-ended.ensures.left;
@@ -51,7 +51,7 @@ returns-then-limit-len-clause-piece c =
     let at : v ≡ get_or s.chunks.now i v = ap (λ (d : List ℕ). get_or s.chunks.now i d) c.index-chunks-self.is in
     let short : c.args.limit < length v = omega arith in
     let pops = pops_at_part s.chunks.now s.consumed i c.args.limit v c.count_empty-ended.ensures.left (omega arith) at short in
-    let was : s.part ≡ cut_piece c.args.limit (drop s.consumed s.chunks.now) = s.is_part ∙ ap (λ (n : ℕ). cut_piece n (drop s.consumed s.chunks.now)) (sym c.requires) in
+    let was : s.part.now ≡ cut_piece c.args.limit (drop s.consumed s.chunks.now) = s.is_part ∙ ap (λ (n : ℕ). cut_piece n (drop s.consumed s.chunks.now)) (sym c.requires) in
     c.replace.ensures.value ∙ (was ∙ (pops.part ∙ sym pops.piece))
 
 pub returns-then-limit-len-clause-left : goal.returns-then-limit-len-clause-left
@@ -83,7 +83,7 @@ invariant_of-self-2 c =
     let at : v ≡ get_or s.chunks.now i v = ap (λ (d : List ℕ). get_or s.chunks.now i d) c.index-chunks-self.is in
     let long : length v ≤ c.args.limit = omega arith in
     let pops = pops_at_whole s.chunks.now s.consumed i c.args.limit v c.count_empty-ended.ensures.left (omega arith) at long in
-    let was : s.part ≡ cut_piece c.args.limit (drop s.consumed s.chunks.now) = s.is_part ∙ ap (λ (n : ℕ). cut_piece n (drop s.consumed s.chunks.now)) (sym c.requires) in
+    let was : s.part.now ≡ cut_piece c.args.limit (drop s.consumed s.chunks.now) = s.is_part ∙ ap (λ (n : ℕ). cut_piece n (drop s.consumed s.chunks.now)) (sym c.requires) in
     let same = length-set s.chunks.now i c.replace-whole.new.dest in
     let size : length c.replace-whole.result ≡ length v = ap (λ (x : List ℕ). length x) c.replace-whole.ensures.value in
     let left : c.args.limit - length v ≡ c.args.limit - c.len-2.result = omega arith in

@@ -9,4 +9,4 @@ use Rattle.quic_streams.proofs.send_stream.SendStream.write_chunks.Goals as goal
 pub returns-clause-from : goal.returns-clause-from
 returns-clause-from c = λ m h f.
     next m h (streams_view c.args.self.now.state.now) (Sending (WroteOwn c.args.self.now.id c.args.chunks.now (is_shut c.args.self.now.conn) c.write_lists.result)) (streams_view c.write_lists.new.self) tt f
-    (pending_view c.args.self.now.pending.now, pending_view c.write_lists.new.pending, c.write_lists.ensures.0, c.write_lists.ensures.1)
+    (pending_view c.args.self.now.pending.now, pending_view c.write_lists.new.pending, c.write_lists.ensures.writes.0, c.write_lists.ensures.writes.1)

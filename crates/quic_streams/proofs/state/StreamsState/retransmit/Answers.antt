@@ -7,4 +7,4 @@ use Rattle.quic_streams.proofs.state.StreamsState.retransmit.Goals as goal
 pub returns-clause-from : goal.returns-clause-from
 returns-clause-from c = λ m h f.
     let e = Sending (LostOwn c.args.frame.id c.args.frame.offsets c.args.frame.fin c.take_loss.result) in
-    next m h (streams_view c.args.self.now) e (streams_view c.take_loss.new.self) tt f c.take_loss.ensures
+    next m h (streams_view c.args.self.now) e (streams_view c.take_loss.new.self) tt f c.take_loss.ensures.loses

@@ -6,4 +6,4 @@ use Rattle.quic_streams.proofs.state.StreamsState.set_max_concurrent.Goals as go
 pub returns-clause-from : goal.returns-clause-from
 returns-clause-from c = λ m h f.
     let e = SetConcurrent c.args.dir c.args.count c.set_concurrent.result in
-    next m h (streams_view c.args.self.now) e (streams_view c.set_concurrent.new.self) tt f c.set_concurrent.ensures
+    next m h (streams_view c.args.self.now) e (streams_view c.set_concurrent.new.self) tt f c.set_concurrent.ensures.sets
