@@ -8,7 +8,7 @@ use Rattle.quic_wire.specs.declared.frame.Frame.{Frame}
 use Rattle.quic_session.specs.declared.session.Session.{Session}
 use Rattle.quic_session.specs.declared.receiving.Received.{Received}
 use Rattle.quic_session.specs.declared.receiving.PayloadError.{PayloadError}
-use Rattle.quic_session.specs.Receiving.{FrameCall, TakesFrames, none, more, ReceivesFrom, PassesOver, TakesOne, TakesAll, StopsAtRefused}
+use Rattle.quic_session.specs.Receiving.{FrameCall, TakesFrames, none, more, ReceivesFrom, PassesOverFrame, TakesOne, TakesAll, StopsAtRefused}
 
 -- of the frames so far, those from a place on were taken
 pub record Past (size first : ℕ) (s : Session) (seen : List Frame) (t : Session) : Type 0 where

@@ -22,7 +22,7 @@ AreFew [] most = Unit {0}
 AreFew (c ∷ cs) most = (cs ≡ []) × (length c.bytes ≤ most)
 
 -- a stream that was given was read, for one chunk of at most as many bytes as the buffer has
-pub record ReadsChunk (s : Session) (id : ℕ) (ordered : Bool) (out : List ℕ) (r : ReadInto) (t : Session) (new : List ℕ) : Type 0 where
+pub record ReadsChunkInto (s : Session) (id : ℕ) (ordered : Bool) (out : List ℕ) (r : ReadInto) (t : Session) (new : List ℕ) : Type 0 where
   pub given : was_given (end_of s).streams id ≡ true
   pub chunks : List Chunk
   pub transmit : Bool
@@ -44,5 +44,5 @@ pub record IsNotGiven (s : Session) (id : ℕ) (error : ReadableError) (t : Sess
 
 -- what came of a read into a buffer
 abbrev pub ReadsInto : Session → ℕ → Bool → List ℕ → Result ReadInto ReadableError → Session → List ℕ → Type 0
-ReadsInto s id ordered out (Ok r) t new = ReadsChunk s id ordered out r t new
+ReadsInto s id ordered out (Ok r) t new = ReadsChunkInto s id ordered out r t new
 ReadsInto s id ordered out (Err error) t new = (new ≡ out) × (IsNotGiven s id error t ⊎ RefusesChunk s id ordered error t)

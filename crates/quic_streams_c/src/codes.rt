@@ -1,7 +1,7 @@
 //! The numbers that C has for answers.
 
 ghost use Rattle.std.specs.Prelude.{◌≡◌};
-ghost use Rattle.quic_streams_c.specs.Numbers.{dir_at, length_at, number_of, small};
+ghost use Rattle.quic_streams_c.specs.Numbers.{dir_at, length_at, direction_number, small};
 ghost use Rattle.quic_streams_c.specs.Answers.{write_code, write_stop, finish_code, finish_stop, handle_code, readable_code, readable_count, settle_code, datagram_code, last_code, last_reset};
 
 use quic_receiving::{HandleError, ReadableError};
@@ -62,8 +62,8 @@ pub(crate) fn dir_of(number: u32) -> Option<Dir>
 }
 
 // The number of a direction.
-pub(crate) fn number_of(dir: Dir) -> u32
-    ensures { result ≡ number_of dir }
+pub(crate) fn direction_number(dir: Dir) -> u32
+    ensures { result ≡ direction_number dir }
 {
     match dir {
         Dir::Bi => 0,
