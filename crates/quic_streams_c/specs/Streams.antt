@@ -9,8 +9,8 @@ use Rattle.quic_receiving.specs.declared.errors.ReadableError.{ReadableError}
 use Rattle.quic_session.specs.declared.session.Session.{Session}
 use Rattle.quic_session.specs.declared.application.ReadInto.{ReadInto}
 use Rattle.quic_session.specs.Sessions.{beside_of}
-use Rattle.quic_session.specs.Reading.{ReadsInto}
-use Rattle.quic_streams_c.specs.Answers.{memory_code, handle_code, closed_code, TellsDone, TellsSigned, TellsSome, TellsOption, TellsWrite, TellsFinish, TellsRead}
+use Rattle.quic_session.specs.Reading.{ReadsInto, ReadsManyInto}
+use Rattle.quic_streams_c.specs.Answers.{memory_code, handle_code, closed_code, TellsDone, TellsSigned, TellsSome, TellsOption, TellsWrite, TellsFinish, TellsRead, TellsMany}
 use Rattle.quic_streams_c.specs.Calls.{Refuses, WithNumber}
 use Rattle.quic_streams_c.specs.Numbers.{small, dir_at}
 use Rattle.quic_streams_c.specs.Sessions.{SessionOpens, SessionAccepts, SessionWrites, SessionFinishes, SessionResets, SessionStops, SessionSetsPriority, SessionTellsPriority, SessionTellsStop, SessionTellsReset}
@@ -87,3 +87,19 @@ ReadsIfRoom false s id ordered code t was now = ReadsStream s id ordered code t 
 -- qs_stream_read, qs_stream_read_unordered
 abbrev pub ReadsRaw : Session → ℕ → Bool → ℤ → Session → ReadView → ReadView → Type 0
 ReadsRaw s id ordered code t was now = WithNumber (small id) (Refuses s code t × (now ≡ was)) (λ i. ReadsIfRoom (length was.out == 0) s i ordered code t was now)
+
+-- a stream is read for several chunks
+pub record ReadsMany (s : Session) (id : ℕ) (code : ℤ) (t : Session) (was now : ReadView) : Type 0 where
+  pub answer : Result ReadInto ReadableError
+  pub reads : ReadsManyInto s id was.out answer t now.out
+  pub beside : beside_of t ≡ beside_of s
+  pub tells : TellsMany answer code was.count now.count was.offset now.offset was.app_code now.app_code
+
+-- a buffer without bytes is refused
+abbrev pub ReadsManyIfRoom : Bool → Session → ℕ → ℤ → Session → ReadView → ReadView → Type 0
+ReadsManyIfRoom true s id code t was now = (code ≡ negsuc 14) × (t ≡ s) × (now ≡ was)
+ReadsManyIfRoom false s id code t was now = ReadsMany s id code t was now
+
+-- qs_stream_read_many
+abbrev pub ReadsManyRaw : Session → ℕ → ℤ → Session → ReadView → ReadView → Type 0
+ReadsManyRaw s id code t was now = WithNumber (small id) (Refuses s code t × (now ≡ was)) (λ i. ReadsManyIfRoom (length was.out == 0) s i code t was now)

@@ -10,7 +10,8 @@ ghost use Rattle.quic_streams_c.specs.Settings.{side_at, raw_limits, IsConfig, I
 ghost use Rattle.quic_session.specs.Sessions.{datagrams_view, next_told};
 
 use crate::codes::{
-    ARGUMENT, CLOSED, DONE, IN_USE, NO_MEMORY, OK, dir_of, id_of, length_of, direction_number, small,
+    ARGUMENT, CLOSED, DONE, IN_USE, NO_MEMORY, OK, dir_of, direction_number, id_of, length_of,
+    small,
 };
 use crate::handle::{Handle, closed, holding, take_out};
 use quic_datagrams::DatagramLimits;
@@ -393,7 +394,12 @@ fn event_of(told: StreamEvent) -> RawEvent
         StreamEvent::Writable { id } => event(3, direction_number(id.dir()), id_of(id), 0),
         StreamEvent::Finished { id } => event(4, direction_number(id.dir()), id_of(id), 0),
         StreamEvent::Stopped { id, error_code } => {
-            event(5, direction_number(id.dir()), id_of(id), error_code.into_inner())
+            event(
+                5,
+                direction_number(id.dir()),
+                id_of(id),
+                error_code.into_inner(),
+            )
         }
         StreamEvent::Available { dir } => event(6, direction_number(dir), 0, 0),
     }
