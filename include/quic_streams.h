@@ -253,6 +253,20 @@ int32_t qs_stream_read_unordered(qs_conn *conn, uint64_t id, uint8_t *data,
                                  size_t cap, size_t *count, uint64_t *offset,
                                  uint64_t *app_code);
 
+/* Reads the next bytes of a stream in order as qs_stream_read, but of several
+ * frames in one call, and tells with the bytes whether more may come. Up to 64
+ * pieces are read, each of which has its share of cap, at least 2048 bytes where
+ * cap has them.
+ * *count is set, and may be 0; *offset is set where it is above 0.
+ * QS_OK: more may be at hand: call again. QS_DONE: nothing more is at hand;
+ * QS_EVENT_READABLE follows. QS_END: nothing more comes, and the half is closed.
+ * QS_ERR_RESET: *count is 0, *app_code is set, and the half is closed.
+ * QS_ERR_NOMEM: *count is 0. QS_ERR_TOO_SMALL, cap is 0, QS_ERR_NO_STREAM and
+ * QS_ERR_ORDER set nothing. */
+int32_t qs_stream_read_many(qs_conn *conn, uint64_t id, uint8_t *data,
+                            size_t cap, size_t *count, uint64_t *offset,
+                            uint64_t *app_code);
+
 /* ---- windows, counts, events --------------------------------------------- */
 
 /* Sets how many written bytes are kept until they are acknowledged. */

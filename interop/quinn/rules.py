@@ -68,7 +68,7 @@ RULES = [
          r'\1 &mut sent.stream_frames,'),
     Rule('write-streams', CONNECTION, 'a token stands for what was written',
          r'sent\.stream_frames = (self\.streams\.write_stream_frames\()buf, max_size\);\s+self\.stats\.frame_tx\.stream [^;]*;',
-         r'\1buf, &mut sent.stream_frames, &mut self.stats.frame_tx, max_size);'),
+         r'self.stats.frame_tx.stream += \1buf, &mut sent.stream_frames, max_size);'),
     Rule('notes', CONNECTION, 'what a packet carries of the streams is two tokens',
          r'stream_frames: StreamMetaVec,', 'stream_frames: streams::Payloads,'),
     Rule('sent-packet', SPACES, 'the same, of a packet in flight',

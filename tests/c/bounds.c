@@ -73,12 +73,15 @@ static void streams(qs_conn *a) {
     SAME(qs_stream_read(a, ids[i], data, 4, &count, &out, &code), wanted);
     SAME(qs_stream_read_unordered(a, ids[i], data, 4, &count, &out, &code),
          wanted);
+    SAME(qs_stream_read_many(a, ids[i], data, 4, &count, &out, &code), wanted);
   }
   SAME(qs_stream_open(a, QS_BIDI, &out), QS_OK);
   SAME(qs_stream_set_priority(a, out, INT32_MIN), QS_OK);
   SAME(qs_stream_priority(a, out, &priority), QS_OK);
   SAME(priority, INT32_MIN);
   SAME(qs_stream_read(a, out, NULL, 0, &count, &code, &code), QS_ERR_TOO_SMALL);
+  SAME(qs_stream_read_many(a, out, NULL, 0, &count, &code, &code),
+       QS_ERR_TOO_SMALL);
   SAME(qs_stream_write(a, out, NULL, 0, &count, &code), QS_OK);
   SAME(count, 0);
   SAME(qs_stream_stop(a, out, END), QS_ERR_ARGUMENT);

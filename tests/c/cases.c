@@ -88,20 +88,24 @@ static int deliver(qs_conn *to, const uint8_t *payload, size_t len) {
   return qs_receive(to, payload, len, &next, &error) == QS_OK;
 }
 
+/* Has the next payload of an end written, and sums its bytes. */
+static int32_t emit(qs_conn *from, seen *sum, uint8_t *payload, qs_payload *head) {
+  int32_t answer = qs_emit(from, QS_ALL, 1, payload, PIECE, head);
+  if (answer == QS_OK)
+    see_next(sum, payload, (size_t)head->len);
+  return answer;
+}
+
 /* Up to 32 payloads of the client, which are delivered but for the lost ones. Answers whether there were any. */
 static int send_some(pair *p, int *some) {
-  uint8_t payload[PIECE];
-  memset(payload, 0, sizeof payload);
+  uint8_t payload[PIECE] = {0};
+  qs_payload head = {0, 0, 0};
   *some = 0;
   for (p->flying = 0; p->flying < BURST; p->flying++) {
-    qs_payload head = {0, 0, 0};
-    int32_t answer = qs_emit(&p->client, QS_ALL, 1, payload, PIECE, &head);
-    if (answer == QS_DONE)
-      return 1;
+    int32_t answer = emit(&p->client, &p->to_server, payload, &head);
     if (answer != QS_OK)
-      return 0;
+      return answer == QS_DONE;
     *some = 1;
-    see_next(&p->to_server, payload, (size_t)head.len);
     int lost = p->lossy && p->payloads % PERIOD == PERIOD - 1;
     p->payloads++;
     p->tokens[p->flying] = head.token;
@@ -127,22 +131,14 @@ static int note(pair *p, uint64_t id) {
 
 static int read_stream(pair *p, uint64_t id) {
   uint64_t first = p->stream_len * qs_id_index(id), offset = 0, code = 0;
-  size_t count = 0;
-  for (;;) {
-    switch (qs_stream_read(&p->server, id, p->buffer, sizeof p->buffer, &count, &offset, &code)) {
-    case QS_OK:
-      see(&p->read, first + offset, p->buffer, count);
-      break;
-    case QS_END:
-      p->ended++;
-      return 1;
-    case QS_ERR_BLOCKED:
-    case QS_ERR_NO_STREAM:
-      return 1;
-    default:
-      return 0;
-    }
+  int32_t answer = QS_OK;
+  while (answer == QS_OK) {
+    size_t count = 0;
+    answer = qs_stream_read_many(&p->server, id, p->buffer, sizeof p->buffer, &count, &offset, &code);
+    see(&p->read, first + offset, p->buffer, count);
   }
+  p->ended += answer == QS_END;
+  return answer == QS_END || answer == QS_DONE || answer == QS_ERR_NO_STREAM;
 }
 
 /* The server takes its events, and reads what came. */
@@ -170,19 +166,13 @@ static int read_all(pair *p) {
 
 /* The server answers, which always comes. */
 static int answer_all(pair *p) {
-  uint8_t payload[PIECE];
-  memset(payload, 0, sizeof payload);
-  for (;;) {
-    qs_payload head = {0, 0, 0};
-    int32_t answer = qs_emit(&p->server, QS_ALL, 1, payload, PIECE, &head);
-    if (answer == QS_DONE)
-      return 1;
-    if (answer != QS_OK)
-      return 0;
-    see_next(&p->to_client, payload, (size_t)head.len);
+  uint8_t payload[PIECE] = {0};
+  qs_payload head = {0, 0, 0};
+  int32_t answer;
+  while ((answer = emit(&p->server, &p->to_client, payload, &head)) == QS_OK)
     if (!deliver(&p->client, payload, (size_t)head.len) || qs_acked(&p->server, head.token) != QS_OK)
       return 0;
-  }
+  return answer == QS_DONE;
 }
 
 static int settle(pair *p) {

@@ -53,6 +53,57 @@ static void a_stream_is_written_and_read(void) {
   qs_conn_free(&b);
 }
 
+/* Data of several payloads come in one call, and the call tells what follows. */
+static void several_chunks_come_in_one_call(void) {
+  qs_conn a = QS_CONN_INIT, b = QS_CONN_INIT;
+  uint64_t id = 99, code = 0, offset = 99;
+  size_t written = 0, count = 99;
+  static uint8_t text[8192];
+  packet p;
+  SAME(open_end(&a, QS_CLIENT, 4, 1000, 1000), QS_OK);
+  SAME(open_end(&b, QS_SERVER, 4, 1000, 1000), QS_OK);
+  SAME(qs_stream_open(&a, QS_UNI, &id), QS_OK);
+  SAME(qs_stream_read_many(&b, 2, text, sizeof text, &count, &offset, &code), QS_ERR_NO_STREAM);
+  SAME(count, 99);
+  const char *parts[] = {"several ", "small ", "parts"};
+  for (int i = 0; i < 3; i++) {
+    SAME(write_text(&a, 2, parts[i], strlen(parts[i]), &written), QS_OK);
+    SAME(emit(&a, QS_ALL, 100, &p), QS_OK);
+    SAME(deliver(&b, &p), QS_OK);
+  }
+  SAME(qs_stream_accept(&b, QS_UNI, &id), QS_OK);
+  SAME(qs_stream_read_many(&b, 2, text, 0, &count, &offset, &code), QS_ERR_TOO_SMALL);
+  SAME(qs_stream_read_many(&b, 2, text, 5, &count, &offset, &code), QS_OK); /* one piece, of 5 bytes */
+  SAME_BYTES(text, count, "sever");
+  SAME(offset, 0);
+  SAME(qs_stream_read_many(&b, 2, text, sizeof text, &count, &offset, &code), QS_DONE);
+  SAME_BYTES(text, count, "al small parts");
+  SAME(offset, 5);
+  SAME(qs_stream_read_many(&b, 2, text, sizeof text, &count, &offset, &code), QS_DONE);
+  SAME(count, 0);
+  SAME(write_text(&a, 2, "!", 1, &written), QS_OK);
+  SAME(qs_stream_finish(&a, 2, &code), QS_OK);
+  SAME(emit(&a, QS_ALL, 100, &p), QS_OK);
+  SAME(deliver(&b, &p), QS_OK);
+  SAME(qs_stream_read_many(&b, 2, text, sizeof text, &count, &offset, &code), QS_END);
+  SAME_BYTES(text, count, "!");
+  SAME(offset, 19);
+  SAME(qs_stream_read_many(&b, 2, text, sizeof text, &count, &offset, &code), QS_ERR_NO_STREAM);
+  SAME(qs_stream_open(&a, QS_UNI, &id), QS_OK);
+  SAME(write_text(&a, id, "lost", 4, &written), QS_OK);
+  SAME(emit(&a, QS_ALL, 100, &p), QS_OK);
+  SAME(deliver(&b, &p), QS_OK);
+  SAME(qs_stream_reset(&a, id, 7), QS_OK);
+  SAME(emit(&a, QS_ALL, 100, &p), QS_OK);
+  SAME(deliver(&b, &p), QS_OK);
+  SAME(qs_stream_accept(&b, QS_UNI, &id), QS_OK);
+  SAME(qs_stream_read_many(&b, id, text, sizeof text, &count, &offset, &code), QS_ERR_RESET);
+  SAME(code, 7);
+  SAME(count, 0);
+  qs_conn_free(&a);
+  qs_conn_free(&b);
+}
+
 /* What a payload lacks of a length ends it. */
 static void the_last_frame_may_lack_a_length(void) {
   qs_conn a = QS_CONN_INIT;
@@ -247,6 +298,7 @@ static void an_early_start_is_rejected(void) {
 
 int main(void) {
   a_stream_is_written_and_read();
+  several_chunks_come_in_one_call();
   the_last_frame_may_lack_a_length();
   limits_block_and_are_raised();
   a_stream_is_given_up_or_stopped();
@@ -254,6 +306,6 @@ int main(void) {
   a_peer_that_breaks_the_protocol_is_told_so();
   a_closed_handle_answers_so();
   an_early_start_is_rejected();
-  printf("one end: 8 tests\n");
+  printf("one end: 9 tests\n");
   return 0;
 }

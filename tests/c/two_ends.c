@@ -63,14 +63,25 @@ static void write_streams(side *s) {
   }
 }
 
+/* Reads piece by piece or, as often, several in one call. */
 static void read_stream(side *s, uint64_t id) {
   for (;;) {
-    uint8_t data[700] = {0};
+    uint8_t data[7000] = {0};
     size_t count = 0, *got = &s->got[id];
     uint64_t offset = 0, code = 0;
-    int32_t answer = qs_stream_read(&s->conn, id, data, 1 + draw(sizeof data),
-                                    &count, &offset, &code);
-    if (answer == QS_ERR_BLOCKED || answer == QS_ERR_NO_STREAM)
+    int32_t answer =
+        draw(2) ? qs_stream_read(&s->conn, id, data, 1 + draw(700), &count,
+                                 &offset, &code)
+                : qs_stream_read_many(&s->conn, id, data, 1 + draw(sizeof data),
+                                      &count, &offset, &code);
+    if (answer == QS_ERR_NO_STREAM)
+      return;
+    if (count > 0)
+      SAME(offset, *got);
+    for (size_t k = 0; k < count; k++)
+      SAME(data[k], content(id, *got + k));
+    *got += count;
+    if (answer == QS_ERR_BLOCKED || answer == QS_DONE)
       return;
     if (answer == QS_END) {
       /* nothing comes back on a stream of this end */
@@ -79,10 +90,7 @@ static void read_stream(side *s, uint64_t id) {
       return;
     }
     SAME(answer, QS_OK);
-    SAME(offset, *got);
-    for (size_t k = 0; k < count; k++)
-      SAME(data[k], content(id, *got + k));
-    *got += count;
+    SAME(count > 0, 1);
   }
 }
 

@@ -89,10 +89,12 @@ static void call(end *e, end *peer, input *in) {
   case 8: {
     const size_t cap = take(in, 1);
     const int32_t answer =
-        kind == 7
-            ? qs_stream_read(&e->conn, id, bytes, cap, &count, &out, &code)
-            : qs_stream_read_unordered(&e->conn, id, bytes, cap, &count, &out,
-                                       &code);
+        kind == 8 ? qs_stream_read_unordered(&e->conn, id, bytes, cap, &count,
+                                             &out, &code)
+        : cap % 2 ? qs_stream_read_many(&e->conn, id, bytes, cap, &count, &out,
+                                        &code)
+                  : qs_stream_read(&e->conn, id, bytes, cap, &count, &out,
+                                   &code);
     must(answer != QS_OK || (count > 0 && count <= cap));
     break;
   }

@@ -51,5 +51,5 @@ pub use errors::{
     StreamError, TransportError, WriteError,
 };
 pub use state::StreamsState;
-pub use streams::{Chunk, Chunks, RecvStream, SendStream};
+pub use streams::{Chunk, Chunks, Next, ReadMany, RecvStream, SendStream};
 pub use values::{Config, Dir, Emit, Event, Info, Limits, Payload, Side, StreamId, Token};

@@ -13,6 +13,17 @@ fn answered(answer: i32) -> Result<(), StreamError> {
     }
 }
 
+// Why nothing was read.
+fn read_error(answer: i32, code: u64) -> ReadError {
+    match answer {
+        sys::BLOCKED => ReadError::Blocked,
+        sys::RESET => ReadError::Reset(code),
+        sys::ORDER => ReadError::IllegalOrderedRead,
+        sys::NO_STREAM | sys::ARGUMENT => ReadError::ClosedStream,
+        _ => ReadError::OutOfMemory,
+    }
+}
+
 /// The send half of a stream.
 #[derive(Debug)]
 pub struct SendStream<'a> {
@@ -94,6 +105,28 @@ pub struct Chunk {
     pub bytes: Vec<u8>,
 }
 
+/// What follows the bytes that a read gave.
+#[derive(Clone, Copy, Debug, PartialEq, Eq)]
+pub enum Next {
+    /// More may be at hand.
+    More,
+    /// Nothing more is at hand now; [`Event::Readable`](crate::Event::Readable) follows.
+    Blocked,
+    /// Nothing more comes, and the half is closed.
+    Finished,
+}
+
+/// What [`RecvStream::read_many`] put into a buffer.
+#[derive(Clone, Copy, Debug, PartialEq, Eq)]
+pub struct ReadMany {
+    /// How many bytes, 0 or more.
+    pub count: usize,
+    /// The offset of the first, where there are any.
+    pub offset: u64,
+    /// What follows them.
+    pub next: Next,
+}
+
 /// The receive half of a stream.
 #[derive(Debug)]
 pub struct RecvStream<'a> {
@@ -126,6 +159,55 @@ impl<'a> RecvStream<'a> {
     ) -> Result<Option<(usize, u64)>, ReadError> {
         assert!(!out.is_empty(), "a read needs room");
         self.read_at(out, ordered)
+    }
+
+    /// Reads the next bytes in order into `out`, which may not be empty, those of several frames in one call, and says
+    /// with them whether more may come.
+    ///
+    /// ```
+    /// # use quic_streams::{Config, Dir, Emit, Limits, Next, Side, StreamsState};
+    /// # fn main() -> Result<(), Box<dyn std::error::Error>> {
+    /// # let config = Config::default();
+    /// # let mut client = StreamsState::new(Side::Client, &config)?;
+    /// # let mut server = StreamsState::new(Side::Server, &config)?;
+    /// # client.set_params(&Limits::of(&config))?;
+    /// # let id = client.open(Dir::Uni)?.unwrap();
+    /// # client.send_stream(id).write(b"hello")?;
+    /// # client.send_stream(id).finish()?;
+    /// # let mut packet = [0; 100];
+    /// # let payload = client.emit(&mut packet, Emit::default())?.unwrap();
+    /// # server.receive(&packet[..payload.len])?;
+    /// # server.accept(Dir::Uni);
+    /// let mut buffer = [0; 4096];
+    /// let read = server.recv_stream(id).read_many(&mut buffer)?;
+    /// assert_eq!(&buffer[..read.count], b"hello");
+    /// assert_eq!((read.offset, read.next), (0, Next::Finished));
+    /// # Ok(())
+    /// # }
+    /// ```
+    ///
+    /// # Panics
+    ///
+    /// Where `out` is empty.
+    pub fn read_many(&mut self, out: &mut [u8]) -> Result<ReadMany, ReadError> {
+        assert!(!out.is_empty(), "a read needs room");
+        let (mut count, mut offset, mut code) = (0, 0, 0);
+        let (conn, id) = (&mut self.state.conn, self.id.0);
+        let (at, cap) = (out.as_mut_ptr(), out.len());
+        let answer = unsafe {
+            sys::qs_stream_read_many(conn, id, at, cap, &mut count, &mut offset, &mut code)
+        };
+        let next = match answer {
+            sys::OK => Next::More,
+            sys::DONE => Next::Blocked,
+            sys::END => Next::Finished,
+            answer => return Err(read_error(answer, code)),
+        };
+        Ok(ReadMany {
+            count,
+            offset,
+            next,
+        })
     }
 
     /// The chunks of the stream, in order or as they came. There is no way back from unordered reads.
@@ -195,11 +277,7 @@ impl<'a> RecvStream<'a> {
         match answer {
             sys::OK => Ok(Some((count, offset))),
             sys::END => Ok(None),
-            sys::BLOCKED => Err(ReadError::Blocked),
-            sys::RESET => Err(ReadError::Reset(code)),
-            sys::ORDER => Err(ReadError::IllegalOrderedRead),
-            sys::NO_STREAM | sys::ARGUMENT => Err(ReadError::ClosedStream),
-            _ => Err(ReadError::OutOfMemory),
+            answer => Err(read_error(answer, code)),
         }
     }
 }

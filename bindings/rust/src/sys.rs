@@ -108,6 +108,29 @@ pub struct Payload {
     pub ends: u64,
 }
 
+// The calls that read a stream.
+macro_rules! reads {
+    ($($name:ident),*) => {
+        extern "C" {
+            $(pub fn $name(
+                conn: &mut Conn,
+                id: u64,
+                data: *mut u8,
+                cap: usize,
+                count: &mut usize,
+                offset: &mut u64,
+                app_code: &mut u64,
+            ) -> i32;)*
+        }
+    };
+}
+
+reads!(
+    qs_stream_read,
+    qs_stream_read_unordered,
+    qs_stream_read_many
+);
+
 extern "C" {
     pub fn qs_conn_open(conn: &mut Conn, config: &Config) -> i32;
     pub fn qs_conn_free(conn: &mut Conn);
@@ -132,24 +155,6 @@ extern "C" {
     pub fn qs_stream_priority(conn: &mut Conn, id: u64, priority: &mut i32) -> i32;
     pub fn qs_stream_stopped(conn: &mut Conn, id: u64, app_code: &mut u64) -> i32;
     pub fn qs_stream_received_reset(conn: &mut Conn, id: u64, app_code: &mut u64) -> i32;
-    pub fn qs_stream_read(
-        conn: &mut Conn,
-        id: u64,
-        data: *mut u8,
-        cap: usize,
-        count: &mut usize,
-        offset: &mut u64,
-        app_code: &mut u64,
-    ) -> i32;
-    pub fn qs_stream_read_unordered(
-        conn: &mut Conn,
-        id: u64,
-        data: *mut u8,
-        cap: usize,
-        count: &mut usize,
-        offset: &mut u64,
-        app_code: &mut u64,
-    ) -> i32;
     pub fn qs_set_send_window(conn: &mut Conn, window: u64) -> i32;
     pub fn qs_set_receive_window(conn: &mut Conn, window: u64) -> i32;
     pub fn qs_set_max_concurrent(conn: &mut Conn, dir: u32, count: u64) -> i32;

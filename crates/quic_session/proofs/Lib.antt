@@ -1,3 +1,4 @@
+pub mod Copied
 pub mod Emitted
 pub mod Payloads
 pub mod Taken

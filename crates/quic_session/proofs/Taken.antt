@@ -8,7 +8,7 @@ use Rattle.quic_wire.specs.declared.frame.Frame.{Frame}
 use Rattle.quic_session.specs.declared.session.Session.{Session}
 use Rattle.quic_session.specs.declared.receiving.Received.{Received}
 use Rattle.quic_session.specs.declared.receiving.PayloadError.{PayloadError}
-use Rattle.quic_session.specs.Receiving.{FrameCall, TakesFrames, none, more, ReceivesFrom, PassesOver, TakesOne, TakesAll, StopsAtRefused}
+use Rattle.quic_session.specs.Receiving.{FrameCall, TakesFrames, none, more, ReceivesFrom, PassesOverFrame, TakesOne, TakesAll, StopsAtRefused}
 
 -- of the frames so far, those from a place on were taken
 pub record Past (size first : ℕ) (s : Session) (seen : List Frame) (t : Session) : Type 0 where
@@ -78,18 +78,11 @@ past-stopped size first s seen t f rest e u p (inr o) = record {
   next = past-count size first s seen t p o.above;
 }
 
--- a list that was gone through up to an element
-parted : (all seen : List Frame) (f : Frame) → seen ≡ take (length seen) all → length seen < length all → f ≡ get_or all (length seen) f → all ≡ seen ++ f ∷ drop (suc (length seen)) all
-parted all seen f front within here =
-    sym (take-append-drop (length seen) all) ∙ ap (λ l. l ++ drop (length seen) all) (sym front)
-    ∙ ap (λ l. seen ++ l) (drop-cons all (length seen) f within ∙ ap (λ x. x ∷ drop (suc (length seen)) all) (sym here))
-
-pub past-refused : (size first : ℕ) (s : Session) (all seen : List Frame) (t : Session) (f : Frame) (e : PayloadError) (u : Session) (at : ℕ)
-    → Past size first s seen t → at ≡ length seen → seen ≡ take (length seen) all → (length seen < length all) × (f ≡ get_or all (length seen) f) → ReceivesFrom at first t f size (Err e) u
+pub past-refused : (size first : ℕ) (s : Session) (all seen : List Frame) (t : Session) (f : Frame) (rest : List Frame) (e : PayloadError) (u : Session) (at : ℕ)
+    → Past size first s seen t → at ≡ length seen → all ≡ seen ++ f ∷ rest → ReceivesFrom at first t f size (Err e) u
     → StopsAtRefused size first all s (record { next = at; answer = Err e }) u
-past-refused size first s all seen t f e u at p here front turn o =
+past-refused size first s all seen t f rest e u at p here parted o =
     let P : ℕ → Type 0 = λ n. ReceivesFrom n first t f size (Err e) u in
-    let rest = drop (suc (length seen)) all in
     let Q : ℕ → Type 0 = λ n. StopsAtRefused size first (seen ++ f ∷ rest) s (record { next = n; answer = Err e }) u in
     let R : List Frame → Type 0 = λ l. StopsAtRefused size first l s (record { next = at; answer = Err e }) u in
-    subst R (sym (parted all seen f front turn.0 turn.1)) (subst Q (sym here) (past-stopped size first s seen t f rest e u p (subst P here o)))
+    subst R (sym parted) (subst Q (sym here) (past-stopped size first s seen t f rest e u p (subst P here o)))

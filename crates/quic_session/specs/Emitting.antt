@@ -26,7 +26,7 @@ use Rattle.quic_session.specs.Tokens.{unsettled, KeepsNew}
 -- bytes: the frames, encoded one after another
 -- control: what those beside STREAM and DATAGRAM carry
 -- streams: what each STREAM frame carries
-pub record PayloadView : Type 0 where
+pub record DraftView : Type 0 where
   pub bytes : List ℕ
   pub control : Pending
   pub streams : List StreamMeta
@@ -36,9 +36,9 @@ pub record PayloadView : Type 0 where
 pub record Writing : Type 0 where
   pub end : EndState
   pub datagrams : Datagrams
-  pub payload : PayloadView
+  pub payload : DraftView
 
-abbrev pub payload_of : Draft → PayloadView
+abbrev pub payload_of : Draft → DraftView
 payload_of d = record { bytes = d.bytes.items; control = noted_in d.sent.control; streams = d.sent.streams.items }
 
 abbrev pub writing_of : Session → Draft → Writing
@@ -75,9 +75,9 @@ abbrev pub AreSent : ℕ → List Datagram → List ℕ → Type 0
 AreSent most queue bytes = (most ≤ length bytes + 9) ⊎ (ends_within most (length bytes) queue ≡ false)
 
 -- a queue that some left or none, and where some did a blocked sender is told that there is room
-abbrev pub with_sent : Datagrams → Bool → List Datagram → Datagrams
-with_sent d false queue = record d { state = record d.state { outgoing = queue } }
-with_sent d true queue = record d { state = record d.state { outgoing = queue; send_blocked = false }; told_room = d.told_room && not d.state.send_blocked }
+abbrev pub with_datagrams_sent : Datagrams → Bool → List Datagram → Datagrams
+with_datagrams_sent d false queue = record d { state = record d.state { outgoing = queue } }
+with_datagrams_sent d true queue = record d { state = record d.state { outgoing = queue; send_blocked = false }; told_room = d.told_room && not d.state.send_blocked }
 
 -- datagrams are written (RFC 9221 section 4)
 pub record WritesDatagrams (most : ℕ) (a : Writing) (answer : Result (Unit {0}) OutOfMemory) (b : Writing) : Type 0 where
@@ -85,7 +85,7 @@ pub record WritesDatagrams (most : ℕ) (a : Writing) (answer : Result (Unit {0}
   pub sends : SendsOldest most a.datagrams.state.outgoing a.payload.bytes some b.datagrams.state.outgoing b.payload.bytes
   pub full : OnOk answer (AreSent most b.datagrams.state.outgoing b.payload.bytes)
   pub refused : OnErr answer (length b.payload.bytes + 9 < most)
-  pub datagrams : b.datagrams ≡ with_sent a.datagrams some b.datagrams.state.outgoing
+  pub datagrams : b.datagrams ≡ with_datagrams_sent a.datagrams some b.datagrams.state.outgoing
   pub end : b.end ≡ a.end
   pub payload : b.payload ≡ record a.payload { bytes = b.payload.bytes }
 
@@ -132,7 +132,7 @@ pub record WritesNothing (most : ℕ) (parts : Parts) (fair : Bool) (s : Session
 
 -- a payload is copied into a buffer of so many bytes, whose other bytes stay. Nothing may stand behind it where it ends with
 -- the buffer and has data
-pub record IsPutOut (p : PayloadView) (size : ℕ) (out : List ℕ) (e : Emitted) (new : List ℕ) : Type 0 where
+pub record IsPutOut (p : DraftView) (size : ℕ) (out : List ℕ) (e : Emitted) (new : List ℕ) : Type 0 where
   pub len : e.len ≡ min (length p.bytes) size
   pub copied : new ≡ take e.len p.bytes ++ drop e.len out
   pub ends : e.ends ≡ ((e.len == size) && not (length p.streams == 0))
@@ -153,10 +153,10 @@ pub record WritesPayload (parts : Parts) (fair : Bool) (s : Session) (out : List
   pub leaves : IsLeftAs written t
 
 -- what came of writing a payload into a buffer
-abbrev pub Emits : Session → Parts → Bool → List ℕ → Result (Option Emitted) OutOfMemory → Session → List ℕ → Type 0
-Emits s parts fair out (Ok (Some e)) t new = WritesPayload parts fair s out e t new
-Emits s parts fair out (Ok None) t new = (new ≡ out) × KeepsNone s t × WritesNothing (length out) parts fair s (Ok tt) t
-Emits s parts fair out (Err error) t new = (new ≡ out) × KeepsNone s t × (((end_of t ≡ end_of s) × (datagrams_view t ≡ datagrams_view s)) ⊎ WritesNothing (length out) parts fair s (Err error) t)
+abbrev pub EmitsPayload : Session → Parts → Bool → List ℕ → Result (Option Emitted) OutOfMemory → Session → List ℕ → Type 0
+EmitsPayload s parts fair out (Ok (Some e)) t new = WritesPayload parts fair s out e t new
+EmitsPayload s parts fair out (Ok None) t new = (new ≡ out) × KeepsNone s t × WritesNothing (length out) parts fair s (Ok tt) t
+EmitsPayload s parts fair out (Err error) t new = (new ≡ out) × KeepsNone s t × (((end_of t ≡ end_of s) × (datagrams_view t ≡ datagrams_view s)) ⊎ WritesNothing (length out) parts fair s (Err error) t)
 
 -- entries left what was pending, and streams had their turns: whatever history came before, it goes on with them
 pub record GoesOnWithFrames (most : ℕ) (fair : Bool) (w v : World) : Type 0 where

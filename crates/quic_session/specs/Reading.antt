@@ -1,10 +1,12 @@
 -- What a read into a buffer of the host gives.
-use Rattle.std.specs.Prelude.{ℕ, ◌≡◌, ◌≤◌, ◌⊎◌, Bool, true, false, List, [], ◌∷◌, ◌++◌, length, drop, Result, Ok, Err}
+use Rattle.std.specs.Prelude.{ℕ, ◌≡◌, ◌≤◌, ◌+◌, ◌/◌, ◌⊎◌, max, min, Bool, true, false, List, [], ◌∷◌, ◌++◌, length, drop, map, Result, Ok, Err}
+use Rattle.std.specs.List.{concat}
 use Rattle.quic_assembler.specs.declared.chunk.Chunk.{Chunk}
 use Rattle.quic_receiving.specs.declared.errors.ReadableError.{ReadableError}
 use Rattle.quic_receiving.specs.declared.errors.ReadableError.TheVariants as readable_error
 use Rattle.quic_history.specs.Acknowledged.{was_given}
 use Rattle.quic_history.specs.World.{Made}
+use Rattle.quic_history.specs.Reading.{bytes_in}
 use Rattle.quic_history.specs.History.{Event, Began, From, with_reads}
 use Rattle.quic_endpoint.specs.Ends.{ReadsAt, RefusesRead}
 use Rattle.quic_session.specs.declared.session.Session.{Session}
@@ -22,7 +24,7 @@ AreFew [] most = Unit {0}
 AreFew (c ∷ cs) most = (cs ≡ []) × (length c.bytes ≤ most)
 
 -- a stream that was given was read, for one chunk of at most as many bytes as the buffer has
-pub record ReadsChunk (s : Session) (id : ℕ) (ordered : Bool) (out : List ℕ) (r : ReadInto) (t : Session) (new : List ℕ) : Type 0 where
+pub record ReadsChunkInto (s : Session) (id : ℕ) (ordered : Bool) (out : List ℕ) (r : ReadInto) (t : Session) (new : List ℕ) : Type 0 where
   pub given : was_given (end_of s).streams id ≡ true
   pub chunks : List Chunk
   pub transmit : Bool
@@ -44,5 +46,44 @@ pub record IsNotGiven (s : Session) (id : ℕ) (error : ReadableError) (t : Sess
 
 -- what came of a read into a buffer
 abbrev pub ReadsInto : Session → ℕ → Bool → List ℕ → Result ReadInto ReadableError → Session → List ℕ → Type 0
-ReadsInto s id ordered out (Ok r) t new = ReadsChunk s id ordered out r t new
+ReadsInto s id ordered out (Ok r) t new = ReadsChunkInto s id ordered out r t new
 ReadsInto s id ordered out (Err error) t new = (new ≡ out) × (IsNotGiven s id error t ⊎ RefusesChunk s id ordered error t)
+
+-- the bytes of chunks, one after another
+abbrev pub chunk_bytes : List Chunk → List ℕ
+chunk_bytes chunks = concat (map (λ c. c.bytes) chunks)
+
+-- where the first of them stands in the stream
+abbrev pub first_offset : List Chunk → ℕ
+first_offset [] = 0
+first_offset (c ∷ cs) = c.offset
+
+-- each of them stands in the stream where the one before it ends, the first at an offset
+abbrev pub AreInOrder : ℕ → List Chunk → Type 0
+AreInOrder at [] = Unit {0}
+AreInOrder at (c ∷ cs) = (c.offset ≡ at) × AreInOrder (at + length c.bytes) cs
+
+-- how many chunks are asked for at most, for a buffer of so many bytes
+abbrev pub chunks_for : ℕ → ℕ
+chunks_for size = max (min (size / 2048) 64) 1
+
+-- and of how many bytes each at most
+abbrev pub share_of : ℕ → ℕ
+share_of size = size / chunks_for size
+
+-- a stream that was given was read in order, for several chunks, of which each has its share of the buffer. They stand one
+-- behind another in the stream, and so first in the buffer, whose other bytes stay
+pub record ReadsChunksInto (s : Session) (id : ℕ) (out : List ℕ) (r : ReadInto) (t : Session) (new : List ℕ) : Type 0 where
+  pub given : was_given (end_of s).streams id ≡ true
+  pub chunks : List Chunk
+  pub transmit : Bool
+  pub reads : ReadsAt (end_of s) id (share_of (length out)) (chunks_for (length out)) true chunks r.last transmit (end_of t)
+  pub in_order : AreInOrder r.offset chunks
+  pub count : r.count ≡ bytes_in chunks
+  pub copied : new ≡ chunk_bytes chunks ++ drop r.count out
+  pub from : (m : Made) (h : List Event) → From m h (end_of s).streams → From m (with_reads id (share_of (length out)) true chunks r.last h) (end_of t).streams
+
+-- what came of a read of several chunks
+abbrev pub ReadsManyInto : Session → ℕ → List ℕ → Result ReadInto ReadableError → Session → List ℕ → Type 0
+ReadsManyInto s id out (Ok r) t new = ReadsChunksInto s id out r t new
+ReadsManyInto s id out (Err error) t new = (new ≡ out) × (IsNotGiven s id error t ⊎ RefusesChunk s id true error t)

@@ -118,7 +118,7 @@ abbrev pub ReceivesPayload : Session → List ℕ → ℕ → Received → Sessi
 ReceivesPayload s payload first r t = ReadsPayload s payload first r t ⊎ ReadsNoPayload s payload first r t
 
 -- what came of the frame at a place, where those below another are passed over
-pub record PassesOver (at first : ℕ) (s : Session) (r : Result (Unit {0}) PayloadError) (t : Session) : Type 0 where
+pub record PassesOverFrame (at first : ℕ) (s : Session) (r : Result (Unit {0}) PayloadError) (t : Session) : Type 0 where
   pub below : at < first
   pub done : r ≡ Ok tt
   pub same : t ≡ s
@@ -130,4 +130,4 @@ pub record TakesOne (at first : ℕ) (s : Session) (frame : Frame) (size : ℕ) 
   pub answers : r ≡ payload_answer answer
 
 abbrev pub ReceivesFrom : ℕ → ℕ → Session → Frame → ℕ → Result (Unit {0}) PayloadError → Session → Type 0
-ReceivesFrom at first s frame size r t = PassesOver at first s r t ⊎ TakesOne at first s frame size r t
+ReceivesFrom at first s frame size r t = PassesOverFrame at first s r t ⊎ TakesOne at first s frame size r t

@@ -268,7 +268,7 @@ impl Session {
     }
 
     // The same, of a stream that was given, in the memory of a list.
-    fn read_given(
+    pub(crate) fn read_given(
         &mut self,
         id: StreamId,
         ordered: bool,

@@ -4,7 +4,7 @@ ghost use Rattle.std.specs.Prelude.{◌≡◌, ◌≤◌, ◌<◌, ◌+◌, IfOk
 ghost use Rattle.quic_retransmits.specs.Pending.{nothing};
 ghost use Rattle.quic_session.specs.Sessions.{end_of, datagrams_view, beside_of};
 ghost use Rattle.quic_session.specs.Tokens.{unsettled, places, KeepsNew};
-ghost use Rattle.quic_session.specs.Emitting.{payload_of, writing_of, WritesControl, WritesDatagrams, WritesStreams, SendsOldest, AreSent, with_sent, IfAsked, WritesParts, Emits, IsPutOut, GoesOnWithFrames};
+ghost use Rattle.quic_session.specs.Emitting.{payload_of, writing_of, WritesControl, WritesDatagrams, WritesStreams, SendsOldest, AreSent, with_datagrams_sent, IfAsked, WritesParts, EmitsPayload, IsPutOut, GoesOnWithFrames};
 
 use crate::session::Session;
 use quic_datagrams::DatagramState;
@@ -72,7 +72,7 @@ impl Session {
         parts: Parts,
         fair: bool,
     ) -> Result<Option<Emitted>, OutOfMemory>
-        ensures emits { Emits self.old parts fair out.old result self.new out.new }
+        ensures emits { EmitsPayload self.old parts fair out.old result self.new out.new }
         ensures from { GoesOnWithFrames (length out.old) fair (end_of self.old).streams (end_of self.new).streams }
         ensures conn { self.new.conn ≡ self.old.conn }
     {
@@ -167,7 +167,7 @@ impl Session {
 
     // A blocked sender is to be told that there is room, if datagrams were written.
     fn tell_room_if(&mut self, sent: bool)
-        ensures told { datagrams_view self.new ≡ with_sent (datagrams_view self.old) sent self.old.datagrams.outgoing }
+        ensures told { datagrams_view self.new ≡ with_datagrams_sent (datagrams_view self.old) sent self.old.datagrams.outgoing }
         ensures end { end_of self.new ≡ end_of self.old }
         ensures payloads { self.new.unsettled ≡ self.old.unsettled }
         ensures conn { self.new.conn ≡ self.old.conn }

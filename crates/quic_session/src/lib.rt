@@ -3,8 +3,10 @@
 #![tactic(auto)]
 
 pub mod application;
+pub mod chunks;
 pub mod datagrams;
 pub mod emitting;
+mod memory;
 pub mod receiving;
 pub mod session;
 pub mod settling;

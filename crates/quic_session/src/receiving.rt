@@ -11,7 +11,7 @@ ghost use Rattle.quic_session.specs.Receiving.{KeepsDatagram, ReceivesFrame, Rec
 use crate::session::Session;
 use quic_receiving::ShouldTransmit;
 use quic_wire::frame::{Datagram, StopSending};
-use quic_wire::{DecodeError, Frame, ReceiveError, TransportError, decode_owned};
+use quic_wire::{DecodeError, Frame, ReceiveError, TransportError, decode_owned_into};
 use thiserror::Error;
 
 /// Why a payload was not taken to its end.
@@ -51,7 +51,8 @@ impl Session {
                 answer: Err(PayloadError::OutOfMemory),
             };
         };
-        match decode_owned(self.alloc, bytes) {
+        let list = self.frames.take(self.alloc);
+        match decode_owned_into(self.alloc, bytes, list) {
             Ok(frames) => self.receive_frames(frames, payload.len(), first),
             Err(DecodeError::Malformed) => Received {
                 next: first,
@@ -70,8 +71,9 @@ impl Session {
         ensures receives { ReceivesFrames payload_len first frames.items self.old result self.new }
         ensures others { ReceivesOnly self.old self.new }
     {
+        let mut list = frames;
         let mut next: usize = 0;
-        for frame in frames {
+        for frame in list.drain(..) {
             if let Err(error) = self.receive_from(next, first, frame, payload_len) {
                 return Received {
                     next,
@@ -80,6 +82,7 @@ impl Session {
             }
             next = next.saturating_add(1);
         }
+        self.frames.put(list);
         Received {
             next,
             answer: Ok(()),

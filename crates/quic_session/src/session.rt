@@ -15,6 +15,7 @@ ghost use Rattle.quic_streams.specs.Waiting.{TellsEmpty};
 ghost use Rattle.quic_session.specs.Sessions.{end_of, beside_of, datagrams_view, no_datagrams};
 ghost use Rattle.quic_session.specs.Tokens.{unsettled};
 
+use crate::memory::FrameMemory;
 use crate::unsettled::Unsettled;
 use quic_assembler::Chunk;
 use quic_datagrams::{DatagramLimits, DatagramState};
@@ -57,9 +58,11 @@ pub struct Session {
     pub(crate) told_received: bool,
     pub(crate) told_room: bool,
     pub(crate) unsettled: Unsettled,
-    // The memory of the last payload and of the last read, which is used again.
+    // The memory of the last payload that was written, of the last read, and of the frames of the last payload that came,
+    // which is used again.
     pub(crate) bytes: Vec<u8>,
     pub(crate) chunks: Vec<Chunk>,
+    pub(crate) frames: FrameMemory,
     pub(crate) alloc: Global,
 }
 
@@ -97,6 +100,7 @@ impl Session {
             unsettled: Unsettled::new(alloc),
             bytes: Vec::new(alloc),
             chunks: Vec::new(alloc),
+            frames: FrameMemory::new(alloc),
             alloc,
         })
     }

@@ -125,3 +125,17 @@ TellsRead (Ok r) code count count' offset offset' app app' = (count' ≡ r.count
     × (code ≡ (if r.count == 0 then last_code r.last else pos 0))
     × (offset' ≡ (if r.count == 0 then offset else r.offset)) × (app' ≡ (if r.count == 0 then last_reset r.last app else app))
 TellsRead (Err error) code count count' offset offset' app app' = (code ≡ readable_code error) × (count' ≡ readable_count error count) × (offset' ≡ offset) × (app' ≡ app)
+
+-- the answer of a read of several chunks: whether more may be at hand, nothing more is now, or nothing more comes
+abbrev pub many_code : LastAnswer → ℕ → ℤ
+many_code last_answer.Blocked count = pos 1
+many_code last_answer.Ended count = pos 2
+many_code (last_answer.Reset code) count = negsuc 7
+many_code last_answer.Memory count = if count == 0 then negsuc 1 else pos 0
+many_code last_answer.More count = pos 0
+
+-- what such a read gave: each answer but a refusal tells the count
+abbrev pub TellsMany : Result ReadInto ReadableError → ℤ → ℕ → ℕ → ℕ → ℕ → ℕ → ℕ → Type 0
+TellsMany (Ok r) code count count' offset offset' app app' = (count' ≡ r.count) × (code ≡ many_code r.last r.count)
+    × (offset' ≡ (if r.count == 0 then offset else r.offset)) × (app' ≡ last_reset r.last app)
+TellsMany (Err error) code count count' offset offset' app app' = (code ≡ readable_code error) × (count' ≡ readable_count error count) × (offset' ≡ offset) × (app' ≡ app)

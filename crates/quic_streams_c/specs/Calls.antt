@@ -3,14 +3,14 @@ use Rattle.std.specs.Prelude.{ℤ, negsuc, ◌≡◌, Option, Some, None}
 use Rattle.quic_session.specs.declared.session.Session.{Session}
 
 -- an open handle: its session is changed so, and stays in it
-abbrev pub Stays : (Session → Session → Type 0) → Session → Option Session → Type 0
-Stays Does s None = ⊥
-Stays Does s (Some t) = Does s t
+abbrev pub StaysOpen : (Session → Session → Type 0) → Session → Option Session → Type 0
+StaysOpen Does s None = ⊥
+StaysOpen Does s (Some t) = Does s t
 
 -- a call: on a closed handle the answer is QS_ERR_CLOSED and nothing is written; on an open one the session is changed so
 abbrev pub Calls : Option Session → ℤ → Option Session → Type 0 → (Session → Session → Type 0) → Type 0
 Calls None code new Keeps Does = (code ≡ negsuc 0) × (new ≡ None) × Keeps
-Calls (Some s) code new Keeps Does = Stays Does s new
+Calls (Some s) code new Keeps Does = StaysOpen Does s new
 
 -- an argument is refused with QS_ERR_ARGUMENT, and nothing changes
 abbrev pub Refuses : Session → ℤ → Session → Type 0

@@ -22,9 +22,9 @@ pub record QueuesRaw (s : Session) (content : List ℕ) (drop_oldest : ℕ) (cod
   pub tells : TellsDone datagram_code answer code
 
 -- the oldest datagram is taken, unless it is longer than the buffer: then its length alone is told
-abbrev pub TakesOldest : Session → Option (List ℕ) → List ℕ → ℤ → Session → List ℕ → ℕ → ℕ → Type 0
-TakesOldest s None out code t new was now = (code ≡ pos 1) × (new ≡ out) × (now ≡ was) × (beside_of t ≡ with_datagrams (beside_of s) (with_oldest_out (datagrams_view s)))
-TakesOldest s (Some bytes) out code t new was now = (now ≡ length bytes) × Copies (nat_lt (length out) (length bytes))
+abbrev pub TakesOldestDatagram : Session → Option (List ℕ) → List ℕ → ℤ → Session → List ℕ → ℕ → ℕ → Type 0
+TakesOldestDatagram s None out code t new was now = (code ≡ pos 1) × (new ≡ out) × (now ≡ was) × (beside_of t ≡ with_datagrams (beside_of s) (with_oldest_out (datagrams_view s)))
+TakesOldestDatagram s (Some bytes) out code t new was now = (now ≡ length bytes) × Copies (nat_lt (length out) (length bytes))
   where
     Copies : Bool → Type 0
     Copies true = (code ≡ negsuc 14) × (new ≡ out) × (beside_of t ≡ with_datagrams (beside_of s) (with_oldest_out (datagrams_view s)))
@@ -33,7 +33,7 @@ TakesOldest s (Some bytes) out code t new was now = (now ≡ length bytes) × Co
 
 -- qs_datagram_recv
 abbrev pub TakesRaw : Session → List ℕ → ℤ → Session → List ℕ → ℕ → ℕ → Type 0
-TakesRaw s out code t new was now = (end_of t ≡ end_of s) × TakesOldest s (with_oldest_out (datagrams_view s)).waiting out code t new was now
+TakesRaw s out code t new was now = (end_of t ≡ end_of s) × TakesOldestDatagram s (with_oldest_out (datagrams_view s)).waiting out code t new was now
 
 -- qs_datagram_max_size
 abbrev pub TellsMax : Session → ℤ → Session → ℕ → ℕ → Type 0

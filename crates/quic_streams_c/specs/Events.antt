@@ -11,7 +11,7 @@ use Rattle.quic_session.specs.declared.datagrams.DatagramEvent.{DatagramEvent}
 use Rattle.quic_session.specs.declared.datagrams.DatagramEvent.TheVariants as datagram_event
 use Rattle.quic_session.specs.Sessions.{end_of, datagrams_view, beside_of, with_datagrams, next_told, with_told}
 use Rattle.quic_streams_c.specs.declared.connection.RawEvent.{RawEvent}
-use Rattle.quic_streams_c.specs.Numbers.{number_of}
+use Rattle.quic_streams_c.specs.Numbers.{direction_number}
 use Rattle.quic_streams_c.specs.Sessions.{GoesOn}
 
 abbrev pub raw_event : ℕ → ℕ → ℕ → ℕ → RawEvent
@@ -19,12 +19,12 @@ raw_event kind dir id app_code = record { kind = kind; dir = dir; id = id; app_c
 
 -- an event of the streams
 abbrev pub event_at : StreamEvent → RawEvent
-event_at (stream_event.Opened dir) = raw_event 1 (number_of dir) 0 0
-event_at (stream_event.Readable id) = raw_event 2 (number_of (dir_of id)) id 0
-event_at (stream_event.Writable id) = raw_event 3 (number_of (dir_of id)) id 0
-event_at (stream_event.Finished id) = raw_event 4 (number_of (dir_of id)) id 0
-event_at (stream_event.Stopped id code) = raw_event 5 (number_of (dir_of id)) id code
-event_at (stream_event.Available dir) = raw_event 6 (number_of dir) 0 0
+event_at (stream_event.Opened dir) = raw_event 1 (direction_number dir) 0 0
+event_at (stream_event.Readable id) = raw_event 2 (direction_number (dir_of id)) id 0
+event_at (stream_event.Writable id) = raw_event 3 (direction_number (dir_of id)) id 0
+event_at (stream_event.Finished id) = raw_event 4 (direction_number (dir_of id)) id 0
+event_at (stream_event.Stopped id code) = raw_event 5 (direction_number (dir_of id)) id code
+event_at (stream_event.Available dir) = raw_event 6 (direction_number dir) 0 0
 
 -- one of datagrams
 abbrev pub datagram_event_at : DatagramEvent → RawEvent
@@ -32,7 +32,7 @@ datagram_event_at datagram_event.Received = raw_event 7 0 0 0
 datagram_event_at datagram_event.Unblocked = raw_event 8 0 0 0
 
 -- the next event of the streams is told, if there is one
-pub record Polls (s : Session) (answer : Option RawEvent) (t : Session) : Type 0 where
+pub record PollsStreams (s : Session) (answer : Option RawEvent) (t : Session) : Type 0 where
   pub told : Option StreamEvent
   pub polls : TellsNext (end_of s).streams told (end_of t).streams
   pub pending : (end_of t).pending ≡ (end_of s).pending
@@ -43,7 +43,7 @@ pub record Polls (s : Session) (answer : Option RawEvent) (t : Session) : Type 0
 -- what is to be told of datagrams is told before that
 abbrev pub TellsEvent : Option DatagramEvent → Session → Option RawEvent → Session → Type 0
 TellsEvent (Some e) s answer t = (answer ≡ Some (datagram_event_at e)) × (end_of t ≡ end_of s) × (beside_of t ≡ with_datagrams (beside_of s) (with_told (datagrams_view s)))
-TellsEvent None s answer t = Polls s answer t
+TellsEvent None s answer t = PollsStreams s answer t
 
 -- what is written
 abbrev pub TellsRaw : Option RawEvent → ℤ → RawEvent → RawEvent → Type 0

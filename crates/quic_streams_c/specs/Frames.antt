@@ -1,5 +1,5 @@
 -- Frames and payloads that C hands in.
-use Rattle.std.specs.Prelude.{ℕ, ℤ, pos, negsuc, ◌≡◌, ◌⊎◌, ◌==◌, max, min, not, List, length, Result, Ok, Err, codes}
+use Rattle.std.specs.Prelude.{ℕ, ℤ, pos, negsuc, ◌≡◌, ◌⊎◌, ◌==◌, ◌++◌, max, min, not, List, length, take, drop, replicate, Result, Ok, Err, codes}
 use Rattle.quic_wire.specs.declared.frame.Frame.{Frame}
 use Rattle.quic_wire.specs.declared.frame.Frame.TheVariants as frames
 use Rattle.quic_wire.specs.declared.error.ReceiveError.{ReceiveError}
@@ -18,17 +18,19 @@ use Rattle.quic_streams_c.specs.declared.peer.RawError.{RawError}
 use Rattle.quic_streams_c.specs.Calls.{Refuses, WithNumber}
 use Rattle.quic_streams_c.specs.Numbers.{small, dir_at}
 
--- an error as C is told it: its code, and how many bytes of its reason, at most 80, are told
+-- an error as C is told it: its code, how many bytes of its reason, at most 80, are told, and these, with zeros behind
+-- them
 pub record IsTold (code : ℕ) (reason : List ℕ) (error : RawError) : Type 0 where
   pub code_is : error.code ≡ code
   pub length_is : error.reason_len ≡ min (length reason) 80
+  pub reason_is : error.reason ≡ take error.reason_len reason ++ drop error.reason_len (replicate 80 0)
 
 -- what C is told of a frame
-abbrev pub TellsFrame : Result ShouldTransmit ReceiveError → ℤ → RawError → RawError → Type 0
-TellsFrame (Ok transmit) code was now = (code ≡ pos 0) × (now ≡ was)
-TellsFrame (Err receive_error.CompactionMemory) code was now = (code ≡ pos 0) × (now ≡ was)
-TellsFrame (Err receive_error.OutOfMemory) code was now = (code ≡ negsuc 1) × (now ≡ was)
-TellsFrame (Err (receive_error.Transport error)) code was now = (code ≡ negsuc 9) × IsTold error.code error.reason.now now
+abbrev pub TellsTaken : Result ShouldTransmit ReceiveError → ℤ → RawError → RawError → Type 0
+TellsTaken (Ok transmit) code was now = (code ≡ pos 0) × (now ≡ was)
+TellsTaken (Err receive_error.CompactionMemory) code was now = (code ≡ pos 0) × (now ≡ was)
+TellsTaken (Err receive_error.OutOfMemory) code was now = (code ≡ negsuc 1) × (now ≡ was)
+TellsTaken (Err (receive_error.Transport error)) code was now = (code ≡ negsuc 9) × IsTold error.code error.reason.now now
 
 -- a frame is handed in, that came in a payload of so many bytes
 pub record HandsFrame (s : Session) (frame : Frame) (size : ℕ) (code : ℤ) (t : Session) (was now : RawError) : Type 0 where
@@ -36,7 +38,7 @@ pub record HandsFrame (s : Session) (frame : Frame) (size : ℕ) (code : ℤ) (t
   pub receives : ReceivesFrame s frame (max size (data_length frame)) answer t
   pub from : (m : Made) (h : List Event) → From m h (end_of s).streams → From m (with_call_made (event_of frame answer) h) (end_of t).streams
   pub others : ReceivesOnly s t
-  pub tells : TellsFrame answer code was now
+  pub tells : TellsTaken answer code was now
 
 -- a number is refused
 abbrev pub Denies : Session → ℤ → Session → RawError → RawError → Type 0

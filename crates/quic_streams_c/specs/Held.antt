@@ -9,6 +9,6 @@ use Rattle.std_heap.specs.contracts.GlobalAllocator.TheImpl.{ghosts}
 use Rattle.quic_session.specs.declared.session.Session.{Session}
 use Rattle.quic_session.specs.contracts.session.Session.{the_row}
 
-abbrev pub held : Global → Ptr → Option Session → Fml
-held alloc at None = ftrue
-held alloc at (Some q) = box_owns (ghosts.dealloc_token alloc) the_row at q
+abbrev pub slot_holds : Global → Ptr → Option Session → Fml
+slot_holds alloc at None = ftrue
+slot_holds alloc at (Some q) = box_owns (ghosts.dealloc_token alloc) the_row at q

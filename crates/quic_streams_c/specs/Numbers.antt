@@ -12,9 +12,9 @@ abbrev pub small : ℕ → Option ℕ
 small n = if nat_lt n (2 ^ 62) then Some n else None
 
 -- the number of a direction
-abbrev pub number_of : Dir → ℕ
-number_of Bi = 0
-number_of Uni = 1
+abbrev pub direction_number : Dir → ℕ
+direction_number Bi = 0
+direction_number Uni = 1
 
 -- a length, and none for the greatest number
 abbrev pub length_at : ℕ → Option ℕ

@@ -6,7 +6,7 @@ use Rattle.quic_session.specs.declared.emitting.Emitted.{Emitted}
 use Rattle.quic_session.specs.declared.emitting.Parts.{Parts}
 use Rattle.quic_session.specs.declared.settling.SettleError.{SettleError}
 use Rattle.quic_session.specs.Sessions.{end_of}
-use Rattle.quic_session.specs.Emitting.{Emits, GoesOnWithFrames}
+use Rattle.quic_session.specs.Emitting.{EmitsPayload, GoesOnWithFrames}
 use Rattle.quic_session.specs.Settling.{AcksToken, LosesToken, SettlesOnly}
 use Rattle.quic_streams_c.specs.declared.payloads.RawPayload.{RawPayload}
 use Rattle.quic_streams_c.specs.Answers.{TellsDone, settle_code}
@@ -28,7 +28,7 @@ TellsPayload (Err error) code was now = (code ≡ negsuc 1) × (now ≡ was)
 -- a payload is written, of these parts
 pub record Emitting (s : Session) (parts : Parts) (fair : Bool) (out : List ℕ) (code : ℤ) (t : Session) (new : List ℕ) (was now : RawPayload) : Type 0 where
   pub answer : Result (Option Emitted) OutOfMemory
-  pub emits : Emits s parts fair out answer t new
+  pub emits : EmitsPayload s parts fair out answer t new
   pub from : GoesOnWithFrames (length out) fair (end_of s).streams (end_of t).streams
   pub conn : t.conn ≡ s.conn
   pub tells : TellsPayload answer code was now

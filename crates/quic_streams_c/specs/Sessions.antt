@@ -33,18 +33,18 @@ abbrev pub Unchanged : Session → Session → Type 0
 Unchanged s t = (end_of t ≡ end_of s) × (beside_of t ≡ beside_of s)
 
 -- a stream was opened, or none may be
-abbrev pub Opens : Session → Dir → Result (Option ℕ) OutOfMemory → Session → Type 0
-Opens s dir answer t = OpensOwn (end_of s).streams dir (is_shut s.conn) answer (end_of t).streams × ((end_of t).pending ≡ (end_of s).pending)
+abbrev pub SessionOpens : Session → Dir → Result (Option ℕ) OutOfMemory → Session → Type 0
+SessionOpens s dir answer t = OpensOwn (end_of s).streams dir (is_shut s.conn) answer (end_of t).streams × ((end_of t).pending ≡ (end_of s).pending)
     × GoesOn s (Sending (OpenedOwn dir (is_shut s.conn) answer)) t × (beside_of t ≡ beside_of s)
 
 -- one of the peer was accepted, or there is none
-abbrev pub Accepts : Session → Dir → Option ℕ → Session → Type 0
-Accepts s dir answer t = (answer ≡ acceptable (end_of s).streams dir) × (end_of t ≡ with_world (end_of s) (with_accepted (end_of s).streams dir))
+abbrev pub SessionAccepts : Session → Dir → Option ℕ → Session → Type 0
+SessionAccepts s dir answer t = (answer ≡ acceptable (end_of s).streams dir) × (end_of t ≡ with_world (end_of s) (with_accepted (end_of s).streams dir))
     × GoesOn s (Accepted dir answer) t × (beside_of t ≡ beside_of s)
 
 -- bytes were written on a stream that was given
-abbrev pub Writes : Session → ℕ → List ℕ → Result ℕ WriteError → Session → Type 0
-Writes s id bytes answer t =
+abbrev pub SessionWrites : Session → ℕ → List ℕ → Result ℕ WriteError → Session → Type 0
+SessionWrites s id bytes answer t =
     (was_given (end_of s).streams id ≡ true → IsWrittenAs answer (λ written. (left : List (List ℕ)) × WritesOwn (end_of s).streams id (slice_lists bytes) (is_shut s.conn) (end_of s).pending written (end_of t).streams left (end_of t).pending))
     × (was_given (end_of s).streams id ≡ false → (answer ≡ Err write_error.ClosedStream) × (end_of t ≡ end_of s))
     × (was_given (end_of s).streams id ≡ true → IsWrittenAs answer (λ written. (m : Made) (h : List Event) → From m h (end_of s).streams → From m (Sending (WroteOwn id (slice_lists bytes) (is_shut s.conn) written) ∷ h) (end_of t).streams))
@@ -56,27 +56,27 @@ OnStream s id answer closed Does event t = (was_given (end_of s).streams id ≡ 
     × (was_given (end_of s).streams id ≡ false → (answer ≡ Err closed) × (end_of t ≡ end_of s))
     × (was_given (end_of s).streams id ≡ true → GoesOn s event t) × (beside_of t ≡ beside_of s)
 
-abbrev pub Finishes : Session → ℕ → Result (Unit {0}) FinishError → Session → Type 0
-Finishes s id answer t = OnStream s id answer finish_error.ClosedStream (FinishesAt (end_of s) id answer (end_of t)) (Sending (FinishedOwn id answer)) t
+abbrev pub SessionFinishes : Session → ℕ → Result (Unit {0}) FinishError → Session → Type 0
+SessionFinishes s id answer t = OnStream s id answer finish_error.ClosedStream (FinishesAt (end_of s) id answer (end_of t)) (Sending (FinishedOwn id answer)) t
 
-abbrev pub Resets : Session → ℕ → ℕ → Result (Unit {0}) HandleError → Session → Type 0
-Resets s id code answer t = OnStream s id answer handle_error.ClosedStream (ResetsAt (end_of s) id code answer (end_of t)) (Sending (ResetOwn id code answer)) t
+abbrev pub SessionResets : Session → ℕ → ℕ → Result (Unit {0}) HandleError → Session → Type 0
+SessionResets s id code answer t = OnStream s id answer handle_error.ClosedStream (ResetsAt (end_of s) id code answer (end_of t)) (Sending (ResetOwn id code answer)) t
 
-abbrev pub Stops : Session → ℕ → ℕ → Result (Unit {0}) HandleError → Session → Type 0
-Stops s id code answer t = OnStream s id answer handle_error.ClosedStream (StopsReading (end_of s) id code answer (end_of t)) (Stopped id code answer) t
+abbrev pub SessionStops : Session → ℕ → ℕ → Result (Unit {0}) HandleError → Session → Type 0
+SessionStops s id code answer t = OnStream s id answer handle_error.ClosedStream (StopsReading (end_of s) id code answer (end_of t)) (Stopped id code answer) t
 
-abbrev pub SetsPriority : Session → ℕ → ℤ → Result (Unit {0}) HandleError → Session → Type 0
-SetsPriority s id priority answer t = OnStream s id answer handle_error.ClosedStream (SetsPriorityAt (end_of s) id priority answer (end_of t)) (Sending (SetOwnPriority id priority answer)) t
+abbrev pub SessionSetsPriority : Session → ℕ → ℤ → Result (Unit {0}) HandleError → Session → Type 0
+SessionSetsPriority s id priority answer t = OnStream s id answer handle_error.ClosedStream (SetsPriorityAt (end_of s) id priority answer (end_of t)) (Sending (SetOwnPriority id priority answer)) t
 
-abbrev pub TellsReset : Session → ℕ → Result (Option ℕ) HandleError → Session → Type 0
-TellsReset s id answer t = OnStream s id answer handle_error.ClosedStream (TellsResetAt (end_of s) id answer (end_of t)) (ToldReset id answer) t
+abbrev pub SessionTellsReset : Session → ℕ → Result (Option ℕ) HandleError → Session → Type 0
+SessionTellsReset s id answer t = OnStream s id answer handle_error.ClosedStream (TellsResetAt (end_of s) id answer (end_of t)) (ToldReset id answer) t
 
 -- the priority of a stream is told
-abbrev pub TellsPriority : Session → ℕ → Result ℤ ClosedStream → Session → Type 0
-TellsPriority s id answer t = (was_given (end_of s).streams id ≡ true → answer ≡ told_of_half (λ h. h.priority) ((end_of s).streams.out.halves id))
+abbrev pub SessionTellsPriority : Session → ℕ → Result ℤ ClosedStream → Session → Type 0
+SessionTellsPriority s id answer t = (was_given (end_of s).streams id ≡ true → answer ≡ told_of_half (λ h. h.priority) ((end_of s).streams.out.halves id))
     × (was_given (end_of s).streams id ≡ false → answer ≡ Err (record {})) × (end_of t ≡ end_of s) × (beside_of t ≡ beside_of s)
 
 -- the code with which the peer stopped one
-abbrev pub TellsStop : Session → ℕ → Result (Option ℕ) ClosedStream → Session → Type 0
-TellsStop s id answer t = (was_given (end_of s).streams id ≡ true → answer ≡ told_of_half (λ h. h.stop_reason) ((end_of s).streams.out.halves id))
+abbrev pub SessionTellsStop : Session → ℕ → Result (Option ℕ) ClosedStream → Session → Type 0
+SessionTellsStop s id answer t = (was_given (end_of s).streams id ≡ true → answer ≡ told_of_half (λ h. h.stop_reason) ((end_of s).streams.out.halves id))
     × (was_given (end_of s).streams id ≡ false → answer ≡ Err (record {})) × (end_of t ≡ end_of s) × (beside_of t ≡ beside_of s)

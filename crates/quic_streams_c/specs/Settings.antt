@@ -47,8 +47,8 @@ pub record IsConfig (c : RawConfig) : Type 0 where
   pub stream_window : c.stream_window < 2 ^ 62
 
 -- what is permitted of its datagrams
-abbrev pub limits_of : RawConfig → DatagramLimits
-limits_of c = record { receive = length_at c.datagram_receive; send = c.datagram_send; max = None }
+abbrev pub raw_limits : RawConfig → DatagramLimits
+raw_limits c = record { receive = length_at c.datagram_receive; send = c.datagram_send; max = None }
 
 -- what a session begins with by it
 abbrev pub IsConfigOf : RawConfig → Config → Type 0
@@ -59,7 +59,7 @@ IsConfigOf r c = (c ≡ record {
   send_window = r.send_window;
   receive_window = r.receive_window;
   stream_window = r.stream_window;
-  datagrams = limits_of r;
+  datagrams = raw_limits r;
 })
 
 abbrev pub made_by : Config → Made
@@ -81,9 +81,9 @@ pub record MakesNew (r : RawConfig) (code : ℤ) (new : Option Session) : Type 0
   pub made : ((code ≡ negsuc 1) × (new ≡ None)) ⊎ ((code ≡ pos 0) × ((s : Session) × (new ≡ Some s) × IsNewOf config s))
 
 -- qs_conn_open: an open handle stays as it is
-abbrev pub Begins : RawConfig → Option Session → ℤ → Option Session → Type 0
-Begins r (Some s) code new = (code ≡ negsuc 3) × (new ≡ Some s)
-Begins r None code new = ((code ≡ negsuc 2) × (new ≡ None) × (IsConfig r → ⊥)) ⊎ MakesNew r code new
+abbrev pub OpensHandle : RawConfig → Option Session → ℤ → Option Session → Type 0
+OpensHandle r (Some s) code new = (code ≡ negsuc 3) × (new ≡ Some s)
+OpensHandle r None code new = ((code ≡ negsuc 2) × (new ≡ None) × (IsConfig r → ⊥)) ⊎ MakesNew r code new
 
 -- six limits that can be encoded
 pub record AreLimits (r : RawLimits) : Type 0 where
@@ -139,14 +139,14 @@ pub record SendsEarlyAgain (s : Session) (code : ℤ) (t : Session) : Type 0 whe
   pub tells : TellsDone memory_code answer code
 
 -- qs_set_send_window
-abbrev pub SetsSendWindow : Session → ℕ → ℤ → Session → Type 0
-SetsSendWindow s window code t = (code ≡ pos 0)
+abbrev pub SetsSendWindowRaw : Session → ℕ → ℤ → Session → Type 0
+SetsSendWindowRaw s window code t = (code ≡ pos 0)
     × (end_of t ≡ with_world (end_of s) (with_out (end_of s).streams (record (end_of s).streams.out { budget = with_window (end_of s).streams.out.budget window })))
     × GoesOn s (Sending (SetWindow window)) t × (beside_of t ≡ beside_of s)
 
 -- qs_set_receive_window
-abbrev pub SetsReceiveWindow : Session → ℕ → ℤ → Session → Type 0
-SetsReceiveWindow s window code t = WithNumber (small window) (Refuses s code t) (λ w. (larger : Bool) × (larger ≡ nat_lt (end_of s).streams.credit.receive_window w)
+abbrev pub SetsReceiveWindowRaw : Session → ℕ → ℤ → Session → Type 0
+SetsReceiveWindowRaw s window code t = WithNumber (small window) (Refuses s code t) (λ w. (larger : Bool) × (larger ≡ nat_lt (end_of s).streams.credit.receive_window w)
     × (code ≡ pos 0) × (end_of t ≡ with_window_set (end_of s) w larger) × GoesOn s (Resized w larger) t × (beside_of t ≡ beside_of s))
 
 -- qs_set_max_concurrent

@@ -1,8 +1,8 @@
 //! The numbers that C has for answers.
 
 ghost use Rattle.std.specs.Prelude.{◌≡◌};
-ghost use Rattle.quic_streams_c.specs.Numbers.{dir_at, length_at, number_of, small};
-ghost use Rattle.quic_streams_c.specs.Answers.{write_code, write_stop, finish_code, finish_stop, handle_code, readable_code, readable_count, settle_code, datagram_code, last_code, last_reset};
+ghost use Rattle.quic_streams_c.specs.Numbers.{dir_at, length_at, direction_number, small};
+ghost use Rattle.quic_streams_c.specs.Answers.{write_code, write_stop, finish_code, finish_stop, handle_code, readable_code, readable_count, settle_code, datagram_code, last_code, last_reset, many_code};
 
 use quic_receiving::{HandleError, ReadableError};
 use quic_sending::{FinishError, WriteError};
@@ -62,8 +62,8 @@ pub(crate) fn dir_of(number: u32) -> Option<Dir>
 }
 
 // The number of a direction.
-pub(crate) fn number_of(dir: Dir) -> u32
-    ensures { result ≡ number_of dir }
+pub(crate) fn direction_number(dir: Dir) -> u32
+    ensures { result ≡ direction_number dir }
 {
     match dir {
         Dir::Bi => 0,
@@ -171,6 +171,23 @@ pub(crate) fn code_of_last(last: &LastAnswer, app_code: &mut u64) -> i32
             RESET
         }
         LastAnswer::Memory => NO_MEMORY,
+        LastAnswer::More => OK,
+    }
+}
+
+// Whether more may be read than was.
+pub(crate) fn code_of_many(last: &LastAnswer, count: usize, app_code: &mut u64) -> i32
+    ensures code { result ≡ many_code last.now count }
+    ensures app_code { app_code.new ≡ last_reset last.now app_code.old }
+{
+    match last {
+        LastAnswer::Blocked => DONE,
+        LastAnswer::Ended => END,
+        LastAnswer::Reset(code) => {
+            *app_code = code.into_inner();
+            RESET
+        }
+        LastAnswer::Memory => { if count == 0 { NO_MEMORY } else { OK } }
         LastAnswer::More => OK,
     }
 }

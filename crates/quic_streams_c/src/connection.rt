@@ -6,11 +6,12 @@ ghost use Rattle.quic_streams_c.specs.Sessions.{Unchanged};
 ghost use Rattle.quic_streams_c.specs.Answers.{TellsDone, memory_code};
 ghost use Rattle.quic_streams_c.specs.Calls.{Calls};
 ghost use Rattle.quic_streams_c.specs.Events.{raw_event, event_at, TellsEvent, TellsRaw, PollsRaw};
-ghost use Rattle.quic_streams_c.specs.Settings.{side_at, limits_of, IsConfig, IsConfigOf, IsNewOf, Begins, AreLimits, peer_limits, SetsLimits, Closes, Rejects, SendsEarlyAgain, SetsSendWindow, SetsReceiveWindow, SetsConcurrentRaw, flag, IsInfo, TellsInfo};
+ghost use Rattle.quic_streams_c.specs.Settings.{side_at, raw_limits, IsConfig, IsConfigOf, IsNewOf, OpensHandle, AreLimits, peer_limits, SetsLimits, Closes, Rejects, SendsEarlyAgain, SetsSendWindowRaw, SetsReceiveWindowRaw, SetsConcurrentRaw, flag, IsInfo, TellsInfo};
 ghost use Rattle.quic_session.specs.Sessions.{datagrams_view, next_told};
 
 use crate::codes::{
-    ARGUMENT, CLOSED, DONE, IN_USE, NO_MEMORY, OK, dir_of, id_of, length_of, number_of, small,
+    ARGUMENT, CLOSED, DONE, IN_USE, NO_MEMORY, OK, dir_of, direction_number, id_of, length_of,
+    small,
 };
 use crate::handle::{Handle, closed, holding, take_out};
 use quic_datagrams::DatagramLimits;
@@ -86,7 +87,7 @@ const COUNT_END: u64 = (1 << 60) + 1;
 
 // The limits of datagrams.
 fn datagram_limits(config: &RawConfig) -> DatagramLimits
-    ensures { result ≡ limits_of config.now }
+    ensures { result ≡ raw_limits config.now }
 {
     DatagramLimits {
         receive: length_of(config.datagram_receive),
@@ -145,7 +146,7 @@ fn new_session(alloc: Global, config: &Config) -> Result<Box<Session>, OutOfMemo
 /// Makes a session.
 #[unsafe(no_mangle)]
 pub extern "C" fn qs_conn_open(alloc: Global, handle: &mut Handle, config: &RawConfig) -> i32
-    ensures { Begins config.now handle.old.slot.value result handle.new.slot.value }
+    ensures { OpensHandle config.now handle.old.slot.value result handle.new.slot.value }
 {
     if handle.live == 1 {
         return IN_USE;
@@ -194,7 +195,7 @@ fn close(session: &mut Session) -> i32
 }
 
 // The limits of numbers, if none is too large.
-fn limits_of(raw: &RawLimits) -> Option<PeerLimits>
+fn raw_limits(raw: &RawLimits) -> Option<PeerLimits>
     ensures { MatchOption result (AreLimits raw.now → ⊥) (λ limits. AreLimits raw.now × (limits ≡ peer_limits raw.now)) }
 {
     Some(PeerLimits {
@@ -226,7 +227,7 @@ pub extern "C" fn qs_set_peer_limits(alloc: Global, handle: &mut Handle, limits:
 fn set_limits(session: &mut Session, limits: &RawLimits) -> i32
     ensures { SetsLimits session.old limits.now result session.new }
 {
-    let Some(params) = limits_of(limits) else {
+    let Some(params) = raw_limits(limits) else {
         return ARGUMENT;
     };
     session.set_params(&params);
@@ -292,7 +293,7 @@ fn tell_memory(answer: &Result<(), OutOfMemory>) -> i32
 /// Sets how many bytes that were written are kept until they are acknowledged.
 #[unsafe(no_mangle)]
 pub extern "C" fn qs_set_send_window(alloc: Global, handle: &mut Handle, window: u64) -> i32
-    ensures { Calls handle.old.slot.value result handle.new.slot.value (Unit {0}) (λ s t. SetsSendWindow s window result t) }
+    ensures { Calls handle.old.slot.value result handle.new.slot.value (Unit {0}) (λ s t. SetsSendWindowRaw s window result t) }
 {
     match take_out(alloc, handle) {
         None => CLOSED,
@@ -306,7 +307,7 @@ pub extern "C" fn qs_set_send_window(alloc: Global, handle: &mut Handle, window:
 
 // The same, of a session.
 fn set_send_window(session: &mut Session, window: u64) -> i32
-    ensures { SetsSendWindow session.old window result session.new }
+    ensures { SetsSendWindowRaw session.old window result session.new }
 {
     session.set_send_window(window);
     OK
@@ -315,7 +316,7 @@ fn set_send_window(session: &mut Session, window: u64) -> i32
 /// Sets how many bytes of all streams may be received and not read.
 #[unsafe(no_mangle)]
 pub extern "C" fn qs_set_receive_window(alloc: Global, handle: &mut Handle, window: u64) -> i32
-    ensures { Calls handle.old.slot.value result handle.new.slot.value (Unit {0}) (λ s t. SetsReceiveWindow s window result t) }
+    ensures { Calls handle.old.slot.value result handle.new.slot.value (Unit {0}) (λ s t. SetsReceiveWindowRaw s window result t) }
 {
     match take_out(alloc, handle) {
         None => CLOSED,
@@ -329,7 +330,7 @@ pub extern "C" fn qs_set_receive_window(alloc: Global, handle: &mut Handle, wind
 
 // The same, of a session.
 fn set_receive_window(session: &mut Session, window: u64) -> i32
-    ensures { SetsReceiveWindow session.old window result session.new }
+    ensures { SetsReceiveWindowRaw session.old window result session.new }
 {
     let Some(window) = small(window) else {
         return ARGUMENT;
@@ -388,14 +389,19 @@ fn event_of(told: StreamEvent) -> RawEvent
     ensures { result ≡ event_at told }
 {
     match told {
-        StreamEvent::Opened { dir } => event(1, number_of(dir), 0, 0),
-        StreamEvent::Readable { id } => event(2, number_of(id.dir()), id_of(id), 0),
-        StreamEvent::Writable { id } => event(3, number_of(id.dir()), id_of(id), 0),
-        StreamEvent::Finished { id } => event(4, number_of(id.dir()), id_of(id), 0),
+        StreamEvent::Opened { dir } => event(1, direction_number(dir), 0, 0),
+        StreamEvent::Readable { id } => event(2, direction_number(id.dir()), id_of(id), 0),
+        StreamEvent::Writable { id } => event(3, direction_number(id.dir()), id_of(id), 0),
+        StreamEvent::Finished { id } => event(4, direction_number(id.dir()), id_of(id), 0),
         StreamEvent::Stopped { id, error_code } => {
-            event(5, number_of(id.dir()), id_of(id), error_code.into_inner())
+            event(
+                5,
+                direction_number(id.dir()),
+                id_of(id),
+                error_code.into_inner(),
+            )
         }
-        StreamEvent::Available { dir } => event(6, number_of(dir), 0, 0),
+        StreamEvent::Available { dir } => event(6, direction_number(dir), 0, 0),
     }
 }
 

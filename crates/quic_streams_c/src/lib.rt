@@ -3,6 +3,7 @@
 #![tactic(auto)]
 
 mod application;
+mod chunks;
 mod codes;
 mod connection;
 mod datagrams;

@@ -1,8 +1,8 @@
 //! Frames of the peer.
 
-ghost use Rattle.std.specs.Prelude.{◌≡◌, ◌==◌, not};
+ghost use Rattle.std.specs.Prelude.{◌≡◌, ◌==◌, ◌++◌, not, min, length, take, drop};
 ghost use Rattle.quic_streams_c.specs.Calls.{Calls};
-ghost use Rattle.quic_streams_c.specs.Frames.{IsTold, TellsFrame, TellsReceived, HandsFrame, HandsStream, HandsReset, HandsStop, HandsMaxData, HandsMaxStreamData, HandsMaxStreams, HandsDatagram, ReceivesRaw};
+ghost use Rattle.quic_streams_c.specs.Frames.{IsTold, TellsTaken, TellsReceived, HandsFrame, HandsStream, HandsReset, HandsStop, HandsMaxData, HandsMaxStreamData, HandsMaxStreams, HandsDatagram, ReceivesRaw};
 
 use crate::codes::{
     ARGUMENT, CLOSED, MALFORMED, NO_MEMORY, OK, PROTOCOL, dir_of, small, stream_of,
@@ -30,11 +30,19 @@ fn tell(error: &TransportError, told: &mut RawError)
     ensures { IsTold error.now.code error.now.reason.now told.new }
 {
     told.code = error.code;
-    let reason = error.reason.as_bytes();
-    let length = reason.len().min(80);
     told.reason = [0; 80];
-    told.reason[..length].copy_from_slice(&reason[..length]);
+    let length = copy_front(error.reason.as_bytes(), &mut told.reason);
     told.reason_len = length as u64;
+}
+
+// The first bytes of a text are copied into as much room as there is. Says how many.
+fn copy_front(text: &[u8], room: &mut [u8]) -> usize
+    ensures count { result ≡ min (length text.now) (length room.old) }
+    ensures room { room.new ≡ take result text.now ++ drop result room.old }
+{
+    let length = text.len().min(room.len());
+    room[..length].copy_from_slice(&text[..length]);
+    length
 }
 
 /// Takes a whole payload.
@@ -97,7 +105,7 @@ fn hand(session: &mut Session, frame: Frame, payload_len: usize, error: &mut Raw
 
 // What came of a frame.
 fn tell_taken(answer: &Result<ShouldTransmit, ReceiveError>, error: &mut RawError) -> i32
-    ensures { TellsFrame answer.now result error.old error.new }
+    ensures { TellsTaken answer.now result error.old error.new }
 {
     match answer {
         Ok(_) => OK,

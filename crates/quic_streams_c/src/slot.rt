@@ -6,7 +6,7 @@ ghost use Rattle.std.specs.declared.option.Option.TheVariants.{Some, None};
 ghost use Rattle.std.specs.Coded.{coded_option};
 ghost use Rattle.quic_session.specs.declared.session.Session.{Session};
 ghost use Rattle.quic_session.specs.contracts.session.Session.{the_row};
-ghost use Rattle.quic_streams_c.specs.Held.{held};
+ghost use Rattle.quic_streams_c.specs.Held.{slot_holds};
 
 use box_parts::parts::Parts;
 use quic_session::Session;
@@ -22,7 +22,7 @@ pub struct Slot {
 }
 
 impl Model for Slot {
-    ghost also_owns = { λ s. held s.alloc s.at s.value };
+    ghost also_owns = { λ s. slot_holds s.alloc s.at s.value };
 }
 
 impl Slot {

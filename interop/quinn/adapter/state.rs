@@ -20,6 +20,8 @@ struct Due {
 struct Readable {
     /// Whether it was read as bytes came.
     unordered: bool,
+    /// Whether the library told the end, with bytes behind which the application is to be told it.
+    ended: bool,
 }
 
 /// The streams of a connection
@@ -248,28 +250,26 @@ impl StreamsState {
         counters: &mut FrameStats,
         max_size: usize,
     ) {
-        if !self.has_pending() {
-            return;
+        if self.has_pending() {
+            let from = buf.len();
+            sent.control = self.emit(buf, max_size, [true, false]);
+            payloads::count_control(&buf[from..], counters);
         }
-        let (from, what) = (buf.len(), [true, false]);
-        sent.control = self.emit(buf, max_size, what);
-        payloads::count_control(&buf[from..], counters);
     }
 
-    /// Writes data
+    /// Writes data, and says how many frames
     pub(crate) fn write_stream_frames(
         &mut self,
         buf: &mut Vec<u8>,
         sent: &mut Payloads,
-        counters: &mut FrameStats,
         max_size: usize,
-    ) {
+    ) -> u64 {
         if !self.can_send_stream_data() {
-            return;
+            return 0;
         }
-        let (from, what) = (buf.len(), [false, true]);
-        sent.data = self.emit(buf, max_size, what);
-        counters.stream += payloads::count_data(&buf[from..]);
+        let from = buf.len();
+        sent.data = self.emit(buf, max_size, [false, true]);
+        payloads::count_data(&buf[from..])
     }
 
     /// Has control frames or data written behind what a packet has.
@@ -415,7 +415,9 @@ impl StreamsState {
 
     pub(super) fn stop(&mut self, id: StreamId, code: VarInt) -> Result<(), UnknownStream> {
         self.take_ahead(id);
-        self.readable.remove(&id);
+        if self.readable.remove(&id).map_or(false, |half| half.ended) {
+            return Ok(());
+        }
         answered(self.end().recv_stream(layer_id(id)).stop(code.into()))
     }
 
@@ -446,6 +448,10 @@ impl StreamsState {
         if self.is_to_come(id) || max_length == 0 {
             return Err(ReadError::Blocked);
         }
+        if self.has_ended(id) {
+            self.readable.remove(&id);
+            return Ok(None);
+        }
         let answer = self.read_chunk(id, ordered, max_length);
         let closed = match answer {
             Ok(Some(chunk)) => return Ok(Some(chunk)),
@@ -458,7 +464,12 @@ impl StreamsState {
         closed
     }
 
-    /// Reads into a buffer of which each chunk takes a part
+    /// Whether the library told the end of a stream, and the application was not told it
+    fn has_ended(&self, id: StreamId) -> bool {
+        self.readable.get(&id).map_or(false, |half| half.ended)
+    }
+
+    /// Reads into a buffer of which each chunk takes a part, in order those of several frames as one chunk
     fn read_chunk(
         &mut self,
         id: StreamId,
@@ -471,8 +482,21 @@ impl StreamsState {
         self.due.set(None);
         let length = max_length.min(self.room.len());
         let mut half = self.end.get_mut().recv_stream(layer_id(id));
-        let Some((count, offset)) = half.read_into(&mut self.room[..length], ordered)? else {
-            return Ok(None);
+        let room = &mut self.room[..length];
+        let (count, offset) = if ordered {
+            let read = half.read_many(room)?;
+            match (read.count, read.next) {
+                (0, layer::Next::Finished) => return Ok(None),
+                (0, _) => return Err(layer::ReadError::Blocked),
+                (_, layer::Next::Finished) => self.readable.entry(id).or_default().ended = true,
+                _ => {}
+            }
+            (read.count, read.offset)
+        } else {
+            let Some(read) = half.read_into(room, false)? else {
+                return Ok(None);
+            };
+            read
         };
         let bytes = self.room.split_to(count).freeze();
         Ok(Some(Chunk { offset, bytes }))

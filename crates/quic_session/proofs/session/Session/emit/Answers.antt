@@ -4,7 +4,7 @@ use Rattle.std.proofs.lemmas.List.{nil_from_length}
 use Rattle.quic_session.specs.Sessions.{end_of, datagrams_view}
 use Rattle.quic_session.specs.Tokens.{unsettled, KeepsNew}
 use Rattle.quic_session.specs.declared.unsettled.Unsettled.{Unsettled}
-use Rattle.quic_session.specs.Emitting.{PayloadView, WritesParts, writing_of}
+use Rattle.quic_session.specs.Emitting.{DraftView, WritesParts, writing_of}
 use Rattle.quic_session.proofs.Payloads.{Kept}
 use Rattle.quic_session.proofs.Emitted.{Answer, parts-within, parts-on, no-frames, frames-left}
 use Rattle.quic_session.proofs.session.Session.emit.Goals as goal
@@ -29,7 +29,7 @@ pub returns-then-is_empty-clause-emits : goal.returns-then-is_empty-clause-emits
 unfolding end_of
 returns-then-is_empty-clause-emits c =
     let w = c.write_parts-answer in
-    let P : PayloadView → Type 0 = λ p. WritesParts (length c.args.out.now) c.args.parts c.args.fair (record { end = end_of c.args.self.now; datagrams = datagrams_view c.args.self.now; payload = p }) (Ok tt) (writing_of w.new.self w.new.draft) in
+    let P : DraftView → Type 0 = λ p. WritesParts (length c.args.out.now) c.args.parts c.args.fair (record { end = end_of c.args.self.now; datagrams = datagrams_view c.args.self.now; payload = p }) (Ok tt) (writing_of w.new.self w.new.draft) in
     let empty = eqb-true _ 0 (sym c.is_empty.ensures ∙ c.if-is_empty.true) in
     let nothing : w.new.draft.bytes.items ≡ [] = nil_from_length w.new.draft.bytes.items (sym w.new.draft.bytes.ok.0 ∙ empty) in (
       refl,
@@ -41,7 +41,7 @@ pub returns-clause-emits : goal.returns-clause-emits
 unfolding end_of
 returns-clause-emits c =
     let w = c.write_parts-answer in
-    let P : PayloadView → Type 0 = λ p. WritesParts (length c.args.out.now) c.args.parts c.args.fair (record { end = end_of c.args.self.now; datagrams = datagrams_view c.args.self.now; payload = p }) w.result (writing_of w.new.self w.new.draft) in
+    let P : DraftView → Type 0 = λ p. WritesParts (length c.args.out.now) c.args.parts c.args.fair (record { end = end_of c.args.self.now; datagrams = datagrams_view c.args.self.now; payload = p }) w.result (writing_of w.new.self w.new.draft) in
     let writes = subst P c.new-draft.ensures w.ensures.writes in
     let held = eqb-false _ 0 (sym c.is_empty.ensures ∙ c.if-is_empty.false) in
     let some : 0 < length w.new.draft.bytes.items = omega (arith, held, w.new.draft.bytes.ok.0) in
