@@ -26,7 +26,7 @@ LIBRARY_PATHS = {("Box", "new")}
 LIBRARY_MACROS = {"vec", "format"}
 
 # Functions that answer their argument itself where memory is wanting. What they answer as an error is read as one.
-GIVES_BACK = {"put_first", "put_last", "put_tidy", "join_last", "push_within", "merge", "merge_thin"}
+GIVES_BACK = {"put_new", "put_first", "put_last", "put_tidy", "join_last", "push_within", "merge", "merge_thin"}
 
 # Places that stay as they are, each of them once: (file, line of text) and why.
 ALLOWED = {

@@ -205,11 +205,10 @@ impl PieceMap {
         if self.pieces.contains(piece.offset()) {
             return Ok(Some(self.replace(piece)));
         }
-        match self.put_new(piece) {
-            Ok(()) => return Ok(None),
-            Err(_) => {}
-        }
-        Err(OutOfMemory)
+        let Ok(()) = self.put_new(piece) else {
+            return Err(OutOfMemory);
+        };
+        Ok(None)
     }
 
     /// Puts a piece in the place of the one that begins at its offset, and gives that.

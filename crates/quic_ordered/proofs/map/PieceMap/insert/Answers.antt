@@ -10,14 +10,14 @@ pub returns-then-contains-clause-entries : goal.returns-then-contains-clause-ent
 returns-then-contains-clause-entries c =
     c.replace.ensures.entries ∙ sym (insert_is_set c.args.self.now c.args.piece.offset c.replace.result c.args.piece (subst RiseByKey c.self.view_is c.self.invariant.rises) c.replace.ensures.old)
 
-pub returns-in-Ok-clause-here : goal.returns-in-Ok-clause-here
-returns-in-Ok-clause-here c = ap (λ (xs : List (ℕ × PieceView)). piece_at xs c.args.piece.offset) c.in-Ok.ensures.entries ∙ insert_at c.args.self.now c.args.piece.offset c.args.piece
+pub returns-clause-here : goal.returns-clause-here
+returns-clause-here c = ap (λ (xs : List (ℕ × PieceView)). piece_at xs c.args.piece.offset) c.in-Ok.ensures.entries ∙ insert_at c.args.self.now c.args.piece.offset c.args.piece
 
-pub returns-in-Ok-clause-others : goal.returns-in-Ok-clause-others
-returns-in-Ok-clause-others c = λ r ne. ap (λ (xs : List (ℕ × PieceView)). piece_at xs r) c.in-Ok.ensures.entries ∙ insert_apart c.args.self.now c.args.piece.offset r c.args.piece ne
+pub returns-clause-others : goal.returns-clause-others
+returns-clause-others c = λ r ne. ap (λ (xs : List (ℕ × PieceView)). piece_at xs r) c.in-Ok.ensures.entries ∙ insert_apart c.args.self.now c.args.piece.offset r c.args.piece ne
 
-pub returns-in-Ok-clause-len : goal.returns-in-Ok-clause-len
-returns-in-Ok-clause-len c =
+pub returns-clause-len : goal.returns-clause-len
+returns-clause-len c =
     let es = c.self.inside.pieces.entries in
     let none = none_is_none (piece_at es c.args.piece.offset) (sym c.if-contains.false ∙ (c.contains.ensures ∙ ap (λ (n : ℕ). is_some (piece_at es n)) c.offset.ensures.value)) in
     ap (λ (xs : List (ℕ × PieceView)). length xs) c.in-Ok.ensures.entries ∙ insert_len c.args.self.now c.args.piece.offset c.args.piece (ap (λ (xs : List (ℕ × PieceView)). piece_at xs c.args.piece.offset) (sym c.self.view_is) ∙ none)
