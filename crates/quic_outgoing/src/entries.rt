@@ -1,6 +1,6 @@
 //! The send halves of a connection's streams.
 
-ghost use Rattle.std.specs.Prelude.{ℕ, ◌≡◌, ◌+◌, ◌<◌, ◌≤◌, Some, None, IfOk, IfSome, IfNone, OnOk, OnErr, is_some, true, false, max};
+ghost use Rattle.std.specs.Prelude.{ℕ, ◌≡◌, ◌+◌, ◌<◌, ◌≤◌, Some, None, IfOk, IfSome, IfNone, OnOk, OnErr, IsOk, is_some, true, false, max};
 ghost use Rattle.std.specs.Option.{option_map};
 ghost use Rattle.quic_outgoing.specs.Senders.{bare, new_sender, with_sender, first_limit, first_for, are_one_end, is_local, no_limits, joined, raised_by};
 ghost use Rattle.quic_outgoing.specs.Calls.{told_of_half, blocked_limit, can_take};
@@ -123,6 +123,7 @@ impl SendEntries {
         ensures side { self.new.side ≡ self.old.side }
         ensures first { self.new.first ≡ self.old.first }
         ensures ok { OnOk result (additional ≤ sender_room self.new) }
+        ensures unneeded { additional ≤ sender_room self.old → IsOk result }
         ensures room { sender_room self.old ≤ sender_room self.new }
     {
         self.entries.reserve(additional)?;

@@ -1,6 +1,6 @@
 //! The streams on which one end of a connection sends.
 
-ghost use Rattle.std.specs.Prelude.{[], ◌≡◌, ◌+◌, ◌<◌, ◌≤◌, ◌^◌, ◌⊎◌, ◌↔◌, Some, None, OnOk, OnErr, is_some, nat_le};
+ghost use Rattle.std.specs.Prelude.{[], ◌≡◌, ◌+◌, ◌<◌, ◌≤◌, ◌^◌, ◌⊎◌, ◌↔◌, Some, None, OnOk, OnErr, IsOk, is_some, nat_le};
 ghost use Rattle.quic_limits.specs.SendingCredit.{writable, with_limit, with_window, is_blocked_reported};
 ghost use Rattle.quic_values.specs.Ids.{dir_of, index_of};
 ghost use Rattle.quic_outgoing.specs.Outgoing.{no_streams, with_send_half, fresh_sender, own_of, with_params};
@@ -51,6 +51,7 @@ impl OutgoingStreams {
     pub fn reserve(&mut self, additional: usize) -> Result<(), OutOfMemory>
         ensures same { outgoing_view self.new ≡ outgoing_view self.old }
         ensures ok { OnOk result (additional ≤ permit_room self.new) }
+        ensures unneeded { additional ≤ permit_room self.old → IsOk result }
         ensures room { permit_room self.old ≤ permit_room self.new }
     {
         self.halves.reserve(additional)

@@ -1,7 +1,7 @@
 //! Acknowledgements and losses of what this end sent.
 
-ghost use Rattle.std.specs.Prelude.{ℕ, List, ◌∷◌, ◌≡◌, ◌≤◌, ◌⊎◌, OnOk, OnErr, is_some, true, false};
-ghost use Rattle.quic_outgoing.specs.Acknowledging.{LossMayWantMemory};
+ghost use Rattle.std.specs.Prelude.{ℕ, List, ◌∷◌, ◌≡◌, ◌≤◌, ◌⊎◌, OnOk, OnErr, IsOk, is_some, true, false};
+ghost use Rattle.quic_outgoing.specs.Acknowledging.{MayWantMemory, LossMayWantMemory};
 ghost use Rattle.quic_streams.specs.Writing.{MayWantPlace};
 ghost use Rattle.quic_streams.specs.Room.{rooms, HasEventRoom};
 ghost use Rattle.quic_streams.specs.Shown.{streams_view};
@@ -21,9 +21,11 @@ impl StreamsState {
     /// application is told that it is finished, and one of the peer that is wholly freed by it makes room for another.
     ///
     /// The report of a stream that is freed or was reset, or of data that were not sent, changes nothing. If refused, all
-    /// is as it was; of a stream that is freed none is.
+    /// is as it was; of a stream that is freed none is. Where there is room for an event and for another stream, only data
+    /// behind a gap want memory, and a stream on which nothing was done.
     pub fn received_ack_of(&mut self, frame: frame::StreamMeta) -> Result<(), OutOfMemory>
         ensures acks { AcksOwn (streams_view self.old) frame.id frame.offsets frame.fin result (streams_view self.new) }
+        ensures memory { OnErr result (1 ≤ rooms self.old → HasEventRoom self.old → MayWantMemory frame.offsets ((streams_view self.old).out.halves frame.id)) }
         ensures from { (m : Made) (h : List Event) → From m h (streams_view self.old)
             → From m (Sending (AckedOwn frame.id frame.offsets frame.fin result) ∷ h) (streams_view self.new) }
     {
@@ -32,7 +34,8 @@ impl StreamsState {
 
     // The same, each way out.
     pub(crate) fn take_ack(&mut self, frame: frame::StreamMeta) -> Result<(), OutOfMemory>
-        ensures { AcksOwn (streams_view self.old) frame.id frame.offsets frame.fin result (streams_view self.new) }
+        ensures acks { AcksOwn (streams_view self.old) frame.id frame.offsets frame.fin result (streams_view self.new) }
+        ensures memory { OnErr result (1 ≤ rooms self.old → HasEventRoom self.old → MayWantMemory frame.offsets ((streams_view self.old).out.halves frame.id)) }
     {
         let id = frame.id;
         if !self.is_permitted(id) {
@@ -96,9 +99,11 @@ impl StreamsState {
     }
 
     /// The RESET_STREAM of a stream was acknowledged (RFC 9000 section 3.1): the send half of one that was reset is
-    /// freed, and one of the peer that is wholly freed by it makes room for another. If refused, all is as it was.
+    /// freed, and one of the peer that is wholly freed by it makes room for another. If refused, all is as it was; where
+    /// there is room for another it is not.
     pub fn reset_acked(&mut self, id: StreamId) -> Result<(), OutOfMemory>
         ensures acks { AcksReset (streams_view self.old) id result (streams_view self.new) }
+        ensures unneeded { 1 ≤ rooms self.old → IsOk result }
         ensures from { (m : Made) (h : List Event) → From m h (streams_view self.old) → From m (Sending (ResetAckedOwn id result) ∷ h) (streams_view self.new) }
     {
         self.take_reset_ack(id)
@@ -106,7 +111,8 @@ impl StreamsState {
 
     // The same, each way out.
     pub(crate) fn take_reset_ack(&mut self, id: StreamId) -> Result<(), OutOfMemory>
-        ensures { AcksReset (streams_view self.old) id result (streams_view self.new) }
+        ensures acks { AcksReset (streams_view self.old) id result (streams_view self.new) }
+        ensures unneeded { 1 ≤ rooms self.old → IsOk result }
     {
         let frees = self.is_permitted(id) && self.outgoing.is_reset(id);
         if !frees {

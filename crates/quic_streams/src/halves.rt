@@ -1,6 +1,6 @@
 //! The receive halves of a connection's streams.
 
-ghost use Rattle.std.specs.Prelude.{ℕ, [], Err, IfErr, true, ◌≡◌, ◌+◌, ◌<◌, ◌≤◌, length, ◌^◌, Some, None, IsSome, IfSome, IfOk, OnOk, OnErr, is_some, false};
+ghost use Rattle.std.specs.Prelude.{ℕ, [], Err, IfErr, true, ◌≡◌, ◌+◌, ◌<◌, ◌≤◌, length, ◌^◌, Some, None, IsSome, IfSome, IfOk, OnOk, OnErr, IsOk, is_some, false};
 ghost use Rattle.std.specs.Option.{option_map};
 ghost use Rattle.std.specs.Vec.{vec_capacity};
 ghost use Rattle.quic_receiving.specs.Half.{new_half, is_window_due};
@@ -65,6 +65,7 @@ impl ReceiveHalves {
         ensures held { halves_view self.new ≡ halves_view self.old }
         ensures window { self.new.window ≡ self.old.window }
         ensures ok { OnOk result (additional ≤ room self.new) }
+        ensures unneeded { additional ≤ room self.old → IsOk result }
         ensures room { room self.old ≤ room self.new }
     {
         self.entries.reserve(additional)?;

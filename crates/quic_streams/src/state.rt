@@ -1,6 +1,6 @@
 //! The streams of one end of a connection.
 
-ghost use Rattle.std.specs.Prelude.{[], ◌≡◌, ◌+◌, ◌-◌, ◌<◌, ◌≤◌, ◌^◌, IfOk, IfErr, IfSome, OnOk, OnErr, IfNone, Some, None, Err, is_some, true, false, length};
+ghost use Rattle.std.specs.Prelude.{[], ◌≡◌, ◌+◌, ◌-◌, ◌<◌, ◌≤◌, ◌^◌, IfOk, IfErr, IfSome, OnOk, OnErr, IsOk, IfNone, Some, None, Err, is_some, true, false, length};
 ghost use Rattle.std.specs.Vec.{vec_capacity};
 ghost use Rattle.std.specs.Option.{option_map};
 ghost use Rattle.quic_receiving.specs.Half.{new_half};
@@ -137,6 +137,8 @@ impl StreamsState {
     pub(crate) fn make_stream_room(&mut self) -> Result<(), OutOfMemory>
         ensures same { streams_view self.new ≡ streams_view self.old }
         ensures rooms { OnOk result (1 ≤ rooms self.new) }
+        ensures unneeded { 1 ≤ rooms self.old → IsOk result }
+        ensures events { HasEventRoom self.old → HasEventRoom self.new }
     {
         self.receive.reserve(1)?;
         self.outgoing.reserve(1)?;
@@ -149,6 +151,7 @@ impl StreamsState {
         ensures same { streams_view self.new ≡ streams_view self.old }
         ensures rooms { OnOk result (1 ≤ rooms self.new) }
         ensures events { OnOk result (HasEventRoom self.new) }
+        ensures unneeded { 1 ≤ rooms self.old → HasEventRoom self.old → IsOk result }
     {
         self.make_stream_room()?;
         self.events.reserve(1)?;

@@ -7,4 +7,4 @@ use Rattle.quic_streams.proofs.state.StreamsState.reset_acked.Goals as goal
 pub returns-clause-from : goal.returns-clause-from
 returns-clause-from c = λ m h f.
     let e = Sending (ResetAckedOwn c.args.id c.take_reset_ack.result) in
-    next m h (streams_view c.args.self.now) e (streams_view c.take_reset_ack.new.self) tt f c.take_reset_ack.ensures
+    next m h (streams_view c.args.self.now) e (streams_view c.take_reset_ack.new.self) tt f c.take_reset_ack.ensures.acks
