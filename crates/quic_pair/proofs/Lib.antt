@@ -45,6 +45,7 @@ pub mod Reports
 pub mod Runs
 pub mod Served
 pub mod Settled
+pub mod Settling
 pub mod Stops
 pub mod Texts
 pub mod ToldOnce

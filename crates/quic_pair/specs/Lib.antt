@@ -12,6 +12,7 @@ pub mod Refused
 pub mod Replies
 pub mod Reports
 pub mod Runs
+pub mod Settling
 pub mod State
 pub mod Steps
 pub mod Tale

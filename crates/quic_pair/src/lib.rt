@@ -3,10 +3,13 @@
 
 mod calls;
 pub mod pair;
+mod phase;
 mod places;
 mod replies;
 mod sent;
+mod settle;
 mod unsettled;
 
 pub use pair::Pair;
 pub use quic_steps::{Config, End, Last, PairError, Reply, Step};
+pub use settle::StepTaken;

@@ -1,6 +1,6 @@
 //! What is unreported of a payload that was sent.
 
-ghost use Rattle.std.specs.Prelude.{◌≡◌, None, Some};
+ghost use Rattle.std.specs.Prelude.{◌≡◌, None, Some, is_none};
 ghost use Rattle.quic_pair.specs.Unsettled.{needs_acceptance, goes_on, may_report};
 
 use quic_streams::SentPayload;
@@ -61,6 +61,13 @@ impl Unsettled {
         ensures { result ≡ may_report kind self.now }
     {
         self.rest.is_some() && kind.goes_on(self.begun)
+    }
+
+    // Whether all of it was reported.
+    pub(crate) fn is_settled(&self) -> bool
+        ensures { result ≡ is_none self.now.rest }
+    {
+        self.rest.is_none()
     }
 
     // Takes what is unreported out.

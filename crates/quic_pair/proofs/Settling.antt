@@ -1,0 +1,418 @@
+-- Once neither end had something to send, and the payloads without frames are dropped, both ends are idle.
+use Rattle.std.proofs.Common.{◌≡◌, ◌⊎◌, ℕ, zero, suc, Bool, true, false, List, [], ◌∷◌, ◌++◌, length, Option, Some, None, Result, Ok, Err, refl, sym, ap, ◌∙◌, subst, inl, inr, arith, ◌≤◌, ◌<◌, append-nil}
+use Rattle.std.specs.Prelude.{OnOk, ◌&&◌, ◌||◌, ◌+◌, ◌-◌, ◌^◌, is_some, unwrap_or, slice_get, drop, map, nat_lt, if◌then◌else◌}
+use Rattle.std.specs.Global.{Vec}
+use Rattle.std.proofs.lemmas.List.{length-append}
+use Rattle.std.proofs.lemmas.Option.{none-some}
+use Rattle.quic_values.specs.declared.memory.OutOfMemory.{OutOfMemory}
+use Rattle.quic_values.specs.declared.ids.Side.{Side}
+use Rattle.quic_values.specs.declared.ids.Side.TheVariants.{Client, Server}
+use Rattle.quic_values.specs.declared.ids.Dir.{Dir}
+use Rattle.quic_values.specs.declared.ids.Dir.TheVariants.{Bi, Uni}
+use Rattle.quic_values.specs.Ids.{initiator_of, dir_of, index_of, stream_id}
+use Rattle.quic_wire.specs.declared.frame.StreamMeta.{StreamMeta}
+use Rattle.quic_flows.specs.Flow.{SendFlow}
+use Rattle.quic_queue.specs.SendOrder.{line}
+use Rattle.quic_retransmits.specs.Pending.{Pending, nothing, merged, merged_if}
+use Rattle.quic_history.specs.World.{World}
+use Rattle.quic_history.specs.Flows.{HasRest, stands}
+use Rattle.quic_history.specs.Control.{HasNoneOf, kind_bound}
+use Rattle.quic_history.specs.declared.control.ControlKind.{ControlKind}
+use Rattle.quic_history.specs.declared.control.ControlKind.TheVariants as kinds
+use Rattle.quic_streams.specs.declared.settling.SentPayload.{SentPayload}
+use Rattle.quic_streams.specs.Settling.{SentView, resets_of}
+use Rattle.quic_streams.specs.Sent.{sent_view, report_view}
+use Rattle.quic_endpoint.specs.Ends.{EndState}
+use Rattle.quic_endpoint.specs.Reports.{LosesPayloadAt}
+use Rattle.quic_steps.specs.declared.steps.Config.{Config}
+use Rattle.quic_steps.specs.declared.steps.End.{End}
+use Rattle.quic_steps.specs.declared.steps.End.TheVariants.{A, B}
+use Rattle.quic_steps.specs.declared.steps.Step.TheVariants as steps
+use Rattle.quic_steps.specs.declared.steps.Reply.TheVariants.{Done, Payload}
+use Rattle.quic_steps.specs.declared.steps.PairError.TheVariants.{NoSuchPayload, AlreadySettled, NotAccepted, OutOfMemory as NoMemory}
+use Rattle.quic_pair.specs.declared.sent.Sent.{Sent}
+use Rattle.quic_pair.specs.declared.unsettled.Report.{Report}
+use Rattle.quic_pair.specs.declared.unsettled.Report.TheVariants.{Lost}
+use Rattle.quic_pair.specs.declared.phase.Phase.{Phase}
+use Rattle.quic_pair.specs.declared.phase.Phase.TheVariants as phase
+use Rattle.quic_pair.specs.declared.phase.Going.{Going}
+use Rattle.quic_pair.specs.declared.phase.Going.TheVariants.{On, Over, StreamOver, Unordered}
+use Rattle.quic_pair.specs.Unsettled.{goes_on}
+use Rattle.quic_pair.specs.Payloads.{SentText}
+use Rattle.quic_pair.specs.Replies.{Answer, report_reply}
+use Rattle.quic_pair.specs.State.{PairState, the_end, with_end, with_sent}
+use Rattle.quic_pair.specs.Steps.{Next, Emitted, EmitsWhole, Reports, SettlesPayload}
+use Rattle.quic_pair.specs.History.{History}
+use Rattle.quic_pair.specs.From.{PairFrom}
+use Rattle.quic_pair.specs.Due.{IsFull}
+use Rattle.quic_pair.specs.Tale.{Part, Carried, GivenUp, Tales}
+use Rattle.quic_pair.specs.Runs.{TakesSteps, more, sendings_of}
+use Rattle.quic_pair.specs.Settling.{step_at, going_of, going_sending, phase_after, after_accepting, after_streams, after_reading, after_polling, after_emits, after_frame, AreSettledIn, IsAllReported, IsIdle, AreIdle, LeavesNoRest, IsSoughtFor, IsSettledAt, TakesOne, TakesOneOrNone}
+use Rattle.quic_pair.proofs.Lists.{slice_get-push, slice_get-slice_set, slice_get-within, slice_get-there}
+use Rattle.quic_pair.proofs.Left.{IsLeft}
+use Rattle.quic_pair.proofs.Grown.{grown-from}
+use Rattle.quic_pair.proofs.Runs.{from-steps}
+use Rattle.quic_pair.proofs.Due.{asks-for}
+use Rattle.quic_pair.proofs.Settled.{settled-from}
+use Rattle.quic_pair.proofs.ToldOnce.{told-once}
+
+-- the payloads from a number on have no frame
+abbrev pub HaveNoFrames : ℕ → List Sent → Type 0
+HaveNoFrames first sent = (number : ℕ) (s : Sent) → first ≤ number → slice_get sent number ≡ Some s → s.text.bytes ≡ []
+
+-- what holds before the step of a phase
+abbrev pub IsReadyFor : Phase → PairState → Type 0
+IsReadyFor (phase.EmitOfB first true) v = IsIdle v.a × HaveNoFrames first v.sent
+IsReadyFor (phase.Drop first) v = AreIdle v × HaveNoFrames first v.sent
+IsReadyFor _ v = Unit {0}
+
+-- ---- phases before which nothing need hold
+
+ready_streams : (who : End) (s : Side) (d : Dir) (v : PairState) → IsReadyFor (after_streams who s d) v
+ready_streams A Client Bi v = tt
+ready_streams A Client Uni v = tt
+ready_streams A Server Bi v = tt
+ready_streams A Server Uni v = tt
+ready_streams B Client Bi v = tt
+ready_streams B Client Uni v = tt
+ready_streams B Server Bi v = tt
+ready_streams B Server Uni v = tt
+
+ready_stream : (who : End) (id next : ℕ) (more : Bool) (v : PairState) → IsReadyFor (if more then phase.Read who next true else after_streams who (initiator_of id) (dir_of id)) v
+ready_stream who id next true v = tt
+ready_stream who id next false v = ready_streams who (initiator_of id) (dir_of id) v
+
+ready_reading : (who : End) (id : ℕ) (ordered : Bool) (going : Going) (v : PairState) → IsReadyFor (after_reading who id ordered going) v
+ready_reading who id ordered On v = tt
+ready_reading who id ordered Unordered v = tt
+ready_reading who id ordered StreamOver v = ready_stream who id (stream_id (initiator_of id) (dir_of id) (index_of id + 1)) (nat_lt (index_of id + 1) (2 ^ 60)) v
+ready_reading who id ordered Over v = ready_streams who (initiator_of id) (dir_of id) v
+
+ready_accepting : (who : End) (dir : Dir) (v : PairState) → IsReadyFor (after_accepting who dir) v
+ready_accepting A Bi v = tt
+ready_accepting A Uni v = tt
+ready_accepting B Bi v = tt
+ready_accepting B Uni v = tt
+
+ready_polling : (who : End) (going : Going) (v : PairState) → IsReadyFor (after_polling who going) v
+ready_polling A On v = tt
+ready_polling A Over v = tt
+ready_polling A StreamOver v = tt
+ready_polling A Unordered v = tt
+ready_polling B On v = tt
+ready_polling B Over v = tt
+ready_polling B StreamOver v = tt
+ready_polling B Unordered v = tt
+
+ready_frame : (payload frame : ℕ) (next : Option ℕ) (going : Going) (v : PairState) → IsReadyFor (after_frame payload frame next going) v
+ready_frame payload frame (Some other) On v = tt
+ready_frame payload frame (Some other) Over v = tt
+ready_frame payload frame (Some other) StreamOver v = tt
+ready_frame payload frame (Some other) Unordered v = tt
+ready_frame payload frame None On v = tt
+ready_frame payload frame None Over v = tt
+ready_frame payload frame None StreamOver v = tt
+ready_frame payload frame None Unordered v = tt
+
+-- ---- a payload that takes all, and has no frame
+
+sending_over : (bytes : List ℕ) → Some (going_sending bytes) ≡ Some Over → bytes ≡ []
+sending_over [] e = refl
+sending_over (b ∷ bytes) e = cc
+
+-- what an emit was replied, where nothing was written
+record WroteNone (old : PairState) (who : End) (most : ℕ) (reply : Answer) (new : PairState) : Type 0 where
+  number : ℕ
+  bytes : Vec ℕ
+  reply_is : reply ≡ Ok (Payload number bytes)
+  none : bytes.items ≡ []
+  emits : EmitsWhole old who most true number bytes.items new
+
+-- it was replied with a payload, or memory was wanting
+record RepliedPayload (old : PairState) (who : End) (most : ℕ) (reply : Answer) (new : PairState) : Type 0 where
+  number : ℕ
+  bytes : Vec ℕ
+  reply_is : reply ≡ Ok (Payload number bytes)
+  emits : EmitsWhole old who most true number bytes.items new
+
+replied : (old new : PairState) (who : End) (most : ℕ) (reply : Answer) → Emitted old who most true reply new → RepliedPayload old who most reply new ⊎ (reply ≡ Err NoMemory)
+replied old new who most (Ok (Payload number bytes)) n = inl (record { number = number; bytes = bytes; reply_is = refl; emits = n })
+replied old new who most (Err NoMemory) n = inr refl
+replied old new who most _ n = absurd n
+
+wrote_none : (old new : PairState) (who : End) (most : ℕ) (reply : Answer) → Emitted old who most true reply new → going_of reply ≡ Some Over → WroteNone old who most reply new
+wrote_none old new who most reply n e =
+    let P : Answer → Type 0 = λ r. going_of r ≡ Some Over in
+    elim (replied old new who most reply n) [
+      | inl w ↦ record { number = w.number; bytes = w.bytes; reply_is = w.reply_is; none = sending_over w.bytes.items (subst P w.reply_is e); emits = w.emits }
+      | inr none ↦ absurd (none-some Over (subst P none e))
+    ]
+
+kind_small : (kind : ControlKind) → kind_bound kind < 1000
+kind_small kinds.ResetStream = omega arith
+kind_small kinds.StopSending = omega arith
+kind_small kinds.MaxData = omega arith
+kind_small kinds.MaxStreamData = omega arith
+kind_small (kinds.MaxStreams d) = omega arith
+kind_small kinds.DataBlocked = omega arith
+kind_small kinds.StreamDataBlocked = omega arith
+
+-- so the end has nothing to send
+full_idle : (most : ℕ) → 1000 < most → (bytes : List ℕ) (e : EndState) → IsFull most bytes e → bytes ≡ [] → IsIdle e
+full_idle most big bytes e full none =
+    let size : length bytes ≡ 0 = ap length none in
+    let parts : length bytes ≡ length full.front + length full.behind = ap length full.is ∙ length-append full.front full.behind in
+    record {
+      kinds = λ kind. elim (full.kinds kind) [ inl is ↦ is | inr fills ↦ absurd (let small = kind_small kind in omega (arith, fills, size, parts, small, big)) ];
+      streams = elim full.streams [ inl is ↦ is | inr fills ↦ absurd (omega (arith, fills, size, big)) ];
+    }
+
+-- the payload that was sent has no frame
+module _ (old new : PairState) (who : End) (most : ℕ) (reply : Answer) (w : WroteNone old who most reply new) where
+  sent_then : new.sent ≡ old.sent ++ w.emits.emits.sent ∷ []
+  sent_then = ap (λ (v : PairState). v.sent) w.emits.emits.is
+
+  no_bytes : w.emits.emits.sent.text.bytes ≡ []
+  no_bytes = ap (λ (x : SentText). x.bytes) w.emits.emits.sent_is.text ∙ sym w.emits.bytes_are ∙ w.none
+
+  last_none : (first : ℕ) → ((number : ℕ) (s : Sent) → first ≤ number → slice_get old.sent number ≡ Some s → s.text.bytes ≡ []) → HaveNoFrames first new.sent
+  last_none first before number s from got =
+      elim (slice_get-push old.sent w.emits.emits.sent number s (ap (λ l. slice_get l number) (sym sent_then) ∙ got)) [
+        | inl there ↦ before number s from there
+        | inr now ↦ ap (λ (x : Sent). x.text.bytes) now.1 ∙ no_bytes
+      ]
+
+  first_none : HaveNoFrames (length old.sent) new.sent
+  first_none = last_none (length old.sent) (λ number s from got. absurd (let within = slice_get-within old.sent number s got in omega (arith, within, from)))
+
+module _ (a b : Config) (h : History) (old new : PairState) (f : PairFrom a b h old) (most : ℕ) (big : 1000 < most) where
+  idle_then : (who : End) (reply : Answer) → Next old (steps.Emit who most true) reply new → WroteNone old who most reply new → IsIdle (the_end new who)
+  idle_then who reply n w =
+      let P : Answer → Type 0 = λ r. Next old (steps.Emit who most true) r new in
+      full_idle most big w.bytes.items (the_end new who) (asks-for a b h old new (steps.Emit who most true) (Ok (Payload w.number w.bytes)) f (subst P w.reply_is n)) w.none
+
+  ready_emit_a : (reply : Answer) → Next old (steps.Emit A most true) reply new → going_of reply ≡ Some Over → IsReadyFor (phase.EmitOfB (length old.sent) true) new
+  ready_emit_a reply n e =
+      let w = wrote_none old new A most reply n e in
+      (idle_then A reply n w, first_none old new A most reply w)
+
+  ready_emit_b : (first : ℕ) (reply : Answer) → IsReadyFor (phase.EmitOfB first true) old → Next old (steps.Emit B most true) reply new → going_of reply ≡ Some Over → IsReadyFor (phase.Drop first) new
+  ready_emit_b first reply r n e =
+      let w = wrote_none old new B most reply n e in
+      let same : new.a ≡ old.a = ap (λ (v : PairState). v.a) w.emits.emits.is in
+      (record { of_a = subst IsIdle (sym same) r.0; of_b = idle_then B reply n w }, last_none old new B most reply w first r.1)
+
+  ready_emits : (first : ℕ) (empty : Bool) (going : Going) (reply : Answer) → IsReadyFor (phase.EmitOfB first empty) old → Next old (steps.Emit B most true) reply new → going_of reply ≡ Some going → IsReadyFor (after_emits first empty going (length old.sent)) new
+  ready_emits first true Over reply r n e = ready_emit_b first reply r n e
+  ready_emits first true On reply r n e = tt
+  ready_emits first true StreamOver reply r n e = tt
+  ready_emits first true Unordered reply r n e = tt
+  ready_emits first false going reply r n e = tt
+
+-- ---- a payload without a frame is dropped
+
+drop_none : {X : Type 0} (n : ℕ) → drop {A = X} n [] ≡ []
+drop_none zero = refl
+drop_none (suc n) = refl
+
+none_first : (ms : List StreamMeta) (xs : List Part) → map Carried ms ++ xs ≡ [] → ms ≡ []
+none_first [] xs e = refl
+none_first (m ∷ ms) xs e = cc
+
+goes_of : (rest : Option SentPayload) (begun : Option Report) → (is_some rest && goes_on Lost begun) ≡ true → goes_on Lost begun ≡ true
+goes_of None begun e = cc
+goes_of (Some r) begun e = e
+
+false_or : (x y : Bool) → x ≡ false → y ≡ false → (x || y) ≡ false
+false_or false false e f = refl
+false_or false true e f = cc
+false_or true y e f = cc
+
+-- nothing is joined to what is pending
+none_merged : (kind : ControlKind) (p b : Pending) → b ≡ nothing → HasNoneOf kind p → HasNoneOf kind (merged p b)
+none_merged kind p b e h =
+    let P : Pending → Type 0 = λ q. HasNoneOf kind (merged p q) in
+    subst P (sym e) (by_kind kind h)
+  where
+    by_kind : (k : ControlKind) → HasNoneOf k p → HasNoneOf k (merged p nothing)
+    by_kind kinds.ResetStream l = append-nil p.reset_stream ∙ l
+    by_kind kinds.StopSending l = append-nil p.stop_sending ∙ l
+    by_kind kinds.MaxData l = false_or p.max_data false l refl
+    by_kind kinds.MaxStreamData l = λ id. false_or (p.max_stream_data id) false (l id) refl
+    by_kind (kinds.MaxStreams Bi) l = false_or p.max_streams_bi false l refl
+    by_kind (kinds.MaxStreams Uni) l = false_or p.max_streams_uni false l refl
+    by_kind kinds.DataBlocked l = false_or p.data_blocked false l refl
+    by_kind kinds.StreamDataBlocked l = λ id. false_or (p.stream_data_blocked id) false (l id) refl
+
+none_joined : (kind : ControlKind) (p : Pending) (control : Option Pending) → unwrap_or control nothing ≡ nothing → HasNoneOf kind p → HasNoneOf kind (merged_if p control)
+none_joined kind p None e h = h
+none_joined kind p (Some b) e h = none_merged kind p b e h
+
+-- nothing of it was handed back
+record IsEmptyRest (r : SentView) : Type 0 where
+  streams : r.streams ≡ []
+  control : unwrap_or r.control nothing ≡ nothing
+
+-- so its loss leaves an end idle
+idle_lost : (e : EndState) (r : SentView) (answer : Result (Unit {0}) SentPayload) (f : EndState) → Ok Done ≡ report_reply answer → LosesPayloadAt e r (report_view answer) f → IsEmptyRest r → IsIdle e → IsIdle f
+idle_lost e r (Err back) f is does none idle = cc
+idle_lost e r (Ok done) f is does none idle =
+    let P : List StreamMeta → Type 0 = λ l. LosesPayloadAt e (record r { streams = l }) (Ok tt) f in
+    let lost = subst P none.streams does in
+    let world : f.streams ≡ e.streams = lost.0 in
+    record {
+      kinds = λ kind. let Q : Pending → Type 0 = λ p. HasNoneOf kind p in subst Q (sym lost.1) (none_joined kind e.pending r.control none.control (idle.kinds kind));
+      streams = ap (λ (w : World). line w.queue) world ∙ idle.streams;
+    }
+
+idle_of : (v : PairState) (who : End) → AreIdle v → IsIdle (the_end v who)
+idle_of v A i = i.of_a
+idle_of v B i = i.of_b
+
+idle_with : (v : PairState) (who : End) (e : EndState) (sent : List Sent) → AreIdle v → IsIdle e → AreIdle (with_sent (with_end v who e) sent)
+idle_with v A e sent i j = record { of_a = j; of_b = i.of_b }
+idle_with v B e sent i j = record { of_a = i.of_a; of_b = j }
+
+module _ (a b : Config) (h : History) (old new : PairState) (f : PairFrom a b h old) (first : ℕ) (r : IsReadyFor (phase.Drop first) old) where
+  dropped_same : new ≡ old → IsReadyFor (phase.Drop first) new
+  dropped_same e = let P : PairState → Type 0 = λ v. IsReadyFor (phase.Drop first) v in subst P (sym e) r
+
+  module _ (n : Reports Lost LosesPayloadAt old first (Ok Done) new) where
+    left_none : IsEmptyRest (sent_view n.rest)
+    left_none =
+        let g = grown-from f in
+        let s = n.payload.sent in
+        let bytes : s.text.bytes ≡ [] = r.1 first s (omega arith) n.payload.is in
+        let is : IsLeft (g.recounted.tales.told first) s.unsettled (sent_view n.rest) [] = g.recounted.left first s n.rest [] n.payload.is n.rest_is bytes in
+        record {
+          streams = none_first (sent_view n.rest).streams (map (λ (c : ℕ × ℕ). GivenUp c.0) (resets_of (sent_view n.rest).control)) (is.parts ∙ drop_none (g.recounted.tales.told first));
+          control = is.noted (goes_of s.unsettled.rest s.unsettled.begun n.may);
+        }
+
+    still_none : HaveNoFrames first new.sent
+    still_none number t from got =
+        elim (slice_get-slice_set old.sent first number _ t (ap (λ l. slice_get l number) (sym (ap (λ (v : PairState). v.sent) n.is)) ∙ got)) [
+          | inl now ↦ ap (λ (x : Sent). x.text.bytes) now.1 ∙ r.1 first n.payload.sent (omega arith) n.payload.is
+          | inr there ↦ r.1 number t from there
+        ]
+
+    still_idle : AreIdle new
+    still_idle =
+        let P : PairState → Type 0 = λ v. AreIdle v in
+        let who = n.payload.sent.writer in
+        subst P (sym n.is) (idle_with old who n.end _ r.0 (idle_lost (the_end old who) (sent_view n.rest) n.answer n.end n.reply_is n.does left_none (idle_of old who r.0)))
+
+    dropped_lost : IsReadyFor (phase.Drop first) new
+    dropped_lost = (still_idle, still_none)
+
+  ready_drop : (going : Going) (reply : Answer) → SettlesPayload Lost LosesPayloadAt old first reply new → going_of reply ≡ Some going → IsReadyFor (phase.Drop first) new
+  ready_drop going (Ok Done) n e = dropped_lost n
+  ready_drop going (Err NoSuchPayload) n e = dropped_same n.1
+  ready_drop going (Err AlreadySettled) n e = dropped_same n.is
+  ready_drop going (Err NotAccepted) n e = dropped_same n.is
+  ready_drop going (Err NoMemory) n e = cc
+  ready_drop going _ n e = absurd n
+
+-- ---- all phases
+
+-- behind each step what is next may be begun
+pub ready-next : (a b : Config) (h : History) (old new : PairState) → PairFrom a b h old → (at : Phase) → IsReadyFor at old → (reply : Answer) → Next old (step_at at) reply new → (going : Going) → going_of reply ≡ Some going → IsReadyFor (phase_after at going (length old.sent)) new
+ready-next a b h old new f (phase.Report payload) r reply n On e = tt
+ready-next a b h old new f (phase.Report payload) r reply n Over e = tt
+ready-next a b h old new f (phase.Report payload) r reply n StreamOver e = tt
+ready-next a b h old new f (phase.Report payload) r reply n Unordered e = tt
+ready-next a b h old new f (phase.ReportLost payload) r reply n going e = tt
+ready-next a b h old new f (phase.Accept who dir) r reply n On e = tt
+ready-next a b h old new f (phase.Accept who dir) r reply n Over e = ready_accepting who dir new
+ready-next a b h old new f (phase.Accept who dir) r reply n StreamOver e = ready_accepting who dir new
+ready-next a b h old new f (phase.Accept who dir) r reply n Unordered e = ready_accepting who dir new
+ready-next a b h old new f (phase.Read who id ordered) r reply n going e = ready_reading who id ordered going new
+ready-next a b h old new f (phase.Poll who) r reply n going e = ready_polling who going new
+ready-next a b h old new f phase.EmitOfA r reply n On e = tt
+ready-next a b h old new f phase.EmitOfA r reply n Over e = ready_emit_a a b h old new f (2 ^ 64 - 1) (omega arith) reply n e
+ready-next a b h old new f phase.EmitOfA r reply n StreamOver e = tt
+ready-next a b h old new f phase.EmitOfA r reply n Unordered e = tt
+ready-next a b h old new f (phase.EmitOfB first empty) r reply n going e = ready_emits a b h old new f (2 ^ 64 - 1) (omega arith) first empty going reply r n e
+ready-next a b h old new f (phase.Deliver payload frame next) r reply n going e = ready_frame payload frame next going new
+ready-next a b h old new f (phase.Drop first) r reply n going e = ready_drop a b h old new f first r going reply n e
+
+ready_same : (at next : Phase) (v : PairState) → IsReadyFor at v → next ≡ at → IsReadyFor next v
+ready_same at next v r e = let P : Phase → Type 0 = λ x. IsReadyFor x v in subst P (sym e) r
+
+-- and so may the phase that is sought
+pub ready-sought : (at next : Phase) (v : PairState) → IsReadyFor at v → IsSoughtFor at next → IsReadyFor next v
+ready-sought (phase.Report from) next v r s = elim s [
+  | inl here ↦ (let P : Phase → Type 0 = λ x. IsReadyFor x v in subst P (sym here.1) tt)
+  | inr none ↦ (let P : Phase → Type 0 = λ x. IsReadyFor x v in subst P (sym none) tt)
+]
+ready-sought (phase.Drop first) next v r s = elim s [
+  | inl here ↦ (let P : Phase → Type 0 = λ x. IsReadyFor x v in subst P (sym here.2) (r.0, λ number t from got. r.1 number t (let le = here.1 in omega (arith, le, from)) got))
+  | inr none ↦ (let P : Phase → Type 0 = λ x. IsReadyFor x v in subst P (sym none.1) tt)
+]
+ready-sought (phase.ReportLost payload) next v r s = ready_same (phase.ReportLost payload) next v r s
+ready-sought (phase.Accept who dir) next v r s = ready_same (phase.Accept who dir) next v r s
+ready-sought (phase.Read who id ordered) next v r s = ready_same (phase.Read who id ordered) next v r s
+ready-sought (phase.Poll who) next v r s = ready_same (phase.Poll who) next v r s
+ready-sought phase.EmitOfA next v r s = ready_same phase.EmitOfA next v r s
+ready-sought (phase.EmitOfB first empty) next v r s = ready_same (phase.EmitOfB first empty) next v r s
+ready-sought (phase.Deliver payload frame after) next v r s = ready_same (phase.Deliver payload frame after) next v r s
+
+-- ---- one step after the other
+
+went_on : (old : PairState) (before : History) (at next : Phase) (new : PairState) (behind : History) → TakesOneOrNone old before at (Ok next) new behind → TakesOne old before at (Ok next) new behind
+went_on old before at next new behind (inl t) = t
+went_on old before at next new behind (inr none) = let e = none.0 in cc
+
+-- the steps so far go on by this one, if it was taken
+pub steps-on : (first old : PairState) (before : History) (at : Phase) (answer : Result Phase OutOfMemory) (new : PairState) (behind : History) → TakesSteps first before old → TakesOneOrNone old before at answer new behind → TakesSteps first behind new
+steps-on first old before at answer new behind run (inl t) =
+    let P : History → Type 0 = λ l. TakesSteps first l new in
+    subst P (sym t.noted) (more (step_at at) t.reply run t.next tt)
+steps-on first old before at answer new behind run (inr none) =
+    let P : History → Type 0 = λ l. TakesSteps first l new in
+    let Q : PairState → Type 0 = λ v. TakesSteps first before v in
+    subst P (sym none.2) (subst Q (sym none.1) run)
+
+-- and what is next may be begun
+pub ready-on : (a b : Config) (h : History) (first old : PairState) (before : History) (at next : Phase) (new : PairState) (behind : History) → PairFrom a b h first → TakesSteps first before old → IsReadyFor at old → TakesOneOrNone old before at (Ok next) new behind → IsReadyFor next new
+ready-on a b h first old before at next new behind f run r one =
+    let t = went_on old before at next new behind one in
+    let on = t.goes next refl in
+    let P : Phase → Type 0 = λ x. IsReadyFor x new in
+    subst P (sym on.2) (ready-next a b (h ++ before) old new (from-steps f run) at r t.reply t.next on.0 on.1)
+
+-- what follows from what holds where an answer is Ok
+pub on-ok : {X E : Type 0} (r : Result X E) (P Q : Type 0) → (P → Q) → OnOk r P → OnOk r Q
+on-ok (Ok x) P Q g h = g h
+on-ok (Err e) P Q g h = tt
+
+-- ---- the end
+
+-- both ends are idle where no phase is left
+pub idle-at : (at : Phase) (v : PairState) → IsReadyFor at v → IsSettledAt at v.sent → AreIdle v
+idle-at at v r s =
+    let P : Phase → Type 0 = λ x. IsReadyFor x v in
+    (subst P s.was r).0
+
+-- every payload was reported, by the replies to reports
+pub all-reported : (a b : Config) (h : History) (v : PairState) → PairFrom a b h v → AreSettledIn 0 (length v.sent) v.sent → IsAllReported h v.sent
+all-reported a b h v f settled number within =
+    let there = slice_get-there v.sent number within in
+    ((settled-from f).each number there.0 there.1).done (settled number there.0 (omega arith) within there.1)
+
+-- where no stream is queued nothing is left to be sent
+pub leaves-no-rest : (a b : Config) (h : History) (v : PairState) (f : PairFrom a b h v) → AreIdle v → LeavesNoRest a b (sendings_of f)
+leaves-no-rest a b h v f idle t told who id rest =
+    let g = grown-from f in
+    let same = told-once a b (sendings_of f) t g.recounted.tales told g.told in
+    let P : Tales → Type 0 = λ x. HasRest ((x.of who).flow id) in
+    let c = g.recounted.counted who in
+    let Q : SendFlow → Type 0 = λ x. HasRest x in
+    let there = c.from.rest id (subst Q (sym (c.tells.flow_is id)) (subst P same rest)) in
+    let none : stands id (line (the_end v who).streams.queue) ≡ false = ap (stands id) (queue_at who) in
+    let l = sym there ∙ none in
+    cc
+  where
+    queue_at : (who : End) → line (the_end v who).streams.queue ≡ []
+    queue_at A = idle.of_a.streams
+    queue_at B = idle.of_b.streams

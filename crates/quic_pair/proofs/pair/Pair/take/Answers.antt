@@ -1,0 +1,42 @@
+use Rattle.std.proofs.Common.{◌≡◌, ◌++◌, [], ◌∷◌, Result, Ok, Err, ap, sym, subst, ◌∙◌, inl, arith}
+use Rattle.quic_values.specs.declared.memory.OutOfMemory.{OutOfMemory}
+use Rattle.quic_steps.specs.declared.steps.Step.{Step}
+use Rattle.quic_pair.specs.declared.phase.Phase.{Phase}
+use Rattle.quic_pair.specs.State.{pair_view}
+use Rattle.quic_pair.specs.Steps.{Next}
+use Rattle.quic_pair.specs.Settling.{phase_after}
+use Rattle.quic_pair.proofs.pair.Pair.take.Goals as goal
+
+ok_same : (x y : Phase) → ◌≡◌ {A = Result Phase OutOfMemory} (Ok x) (Ok y) → x ≡ y
+ok_same x y e = cc
+
+err_ok : (x : OutOfMemory) (y : Phase) → ◌≡◌ {A = Result Phase OutOfMemory} (Err x) (Ok y) → ⊥
+err_ok x y e = cc
+
+pub returns-in-Some : goal.returns-in-Some
+unfolding pair_view
+returns-in-Some c =
+    let reply = c.step-reply.result in
+    let P : Step → Type 0 = λ s. Next (pair_view c.args.self.now) s reply (pair_view c.step-reply.new.self) in
+    inl (record {
+      reply = reply;
+      next = subst P c.step.ensures c.step-reply.ensures.next;
+      noted = c.note.ensures ∙ ap (λ l. l ++ (c.step-2.result, reply) ∷ []) c.in_ok-reserve.ensures.items ∙ ap (λ s. c.args.taken.now.items ++ (s, reply) ∷ []) c.step-2.ensures;
+      goes = λ next_one e. (
+        c.in-Some.going,
+        sym c.going_of-going.ensures ∙ c.in-Some.is,
+        sym (ok_same c.after.result next_one e) ∙ c.after.ensures ∙ ap (phase_after c.args.phase c.in-Some.going) (omega (arith, c.len-sent.ensures, c.args.self.now.sent.ok.0)),
+      );
+    })
+
+pub returns-in-None : goal.returns-in-None
+unfolding pair_view
+returns-in-None c =
+    let reply = c.step-reply.result in
+    let P : Step → Type 0 = λ s. Next (pair_view c.args.self.now) s reply (pair_view c.step-reply.new.self) in
+    inl (record {
+      reply = reply;
+      next = subst P c.step.ensures c.step-reply.ensures.next;
+      noted = c.note.ensures ∙ ap (λ l. l ++ (c.step-2.result, reply) ∷ []) c.in_ok-reserve.ensures.items ∙ ap (λ s. c.args.taken.now.items ++ (s, reply) ∷ []) c.step-2.ensures;
+      goes = λ next_one e. absurd (err_ok _ next_one e);
+    })

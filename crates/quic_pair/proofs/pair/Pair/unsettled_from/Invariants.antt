@@ -1,0 +1,5 @@
+use Rattle.quic_pair.specs.Settling.{AreSettledIn}
+use Rattle.quic_pair.proofs.pair.Pair.unsettled_from.Given as goal
+
+abbrev pub invariant-loop-number : goal.invariant-loop-number
+invariant-loop-number l = AreSettledIn l.fn.from l.number l.fn.self.sent.items

@@ -1,0 +1,188 @@
+-- How all that was begun is completed once the network is fair: the steps, in their order, and what is settled behind them.
+use Rattle.std.specs.Prelude.{ℕ, Bool, true, false, ◌≡◌, ◌⊎◌, ◌≤◌, ◌<◌, ◌+◌, ◌-◌, ◌^◌, min, nat_lt, if◌then◌else◌, List, [], ◌∷◌, ◌++◌, length, slice_get, Option, Some, None, Result, Ok, Err, is_ok}
+use Rattle.quic_values.specs.declared.memory.OutOfMemory.{OutOfMemory}
+use Rattle.quic_values.specs.declared.ids.Side.{Side}
+use Rattle.quic_values.specs.declared.ids.Side.TheVariants.{Client, Server}
+use Rattle.quic_values.specs.declared.ids.Dir.{Dir}
+use Rattle.quic_values.specs.declared.ids.Dir.TheVariants.{Bi, Uni}
+use Rattle.quic_values.specs.Ids.{initiator_of, dir_of, index_of, stream_id}
+use Rattle.quic_wire.specs.declared.error.ReceiveError.TheVariants as receive_error
+use Rattle.quic_queue.specs.SendOrder.{line}
+use Rattle.quic_history.specs.Control.{HasNoneOf}
+use Rattle.quic_history.specs.Flows.{HasRest}
+use Rattle.quic_history.specs.declared.control.ControlKind.{ControlKind}
+use Rattle.quic_endpoint.specs.Ends.{EndState}
+use Rattle.quic_link.specs.Endpoints.{IsOneOf}
+use Rattle.quic_steps.specs.declared.steps.Config.{Config}
+use Rattle.quic_steps.specs.declared.steps.End.{End}
+use Rattle.quic_steps.specs.declared.steps.End.TheVariants.{A, B}
+use Rattle.quic_steps.specs.declared.steps.Step.{Step}
+use Rattle.quic_steps.specs.declared.steps.Step.TheVariants as steps
+use Rattle.quic_steps.specs.declared.steps.Last.{Last}
+use Rattle.quic_steps.specs.declared.steps.Last.TheVariants as last
+use Rattle.quic_steps.specs.declared.steps.Reply.TheVariants.{Nothing, Closed, Illegal, Read, Payload, Fault}
+use Rattle.quic_steps.specs.declared.steps.PairError.TheVariants.{OutOfMemory as NoMemory}
+use Rattle.quic_pair.specs.declared.sent.Sent.{Sent}
+use Rattle.quic_pair.specs.declared.phase.Phase.{Phase}
+use Rattle.quic_pair.specs.declared.phase.Phase.TheVariants as phase
+use Rattle.quic_pair.specs.declared.phase.Going.{Going}
+use Rattle.quic_pair.specs.declared.phase.Going.TheVariants.{On, Over, StreamOver, Unordered}
+use Rattle.quic_pair.specs.Replies.{Answer}
+use Rattle.quic_pair.specs.State.{PairState}
+use Rattle.quic_pair.specs.Steps.{Next}
+use Rattle.quic_pair.specs.History.{History, past_of}
+use Rattle.quic_pair.specs.Tale.{Tales, Sendings, Told}
+
+-- ---- the steps
+
+-- the step of a phase. Payloads have room for all that is to be sent, and reads ask for as much as may be asked for
+abbrev pub step_at : Phase → Step
+step_at (phase.Report payload) = steps.Ack payload
+step_at (phase.ReportLost payload) = steps.Lose payload
+step_at (phase.Accept who dir) = steps.Accept who dir
+step_at (phase.Read who id ordered) = steps.Read who id ordered (2 ^ 64 - 1) 65535
+step_at (phase.Poll who) = steps.Poll who
+step_at phase.EmitOfA = steps.Emit A (2 ^ 64 - 1) true
+step_at (phase.EmitOfB first empty) = steps.Emit B (2 ^ 64 - 1) true
+step_at (phase.Deliver payload frame next) = steps.Deliver payload frame
+step_at (phase.Drop payload) = steps.Lose payload
+
+-- what a reply says of its step; nothing where memory was wanting
+abbrev pub going_reading : Last → Option Going
+going_reading last.Memory = None
+going_reading last.More = Some On
+going_reading _ = Some StreamOver
+
+abbrev pub going_sending : List ℕ → Going
+going_sending [] = Over
+going_sending (b ∷ bs) = On
+
+abbrev pub going_of : Answer → Option Going
+going_of (Err NoMemory) = None
+going_of (Err error) = Some Over
+going_of (Ok (Fault receive_error.CompactionMemory)) = None
+going_of (Ok (Read chunks last transmit)) = going_reading last
+going_of (Ok Closed) = Some StreamOver
+going_of (Ok Illegal) = Some Unordered
+going_of (Ok Nothing) = Some Over
+going_of (Ok (Payload number bytes)) = Some (going_sending bytes.items)
+going_of (Ok _) = Some On
+
+abbrev pub is_over : Going → Bool
+is_over Over = true
+is_over _ = false
+
+-- ---- their order
+
+-- behind an acknowledgement; where it was refused the payload is reported lost
+abbrev pub after_report : ℕ → Going → Phase
+after_report payload On = phase.Report payload
+after_report payload _ = phase.ReportLost payload
+
+-- behind the last stream of a direction to accept
+abbrev pub after_accepting : End → Dir → Phase
+after_accepting A Bi = phase.Accept A Uni
+after_accepting A Uni = phase.Accept B Bi
+after_accepting B Bi = phase.Accept B Uni
+after_accepting B Uni = phase.Read A 0 true
+
+abbrev pub after_accept : End → Dir → Going → Phase
+after_accept who dir On = phase.Accept who dir
+after_accept who dir _ = after_accepting who dir
+
+-- behind the last stream of its opener and direction to read: those of the client, of the server, and the peer's
+-- unidirectional ones; of A and then of B
+abbrev pub after_streams : End → Side → Dir → Phase
+after_streams A Client d = phase.Read A 1 true
+after_streams A Server Bi = phase.Read A 3 true
+after_streams A Server Uni = phase.Read B 0 true
+after_streams B Client Bi = phase.Read B 1 true
+after_streams B Server d = phase.Read B 2 true
+after_streams B Client Uni = phase.Poll A
+
+-- behind a stream
+abbrev pub after_stream : End → ℕ → Phase
+after_stream who id = if nat_lt (index_of id + 1) (2 ^ 60) then phase.Read who (stream_id (initiator_of id) (dir_of id) (index_of id + 1)) true else after_streams who (initiator_of id) (dir_of id)
+
+abbrev pub after_reading : End → ℕ → Bool → Going → Phase
+after_reading who id ordered On = phase.Read who id ordered
+after_reading who id ordered Unordered = phase.Read who id false
+after_reading who id ordered StreamOver = after_stream who id
+after_reading who id ordered Over = after_streams who (initiator_of id) (dir_of id)
+
+abbrev pub after_polling : End → Going → Phase
+after_polling who On = phase.Poll who
+after_polling A _ = phase.Poll B
+after_polling B _ = phase.EmitOfA
+
+-- behind the payloads of both: neither has a frame, or those of the first are delivered
+abbrev pub after_emits : ℕ → Bool → Going → ℕ → Phase
+after_emits first true Over second = phase.Drop first
+after_emits first empty going second = phase.Deliver first 0 (Some second)
+
+abbrev pub after_frame : ℕ → ℕ → Option ℕ → Going → Phase
+after_frame payload frame (Some other) Over = phase.Deliver other 0 None
+after_frame payload frame None Over = phase.Report 0
+after_frame payload frame next going = phase.Deliver payload (min (frame + 1) (2 ^ 64 - 1)) next
+
+-- what is next behind a step before which so many payloads were sent
+abbrev pub phase_after : Phase → Going → ℕ → Phase
+phase_after (phase.Report payload) going sent = after_report payload going
+phase_after (phase.ReportLost payload) going sent = phase.Report payload
+phase_after (phase.Accept who dir) going sent = after_accept who dir going
+phase_after (phase.Read who id ordered) going sent = after_reading who id ordered going
+phase_after (phase.Poll who) going sent = after_polling who going
+phase_after phase.EmitOfA going sent = phase.EmitOfB sent (is_over going)
+phase_after (phase.EmitOfB first empty) going sent = after_emits first empty going sent
+phase_after (phase.Deliver payload frame next) going sent = after_frame payload frame next going
+phase_after (phase.Drop payload) going sent = phase.Drop payload
+
+-- ---- what is settled behind them
+
+-- nothing is unreported of the payloads of these numbers
+abbrev pub AreSettledIn : ℕ → ℕ → List Sent → Type 0
+AreSettledIn start behind sent = (number : ℕ) (s : Sent) → start ≤ number → number < behind → slice_get sent number ≡ Some s → s.unsettled.rest ≡ None
+
+-- every payload was reported, by what the replies to reports say (RFC 9000 section 13.3)
+abbrev pub IsAllReported : History → List Sent → Type 0
+IsAllReported h sent = (number : ℕ) → number < length sent → IsOneOf number (past_of h).settled
+
+-- an end has nothing to send: no control frame of any kind is pending, and no stream stands in the send queue
+pub record IsIdle (e : EndState) : Type 0 where
+  pub kinds : (kind : ControlKind) → HasNoneOf kind e.pending
+  pub streams : line e.streams.queue ≡ []
+
+-- neither has
+pub record AreIdle (v : PairState) : Type 0 where
+  pub of_a : IsIdle v.a
+  pub of_b : IsIdle v.b
+
+-- nothing is left to be sent on any stream, by what the steps tell: no byte that was written and no end that no frame carried, and
+-- none that was lost since and not acknowledged
+abbrev pub LeavesNoRest : Config → Config → {h : History} → {sent : List Sent} → Sendings h sent → Type 0
+LeavesNoRest a b led = (t : Tales) → Told a b led t → (who : End) (id : ℕ) → HasRest ((t.of who).flow id) → ⊥
+
+-- ---- one step, and the next
+
+-- the step of a phase was taken and noted with its reply, and what is next is known unless memory was wanting; or there was
+-- no room to note it, and none was taken
+pub record TakesOne (old : PairState) (before : History) (at : Phase) (answer : Result Phase OutOfMemory) (new : PairState) (behind : History) : Type 0 where
+  pub reply : Answer
+  pub next : Next old (step_at at) reply new
+  pub noted : behind ≡ before ++ (step_at at, reply) ∷ []
+  pub goes : (next_one : Phase) → answer ≡ Ok next_one → (going : Going) × (going_of reply ≡ Some going) × (next_one ≡ phase_after at going (length old.sent))
+
+abbrev pub TakesOneOrNone : PairState → History → Phase → Result Phase OutOfMemory → PairState → History → Type 0
+TakesOneOrNone old before at answer new behind = TakesOne old before at answer new behind ⊎ ((is_ok answer ≡ false) × (new ≡ old) × (behind ≡ before))
+
+-- before a phase is begun, the next payload that is to be reported is sought from a number on
+abbrev pub IsSoughtFor : Phase → Phase → Type 0
+IsSoughtFor (phase.Report from) next = ((number : ℕ) × (next ≡ phase.Report number)) ⊎ (next ≡ phase.Accept A Bi)
+IsSoughtFor (phase.Drop first) next = ((number : ℕ) × (first ≤ number) × (next ≡ phase.Drop number)) ⊎ ((number : ℕ) × (next ≡ phase.Report number))
+IsSoughtFor at next = next ≡ at
+
+-- there is none where both ends had nothing to send, and every payload is settled
+pub record IsSettledAt (at : Phase) (sent : List Sent) : Type 0 where
+  pub first : ℕ
+  pub was : at ≡ phase.Drop first
+  pub settled : AreSettledIn 0 (length sent) sent

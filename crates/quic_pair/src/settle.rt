@@ -1,0 +1,144 @@
+//! A network that is fair from now on completes what was begun.
+
+ghost use Rattle.std.specs.Prelude.{◌≡◌, ◌≤◌, ◌<◌, IfSome, IfNone, OnOk, List, [], ◌∷◌, length, vec_len, vec_capacity, ◌++◌};
+ghost use Rattle.quic_steps.specs.declared.steps.Config.{Config};
+ghost use Rattle.quic_pair.specs.State.{pair_view};
+ghost use Rattle.quic_pair.specs.Runs.{TakesSteps, StepByStep, Behind, Around, Throughout, IsTrueOf, StaysIfRefused, AsksOf, WithholdsNone, sendings_of};
+ghost use Rattle.quic_pair.specs.History.{History, past_of};
+ghost use Rattle.quic_pair.specs.From.{PairFrom};
+ghost use Rattle.quic_pair.specs.Headline.{Headline};
+ghost use Rattle.quic_pair.specs.Honest.{AreHonest};
+ghost use Rattle.quic_pair.specs.Refused.{IsRefusedSo};
+ghost use Rattle.quic_pair.specs.Unrefused.{RefusesNoFrame};
+ghost use Rattle.quic_pair.specs.Readable.{WithholdsNothing};
+ghost use Rattle.quic_pair.specs.Law.{Drains};
+ghost use Rattle.quic_pair.specs.Settling.{AreSettledIn, IsSoughtFor, IsSettledAt, TakesOneOrNone, IsAllReported, AreIdle, LeavesNoRest};
+
+use crate::pair::Pair;
+use crate::phase::{Phase, going_of};
+use quic_steps::{End, PairError, Reply, Step};
+use quic_values::{Dir, OutOfMemory};
+
+/// A step that was taken, with its reply.
+pub type StepTaken = (Step, Result<Reply, PairError>);
+
+#[tactic(auto, unfolding(crate::specs::State::pair_view))]
+impl Pair {
+    /// Takes the steps of a network that is fair from now on, with two applications that accept, read and poll all that
+    /// comes, until neither end has something to send and every payload is settled. Answers these steps with their
+    /// replies. Where memory is wanting, in a step or for the list, no more steps are taken, and an error stands beside those
+    /// that were.
+    pub fn settle(&mut self) -> (Vec<StepTaken>, Result<(), OutOfMemory>)
+        ensures next { TakesSteps (pair_view self.old) result.0.items (pair_view self.new) }
+        ensures from { (a b : Config) (h : History) → PairFrom a b h (pair_view self.old) → PairFrom a b (h ++ result.0.items) (pair_view self.new) }
+        ensures headline { (a b : Config) (h : History) → PairFrom a b h (pair_view self.old) → Headline (past_of (h ++ result.0.items)) (pair_view self.new).sent }
+        ensures honest { (a b : Config) (h : History) → PairFrom a b h (pair_view self.old) → AreHonest (past_of (h ++ result.0.items)) (pair_view self.new) }
+        ensures refused { (a b : Config) (h : History) → PairFrom a b h (pair_view self.old) → StepByStep (Behind IsRefusedSo h) (pair_view self.old) result.0.items (pair_view self.new) }
+        ensures throughout { (a b : Config) (h : History) → PairFrom a b h (pair_view self.old) → StepByStep (Throughout IsTrueOf h) (pair_view self.old) result.0.items (pair_view self.new) }
+        ensures unchanged { StepByStep StaysIfRefused (pair_view self.old) result.0.items (pair_view self.new) }
+        ensures unrefused { (a b : Config) (h : History) → PairFrom a b h (pair_view self.old) → StepByStep (Around RefusesNoFrame h) (pair_view self.old) result.0.items (pair_view self.new) }
+        ensures readable { (a b : Config) (h : History) → PairFrom a b h (pair_view self.old) → StepByStep (Behind WithholdsNothing h) (pair_view self.old) result.0.items (pair_view self.new) }
+        ensures drained { (a b : Config) (h : History) → PairFrom a b h (pair_view self.old) → StepByStep (Behind Drains h) (pair_view self.old) result.0.items (pair_view self.new) }
+        ensures due { (a b : Config) (h : History) → PairFrom a b h (pair_view self.old) → StepByStep AsksOf (pair_view self.old) result.0.items (pair_view self.new) }
+        ensures not_withheld { (a b : Config) (h : History) → PairFrom a b h (pair_view self.old) → StepByStep (WithholdsNone a b h) (pair_view self.old) result.0.items (pair_view self.new) }
+        ensures reported { OnOk result.1 ((a b : Config) (h : History) → PairFrom a b h (pair_view self.old) → IsAllReported (h ++ result.0.items) (pair_view self.new).sent) }
+        ensures idle { OnOk result.1 ((a b : Config) (h : History) → PairFrom a b h (pair_view self.old) → AreIdle (pair_view self.new)) }
+        ensures sent { OnOk result.1 ((a b : Config) (h : History) → PairFrom a b h (pair_view self.old) → (led : PairFrom a b (h ++ result.0.items) (pair_view self.new)) → LeavesNoRest a b (sendings_of led)) }
+    {
+        let mut taken = Vec::new(self.alloc);
+        let answer = self.settle_into(&mut taken);
+        (taken, answer)
+    }
+
+    fn settle_into(&mut self, taken: &mut Vec<StepTaken>) -> Result<(), OutOfMemory>
+        requires { taken.old.items ≡ [] }
+        ensures next { TakesSteps (pair_view self.old) taken.new.items (pair_view self.new) }
+        ensures settled { OnOk result (AreSettledIn 0 (length (pair_view self.new).sent) (pair_view self.new).sent) }
+        ensures idle { OnOk result ((a b : Config) (h : History) → PairFrom a b h (pair_view self.old) → AreIdle (pair_view self.new)) }
+    {
+        let mut phase = Phase::Report(0);
+        for _ in 0..u64::MAX {
+            match self.seek(phase) {
+                Some(next) => phase = self.take(next, taken)?,
+                None => return Ok(()),
+            }
+        }
+        Err(OutOfMemory)
+    }
+
+    // Takes the step of a phase, and notes it with its reply. Answers what is next.
+    fn take(&mut self, phase: Phase, taken: &mut Vec<StepTaken>) -> Result<Phase, OutOfMemory>
+        ensures { TakesOneOrNone (pair_view self.old) taken.old.items phase result (pair_view self.new) taken.new.items }
+    {
+        taken.reserve(1)?;
+        let sent = self.sent.len();
+        let reply = self.step(phase.step());
+        let going = going_of(&reply);
+        note(taken, phase.step(), reply);
+        match going {
+            Some(going) => Ok(phase.after(going, sent)),
+            None => Err(OutOfMemory),
+        }
+    }
+
+    // Where payloads are reported, the phase of the next that is not settled.
+    fn seek(&self, phase: Phase) -> Option<Phase>
+        ensures sought { IfSome result (IsSoughtFor phase) }
+        ensures none { IfNone result (IsSettledAt phase (pair_view self.now).sent) }
+    {
+        match phase {
+            Phase::Report(from) => Some(self.report_from(from)),
+            Phase::Drop(from) => self.drop_from(from),
+            _ => Some(phase),
+        }
+    }
+
+    fn report_from(&self, from: usize) -> Phase
+        ensures { IsSoughtFor (Phase.Report from) result }
+    {
+        let number = self.unsettled_from(from);
+        if number < self.sent.len() {
+            return Phase::Report(number);
+        }
+        Phase::Accept(End::A, Dir::Bi)
+    }
+
+    fn drop_from(&self, from: usize) -> Option<Phase>
+        ensures sought { IfSome result (IsSoughtFor (Phase.Drop from)) }
+        ensures none { IfNone result (AreSettledIn 0 (length (pair_view self.now).sent) (pair_view self.now).sent) }
+    {
+        let number = self.unsettled_from(from);
+        if number < self.sent.len() {
+            return Some(Phase::Drop(number));
+        }
+        let number = self.unsettled_from(0);
+        if number < self.sent.len() {
+            return Some(Phase::Report(number));
+        }
+        None
+    }
+
+    // The first payload that is not settled, from a number on; or how many there are.
+    fn unsettled_from(&self, from: usize) -> usize
+        ensures from { from ≤ result }
+        ensures settled { AreSettledIn from result (pair_view self.now).sent }
+    {
+        for number in from..self.sent.len() {
+            if !self.sent[number].unsettled.is_settled() {
+                return number;
+            }
+        }
+        self.sent.len().max(from)
+    }
+}
+
+// A step is noted with its reply, where there is room.
+fn note(taken: &mut Vec<StepTaken>, step: Step, reply: Result<Reply, PairError>)
+    requires { vec_len taken.old < vec_capacity taken.old }
+    ensures { taken.new.items ≡ taken.old.items ++ (step, reply) ∷ [] }
+{
+    match taken.push((step, reply)) {
+        Ok(()) => {}
+        Err(_) => unreachable!(),
+    }
+}
