@@ -59,13 +59,10 @@ impl Pair {
         ensures idle { OnOk result ((a b : Config) (h : History) → PairFrom a b h (pair_view self.old) → AreIdle (pair_view self.new)) }
     {
         let mut phase = Phase::Report(0);
-        for _ in 0..u64::MAX {
-            match self.seek(phase) {
-                Some(next) => phase = self.take(next, taken)?,
-                None => return Ok(()),
-            }
+        while let Some(next) = self.seek(phase) {
+            phase = self.take(next, taken)?;
         }
-        Err(OutOfMemory)
+        Ok(())
     }
 
     // Takes the step of a phase, and notes it with its reply. Answers what is next.
