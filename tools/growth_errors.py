@@ -42,6 +42,8 @@ ALLOWED = {
     ("crates/quic_pair/src/replies.rt", "Err(_back) => Err(PairError::OutOfMemory),"),
     # A payload that an end wrote itself is decoded, which its promises say it can be.
     ("crates/hostile/src/application.rt", "Err(DecodeError::OutOfMemory) | Err(DecodeError::Malformed) => return Err(OutOfMemory),"),
+    # The reply of a step said that memory was wanting, and there is no other that ends a settling.
+    ("crates/quic_pair/src/settle.rt", "None => Err(OutOfMemory),"),
     # Of two answers for want of memory alone one is an error, in the arm of all but two successes.
     ("crates/quic_pair/src/replies.rt", "_ => Err(PairError::OutOfMemory),"),
 }

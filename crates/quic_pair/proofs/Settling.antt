@@ -47,7 +47,7 @@ use Rattle.quic_pair.specs.From.{PairFrom}
 use Rattle.quic_pair.specs.Due.{IsFull}
 use Rattle.quic_pair.specs.Tale.{Part, Carried, GivenUp, Tales}
 use Rattle.quic_pair.specs.Runs.{TakesSteps, more, sendings_of}
-use Rattle.quic_pair.specs.Settling.{step_at, going_of, going_sending, phase_after, after_accepting, after_streams, after_reading, after_polling, after_emits, after_frame, AreSettledIn, IsAllReported, IsIdle, AreIdle, LeavesNoRest, IsSoughtFor, IsSettledAt, TakesOne, TakesOneOrNone}
+use Rattle.quic_pair.specs.Settling.{step_at, going_of, going_sending, phase_after, after_accepting, after_streams, after_reading, after_polling, after_emits, after_frame, AreSettledIn, IsAllReported, IsIdle, AreIdle, LeavesNoRest, IsSoughtFor, IsSettledAt, TakesOne, TakesOneOrNone, Follows, more as follows_more}
 use Rattle.quic_pair.proofs.Lists.{slice_get-push, slice_get-slice_set, slice_get-within, slice_get-there}
 use Rattle.quic_pair.proofs.Left.{IsLeft}
 use Rattle.quic_pair.proofs.Grown.{grown-from}
@@ -340,14 +340,14 @@ ready_same : (at next : Phase) (v : PairState) → IsReadyFor at v → next ≡ 
 ready_same at next v r e = let P : Phase → Type 0 = λ x. IsReadyFor x v in subst P (sym e) r
 
 -- and so may the phase that is sought
-pub ready-sought : (at next : Phase) (v : PairState) → IsReadyFor at v → IsSoughtFor at next → IsReadyFor next v
+pub ready-sought : (at next : Phase) (v : PairState) → IsReadyFor at v → IsSoughtFor v.sent at next → IsReadyFor next v
 ready-sought (phase.Report from) next v r s = elim s [
-  | inl here ↦ (let P : Phase → Type 0 = λ x. IsReadyFor x v in subst P (sym here.1) tt)
-  | inr none ↦ (let P : Phase → Type 0 = λ x. IsReadyFor x v in subst P (sym none) tt)
+  | inl here ↦ (let P : Phase → Type 0 = λ x. IsReadyFor x v in subst P (sym here.2) tt)
+  | inr none ↦ (let P : Phase → Type 0 = λ x. IsReadyFor x v in subst P (sym none.1) tt)
 ]
 ready-sought (phase.Drop first) next v r s = elim s [
-  | inl here ↦ (let P : Phase → Type 0 = λ x. IsReadyFor x v in subst P (sym here.2) (r.0, λ number t from got. r.1 number t (let le = here.1 in omega (arith, le, from)) got))
-  | inr none ↦ (let P : Phase → Type 0 = λ x. IsReadyFor x v in subst P (sym none.1) tt)
+  | inl here ↦ (let P : Phase → Type 0 = λ x. IsReadyFor x v in subst P (sym here.2) (r.0, λ number t from got. r.1 number t (let le = here.1.low in omega (arith, le, from)) got))
+  | inr none ↦ (let P : Phase → Type 0 = λ x. IsReadyFor x v in subst P (sym none.2) tt)
 ]
 ready-sought (phase.ReportLost payload) next v r s = ready_same (phase.ReportLost payload) next v r s
 ready-sought (phase.Accept who dir) next v r s = ready_same (phase.Accept who dir) next v r s
@@ -380,6 +380,15 @@ ready-on a b h first old before at next new behind f run r one =
     let on = t.goes next refl in
     let P : Phase → Type 0 = λ x. IsReadyFor x new in
     subst P (sym on.2) (ready-next a b (h ++ before) old new (from-steps f run) at r t.reply t.next on.0 on.1)
+
+-- and so far the steps follow the phases
+pub follows-on : (first old : PairState) (before : History) (at here next : Phase) (new : PairState) (behind : History) → Follows first (phase.Report 0) before old at → IsSoughtFor old.sent at here → TakesOneOrNone old before here (Ok next) new behind → Follows first (phase.Report 0) behind new next
+follows-on first old before at here next new behind run sought one =
+    let t = went_on old before here next new behind one in
+    let on = t.goes next refl in
+    let P : History → Type 0 = λ l. Follows first (phase.Report 0) l new next in
+    let Q : Phase → Type 0 = λ x. Follows first (phase.Report 0) (before ++ (step_at here, t.reply) ∷ []) new x in
+    subst P (sym t.noted) (subst Q (sym on.2) (follows_more here t.reply on.0 run sought t.next on.1))
 
 -- what follows from what holds where an answer is Ok
 pub on-ok : {X E : Type 0} (r : Result X E) (P Q : Type 0) → (P → Q) → OnOk r P → OnOk r Q

@@ -175,14 +175,32 @@ pub record TakesOne (old : PairState) (before : History) (at : Phase) (answer : 
 abbrev pub TakesOneOrNone : PairState → History → Phase → Result Phase OutOfMemory → PairState → History → Type 0
 TakesOneOrNone old before at answer new behind = TakesOne old before at answer new behind ⊎ ((is_ok answer ≡ false) × (new ≡ old) × (behind ≡ before))
 
+-- a payload from a number on, before which all from there on are settled
+pub record IsNextFrom (sent : List Sent) (from number : ℕ) : Type 0 where
+  pub low : from ≤ number
+  pub within : number < length sent
+  pub before : AreSettledIn from number sent
+
 -- before a phase is begun, the next payload that is to be reported is sought from a number on
-abbrev pub IsSoughtFor : Phase → Phase → Type 0
-IsSoughtFor (phase.Report from) next = ((number : ℕ) × (next ≡ phase.Report number)) ⊎ (next ≡ phase.Accept A Bi)
-IsSoughtFor (phase.Drop first) next = ((number : ℕ) × (first ≤ number) × (next ≡ phase.Drop number)) ⊎ ((number : ℕ) × (next ≡ phase.Report number))
-IsSoughtFor at next = next ≡ at
+abbrev pub IsSoughtFor : List Sent → Phase → Phase → Type 0
+IsSoughtFor sent (phase.Report from) next = ((number : ℕ) × IsNextFrom sent from number × (next ≡ phase.Report number)) ⊎ (AreSettledIn from (length sent) sent × (next ≡ phase.Accept A Bi))
+IsSoughtFor sent (phase.Drop first) next = ((number : ℕ) × IsNextFrom sent first number × (next ≡ phase.Drop number)) ⊎ ((number : ℕ) × IsNextFrom sent 0 number × (next ≡ phase.Report number))
+IsSoughtFor sent at next = next ≡ at
+
+-- steps were taken one after the other, from a phase on, each of the phase that was sought; and what is next is as its reply says
+pub data Follows (old : PairState) (first : Phase) : History → PairState → Phase → Type 0 where
+  none : Follows old first [] old first
+  more : {taken : History} {between new : PairState} {at : Phase} (here : Phase) (reply : Answer) (going : Going) → Follows old first taken between at → IsSoughtFor between.sent at here
+      → Next between (step_at here) reply new → going_of reply ≡ Some going → Follows old first (taken ++ (step_at here, reply) ∷ []) new (phase_after here going (length between.sent))
 
 -- there is none where both ends had nothing to send, and every payload is settled
 pub record IsSettledAt (at : Phase) (sent : List Sent) : Type 0 where
   pub first : ℕ
   pub was : at ≡ phase.Drop first
   pub settled : AreSettledIn 0 (length sent) sent
+
+-- the steps are those of a settling, from its first phase to its end
+pub record IsSettling (old : PairState) (taken : History) (new : PairState) : Type 0 where
+  pub at : Phase
+  pub follows : Follows old (phase.Report 0) taken new at
+  pub ended : IsSettledAt at new.sent

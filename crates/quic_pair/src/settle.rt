@@ -12,7 +12,7 @@ ghost use Rattle.quic_pair.specs.Refused.{IsRefusedSo};
 ghost use Rattle.quic_pair.specs.Unrefused.{RefusesNoFrame};
 ghost use Rattle.quic_pair.specs.Readable.{WithholdsNothing};
 ghost use Rattle.quic_pair.specs.Law.{Drains};
-ghost use Rattle.quic_pair.specs.Settling.{AreSettledIn, IsSoughtFor, IsSettledAt, TakesOneOrNone, IsAllReported, AreIdle, LeavesNoRest};
+ghost use Rattle.quic_pair.specs.Settling.{AreSettledIn, IsSoughtFor, IsSettledAt, IsSettling, TakesOneOrNone, IsAllReported, AreIdle, LeavesNoRest};
 
 use crate::pair::Pair;
 use crate::phase::{Phase, going_of};
@@ -41,6 +41,7 @@ impl Pair {
         ensures drained { (a b : Config) (h : History) → PairFrom a b h (pair_view self.old) → StepByStep (Behind Drains h) (pair_view self.old) result.0.items (pair_view self.new) }
         ensures due { (a b : Config) (h : History) → PairFrom a b h (pair_view self.old) → StepByStep AsksOf (pair_view self.old) result.0.items (pair_view self.new) }
         ensures not_withheld { (a b : Config) (h : History) → PairFrom a b h (pair_view self.old) → StepByStep (WithholdsNone a b h) (pair_view self.old) result.0.items (pair_view self.new) }
+        ensures order { OnOk result.1 (IsSettling (pair_view self.old) result.0.items (pair_view self.new)) }
         ensures reported { OnOk result.1 ((a b : Config) (h : History) → PairFrom a b h (pair_view self.old) → IsAllReported (h ++ result.0.items) (pair_view self.new).sent) }
         ensures idle { OnOk result.1 ((a b : Config) (h : History) → PairFrom a b h (pair_view self.old) → AreIdle (pair_view self.new)) }
         ensures sent { OnOk result.1 ((a b : Config) (h : History) → PairFrom a b h (pair_view self.old) → (led : PairFrom a b (h ++ result.0.items) (pair_view self.new)) → LeavesNoRest a b (sendings_of led)) }
@@ -53,17 +54,15 @@ impl Pair {
     fn settle_into(&mut self, taken: &mut Vec<StepTaken>) -> Result<(), OutOfMemory>
         requires { taken.old.items ≡ [] }
         ensures next { TakesSteps (pair_view self.old) taken.new.items (pair_view self.new) }
+        ensures order { OnOk result (IsSettling (pair_view self.old) taken.new.items (pair_view self.new)) }
         ensures settled { OnOk result (AreSettledIn 0 (length (pair_view self.new).sent) (pair_view self.new).sent) }
         ensures idle { OnOk result ((a b : Config) (h : History) → PairFrom a b h (pair_view self.old) → AreIdle (pair_view self.new)) }
     {
         let mut phase = Phase::Report(0);
-        for _ in 0..u64::MAX {
-            match self.seek(phase) {
-                Some(next) => phase = self.take(next, taken)?,
-                None => return Ok(()),
-            }
+        while let Some(next) = self.seek(phase) {
+            phase = self.take(next, taken)?;
         }
-        Err(OutOfMemory)
+        Ok(())
     }
 
     // Takes the step of a phase, and notes it with its reply. Answers what is next.
@@ -83,7 +82,7 @@ impl Pair {
 
     // Where payloads are reported, the phase of the next that is not settled.
     fn seek(&self, phase: Phase) -> Option<Phase>
-        ensures sought { IfSome result (IsSoughtFor phase) }
+        ensures sought { IfSome result (IsSoughtFor (pair_view self.now).sent phase) }
         ensures none { IfNone result (IsSettledAt phase (pair_view self.now).sent) }
     {
         match phase {
@@ -94,7 +93,7 @@ impl Pair {
     }
 
     fn report_from(&self, from: usize) -> Phase
-        ensures { IsSoughtFor (Phase.Report from) result }
+        ensures { IsSoughtFor (pair_view self.now).sent (Phase.Report from) result }
     {
         let number = self.unsettled_from(from);
         if number < self.sent.len() {
@@ -104,7 +103,7 @@ impl Pair {
     }
 
     fn drop_from(&self, from: usize) -> Option<Phase>
-        ensures sought { IfSome result (IsSoughtFor (Phase.Drop from)) }
+        ensures sought { IfSome result (IsSoughtFor (pair_view self.now).sent (Phase.Drop from)) }
         ensures none { IfNone result (AreSettledIn 0 (length (pair_view self.now).sent) (pair_view self.now).sent) }
     {
         let number = self.unsettled_from(from);

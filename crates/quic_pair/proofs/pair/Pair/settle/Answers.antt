@@ -33,6 +33,7 @@ returns c =
       drained = λ a b h f. each-behind Drains drains-so a b h _ _ _ f run;
       due = λ a b h f. each-asks a b h _ _ _ f run;
       not_withheld = λ a b h f. each-permits a b h _ _ _ f run;
+      order = into.order;
       reported = on-ok c.settle_into-answer.result _ _ (λ settled a b h f. all-reported a b (h ++ taken) v (from-steps f run) settled) into.settled;
       idle = into.idle;
       sent = on-ok c.settle_into-answer.result _ _ (λ idle a b h f led. leaves-no-rest a b (h ++ taken) v led (idle a b h f)) into.idle;
