@@ -20,8 +20,6 @@ struct Due {
 struct Readable {
     /// Whether it was read as bytes came.
     unordered: bool,
-    /// Whether the library told the end, with bytes behind which the application is to be told it.
-    ended: bool,
 }
 
 /// The streams of a connection
@@ -415,9 +413,7 @@ impl StreamsState {
 
     pub(super) fn stop(&mut self, id: StreamId, code: VarInt) -> Result<(), UnknownStream> {
         self.take_ahead(id);
-        if self.readable.remove(&id).map_or(false, |half| half.ended) {
-            return Ok(());
-        }
+        self.readable.remove(&id);
         answered(self.end().recv_stream(layer_id(id)).stop(code.into()))
     }
 
@@ -448,10 +444,6 @@ impl StreamsState {
         if self.is_to_come(id) || max_length == 0 {
             return Err(ReadError::Blocked);
         }
-        if self.has_ended(id) {
-            self.readable.remove(&id);
-            return Ok(None);
-        }
         let answer = self.read_chunk(id, ordered, max_length);
         let closed = match answer {
             Ok(Some(chunk)) => return Ok(Some(chunk)),
@@ -464,12 +456,7 @@ impl StreamsState {
         closed
     }
 
-    /// Whether the library told the end of a stream, and the application was not told it
-    fn has_ended(&self, id: StreamId) -> bool {
-        self.readable.get(&id).map_or(false, |half| half.ended)
-    }
-
-    /// Reads into a buffer of which each chunk takes a part, in order those of several frames as one chunk
+    /// Reads into a buffer of which each chunk takes a part
     fn read_chunk(
         &mut self,
         id: StreamId,
@@ -482,21 +469,8 @@ impl StreamsState {
         self.due.set(None);
         let length = max_length.min(self.room.len());
         let mut half = self.end.get_mut().recv_stream(layer_id(id));
-        let room = &mut self.room[..length];
-        let (count, offset) = if ordered {
-            let read = half.read_many(room)?;
-            match (read.count, read.next) {
-                (0, layer::Next::Finished) => return Ok(None),
-                (0, _) => return Err(layer::ReadError::Blocked),
-                (_, layer::Next::Finished) => self.readable.entry(id).or_default().ended = true,
-                _ => {}
-            }
-            (read.count, read.offset)
-        } else {
-            let Some(read) = half.read_into(room, false)? else {
-                return Ok(None);
-            };
-            read
+        let Some((count, offset)) = half.read_into(&mut self.room[..length], ordered)? else {
+            return Ok(None);
         };
         let bytes = self.room.split_to(count).freeze();
         Ok(Some(Chunk { offset, bytes }))
