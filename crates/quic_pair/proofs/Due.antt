@@ -74,7 +74,7 @@ use Rattle.quic_pair.specs.Unsettled.{goes_on, may_report}
 use Rattle.quic_pair.specs.Steps.{Next, Emitted, HandsOver, Delivers, SettlesPayload, HasPayload}
 use Rattle.quic_pair.specs.History.{History, past_of}
 use Rattle.quic_pair.specs.From.{PairFrom}
-use Rattle.quic_pair.specs.Due.{AsksStreams, AsksData, AsksWindow, AsksAllOf, OpensAll, LeavesRoom, WritesAll, AsksForReset, AsksStop, AsksStopIf, AsksWindowIf, AsksAfterRead, AsksStreamsIf, AsksLarger, IsFull, IsFullIf, AsksAfterFrame, AsksAgain, OnWriter, AsksFor}
+use Rattle.quic_pair.specs.Due.{AsksStreams, AsksData, AsksWindow, AsksAllOf, OpensAll, LeavesRoom, WritesAll, AsksForReset, AsksStop, AsksStopIf, AsksWindowIf, AsksAfterRead, AsksStreamsIf, AsksLarger, IsFull, IsFullIf, HasConsumed, AsksAfterFrame, AsksAgain, OnWriter, AsksFor}
 use Rattle.quic_pair.proofs.Left.{AreLeft}
 use Rattle.quic_pair.proofs.Grown.{joined-from, grown-from}
 use Rattle.quic_pair.proofs.Flips.{seen-as}
@@ -280,29 +280,34 @@ credit_sending u e v s = elim (kind-of u e v s) [
   ]
 ]
 
--- what an answer tells of credit: if the limit grew, a limit that is due is told
+-- what an answer tells of credit: if bytes were consumed, a limit that is due is told
 abbrev Tells : World → Result ShouldTransmit ReceiveError → World → Type 0
-Tells u (Ok transmit) v = u.credit.local_max_data < v.credit.local_max_data → is_max_data_due v.credit ≡ true → transmit.0 ≡ true
-Tells u (Err error) v = u.credit.local_max_data < v.credit.local_max_data → ⊥
+Tells u (Ok transmit) v = HasConsumed u.credit v.credit → is_max_data_due v.credit ≡ true → transmit.0 ≡ true
+Tells u (Err error) v = HasConsumed u.credit v.credit → ⊥
 
-not_less : (u v : World) → v.credit.local_max_data ≡ u.credit.local_max_data → u.credit.local_max_data < v.credit.local_max_data → ⊥
-not_less u v e l = absurd (omega (arith, e, l))
+-- the limit, and what is owed of the window
+abbrev limits_of : Credit → ℕ × ℕ
+limits_of c = (c.local_max_data, c.shrink_debt)
 
--- the limit stays
-tells_still : (u : World) (answer : Result ShouldTransmit ReceiveError) (v : World) → v.credit.local_max_data ≡ u.credit.local_max_data → Tells u answer v
+not_less : (u v : World) → limits_of v.credit ≡ limits_of u.credit → HasConsumed u.credit v.credit → ⊥
+not_less u v e (inl l) = absurd (omega (arith, ap (λ (x : ℕ × ℕ). x.0) e, l))
+not_less u v e (inr l) = absurd (omega (arith, ap (λ (x : ℕ × ℕ). x.1) e, l))
+
+-- both stay
+tells_still : (u : World) (answer : Result ShouldTransmit ReceiveError) (v : World) → limits_of v.credit ≡ limits_of u.credit → Tells u answer v
 tells_still u (Ok transmit) v e = λ l due. absurd (not_less u v e l)
 tells_still u (Err error) v e = λ l. not_less u v e l
 
-limit_same : (u v : World) → v ≡ u → v.credit.local_max_data ≡ u.credit.local_max_data
-limit_same u v e = ap (λ (w : World). w.credit.local_max_data) e
+limit_same : (u v : World) → v ≡ u → limits_of v.credit ≡ limits_of u.credit
+limit_same u v e = ap (λ (w : World). limits_of w.credit) e
 
-limit_advanced : (u v : World) (id : ℕ) (old new : Half) → v ≡ advanced u id old new → v.credit.local_max_data ≡ u.credit.local_max_data
+limit_advanced : (u v : World) (id : ℕ) (old new : Half) → v ≡ advanced u id old new → limits_of v.credit ≡ limits_of u.credit
 unfolding with_receive
-limit_advanced u v id old new e = ap (λ (w : World). w.credit.local_max_data) e
+limit_advanced u v id old new e = ap (λ (w : World). limits_of w.credit) e
 
-limit_noticed : (u v : World) (id : ℕ) (readable : Bool) (old new : Half) → v ≡ noticed (advanced u id old new) id readable → v.credit.local_max_data ≡ u.credit.local_max_data
+limit_noticed : (u v : World) (id : ℕ) (readable : Bool) (old new : Half) → v ≡ noticed (advanced u id old new) id readable → limits_of v.credit ≡ limits_of u.credit
 limit_noticed u v id readable old new e =
-    ap (λ (w : World). w.credit.local_max_data) e ∙ ap (λ (c : Credit). c.local_max_data) (credit-noticed (advanced u id old new) id readable) ∙ limit_advanced u (advanced u id old new) id old new refl
+    ap (λ (w : World). limits_of w.credit) e ∙ ap limits_of (credit-noticed (advanced u id old new) id readable) ∙ limit_advanced u (advanced u id old new) id old new refl
 
 -- data that was taken
 tells_data : (u v : World) (id : ℕ) (old new : Half) (fin stopped : Bool) (transmit : ShouldTransmit)
@@ -325,12 +330,12 @@ tells_received u v id offset bytes fin (Err receive_error.OutOfMemory) r = tells
 
 -- a reset that was taken
 limit_freed : (u v : World) (id : ℕ) (old new : Half) (stopped : Bool)
-    → v ≡ (let w = noticed (advanced u id old new) id (not stopped) in if stopped then with_freed w id else w) → v.credit.local_max_data ≡ u.credit.local_max_data
+    → v ≡ (let w = noticed (advanced u id old new) id (not stopped) in if stopped then with_freed w id else w) → limits_of v.credit ≡ limits_of u.credit
 limit_freed u v id old new true e =
-    ap (λ (w : World). w.credit.local_max_data) e ∙ ap (λ (c : Credit). c.local_max_data) (credit-freed (noticed (advanced u id old new) id false) id) ∙ limit_noticed u (noticed (advanced u id old new) id false) id false old new refl
+    ap (λ (w : World). limits_of w.credit) e ∙ ap limits_of (credit-freed (noticed (advanced u id old new) id false) id) ∙ limit_noticed u (noticed (advanced u id old new) id false) id false old new refl
 limit_freed u v id old new false e = limit_noticed u v id true old new e
 
-tells_rest : (u w v : World) (n : ℕ) (nil : Bool) (transmit : ShouldTransmit) → w.credit.local_max_data ≡ u.credit.local_max_data → v ≡ (if nil then w else with_credit w n)
+tells_rest : (u w v : World) (n : ℕ) (nil : Bool) (transmit : ShouldTransmit) → limits_of w.credit ≡ limits_of u.credit → v ≡ (if nil then w else with_credit w n)
     → transmit.0 ≡ (not nil && is_max_data_due v.credit) → Tells u (Ok transmit) v
 tells_rest u w v n true transmit k e t = λ l due. absurd (not_less u v (limit_same w v e ∙ k) l)
 tells_rest u w v n false transmit k e t = λ l due. t ∙ due
@@ -354,7 +359,7 @@ tells_reset u v id code final (Err receive_error.CompactionMemory) r = absurd r
 tells_reset u v id code final (Err receive_error.OutOfMemory) r = tells_still u (Err receive_error.OutOfMemory) v (limit_same u v r)
 
 tells_sending : (u : World) (e : SendEvent) (answer : Result ShouldTransmit ReceiveError) (v : World) → SendStep u e v → Tells u answer v
-tells_sending u e answer v s = tells_still u answer v (ap (λ (c : Credit). c.local_max_data) (credit_sending u e v s))
+tells_sending u e answer v s = tells_still u answer v (ap limits_of (credit_sending u e v s))
 
 tells_frame : (u v : World) (frame : Frame) (answer : Result ShouldTransmit ReceiveError) → MakesCall u (event_of frame answer) v → Tells u answer v
 tells_frame u v (frames.Stream g) answer c = tells_received u v g.id g.offset g.bytes g.fin answer c
@@ -370,7 +375,7 @@ abbrev AsksAfterAnswer : Result ShouldTransmit ReceiveError → EndState → End
 AsksAfterAnswer (Err receive_error.OutOfMemory) e f = Unit {0}
 AsksAfterAnswer answer e f = AsksAfterFrame e f
 
-asks_refused : (e t f : EndState) → f ≡ with_counts_told t → (e.streams.credit.local_max_data < t.streams.credit.local_max_data → ⊥) → AsksAfterFrame e f
+asks_refused : (e t f : EndState) → f ≡ with_counts_told t → (HasConsumed e.streams.credit t.streams.credit → ⊥) → AsksAfterFrame e f
 asks_refused e t f is still = subst (λ k. AsksAfterFrame e k) (sym is) (record { counts = counts_told t; limit = λ l. absurd (still l) })
 
 asks_frame : (e f : EndState) (frame : Frame) (answer : Result ShouldTransmit ReceiveError) → ReceivesAt e frame answer f → AsksAfterAnswer answer e f

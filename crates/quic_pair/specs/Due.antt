@@ -7,7 +7,7 @@ use Rattle.quic_wire.specs.declared.frame.Frame.{Frame}
 use Rattle.quic_wire.specs.Frames.{AreFrames}
 use Rattle.quic_sending.specs.declared.send.Send.{Send}
 use Rattle.quic_sending.specs.Sending.{permitted}
-use Rattle.quic_limits.specs.Credit.{is_max_data_due}
+use Rattle.quic_limits.specs.Credit.{Credit, is_max_data_due}
 use Rattle.quic_limits.specs.Remote.{is_max_streams_due}
 use Rattle.quic_limits.specs.SendingCredit.{writable}
 use Rattle.quic_outgoing.specs.Outgoing.{Outgoing, own_of}
@@ -136,10 +136,15 @@ abbrev pub IsFullIf : ℕ → Answer → EndState → Type 0
 IsFullIf most (Ok (Payload number bytes)) f = IsFull most bytes.items f
 IsFullIf most _ f = Unit {0}
 
--- the end that a frame was handed to is to send counts that are due, and its limit, where that grew
+-- bytes were consumed: the limit of the connection grew by them, or they paid what it owes since its window was made smaller
+abbrev pub HasConsumed : Credit → Credit → Type 0
+HasConsumed c d = (c.local_max_data < d.local_max_data) ⊎ (d.shrink_debt < c.shrink_debt)
+
+-- the end that a frame was handed to is to send counts that are due, and its limit where that is due, if the frame consumed
+-- bytes
 pub record AsksAfterFrame (e f : EndState) : Type 0 where
   pub counts : AsksStreams f
-  pub limit : e.streams.credit.local_max_data < f.streams.credit.local_max_data → AsksData f
+  pub limit : HasConsumed e.streams.credit f.streams.credit → AsksData f
 
 -- what was noted of the frames of a payload that was lost is to be sent again: of those that its bytes spell
 abbrev pub AsksAgain : List ℕ → EndState → Type 0
