@@ -15,7 +15,7 @@ use Rattle.quic_history.specs.declared.progress.LastAnswer.{LastAnswer}
 use Rattle.quic_history.specs.declared.progress.LastAnswer.TheVariants as last_answer
 use Rattle.quic_history.specs.Reading.{bytes_in, GivesChunks, IsCountOf}
 use Rattle.quic_history.proofs.WorldSteps.{receive-there}
-use Rattle.quic_session.specs.Reading.{chunk_bytes, first_offset, AreInOrder, chunks_for, share_of}
+use Rattle.quic_session.specs.Reading.{chunk_bytes, offset_of_first, AreConsecutive, chunks_for, share_of}
 
 abbrev bytes_of : Chunk → List ℕ
 bytes_of c = c.bytes
@@ -74,7 +74,7 @@ given-fit w v id size ordered cs last g n =
     omega (arith, given-within w v id (share_of size) ordered cs g, mul-le-mul_right (share_of size) (count-most times (length cs) last n), mul-div-le size times)
 
 -- those of ordered reads stand one behind another in the stream
-in-order : (w v : World) (id most at : ℕ) (cs : List Chunk) → ((h : Half) → w.receive id ≡ Some h → h.buffer.bytes_read ≡ at) → GivesChunks w id most true cs v → AreInOrder at cs
+in-order : (w v : World) (id most at : ℕ) (cs : List Chunk) → ((h : Half) → w.receive id ≡ Some h → h.buffer.bytes_read ≡ at) → GivesChunks w id most true cs v → AreConsecutive at cs
 in-order w v id most at [] known g = tt
 in-order w v id most at (c ∷ cs) known (u, r, g) =
     let given : Given r.old.buffer most c r.new.buffer = r.reads.1 in
@@ -83,10 +83,10 @@ in-order w v id most at (c ∷ cs) known (u, r, g) =
     λ h here. ap (λ (x : Half). x.buffer.bytes_read) (same_Some h r.new (sym here ∙ there)) ∙ given.bytes_read ∙ ap (λ n. n + length c.bytes) (known r.old r.half) in
     (given.start r.mode ∙ known r.old r.half, in-order u v id most (at + length c.bytes) cs next g)
 
-pub given-order : (w v : World) (id most : ℕ) (cs : List Chunk) → GivesChunks w id most true cs v → AreInOrder (first_offset cs) cs
+pub given-order : (w v : World) (id most : ℕ) (cs : List Chunk) → GivesChunks w id most true cs v → AreConsecutive (offset_of_first cs) cs
 given-order w v id most [] g = tt
 given-order w v id most (c ∷ cs) (u, r, g) =
     let known : (h : Half) → w.receive id ≡ Some h → h.buffer.bytes_read ≡ r.old.buffer.bytes_read = λ h here. ap (λ (x : Half). x.buffer.bytes_read) (same_Some h r.old (sym here ∙ r.half)) in
     let all = in-order w v id most r.old.buffer.bytes_read (c ∷ cs) known (u, r, g) in
-    let P : ℕ → Type 0 = λ at. AreInOrder at (c ∷ cs) in
+    let P : ℕ → Type 0 = λ at. AreConsecutive at (c ∷ cs) in
     subst P (sym all.0) all

@@ -54,14 +54,14 @@ abbrev pub chunk_bytes : List Chunk → List ℕ
 chunk_bytes chunks = concat (map (λ c. c.bytes) chunks)
 
 -- where the first of them stands in the stream
-abbrev pub first_offset : List Chunk → ℕ
-first_offset [] = 0
-first_offset (c ∷ cs) = c.offset
+abbrev pub offset_of_first : List Chunk → ℕ
+offset_of_first [] = 0
+offset_of_first (c ∷ cs) = c.offset
 
 -- each of them stands in the stream where the one before it ends, the first at an offset
-abbrev pub AreInOrder : ℕ → List Chunk → Type 0
-AreInOrder at [] = Unit {0}
-AreInOrder at (c ∷ cs) = (c.offset ≡ at) × AreInOrder (at + length c.bytes) cs
+abbrev pub AreConsecutive : ℕ → List Chunk → Type 0
+AreConsecutive at [] = Unit {0}
+AreConsecutive at (c ∷ cs) = (c.offset ≡ at) × AreConsecutive (at + length c.bytes) cs
 
 -- how many chunks are asked for at most, for a buffer of so many bytes
 abbrev pub chunks_for : ℕ → ℕ
@@ -78,7 +78,7 @@ pub record ReadsChunksInto (s : Session) (id : ℕ) (out : List ℕ) (r : ReadIn
   pub chunks : List Chunk
   pub transmit : Bool
   pub reads : ReadsAt (end_of s) id (share_of (length out)) (chunks_for (length out)) true chunks r.last transmit (end_of t)
-  pub in_order : AreInOrder r.offset chunks
+  pub in_order : AreConsecutive r.offset chunks
   pub count : r.count ≡ bytes_in chunks
   pub copied : new ≡ chunk_bytes chunks ++ drop r.count out
   pub from : (m : Made) (h : List Event) → From m h (end_of s).streams → From m (with_reads id (share_of (length out)) true chunks r.last h) (end_of t).streams

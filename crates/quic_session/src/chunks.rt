@@ -3,7 +3,7 @@
 ghost use Rattle.std.specs.Prelude.{◌≡◌, ◌≤◌, ◌+◌, ◌++◌, length, take, drop};
 ghost use Rattle.quic_history.specs.Reading.{bytes_in};
 ghost use Rattle.quic_session.specs.Sessions.{beside_of};
-ghost use Rattle.quic_session.specs.Reading.{chunk_bytes, first_offset, chunks_for, ReadsManyInto};
+ghost use Rattle.quic_session.specs.Reading.{chunk_bytes, offset_of_first, chunks_for, ReadsManyInto};
 
 use crate::application::ReadInto;
 use crate::session::Session;
@@ -28,7 +28,7 @@ impl Session {
         let share = out.len() / times as usize;
         let some = self.read_given(id, true, share, times, list)?;
         let count = put_chunks(&some.chunks, out);
-        let offset = first_offset(&some.chunks);
+        let offset = offset_of_first(&some.chunks);
         let last = some.last;
         self.chunks = some.chunks;
         self.chunks.clear();
@@ -70,8 +70,8 @@ fn put_at(out: &mut [u8], at: usize, bytes: &[u8])
 }
 
 // Where the first of some chunks stands in the stream.
-fn first_offset(chunks: &[Chunk]) -> u64
-    ensures { result ≡ first_offset chunks.now }
+fn offset_of_first(chunks: &[Chunk]) -> u64
+    ensures { result ≡ offset_of_first chunks.now }
 {
     match chunks.first() {
         Some(chunk) => chunk.offset,

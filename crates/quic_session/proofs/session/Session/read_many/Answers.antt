@@ -2,7 +2,7 @@ use Rattle.std.proofs.Common.{◌≡◌, ◌≤◌, ◌++◌, ◌∙◌, sym, ap
 use Rattle.quic_assembler.specs.declared.chunk.Chunk.{Chunk}
 use Rattle.quic_history.specs.Reading.{bytes_in}
 use Rattle.quic_session.specs.Sessions.{end_of}
-use Rattle.quic_session.specs.Reading.{chunk_bytes, AreInOrder}
+use Rattle.quic_session.specs.Reading.{chunk_bytes, AreConsecutive}
 use Rattle.quic_session.proofs.Copied.{given-fit, given-order}
 use Rattle.quic_session.proofs.session.Session.read_many.Goals as goal
 
@@ -17,13 +17,13 @@ pub returns-clause-reads : goal.returns-clause-reads
 unfolding end_of
 returns-clause-reads c =
     let r = rw c.chunks_for-times.ensures at c.in_ok-some.ensures.reads in
-    let P : ℕ → Type 0 = λ at. AreInOrder at c.in_ok-some.some.chunks.items in
+    let P : ℕ → Type 0 = λ at. AreConsecutive at c.in_ok-some.some.chunks.items in
     record {
       given = sym c.was_given.ensures ∙ c.if-not-was_given.false;
       chunks = c.in_ok-some.some.chunks.items;
       transmit = c.in_ok-some.some.transmit.0;
       reads = r;
-      in_order = subst P (sym (rw c.deref-2.ensures.value at c.first_offset-offset.ensures)) (given-order r.reads.opened r.reads.read c.args.id _ c.in_ok-some.some.chunks.items r.reads.gives);
+      in_order = subst P (sym (rw c.deref-2.ensures.value at c.offset_of_first-offset.ensures)) (given-order r.reads.opened r.reads.read c.args.id _ c.in_ok-some.some.chunks.items r.reads.gives);
       count = c.put_chunks-count.ensures.count ∙ ap bytes_in c.deref.ensures.value;
       copied = c.put_chunks-count.ensures.copied ∙ ap (λ l. chunk_bytes l ++ drop c.put_chunks-count.result c.args.out.now) c.deref.ensures.value;
       from = rw c.chunks_for-times.ensures at c.in_ok-some.ensures.from;
