@@ -47,7 +47,7 @@ use Rattle.quic_pair.specs.From.{PairFrom}
 use Rattle.quic_pair.specs.Due.{IsFull}
 use Rattle.quic_pair.specs.Tale.{Part, Carried, GivenUp, Tales}
 use Rattle.quic_pair.specs.Runs.{TakesSteps, more, sendings_of}
-use Rattle.quic_pair.specs.Settling.{step_at, going_of, going_sending, phase_after, after_accepting, after_streams, after_reading, after_polling, after_emits, after_frame, AreSettledIn, IsAllReported, IsIdle, AreIdle, LeavesNoRest, IsSoughtFor, IsSettledAt, TakesOne, TakesOneOrNone, Follows, more as follows_more}
+use Rattle.quic_pair.specs.Settling.{step_at, going_of, going_sending, phase_after, after_accepting, after_streams, after_reading, after_polling, after_emits, after_frame, AreSettledIn, IsAllReported, IsIdle, AreIdle, LeavesNoRest, IsSoughtFor, IsSettledAt, TakesPhase, TakesPhaseOrNone, FollowsPhases, more as follows_more}
 use Rattle.quic_pair.proofs.Lists.{slice_get-push, slice_get-slice_set, slice_get-within, slice_get-there}
 use Rattle.quic_pair.proofs.Left.{IsLeft}
 use Rattle.quic_pair.proofs.Grown.{grown-from}
@@ -359,12 +359,12 @@ ready-sought (phase.Deliver payload frame after) next v r s = ready_same (phase.
 
 -- ---- one step after the other
 
-went_on : (old : PairState) (before : History) (at next : Phase) (new : PairState) (behind : History) → TakesOneOrNone old before at (Ok next) new behind → TakesOne old before at (Ok next) new behind
+went_on : (old : PairState) (before : History) (at next : Phase) (new : PairState) (behind : History) → TakesPhaseOrNone old before at (Ok next) new behind → TakesPhase old before at (Ok next) new behind
 went_on old before at next new behind (inl t) = t
 went_on old before at next new behind (inr none) = let e = none.0 in cc
 
 -- the steps so far go on by this one, if it was taken
-pub steps-on : (first old : PairState) (before : History) (at : Phase) (answer : Result Phase OutOfMemory) (new : PairState) (behind : History) → TakesSteps first before old → TakesOneOrNone old before at answer new behind → TakesSteps first behind new
+pub steps-on : (first old : PairState) (before : History) (at : Phase) (answer : Result Phase OutOfMemory) (new : PairState) (behind : History) → TakesSteps first before old → TakesPhaseOrNone old before at answer new behind → TakesSteps first behind new
 steps-on first old before at answer new behind run (inl t) =
     let P : History → Type 0 = λ l. TakesSteps first l new in
     subst P (sym t.noted) (more (step_at at) t.reply run t.next tt)
@@ -374,7 +374,7 @@ steps-on first old before at answer new behind run (inr none) =
     subst P (sym none.2) (subst Q (sym none.1) run)
 
 -- and what is next may be begun
-pub ready-on : (a b : Config) (h : History) (first old : PairState) (before : History) (at next : Phase) (new : PairState) (behind : History) → PairFrom a b h first → TakesSteps first before old → IsReadyFor at old → TakesOneOrNone old before at (Ok next) new behind → IsReadyFor next new
+pub ready-on : (a b : Config) (h : History) (first old : PairState) (before : History) (at next : Phase) (new : PairState) (behind : History) → PairFrom a b h first → TakesSteps first before old → IsReadyFor at old → TakesPhaseOrNone old before at (Ok next) new behind → IsReadyFor next new
 ready-on a b h first old before at next new behind f run r one =
     let t = went_on old before at next new behind one in
     let on = t.goes next refl in
@@ -382,12 +382,12 @@ ready-on a b h first old before at next new behind f run r one =
     subst P (sym on.2) (ready-next a b (h ++ before) old new (from-steps f run) at r t.reply t.next on.0 on.1)
 
 -- and so far the steps follow the phases
-pub follows-on : (first old : PairState) (before : History) (at here next : Phase) (new : PairState) (behind : History) → Follows first (phase.Report 0) before old at → IsSoughtFor old.sent at here → TakesOneOrNone old before here (Ok next) new behind → Follows first (phase.Report 0) behind new next
+pub follows-on : (first old : PairState) (before : History) (at here next : Phase) (new : PairState) (behind : History) → FollowsPhases first (phase.Report 0) before old at → IsSoughtFor old.sent at here → TakesPhaseOrNone old before here (Ok next) new behind → FollowsPhases first (phase.Report 0) behind new next
 follows-on first old before at here next new behind run sought one =
     let t = went_on old before here next new behind one in
     let on = t.goes next refl in
-    let P : History → Type 0 = λ l. Follows first (phase.Report 0) l new next in
-    let Q : Phase → Type 0 = λ x. Follows first (phase.Report 0) (before ++ (step_at here, t.reply) ∷ []) new x in
+    let P : History → Type 0 = λ l. FollowsPhases first (phase.Report 0) l new next in
+    let Q : Phase → Type 0 = λ x. FollowsPhases first (phase.Report 0) (before ++ (step_at here, t.reply) ∷ []) new x in
     subst P (sym t.noted) (subst Q (sym on.2) (follows_more here t.reply on.0 run sought t.next on.1))
 
 -- what follows from what holds where an answer is Ok

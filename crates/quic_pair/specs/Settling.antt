@@ -68,16 +68,16 @@ going_of (Ok Nothing) = Some Over
 going_of (Ok (Payload number bytes)) = Some (going_sending bytes.items)
 going_of (Ok _) = Some On
 
-abbrev pub is_over : Going → Bool
-is_over Over = true
-is_over _ = false
+abbrev pub is_nothing_more : Going → Bool
+is_nothing_more Over = true
+is_nothing_more _ = false
 
 -- ---- their order
 
 -- behind an acknowledgement; where it was refused the payload is reported lost
-abbrev pub after_report : ℕ → Going → Phase
-after_report payload On = phase.Report payload
-after_report payload _ = phase.ReportLost payload
+abbrev pub phase_after_report : ℕ → Going → Phase
+phase_after_report payload On = phase.Report payload
+phase_after_report payload _ = phase.ReportLost payload
 
 -- behind the last stream of a direction to accept
 abbrev pub after_accepting : End → Dir → Phase
@@ -127,12 +127,12 @@ after_frame payload frame next going = phase.Deliver payload (min (frame + 1) (2
 
 -- what is next behind a step before which so many payloads were sent
 abbrev pub phase_after : Phase → Going → ℕ → Phase
-phase_after (phase.Report payload) going sent = after_report payload going
+phase_after (phase.Report payload) going sent = phase_after_report payload going
 phase_after (phase.ReportLost payload) going sent = phase.Report payload
 phase_after (phase.Accept who dir) going sent = after_accept who dir going
 phase_after (phase.Read who id ordered) going sent = after_reading who id ordered going
 phase_after (phase.Poll who) going sent = after_polling who going
-phase_after phase.EmitOfA going sent = phase.EmitOfB sent (is_over going)
+phase_after phase.EmitOfA going sent = phase.EmitOfB sent (is_nothing_more going)
 phase_after (phase.EmitOfB first empty) going sent = after_emits first empty going sent
 phase_after (phase.Deliver payload frame next) going sent = after_frame payload frame next going
 phase_after (phase.Drop payload) going sent = phase.Drop payload
@@ -166,14 +166,14 @@ LeavesNoRest a b led = (t : Tales) → Told a b led t → (who : End) (id : ℕ)
 
 -- the step of a phase was taken and noted with its reply, and what is next is known unless memory was wanting; or there was
 -- no room to note it, and none was taken
-pub record TakesOne (old : PairState) (before : History) (at : Phase) (answer : Result Phase OutOfMemory) (new : PairState) (behind : History) : Type 0 where
+pub record TakesPhase (old : PairState) (before : History) (at : Phase) (answer : Result Phase OutOfMemory) (new : PairState) (behind : History) : Type 0 where
   pub reply : Answer
   pub next : Next old (step_at at) reply new
   pub noted : behind ≡ before ++ (step_at at, reply) ∷ []
   pub goes : (next_one : Phase) → answer ≡ Ok next_one → (going : Going) × (going_of reply ≡ Some going) × (next_one ≡ phase_after at going (length old.sent))
 
-abbrev pub TakesOneOrNone : PairState → History → Phase → Result Phase OutOfMemory → PairState → History → Type 0
-TakesOneOrNone old before at answer new behind = TakesOne old before at answer new behind ⊎ ((is_ok answer ≡ false) × (new ≡ old) × (behind ≡ before))
+abbrev pub TakesPhaseOrNone : PairState → History → Phase → Result Phase OutOfMemory → PairState → History → Type 0
+TakesPhaseOrNone old before at answer new behind = TakesPhase old before at answer new behind ⊎ ((is_ok answer ≡ false) × (new ≡ old) × (behind ≡ before))
 
 -- a payload from a number on, before which all from there on are settled
 pub record IsNextFrom (sent : List Sent) (from number : ℕ) : Type 0 where
@@ -188,10 +188,10 @@ IsSoughtFor sent (phase.Drop first) next = ((number : ℕ) × IsNextFrom sent fi
 IsSoughtFor sent at next = next ≡ at
 
 -- steps were taken one after the other, from a phase on, each of the phase that was sought; and what is next is as its reply says
-pub data Follows (old : PairState) (first : Phase) : History → PairState → Phase → Type 0 where
-  none : Follows old first [] old first
-  more : {taken : History} {between new : PairState} {at : Phase} (here : Phase) (reply : Answer) (going : Going) → Follows old first taken between at → IsSoughtFor between.sent at here
-      → Next between (step_at here) reply new → going_of reply ≡ Some going → Follows old first (taken ++ (step_at here, reply) ∷ []) new (phase_after here going (length between.sent))
+pub data FollowsPhases (old : PairState) (first : Phase) : History → PairState → Phase → Type 0 where
+  none : FollowsPhases old first [] old first
+  more : {taken : History} {between new : PairState} {at : Phase} (here : Phase) (reply : Answer) (going : Going) → FollowsPhases old first taken between at → IsSoughtFor between.sent at here
+      → Next between (step_at here) reply new → going_of reply ≡ Some going → FollowsPhases old first (taken ++ (step_at here, reply) ∷ []) new (phase_after here going (length between.sent))
 
 -- there is none where both ends had nothing to send, and every payload is settled
 pub record IsSettledAt (at : Phase) (sent : List Sent) : Type 0 where
@@ -202,5 +202,5 @@ pub record IsSettledAt (at : Phase) (sent : List Sent) : Type 0 where
 -- the steps are those of a settling, from its first phase to its end
 pub record IsSettling (old : PairState) (taken : History) (new : PairState) : Type 0 where
   pub at : Phase
-  pub follows : Follows old (phase.Report 0) taken new at
+  pub follows : FollowsPhases old (phase.Report 0) taken new at
   pub ended : IsSettledAt at new.sent

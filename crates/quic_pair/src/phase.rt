@@ -2,7 +2,7 @@
 
 ghost use Rattle.std.specs.Prelude.{◌≡◌, ◌-◌, ◌^◌, true};
 ghost use Rattle.quic_values.specs.Ids.{stream_id};
-ghost use Rattle.quic_pair.specs.Settling.{step_at, going_of, going_reading, going_sending, phase_after, is_over, after_report, after_accept, after_accepting, after_streams, after_stream, after_reading, after_polling, after_emits, after_frame};
+ghost use Rattle.quic_pair.specs.Settling.{step_at, going_of, going_reading, going_sending, phase_after, is_nothing_more, phase_after_report, after_accept, after_accepting, after_streams, after_stream, after_reading, after_polling, after_emits, after_frame};
 
 use quic_steps::{End, Last, PairError, Reply, Step};
 use quic_values::{Dir, MAX_STREAM_COUNT, Side, StreamId};
@@ -81,14 +81,14 @@ fn going_sending(bytes: &[u8]) -> Going
 
 impl Going {
     fn is_over(self) -> bool
-        ensures { result ≡ is_over self }
+        ensures { result ≡ is_nothing_more self }
     {
         matches!(self, Going::Over)
     }
 }
 
 fn after_report(payload: usize, going: Going) -> Phase
-    ensures { result ≡ after_report payload going }
+    ensures { result ≡ phase_after_report payload going }
 {
     match going {
         Going::On => Phase::Report(payload),

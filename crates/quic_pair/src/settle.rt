@@ -12,7 +12,7 @@ ghost use Rattle.quic_pair.specs.Refused.{IsRefusedSo};
 ghost use Rattle.quic_pair.specs.Unrefused.{RefusesNoFrame};
 ghost use Rattle.quic_pair.specs.Readable.{WithholdsNothing};
 ghost use Rattle.quic_pair.specs.Law.{Drains};
-ghost use Rattle.quic_pair.specs.Settling.{AreSettledIn, IsSoughtFor, IsSettledAt, IsSettling, TakesOneOrNone, IsAllReported, AreIdle, LeavesNoRest};
+ghost use Rattle.quic_pair.specs.Settling.{AreSettledIn, IsSoughtFor, IsSettledAt, IsSettling, TakesPhaseOrNone, IsAllReported, AreIdle, LeavesNoRest};
 
 use crate::pair::Pair;
 use crate::phase::{Phase, going_of};
@@ -67,7 +67,7 @@ impl Pair {
 
     // Takes the step of a phase, and notes it with its reply. Answers what is next.
     fn take(&mut self, phase: Phase, taken: &mut Vec<StepTaken>) -> Result<Phase, OutOfMemory>
-        ensures { TakesOneOrNone (pair_view self.old) taken.old.items phase result (pair_view self.new) taken.new.items }
+        ensures { TakesPhaseOrNone (pair_view self.old) taken.old.items phase result (pair_view self.new) taken.new.items }
     {
         taken.reserve(1)?;
         let sent = self.sent.len();

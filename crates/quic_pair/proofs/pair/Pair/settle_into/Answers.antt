@@ -3,7 +3,7 @@ use Rattle.quic_pair.specs.declared.phase.Phase.TheVariants as phase
 use Rattle.quic_pair.specs.State.{pair_view}
 use Rattle.quic_pair.specs.History.{History}
 use Rattle.quic_pair.specs.Runs.{TakesSteps, none}
-use Rattle.quic_pair.specs.Settling.{Follows, none as follows_none}
+use Rattle.quic_pair.specs.Settling.{FollowsPhases, none as follows_none}
 use Rattle.quic_pair.proofs.Settling.{steps-on, follows-on, ready-on, ready-sought, idle-at}
 use Rattle.quic_pair.proofs.pair.Pair.settle_into.Goals as goal
 
@@ -11,7 +11,7 @@ pub loop-next-init : goal.loop-next-init
 loop-next-init c =
     let v = pair_view c.args.self.now in
     let P : History → Type 0 = λ l. TakesSteps v l v in
-    let Q : History → Type 0 = λ l. Follows v (phase.Report 0) l v (phase.Report 0) in
+    let Q : History → Type 0 = λ l. FollowsPhases v (phase.Report 0) l v (phase.Report 0) in
     record { taken = subst P (sym c.requires) none; order = subst Q (sym c.requires) follows_none; ready = λ a b h f. tt }
 
 pub returns-in_err-phase-clause-next : goal.returns-in_err-phase-clause-next
