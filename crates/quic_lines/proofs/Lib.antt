@@ -1,4 +1,5 @@
 pub mod Fields
 pub mod Numerals
+pub mod Spelled
 pub mod Texts
 pub mod Verbs

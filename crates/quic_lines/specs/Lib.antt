@@ -2,3 +2,4 @@ pub mod Arguments
 pub mod Field
 pub mod Grammar
 pub mod Line
+pub mod Spelling
