@@ -59,16 +59,16 @@ settled_line true = codes "settled\n"
 settled_line false = codes "refused 5 OutOfMemory\n"
 
 -- the pair took these steps one after the other, and this text is their lines and those of their replies
-pub record IsSettling (old : PairState) (text : List ℕ) (new : PairState) : Type 0 where
+pub record IsSettleLine (old : PairState) (text : List ℕ) (new : PairState) : Type 0 where
   pub taken : History
   pub takes : TakesSteps old taken new
   pub whole : Bool
   pub text_is : text ≡ flat_map step_lines taken ++ settled_line whole
 
 -- a line asks for that
-pub record Settles (line : List ℕ) (old : PairState) (text : List ℕ) (new : PairState) : Type 0 where
+pub record PrintsSettling (line : List ℕ) (old : PairState) (text : List ℕ) (new : PairState) : Type 0 where
   pub is : line ≡ codes "settle"
-  pub settling : IsSettling old text new
+  pub settling : IsSettleLine old text new
 
 -- the pair is made of both configs
 pub record IsReady (a : Config) (line text : List ℕ) (pair : PairState) : Type 0 where
@@ -81,7 +81,7 @@ pub record IsReady (a : Config) (line text : List ℕ) (pair : PairState) : Type
 abbrev pub Answers : Session → List ℕ → List ℕ → Session → Type 0
 Answers Start line text (Configured config) = MeansConfig line A config × (text ≡ ok_line)
 Answers (Configured config) line text (Running pair) = IsReady config line text (pair_view pair)
-Answers (Running old) line text (Running new) = TakesStep line (pair_view old) text (pair_view new) ⊎ Settles line (pair_view old) text (pair_view new)
+Answers (Running old) line text (Running new) = TakesStep line (pair_view old) text (pair_view new) ⊎ PrintsSettling line (pair_view old) text (pair_view new)
 Answers _ line text _ = ⊥
 
 -- a session took a line, and its answer was written

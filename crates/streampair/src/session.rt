@@ -2,7 +2,7 @@ ghost use Rattle.std.specs.Prelude.{◌≡◌, ◌≤◌, ◌++◌, IfOk, IfErr,
 ghost use Rattle.std.specs.List.{flat_map};
 ghost use Rattle.std.specs.Io.BufRead.{strip_last};
 ghost use Rattle.quic_pair.specs.State.{pair_view};
-ghost use Rattle.streampair.specs.Session.{answer_line, AnswersLine, IsStep, IsSettling, settled_line, step_lines, IsServed, IsMalformed, StopsAt, StopsWith, stop_of};
+ghost use Rattle.streampair.specs.Session.{answer_line, AnswersLine, IsStep, IsSettleLine, settled_line, step_lines, IsServed, IsMalformed, StopsAt, StopsWith, stop_of};
 
 use quic_lines::{LineError, parse_config, parse_step, refusal_line, reply_line, step_line};
 use quic_pair::{Pair, StepTaken};
@@ -100,7 +100,7 @@ fn with_line_feed(line: String) -> Result<String, OutOfMemory>
 // Settles the pair. Answers two lines for each step that was taken, that of the step and that of its reply, and then a line
 // that says whether memory sufficed.
 fn answer_settling(alloc: Global, pair: &mut Pair) -> Result<String, OutOfMemory>
-    ensures { IfOk result (λ text. IsSettling (pair_view pair.old) (string_bytes text) (pair_view pair.new)) }
+    ensures { IfOk result (λ text. IsSettleLine (pair_view pair.old) (string_bytes text) (pair_view pair.new)) }
 {
     let (taken, answer) = pair.settle();
     let mut text = steps_text(alloc, taken.as_slice())?;
