@@ -123,12 +123,25 @@ fn steps_text(alloc: Global, taken: &[StepTaken]) -> Result<String, OutOfMemory>
     ensures { IfOk result (λ text. string_bytes text ≡ flat_map step_lines taken.now) }
 {
     let mut text = String::new(alloc);
-    for (step, reply) in taken {
-        text.push_str(step_line(alloc, step)?.as_str())?;
-        text.push_str("\n")?;
-        text.push_str(answer_line(alloc, reply)?.as_str())?;
+    for entry in taken {
+        let lines = lines_of(alloc, &entry.0, &entry.1)?;
+        text.push_str(lines.as_str())?;
     }
     Ok(text)
+}
+
+// The lines of a step and of its reply.
+fn lines_of(
+    alloc: Global,
+    step: &Step,
+    reply: &Result<Reply, PairError>,
+) -> Result<String, OutOfMemory>
+    ensures { IfOk result (λ text. string_bytes text ≡ step_lines (step.now, reply.now)) }
+{
+    let mut lines = with_line_feed(step_line(alloc, step)?)?;
+    let answer = answer_line(alloc, reply)?;
+    lines.push_str(answer.as_str())?;
+    Ok(lines)
 }
 
 // The line that has the pair settled.
