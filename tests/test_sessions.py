@@ -227,12 +227,9 @@ class Program:
     def reply_to(self, line):
         self.ran.stdin.write(f"{line}\n".encode())
         self.ran.stdin.flush()
-        return self.next_line()
-
-    def next_line(self):
-        line = self.ran.stdout.readline().decode()
-        check(line.endswith("\n"), "there is no reply")
-        return line[:-1]
+        reply = self.ran.stdout.readline().decode()
+        check(reply.endswith("\n"), "there is no reply")
+        return reply[:-1]
 
 
 def run_session(seed, tally):

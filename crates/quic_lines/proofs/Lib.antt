@@ -1,5 +1,4 @@
 pub mod Fields
 pub mod Numerals
-pub mod Spelled
 pub mod Texts
 pub mod Verbs

@@ -2,4 +2,3 @@ pub mod Arguments
 pub mod Field
 pub mod Grammar
 pub mod Line
-pub mod Spelling

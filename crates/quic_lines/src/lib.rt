@@ -4,11 +4,9 @@
 mod hexadecimal;
 mod lines;
 mod replies;
-mod spelling;
 mod steps;
 
 pub use hexadecimal::{hex_bytes, hex_field};
 pub use lines::{LineError, parse_config};
 pub use replies::{refusal_line, reply_line};
-pub use spelling::step_line;
 pub use steps::parse_step;

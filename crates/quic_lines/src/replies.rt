@@ -7,7 +7,7 @@ use quic_steps::{Last, PairError, Reply};
 use quic_wire::{Dir, OutOfMemory, ReceiveError, StreamEvent, StreamId, TransportError, VarInt};
 use std::alloc::Global;
 
-pub(crate) fn direction_name(dir: Dir) -> &'static str
+fn direction_name(dir: Dir) -> &'static str
     ensures { result.now ≡ direction_text dir }
 {
     match dir {
@@ -56,7 +56,7 @@ fn refusal_name(error: PairError) -> &'static str
 }
 
 // The number of a stream.
-pub(crate) fn id_number(id: StreamId) -> u64
+fn id_number(id: StreamId) -> u64
     ensures { result ≡ id }
 {
     VarInt::from(id).into_inner()

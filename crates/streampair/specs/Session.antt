@@ -1,9 +1,8 @@
 -- What a session answers to its lines, one line for each.
-use Rattle.std.specs.Prelude.{◌≡◌, ◌⊎◌, Bool, true, false, ◌+◌, ◌<◌, ℕ, List, [], ◌++◌, length, Option, Ok, Err, codes}
+use Rattle.std.specs.Prelude.{◌≡◌, ◌+◌, ◌<◌, ℕ, List, [], ◌++◌, length, Option, Ok, Err, codes}
 use Rattle.std.specs.Fmt.{decimal}
 use Rattle.std.specs.Str.{IsAscii}
 use Rattle.std.specs.Io.BufRead.{first_piece, drop_through}
-use Rattle.std.specs.List.{flat_map}
 use Rattle.std.specs.Io.KnownBytes.{Appends}
 use Rattle.quic_steps.specs.declared.steps.Config.{Config}
 use Rattle.quic_steps.specs.declared.steps.Step.{Step}
@@ -11,8 +10,6 @@ use Rattle.quic_pair.specs.Replies.{Answer}
 use Rattle.quic_pair.specs.State.{PairState, pair_view}
 use Rattle.quic_pair.specs.Steps.{Next}
 use Rattle.quic_pair.specs.From.{PairFrom}
-use Rattle.quic_pair.specs.History.{History}
-use Rattle.quic_pair.specs.Runs.{TakesSteps}
 use Rattle.streampair.specs.declared.session.Session.{Session}
 use Rattle.streampair.specs.declared.session.Session.TheVariants.{Start, Configured, Running}
 use Rattle.streampair.specs.declared.session.Stop.{Stop}
@@ -21,7 +18,6 @@ use Rattle.quic_lines.specs.declared.lines.LineError.{LineError}
 use Rattle.quic_lines.specs.declared.lines.LineError.TheVariants as lines
 use Rattle.quic_steps.specs.declared.steps.End.TheVariants.{A, B}
 use Rattle.quic_lines.specs.Grammar.{MeansStep, MeansConfig, MeansNoStep, MeansNoConfig}
-use Rattle.quic_lines.specs.Spelling.{step_text}
 use Rattle.quic_lines.specs.Line.{reply_text, refusal_text}
 
 abbrev pub ok_line : List ℕ
@@ -49,27 +45,6 @@ pub record TakesStep (line : List ℕ) (old : PairState) (text : List ℕ) (new 
   pub means : MeansStep line step
   pub taken : IsStep old step text new
 
--- the lines of a step and of its reply
-abbrev pub step_lines : Step × Answer → List ℕ
-step_lines taken = step_text taken.0 ++ codes "\n" ++ answer_line taken.1
-
--- whether memory sufficed for all steps
-abbrev pub settled_line : Bool → List ℕ
-settled_line true = codes "settled\n"
-settled_line false = codes "refused 5 OutOfMemory\n"
-
--- the pair took these steps one after the other, and this text is their lines and those of their replies
-pub record IsSettleLine (old : PairState) (text : List ℕ) (new : PairState) : Type 0 where
-  pub taken : History
-  pub takes : TakesSteps old taken new
-  pub whole : Bool
-  pub text_is : text ≡ flat_map step_lines taken ++ settled_line whole
-
--- a line asks for that
-pub record PrintsSettling (line : List ℕ) (old : PairState) (text : List ℕ) (new : PairState) : Type 0 where
-  pub is : line ≡ codes "settle"
-  pub settling : IsSettleLine old text new
-
 -- the pair is made of both configs
 pub record IsReady (a : Config) (line text : List ℕ) (pair : PairState) : Type 0 where
   pub b : Config
@@ -81,7 +56,7 @@ pub record IsReady (a : Config) (line text : List ℕ) (pair : PairState) : Type
 abbrev pub Answers : Session → List ℕ → List ℕ → Session → Type 0
 Answers Start line text (Configured config) = MeansConfig line A config × (text ≡ ok_line)
 Answers (Configured config) line text (Running pair) = IsReady config line text (pair_view pair)
-Answers (Running old) line text (Running new) = TakesStep line (pair_view old) text (pair_view new) ⊎ PrintsSettling line (pair_view old) text (pair_view new)
+Answers (Running old) line text (Running new) = TakesStep line (pair_view old) text (pair_view new)
 Answers _ line text _ = ⊥
 
 -- a session took a line, and its answer was written
@@ -95,7 +70,7 @@ pub record AnswersLine (session : Session) (line : List ℕ) (old new : Option (
 abbrev pub MeansNothing : Session → List ℕ → Type 0
 MeansNothing Start line = MeansNoConfig line A
 MeansNothing (Configured config) line = MeansNoConfig line B
-MeansNothing (Running pair) line = MeansNoStep line × (line ≡ codes "settle" → ⊥)
+MeansNothing (Running pair) line = MeansNoStep line
 
 -- a line was not answered: where it is malformed, this is its number, it spells nothing, and nothing was written
 abbrev pub StopsWith : ℕ → Session → List ℕ → Option (List ℕ) → Option (List ℕ) → Stop → Type 0

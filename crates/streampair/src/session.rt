@@ -1,11 +1,10 @@
 ghost use Rattle.std.specs.Prelude.{◌≡◌, ◌≤◌, ◌++◌, IfOk, IfErr, IfSome, OnOk, None, string_bytes, codes};
-ghost use Rattle.std.specs.List.{flat_map};
 ghost use Rattle.std.specs.Io.BufRead.{strip_last};
 ghost use Rattle.quic_pair.specs.State.{pair_view};
-ghost use Rattle.streampair.specs.Session.{answer_line, AnswersLine, IsStep, IsSettleLine, settled_line, step_lines, IsServed, IsMalformed, StopsAt, StopsWith, stop_of};
+ghost use Rattle.streampair.specs.Session.{answer_line, AnswersLine, IsStep, IsServed, IsMalformed, StopsAt, StopsWith, stop_of};
 
-use quic_lines::{LineError, parse_config, parse_step, refusal_line, reply_line, step_line};
-use quic_pair::{Pair, StepTaken};
+use quic_lines::{LineError, parse_config, parse_step, refusal_line, reply_line};
+use quic_pair::Pair;
 use quic_steps::{Config, End, PairError, Reply, Step};
 use quic_wire::OutOfMemory;
 use std::alloc::Global;
@@ -97,56 +96,6 @@ fn with_line_feed(line: String) -> Result<String, OutOfMemory>
     Ok(line)
 }
 
-// Settles the pair. Answers two lines for each step that was taken, that of the step and that of its reply, and then a line
-// that says whether memory sufficed.
-fn answer_settling(alloc: Global, pair: &mut Pair) -> Result<String, OutOfMemory>
-    ensures { IfOk result (λ text. IsSettleLine (pair_view pair.old) (string_bytes text) (pair_view pair.new)) }
-{
-    let (taken, answer) = pair.settle();
-    let mut text = steps_text(alloc, taken.as_slice())?;
-    text.push_str(settled_line(answer.is_ok()))?;
-    Ok(text)
-}
-
-fn settled_line(whole: bool) -> &'static str
-    ensures { result.now ≡ settled_line whole }
-{
-    if whole {
-        "settled\n"
-    } else {
-        "refused 5 OutOfMemory\n"
-    }
-}
-
-// The lines of steps and of their replies.
-fn steps_text(alloc: Global, taken: &[StepTaken]) -> Result<String, OutOfMemory>
-    ensures { IfOk result (λ text. string_bytes text ≡ flat_map step_lines taken.now) }
-{
-    let mut text = String::new(alloc);
-    for entry in taken {
-        let lines = lines_of(alloc, &entry.0, &entry.1)?;
-        text.push_str(lines.as_str())?;
-    }
-    Ok(text)
-}
-
-// The lines of a step and of its reply.
-fn lines_of(
-    alloc: Global,
-    step: &Step,
-    reply: &Result<Reply, PairError>,
-) -> Result<String, OutOfMemory>
-    ensures { IfOk result (λ text. string_bytes text ≡ step_lines (step.now, reply.now)) }
-{
-    let mut lines = with_line_feed(step_line(alloc, step)?)?;
-    let answer = answer_line(alloc, reply)?;
-    lines.push_str(answer.as_str())?;
-    Ok(lines)
-}
-
-// The line that has the pair settled.
-const SETTLE: &[u8] = b"settle";
-
 impl Session {
     // Answers the line of this number.
     fn answer<W: Write>(
@@ -177,11 +126,6 @@ impl Session {
                     return Err(Stop::NoPair);
                 };
                 output.write_all(b"ok\n")?;
-                Ok(Session::Running(pair))
-            }
-            Session::Running(mut pair) if line == SETTLE => {
-                let text = answer_settling(alloc, &mut pair)?;
-                output.write_all(text.as_str().as_bytes())?;
                 Ok(Session::Running(pair))
             }
             Session::Running(mut pair) => {
