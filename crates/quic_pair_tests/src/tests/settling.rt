@@ -100,7 +100,7 @@ fn a_full_window_is_opened_again(rt: HostRuntime) -> Result<(), Fail> {
     let (who, id, dir) = (End::A, stream(), Dir::Uni);
     let mut pair = new_pair(alloc, 4)?;
     is_true(&rt, pair.step(Step::Open { who, dir }) == Ok(Reply::Id(id)));
-    for _ in 0..1u32 {
+    for _ in 0..3u32 {
         let bytes = bytes(alloc, b"abcde")?;
         is_true(
             &rt,
