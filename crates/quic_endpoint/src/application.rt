@@ -1,6 +1,8 @@
 //! The calls of the application of an end.
 
-ghost use Rattle.std.specs.Prelude.{ℕ, List, ◌∷◌, ◌≡◌, false, Ok, Err, IfOk, IfErr, OnErr};
+ghost use Rattle.std.specs.Prelude.{ℕ, List, ◌∷◌, ◌≡◌, true, false, is_some, None, Ok, Err, IfOk, IfErr, OnErr};
+ghost use Rattle.quic_outgoing.specs.Calls.{end_refusal, is_reset_or_gone};
+ghost use Rattle.quic_outgoing.specs.Writing.{refusal_to_stay};
 ghost use Rattle.quic_history.specs.World.{Made};
 ghost use Rattle.quic_history.specs.History.{Event, Sending, Accepted, Stopped, ToldReset, Began, From, with_reads};
 ghost use Rattle.quic_history.specs.SendEvents.{OpenedOwn, WroteOwn, FinishedOwn, ResetOwn, SetOwnPriority};
@@ -42,6 +44,7 @@ impl Endpoint {
     /// Writes the first of `bytes`, as [`SendStream::write`].
     pub fn write(&mut self, id: StreamId, bytes: &[u8]) -> Result<usize, WriteError>
         ensures writes { IsWrittenAs result (λ written. WritesAt (endpoint_view self.old) id (slice_lists bytes.now) written (endpoint_view self.new)) }
+        ensures memory { result ≡ Err WriteError.OutOfMemory → refusal_to_stay (endpoint_view self.old).streams.out ((endpoint_view self.old).streams.out.halves id) ≡ None }
         ensures from { IsWrittenAs result (λ written. (m : Made) (h : List Event) → From m h (endpoint_view self.old).streams
             → From m (Sending (WroteOwn id (slice_lists bytes.now) false written) ∷ h) (endpoint_view self.new).streams) }
     {
@@ -56,6 +59,7 @@ impl Endpoint {
         chunks: &mut [Bytes],
     ) -> Result<Written, WriteError>
         ensures writes { WritesAt (endpoint_view self.old) id chunks.old result (endpoint_view self.new) }
+        ensures memory { result ≡ Err WriteError.OutOfMemory → refusal_to_stay (endpoint_view self.old).streams.out ((endpoint_view self.old).streams.out.halves id) ≡ None }
         ensures from { (m : Made) (h : List Event) → From m h (endpoint_view self.old).streams → From m (Sending (WroteOwn id chunks.old false result) ∷ h) (endpoint_view self.new).streams }
         ensures left { IfOk result (λ written. chunks.new ≡ without_first written.bytes chunks.old) }
         ensures kept { OnErr result (chunks.new ≡ chunks.old) }
@@ -67,6 +71,7 @@ impl Endpoint {
     /// Ends a stream, as [`SendStream::finish`].
     pub fn finish(&mut self, id: StreamId) -> Result<(), FinishError>
         ensures finishes { FinishesAt (endpoint_view self.old) id result (endpoint_view self.new) }
+        ensures memory { result ≡ Err FinishError.OutOfMemory → end_refusal ((endpoint_view self.old).streams.out.halves id) ≡ None }
         ensures from { (m : Made) (h : List Event) → From m h (endpoint_view self.old).streams → From m (Sending (FinishedOwn id result) ∷ h) (endpoint_view self.new).streams }
     {
         let (streams, pending) = (&mut self.streams, &mut self.pending);
@@ -76,6 +81,7 @@ impl Endpoint {
     /// Gives a stream up, as [`SendStream::reset`].
     pub fn reset(&mut self, id: StreamId, error_code: VarInt) -> Result<(), HandleError>
         ensures resets { ResetsAt (endpoint_view self.old) id error_code result (endpoint_view self.new) }
+        ensures memory { result ≡ Err HandleError.OutOfMemory → is_reset_or_gone ((endpoint_view self.old).streams.out.halves id) ≡ false }
         ensures from { (m : Made) (h : List Event) → From m h (endpoint_view self.old).streams → From m (Sending (ResetOwn id error_code result) ∷ h) (endpoint_view self.new).streams }
     {
         let (streams, pending) = (&mut self.streams, &mut self.pending);
@@ -85,6 +91,7 @@ impl Endpoint {
     /// Sets the priority of a stream, as [`SendStream::set_priority`].
     pub fn set_priority(&mut self, id: StreamId, priority: i32) -> Result<(), HandleError>
         ensures sets { SetsPriorityAt (endpoint_view self.old) id priority result (endpoint_view self.new) }
+        ensures memory { result ≡ Err HandleError.OutOfMemory → is_some ((endpoint_view self.old).streams.out.halves id) ≡ true }
         ensures from { (m : Made) (h : List Event) → From m h (endpoint_view self.old).streams → From m (Sending (SetOwnPriority id priority result) ∷ h) (endpoint_view self.new).streams }
     {
         let (streams, pending) = (&mut self.streams, &mut self.pending);

@@ -1,11 +1,11 @@
 -- Writes on a stream.
-use Rattle.std.specs.Prelude.{◌≡◌, ◌⊎◌, ℕ, Bool, ◌||◌, not, min, List, length, ◌+◌, Option, Some, None, Result, Ok, Err, if◌then◌else◌}
+use Rattle.std.specs.Prelude.{◌≡◌, ◌⊎◌, ℕ, Bool, ◌||◌, not, min, List, length, ◌+◌, Option, Some, None, option_map, Result, Ok, Err, if◌then◌else◌}
 use Rattle.quic_limits.specs.SendingCredit.{writable, with_written, with_blocked, is_blocked_due, is_limit}
 use Rattle.quic_sending.specs.declared.send.Send.{Send}
 use Rattle.quic_sending.specs.declared.send.WriteError.{WriteError}
 use Rattle.quic_sending.specs.declared.send.WriteError.TheVariants as write_error
 use Rattle.quic_sending.specs.Buffer.{total_length}
-use Rattle.quic_sending.specs.Sending.{write_refusal, permitted}
+use Rattle.quic_sending.specs.Sending.{write_refusal, permitted, is_ready}
 use Rattle.quic_sending.specs.Source.{Appends, rest_of}
 use Rattle.quic_retransmits.specs.Pending.{Pending}
 use Rattle.quic_retransmits.specs.Queueing.{with_id}
@@ -63,6 +63,16 @@ pub record TakesBytesIn (most : ℕ) (f : SendersById) (id : ℕ) (lists : List 
 abbrev pub IsRefusedBy : Option Send → WriteError → Type 0
 IsRefusedBy None e = e ≡ write_error.ClosedStream
 IsRefusedBy (Some s) e = (write_refusal s ≡ Some e) ⊎ (e ≡ write_error.OutOfMemory)
+
+-- a refusal that no later limit lifts: there is no such half, it is closed, or the peer stopped it
+abbrev pub lasting_refusal : Option Send → Option WriteError
+lasting_refusal None = Some write_error.ClosedStream
+lasting_refusal (Some s) = if is_ready s.state then option_map write_error.Stopped s.stop_reason else Some write_error.ClosedStream
+
+-- where nothing may be written on any stream, those that are held wait whatever else holds
+abbrev pub refusal_to_stay : Outgoing → Option Send → Option WriteError
+refusal_to_stay u None = Some write_error.ClosedStream
+refusal_to_stay u (Some s) = if is_stuck u then None else lasting_refusal (Some s)
 
 -- a write took the first bytes of these lists
 pub record TakesBytesOf (u : Outgoing) (id : ℕ) (lists : List (List ℕ)) (wrote : Wrote) (left : List (List ℕ)) (v : Outgoing) : Type 0 where

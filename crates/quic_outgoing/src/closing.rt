@@ -1,10 +1,11 @@
 //! The end of a stream, and its priority.
 
-ghost use Rattle.std.specs.Prelude.{◌≡◌, ◌≤◌, ◌<◌, Some, IfOk, IfErr, OnErr};
+ghost use Rattle.std.specs.Prelude.{◌≡◌, ◌≤◌, ◌<◌, Some, None, Err, is_some, true, false, IfOk, IfErr, OnErr};
+ghost use Rattle.quic_sending.specs.Sending.{finish_refusal};
 ghost use Rattle.quic_outgoing.specs.History.{Finished, Reset, SetPriority, Continues};
 ghost use Rattle.quic_retransmits.specs.Pending.{pending_view};
 ghost use Rattle.quic_outgoing.specs.Seen.{senders, sender_room, sender_in};
-ghost use Rattle.quic_outgoing.specs.Calls.{QueuesAt, QueuesStreamAt, EndsHalf, EndsHalfIn, IsEndRefused, FinishesStream, ResetsStream, SetsPriority, told_of_half};
+ghost use Rattle.quic_outgoing.specs.Calls.{QueuesAt, QueuesStreamAt, EndsHalf, EndsHalfIn, IsEndRefused, FinishesStream, ResetsStream, SetsPriority, told_of_half, end_refusal, is_reset_or_gone};
 ghost use Rattle.quic_outgoing.specs.Shown.{outgoing_view, permit_room};
 
 use crate::entries::SendEntries;
@@ -22,9 +23,18 @@ impl OutgoingStreams {
     /// queued, where nothing was to be sent on it before. If refused, all is as it was.
     pub fn finish(&mut self, id: StreamId) -> Result<Option<i32>, FinishError>
         ensures finishes { FinishesStream (outgoing_view self.old) id result (outgoing_view self.new) }
+        ensures memory { result ≡ Err FinishError.OutOfMemory → end_refusal ((outgoing_view self.old).halves id) ≡ None }
         ensures from { Continues (outgoing_view self.old) (Finished id result) (outgoing_view self.new) }
     {
         self.halves.finish(id)
+    }
+
+    /// Why a stream cannot be finished, if so.
+    #[inline]
+    pub fn finish_refusal(&self, id: StreamId) -> Option<FinishError>
+        ensures { result ≡ end_refusal ((outgoing_view self.now).halves id) }
+    {
+        self.halves.finish_refusal(id)
     }
 
     /// Gives a stream up: what is retained of it is let go, and RESET_STREAM is queued with this code (RFC 9000 section
@@ -36,6 +46,7 @@ impl OutgoingStreams {
         error_code: VarInt,
     ) -> Result<(), HandleError>
         ensures resets { ResetsStream (outgoing_view self.old) id error_code (pending_view pending.old) result (outgoing_view self.new) (pending_view pending.new) }
+        ensures memory { result ≡ Err HandleError.OutOfMemory → is_reset_or_gone ((outgoing_view self.old).halves id) ≡ false }
         ensures from { Continues (outgoing_view self.old) (Reset id error_code result) (outgoing_view self.new) }
     {
         self.give_up(pending, id, error_code)
@@ -48,11 +59,9 @@ impl OutgoingStreams {
         id: StreamId,
         error_code: VarInt,
     ) -> Result<(), HandleError>
-        ensures { ResetsStream (outgoing_view self.old) id error_code (pending_view pending.old) result (outgoing_view self.new) (pending_view pending.new) }
+        ensures resets { ResetsStream (outgoing_view self.old) id error_code (pending_view pending.old) result (outgoing_view self.new) (pending_view pending.new) }
+        ensures memory { result ≡ Err HandleError.OutOfMemory → is_reset_or_gone ((outgoing_view self.old).halves id) ≡ false }
     {
-        if pending.reserve_reset().is_err() {
-            return Err(HandleError::OutOfMemory);
-        }
         match self.halves.take(id) {
             Err(_) => Err(HandleError::OutOfMemory),
             Ok(None) => Err(HandleError::ClosedStream),
@@ -61,6 +70,10 @@ impl OutgoingStreams {
                 if half.is_reset() {
                     self.halves.put(id, half);
                     return Err(HandleError::ClosedStream);
+                }
+                if pending.reserve_reset().is_err() {
+                    self.halves.put(id, half);
+                    return Err(HandleError::OutOfMemory);
                 }
                 let retained = half.pending.buffered();
                 half.reset();
@@ -75,6 +88,7 @@ impl OutgoingStreams {
     /// Sets the priority at which a stream is queued from now on: a higher one is sent first.
     pub fn set_priority(&mut self, id: StreamId, priority: i32) -> Result<(), HandleError>
         ensures sets { SetsPriority (outgoing_view self.old) id priority result (outgoing_view self.new) }
+        ensures memory { result ≡ Err HandleError.OutOfMemory → is_some ((outgoing_view self.old).halves id) ≡ true }
         ensures from { Continues (outgoing_view self.old) (SetPriority id priority result) (outgoing_view self.new) }
     {
         match self.halves.take(id) {
@@ -113,6 +127,7 @@ impl SendEntries {
     fn finish(&mut self, id: StreamId) -> Result<Option<i32>, FinishError>
         ensures ok { IfOk result (λ queue. EndsHalfIn (senders self.old) id queue (senders self.new)) }
         ensures err { IfErr result (λ error. IsEndRefused (senders self.old id) error) }
+        ensures memory { result ≡ Err FinishError.OutOfMemory → end_refusal (senders self.old id) ≡ None }
         ensures halves { OnErr result (senders self.new ≡ senders self.old) }
         ensures side { self.new.side ≡ self.old.side }
         ensures first { self.new.first ≡ self.old.first }
@@ -122,6 +137,18 @@ impl SendEntries {
         match self.entries.get_mut(&id) {
             None => Err(FinishError::ClosedStream),
             Some(entry) => finish_entry(self.alloc, limit, entry),
+        }
+    }
+
+    // Why a stream cannot be finished, if so.
+    #[inline]
+    fn finish_refusal(&self, id: StreamId) -> Option<FinishError>
+        ensures { result ≡ end_refusal (senders self.now id) }
+    {
+        match self.entries.get(&id) {
+            None => Some(FinishError::ClosedStream),
+            Some(None) => None,
+            Some(Some(half)) => refusal_of_end(half),
         }
     }
 
@@ -138,6 +165,19 @@ impl SendEntries {
     }
 }
 
+// Why a half cannot be finished, if so.
+fn refusal_of_end(half: &Send) -> Option<FinishError>
+    ensures { result ≡ finish_refusal half.now }
+{
+    if let Some(code) = half.stop_reason {
+        return Some(FinishError::Stopped(code));
+    }
+    if half.is_writable() {
+        return None;
+    }
+    Some(FinishError::ClosedStream)
+}
+
 // Ends the stream of an entry. If refused, nothing changes.
 #[inline]
 fn finish_entry(
@@ -147,6 +187,7 @@ fn finish_entry(
 ) -> Result<Option<i32>, FinishError>
     ensures ok { IfOk result (λ queue. EndsHalf (sender_in limit entry.old) queue (sender_in limit entry.new)) }
     ensures err { IfErr result (λ error. IsEndRefused (Some (sender_in limit entry.old)) error) }
+    ensures memory { result ≡ Err FinishError.OutOfMemory → finish_refusal (sender_in limit entry.old) ≡ None }
     ensures half { OnErr result (sender_in limit entry.new ≡ sender_in limit entry.old) }
 {
     let mut half = take_half(alloc, limit, entry)?;

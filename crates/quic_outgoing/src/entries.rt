@@ -166,6 +166,7 @@ impl SendEntries {
         ensures none { IfOk result (λ half. IfNone half (senders self.new ≡ senders self.old)) }
         ensures err { OnErr result (senders self.new ≡ senders self.old) }
         ensures held { OnErr result (is_some (senders self.old id) ≡ true) }
+        ensures unused { OnErr result (senders self.old id ≡ Some (new_sender (first_limit self.old.side self.old.first id))) }
         ensures side { self.new.side ≡ self.old.side }
         ensures first { self.new.first ≡ self.old.first }
         ensures room { sender_room self.new ≡ sender_room self.old }

@@ -1,6 +1,6 @@
 //! Streams that wait, and limits that are given for them, on their halves where these lie.
 
-ghost use Rattle.std.specs.Prelude.{◌≡◌, ◌<◌, ◌∷◌, ◌++◌, [], ℕ, false, IfOk, OnErr, if◌then◌else◌, vec_len};
+ghost use Rattle.std.specs.Prelude.{◌≡◌, ◌<◌, ◌∷◌, ◌++◌, [], ℕ, true, false, is_some, IfOk, OnErr, if◌then◌else◌, vec_len};
 ghost use Rattle.std.specs.Vec.{vec_capacity};
 ghost use Rattle.quic_outgoing.specs.Seen.{senders, sender_room, sender_in};
 ghost use Rattle.quic_outgoing.specs.Outgoing.{marked};
@@ -29,6 +29,7 @@ impl SendEntries {
     pub(crate) fn wait(&mut self, id: StreamId) -> Result<Option<bool>, OutOfMemory>
         ensures ok { IfOk result (λ joins. WaitsIn (senders self.old) id joins (senders self.new)) }
         ensures err { OnErr result (senders self.new ≡ senders self.old) }
+        ensures held { OnErr result (is_some (senders self.old id) ≡ true) }
         ensures side { self.new.side ≡ self.old.side }
         ensures first { self.new.first ≡ self.old.first }
         ensures room { sender_room self.new ≡ sender_room self.old }

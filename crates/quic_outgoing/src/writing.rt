@@ -1,12 +1,12 @@
 //! Writes on a stream.
 
-ghost use Rattle.std.specs.Prelude.{◌≡◌, ◌≤◌, ◌<◌, is_some, true, false, Some, IfOk, IfErr, OnErr};
+ghost use Rattle.std.specs.Prelude.{◌≡◌, ◌≤◌, ◌<◌, is_some, true, false, Some, None, Err, IfOk, IfErr, OnErr};
 ghost use Rattle.quic_sending.specs.Sending.{write_refusal};
 ghost use Rattle.quic_retransmits.specs.Pending.{pending_view};
 ghost use Rattle.quic_outgoing.specs.Senders.{bare, first_limit};
 ghost use Rattle.quic_outgoing.specs.Outgoing.{is_stuck, with_send_half};
 ghost use Rattle.quic_outgoing.specs.Seen.{senders, sender_room, sender_in};
-ghost use Rattle.quic_outgoing.specs.Writing.{WritesOn, RefusesWrite, TakesBytes, TakesBytesIn, IsRefusedBy, refusal_of_write};
+ghost use Rattle.quic_outgoing.specs.Writing.{WritesOn, RefusesWrite, TakesBytes, TakesBytesIn, IsRefusedBy, refusal_of_write, lasting_refusal, refusal_to_stay};
 ghost use Rattle.quic_outgoing.specs.History.{Writing, Continues};
 ghost use Rattle.quic_outgoing.specs.Shown.{outgoing_view, permit_room};
 
@@ -46,6 +46,7 @@ impl OutgoingStreams {
         source: &mut S,
     ) -> Result<Wrote, WriteError>
         ensures writes { WritesOn (outgoing_view self.old) id (S.lists source.old) (pending_view pending.old) result (outgoing_view self.new) (S.lists source.new) (pending_view pending.new) }
+        ensures memory { result ≡ Err WriteError.OutOfMemory → refusal_to_stay (outgoing_view self.old) ((outgoing_view self.old).halves id) ≡ None }
         ensures borrow { S.borrow source.new ≡ S.borrow source.old }
         ensures list_count { S.list_count source.new ≡ S.list_count source.old }
         ensures from { Continues (outgoing_view self.old) (Writing id (S.lists source.old) result) (outgoing_view self.new) }
@@ -62,6 +63,7 @@ impl OutgoingStreams {
         source: &mut S,
     ) -> Result<Wrote, WriteError>
         ensures writes { WritesOn (outgoing_view self.old) id (S.lists source.old) (pending_view pending.old) result (outgoing_view self.new) (S.lists source.new) (pending_view pending.new) }
+        ensures memory { result ≡ Err WriteError.OutOfMemory → refusal_to_stay (outgoing_view self.old) ((outgoing_view self.old).halves id) ≡ None }
         ensures borrow { S.borrow source.new ≡ S.borrow source.old }
         ensures list_count { S.list_count source.new ≡ S.list_count source.old }
     {
@@ -79,13 +81,25 @@ impl OutgoingStreams {
         }
     }
 
+    /// Why nothing may be written on a stream whatever its limits become, if so: it is closed, or the peer stopped it.
+    #[inline]
+    pub fn lasting_refusal(&self, id: StreamId) -> Option<WriteError>
+        ensures { result ≡ lasting_refusal ((outgoing_view self.now).halves id) }
+    {
+        self.halves.lasting_refusal(id)
+    }
+
     // Nothing may be written on any stream: this one waits, and the peer is told. Answers why nothing is taken.
     fn wait(&mut self, pending: &mut Retransmits, id: StreamId) -> WriteError
         requires { is_stuck (outgoing_view self.old) ≡ true }
-        ensures { RefusesWrite (outgoing_view self.old) id (pending_view pending.old) result (outgoing_view self.new) (pending_view pending.new) }
+        ensures refuses { RefusesWrite (outgoing_view self.old) id (pending_view pending.old) result (outgoing_view self.new) (pending_view pending.new) }
+        ensures memory { result ≡ WriteError.OutOfMemory → is_some ((outgoing_view self.old).halves id) ≡ true }
     {
         if self.blocked.reserve(1).is_err() {
-            return WriteError::OutOfMemory;
+            if self.halves.is_held(id) {
+                return WriteError::OutOfMemory;
+            }
+            return WriteError::ClosedStream;
         }
         match self.halves.wait(id) {
             Err(_) => WriteError::OutOfMemory,
@@ -138,6 +152,25 @@ impl OutgoingStreams {
 
 #[tactic(auto, unfolding(crate::specs::Seen::senders))]
 impl SendEntries {
+    // Whether a half is held.
+    fn is_held(&self, id: StreamId) -> bool
+        ensures { result ≡ is_some (senders self.now id) }
+    {
+        self.entries.get(&id).is_some()
+    }
+
+    // Why nothing may be written on a stream whatever its limits become, if so.
+    #[inline]
+    fn lasting_refusal(&self, id: StreamId) -> Option<WriteError>
+        ensures { result ≡ lasting_refusal (senders self.now id) }
+    {
+        match self.entries.get(&id) {
+            None => Some(WriteError::ClosedStream),
+            Some(None) => None,
+            Some(Some(half)) => refusal_of_half(half),
+        }
+    }
+
     // Writes on the half of a stream, where it lies. If refused, nothing changes.
     #[inline]
     fn write<S: BytesSource>(
@@ -148,6 +181,7 @@ impl SendEntries {
     ) -> Result<Wrote, WriteError>
         ensures ok { IfOk result (λ wrote. TakesBytesIn limit (senders self.old) id (S.lists source.old) wrote (S.lists source.new) (senders self.new)) }
         ensures err { IfErr result (λ error. IsRefusedBy (senders self.old id) error) }
+        ensures memory { result ≡ Err WriteError.OutOfMemory → lasting_refusal (senders self.old id) ≡ None }
         ensures halves { OnErr result (senders self.new ≡ senders self.old) }
         ensures lists { OnErr result (S.lists source.new ≡ S.lists source.old) }
         ensures borrow { S.borrow source.new ≡ S.borrow source.old }
@@ -164,6 +198,19 @@ impl SendEntries {
     }
 }
 
+// The same of a half.
+fn refusal_of_half(half: &Send) -> Option<WriteError>
+    ensures { result ≡ lasting_refusal (Some half.now) }
+{
+    if !half.is_writable() {
+        return Some(WriteError::ClosedStream);
+    }
+    match half.stop_reason {
+        Some(code) => Some(WriteError::Stopped(code)),
+        None => None,
+    }
+}
+
 // Writes on the half of an entry. If refused, nothing changes.
 #[inline]
 fn write_of_entry<S: BytesSource>(
@@ -175,6 +222,7 @@ fn write_of_entry<S: BytesSource>(
 ) -> Result<Wrote, WriteError>
     ensures ok { IfOk result (λ wrote. TakesBytes limit (sender_in first_limit entry.old) (S.lists source.old) wrote (S.lists source.new) (sender_in first_limit entry.new)) }
     ensures err { IfErr result (λ error. IsRefusedBy (Some (sender_in first_limit entry.old)) error) }
+    ensures memory { result ≡ Err WriteError.OutOfMemory → lasting_refusal (Some (sender_in first_limit entry.old)) ≡ None }
     ensures half { OnErr result (sender_in first_limit entry.new ≡ sender_in first_limit entry.old) }
     ensures lists { OnErr result (S.lists source.new ≡ S.lists source.old) }
     ensures borrow { S.borrow source.new ≡ S.borrow source.old }
@@ -196,6 +244,7 @@ fn write_on<S: BytesSource>(
 ) -> Result<Wrote, WriteError>
     ensures ok { IfOk result (λ wrote. TakesBytes limit half.old (S.lists source.old) wrote (S.lists source.new) half.new) }
     ensures err { IfErr result (λ error. IsRefusedBy (Some half.old) error) }
+    ensures memory { result ≡ Err WriteError.OutOfMemory → lasting_refusal (Some half.old) ≡ None }
     ensures half { OnErr result (bare half.new ≡ bare half.old) }
     ensures lists { OnErr result (S.lists source.new ≡ S.lists source.old) }
     ensures borrow { S.borrow source.new ≡ S.borrow source.old }

@@ -1,8 +1,9 @@
 //! The send half of a stream, for the application.
 
-ghost use Rattle.std.specs.Prelude.{ℕ, List, ◌∷◌, ◌≡◌, ◌≤◌, IfOk, IfErr, OnOk, OnErr, Ok, Err, None, Some};
+ghost use Rattle.std.specs.Prelude.{ℕ, List, ◌∷◌, ◌≡◌, ◌≤◌, IfOk, IfErr, OnOk, OnErr, Ok, Err, None, Some, is_some, true, false};
 ghost use Rattle.quic_sending.specs.Source.{slice_lists, without_first};
-ghost use Rattle.quic_outgoing.specs.Calls.{told_of_half};
+ghost use Rattle.quic_outgoing.specs.Calls.{told_of_half, end_refusal, is_reset_or_gone};
+ghost use Rattle.quic_outgoing.specs.Writing.{refusal_to_stay};
 ghost use Rattle.quic_retransmits.specs.Pending.{Pending, pending_view};
 ghost use Rattle.quic_streams.specs.Connection.{is_shut};
 ghost use Rattle.quic_streams.specs.Shown.{streams_view};
@@ -60,6 +61,7 @@ impl<'a> SendStream<'a> {
         ensures id { self.new.id ≡ self.old.id }
         ensures conn { self.new.conn ≡ self.old.conn }
         ensures writes { IsWrittenAs result (λ written. (left : List (List ℕ)) × WritesOwn (streams_view self.old.state.now) self.old.id (slice_lists bytes.now) (is_shut self.old.conn) (pending_view self.old.pending.now) written (streams_view self.new.state.now) left (pending_view self.new.pending.now)) }
+        ensures memory { result ≡ Err WriteError.OutOfMemory → refusal_to_stay (streams_view self.old.state.now).out ((streams_view self.old.state.now).out.halves self.old.id) ≡ None }
         ensures from { IsWrittenAs result (λ written. (m : Made) (h : List Event) → From m h (streams_view self.old.state.now)
             → From m (Sending (WroteOwn self.old.id (slice_lists bytes.now) (is_shut self.old.conn) written) ∷ h) (streams_view self.new.state.now)) }
     {
@@ -78,6 +80,7 @@ impl<'a> SendStream<'a> {
         ensures writes { (left : List (List ℕ)) × WritesOwn (streams_view self.old.state.now) self.old.id chunks.old (is_shut self.old.conn) (pending_view self.old.pending.now) result (streams_view self.new.state.now) left (pending_view self.new.pending.now) }
         ensures left { IfOk result (λ written. chunks.new ≡ without_first written.bytes chunks.old) }
         ensures kept { OnErr result (chunks.new ≡ chunks.old) }
+        ensures memory { result ≡ Err WriteError.OutOfMemory → refusal_to_stay (streams_view self.old.state.now).out ((streams_view self.old.state.now).out.halves self.old.id) ≡ None }
         ensures from { (m : Made) (h : List Event) → From m h (streams_view self.old.state.now)
             → From m (Sending (WroteOwn self.old.id chunks.old (is_shut self.old.conn) result) ∷ h) (streams_view self.new.state.now) }
     {
@@ -100,6 +103,7 @@ impl<'a> SendStream<'a> {
         ensures id { self.new.id ≡ self.old.id }
         ensures conn { self.new.conn ≡ self.old.conn }
         ensures finishes { FinishesOwn (streams_view self.old.state.now) self.old.id result (streams_view self.new.state.now) }
+        ensures memory { result ≡ Err FinishError.OutOfMemory → end_refusal ((streams_view self.old.state.now).out.halves self.old.id) ≡ None }
         ensures from { (m : Made) (h : List Event) → From m h (streams_view self.old.state.now) → From m (Sending (FinishedOwn self.old.id result) ∷ h) (streams_view self.new.state.now) }
     {
         self.state.finish(self.id)
@@ -113,6 +117,7 @@ impl<'a> SendStream<'a> {
         ensures id { self.new.id ≡ self.old.id }
         ensures conn { self.new.conn ≡ self.old.conn }
         ensures resets { ResetsOwn (streams_view self.old.state.now) self.old.id error_code (pending_view self.old.pending.now) result (streams_view self.new.state.now) (pending_view self.new.pending.now) }
+        ensures memory { result ≡ Err HandleError.OutOfMemory → is_reset_or_gone ((streams_view self.old.state.now).out.halves self.old.id) ≡ false }
         ensures from { (m : Made) (h : List Event) → From m h (streams_view self.old.state.now) → From m (Sending (ResetOwn self.old.id error_code result) ∷ h) (streams_view self.new.state.now) }
     {
         self.state.reset_sending(self.pending, self.id, error_code)
@@ -126,6 +131,7 @@ impl<'a> SendStream<'a> {
         ensures id { self.new.id ≡ self.old.id }
         ensures conn { self.new.conn ≡ self.old.conn }
         ensures sets { SetsOwnPriority (streams_view self.old.state.now) self.old.id priority result (streams_view self.new.state.now) }
+        ensures memory { result ≡ Err HandleError.OutOfMemory → is_some ((streams_view self.old.state.now).out.halves self.old.id) ≡ true }
         ensures from { (m : Made) (h : List Event) → From m h (streams_view self.old.state.now) → From m (Sending (SetOwnPriority self.old.id priority result) ∷ h) (streams_view self.new.state.now) }
     {
         self.state.set_priority(self.id, priority)

@@ -1,9 +1,11 @@
 //! Writes, ends and resets of a stream, on the state.
 
-ghost use Rattle.std.specs.Prelude.{ℕ, ℤ, List, ◌∷◌, ◌≡◌, ◌≤◌, OnErr, OnOk, IfOk, None, Some, Ok, is_some, true, false};
+ghost use Rattle.std.specs.Prelude.{ℕ, ℤ, List, ◌∷◌, ◌≡◌, ◌≤◌, OnErr, OnOk, IfOk, None, Some, Ok, Err, is_some, unwrap_or, true, false};
 ghost use Rattle.quic_sending.specs.Source.{slice_lists, without_first};
 ghost use Rattle.quic_retransmits.specs.Pending.{pending_view};
 ghost use Rattle.quic_outgoing.specs.Outgoing.{is_stuck};
+ghost use Rattle.quic_outgoing.specs.Calls.{end_refusal, is_reset_or_gone};
+ghost use Rattle.quic_outgoing.specs.Writing.{lasting_refusal, refusal_to_stay};
 ghost use Rattle.quic_outgoing.specs.Shown.{outgoing_view};
 ghost use Rattle.quic_streams.specs.Connection.{is_shut};
 ghost use Rattle.quic_streams.specs.Shown.{streams_view};
@@ -27,7 +29,8 @@ impl StreamsState {
         bytes: &[u8],
         conn: ConnState,
     ) -> Result<usize, WriteError>
-        ensures { IsWrittenAs result (λ written. (left : List (List ℕ)) × WritesOwn (streams_view self.old) id (slice_lists bytes.now) (is_shut conn) (pending_view pending.old) written (streams_view self.new) left (pending_view pending.new)) }
+        ensures writes { IsWrittenAs result (λ written. (left : List (List ℕ)) × WritesOwn (streams_view self.old) id (slice_lists bytes.now) (is_shut conn) (pending_view pending.old) written (streams_view self.new) left (pending_view pending.new)) }
+        ensures memory { result ≡ Err WriteError.OutOfMemory → refusal_to_stay (streams_view self.old).out ((streams_view self.old).out.halves id) ≡ None }
     {
         let mut source = ByteSlice::from_slice(self.receive.alloc, bytes);
         match self.write_source(pending, id, &mut source, conn) {
@@ -47,6 +50,7 @@ impl StreamsState {
         ensures writes { (left : List (List ℕ)) × WritesOwn (streams_view self.old) id chunks.old (is_shut conn) (pending_view pending.old) result (streams_view self.new) left (pending_view pending.new) }
         ensures left { IfOk result (λ written. chunks.new ≡ without_first written.bytes chunks.old) }
         ensures kept { OnErr result (chunks.new ≡ chunks.old) }
+        ensures memory { result ≡ Err WriteError.OutOfMemory → refusal_to_stay (streams_view self.old).out ((streams_view self.old).out.halves id) ≡ None }
     {
         let mut part = Bytes::new(self.receive.alloc);
         let mut source = BytesArray::from_chunks(self.receive.alloc, chunks, &mut part);
@@ -62,13 +66,16 @@ impl StreamsState {
         conn: ConnState,
     ) -> Result<Written, WriteError>
         ensures writes { WritesOwn (streams_view self.old) id (S.lists source.old) (is_shut conn) (pending_view pending.old) result (streams_view self.new) (S.lists source.new) (pending_view pending.new) }
+        ensures memory { result ≡ Err WriteError.OutOfMemory → refusal_to_stay (streams_view self.old).out ((streams_view self.old).out.halves id) ≡ None }
         ensures borrow { S.borrow source.new ≡ S.borrow source.old }
         ensures list_count { S.list_count source.new ≡ S.list_count source.old }
     {
         if matches!(conn, ConnState::Closed) {
             return Err(WriteError::Blocked);
         }
-        self.reserve_write_place(id)?;
+        if let Err(refused) = self.reserve_write_place(id) {
+            return Err(self.write_refusal(id, refused));
+        }
         match self.outgoing.write(pending, id, source) {
             Err(error) => {
                 self.queue.release();
@@ -81,11 +88,22 @@ impl StreamsState {
         }
     }
 
+    // Why nothing is written on a stream for which no room was made: a refusal that stays comes first.
+    fn write_refusal(&self, id: StreamId, refused: OutOfMemory) -> WriteError
+        ensures { result ≡ unwrap_or (lasting_refusal ((streams_view self.now).out.halves id)) WriteError.OutOfMemory }
+    {
+        match self.outgoing.lasting_refusal(id) {
+            Some(error) => error,
+            None => WriteError::from(refused),
+        }
+    }
+
     // Makes the room to queue a stream that is to be written, unless nothing may be written on any.
     #[inline]
     fn reserve_write_place(&mut self, id: StreamId) -> Result<(), OutOfMemory>
         ensures same { streams_view self.new ≡ streams_view self.old }
         ensures ok { OnOk result (is_stuck (outgoing_view self.old.outgoing) ≡ false → HasPlace self.new id) }
+        ensures free { OnErr result (is_stuck (outgoing_view self.old.outgoing) ≡ false) }
     {
         if self.outgoing.write_limit() == 0 {
             return Ok(());
@@ -121,9 +139,15 @@ impl StreamsState {
 
     // Ends a stream.
     pub(crate) fn finish(&mut self, id: StreamId) -> Result<(), FinishError>
-        ensures { FinishesOwn (streams_view self.old) id result (streams_view self.new) }
+        ensures finishes { FinishesOwn (streams_view self.old) id result (streams_view self.new) }
+        ensures memory { result ≡ Err FinishError.OutOfMemory → end_refusal ((streams_view self.old).out.halves id) ≡ None }
     {
-        self.reserve_place(id)?;
+        if let Err(refused) = self.reserve_place(id) {
+            return match self.outgoing.finish_refusal(id) {
+                Some(error) => Err(error),
+                None => Err(FinishError::from(refused)),
+            };
+        }
         match self.outgoing.finish(id) {
             Err(error) => {
                 self.queue.release();
@@ -143,14 +167,16 @@ impl StreamsState {
         id: StreamId,
         error_code: VarInt,
     ) -> Result<(), HandleError>
-        ensures { ResetsOwn (streams_view self.old) id error_code (pending_view pending.old) result (streams_view self.new) (pending_view pending.new) }
+        ensures resets { ResetsOwn (streams_view self.old) id error_code (pending_view pending.old) result (streams_view self.new) (pending_view pending.new) }
+        ensures memory { result ≡ Err HandleError.OutOfMemory → is_reset_or_gone ((streams_view self.old).out.halves id) ≡ false }
     {
         self.outgoing.reset(pending, id, error_code)
     }
 
     // Gives a stream a priority.
     pub(crate) fn set_priority(&mut self, id: StreamId, priority: i32) -> Result<(), HandleError>
-        ensures { SetsOwnPriority (streams_view self.old) id priority result (streams_view self.new) }
+        ensures sets { SetsOwnPriority (streams_view self.old) id priority result (streams_view self.new) }
+        ensures memory { result ≡ Err HandleError.OutOfMemory → is_some ((streams_view self.old).out.halves id) ≡ true }
     {
         self.outgoing.set_priority(id, priority)
     }

@@ -6,4 +6,4 @@ use Rattle.quic_streams.proofs.send_stream.SendStream.finish.Goals as goal
 
 pub returns-clause-from : goal.returns-clause-from
 returns-clause-from c = λ m h f.
-    next m h (streams_view c.args.self.now.state.now) (Sending (FinishedOwn c.args.self.now.id c.finish.result)) (streams_view c.finish.new.self) tt f c.finish.ensures
+    next m h (streams_view c.args.self.now.state.now) (Sending (FinishedOwn c.args.self.now.id c.finish.result)) (streams_view c.finish.new.self) tt f c.finish.ensures.finishes

@@ -7,5 +7,5 @@ use Rattle.quic_streams.proofs.send_stream.SendStream.set_priority.Goals as goal
 
 pub returns-clause-from : goal.returns-clause-from
 returns-clause-from c = λ m h f.
-    let step = simp (to_z-of_z, c.ranges.priority) at c.set_priority.ensures in
+    let step = simp (to_z-of_z, c.ranges.priority) at c.set_priority.ensures.sets in
     next m h (streams_view c.args.self.now.state.now) (Sending (SetOwnPriority c.args.self.now.id c.args.priority c.set_priority.result)) (streams_view c.set_priority.new.self) tt f step

@@ -24,4 +24,4 @@ returns-clause-from c =
     (λ written. (left : List (List ℕ)) × WritesOwn u id lists closed p written v left q)
     (λ written. (m : Made) (h : List Event) → From m h u → From m (Sending (WroteOwn id lists closed written) ∷ h) v)
     (λ written s m h f. next m h u (Sending (WroteOwn id lists closed written)) v tt f (p, q, s.0, s.1))
-    c.write_bytes.ensures
+    c.write_bytes.ensures.writes
