@@ -9,10 +9,9 @@ use Rattle.quic_wire.specs.declared.frame.Frame.TheVariants as frames
 use Rattle.quic_outgoing.specs.declared.limits.PeerLimits.{PeerLimits}
 use Rattle.quic_outgoing.specs.History.{count_in, given_for}
 use Rattle.quic_outgoing.specs.Senders.{is_local}
-use Rattle.quic_outgoing.specs.Outgoing.{own_of}
+use Rattle.quic_outgoing.specs.Outgoing.{own_of, first_ids, own_ids}
 use Rattle.quic_history.specs.World.{World, Made, start, remote_of}
 use Rattle.quic_history.specs.SendEvents.{GaveLimits, RaisedData, RaisedCount, RaisedLimit, StoppedOwn, WroteOwn, FinishedOwn, LostOwn}
-use Rattle.quic_history.specs.Early.{first_ids, own_ids}
 use Rattle.quic_history.specs.History.{Event, Received, ReceivedReset, Sending, SentAgain, opened_in_all, count_by, greatest_limit, limit_by}
 use Rattle.quic_history.proofs.Credits.{limit-fits}
 use Rattle.quic_history.proofs.Refusals.{index-id}
