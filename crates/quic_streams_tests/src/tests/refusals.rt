@@ -313,7 +313,7 @@ const WRITTEN: [Step; 20] = [
 // A client that wrote on three streams.
 fn client_that_wrote(rt: &impl Abort, alloc: Global) -> Result<Subject, OutOfMemory> {
     let mut subject = client(alloc, 0, WINDOW, WINDOW)?;
-    subject.permit(1, 10, 4);
+    subject.permit(1, 10, 4)?;
     run(rt, &mut subject, &OPENED);
     write_chunks(rt, alloc, &mut subject)?;
     run(rt, &mut subject, &WRITTEN);
