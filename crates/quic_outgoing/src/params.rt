@@ -9,7 +9,6 @@ ghost use Rattle.quic_outgoing.specs.Params.{woken_among, own_woken, as_waiting,
 ghost use Rattle.quic_outgoing.specs.History.{GaveParams, Continues};
 ghost use Rattle.quic_outgoing.specs.Shown.{outgoing_view};
 
-use crate::entries::FirstLimits;
 use crate::limits::PeerLimits;
 use crate::outgoing::OutgoingStreams;
 use quic_values::{Dir, OutOfMemory, StreamId, VarInt};
@@ -61,10 +60,9 @@ impl OutgoingStreams {
         ensures ids { IfOk result (λ ids. ids.items ≡ own_woken (outgoing_view self.now) params.now) }
         ensures free { (outgoing_view self.now).own_bi.opened ≡ 0 → (outgoing_view self.now).own_uni.opened ≡ 0 → IsOk result }
     {
-        let given = params.first_limits();
         let mut woken = Vec::new(self.halves.alloc);
-        self.add_woken(Dir::Bi, given, &mut woken)?;
-        self.add_woken(Dir::Uni, given, &mut woken)?;
+        self.add_woken(Dir::Bi, params, &mut woken)?;
+        self.add_woken(Dir::Uni, params, &mut woken)?;
         Ok(woken)
     }
 
@@ -72,16 +70,16 @@ impl OutgoingStreams {
     fn add_woken(
         &self,
         dir: Dir,
-        given: FirstLimits,
+        params: &PeerLimits,
         woken: &mut Vec<StreamId>,
     ) -> Result<(), OutOfMemory>
-        ensures ids { OnOk result (woken.new.items ≡ woken.old.items ++ woken_among (outgoing_view self.now) given (first_ids (outgoing_view self.now).side dir (own_of (outgoing_view self.now) dir).opened)) }
+        ensures ids { OnOk result (woken.new.items ≡ woken.old.items ++ woken_among (outgoing_view self.now) (first_of params.now) (first_ids (outgoing_view self.now).side dir (own_of (outgoing_view self.now) dir).opened)) }
         ensures free { (own_of (outgoing_view self.now) dir).opened ≡ 0 → IsOk result }
     {
         let side = self.halves.side();
         for index in 0..self.opened(dir) {
             let id = StreamId::new(side, dir, index);
-            if self.halves.is_woken(id, given) {
+            if self.halves.is_woken(id, params) {
                 woken.push(id)?;
             }
         }

@@ -5,11 +5,12 @@ ghost use Rattle.std.specs.Vec.{vec_capacity};
 ghost use Rattle.quic_outgoing.specs.Seen.{senders, sender_room, sender_in, is_made};
 ghost use Rattle.quic_outgoing.specs.Senders.{first_limit};
 ghost use Rattle.quic_outgoing.specs.Params.{is_woken_in};
-ghost use Rattle.quic_outgoing.specs.Outgoing.{marked};
+ghost use Rattle.quic_outgoing.specs.Outgoing.{marked, first_of};
 ghost use Rattle.quic_outgoing.specs.Calls.{unmarked};
 ghost use Rattle.quic_outgoing.specs.Waits.{WaitsOn, WaitsIn, RaisesOn, RaisesIn};
 
-use crate::entries::{FirstLimits, SendEntries, greater};
+use crate::entries::{SendEntries, greater};
+use crate::limits::PeerLimits;
 use crate::transmitting::take_half;
 use quic_sending::Send;
 use quic_values::{OutOfMemory, StreamId, VarInt};
@@ -60,11 +61,11 @@ impl SendEntries {
     }
 
     /// Whether one of the limits that the peer gives lets a stream be written on that was written up to its limit.
-    pub(crate) fn is_woken(&self, id: StreamId, given: FirstLimits) -> bool
-        ensures { result ≡ is_woken_in (first_limit self.now.side given id) (senders self.now id) }
+    pub(crate) fn is_woken(&self, id: StreamId, params: &PeerLimits) -> bool
+        ensures { result ≡ is_woken_in (first_limit self.now.side (first_of params.now) id) (senders self.now id) }
     {
         let first = self.first_limit(id);
-        let limit = given.of(self.is_local(id), id.dir());
+        let limit = params.first_limits().of(self.is_local(id), id.dir());
         match self.entries.get(&id) {
             None => false,
             Some(None) => first.into_inner() == 0 && first.into_inner() < limit.into_inner(),

@@ -62,6 +62,9 @@ none-waits u p bi uni = ap (λ ids. cond (is_stuck (with_params u p)) (with_wait
 pub none-writable : (u : Outgoing) (p : PeerLimits) → u.own_bi.opened ≡ 0 → u.own_uni.opened ≡ 0 → newly_writable u p ≡ []
 none-writable u p bi uni = ap (λ ids. cond (is_stuck (with_params u p)) [] ids) (none-woken u p bi uni) ∙ either_way (is_stuck (with_params u p))
   where
-    either_way : (b : Bool) → cond b [] [] ≡ []
+    none : List ℕ
+    none = []
+
+    either_way : (b : Bool) → cond b none none ≡ none
     either_way true = refl
     either_way false = refl
