@@ -119,7 +119,7 @@ given_most Uni Bi n most l = omega arith
 given_most Uni Uni n most l = l
 
 count_true : (x y : LinkedEnd) (e : Event) → AllTrue y → ((d : Dir) → (remote_of (start y.made) d).max_remote ≤ (remote_of y.world d).max_remote) → IsHonest x y e → (d : Dir) → count_by e d ≤ (remote_of y.world d).max_remote
-count_true x y (Sending (GaveLimits limits)) t base k d =
+count_true x y (Sending (GaveLimits limits (Ok u))) t base k d =
     let a = count_most y.made limits d k in
     let b = base d in
     omega arith
@@ -137,7 +137,7 @@ pub record DataSo (x y : LinkedEnd) : Type 0 where
   pub base : x.made.credit.local_max_data ≤ x.world.credit.local_max_data
 
 limit_true : (x y : LinkedEnd) (e : Event) → AllTrue y → y.made.credit.local_max_data ≤ y.world.credit.local_max_data → IsHonest x y e → limit_by e ≤ y.world.credit.local_max_data
-limit_true x y (Sending (GaveLimits limits)) t base k = let a = k.of_connection in omega arith
+limit_true x y (Sending (GaveLimits limits (Ok u))) t base k = let a = k.of_connection in omega arith
 limit_true x y (Sending (RaisedData limit)) t base k = t (frames.MaxData limit) k
 limit_true x y _ t base k = omega arith
 

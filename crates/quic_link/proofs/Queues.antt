@@ -179,7 +179,8 @@ queues_turn u v a b e n before after f s q h =
     inl (ap (λ (x : SendOrder). stands q (line x)) before ∙ turn_from q a.queue e n f k)
 
 queues_send : (u : World) (e : SendEvent) (v : World) → SendStep u e v → QueuesBy u v (queued_id (Sending e))
-queues_send u (GaveLimits limits) v s = queues_same u v None (ap (λ (x : World). x.queue) s)
+queues_send u (GaveLimits limits (Ok x)) v s = queues_same u v None (ap (λ (w : World). w.queue) s)
+queues_send u (GaveLimits limits (Err e)) v s = queues_same u v None (ap (λ (w : World). w.queue) s)
 queues_send u (OpenedOwn dir closed (Ok None)) v s = queues_same u v None (ap (λ (x : World). x.queue) s.1)
 queues_send u (OpenedOwn dir closed (Ok (Some id))) v s = queues_same u v None (queue_at u v (with_opened u dir id s.1) s.3 (queue_opened u dir id s.1))
 queues_send u (OpenedOwn dir closed (Err e)) v s = queues_same u v None (ap (λ (x : World). x.queue) s)

@@ -1,7 +1,5 @@
 // The peer's transport parameters, handed in while streams are open.
-use super::{
-    Answer, Step, Subject, end, id, limits, newly_writable, run, same, set_params,
-};
+use super::{Answer, Step, Subject, end, id, limits, newly_writable, run, same, set_params};
 use quic_values::{Dir, Side, StreamId};
 use std::fmt::Debug;
 use std::process::Abort;
@@ -100,7 +98,12 @@ fn a_stream_that_waits_already_is_told_twice(rt: HostRuntime) {
         ],
     );
     permit(&rt, &mut subject, (1, 100, 100), &[2]);
-    run(&rt, alloc, &mut subject, &[Step::Poll(Some(2)), Step::Poll(None)]);
+    run(
+        &rt,
+        alloc,
+        &mut subject,
+        &[Step::Poll(Some(2)), Step::Poll(None)],
+    );
 }
 
 #[test]
@@ -118,7 +121,12 @@ fn an_untouched_stream_is_told_where_its_limit_was_0(rt: HostRuntime) {
         &rt,
         alloc,
         &mut subject,
-        &[Step::Data(4), Step::Poll(Some(2)), Step::Poll(Some(0)), Step::Poll(None)],
+        &[
+            Step::Data(4),
+            Step::Poll(Some(2)),
+            Step::Poll(Some(0)),
+            Step::Poll(None),
+        ],
     );
     let mut subject = end(alloc, Side::Client, 1, 100, 0);
     run(&rt, alloc, &mut subject, &[Step::Open(Dir::Uni, Some(2))]);
