@@ -24,7 +24,7 @@ use Rattle.quic_receiving.specs.declared.errors.HandleError.TheVariants as handl
 use Rattle.quic_retransmits.specs.Pending.{Pending}
 use Rattle.quic_outgoing.specs.declared.limits.PeerLimits.{PeerLimits}
 use Rattle.quic_outgoing.specs.History.{count_in, given_for}
-use Rattle.quic_outgoing.specs.Outgoing.{Outgoing, own_of, with_own, with_send_half, waiting, marked, is_stuck, fresh_sender}
+use Rattle.quic_outgoing.specs.Outgoing.{with_params, Outgoing, own_of, with_own, with_send_half, waiting, marked, is_stuck, fresh_sender}
 use Rattle.quic_outgoing.specs.Calls.{PollsWritable, ResetsStream, SetsPriority, after_rise, with_rise, is_woken, with_stop_reason}
 use Rattle.quic_outgoing.specs.Writing.{RefusesWrite, after_blocked}
 use Rattle.quic_history.specs.World.{World, told, noticed}
