@@ -173,6 +173,9 @@ typedef struct qs_peer_limits {
 
 /* Takes the peer's limits. Until then no stream can be opened and nothing can
  * be written. For an early start (0-RTT) these are first the remembered ones.
+ * Each open stream of this end gets its new limit, with an event where it can
+ * be written on again. QS_ERR_NOMEM: nothing changed; it is never answered where
+ * this end opened no stream.
  */
 int32_t qs_set_peer_limits(qs_conn *conn, const qs_peer_limits *limits);
 

@@ -34,7 +34,7 @@ impl Connection {
             initial_max_stream_data_uni: each,
             initial_max_stream_data_bidi_local: each,
             initial_max_stream_data_bidi_remote: each,
-        });
+        })?;
         Ok(Connection {
             side,
             streams,

@@ -106,7 +106,7 @@ fn new_end(alloc: Global) -> Result<Endpoint, OutOfMemory> {
         initial_max_stream_data_uni: limit,
         initial_max_stream_data_bidi_local: limit,
         initial_max_stream_data_bidi_remote: limit,
-    });
+    })?;
     Ok(end)
 }
 

@@ -520,7 +520,7 @@ const AFTERWARDS: [Step; 8] = [
 ];
 
 // The peer permits 4 streams of each direction, 100 bytes in all, and 10 on each stream.
-fn permit(state: &mut StreamsState) {
+fn permit(state: &mut StreamsState) -> Result<(), OutOfMemory> {
     let (streams, limit) = (VarInt::from(4u32), VarInt::from(10u32));
     state.set_params(&PeerLimits {
         initial_max_data: VarInt::from(100u32),
@@ -529,7 +529,7 @@ fn permit(state: &mut StreamsState) {
         initial_max_stream_data_uni: limit,
         initial_max_stream_data_bidi_local: limit,
         initial_max_stream_data_bidi_remote: limit,
-    });
+    })
 }
 
 // Opens the streams 2 and 0, and writes on the first as much as is permitted.
@@ -548,7 +548,7 @@ fn write(rt: &impl Abort, subject: &mut Subject) -> Result<(), Fail> {
 // A client with halves in each state, of which everything was told.
 fn busy_client(rt: &impl Abort, alloc: Global) -> Result<Subject, Fail> {
     let mut subject = client(alloc, VarInt::from(70u32), VarInt::from(100u32))?;
-    permit(&mut subject.state);
+    permit(&mut subject.state)?;
     write(rt, &mut subject)?;
     run(rt, alloc, &mut subject, &OPENED)?;
     let (state, pending) = (&mut subject.state, &mut subject.pending);

@@ -1,13 +1,12 @@
 //! An end, and the calls of its application.
 
-ghost use Rattle.std.specs.Prelude.{ℕ, List, ◌∷◌, [], ◌≡◌, ◌≤◌, ◌^◌, IfOk, IsOk, nat_lt};
+ghost use Rattle.std.specs.Prelude.{ℕ, List, ◌∷◌, [], ◌≡◌, ◌≤◌, ◌^◌, IfOk, OnOk, OnErr, IsOk, nat_lt};
 ghost use Rattle.quic_history.specs.World.{Made, made_with, start, remote_of};
 ghost use Rattle.quic_history.specs.History.{Event, Sending, Resized, SetConcurrent, From};
 ghost use Rattle.quic_history.specs.SendEvents.{GaveLimits, SetWindow, Polled};
-ghost use Rattle.quic_history.specs.Sends.{with_out, TellsNext};
+ghost use Rattle.quic_history.specs.Sends.{with_out, with_params_given, TellsNext};
 ghost use Rattle.quic_limits.specs.SendingCredit.{with_window};
 ghost use Rattle.quic_limits.specs.Remote.{lacking};
-ghost use Rattle.quic_outgoing.specs.Outgoing.{with_params};
 ghost use Rattle.quic_retransmits.specs.Pending.{nothing};
 ghost use Rattle.quic_streams.specs.Shown.{streams_view};
 ghost use Rattle.quic_endpoint.specs.Shown.{endpoint_view};
@@ -61,12 +60,16 @@ impl Endpoint {
         })
     }
 
-    /// Takes the limits of the peer's transport parameters (RFC 9000 section 7.4).
-    pub fn set_params(&mut self, params: &PeerLimits)
-        ensures params { endpoint_view self.new ≡ with_world (endpoint_view self.old) (with_out (endpoint_view self.old).streams (with_params (endpoint_view self.old).streams.out params.now)) }
-        ensures from { (m : Made) (h : List Event) → From m h (endpoint_view self.old).streams → From m (Sending (GaveLimits params.now) ∷ h) (endpoint_view self.new).streams }
+    /// Takes the limits of the peer's transport parameters (RFC 9000 section 7.4). The application is told of each stream
+    /// of this end that they let be written on. If refused, all is as it was. It is not refused where this end opened no
+    /// stream.
+    pub fn set_params(&mut self, params: &PeerLimits) -> Result<(), OutOfMemory>
+        ensures params { OnOk result (endpoint_view self.new ≡ with_world (endpoint_view self.old) (with_params_given (endpoint_view self.old).streams params.now)) }
+        ensures err { OnErr result (endpoint_view self.new ≡ endpoint_view self.old) }
+        ensures free { (endpoint_view self.old).streams.out.own_bi.opened ≡ 0 → (endpoint_view self.old).streams.out.own_uni.opened ≡ 0 → IsOk result }
+        ensures from { (m : Made) (h : List Event) → From m h (endpoint_view self.old).streams → From m (Sending (GaveLimits params.now result) ∷ h) (endpoint_view self.new).streams }
     {
-        self.streams.set_params(params);
+        self.streams.set_params(params)
     }
 
     /// Sets how many bytes that were written are retained at most until they are acknowledged.

@@ -22,7 +22,7 @@ use Rattle.quic_receiving.specs.declared.errors.HandleError.TheVariants as handl
 use Rattle.quic_retransmits.specs.Pending.{Pending}
 use Rattle.quic_assembler.specs.declared.chunk.Chunk.{Chunk}
 use Rattle.quic_outgoing.specs.Senders.{is_local, are_one_end}
-use Rattle.quic_outgoing.specs.Outgoing.{Outgoing, own_of, with_params}
+use Rattle.quic_outgoing.specs.Outgoing.{Outgoing, own_of}
 use Rattle.quic_history.specs.declared.control.ControlKind.{ControlKind}
 use Rattle.quic_history.specs.declared.control.ControlKind.TheVariants as kinds
 use Rattle.quic_history.specs.Halves.{Halves, with_half, with_first, with_more}
@@ -421,7 +421,8 @@ neither (inr e) = cc
 
 rest_sending : (u : World) (e : SendEvent) (v : World) → IsBare u → (is_own_sending e ≡ true) ⊎ (is_some (limits_in (Sending e)) ≡ true) → SendStep u e v
     → SameRest u v ⊎ ((d : Dir) × (id : ℕ) × (o : Outgoing) × (is_local Client id ≡ true) × (v ≡ with_opened u d id o))
-rest_sending u (GaveLimits limits) v b own s = inl (rest_at u v _ s (rest_out u (with_params u.out limits)))
+rest_sending u (GaveLimits limits (Ok x)) v b own s = inl (rest_at u v _ s (record { bi = refl; uni = refl; receive = refl; window = refl }))
+rest_sending u (GaveLimits limits (Err e)) v b own s = inl (rest_at u v u s (rest_none u))
 rest_sending u (OpenedOwn dir closed (Ok None)) v b own s = inl (rest_at u v u s.1 (rest_none u))
 rest_sending u (OpenedOwn dir closed (Ok (Some id))) v b own s =
     let mine : is_local Client id ≡ true = ap (is_local Client) s.2.1 ∙ ap (λ i. is_local Client (stream_id i dir (own_of u.out dir).opened)) b.client ∙ own_id dir (own_of u.out dir).opened in

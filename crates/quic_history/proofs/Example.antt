@@ -44,7 +44,7 @@ calls =
     ∷ Sending (RaisedLimit 0 9 (Ok tt))
     ∷ Sending (WroteOwn 0 ((1 ∷ 2 ∷ 3 ∷ 4 ∷ []) ∷ []) false (Ok (record { bytes = 4; chunks = 1 })))
     ∷ Sending (OpenedOwn Bi false (Ok (Some 0)))
-    ∷ Sending (GaveLimits peer)
+    ∷ Sending (GaveLimits peer (Ok tt))
     ∷ []
 
 -- of the limit of the connection 16 bytes are left, of the window 3, and of the limit of the stream 5

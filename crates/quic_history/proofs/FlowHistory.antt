@@ -22,12 +22,12 @@ use Rattle.quic_receiving.specs.declared.errors.HandleError.TheVariants as handl
 use Rattle.quic_retransmits.specs.Pending.{Pending}
 use Rattle.quic_flows.specs.Flow.{SendMove, SendFlow, new_flow, with_least_limit, with_send_move, retained, FlowAt}
 use Rattle.quic_outgoing.specs.declared.limits.PeerLimits.{PeerLimits}
-use Rattle.quic_outgoing.specs.Senders.{is_local, are_one_end, first_limit, first_for, no_limits}
+use Rattle.quic_outgoing.specs.Senders.{is_local, are_one_end, first_limit, first_for, no_limits, joined}
 use Rattle.quic_outgoing.specs.Outgoing.{Outgoing, no_streams, own_of, with_own, with_send_half, with_more_streams, with_params, first_of, is_stuck, fresh_sender}
 use Rattle.quic_outgoing.specs.Calls.{OpensStream, PollsWritable}
 use Rattle.quic_outgoing.specs.Writing.{RefusesWrite}
 use Rattle.quic_history.specs.World.{World, Made, start, count_of, sends, remote_of, with_remote, with_receive, told}
-use Rattle.quic_history.specs.Sends.{with_out, with_opened, with_own_count, TellsNext, PollsQueue}
+use Rattle.quic_history.specs.Sends.{with_out, with_opened, with_own_count, TellsNext, PollsQueue, with_params_given}
 use Rattle.quic_history.specs.Writes.{WritesOwn}
 use Rattle.quic_history.specs.SendTotals.{send_totals, own_total}
 use Rattle.quic_history.specs.SendEvents.{SendEvent, SendStep, GaveLimits, OpenedOwn, RaisedData, RaisedCount, RaisedLimit, StoppedOwn, SetWindow, Polled, WroteOwn, FinishedOwn, ResetOwn, SetOwnPriority, AckedOwn, LostOwn, ResetAckedOwn, TookTurn}
@@ -44,9 +44,10 @@ use Rattle.quic_history.proofs.Refusals.{side-bit, dir-bit, index-id}
 use Rattle.quic_history.proofs.Remotes.{number-same}
 use Rattle.quic_history.proofs.Permits.{number-more}
 use Rattle.quic_history.proofs.SendSteps.{either-way}
-use Rattle.quic_history.proofs.SendSides.{SameSides, sides-none, sides-at, sides-put, sides-unmarked, sides-blocked, side-is, side_by, none-done, flows-halves, flows-opened, flows-more, flows-limits, with_one_open}
+use Rattle.quic_history.proofs.SendSides.{SameSides, sides-none, sides-at, sides-put, sides-unmarked, sides-blocked, side-is, side_by, none-done, flows-halves, flows-opened, flows-more, flows-limits, with_one_open, sides-woken, flows-same}
 use Rattle.quic_history.proofs.FlowLeaves.{Leaves, leaves-then, leaves-at, leaves-same, leaves-sides, leaves-remote, leaves-counted, leaves-told, leaves-concurrent, leaves-received, leaves-reset, leaves-began, leaves-gave, leaves-stopped, leaves-told-reset}
 use Rattle.quic_history.proofs.FlowSteps.{Buffers, FlowStep, step-left, step-at, step-limit, step-stop, step-wrote, step-finished, step-given-up}
+use Rattle.quic_outgoing.specs.Params.{with_woken, after_params}
 
 -- ---- calls of the sending side that did nothing to a stream
 
@@ -110,14 +111,17 @@ module _ (side : Side) (there : ℕ → Bool) (f : ℕ → SendFlow) (u : World)
   left v s = step-left side there f u v all s
 
   step_sending : (e : SendEvent) (v : World) → SendStep u e v → FlowStep (send_move_of (Sending e)) (limits_in (Sending e)) (send_window_in (Sending e)) side there f u v
-  step_sending (GaveLimits limits) v s =
-      let P : Side → Type 0 = λ k. AllFlows (λ q. with_least_limit (first_limit k (first_of limits) q) (f q)) (with_params u.out limits) u.bi.max_remote in
-      step-at None (Some limits) None side there f u (with_out u (with_params u.out limits)) v s (record {
-        flows = subst P is_side (flows-limits f u.out limits u.bi.max_remote all);
-        first = refl;
-        window = refl;
-        buffered = refl;
+  step_sending (GaveLimits limits (Ok x)) v s =
+      let w = with_woken u.out limits in
+      let k = sides-woken u.out limits in
+      let P : Side → Type 0 = λ k. AllFlows (λ q. with_least_limit (first_limit k (first_of limits) q) (f q)) (with_params w limits) u.bi.max_remote in
+      step-at None (Some limits) None side there f u (with_params_given u limits) v s (record {
+        flows = subst P (k.side ∙ is_side) (flows-limits f w limits u.bi.max_remote (flows-same f u.out w u.bi.max_remote k all));
+        first = ap (λ l. joined l (first_of limits)) k.first;
+        window = k.window;
+        buffered = k.buffered;
       })
+  step_sending (GaveLimits limits (Err e)) v s = left v (leaves-same u v s)
   step_sending (OpenedOwn dir closed (Ok None)) v s = left v (leaves-same u v s.1)
   step_sending (OpenedOwn dir closed (Ok (Some id))) v s = left v (leaves_opened u v dir id s.1 s.2 s.3)
   step_sending (OpenedOwn dir closed (Err e)) v s = left v (leaves-same u v s)

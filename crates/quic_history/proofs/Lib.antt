@@ -41,3 +41,4 @@ pub mod EarlyFacts
 pub mod Unanswered
 pub mod Bare
 pub mod Renewed
+pub mod Unopened

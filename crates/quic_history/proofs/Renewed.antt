@@ -28,8 +28,8 @@ use Rattle.quic_history.specs.Halves.{Halves}
 use Rattle.quic_history.specs.Early.{IsEarly, with_rejection, without_own, announced_anew}
 use Rattle.quic_history.specs.Used.{halves_among}
 use Rattle.quic_history.specs.World.{World, Made, PermitsNoLess, made_again, start, sends, remote_of, IsUnusedCredit, IsUnusedRemote}
-use Rattle.quic_history.specs.SendEvents.{RaisedCount, RaisedLimit, StoppedOwn, AckedOwn, ResetAckedOwn, Polled}
-use Rattle.quic_history.specs.History.{Event, Received, ReceivedReset, AddedCredits, Began, Gave, Ended, Stopped, ToldReset, LeftPending, Sending, Step, Fits, trace, slices, with_read, given, consumed, consumed_by, received, streams, total_over, last_window, debt, GivenSo, EndsSo, is_freed, before, IsStart, IsRun, EverPermits, AreQueued, QueuesSo, From, tells_answer, IsUnanswered, limits_in}
+use Rattle.quic_history.specs.SendEvents.{RaisedCount, RaisedLimit, StoppedOwn, AckedOwn, ResetAckedOwn, Polled, GaveLimits}
+use Rattle.quic_history.specs.History.{Event, Received, ReceivedReset, AddedCredits, Began, Gave, Ended, Stopped, ToldReset, LeftPending, Sending, Step, Fits, trace, slices, with_read, given, consumed, consumed_by, received, streams, total_over, last_window, debt, GivenSo, EndsSo, is_freed, before, IsStart, IsRun, EverPermits, AreQueued, QueuesSo, From, tells_answer, IsUnanswered, limits_in, told_of_limits, opened_ids, since}
 use Rattle.quic_history.specs.OwnDoings.{is_own_doing, AreOwnDoings}
 use Rattle.quic_history.proofs.Traces.{itself}
 use Rattle.quic_history.proofs.StreamSteps.{half-from, known-from}
@@ -152,6 +152,10 @@ empty_step : (m : Made) (h : List Event) (e : Event) (before after : List Stream
 empty_step m h (Received id offset bytes fin answer) before after own z s = not-mine (mine h (Received id offset bytes fin answer) refl own)
 empty_step m h (ReceivedReset id code final answer) before after own z s = not-mine (mine h (ReceivedReset id code final answer) refl own)
 empty_step m h (Sending (Polled answer)) before after own z s = taken_empty before answer after z s
+empty_step m h (Sending (GaveLimits limits (Ok x))) before after (inl own) z s = not-mine own
+empty_step m h (Sending (GaveLimits limits (Ok x))) before after (inr own) z s =
+    let P : List Event → Type 0 = λ g. after ≡ before ++ told_of_limits m g limits (opened_ids m.side (since g)) in
+    stays_empty before after z (subst P own.1 s)
 empty_step m h (Sending (RaisedCount dir count answer)) before after own z s = not-mine (mine h (Sending (RaisedCount dir count answer)) refl own)
 empty_step m h (Sending (RaisedLimit id limit answer)) before after own z s = not-mine (mine h (Sending (RaisedLimit id limit answer)) refl own)
 empty_step m h (Sending (StoppedOwn id code answer)) before after own z s = not-mine (mine h (Sending (StoppedOwn id code answer)) refl own)

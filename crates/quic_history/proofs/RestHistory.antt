@@ -20,7 +20,7 @@ use Rattle.quic_sending.specs.Buffer.{is_due, is_lost, total_length}
 use Rattle.quic_sending.specs.Sending.{is_ready, is_reset_sent}
 use Rattle.quic_flows.specs.Flow.{SendMove, WasCarried, WasAcked, WasLost, WasResetAcked, WasWritten, WasFinished, WasGivenUp, WasAskedToStop, WasPermitted, SendFlow, new_flow, front_of, retained, with_lost, counts_for, takes_data, with_least_limit, with_acked, freed_if_whole, is_whole, with_send_move, state_told, FlowFrom, FlowAt}
 use Rattle.quic_outgoing.specs.declared.limits.PeerLimits.{PeerLimits}
-use Rattle.quic_outgoing.specs.Outgoing.{Outgoing, with_send_half, is_stuck}
+use Rattle.quic_outgoing.specs.Outgoing.{Outgoing, with_send_half, is_stuck, first_ids, own_ids}
 use Rattle.quic_outgoing.specs.Calls.{QueuesAt, HasMore, HasNoMore}
 use Rattle.quic_writing.specs.Writer.{Writer, next_of}
 use Rattle.quic_history.specs.Writes.{with_queued, WritesOwn}
@@ -36,7 +36,7 @@ use Rattle.quic_values.specs.Ids.{stream_id, dir_of, index_of}
 use Rattle.quic_outgoing.specs.Senders.{is_local, are_one_end}
 use Rattle.quic_outgoing.specs.Transmitting.{is_data_sent}
 use Rattle.quic_outgoing.specs.Early.{has_content, QueuesUnsent}
-use Rattle.quic_history.specs.Early.{with_unsent, first_ids, own_ids, entry_at, AreUnsentOf, with_entries_put}
+use Rattle.quic_history.specs.Early.{with_unsent, entry_at, AreUnsentOf, with_entries_put}
 use Rattle.quic_history.proofs.EarlyFlows.{sent_state, reset_state}
 use Rattle.quic_history.proofs.Limits.{firmly}
 use Rattle.quic_history.proofs.FlowHistory.{known-by, few-retained}
@@ -463,7 +463,8 @@ module _ (side : Side) (there : ℕ → Bool) (f : ℕ → SendFlow) (u : World)
       by_more x y w e fair priority false more flow k = absurd (not_pending x y flow more k)
 
   rest_sending : (e : SendEvent) (v : World) → SendStep u e v → AreInQueue (λ q. with_first_limits (limits_in (Sending e)) side q (send_moved (send_move_of (Sending e)) there q (f q))) v.queue
-  rest_sending (GaveLimits limits) v s = idle (Some limits) v (ap (λ (x : World). x.queue) s)
+  rest_sending (GaveLimits limits (Ok x)) v s = idle (Some limits) v (ap (λ (x : World). x.queue) s)
+  rest_sending (GaveLimits limits (Err e)) v s = idle None v (ap (λ (x : World). x.queue) s)
   rest_sending (OpenedOwn dir closed (Ok None)) v s = idle None v (ap (λ (x : World). x.queue) s.1)
   rest_sending (OpenedOwn dir closed (Ok (Some id))) v s = idle None v (ap (λ (x : World). x.queue) s.3 ∙ queue_opened u dir id s.1)
   rest_sending (OpenedOwn dir closed (Err e)) v s = idle None v (ap (λ (x : World). x.queue) s)

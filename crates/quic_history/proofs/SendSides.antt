@@ -24,6 +24,7 @@ use Rattle.quic_history.specs.Flows.{has_side_in, is_answered_on, AllFlows}
 use Rattle.quic_history.proofs.Totals.{by_cases, same}
 use Rattle.quic_history.proofs.Traces.{itself}
 use Rattle.quic_history.proofs.Refusals.{is_bi, side-bit, dir-bit, index-id}
+use Rattle.quic_outgoing.specs.Params.{as_waiting, with_waiting, with_woken, own_woken}
 
 -- ---- which streams have a sending side
 
@@ -199,6 +200,22 @@ sides-waits a id s t e k = by_mark t.connection_blocked
     by_mark : (b : Bool) → SameSides a (if b then with_send_half a id (Some t) else record (with_send_half a id (Some (marked true t))) { blocked = a.blocked ++ id ∷ [] })
     by_mark true = sides-put a id s t e k
     by_mark false = record { side = refl; first = refl; bi = refl; uni = refl; cores = cores_put a.halves id s (marked true t) e k; buffered = refl; window = refl }
+
+sides-as : (a : Outgoing) (id : ℕ) (o : Option Send) → a.halves id ≡ o → SameSides a (as_waiting a id o)
+sides-as a id None e = sides-none a
+sides-as a id (Some s) e = sides-waits a id s s e refl
+
+sides-waiting : (a : Outgoing) (ids : List ℕ) → SameSides a (with_waiting a ids)
+sides-waiting a [] = sides-none a
+sides-waiting a (id ∷ ids) = let b = as_waiting a id (a.halves id) in sides-then a b _ (sides-as a id (a.halves id) refl) (sides-waiting b ids)
+
+-- the streams wait that limits let be written on
+pub sides-woken : (a : Outgoing) (p : PeerLimits) → SameSides a (with_woken a p)
+sides-woken a p = by_stuck (is_stuck (with_params a p))
+  where
+    by_stuck : (b : Bool) → SameSides a (if b then with_waiting a (own_woken a p) else a)
+    by_stuck true = sides-waiting a (own_woken a p)
+    by_stuck false = sides-none a
 
 cores_unmarked : (f : SendersById) (ids : List ℕ) (q : ℕ) → option_map core ((without_marks f ids) q) ≡ option_map core (f q)
 unfolding without_marks

@@ -1,5 +1,5 @@
 -- What the calls on the sending side leave of the receiving side.
-use Rattle.std.proofs.Common.{◌≡◌, ◌⊎◌, ℕ, Bool, true, false, eqb, List, ◌∷◌, Option, Some, None, is_some, Result, Ok, Err, refl, sym, ap, ◌∙◌, subst, inl, inr, arith, ◌+◌, ◌-◌, ◌<◌}
+use Rattle.std.proofs.Common.{◌≡◌, ◌⊎◌, ℕ, Bool, true, false, eqb, List, ◌∷◌, Option, Some, None, is_some, Result, Ok, Err, refl, sym, ap, ◌∙◌, subst, inl, inr, arith, ◌+◌, ◌-◌, ◌<◌, []}
 use Rattle.std.specs.declared.ops.Range.{Range}
 use Rattle.std.specs.Prelude.{◌==◌, ◌&&◌, not, nat_lt, nat_le, if◌then◌else◌, ℤ, MatchBool, ◌++◌, []}
 use Rattle.std.specs.Option.{option_map}
@@ -53,6 +53,8 @@ use Rattle.quic_history.proofs.Remotes.{AllRemotes, SameLimits, remotes-idle, re
 use Rattle.quic_history.proofs.ReceivingSteps.{opened-reported}
 use Rattle.quic_history.proofs.StreamSteps.{AllFrom, all-same, all-one, new-half-from}
 use Rattle.quic_history.proofs.Totals.{by_cases, same}
+use Rattle.quic_outgoing.specs.Params.{as_waiting, with_waiting, with_woken, own_woken, after_params}
+use Rattle.quic_outgoing.specs.declared.limits.PeerLimits.{PeerLimits}
 
 -- a call that leaves the receiving side as it is
 pub record Spares (u v : World) : Type 0 where
@@ -192,6 +194,28 @@ waits a id s t e = by_mark t.connection_blocked
     by_mark : (b : Bool) → Steadies a (if b then with_send_half a id (Some t) else record (with_send_half a id (Some (marked true t))) { blocked = a.blocked ++ id ∷ [] })
     by_mark true = steadies_put a id s t e
     by_mark false = record { side = refl; opened = refl; opened_uni = refl; held = held_put a.halves id s (marked true t) e }
+
+steadies_then : (a b c : Outgoing) → Steadies a b → Steadies b c → Steadies a c
+steadies_then a b c s t = record { side = t.side ∙ s.side; opened = t.opened ∙ s.opened; opened_uni = t.opened_uni ∙ s.opened_uni; held = λ q. t.held q ∙ s.held q }
+
+steadies_as : (a : Outgoing) (id : ℕ) (o : Option Send) → a.halves id ≡ o → Steadies a (as_waiting a id o)
+steadies_as a id None e = steadies_none a
+steadies_as a id (Some s) e = waits a id s s e
+
+steadies_waiting : (a : Outgoing) (ids : List ℕ) → Steadies a (with_waiting a ids)
+steadies_waiting a [] = steadies_none a
+steadies_waiting a (id ∷ ids) = let b = as_waiting a id (a.halves id) in steadies_then a b _ (steadies_as a id (a.halves id) refl) (steadies_waiting b ids)
+
+steadies_woken : (a : Outgoing) (p : PeerLimits) → Steadies a (with_woken a p)
+steadies_woken a p = by_stuck (is_stuck (with_params a p))
+  where
+    by_stuck : (b : Bool) → Steadies a (if b then with_waiting a (own_woken a p) else a)
+    by_stuck true = steadies_waiting a (own_woken a p)
+    by_stuck false = steadies_none a
+
+steadies_params : (a : Outgoing) (p : PeerLimits) → Steadies a (after_params a p)
+steadies_params a p = let b = with_woken a p in
+    steadies_then a b _ (steadies_woken a p) (record { side = refl; opened = refl; opened_uni = refl; held = held_raised b.side (first_of p) b.halves })
 
 steadies_rise : (a : Outgoing) (id n : ℕ) (o : Option Send) → a.halves id ≡ o → Steadies a (after_rise a id n o)
 steadies_rise a id n None e = steadies_none a
@@ -520,7 +544,9 @@ or_frees (inr k) = inr (inr k)
 
 -- a call spares the receiving side, or opens a stream, or lets a send half go
 pub kind-of : (u : World) (e : SendEvent) (v : World) → SendStep u e v → Spares u v ⊎ (OpensOne u v ⊎ FreesOne u v)
-kind-of u (GaveLimits limits) v s = inl (spares_at u v _ s (spares_out u (with_params u.out limits) refl refl refl (held_raised u.out.side (first_of limits) u.out.halves)))
+kind-of u (GaveLimits limits (Ok x)) v s = let w = with_out u (after_params u.out limits) in
+    inl (spares_at u v _ s (spares_then u w _ (spares_step u (after_params u.out limits) (steadies_params u.out limits)) (spares_events w _)))
+kind-of u (GaveLimits limits (Err e)) v s = inl (spares_at u v u s (spares_none u))
 kind-of u (OpenedOwn dir closed (Ok None)) v s = inl (spares_at u v u s.1 (spares_none u))
 kind-of u (OpenedOwn dir closed (Ok (Some id))) v s = inr (inl (record { dir = dir; few = s.2.0; is = opened_is u v dir id s.1 s.2 s.3 }))
 kind-of u (OpenedOwn dir closed (Err e)) v s = inl (spares_at u v u s (spares_none u))

@@ -24,7 +24,7 @@ use Rattle.quic_receiving.specs.declared.errors.HandleError.TheVariants as handl
 use Rattle.quic_retransmits.specs.Pending.{Pending}
 use Rattle.quic_outgoing.specs.declared.limits.PeerLimits.{PeerLimits}
 use Rattle.quic_outgoing.specs.History.{count_in, given_for}
-use Rattle.quic_outgoing.specs.Outgoing.{Outgoing, own_of, with_own, with_send_half, waiting, marked, is_stuck, fresh_sender}
+use Rattle.quic_outgoing.specs.Outgoing.{with_params, Outgoing, own_of, with_own, with_send_half, waiting, marked, is_stuck, fresh_sender}
 use Rattle.quic_outgoing.specs.Calls.{PollsWritable, ResetsStream, SetsPriority, after_rise, with_rise, is_woken, with_stop_reason}
 use Rattle.quic_outgoing.specs.Writing.{RefusesWrite, after_blocked}
 use Rattle.quic_history.specs.World.{World, told, noticed}
@@ -42,6 +42,7 @@ use Rattle.quic_history.specs.History.{Event, Received, ReceivedReset, AddedCred
 use Rattle.quic_history.proofs.Limits.{firmly}
 use Rattle.quic_history.proofs.SendSteps.{either-way}
 use Rattle.quic_history.proofs.StreamSteps.{steady-noticed}
+use Rattle.quic_outgoing.specs.Params.{as_waiting, with_waiting, with_woken, own_woken}
 
 -- ---- calls that leave the totals
 
@@ -54,6 +55,21 @@ waits a id t = by_mark t.connection_blocked
     by_mark : (b : Bool) → Keeps a (if b then with_send_half a id (Some t) else record (with_send_half a id (Some (marked true t))) { blocked = a.blocked ++ id ∷ [] })
     by_mark true = refl
     by_mark false = refl
+
+keeps_as : (a : Outgoing) (id : ℕ) (o : Option Send) → Keeps a (as_waiting a id o)
+keeps_as a id None = refl
+keeps_as a id (Some s) = waits a id s
+
+keeps_waiting : (a : Outgoing) (ids : List ℕ) → Keeps a (with_waiting a ids)
+keeps_waiting a [] = refl
+keeps_waiting a (id ∷ ids) = keeps_waiting (as_waiting a id (a.halves id)) ids ∙ keeps_as a id (a.halves id)
+
+keeps_woken : (a : Outgoing) (p : PeerLimits) → Keeps a (with_woken a p)
+keeps_woken a p = by_stuck (is_stuck (with_params a p))
+  where
+    by_stuck : (b : Bool) → Keeps a (if b then with_waiting a (own_woken a p) else a)
+    by_stuck true = keeps_waiting a (own_woken a p)
+    by_stuck false = refl
 
 keeps_if : (a b c : Outgoing) (k : Bool) → Keeps a b → Keeps a c → Keeps a (if k then b else c)
 keeps_if a b c true s t = s
@@ -239,7 +255,7 @@ limits_counted : (h : List Event) (a : SendTotals) (s : SentSo h a) (limits : Pe
 limits_counted h a s limits Bi = ap (λ n. max n (min limits.initial_max_streams_bidi (2 ^ 60))) (s.counted Bi)
 limits_counted h a s limits Uni = ap (λ n. max n (min limits.initial_max_streams_uni (2 ^ 60))) (s.counted Uni)
 
-sent_limits : (h : List Event) (a : SendTotals) (s : SentSo h a) (limits : PeerLimits) → SentSo (Sending (GaveLimits limits) ∷ h) (with_limits a limits)
+sent_limits : (h : List Event) (a : SendTotals) (s : SentSo h a) (limits : PeerLimits) → SentSo (Sending (GaveLimits limits (Ok tt)) ∷ h) (with_limits a limits)
 sent_limits h a s limits =
     let within = s.within in
     record {
@@ -385,7 +401,9 @@ same_turn u most fair (Some frame) v s =
     ap (λ (w : World). send_totals w.out) s.is ∙ ap send_totals s.turn.others ∙ ap send_totals (sym found)
 
 pub sent-sending : (h : List Event) (u : World) (e : SendEvent) (v : World) → SentSo h (send_totals u.out) → SendStep u e v → SentSo (Sending e ∷ h) (send_totals v.out)
-sent-sending h u (GaveLimits limits) v f s = sent_is _ (with_limits (send_totals u.out) limits) (send_totals v.out) (ap (λ x. send_totals x.out) s) (sent_limits h (send_totals u.out) f limits)
+sent-sending h u (GaveLimits limits (Ok x)) v f s =
+    sent_is _ (with_limits (send_totals u.out) limits) (send_totals v.out) (ap (λ x. send_totals x.out) s ∙ ap (λ a. with_limits a limits) (keeps_woken u.out limits)) (sent_limits h (send_totals u.out) f limits)
+sent-sending h u (GaveLimits limits (Err e)) v f s = sent_same h (send_totals u.out) f _ (send_totals v.out) (same_at u v s) refl refl (λ d. refl) (λ d. refl)
 sent-sending h u (OpenedOwn dir closed (Ok None)) v f s = sent_same h (send_totals u.out) f _ (send_totals v.out) (same_at u v s.1) refl refl (λ d. refl) (λ d. refl)
 sent-sending h u (OpenedOwn dir closed (Ok (Some id))) v f s =
     sent_is _ (one_opened (send_totals u.out) dir) (send_totals v.out)

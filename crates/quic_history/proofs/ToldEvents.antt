@@ -1,6 +1,6 @@
 -- What is queued to be told to the application is what the calls tell.
 use Rattle.std.proofs.Common.{◌≡◌, ◌⊎◌, ℕ, Bool, true, false, List, [], ◌∷◌, ◌++◌, Option, Some, None, is_some, Result, Ok, Err, refl, sym, ap, ◌∙◌, subst, inl, inr, ◌-◌}
-use Rattle.std.specs.Prelude.{◌==◌, ◌&&◌, not, min, is_none, nat_lt, if◌then◌else◌, ℤ}
+use Rattle.std.specs.Prelude.{◌==◌, ◌&&◌, not, min, is_none, nat_lt, if◌then◌else◌, ℤ, map}
 use Rattle.std.proofs.lemmas.List.{append-nil}
 use Rattle.quic_values.specs.declared.ids.Dir.{Dir}
 use Rattle.quic_values.specs.declared.ids.Dir.TheVariants.{Bi, Uni}
@@ -26,17 +26,17 @@ use Rattle.quic_retransmits.specs.Pending.{Pending}
 use Rattle.quic_sending.specs.declared.send.Send.{Send}
 use Rattle.quic_flows.specs.Flow.{SendFlow, FlowAt}
 use Rattle.quic_flows.proofs.FlowSteps.{ready-is}
-use Rattle.quic_outgoing.specs.Outgoing.{Outgoing, own_of, with_own}
+use Rattle.quic_outgoing.specs.Outgoing.{Outgoing, own_of, with_own, own_ids, first_ids, first_of, is_stuck, with_params}
 use Rattle.quic_outgoing.specs.Calls.{tells_writable, is_first_stop}
 use Rattle.quic_history.specs.World.{World, Made, sends, is_own, remote_of, with_remote, with_receive, permitted_if, replaced_in, released, with_freed, told, told_readable, noticed, with_credit, advanced}
 use Rattle.quic_history.specs.Receiving.{Receives, ReceivesReset, after_data, after_reset, credited_to}
 use Rattle.quic_history.specs.Reading.{Begins, Stops, TellsReset, after_read}
 use Rattle.quic_history.specs.Permitting.{after_concurrent}
-use Rattle.quic_history.specs.Sends.{with_out, with_opened, told_writable, after_first_stop, is_permitted, RaisesCount, RaisesLimit, StopsOwn, TellsNext, PollsQueue, TakesOldest}
+use Rattle.quic_history.specs.Sends.{with_out, with_opened, told_writable, after_first_stop, is_permitted, RaisesCount, RaisesLimit, StopsOwn, TellsNext, PollsQueue, TakesOldest, with_params_given}
 use Rattle.quic_history.specs.Writes.{WritesOwn, with_queued}
 use Rattle.quic_history.specs.SendTotals.{send_totals, own_total}
 use Rattle.quic_history.specs.SendEvents.{SendEvent, SendStep, GaveLimits, OpenedOwn, RaisedData, RaisedCount, RaisedLimit, StoppedOwn, SetWindow, Polled, WroteOwn, FinishedOwn, ResetOwn, SetOwnPriority, AckedOwn, LostOwn, ResetAckedOwn, TookTurn}
-use Rattle.quic_history.specs.History.{since, Rejected, SentAgain, Event, Received, ReceivedReset, AddedCredits, Began, Gave, Ended, Stopped, ToldReset, Resized, SetConcurrent, Accepted, LeftPending, Sending, Step, SentSo, FlowsSo, opened_in_all, greatest_count, send_tale, flow, is_sent_on, room_in_connection, room_in_window, QueuesSo}
+use Rattle.quic_history.specs.History.{since, Rejected, SentAgain, Event, Received, ReceivedReset, AddedCredits, Began, Gave, Ended, Stopped, ToldReset, Resized, SetConcurrent, Accepted, LeftPending, Sending, Step, SentSo, FlowsSo, opened_in_all, greatest_count, send_tale, flow, is_sent_on, room_in_connection, room_in_window, QueuesSo, opened_ids, room_with, told_of_limits}
 use Rattle.std.specs.declared.ops.Range.{Range}
 use Rattle.quic_wire.specs.declared.frame.Frame.{Frame}
 use Rattle.quic_flows.specs.Flow.{is_whole, with_acked}
@@ -55,7 +55,11 @@ use Rattle.quic_history.proofs.SendSteps.{either-way}
 use Rattle.quic_history.proofs.StreamSteps.{noticed-any}
 use Rattle.quic_history.proofs.FlowHistory.{known-by}
 use Rattle.quic_history.proofs.FlowSteps.{unpermitted}
-use Rattle.quic_history.proofs.WritesTold.{all-room}
+use Rattle.quic_history.proofs.WritesTold.{all-room, room-given}
+use Rattle.quic_outgoing.specs.Params.{is_woken_in, woken_among}
+use Rattle.quic_outgoing.specs.Senders.{first_limit}
+use Rattle.quic_outgoing.specs.declared.limits.PeerLimits.{PeerLimits}
+use Rattle.quic_values.specs.declared.ids.Side.{Side}
 
 -- ---- what queues nothing
 
@@ -334,6 +338,22 @@ polled u answer v s = either-way u.bi.opened s
     (λ r. not_queued u.events answer v.events Uni r.0 (ap (λ (x : World). x.events) r.1))
     (λ p. polls_queue (with_out u p.1) p.0 answer v p.3))
 
+-- of a stream that may be woken it is told where something may be written
+told_cell : (stuck : Bool) (id : ℕ) (ids : List ℕ) (woken : Bool) → map stream_event.Writable (if stuck then [] else (if woken then id ∷ ids else ids))
+    ≡ told_if (woken && not stuck) (stream_event.Writable id) ++ map stream_event.Writable (if stuck then [] else ids)
+told_cell true id ids true = refl
+told_cell true id ids false = refl
+told_cell false id ids true = refl
+told_cell false id ids false = refl
+
+told_nothing : (stuck : Bool) → map stream_event.Writable (if stuck then [] else []) ≡ []
+told_nothing true = refl
+told_nothing false = refl
+
+woken_cell : (o : Outgoing) (n : ℕ) (h : Option Send) → (is_woken_in n h && not (is_stuck o)) ≡ tells_writable o n h
+woken_cell o n None = refl
+woken_cell o n (Some s) = refl
+
 module _ (m : Made) (h : List Event) (u : World) (side : u.out.side ≡ m.side) (sent : SentSo (since h) (send_totals u.out)) (f : FlowsSo m h u) where
   sent_on : (id : ℕ) → has_side_in u.out u.bi.max_remote id ≡ has_send_side m.side (opened_in_all (since h)) (send_tale m h).may_open id
   sent_on id = sym (known-by m h u side f.may_open sent id)
@@ -389,8 +409,42 @@ module _ (m : Made) (h : List Event) (u : World) (side : u.out.side ≡ m.side) 
       ap (λ (w : World). w.events) s.1 ∙ events_available (with_out u (with_own u.out d (with_count (own_of u.out d) n))) (stream_event.Available d) (nat_lt (own_of u.out d).limit n)
       ∙ ap (λ k. u.events ++ told_if (nat_lt k n) (stream_event.Available d)) (counted_is u d (greatest_count (since h) d) (sent.counted d))
 
+  -- which streams limits let be written on is told
+  woken_told : (limits : PeerLimits) (id : ℕ) → (is_woken_in (first_limit u.out.side (first_of limits) id) (u.out.halves id) && not (is_stuck (with_params u.out limits)))
+      ≡ (is_sent_on m h id && (wakes (first_limit m.side (first_of limits) id) (flow m h id) && not (min (room_with limits h) (room_in_window m h) == 0)))
+  woken_told limits id =
+      let o = with_params u.out limits in
+      let room = min (room_with limits h) (room_in_window m h) in
+      let n : Side → ℕ = λ s. first_limit s (first_of limits) id in
+      woken_cell o (n u.out.side) (u.out.halves id)
+      ∙ woken_by o _ room (n u.out.side) (flow m h id) (has_side_in u.out u.bi.max_remote id) (u.out.halves id) (room-given m h u side sent f limits) (f.flows id)
+      ∙ ap (λ k. (k && not (flow m h id).freed) && (wakes (n u.out.side) (flow m h id) && not (room == 0))) (sent_on id)
+      ∙ ap (λ s. is_sent_on m h id && (wakes (n s) (flow m h id) && not (room == 0))) side
+
+  told_among : (limits : PeerLimits) (ids : List ℕ) → map stream_event.Writable (if is_stuck (with_params u.out limits) then [] else woken_among u.out (first_of limits) ids) ≡ told_of_limits m h limits ids
+  told_among limits [] = told_nothing (is_stuck (with_params u.out limits))
+  told_among limits (id ∷ ids) =
+      let stuck = is_stuck (with_params u.out limits) in
+      let e = stream_event.Writable id in
+      let told = is_sent_on m h id && (wakes (first_limit m.side (first_of limits) id) (flow m h id) && not (min (room_with limits h) (room_in_window m h) == 0)) in
+      told_cell stuck id (woken_among u.out (first_of limits) ids) (is_woken_in (first_limit u.out.side (first_of limits) id) (u.out.halves id))
+      ∙ ap (λ b. told_if b e ++ map stream_event.Writable (if stuck then [] else woken_among u.out (first_of limits) ids)) (woken_told limits id)
+      ∙ ap (λ es. told_if told e ++ es) (told_among limits ids)
+
+  opened_are : own_ids u.out ≡ opened_ids m.side (since h)
+  opened_are =
+      ap (λ s. first_ids s Bi u.out.own_bi.opened ++ first_ids s Uni u.out.own_uni.opened) side
+      ∙ ap (λ n. first_ids m.side Bi n ++ first_ids m.side Uni u.out.own_uni.opened) (sent.opened Bi)
+      ∙ ap (λ n. first_ids m.side Bi (opened_in_all (since h) Bi) ++ first_ids m.side Uni n) (sent.opened Uni)
+
+  limits_so : (limits : PeerLimits) (v : World) → v ≡ with_params_given u limits → v.events ≡ u.events ++ told_of_limits m h limits (opened_ids m.side (since h))
+  limits_so limits v s =
+      ap (λ (w : World). w.events) s
+      ∙ ap (λ es. u.events ++ es) (told_among limits (own_ids u.out) ∙ ap (λ ids. told_of_limits m h limits ids) opened_are)
+
   queues_sending : (e : SendEvent) (v : World) → SendStep u e v → QueuesSo m h (Sending e) u.events v.events
-  queues_sending (GaveLimits limits) v s = ap (λ (w : World). w.events) s ∙ told_none u.events
+  queues_sending (GaveLimits limits (Ok x)) v s = limits_so limits v s
+  queues_sending (GaveLimits limits (Err e)) v s = same_as u v s
   queues_sending (OpenedOwn dir closed (Ok None)) v s = same_as u v s.1
   queues_sending (OpenedOwn dir closed (Ok (Some id))) v s = ap (λ (w : World). w.events) s.3 ∙ events_opened u dir id s.1 ∙ told_none u.events
   queues_sending (OpenedOwn dir closed (Err e)) v s = same_as u v s

@@ -44,7 +44,7 @@ use Rattle.quic_history.proofs.UsedHalves.{Keeps, KeepsUsed, used-kept, used-sam
 -- ---- how many there may be
 
 count_few : (e : Event) (d : Dir) → count_by e d ≤ 2 ^ 60
-count_few (Sending (GaveLimits limits)) d = omega arith
+count_few (Sending (GaveLimits limits (Ok x))) d = omega arith
 count_few (Sending (RaisedCount dir count (Ok x))) d = omega arith
 count_few e d = omega arith
 

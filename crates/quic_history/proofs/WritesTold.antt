@@ -12,15 +12,16 @@ use Rattle.quic_limits.specs.SendingCredit.{writable}
 use Rattle.quic_retransmits.specs.Pending.{Pending}
 use Rattle.quic_flows.specs.Flow.{SendFlow, takes_data, FlowFrom, FlowAt}
 use Rattle.quic_flows.proofs.FlowSteps.{ready-is}
-use Rattle.quic_outgoing.specs.Outgoing.{Outgoing, is_stuck}
+use Rattle.quic_outgoing.specs.Outgoing.{Outgoing, is_stuck, with_params}
 use Rattle.quic_outgoing.specs.Writing.{RefusesWrite, refusal_of_write}
 use Rattle.quic_history.specs.World.{World, Made}
 use Rattle.quic_history.specs.Writes.{WritesOwn}
 use Rattle.quic_history.specs.SendTotals.{send_totals}
 use Rattle.quic_history.specs.Flows.{has_side_in, room_on, refusal_where, refusal_told}
-use Rattle.quic_history.specs.History.{since, Event, SentSo, flow, FlowsSo, room_in_connection, room_in_window, write_room, why_not, WritesSo, TellsWrites}
+use Rattle.quic_history.specs.History.{since, Event, SentSo, flow, FlowsSo, room_in_connection, room_in_window, write_room, why_not, WritesSo, TellsWrites, room_with}
 use Rattle.quic_history.proofs.SendSides.{held-flow}
 use Rattle.quic_history.proofs.FlowHistory.{known-by}
+use Rattle.quic_outgoing.specs.declared.limits.PeerLimits.{PeerLimits}
 
 -- why a half refuses a write is told of its stream
 refusal_by : (t : SendFlow) (s : Send) (b : Bool) (o : Option ℕ) → FlowFrom t s → is_ready s.state ≡ b → s.stop_reason ≡ o
@@ -53,6 +54,15 @@ module _ (m : Made) (h : List Event) (u : World) (side : u.out.side ≡ m.side) 
   -- how many bytes may be written on all streams
   pub all-room : writable u.out.budget ≡ min (room_in_connection h) (room_in_window m h)
   all-room =
+      let taken = sent.taken in
+      let limit = sent.limit in
+      let window = f.send_window in
+      let kept = f.retained in
+      omega arith
+
+  -- and with the limit of the peer's transport parameters
+  pub room-given : (limits : PeerLimits) → writable (with_params u.out limits).budget ≡ min (room_with limits h) (room_in_window m h)
+  room-given limits =
       let taken = sent.taken in
       let limit = sent.limit in
       let window = f.send_window in

@@ -1,18 +1,18 @@
 -- An early start (RFC 9001 section 4.6): what its rejection does to an end, and what sending all of it again does.
-use Rattle.std.specs.Prelude.{ℕ, zero, suc, ℤ, Bool, true, false, ◌≡◌, ◌||◌, is_none, is_some, if◌then◌else◌, List, [], ◌∷◌, ◌++◌, Option, Some, None, Result, Ok, Err}
+use Rattle.std.specs.Prelude.{ℕ, ℤ, Bool, true, false, ◌≡◌, ◌||◌, is_none, is_some, if◌then◌else◌, List, [], ◌∷◌, ◌++◌, Option, Some, None, Result, Ok, Err}
 use Rattle.quic_values.specs.declared.memory.OutOfMemory.{OutOfMemory}
 use Rattle.quic_values.specs.declared.ids.Side.{Side}
 use Rattle.quic_values.specs.declared.ids.Side.TheVariants.{Client}
 use Rattle.quic_values.specs.declared.ids.Dir.{Dir}
 use Rattle.quic_values.specs.declared.ids.Dir.TheVariants.{Bi, Uni}
-use Rattle.quic_values.specs.Ids.{stream_id, other_side}
+use Rattle.quic_values.specs.Ids.{other_side}
 use Rattle.quic_limits.specs.Remote.{Remote, none_announced}
 use Rattle.quic_queue.specs.declared.queue.Entry.{Entry}
 use Rattle.quic_queue.specs.SendOrder.{SendOrder, empty_queue, with_entry}
 use Rattle.quic_receiving.specs.Half.{Half}
 use Rattle.quic_flows.specs.Flow.{SendFlow, new_flow}
 use Rattle.quic_outgoing.specs.Senders.{is_local}
-use Rattle.quic_outgoing.specs.Outgoing.{Outgoing}
+use Rattle.quic_outgoing.specs.Outgoing.{Outgoing, own_ids}
 use Rattle.quic_outgoing.specs.Early.{after_rejection, with_all_unsent, QueuesUnsent}
 use Rattle.quic_history.specs.Halves.{Halves}
 use Rattle.quic_history.specs.World.{World, id_refusal}
@@ -44,15 +44,6 @@ with_rejection w = record w {
   uni = announced_anew w.adjusted w.uni;
   send_streams = halves_among w (other_side w.out.side) Bi w.bi.next_reported;
 }
-
--- the ids of the first so many streams of an end and a direction
-abbrev pub first_ids : Side → Dir → ℕ → List ℕ
-first_ids side d zero = []
-first_ids side d (suc n) = first_ids side d n ++ stream_id side d n ∷ []
-
--- those of all streams that this end opened, bidirectional ones first
-abbrev pub own_ids : Outgoing → List ℕ
-own_ids o = first_ids o.side Bi o.own_bi.opened ++ first_ids o.side Uni o.own_uni.opened
 
 -- the entry of a stream that is queued at a priority
 abbrev pub entry_at : ℕ → Option ℤ → List Entry

@@ -39,7 +39,8 @@ use Rattle.quic_history.specs.SendEvents.{SendEvent, SendStep, GaveLimits, Raise
 use Rattle.quic_flows.specs.Flow.{SendMove, WasWritten, WasFinished, WasGivenUp, WasAskedToStop, WasPermitted, SendFlow, new_flow, front_of, retained, WasCarried, WasAcked, WasLost, WasResetAcked}
 use Rattle.quic_outgoing.specs.declared.limits.PeerLimits.{PeerLimits}
 use Rattle.quic_outgoing.specs.declared.entries.FirstLimits.{FirstLimits}
-use Rattle.quic_outgoing.specs.Senders.{no_limits}
+use Rattle.quic_outgoing.specs.Senders.{no_limits, first_limit}
+use Rattle.quic_outgoing.specs.Outgoing.{first_ids, first_of}
 use Rattle.quic_history.specs.Flows.{SendTale, has_send_side, send_moved, with_first_limits, with_limits_in, AllFlows, room_on, refusal_told, wakes, told_if, TakesQueued, ends_by, AreInQueue}
 use Rattle.quic_wire.specs.declared.event.StreamEvent.{StreamEvent}
 use Rattle.quic_wire.specs.declared.event.StreamEvent.TheVariants as stream_event
@@ -474,7 +475,7 @@ taken_in_all (e ∷ h) = taken_in_all h + taken_by e
 
 -- the limit of the connection that a call gave, 0 where it gave none
 abbrev pub limit_by : Event → ℕ
-limit_by (Sending (GaveLimits limits)) = limits.initial_max_data
+limit_by (Sending (GaveLimits limits (Ok x))) = limits.initial_max_data
 limit_by (Sending (RaisedData limit)) = limit
 limit_by _ = 0
 
@@ -485,7 +486,7 @@ greatest_limit (e ∷ h) = max (greatest_limit h) (limit_by e)
 
 -- the count of streams of a direction that a call gave, 0 where it gave none; there are 2^60 streams at most
 abbrev pub count_by : Event → Dir → ℕ
-count_by (Sending (GaveLimits limits)) d = min (count_in limits d) (2 ^ 60)
+count_by (Sending (GaveLimits limits (Ok x))) d = min (count_in limits d) (2 ^ 60)
 count_by (Sending (RaisedCount dir count (Ok x))) d = min (given_for dir d count) (2 ^ 60)
 count_by _ d = 0
 
@@ -553,7 +554,7 @@ send_move_of _ = None
 
 -- the peer's transport parameters that a call handed in
 abbrev pub limits_in : Event → Option PeerLimits
-limits_in (Sending (GaveLimits limits)) = Some limits
+limits_in (Sending (GaveLimits limits (Ok x))) = Some limits
 limits_in _ = None
 
 -- the limits that streams begin with: of each the greatest that was handed in
@@ -649,9 +650,26 @@ abbrev pub TellsWrites : Made → List Event → World → Type 0
 TellsWrites m h v = (id : ℕ) (lists : List (List ℕ)) (closed : Bool) (p : Pending) (answer : Result Written WriteError) (w : World) (left : List (List ℕ)) (q : Pending)
     → WritesOwn v id lists closed p answer w left q → WritesSo m h id lists closed answer
 
+-- the streams that this end opened, bidirectional ones first, in the order in which it opened them
+abbrev pub opened_ids : Side → List Event → List ℕ
+opened_ids side h = first_ids side Bi (opened_in_all h Bi) ++ first_ids side Uni (opened_in_all h Uni)
+
+-- how many bytes the limit of the connection leaves with that of the peer's transport parameters
+abbrev pub room_with : PeerLimits → List Event → ℕ
+room_with limits h = max (greatest_limit (since h)) limits.initial_max_data - taken_in_all (since h)
+
+-- of some streams those are told, in their order, that the peer's transport parameters let be written on that were
+-- written up to their limits, where the connection leaves room
+abbrev pub told_of_limits : Made → List Event → PeerLimits → List ℕ → List StreamEvent
+told_of_limits m h limits [] = []
+told_of_limits m h limits (id ∷ ids) =
+    told_if (is_sent_on m h id && (wakes (first_limit m.side (first_of limits) id) (flow m h id) && not (min (room_with limits h) (room_in_window m h) == 0))) (stream_event.Writable id)
+    ++ told_of_limits m h limits ids
+
 -- what a call queues to be told: that more streams may be opened, that a stream was stopped, that it may be written on,
 -- that it is finished
 abbrev pub told_by : Made → List Event → Event → List StreamEvent
+told_by m h (Sending (GaveLimits limits (Ok x))) = told_of_limits m h limits (opened_ids m.side (since h))
 told_by m h (Sending (RaisedCount dir count (Ok x))) = told_if (nat_lt (greatest_count (since h) dir) count) (stream_event.Available dir)
 told_by m h (Sending (StoppedOwn id code (Ok x))) = told_if (is_sent_on m h id && is_none (flow m h id).stopped) (stream_event.Stopped id code)
 told_by m h (Sending (RaisedLimit id limit (Ok x))) =

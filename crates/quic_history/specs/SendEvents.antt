@@ -12,9 +12,8 @@ use Rattle.quic_sending.specs.declared.send.FinishError.{FinishError}
 use Rattle.quic_receiving.specs.declared.errors.HandleError.{HandleError}
 use Rattle.quic_retransmits.specs.Pending.{Pending}
 use Rattle.quic_outgoing.specs.declared.limits.PeerLimits.{PeerLimits}
-use Rattle.quic_outgoing.specs.Outgoing.{with_params}
 use Rattle.quic_history.specs.World.{World}
-use Rattle.quic_history.specs.Sends.{with_out, OpensOwn, RaisesCount, RaisesLimit, StopsOwn, TellsNext}
+use Rattle.quic_history.specs.Sends.{with_out, TakesParams, OpensOwn, RaisesCount, RaisesLimit, StopsOwn, TellsNext}
 use Rattle.quic_history.specs.Writes.{WritesOwn, FinishesOwn, ResetsOwn, SetsOwnPriority}
 use Rattle.quic_wire.specs.declared.frame.StreamMeta.{StreamMeta}
 use Rattle.quic_history.specs.Carrying.{TakesItsTurn}
@@ -23,7 +22,7 @@ use Rattle.quic_history.specs.Acknowledged.{AcksOwn, LosesOwn, AcksReset}
 -- a call on the sending side and its answer
 pub data SendEvent : Type 0 where
   -- the peer's transport parameters were handed in
-  GaveLimits : (limits : PeerLimits) → SendEvent
+  GaveLimits : (limits : PeerLimits) → (answer : Result (Unit {0}) OutOfMemory) → SendEvent
   -- a stream was asked for, on a connection that was closed or not
   OpenedOwn : (dir : Dir) → (closed : Bool) → (answer : Result (Option ℕ) OutOfMemory) → SendEvent
   -- MAX_DATA was handed in
@@ -57,7 +56,7 @@ pub data SendEvent : Type 0 where
 
 -- what one of these calls may do
 abbrev pub SendStep : World → SendEvent → World → Type 0
-SendStep u (GaveLimits limits) v = v ≡ with_out u (with_params u.out limits)
+SendStep u (GaveLimits limits answer) v = TakesParams u limits answer v
 SendStep u (OpenedOwn dir closed answer) v = OpensOwn u dir closed answer v
 SendStep u (RaisedData limit) v = v ≡ with_out u (record u.out { budget = with_limit u.out.budget limit })
 SendStep u (RaisedCount dir count answer) v = RaisesCount u dir count answer v

@@ -1,5 +1,5 @@
 -- What the calls on the sending side do to an end.
-use Rattle.std.specs.Prelude.{ℕ, Bool, true, false, ◌≡◌, ◌≤◌, ◌<◌, ◌^◌, ◌⊎◌, not, nat_le, nat_lt, if◌then◌else◌, List, [], ◌∷◌, Option, Some, None, Result, Ok, Err, MatchBool}
+use Rattle.std.specs.Prelude.{ℕ, Bool, ◌++◌, map, true, false, ◌≡◌, ◌≤◌, ◌<◌, ◌^◌, ◌⊎◌, not, nat_le, nat_lt, if◌then◌else◌, List, [], ◌∷◌, Option, Some, None, Result, Ok, Err, MatchBool}
 use Rattle.quic_values.specs.declared.memory.OutOfMemory.{OutOfMemory}
 use Rattle.quic_values.specs.declared.ids.Dir.{Dir}
 use Rattle.quic_values.specs.declared.ids.Dir.TheVariants.{Bi, Uni}
@@ -15,13 +15,23 @@ use Rattle.quic_limits.specs.Remote.{opening_told}
 use Rattle.quic_limits.specs.SendingCredit.{with_limit, with_window}
 use Rattle.quic_receiving.specs.Half.{new_half}
 use Rattle.quic_outgoing.specs.declared.limits.PeerLimits.{PeerLimits}
-use Rattle.quic_outgoing.specs.Outgoing.{Outgoing, own_of, with_own, with_params}
+use Rattle.quic_outgoing.specs.Outgoing.{Outgoing, own_of, with_own}
+use Rattle.quic_outgoing.specs.Params.{after_params, newly_writable}
 use Rattle.quic_outgoing.specs.Calls.{OpensStream, RaisesStream, StopsSending, PollsWritable}
 use Rattle.quic_history.specs.World.{World, is_own, remote_of, with_remote, with_receive, with_send_streams, told, noticed}
 
 -- another sending side
 abbrev pub with_out : World → Outgoing → World
 with_out w o = record w { out = o }
+
+-- the peer gave its transport parameters: the application is told of each stream of this end that they let be written on
+abbrev pub with_params_given : World → PeerLimits → World
+with_params_given w p = record w { out = after_params w.out p; events = w.events ++ map stream_event.Writable (newly_writable w.out p) }
+
+-- for want of memory nothing changes
+abbrev pub TakesParams : World → PeerLimits → Result (Unit {0}) OutOfMemory → World → Type 0
+TakesParams w p (Ok x) v = v ≡ with_params_given w p
+TakesParams w p (Err e) v = v ≡ w
 
 -- a stream of this end was opened: one that is bidirectional has a new receive half
 abbrev pub with_opened : World → Dir → ℕ → Outgoing → World

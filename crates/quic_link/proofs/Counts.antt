@@ -9,10 +9,9 @@ use Rattle.quic_wire.specs.declared.frame.Frame.TheVariants as frames
 use Rattle.quic_outgoing.specs.declared.limits.PeerLimits.{PeerLimits}
 use Rattle.quic_outgoing.specs.History.{count_in, given_for}
 use Rattle.quic_outgoing.specs.Senders.{is_local}
-use Rattle.quic_outgoing.specs.Outgoing.{own_of}
+use Rattle.quic_outgoing.specs.Outgoing.{own_of, first_ids, own_ids}
 use Rattle.quic_history.specs.World.{World, Made, start, remote_of}
 use Rattle.quic_history.specs.SendEvents.{GaveLimits, RaisedData, RaisedCount, RaisedLimit, StoppedOwn, WroteOwn, FinishedOwn, LostOwn}
-use Rattle.quic_history.specs.Early.{first_ids, own_ids}
 use Rattle.quic_history.specs.History.{Event, Received, ReceivedReset, Sending, SentAgain, opened_in_all, count_by, greatest_limit, limit_by}
 use Rattle.quic_history.proofs.Credits.{limit-fits}
 use Rattle.quic_history.proofs.Refusals.{index-id}
@@ -120,7 +119,7 @@ given_most Uni Bi n most l = omega arith
 given_most Uni Uni n most l = l
 
 count_true : (x y : LinkedEnd) (e : Event) → AllTrue y → ((d : Dir) → (remote_of (start y.made) d).max_remote ≤ (remote_of y.world d).max_remote) → IsHonest x y e → (d : Dir) → count_by e d ≤ (remote_of y.world d).max_remote
-count_true x y (Sending (GaveLimits limits)) t base k d =
+count_true x y (Sending (GaveLimits limits (Ok u))) t base k d =
     let a = count_most y.made limits d k in
     let b = base d in
     omega arith
@@ -138,7 +137,7 @@ pub record DataSo (x y : LinkedEnd) : Type 0 where
   pub base : x.made.credit.local_max_data ≤ x.world.credit.local_max_data
 
 limit_true : (x y : LinkedEnd) (e : Event) → AllTrue y → y.made.credit.local_max_data ≤ y.world.credit.local_max_data → IsHonest x y e → limit_by e ≤ y.world.credit.local_max_data
-limit_true x y (Sending (GaveLimits limits)) t base k = let a = k.of_connection in omega arith
+limit_true x y (Sending (GaveLimits limits (Ok u))) t base k = let a = k.of_connection in omega arith
 limit_true x y (Sending (RaisedData limit)) t base k = t (frames.MaxData limit) k
 limit_true x y _ t base k = omega arith
 

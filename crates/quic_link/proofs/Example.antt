@@ -40,7 +40,7 @@ offsets = record { start = 0; end = 3 }
 -- the calls of the client, in their order: stream 2 is opened, takes 3 bytes, and is ended; a frame with all of it is
 -- written, and acknowledged
 abbrev gives : Event
-gives = Sending (GaveLimits (limits_of server))
+gives = Sending (GaveLimits (limits_of server) (Ok tt))
 
 abbrev opens : Event
 opens = Sending (OpenedOwn Uni false (Ok (Some 2)))

@@ -292,7 +292,8 @@ MeetsBy u v None = nexts v ≡ nexts u
 MeetsBy u v (Some id) = Meets u v id
 
 meets_send : (u : World) (e : SendEvent) (v : World) → SendStep u e v → MeetsBy u v (frame_id (Sending e))
-meets_send u (GaveLimits limits) v s = ap nexts s
+meets_send u (GaveLimits limits (Ok x)) v s = ap nexts s
+meets_send u (GaveLimits limits (Err e)) v s = ap nexts s
 meets_send u (OpenedOwn dir closed (Ok None)) v s = ap nexts s.1
 meets_send u (OpenedOwn dir closed (Ok (Some id))) v s = ap nexts s.3 ∙ stays_opened u dir id s.1
 meets_send u (OpenedOwn dir closed (Err e)) v s = ap nexts s

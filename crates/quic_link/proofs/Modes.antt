@@ -332,7 +332,8 @@ tails_finished w id true = tails_send_freed w id
 tails_finished w id false = tails_same w w refl
 
 tails_send : (u : World) (e : SendEvent) (v : World) → SendStep u e v → Tails u v
-tails_send u (GaveLimits limits) v s = tails_same u v (ap (λ (w : World). w.receive) s)
+tails_send u (GaveLimits limits (Ok x)) v s = tails_same u v (ap (λ (w : World). w.receive) s)
+tails_send u (GaveLimits limits (Err e)) v s = tails_same u v (ap (λ (w : World). w.receive) s)
 tails_send u (OpenedOwn dir closed (Ok None)) v s = tails_same u v (ap (λ (w : World). w.receive) s.1)
 tails_send u (OpenedOwn dir closed (Ok (Some id))) v s = tails_at u v _ s.3 (tails_opened u dir id s.1)
 tails_send u (OpenedOwn dir closed (Err e)) v s = tails_same u v (ap (λ (w : World). w.receive) s)

@@ -12,7 +12,7 @@ use Rattle.quic_queue.specs.declared.queue.Next.{Next}
 use Rattle.quic_queue.specs.declared.queue.Next.TheVariants.{LetGo, PutAnew, KeepBack}
 use Rattle.quic_queue.specs.SendOrder.{SendOrder, put, line, first, with_entry, without_next, with_turn_ended}
 use Rattle.quic_limits.specs.Own.{with_count}
-use Rattle.quic_outgoing.specs.Outgoing.{Outgoing, own_of, with_own, with_send_half}
+use Rattle.quic_outgoing.specs.Outgoing.{Outgoing, own_of, with_own, with_send_half, own_ids}
 use Rattle.quic_writing.specs.Writer.{Writer, next_of}
 use Rattle.quic_history.specs.World.{World, with_receive, told, noticed}
 use Rattle.quic_history.specs.Flows.{stands}
@@ -21,7 +21,7 @@ use Rattle.quic_history.specs.Writes.{with_queued, WritesOwn}
 use Rattle.quic_history.specs.Acknowledged.{with_send_freed, told_finished, frees_reset}
 use Rattle.quic_history.specs.SendEvents.{SendEvent, SendStep, GaveLimits, RaisedData, RaisedCount, RaisedLimit, StoppedOwn, SetWindow, OpenedOwn, WroteOwn, FinishedOwn, ResetOwn, SetOwnPriority, AckedOwn, LostOwn, ResetAckedOwn, TookTurn, Polled}
 use Rattle.quic_history.specs.History.{Event, Received, ReceivedReset, AddedCredits, Began, Gave, Ended, Stopped, ToldReset, Resized, SetConcurrent, Accepted, LeftPending, Sending, Step, Rejected, SentAgain, joint_move_of}
-use Rattle.quic_history.specs.Early.{begins_anew, own_ids, entry_at, AreUnsentOf, with_entries_put}
+use Rattle.quic_history.specs.Early.{begins_anew, entry_at, AreUnsentOf, with_entries_put}
 use Rattle.quic_history.proofs.Limits.{firmly, is_of_sending}
 use Rattle.quic_history.proofs.StreamSteps.{Steady, steady-noticed}
 use Rattle.quic_history.proofs.SendFreed.{steady-send-freed}
@@ -179,7 +179,8 @@ queues_turn u v a b e n before after f s q h =
     inl (ap (λ (x : SendOrder). stands q (line x)) before ∙ turn_from q a.queue e n f k)
 
 queues_send : (u : World) (e : SendEvent) (v : World) → SendStep u e v → QueuesBy u v (queued_id (Sending e))
-queues_send u (GaveLimits limits) v s = queues_same u v None (ap (λ (x : World). x.queue) s)
+queues_send u (GaveLimits limits (Ok x)) v s = queues_same u v None (ap (λ (w : World). w.queue) s)
+queues_send u (GaveLimits limits (Err e)) v s = queues_same u v None (ap (λ (w : World). w.queue) s)
 queues_send u (OpenedOwn dir closed (Ok None)) v s = queues_same u v None (ap (λ (x : World). x.queue) s.1)
 queues_send u (OpenedOwn dir closed (Ok (Some id))) v s = queues_same u v None (queue_at u v (with_opened u dir id s.1) s.3 (queue_opened u dir id s.1))
 queues_send u (OpenedOwn dir closed (Err e)) v s = queues_same u v None (ap (λ (x : World). x.queue) s)

@@ -192,7 +192,8 @@ stays_first_stop w id code true = stays_noticed (told w (stream_event.Stopped id
 stays_first_stop w id code false = refl
 
 stays_send : (u : World) (e : SendEvent) (v : World) → SendStep u e v → Stays u v
-stays_send u (GaveLimits limits) v s = ap reports s
+stays_send u (GaveLimits limits (Ok x)) v s = ap reports s
+stays_send u (GaveLimits limits (Err e)) v s = ap reports s
 stays_send u (OpenedOwn dir closed (Ok None)) v s = ap reports s.1
 stays_send u (OpenedOwn dir closed (Ok (Some id))) v s = ap reports s.3 ∙ stays_opened u dir id s.1
 stays_send u (OpenedOwn dir closed (Err e)) v s = ap reports s

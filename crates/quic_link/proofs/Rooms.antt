@@ -157,7 +157,7 @@ room_limits m (Some limits) side q t s a r =
     room_least t (first_limit side (first_of limits) q) (omega arith) r
 
 pub limits-honest : (x y : LinkedEnd) (e : Event) → IsHonest x y e → AreLimitsOf y.made (limits_in e)
-limits-honest x y (Sending (GaveLimits limits)) k = k
+limits-honest x y (Sending (GaveLimits limits (Ok u))) k = k
 limits-honest x y _ k = tt
 
 -- ---- what a call writes

@@ -7,8 +7,8 @@ use Rattle.quic_wire.specs.declared.frame.Frame.TheVariants as frames
 use Rattle.quic_flows.specs.Flow.{WasAcked, SendFlow, with_acked, counts_for, is_whole, freed_if_whole}
 use Rattle.quic_history.specs.World.{World}
 use Rattle.quic_history.specs.Flows.{has_send_side, send_moved, told_if, ends_by, TakesQueued}
-use Rattle.quic_history.specs.SendEvents.{RaisedCount, RaisedLimit, StoppedOwn, AckedOwn, Polled}
-use Rattle.quic_history.specs.History.{Event, Received, ReceivedReset, Sending, opened_in_all, send_tale, told_by, QueuesSo, is_sent_on, since}
+use Rattle.quic_history.specs.SendEvents.{RaisedCount, RaisedLimit, StoppedOwn, AckedOwn, Polled, GaveLimits}
+use Rattle.quic_history.specs.History.{Event, Received, ReceivedReset, Sending, opened_in_all, send_tale, told_by, QueuesSo, is_sent_on, since, told_of_limits, opened_ids}
 use Rattle.quic_history.proofs.ToldEvents.{queues}
 use Rattle.quic_history.proofs.Traces.{itself}
 use Rattle.quic_link.specs.Endpoints.{LinkedEnd, IsOneOf, MayAct, acted, sent_on}
@@ -18,6 +18,7 @@ use Rattle.quic_link.proofs.Growth.{grows}
 use Rattle.quic_link.proofs.TrueFrames.{AllTrue, amount-stays}
 use Rattle.quic_link.proofs.Acks.{AckedSo, acked-sent}
 use Rattle.quic_link.proofs.Basics.{both, either-of, ended_closed, or_right}
+use Rattle.quic_outgoing.specs.declared.limits.PeerLimits.{PeerLimits}
 
 abbrev pub AllToldTrue : LinkedEnd → LinkedEnd → Type 0
 AllToldTrue x y = (g : StreamEvent) → IsOneOf g x.world.events → IsTrueEvent x y g
@@ -78,7 +79,16 @@ acked_flow : (id first behind : ℕ) (fin : Bool) (there : ℕ → Bool) (t : Se
 acked_flow id first behind fin there t k c = rw (itself id, k, c) refl
 
 module _ (x y : LinkedEnd) (f : Comes x) (t : AllTrue y) (s : (q : ℕ) → AckedSo (sent_on x q) y.calls q) where
+  -- limits tell of streams that may be written on alone
+  limits_told : (limits : PeerLimits) (ids : List ℕ) (z : LinkedEnd) (g : StreamEvent) → IsOneOf g (told_of_limits x.made x.calls limits ids) → IsTrueEvent z y g
+  limits_told limits [] z g h = absurd h
+  limits_told limits (id ∷ ids) z g h = elim (either-of g (told_if _ (stream_event.Writable id)) (told_of_limits x.made x.calls limits ids) h) [
+    | inl now ↦ (let k = only_if _ g (stream_event.Writable id) now in event_at z y g (stream_event.Writable id) k.1 tt)
+    | inr others ↦ limits_told limits ids z g others
+  ]
+
   new_told : (e : Event) (v : World) → MayAct x y e v → (g : StreamEvent) → IsOneOf g (told_by x.made x.calls e) → IsTrueEvent (acted x e v) y g
+  new_told (Sending (GaveLimits limits (Ok u))) v a g h = limits_told limits (opened_ids x.made.side (since x.calls)) (acted x (Sending (GaveLimits limits (Ok u))) v) g h
   new_told (Sending (RaisedCount dir count (Ok u))) v a g h = let k = only_if _ g (stream_event.Available dir) h in event_at _ y g (stream_event.Available dir) k.1 tt
   new_told (Sending (RaisedCount dir count (Err error))) v a g h = absurd h
   new_told (Sending (StoppedOwn id code (Ok u))) v a g h =

@@ -104,7 +104,7 @@ pub record LimitsWithin (limits most : PeerLimits) : Type 0 where
 -- earlier connection (RFC 9000 section 7.4.1), frames that y wrote, a frame that it accepted. A frame that was lost was
 -- written. A write takes bytes, and an end is taken, of streams that the application was given
 abbrev pub IsHonestSending : LinkedEnd → LinkedEnd → SendEvent → Type 0
-IsHonestSending x y (GaveLimits limits) = LimitsWithin limits (limits_of y.made)
+IsHonestSending x y (GaveLimits limits (Ok u)) = LimitsWithin limits (limits_of y.made)
 IsHonestSending x y (RaisedData limit) = IsOneOf (frames.MaxData limit) y.wrote
 IsHonestSending x y (RaisedCount dir count answer) = IsOneOf (frames.MaxStreams dir count) y.wrote
 IsHonestSending x y (RaisedLimit id limit answer) = IsOneOf (frames.MaxStreamData id limit) y.wrote

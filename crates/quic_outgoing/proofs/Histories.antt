@@ -13,10 +13,11 @@ use Rattle.quic_sending.specs.declared.send.Send.{Send}
 use Rattle.quic_outgoing.specs.declared.limits.PeerLimits.{PeerLimits}
 use Rattle.quic_outgoing.specs.declared.writing.Wrote.{Wrote}
 use Rattle.quic_outgoing.specs.Writing.{TakesBytesOf}
-use Rattle.quic_outgoing.specs.Outgoing.{Outgoing, no_streams, own_of, with_own, with_send_half, with_params, fresh_sender}
+use Rattle.quic_outgoing.specs.Outgoing.{Outgoing, no_streams, own_of, with_own, with_send_half, with_params, fresh_sender, is_stuck}
+use Rattle.quic_outgoing.specs.Params.{after_params, with_woken, with_waiting, own_woken}
 use Rattle.quic_outgoing.specs.History.{Call, Permitted, PermittedMore, Removed, GaveParams, Opened, GaveData, GaveStreams, GaveStream, WasStopped, Writing, Finished, Reset, SetPriority, Polled, Transmitted, SetWindow, AckedFrame, LostFrame, ResetAcked, RejectedEarly, Unsent, DoesCall, is_rejection, calls_since, bytes_by, data_limit_of, count_in, given_for, count_given_by, opened_by, TellsBudget, ComesFrom, Continues}
 use Rattle.quic_outgoing.specs.Early.{after_rejection}
-use Rattle.quic_outgoing.proofs.Keeping.{Keeps, keeps-all, keeps-is, keeps-stream, keeps-rise, keeps-stop, keeps-blocked, keeps-polled, keeps-acked, keeps-lost, keeps-given-up}
+use Rattle.quic_outgoing.proofs.Keeping.{Keeps, keeps-all, keeps-is, keeps-stream, keeps-rise, keeps-stop, keeps-blocked, keeps-polled, keeps-acked, keeps-lost, keeps-given-up, keeps-woken}
 
 -- what a call adds to what was sent, to the limits, and to what was opened
 record Moves (u : Outgoing) (e : Call) (v : Outgoing) : Type 0 where
@@ -88,28 +89,29 @@ none-greater n = omega arith
 up-to : (a b : ℕ) → b ≤ 2 ^ 60 → max a (min b (2 ^ 60)) ≡ max a b
 up-to a b h = omega arith
 
-params-move : (u : Outgoing) (p : PeerLimits) → Moves u (GaveParams p) (with_params u p)
-params-move u p = record {
-  side = refl;
-  sent = none-more _;
-  limit = refl;
-  within = λ h. omega (arith, h);
+-- what the peer's limits add, of a sending side on which streams were made to wait
+params-move : (u w : Outgoing) (p : PeerLimits) → Keeps u w → Moves u (GaveParams p (Ok tt)) (with_params w p)
+params-move u w p k = record {
+  side = k.side;
+  sent = k.sent ∙ none-more _;
+  limit = ap (λ n. max n p.initial_max_data) k.limit;
+  within = λ h. let sent = k.sent in let limit = k.limit in omega (arith, h, sent, limit);
   opened = λ dir. opened dir;
   counted = λ dir. counted dir;
   few = λ dir h. few dir h;
 }
   where
-    opened : (dir : Dir) → (own_of (with_params u p) dir).opened ≡ (own_of u dir).opened + 0
-    opened Bi = none-more _
-    opened Uni = none-more _
+    opened : (dir : Dir) → (own_of (with_params w p) dir).opened ≡ (own_of u dir).opened + 0
+    opened Bi = ap (λ (o : Own). o.opened) k.bi ∙ none-more _
+    opened Uni = ap (λ (o : Own). o.opened) k.uni ∙ none-more _
 
-    counted : (dir : Dir) → (own_of (with_params u p) dir).limit ≡ max (own_of u dir).limit (min (count_in p dir) (2 ^ 60))
-    counted Bi = refl
-    counted Uni = refl
+    counted : (dir : Dir) → (own_of (with_params w p) dir).limit ≡ max (own_of u dir).limit (min (count_in p dir) (2 ^ 60))
+    counted Bi = ap (λ (o : Own). max o.limit (min p.initial_max_streams_bidi (2 ^ 60))) k.bi
+    counted Uni = ap (λ (o : Own). max o.limit (min p.initial_max_streams_uni (2 ^ 60))) k.uni
 
-    few : (dir : Dir) → (own_of u dir).opened ≤ (own_of u dir).limit → (own_of (with_params u p) dir).opened ≤ (own_of (with_params u p) dir).limit
-    few Bi h = omega (arith, h)
-    few Uni h = omega (arith, h)
+    few : (dir : Dir) → (own_of u dir).opened ≤ (own_of u dir).limit → (own_of (with_params w p) dir).opened ≤ (own_of (with_params w p) dir).limit
+    few Bi h = let is = k.bi in rw is (omega (arith, h))
+    few Uni h = let is = k.uni in rw is (omega (arith, h))
 
 data-moves : (u : Outgoing) (limit : ℕ) → Moves u (GaveData limit) (record u { budget = with_limit u.budget limit })
 data-moves u limit = record {
@@ -273,7 +275,9 @@ moves u (PermittedMore first count) v n h = idle u _ v (record { bytes = refl; l
     (keeps-is h (record { side = refl; sent = refl; limit = refl; bi = refl; uni = refl }))
 moves u (Removed id) v n h = idle u _ v (record { bytes = refl; limit = refl; opened = λ dir. refl; counted = λ dir. refl })
     (keeps-is h (keeps-stream u id None))
-moves u (GaveParams params) v n h = moves-is h (params-move u params)
+moves u (GaveParams params (Ok x)) v n h = moves-is h (params-move u (with_woken u params) params (keeps-woken u params))
+moves u (GaveParams params (Err e)) v n h = idle u _ v (record { bytes = refl; limit = refl; opened = λ dir. refl; counted = λ dir. refl })
+    (keeps-is h (keeps-all u))
 moves u (Opened dir (Ok None)) v n h = idle u _ v (record { bytes = refl; limit = refl; opened = λ dir. refl; counted = λ dir. refl })
     (keeps-is h.1 (keeps-all u))
 moves u (Opened dir (Ok (Some id))) v n h = moves-is (h.2 ∙ ap (λ (o : Own). with_send_half (with_own u dir o) id (Some (fresh_sender u id))) (one-opened (own_of u dir) h.0)) (open-moves u dir id _ h.0)
@@ -354,7 +358,7 @@ is-rejection : (u : Outgoing) (e : Call) (v : Outgoing) → is_rejection e ≡ t
 is-rejection u (Permitted id) v t h = cc
 is-rejection u (PermittedMore first count) v t h = cc
 is-rejection u (Removed id) v t h = cc
-is-rejection u (GaveParams params) v t h = cc
+is-rejection u (GaveParams params answer) v t h = cc
 is-rejection u (Opened dir answer) v t h = cc
 is-rejection u (GaveData limit) v t h = cc
 is-rejection u (GaveStreams dir count answer) v t h = cc

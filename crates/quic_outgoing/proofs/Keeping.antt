@@ -1,9 +1,11 @@
 -- What a call leaves of the budget, and of the streams that were opened.
-use Rattle.std.proofs.Common.{◌≡◌, ℕ, ℤ, Bool, true, false, cond, Option, Some, None, refl, ap, ◌∙◌}
+use Rattle.std.proofs.Common.{◌≡◌, ℕ, ℤ, Bool, true, false, cond, List, [], ◌∷◌, Option, Some, None, refl, ap, ◌∙◌}
 use Rattle.std.specs.Prelude.{MatchBool}
 use Rattle.quic_limits.specs.SendingCredit.{SendingCredit, with_blocked, is_blocked_due}
 use Rattle.quic_sending.specs.declared.send.Send.{Send}
-use Rattle.quic_outgoing.specs.Outgoing.{Outgoing, with_send_half, waiting, is_stuck}
+use Rattle.quic_outgoing.specs.declared.limits.PeerLimits.{PeerLimits}
+use Rattle.quic_outgoing.specs.Outgoing.{Outgoing, with_send_half, with_params, waiting, is_stuck}
+use Rattle.quic_outgoing.specs.Params.{as_waiting, with_waiting, with_woken, own_woken}
 use Rattle.quic_outgoing.specs.Calls.{after_rise, with_rise, is_woken, with_stop_reason, PollsWritable}
 use Rattle.quic_outgoing.specs.Writing.{after_blocked}
 use Rattle.std.specs.declared.ops.Range.{Range}
@@ -39,6 +41,26 @@ keeps-choice false u v w a b = b
 
 keeps-waiting : (u : Outgoing) (id : ℕ) (s : Send) → Keeps u (waiting u id s)
 keeps-waiting u id s = keeps-choice s.connection_blocked u _ _ (keeps-stream u id (Some s)) (record { side = refl; sent = refl; limit = refl; bi = refl; uni = refl })
+
+keeps-on : {u v w : Outgoing} → Keeps u v → Keeps v w → Keeps u w
+keeps-on a b = record {
+  side = b.side ∙ a.side;
+  sent = b.sent ∙ a.sent;
+  limit = b.limit ∙ a.limit;
+  bi = b.bi ∙ a.bi;
+  uni = b.uni ∙ a.uni;
+}
+
+keeps-as : (u : Outgoing) (id : ℕ) (o : Option Send) → Keeps u (as_waiting u id o)
+keeps-as u id None = keeps-all u
+keeps-as u id (Some s) = keeps-waiting u id s
+
+keeps-waits : (u : Outgoing) (ids : List ℕ) → Keeps u (with_waiting u ids)
+keeps-waits u [] = keeps-all u
+keeps-waits u (id ∷ ids) = keeps-on (keeps-as u id (u.halves id)) (keeps-waits (as_waiting u id (u.halves id)) ids)
+
+pub keeps-woken : (u : Outgoing) (p : PeerLimits) → Keeps u (with_woken u p)
+keeps-woken u p = keeps-choice (is_stuck (with_params u p)) u _ _ (keeps-waits u (own_woken u p)) (keeps-all u)
 
 pub keeps-rise : (u : Outgoing) (id n : ℕ) (o : Option Send) → Keeps u (after_rise u id n o)
 keeps-rise u id n None = keeps-all u

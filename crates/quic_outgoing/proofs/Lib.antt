@@ -7,3 +7,4 @@ pub mod Keeping
 pub mod Histories
 pub mod Frames
 pub mod EarlyHalves
+pub mod Woken

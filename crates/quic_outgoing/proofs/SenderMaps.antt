@@ -13,7 +13,7 @@ use Rattle.quic_values.specs.declared.ids.Dir.TheVariants.{Bi, Uni}
 use Rattle.quic_values.specs.Ids.{dir_of}
 use Rattle.quic_outgoing.specs.declared.entries.FirstLimits.{FirstLimits}
 use Rattle.quic_outgoing.specs.Senders.{SendersById, with_sender, bare, new_sender, raised, first_for, first_limit, joined, is_local}
-use Rattle.quic_outgoing.specs.Seen.{sender_in}
+use Rattle.quic_outgoing.specs.Seen.{sender_in, was_made}
 
 -- an entry as a half: one without is a new half
 abbrev pub entry_sender : ℕ → Option (Option (Box Send)) → Option Send
@@ -88,3 +88,12 @@ raised-at side a b q (Some (Some h)) = ap (λ n. Some (raised n (bare h.value)))
 
 pub is-there : (f : SendersById) (id : ℕ) (s : Send) → is_some ((with_sender f id (Some s)) id) ≡ true
 is-there f id s = ap is_some (sender-there f id (Some s))
+
+-- a half that was made stays so where another is put
+pub made-put : (g f : ℕ → Option (Option (Box Send))) (id : ℕ) (old new : Option (Box Send)) → f id ≡ Some old → (is_some old ≡ true → is_some new ≡ true)
+    → ((q : ℕ) → g q ≡ cond (id == q) (Some new) (f q)) → (q : ℕ) → was_made (f q) ≡ true → was_made (g q) ≡ true
+made-put g f id old new e k h q m = ap was_made (h q) ∙ by_key (id == q) refl
+  where
+    by_key : (b : Bool) → (id == q) ≡ b → was_made (cond b (Some new) (f q)) ≡ true
+    by_key true t = k (ap was_made (sym e) ∙ ap (λ n. was_made (f n)) (eqb-true id q t) ∙ m)
+    by_key false t = m

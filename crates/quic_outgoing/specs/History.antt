@@ -14,8 +14,9 @@ use Rattle.quic_receiving.specs.declared.errors.HandleError.{HandleError}
 use Rattle.quic_retransmits.specs.Pending.{Pending}
 use Rattle.quic_outgoing.specs.declared.limits.PeerLimits.{PeerLimits}
 use Rattle.quic_outgoing.specs.declared.writing.Wrote.{Wrote}
-use Rattle.quic_outgoing.specs.Outgoing.{Outgoing, no_streams, with_send_half, fresh_sender, own_of, with_params, with_more_streams}
+use Rattle.quic_outgoing.specs.Outgoing.{Outgoing, no_streams, with_send_half, fresh_sender, own_of, with_more_streams}
 use Rattle.quic_outgoing.specs.Calls.{OpensStream, RaisesStreams, RaisesStream, StopsSending, FinishesStream, ResetsStream, SetsPriority, PollsWritable}
+use Rattle.quic_outgoing.specs.Params.{GivesParams}
 use Rattle.quic_outgoing.specs.Writing.{WritesOn}
 use Rattle.quic_outgoing.specs.declared.transmitting.WrittenFrame.{WrittenFrame}
 use Rattle.quic_outgoing.specs.Transmitting.{Transmits}
@@ -27,7 +28,7 @@ pub data Call : Type 0 where
   Permitted : (id : ℕ) → Call
   PermittedMore : (first count : ℕ) → Call
   Removed : (id : ℕ) → Call
-  GaveParams : (params : PeerLimits) → Call
+  GaveParams : (params : PeerLimits) → (answer : Result (Unit {0}) OutOfMemory) → Call
   Opened : (dir : Dir) → (answer : Result (Option ℕ) OutOfMemory) → Call
   GaveData : (limit : ℕ) → Call
   GaveStreams : (dir : Dir) → (count : ℕ) → (answer : Result Bool TransportError) → Call
@@ -52,7 +53,7 @@ abbrev pub DoesCall : Outgoing → Call → Outgoing → Type 0
 DoesCall u (Permitted id) v = v ≡ with_send_half u id (Some (fresh_sender u id))
 DoesCall u (PermittedMore first count) v = v ≡ with_more_streams u first count
 DoesCall u (Removed id) v = v ≡ with_send_half u id None
-DoesCall u (GaveParams params) v = v ≡ with_params u params
+DoesCall u (GaveParams params answer) v = GivesParams u params answer v
 DoesCall u (Opened dir answer) v = OpensStream u dir answer v
 DoesCall u (GaveData limit) v = v ≡ record u { budget = with_limit u.budget limit }
 DoesCall u (GaveStreams dir count answer) v = RaisesStreams u dir count answer v
@@ -97,7 +98,7 @@ bytes_written (e ∷ h) = bytes_written h + bytes_by e
 
 -- the limit of the connection that a call gave, 0 where it gave none
 abbrev pub data_limit_of : Call → ℕ
-data_limit_of (GaveParams params) = params.initial_max_data
+data_limit_of (GaveParams params (Ok x)) = params.initial_max_data
 data_limit_of (GaveData limit) = limit
 data_limit_of _ = 0
 
@@ -118,7 +119,7 @@ given_for Uni Bi n = 0
 given_for Uni Uni n = n
 
 abbrev pub count_given_by : Call → Dir → ℕ
-count_given_by (GaveParams params) dir = min (count_in params dir) (2 ^ 60)
+count_given_by (GaveParams params (Ok x)) dir = min (count_in params dir) (2 ^ 60)
 count_given_by (GaveStreams d count (Ok rose)) dir = given_for d dir count
 count_given_by _ dir = 0
 

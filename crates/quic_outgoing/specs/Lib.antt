@@ -6,6 +6,7 @@ pub mod Writing
 pub mod Acknowledging
 pub mod Reports
 pub mod Waits
+pub mod Params
 pub mod Shown
 pub mod History
 pub mod Transmitting

@@ -1,8 +1,9 @@
 -- The sending side of a connection's streams, as contracts see it.
-use Rattle.std.specs.Prelude.{ℕ, Bool, true, ◌==◌, List, [], ◌∷◌, ◌++◌, Option, Some, None, if◌then◌else◌}
+use Rattle.std.specs.Prelude.{ℕ, zero, suc, Bool, true, ◌==◌, List, [], ◌∷◌, ◌++◌, Option, Some, None, if◌then◌else◌}
 use Rattle.quic_values.specs.declared.ids.Side.{Side}
 use Rattle.quic_values.specs.declared.ids.Dir.{Dir}
 use Rattle.quic_values.specs.declared.ids.Dir.TheVariants.{Bi, Uni}
+use Rattle.quic_values.specs.Ids.{stream_id}
 use Rattle.quic_limits.specs.Own.{Own, no_own, with_count}
 use Rattle.quic_limits.specs.SendingCredit.{SendingCredit, no_credit, with_limit, writable}
 use Rattle.quic_sending.specs.declared.send.Send.{Send}
@@ -53,6 +54,15 @@ own_of u Uni = u.own_uni
 abbrev pub with_own : Outgoing → Dir → Own → Outgoing
 with_own u Bi o = record u { own_bi = o }
 with_own u Uni o = record u { own_uni = o }
+
+-- the ids of the first so many streams of an end and a direction
+abbrev pub first_ids : Side → Dir → ℕ → List ℕ
+first_ids side d zero = []
+first_ids side d (suc n) = first_ids side d n ++ stream_id side d n ∷ []
+
+-- those of all streams that this end opened, bidirectional ones first
+abbrev pub own_ids : Outgoing → List ℕ
+own_ids o = first_ids o.side Bi o.own_bi.opened ++ first_ids o.side Uni o.own_uni.opened
 
 -- the limits that streams begin with by what the peer gave
 abbrev pub first_of : PeerLimits → FirstLimits

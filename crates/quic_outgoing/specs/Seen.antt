@@ -1,5 +1,5 @@
 -- The send halves that are held, as contracts see them.
-use Rattle.std.specs.Prelude.{ℕ, ◌==◌, Option, Some, None}
+use Rattle.std.specs.Prelude.{ℕ, ◌==◌, Bool, false, Option, Some, None, is_some}
 use Rattle.std.specs.Option.{option_map}
 use Rattle.std.specs.HashMap.{get, spare}
 use Rattle.std.specs.Global.{Box}
@@ -16,6 +16,15 @@ sender_in limit (Some b) = raised limit (bare b.value)
 -- the halves that are held
 unfoldable pub senders : SendEntries → SendersById
 senders e = λ q. option_map (sender_in (first_limit e.side e.first q)) (get ◌==◌ e.entries q)
+
+-- whether the half of an entry was used or made: nothing that is done on it takes memory
+abbrev pub was_made : Option (Option (Box Send)) → Bool
+was_made None = false
+was_made (Some v) = is_some v
+
+-- and that of a stream
+abbrev pub is_made : SendEntries → ℕ → Bool
+is_made e q = was_made (get ◌==◌ e.entries q)
 
 -- a half that was used, once all of it counts as not sent
 abbrev pub unsent_box : Box Send → Box Send

@@ -52,7 +52,7 @@ impl FirstLimits {
     }
 
     // The one for streams of a direction, of this end or of the peer.
-    fn of(self, local: bool, dir: Dir) -> VarInt
+    pub(crate) fn of(self, local: bool, dir: Dir) -> VarInt
         ensures { result ≡ first_for local dir self }
     {
         match dir {

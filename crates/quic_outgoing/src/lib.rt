@@ -7,6 +7,7 @@ mod early;
 mod entries;
 mod limits;
 mod outgoing;
+mod params;
 mod peer;
 mod permits;
 mod polling;

@@ -1,5 +1,9 @@
 //! The limits that the peer gives at first.
 
+ghost use Rattle.std.specs.Prelude.{◌≡◌};
+ghost use Rattle.quic_outgoing.specs.Outgoing.{first_of};
+
+use crate::entries::FirstLimits;
 use quic_values::VarInt;
 
 /// The limits of a peer's transport parameters (RFC 9000 section 18.2).
@@ -20,4 +24,17 @@ pub struct PeerLimits {
     pub initial_max_stream_data_bidi_local: VarInt,
     /// The same on a bidirectional stream that the peer does not open.
     pub initial_max_stream_data_bidi_remote: VarInt,
+}
+
+impl PeerLimits {
+    // The limits that streams begin with.
+    pub(crate) fn first_limits(&self) -> FirstLimits
+        ensures { result ≡ first_of self.now }
+    {
+        FirstLimits {
+            uni: self.initial_max_stream_data_uni,
+            own_bi: self.initial_max_stream_data_bidi_remote,
+            peer_bi: self.initial_max_stream_data_bidi_local,
+        }
+    }
 }

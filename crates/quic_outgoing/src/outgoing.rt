@@ -3,13 +3,12 @@
 ghost use Rattle.std.specs.Prelude.{[], ◌≡◌, ◌+◌, ◌<◌, ◌≤◌, ◌^◌, ◌⊎◌, ◌↔◌, Some, None, OnOk, OnErr, IsOk, is_some, nat_le};
 ghost use Rattle.quic_limits.specs.SendingCredit.{writable, with_limit, with_window, is_blocked_reported};
 ghost use Rattle.quic_values.specs.Ids.{dir_of, index_of};
-ghost use Rattle.quic_outgoing.specs.Outgoing.{no_streams, with_send_half, fresh_sender, own_of, with_params};
+ghost use Rattle.quic_outgoing.specs.Outgoing.{no_streams, with_send_half, fresh_sender, own_of};
 ghost use Rattle.quic_outgoing.specs.Calls.{OpensStream, RaisesStreams, told_of_half, blocked_limit};
-ghost use Rattle.quic_outgoing.specs.History.{Permitted, Removed, GaveParams, Opened, GaveData, GaveStreams, SetWindow, ComesFrom, Continues};
+ghost use Rattle.quic_outgoing.specs.History.{Permitted, Removed, Opened, GaveData, GaveStreams, SetWindow, ComesFrom, Continues};
 ghost use Rattle.quic_outgoing.specs.Shown.{outgoing_view, permit_room};
 
-use crate::entries::{FirstLimits, SendEntries};
-use crate::limits::PeerLimits;
+use crate::entries::SendEntries;
 use quic_limits::{OwnStreams, SendCredit};
 use quic_sending::ClosedStream;
 use quic_values::{Dir, MAX_STREAM_COUNT, OutOfMemory, Side, StreamId, VarInt};
@@ -81,27 +80,6 @@ impl OutgoingStreams {
         ensures room { permit_room self.old ≤ permit_room self.new }
     {
         self.halves.remove(id);
-    }
-
-    /// The peer gave its transport parameters (RFC 9000 section 7.4). Each limit counts that is above the one that was
-    /// held: of both counts of streams, of the data of the connection, and of each stream, whether it is open, permitted
-    /// or comes later. However many streams are held, this takes the same time.
-    pub fn set_params(&mut self, params: &PeerLimits)
-        ensures params { outgoing_view self.new ≡ with_params (outgoing_view self.old) params.now }
-        ensures from { Continues (outgoing_view self.old) (GaveParams params.now) (outgoing_view self.new) }
-    {
-        let _ = self
-            .own_bi
-            .raise(params.initial_max_streams_bidi.into_inner());
-        let _ = self
-            .own_uni
-            .raise(params.initial_max_streams_uni.into_inner());
-        let _ = self.budget.raise(params.initial_max_data);
-        self.halves.raise_first(FirstLimits {
-            uni: params.initial_max_stream_data_uni,
-            own_bi: params.initial_max_stream_data_bidi_remote,
-            peer_bi: params.initial_max_stream_data_bidi_local,
-        });
     }
 
     /// Opens the next stream of a direction. `None`: as many were opened as the peer permits (RFC 9000 section 4.6). If

@@ -1,13 +1,16 @@
 //! Streams that wait, and limits that are given for them, on their halves where these lie.
 
-ghost use Rattle.std.specs.Prelude.{◌≡◌, ◌<◌, ◌∷◌, ◌++◌, [], ℕ, true, false, is_some, IfOk, OnErr, if◌then◌else◌, vec_len};
+ghost use Rattle.std.specs.Prelude.{◌≡◌, ◌<◌, ◌∷◌, ◌++◌, [], ℕ, true, false, All, Some, IfOk, OnOk, OnErr, IsOk, is_some, length, if◌then◌else◌, vec_len};
 ghost use Rattle.std.specs.Vec.{vec_capacity};
-ghost use Rattle.quic_outgoing.specs.Seen.{senders, sender_room, sender_in};
-ghost use Rattle.quic_outgoing.specs.Outgoing.{marked};
+ghost use Rattle.quic_outgoing.specs.Seen.{senders, sender_room, sender_in, is_made};
+ghost use Rattle.quic_outgoing.specs.Senders.{first_limit};
+ghost use Rattle.quic_outgoing.specs.Params.{is_woken_in};
+ghost use Rattle.quic_outgoing.specs.Outgoing.{marked, first_of};
 ghost use Rattle.quic_outgoing.specs.Calls.{unmarked};
 ghost use Rattle.quic_outgoing.specs.Waits.{WaitsOn, WaitsIn, RaisesOn, RaisesIn};
 
 use crate::entries::{SendEntries, greater};
+use crate::limits::PeerLimits;
 use crate::transmitting::take_half;
 use quic_sending::Send;
 use quic_values::{OutOfMemory, StreamId, VarInt};
@@ -55,6 +58,69 @@ impl SendEntries {
         match self.entries.get_mut(&id) {
             None => {}
             Some(entry) => unmark_entry(entry),
+        }
+    }
+
+    /// Whether one of the limits that the peer gives lets a stream be written on that was written up to its limit.
+    pub(crate) fn is_woken(&self, id: StreamId, params: &PeerLimits) -> bool
+        ensures { result ≡ is_woken_in (first_limit self.now.side (first_of params.now) id) (senders self.now id) }
+    {
+        let first = self.first_limit(id);
+        let limit = params.first_limits().of(self.is_local(id), id.dir());
+        match self.entries.get(&id) {
+            None => false,
+            Some(None) => first.into_inner() == 0 && first.into_inner() < limit.into_inner(),
+            Some(Some(half)) => {
+                let held = greater(half.max_data, first).into_inner();
+                half.is_writable() && held < limit.into_inner() && half.offset() == held
+            }
+        }
+    }
+
+    /// Makes the halves of streams that were not used, so that nothing that is done on them takes memory.
+    pub(crate) fn make_all(&mut self, ids: &[StreamId]) -> Result<(), OutOfMemory>
+        requires { All (λ q. is_some (senders self.old q) ≡ true) ids.now }
+        ensures made { OnOk result (All (λ q. is_made self.new q ≡ true) ids.now) }
+        ensures free { length ids.now ≡ 0 → IsOk result }
+        ensures halves { senders self.new ≡ senders self.old }
+        ensures side { self.new.side ≡ self.old.side }
+        ensures first { self.new.first ≡ self.old.first }
+        ensures room { sender_room self.new ≡ sender_room self.old }
+    {
+        for index in 0..ids.len() {
+            self.make(ids[index])?;
+        }
+        Ok(())
+    }
+
+    // The same of one.
+    fn make(&mut self, id: StreamId) -> Result<(), OutOfMemory>
+        ensures made { OnOk result (is_some (senders self.old id) ≡ true → is_made self.new id ≡ true) }
+        ensures kept { (q : ℕ) → is_made self.old q ≡ true → is_made self.new q ≡ true }
+        ensures halves { senders self.new ≡ senders self.old }
+        ensures side { self.new.side ≡ self.old.side }
+        ensures first { self.new.first ≡ self.old.first }
+        ensures room { sender_room self.new ≡ sender_room self.old }
+    {
+        let limit = self.first_limit(id);
+        match self.entries.get_mut(&id) {
+            None => Ok(()),
+            Some(entry) => make_entry(self.alloc, limit, entry),
+        }
+    }
+
+    /// A stream waits whose half was made. Answers whether it is to be put on the list of those that do.
+    pub(crate) fn mark(&mut self, id: StreamId) -> bool
+        requires { is_made self.old id ≡ true }
+        ensures halves { WaitsIn (senders self.old) id (Some result) (senders self.new) }
+        ensures kept { (q : ℕ) → is_made self.old q ≡ true → is_made self.new q ≡ true }
+        ensures side { self.new.side ≡ self.old.side }
+        ensures first { self.new.first ≡ self.old.first }
+        ensures room { sender_room self.new ≡ sender_room self.old }
+    {
+        match self.entries.get_mut(&id) {
+            None => unreachable!(),
+            Some(entry) => mark_entry(entry),
         }
     }
 
@@ -109,6 +175,39 @@ fn wait_of_entry(
     half.connection_blocked = true;
     *entry = Some(half);
     Ok(joins)
+}
+
+// Makes the half of an entry that was not used.
+fn make_entry(
+    alloc: Global,
+    limit: VarInt,
+    entry: &mut Option<Box<Send>>,
+) -> Result<(), OutOfMemory>
+    ensures same { sender_in limit entry.new ≡ sender_in limit entry.old }
+    ensures made { OnOk result (is_some entry.new ≡ true) }
+    ensures kept { is_some entry.old ≡ true → is_some entry.new ≡ true }
+{
+    if entry.is_none() {
+        let half = Box::new(alloc, Send::new(alloc, limit))?;
+        *entry = Some(half);
+    }
+    Ok(())
+}
+
+// The stream of an entry waits whose half was made. Answers whether it is to be put on the list of those that do.
+fn mark_entry(entry: &mut Option<Box<Send>>) -> bool
+    requires { is_some entry.old ≡ true }
+    ensures waits { (limit : ℕ) → WaitsOn (sender_in limit entry.old) result (sender_in limit entry.new) }
+    ensures kept { is_some entry.new ≡ true }
+{
+    match entry {
+        None => unreachable!(),
+        Some(half) => {
+            let joins = !half.connection_blocked;
+            half.connection_blocked = true;
+            joins
+        }
+    }
 }
 
 // The stream of an entry waits no more.

@@ -2,6 +2,7 @@
 
 mod acknowledging;
 mod early;
+mod params;
 mod refusals;
 mod sizes;
 mod transmitting;
@@ -93,8 +94,15 @@ fn none(alloc: Global, side: Side) -> OutgoingStreams {
     OutgoingStreams::new(alloc, side, 1 << 20)
 }
 
-fn set_params(state: &mut OutgoingStreams, limits: &PeerLimits) {
-    state.set_params(limits);
+fn set_params(state: &mut OutgoingStreams, limits: &PeerLimits) -> Result<(), OutOfMemory> {
+    state.set_params(limits)
+}
+
+fn newly_writable(
+    state: &OutgoingStreams,
+    limits: &PeerLimits,
+) -> Result<Vec<StreamId>, OutOfMemory> {
+    state.newly_writable(limits)
 }
 
 fn write<S: BytesSource>(
@@ -228,20 +236,24 @@ fn next_frame_at(
         .write_frame_at(id(stream), priority, max_size, buf)
 }
 
-// An end whose peer permits so many streams of each direction, bytes in all, and bytes on each stream.
-fn end(alloc: Global, side: Side, streams: u32, data: u32, stream_data: u32) -> Subject {
-    let mut state = none(alloc, side);
+// So many streams of each direction, bytes in all, and bytes on each stream.
+fn limits(streams: u32, data: u32, stream_data: u32) -> PeerLimits {
     let streams = VarInt::from(streams);
     let stream_data = VarInt::from(stream_data);
-    let limits = PeerLimits {
+    PeerLimits {
         initial_max_data: VarInt::from(data),
         initial_max_streams_bidi: streams,
         initial_max_streams_uni: streams,
         initial_max_stream_data_uni: stream_data,
         initial_max_stream_data_bidi_local: stream_data,
         initial_max_stream_data_bidi_remote: stream_data,
-    };
-    set_params(&mut state, &limits);
+    }
+}
+
+// An end whose peer permits so much. No stream is open, so this takes no memory.
+fn end(alloc: Global, side: Side, streams: u32, data: u32, stream_data: u32) -> Subject {
+    let mut state = none(alloc, side);
+    let _ = set_params(&mut state, &limits(streams, data, stream_data));
     Subject {
         state,
         pending: Retransmits::new(alloc),

@@ -1,5 +1,5 @@
 -- A pair that was just made has two linked ends.
-use Rattle.std.proofs.Common.{◌≡◌, ◌<◌, ◌^◌, [], refl, inl, inr}
+use Rattle.std.proofs.Common.{◌≡◌, ◌<◌, ◌^◌, [], refl, sym, inl, inr}
 use Rattle.quic_values.specs.declared.ids.Side.TheVariants.{Client, Server}
 use Rattle.quic_values.specs.Ids.{other_side}
 use Rattle.quic_outgoing.specs.Outgoing.{with_params}
@@ -20,19 +20,20 @@ use Rattle.quic_pair.specs.Unrefused.{none}
 use Rattle.quic_pair.specs.From.{IsNew, made_of, end_begun}
 use Rattle.quic_pair.proofs.KeptFrames.{KeptSent}
 use Rattle.quic_pair.proofs.Joined.{Knows, Stands, Joined}
+use Rattle.quic_history.proofs.Unopened.{given-unopened}
 
 -- an end that was made, and was told what the transport parameters of its peer say
 abbrev pub made_alone : Made → LinkedEnd
 made_alone m = record { made = m; calls = []; world = start m; wrote = [] }
 
 abbrev pub made_beside : Made → Made → LinkedEnd
-made_beside m n = acted (made_alone m) (Sending (GaveLimits (limits_of n))) (with_out (start m) (with_params (start m).out (limits_of n)))
+made_beside m n = acted (made_alone m) (Sending (GaveLimits (limits_of n) (Ok tt))) (with_out (start m) (with_params (start m).out (limits_of n)))
 
 linked-begun : (m n : Made) → IsStart m (start m) → IsStart n (start n) → m.window < 2 ^ 62 → n.window < 2 ^ 62 → n.side ≡ other_side m.side → Linked (made_beside m n) (made_beside n m)
 linked-begun m n s t small_m small_n sides =
     let first : Linked (made_alone m) (made_alone n) = begun (record { start = s; calls = refl; wrote = refl; small = small_m }) (record { start = t; calls = refl; wrote = refl; small = small_n }) sides in
-    let second : Linked (made_beside m n) (made_alone n) = first_acts (Sending (GaveLimits (limits_of n))) _ first (record { fits = tt; honest = within-same (limits_of n); step = refl }) in
-    second_acts (Sending (GaveLimits (limits_of m))) _ second (record { fits = tt; honest = within-same (limits_of m); step = refl })
+    let second : Linked (made_beside m n) (made_alone n) = first_acts (Sending (GaveLimits (limits_of n) (Ok tt))) _ first (record { fits = tt; honest = within-same (limits_of n); step = sym (given-unopened (start m) (limits_of n) refl refl) }) in
+    second_acts (Sending (GaveLimits (limits_of m) (Ok tt))) _ second (record { fits = tt; honest = within-same (limits_of m); step = sym (given-unopened (start n) (limits_of m) refl refl) })
 
 knows-nothing : (who : End) (m n : Made) → Knows nothing_yet [] who (made_beside m n) (made_beside n m)
 knows-nothing who m n = record {

@@ -1,6 +1,6 @@
 -- A pair that came from steps has two linked ends, and the steps tell what these did; so the headline holds of it.
 use Rattle.std.proofs.Common.{◌≡◌, ℕ, [], ◌∷◌, ◌++◌, refl, sym, ap, subst, arith, ◌≤◌, ◌<◌}
-use Rattle.std.specs.Prelude.{max, ◌^◌}
+use Rattle.std.specs.Prelude.{max, ◌^◌, Ok}
 use Rattle.std.proofs.lemmas.Option.{none-some}
 use Rattle.quic_values.specs.declared.ids.Side.{Side}
 use Rattle.quic_values.specs.declared.ids.Side.TheVariants.{Client, Server}
@@ -44,6 +44,7 @@ use Rattle.quic_pair.proofs.CountedCalls.{counts-open, counts-accept, counts-wri
 use Rattle.quic_pair.proofs.CountedPayloads.{counts-emit}
 use Rattle.quic_pair.proofs.CountedFrames.{counts-deliver}
 use Rattle.quic_pair.proofs.CountedReports.{counts-lose, counts-ack}
+use Rattle.quic_history.proofs.Unopened.{given-unopened}
 
 -- ---- two linked ends
 
@@ -73,7 +74,7 @@ module _ (a b : Config) (p : Past) (old new : PairState) (reply : Answer) (j : J
 flow_begun : (side : Side) (limit other : ℕ) → limit ≡ other → with_least_limit limit (new_flow 0) ≡ new_flow other
 flow_begun side limit other e = let l : max 0 limit ≡ other = omega arith in ap (λ n. record (new_flow 0) { limit = n }) l
 
-counts_begun : (other : Config) (m : Made) → m.bi.max_remote ≡ other.max_remote_bi → m.uni.max_remote ≡ other.max_remote_uni → other.max_remote_bi ≤ 2 ^ 60 → other.max_remote_uni ≤ 2 ^ 60 → (d : Dir) → greatest_count (Sending (GaveLimits (limits_of m)) ∷ []) d ≡ first_count other d
+counts_begun : (other : Config) (m : Made) → m.bi.max_remote ≡ other.max_remote_bi → m.uni.max_remote ≡ other.max_remote_uni → other.max_remote_bi ≤ 2 ^ 60 → other.max_remote_uni ≤ 2 ^ 60 → (d : Dir) → greatest_count (Sending (GaveLimits (limits_of m) (Ok tt)) ∷ []) d ≡ first_count other d
 counts_begun other m e k few_bi few_uni Bi = omega arith
 counts_begun other m e k few_bi few_uni Uni = omega arith
 
@@ -82,10 +83,10 @@ counted_begun : (s t : Side) (own other : Config) → own.max_remote_bi ≤ 2 ^ 
 counted_begun s t own other bi uni small others_bi others_uni =
     let m = made_of s own in
     let n = made_of t other in
-    let e = Sending (GaveLimits (limits_of n)) in
+    let e = Sending (GaveLimits (limits_of n) (Ok tt)) in
     record {
       calls = e ∷ [];
-      from = next-call m [] (start m) e (end_begun m n).streams tt (begins m (start m) (start-with s own.max_remote_uni own.max_remote_bi own.send_window own.receive_window own.stream_receive_window uni bi small)) refl;
+      from = next-call m [] (start m) e (end_begun m n).streams tt (begins m (start m) (start-with s own.max_remote_uni own.max_remote_bi own.send_window own.receive_window own.stream_receive_window uni bi small)) (sym (given-unopened (start m) (limits_of n) refl refl));
       plain = (refl, tt);
       tells = record {
         flow_is = λ q. flow_begun s (first_limit s (first_of (limits_of n)) q) other.stream_receive_window (first-is n s q);

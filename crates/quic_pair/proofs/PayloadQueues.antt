@@ -97,7 +97,8 @@ queue_at : (u v w : World) → v ≡ w → w.queue ≡ u.queue → v.queue ≡ u
 queue_at u v w e k = ap (λ (x : World). x.queue) e ∙ k
 
 bare_send : (u : World) (e : SendEvent) (v : World) → SendStep u e v → BareBy u v
-bare_send u (GaveLimits limits) v s = bare_same u v (ap (λ (x : World). x.queue) s)
+bare_send u (GaveLimits limits (Ok x)) v s = bare_same u v (ap (λ (w : World). w.queue) s)
+bare_send u (GaveLimits limits (Err e)) v s = bare_same u v (ap (λ (w : World). w.queue) s)
 bare_send u (OpenedOwn dir closed (Ok None)) v s = bare_same u v (ap (λ (x : World). x.queue) s.1)
 bare_send u (OpenedOwn dir closed (Ok (Some id))) v s = bare_same u v (queue_at u v (with_opened u dir id s.1) s.3 (queue_opened u dir id s.1))
 bare_send u (OpenedOwn dir closed (Err e)) v s = bare_same u v (ap (λ (x : World). x.queue) s)

@@ -287,7 +287,7 @@ module _ (a b : Config) (old : PairState) (r : Recounted a b old) (step : Step) 
 -- ---- calls that tell nothing of what an end sends
 
 abbrev pub TellsNothing : Event → Type 0
-TellsNothing (Sending (GaveLimits limits)) = ⊥
+TellsNothing (Sending (GaveLimits limits (Ok x))) = ⊥
 TellsNothing (Sending (OpenedOwn dir closed (Ok (Some id)))) = ⊥
 TellsNothing (Sending (RaisedData limit)) = ⊥
 TellsNothing (Sending (RaisedCount dir count (Ok x))) = ⊥
@@ -306,7 +306,7 @@ TellsNothing (SentAgain answer) = ⊥
 TellsNothing _ = Unit {0}
 
 pub untold : (e : Event) → TellsNothing e → IsUntold e
-untold (Sending (GaveLimits limits)) k = absurd k
+untold (Sending (GaveLimits limits (Ok x))) k = absurd k
 untold (Sending (OpenedOwn dir closed (Ok (Some id)))) k = absurd k
 untold (Sending (RaisedData limit)) k = absurd k
 untold (Sending (RaisedCount dir count (Ok x))) k = absurd k

@@ -14,11 +14,12 @@ use Rattle.quic_flows.specs.Flow.{SendMove, SendFlow, WasWritten, WasFinished, W
 use Rattle.quic_history.specs.World.{World, Made}
 use Rattle.quic_history.specs.Early.{with_unsent}
 use Rattle.quic_history.specs.Flows.{room_on, refusal_where, refusal_told, told_if, TakesQueued, send_moved, has_send_side}
-use Rattle.quic_history.specs.SendEvents.{RaisedCount, RaisedLimit, StoppedOwn, WroteOwn, FinishedOwn, ResetOwn, AckedOwn, LostOwn, ResetAckedOwn, TookTurn, Polled}
-use Rattle.quic_history.specs.History.{Event, Received, ReceivedReset, Sending, Rejected, SentAgain, From, flow, send_tale, since, opened_in_all, QueuesSo, AreQueued}
+use Rattle.quic_history.specs.SendEvents.{RaisedCount, RaisedLimit, StoppedOwn, WroteOwn, FinishedOwn, ResetOwn, AckedOwn, LostOwn, ResetAckedOwn, TookTurn, Polled, GaveLimits}
+use Rattle.quic_history.specs.History.{Event, Received, ReceivedReset, Sending, Rejected, SentAgain, From, flow, send_tale, since, opened_in_all, QueuesSo, AreQueued, told_of_limits, opened_ids}
 use Rattle.quic_link.specs.Endpoints.{IsOneOf}
 use Rattle.quic_link.proofs.Basics.{same_id, either-of, only}
 use Rattle.quic_link.proofs.Growth.{held-told}
+use Rattle.quic_outgoing.specs.declared.limits.PeerLimits.{PeerLimits}
 
 -- ---- a flow that is stopped was stopped by a frame
 
@@ -133,6 +134,14 @@ taken_before e before after (Some (stream_event.Writable id)) t h = elim t [
 ]
 taken_before e before after (Some _) t h = let P : List StreamEvent → Type 0 = λ l. IsOneOf e l in subst P (sym t) (inr h)
 
+-- limits tell of no stop
+limits_stop_none : (m : Made) (h : List Event) (limits : PeerLimits) (ids : List ℕ) (id c : ℕ) → IsOneOf (stream_event.Stopped id c) (told_of_limits m h limits ids) → ⊥
+limits_stop_none m h limits [] id c k = k
+limits_stop_none m h limits (q ∷ ids) id c k = elim (either-of (stream_event.Stopped id c) (told_if _ (stream_event.Writable q)) (told_of_limits m h limits ids) k) [
+  | inl now ↦ told_only _ (stream_event.Stopped id c) (stream_event.Writable q) (λ e. cc) now
+  | inr others ↦ limits_stop_none m h limits ids id c others
+]
+
 stop_queued : (m : Made) (h : List Event) (e : Event) (before after : List StreamEvent) (id c : ℕ) → QueuesSo m h e before after → IsOneOf (stream_event.Stopped id c) after → IsOneOf (stream_event.Stopped id c) before ⊎ (Sending (StoppedOwn id c (Ok tt)) ≡ e)
 stop_queued m h (Sending (Polled answer)) before after id c q i = inl (taken_before (stream_event.Stopped id c) before after answer q i)
 stop_queued m h (Received at offset bytes fin (Ok transmit)) before after id c q i = queued_read (stream_event.Stopped id c) at before after (λ e. cc) q i
@@ -150,6 +159,7 @@ stop_queued m h (Sending (StoppedOwn at code (Ok u))) before after id c q i =
 
     same_call : stream_event.Stopped id c ≡ stream_event.Stopped at code → Sending (StoppedOwn id c (Ok tt)) ≡ Sending (StoppedOwn at code (Ok u))
     same_call e = ap call_of e
+stop_queued m h (Sending (GaveLimits limits (Ok u))) before after id c q i = queued_still (stream_event.Stopped id c) before _ after q (limits_stop_none m h limits (opened_ids m.side (since h)) id c) i
 stop_queued m h (Sending (RaisedCount dir count (Ok u))) before after id c q i = queued_still (stream_event.Stopped id c) before _ after q (told_only _ (stream_event.Stopped id c) (stream_event.Available dir) (λ e. cc)) i
 stop_queued m h (Sending (RaisedLimit at limit (Ok u))) before after id c q i = queued_still (stream_event.Stopped id c) before _ after q (told_only _ (stream_event.Stopped id c) (stream_event.Writable at) (λ e. cc)) i
 stop_queued m h (Sending (AckedOwn at offsets fin (Ok u))) before after id c q i = queued_still (stream_event.Stopped id c) before _ after q (told_only _ (stream_event.Stopped id c) (stream_event.Finished at) (λ e. cc)) i

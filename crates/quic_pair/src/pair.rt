@@ -76,7 +76,7 @@ fn end_of(alloc: Global, side: Side, own: &Config, peer: &Config) -> Result<Endp
         own.receive_window,
         own.stream_receive_window,
     )?;
-    end.set_params(&limits_of(side, peer));
+    end.set_params(&limits_of(side, peer))?;
     Ok(end)
 }
 

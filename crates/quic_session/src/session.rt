@@ -1,12 +1,11 @@
 //! A session, and what its host sets.
 
-ghost use Rattle.std.specs.Prelude.{ℕ, List, ◌∷◌, [], ◌≡◌, ◌≤◌, ◌^◌, IfOk, None, not, nat_lt};
+ghost use Rattle.std.specs.Prelude.{ℕ, List, ◌∷◌, [], ◌≡◌, ◌≤◌, ◌^◌, IfOk, OnOk, OnErr, IsOk, None, not, nat_lt};
 ghost use Rattle.quic_history.specs.World.{Made, made_with, start};
 ghost use Rattle.quic_history.specs.History.{Event, Sending, Resized, SetConcurrent, From};
 ghost use Rattle.quic_history.specs.SendEvents.{GaveLimits, SetWindow, Polled};
-ghost use Rattle.quic_history.specs.Sends.{with_out, TellsNext};
+ghost use Rattle.quic_history.specs.Sends.{with_out, with_params_given, TellsNext};
 ghost use Rattle.quic_limits.specs.SendingCredit.{with_window};
-ghost use Rattle.quic_outgoing.specs.Outgoing.{with_params};
 ghost use Rattle.quic_retransmits.specs.Pending.{nothing};
 ghost use Rattle.quic_streams.specs.Shown.{streams_view};
 ghost use Rattle.quic_endpoint.specs.Ends.{with_world, with_counts_told_if, with_window_set, SetsConcurrentAt};
@@ -105,13 +104,17 @@ impl Session {
         })
     }
 
-    /// Takes the limits of the peer's transport parameters (RFC 9000 section 7.4).
-    pub fn set_params(&mut self, params: &PeerLimits)
-        ensures params { end_of self.new ≡ with_world (end_of self.old) (with_out (end_of self.old).streams (with_params (end_of self.old).streams.out params.now)) }
-        ensures from { (m : Made) (h : List Event) → From m h (end_of self.old).streams → From m (Sending (GaveLimits params.now) ∷ h) (end_of self.new).streams }
+    /// Takes the limits of the peer's transport parameters (RFC 9000 section 7.4). The application is told of each stream
+    /// of this end that they let be written on. If refused, all is as it was. It is not refused where this end opened no
+    /// stream.
+    pub fn set_params(&mut self, params: &PeerLimits) -> Result<(), OutOfMemory>
+        ensures params { OnOk result (end_of self.new ≡ with_world (end_of self.old) (with_params_given (end_of self.old).streams params.now)) }
+        ensures err { OnErr result (end_of self.new ≡ end_of self.old) }
+        ensures free { (end_of self.old).streams.out.own_bi.opened ≡ 0 → (end_of self.old).streams.out.own_uni.opened ≡ 0 → IsOk result }
+        ensures from { (m : Made) (h : List Event) → From m h (end_of self.old).streams → From m (Sending (GaveLimits params.now result) ∷ h) (end_of self.new).streams }
         ensures beside { beside_of self.new ≡ beside_of self.old }
     {
-        self.streams.set_params(params);
+        self.streams.set_params(params)
     }
 
     /// Sets how many bytes that were written are retained at most until they are acknowledged.

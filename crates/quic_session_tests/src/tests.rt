@@ -54,7 +54,7 @@ fn session(alloc: Global, side: Side) -> Result<Session, OutOfMemory> {
         initial_max_stream_data_uni: window,
         initial_max_stream_data_bidi_local: window,
         initial_max_stream_data_bidi_remote: window,
-    });
+    })?;
     Ok(made)
 }
 

@@ -6,9 +6,9 @@ use Rattle.quic_values.specs.declared.ids.Dir.{Dir}
 use Rattle.quic_values.specs.Ids.{stream_id}
 use Rattle.quic_queue.specs.declared.queue.Entry.{Entry}
 use Rattle.quic_queue.specs.SendOrder.{SendOrder, with_entry}
-use Rattle.quic_outgoing.specs.Outgoing.{Outgoing}
+use Rattle.quic_outgoing.specs.Outgoing.{Outgoing, first_ids}
 use Rattle.quic_outgoing.specs.Early.{QueuesUnsent}
-use Rattle.quic_history.specs.Early.{first_ids, entry_at, AreUnsentOf, with_entries_put}
+use Rattle.quic_history.specs.Early.{entry_at, AreUnsentOf, with_entries_put}
 
 pub unsent-both : (o : Outgoing) (xs ys : List ℕ) (es fs : List Entry) → AreUnsentOf o xs es → AreUnsentOf o ys fs → AreUnsentOf o (xs ++ ys) (es ++ fs)
 unsent-both o [] ys es fs a b = rw a b

@@ -3,13 +3,13 @@
 ghost use Rattle.std.specs.Prelude.{ℕ, ℤ, List, [], ◌∷◌, ◌≡◌, Option, OnOk, OnErr};
 ghost use Rattle.quic_values.specs.declared.ids.Side.TheVariants.{Client};
 ghost use Rattle.quic_queue.specs.declared.queue.Entry.{Entry};
-ghost use Rattle.quic_outgoing.specs.Outgoing.{own_of};
+ghost use Rattle.quic_outgoing.specs.Outgoing.{own_of, first_ids};
 ghost use Rattle.quic_outgoing.specs.Early.{NoneAcked, QueuesUnsent};
 ghost use Rattle.quic_outgoing.specs.Shown.{outgoing_view};
 ghost use Rattle.quic_values.specs.Ids.{other_side};
 ghost use Rattle.quic_history.specs.World.{Made, PermitsNoLess, made_again};
 ghost use Rattle.quic_history.specs.Used.{halves_among};
-ghost use Rattle.quic_history.specs.Early.{IsEarly, with_rejection, SendsAgain, AreUnsentOf, entry_at, first_ids, with_entries_put};
+ghost use Rattle.quic_history.specs.Early.{IsEarly, with_rejection, SendsAgain, AreUnsentOf, entry_at, with_entries_put};
 ghost use Rattle.quic_history.specs.History.{Event, Rejected, SentAgain, IsUnanswered, From};
 ghost use Rattle.quic_history.specs.OwnDoings.{AreOwnDoings};
 ghost use Rattle.quic_streams.specs.Shown.{streams_view};

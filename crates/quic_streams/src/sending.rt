@@ -1,15 +1,17 @@
 //! What the peer permits, and what the application is told.
 
-ghost use Rattle.std.specs.Prelude.{ℕ, List, ◌∷◌, ◌≡◌, ◌<◌, ◌≤◌, ◌^◌, IfErr, OnOk, None, Some, nat_le, nat_lt, false, true};
+ghost use Rattle.std.specs.Prelude.{ℕ, List, ◌∷◌, ◌++◌, ◌≡◌, ◌+◌, ◌<◌, ◌≤◌, ◌^◌, IfErr, OnOk, OnErr, IsOk, None, Some, nat_le, nat_lt, false, true, length, map};
+ghost use Rattle.std.specs.VecDeque.{deque_len, deque_capacity};
+ghost use Rattle.quic_wire.specs.declared.event.StreamEvent.TheVariants as stream_event;
 ghost use Rattle.quic_values.specs.Ids.{dir_of, index_of};
 ghost use Rattle.quic_limits.specs.SendingCredit.{writable, with_limit, with_window, is_blocked_reported};
-ghost use Rattle.quic_outgoing.specs.Outgoing.{own_of, with_params};
+ghost use Rattle.quic_outgoing.specs.Outgoing.{own_of};
 ghost use Rattle.quic_outgoing.specs.Calls.{blocked_limit};
 ghost use Rattle.quic_streams.specs.Shown.{streams_view};
 ghost use Rattle.quic_streams.specs.Room.{HasEventRoom};
 ghost use Rattle.quic_history.specs.World.{Made, World, remote_of};
 ghost use Rattle.quic_history.specs.SendEvents.{GaveLimits, RaisedData, RaisedCount, RaisedLimit, StoppedOwn, SetWindow, Polled};
-ghost use Rattle.quic_history.specs.Sends.{OpensOwn, RaisesCount, RaisesLimit, StopsOwn, TellsNext, with_out, sending_refusal, is_permitted, told_writable};
+ghost use Rattle.quic_history.specs.Sends.{TakesParams, with_params_given, OpensOwn, RaisesCount, RaisesLimit, StopsOwn, TellsNext, with_out, sending_refusal, is_permitted, told_writable};
 ghost use Rattle.quic_history.specs.History.{Event, Sending, From};
 
 use crate::state::StreamsState;
@@ -20,12 +22,39 @@ use quic_wire::{ReceiveError, StreamEvent, TransportError};
 #[tactic(auto, unfolding(crate::specs::Shown::streams_view, crate::specs::Room::HasEventRoom))]
 impl StreamsState {
     /// Takes the limits of the peer's transport parameters (RFC 9000 section 7.4). Each counts that is above the one that
-    /// was held. The application is told of none of them.
-    pub fn set_params(&mut self, params: &PeerLimits)
-        ensures params { streams_view self.new ≡ with_out (streams_view self.old) (with_params (streams_view self.old).out params.now) }
-        ensures from { (m : Made) (h : List Event) → From m h (streams_view self.old) → From m (Sending (GaveLimits params.now) ∷ h) (streams_view self.new) }
+    /// was held. Each stream that this end opened is given its own as a MAX_STREAM_DATA frame would give it: where it lets
+    /// a blocked stream be written on, the application is told, or the stream waits until the connection permits it. If
+    /// refused, all is as it was. It is not refused where this end opened no stream.
+    pub fn set_params(&mut self, params: &PeerLimits) -> Result<(), OutOfMemory>
+        ensures params { OnOk result (streams_view self.new ≡ with_params_given (streams_view self.old) params.now) }
+        ensures err { OnErr result (streams_view self.new ≡ streams_view self.old) }
+        ensures free { (streams_view self.old).out.own_bi.opened ≡ 0 → (streams_view self.old).out.own_uni.opened ≡ 0 → IsOk result }
+        ensures from { (m : Made) (h : List Event) → From m h (streams_view self.old) → From m (Sending (GaveLimits params.now result) ∷ h) (streams_view self.new) }
     {
-        self.outgoing.set_params(params);
+        self.take_params(params)
+    }
+
+    // The same, each way out.
+    fn take_params(&mut self, params: &PeerLimits) -> Result<(), OutOfMemory>
+        ensures takes { TakesParams (streams_view self.old) params.now result (streams_view self.new) }
+        ensures free { (streams_view self.old).out.own_bi.opened ≡ 0 → (streams_view self.old).out.own_uni.opened ≡ 0 → IsOk result }
+    {
+        let told = self.outgoing.newly_writable(params)?;
+        self.events.reserve(told.len())?;
+        self.outgoing.set_params(params)?;
+        self.tell_each(told.as_slice());
+        Ok(())
+    }
+
+    // The application is to be told that it may write on each of these streams. There is room for so many events.
+    fn tell_each(&mut self, ids: &[StreamId])
+        requires { deque_len self.old.events + length ids.now ≤ deque_capacity self.old.events }
+        ensures { streams_view self.new ≡ record (streams_view self.old) { events = (streams_view self.old).events ++ map stream_event.Writable ids.now } }
+    {
+        for index in 0..ids.len() {
+            self.events
+                .push_back_reserved(StreamEvent::Writable { id: ids[index] });
+        }
     }
 
     /// Takes a MAX_DATA frame (RFC 9000 section 19.9). A limit does not fall.

@@ -1,12 +1,11 @@
 -- What C sets of a session, and asks of it.
-use Rattle.std.specs.Prelude.{ℕ, ℤ, Bool, pos, negsuc, ◌≡◌, ◌⊎◌, ◌==◌, ◌^◌, ◌<◌, ◌≤◌, not, nat_lt, is_some, if◌then◌else◌, List, [], ◌∷◌, Option, Some, None, Result}
+use Rattle.std.specs.Prelude.{ℕ, ℤ, Bool, pos, negsuc, ◌≡◌, ◌⊎◌, ◌==◌, ◌^◌, ◌<◌, ◌≤◌, not, nat_lt, is_some, if◌then◌else◌, List, [], ◌∷◌, Option, Some, None, Result, Ok, Err}
 use Rattle.std.specs.List.{list_any}
 use Rattle.quic_values.specs.declared.memory.OutOfMemory.{OutOfMemory}
 use Rattle.quic_values.specs.declared.ids.Side.{Side}
 use Rattle.quic_values.specs.declared.ids.Side.TheVariants.{Client, Server}
 use Rattle.quic_datagrams.specs.declared.datagrams.DatagramLimits.{DatagramLimits}
 use Rattle.quic_outgoing.specs.declared.limits.PeerLimits.{PeerLimits}
-use Rattle.quic_outgoing.specs.Outgoing.{with_params}
 use Rattle.quic_outgoing.specs.Early.{NoneAcked}
 use Rattle.quic_outgoing.specs.Transmitting.{sending_priority}
 use Rattle.quic_queue.specs.SendOrder.{ids_of, line}
@@ -17,7 +16,7 @@ use Rattle.quic_history.specs.World.{Made, made_with, start}
 use Rattle.quic_history.specs.Early.{IsEarly, with_rejection, SendsAgain}
 use Rattle.quic_history.specs.History.{Event, Sending, Resized, SetConcurrent, Rejected, SentAgain, IsUnanswered, From}
 use Rattle.quic_history.specs.SendEvents.{GaveLimits, SetWindow}
-use Rattle.quic_history.specs.Sends.{with_out}
+use Rattle.quic_history.specs.Sends.{with_out, with_params_given}
 use Rattle.quic_streams.specs.Waiting.{TellsEmpty}
 use Rattle.quic_streams.specs.declared.streams.ConnState.TheVariants as conn_state
 use Rattle.quic_endpoint.specs.Ends.{with_world, with_window_set, SetsConcurrentAt}
@@ -105,16 +104,20 @@ peer_limits r = record {
 }
 
 -- the limits of the peer's transport parameters are taken, and the greatest length of a datagram
-pub record TakesLimits (s : Session) (r : RawLimits) (code : ℤ) (t : Session) : Type 0 where
-  pub done : code ≡ pos 0
-  pub limits : AreLimits r
-  pub end : end_of t ≡ with_world (end_of s) (with_out (end_of s).streams (with_params (end_of s).streams.out (peer_limits r)))
-  pub from : GoesOn s (Sending (GaveLimits (peer_limits r))) t
+pub record TakesLimits (s : Session) (r : RawLimits) (t : Session) : Type 0 where
+  pub end : end_of t ≡ with_world (end_of s) (with_params_given (end_of s).streams (peer_limits r))
+  pub from : GoesOn s (Sending (GaveLimits (peer_limits r) (Ok tt))) t
   pub beside : beside_of t ≡ with_datagrams (beside_of s) (with_max (datagrams_view s) (length_at r.max_datagram))
+
+-- for want of memory neither is
+abbrev pub TakesLimitsOrNone : Session → RawLimits → Result (Unit {0}) OutOfMemory → Session → Type 0
+TakesLimitsOrNone s r (Ok x) t = TakesLimits s r t
+TakesLimitsOrNone s r (Err e) t = Unchanged s t × GoesOn s (Sending (GaveLimits (peer_limits r) (Err e))) t
 
 -- qs_set_peer_limits
 abbrev pub SetsLimits : Session → RawLimits → ℤ → Session → Type 0
-SetsLimits s r code t = (Refuses s code t × ((AreLimits r) → ⊥)) ⊎ TakesLimits s r code t
+SetsLimits s r code t = (Refuses s code t × ((AreLimits r) → ⊥))
+    ⊎ (AreLimits r × (answer : Result (Unit {0}) OutOfMemory) × TakesLimitsOrNone s r answer t × TellsDone memory_code answer code)
 
 -- qs_conn_close
 abbrev pub Closes : Session → ℤ → Session → Type 0

@@ -230,9 +230,11 @@ fn set_limits(session: &mut Session, limits: &RawLimits) -> i32
     let Some(params) = raw_limits(limits) else {
         return ARGUMENT;
     };
-    session.set_params(&params);
-    session.set_max_datagram(length_of(limits.max_datagram));
-    OK
+    let taken = session.set_params(&params);
+    if taken.is_ok() {
+        session.set_max_datagram(length_of(limits.max_datagram));
+    }
+    tell_memory(&taken)
 }
 
 /// The peer rejected the early start of a client.

@@ -5,6 +5,7 @@ mod amounts;
 mod calls;
 mod control;
 mod early;
+mod limits;
 mod pending;
 mod reading;
 mod receiving;

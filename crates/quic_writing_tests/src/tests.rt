@@ -48,7 +48,7 @@ fn client(alloc: Global, count: u32) -> Result<Session, OutOfMemory> {
         initial_max_stream_data_uni: much,
         initial_max_stream_data_bidi_local: much,
         initial_max_stream_data_bidi_remote: much,
-    });
+    })?;
     for _ in 0..count {
         let _ = streams.open(Dir::Uni)?;
     }

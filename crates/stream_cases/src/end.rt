@@ -67,7 +67,7 @@ impl End {
             initial_max_stream_data_uni: limit,
             initial_max_stream_data_bidi_local: limit,
             initial_max_stream_data_bidi_remote: limit,
-        });
+        })?;
         Ok(End {
             streams: state,
             pending: Retransmits::new(alloc),

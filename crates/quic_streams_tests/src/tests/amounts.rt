@@ -332,7 +332,7 @@ fn write_entries(
     max: usize,
 ) -> Result<(), OutOfMemory> {
     let mut subject = client(alloc, count, WINDOW, WINDOW)?;
-    subject.permit(count, WINDOW, 1);
+    subject.permit(count, WINDOW, 1)?;
     for index in 0..count {
         queue_entry(rt, &mut subject, index)?;
     }

@@ -105,8 +105,13 @@ impl Subject {
     }
 
     // The peer permits so many streams of each direction, bytes in all, and bytes on each stream.
-    pub(super) fn permit(&mut self, streams: u32, data: u32, stream_data: u32) {
-        self.state.set_params(&limits(streams, data, stream_data));
+    pub(super) fn permit(
+        &mut self,
+        streams: u32,
+        data: u32,
+        stream_data: u32,
+    ) -> Result<(), OutOfMemory> {
+        self.state.set_params(&limits(streams, data, stream_data))
     }
 
     pub(super) fn zero_rtt_rejected(&mut self) {

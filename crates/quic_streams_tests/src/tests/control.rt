@@ -148,7 +148,7 @@ const BLOCKED: [SendStep; 3] = [
 fn kinds_come_in_their_order_and_the_useless_is_dropped(rt: HostRuntime) -> Result<(), Fail> {
     let alloc = rt.alloc();
     let mut subject = client(alloc, 1, 8, 8)?;
-    subject.permit(1, 2, 10);
+    subject.permit(1, 2, 10)?;
     take(&rt, alloc, &mut subject, &BLOCKED)?;
     one_of_each(&mut subject)?;
     let written = control(alloc, &mut subject, 1200);

@@ -84,7 +84,7 @@ fn streams_begin_anew_where_an_early_start_is_rejected(rt: HostRuntime) -> Resul
     take(&rt, alloc, &mut subject, &EARLY)?;
     subject.zero_rtt_rejected();
     take(&rt, alloc, &mut subject, &REJECTED)?;
-    subject.permit(2, 20, 15);
+    subject.permit(2, 20, 15)?;
     take(&rt, alloc, &mut subject, &AFRESH)?;
     Ok(())
 }

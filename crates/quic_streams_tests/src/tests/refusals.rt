@@ -313,7 +313,7 @@ const WRITTEN: [Step; 20] = [
 // A client that wrote on three streams.
 fn client_that_wrote(rt: &impl Abort, alloc: Global) -> Result<Subject, OutOfMemory> {
     let mut subject = client(alloc, 0, WINDOW, WINDOW)?;
-    subject.permit(1, 10, 4);
+    subject.permit(1, 10, 4)?;
     run(rt, &mut subject, &OPENED);
     write_chunks(rt, alloc, &mut subject)?;
     run(rt, &mut subject, &WRITTEN);
@@ -376,5 +376,63 @@ fn refused_calls_change_nothing_and_then_succeed(rt: HostRuntime) -> Result<(), 
     is_true(&rt, subject.pending.reset_stream.is_empty());
     take_report(&rt, &mut subject, Report::ResetAcked(2));
     run(&rt, &mut subject, &[Step::Priority(2, None)]);
+    Ok(())
+}
+
+// A stream is opened, at the second time where memory was wanting.
+fn opens(rt: &impl Abort, subject: &mut Subject, dir: Dir, stream: u64) {
+    if open(subject, dir) != Some(stream) {
+        same(rt, open(subject, dir), Some(stream));
+    }
+}
+
+// A client that opened three streams, on which nothing may be written.
+fn client_at_its_limits(rt: &impl Abort, alloc: Global) -> Result<Subject, OutOfMemory> {
+    let mut subject = client(alloc, 0, WINDOW, WINDOW)?;
+    subject.permit(2, 0, 0)?;
+    for (dir, stream) in [(Dir::Bi, 0), (Dir::Uni, 2), (Dir::Uni, 6)] {
+        opens(rt, &mut subject, dir, stream);
+    }
+    Ok(subject)
+}
+
+// The peer's limits are handed in, at the second time where memory was wanting, which changed nothing.
+fn give_limits(rt: &impl Abort, subject: &mut Subject, data: u32, stream_data: u32) {
+    let before = all_of(subject);
+    if subject.permit(2, data, stream_data).is_err() {
+        same(rt, all_of(subject), before);
+        same(rt, subject.poll(), None);
+        is_true(rt, subject.permit(2, data, stream_data).is_ok());
+    }
+}
+
+#[test]
+fn refused_limits_change_nothing(rt: HostRuntime) -> Result<(), Fail> {
+    let mut subject = client_at_its_limits(&rt, rt.alloc())?;
+    give_limits(&rt, &mut subject, 100, 8);
+    for stream in [0, 2, 6] {
+        run(
+            &rt,
+            &mut subject,
+            &[Step::Poll(Some(Event::Writable(stream)))],
+        );
+    }
+    run(&rt, &mut subject, &[Step::Poll(None)]);
+    Ok(())
+}
+
+#[test]
+fn refused_limits_make_no_stream_wait(rt: HostRuntime) -> Result<(), Fail> {
+    let mut subject = client_at_its_limits(&rt, rt.alloc())?;
+    give_limits(&rt, &mut subject, 0, 8);
+    run(&rt, &mut subject, &[Step::Poll(None), Step::MaxData(9)]);
+    for stream in [6, 2, 0] {
+        run(
+            &rt,
+            &mut subject,
+            &[Step::Poll(Some(Event::Writable(stream)))],
+        );
+    }
+    run(&rt, &mut subject, &[Step::Poll(None)]);
     Ok(())
 }

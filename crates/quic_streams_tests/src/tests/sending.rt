@@ -122,7 +122,7 @@ pub(super) fn end(
 ) -> Result<Subject, OutOfMemory> {
     let window = VarInt::from(WINDOW);
     let mut subject = Subject::new(alloc, side, 1, u64::from(WINDOW), window, window)?;
-    subject.permit(streams, data, stream_data);
+    subject.permit(streams, data, stream_data)?;
     Ok(subject)
 }
 

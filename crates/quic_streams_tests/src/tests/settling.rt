@@ -57,7 +57,7 @@ fn client_that_sent(
     alloc: Global,
 ) -> Result<(Subject, ThinRetransmits), OutOfMemory> {
     let mut subject = client(alloc, 4, WINDOW, WINDOW)?;
-    subject.permit(4, 100, 50);
+    subject.permit(4, 100, 50)?;
     for number in [2, 6, 10] {
         same(rt, subject.open(Dir::Uni)?, Some(id(number)));
     }
@@ -162,7 +162,7 @@ fn server_that_gave_up(
 ) -> Result<(Subject, ThinRetransmits), OutOfMemory> {
     let (streams, window) = (16, VarInt::from(WINDOW));
     let mut subject = Subject::new(alloc, Side::Server, streams, 1000, window, window)?;
-    subject.permit(4, 100, 50);
+    subject.permit(4, 100, 50)?;
     for number in [0, 4, 8, 12] {
         let frame = quic_wire::frame::Stream {
             id: id(number),

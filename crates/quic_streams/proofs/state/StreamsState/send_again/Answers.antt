@@ -1,11 +1,10 @@
 use Rattle.std.proofs.Common.{None, ap, ◌∙◌, ◌++◌}
 use Rattle.quic_values.specs.declared.ids.Dir.TheVariants.{Bi, Uni}
 use Rattle.quic_queue.specs.SendOrder.{SendOrder}
-use Rattle.quic_outgoing.specs.Outgoing.{Outgoing}
+use Rattle.quic_outgoing.specs.Outgoing.{Outgoing, first_ids}
 use Rattle.quic_outgoing.specs.Early.{with_all_unsent}
 use Rattle.quic_outgoing.specs.Shown.{outgoing_view}
 use Rattle.quic_history.specs.World.{World}
-use Rattle.quic_history.specs.Early.{first_ids}
 use Rattle.quic_streams.specs.Shown.{streams_view}
 use Rattle.quic_streams.proofs.Unsent.{unsent-both, all-queued}
 use Rattle.quic_streams.proofs.state.StreamsState.send_again.Goals as goal
