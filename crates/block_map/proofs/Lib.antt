@@ -6,3 +6,4 @@ pub mod Moved
 pub mod Found
 pub mod Runs
 pub mod Without
+pub mod Memory

@@ -159,8 +159,12 @@ pub room-set : (rows : List (List KeyAndValue)) (b : ℕ) (r d : List KeyAndValu
 room-set rows b r d capacity spare same room =
     let n = length-set rows b r in
     elim room [
-      | inl small ↦ let one = small.0 in let few = small.1 in let l = row_length-set rows b r d same 0 [] (omega (arith, one)) in inl (omega (arith, n, one), omega (arith, l, few))
-      | inr more ↦ let lt = more.0 in inr (omega (arith, n, lt), more.1)
+      | inl small ↦
+          let one = small.0 in
+          let few = small.1.0 in
+          let l = row_length-set rows b r d same 0 [] (omega (arith, one)) in
+          inl (omega (arith, n, one), (omega (arith, l, few), λ e. small.1.1 (omega (arith, l, e))))
+      | inr more ↦ let lt = more.0 in inr (omega (arith, n, lt), (more.1.0, λ some. more.1.1 (omega (arith, n, some))))
     ]
 
 pub place-set : (rows : List (List KeyAndValue)) (b : ℕ) (r : List KeyAndValue) (d : List KeyAndValue) → b < length rows → length r ≡ length (slice_index_or rows b d) → (c i : ℕ) → place_among (slice_set rows b r) c i ≡ place_among rows c i

@@ -1,5 +1,5 @@
 -- Entries by rising keys, in rows.
-use Rattle.std.specs.Prelude.{ℕ, ◌≡◌, ◌+◌, ◌^◌, ◌<◌, ◌≤◌, ◌⊎◌, Bool, true, List, [], ◌∷◌, ◌++◌, length, take, drop, slice_index_or}
+use Rattle.std.specs.Prelude.{ℕ, ◌≡◌, ◌≢◌, ◌+◌, ◌^◌, ◌<◌, ◌≤◌, ◌⊎◌, Bool, true, List, [], ◌∷◌, ◌++◌, length, take, drop, slice_index_or}
 use Rattle.block_map.specs.Sorted.{KeyAndValue, KeysRise}
 
 -- rows one behind another
@@ -48,9 +48,15 @@ pub record IsBlock (most first start : ℕ) (xs : List KeyAndValue) : Type 0 whe
 abbrev pub HasSome : List (List KeyAndValue) → Type 0
 HasSome rows = (i : ℕ) (d : List KeyAndValue) → i < length rows → 0 < length (slice_index_or rows i d)
 
--- there is room for one entry more: in the only row, or for a new row
+-- memory of a row with so many entries has room for 4, and for 64 where they are more
+pub record IsRowMemory (capacity count : ℕ) : Type 0 where
+  pub few : 4 ≤ capacity
+  pub many : 4 < count → 64 ≤ capacity
+
+-- there is room for one entry more: in the only row, or for a new row, where others are one with memory for 64
 abbrev pub HasRoomForOne : List (List KeyAndValue) → ℕ → ℕ → Type 0
-HasRoomForOne rs capacity spare = ((length rs ≡ 1) × (length (slice_index_or rs 0 []) < 32)) ⊎ ((length rs < capacity) × (64 ≤ spare))
+HasRoomForOne rs capacity spare = ((length rs ≡ 1) × ((length (slice_index_or rs 0 []) < 32) × (length (slice_index_or rs 0 []) ≢ 4)))
+    ⊎ ((length rs < capacity) × ((4 ≤ spare) × (0 < length rs → 64 ≤ spare)))
 
 -- a map: no row is empty, keys rise over all, and there is room where it says so
 pub record IsMap (rows : List (List KeyAndValue)) (len : ℕ) (spare : List KeyAndValue) (ready : Bool) (capacity spare_capacity : ℕ) : Type 0 where

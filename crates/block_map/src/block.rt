@@ -1,27 +1,96 @@
 // A row of entries by rising keys, in memory that has room for more.
-ghost use Rattle.std.specs.Prelude.{◌≡◌, ◌+◌, ◌-◌, ◌<◌, ◌≤◌, ℕ, List, [], ◌∷◌, ◌++◌, length, slice_index_or, slice_set, insert, take, drop, IfOk, vec_capacity, false, true};
+ghost use Rattle.std.specs.Prelude.{◌≡◌, ◌+◌, ◌-◌, ◌<◌, ◌≤◌, ℕ, List, [], ◌∷◌, ◌++◌, length, slice_index_or, slice_set, insert, take, drop, IfOk, OnOk, OnErr, vec_capacity, false, true};
 ghost use Rattle.std.specs.List.{remove_range};
 ghost use Rattle.block_map.specs.Sorted.{KeyAndValue, KeysRise, IsLastUpTo, GoesAt, FitsAt};
-ghost use Rattle.block_map.specs.Rows.{first_key};
+ghost use Rattle.block_map.specs.Rows.{first_key, IsRowMemory};
 
 use crate::search::last_up_to;
 use std::alloc::{AllocError, Global};
 use std::marker::Model;
+use std::mem;
 
 /// The most entries of a block.
 pub(crate) const MOST: usize = 64;
+
+/// The most entries of a block in little memory.
+pub(crate) const FEW: usize = 4;
+
+// Moves the entries from `start` on into memory for the most, unless they have that. Answers how many before them are gone.
+fn move_into(entries: &mut Vec<(u64, u64)>, start: usize, spare: &mut Vec<(u64, u64)>) -> usize
+    requires within { start ≤ length entries.old.items }
+    requires fits { length entries.old.items ≤ 64 }
+    requires empty { spare.old.items ≡ [] }
+    requires room { 64 ≤ vec_capacity spare.old }
+    ensures same { drop result entries.new.items ≡ drop start entries.old.items }
+    ensures within { result ≤ length entries.new.items }
+    ensures fits { length entries.new.items ≤ 64 }
+    ensures room { 64 ≤ vec_capacity entries.new }
+    ensures empty { spare.new.items ≡ [] }
+{
+    match spare.extend_from_slice(&entries.as_slice()[start..]) {
+        Ok(()) => {}
+        Err(_) => unreachable!(),
+    }
+    mem::swap(entries, spare);
+    spare.clear();
+    0
+}
+
+// Sees to memory for one entry more, of which enough was reserved. Answers how many entries are gone.
+#[inline(always)]
+fn grow(entries: &mut Vec<(u64, u64)>, start: usize, spare: &mut Vec<(u64, u64)>) -> usize
+    requires within { start ≤ length entries.old.items }
+    requires fits { length entries.old.items ≤ 64 }
+    requires memory { IsRowMemory (vec_capacity entries.old) (length entries.old.items - start) }
+    requires empty { spare.old.items ≡ [] }
+    requires room { length entries.old.items - start ≡ 4 → 64 ≤ vec_capacity spare.old }
+    ensures same { drop result entries.new.items ≡ drop start entries.old.items }
+    ensures within { result ≤ length entries.new.items }
+    ensures fits { length entries.new.items ≤ 64 }
+    ensures memory { IsRowMemory (vec_capacity entries.new) (length entries.old.items - start + 1) }
+    ensures empty { spare.new.items ≡ [] }
+{
+    if entries.len() - start != FEW {
+        return start;
+    }
+    if entries.capacity() >= MOST {
+        return start;
+    }
+    move_into(entries, start, spare)
+}
+
+// Moves the entries from `start` on into new memory for the most, unless they have that. Answers how many before them are
+// gone. If refused, all is as it was.
+fn widen(entries: &mut Vec<(u64, u64)>, start: usize, alloc: Global) -> Result<usize, AllocError>
+    requires within { start ≤ length entries.old.items }
+    requires fits { length entries.old.items ≤ 64 }
+    ensures same { IfOk result (λ gone. drop gone entries.new.items ≡ drop start entries.old.items) }
+    ensures within { IfOk result (λ gone. gone ≤ length entries.new.items) }
+    ensures fits { OnOk result (length entries.new.items ≤ 64) }
+    ensures room { OnOk result (64 ≤ vec_capacity entries.new) }
+    ensures err { OnErr result (entries.new ≡ entries.old) }
+{
+    if entries.capacity() >= MOST {
+        return Ok(start);
+    }
+    let mut spare = Vec::with_capacity(alloc, MOST)?;
+    Ok(move_into(entries, start, &mut spare))
+}
 
 // Makes room for some more behind all others, where the entries below `start` are gone. Answers how many still are.
 #[inline(always)]
 fn make_room(entries: &mut Vec<(u64, u64)>, start: usize, count: usize) -> usize
     requires within { start ≤ length entries.old.items }
     requires fits { length entries.old.items - start + count ≤ 64 }
+    requires memory { length entries.old.items - start + count ≤ vec_capacity entries.old }
     ensures same { drop result entries.new.items ≡ drop start entries.old.items }
     ensures within { result ≤ length entries.new.items }
     ensures room { length entries.new.items + count ≤ 64 }
+    ensures memory { length entries.new.items + count ≤ vec_capacity entries.new }
     ensures capacity { vec_capacity entries.new ≡ vec_capacity entries.old }
 {
-    if entries.len() + count <= MOST {
+    let total = entries.len() + count;
+    if total <= MOST && total <= entries.capacity() {
         return start;
     }
     let left = entries.len() - start;
@@ -75,22 +144,22 @@ pub(crate) struct Block {
 }
 
 impl Model for Block {
-    ghost use Rattle.std.specs.Prelude.{List, ℕ, ◌≤◌, drop, vec_capacity};
+    ghost use Rattle.std.specs.Prelude.{List, ℕ, ◌-◌, drop, length, vec_capacity};
     ghost use Rattle.block_map.specs.Sorted.{KeyAndValue};
-    ghost use Rattle.block_map.specs.Rows.{IsBlock};
+    ghost use Rattle.block_map.specs.Rows.{IsBlock, IsRowMemory};
 
     ghost Value = { List KeyAndValue };
 
     ghost view = { λ b. drop b.start b.entries.items };
 
-    ghost invariant = { λ b. IsBlock 64 b.first b.start b.entries.items × (64 ≤ vec_capacity b.entries) };
+    ghost invariant = { λ b. IsBlock 64 b.first b.start b.entries.items × IsRowMemory (vec_capacity b.entries) (length b.entries.items - b.start) };
 }
 
 impl Block {
     /// One entry, in memory that was reserved.
     pub(crate) fn new(spare: Vec<(u64, u64)>, key: u64, value: u64) -> Self
         requires empty { spare.items ≡ [] }
-        requires room { 64 ≤ vec_capacity spare }
+        requires room { 4 ≤ vec_capacity spare }
         ensures { result ≡ (key, value) ∷ [] }
     {
         let mut entries = spare;
@@ -106,7 +175,8 @@ impl Block {
     pub(crate) fn copied(&self, alloc: Global) -> Result<Self, AllocError>
         ensures { IfOk result (λ b. b ≡ self.now) }
     {
-        let mut entries = Vec::with_capacity(alloc, MOST)?;
+        let count = self.entries.len() - self.start;
+        let mut entries = Vec::with_capacity(alloc, if count > FEW { MOST } else { FEW })?;
         entries.extend_from_slice(&self.entries.as_slice()[self.start..])?;
         Ok(Block {
             first: self.first,
@@ -161,13 +231,17 @@ impl Block {
         self.entries.len() >= MOST
     }
 
-    /// Puts an entry in. There is room.
+    /// Puts an entry in. There is room, or memory that was reserved.
     #[inline(always)]
-    pub(crate) fn put(&mut self, index: usize, key: u64, value: u64)
+    pub(crate) fn put(&mut self, spare: &mut Vec<(u64, u64)>, index: usize, key: u64, value: u64)
         requires room { length self.old < 64 }
+        requires empty { spare.old.items ≡ [] }
+        requires memory { length self.old ≡ 4 → 64 ≤ vec_capacity spare.old }
         requires goes { GoesAt self.old index key }
-        ensures { self.new ≡ insert self.old index (key, value) }
+        ensures put { self.new ≡ insert self.old index (key, value) }
+        ensures empty { spare.new.items ≡ [] }
     {
+        self.start = grow(&mut self.entries, self.start, spare);
         self.start = make_room(&mut self.entries, self.start, 1);
         put_in(&mut self.entries, self.start + index, key, value);
         self.first = self.entries[self.start].0;
@@ -219,24 +293,25 @@ impl Block {
         self.first = self.entries[self.start].0;
     }
 
-    /// Puts the entries of another behind these. There is room.
-    pub(crate) fn append(&mut self, other: &Block)
+    /// Puts the entries of another behind these, which is at most a full row.
+    pub(crate) fn append(&mut self, other: &Block, alloc: Global) -> Result<(), AllocError>
         requires room { length self.old + length other.now ≤ 64 }
         requires rises { KeysRise (self.old ++ other.now) }
-        ensures { self.new ≡ self.old ++ other.now }
+        ensures { OnOk result (self.new ≡ self.old ++ other.now) }
     {
         let more = &other.entries.as_slice()[other.start..];
+        self.start = widen(&mut self.entries, self.start, alloc)?;
         self.start = make_room(&mut self.entries, self.start, more.len());
         match self.entries.extend_from_slice(more) {
             Ok(()) => {}
             Err(_) => unreachable!(),
         }
+        Ok(())
     }
 
     /// Its memory, with no entry.
     pub(crate) fn into_spare(self) -> Vec<(u64, u64)>
         ensures empty { result.items ≡ [] }
-        ensures room { 64 ≤ vec_capacity result }
     {
         let mut entries = self.entries;
         entries.clear();

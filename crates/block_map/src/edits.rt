@@ -8,10 +8,10 @@ ghost use Rattle.std.specs.Ordering.{nat_cmp};
 ghost use Rattle.block_map.specs.Sorted.{KeyAndValue, KeysRise, IsLastUpTo, GoesAt, FitsAt, without_keys};
 ghost use Rattle.block_map.specs.Rows.{place_among, IsPlace, AreFull};
 
-use crate::block::{Block, MOST};
+use crate::block::{Block, FEW, MOST};
 use crate::map::{BlockMap, Place};
 use crate::rows::{
-    count_between, is_small, joined, put_alone, put_entry, remove_entries, remove_entry,
+    are_full, count_between, is_small, joined, put_alone, put_entry, remove_entries, remove_entry,
 };
 use std::alloc::AllocError;
 
@@ -51,8 +51,9 @@ impl BlockMap {
             return Ok(());
         }
         self.blocks.reserve(1)?;
-        if self.spare.capacity() < MOST {
-            self.spare = Vec::with_capacity(self.alloc, MOST)?;
+        let most = if self.blocks.is_empty() { FEW } else { MOST };
+        if self.spare.capacity() < most {
+            self.spare = Vec::with_capacity(self.alloc, most)?;
         }
         self.ready = true;
         Ok(())
@@ -117,6 +118,24 @@ impl BlockMap {
         ensures { self.new.items ≡ self.old.items ++ (key, value) ∷ [] }
     {
         match self.last_place() {
+            Some(place) => self.put_behind(place, key, value),
+            None => self.put_first(key, value),
+        }
+    }
+
+    /// Puts an entry behind the last one with a lower key, or before all where none has one. There is room.
+    #[inline(always)]
+    pub fn put_next(&mut self, last: Option<Place>, key: u64, value: u64)
+        requires room { self.old.room ≡ true }
+        requires place { IfSome last (λ p. IsPlace self.old.rows p.block p.index) }
+        requires fits { IfSome last (λ p. place_among self.old.rows p.block p.index < length self.old.items) }
+        requires above { IfSome last (λ p. (d : KeyAndValue) → (slice_index_or self.old.items (place_among self.old.rows p.block p.index) d).0 < key) }
+        requires below { IfSome last (λ p. (k : ℕ) (d : KeyAndValue) → place_among self.old.rows p.block p.index < k → k < length self.old.items → key < (slice_index_or self.old.items k d).0) }
+        requires none { IfNone last ((k : ℕ) (d : KeyAndValue) → k < length self.old.items → key < (slice_index_or self.old.items k d).0) }
+        ensures { self.new.items ≡ insert_entry nat_cmp self.old.items key value }
+    {
+        let _count = self.len();
+        match last {
             Some(place) => self.put_behind(place, key, value),
             None => self.put_first(key, value),
         }
@@ -293,6 +312,9 @@ impl BlockMap {
         ensures full { OnOk result (AreFull self.new.rows) }
         ensures err { OnErr result (self.new ≡ self.old) }
     {
+        if are_full(self.blocks.as_slice()) {
+            return Ok(());
+        }
         self.blocks = joined(self.blocks.as_slice(), self.alloc)?;
         self.ready = false;
         Ok(())

@@ -1,36 +1,46 @@
 // Changes of the rows of a map.
-ghost use Rattle.std.specs.Prelude.{◌≡◌, ◌+◌, ◌-◌, ◌^◌, ◌<◌, ◌≤◌, ℕ, List, [], ◌∷◌, ◌++◌, length, slice_index_or, slice_set, insert, take, drop, IfOk, OnOk, vec_capacity, false, true};
+ghost use Rattle.std.specs.Prelude.{◌≡◌, ◌≢◌, ◌+◌, ◌-◌, ◌^◌, ◌<◌, ◌≤◌, ℕ, List, [], ◌∷◌, ◌++◌, length, slice_index_or, slice_set, insert, take, drop, IfOk, OnOk, vec_capacity, false, true};
 ghost use Rattle.std.specs.List.{remove_range};
 ghost use Rattle.block_map.specs.Sorted.{KeyAndValue, KeysRise, GoesAt, FitsAt};
 ghost use Rattle.block_map.specs.Rows.{flat, place_among, IsPlace, HasSome, HasRoomForOne, AreFull};
 
-use crate::block::{Block, MOST};
+use crate::block::{Block, FEW, MOST};
 use std::alloc::{AllocError, Global};
 use std::mem;
 
 // A row with fewer entries is not split.
 const HALF: usize = MOST / 2;
 
-/// Whether all entries lie in one row, and are few.
+/// Whether all entries lie in one row, and are few, with memory for one more.
 #[inline(always)]
 pub(crate) fn is_small(blocks: &[Block]) -> bool
-    ensures { result ≡ true → (length blocks.now ≡ 1) × (length (slice_index_or blocks.now 0 []) < 32) }
+    ensures { result ≡ true → (length blocks.now ≡ 1) × ((length (slice_index_or blocks.now 0 []) < 32) × (length (slice_index_or blocks.now 0 []) ≢ 4)) }
 {
-    blocks.len() == 1 && blocks[0].len() < HALF
+    blocks.len() == 1 && blocks[0].len() < HALF && blocks[0].len() != FEW
 }
 
 // Puts an entry into a row that has room.
 #[inline(always)]
-fn put_in_row(blocks: &mut Vec<Block>, block: usize, index: usize, key: u64, value: u64)
+fn put_in_row(
+    blocks: &mut Vec<Block>,
+    spare: &mut Vec<(u64, u64)>,
+    block: usize,
+    index: usize,
+    key: u64,
+    value: u64,
+)
     requires some { HasSome blocks.old.items }
+    requires empty { spare.old.items ≡ [] }
+    requires memory { length (slice_index_or blocks.old.items block []) ≡ 4 → 64 ≤ vec_capacity spare.old }
     requires block { block < length blocks.old.items }
     requires index { index ≤ length (slice_index_or blocks.old.items block []) }
     requires room { length (slice_index_or blocks.old.items block []) < 64 }
     requires goes { GoesAt (flat blocks.old.items) (place_among blocks.old.items block index) key }
     ensures items { flat blocks.new.items ≡ insert (flat blocks.old.items) (place_among blocks.old.items block index) (key, value) }
     ensures some { HasSome blocks.new.items }
+    ensures empty { spare.new.items ≡ [] }
 {
-    blocks[block].put(index, key, value);
+    blocks[block].put(spare, index, key, value);
 }
 
 // Puts an entry alone behind all rows. There is memory.
@@ -38,7 +48,7 @@ fn push_row(blocks: &mut Vec<Block>, spare: Vec<(u64, u64)>, key: u64, value: u6
     requires some { HasSome blocks.old.items }
     requires memory { length blocks.old.items < vec_capacity blocks.old }
     requires empty { spare.items ≡ [] }
-    requires room { 64 ≤ vec_capacity spare }
+    requires room { 4 ≤ vec_capacity spare }
     ensures items { flat blocks.new.items ≡ flat blocks.old.items ++ (key, value) ∷ [] }
     ensures some { HasSome blocks.new.items }
 {
@@ -50,7 +60,7 @@ fn push_row_before(blocks: &mut Vec<Block>, spare: Vec<(u64, u64)>, key: u64, va
     requires some { HasSome blocks.old.items }
     requires memory { length blocks.old.items < vec_capacity blocks.old }
     requires empty { spare.items ≡ [] }
-    requires room { 64 ≤ vec_capacity spare }
+    requires room { 4 ≤ vec_capacity spare }
     ensures items { flat blocks.new.items ≡ (key, value) ∷ flat blocks.old.items }
     ensures some { HasSome blocks.new.items }
 {
@@ -82,30 +92,33 @@ fn split_row(blocks: &mut Vec<Block>, spare: Vec<(u64, u64)>, block: usize, inde
 // Makes two rows of one, and puts an entry into one of them. There is memory.
 fn split_and_put(
     blocks: &mut Vec<Block>,
-    spare: Vec<(u64, u64)>,
+    memory: Vec<(u64, u64)>,
+    spare: &mut Vec<(u64, u64)>,
     block: usize,
     index: usize,
     key: u64,
     value: u64,
 )
     requires some { HasSome blocks.old.items }
-    requires memory { length blocks.old.items < vec_capacity blocks.old }
-    requires empty { spare.items ≡ [] }
-    requires room { 64 ≤ vec_capacity spare }
+    requires place { length blocks.old.items < vec_capacity blocks.old }
+    requires memory { memory.items ≡ [] }
+    requires room { 64 ≤ vec_capacity memory }
+    requires empty { spare.old.items ≡ [] }
     requires block { block < length blocks.old.items }
     requires index { index ≤ length (slice_index_or blocks.old.items block []) }
-    requires many { 2 ≤ length (slice_index_or blocks.old.items block []) }
+    requires many { 32 ≤ length (slice_index_or blocks.old.items block []) }
     requires most { length (slice_index_or blocks.old.items block []) ≤ 64 }
     requires goes { GoesAt (flat blocks.old.items) (place_among blocks.old.items block index) key }
     ensures items { flat blocks.new.items ≡ insert (flat blocks.old.items) (place_among blocks.old.items block index) (key, value) }
     ensures some { HasSome blocks.new.items }
+    ensures empty { spare.new.items ≡ [] }
 {
     let middle = blocks[block].len() / 2;
-    split_row(blocks, spare, block, middle);
+    split_row(blocks, memory, block, middle);
     if index <= middle {
-        put_in_row(blocks, block, index, key, value);
+        put_in_row(blocks, spare, block, index, key, value);
     } else {
-        put_in_row(blocks, block + 1, index - middle, key, value);
+        put_in_row(blocks, spare, block + 1, index - middle, key, value);
     }
 }
 
@@ -132,7 +145,7 @@ pub(crate) fn put_entry(
 {
     let len = blocks[block].len();
     if !blocks[block].is_full() || len < HALF {
-        return put_in_row(blocks, block, index, key, value);
+        return put_in_row(blocks, spare, block, index, key, value);
     }
     let memory = mem::replace(spare, Vec::new(alloc));
     if index == len && block + 1 == blocks.len() {
@@ -141,7 +154,7 @@ pub(crate) fn put_entry(
     if index == 0 && block == 0 {
         return push_row_before(blocks, memory, key, value);
     }
-    split_and_put(blocks, memory, block, index, key, value);
+    split_and_put(blocks, memory, spare, block, index, key, value);
 }
 
 /// Puts an entry where there is none. There is room.
@@ -282,6 +295,20 @@ fn has_room(rows: &[Block], block: &Block) -> bool
     rows[count - 1].len() + block.len() <= MOST
 }
 
+/// Whether no two neighbours fit into one row.
+pub(crate) fn are_full(blocks: &[Block]) -> bool
+    ensures { result ≡ true → AreFull blocks.now }
+{
+    let mut block = 1;
+    while block < blocks.len() {
+        if blocks[block - 1].len() + blocks[block].len() <= MOST {
+            return false;
+        }
+        block += 1;
+    }
+    true
+}
+
 // Puts a copy of a row behind the others, or its entries behind those of the last row where that has room.
 fn join_row(rows: &mut Vec<Block>, block: &Block, alloc: Global) -> Result<(), AllocError>
     requires some { HasSome rows.old.items }
@@ -294,7 +321,7 @@ fn join_row(rows: &mut Vec<Block>, block: &Block, alloc: Global) -> Result<(), A
     let _len = block.len();
     if has_room(rows.as_slice(), block) {
         let last = rows.len() - 1;
-        rows[last].append(block);
+        rows[last].append(block, alloc)?;
         return Ok(());
     }
     rows.push(block.copied(alloc)?)?;

@@ -6,7 +6,7 @@ use Rattle.std.proofs.lemmas.List.{length-drop, length-take, get_or-take}
 use Rattle.std.proofs.lemmas.Bool.{cases_lt, cases_eq}
 use Rattle.quic_assembler.specs.Piece.{PieceView, run_end, RunHolds, cut_at}
 use Rattle.quic_assembler.proofs.Runs.{RunHolds-cut, RunHolds-uncut}
-use Rattle.quic_ordered.specs.Entries.{piece_at, MapHolds, MapHoldsNone, IsPieceMap, IsOutside, WritesOver, SpansAll, StillHolds, IsJoining, MapTakes, MapStems, HasJoined, MapKeepsApart, IsLastPiece, GrowsTo, piece_of}
+use Rattle.quic_ordered.specs.Entries.{piece_at, MapHolds, MapHoldsNone, IsPieceMap, IsOutside, WritesOver, SpansAll, StillHolds, IsJoining, MapTakes, MapStems, HasJoined, MapKeepsApart, IsLastPiece, IsFreeFor, GrowsTo, piece_of}
 use Rattle.quic_ordered.specs.Rows.{LiesApart, Encloses}
 use Rattle.quic_ordered.proofs.Held.{some_is, none_some, place, one_byte, held_once, held, covered}
 
@@ -338,6 +338,40 @@ not_new es new q v apart some free found same =
     elim (free q v found) [
       | inl a ↦ omega arith
       | inr b ↦ omega arith
+    ]
+
+-- a new piece that overlaps none
+pub free_for : (es : List (ℕ × PieceView)) (new : PieceView) → IsPieceMap es → 0 < length new.bytes → IsFreeFor es new → Free es new
+free_for es new apart some (inl none) q v found =
+    elim (cases_lt (run_end new - 1) q) [
+      | inl lt ↦ inr (omega arith)
+      | inr ge ↦ let e = sym found ∙ none q (omega arith) ge in absurd cc
+    ]
+free_for es new apart some (inr l) q v found = free_of es new l.0 l.1 (run_end new - 1) apart l.2.0 (omega arith) l.2.1 q v found
+
+none_is : (o : Option PieceView) → ((v : PieceView) → o ≡ Some v → ⊥) → o ≡ None
+none_is None f = refl
+none_is (Some v) f = absurd (f v refl)
+
+pub free_none : (es : List (ℕ × PieceView)) (new : PieceView) → IsPieceMap es → 0 < length new.bytes → Free es new → piece_at es new.offset ≡ None
+free_none es new apart some free = none_is (piece_at es new.offset) (λ v found. not_new es new new.offset v apart some free found refl)
+
+pub free_within : (es : List (ℕ × PieceView)) (new v : PieceView) (q : ℕ) → 0 < length new.bytes → Free es new → piece_at es q ≡ Some v → q ≤ new.offset → run_end new ≤ run_end v → ⊥
+free_within es new v q some free found low high =
+    elim (free q v found) [
+      | inl a ↦ omega arith
+      | inr b ↦ omega arith
+    ]
+
+-- the last piece that begins below the end of a new one ends behind its offset
+pub near_ends : (es : List (ℕ × PieceView)) (new : PieceView) (last last_end n : ℕ) → IsPieceMap es → IsLastPiece es last last_end n → (new.offset ≤ last) ⊎ (new.offset < last_end) → new.offset < last_end
+near_ends es new last last_end n apart l near =
+    let k = apart.key last l.run l.found in
+    let s = apart.some last l.run l.found in
+    let e = l.ends in
+    elim near [
+      | inl le ↦ omega arith
+      | inr lt ↦ lt
     ]
 
 pub put_takes : (es es' : List (ℕ × PieceView)) (new : PieceView) → IsPieceMap es → 0 < length new.bytes → Free es new → piece_at es' new.offset ≡ Some new

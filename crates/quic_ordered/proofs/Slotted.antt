@@ -19,7 +19,7 @@ use Rattle.slab.specs.Slab.{Slab, get, ContainsKey, Updates}
 use Rattle.block_map.specs.Sorted.{KeyAndValue, KeysRise, IsLastUpTo, IsFirstFrom}
 use Rattle.block_map.proofs.Keyed.{rises_rest, lookup_none, lookup_here, without_here, none_here}
 use Rattle.quic_assembler.specs.Piece.{PieceView, run_end}
-use Rattle.quic_ordered.specs.Entries.{piece_at, piece_of, NoPieceBegins, IsFirstPiece}
+use Rattle.quic_ordered.specs.Entries.{piece_at, piece_of, NoPieceBegins, IsFirstPiece, IsLastPiece}
 use Rattle.quic_ordered.specs.Rows.{RiseByKey, FitsWords, tidied, joined_with}
 use Rattle.block_map.specs.declared.map.Place.{Place}
 use Rattle.block_map.specs.Rows.{place_among}
@@ -431,6 +431,15 @@ none_since s es n place e r last is q from to =
 
 pub last_low : (es : List KeyAndValue) (n place : ℕ) (e : KeyAndValue) → IsLastUpTo es n place → ((d : KeyAndValue) → e ≡ slice_index_or es place d) → e.0 ≤ n
 last_low es n place e last is = let h = ap (λ (x : KeyAndValue). x.0) (is e) in let u = last.up_to e in omega (arith, h, u)
+
+pub last_piece : (s : Slab PieceView) (es : List KeyAndValue) (n place : ℕ) (e : KeyAndValue) (v : PieceView) (end : ℕ) → KeysRise es → IsLastUpTo es n place → ((d : KeyAndValue) → e ≡ slice_index_or es place d) → v ≡ in_slot s e.1 → end ≡ run_end v → IsLastPiece (in_slots s es) e.0 end n
+last_piece s es n place e v end r last is here ends = record {
+  run = v;
+  found = found_some s es e.0 e.1 (slot_here es place e r last.fits is) ∙ ap (λ (w : PieceView). Some w) (sym here);
+  ends = ends;
+  up_to = last_low es n place e last is;
+  last = none_since s es n place e r last is;
+}
 
 pub first_piece : (s : Slab PieceView) (es : List KeyAndValue) (n place : ℕ) (e : KeyAndValue) → KeysRise es → IsFirstFrom es n place → ((d : KeyAndValue) → e ≡ slice_index_or es place d) → IsFirstPiece (in_slots s es) e.0 n
 first_piece s es n place e r first is = record {

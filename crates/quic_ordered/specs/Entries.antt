@@ -1,5 +1,5 @@
 -- Pieces by their offsets, as the entries of a map.
-use Rattle.std.specs.Prelude.{ℕ, ◌≡◌, ◌+◌, ◌≤◌, ◌<◌, ◌⊎◌, List, length, false, Option, Some, None}
+use Rattle.std.specs.Prelude.{ℕ, ◌≡◌, ◌+◌, ◌-◌, ◌≤◌, ◌<◌, ◌⊎◌, List, length, false, Option, Some, None}
 use Rattle.std.specs.List.{All}
 use Rattle.std.specs.Map.{lookup}
 use Rattle.std.specs.BTreeMap.{is_at}
@@ -43,6 +43,10 @@ pub record IsLastPiece (es : List (ℕ × PieceView)) (start end n : ℕ) : Type
   pub ends : end ≡ run_end run
   pub up_to : start ≤ n
   pub last : NoPieceBegins es (start + 1) n
+
+-- of the runs that begin below the end of a new one the last ends by its offset, if there is one
+abbrev pub IsFreeFor : List (ℕ × PieceView) → PieceView → Type 0
+IsFreeFor es new = NoPieceBegins es 0 (run_end new - 1) ⊎ ((start end : ℕ) × (IsLastPiece es start end (run_end new - 1) × (end ≤ new.offset)))
 
 -- the first run that begins from n on
 pub record IsFirstPiece (es : List (ℕ × PieceView)) (start n : ℕ) : Type 0 where

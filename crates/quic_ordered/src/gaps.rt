@@ -249,6 +249,39 @@ fn join(
     }
 }
 
+// Takes a piece, where the last one that begins below its end begins from its offset on or ends behind it.
+fn hold_near(
+    pieces: &mut PieceMap,
+    new: Piece,
+    last: u64,
+    last_end: u64,
+    alloc: Global,
+) -> Result<(), OutOfMemory>
+    requires apart { IsPieceMap pieces.old }
+    requires some { 0 < length new.bytes }
+    requires rises { RiseByKey pieces.old }
+    requires last { IsLastPiece pieces.old last last_end (run_end new - 1) }
+    requires near { (new.offset ≤ last) ⊎ (new.offset < last_end) }
+    requires bound { last_end < 2 ^ 62 }
+    ensures rises { RiseByKey pieces.new }
+    ensures takes { OnOk result (MapTakes pieces.old new pieces.new) }
+    ensures stems { OnOk result (MapStems pieces.old new pieces.new) }
+    ensures joined { OnOk result (MapJoins pieces.old new pieces.new) }
+    ensures stays { OnOk result (MapKeepsApart pieces.old new pieces.new) }
+    ensures apart { IsPieceMap pieces.new }
+    ensures pieces { length pieces.new ≤ length pieces.old + 1 }
+    ensures err { OnErr result (pieces.new ≡ pieces.old) }
+    ensures within { (q : ℕ) (v : PieceView) → piece_at pieces.old q ≡ Some v → q ≤ new.offset → run_end new ≤ run_end v → (result ≡ Ok tt) × (pieces.new ≡ pieces.old) }
+{
+    let offset = new.offset();
+    let end = new.end();
+    if last <= offset && end <= last_end {
+        return Ok(());
+    }
+    let start = start_of(pieces, offset);
+    join(pieces, &new, start, end.max(last_end), alloc)
+}
+
 /// Takes a piece. Where two bytes meet the held one stays, and a piece that lies within a held one takes no memory.
 pub(crate) fn hold(pieces: &mut PieceMap, new: Piece, alloc: Global) -> Result<(), OutOfMemory>
     requires apart { IsPieceMap pieces.old }
@@ -264,19 +297,8 @@ pub(crate) fn hold(pieces: &mut PieceMap, new: Piece, alloc: Global) -> Result<(
     ensures err { OnErr result (pieces.new ≡ pieces.old) }
     ensures within { (q : ℕ) (v : PieceView) → piece_at pieces.old q ≡ Some v → q ≤ new.offset → run_end new ≤ run_end v → (result ≡ Ok tt) × (pieces.new ≡ pieces.old) }
 {
-    let offset = new.offset();
-    let end = new.end();
-    let Some((last, last_end)) = pieces.last_up_to(end - 1) else {
-        pieces.insert(new)?;
+    let Some((given, last, last_end)) = pieces.put_free(new)? else {
         return Ok(());
     };
-    if last_end <= offset {
-        pieces.insert(new)?;
-        return Ok(());
-    }
-    if last <= offset && end <= last_end {
-        return Ok(());
-    }
-    let start = start_of(pieces, offset);
-    join(pieces, &new, start, end.max(last_end), alloc)
+    hold_near(pieces, given, last, last_end, alloc)
 }

@@ -1,11 +1,11 @@
 // Pieces by the offsets at which they begin, with their sums.
-ghost use Rattle.std.specs.Prelude.{List, ◌≡◌, ℕ, ◌+◌, ◌-◌, ◌^◌, ◌<◌, ◌≤◌, [], ◌∷◌, ◌++◌, length, sum_by, IfOk, OnOk, OnErr, IfSome, IfNone, IsSome, Some, None, is_some, if◌then◌else◌, IfErr};
+ghost use Rattle.std.specs.Prelude.{List, ◌≡◌, ℕ, ◌+◌, ◌-◌, ◌^◌, ◌<◌, ◌≤◌, ◌⊎◌, [], ◌∷◌, ◌++◌, length, sum_by, IfOk, OnOk, OnErr, IfSome, IfNone, IsSome, Some, None, is_some, if◌then◌else◌, IfErr};
 ghost use Rattle.std.specs.Map.{values_of, keys_of, set_value};
 ghost use Rattle.std.specs.List.{All};
 ghost use Rattle.std.specs.BTreeMap.{insert_entry, is_at};
 ghost use Rattle.std.specs.Ordering.{nat_cmp};
 ghost use Rattle.quic_assembler.specs.Piece.{PieceView, run_end, run_length, run_allocation};
-ghost use Rattle.quic_ordered.specs.Entries.{piece_at, piece_of, NoPieceBegins, IsLastPiece, IsFirstPiece};
+ghost use Rattle.quic_ordered.specs.Entries.{piece_at, piece_of, NoPieceBegins, IsLastPiece, IsFirstPiece, IsFreeFor};
 ghost use Rattle.quic_ordered.specs.Rows.{RiseByKey, FitsWords, tidied, joined_with};
 ghost use Rattle.quic_ordered.specs.Sweeping.{IsSwept, IsNextRun};
 
@@ -296,6 +296,38 @@ impl PieceMap {
                 Ok(())
             }
             Err(piece) => Err(piece),
+        }
+    }
+
+    /// Puts a piece in. Where the last one that begins below its end begins from its offset on, or ends behind it, gives it
+    /// back, with where that one begins and ends.
+    #[inline]
+    pub(crate) fn put_free(
+        &mut self,
+        piece: Piece,
+    ) -> Result<Option<(Piece, u64, u64)>, OutOfMemory>
+        requires { 0 < length piece.bytes }
+        ensures entries { IfOk result (λ r. IfNone r (self.new ≡ insert_entry nat_cmp self.old piece.offset piece)) }
+        ensures free { IfOk result (λ r. IfNone r (IsFreeFor self.old piece)) }
+        ensures back { IfOk result (λ r. IfSome r (λ t. t.0 ≡ piece)) }
+        ensures last { IfOk result (λ r. IfSome r (λ t. IsLastPiece self.old t.1 t.2 (run_end piece - 1))) }
+        ensures near { IfOk result (λ r. IfSome r (λ t. (piece.offset ≤ t.1) ⊎ (piece.offset < t.2))) }
+        ensures bound { IfOk result (λ r. IfSome r (λ t. t.2 < 2 ^ 62)) }
+        ensures same { IfOk result (λ r. IfSome r (λ _. self.new ≡ self.old)) }
+        ensures free_err { OnErr result (IsFreeFor self.old piece) }
+        ensures err { OnErr result (self.new ≡ self.old) }
+        ensures rises { RiseByKey self.new }
+    {
+        let length = piece.len() as u128;
+        let allocated = piece.allocation_size() as u128;
+        let _count = self.pieces.len();
+        match self.pieces.put_free(piece)? {
+            Some(found) => Ok(Some(found)),
+            None => {
+                self.total += length;
+                self.allocated += allocated;
+                Ok(None)
+            }
         }
     }
 

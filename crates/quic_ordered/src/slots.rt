@@ -1,5 +1,5 @@
 // Pieces by the offsets at which they begin, each in a slot of a slab.
-ghost use Rattle.std.specs.Prelude.{◌≡◌, ℕ, ◌+◌, ◌^◌, ◌<◌, ◌≤◌, [], ◌∷◌, ◌++◌, length, if◌then◌else◌, IfOk, IfErr, IfSome, IfNone, OnOk, OnErr, Some, None, is_some, true};
+ghost use Rattle.std.specs.Prelude.{◌≡◌, ℕ, ◌+◌, ◌-◌, ◌^◌, ◌<◌, ◌≤◌, ◌⊎◌, [], ◌∷◌, ◌++◌, length, if◌then◌else◌, IfOk, IfErr, IfSome, IfNone, OnOk, OnErr, Some, None, is_some, true};
 ghost use Rattle.std.specs.BTreeMap.{insert_entry, is_at};
 ghost use Rattle.std.specs.BTreeMap.Range.{entries_between};
 ghost use Rattle.std.specs.Map.{remove_entry, set_value};
@@ -8,7 +8,7 @@ ghost use Rattle.std.specs.declared.ops.Bound.TheVariants.{Included, Unbounded};
 ghost use Rattle.slab.specs.Slab.{ContainsKey, HasRoomFor, Updates};
 ghost use Rattle.block_map.specs.Rows.{IsPlace};
 ghost use Rattle.quic_assembler.specs.Piece.{PieceView, run_end};
-ghost use Rattle.quic_ordered.specs.Entries.{piece_at, piece_of, NoPieceBegins, IsFirstPiece};
+ghost use Rattle.quic_ordered.specs.Entries.{piece_at, piece_of, NoPieceBegins, IsFirstPiece, IsLastPiece, IsFreeFor};
 ghost use Rattle.quic_ordered.specs.Rows.{RiseByKey, tidied, joined_with};
 ghost use Rattle.quic_ordered.specs.Slotted.{in_slot, IsPlaceOrEnd, from_place};
 
@@ -252,6 +252,49 @@ impl PieceSlots {
             Err(_) => {
                 let _left = self.places.len();
                 Err(piece)
+            }
+        }
+    }
+
+    /// Puts a piece in. Where the last one that begins below its end begins from its offset on, or ends behind it, gives it
+    /// back, with where that one begins and ends.
+    #[inline]
+    pub(crate) fn put_free(
+        &mut self,
+        piece: Piece,
+    ) -> Result<Option<(Piece, u64, u64)>, OutOfMemory>
+        requires { 0 < length piece.bytes }
+        ensures entries { IfOk result (λ r. IfNone r (self.new.entries ≡ insert_entry nat_cmp self.old.entries piece.offset piece)) }
+        ensures free { IfOk result (λ r. IfNone r (IsFreeFor self.old.entries piece)) }
+        ensures absent { IfOk result (λ r. IfNone r (piece_at self.old.entries piece.offset ≡ None)) }
+        ensures back { IfOk result (λ r. IfSome r (λ t. t.0 ≡ piece)) }
+        ensures last { IfOk result (λ r. IfSome r (λ t. IsLastPiece self.old.entries t.1 t.2 (run_end piece - 1))) }
+        ensures near { IfOk result (λ r. IfSome r (λ t. (piece.offset ≤ t.1) ⊎ (piece.offset < t.2))) }
+        ensures bound { IfOk result (λ r. IfSome r (λ t. t.2 < 2 ^ 62)) }
+        ensures same { IfOk result (λ r. IfSome r (λ _. self.new ≡ self.old)) }
+        ensures free_err { OnErr result (IsFreeFor self.old.entries piece) }
+        ensures err { OnErr result (self.new ≡ self.old) }
+        ensures rises { RiseByKey self.new.entries }
+    {
+        let offset = piece.offset();
+        let last = self.places.find(piece.end() - 1);
+        if let Some(place) = last {
+            let (start, slot) = self.places.entry(place);
+            let end = piece_in(&self.pieces, slot).end();
+            if offset <= start || offset < end {
+                return Ok(Some((piece, start, end)));
+            }
+        }
+        match make_room(&mut self.places, &mut self.pieces) {
+            Ok(()) => {
+                let slot = self.pieces.insert_reserved(piece);
+                self.places.put_next(last, offset, slot as u64);
+                let _count = self.places.len();
+                Ok(None)
+            }
+            Err(_) => {
+                let _left = self.places.len();
+                Err(OutOfMemory)
             }
         }
     }

@@ -31,12 +31,12 @@ returns-then-has_room-clause-items c =
     let v = ap length c.as_slice.ensures.value in
     let is : n + 1 ≡ length rows = omega (arith, some, v, c.len-last.ensures) in
     let same : row ≡ slice_index_or rows n [] = c.index_mut.ensures.value ∙ same_at rows n row [] (omega (arith, is)) in
-    ap (λ (t : List KeyAndValue). flat (slice_set rows n t)) (c.append.ensures ∙ ap (λ (t : List KeyAndValue). t ++ c.args.block.now) same) ∙ flat_grown rows n [] c.args.block.now is
+    ap (λ (t : List KeyAndValue). flat (slice_set rows n t)) (c.in_ok-append.ensures ∙ ap (λ (t : List KeyAndValue). t ++ c.args.block.now) same) ∙ flat_grown rows n [] c.args.block.now is
 
 pub returns-then-has_room-clause-some : goal.returns-then-has_room-clause-some
 returns-then-has_room-clause-some c =
     let rows = c.args.rows.now.items in
-    let l = ap length c.append.ensures in
+    let l = ap length c.in_ok-append.ensures in
     let m = length-append c.index_mut.result.now c.args.block.now in
     let pos = c.len-len.ensures.some in
     some_set rows (c.len-last.result - 1) c.append.new.self c.requires.some (omega (arith, l, m, pos))
@@ -50,7 +50,7 @@ returns-then-has_room-clause-full c =
     let v = ap length c.as_slice.ensures.value in
     let is : n + 1 ≡ length rows = omega (arith, some, v, c.len-last.ensures) in
     let same : row ≡ slice_index_or rows n [] = c.index_mut.ensures.value ∙ same_at rows n row [] (omega (arith, is)) in
-    let l = ap length c.append.ensures in
+    let l = ap length c.in_ok-append.ensures in
     let m = length-append row c.args.block.now in
     let o = ap length same in
     full_grown rows n c.append.new.self [] (omega (arith, l, m, o)) c.requires.full

@@ -23,4 +23,4 @@ returns-clause-items c =
     let y : KeyAndValue = (c.args.key, c.args.value) in
     let row = c.index_mut.result.now in
     let same : row ≡ slice_index_or rows b [] = c.index_mut.ensures.value ∙ same_at rows b row [] c.requires.block in
-    ap (λ (t : List KeyAndValue). flat (slice_set rows b t)) (c.put.ensures ∙ ap (λ (t : List KeyAndValue). insert t i y) same) ∙ put_in rows b [] c.requires.block i y c.requires.index
+    ap (λ (t : List KeyAndValue). flat (slice_set rows b t)) (c.put.ensures.put ∙ ap (λ (t : List KeyAndValue). insert t i y) same) ∙ put_in rows b [] c.requires.block i y c.requires.index

@@ -1,8 +1,10 @@
-use Rattle.std.proofs.Common.{rules, arith, ◌≡◌, ◌<◌, ◌≤◌, length, drop, sym, ap, ◌∙◌}
-use Rattle.std.specs.Prelude.{slice_index_or}
+use Rattle.std.proofs.Common.{arith, ◌≡◌, ◌-◌, ◌<◌, ◌≤◌, length, drop, sym, ap, ◌∙◌}
+use Rattle.std.specs.Prelude.{slice_index_or, vec_capacity}
 use Rattle.std.specs.List.{remove_range}
 use Rattle.std.proofs.lemmas.List.{length-drop}
 use Rattle.block_map.specs.Sorted.{KeyAndValue}
+use Rattle.block_map.specs.Rows.{IsRowMemory}
+use Rattle.block_map.proofs.Memory.{memory_less}
 use Rattle.block_map.proofs.Rising.{rises_without, length-without, head_behind}
 use Rattle.block_map.proofs.block.Block.cut.Goals as goal
 
@@ -21,6 +23,8 @@ invariant_of-self c =
     let n = length-without (drop s xs) c.args.from c.args.to order fits in
     let l = ap length v in
     let m = length-drop t ys in
+    let k = length-drop s xs in
+    let memory : IsRowMemory (vec_capacity c.take_out-self-inside.new.entries) (length xs - s) = rw (← c.take_out-self-inside.ensures.capacity) at c.self.invariant.1 in
     let most = c.self.invariant.0.fits in
     let e = c.index.result.now in
     let here : e ≡ slice_index_or ys t e = c.index.ensures in
@@ -31,5 +35,5 @@ invariant_of-self c =
         head = ap (λ (x : KeyAndValue). x.0) here ∙ sym (head_behind ys t e some);
         rises = rw (← v) at r;
       },
-      search rules,
+      memory_less _ _ _ memory (omega (arith, n, l, m, k)),
     )

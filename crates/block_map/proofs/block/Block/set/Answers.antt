@@ -3,6 +3,7 @@ use Rattle.std.specs.Prelude.{slice_index_or, slice_set}
 use Rattle.std.proofs.lemmas.List.{length-set, drop-set-add}
 use Rattle.block_map.specs.Sorted.{KeyAndValue}
 use Rattle.block_map.proofs.Rising.{set_rises, head_behind}
+use Rattle.block_map.proofs.Memory.{memory_less}
 use Rattle.block_map.proofs.block.Block.set.Goals as goal
 
 pub invariant_of-self : goal.invariant_of-self
@@ -24,7 +25,7 @@ invariant_of-self c =
         head = ap (λ (x : KeyAndValue). x.0) here ∙ sym (head_behind (slice_set xs (s + i) y) s e (omega (arith, n, some)));
         rises = rw (← drop-set-add s xs i y) at r;
       },
-      c.self.invariant.1,
+      memory_less _ _ _ c.self.invariant.1 (omega (arith, n)),
     )
 
 pub returns : goal.returns
