@@ -71,7 +71,8 @@ impl StreamsState {
     }
 
     /// Takes the limits of the peer's transport parameters. For an early start (0-RTT) these are first the remembered
-    /// ones.
+    /// ones. Each open stream of this end gets its new limit, with an event where it can be written on again. Where memory
+    /// is wanting nothing changes; none is wanted where this end opened no stream.
     pub fn set_params(&mut self, limits: &Limits) -> Result<(), ConfigError> {
         let raw = sys::PeerLimits {
             initial_max_data: limits.initial_max_data,

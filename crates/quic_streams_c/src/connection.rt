@@ -230,11 +230,13 @@ fn set_limits(session: &mut Session, limits: &RawLimits) -> i32
     let Some(params) = raw_limits(limits) else {
         return ARGUMENT;
     };
-    let taken = session.set_params(&params);
-    if taken.is_ok() {
-        session.set_max_datagram(length_of(limits.max_datagram));
+    match session.set_params(&params) {
+        Ok(()) => {
+            session.set_max_datagram(length_of(limits.max_datagram));
+            OK
+        }
+        Err(_) => NO_MEMORY,
     }
-    tell_memory(&taken)
 }
 
 /// The peer rejected the early start of a client.
