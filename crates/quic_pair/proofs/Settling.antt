@@ -47,7 +47,7 @@ use Rattle.quic_pair.specs.From.{PairFrom}
 use Rattle.quic_pair.specs.Due.{IsFull}
 use Rattle.quic_pair.specs.Tale.{Part, Carried, GivenUp, Tales}
 use Rattle.quic_pair.specs.Runs.{TakesSteps, more, sendings_of}
-use Rattle.quic_pair.specs.Settling.{step_at, going_of, going_sending, phase_after, after_accepting, after_streams, after_reading, after_polling, after_emits, after_frame, AreSettledIn, IsAllReported, IsIdle, AreIdle, LeavesNoRest, IsSoughtFor, IsSettledAt, is_quiet_behind, TakesPhase, TakesPhaseOrNone, FollowsPhases, more as follows_more}
+use Rattle.quic_pair.specs.Settling.{step_at, going_of, going_sending, phase_after, after_accepting, after_streams, after_reading, after_polling, after_emits, after_frame, AreSettledIn, IsAllReported, IsIdle, AreIdle, LeavesNoRest, IsSoughtFor, IsSettledAt, TakesPhase, TakesPhaseOrNone, FollowsPhases, more as follows_more}
 use Rattle.quic_pair.proofs.Lists.{slice_get-push, slice_get-slice_set, slice_get-within, slice_get-there}
 use Rattle.quic_pair.proofs.Left.{IsLeft}
 use Rattle.quic_pair.proofs.Grown.{grown-from}
@@ -88,12 +88,11 @@ ready_reading who id ordered Unordered v = tt
 ready_reading who id ordered StreamOver v = ready_stream who id (stream_id (initiator_of id) (dir_of id) (index_of id + 1)) (nat_lt (index_of id + 1) (2 ^ 60)) v
 ready_reading who id ordered Over v = ready_streams who (initiator_of id) (dir_of id) v
 
-ready_accepting : (who : End) (dir : Dir) (quiet : Bool) (v : PairState) → IsReadyFor (after_accepting who dir quiet) v
-ready_accepting A Bi quiet v = tt
-ready_accepting A Uni quiet v = tt
-ready_accepting B Bi quiet v = tt
-ready_accepting B Uni false v = tt
-ready_accepting B Uni true v = tt
+ready_accepting : (who : End) (dir : Dir) (v : PairState) → IsReadyFor (after_accepting who dir) v
+ready_accepting A Bi v = tt
+ready_accepting A Uni v = tt
+ready_accepting B Bi v = tt
+ready_accepting B Uni v = tt
 
 ready_polling : (who : End) (going : Going) (v : PairState) → IsReadyFor (after_polling who going) v
 ready_polling A On v = tt
@@ -105,15 +104,15 @@ ready_polling B Over v = tt
 ready_polling B StreamOver v = tt
 ready_polling B Unordered v = tt
 
-ready_frame : (payload frame : ℕ) (next : Option ℕ) (quiet : Bool) (going : Going) (v : PairState) → IsReadyFor (after_frame payload frame next quiet going) v
-ready_frame payload frame (Some other) quiet On v = tt
-ready_frame payload frame (Some other) quiet Over v = tt
-ready_frame payload frame (Some other) quiet StreamOver v = tt
-ready_frame payload frame (Some other) quiet Unordered v = tt
-ready_frame payload frame None quiet On v = tt
-ready_frame payload frame None quiet Over v = tt
-ready_frame payload frame None quiet StreamOver v = tt
-ready_frame payload frame None quiet Unordered v = tt
+ready_frame : (payload frame : ℕ) (next : Option ℕ) (going : Going) (v : PairState) → IsReadyFor (after_frame payload frame next going) v
+ready_frame payload frame (Some other) On v = tt
+ready_frame payload frame (Some other) Over v = tt
+ready_frame payload frame (Some other) StreamOver v = tt
+ready_frame payload frame (Some other) Unordered v = tt
+ready_frame payload frame None On v = tt
+ready_frame payload frame None Over v = tt
+ready_frame payload frame None StreamOver v = tt
+ready_frame payload frame None Unordered v = tt
 
 -- ---- a payload that takes all, and has no frame
 
@@ -203,12 +202,12 @@ module _ (a b : Config) (h : History) (old new : PairState) (f : PairFrom a b h 
       let same : new.a ≡ old.a = ap (λ (v : PairState). v.a) w.emits.emits.is in
       (record { of_a = subst IsIdle (sym same) r.0; of_b = idle_then B reply n w }, last_none old new B most reply w first r.1)
 
-  ready_emits : (first : ℕ) (empty : Bool) (going : Going) (reply : Answer) → IsReadyFor (phase.EmitOfB first empty) old → Next old (steps.Emit B most true) reply new → going_of reply ≡ Some going → (quiet : Bool) → IsReadyFor (after_emits first empty going (length old.sent) quiet) new
-  ready_emits first true Over reply r n e quiet = ready_emit_b first reply r n e
-  ready_emits first true On reply r n e quiet = tt
-  ready_emits first true StreamOver reply r n e quiet = tt
-  ready_emits first true Unordered reply r n e quiet = tt
-  ready_emits first false going reply r n e quiet = tt
+  ready_emits : (first : ℕ) (empty : Bool) (going : Going) (reply : Answer) → IsReadyFor (phase.EmitOfB first empty) old → Next old (steps.Emit B most true) reply new → going_of reply ≡ Some going → IsReadyFor (after_emits first empty going (length old.sent)) new
+  ready_emits first true Over reply r n e = ready_emit_b first reply r n e
+  ready_emits first true On reply r n e = tt
+  ready_emits first true StreamOver reply r n e = tt
+  ready_emits first true Unordered reply r n e = tt
+  ready_emits first false going reply r n e = tt
 
 -- ---- a payload without a frame is dropped
 
@@ -317,32 +316,32 @@ module _ (a b : Config) (h : History) (old new : PairState) (f : PairFrom a b h 
 -- ---- all phases
 
 -- behind each step what is next may be begun
-pub ready-next : (a b : Config) (h : History) (old new : PairState) → PairFrom a b h old → (at : Phase) → IsReadyFor at old → (reply : Answer) → Next old (step_at at) reply new → (going : Going) → going_of reply ≡ Some going → (quiet : Bool) → IsReadyFor (phase_after at going (length old.sent) quiet) new
-ready-next a b h old new f (phase.Report payload was_quiet) r reply n On e quiet = tt
-ready-next a b h old new f (phase.Report payload was_quiet) r reply n Over e quiet = tt
-ready-next a b h old new f (phase.Report payload was_quiet) r reply n StreamOver e quiet = tt
-ready-next a b h old new f (phase.Report payload was_quiet) r reply n Unordered e quiet = tt
-ready-next a b h old new f (phase.ReportLost payload was_quiet) r reply n going e quiet = tt
-ready-next a b h old new f (phase.Accept who dir was_quiet) r reply n On e quiet = tt
-ready-next a b h old new f (phase.Accept who dir was_quiet) r reply n Over e quiet = ready_accepting who dir was_quiet new
-ready-next a b h old new f (phase.Accept who dir was_quiet) r reply n StreamOver e quiet = ready_accepting who dir was_quiet new
-ready-next a b h old new f (phase.Accept who dir was_quiet) r reply n Unordered e quiet = ready_accepting who dir was_quiet new
-ready-next a b h old new f (phase.Read who id ordered) r reply n going e quiet = ready_reading who id ordered going new
-ready-next a b h old new f (phase.Poll who) r reply n going e quiet = ready_polling who going new
-ready-next a b h old new f phase.EmitOfA r reply n On e quiet = tt
-ready-next a b h old new f phase.EmitOfA r reply n Over e quiet = ready_emit_a a b h old new f (2 ^ 64 - 1) (omega arith) reply n e
-ready-next a b h old new f phase.EmitOfA r reply n StreamOver e quiet = tt
-ready-next a b h old new f phase.EmitOfA r reply n Unordered e quiet = tt
-ready-next a b h old new f (phase.EmitOfB first empty) r reply n going e quiet = ready_emits a b h old new f (2 ^ 64 - 1) (omega arith) first empty going reply r n e quiet
-ready-next a b h old new f (phase.Deliver payload frame next was_quiet) r reply n going e quiet = ready_frame payload frame next was_quiet going new
-ready-next a b h old new f (phase.Drop first) r reply n going e quiet = ready_drop a b h old new f first r going reply n e
+pub ready-next : (a b : Config) (h : History) (old new : PairState) → PairFrom a b h old → (at : Phase) → IsReadyFor at old → (reply : Answer) → Next old (step_at at) reply new → (going : Going) → going_of reply ≡ Some going → IsReadyFor (phase_after at going (length old.sent)) new
+ready-next a b h old new f (phase.Report payload) r reply n On e = tt
+ready-next a b h old new f (phase.Report payload) r reply n Over e = tt
+ready-next a b h old new f (phase.Report payload) r reply n StreamOver e = tt
+ready-next a b h old new f (phase.Report payload) r reply n Unordered e = tt
+ready-next a b h old new f (phase.ReportLost payload) r reply n going e = tt
+ready-next a b h old new f (phase.Accept who dir) r reply n On e = tt
+ready-next a b h old new f (phase.Accept who dir) r reply n Over e = ready_accepting who dir new
+ready-next a b h old new f (phase.Accept who dir) r reply n StreamOver e = ready_accepting who dir new
+ready-next a b h old new f (phase.Accept who dir) r reply n Unordered e = ready_accepting who dir new
+ready-next a b h old new f (phase.Read who id ordered) r reply n going e = ready_reading who id ordered going new
+ready-next a b h old new f (phase.Poll who) r reply n going e = ready_polling who going new
+ready-next a b h old new f phase.EmitOfA r reply n On e = tt
+ready-next a b h old new f phase.EmitOfA r reply n Over e = ready_emit_a a b h old new f (2 ^ 64 - 1) (omega arith) reply n e
+ready-next a b h old new f phase.EmitOfA r reply n StreamOver e = tt
+ready-next a b h old new f phase.EmitOfA r reply n Unordered e = tt
+ready-next a b h old new f (phase.EmitOfB first empty) r reply n going e = ready_emits a b h old new f (2 ^ 64 - 1) (omega arith) first empty going reply r n e
+ready-next a b h old new f (phase.Deliver payload frame next) r reply n going e = ready_frame payload frame next going new
+ready-next a b h old new f (phase.Drop first) r reply n going e = ready_drop a b h old new f first r going reply n e
 
 ready_same : (at next : Phase) (v : PairState) → IsReadyFor at v → next ≡ at → IsReadyFor next v
 ready_same at next v r e = let P : Phase → Type 0 = λ x. IsReadyFor x v in subst P (sym e) r
 
 -- and so may the phase that is sought
 pub ready-sought : (at next : Phase) (v : PairState) → IsReadyFor at v → IsSoughtFor v.sent at next → IsReadyFor next v
-ready-sought (phase.Report from quiet) next v r s = elim s [
+ready-sought (phase.Report from) next v r s = elim s [
   | inl here ↦ (let P : Phase → Type 0 = λ x. IsReadyFor x v in subst P (sym here.2) tt)
   | inr none ↦ (let P : Phase → Type 0 = λ x. IsReadyFor x v in subst P (sym none.1) tt)
 ]
@@ -350,13 +349,13 @@ ready-sought (phase.Drop first) next v r s = elim s [
   | inl here ↦ (let P : Phase → Type 0 = λ x. IsReadyFor x v in subst P (sym here.2) (r.0, λ number t from got. r.1 number t (let le = here.1.low in omega (arith, le, from)) got))
   | inr none ↦ (let P : Phase → Type 0 = λ x. IsReadyFor x v in subst P (sym none.2) tt)
 ]
-ready-sought (phase.ReportLost payload quiet) next v r s = ready_same (phase.ReportLost payload quiet) next v r s
-ready-sought (phase.Accept who dir quiet) next v r s = ready_same (phase.Accept who dir quiet) next v r s
+ready-sought (phase.ReportLost payload) next v r s = ready_same (phase.ReportLost payload) next v r s
+ready-sought (phase.Accept who dir) next v r s = ready_same (phase.Accept who dir) next v r s
 ready-sought (phase.Read who id ordered) next v r s = ready_same (phase.Read who id ordered) next v r s
 ready-sought (phase.Poll who) next v r s = ready_same (phase.Poll who) next v r s
 ready-sought phase.EmitOfA next v r s = ready_same phase.EmitOfA next v r s
 ready-sought (phase.EmitOfB first empty) next v r s = ready_same (phase.EmitOfB first empty) next v r s
-ready-sought (phase.Deliver payload frame after quiet) next v r s = ready_same (phase.Deliver payload frame after quiet) next v r s
+ready-sought (phase.Deliver payload frame after) next v r s = ready_same (phase.Deliver payload frame after) next v r s
 
 -- ---- one step after the other
 
@@ -380,15 +379,15 @@ ready-on a b h first old before at next new behind f run r one =
     let t = went_on old before at next new behind one in
     let on = t.goes next refl in
     let P : Phase → Type 0 = λ x. IsReadyFor x new in
-    subst P (sym on.2) (ready-next a b (h ++ before) old new (from-steps f run) at r t.reply t.next on.0 on.1 (is_quiet_behind at (length old.sent) new.sent))
+    subst P (sym on.2) (ready-next a b (h ++ before) old new (from-steps f run) at r t.reply t.next on.0 on.1)
 
 -- and so far the steps follow the phases
-pub follows-on : (first old : PairState) (before : History) (at here next : Phase) (new : PairState) (behind : History) → FollowsPhases first (phase.Report 0 false) before old at → IsSoughtFor old.sent at here → TakesPhaseOrNone old before here (Ok next) new behind → FollowsPhases first (phase.Report 0 false) behind new next
+pub follows-on : (first old : PairState) (before : History) (at here next : Phase) (new : PairState) (behind : History) → FollowsPhases first (phase.Report 0) before old at → IsSoughtFor old.sent at here → TakesPhaseOrNone old before here (Ok next) new behind → FollowsPhases first (phase.Report 0) behind new next
 follows-on first old before at here next new behind run sought one =
     let t = went_on old before here next new behind one in
     let on = t.goes next refl in
-    let P : History → Type 0 = λ l. FollowsPhases first (phase.Report 0 false) l new next in
-    let Q : Phase → Type 0 = λ x. FollowsPhases first (phase.Report 0 false) (before ++ (step_at here, t.reply) ∷ []) new x in
+    let P : History → Type 0 = λ l. FollowsPhases first (phase.Report 0) l new next in
+    let Q : Phase → Type 0 = λ x. FollowsPhases first (phase.Report 0) (before ++ (step_at here, t.reply) ∷ []) new x in
     subst P (sym t.noted) (subst Q (sym on.2) (follows_more here t.reply on.0 run sought t.next on.1))
 
 -- what follows from what holds where an answer is Ok

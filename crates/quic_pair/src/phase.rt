@@ -11,21 +11,19 @@ use quic_wire::ReceiveError;
 /// Which step is next.
 #[derive(Clone, Copy)]
 pub(crate) enum Phase {
-    // An acknowledgement of a payload that is not settled; and whether the round was quiet: neither of its payloads had
-    // something for a reader.
-    Report(usize, bool),
+    // An acknowledgement of a payload that is not settled.
+    Report(usize),
     // Its loss, where that was refused.
-    ReportLost(usize, bool),
-    // Behind a quiet round nothing is read.
-    Accept(End, Dir, bool),
+    ReportLost(usize),
+    Accept(End, Dir),
     // A read of a stream by an end, in order or as bytes come.
     Read(End, StreamId, bool),
     Poll(End),
     EmitOfA,
     // With the number of the payload of A, and whether that has no frame.
     EmitOfB(usize, bool),
-    // A payload and a frame; the payload whose frames are next, if there is one; and whether the round is quiet.
-    Deliver(usize, usize, Option<usize>, bool),
+    // A payload and a frame; and the payload whose frames are next, if there is one.
+    Deliver(usize, usize, Option<usize>),
     // The loss of a payload without a frame, where neither end had something to send.
     Drop(usize),
 }
@@ -89,34 +87,33 @@ impl Going {
     }
 }
 
-fn after_report(payload: usize, quiet: bool, going: Going) -> Phase
-    ensures { result ≡ phase_after_report payload quiet going }
+fn after_report(payload: usize, going: Going) -> Phase
+    ensures { result ≡ phase_after_report payload going }
 {
     match going {
-        Going::On => Phase::Report(payload, quiet),
-        _ => Phase::ReportLost(payload, quiet),
+        Going::On => Phase::Report(payload),
+        _ => Phase::ReportLost(payload),
     }
 }
 
-fn after_accept(who: End, dir: Dir, quiet: bool, going: Going) -> Phase
-    ensures { result ≡ after_accept who dir quiet going }
+fn after_accept(who: End, dir: Dir, going: Going) -> Phase
+    ensures { result ≡ after_accept who dir going }
 {
     match going {
-        Going::On => Phase::Accept(who, dir, quiet),
-        _ => after_accepting(who, dir, quiet),
+        Going::On => Phase::Accept(who, dir),
+        _ => after_accepting(who, dir),
     }
 }
 
 // What is next behind the last stream of a direction to accept.
-fn after_accepting(who: End, dir: Dir, quiet: bool) -> Phase
-    ensures { result ≡ after_accepting who dir quiet }
+fn after_accepting(who: End, dir: Dir) -> Phase
+    ensures { result ≡ after_accepting who dir }
 {
-    match (who, dir, quiet) {
-        (End::A, Dir::Bi, _) => Phase::Accept(End::A, Dir::Uni, quiet),
-        (End::A, Dir::Uni, _) => Phase::Accept(End::B, Dir::Bi, quiet),
-        (End::B, Dir::Bi, _) => Phase::Accept(End::B, Dir::Uni, quiet),
-        (End::B, Dir::Uni, false) => first_read(End::A, Side::Client, Dir::Bi),
-        (End::B, Dir::Uni, true) => Phase::Poll(End::A),
+    match (who, dir) {
+        (End::A, Dir::Bi) => Phase::Accept(End::A, Dir::Uni),
+        (End::A, Dir::Uni) => Phase::Accept(End::B, Dir::Bi),
+        (End::B, Dir::Bi) => Phase::Accept(End::B, Dir::Uni),
+        (End::B, Dir::Uni) => first_read(End::A, Side::Client, Dir::Bi),
     }
 }
 
@@ -173,28 +170,22 @@ fn after_polling(who: End, going: Going) -> Phase
 }
 
 // Behind the payloads of both: neither has a frame, or those of the first are delivered.
-fn after_emits(first: usize, empty: bool, going: Going, second: usize, quiet: bool) -> Phase
-    ensures { result ≡ after_emits first empty going second quiet }
+fn after_emits(first: usize, empty: bool, going: Going, second: usize) -> Phase
+    ensures { result ≡ after_emits first empty going second }
 {
     match (empty, going) {
         (true, Going::Over) => Phase::Drop(first),
-        _ => Phase::Deliver(first, 0, Some(second), quiet),
+        _ => Phase::Deliver(first, 0, Some(second)),
     }
 }
 
-fn after_frame(
-    payload: usize,
-    frame: usize,
-    next: Option<usize>,
-    quiet: bool,
-    going: Going,
-) -> Phase
-    ensures { result ≡ after_frame payload frame next quiet going }
+fn after_frame(payload: usize, frame: usize, next: Option<usize>, going: Going) -> Phase
+    ensures { result ≡ after_frame payload frame next going }
 {
     match (next, going) {
-        (Some(other), Going::Over) => Phase::Deliver(other, 0, None, quiet),
-        (None, Going::Over) => Phase::Report(0, quiet),
-        _ => Phase::Deliver(payload, frame.saturating_add(1), next, quiet),
+        (Some(other), Going::Over) => Phase::Deliver(other, 0, None),
+        (None, Going::Over) => Phase::Report(0),
+        _ => Phase::Deliver(payload, frame.saturating_add(1), next),
     }
 }
 
@@ -239,33 +230,31 @@ impl Phase {
         ensures { result ≡ step_at self.now }
     {
         match self {
-            Phase::Report(payload, _) => Step::Ack { payload: *payload },
-            Phase::ReportLost(payload, _) => Step::Lose { payload: *payload },
-            Phase::Accept(who, dir, _) => accept_step(*who, *dir),
+            Phase::Report(payload) => Step::Ack { payload: *payload },
+            Phase::ReportLost(payload) => Step::Lose { payload: *payload },
+            Phase::Accept(who, dir) => accept_step(*who, *dir),
             Phase::Read(who, id, ordered) => read_step(*who, *id, *ordered),
             Phase::Poll(who) => Step::Poll { who: *who },
             Phase::EmitOfA => emit_step(End::A),
             Phase::EmitOfB(_, _) => emit_step(End::B),
-            Phase::Deliver(payload, frame, _, _) => deliver_step(*payload, *frame),
+            Phase::Deliver(payload, frame, _) => deliver_step(*payload, *frame),
             Phase::Drop(payload) => Step::Lose { payload: *payload },
         }
     }
 
-    // What is next behind a step before which so many payloads were sent, and behind which the round is quiet or not.
-    pub(crate) fn after(self, going: Going, sent: usize, quiet: bool) -> Phase
-        ensures { result ≡ phase_after self going sent quiet }
+    // What is next behind a step before which so many payloads were sent.
+    pub(crate) fn after(self, going: Going, sent: usize) -> Phase
+        ensures { result ≡ phase_after self going sent }
     {
         match self {
-            Phase::Report(payload, quiet) => after_report(payload, quiet, going),
-            Phase::ReportLost(payload, quiet) => Phase::Report(payload, quiet),
-            Phase::Accept(who, dir, quiet) => after_accept(who, dir, quiet, going),
+            Phase::Report(payload) => after_report(payload, going),
+            Phase::ReportLost(payload) => Phase::Report(payload),
+            Phase::Accept(who, dir) => after_accept(who, dir, going),
             Phase::Read(who, id, ordered) => after_reading(who, id, ordered, going),
             Phase::Poll(who) => after_polling(who, going),
             Phase::EmitOfA => Phase::EmitOfB(sent, going.is_over()),
-            Phase::EmitOfB(first, empty) => after_emits(first, empty, going, sent, quiet),
-            Phase::Deliver(payload, frame, next, quiet) => {
-                after_frame(payload, frame, next, quiet, going)
-            }
+            Phase::EmitOfB(first, empty) => after_emits(first, empty, going, sent),
+            Phase::Deliver(payload, frame, next) => after_frame(payload, frame, next, going),
             Phase::Drop(payload) => Phase::Drop(payload),
         }
     }

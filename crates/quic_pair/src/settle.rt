@@ -12,7 +12,7 @@ ghost use Rattle.quic_pair.specs.Refused.{IsRefusedSo};
 ghost use Rattle.quic_pair.specs.Unrefused.{RefusesNoFrame};
 ghost use Rattle.quic_pair.specs.Readable.{WithholdsNothing};
 ghost use Rattle.quic_pair.specs.Law.{Drains};
-ghost use Rattle.quic_pair.specs.Settling.{AreSettledIn, IsSoughtFor, IsSettledAt, is_quiet_at, is_quiet_behind, IsSettling, TakesPhaseOrNone, IsAllReported, AreIdle, LeavesNoRest};
+ghost use Rattle.quic_pair.specs.Settling.{AreSettledIn, IsSoughtFor, IsSettledAt, IsSettling, TakesPhaseOrNone, IsAllReported, AreIdle, LeavesNoRest};
 
 use crate::pair::Pair;
 use crate::phase::{Phase, going_of};
@@ -58,7 +58,7 @@ impl Pair {
         ensures settled { OnOk result (AreSettledIn 0 (length (pair_view self.new).sent) (pair_view self.new).sent) }
         ensures idle { OnOk result ((a b : Config) (h : History) → PairFrom a b h (pair_view self.old) → AreIdle (pair_view self.new)) }
     {
-        let mut phase = Phase::Report(0, false);
+        let mut phase = Phase::Report(0);
         while let Some(next) = self.seek(phase) {
             phase = self.take(next, taken)?;
         }
@@ -75,28 +75,8 @@ impl Pair {
         let going = going_of(&reply);
         note(taken, phase.step(), reply);
         match going {
-            Some(going) => Ok(phase.after(going, sent, self.is_quiet_behind(phase, sent))),
+            Some(going) => Ok(phase.after(going, sent)),
             None => Err(OutOfMemory),
-        }
-    }
-
-    // Whether the payloads of both ends, of which the second was sent last, have nothing for a reader.
-    fn is_quiet_behind(&self, phase: Phase, second: usize) -> bool
-        ensures { result ≡ is_quiet_behind phase second (pair_view self.now).sent }
-    {
-        match phase {
-            Phase::EmitOfB(first, _) => self.is_quiet(first) && self.is_quiet(second),
-            _ => false,
-        }
-    }
-
-    // Whether the payload of a number has nothing for a reader.
-    fn is_quiet(&self, payload: usize) -> bool
-        ensures { result ≡ is_quiet_at (pair_view self.now).sent payload }
-    {
-        match self.sent.get(payload) {
-            Some(sent) => sent.unsettled.is_quiet(),
-            None => true,
         }
     }
 
@@ -106,20 +86,20 @@ impl Pair {
         ensures none { IfNone result (IsSettledAt phase (pair_view self.now).sent) }
     {
         match phase {
-            Phase::Report(from, quiet) => Some(self.report_from(from, quiet)),
+            Phase::Report(from) => Some(self.report_from(from)),
             Phase::Drop(from) => self.drop_from(from),
             _ => Some(phase),
         }
     }
 
-    fn report_from(&self, from: usize, quiet: bool) -> Phase
-        ensures { IsSoughtFor (pair_view self.now).sent (Phase.Report from quiet) result }
+    fn report_from(&self, from: usize) -> Phase
+        ensures { IsSoughtFor (pair_view self.now).sent (Phase.Report from) result }
     {
         let number = self.unsettled_from(from);
         if number < self.sent.len() {
-            return Phase::Report(number, quiet);
+            return Phase::Report(number);
         }
-        Phase::Accept(End::A, Dir::Bi, quiet)
+        Phase::Accept(End::A, Dir::Bi)
     }
 
     fn drop_from(&self, from: usize) -> Option<Phase>
@@ -132,7 +112,7 @@ impl Pair {
         }
         let number = self.unsettled_from(0);
         if number < self.sent.len() {
-            return Some(Phase::Report(number, true));
+            return Some(Phase::Report(number));
         }
         None
     }
