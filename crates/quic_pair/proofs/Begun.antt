@@ -1,5 +1,5 @@
 -- A pair that was just made has two linked ends.
-use Rattle.std.proofs.Common.{◌≡◌, ◌<◌, ◌^◌, [], refl, sym, inl, inr}
+use Rattle.std.proofs.Common.{◌≡◌, ◌<◌, ◌^◌, [], Ok, refl, sym, inl, inr}
 use Rattle.quic_values.specs.declared.ids.Side.TheVariants.{Client, Server}
 use Rattle.quic_values.specs.Ids.{other_side}
 use Rattle.quic_outgoing.specs.Outgoing.{with_params}

@@ -80,6 +80,7 @@ stop_step m (Sending (StoppedOwn id code (Ok u))) h q c k = elim (moved_stopped 
 
     same_code : (a b : ℕ) → WasAskedToStop a ≡ WasAskedToStop b → a ≡ b
     same_code a b e = ap (code_of a) e
+stop_step m (Sending (GaveLimits limits (Ok u))) h q c k = inl k
 stop_step m (Sending (RaisedLimit id limit (Ok u))) h q c k = old_stop id (WasPermitted limit) (has_sides m h) q (flow m h q) c (no_stop (WasPermitted limit) c refl) k
 stop_step m (Sending (WroteOwn id lists closed (Ok written))) h q c k = old_stop id (WasWritten (front_of written.bytes lists)) (has_sides m h) q (flow m h q) c (no_stop (WasWritten (front_of written.bytes lists)) c refl) k
 stop_step m (Sending (FinishedOwn id (Ok u))) h q c k = old_stop id WasFinished (has_sides m h) q (flow m h q) c (no_stop WasFinished c refl) k
