@@ -8,7 +8,6 @@ use Rattle.quic_link.specs.Endpoints.{IsOneOf}
 use Rattle.quic_steps.specs.declared.steps.Config.{Config}
 use Rattle.quic_steps.specs.declared.steps.End.{End}
 use Rattle.quic_pair.specs.declared.sent.Sent.{Sent}
-use Rattle.quic_pair.specs.State.{peer}
 use Rattle.quic_pair.specs.History.{Past, Flow, FramePlace, History}
 use Rattle.quic_pair.specs.Tale.{Tales, Sendings, Told}
 use Rattle.quic_pair.specs.Headline.{SomeStream, HasOffset, HasEnd}
@@ -35,9 +34,9 @@ pub record IsReadWhole (f : Flow) : Type 0 where
   pub all : IsAllGiven (slices f.given) (length f.written)
   pub ended : f.finished ≡ true → f.ended ≡ true
 
--- so of what came to each end on each stream, unless it was given up or stopped
+-- so of what each end sends on each stream, unless it was given up or stopped
 abbrev pub HaveBeenRead : Past → Type 0
-HaveBeenRead p = (who : End) (id : ℕ) → IsUnreset (p.flow (peer who) id) → IsUnstopped (p.flow (peer who) id) → IsReadWhole (p.flow (peer who) id)
+HaveBeenRead p = (who : End) (id : ℕ) → IsUnreset (p.flow who id) → IsUnstopped (p.flow who id) → IsReadWhole (p.flow who id)
 
 -- all that was written on a stream is acknowledged: where it was ended its half was freed by that (RFC 9000 section 3.1), and else each
 -- byte is
