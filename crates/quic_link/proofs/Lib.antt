@@ -16,6 +16,7 @@ pub mod Reports
 pub mod Given
 pub mod AskedFor
 pub mod GivenIds
+pub mod Opened
 pub mod Opens
 pub mod Counts
 pub mod Joint

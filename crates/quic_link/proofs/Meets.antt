@@ -45,14 +45,14 @@ abbrev pub next_of_dir : ℕ × ℕ → Dir → ℕ
 next_of_dir p Bi = p.0
 next_of_dir p Uni = p.1
 
-abbrev Stays : World → World → Type 0
+abbrev pub Stays : World → World → Type 0
 Stays u v = nexts v ≡ nexts u
 
 -- a frame on a stream of the peer opens it, and those below
 abbrev pub Meets : World → World → ℕ → Type 0
 Meets u v id = (d : Dir) → (next_of_dir (nexts v) d ≤ next_of_dir (nexts u) d) ⊎ ((is_own u id ≡ false) × (dir_of id ≡ d) × (next_of_dir (nexts v) d ≤ index_of id + 1))
 
-stays_put : (w : World) (id : ℕ) (o : Option Half) → Stays w (with_receive w id o)
+pub stays_put : (w : World) (id : ℕ) (o : Option Half) → Stays w (with_receive w id o)
 unfolding with_receive
 stays_put w id o = refl
 
@@ -80,7 +80,7 @@ same_replaced r false = refl
 stays_replaced : (w : World) (d : Dir) → Stays w (replaced_in w d)
 stays_replaced w d = stays_permitted_if (with_remote w d (replaced (remote_of w d))) d (replacement (remote_of w d)) ∙ stays_remote w d _ (same_replaced (remote_of w d) (lacks_streams (freed (remote_of w d))))
 
-stays_if : (u v w : World) (b : Bool) → Stays u v → Stays u w → Stays u (if b then v else w)
+pub stays_if : (u v w : World) (b : Bool) → Stays u v → Stays u w → Stays u (if b then v else w)
 stays_if u v w true s t = s
 stays_if u v w false s t = t
 
@@ -88,7 +88,7 @@ stays_released : (w : World) (d : Dir) (id : ℕ) → Stays w (released w d id)
 stays_released w Uni id = stays_replaced w Uni
 stays_released w Bi id = stays_if w w (replaced_in w Bi) (sends w id) refl (stays_replaced w Bi)
 
-stays_freed : (w : World) (id : ℕ) → Stays w (with_freed w id)
+pub stays_freed : (w : World) (id : ℕ) → Stays w (with_freed w id)
 stays_freed w id =
     let u = with_receive w id None in
     stays_if w u (released u (dir_of id) id) (is_own u id) (stays_put w id None) (stays_released u (dir_of id) id ∙ stays_put w id None)
@@ -124,7 +124,7 @@ meets_remote w Bi r n id o e k Uni = inl (omega arith)
 meets_remote w Uni r n id o e k Bi = inl (omega arith)
 meets_remote w Uni r n id o e k Uni = elim k [ inl a ↦ inl a | inr b ↦ inr (o, e, b) ]
 
-stays_readable : (w : World) (id : ℕ) (b : Bool) → Stays w (told_readable w id b)
+pub stays_readable : (w : World) (id : ℕ) (b : Bool) → Stays w (told_readable w id b)
 stays_readable w id true = refl
 stays_readable w id false = refl
 

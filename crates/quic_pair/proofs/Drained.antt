@@ -44,7 +44,7 @@ use Rattle.quic_history.proofs.Traces.{itself}
 -- ---- what was accepted was kept
 
 -- each place that was accepted is among those that were kept
-abbrev AcceptsKept : Past → Type 0
+abbrev pub AcceptsKept : Past → Type 0
 AcceptsKept p = (at : FramePlace) → IsOneOf at p.accepted → IsOneOf at p.kept
 
 accepts_as : (p q : Past) → q.accepted ≡ p.accepted → q.kept ≡ p.kept → AcceptsKept p → AcceptsKept q
@@ -90,10 +90,10 @@ module _ (p : Past) (reply : Answer) (a : AcceptsKept p) where
   accepts_after (steps.Ack number) = accepts_reported p number Acknowledged reply a
   accepts_after _ = a
 
-accepts_from : {a b : Config} {whole : History} {v : PairState} → PairFrom a b whole v → AcceptsKept (past_of whole)
-accepts_from {a} {b} {whole} {v} (begun n) = λ at h. absurd h
-accepts_from {a} {b} {whole} {v} (next {h} {old} {new} step reply f n) =
-    subst AcceptsKept (sym (past-after h step reply)) (accepts_after (past_of h) reply (accepts_from f) step)
+pub accepts-from : {a b : Config} {whole : History} {v : PairState} → PairFrom a b whole v → AcceptsKept (past_of whole)
+accepts-from {a} {b} {whole} {v} (begun n) = λ at h. absurd h
+accepts-from {a} {b} {whole} {v} (next {h} {old} {new} step reply f n) =
+    subst AcceptsKept (sym (past-after h step reply)) (accepts_after (past_of h) reply (accepts-from f) step)
 
 -- ---- what ordered reads gave
 
@@ -119,9 +119,9 @@ module _ (c : ReadChunk) (cs : List ReadChunk) (at : ℕ) where
     by_order false o k = is_before (before k)
 
 -- a byte below is in a chunk
-given_at : (given : List ReadChunk) → AreInOrder given → (at : ℕ) → at < length (given_in_order given) → is_in_slices (slices given) at ≡ true
-given_at [] o at l = absurd (omega (arith, l))
-given_at (c ∷ cs) o at l = by_order c cs at (given_at cs o.0 at) c.ordered o.1 l
+pub given-at : (given : List ReadChunk) → AreInOrder given → (at : ℕ) → at < length (given_in_order given) → is_in_slices (slices given) at ≡ true
+given-at [] o at l = absurd (omega (arith, l))
+given-at (c ∷ cs) o at l = by_order c cs at (given-at cs o.0 at) c.ordered o.1 l
 
 -- each chunk that an ordered read gave has a byte
 given_more : (most : ℕ) (chunks : List Chunk) (given : List ReadChunk) → 0 < most → AreCut most chunks → length (given_in_order given) + length chunks ≤ length (given_in_order (with_chunks_read true chunks given))
@@ -162,7 +162,7 @@ module _ (p : Past) (sent : List Sent) (who : End) (id most times : ℕ) (kept :
         by_side false e =
             let all : length f.written ≤ length (given_in_order g.given) = grind (arith, nat_tests, e) in
             let P : List ℕ → Type 0 = λ w. IsAllGiven (slices g.given) (length w) in
-            none.end (as_kept _ m.delivered.end) (subst P (sym same_written) (λ at l. given_at g.given true_of.in_order at (omega (arith, l, all))))
+            none.end (as_kept _ m.delivered.end) (subst P (sym same_written) (λ at l. given-at g.given true_of.in_order at (omega (arith, l, all))))
 
     not_more : AreCut most chunks → length chunks ≡ times → ⊥
     not_more cut count =
@@ -234,7 +234,7 @@ module _ (a b : Config) (h : History) (old new : PairState) (g : PairFrom a b h 
   drains_read who id false most times reply n = λ o some few m. cc
   drains_read who id true most times reply n = λ o some few m.
       let step = steps.Read who id true most times in
-      let kept = accepts_from g in
+      let kept = accepts-from g in
       let W : Answer → Type 0 = λ r. IsReadReply p old.sent who id most times kept few some m r in
       let is_reply : W reply = elim n.does [
         | inl known ↦ subst W (sym known.1.reply_is) (read_replies p old.sent who id most times kept few some m known.1.answer)

@@ -20,7 +20,7 @@ use Rattle.quic_pair.proofs.CallsSetting.{was-given}
 use Rattle.quic_pair.proofs.Grown.{joined-from}
 
 -- one that was given counts as given
-given_counts : (w : World) (id : ℕ) → WasGiven w id → was_given w id ≡ true
+pub given_counts : (w : World) (id : ℕ) → WasGiven w id → was_given w id ≡ true
 given_counts w id h = by (is_own w id) h
   where
     less : (a b : ℕ) → a < b → nat_lt a b ≡ true

@@ -99,8 +99,8 @@ counted_begun s t own other bi uni small others_bi others_uni =
       };
     }
 
-recounted_new : (a b : Config) (v : PairState) → IsNew a b v → (r : Recounted a b v) × (r.tales ≡ tales_begun a b)
-recounted_new a b v n =
+pub recounted-new : (a b : Config) (v : PairState) → IsNew a b v → (r : Recounted a b v) × (r.tales ≡ tales_begun a b)
+recounted-new a b v n =
     let P : PairState → Type 0 = λ u. (r : Recounted a b u) × (r.tales ≡ tales_begun a b) in
     subst P (sym n.is) (record { tales = tales_begun a b; counted = both; count = refl; left = λ number s r all got rest spelled. absurd (none-some s got); fresh = λ number h. refl }, refl)
   where
@@ -145,7 +145,7 @@ pub record Grown {a b : Config} {h : History} {v : PairState} (f : PairFrom a b 
   pub told : Told a b (sendings_of f) recounted.tales
 
 pub grown-from : {a b : Config} {h : History} {v : PairState} (f : PairFrom a b h v) → Grown f
-grown-from {a} {b} {h} {v} (begun n) = let r = recounted_new a b v n in record { joined = joined-new a b v n; recounted = r.0; told = r.1 }
+grown-from {a} {b} {h} {v} (begun n) = let r = recounted-new a b v n in record { joined = joined-new a b v n; recounted = r.0; told = r.1 }
 grown-from {a} {b} (next {h} {old} {new} step reply f n) =
     let g = grown-from f in
     let r = retold-next a b (past_of h) old new g.joined g.recounted step reply n in

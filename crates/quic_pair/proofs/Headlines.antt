@@ -8,7 +8,7 @@ use Rattle.quic_wire.specs.declared.frame.Stream.{Stream}
 use Rattle.quic_history.specs.History.{ReadChunk, slices}
 use Rattle.quic_link.specs.Endpoints.{LinkedEnd, sent_on, came_on}
 use Rattle.quic_link.specs.Truths.{AreBytesOf, amount_on}
-use Rattle.quic_link.specs.Promises.{TellsTruth, CameWhole, given_in_order}
+use Rattle.quic_link.specs.Promises.{TellsTruth, CameAt, EndCame, CameWhole, given_in_order}
 use Rattle.quic_link.proofs.Promised.{promised}
 use Rattle.quic_link.proofs.Readers.{InRows}
 use Rattle.quic_link.proofs.Joint.{agrees}
@@ -18,7 +18,7 @@ use Rattle.quic_steps.specs.declared.steps.Config.{Config}
 use Rattle.quic_pair.specs.declared.sent.Sent.{Sent}
 use Rattle.quic_pair.specs.State.{PairState}
 use Rattle.quic_pair.specs.History.{Past}
-use Rattle.quic_pair.specs.Headline.{Headline, IsFaithful, IsDelivered, IsBeginningOf, AreInOrder, HasOffset}
+use Rattle.quic_pair.specs.Headline.{Headline, IsFaithful, IsDelivered, IsBeginningOf, AreInOrder, SomeStream, HasOffset, HasEnd}
 use Rattle.quic_pair.proofs.Joined.{Knows, IsLike, Joined}
 
 -- ---- bytes at their places are a beginning
@@ -54,15 +54,22 @@ module _ (p : Past) (sent : List Sent) (who : End) (x y : LinkedEnd) (k : Knows 
   like_offset : (offset : ℕ) (bytes : List ℕ) (fin : Bool) (at : ℕ) (s : Stream) → lies offset (offset + length bytes) at ≡ true → IsLike offset bytes fin s → HasOffset at s
   like_offset offset bytes fin at s h l = rw (l.offset_is, l.bytes_are) h
 
+  -- a byte that came stood in a frame that was accepted
+  pub came-at : (q at : ℕ) → CameAt y.calls q at → SomeStream sent who q p.accepted (HasOffset at)
+  came-at q at came =
+      let s = k.accepted q came.offset came.bytes came.fin came.transmit came.is in
+      record { at = s.at; listed = s.listed; stream = s.stream; sent_as = s.sent_as; on = s.on; is = like_offset came.offset came.bytes came.fin at s.stream came.has s.is }
+
+  pub end-came : (q : ℕ) → EndCame y.calls q → SomeStream sent who q p.accepted HasEnd
+  end-came q came =
+      let s = k.accepted q came.offset came.bytes true came.transmit came.is in
+      record { at = s.at; listed = s.listed; stream = s.stream; sent_as = s.sent_as; on = s.on; is = s.is.fin_is }
+
   delivered : (q : ℕ) → CameWhole x y q → IsDelivered (p.flow who q) who q p.accepted sent
   delivered q c = record {
     finished = sym (k.finished q) ∙ c.finished;
-    bytes = λ at below. let came = c.bytes at (subst (λ n. at < n) (sym (length-written q)) below) in
-        let s = k.accepted q came.offset came.bytes came.fin came.transmit came.is in
-        record { at = s.at; listed = s.listed; stream = s.stream; sent_as = s.sent_as; on = s.on; is = like_offset came.offset came.bytes came.fin at s.stream came.has s.is };
-    end = let came = c.end in
-        let s = k.accepted q came.offset came.bytes true came.transmit came.is in
-        record { at = s.at; listed = s.listed; stream = s.stream; sent_as = s.sent_as; on = s.on; is = s.is.fin_is };
+    bytes = λ at below. came-at q at (c.bytes at (subst (λ n. at < n) (sym (length-written q)) below));
+    end = end-came q c.end;
   }
 
   -- what is true of linked ends is true of what a caller knows

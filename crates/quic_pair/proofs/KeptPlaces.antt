@@ -58,8 +58,8 @@ module _ (sent more : List Sent) (who : End) (id : ℕ) (stay : StaySent sent mo
       let P : List ℕ → Type 0 = λ bytes. IsFrameAt bytes at.1 (frames.Stream s) in
       record { payload = k.0; is = k.1; writer = k.2 ∙ from.writer; frame = subst P (sym k.3) from.frame }
 
-  was_from : (at : FramePlace) (payload : Sent) → slice_get sent at.0 ≡ Some payload → (s : Stream) → IsStreamFrom more who at s → IsStreamFrom sent who at s
-  was_from at payload is s from =
+  pub was-from : (at : FramePlace) (payload : Sent) → slice_get sent at.0 ≡ Some payload → (s : Stream) → IsStreamFrom more who at s → IsStreamFrom sent who at s
+  was-from at payload is s from =
       let k = stay at.0 payload is in
       let P : List ℕ → Type 0 = λ bytes. IsFrameAt bytes at.1 (frames.Stream s) in
       record { payload = payload; is = is; writer = sym k.2 ∙ writer-here more who at k.0 k.1 s from; frame = subst P k.3 (frame-here more who at k.0 k.1 s from) }
@@ -69,10 +69,10 @@ module _ (sent more : List Sent) (who : End) (id : ℕ) (stay : StaySent sent mo
   streams_stay (on {places} {streams} at s before from is) = on at s (streams_stay before) (stays_from at s from) is
   streams_stay (beside {places} {streams} at payload before is lacks) =
       let k = stay at.0 payload is in
-      beside at k.0 (streams_stay before) k.1 (λ s from e. lacks s (was_from at payload is s from) e)
+      beside at k.0 (streams_stay before) k.1 (λ s from e. lacks s (was-from at payload is s from) e)
 
-  reset_stays : (code : ℕ) (ps : List FramePlace) → SomeReset sent who id code ps → SomeReset more who id code ps
-  reset_stays code ps r =
+  pub reset-stays : (code : ℕ) (ps : List FramePlace) → SomeReset sent who id code ps → SomeReset more who id code ps
+  reset-stays code ps r =
       let k = stay r.at.0 r.payload r.is in
       let P : List ℕ → Type 0 = λ bytes. IsFrameAt bytes r.at.1 (frames.ResetStream r.frame) in
       record { at = r.at; listed = r.listed; payload = k.0; is = k.1; writer = k.2 ∙ r.writer; frame = r.frame; there = subst P (sym k.3) r.there; on = r.on; with_code = r.with_code }
@@ -86,7 +86,7 @@ module _ (sent more : List Sent) (who : End) (id : ℕ) (stay : StaySent sent mo
 pub kept-stay : (p : Past) (sent more : List Sent) (who : End) (y : LinkedEnd) → StaySent sent more → KeptSent p sent who y → KeptSent p more who y
 kept-stay p sent more who y stay k = record {
   streams = λ id. streams_stay sent more who id stay (k.streams id);
-  resets = λ id code final transmit h. reset_stays sent more who id stay code p.accepted (k.resets id code final transmit h);
+  resets = λ id code final transmit h. reset-stays sent more who id stay code p.accepted (k.resets id code final transmit h);
   stops = λ id code h. stop_stays sent more who id stay code p.accepted (k.stops id code h);
 }
 

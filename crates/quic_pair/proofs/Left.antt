@@ -33,7 +33,7 @@ AreLeft sent told = (number : ℕ) (s : Sent) (r : SentPayload) (all : List Fram
 
 -- ---- parts
 
-carried_in : (m : StreamMeta) (ms : List StreamMeta) → IsOneOf m ms → IsOneOf (Carried m) (map Carried ms)
+pub carried_in : (m : StreamMeta) (ms : List StreamMeta) → IsOneOf m ms → IsOneOf (Carried m) (map Carried ms)
 carried_in m [] h = absurd h
 carried_in m (k ∷ ms) (inl e) = inl (ap Carried e)
 carried_in m (k ∷ ms) (inr h) = inr (carried_in m ms h)

@@ -1,3 +1,6 @@
+pub mod AcceptOrder
+pub mod Accepting
+pub mod Arrived
 pub mod Begun
 pub mod Beside
 pub mod CallsFlows
@@ -5,6 +8,7 @@ pub mod CallsReading
 pub mod CallsSeen
 pub mod CallsSending
 pub mod CallsSetting
+pub mod Completing
 pub mod Counted
 pub mod CountedCalls
 pub mod CountedFrames
@@ -17,6 +21,7 @@ pub mod Drained
 pub mod Due
 pub mod DuePayloads
 pub mod Flips
+pub mod Freed
 pub mod GivenSo
 pub mod Gives
 pub mod Grown
@@ -38,6 +43,8 @@ pub mod PayloadPages
 pub mod PayloadQueues
 pub mod PayloadSteps
 pub mod PayloadTurns
+pub mod ReadOrder
+pub mod ReadUp
 pub mod Readable
 pub mod Recounted
 pub mod RefusedSo
@@ -49,4 +56,6 @@ pub mod Settling
 pub mod Stops
 pub mod Texts
 pub mod ToldOnce
+pub mod Traced
+pub mod TracedSteps
 pub mod Unrefused

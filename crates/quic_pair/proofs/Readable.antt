@@ -108,7 +108,7 @@ some_code None e = cc
 
 -- ---- what is known after a read
 
-flow_here : (P : Flow → Type 0) (who : End) (id : ℕ) (change : Flow → Flow) (p : Past) → P (change (p.flow who id)) → P ((with_flow who id change p).flow who id)
+pub flow_here : (P : Flow → Type 0) (who : End) (id : ℕ) (change : Flow → Flow) (p : Past) → P (change (p.flow who id)) → P ((with_flow who id change p).flow who id)
 flow_here P who id change p h = flow-changed P who id change p id (λ e. h) (λ n. absurd (let l = sym (itself id) ∙ n in cc))
 
 module _ (p : Past) (who : End) (v : PairState) (x y : LinkedEnd) (s : Seen p who v x y) (id most times : ℕ) (ordered : Bool) where

@@ -1,6 +1,6 @@
 -- Once neither end had something to send, and the payloads without frames are dropped, both ends are idle.
 use Rattle.std.proofs.Common.{◌≡◌, ◌⊎◌, ℕ, zero, suc, Bool, true, false, List, [], ◌∷◌, ◌++◌, length, Option, Some, None, Result, Ok, Err, refl, sym, ap, ◌∙◌, subst, inl, inr, arith, ◌≤◌, ◌<◌, append-nil}
-use Rattle.std.specs.Prelude.{OnOk, ◌&&◌, ◌||◌, ◌+◌, ◌-◌, ◌^◌, is_some, unwrap_or, slice_get, drop, map, nat_lt, if◌then◌else◌}
+use Rattle.std.specs.Prelude.{OnOk, OnErr, ◌&&◌, ◌||◌, ◌+◌, ◌-◌, ◌^◌, is_some, unwrap_or, slice_get, drop, map, nat_lt, if◌then◌else◌}
 use Rattle.std.specs.Global.{Vec}
 use Rattle.std.proofs.lemmas.List.{length-append}
 use Rattle.std.proofs.lemmas.Option.{none-some}
@@ -47,7 +47,7 @@ use Rattle.quic_pair.specs.From.{PairFrom}
 use Rattle.quic_pair.specs.Due.{IsFull}
 use Rattle.quic_pair.specs.Tale.{Part, Carried, GivenUp, Tales}
 use Rattle.quic_pair.specs.Runs.{TakesSteps, more, sendings_of}
-use Rattle.quic_pair.specs.Settling.{step_at, going_of, going_sending, phase_after, after_accepting, after_streams, after_reading, after_polling, after_emits, after_frame, AreSettledIn, IsAllReported, IsIdle, AreIdle, LeavesNoRest, IsSoughtFor, IsSettledAt, TakesPhase, TakesPhaseOrNone, FollowsPhases, more as follows_more}
+use Rattle.quic_pair.specs.Settling.{step_at, going_of, going_sending, phase_after, after_accepting, after_streams, after_reading, after_polling, after_emits, after_frame, AreSettledIn, IsAllReported, IsIdle, AreIdle, LeavesNoRest, IsSoughtFor, IsSettledAt, TakesPhase, TakesPhaseOrNone, FollowsPhases, IsCutOff, more as follows_more}
 use Rattle.quic_pair.proofs.Lists.{slice_get-push, slice_get-slice_set, slice_get-within, slice_get-there}
 use Rattle.quic_pair.proofs.Left.{IsLeft}
 use Rattle.quic_pair.proofs.Grown.{grown-from}
@@ -390,10 +390,23 @@ follows-on first old before at here next new behind run sought one =
     let Q : Phase → Type 0 = λ x. FollowsPhases first (phase.Report 0) (before ++ (step_at here, t.reply) ∷ []) new x in
     subst P (sym t.noted) (subst Q (sym on.2) (follows_more here t.reply on.0 run sought t.next on.1))
 
+-- where memory was wanting they end there
+pub cut-off : (first old : PairState) (before : History) (at here : Phase) (error : OutOfMemory) (new : PairState) (behind : History) → FollowsPhases first (phase.Report 0) before old at → IsSoughtFor old.sent at here → TakesPhaseOrNone old before here (Err error) new behind → IsCutOff first behind new
+cut-off first old before at here error new behind run sought (inl t) = record { before = before; between = old; at = at; follows = run; here = here; sought = sought; last = inr (t.reply, t.next, t.wanting error refl, t.noted) }
+cut-off first old before at here error new behind run sought (inr none) = record { before = before; between = old; at = at; follows = run; here = here; sought = sought; last = inl (none.1, none.2) }
+
 -- what follows from what holds where an answer is Ok
 pub on-ok : {X E : Type 0} (r : Result X E) (P Q : Type 0) → (P → Q) → OnOk r P → OnOk r Q
 on-ok (Ok x) P Q g h = g h
 on-ok (Err e) P Q g h = tt
+
+pub on-err : {X E : Type 0} (r : Result X E) (P : Type 0) → P → OnErr r P
+on-err (Ok x) P g = tt
+on-err (Err e) P g = g
+
+pub on-ok-both : {X E : Type 0} (r : Result X E) (P Q R : Type 0) → (P → Q → R) → OnOk r P → OnOk r Q → OnOk r R
+on-ok-both (Ok x) P Q R g h k = g h k
+on-ok-both (Err e) P Q R g h k = tt
 
 -- ---- the end
 

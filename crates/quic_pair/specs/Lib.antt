@@ -1,4 +1,5 @@
 pub mod Calls
+pub mod Completed
 pub mod Due
 pub mod From
 pub mod Headline

@@ -171,6 +171,7 @@ pub record TakesPhase (old : PairState) (before : History) (at : Phase) (answer 
   pub next : Next old (step_at at) reply new
   pub noted : behind ≡ before ++ (step_at at, reply) ∷ []
   pub goes : (next_one : Phase) → answer ≡ Ok next_one → (going : Going) × (going_of reply ≡ Some going) × (next_one ≡ phase_after at going (length old.sent))
+  pub wanting : (error : OutOfMemory) → answer ≡ Err error → going_of reply ≡ None
 
 abbrev pub TakesPhaseOrNone : PairState → History → Phase → Result Phase OutOfMemory → PairState → History → Type 0
 TakesPhaseOrNone old before at answer new behind = TakesPhase old before at answer new behind ⊎ ((is_ok answer ≡ false) × (new ≡ old) × (behind ≡ before))
@@ -204,3 +205,13 @@ pub record IsSettling (old : PairState) (taken : History) (new : PairState) : Ty
   pub at : Phase
   pub follows : FollowsPhases old (phase.Report 0) taken new at
   pub ended : IsSettledAt at new.sent
+
+-- they were cut off where memory was wanting: by the reply of the last step, or for the list, and then the next was not taken
+pub record IsCutOff (old : PairState) (taken : History) (new : PairState) : Type 0 where
+  pub before : History
+  pub between : PairState
+  pub at : Phase
+  pub follows : FollowsPhases old (phase.Report 0) before between at
+  pub here : Phase
+  pub sought : IsSoughtFor between.sent at here
+  pub last : ((new ≡ between) × (taken ≡ before)) ⊎ ((reply : Answer) × Next between (step_at here) reply new × (going_of reply ≡ None) × (taken ≡ before ++ (step_at here, reply) ∷ []))

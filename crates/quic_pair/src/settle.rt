@@ -1,6 +1,6 @@
 //! A network that is fair from now on completes what was begun.
 
-ghost use Rattle.std.specs.Prelude.{◌≡◌, ◌≤◌, ◌<◌, IfSome, IfNone, OnOk, List, [], ◌∷◌, length, vec_len, vec_capacity, ◌++◌};
+ghost use Rattle.std.specs.Prelude.{◌≡◌, ◌≤◌, ◌<◌, IfSome, IfNone, OnOk, OnErr, List, [], ◌∷◌, length, vec_len, vec_capacity, ◌++◌};
 ghost use Rattle.quic_steps.specs.declared.steps.Config.{Config};
 ghost use Rattle.quic_pair.specs.State.{pair_view};
 ghost use Rattle.quic_pair.specs.Runs.{TakesSteps, StepByStep, Behind, Around, Throughout, IsTrueOf, StaysIfRefused, AsksOf, WithholdsNone, sendings_of};
@@ -12,7 +12,8 @@ ghost use Rattle.quic_pair.specs.Refused.{IsRefusedSo};
 ghost use Rattle.quic_pair.specs.Unrefused.{RefusesNoFrame};
 ghost use Rattle.quic_pair.specs.Readable.{WithholdsNothing};
 ghost use Rattle.quic_pair.specs.Law.{Drains};
-ghost use Rattle.quic_pair.specs.Settling.{AreSettledIn, IsSoughtFor, IsSettledAt, IsSettling, TakesPhaseOrNone, IsAllReported, AreIdle, LeavesNoRest};
+ghost use Rattle.quic_pair.specs.Settling.{AreSettledIn, IsSoughtFor, IsSettledAt, IsSettling, IsCutOff, TakesPhaseOrNone, IsAllReported, AreIdle, LeavesNoRest};
+ghost use Rattle.quic_pair.specs.Completed.{HaveArrived, HaveBeenRead, AreAllAcked};
 
 use crate::pair::Pair;
 use crate::phase::{Phase, going_of};
@@ -26,7 +27,8 @@ pub type StepTaken = (Step, Result<Reply, PairError>);
 impl Pair {
     /// Takes the steps of a network that is fair from now on, with two applications that accept, read and poll all that
     /// comes, until neither end has something to send and every payload is settled. Answers these steps with their
-    /// replies. Where memory is wanting, in a step or for the list, no more steps are taken, and an error stands beside those
+    /// replies. Then all that was written on streams that were not given up arrived, and was read unless it was stopped.
+    /// Where memory is wanting, in a step or for the list, no more steps are taken, and an error stands beside those
     /// that were.
     pub fn settle(&mut self) -> (Vec<StepTaken>, Result<(), OutOfMemory>)
         ensures next { TakesSteps (pair_view self.old) result.0.items (pair_view self.new) }
@@ -42,9 +44,13 @@ impl Pair {
         ensures due { (a b : Config) (h : History) → PairFrom a b h (pair_view self.old) → StepByStep AsksOf (pair_view self.old) result.0.items (pair_view self.new) }
         ensures not_withheld { (a b : Config) (h : History) → PairFrom a b h (pair_view self.old) → StepByStep (WithholdsNone a b h) (pair_view self.old) result.0.items (pair_view self.new) }
         ensures order { OnOk result.1 (IsSettling (pair_view self.old) result.0.items (pair_view self.new)) }
+        ensures cut_off { OnErr result.1 (IsCutOff (pair_view self.old) result.0.items (pair_view self.new)) }
         ensures reported { OnOk result.1 ((a b : Config) (h : History) → PairFrom a b h (pair_view self.old) → IsAllReported (h ++ result.0.items) (pair_view self.new).sent) }
         ensures idle { OnOk result.1 ((a b : Config) (h : History) → PairFrom a b h (pair_view self.old) → AreIdle (pair_view self.new)) }
         ensures sent { OnOk result.1 ((a b : Config) (h : History) → PairFrom a b h (pair_view self.old) → (led : PairFrom a b (h ++ result.0.items) (pair_view self.new)) → LeavesNoRest a b (sendings_of led)) }
+        ensures acked { OnOk result.1 ((a b : Config) (h : History) → PairFrom a b h (pair_view self.old) → (led : PairFrom a b (h ++ result.0.items) (pair_view self.new)) → AreAllAcked a b (sendings_of led)) }
+        ensures arrived { OnOk result.1 ((a b : Config) (h : History) → PairFrom a b h (pair_view self.old) → HaveArrived (past_of (h ++ result.0.items)) (pair_view self.new).sent) }
+        ensures read { OnOk result.1 ((a b : Config) (h : History) → PairFrom a b h (pair_view self.old) → HaveBeenRead (past_of (h ++ result.0.items))) }
     {
         let mut taken = Vec::new(self.alloc);
         let answer = self.settle_into(&mut taken);
@@ -55,6 +61,7 @@ impl Pair {
         requires { taken.old.items ≡ [] }
         ensures next { TakesSteps (pair_view self.old) taken.new.items (pair_view self.new) }
         ensures order { OnOk result (IsSettling (pair_view self.old) taken.new.items (pair_view self.new)) }
+        ensures cut_off { OnErr result (IsCutOff (pair_view self.old) taken.new.items (pair_view self.new)) }
         ensures settled { OnOk result (AreSettledIn 0 (length (pair_view self.new).sent) (pair_view self.new).sent) }
         ensures idle { OnOk result ((a b : Config) (h : History) → PairFrom a b h (pair_view self.old) → AreIdle (pair_view self.new)) }
     {

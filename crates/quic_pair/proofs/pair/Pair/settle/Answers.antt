@@ -11,15 +11,20 @@ use Rattle.quic_pair.proofs.Drained.{drains-so}
 use Rattle.quic_pair.proofs.Readable.{readable-so}
 use Rattle.quic_pair.proofs.Honest.{honest-from}
 use Rattle.quic_pair.proofs.RefusedSo.{refused-so}
-use Rattle.quic_pair.proofs.Settling.{on-ok, all-reported, leaves-no-rest}
+use Rattle.quic_pair.proofs.Settling.{on-ok, on-ok-both, all-reported, leaves-no-rest}
+use Rattle.quic_pair.proofs.Arrived.{have-arrived}
+use Rattle.quic_pair.proofs.Freed.{all-acked}
+use Rattle.quic_pair.proofs.Completing.{have-been-read}
 use Rattle.quic_pair.proofs.pair.Pair.settle.Goals as goal
 
 pub returns : goal.returns
 returns c =
     let into = c.settle_into-answer.ensures in
     let run = into.next in
+    let answer = c.settle_into-answer.result in
     let taken = c.settle_into-answer.new.taken.items in
     let v = pair_view c.settle_into-answer.new.self in
+    let arrived = on-ok-both answer _ _ _ (λ idle settled a b h f. have-arrived a b (h ++ taken) v (from-steps f run) (idle a b h f) settled) into.idle into.settled in
     record {
       next = run;
       from = λ a b h f. from-steps f run;
@@ -34,7 +39,11 @@ returns c =
       due = λ a b h f. each-asks a b h _ _ _ f run;
       not_withheld = λ a b h f. each-permits a b h _ _ _ f run;
       order = into.order;
-      reported = on-ok c.settle_into-answer.result _ _ (λ settled a b h f. all-reported a b (h ++ taken) v (from-steps f run) settled) into.settled;
+      cut_off = into.cut_off;
+      reported = on-ok answer _ _ (λ settled a b h f. all-reported a b (h ++ taken) v (from-steps f run) settled) into.settled;
       idle = into.idle;
-      sent = on-ok c.settle_into-answer.result _ _ (λ idle a b h f led. leaves-no-rest a b (h ++ taken) v led (idle a b h f)) into.idle;
+      sent = on-ok answer _ _ (λ idle a b h f led. leaves-no-rest a b (h ++ taken) v led (idle a b h f)) into.idle;
+      acked = on-ok-both answer _ _ _ (λ idle settled a b h f led. all-acked a b (h ++ taken) v led (idle a b h f) settled) into.idle into.settled;
+      arrived = arrived;
+      read = on-ok-both answer _ _ _ (λ order arrived a b h f. have-been-read a b h _ taken v f order (arrived a b h f)) into.order arrived;
     }

@@ -4,7 +4,7 @@ use Rattle.quic_pair.specs.State.{pair_view}
 use Rattle.quic_pair.specs.History.{History}
 use Rattle.quic_pair.specs.Runs.{TakesSteps, none}
 use Rattle.quic_pair.specs.Settling.{FollowsPhases, none as follows_none}
-use Rattle.quic_pair.proofs.Settling.{steps-on, follows-on, ready-on, ready-sought, idle-at}
+use Rattle.quic_pair.proofs.Settling.{steps-on, follows-on, ready-on, ready-sought, cut-off, on-err, idle-at}
 use Rattle.quic_pair.proofs.pair.Pair.settle_into.Goals as goal
 
 pub loop-next-init : goal.loop-next-init
@@ -16,6 +16,11 @@ loop-next-init c =
 
 pub returns-in_err-phase-clause-next : goal.returns-in_err-phase-clause-next
 returns-in_err-phase-clause-next c = steps-on (pair_view c.args.self.now) (pair_view c.loop-next.self) c.loop-next.taken.items c.in-Some.next c.take.result (pair_view c.take.new.self) c.take.new.taken.items c.loop-next.invariant.taken c.take.ensures
+
+pub returns-in_err-phase-clause-cut_off : goal.returns-in_err-phase-clause-cut_off
+returns-in_err-phase-clause-cut_off c =
+    on-err c.from_residual.result _
+    (cut-off (pair_view c.args.self.now) (pair_view c.loop-next.self) c.loop-next.taken.items c.loop-next.phase c.in-Some.next c.in_err-phase.field-0.0 (pair_view c.take.new.self) c.take.new.taken.items c.loop-next.invariant.order c.in-Some.ensures.sought c.in_err-phase.ensures)
 
 pub loop-next-preserved : goal.loop-next-preserved
 loop-next-preserved c = record {
@@ -31,6 +36,7 @@ pub returns : goal.returns
 returns c = record {
   next = c.loop-next.invariant.taken;
   order = record { at = c.loop-next.phase; follows = c.loop-next.invariant.order; ended = c.in_default.ensures.none };
+  cut_off = tt;
   settled = c.in_default.ensures.none.settled;
   idle = λ a b h f. idle-at c.loop-next.phase (pair_view c.loop-next.self) (c.loop-next.invariant.ready a b h f) c.in_default.ensures.none;
 }

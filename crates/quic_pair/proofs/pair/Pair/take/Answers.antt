@@ -10,6 +10,9 @@ use Rattle.quic_pair.proofs.pair.Pair.take.Goals as goal
 ok_same : (x y : Phase) → ◌≡◌ {A = Result Phase OutOfMemory} (Ok x) (Ok y) → x ≡ y
 ok_same x y e = cc
 
+ok_err : (x : Phase) (y : OutOfMemory) → ◌≡◌ {A = Result Phase OutOfMemory} (Ok x) (Err y) → ⊥
+ok_err x y e = cc
+
 err_ok : (x : OutOfMemory) (y : Phase) → ◌≡◌ {A = Result Phase OutOfMemory} (Err x) (Ok y) → ⊥
 err_ok x y e = cc
 
@@ -27,6 +30,7 @@ returns-in-Some c =
         sym c.going_of-going.ensures ∙ c.in-Some.is,
         sym (ok_same c.after.result next_one e) ∙ c.after.ensures ∙ ap (phase_after c.args.phase c.in-Some.going) (omega (arith, c.len-sent.ensures, c.args.self.now.sent.ok.0)),
       );
+      wanting = λ error e. absurd (ok_err _ error e);
     })
 
 pub returns-in-None : goal.returns-in-None
@@ -39,4 +43,5 @@ returns-in-None c =
       next = subst P c.step.ensures c.step-reply.ensures.next;
       noted = c.note.ensures ∙ ap (λ l. l ++ (c.step-2.result, reply) ∷ []) c.in_ok-reserve.ensures.items ∙ ap (λ s. c.args.taken.now.items ++ (s, reply) ∷ []) c.step-2.ensures;
       goes = λ next_one e. absurd (err_ok _ next_one e);
+      wanting = λ error e. sym c.going_of-going.ensures ∙ c.in-None.is;
     })
