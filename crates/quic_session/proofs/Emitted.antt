@@ -1,5 +1,5 @@
 -- What the parts of a payload leave, all together.
-use Rattle.std.proofs.Common.{◌≡◌, ℕ, ◌≤◌, Bool, true, false, List, [], length, Option, Result, Ok, Err, refl, sym, ap, ◌∙◌, subst}
+use Rattle.std.proofs.Common.{◌≡◌, ℕ, ◌≤◌, Bool, true, false, List, [], length, Option, Result, Ok, sym, ap, subst}
 use Rattle.quic_values.specs.declared.memory.OutOfMemory.{OutOfMemory}
 use Rattle.quic_wire.specs.declared.frame.Datagram.{Datagram}
 use Rattle.quic_wire.specs.declared.frame.StreamMeta.{StreamMeta}

@@ -1,4 +1,6 @@
 pub mod Copied
 pub mod Emitted
+pub mod Lent
 pub mod Payloads
+pub mod Places
 pub mod Taken

@@ -1,5 +1,5 @@
 -- What a session writes into a payload, and what becomes of the session.
-use Rattle.std.specs.Prelude.{ℕ, ◌≡◌, ◌==◌, ◌⊎◌, ◌&&◌, ◌<◌, ◌≤◌, ◌+◌, min, not, Bool, true, false, List, [], ◌∷◌, ◌++◌, length, take, drop, Option, Some, None, Result, Ok, Err, OnOk, OnErr}
+use Rattle.std.specs.Prelude.{ℕ, ◌≡◌, ◌==◌, ◌⊎◌, ◌&&◌, ◌<◌, ◌≤◌, ◌+◌, min, not, nat_le, Bool, true, false, List, [], ◌++◌, length, take, drop, Option, Some, None, Result, Ok, Err, OnOk, OnErr}
 use Rattle.quic_values.specs.declared.memory.OutOfMemory.{OutOfMemory}
 use Rattle.quic_wire.specs.declared.frame.Datagram.{Datagram}
 use Rattle.quic_wire.specs.declared.frame.StreamMeta.{StreamMeta}
@@ -157,6 +157,33 @@ abbrev pub EmitsPayload : Session → Parts → Bool → List ℕ → Result (Op
 EmitsPayload s parts fair out (Ok (Some e)) t new = WritesPayload parts fair s out e t new
 EmitsPayload s parts fair out (Ok None) t new = (new ≡ out) × KeepsNone s t × WritesNothing (length out) parts fair s (Ok tt) t
 EmitsPayload s parts fair out (Err error) t new = (new ≡ out) × KeepsNone s t × (((end_of t ≡ end_of s) × (datagrams_view t ≡ datagrams_view s)) ⊎ WritesNothing (length out) parts fair s (Err error) t)
+
+-- a payload of at most so many bytes is lent: it stands in the memory of the session. Nothing may stand behind it where it has
+-- all these bytes, and data
+pub record IsLent (most : ℕ) (p : DraftView) (e : Emitted) (t : Session) : Type 0 where
+  pub stands : t.bytes.items ≡ p.bytes
+  pub len : e.len ≡ length p.bytes
+  pub ends : e.ends ≡ (nat_le most e.len && not (length p.streams == 0))
+
+-- a payload was written and is lent, and what is to be reported of it stands under its token
+pub record LendsPayload (most : ℕ) (parts : Parts) (fair : Bool) (s : Session) (e : Emitted) (t : Session) : Type 0 where
+  pub answer : Result (Unit {0}) OutOfMemory
+  pub written : Writing
+  pub writes : WritesParts most parts fair (blank s) answer written
+  pub some : 0 < length written.payload.bytes
+  pub within : (m : Made) (h : List Event) → From m h (end_of s).streams → length written.payload.bytes ≤ most
+  pub lent : IsLent most written.payload e t
+  pub sent : SentPayload
+  pub keeps : KeepsNew (unsettled s.unsettled) s.unsettled.next sent e.token (unsettled t.unsettled) t.unsettled.next
+  pub control : noted_in sent.control ≡ written.payload.control
+  pub streams : sent.streams.items ≡ written.payload.streams
+  pub leaves : IsLeftAs written t
+
+-- what came of writing a payload that is lent
+abbrev pub EmitsLent : ℕ → Session → Parts → Bool → Result (Option Emitted) OutOfMemory → Session → Type 0
+EmitsLent most s parts fair (Ok (Some e)) t = LendsPayload most parts fair s e t
+EmitsLent most s parts fair (Ok None) t = KeepsNone s t × WritesNothing most parts fair s (Ok tt) t
+EmitsLent most s parts fair (Err error) t = KeepsNone s t × (((end_of t ≡ end_of s) × (datagrams_view t ≡ datagrams_view s)) ⊎ WritesNothing most parts fair s (Err error) t)
 
 -- entries left what was pending, and streams had their turns: whatever history came before, it goes on with them
 pub record GoesOnWithFrames (most : ℕ) (fair : Bool) (w v : World) : Type 0 where

@@ -1,8 +1,7 @@
 -- A session as contracts see it.
-use Rattle.std.specs.Prelude.{ℕ, Bool, true, false, ◌&&◌, not, is_some, nat_lt, length, List, [], ◌∷◌, Option, Some, None}
+use Rattle.std.specs.Prelude.{ℕ, Bool, true, false, ◌&&◌, not, List, [], ◌∷◌, Option, Some, None}
 use Rattle.quic_datagrams.specs.declared.datagrams.DatagramState.{DatagramState}
 use Rattle.quic_datagrams.specs.declared.datagrams.DatagramLimits.{DatagramLimits}
-use Rattle.quic_datagrams.specs.Queue.{no_longer_than}
 use Rattle.quic_datagrams.specs.Sending.{after_drop, has_unblocked}
 use Rattle.quic_wire.specs.declared.frame.Datagram.{Datagram}
 use Rattle.quic_streams.specs.declared.streams.ConnState.{ConnState}

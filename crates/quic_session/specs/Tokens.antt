@@ -1,12 +1,18 @@
 -- Payloads that were sent and not heard of, by token.
-use Rattle.std.specs.Prelude.{ℕ, ◌≡◌, ◌==◌, ◌+◌, ◌-◌, ◌^◌, ◌<◌, ◌≤◌, min, cond, Option, Some, None}
-use Rattle.std.specs.HashMap.{get, spare, hash_map_len}
+use Rattle.std.specs.Prelude.{ℕ, ◌≡◌, ◌==◌, ◌+◌, ◌-◌, ◌^◌, ◌<◌, ◌≤◌, min, cond, nat_lt, length, slice_index_or, List, Option, Some, None}
+use Rattle.std.specs.VecDeque.{deque_len, deque_capacity}
+use Rattle.std.specs.List.{sum_by}
 use Rattle.quic_streams.specs.declared.settling.SentPayload.{SentPayload}
+use Rattle.quic_session.specs.Places.{held_at}
 use Rattle.quic_session.specs.declared.unsettled.Unsettled.{Unsettled}
+
+-- places stand for tokens in turn, the first of them for a token
+abbrev pub at_token : ℕ → List (Option SentPayload) → ℕ → Option SentPayload
+at_token first places token = cond (nat_lt token first) None (slice_index_or places (token - first) None)
 
 -- the payload of each token, if it is not settled
 unfoldable pub unsettled : Unsettled → ℕ → Option SentPayload
-unsettled u token = get ◌==◌ u.payloads token
+unsettled u token = at_token u.first u.places.items token
 
 -- another payload stands under a token, or none
 unfoldable pub with_payload : (ℕ → Option SentPayload) → ℕ → Option SentPayload → ℕ → Option SentPayload
@@ -14,11 +20,19 @@ with_payload f token sent q = cond (token == q) sent (f q)
 
 -- how many more can be kept without new memory
 abbrev pub places : Unsettled → ℕ
-places u = spare u.payloads
+places u = deque_capacity u.places - deque_len u.places
 
 -- how many payloads are not settled
 abbrev pub payload_count : Unsettled → ℕ
-payload_count u = hash_map_len u.payloads
+payload_count u = sum_by held_at u.places.items
+
+-- a token has a place
+abbrev pub HasPlaceFor : Unsettled → ℕ → Type 0
+HasPlaceFor u token = (u.first ≤ token) × (token < u.first + length u.places.items)
+
+-- the first place has no payload
+abbrev pub IsEmptyFirst : List (Option SentPayload) → Type 0
+IsEmptyFirst places = (0 < length places) × (slice_index_or places 0 None ≡ None)
 
 -- the greatest token
 abbrev pub LAST : ℕ
@@ -30,7 +44,3 @@ pub record KeepsNew (f : ℕ → Option SentPayload) (next : ℕ) (sent : SentPa
   pub new : next < LAST → f token ≡ None
   pub kept : g ≡ with_payload f token (Some sent)
   pub rises : after ≡ min (next + 1) LAST
-
--- a token is not one that is still to come
-abbrev pub IsUsed : ℕ → ℕ → Type 0
-IsUsed next token = next ≤ token → token < LAST → ⊥

@@ -1,6 +1,6 @@
 //! Datagrams of a session (RFC 9221).
 
-ghost use Rattle.std.specs.Prelude.{◌≡◌, ◌-◌, OnOk, IfErr, None, length, option_map};
+ghost use Rattle.std.specs.Prelude.{◌≡◌, ◌==◌, ◌-◌, not, OnOk, IfErr, None, length, option_map};
 ghost use Rattle.quic_datagrams.specs.Sending.{send_refusal};
 ghost use Rattle.quic_datagrams.specs.Queue.{with_newest, total_cost};
 ghost use Rattle.quic_session.specs.Sessions.{end_of, datagrams_view, beside_of, with_datagrams, with_oldest_out, with_max, next_told, with_told};
@@ -62,6 +62,13 @@ impl Session {
             Err(SendDatagramError::Blocked(_)) => Err(DatagramError::Blocked),
             Err(SendDatagramError::OutOfMemory(_)) => Err(DatagramError::OutOfMemory),
         }
+    }
+
+    /// Whether datagrams wait to be sent.
+    pub fn has_datagrams(&self) -> bool
+        ensures { result ≡ not (length self.now.datagrams.outgoing == 0) }
+    {
+        !self.datagrams.outgoing.is_empty()
     }
 
     /// How many bytes the oldest received datagram has, if one waits.

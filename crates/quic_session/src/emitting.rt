@@ -1,10 +1,11 @@
 //! Payloads that a session writes.
 
-ghost use Rattle.std.specs.Prelude.{◌≡◌, ◌≤◌, ◌<◌, ◌+◌, IfOk, IfSome, OnOk, OnErr, [], length};
+ghost use Rattle.std.specs.Prelude.{◌≡◌, ◌≤◌, ◌<◌, ◌+◌, ◌++◌, min, take, drop, IfOk, IfSome, OnOk, OnErr, [], length};
+ghost use Rattle.std.specs.Vec.{vec_ptr};
 ghost use Rattle.quic_retransmits.specs.Pending.{nothing};
 ghost use Rattle.quic_session.specs.Sessions.{end_of, datagrams_view, beside_of};
 ghost use Rattle.quic_session.specs.Tokens.{unsettled, places, KeepsNew};
-ghost use Rattle.quic_session.specs.Emitting.{payload_of, writing_of, WritesControl, WritesDatagrams, WritesStreams, SendsOldest, AreSent, with_datagrams_sent, IfAsked, WritesParts, EmitsPayload, IsPutOut, GoesOnWithFrames};
+ghost use Rattle.quic_session.specs.Emitting.{payload_of, writing_of, WritesControl, WritesDatagrams, WritesStreams, SendsOldest, AreSent, with_datagrams_sent, IfAsked, WritesParts, EmitsPayload, EmitsLent, IsLent, GoesOnWithFrames};
 
 use crate::session::Session;
 use quic_datagrams::DatagramState;
@@ -76,34 +77,70 @@ impl Session {
         ensures from { GoesOnWithFrames (length out.old) fair (end_of self.old).streams (end_of self.new).streams }
         ensures conn { self.new.conn ≡ self.old.conn }
     {
+        let Some(emitted) = self.emit_lent(out.len(), parts, fair)? else {
+            return Ok(None);
+        };
+        Ok(Some(self.put_out(emitted, out)))
+    }
+
+    // The payload that is lent is copied out.
+    fn put_out(&self, emitted: Emitted, out: &mut [u8]) -> Emitted
+        ensures len { result.len ≡ min (length self.now.bytes.items) (length out.old) }
+        ensures copied { out.new ≡ take result.len self.now.bytes.items ++ drop result.len out.old }
+        ensures token { result.token ≡ emitted.token }
+        ensures ends { result.ends ≡ emitted.ends }
+    {
+        let len = self.bytes.len().min(out.len());
+        out[..len].copy_from_slice(&self.bytes[..len]);
+        Emitted { len, ..emitted }
+    }
+
+    /// The same for a payload of at most `max_size` bytes that is not copied: it stands in the memory of the session, at
+    /// [`Session::lent`], until the next payload is written.
+    pub fn emit_lent(
+        &mut self,
+        max_size: usize,
+        parts: Parts,
+        fair: bool,
+    ) -> Result<Option<Emitted>, OutOfMemory>
+        ensures emits { EmitsLent max_size self.old parts fair result self.new }
+        ensures from { GoesOnWithFrames max_size fair (end_of self.old).streams (end_of self.new).streams }
+        ensures conn { self.new.conn ≡ self.old.conn }
+    {
         self.unsettled.reserve()?;
         let memory = mem::replace(&mut self.bytes, Vec::new(self.alloc));
         let mut draft = Draft::new(self.alloc, memory);
-        let answer = self.write_parts(&mut draft, out.len(), parts, fair);
+        let answer = self.write_parts(&mut draft, max_size, parts, fair);
         if draft.bytes.is_empty() {
             self.bytes = draft.bytes;
             answer?;
             return Ok(None);
         }
-        Ok(Some(self.put_out(draft, out)))
+        Ok(Some(self.lend(draft, max_size)))
     }
 
-    // A payload is copied out, and what is to be reported of it is kept under the next token.
-    fn put_out(&mut self, draft: Draft, out: &mut [u8]) -> Emitted
+    // A payload is lent, and what is to be reported of it is kept under the next token.
+    fn lend(&mut self, draft: Draft, max_size: usize) -> Emitted
         requires { 0 < places self.old.unsettled }
-        ensures puts { IsPutOut (payload_of draft) (length out.old) out.old result out.new }
+        ensures lent { IsLent max_size (payload_of draft) result self.new }
         ensures keeps { KeepsNew (unsettled self.old.unsettled) self.old.unsettled.next draft.sent result.token (unsettled self.new.unsettled) self.new.unsettled.next }
         ensures end { end_of self.new ≡ end_of self.old }
         ensures conn { self.new.conn ≡ self.old.conn }
         ensures datagrams { datagrams_view self.new ≡ datagrams_view self.old }
     {
         let Draft { bytes, sent } = draft;
-        let len = bytes.len().min(out.len());
-        out[..len].copy_from_slice(&bytes[..len]);
+        let len = bytes.len();
         self.bytes = bytes;
-        let ends = len == out.len() && !sent.streams.is_empty();
+        let ends = len >= max_size && !sent.streams.is_empty();
         let token = self.unsettled.keep(sent);
         Emitted { len, token, ends }
+    }
+
+    /// Where the payload that was written last stands.
+    pub fn lent(&self) -> *const u8
+        ensures { result ≡ vec_ptr self.now.bytes }
+    {
+        self.bytes.as_ptr()
     }
 
     // Writes the parts one after another.

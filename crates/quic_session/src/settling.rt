@@ -1,6 +1,6 @@
 //! What becomes of the payloads that a session sent.
 
-ghost use Rattle.std.specs.Prelude.{List, ◌∷◌, ◌≡◌, ◌<◌, OnErr, Some, None};
+ghost use Rattle.std.specs.Prelude.{List, ◌∷◌, ◌≡◌, OnErr, Some, None};
 ghost use Rattle.quic_values.specs.declared.ids.Side.TheVariants.{Client};
 ghost use Rattle.quic_outgoing.specs.Early.{NoneAcked};
 ghost use Rattle.quic_retransmits.specs.Pending.{nothing};
@@ -9,7 +9,7 @@ ghost use Rattle.quic_history.specs.Early.{IsEarly, with_rejection, SendsAgain};
 ghost use Rattle.quic_history.specs.History.{Event, Rejected, SentAgain, IsUnanswered, From};
 ghost use Rattle.quic_session.specs.Sessions.{end_of, beside_of};
 ghost use Rattle.quic_session.specs.Settling.{AcksToken, LosesToken, SettlesOnly};
-ghost use Rattle.quic_session.specs.Tokens.{unsettled, with_payload, places, payload_count, IsUsed};
+ghost use Rattle.quic_session.specs.Tokens.{unsettled, with_payload, payload_count, HasPlaceFor};
 
 use crate::session::Session;
 use quic_streams::{Retransmits, SentPayload};
@@ -34,9 +34,6 @@ impl Session {
         ensures acks { AcksToken self.old token result self.new }
         ensures others { SettlesOnly self.old self.new }
     {
-        if self.unsettled.reserve().is_err() {
-            return Err(SettleError::OutOfMemory);
-        }
         let Some(payload) = self.unsettled.take(token) else {
             return Err(SettleError::UnknownToken);
         };
@@ -54,9 +51,6 @@ impl Session {
         ensures loses { LosesToken self.old token result self.new }
         ensures others { SettlesOnly self.old self.new }
     {
-        if self.unsettled.reserve().is_err() {
-            return Err(SettleError::OutOfMemory);
-        }
         let Some(payload) = self.unsettled.take(token) else {
             return Err(SettleError::UnknownToken);
         };
@@ -68,8 +62,7 @@ impl Session {
 
     // What was not reported of a payload stands under its token again.
     fn put_rest_back(&mut self, token: u64, rest: SentPayload) -> SettleError
-        requires room { 0 < places self.old.unsettled }
-        requires used { IsUsed self.old.unsettled.next token }
+        requires { HasPlaceFor self.old.unsettled token }
         ensures error { result ≡ SettleError.OutOfMemory }
         ensures kept { unsettled self.new.unsettled ≡ with_payload (unsettled self.old.unsettled) token (Some rest) }
         ensures end { end_of self.new ≡ end_of self.old }

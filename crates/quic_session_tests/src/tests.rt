@@ -106,12 +106,36 @@ fn what_was_lost_is_sent_again(rt: HostRuntime) -> Result<(), Fail> {
 }
 
 #[test]
+fn payloads_are_settled_in_any_order(rt: HostRuntime) -> Result<(), Fail> {
+    let mut a = session(rt.alloc(), Side::Client)?;
+    same(&rt, a.open(Dir::Uni)?, Some(id(2)));
+    for token in 1..6 {
+        same(&rt, a.write(id(2), b"some")?, 4);
+        let sent = a.emit_lent(100, ALL, true)?.ok_or("nothing was sent")?;
+        same(&rt, sent.token, token);
+    }
+    for token in [3, 1, 5, 2, 4] {
+        a.acked(token)?;
+        same(&rt, a.acked(token), Err(SettleError::UnknownToken));
+    }
+    same(&rt, a.unsettled_payloads(), 0);
+    same(&rt, a.emit_lent(100, ALL, true)?, None);
+    same(&rt, a.write(id(2), b"more")?, 4);
+    let sent = a.emit_lent(100, ALL, true)?.ok_or("nothing was sent")?;
+    same(&rt, sent.token, 6);
+    same(&rt, a.unsettled_payloads(), 1);
+    same(&rt, a.lost(7), Err(SettleError::UnknownToken));
+    Ok(())
+}
+
+#[test]
 fn datagrams_stand_before_data(rt: HostRuntime) -> Result<(), Fail> {
     let mut a = session(rt.alloc(), Side::Client)?;
     let mut b = session(rt.alloc(), Side::Server)?;
     same(&rt, a.open(Dir::Uni)?, Some(id(2)));
     same(&rt, a.write(id(2), b"hi")?, 2);
     a.send_datagram(b"news", false)?;
+    same(&rt, a.has_datagrams(), true);
     let mut out = [0; 100];
     let sent = a.emit(&mut out, ALL, true)?.ok_or("nothing was sent")?;
     same(&rt, out[0], 0x31);

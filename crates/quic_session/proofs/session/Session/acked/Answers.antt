@@ -18,7 +18,7 @@ returns-in_default-clause-acks c =
     let nothing = none-there c.take.result c.in_default.not-Some in
     let stands = sym c.take.ensures.sent ∙ nothing in
     let token = c.args.token in
-    (ap (λ (f : Kept). f token) (sym c.reserve.ensures.same) ∙ stands, (refl, c.take.ensures.rest ∙ put-none _ token stands ∙ c.reserve.ensures.same))
+    (stands, (refl, c.take.ensures.rest ∙ put-none _ token stands))
 
 pub returns-in-Ok-clause-acks : goal.returns-in-Ok-clause-acks
 unfolding end_of
@@ -28,12 +28,12 @@ returns-in-Ok-clause-acks c =
     let told : end_of c.tell_counts_if.new.self ≡ with_counts_told_if true after = c.tell_counts_if.ensures.told in
     record {
       sent = c.in-Some.payload;
-      stood = ap (λ (f : Kept). f token) (sym c.reserve.ensures.same) ∙ sym c.in-Some.ensures.sent;
+      stood = sym c.in-Some.ensures.sent;
       acked = after;
       acks = c.in-Ok.ensures.acks;
       pending = refl;
       is = told;
-      settled = ap (λ (b : Beside). unsettled b.unsettled) c.tell_counts_if.ensures.beside ∙ c.take.ensures.rest ∙ ap (λ (f : Kept). with_payload f token None) c.reserve.ensures.same;
+      settled = ap (λ (b : Beside). unsettled b.unsettled) c.tell_counts_if.ensures.beside ∙ c.take.ensures.rest;
       from = λ m h f. let P : World → Type 0 = λ w. From m (acks_told (sent_view c.in-Some.payload) (Ok tt) h) w in
           subst P (sym (ap (λ x. x.streams) told ∙ told-streams true after)) (c.in-Ok.ensures.from m h f);
     }
@@ -47,11 +47,10 @@ returns-in-Err-clause-acks c =
     rw c.put_rest_back.ensures.error (inr (record {
       sent = c.in-Some.payload;
       rest = c.in-Err.rest;
-      stood = ap (λ (f : Kept). f token) (sym c.reserve.ensures.same) ∙ sym c.in-Some.ensures.sent;
+      stood = sym c.in-Some.ensures.sent;
       acks = subst P (sym (ap (λ x. x.streams) now)) c.in-Err.ensures.acks;
       pending = ap (λ x. x.pending) now;
-      kept = c.put_rest_back.ensures.kept ∙ ap (λ (f : Kept). with_payload f token (Some c.in-Err.rest)) c.take.ensures.rest ∙ put-twice _ token (Some c.in-Err.rest)
-          ∙ ap (λ (f : Kept). with_payload f token (Some c.in-Err.rest)) c.reserve.ensures.same;
+      kept = c.put_rest_back.ensures.kept ∙ ap (λ (f : Kept). with_payload f token (Some c.in-Err.rest)) c.take.ensures.rest ∙ put-twice _ token (Some c.in-Err.rest);
       from = λ m h f. let Q : World → Type 0 = λ w. From m (acks_told (sent_view c.in-Some.payload) (Err (sent_view c.in-Err.rest)) h) w in
           subst Q (sym (ap (λ x. x.streams) now)) (c.in-Err.ensures.from m h f);
     }))

@@ -17,7 +17,7 @@ returns-in_default-clause-loses c =
     let nothing = none-there c.take.result c.in_default.not-Some in
     let stands = sym c.take.ensures.sent ∙ nothing in
     let token = c.args.token in
-    (ap (λ (f : Kept). f token) (sym c.reserve.ensures.same) ∙ stands, (refl, c.take.ensures.rest ∙ put-none _ token stands ∙ c.reserve.ensures.same))
+    (stands, (refl, c.take.ensures.rest ∙ put-none _ token stands))
 
 pub returns-in-Err-clause-loses : goal.returns-in-Err-clause-loses
 unfolding end_of
@@ -28,10 +28,9 @@ returns-in-Err-clause-loses c =
     rw c.put_rest_back.ensures.error (inr (record {
       sent = c.in-Some.payload;
       rest = c.in-Err.rest;
-      stood = ap (λ (f : Kept). f token) (sym c.reserve.ensures.same) ∙ sym c.in-Some.ensures.sent;
+      stood = sym c.in-Some.ensures.sent;
       loses = subst P (sym now) c.in-Err.ensures.loses;
-      kept = c.put_rest_back.ensures.kept ∙ ap (λ (f : Kept). with_payload f token (Some c.in-Err.rest)) c.take.ensures.rest ∙ put-twice _ token (Some c.in-Err.rest)
-          ∙ ap (λ (f : Kept). with_payload f token (Some c.in-Err.rest)) c.reserve.ensures.same;
+      kept = c.put_rest_back.ensures.kept ∙ ap (λ (f : Kept). with_payload f token (Some c.in-Err.rest)) c.take.ensures.rest ∙ put-twice _ token (Some c.in-Err.rest);
       from = λ m h f. let Q : World → Type 0 = λ w. From m (losses_told (sent_view c.in-Some.payload) (Err (sent_view c.in-Err.rest)) h) w in
           subst Q (sym (ap (λ x. x.streams) now)) (c.in-Err.ensures.from m h f);
     }))

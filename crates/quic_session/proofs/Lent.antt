@@ -1,0 +1,44 @@
+-- Payloads that are lent, and copied out.
+use Rattle.std.proofs.Common.{◌≡◌, ◌≢◌, ℕ, ◌<◌, ◌≤◌, ◌⊎◌, inl, inr, Bool, true, false, List, ◌++◌, length, take, drop, sym, ap, ◌∙◌, subst, arith}
+use Rattle.std.specs.Prelude.{◌==◌, ◌&&◌, min, not, nat_le}
+use Rattle.std.proofs.lemmas.Bool.Decides.{eqb_tells, leb_tells}
+use Rattle.quic_session.specs.declared.session.Session.{Session}
+use Rattle.quic_session.specs.declared.emitting.Emitted.{Emitted}
+use Rattle.quic_session.specs.declared.emitting.Parts.{Parts}
+use Rattle.quic_session.specs.Tokens.{unsettled, KeepsNew}
+use Rattle.quic_session.specs.Emitting.{LendsPayload, WritesPayload}
+
+-- the least of two numbers is the second where that is no greater than the first
+pub is-least : (n size r : ℕ) → r ≡ min n size → nat_le size n ≡ (r == size)
+is-least n size r is = by-tests (leb_tells size n) (eqb_tells r size)
+  where
+    by-tests : ((nat_le size n ≡ true) × (size ≤ n)) ⊎ ((nat_le size n ≡ false) × (n < size)) → (((r == size) ≡ true) × (r ≡ size)) ⊎ (((r == size) ≡ false) × (r ≢ size)) → nat_le size n ≡ (r == size)
+    by-tests (inl a) (inl b) = a.0 ∙ sym b.0
+    by-tests (inl a) (inr b) = absurd (b.1 (omega (arith, is, a.1)))
+    by-tests (inr a) (inl b) = absurd (omega (arith, is, a.1, b.1))
+    by-tests (inr a) (inr b) = a.0 ∙ sym b.0
+
+-- a payload that was lent is copied into a buffer
+pub put-out : {parts : Parts} {fair : Bool} {s t : Session} {e : Emitted} (out : List ℕ) → LendsPayload (length out) parts fair s e t → (r : Emitted) (new : List ℕ)
+    → r.len ≡ min (length t.bytes.items) (length out) → new ≡ take r.len t.bytes.items ++ drop r.len out → r.token ≡ e.token → r.ends ≡ e.ends → WritesPayload parts fair s out r t new
+put-out {parts} {fair} {s} {t} {e} out l r new len copied token ends =
+    let size = length out in
+    let shorter : r.len ≡ min e.len size = len ∙ ap (λ b. min (length b) size) l.lent.stands ∙ ap (λ n. min n size) (sym l.lent.len) in
+    let P : ℕ → Type 0 = λ k. KeepsNew (unsettled s.unsettled) s.unsettled.next l.sent k (unsettled t.unsettled) t.unsettled.next in
+    record {
+      answer = l.answer;
+      written = l.written;
+      writes = l.writes;
+      some = l.some;
+      within = l.within;
+      puts = record {
+        len = len ∙ ap (λ b. min (length b) size) l.lent.stands;
+        copied = copied ∙ ap (λ b. take r.len b ++ drop r.len out) l.lent.stands;
+        ends = ends ∙ l.lent.ends ∙ ap (λ (b : Bool). b && not (length l.written.payload.streams == 0)) (is-least e.len size r.len shorter);
+      };
+      sent = l.sent;
+      keeps = subst P (sym token) l.keeps;
+      control = l.control;
+      streams = l.streams;
+      leaves = l.leaves;
+    }
