@@ -24,7 +24,8 @@
  * length and overlap neither each other nor the handle; those that are read
  * are initialised, and those that are written too, as are all that pointers to
  * single values point to. With length 0 a buffer may be NULL; other pointers
- * may not. The library keeps no pointer of the host's after a call.
+ * may not. The library keeps no pointer of the host's after a call, and gives
+ * one of its own only in qs_emit_lent.
  *
  * THREADS. A call on a handle must have ended before the next one on the same
  * handle begins. Handles share nothing: those of different connections may be
@@ -389,6 +390,21 @@ typedef struct qs_payload {
  * call gives a payload of its own, and a packet may have several. */
 int32_t qs_emit(qs_conn *conn, uint32_t parts, uint32_t fair, uint8_t *data,
                 size_t cap, qs_payload *payload);
+
+/* The same, but the payload is not copied: it stands in memory of the session.
+ * QS_OK: *payload is set, and *data is where its first byte stands. The bytes
+ * may be read until the next call on the handle. */
+int32_t qs_emit_lent(qs_conn *conn, uint32_t parts, uint32_t fair, size_t cap,
+                     const uint8_t **data, qs_payload *payload);
+
+typedef struct qs_due {
+  uint64_t control;   /* 1: frames beside data wait to be sent */
+  uint64_t datagrams; /* 1: datagrams do */
+  uint64_t streams;   /* 1: data do */
+} qs_due;
+
+/* What waits to be sent. QS_OK: *due is set. */
+int32_t qs_get_due(qs_conn *conn, qs_due *due);
 
 /* The packet of a payload was acknowledged, or is taken to be lost (RFC 9000
  * section 13.3). Each payload is settled once, by one of the two.

@@ -126,6 +126,11 @@ static void rest(qs_conn *a) {
   SAME(qs_emit(a, 0, 0, data, sizeof data, &payload), QS_ERR_ARGUMENT);
   SAME(qs_emit(a, 8, 0, data, sizeof data, &payload), QS_ERR_ARGUMENT);
   SAME(qs_emit(a, QS_ALL, 0, NULL, 0, &payload), QS_DONE);
+  const uint8_t *lent = data;
+  SAME(qs_emit_lent(a, 0, 0, sizeof data, &lent, &payload), QS_ERR_ARGUMENT);
+  SAME(qs_emit_lent(a, 8, 0, sizeof data, &lent, &payload), QS_ERR_ARGUMENT);
+  SAME(qs_emit_lent(a, QS_ALL, 0, 0, &lent, &payload), QS_DONE);
+  SAME(lent == data, 1);
   SAME(qs_acked(a, 0), QS_ERR_TOKEN);
   SAME(qs_lost(a, UINT64_MAX), QS_ERR_TOKEN);
   SAME(qs_receive(a, (const uint8_t *)"\x10\x05", 2, &next, &error), QS_OK);

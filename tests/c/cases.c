@@ -89,20 +89,20 @@ static int deliver(qs_conn *to, const uint8_t *payload, size_t len) {
 }
 
 /* Has the next payload of an end written, and sums its bytes. */
-static int32_t emit(qs_conn *from, seen *sum, uint8_t *payload, qs_payload *head) {
-  int32_t answer = qs_emit(from, QS_ALL, 1, payload, PIECE, head);
+static int32_t emit(qs_conn *from, seen *sum, const uint8_t **payload, qs_payload *head) {
+  int32_t answer = qs_emit_lent(from, QS_ALL, 1, PIECE, payload, head);
   if (answer == QS_OK)
-    see_next(sum, payload, (size_t)head->len);
+    see_next(sum, *payload, (size_t)head->len);
   return answer;
 }
 
 /* Up to 32 payloads of the client, which are delivered but for the lost ones. Answers whether there were any. */
 static int send_some(pair *p, int *some) {
-  uint8_t payload[PIECE] = {0};
+  const uint8_t *payload = NULL;
   qs_payload head = {0, 0, 0};
   *some = 0;
   for (p->flying = 0; p->flying < BURST; p->flying++) {
-    int32_t answer = emit(&p->client, &p->to_server, payload, &head);
+    int32_t answer = emit(&p->client, &p->to_server, &payload, &head);
     if (answer != QS_OK)
       return answer == QS_DONE;
     *some = 1;
@@ -166,10 +166,10 @@ static int read_all(pair *p) {
 
 /* The server answers, which always comes. */
 static int answer_all(pair *p) {
-  uint8_t payload[PIECE] = {0};
+  const uint8_t *payload = NULL;
   qs_payload head = {0, 0, 0};
   int32_t answer;
-  while ((answer = emit(&p->server, &p->to_client, payload, &head)) == QS_OK)
+  while ((answer = emit(&p->server, &p->to_client, &payload, &head)) == QS_OK)
     if (!deliver(&p->client, payload, (size_t)head.len) || qs_acked(&p->server, head.token) != QS_OK)
       return 0;
   return answer == QS_DONE;

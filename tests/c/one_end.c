@@ -127,6 +127,58 @@ static void the_last_frame_may_lack_a_length(void) {
   qs_conn_free(&a);
 }
 
+/* A payload that is lent has the bytes and the token of one that is copied. */
+static void a_payload_may_be_lent(void) {
+  qs_conn a = QS_CONN_INIT, b = QS_CONN_INIT;
+  uint64_t id, code = 0;
+  size_t written = 0, next = 0;
+  qs_payload head = {7, 7, 7};
+  qs_due due = {7, 7, 7};
+  qs_error error = {0, 0, {0}};
+  const uint8_t *lent = NULL;
+  packet p;
+  SAME(qs_emit_lent(&a, QS_ALL, 1, 100, &lent, &head), QS_ERR_CLOSED);
+  SAME(qs_get_due(&a, &due), QS_ERR_CLOSED);
+  SAME(due.streams, 7);
+  SAME(open_end(&a, QS_CLIENT, 4, 1000, 1000), QS_OK);
+  SAME(open_end(&b, QS_SERVER, 4, 1000, 1000), QS_OK);
+  SAME(qs_emit_lent(&a, QS_ALL, 1, 100, &lent, &head), QS_DONE);
+  SAME(lent == NULL, 1);
+  SAME(head.token, 7);
+  SAME(qs_stream_open(&a, QS_UNI, &id), QS_OK);
+  SAME(write_text(&a, 2, "hello", 5, &written), QS_OK);
+  SAME(qs_stream_finish(&a, 2, &code), QS_OK);
+  SAME(qs_get_due(&a, &due), QS_OK);
+  SAME(due.control + due.datagrams, 0);
+  SAME(due.streams, 1);
+  SAME(qs_emit_lent(&a, QS_ALL, 1, 100, &lent, &head), QS_OK);
+  SAME_BYTES(lent, head.len, "\x0b\x02\x05hello");
+  SAME(head.token, 1);
+  SAME(head.ends, 0);
+  SAME(qs_receive(&b, lent, (size_t)head.len, &next, &error), QS_OK);
+  SAME(qs_get_due(&a, &due), QS_OK);
+  SAME(due.streams, 0);
+  SAME(qs_datagram_send(&a, (const uint8_t *)"d", 1, 0), QS_OK);
+  SAME(qs_get_due(&a, &due), QS_OK);
+  SAME(due.datagrams, 1);
+  SAME(emit(&a, QS_DATAGRAMS, 100, &p), QS_OK);
+  SAME(qs_lost(&a, 1), QS_OK);
+  SAME(emit(&a, QS_ALL, 100, &p), QS_OK);
+  SAME_BYTES(p.data, p.head.len, "\x0b\x02\x05hello");
+  SAME(p.head.token, 3);
+  SAME(qs_acked(&a, 3), QS_OK);
+  SAME(qs_stream_open(&a, QS_UNI, &id), QS_OK);
+  char text[50];
+  memset(text, 'x', sizeof text);
+  SAME(write_text(&a, id, text, sizeof text, &written), QS_OK);
+  SAME(qs_emit_lent(&a, QS_ALL, 1, 40, &lent, &head), QS_OK);
+  SAME(head.len, 40);
+  SAME(head.ends, 1);
+  SAME(lent[0], 0x08); /* STREAM: no offset, no length, no end */
+  qs_conn_free(&a);
+  qs_conn_free(&b);
+}
+
 static void limits_block_and_are_raised(void) {
   qs_conn a = QS_CONN_INIT;
   uint64_t id;
@@ -300,12 +352,13 @@ int main(void) {
   a_stream_is_written_and_read();
   several_chunks_come_in_one_call();
   the_last_frame_may_lack_a_length();
+  a_payload_may_be_lent();
   limits_block_and_are_raised();
   a_stream_is_given_up_or_stopped();
   datagrams_stand_between();
   a_peer_that_breaks_the_protocol_is_told_so();
   a_closed_handle_answers_so();
   an_early_start_is_rejected();
-  printf("one end: 9 tests\n");
+  printf("one end: 10 tests\n");
   return 0;
 }

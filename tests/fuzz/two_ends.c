@@ -52,6 +52,25 @@ static void open_end(end *e, uint32_t side, input *in) {
   must(qs_set_peer_limits(&e->conn, &limits) == QS_OK);
 }
 
+/* Writes a payload into the next packet, copied by the library or from where
+ * it is lent. */
+static int32_t emit(end *e, uint32_t parts, uint32_t fair, size_t cap,
+                    int lends) {
+  uint8_t *packet = e->packets[e->held];
+  qs_payload *head = &e->heads[e->held];
+  const uint8_t *lent = NULL;
+  qs_due due = {0, 0, 0};
+  if (!lends)
+    return qs_emit(&e->conn, parts, fair, packet, cap, head);
+  must(qs_get_due(&e->conn, &due) == QS_OK);
+  const int32_t answer =
+      qs_emit_lent(&e->conn, parts, fair, cap, &lent, head);
+  must(answer != QS_OK || head->len <= cap);
+  if (answer == QS_OK)
+    memcpy(packet, lent, (size_t)head->len);
+  return answer;
+}
+
 static void call(end *e, end *peer, input *in) {
   uint64_t id = take(in, 1) % 64, out = 0, code = 0;
   size_t count = 0, next = 0;
@@ -129,8 +148,8 @@ static void call(end *e, end *peer, input *in) {
       qs_payload *head = &e->heads[e->held];
       memset(e->packets[e->held], 0, sizeof e->packets[0]);
       memset(head, 0, sizeof *head);
-      if (qs_emit(&e->conn, 1 + (uint32_t)id % 7, (uint32_t)kind % 2,
-                  e->packets[e->held], cap, head) == QS_OK) {
+      if (emit(e, 1 + (uint32_t)id % 7, (uint32_t)kind % 2, cap,
+               take(in, 1) % 2) == QS_OK) {
         must(head->len > 0 && head->len <= cap && head->token > 0);
         e->held++;
       }

@@ -52,4 +52,6 @@ pub use errors::{
 };
 pub use state::StreamsState;
 pub use streams::{Chunk, Chunks, Next, ReadMany, RecvStream, SendStream};
-pub use values::{Config, Dir, Emit, Event, Info, Limits, Payload, Side, StreamId, Token};
+pub use values::{
+    Config, Dir, Due, Emit, Event, Info, Lent, Limits, Payload, Side, StreamId, Token,
+};

@@ -4,7 +4,8 @@ use crate::streams::{RecvStream, SendStream};
 use crate::sys;
 use crate::values::*;
 use std::fmt;
-use std::ptr::null_mut;
+use std::ptr::{null, null_mut};
+use std::slice::from_raw_parts;
 
 /// One end of a connection: its streams, its datagrams, and the payloads that it sent and has not heard of.
 pub struct StreamsState {
@@ -173,6 +174,82 @@ impl StreamsState {
             })),
             sys::DONE => Ok(None),
             _ => Err(OutOfMemory),
+        }
+    }
+
+    /// Writes what is due into memory of the library, at most `max_size` bytes, which saves a copy to who copies or encrypts
+    /// them elsewhere. `None` where nothing that is due fits.
+    ///
+    /// ```
+    /// # use quic_streams::{Config, Dir, Emit, Limits, Side, StreamsState};
+    /// # fn main() -> Result<(), Box<dyn std::error::Error>> {
+    /// # let config = Config::default();
+    /// # let mut client = StreamsState::new(Side::Client, &config)?;
+    /// # client.set_params(&Limits::of(&config))?;
+    /// # let id = client.open(Dir::Uni)?.unwrap();
+    /// # client.send_stream(id).write(b"hello")?;
+    /// let mut packet = vec![0x40]; // the head of a packet
+    /// let payload = client.emit_lent(1200, Emit::default())?.expect("data are due");
+    /// packet.extend_from_slice(payload.bytes);
+    /// let token = payload.token;
+    /// # assert_eq!(&packet[4..], b"hello");
+    /// # client.acked(token)?;
+    /// # Ok(())
+    /// # }
+    /// ```
+    pub fn emit_lent(
+        &mut self,
+        max_size: usize,
+        what: Emit,
+    ) -> Result<Option<Lent<'_>>, OutOfMemory> {
+        let (mut payload, mut data) = (sys::Payload::default(), null());
+        if what.parts() == 0 {
+            return Ok(None);
+        }
+        let answer = unsafe {
+            sys::qs_emit_lent(
+                &mut self.conn,
+                what.parts(),
+                u32::from(what.fair),
+                max_size,
+                &mut data,
+                &mut payload,
+            )
+        };
+        match answer {
+            // The bytes stay until the next call on the handle, which wants `&mut self`.
+            sys::OK => Ok(Some(Lent {
+                bytes: unsafe { from_raw_parts(data, payload.len as usize) },
+                token: Token(payload.token),
+                ends: payload.ends != 0,
+            })),
+            sys::DONE => Ok(None),
+            _ => Err(OutOfMemory),
+        }
+    }
+
+    /// What waits to be sent.
+    ///
+    /// ```
+    /// # use quic_streams::{Config, Dir, Limits, Side, StreamsState};
+    /// # fn main() -> Result<(), Box<dyn std::error::Error>> {
+    /// # let config = Config::default();
+    /// # let mut client = StreamsState::new(Side::Client, &config)?;
+    /// # client.set_params(&Limits::of(&config))?;
+    /// let id = client.open(Dir::Uni)?.expect("a stream is permitted");
+    /// assert!(!client.due().streams);
+    /// client.send_stream(id).write(b"hello")?;
+    /// assert!(client.due().streams);
+    /// # Ok(())
+    /// # }
+    /// ```
+    pub fn due(&mut self) -> Due {
+        let mut raw = sys::Due::default();
+        unsafe { sys::qs_get_due(&mut self.conn, &mut raw) };
+        Due {
+            control: raw.control != 0,
+            datagrams: raw.datagrams != 0,
+            streams: raw.streams != 0,
         }
     }
 

@@ -108,6 +108,14 @@ pub struct Payload {
     pub ends: u64,
 }
 
+#[derive(Default)]
+#[repr(C)]
+pub struct Due {
+    pub control: u64,
+    pub datagrams: u64,
+    pub streams: u64,
+}
+
 // The calls that read a stream.
 macro_rules! reads {
     ($($name:ident),*) => {
@@ -197,6 +205,15 @@ extern "C" {
         cap: usize,
         payload: &mut Payload,
     ) -> i32;
+    pub fn qs_emit_lent(
+        conn: &mut Conn,
+        parts: u32,
+        fair: u32,
+        cap: usize,
+        data: &mut *const u8,
+        payload: &mut Payload,
+    ) -> i32;
+    pub fn qs_get_due(conn: &mut Conn, due: &mut Due) -> i32;
     pub fn qs_acked(conn: &mut Conn, token: u64) -> i32;
     pub fn qs_lost(conn: &mut Conn, token: u64) -> i32;
     pub fn qs_datagram_send(conn: &mut Conn, data: *const u8, len: usize, drop_oldest: u32) -> i32;

@@ -260,6 +260,28 @@ pub struct Payload {
     pub ends: bool,
 }
 
+/// A payload that was written, in memory of the library.
+#[derive(Clone, Copy, Debug, PartialEq, Eq)]
+pub struct Lent<'a> {
+    /// Its bytes.
+    pub bytes: &'a [u8],
+    /// What stands for it until it is settled.
+    pub token: Token,
+    /// Whether nothing may follow in its packet, not even padding.
+    pub ends: bool,
+}
+
+/// What waits to be sent.
+#[derive(Clone, Copy, Debug, PartialEq, Eq)]
+pub struct Due {
+    /// Frames beside data.
+    pub control: bool,
+    /// Datagrams.
+    pub datagrams: bool,
+    /// Data of streams.
+    pub streams: bool,
+}
+
 /// What an end tells of itself.
 #[derive(Clone, Copy, Debug, PartialEq, Eq)]
 pub struct Info {

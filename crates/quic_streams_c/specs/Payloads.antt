@@ -1,12 +1,14 @@
 -- Payloads that C has written, and what it says of them.
 use Rattle.std.specs.Prelude.{ℕ, ℤ, Bool, pos, negsuc, ◌≡◌, ◌==◌, ◌&&◌, ◌/◌, ◌%◌, not, nat_lt, if◌then◌else◌, List, length, Option, Some, None, Result, Ok, Err}
+use denote.RawPtr.{Ptr}
+use Rattle.std.specs.Vec.{vec_ptr}
 use Rattle.quic_values.specs.declared.memory.OutOfMemory.{OutOfMemory}
 use Rattle.quic_session.specs.declared.session.Session.{Session}
 use Rattle.quic_session.specs.declared.emitting.Emitted.{Emitted}
 use Rattle.quic_session.specs.declared.emitting.Parts.{Parts}
 use Rattle.quic_session.specs.declared.settling.SettleError.{SettleError}
 use Rattle.quic_session.specs.Sessions.{end_of}
-use Rattle.quic_session.specs.Emitting.{EmitsPayload, GoesOnWithFrames}
+use Rattle.quic_session.specs.Emitting.{EmitsPayload, EmitsLent, GoesOnWithFrames}
 use Rattle.quic_session.specs.Settling.{AcksToken, LosesToken, SettlesOnly}
 use Rattle.quic_streams_c.specs.declared.payloads.RawPayload.{RawPayload}
 use Rattle.quic_streams_c.specs.Answers.{TellsDone, settle_code}
@@ -36,6 +38,25 @@ pub record Emitting (s : Session) (parts : Parts) (fair : Bool) (out : List ℕ)
 -- qs_emit
 abbrev pub EmitsRaw : Session → ℕ → ℕ → List ℕ → ℤ → Session → List ℕ → RawPayload → RawPayload → Type 0
 EmitsRaw s parts fair out code t new was now = WithNumber (parts_at parts) (Refuses s code t × (new ≡ out) × (now ≡ was)) (λ p. Emitting s p (not (fair == 0)) out code t new was now)
+
+-- where a payload is lent, if one was written
+abbrev pub TellsPlace : Result (Option Emitted) OutOfMemory → Session → Ptr → Ptr → Type 0
+TellsPlace (Ok (Some e)) t was now = now ≡ vec_ptr t.bytes
+TellsPlace (Ok None) t was now = now ≡ was
+TellsPlace (Err error) t was now = now ≡ was
+
+-- a payload of at most so many bytes is written, of these parts, and is lent
+pub record EmittingLent (s : Session) (parts : Parts) (fair : Bool) (most : ℕ) (code : ℤ) (t : Session) (was now : Ptr) (told told' : RawPayload) : Type 0 where
+  pub answer : Result (Option Emitted) OutOfMemory
+  pub emits : EmitsLent most s parts fair answer t
+  pub from : GoesOnWithFrames most fair (end_of s).streams (end_of t).streams
+  pub conn : t.conn ≡ s.conn
+  pub tells : TellsPayload answer code told told'
+  pub place : TellsPlace answer t was now
+
+-- qs_emit_lent
+abbrev pub EmitsLentRaw : Session → ℕ → ℕ → ℕ → ℤ → Session → Ptr → Ptr → RawPayload → RawPayload → Type 0
+EmitsLentRaw s parts fair most code t was now told told' = WithNumber (parts_at parts) (Refuses s code t × (now ≡ was) × (told' ≡ told)) (λ p. EmittingLent s p (not (fair == 0)) most code t was now told told')
 
 -- qs_acked
 abbrev pub AcksRaw : Session → ℕ → ℤ → Session → Type 0

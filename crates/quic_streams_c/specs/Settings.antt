@@ -1,5 +1,5 @@
 -- What C sets of a session, and asks of it.
-use Rattle.std.specs.Prelude.{ℕ, ℤ, Bool, pos, negsuc, ◌≡◌, ◌⊎◌, ◌==◌, ◌^◌, ◌<◌, ◌≤◌, not, nat_lt, is_some, if◌then◌else◌, List, [], ◌∷◌, Option, Some, None, Result, Ok, Err}
+use Rattle.std.specs.Prelude.{ℕ, ℤ, Bool, pos, negsuc, ◌≡◌, ◌⊎◌, ◌==◌, ◌^◌, ◌<◌, ◌≤◌, not, nat_lt, is_some, if◌then◌else◌, List, [], ◌∷◌, length, Option, Some, None, Result, Ok, Err}
 use Rattle.std.specs.List.{list_any}
 use Rattle.quic_values.specs.declared.memory.OutOfMemory.{OutOfMemory}
 use Rattle.quic_values.specs.declared.ids.Side.{Side}
@@ -28,6 +28,7 @@ use Rattle.quic_session.specs.Settling.{SettlesOnly}
 use Rattle.quic_streams_c.specs.declared.connection.RawConfig.{RawConfig}
 use Rattle.quic_streams_c.specs.declared.connection.RawLimits.{RawLimits}
 use Rattle.quic_streams_c.specs.declared.connection.RawInfo.{RawInfo}
+use Rattle.quic_streams_c.specs.declared.connection.RawDue.{RawDue}
 use Rattle.quic_streams_c.specs.Answers.{TellsDone, memory_code}
 use Rattle.quic_streams_c.specs.Calls.{Refuses, WithNumber}
 use Rattle.quic_streams_c.specs.Numbers.{small, dir_at, length_at}
@@ -181,3 +182,13 @@ pub record IsInfo (s : Session) (i : RawInfo) : Type 0 where
 -- qs_get_info
 abbrev pub TellsInfo : Session → ℤ → Session → RawInfo → Type 0
 TellsInfo s code t now = (code ≡ pos 0) × Unchanged s t × IsInfo s now
+
+-- what C is told of what waits to be sent
+pub record IsDue (s : Session) (d : RawDue) : Type 0 where
+  pub control : (empty : Bool) × TellsEmpty (end_of s).streams (end_of s).pending empty × (d.control ≡ flag (not empty))
+  pub datagrams : d.datagrams ≡ flag (not (length s.datagrams.outgoing == 0))
+  pub streams : d.streams ≡ flag (list_any (λ id. is_some (sending_priority ((end_of s).streams.out.halves id))) (ids_of (line (end_of s).streams.queue)))
+
+-- qs_get_due
+abbrev pub TellsDue : Session → ℤ → Session → RawDue → Type 0
+TellsDue s code t now = (code ≡ pos 0) × Unchanged s t × IsDue s now

@@ -6,7 +6,7 @@ ghost use Rattle.quic_streams_c.specs.Sessions.{Unchanged};
 ghost use Rattle.quic_streams_c.specs.Answers.{TellsDone, memory_code};
 ghost use Rattle.quic_streams_c.specs.Calls.{Calls};
 ghost use Rattle.quic_streams_c.specs.Events.{raw_event, event_at, TellsEvent, TellsRaw, PollsRaw};
-ghost use Rattle.quic_streams_c.specs.Settings.{side_at, raw_limits, IsConfig, IsConfigOf, IsNewOf, OpensHandle, AreLimits, peer_limits, SetsLimits, Closes, Rejects, SendsEarlyAgain, SetsSendWindowRaw, SetsReceiveWindowRaw, SetsConcurrentRaw, flag, IsInfo, TellsInfo};
+ghost use Rattle.quic_streams_c.specs.Settings.{side_at, raw_limits, IsConfig, IsConfigOf, IsNewOf, OpensHandle, AreLimits, peer_limits, SetsLimits, Closes, Rejects, SendsEarlyAgain, SetsSendWindowRaw, SetsReceiveWindowRaw, SetsConcurrentRaw, flag, IsInfo, TellsInfo, IsDue, TellsDue};
 ghost use Rattle.quic_session.specs.Sessions.{datagrams_view, next_told};
 
 use crate::codes::{
@@ -80,6 +80,15 @@ pub struct RawInfo {
     pub payloads: u64,
     pub can_send_stream_data: u64,
     pub has_pending: u64,
+}
+
+/// What waits to be sent, each 0 or 1.
+#[derive(Clone, Copy)]
+#[repr(C)]
+pub struct RawDue {
+    pub control: u64,
+    pub datagrams: u64,
+    pub streams: u64,
 }
 
 // From this count of streams on there is none (RFC 9000 section 4.6).
@@ -484,6 +493,41 @@ fn info_of(session: &mut Session) -> RawInfo
         can_send_stream_data: flag(streams.can_send_stream_data()),
         has_pending,
     }
+}
+
+// What waits to be sent.
+fn due_of(session: &mut Session) -> RawDue
+    ensures due { IsDue session.old result }
+    ensures same { Unchanged session.old session.new }
+{
+    RawDue {
+        control: flag(session.has_pending()),
+        datagrams: flag(session.has_datagrams()),
+        streams: flag(session.streams().can_send_stream_data()),
+    }
+}
+
+/// Tells what waits to be sent.
+#[unsafe(no_mangle)]
+pub extern "C" fn qs_get_due(alloc: Global, handle: &mut Handle, due: &mut RawDue) -> i32
+    ensures { Calls handle.old.slot.value result handle.new.slot.value (due.new ≡ due.old) (λ s t. TellsDue s result t due.new) }
+{
+    match take_out(alloc, handle) {
+        None => CLOSED,
+        Some(mut session) => {
+            let code = tell_due(&mut session, due);
+            *handle = holding(session);
+            code
+        }
+    }
+}
+
+// The same, of a session.
+fn tell_due(session: &mut Session, due: &mut RawDue) -> i32
+    ensures { TellsDue session.old result session.new due.new }
+{
+    *due = due_of(session);
+    OK
 }
 
 /// Tells the counts of a session.

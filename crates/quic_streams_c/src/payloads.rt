@@ -3,7 +3,7 @@
 ghost use Rattle.std.specs.Prelude.{◌≡◌, ◌==◌, not};
 ghost use Rattle.quic_streams_c.specs.Answers.{TellsDone, settle_code};
 ghost use Rattle.quic_streams_c.specs.Calls.{Calls};
-ghost use Rattle.quic_streams_c.specs.Payloads.{parts_at, raw_payload, TellsPayload, EmitsRaw, AcksRaw, LosesRaw};
+ghost use Rattle.quic_streams_c.specs.Payloads.{parts_at, raw_payload, TellsPayload, TellsPlace, EmitsRaw, EmitsLentRaw, AcksRaw, LosesRaw};
 
 use crate::codes::{ARGUMENT, CLOSED, DONE, NO_MEMORY, OK, code_of_settle};
 use crate::handle::{Handle, holding, take_out};
@@ -74,6 +74,69 @@ fn emit(
     };
     let fair = fair != 0;
     tell_payload(&session.emit(out, parts, fair), payload)
+}
+
+/// Writes what is to be sent into memory of the session, and tells where.
+#[unsafe(no_mangle)]
+pub extern "C" fn qs_emit_lent(
+    alloc: Global,
+    handle: &mut Handle,
+    parts: u32,
+    fair: u32,
+    cap: usize,
+    place: &mut *const u8,
+    payload: &mut RawPayload,
+) -> i32
+    ensures { Calls handle.old.slot.value result handle.new.slot.value ((place.new ≡ place.old) × (payload.new ≡ payload.old)) (λ s t. EmitsLentRaw s parts fair cap result t place.old place.new payload.old payload.new) }
+{
+    match take_out(alloc, handle) {
+        None => CLOSED,
+        Some(mut session) => {
+            let code = emit_lent(&mut session, parts, fair, cap, place, payload);
+            *handle = holding(session);
+            code
+        }
+    }
+}
+
+// The same, of a session.
+fn emit_lent(
+    session: &mut Session,
+    parts: u32,
+    fair: u32,
+    cap: usize,
+    place: &mut *const u8,
+    payload: &mut RawPayload,
+) -> i32
+    ensures { EmitsLentRaw session.old parts fair cap result session.new place.old place.new payload.old payload.new }
+{
+    let Some(asked) = parts_of(parts) else {
+        return ARGUMENT;
+    };
+    let fair = fair != 0;
+    let answer = session.emit_lent(cap, asked, fair);
+    tell_lent(&answer, session, place, payload)
+}
+
+// What was written, and where it stands, or why nothing.
+fn tell_lent(
+    answer: &Result<Option<Emitted>, OutOfMemory>,
+    session: &Session,
+    place: &mut *const u8,
+    payload: &mut RawPayload,
+) -> i32
+    ensures tells { TellsPayload answer.now result payload.old payload.new }
+    ensures place { TellsPlace answer.now session.now place.old place.new }
+{
+    match answer {
+        Ok(Some(emitted)) => {
+            *payload = raw_payload(emitted);
+            *place = session.lent();
+            OK
+        }
+        Ok(None) => DONE,
+        Err(_) => NO_MEMORY,
+    }
 }
 
 // What was written, or why nothing.

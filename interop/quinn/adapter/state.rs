@@ -8,13 +8,6 @@ use crate::transport_parameters::TransportParameters;
 use crate::{Side, TransportError};
 use quic_streams as layer;
 
-/// What waits to be sent.
-#[derive(Clone, Copy)]
-struct Due {
-    control: bool,
-    data: bool,
-}
-
 /// A receive half that the application may read.
 #[derive(Default)]
 struct Readable {
@@ -28,7 +21,7 @@ pub struct StreamsState {
     /// The library's end. Its calls want it alone, where quinn-proto asks with a shared reference.
     end: RefCell<layer::StreamsState>,
     /// What waits to be sent, if it was asked for since the last change.
-    due: Cell<Option<Due>>,
+    due: Cell<Option<layer::Due>>,
     /// How many streams were opened here, by direction.
     opened: [u64; 2],
     /// How many streams of the peer the library gave, by direction.
@@ -217,15 +210,11 @@ impl StreamsState {
 
 /// What goes to the peer.
 impl StreamsState {
-    fn due(&self) -> Due {
+    fn due(&self) -> layer::Due {
         if let Some(due) = self.due.get() {
             return due;
         }
-        let info = self.end.borrow_mut().info();
-        let due = Due {
-            control: info.has_pending,
-            data: info.can_send_stream_data,
-        };
+        let due = self.end.borrow_mut().due();
         self.due.set(Some(due));
         due
     }
@@ -237,7 +226,7 @@ impl StreamsState {
 
     /// Whether data wait to be sent
     pub fn can_send_stream_data(&self) -> bool {
-        self.due().data
+        self.due().streams
     }
 
     /// Writes frames beside data
@@ -287,10 +276,9 @@ impl StreamsState {
             streams,
             fair: true,
         };
-        buf.resize(max_size, 0);
-        let payload = with_memory(self.end().emit(&mut buf[from..], what));
-        buf.truncate(from + payload.map_or(0, |payload| payload.len));
-        payload.map(|payload| payload.token)
+        let payload = with_memory(self.end().emit_lent(max_size - from, what))?;
+        buf.extend_from_slice(payload.bytes);
+        Some(payload.token)
     }
 
     /// The packet of some payloads was acknowledged
