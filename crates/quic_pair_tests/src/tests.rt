@@ -9,6 +9,7 @@ use std::test::Fail;
 
 mod kinds;
 mod reports;
+mod settling;
 
 // Both are the same, or the test fails and shows them.
 fn same<T: PartialEq + Debug + Drop>(rt: &impl Abort, found: T, wanted: T) {
