@@ -85,34 +85,35 @@ alike first other false None f g a b r d = record {
 
 -- ---- one stream
 
+module _ (ways : StreamMeta → Type 0) (none : (m : StreamMeta) → ways m → ⊥) (id : ℕ) (f : SendFlow) (t : IsTraced ways id f) (rest : HasRest f → ⊥) (reset : f.reset ≡ None) (there : f.freed ≡ false) where
+  -- what was written was carried, and what was carried is acknowledged
+  was_carried : (n : ℕ) → n < total_length f.cuts → (b : Bool) → f.carried n ≡ b → f.carried n ≡ true
+  was_carried n l true e = e
+  was_carried n l false e = absurd (rest (reset, there, inl (n, l, e)))
+
+  found_again : (n : ℕ) → f.missing n ≡ true → (b : Bool) → f.acked n ≡ b → f.acked n ≡ true
+  found_again n m true e = e
+  found_again n m false e = absurd (rest (reset, there, inr (inl (n, m, e))))
+
+  pub is-acked-at : (n : ℕ) → n < total_length f.cuts → f.acked n ≡ true
+  is-acked-at n l = elim (t.bytes reset n (was_carried n l (f.carried n) refl)) [
+    | inl m ↦ found_again n m (f.acked n) refl
+    | inr other ↦ elim other [ inl a ↦ a | inr s ↦ absurd (none s.meta s.way) ]
+  ]
+
+  pub is-end-acked : f.finished ≡ true → f.end_acked ≡ true
+  is-end-acked h = elim (t.end reset h) [
+    | inl due ↦ absurd (rest (reset, there, inr (inr due)))
+    | inr other ↦ elim other [ inl a ↦ a | inr s ↦ absurd (none s.meta s.way) ]
+  ]
+
 module _ (ways : StreamMeta → Type 0) (none : (m : StreamMeta) → ways m → ⊥) (id : ℕ) (f g : SendFlow) (t : IsTraced ways id f) (rest : HasRest f → ⊥) (calls : List Event) (acks : AckedSo g calls id) (unreset : g.reset ≡ None) (same : g.freed ≡ false → IsAlike f g) where
   module _ (k : IsAlike f g) where
-    -- what was written was carried, and what was carried is acknowledged
-    was_carried : (n : ℕ) → n < total_length f.cuts → (b : Bool) → f.carried n ≡ b → f.carried n ≡ true
-    was_carried n l true e = e
-    was_carried n l false e = absurd (rest (k.reset, k.freed, inl (n, l, e)))
-
-    found_again : (n : ℕ) → f.missing n ≡ true → (b : Bool) → f.acked n ≡ b → f.acked n ≡ true
-    found_again n m true e = e
-    found_again n m false e = absurd (rest (k.reset, k.freed, inr (inl (n, m, e))))
-
-    is_acked_at : (n : ℕ) → n < total_length f.cuts → f.acked n ≡ true
-    is_acked_at n l = elim (t.bytes k.reset n (was_carried n l (f.carried n) refl)) [
-      | inl m ↦ found_again n m (f.acked n) refl
-      | inr other ↦ elim other [ inl a ↦ a | inr s ↦ absurd (none s.meta s.way) ]
-    ]
-
-    is_end_acked : f.finished ≡ true → f.end_acked ≡ true
-    is_end_acked h = elim (t.end k.reset h) [
-      | inl due ↦ absurd (rest (k.reset, k.freed, inr (inr due)))
-      | inr other ↦ elim other [ inl a ↦ a | inr s ↦ absurd (none s.meta s.way) ]
-    ]
-
     came_alike : (n : ℕ) → n < total_length g.cuts → CameAt calls id n
-    came_alike n l = acks.came n (k.acked n (is_acked_at n (let e = k.amount in omega (arith, e, l))))
+    came_alike n l = acks.came n (k.acked n (is-acked-at ways none id f t rest k.reset k.freed n (let e = k.amount in omega (arith, e, l))))
 
     end_alike : g.finished ≡ true → EndCame calls id
-    end_alike h = let e = k.finished ∙ h in acks.end_came (k.end_acked e (is_end_acked e))
+    end_alike h = let e = k.finished ∙ h in acks.end_came (k.end_acked e (is-end-acked ways none id f t rest k.reset k.freed e))
 
   all_came : (b : Bool) → g.freed ≡ b → (n : ℕ) → n < total_length g.cuts → CameAt calls id n
   all_came true e n l = acks.came n ((acks.whole e unreset).all n l)
@@ -145,8 +146,8 @@ module _ (p : Past) (v : PairState) (who : End) (id : ℕ) (t : SendFlow) (trace
 -- ---- both
 
 module _ (a b : Config) (h : History) (v : PairState) (f : PairFrom a b h v) (idle : AreIdle v) (settled : AreSettledIn 0 (length v.sent) v.sent) where
-  none_unreported : (who : End) (m : StreamMeta) → IsUnreported v.sent who m → ⊥
-  none_unreported who m u = none-some u.rest (sym (settled u.number u.payload (omega arith) (slice_get-within v.sent u.number u.payload u.is) u.is) ∙ u.rest_is)
+  pub none-unreported : (who : End) (m : StreamMeta) → IsUnreported v.sent who m → ⊥
+  none-unreported who m u = none-some u.rest (sym (settled u.number u.payload (omega arith) (slice_get-within v.sent u.number u.payload u.is) u.is) ∙ u.rest_is)
 
   alike_told : (who : End) (id : ℕ) (t : SendFlow) (m : Made) (u : Tale) (c : Counted m (the_end v who).streams u) → flow m c.calls id ≡ t → (w : World) → w ≡ (the_end v who).streams → (g : SendFlow)
       → FlowAt (first_limit w.out.side w.out.first id) g (has_side_in w.out w.bi.max_remote id) (w.out.halves id) → g.reset ≡ None → g.freed ≡ false → IsAlike t g
@@ -161,4 +162,4 @@ module _ (a b : Config) (h : History) (v : PairState) (f : PairFrom a b h v) (id
       let c = g.recounted.counted who in
       let t = (g.recounted.tales.of who).flow id in
       seen-as a b (past_of h) v who (joined-from f) (HasArrived ((past_of h).flow who id) who id (past_of h).accepted v.sent)
-      (arrived_seen (past_of h) v who id t (g.traced who id) (none_unreported who) (λ r. leaves-no-rest a b h v f idle g.recounted.tales g.told who id r) (alike_told who id t (made_at a b who) (g.recounted.tales.of who) c (c.tells.flow_is id)) unreset)
+      (arrived_seen (past_of h) v who id t (g.traced who id) (none-unreported who) (λ r. leaves-no-rest a b h v f idle g.recounted.tales g.told who id r) (alike_told who id t (made_at a b who) (g.recounted.tales.of who) c (c.tells.flow_is id)) unreset)

@@ -5,6 +5,7 @@ use Rattle.quic_wire.specs.declared.frame.Stream.{Stream}
 use Rattle.quic_link.specs.Endpoints.{IsOneOf}
 use Rattle.quic_steps.specs.declared.steps.Config.{Config}
 use Rattle.quic_steps.specs.declared.steps.End.{End}
+use Rattle.quic_steps.specs.declared.steps.End.TheVariants.{A, B}
 use Rattle.quic_pair.specs.declared.phase.Phase.{Phase}
 use Rattle.quic_pair.specs.declared.phase.Phase.TheVariants as phase
 use Rattle.quic_pair.specs.State.{PairState, peer}
@@ -47,13 +48,17 @@ module _ (a b : Config) (h : History) (v : PairState) (f : PairFrom a b h v) (fi
       | inr over ↦ read-up-now (past_of h) v.sent who id (places-from a b h v f) (inr over)
     ])
 
-  been_read : HaveBeenRead (past_of h)
-  been_read who id unreset unstopped =
+  read_by : (who : End) (id : ℕ) → IsUnreset ((past_of h).flow (peer who) id) → IsUnstopped ((past_of h).flow (peer who) id) → IsReadWhole ((past_of h).flow (peer who) id)
+  read_by who id unreset unstopped =
       let all = arrived (peer who) id unreset in
       record {
         all = λ at l. (whole_by who id (HasOffset at) (all.bytes at l) unreset unstopped).all at l;
         ended = λ e. (whole_by who id HasEnd (all.end e) unreset unstopped).ended e;
       }
+
+  been_read : HaveBeenRead (past_of h)
+  been_read A id = read_by B id
+  been_read B id = read_by A id
 
 pub have-been-read : (a b : Config) (h : History) (old : PairState) (taken : History) (new : PairState) → PairFrom a b h old → IsSettling old taken new → HaveArrived (past_of (h ++ taken)) new.sent → HaveBeenRead (past_of (h ++ taken))
 have-been-read a b h old taken new f s arrived =

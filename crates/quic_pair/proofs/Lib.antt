@@ -21,6 +21,7 @@ pub mod Drained
 pub mod Due
 pub mod DuePayloads
 pub mod Flips
+pub mod Freed
 pub mod GivenSo
 pub mod Gives
 pub mod Grown

@@ -1,12 +1,15 @@
 -- What the end of a settling completes.
-use Rattle.std.specs.Prelude.{ℕ, ◌≡◌, ◌<◌, true, List, length}
+use Rattle.std.specs.Prelude.{ℕ, ◌≡◌, ◌<◌, true, false, List, length, None}
+use Rattle.quic_sending.specs.Buffer.{total_length}
+use Rattle.quic_flows.specs.Flow.{SendFlow}
 use Rattle.quic_receiving.specs.Data.{IsAllGiven}
 use Rattle.quic_history.specs.History.{slices}
 use Rattle.quic_link.specs.Endpoints.{IsOneOf}
+use Rattle.quic_steps.specs.declared.steps.Config.{Config}
 use Rattle.quic_steps.specs.declared.steps.End.{End}
 use Rattle.quic_pair.specs.declared.sent.Sent.{Sent}
-use Rattle.quic_pair.specs.State.{peer}
-use Rattle.quic_pair.specs.History.{Past, Flow, FramePlace}
+use Rattle.quic_pair.specs.History.{Past, Flow, FramePlace, History}
+use Rattle.quic_pair.specs.Tale.{Tales, Sendings, Told}
 use Rattle.quic_pair.specs.Headline.{SomeStream, HasOffset, HasEnd}
 
 -- all that an end wrote on a stream arrived: each byte stood in a frame that was accepted, and the end too, where it was ended
@@ -31,6 +34,16 @@ pub record IsReadWhole (f : Flow) : Type 0 where
   pub all : IsAllGiven (slices f.given) (length f.written)
   pub ended : f.finished ≡ true → f.ended ≡ true
 
--- so of what came to each end on each stream, unless it was given up or stopped
+-- so of what each end sends on each stream, unless it was given up or stopped
 abbrev pub HaveBeenRead : Past → Type 0
-HaveBeenRead p = (who : End) (id : ℕ) → IsUnreset (p.flow (peer who) id) → IsUnstopped (p.flow (peer who) id) → IsReadWhole (p.flow (peer who) id)
+HaveBeenRead p = (who : End) (id : ℕ) → IsUnreset (p.flow who id) → IsUnstopped (p.flow who id) → IsReadWhole (p.flow who id)
+
+-- all that was written on a stream is acknowledged: where it was ended its half was freed by that (RFC 9000 section 3.1), and else each
+-- byte is
+pub record IsAllAcked (f : SendFlow) : Type 0 where
+  pub ended : f.finished ≡ true → f.freed ≡ true
+  pub running : f.finished ≡ false → (n : ℕ) → n < total_length f.cuts → f.acked n ≡ true
+
+-- so on each stream, by what the steps tell, unless it was given up
+abbrev pub AreAllAcked : Config → Config → {h : History} → {sent : List Sent} → Sendings h sent → Type 0
+AreAllAcked a b led = (t : Tales) → Told a b led t → (who : End) (id : ℕ) → ((t.of who).flow id).reset ≡ None → IsAllAcked ((t.of who).flow id)

@@ -13,7 +13,7 @@ ghost use Rattle.quic_pair.specs.Unrefused.{RefusesNoFrame};
 ghost use Rattle.quic_pair.specs.Readable.{WithholdsNothing};
 ghost use Rattle.quic_pair.specs.Law.{Drains};
 ghost use Rattle.quic_pair.specs.Settling.{AreSettledIn, IsSoughtFor, IsSettledAt, is_quiet_at, IsSettling, IsCutOff, TakesPhaseOrNone, IsAllReported, AreIdle, LeavesNoRest};
-ghost use Rattle.quic_pair.specs.Completed.{HaveArrived, HaveBeenRead};
+ghost use Rattle.quic_pair.specs.Completed.{HaveArrived, HaveBeenRead, AreAllAcked};
 
 use crate::pair::Pair;
 use crate::phase::{Phase, behind_reports, going_of};
@@ -28,7 +28,8 @@ impl Pair {
     /// Takes the steps of a network that is fair from now on, with two applications that accept, read and poll all that
     /// comes, until neither end has something to send and every payload is settled. They accept and read at first, and then
     /// only behind two payloads of which one had a STREAM or a RESET_STREAM frame. Answers these steps with their
-    /// replies. Where memory is wanting, in a step or for the list, no more steps are taken, and an error stands beside those
+    /// replies. Then all that was written on streams that were not given up arrived, and was read unless it was stopped.
+    /// Where memory is wanting, in a step or for the list, no more steps are taken, and an error stands beside those
     /// that were.
     pub fn settle(&mut self) -> (Vec<StepTaken>, Result<(), OutOfMemory>)
         ensures next { TakesSteps (pair_view self.old) result.0.items (pair_view self.new) }
@@ -48,6 +49,7 @@ impl Pair {
         ensures reported { OnOk result.1 ((a b : Config) (h : History) → PairFrom a b h (pair_view self.old) → IsAllReported (h ++ result.0.items) (pair_view self.new).sent) }
         ensures idle { OnOk result.1 ((a b : Config) (h : History) → PairFrom a b h (pair_view self.old) → AreIdle (pair_view self.new)) }
         ensures sent { OnOk result.1 ((a b : Config) (h : History) → PairFrom a b h (pair_view self.old) → (led : PairFrom a b (h ++ result.0.items) (pair_view self.new)) → LeavesNoRest a b (sendings_of led)) }
+        ensures acked { OnOk result.1 ((a b : Config) (h : History) → PairFrom a b h (pair_view self.old) → (led : PairFrom a b (h ++ result.0.items) (pair_view self.new)) → AreAllAcked a b (sendings_of led)) }
         ensures arrived { OnOk result.1 ((a b : Config) (h : History) → PairFrom a b h (pair_view self.old) → HaveArrived (past_of (h ++ result.0.items)) (pair_view self.new).sent) }
         ensures read { OnOk result.1 ((a b : Config) (h : History) → PairFrom a b h (pair_view self.old) → HaveBeenRead (past_of (h ++ result.0.items))) }
     {

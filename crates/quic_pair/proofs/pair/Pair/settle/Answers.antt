@@ -13,6 +13,7 @@ use Rattle.quic_pair.proofs.Honest.{honest-from}
 use Rattle.quic_pair.proofs.RefusedSo.{refused-so}
 use Rattle.quic_pair.proofs.Settling.{on-ok, on-ok-both, all-reported, leaves-no-rest}
 use Rattle.quic_pair.proofs.Arrived.{have-arrived}
+use Rattle.quic_pair.proofs.Freed.{all-acked}
 use Rattle.quic_pair.proofs.Completing.{have-been-read}
 use Rattle.quic_pair.proofs.pair.Pair.settle.Goals as goal
 
@@ -42,6 +43,7 @@ returns c =
       reported = on-ok answer _ _ (λ settled a b h f. all-reported a b (h ++ taken) v (from-steps f run) settled) into.settled;
       idle = into.idle;
       sent = on-ok answer _ _ (λ idle a b h f led. leaves-no-rest a b (h ++ taken) v led (idle a b h f)) into.idle;
+      acked = on-ok-both answer _ _ _ (λ idle settled a b h f led. all-acked a b (h ++ taken) v led (idle a b h f) settled) into.idle into.settled;
       arrived = arrived;
       read = on-ok-both answer _ _ _ (λ order arrived a b h f. have-been-read a b h _ taken v f order (arrived a b h f)) into.order arrived;
     }
