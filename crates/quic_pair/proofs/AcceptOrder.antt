@@ -1,21 +1,22 @@
 -- A settling accepts every stream: behind its steps of accepting each stream that counts as opened was given.
-use Rattle.std.proofs.Common.{◌≡◌, ◌⊎◌, ℕ, Bool, true, false, List, [], ◌∷◌, ◌++◌, length, Option, Some, None, Ok, Err, refl, sym, ◌∙◌, subst, inl, inr, append_assoc, append-nil}
-use Rattle.std.specs.Prelude.{◌+◌, ◌-◌, ◌^◌, nat_lt, if◌then◌else◌}
+use Rattle.std.proofs.Common.{◌≡◌, ◌⊎◌, ℕ, Bool, true, false, List, [], ◌∷◌, ◌++◌, length, Option, Some, None, Ok, Err, refl, sym, ◌∙◌, subst, inl, inr, append_assoc}
+use Rattle.std.specs.Prelude.{◌+◌, ◌-◌, ◌^◌, ◌&&◌, nat_lt, if◌then◌else◌}
 use Rattle.quic_values.specs.declared.ids.Side.{Side}
 use Rattle.quic_values.specs.declared.ids.Side.TheVariants.{Client, Server}
 use Rattle.quic_values.specs.declared.ids.Dir.{Dir}
 use Rattle.quic_values.specs.declared.ids.Dir.TheVariants.{Bi, Uni}
 use Rattle.quic_values.specs.Ids.{initiator_of, dir_of, index_of, stream_id}
-use Rattle.quic_endpoint.specs.Reports.{LosesPayloadAt}
+use Rattle.quic_endpoint.specs.Reports.{LosesPayloadAt, AcksPayloadAt}
 use Rattle.quic_link.specs.Endpoints.{IsOneOf}
 use Rattle.quic_steps.specs.declared.steps.Config.{Config}
 use Rattle.quic_steps.specs.declared.steps.End.{End}
 use Rattle.quic_steps.specs.declared.steps.End.TheVariants.{A, B}
 use Rattle.quic_steps.specs.declared.steps.Step.TheVariants as steps
 use Rattle.quic_steps.specs.declared.steps.Reply.TheVariants.{Done}
-use Rattle.quic_steps.specs.declared.steps.PairError.TheVariants.{NoSuchPayload, NotAccepted, AlreadySettled, OutOfMemory as NoMemory}
+use Rattle.quic_steps.specs.declared.steps.PairError.TheVariants.{OutOfMemory as NoMemory}
 use Rattle.quic_pair.specs.declared.sent.Sent.{Sent}
-use Rattle.quic_pair.specs.declared.unsettled.Report.TheVariants.{Lost}
+use Rattle.quic_pair.specs.declared.unsettled.Report.{Report}
+use Rattle.quic_pair.specs.declared.unsettled.Report.TheVariants.{Lost, Acknowledged}
 use Rattle.quic_pair.specs.declared.phase.Phase.{Phase}
 use Rattle.quic_pair.specs.declared.phase.Phase.TheVariants as phase
 use Rattle.quic_pair.specs.declared.phase.Going.{Going}
@@ -23,13 +24,16 @@ use Rattle.quic_pair.specs.declared.phase.Going.TheVariants.{On, Over, StreamOve
 use Rattle.quic_pair.specs.Replies.{Answer}
 use Rattle.quic_pair.specs.State.{PairState, the_end}
 use Rattle.quic_pair.specs.Steps.{Next, SettlesPayload}
-use Rattle.quic_pair.specs.History.{Past, History, past_of, past_read, after, after_given, after_poll, after_report}
-use Rattle.quic_pair.specs.From.{PairFrom, next}
-use Rattle.quic_pair.specs.Settling.{step_at, going_of, phase_after, phase_after_report, after_accepting, after_accept, after_streams, after_reading, after_polling, after_emits, after_frame, FollowsPhases, IsSoughtFor, none as follows_none, more as follows_more}
+use Rattle.quic_pair.specs.History.{Past, History, past_of, past_read, after, after_given, after_poll, after_deliver, after_report}
+use Rattle.quic_pair.specs.From.{PairFrom}
+use Rattle.quic_pair.specs.Settling.{step_at, going_of, phase_after, phase_after_report, behind_reports, is_quiet_at, is_nothing_more, after_accepting, after_accept, after_streams, after_reading, after_polling, after_emits, after_frame, FollowsPhases, IsSoughtFor, none as follows_none, more as follows_more}
 use Rattle.quic_pair.proofs.Beside.{beside}
 use Rattle.quic_pair.proofs.Grown.{past-after}
-use Rattle.quic_pair.proofs.Accepting.{IsQuiet, WasAcceptedAll, quiet-stay, quiet-given, read-grown, poll-grown, accepted-still, nothing-accepted, grown-one}
-use Rattle.quic_pair.proofs.ReadOrder.{stay_on_end, stay_emitted, stay_lost, stay_same, poll_ids, read_ids}
+use Rattle.quic_pair.proofs.PayloadKnows.{StaySent}
+use Rattle.quic_pair.proofs.Settling.{IsReadyFor, IsStreamlessIf, ready-sought, ready-phases}
+use Rattle.quic_pair.proofs.Streamless.{IsStreamless, streamless-stays, adds-none, adds-accepted, deliver-ids, deliver-flow, stay-emitted, stay-delivered, stay-reported}
+use Rattle.quic_pair.proofs.Accepting.{IsQuiet, IsGrownFlow, WasAcceptedAll, quiet-stay, quiet-given, read-grown, poll-grown, accepted-still, nothing-accepted, grown-one}
+use Rattle.quic_pair.proofs.ReadOrder.{stay_on_end, poll_ids, read_ids}
 
 -- ---- the order of asking
 
@@ -50,6 +54,11 @@ IsOfThreeAsks end d = IsOfTwoAsks end d ⊎ IsSameAsk B Bi end d
 abbrev pub IsAnyAsk : End → Dir → Type 0
 IsAnyAsk end d = IsOfThreeAsks end d ⊎ IsSameAsk B Uni end d
 
+-- all behind a quiet round, and none behind another
+abbrev pub IsAnyAskIf : Bool → End → Dir → Type 0
+IsAnyAskIf true end d = IsAnyAsk end d
+IsAnyAskIf false end d = ⊥
+
 -- those that were asked for before a phase, until there were none
 abbrev pub IsAsked : Phase → End → Dir → Type 0
 IsAsked (phase.Accept A Bi) end d = ⊥
@@ -59,9 +68,11 @@ IsAsked (phase.Accept B Uni) end d = IsOfThreeAsks end d
 IsAsked (phase.Read who stream ordered) end d = IsAnyAsk end d
 IsAsked (phase.Poll who) end d = IsAnyAsk end d
 IsAsked phase.EmitOfA end d = IsAnyAsk end d
-IsAsked (phase.EmitOfB first empty) end d = IsAnyAsk end d
+IsAsked (phase.EmitOfB first empty quiet) end d = IsAnyAsk end d
+IsAsked (phase.Deliver payload frame other quiet) end d = IsAnyAskIf quiet end d
+IsAsked (phase.Report payload quiet) end d = IsAnyAskIf quiet end d
+IsAsked (phase.ReportLost payload quiet) end d = IsAnyAskIf quiet end d
 IsAsked (phase.Drop first) end d = IsAnyAsk end d
-IsAsked _ end d = ⊥
 
 pub any-ask : (end : End) (d : Dir) → IsAnyAsk end d
 any-ask A Bi = inl (inl (inl (inr (refl, refl))))
@@ -106,36 +117,44 @@ asked_polling B Over end d k = k
 asked_polling B StreamOver end d k = k
 asked_polling B Unordered end d k = k
 
-asked_emits : (first : ℕ) (empty : Bool) (going : Going) (second : ℕ) (end : End) (d : Dir) → IsAsked (after_emits first empty going second) end d → IsAnyAsk end d
-asked_emits first true Over second end d k = k
-asked_emits first true On second end d k = absurd k
-asked_emits first true StreamOver second end d k = absurd k
-asked_emits first true Unordered second end d k = absurd k
-asked_emits first false going second end d k = absurd k
+ask_if : (quiet : Bool) (end : End) (d : Dir) → IsAnyAskIf quiet end d → IsAnyAsk end d
+ask_if true end d k = k
+ask_if false end d k = absurd k
 
-none_asked : (payload : ℕ) (going : Going) (end : End) (d : Dir) → IsAsked (phase_after_report payload going) end d → ⊥
-none_asked payload On end d k = k
-none_asked payload Over end d k = k
-none_asked payload StreamOver end d k = k
-none_asked payload Unordered end d k = k
+asked_emits : (first : ℕ) (empty : Bool) (going : Going) (second : ℕ) (quiet : Bool) (end : End) (d : Dir) → IsAsked (after_emits first empty going second quiet) end d → IsAnyAsk end d
+asked_emits first true Over second quiet end d k = k
+asked_emits first true On second quiet end d k = ask_if quiet end d k
+asked_emits first true StreamOver second quiet end d k = ask_if quiet end d k
+asked_emits first true Unordered second quiet end d k = ask_if quiet end d k
+asked_emits first false going second quiet end d k = ask_if quiet end d k
 
-none_framed : (payload frame : ℕ) (other : Option ℕ) (going : Going) (end : End) (d : Dir) → IsAsked (after_frame payload frame other going) end d → ⊥
-none_framed payload frame (Some other) On end d k = k
-none_framed payload frame (Some other) Over end d k = k
-none_framed payload frame (Some other) StreamOver end d k = k
-none_framed payload frame (Some other) Unordered end d k = k
-none_framed payload frame None On end d k = k
-none_framed payload frame None Over end d k = k
-none_framed payload frame None StreamOver end d k = k
-none_framed payload frame None Unordered end d k = k
+asked_report : (payload : ℕ) (quiet : Bool) (going : Going) (end : End) (d : Dir) → IsAsked (phase_after_report payload quiet going) end d → IsAnyAskIf quiet end d
+asked_report payload quiet On end d k = k
+asked_report payload quiet Over end d k = k
+asked_report payload quiet StreamOver end d k = k
+asked_report payload quiet Unordered end d k = k
 
--- ---- steps that bring nothing
+asked_frame : (payload frame : ℕ) (other : Option ℕ) (quiet : Bool) (going : Going) (end : End) (d : Dir) → IsAsked (after_frame payload frame other quiet going) end d → IsAnyAskIf quiet end d
+asked_frame payload frame (Some other) quiet On end d k = k
+asked_frame payload frame (Some other) quiet Over end d k = k
+asked_frame payload frame (Some other) quiet StreamOver end d k = k
+asked_frame payload frame (Some other) quiet Unordered end d k = k
+asked_frame payload frame None quiet On end d k = k
+asked_frame payload frame None quiet Over end d k = k
+asked_frame payload frame None quiet StreamOver end d k = k
+asked_frame payload frame None quiet Unordered end d k = k
+
+asked_reports : (quiet : Bool) (end : End) (d : Dir) → IsAsked (behind_reports quiet) end d → IsAnyAskIf quiet end d
+asked_reports true end d k = k
+asked_reports false end d k = k
+
+-- ---- steps that bring no STREAM frame
 
 module _ (p : Past) (old new : PairState) where
   quiet_poll : (who : End) (reply : Answer) → Next old (steps.Poll who) reply new → IsQuiet p (after_poll p who reply) old.sent new.sent
   quiet_poll who reply n = record {
     ids = λ end id l. let P : List ℕ → Type 0 = λ ids. IsOneOf id ids in subst P (sym (poll_ids p who end reply)) l;
-    accepted = (beside p (steps.Poll who) reply tt).accepted;
+    accepted = adds-none new.sent p.accepted _ (beside p (steps.Poll who) reply tt).accepted;
     flow = λ end id. poll-grown p who end id reply;
     stay = stay_on_end old who new n;
   }
@@ -143,18 +162,31 @@ module _ (p : Past) (old new : PairState) where
   quiet_read : (who : End) (id : ℕ) (ordered : Bool) (most times : ℕ) (reply : Answer) → Next old (steps.Read who id ordered most times) reply new → IsQuiet p (past_read p who id ordered reply) old.sent new.sent
   quiet_read who id ordered most times reply n = record {
     ids = λ end q l. let P : List ℕ → Type 0 = λ ids. IsOneOf q ids in subst P (sym (read_ids p who end id ordered reply)) l;
-    accepted = (beside p (steps.Read who id ordered most times) reply tt).accepted;
+    accepted = adds-none new.sent p.accepted _ (beside p (steps.Read who id ordered most times) reply tt).accepted;
     flow = λ end q. read-grown p who end id q ordered reply;
     stay = stay_on_end old who new n;
   }
 
+  quiet_noted : (number : ℕ) (kind : Report) (reply : Answer) → StaySent old.sent new.sent → IsQuiet p (after_report p number kind reply) old.sent new.sent
+  quiet_noted number kind (Ok Done) stay = record { ids = λ end id l. l; accepted = adds-none new.sent p.accepted p.accepted refl; flow = λ end id. grown-one (p.flow end id); stay = stay }
+  quiet_noted number kind (Err NoMemory) stay = record { ids = λ end id l. l; accepted = adds-none new.sent p.accepted p.accepted refl; flow = λ end id. grown-one (p.flow end id); stay = stay }
+  quiet_noted number kind _ stay = quiet-stay p old.sent new.sent stay
+
   quiet_lost : (number : ℕ) (reply : Answer) → SettlesPayload Lost LosesPayloadAt old number reply new → IsQuiet p (after_report p number Lost reply) old.sent new.sent
-  quiet_lost number (Ok Done) e = record { ids = λ end id l. l; accepted = refl; flow = λ end id. grown-one (p.flow end id); stay = stay_lost p old new number (Ok Done) e }
-  quiet_lost number (Err NoMemory) e = record { ids = λ end id l. l; accepted = refl; flow = λ end id. grown-one (p.flow end id); stay = stay_lost p old new number (Err NoMemory) e }
-  quiet_lost number (Err NoSuchPayload) e = quiet-stay p old.sent new.sent (stay_same p old new e.1)
-  quiet_lost number (Err AlreadySettled) e = quiet-stay p old.sent new.sent (stay_same p old new e.is)
-  quiet_lost number (Err NotAccepted) e = quiet-stay p old.sent new.sent (stay_same p old new e.is)
-  quiet_lost number _ e = absurd e
+  quiet_lost number reply e = quiet_noted number Lost reply (stay-reported old new Lost LosesPayloadAt number reply e)
+
+  quiet_acked : (number : ℕ) (reply : Answer) → SettlesPayload Acknowledged AcksPayloadAt old number reply new → IsQuiet p (after_report p number Acknowledged reply) old.sent new.sent
+  quiet_acked number reply e = quiet_noted number Acknowledged reply (stay-reported old new Acknowledged AcksPayloadAt number reply e)
+
+  quiet_deliver : (number index : ℕ) (reply : Answer) → Next old (steps.Deliver number index) reply new → IsStreamless old.sent number → IsQuiet p (after_deliver p (number, index) reply) old.sent new.sent
+  quiet_deliver number index reply n none =
+      let stay = stay-delivered old new number index reply n in
+      record {
+        ids = λ end id l. let P : List ℕ → Type 0 = λ ids. IsOneOf id ids in subst P (sym (deliver-ids p (number, index) reply end)) l;
+        accepted = adds-accepted p new.sent (number, index) (streamless-stays old.sent new.sent number stay none) reply;
+        flow = λ end id. subst (IsGrownFlow (p.flow end id)) (sym (deliver-flow p (number, index) reply end id)) (grown-one (p.flow end id));
+        stay = stay;
+      }
 
 -- ---- all phases
 
@@ -191,51 +223,57 @@ module _ (a b : Config) where
     asks_accept who dir StreamOver reply n e r = accept_ended who dir reply n (λ on. let c = sym e ∙ on in cc) r
     asks_accept who dir Unordered reply n e r = accept_ended who dir reply n (λ on. let c = sym e ∙ on in cc) r
 
-    asks_after : (at : Phase) (reply : Answer) → Next old (step_at at) reply new → (going : Going) → going_of reply ≡ Some going → HasAsked a b at (past_of h) old.sent → HasAsked a b (phase_after at going (length old.sent)) (after (past_of h) (step_at at) reply) new.sent
-    asks_after (phase.Report payload) reply n going e r = asks_none (phase_after_report payload going) _ new.sent (none_asked payload going)
-    asks_after (phase.ReportLost payload) reply n going e r = asks_none (phase.Report payload) _ new.sent (λ end d k. k)
-    asks_after (phase.Accept who dir) reply n going e r = asks_accept who dir going reply n e r
-    asks_after (phase.Read who id ordered) reply n going e r =
+    -- all stays accepted behind frames of a quiet round, and nothing is said behind others
+    asks_frame : (payload frame : ℕ) (other : Option ℕ) (quiet : Bool) (going : Going) (reply : Answer) → Next old (steps.Deliver payload frame) reply new → IsStreamlessIf quiet old.sent payload → HasAsked a b (phase.Deliver payload frame other quiet) (past_of h) old.sent → HasAsked a b (after_frame payload frame other quiet going) (after_deliver (past_of h) (payload, frame) reply) new.sent
+    asks_frame payload frame other true going reply n none r =
+        asks_on (past_of h) (after_deliver (past_of h) (payload, frame) reply) old.sent new.sent (phase.Deliver payload frame other true) (after_frame payload frame other true going) (quiet_deliver (past_of h) old new payload frame reply n none) (asked_frame payload frame other true going) r
+    asks_frame payload frame other false going reply n none r = asks_none (after_frame payload frame other false going) _ new.sent (asked_frame payload frame other false going)
+
+    asks_after : (at : Phase) (reply : Answer) → Next old (step_at at) reply new → (going : Going) → going_of reply ≡ Some going → IsReadyFor at old → HasAsked a b at (past_of h) old.sent → HasAsked a b (phase_after at going (length old.sent) (is_quiet_at new.sent (length old.sent))) (after (past_of h) (step_at at) reply) new.sent
+    asks_after (phase.Report payload quiet) reply n going e ready r =
+        asks_on (past_of h) _ old.sent new.sent (phase.Report payload quiet) (phase_after_report payload quiet going) (quiet_acked (past_of h) old new payload reply n) (asked_report payload quiet going) r
+    asks_after (phase.ReportLost payload quiet) reply n going e ready r =
+        asks_on (past_of h) _ old.sent new.sent (phase.ReportLost payload quiet) (phase.Report payload quiet) (quiet_lost (past_of h) old new payload reply n) (λ end d k. k) r
+    asks_after (phase.Accept who dir) reply n going e ready r = asks_accept who dir going reply n e r
+    asks_after (phase.Read who id ordered) reply n going e ready r =
         asks_on (past_of h) _ old.sent new.sent (phase.Read who id ordered) (after_reading who id ordered going) (quiet_read (past_of h) old new who id ordered (2 ^ 64 - 1) 65535 reply n) (asked_reading who id ordered going) r
-    asks_after (phase.Poll who) reply n going e r = asks_on (past_of h) _ old.sent new.sent (phase.Poll who) (after_polling who going) (quiet_poll (past_of h) old new who reply n) (asked_polling who going) r
-    asks_after phase.EmitOfA reply n going e r =
-        asks_on (past_of h) (past_of h) old.sent new.sent phase.EmitOfA (phase_after phase.EmitOfA going (length old.sent)) (quiet-stay (past_of h) old.sent new.sent (stay_emitted (past_of h) old new A (2 ^ 64 - 1) true reply n)) (λ end d k. k) r
-    asks_after (phase.EmitOfB first empty) reply n going e r =
-        asks_on (past_of h) (past_of h) old.sent new.sent (phase.EmitOfB first empty) (after_emits first empty going (length old.sent)) (quiet-stay (past_of h) old.sent new.sent (stay_emitted (past_of h) old new B (2 ^ 64 - 1) true reply n)) (asked_emits first empty going (length old.sent)) r
-    asks_after (phase.Deliver payload frame other) reply n going e r = asks_none (after_frame payload frame other going) _ new.sent (none_framed payload frame other going)
-    asks_after (phase.Drop first) reply n going e r = asks_on (past_of h) _ old.sent new.sent (phase.Drop first) (phase.Drop first) (quiet_lost (past_of h) old new first reply n) (λ end d k. k) r
+    asks_after (phase.Poll who) reply n going e ready r = asks_on (past_of h) _ old.sent new.sent (phase.Poll who) (after_polling who going) (quiet_poll (past_of h) old new who reply n) (asked_polling who going) r
+    asks_after phase.EmitOfA reply n going e ready r =
+        asks_on (past_of h) (past_of h) old.sent new.sent phase.EmitOfA (phase.EmitOfB (length old.sent) (is_nothing_more going) (is_quiet_at new.sent (length old.sent))) (quiet-stay (past_of h) old.sent new.sent (stay-emitted old new A (2 ^ 64 - 1) true reply n)) (λ end d k. k) r
+    asks_after (phase.EmitOfB first empty quiet) reply n going e ready r =
+        let both = quiet && is_quiet_at new.sent (length old.sent) in
+        asks_on (past_of h) (past_of h) old.sent new.sent (phase.EmitOfB first empty quiet) (after_emits first empty going (length old.sent) both) (quiet-stay (past_of h) old.sent new.sent (stay-emitted old new B (2 ^ 64 - 1) true reply n)) (asked_emits first empty going (length old.sent) both) r
+    asks_after (phase.Deliver payload frame other quiet) reply n going e ready r = asks_frame payload frame other quiet going reply n ready.0 r
+    asks_after (phase.Drop first) reply n going e ready r = asks_on (past_of h) _ old.sent new.sent (phase.Drop first) (phase.Drop first) (quiet_lost (past_of h) old new first reply n) (λ end d k. k) r
 
   asks_sought : (at here : Phase) (p : Past) (sent : List Sent) → IsSoughtFor sent at here → HasAsked a b at p sent → HasAsked a b here p sent
-  asks_sought (phase.Report from) here p sent s r =
+  asks_sought (phase.Report from quiet) here p sent s r =
       let P : Phase → Type 0 = λ x. HasAsked a b x p sent in
       elim s [
-        | inl next_one ↦ subst P (sym next_one.2) (asks_none (phase.Report next_one.0) p sent (λ end d k. k))
-        | inr none ↦ subst P (sym none.1) (asks_none (phase.Accept A Bi) p sent (λ end d k. k))
+        | inl next_one ↦ subst P (sym next_one.2) r
+        | inr none ↦ subst P (sym none.1) (λ end d k. r end d (asked_reports quiet end d k))
       ]
   asks_sought (phase.Drop first) here p sent s r =
       let P : Phase → Type 0 = λ x. HasAsked a b x p sent in
       elim s [
         | inl next_one ↦ subst P (sym next_one.2) r
-        | inr other ↦ subst P (sym other.2) (asks_none (phase.Report other.0) p sent (λ end d k. k))
+        | inr other ↦ subst P (sym other.2) r
       ]
-  asks_sought (phase.ReportLost payload) here p sent s r = let P : Phase → Type 0 = λ x. HasAsked a b x p sent in subst P (sym s) r
+  asks_sought (phase.ReportLost payload quiet) here p sent s r = let P : Phase → Type 0 = λ x. HasAsked a b x p sent in subst P (sym s) r
   asks_sought (phase.Accept who dir) here p sent s r = let P : Phase → Type 0 = λ x. HasAsked a b x p sent in subst P (sym s) r
   asks_sought (phase.Read who id ordered) here p sent s r = let P : Phase → Type 0 = λ x. HasAsked a b x p sent in subst P (sym s) r
   asks_sought (phase.Poll who) here p sent s r = let P : Phase → Type 0 = λ x. HasAsked a b x p sent in subst P (sym s) r
   asks_sought phase.EmitOfA here p sent s r = let P : Phase → Type 0 = λ x. HasAsked a b x p sent in subst P (sym s) r
-  asks_sought (phase.EmitOfB first empty) here p sent s r = let P : Phase → Type 0 = λ x. HasAsked a b x p sent in subst P (sym s) r
-  asks_sought (phase.Deliver payload frame other) here p sent s r = let P : Phase → Type 0 = λ x. HasAsked a b x p sent in subst P (sym s) r
+  asks_sought (phase.EmitOfB first empty quiet) here p sent s r = let P : Phase → Type 0 = λ x. HasAsked a b x p sent in subst P (sym s) r
+  asks_sought (phase.Deliver payload frame other quiet) here p sent s r = let P : Phase → Type 0 = λ x. HasAsked a b x p sent in subst P (sym s) r
 
--- the history goes on by the steps of phases, and each phase finds accepted what was asked for
-pub record AsksPhases (a b : Config) (h taken : History) (new : PairState) (at : Phase) : Type 0 where
-  pub led : PairFrom a b (h ++ taken) new
-  pub asked : HasAsked a b at (past_of (h ++ taken)) new.sent
-
-pub asks-phases : (a b : Config) (h : History) (old : PairState) (taken : History) (new : PairState) (at : Phase) → PairFrom a b h old → FollowsPhases old (phase.Report 0) taken new at → AsksPhases a b h taken new at
-asks-phases a b h old _ _ _ f follows_none = record { led = subst (λ l. PairFrom a b l old) (sym (append-nil h)) f; asked = asks_none a b (phase.Report 0) (past_of (h ++ [])) old.sent (λ end d k. k) }
+-- each phase finds accepted what was asked for
+pub asks-phases : (a b : Config) (h : History) (old : PairState) (taken : History) (new : PairState) (at : Phase) → PairFrom a b h old → FollowsPhases old (phase.Report 0 false) taken new at → HasAsked a b at (past_of (h ++ taken)) new.sent
+asks-phases a b h old _ _ _ f follows_none = asks_none a b (phase.Report 0 false) (past_of (h ++ [])) old.sent (λ end d k. k)
 asks-phases a b h old _ _ _ f (follows_more {taken} {between} {new} {at} here reply going before sought n e) =
     let r = asks-phases a b h old taken between at f before in
-    let P : Past → Type 0 = λ x. HasAsked a b (phase_after here going (length between.sent)) x new.sent in
-    let asked = subst P (sym (past-after (h ++ taken) (step_at here) reply)) (asks_after a b (h ++ taken) between new r.led here reply n going e (asks_sought a b at here (past_of (h ++ taken)) between.sent sought r.asked)) in
-    let longer = append_assoc h taken ((step_at here, reply) ∷ []) in
-    record { led = subst (λ l. PairFrom a b l new) longer (next (step_at here) reply r.led n); asked = subst (λ l. HasAsked a b (phase_after here going (length between.sent)) (past_of l) new.sent) longer asked }
+    let g = ready-phases a b h old taken between at f before in
+    let later = phase_after here going (length between.sent) (is_quiet_at new.sent (length between.sent)) in
+    let P : Past → Type 0 = λ x. HasAsked a b later x new.sent in
+    let asked = subst P (sym (past-after (h ++ taken) (step_at here) reply)) (asks_after a b (h ++ taken) between new g.led here reply n going e (ready-sought at here between g.ready sought) (asks_sought a b at here (past_of (h ++ taken)) between.sent sought r)) in
+    subst (λ l. HasAsked a b later (past_of l) new.sent) (append_assoc h taken ((step_at here, reply) ∷ [])) asked

@@ -36,9 +36,9 @@ use Rattle.quic_pair.specs.declared.sent.Sent.{Sent}
 use Rattle.quic_pair.specs.declared.phase.Going.TheVariants.{On}
 use Rattle.quic_pair.specs.Payloads.{is_accepted}
 use Rattle.quic_pair.specs.Replies.{Answer, accepted_reply}
-use Rattle.quic_pair.specs.Readable.{IsFlowOver, SomeReset, OnlySends, side_of}
+use Rattle.quic_pair.specs.Readable.{IsFlowOver, OnlySends, side_of}
 use Rattle.quic_pair.specs.State.{PairState, peer, the_end}
-use Rattle.quic_pair.specs.History.{Past, Flow, FramePlace, History, past_of, past_read, after_given, after_poll, after_event, with_flow, is_same_end, completes, tells_stop, reads_last, reads_chunks}
+use Rattle.quic_pair.specs.History.{Past, Flow, History, past_of, past_read, after_given, after_poll, after_event, with_flow, is_same_end, completes, tells_stop, reads_last, reads_chunks}
 use Rattle.quic_pair.specs.Headline.{SomeStream}
 use Rattle.quic_pair.specs.From.{PairFrom}
 use Rattle.quic_pair.specs.Settling.{going_of}
@@ -47,7 +47,8 @@ use Rattle.quic_pair.proofs.Joined.{Seen, IsPayloadOf}
 use Rattle.quic_pair.proofs.Flips.{seen-as}
 use Rattle.quic_pair.proofs.Marks.{marks-from}
 use Rattle.quic_pair.proofs.KeptCalls.{was-stopped, was-reset}
-use Rattle.quic_pair.proofs.KeptPlaces.{reset-stays}
+use Rattle.quic_pair.proofs.KeptPlaces.{reset-stays, reset-more}
+use Rattle.quic_pair.proofs.Streamless.{AddsNoStream, adds-none, adds-then}
 use Rattle.quic_pair.proofs.PayloadKnows.{StaySent}
 use Rattle.quic_pair.proofs.GivenSo.{known-from, given_counts}
 use Rattle.quic_pair.proofs.Grown.{joined-from}
@@ -164,7 +165,7 @@ module _ (a b : Config) (h : History) (v : PairState) (f : PairFrom a b h v) (en
       let P : World → Type 0 = λ w. is_own w id ≡ false → HasAcceptedAll w (dir_of id) in
       met_seen x y side s (subst P (sym s.here.world) all))
 
--- ---- steps that bring nothing
+-- ---- steps that bring no STREAM frame
 
 -- as much is known of a flow, or more, as to why it is over
 pub record IsGrownFlow (f g : Flow) : Type 0 where
@@ -174,23 +175,23 @@ pub record IsGrownFlow (f g : Flow) : Type 0 where
 pub grown-one : (f : Flow) → IsGrownFlow f f
 grown-one f = record { ended = λ e. e; stops = λ code l. l }
 
--- nothing came since
+-- no STREAM frame came since
 pub record IsQuiet (p q : Past) (sent more : List Sent) : Type 0 where
   pub ids : (end : End) (id : ℕ) → IsOneOf id (p.ids end) → IsOneOf id (q.ids end)
-  pub accepted : q.accepted ≡ p.accepted
+  pub accepted : AddsNoStream more p.accepted q.accepted
   pub flow : (end : End) (id : ℕ) → IsGrownFlow (p.flow end id) (q.flow end id)
   pub stay : StaySent sent more
 
 pub quiet-then : (p q r : Past) (one two three : List Sent) → IsQuiet p q one two → IsQuiet q r two three → IsQuiet p r one three
 quiet-then p q r one two three k l = record {
   ids = λ end id i. l.ids end id (k.ids end id i);
-  accepted = l.accepted ∙ k.accepted;
+  accepted = adds-then two three p.accepted q.accepted r.accepted l.stay k.accepted l.accepted;
   flow = λ end id. record { ended = λ e. (l.flow end id).ended ((k.flow end id).ended e); stops = λ code s. (l.flow end id).stops code ((k.flow end id).stops code s) };
   stay = λ number s is. let a = k.stay number s is in let b = l.stay number a.0 a.1 in (b.0, b.1, b.2 ∙ a.2, b.3 ∙ a.3);
 }
 
 pub quiet-stay : (p : Past) (sent more : List Sent) → StaySent sent more → IsQuiet p p sent more
-quiet-stay p sent more stay = record { ids = λ end id l. l; accepted = refl; flow = λ end id. grown-one (p.flow end id); stay = stay }
+quiet-stay p sent more stay = record { ids = λ end id l. l; accepted = adds-none more p.accepted p.accepted refl; flow = λ end id. grown-one (p.flow end id); stay = stay }
 
 chosen_grown : (test : Bool) (f g : Flow) → IsGrownFlow f g → IsGrownFlow f (if test then g else f)
 chosen_grown true f g k = k
@@ -227,12 +228,12 @@ one_more true id q ids l = inr l
 one_more false id q ids l = l
 
 pub quiet-given : (p : Past) (sent more : List Sent) (who : End) (reply : Answer) → StaySent sent more → IsQuiet p (after_given p who reply) sent more
-quiet-given p sent more who (Ok (Id q)) stay = record { ids = λ end id l. one_more (is_same_end end who) id q (p.ids end) l; accepted = refl; flow = λ end id. grown-one (p.flow end id); stay = stay }
+quiet-given p sent more who (Ok (Id q)) stay = record { ids = λ end id l. one_more (is_same_end end who) id q (p.ids end) l; accepted = adds-none more p.accepted p.accepted refl; flow = λ end id. grown-one (p.flow end id); stay = stay }
 quiet-given p sent more who _ stay = quiet-stay p sent more stay
 
 -- ---- what is over stays so, and who was given a stream has it
 
--- at some time all streams that counted as opened were given, and nothing came since
+-- at some time all streams that counted as opened were given, and no STREAM frame came since
 pub record WasAcceptedAll (a b : Config) (p : Past) (sent : List Sent) (end : End) (dir : Dir) : Type 0 where
   pub h : History
   pub v : PairState
@@ -247,8 +248,7 @@ pub over-still : (p q : Past) (sent more : List Sent) (end : End) (id : ℕ) →
 over-still p q sent more end id k (inl e) = inl ((k.flow end id).ended e)
 over-still p q sent more end id k (inr (inl stop)) = inr (inl (stop.0, (k.flow end id).stops stop.0 stop.1))
 over-still p q sent more end id k (inr (inr reset)) =
-    let P : List FramePlace → Type 0 = λ l. SomeReset more end id reset.0 l in
-    inr (inr (reset.0, subst P (sym k.accepted) (reset-stays sent more end id k.stay reset.0 p.accepted reset.1)))
+    inr (inr (reset.0, reset-more more end id reset.0 p.accepted q.accepted k.accepted.stay (reset-stays sent more end id k.stay reset.0 p.accepted reset.1)))
 
 -- no more was accepted where there was nothing to accept
 pub nothing-accepted : (w : World) (dir : Dir) (reply : Answer) → reply ≡ accepted_reply (acceptable w dir) → (going_of reply ≡ Some On) ⊎ HasAcceptedAll w dir

@@ -1,5 +1,5 @@
 -- At the end of a settling all that arrived was read.
-use Rattle.std.proofs.Common.{ℕ, List, ◌++◌, subst, inl, inr}
+use Rattle.std.proofs.Common.{ℕ, ◌++◌, subst, inl, inr}
 use Rattle.quic_values.specs.Ids.{dir_of}
 use Rattle.quic_wire.specs.declared.frame.Stream.{Stream}
 use Rattle.quic_link.specs.Endpoints.{IsOneOf}
@@ -9,13 +9,15 @@ use Rattle.quic_steps.specs.declared.steps.End.TheVariants.{A, B}
 use Rattle.quic_pair.specs.declared.phase.Phase.{Phase}
 use Rattle.quic_pair.specs.declared.phase.Phase.TheVariants as phase
 use Rattle.quic_pair.specs.State.{PairState, peer}
-use Rattle.quic_pair.specs.History.{FramePlace, History, past_of}
+use Rattle.quic_pair.specs.History.{History, past_of}
 use Rattle.quic_pair.specs.Headline.{SomeStream, HasOffset, HasEnd}
 use Rattle.quic_pair.specs.From.{PairFrom}
 use Rattle.quic_pair.specs.Settling.{IsSettling}
 use Rattle.quic_pair.specs.Completed.{HaveArrived, HaveBeenRead, IsUnreset, IsUnstopped, IsReadWhole}
 use Rattle.quic_pair.proofs.Marks.{marks-from}
 use Rattle.quic_pair.proofs.KeptPlaces.{was-from}
+use Rattle.quic_pair.proofs.Streamless.{streamless-place}
+use Rattle.quic_pair.proofs.Settling.{ready-phases}
 use Rattle.quic_pair.proofs.Accepting.{IsMet, WasAcceptedAll, met-so, over-still}
 use Rattle.quic_pair.proofs.AcceptOrder.{HasAsked, any-ask, asks-phases}
 use Rattle.quic_pair.proofs.ReadOrder.{HasRead, any_kind, reads-phases}
@@ -24,10 +26,12 @@ use Rattle.quic_pair.proofs.ReadUp.{places-from, read-up-now, read-whole}
 module _ (a b : Config) (h : History) (v : PairState) (f : PairFrom a b h v) (first : ℕ) (read : HasRead (phase.Drop first) (past_of h) v.sent) (asked : HasAsked a b (phase.Drop first) (past_of h) v.sent) (arrived : HaveArrived (past_of h) v.sent) where
   module _ (who : End) (id : ℕ) (Is : Stream → Type 0) (st : SomeStream v.sent (peer who) id (past_of h).accepted Is) where
     -- what arrived had arrived when there was nothing to accept
+    came_before : (w : WasAcceptedAll a b (past_of h) v.sent who (dir_of id)) → IsOneOf st.at (past_of w.h).accepted
+    came_before w = elim (w.quiet.accepted.added st.at st.listed) [ inl l ↦ l | inr none ↦ absurd (streamless-place v.sent (peer who) st.at st.stream none st.sent_as) ]
+
     met_before : WasAcceptedAll a b (past_of h) v.sent who (dir_of id) → IsMet (past_of h) v.sent who id
     met_before w =
-        let P : List FramePlace → Type 0 = λ l. IsOneOf st.at l in
-        let listed : IsOneOf st.at (past_of w.h).accepted = subst P w.quiet.accepted st.listed in
+        let listed = came_before w in
         let there = (marks-from w.led).marked st.at listed in
         let met = met-so a b w.h w.v w.led who id Is (record { at = st.at; listed = listed; stream = st.stream; sent_as = was-from w.v.sent v.sent (peer who) id w.quiet.stay st.at there.payload there.is st.stream st.sent_as; on = st.on; is = st.is }) (λ own. w.all) in
         record {
@@ -58,8 +62,9 @@ module _ (a b : Config) (h : History) (v : PairState) (f : PairFrom a b h v) (fi
 
 pub have-been-read : (a b : Config) (h : History) (old : PairState) (taken : History) (new : PairState) → PairFrom a b h old → IsSettling old taken new → HaveArrived (past_of (h ++ taken)) new.sent → HaveBeenRead (past_of (h ++ taken))
 have-been-read a b h old taken new f s arrived =
+    let g = ready-phases a b h old taken new s.at f s.follows in
     let r = reads-phases a b h old taken new s.at f s.follows in
     let k = asks-phases a b h old taken new s.at f s.follows in
     let P : Phase → Type 0 = λ x. HasRead x (past_of (h ++ taken)) new.sent in
     let Q : Phase → Type 0 = λ x. HasAsked a b x (past_of (h ++ taken)) new.sent in
-    been_read a b (h ++ taken) new r.led s.ended.first (subst P s.ended.was r.read) (subst Q s.ended.was k.asked) arrived
+    been_read a b (h ++ taken) new g.led s.ended.first (subst P s.ended.was r) (subst Q s.ended.was k) arrived

@@ -187,7 +187,7 @@ control_counted m t most e f answer bytes sent k c =
 -- ---- a payload
 
 -- what a payload's bytes spell, what was handed back of its frames, and what is told then
-record PayloadCounted (m : Made) (t : Tale) (payload : PayloadView) (f : EndState) : Type 0 where
+pub record PayloadCounted (m : Made) (t : Tale) (payload : PayloadView) (f : EndState) : Type 0 where
   pub all : List Frame
   pub spelled : AreFrames payload.bytes all
   pub back : IsHandedBack payload all
@@ -246,13 +246,13 @@ module _ (m : Made) (t : Tale) (most : ℕ) (e between : EndState) (payload : Pa
         counted = subst P (sym told) (counted-at f.streams (ap (λ (g : EndState). g.streams) s.same) then_counted);
       }
 
-payload_counted : {most : ℕ} {fair : Bool} {e f : EndState} {payload : PayloadView} {answer : Result (Unit {0}) OutOfMemory} (m : Made) (t : Tale) → Counted m e.streams t → EmitsAt most fair e payload answer f → PayloadCounted m t payload f
+pub payload_counted : {most : ℕ} {fair : Bool} {e f : EndState} {payload : PayloadView} {answer : Result (Unit {0}) OutOfMemory} (m : Made) (t : Tale) → Counted m e.streams t → EmitsAt most fair e payload answer f → PayloadCounted m t payload f
 payload_counted {most} {fair} {e} {f} {payload} m t c (whole between bytes control streams) = streams_behind m t most e between payload f bytes (Ok tt) control c streams
 payload_counted {most} {fair} {e} {f} {payload} m t c (cut {error} between bytes control short) = none_behind m t most e between payload f bytes (Err error) control c short
 
 -- ---- the step
 
-last_of : {X : Type 0} (xs : List X) (x : X) → slice_get (xs ++ x ∷ []) (length xs) ≡ Some x
+pub last_of : {X : Type 0} (xs : List X) (x : X) → slice_get (xs ++ x ∷ []) (length xs) ≡ Some x
 last_of [] x = refl
 last_of (y ∷ ys) x = last_of ys x
 

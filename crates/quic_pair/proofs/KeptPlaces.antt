@@ -83,6 +83,9 @@ module _ (sent more : List Sent) (who : End) (id : ℕ) (stay : StaySent sent mo
       let P : List ℕ → Type 0 = λ bytes. IsFrameAt bytes r.at.1 (frames.StopSending r.frame) in
       record { at = r.at; listed = r.listed; payload = k.0; is = k.1; writer = k.2 ∙ r.writer; frame = r.frame; there = subst P (sym k.3) r.there; on = r.on; with_code = r.with_code }
 
+pub reset-more : (sent : List Sent) (who : End) (id code : ℕ) (ps qs : List FramePlace) → ((at : FramePlace) → IsOneOf at ps → IsOneOf at qs) → SomeReset sent who id code ps → SomeReset sent who id code qs
+reset-more sent who id code ps qs more r = record { at = r.at; listed = more r.at r.listed; payload = r.payload; is = r.is; writer = r.writer; frame = r.frame; there = r.there; on = r.on; with_code = r.with_code }
+
 pub kept-stay : (p : Past) (sent more : List Sent) (who : End) (y : LinkedEnd) → StaySent sent more → KeptSent p sent who y → KeptSent p more who y
 kept-stay p sent more who y stay k = record {
   streams = λ id. streams_stay sent more who id stay (k.streams id);

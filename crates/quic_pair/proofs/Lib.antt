@@ -54,6 +54,7 @@ pub mod Served
 pub mod Settled
 pub mod Settling
 pub mod Stops
+pub mod Streamless
 pub mod Texts
 pub mod ToldOnce
 pub mod Traced

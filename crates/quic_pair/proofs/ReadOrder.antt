@@ -1,6 +1,6 @@
 -- A settling reads every stream: behind its reads each stream that an end was given was read up.
-use Rattle.std.proofs.Common.{◌≡◌, ◌⊎◌, ℕ, Bool, true, false, List, [], ◌∷◌, ◌++◌, length, Option, Some, None, Result, Ok, Err, refl, sym, ap, ◌∙◌, subst, inl, inr, arith, ◌≤◌, ◌<◌, append_assoc, append-nil}
-use Rattle.std.specs.Prelude.{◌+◌, ◌-◌, ◌^◌, ◌/◌, ◌%◌, ◌==◌, nat_lt, if◌then◌else◌}
+use Rattle.std.proofs.Common.{◌≡◌, ◌⊎◌, ℕ, Bool, true, false, List, [], ◌∷◌, ◌++◌, length, Option, Some, None, Result, Ok, Err, refl, sym, ap, ◌∙◌, subst, inl, inr, arith, ◌≤◌, ◌<◌, append_assoc}
+use Rattle.std.specs.Prelude.{◌+◌, ◌-◌, ◌^◌, ◌/◌, ◌%◌, ◌==◌, ◌&&◌, nat_lt, if◌then◌else◌}
 use Rattle.std.specs.Global.{Vec}
 use Rattle.std.proofs.lemmas.Bool.Decides.{nat_tests}
 use Rattle.quic_values.specs.declared.ids.Side.{Side}
@@ -23,19 +23,20 @@ use Rattle.quic_link.proofs.Basics.{permits_now}
 use Rattle.quic_link.proofs.Joint.{Agrees, agrees}
 use Rattle.quic_link.proofs.GivenIds.{dir_is}
 use Rattle.quic_endpoint.specs.Ends.{EndState}
-use Rattle.quic_endpoint.specs.Reports.{LosesPayloadAt}
+use Rattle.quic_endpoint.specs.Reports.{LosesPayloadAt, AcksPayloadAt}
 use Rattle.quic_steps.specs.declared.steps.Config.{Config}
 use Rattle.quic_steps.specs.declared.steps.End.{End}
 use Rattle.quic_steps.specs.declared.steps.End.TheVariants.{A, B}
 use Rattle.quic_steps.specs.declared.steps.Step.TheVariants as steps
-use Rattle.quic_steps.specs.declared.steps.Reply.TheVariants.{Done, Read, Closed, Illegal, Payload, Event as Told}
+use Rattle.quic_steps.specs.declared.steps.Reply.TheVariants.{Done, Read, Closed, Illegal, Event as Told}
 use Rattle.quic_steps.specs.declared.steps.PairError.TheVariants.{NoSuchPayload, NoSuchFrame, NotAccepted, UnknownId, AlreadySettled, OutOfMemory as NoMemory}
 use Rattle.quic_steps.specs.declared.steps.Last.{Last}
 use Rattle.quic_steps.specs.declared.steps.Last.TheVariants as last
 use Rattle.quic_wire.specs.declared.event.StreamEvent.{StreamEvent}
 use Rattle.quic_wire.specs.declared.event.StreamEvent.TheVariants as stream_event
 use Rattle.quic_pair.specs.declared.sent.Sent.{Sent}
-use Rattle.quic_pair.specs.declared.unsettled.Report.TheVariants.{Lost}
+use Rattle.quic_pair.specs.declared.unsettled.Report.{Report}
+use Rattle.quic_pair.specs.declared.unsettled.Report.TheVariants.{Lost, Acknowledged}
 use Rattle.quic_pair.specs.declared.phase.Phase.{Phase}
 use Rattle.quic_pair.specs.declared.phase.Phase.TheVariants as phase
 use Rattle.quic_pair.specs.declared.phase.Going.{Going}
@@ -44,16 +45,16 @@ use Rattle.quic_pair.specs.Replies.{Answer, read_reply}
 use Rattle.quic_pair.specs.Readable.{OnlySends, ReadsTrue, side_of}
 use Rattle.quic_pair.specs.Refused.{IsKnownSo}
 use Rattle.quic_pair.specs.State.{PairState, OnEnd, peer, the_end}
-use Rattle.quic_pair.specs.Steps.{Next, Emitted, SettlesPayload, Reports}
-use Rattle.quic_pair.specs.History.{Past, Flow, History, past_of, past_read, after, after_poll, after_event, after_report, reads_last, reads_chunks}
+use Rattle.quic_pair.specs.Steps.{Next, SettlesPayload}
+use Rattle.quic_pair.specs.History.{Past, Flow, History, past_of, past_read, after, after_poll, after_event, after_deliver, after_report, reads_last, reads_chunks}
 use Rattle.quic_pair.specs.From.{PairFrom, next}
-use Rattle.quic_pair.specs.Settling.{step_at, going_of, going_reading, phase_after, phase_after_report, after_accepting, after_accept, after_streams, after_reading, after_polling, after_emits, after_frame, FollowsPhases, IsSoughtFor, none as follows_none, more as follows_more}
+use Rattle.quic_pair.specs.Settling.{step_at, going_of, going_reading, phase_after, phase_after_report, behind_reports, is_quiet_at, after_accepting, after_accept, after_streams, after_reading, after_polling, after_emits, after_frame, FollowsPhases, IsSoughtFor, none as follows_none, more as follows_more}
 use Rattle.quic_pair.proofs.Flips.{seen-as}
 use Rattle.quic_pair.proofs.Beside.{beside}
 use Rattle.quic_pair.proofs.GivenSo.{known-from, given_counts}
 use Rattle.quic_pair.proofs.PayloadKnows.{StaySent, stay-sent}
-use Rattle.quic_pair.proofs.PayloadEmits.{stay_before}
-use Rattle.quic_pair.proofs.Reports.{stay_settled}
+use Rattle.quic_pair.proofs.Settling.{IsReadyFor, IsStreamlessIf, ready-sought, ready-phases}
+use Rattle.quic_pair.proofs.Streamless.{IsStreamless, AddsNoStream, streamless-stays, adds-none, adds-kept, adds-accepted, deliver-ids, deliver-flow, stay-emitted, stay-delivered, stay-reported}
 use Rattle.quic_pair.proofs.CallsSetting.{was-given}
 use Rattle.quic_pair.proofs.Marks.{sent_on_end}
 use Rattle.quic_pair.proofs.Grown.{joined-from, past-after}
@@ -87,6 +88,11 @@ IsOfFive end id = IsOfFour end id ⊎ IsOfKind B Server Bi end id
 abbrev pub IsOfAny : End → ℕ → Type 0
 IsOfAny end id = IsOfFive end id ⊎ IsOfKind B Client Uni end id
 
+-- all behind a quiet round, and none behind another
+abbrev pub IsAnyIf : Bool → End → ℕ → Type 0
+IsAnyIf true end id = IsOfAny end id
+IsAnyIf false end id = ⊥
+
 -- the streams that are read before those of an end, an opener and a direction
 abbrev pub IsOfEarlier : End → Side → Dir → End → ℕ → Type 0
 IsOfEarlier A Client d end id = ⊥
@@ -102,7 +108,10 @@ abbrev pub IsPassed : Phase → End → ℕ → Type 0
 IsPassed (phase.Read who stream ordered) end id = IsOfEarlier who (initiator_of stream) (dir_of stream) end id ⊎ (IsOfKind who (initiator_of stream) (dir_of stream) end id × (index_of id < index_of stream))
 IsPassed (phase.Poll who) end id = IsOfAny end id
 IsPassed phase.EmitOfA end id = IsOfAny end id
-IsPassed (phase.EmitOfB first empty) end id = IsOfAny end id
+IsPassed (phase.EmitOfB first empty quiet) end id = IsOfAny end id
+IsPassed (phase.Deliver payload frame other quiet) end id = IsAnyIf quiet end id
+IsPassed (phase.Report payload quiet) end id = IsAnyIf quiet end id
+IsPassed (phase.ReportLost payload quiet) end id = IsAnyIf quiet end id
 IsPassed (phase.Drop first) end id = IsOfAny end id
 IsPassed _ end id = ⊥
 
@@ -197,7 +206,7 @@ id_is id = by_bits (id % 2 == 0) (id / 2 % 2 == 0) refl refl
 -- ---- streams that were given
 
 count_few : (e : Event) (d : Dir) → count_by e d ≤ 2 ^ 60
-count_few (Sending (GaveLimits limits)) d = omega arith
+count_few (Sending (GaveLimits limits (Ok x))) d = omega arith
 count_few (Sending (RaisedCount dir count (Ok x))) d = omega arith
 count_few e d = omega arith
 
@@ -254,8 +263,8 @@ module _ (a b : Config) (h : History) (v : PairState) (f : PairFrom a b h v) (en
 
 record KeepsReads (p q : Past) (sent more : List Sent) (but : End → ℕ → Type 0) : Type 0 where
   ids : (end : End) → q.ids end ≡ p.ids end
-  kept : q.kept ≡ p.kept
-  accepted : q.accepted ≡ p.accepted
+  kept : AddsNoStream more p.kept q.kept
+  accepted : AddsNoStream more p.accepted q.accepted
   flow : (end : End) (id : ℕ) → (but end id → ⊥) → IsSameRead (p.flow (peer end) id) (q.flow (peer end) id)
   stay : StaySent sent more
 
@@ -294,34 +303,39 @@ module _ (p : Past) (old new : PairState) where
   keeps_poll : (who : End) (reply : Answer) → Next old (steps.Poll who) reply new → KeepsReads p (after_poll p who reply) old.sent new.sent (λ end id. ⊥)
   keeps_poll who reply n =
       let b = beside p (steps.Poll who) reply tt in
-      record { ids = λ end. poll_ids p who end reply; kept = b.kept; accepted = b.accepted; flow = λ end id never. poll-like p who (peer end) id reply; stay = stay_on_end old who new n }
+      record { ids = λ end. poll_ids p who end reply; kept = adds-none new.sent p.kept _ b.kept; accepted = adds-none new.sent p.accepted _ b.accepted; flow = λ end id never. poll-like p who (peer end) id reply; stay = stay_on_end old who new n }
 
   keeps_read : (who : End) (id : ℕ) (ordered : Bool) (most times : ℕ) (reply : Answer) → Next old (steps.Read who id ordered most times) reply new → KeepsReads p (past_read p who id ordered reply) old.sent new.sent (λ end q. (end ≡ who) × (q ≡ id))
   keeps_read who id ordered most times reply n =
       let b = beside p (steps.Read who id ordered most times) reply tt in
-      record { ids = λ end. read_ids p who end id ordered reply; kept = b.kept; accepted = b.accepted; flow = λ end q never. read-other p who end id q ordered reply (λ e i. never (e, i)); stay = stay_on_end old who new n }
+      record { ids = λ end. read_ids p who end id ordered reply; kept = adds-none new.sent p.kept _ b.kept; accepted = adds-none new.sent p.accepted _ b.accepted; flow = λ end q never. read-other p who end id q ordered reply (λ e i. never (e, i)); stay = stay_on_end old who new n }
 
   keeps_stay : StaySent old.sent new.sent → KeepsReads p p old.sent new.sent (λ end id. ⊥)
-  keeps_stay stay = record { ids = λ end. refl; kept = refl; accepted = refl; flow = λ end id never. same_flow (p.flow (peer end) id); stay = stay }
+  keeps_stay stay = record { ids = λ end. refl; kept = adds-none new.sent p.kept p.kept refl; accepted = adds-none new.sent p.accepted p.accepted refl; flow = λ end id never. same_flow (p.flow (peer end) id); stay = stay }
 
-  pub stay_same : new ≡ old → StaySent old.sent new.sent
-  stay_same e = subst (StaySent old.sent) (sym (ap (λ (v : PairState). v.sent) e)) (stay-sent old.sent)
-
-  pub stay_emitted : (who : End) (most : ℕ) (fair : Bool) (reply : Answer) → Emitted old who most fair reply new → StaySent old.sent new.sent
-  stay_emitted who most fair (Ok (Payload number bytes)) e = subst (StaySent old.sent) (sym (ap (λ (v : PairState). v.sent) e.emits.is)) (stay_before old.sent e.emits.sent)
-  stay_emitted who most fair (Err NoMemory) e = elim e [ inl same ↦ stay_same same | inr part ↦ subst (StaySent old.sent) (sym (ap (λ (v : PairState). v.sent) part.emits.is)) (stay_before old.sent part.emits.sent) ]
-  stay_emitted who most fair _ e = absurd e
-
-  pub stay_lost : (number : ℕ) (reply : Answer) → Reports Lost LosesPayloadAt old number reply new → StaySent old.sent new.sent
-  stay_lost number reply e = subst (StaySent old.sent) (sym (ap (λ (v : PairState). v.sent) e.is)) (stay_settled old.sent number e.payload.sent _ e.payload.is)
+  keeps_noted : (number : ℕ) (kind : Report) (reply : Answer) → StaySent old.sent new.sent → KeepsReads p (after_report p number kind reply) old.sent new.sent (λ end id. ⊥)
+  keeps_noted number kind (Ok Done) stay = record { ids = λ end. refl; kept = adds-none new.sent p.kept p.kept refl; accepted = adds-none new.sent p.accepted p.accepted refl; flow = λ end id never. same_flow (p.flow (peer end) id); stay = stay }
+  keeps_noted number kind (Err NoMemory) stay = record { ids = λ end. refl; kept = adds-none new.sent p.kept p.kept refl; accepted = adds-none new.sent p.accepted p.accepted refl; flow = λ end id never. same_flow (p.flow (peer end) id); stay = stay }
+  keeps_noted number kind _ stay = keeps_stay stay
 
   keeps_lost : (number : ℕ) (reply : Answer) → SettlesPayload Lost LosesPayloadAt old number reply new → KeepsReads p (after_report p number Lost reply) old.sent new.sent (λ end id. ⊥)
-  keeps_lost number (Ok Done) e = record { ids = λ end. refl; kept = refl; accepted = refl; flow = λ end id never. same_flow (p.flow (peer end) id); stay = stay_lost number (Ok Done) e }
-  keeps_lost number (Err NoMemory) e = record { ids = λ end. refl; kept = refl; accepted = refl; flow = λ end id never. same_flow (p.flow (peer end) id); stay = stay_lost number (Err NoMemory) e }
-  keeps_lost number (Err NoSuchPayload) e = keeps_stay (stay_same e.1)
-  keeps_lost number (Err AlreadySettled) e = keeps_stay (stay_same e.is)
-  keeps_lost number (Err NotAccepted) e = keeps_stay (stay_same e.is)
-  keeps_lost number _ e = absurd e
+  keeps_lost number reply e = keeps_noted number Lost reply (stay-reported old new Lost LosesPayloadAt number reply e)
+
+  keeps_acked : (number : ℕ) (reply : Answer) → SettlesPayload Acknowledged AcksPayloadAt old number reply new → KeepsReads p (after_report p number Acknowledged reply) old.sent new.sent (λ end id. ⊥)
+  keeps_acked number reply e = keeps_noted number Acknowledged reply (stay-reported old new Acknowledged AcksPayloadAt number reply e)
+
+  -- a frame of a payload without a STREAM frame is delivered
+  keeps_deliver : (number index : ℕ) (reply : Answer) → Next old (steps.Deliver number index) reply new → IsStreamless old.sent number → KeepsReads p (after_deliver p (number, index) reply) old.sent new.sent (λ end id. ⊥)
+  keeps_deliver number index reply n none =
+      let stay = stay-delivered old new number index reply n in
+      let still = streamless-stays old.sent new.sent number stay none in
+      record {
+        ids = λ end. deliver-ids p (number, index) reply end;
+        kept = adds-kept p new.sent (number, index) still reply;
+        accepted = adds-accepted p new.sent (number, index) still reply;
+        flow = λ end id never. subst (IsSameRead (p.flow (peer end) id)) (sym (deliver-flow p (number, index) reply (peer end) id)) (same_flow (p.flow (peer end) id));
+        stay = stay;
+      }
 
 -- ---- what a read was answered
 
@@ -487,6 +501,44 @@ module _ (a b : Config) (h : History) (old new : PairState) (f : PairFrom a b h 
 
 -- ---- all phases
 
+any_if : (quiet : Bool) (end : End) (id : ℕ) → IsAnyIf quiet end id → IsOfAny end id
+any_if true end id i = i
+any_if false end id i = absurd i
+
+reader_emits : (first : ℕ) (empty : Bool) (going : Going) (second : ℕ) (quiet : Bool) → IsReader (after_emits first empty going second quiet)
+reader_emits first true Over second quiet = tt
+reader_emits first true On second quiet = tt
+reader_emits first true StreamOver second quiet = tt
+reader_emits first true Unordered second quiet = tt
+reader_emits first false going second quiet = tt
+
+passed_emits : (first : ℕ) (empty : Bool) (going : Going) (second : ℕ) (quiet : Bool) (end : End) (id : ℕ) → IsPassed (after_emits first empty going second quiet) end id → IsOfAny end id
+passed_emits first true Over second quiet end id i = i
+passed_emits first true On second quiet end id i = any_if quiet end id i
+passed_emits first true StreamOver second quiet end id i = any_if quiet end id i
+passed_emits first true Unordered second quiet end id i = any_if quiet end id i
+passed_emits first false going second quiet end id i = any_if quiet end id i
+
+reader_frame : (payload frame : ℕ) (other : Option ℕ) (quiet : Bool) (going : Going) → IsReader (after_frame payload frame other quiet going)
+reader_frame payload frame (Some other) quiet On = tt
+reader_frame payload frame (Some other) quiet Over = tt
+reader_frame payload frame (Some other) quiet StreamOver = tt
+reader_frame payload frame (Some other) quiet Unordered = tt
+reader_frame payload frame None quiet On = tt
+reader_frame payload frame None quiet Over = tt
+reader_frame payload frame None quiet StreamOver = tt
+reader_frame payload frame None quiet Unordered = tt
+
+passed_frame : (payload frame : ℕ) (other : Option ℕ) (quiet : Bool) (going : Going) (end : End) (id : ℕ) → IsPassed (after_frame payload frame other quiet going) end id → IsAnyIf quiet end id
+passed_frame payload frame (Some other) quiet On end id i = i
+passed_frame payload frame (Some other) quiet Over end id i = i
+passed_frame payload frame (Some other) quiet StreamOver end id i = i
+passed_frame payload frame (Some other) quiet Unordered end id i = i
+passed_frame payload frame None quiet On end id i = i
+passed_frame payload frame None quiet Over end id i = i
+passed_frame payload frame None quiet StreamOver end id i = i
+passed_frame payload frame None quiet Unordered end id i = i
+
 module _ (p q : Past) (sent more : List Sent) where
   read_accepting : (who : End) (dir : Dir) → HasRead (after_accepting who dir) q more
   read_accepting A Bi = blank (phase.Accept A Uni) q more tt (λ end id none. none)
@@ -500,26 +552,16 @@ module _ (p q : Past) (sent more : List Sent) where
   read_accept who dir StreamOver = read_accepting who dir
   read_accept who dir Unordered = read_accepting who dir
 
-  read_report : (payload : ℕ) (going : Going) → HasRead (phase_after_report payload going) q more
-  read_report payload On = blank (phase.Report payload) q more tt (λ end id none. none)
-  read_report payload Over = blank (phase.ReportLost payload) q more tt (λ end id none. none)
-  read_report payload StreamOver = blank (phase.ReportLost payload) q more tt (λ end id none. none)
-  read_report payload Unordered = blank (phase.ReportLost payload) q more tt (λ end id none. none)
-
-  read_deliver : (payload frame : ℕ) (other : Option ℕ) → HasRead (phase.Deliver payload frame other) q more
-  read_deliver payload frame other = blank (phase.Deliver payload frame other) q more tt (λ end id none. none)
-
-  read_frame : (payload frame : ℕ) (other : Option ℕ) (going : Going) → HasRead (after_frame payload frame other going) q more
-  read_frame payload frame (Some other) On = read_deliver payload _ (Some other)
-  read_frame payload frame (Some other) Over = read_deliver other 0 None
-  read_frame payload frame (Some other) StreamOver = read_deliver payload _ (Some other)
-  read_frame payload frame (Some other) Unordered = read_deliver payload _ (Some other)
-  read_frame payload frame None On = read_deliver payload _ None
-  read_frame payload frame None Over = blank (phase.Report 0) q more tt (λ end id none. none)
-  read_frame payload frame None StreamOver = read_deliver payload _ None
-  read_frame payload frame None Unordered = read_deliver payload _ None
-
   module _ (k : KeepsReads p q sent more (λ end id. ⊥)) where
+    read_report : (payload : ℕ) (quiet : Bool) (going : Going) → HasRead (phase.Report payload quiet) p sent → HasRead (phase_after_report payload quiet going) q more
+    read_report payload quiet On r = goes_on_read p q sent more (phase.Report payload quiet) (phase.Report payload quiet) k tt (λ end id i. i) r
+    read_report payload quiet Over r = goes_on_read p q sent more (phase.Report payload quiet) (phase.ReportLost payload quiet) k tt (λ end id i. i) r
+    read_report payload quiet StreamOver r = goes_on_read p q sent more (phase.Report payload quiet) (phase.ReportLost payload quiet) k tt (λ end id i. i) r
+    read_report payload quiet Unordered r = goes_on_read p q sent more (phase.Report payload quiet) (phase.ReportLost payload quiet) k tt (λ end id i. i) r
+
+    read_report_lost : (payload : ℕ) (quiet : Bool) → HasRead (phase.ReportLost payload quiet) p sent → HasRead (phase.Report payload quiet) q more
+    read_report_lost payload quiet r = goes_on_read p q sent more (phase.ReportLost payload quiet) (phase.Report payload quiet) k tt (λ end id i. i) r
+
     read_polling : (who : End) (going : Going) → HasRead (phase.Poll who) p sent → HasRead (after_polling who going) q more
     read_polling who On r = goes_on_read p q sent more (phase.Poll who) (phase.Poll who) k tt (λ end id i. i) r
     read_polling A Over r = goes_on_read p q sent more (phase.Poll A) (phase.Poll B) k tt (λ end id i. i) r
@@ -529,57 +571,60 @@ module _ (p q : Past) (sent more : List Sent) where
     read_polling B StreamOver r = goes_on_read p q sent more (phase.Poll B) phase.EmitOfA k tt (λ end id i. i) r
     read_polling B Unordered r = goes_on_read p q sent more (phase.Poll B) phase.EmitOfA k tt (λ end id i. i) r
 
-    read_emits : (first : ℕ) (empty : Bool) (going : Going) (second : ℕ) → HasRead (phase.EmitOfB first empty) p sent → HasRead (after_emits first empty going second) q more
-    read_emits first true Over second r = goes_on_read p q sent more (phase.EmitOfB first true) (phase.Drop first) k tt (λ end id i. i) r
-    read_emits first true On second r = read_deliver first 0 (Some second)
-    read_emits first true StreamOver second r = read_deliver first 0 (Some second)
-    read_emits first true Unordered second r = read_deliver first 0 (Some second)
-    read_emits first false going second r = read_deliver first 0 (Some second)
+    read_emits : (first : ℕ) (empty quiet : Bool) (going : Going) (second : ℕ) (later : Bool) → HasRead (phase.EmitOfB first empty quiet) p sent → HasRead (after_emits first empty going second later) q more
+    read_emits first empty quiet going second later r = goes_on_read p q sent more (phase.EmitOfB first empty quiet) (after_emits first empty going second later) k (reader_emits first empty going second later) (passed_emits first empty going second later) r
 
-read_after : (a b : Config) (h : History) (old new : PairState) → PairFrom a b h old → (at : Phase) (reply : Answer) → Next old (step_at at) reply new → (going : Going) → going_of reply ≡ Some going → HasRead at (past_of h) old.sent → HasRead (phase_after at going (length old.sent)) (after (past_of h) (step_at at) reply) new.sent
-read_after a b h old new f (phase.Report payload) reply n going e r = read_report (past_of h) _ old.sent new.sent payload going
-read_after a b h old new f (phase.ReportLost payload) reply n going e r = blank (phase.Report payload) _ new.sent tt (λ end id none. none)
-read_after a b h old new f (phase.Accept who dir) reply n going e r = read_accept (past_of h) _ old.sent new.sent who dir going
-read_after a b h old new f (phase.Read who id ordered) reply n going e r = has-read-one a b h old new f who id ordered reply n r going e
-read_after a b h old new f (phase.Poll who) reply n going e r = read_polling (past_of h) _ old.sent new.sent (keeps_poll (past_of h) old new who reply n) who going r
-read_after a b h old new f phase.EmitOfA reply n going e r =
-    goes_on_read (past_of h) (past_of h) old.sent new.sent phase.EmitOfA (phase.EmitOfB (length old.sent) _) (keeps_stay (past_of h) old new (stay_emitted (past_of h) old new A (2 ^ 64 - 1) true reply n)) tt (λ end id i. i) r
-read_after a b h old new f (phase.EmitOfB first empty) reply n going e r =
-    read_emits (past_of h) (past_of h) old.sent new.sent (keeps_stay (past_of h) old new (stay_emitted (past_of h) old new B (2 ^ 64 - 1) true reply n)) first empty going (length old.sent) r
-read_after a b h old new f (phase.Deliver payload frame other) reply n going e r = read_frame (past_of h) _ old.sent new.sent payload frame other going
-read_after a b h old new f (phase.Drop first) reply n going e r = goes_on_read (past_of h) _ old.sent new.sent (phase.Drop first) (phase.Drop first) (keeps_lost (past_of h) old new first reply n) tt (λ end id i. i) r
+  -- what was read up stays so behind frames of a quiet round, and nothing is said behind others
+  read_frame : (payload frame : ℕ) (other : Option ℕ) (quiet : Bool) (going : Going) → (quiet ≡ true → KeepsReads p q sent more (λ end id. ⊥)) → HasRead (phase.Deliver payload frame other quiet) p sent → HasRead (after_frame payload frame other quiet going) q more
+  read_frame payload frame other true going k r = goes_on_read p q sent more (phase.Deliver payload frame other true) (after_frame payload frame other true going) (k refl) (reader_frame payload frame other true going) (passed_frame payload frame other true going) r
+  read_frame payload frame other false going k r = blank (after_frame payload frame other false going) q more (reader_frame payload frame other false going) (passed_frame payload frame other false going)
+
+read_after : (a b : Config) (h : History) (old new : PairState) → PairFrom a b h old → (at : Phase) (reply : Answer) → Next old (step_at at) reply new → (going : Going) → going_of reply ≡ Some going → IsReadyFor at old → HasRead at (past_of h) old.sent → HasRead (phase_after at going (length old.sent) (is_quiet_at new.sent (length old.sent))) (after (past_of h) (step_at at) reply) new.sent
+read_after a b h old new f (phase.Report payload quiet) reply n going e ready r = read_report (past_of h) _ old.sent new.sent (keeps_acked (past_of h) old new payload reply n) payload quiet going r
+read_after a b h old new f (phase.ReportLost payload quiet) reply n going e ready r = read_report_lost (past_of h) _ old.sent new.sent (keeps_lost (past_of h) old new payload reply n) payload quiet r
+read_after a b h old new f (phase.Accept who dir) reply n going e ready r = read_accept (past_of h) _ old.sent new.sent who dir going
+read_after a b h old new f (phase.Read who id ordered) reply n going e ready r = has-read-one a b h old new f who id ordered reply n r going e
+read_after a b h old new f (phase.Poll who) reply n going e ready r = read_polling (past_of h) _ old.sent new.sent (keeps_poll (past_of h) old new who reply n) who going r
+read_after a b h old new f phase.EmitOfA reply n going e ready r =
+    goes_on_read (past_of h) (past_of h) old.sent new.sent phase.EmitOfA (phase.EmitOfB (length old.sent) _ _) (keeps_stay (past_of h) old new (stay-emitted old new A (2 ^ 64 - 1) true reply n)) tt (λ end id i. i) r
+read_after a b h old new f (phase.EmitOfB first empty quiet) reply n going e ready r =
+    read_emits (past_of h) (past_of h) old.sent new.sent (keeps_stay (past_of h) old new (stay-emitted old new B (2 ^ 64 - 1) true reply n)) first empty quiet going (length old.sent) (quiet && is_quiet_at new.sent (length old.sent)) r
+read_after a b h old new f (phase.Deliver payload frame other quiet) reply n going e ready r =
+    read_frame (past_of h) _ old.sent new.sent payload frame other quiet going (λ q. let P : Bool → Type 0 = λ x. IsStreamlessIf x old.sent payload in keeps_deliver (past_of h) old new payload frame reply n (subst P q ready.0)) r
+read_after a b h old new f (phase.Drop first) reply n going e ready r = goes_on_read (past_of h) _ old.sent new.sent (phase.Drop first) (phase.Drop first) (keeps_lost (past_of h) old new first reply n) tt (λ end id i. i) r
+
+read_reports : (from : ℕ) (quiet : Bool) (p : Past) (sent : List Sent) → HasRead (phase.Report from quiet) p sent → HasRead (behind_reports quiet) p sent
+read_reports from true p sent r = record { reader = tt; passed = r.passed }
+read_reports from false p sent r = blank (phase.Accept A Bi) p sent tt (λ end id none. none)
 
 read_sought : (at here : Phase) (p : Past) (sent : List Sent) → IsSoughtFor sent at here → HasRead at p sent → HasRead here p sent
-read_sought (phase.Report from) here p sent s r =
+read_sought (phase.Report from quiet) here p sent s r =
     let P : Phase → Type 0 = λ x. HasRead x p sent in
     elim s [
-      | inl next_one ↦ subst P (sym next_one.2) (blank (phase.Report next_one.0) p sent tt (λ end id none. none))
-      | inr none ↦ subst P (sym none.1) (blank (phase.Accept A Bi) p sent tt (λ end id none. none))
+      | inl next_one ↦ subst P (sym next_one.2) (record { reader = tt; passed = r.passed })
+      | inr none ↦ subst P (sym none.1) (read_reports from quiet p sent r)
     ]
 read_sought (phase.Drop first) here p sent s r =
     let P : Phase → Type 0 = λ x. HasRead x p sent in
     elim s [
       | inl next_one ↦ subst P (sym next_one.2) (record { reader = tt; passed = r.passed })
-      | inr other ↦ subst P (sym other.2) (blank (phase.Report other.0) p sent tt (λ end id none. none))
+      | inr other ↦ subst P (sym other.2) (record { reader = tt; passed = r.passed })
     ]
-read_sought (phase.ReportLost payload) here p sent s r = let P : Phase → Type 0 = λ x. HasRead x p sent in subst P (sym s) r
+read_sought (phase.ReportLost payload quiet) here p sent s r = let P : Phase → Type 0 = λ x. HasRead x p sent in subst P (sym s) r
 read_sought (phase.Accept who dir) here p sent s r = let P : Phase → Type 0 = λ x. HasRead x p sent in subst P (sym s) r
 read_sought (phase.Read who id ordered) here p sent s r = let P : Phase → Type 0 = λ x. HasRead x p sent in subst P (sym s) r
 read_sought (phase.Poll who) here p sent s r = let P : Phase → Type 0 = λ x. HasRead x p sent in subst P (sym s) r
 read_sought phase.EmitOfA here p sent s r = let P : Phase → Type 0 = λ x. HasRead x p sent in subst P (sym s) r
-read_sought (phase.EmitOfB first empty) here p sent s r = let P : Phase → Type 0 = λ x. HasRead x p sent in subst P (sym s) r
-read_sought (phase.Deliver payload frame other) here p sent s r = let P : Phase → Type 0 = λ x. HasRead x p sent in subst P (sym s) r
+read_sought (phase.EmitOfB first empty quiet) here p sent s r = let P : Phase → Type 0 = λ x. HasRead x p sent in subst P (sym s) r
+read_sought (phase.Deliver payload frame other quiet) here p sent s r = let P : Phase → Type 0 = λ x. HasRead x p sent in subst P (sym s) r
 
--- the history goes on by the steps of phases, and each phase finds read what it passed
-pub record ReadsPhases (a b : Config) (h taken : History) (new : PairState) (at : Phase) : Type 0 where
-  pub led : PairFrom a b (h ++ taken) new
-  pub read : HasRead at (past_of (h ++ taken)) new.sent
-
-pub reads-phases : (a b : Config) (h : History) (old : PairState) (taken : History) (new : PairState) (at : Phase) → PairFrom a b h old → FollowsPhases old (phase.Report 0) taken new at → ReadsPhases a b h taken new at
-reads-phases a b h old _ _ _ f follows_none = record { led = subst (λ l. PairFrom a b l old) (sym (append-nil h)) f; read = blank (phase.Report 0) (past_of (h ++ [])) old.sent tt (λ end id none. none) }
+-- each phase finds read what it passed
+pub reads-phases : (a b : Config) (h : History) (old : PairState) (taken : History) (new : PairState) (at : Phase) → PairFrom a b h old → FollowsPhases old (phase.Report 0 false) taken new at → HasRead at (past_of (h ++ taken)) new.sent
+reads-phases a b h old _ _ _ f follows_none = blank (phase.Report 0 false) (past_of (h ++ [])) old.sent tt (λ end id none. none)
 reads-phases a b h old _ _ _ f (follows_more {taken} {between} {new} {at} here reply going before sought n e) =
     let r = reads-phases a b h old taken between at f before in
-    let P : Past → Type 0 = λ x. HasRead (phase_after here going (length between.sent)) x new.sent in
-    let read = subst P (sym (past-after (h ++ taken) (step_at here) reply)) (read_after a b (h ++ taken) between new r.led here reply n going e (read_sought at here (past_of (h ++ taken)) between.sent sought r.read)) in
-    let longer = append_assoc h taken ((step_at here, reply) ∷ []) in
-    record { led = subst (λ l. PairFrom a b l new) longer (next (step_at here) reply r.led n); read = subst (λ l. HasRead (phase_after here going (length between.sent)) (past_of l) new.sent) longer read }
+    let g = ready-phases a b h old taken between at f before in
+    let later = phase_after here going (length between.sent) (is_quiet_at new.sent (length between.sent)) in
+    let P : Past → Type 0 = λ x. HasRead later x new.sent in
+    let read = subst P (sym (past-after (h ++ taken) (step_at here) reply)) (read_after a b (h ++ taken) between new g.led here reply n going e (ready-sought at here between g.ready sought) (read_sought at here (past_of (h ++ taken)) between.sent sought r)) in
+    subst (λ l. HasRead later (past_of l) new.sent) (append_assoc h taken ((step_at here, reply) ∷ [])) read

@@ -1,4 +1,4 @@
--- A stream that was read until nothing was left is read up, and stays so while nothing comes.
+-- A stream that was read until nothing was left is read up, and stays so while no STREAM frame comes.
 use Rattle.std.proofs.Common.{◌≡◌, ◌⊎◌, ℕ, Bool, true, false, List, length, Some, Ok, refl, sym, ap, ◌∙◌, subst, inl, inr, arith, ◌≤◌, ◌<◌}
 use Rattle.std.specs.Prelude.{◌==◌, nat_lt, slice_get, if◌then◌else◌}
 use Rattle.std.proofs.lemmas.Bool.Decides.{nat_tests}
@@ -29,7 +29,8 @@ use Rattle.quic_pair.specs.Completed.{HasArrived, IsUnreset, IsUnstopped, IsRead
 use Rattle.quic_pair.proofs.Lists.{got-one}
 use Rattle.quic_pair.proofs.Flips.{seen-as}
 use Rattle.quic_pair.proofs.PayloadKnows.{StaySent, stay-sent}
-use Rattle.quic_pair.proofs.KeptPlaces.{was-from, reset-stays}
+use Rattle.quic_pair.proofs.KeptPlaces.{was-from, reset-stays, reset-more}
+use Rattle.quic_pair.proofs.Streamless.{AddsNoStream, adds-none, adds-then, streamless-place}
 use Rattle.quic_pair.proofs.Grown.{joined-from, headline-from}
 use Rattle.quic_pair.proofs.Honest.{honest-from}
 use Rattle.quic_pair.proofs.Drained.{accepts-from, given-at}
@@ -58,8 +59,8 @@ pub record WasReadUp (p : Past) (sent : List Sent) (who : End) (id : ℕ) : Type
   pub then_sent : List Sent
   pub up : IsReadUp before then_sent who id
   pub flow : IsSameRead (before.flow (peer who) id) (p.flow (peer who) id)
-  pub kept : p.kept ≡ before.kept
-  pub accepted : p.accepted ≡ before.accepted
+  pub kept : AddsNoStream sent before.kept p.kept
+  pub accepted : AddsNoStream sent before.accepted p.accepted
   pub stay : StaySent then_sent sent
   pub places : ArePlaces before.kept then_sent
 
@@ -84,16 +85,16 @@ stay_more one two three k l number s is =
     (b.0, b.1, b.2 ∙ a.2, b.3 ∙ a.3)
 
 pub read-up-now : (p : Past) (sent : List Sent) (who : End) (id : ℕ) → ArePlaces p.kept sent → IsReadUp p sent who id → WasReadUp p sent who id
-read-up-now p sent who id places up = record { before = p; then_sent = sent; up = up; flow = same_read (p.flow (peer who) id); kept = refl; accepted = refl; stay = stay-sent sent; places = places }
+read-up-now p sent who id places up = record { before = p; then_sent = sent; up = up; flow = same_read (p.flow (peer who) id); kept = adds-none sent p.kept p.kept refl; accepted = adds-none sent p.accepted p.accepted refl; stay = stay-sent sent; places = places }
 
-pub read-up-still : (p q : Past) (sent more : List Sent) (who : End) (id : ℕ) → IsSameRead (p.flow (peer who) id) (q.flow (peer who) id) → q.kept ≡ p.kept → q.accepted ≡ p.accepted → StaySent sent more → WasReadUp p sent who id → WasReadUp q more who id
+pub read-up-still : (p q : Past) (sent more : List Sent) (who : End) (id : ℕ) → IsSameRead (p.flow (peer who) id) (q.flow (peer who) id) → AddsNoStream more p.kept q.kept → AddsNoStream more p.accepted q.accepted → StaySent sent more → WasReadUp p sent who id → WasReadUp q more who id
 read-up-still p q sent more who id f kept accepted stay w = record {
   before = w.before;
   then_sent = w.then_sent;
   up = w.up;
   flow = record { given = f.given ∙ w.flow.given; written = f.written ∙ w.flow.written; ended = f.ended ∙ w.flow.ended; stops = f.stops ∙ w.flow.stops };
-  kept = kept ∙ w.kept;
-  accepted = accepted ∙ w.accepted;
+  kept = adds-then sent more w.before.kept p.kept q.kept stay w.kept kept;
+  accepted = adds-then sent more w.before.accepted p.accepted q.accepted stay w.accepted accepted;
   stay = stay_more w.then_sent sent more w.stay stay;
   places = w.places;
 }
@@ -159,10 +160,13 @@ module _ (a b : Config) (h : History) (v : PairState) (f : PairFrom a b h v) (wh
   -- what arrived had arrived before
   before_then : (Is : Stream → Type 0) → SomeStream v.sent (peer who) id (past_of h).accepted Is → SomeStream w.then_sent (peer who) id w.before.kept Is
   before_then Is s =
-      let P : List FramePlace → Type 0 = λ l. IsOneOf s.at l in
-      let listed : IsOneOf s.at w.before.kept = subst P w.kept (accepts-from f s.at s.listed) in
-      let there = w.places s.at listed in
-      record { at = s.at; listed = listed; stream = s.stream; sent_as = was-from w.then_sent v.sent (peer who) id w.stay s.at there.0 there.1 s.stream s.sent_as; on = s.on; is = s.is }
+      elim (w.kept.added s.at (accepts-from f s.at s.listed)) [
+        | inl listed ↦ (
+            let there = w.places s.at listed in
+            record { at = s.at; listed = listed; stream = s.stream; sent_as = was-from w.then_sent v.sent (peer who) id w.stay s.at there.0 there.1 s.stream s.sent_as; on = s.on; is = s.is }
+            )
+        | inr lacks ↦ absurd (streamless-place v.sent (peer who) s.at s.stream lacks s.sent_as)
+      ]
 
   -- a reset was asked for
   never_reset : (code : ℕ) → SomeReset v.sent (peer who) id code (past_of h).accepted → ⊥
@@ -211,8 +215,7 @@ module _ (a b : Config) (h : History) (v : PairState) (f : PairFrom a b h v) (wh
   over_whole (inr (inl stop)) = absurd (unstopped stop.0 (subst (λ l. IsOneOf stop.0 l) (sym w.flow.stops) stop.1))
   over_whole (inr (inr reset)) =
       let r = reset-stays w.then_sent v.sent (peer who) id w.stay reset.0 w.before.accepted reset.1 in
-      let P : List FramePlace → Type 0 = λ l. SomeReset v.sent (peer who) id reset.0 l in
-      absurd (never_reset reset.0 (subst P (sym w.accepted) r))
+      absurd (never_reset reset.0 (reset-more v.sent (peer who) id reset.0 w.before.accepted (past_of h).accepted w.accepted.stay r))
 
   pub read-whole : IsReadWhole now
   read-whole = elim w.up [ inl left ↦ left_whole left.0 left.1 | inr over ↦ over_whole over ]

@@ -1,6 +1,6 @@
 -- Once neither end had something to send, and the payloads without frames are dropped, both ends are idle.
-use Rattle.std.proofs.Common.{◌≡◌, ◌⊎◌, ℕ, zero, suc, Bool, true, false, List, [], ◌∷◌, ◌++◌, length, Option, Some, None, Result, Ok, Err, refl, sym, ap, ◌∙◌, subst, inl, inr, arith, ◌≤◌, ◌<◌, append-nil}
-use Rattle.std.specs.Prelude.{OnOk, OnErr, ◌&&◌, ◌||◌, ◌+◌, ◌-◌, ◌^◌, is_some, unwrap_or, slice_get, drop, map, nat_lt, if◌then◌else◌}
+use Rattle.std.proofs.Common.{◌≡◌, ◌⊎◌, ℕ, zero, suc, Bool, true, false, List, [], ◌∷◌, ◌++◌, length, Option, Some, None, Result, Ok, Err, refl, sym, ap, ◌∙◌, subst, inl, inr, arith, ◌≤◌, ◌<◌, append-nil, append_assoc}
+use Rattle.std.specs.Prelude.{OnOk, OnErr, ◌&&◌, ◌||◌, ◌+◌, ◌-◌, ◌^◌, min, is_some, unwrap_or, slice_get, drop, map, nat_lt, if◌then◌else◌}
 use Rattle.std.specs.Global.{Vec}
 use Rattle.std.proofs.lemmas.List.{length-append}
 use Rattle.std.proofs.lemmas.Option.{none-some}
@@ -43,13 +43,15 @@ use Rattle.quic_pair.specs.Replies.{Answer, report_reply}
 use Rattle.quic_pair.specs.State.{PairState, the_end, with_end, with_sent}
 use Rattle.quic_pair.specs.Steps.{Next, Emitted, EmitsWhole, Reports, SettlesPayload}
 use Rattle.quic_pair.specs.History.{History}
-use Rattle.quic_pair.specs.From.{PairFrom}
+use Rattle.quic_pair.specs.From.{PairFrom, next as next-step}
 use Rattle.quic_pair.specs.Due.{IsFull}
 use Rattle.quic_pair.specs.Tale.{Part, Carried, GivenUp, Tales}
 use Rattle.quic_pair.specs.Runs.{TakesSteps, more, sendings_of}
-use Rattle.quic_pair.specs.Settling.{step_at, going_of, going_sending, phase_after, after_accepting, after_streams, after_reading, after_polling, after_emits, after_frame, AreSettledIn, IsAllReported, IsIdle, AreIdle, LeavesNoRest, IsSoughtFor, IsSettledAt, TakesPhase, TakesPhaseOrNone, FollowsPhases, IsCutOff, more as follows_more}
+use Rattle.quic_pair.specs.Settling.{step_at, going_of, going_sending, is_nothing_more, is_quiet_at, behind_reports, phase_after, after_accepting, after_streams, after_reading, after_polling, after_emits, after_frame, AreSettledIn, IsAllReported, IsIdle, AreIdle, LeavesNoRest, IsSoughtFor, IsSettledAt, TakesPhase, TakesPhaseOrNone, FollowsPhases, IsCutOff, none as follows_none, more as follows_more}
 use Rattle.quic_pair.proofs.Lists.{slice_get-push, slice_get-slice_set, slice_get-within, slice_get-there}
 use Rattle.quic_pair.proofs.Left.{IsLeft}
+use Rattle.quic_pair.proofs.PayloadKnows.{StaySent}
+use Rattle.quic_pair.proofs.Streamless.{IsStreamless, streamless-stays, fresh-streamless, stay-emitted, stay-delivered}
 use Rattle.quic_pair.proofs.Grown.{grown-from}
 use Rattle.quic_pair.proofs.Runs.{from-steps}
 use Rattle.quic_pair.proofs.Due.{asks-for}
@@ -60,9 +62,24 @@ use Rattle.quic_pair.proofs.ToldOnce.{told-once}
 abbrev pub HaveNoFrames : ℕ → List Sent → Type 0
 HaveNoFrames first sent = (number : ℕ) (s : Sent) → first ≤ number → slice_get sent number ≡ Some s → s.text.bytes ≡ []
 
+-- A is idle where it had nothing to send
+abbrev pub IsIdleIf : Bool → ℕ → PairState → Type 0
+IsIdleIf true first v = IsIdle v.a × HaveNoFrames first v.sent
+IsIdleIf false first v = Unit {0}
+
+-- the payloads of a quiet round have no STREAM frame
+abbrev pub IsStreamlessIf : Bool → List Sent → ℕ → Type 0
+IsStreamlessIf true sent number = IsStreamless sent number
+IsStreamlessIf false sent number = Unit {0}
+
+abbrev pub IsNextStreamless : Bool → List Sent → Option ℕ → Type 0
+IsNextStreamless quiet sent (Some number) = IsStreamlessIf quiet sent number
+IsNextStreamless quiet sent None = Unit {0}
+
 -- what holds before the step of a phase
 abbrev pub IsReadyFor : Phase → PairState → Type 0
-IsReadyFor (phase.EmitOfB first true) v = IsIdle v.a × HaveNoFrames first v.sent
+IsReadyFor (phase.EmitOfB first empty quiet) v = IsIdleIf empty first v × IsStreamlessIf quiet v.sent first
+IsReadyFor (phase.Deliver payload frame next quiet) v = IsStreamlessIf quiet v.sent payload × IsNextStreamless quiet v.sent next
 IsReadyFor (phase.Drop first) v = AreIdle v × HaveNoFrames first v.sent
 IsReadyFor _ v = Unit {0}
 
@@ -104,15 +121,32 @@ ready_polling B Over v = tt
 ready_polling B StreamOver v = tt
 ready_polling B Unordered v = tt
 
-ready_frame : (payload frame : ℕ) (next : Option ℕ) (going : Going) (v : PairState) → IsReadyFor (after_frame payload frame next going) v
-ready_frame payload frame (Some other) On v = tt
-ready_frame payload frame (Some other) Over v = tt
-ready_frame payload frame (Some other) StreamOver v = tt
-ready_frame payload frame (Some other) Unordered v = tt
-ready_frame payload frame None On v = tt
-ready_frame payload frame None Over v = tt
-ready_frame payload frame None StreamOver v = tt
-ready_frame payload frame None Unordered v = tt
+ready_reports : (quiet : Bool) (v : PairState) → IsReadyFor (behind_reports quiet) v
+ready_reports true v = tt
+ready_reports false v = tt
+
+-- ---- the payloads of a quiet round
+
+streamless_if : (quiet : Bool) (sent later : List Sent) (number : ℕ) → StaySent sent later → IsStreamlessIf quiet sent number → IsStreamlessIf quiet later number
+streamless_if true sent later number stay l = streamless-stays sent later number stay l
+streamless_if false sent later number stay l = tt
+
+next_if : (quiet : Bool) (sent later : List Sent) (next : Option ℕ) → StaySent sent later → IsNextStreamless quiet sent next → IsNextStreamless quiet later next
+next_if quiet sent later (Some number) stay l = streamless_if quiet sent later number stay l
+next_if quiet sent later None stay l = tt
+
+ready_deliver : (payload frame : ℕ) (next : Option ℕ) (quiet : Bool) (old new : PairState) → StaySent old.sent new.sent → IsReadyFor (phase.Deliver payload 0 next quiet) old → IsReadyFor (phase.Deliver payload frame next quiet) new
+ready_deliver payload frame next quiet old new stay r = (streamless_if quiet old.sent new.sent payload stay r.0, next_if quiet old.sent new.sent next stay r.1)
+
+ready_frame : (payload frame : ℕ) (next : Option ℕ) (quiet : Bool) (going : Going) (old new : PairState) → StaySent old.sent new.sent → IsReadyFor (phase.Deliver payload frame next quiet) old → IsReadyFor (after_frame payload frame next quiet going) new
+ready_frame payload frame (Some other) quiet On old new stay r = ready_deliver payload (min (frame + 1) (2 ^ 64 - 1)) (Some other) quiet old new stay r
+ready_frame payload frame (Some other) quiet Over old new stay r = (streamless_if quiet old.sent new.sent other stay r.1, tt)
+ready_frame payload frame (Some other) quiet StreamOver old new stay r = ready_deliver payload (min (frame + 1) (2 ^ 64 - 1)) (Some other) quiet old new stay r
+ready_frame payload frame (Some other) quiet Unordered old new stay r = ready_deliver payload (min (frame + 1) (2 ^ 64 - 1)) (Some other) quiet old new stay r
+ready_frame payload frame None quiet On old new stay r = ready_deliver payload (min (frame + 1) (2 ^ 64 - 1)) None quiet old new stay r
+ready_frame payload frame None quiet Over old new stay r = tt
+ready_frame payload frame None quiet StreamOver old new stay r = ready_deliver payload (min (frame + 1) (2 ^ 64 - 1)) None quiet old new stay r
+ready_frame payload frame None quiet Unordered old new stay r = ready_deliver payload (min (frame + 1) (2 ^ 64 - 1)) None quiet old new stay r
 
 -- ---- a payload that takes all, and has no frame
 
@@ -191,23 +225,43 @@ module _ (a b : Config) (h : History) (old new : PairState) (f : PairFrom a b h 
       let P : Answer → Type 0 = λ r. Next old (steps.Emit who most true) r new in
       full_idle most big w.bytes.items (the_end new who) (asks-for a b h old new (steps.Emit who most true) (Ok (Payload w.number w.bytes)) f (subst P w.reply_is n)) w.none
 
-  ready_emit_a : (reply : Answer) → Next old (steps.Emit A most true) reply new → going_of reply ≡ Some Over → IsReadyFor (phase.EmitOfB (length old.sent) true) new
-  ready_emit_a reply n e =
+  idle_if : (going : Going) (reply : Answer) → Next old (steps.Emit A most true) reply new → going_of reply ≡ Some going → IsIdleIf (is_nothing_more going) (length old.sent) new
+  idle_if Over reply n e =
       let w = wrote_none old new A most reply n e in
       (idle_then A reply n w, first_none old new A most reply w)
+  idle_if On reply n e = tt
+  idle_if StreamOver reply n e = tt
+  idle_if Unordered reply n e = tt
 
-  ready_emit_b : (first : ℕ) (reply : Answer) → IsReadyFor (phase.EmitOfB first true) old → Next old (steps.Emit B most true) reply new → going_of reply ≡ Some Over → IsReadyFor (phase.Drop first) new
+  -- the payload that was sent has no STREAM frame where it has nothing for a reader
+  fresh_if : (who : End) (going : Going) (reply : Answer) → Next old (steps.Emit who most true) reply new → going_of reply ≡ Some going → (last_quiet : Bool) → is_quiet_at new.sent (length old.sent) ≡ last_quiet → IsStreamlessIf last_quiet new.sent (length old.sent)
+  fresh_if who going reply n e true quiet = fresh-streamless a b h old new f who most true quiet reply n going e
+  fresh_if who going reply n e false quiet = tt
+
+  ready_emit_a : (going : Going) (reply : Answer) → Next old (steps.Emit A most true) reply new → going_of reply ≡ Some going → IsReadyFor (phase.EmitOfB (length old.sent) (is_nothing_more going) (is_quiet_at new.sent (length old.sent))) new
+  ready_emit_a going reply n e = (idle_if going reply n e, fresh_if A going reply n e (is_quiet_at new.sent (length old.sent)) refl)
+
+  ready_emit_b : (first : ℕ) (reply : Answer) → IsIdleIf true first old → Next old (steps.Emit B most true) reply new → going_of reply ≡ Some Over → IsReadyFor (phase.Drop first) new
   ready_emit_b first reply r n e =
       let w = wrote_none old new B most reply n e in
       let same : new.a ≡ old.a = ap (λ (v : PairState). v.a) w.emits.emits.is in
       (record { of_a = subst IsIdle (sym same) r.0; of_b = idle_then B reply n w }, last_none old new B most reply w first r.1)
 
-  ready_emits : (first : ℕ) (empty : Bool) (going : Going) (reply : Answer) → IsReadyFor (phase.EmitOfB first empty) old → Next old (steps.Emit B most true) reply new → going_of reply ≡ Some going → IsReadyFor (after_emits first empty going (length old.sent)) new
-  ready_emits first true Over reply r n e = ready_emit_b first reply r n e
-  ready_emits first true On reply r n e = tt
-  ready_emits first true StreamOver reply r n e = tt
-  ready_emits first true Unordered reply r n e = tt
-  ready_emits first false going reply r n e = tt
+  both_if : (first : ℕ) (quiet last_quiet : Bool) → IsStreamlessIf quiet new.sent first → IsStreamlessIf last_quiet new.sent (length old.sent) → IsReadyFor (phase.Deliver first 0 (Some (length old.sent)) (quiet && last_quiet)) new
+  both_if first true true l k = (l, k)
+  both_if first true false l k = (tt, tt)
+  both_if first false last_quiet l k = (tt, tt)
+
+  ready_both : (first : ℕ) (quiet : Bool) (going : Going) (reply : Answer) → IsStreamlessIf quiet old.sent first → Next old (steps.Emit B most true) reply new → going_of reply ≡ Some going → IsReadyFor (phase.Deliver first 0 (Some (length old.sent)) (quiet && is_quiet_at new.sent (length old.sent))) new
+  ready_both first quiet going reply l n e =
+      both_if first quiet (is_quiet_at new.sent (length old.sent)) (streamless_if quiet old.sent new.sent first (stay-emitted old new B most true reply n) l) (fresh_if B going reply n e (is_quiet_at new.sent (length old.sent)) refl)
+
+  ready_emits : (first : ℕ) (empty quiet : Bool) (going : Going) (reply : Answer) → IsReadyFor (phase.EmitOfB first empty quiet) old → Next old (steps.Emit B most true) reply new → going_of reply ≡ Some going → IsReadyFor (after_emits first empty going (length old.sent) (quiet && is_quiet_at new.sent (length old.sent))) new
+  ready_emits first true quiet Over reply r n e = ready_emit_b first reply r.0 n e
+  ready_emits first true quiet On reply r n e = ready_both first quiet On reply r.1 n e
+  ready_emits first true quiet StreamOver reply r n e = ready_both first quiet StreamOver reply r.1 n e
+  ready_emits first true quiet Unordered reply r n e = ready_both first quiet Unordered reply r.1 n e
+  ready_emits first false quiet going reply r n e = ready_both first quiet going reply r.1 n e
 
 -- ---- a payload without a frame is dropped
 
@@ -316,24 +370,21 @@ module _ (a b : Config) (h : History) (old new : PairState) (f : PairFrom a b h 
 -- ---- all phases
 
 -- behind each step what is next may be begun
-pub ready-next : (a b : Config) (h : History) (old new : PairState) → PairFrom a b h old → (at : Phase) → IsReadyFor at old → (reply : Answer) → Next old (step_at at) reply new → (going : Going) → going_of reply ≡ Some going → IsReadyFor (phase_after at going (length old.sent)) new
-ready-next a b h old new f (phase.Report payload) r reply n On e = tt
-ready-next a b h old new f (phase.Report payload) r reply n Over e = tt
-ready-next a b h old new f (phase.Report payload) r reply n StreamOver e = tt
-ready-next a b h old new f (phase.Report payload) r reply n Unordered e = tt
-ready-next a b h old new f (phase.ReportLost payload) r reply n going e = tt
+pub ready-next : (a b : Config) (h : History) (old new : PairState) → PairFrom a b h old → (at : Phase) → IsReadyFor at old → (reply : Answer) → Next old (step_at at) reply new → (going : Going) → going_of reply ≡ Some going → IsReadyFor (phase_after at going (length old.sent) (is_quiet_at new.sent (length old.sent))) new
+ready-next a b h old new f (phase.Report payload quiet) r reply n On e = tt
+ready-next a b h old new f (phase.Report payload quiet) r reply n Over e = tt
+ready-next a b h old new f (phase.Report payload quiet) r reply n StreamOver e = tt
+ready-next a b h old new f (phase.Report payload quiet) r reply n Unordered e = tt
+ready-next a b h old new f (phase.ReportLost payload quiet) r reply n going e = tt
 ready-next a b h old new f (phase.Accept who dir) r reply n On e = tt
 ready-next a b h old new f (phase.Accept who dir) r reply n Over e = ready_accepting who dir new
 ready-next a b h old new f (phase.Accept who dir) r reply n StreamOver e = ready_accepting who dir new
 ready-next a b h old new f (phase.Accept who dir) r reply n Unordered e = ready_accepting who dir new
 ready-next a b h old new f (phase.Read who id ordered) r reply n going e = ready_reading who id ordered going new
 ready-next a b h old new f (phase.Poll who) r reply n going e = ready_polling who going new
-ready-next a b h old new f phase.EmitOfA r reply n On e = tt
-ready-next a b h old new f phase.EmitOfA r reply n Over e = ready_emit_a a b h old new f (2 ^ 64 - 1) (omega arith) reply n e
-ready-next a b h old new f phase.EmitOfA r reply n StreamOver e = tt
-ready-next a b h old new f phase.EmitOfA r reply n Unordered e = tt
-ready-next a b h old new f (phase.EmitOfB first empty) r reply n going e = ready_emits a b h old new f (2 ^ 64 - 1) (omega arith) first empty going reply r n e
-ready-next a b h old new f (phase.Deliver payload frame next) r reply n going e = ready_frame payload frame next going new
+ready-next a b h old new f phase.EmitOfA r reply n going e = ready_emit_a a b h old new f (2 ^ 64 - 1) (omega arith) going reply n e
+ready-next a b h old new f (phase.EmitOfB first empty quiet) r reply n going e = ready_emits a b h old new f (2 ^ 64 - 1) (omega arith) first empty quiet going reply r n e
+ready-next a b h old new f (phase.Deliver payload frame next quiet) r reply n going e = ready_frame payload frame next quiet going old new (stay-delivered old new payload frame reply n) r
 ready-next a b h old new f (phase.Drop first) r reply n going e = ready_drop a b h old new f first r going reply n e
 
 ready_same : (at next : Phase) (v : PairState) → IsReadyFor at v → next ≡ at → IsReadyFor next v
@@ -341,21 +392,21 @@ ready_same at next v r e = let P : Phase → Type 0 = λ x. IsReadyFor x v in su
 
 -- and so may the phase that is sought
 pub ready-sought : (at next : Phase) (v : PairState) → IsReadyFor at v → IsSoughtFor v.sent at next → IsReadyFor next v
-ready-sought (phase.Report from) next v r s = elim s [
+ready-sought (phase.Report from quiet) next v r s = elim s [
   | inl here ↦ (let P : Phase → Type 0 = λ x. IsReadyFor x v in subst P (sym here.2) tt)
-  | inr none ↦ (let P : Phase → Type 0 = λ x. IsReadyFor x v in subst P (sym none.1) tt)
+  | inr none ↦ (let P : Phase → Type 0 = λ x. IsReadyFor x v in subst P (sym none.1) (ready_reports quiet v))
 ]
 ready-sought (phase.Drop first) next v r s = elim s [
   | inl here ↦ (let P : Phase → Type 0 = λ x. IsReadyFor x v in subst P (sym here.2) (r.0, λ number t from got. r.1 number t (let le = here.1.low in omega (arith, le, from)) got))
   | inr none ↦ (let P : Phase → Type 0 = λ x. IsReadyFor x v in subst P (sym none.2) tt)
 ]
-ready-sought (phase.ReportLost payload) next v r s = ready_same (phase.ReportLost payload) next v r s
+ready-sought (phase.ReportLost payload quiet) next v r s = ready_same (phase.ReportLost payload quiet) next v r s
 ready-sought (phase.Accept who dir) next v r s = ready_same (phase.Accept who dir) next v r s
 ready-sought (phase.Read who id ordered) next v r s = ready_same (phase.Read who id ordered) next v r s
 ready-sought (phase.Poll who) next v r s = ready_same (phase.Poll who) next v r s
 ready-sought phase.EmitOfA next v r s = ready_same phase.EmitOfA next v r s
-ready-sought (phase.EmitOfB first empty) next v r s = ready_same (phase.EmitOfB first empty) next v r s
-ready-sought (phase.Deliver payload frame after) next v r s = ready_same (phase.Deliver payload frame after) next v r s
+ready-sought (phase.EmitOfB first empty quiet) next v r s = ready_same (phase.EmitOfB first empty quiet) next v r s
+ready-sought (phase.Deliver payload frame after quiet) next v r s = ready_same (phase.Deliver payload frame after quiet) next v r s
 
 -- ---- one step after the other
 
@@ -381,17 +432,31 @@ ready-on a b h first old before at next new behind f run r one =
     let P : Phase → Type 0 = λ x. IsReadyFor x new in
     subst P (sym on.2) (ready-next a b (h ++ before) old new (from-steps f run) at r t.reply t.next on.0 on.1)
 
+-- the history goes on by the steps of phases, and what is next may be begun
+pub record ReadyPhases (a b : Config) (h taken : History) (new : PairState) (at : Phase) : Type 0 where
+  pub led : PairFrom a b (h ++ taken) new
+  pub ready : IsReadyFor at new
+
+pub ready-phases : (a b : Config) (h : History) (old : PairState) (taken : History) (new : PairState) (at : Phase) → PairFrom a b h old → FollowsPhases old (phase.Report 0 false) taken new at → ReadyPhases a b h taken new at
+ready-phases a b h old _ _ _ f follows_none = record { led = subst (λ l. PairFrom a b l old) (sym (append-nil h)) f; ready = tt }
+ready-phases a b h old _ _ _ f (follows_more {taken} {between} {new} {at} here reply going before sought n e) =
+    let r = ready-phases a b h old taken between at f before in
+    record {
+      led = subst (λ l. PairFrom a b l new) (append_assoc h taken ((step_at here, reply) ∷ [])) (next-step (step_at here) reply r.led n);
+      ready = ready-next a b (h ++ taken) between new r.led here (ready-sought at here between r.ready sought) reply n going e;
+    }
+
 -- and so far the steps follow the phases
-pub follows-on : (first old : PairState) (before : History) (at here next : Phase) (new : PairState) (behind : History) → FollowsPhases first (phase.Report 0) before old at → IsSoughtFor old.sent at here → TakesPhaseOrNone old before here (Ok next) new behind → FollowsPhases first (phase.Report 0) behind new next
+pub follows-on : (first old : PairState) (before : History) (at here next : Phase) (new : PairState) (behind : History) → FollowsPhases first (phase.Report 0 false) before old at → IsSoughtFor old.sent at here → TakesPhaseOrNone old before here (Ok next) new behind → FollowsPhases first (phase.Report 0 false) behind new next
 follows-on first old before at here next new behind run sought one =
     let t = went_on old before here next new behind one in
     let on = t.goes next refl in
-    let P : History → Type 0 = λ l. FollowsPhases first (phase.Report 0) l new next in
-    let Q : Phase → Type 0 = λ x. FollowsPhases first (phase.Report 0) (before ++ (step_at here, t.reply) ∷ []) new x in
+    let P : History → Type 0 = λ l. FollowsPhases first (phase.Report 0 false) l new next in
+    let Q : Phase → Type 0 = λ x. FollowsPhases first (phase.Report 0 false) (before ++ (step_at here, t.reply) ∷ []) new x in
     subst P (sym t.noted) (subst Q (sym on.2) (follows_more here t.reply on.0 run sought t.next on.1))
 
 -- where memory was wanting they end there
-pub cut-off : (first old : PairState) (before : History) (at here : Phase) (error : OutOfMemory) (new : PairState) (behind : History) → FollowsPhases first (phase.Report 0) before old at → IsSoughtFor old.sent at here → TakesPhaseOrNone old before here (Err error) new behind → IsCutOff first behind new
+pub cut-off : (first old : PairState) (before : History) (at here : Phase) (error : OutOfMemory) (new : PairState) (behind : History) → FollowsPhases first (phase.Report 0 false) before old at → IsSoughtFor old.sent at here → TakesPhaseOrNone old before here (Err error) new behind → IsCutOff first behind new
 cut-off first old before at here error new behind run sought (inl t) = record { before = before; between = old; at = at; follows = run; here = here; sought = sought; last = inr (t.reply, t.next, t.wanting error refl, t.noted) }
 cut-off first old before at here error new behind run sought (inr none) = record { before = before; between = old; at = at; follows = run; here = here; sought = sought; last = inl (none.1, none.2) }
 

@@ -1,5 +1,6 @@
 -- How all that was begun is completed once the network is fair: the steps, in their order, and what is settled behind them.
-use Rattle.std.specs.Prelude.{ℕ, Bool, true, false, ◌≡◌, ◌⊎◌, ◌≤◌, ◌<◌, ◌+◌, ◌-◌, ◌^◌, min, nat_lt, if◌then◌else◌, List, [], ◌∷◌, ◌++◌, length, slice_get, Option, Some, None, Result, Ok, Err, is_ok}
+use Rattle.std.specs.Prelude.{ℕ, Bool, true, false, ◌≡◌, ◌⊎◌, ◌≤◌, ◌<◌, ◌+◌, ◌-◌, ◌^◌, ◌&&◌, min, nat_lt, if◌then◌else◌, List, [], ◌∷◌, ◌++◌, length, slice_get, Option, Some, None, unwrap_or, Result, Ok, Err, is_ok}
+use Rattle.std.specs.Option.{option_map}
 use Rattle.quic_values.specs.declared.memory.OutOfMemory.{OutOfMemory}
 use Rattle.quic_values.specs.declared.ids.Side.{Side}
 use Rattle.quic_values.specs.declared.ids.Side.TheVariants.{Client, Server}
@@ -27,6 +28,7 @@ use Rattle.quic_pair.specs.declared.phase.Phase.{Phase}
 use Rattle.quic_pair.specs.declared.phase.Phase.TheVariants as phase
 use Rattle.quic_pair.specs.declared.phase.Going.{Going}
 use Rattle.quic_pair.specs.declared.phase.Going.TheVariants.{On, Over, StreamOver, Unordered}
+use Rattle.quic_pair.specs.Unsettled.{is_quiet}
 use Rattle.quic_pair.specs.Replies.{Answer}
 use Rattle.quic_pair.specs.State.{PairState}
 use Rattle.quic_pair.specs.Steps.{Next}
@@ -37,14 +39,14 @@ use Rattle.quic_pair.specs.Tale.{Tales, Sendings, Told}
 
 -- the step of a phase. Payloads have room for all that is to be sent, and reads ask for as much as may be asked for
 abbrev pub step_at : Phase → Step
-step_at (phase.Report payload) = steps.Ack payload
-step_at (phase.ReportLost payload) = steps.Lose payload
+step_at (phase.Report payload quiet) = steps.Ack payload
+step_at (phase.ReportLost payload quiet) = steps.Lose payload
 step_at (phase.Accept who dir) = steps.Accept who dir
 step_at (phase.Read who id ordered) = steps.Read who id ordered (2 ^ 64 - 1) 65535
 step_at (phase.Poll who) = steps.Poll who
 step_at phase.EmitOfA = steps.Emit A (2 ^ 64 - 1) true
-step_at (phase.EmitOfB first empty) = steps.Emit B (2 ^ 64 - 1) true
-step_at (phase.Deliver payload frame next) = steps.Deliver payload frame
+step_at (phase.EmitOfB first empty quiet) = steps.Emit B (2 ^ 64 - 1) true
+step_at (phase.Deliver payload frame next quiet) = steps.Deliver payload frame
 step_at (phase.Drop payload) = steps.Lose payload
 
 -- what a reply says of its step; nothing where memory was wanting
@@ -75,9 +77,14 @@ is_nothing_more _ = false
 -- ---- their order
 
 -- behind an acknowledgement; where it was refused the payload is reported lost
-abbrev pub phase_after_report : ℕ → Going → Phase
-phase_after_report payload On = phase.Report payload
-phase_after_report payload _ = phase.ReportLost payload
+abbrev pub phase_after_report : ℕ → Bool → Going → Phase
+phase_after_report payload quiet On = phase.Report payload quiet
+phase_after_report payload quiet _ = phase.ReportLost payload quiet
+
+-- behind the last report. Behind a quiet round nothing is accepted or read
+abbrev pub behind_reports : Bool → Phase
+behind_reports true = phase.Poll A
+behind_reports false = phase.Accept A Bi
 
 -- behind the last stream of a direction to accept
 abbrev pub after_accepting : End → Dir → Phase
@@ -116,26 +123,31 @@ after_polling A _ = phase.Poll B
 after_polling B _ = phase.EmitOfA
 
 -- behind the payloads of both: neither has a frame, or those of the first are delivered
-abbrev pub after_emits : ℕ → Bool → Going → ℕ → Phase
-after_emits first true Over second = phase.Drop first
-after_emits first empty going second = phase.Deliver first 0 (Some second)
+abbrev pub after_emits : ℕ → Bool → Going → ℕ → Bool → Phase
+after_emits first true Over second quiet = phase.Drop first
+after_emits first empty going second quiet = phase.Deliver first 0 (Some second) quiet
 
-abbrev pub after_frame : ℕ → ℕ → Option ℕ → Going → Phase
-after_frame payload frame (Some other) Over = phase.Deliver other 0 None
-after_frame payload frame None Over = phase.Report 0
-after_frame payload frame next going = phase.Deliver payload (min (frame + 1) (2 ^ 64 - 1)) next
+abbrev pub after_frame : ℕ → ℕ → Option ℕ → Bool → Going → Phase
+after_frame payload frame (Some other) quiet Over = phase.Deliver other 0 None quiet
+after_frame payload frame None quiet Over = phase.Report 0 quiet
+after_frame payload frame next quiet going = phase.Deliver payload (min (frame + 1) (2 ^ 64 - 1)) next quiet
 
--- what is next behind a step before which so many payloads were sent
-abbrev pub phase_after : Phase → Going → ℕ → Phase
-phase_after (phase.Report payload) going sent = phase_after_report payload going
-phase_after (phase.ReportLost payload) going sent = phase.Report payload
-phase_after (phase.Accept who dir) going sent = after_accept who dir going
-phase_after (phase.Read who id ordered) going sent = after_reading who id ordered going
-phase_after (phase.Poll who) going sent = after_polling who going
-phase_after phase.EmitOfA going sent = phase.EmitOfB sent (is_nothing_more going)
-phase_after (phase.EmitOfB first empty) going sent = after_emits first empty going sent
-phase_after (phase.Deliver payload frame next) going sent = after_frame payload frame next going
-phase_after (phase.Drop payload) going sent = phase.Drop payload
+-- whether the payload of a number is quiet: it has nothing for a reader
+abbrev pub is_quiet_at : List Sent → ℕ → Bool
+is_quiet_at sent number = unwrap_or (option_map (λ (s : Sent). is_quiet s.unsettled.rest) (slice_get sent number)) true
+
+-- what is next behind a step before which so many payloads were sent, and whether the next of them is quiet, where the step
+-- sent it. A round of two payloads is quiet where both are
+abbrev pub phase_after : Phase → Going → ℕ → Bool → Phase
+phase_after (phase.Report payload quiet) going sent last_quiet = phase_after_report payload quiet going
+phase_after (phase.ReportLost payload quiet) going sent last_quiet = phase.Report payload quiet
+phase_after (phase.Accept who dir) going sent last_quiet = after_accept who dir going
+phase_after (phase.Read who id ordered) going sent last_quiet = after_reading who id ordered going
+phase_after (phase.Poll who) going sent last_quiet = after_polling who going
+phase_after phase.EmitOfA going sent last_quiet = phase.EmitOfB sent (is_nothing_more going) last_quiet
+phase_after (phase.EmitOfB first empty quiet) going sent last_quiet = after_emits first empty going sent (quiet && last_quiet)
+phase_after (phase.Deliver payload frame next quiet) going sent last_quiet = after_frame payload frame next quiet going
+phase_after (phase.Drop payload) going sent last_quiet = phase.Drop payload
 
 -- ---- what is settled behind them
 
@@ -170,7 +182,7 @@ pub record TakesPhase (old : PairState) (before : History) (at : Phase) (answer 
   pub reply : Answer
   pub next : Next old (step_at at) reply new
   pub noted : behind ≡ before ++ (step_at at, reply) ∷ []
-  pub goes : (next_one : Phase) → answer ≡ Ok next_one → (going : Going) × (going_of reply ≡ Some going) × (next_one ≡ phase_after at going (length old.sent))
+  pub goes : (next_one : Phase) → answer ≡ Ok next_one → (going : Going) × (going_of reply ≡ Some going) × (next_one ≡ phase_after at going (length old.sent) (is_quiet_at new.sent (length old.sent)))
   pub wanting : (error : OutOfMemory) → answer ≡ Err error → going_of reply ≡ None
 
 abbrev pub TakesPhaseOrNone : PairState → History → Phase → Result Phase OutOfMemory → PairState → History → Type 0
@@ -184,15 +196,15 @@ pub record IsNextFrom (sent : List Sent) (from number : ℕ) : Type 0 where
 
 -- before a phase is begun, the next payload that is to be reported is sought from a number on
 abbrev pub IsSoughtFor : List Sent → Phase → Phase → Type 0
-IsSoughtFor sent (phase.Report from) next = ((number : ℕ) × IsNextFrom sent from number × (next ≡ phase.Report number)) ⊎ (AreSettledIn from (length sent) sent × (next ≡ phase.Accept A Bi))
-IsSoughtFor sent (phase.Drop first) next = ((number : ℕ) × IsNextFrom sent first number × (next ≡ phase.Drop number)) ⊎ ((number : ℕ) × IsNextFrom sent 0 number × (next ≡ phase.Report number))
+IsSoughtFor sent (phase.Report from quiet) next = ((number : ℕ) × IsNextFrom sent from number × (next ≡ phase.Report number quiet)) ⊎ (AreSettledIn from (length sent) sent × (next ≡ behind_reports quiet))
+IsSoughtFor sent (phase.Drop first) next = ((number : ℕ) × IsNextFrom sent first number × (next ≡ phase.Drop number)) ⊎ ((number : ℕ) × IsNextFrom sent 0 number × (next ≡ phase.Report number true))
 IsSoughtFor sent at next = next ≡ at
 
 -- steps were taken one after the other, from a phase on, each of the phase that was sought; and what is next is as its reply says
 pub data FollowsPhases (old : PairState) (first : Phase) : History → PairState → Phase → Type 0 where
   none : FollowsPhases old first [] old first
   more : {taken : History} {between new : PairState} {at : Phase} (here : Phase) (reply : Answer) (going : Going) → FollowsPhases old first taken between at → IsSoughtFor between.sent at here
-      → Next between (step_at here) reply new → going_of reply ≡ Some going → FollowsPhases old first (taken ++ (step_at here, reply) ∷ []) new (phase_after here going (length between.sent))
+      → Next between (step_at here) reply new → going_of reply ≡ Some going → FollowsPhases old first (taken ++ (step_at here, reply) ∷ []) new (phase_after here going (length between.sent) (is_quiet_at new.sent (length between.sent)))
 
 -- there is none where both ends had nothing to send, and every payload is settled
 pub record IsSettledAt (at : Phase) (sent : List Sent) : Type 0 where
@@ -203,7 +215,7 @@ pub record IsSettledAt (at : Phase) (sent : List Sent) : Type 0 where
 -- the steps are those of a settling, from its first phase to its end
 pub record IsSettling (old : PairState) (taken : History) (new : PairState) : Type 0 where
   pub at : Phase
-  pub follows : FollowsPhases old (phase.Report 0) taken new at
+  pub follows : FollowsPhases old (phase.Report 0 false) taken new at
   pub ended : IsSettledAt at new.sent
 
 -- they were cut off where memory was wanting: by the reply of the last step, or for the list, and then the next was not taken
@@ -211,7 +223,7 @@ pub record IsCutOff (old : PairState) (taken : History) (new : PairState) : Type
   pub before : History
   pub between : PairState
   pub at : Phase
-  pub follows : FollowsPhases old (phase.Report 0) before between at
+  pub follows : FollowsPhases old (phase.Report 0 false) before between at
   pub here : Phase
   pub sought : IsSoughtFor between.sent at here
   pub last : ((new ≡ between) × (taken ≡ before)) ⊎ ((reply : Answer) × Next between (step_at here) reply new × (going_of reply ≡ None) × (taken ≡ before ++ (step_at here, reply) ∷ []))

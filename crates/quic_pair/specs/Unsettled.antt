@@ -1,6 +1,8 @@
 -- What is unreported of a payload that was sent.
-use Rattle.std.specs.Prelude.{Bool, true, false, ◌&&◌, Option, Some, None, is_some, Result, Ok, Err}
+use Rattle.std.specs.Prelude.{Bool, true, false, ◌&&◌, ◌==◌, length, Option, Some, None, is_some, Result, Ok, Err}
 use Rattle.quic_streams.specs.declared.settling.SentPayload.{SentPayload}
+use Rattle.quic_streams.specs.Settling.{resets_of}
+use Rattle.quic_streams.specs.Sent.{sent_view}
 use Rattle.quic_pair.specs.declared.unsettled.Unsettled.{Unsettled}
 use Rattle.quic_pair.specs.declared.unsettled.Report.{Report}
 use Rattle.quic_pair.specs.declared.unsettled.Report.TheVariants.{Lost, Acknowledged}
@@ -31,3 +33,8 @@ other_report Acknowledged = Lost
 abbrev pub unsettled_after : Report → Unsettled → Result (Unit {0}) SentPayload → Unsettled
 unsettled_after kind u (Ok done) = record u { rest = None }
 unsettled_after kind u (Err back) = record { begun = Some kind; rest = Some back }
+
+-- a payload has nothing for a reader: no STREAM frame and no RESET_STREAM frame of it is unreported
+abbrev pub is_quiet : Option SentPayload → Bool
+is_quiet None = true
+is_quiet (Some rest) = (length (sent_view rest).streams == 0) && (length (resets_of (sent_view rest).control) == 0)

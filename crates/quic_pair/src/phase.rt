@@ -2,28 +2,28 @@
 
 ghost use Rattle.std.specs.Prelude.{◌≡◌, ◌-◌, ◌^◌, true};
 ghost use Rattle.quic_values.specs.Ids.{stream_id};
-ghost use Rattle.quic_pair.specs.Settling.{step_at, going_of, going_reading, going_sending, phase_after, is_nothing_more, phase_after_report, after_accept, after_accepting, after_streams, after_stream, after_reading, after_polling, after_emits, after_frame};
+ghost use Rattle.quic_pair.specs.Settling.{step_at, going_of, going_reading, going_sending, phase_after, is_nothing_more, phase_after_report, behind_reports, after_accept, after_accepting, after_streams, after_stream, after_reading, after_polling, after_emits, after_frame};
 
 use quic_steps::{End, Last, PairError, Reply, Step};
 use quic_values::{Dir, MAX_STREAM_COUNT, Side, StreamId};
 use quic_wire::ReceiveError;
 
-/// Which step is next.
+/// Which step is next. A payload is quiet where it has nothing for a reader, and a round of two payloads where both are.
 #[derive(Clone, Copy)]
 pub(crate) enum Phase {
-    // An acknowledgement of a payload that is not settled.
-    Report(usize),
+    // An acknowledgement of a payload that is not settled, and whether the last round was quiet.
+    Report(usize, bool),
     // Its loss, where that was refused.
-    ReportLost(usize),
+    ReportLost(usize, bool),
     Accept(End, Dir),
     // A read of a stream by an end, in order or as bytes come.
     Read(End, StreamId, bool),
     Poll(End),
     EmitOfA,
-    // With the number of the payload of A, and whether that has no frame.
-    EmitOfB(usize, bool),
-    // A payload and a frame; and the payload whose frames are next, if there is one.
-    Deliver(usize, usize, Option<usize>),
+    // With the number of the payload of A, whether that has no frame, and whether it is quiet.
+    EmitOfB(usize, bool, bool),
+    // A payload and a frame; the payload whose frames are next, if there is one; and whether the round is quiet.
+    Deliver(usize, usize, Option<usize>, bool),
     // The loss of a payload without a frame, where neither end had something to send.
     Drop(usize),
 }
@@ -87,13 +87,23 @@ impl Going {
     }
 }
 
-fn after_report(payload: usize, going: Going) -> Phase
-    ensures { result ≡ phase_after_report payload going }
+fn after_report(payload: usize, quiet: bool, going: Going) -> Phase
+    ensures { result ≡ phase_after_report payload quiet going }
 {
     match going {
-        Going::On => Phase::Report(payload),
-        _ => Phase::ReportLost(payload),
+        Going::On => Phase::Report(payload, quiet),
+        _ => Phase::ReportLost(payload, quiet),
     }
+}
+
+// What is next behind the last report. Behind a quiet round nothing is accepted or read.
+pub(crate) fn behind_reports(quiet: bool) -> Phase
+    ensures { result ≡ behind_reports quiet }
+{
+    if quiet {
+        return Phase::Poll(End::A);
+    }
+    Phase::Accept(End::A, Dir::Bi)
 }
 
 fn after_accept(who: End, dir: Dir, going: Going) -> Phase
@@ -170,22 +180,28 @@ fn after_polling(who: End, going: Going) -> Phase
 }
 
 // Behind the payloads of both: neither has a frame, or those of the first are delivered.
-fn after_emits(first: usize, empty: bool, going: Going, second: usize) -> Phase
-    ensures { result ≡ after_emits first empty going second }
+fn after_emits(first: usize, empty: bool, going: Going, second: usize, quiet: bool) -> Phase
+    ensures { result ≡ after_emits first empty going second quiet }
 {
     match (empty, going) {
         (true, Going::Over) => Phase::Drop(first),
-        _ => Phase::Deliver(first, 0, Some(second)),
+        _ => Phase::Deliver(first, 0, Some(second), quiet),
     }
 }
 
-fn after_frame(payload: usize, frame: usize, next: Option<usize>, going: Going) -> Phase
-    ensures { result ≡ after_frame payload frame next going }
+fn after_frame(
+    payload: usize,
+    frame: usize,
+    next: Option<usize>,
+    quiet: bool,
+    going: Going,
+) -> Phase
+    ensures { result ≡ after_frame payload frame next quiet going }
 {
     match (next, going) {
-        (Some(other), Going::Over) => Phase::Deliver(other, 0, None),
-        (None, Going::Over) => Phase::Report(0),
-        _ => Phase::Deliver(payload, frame.saturating_add(1), next),
+        (Some(other), Going::Over) => Phase::Deliver(other, 0, None, quiet),
+        (None, Going::Over) => Phase::Report(0, quiet),
+        _ => Phase::Deliver(payload, frame.saturating_add(1), next, quiet),
     }
 }
 
@@ -230,31 +246,36 @@ impl Phase {
         ensures { result ≡ step_at self.now }
     {
         match self {
-            Phase::Report(payload) => Step::Ack { payload: *payload },
-            Phase::ReportLost(payload) => Step::Lose { payload: *payload },
+            Phase::Report(payload, _) => Step::Ack { payload: *payload },
+            Phase::ReportLost(payload, _) => Step::Lose { payload: *payload },
             Phase::Accept(who, dir) => accept_step(*who, *dir),
             Phase::Read(who, id, ordered) => read_step(*who, *id, *ordered),
             Phase::Poll(who) => Step::Poll { who: *who },
             Phase::EmitOfA => emit_step(End::A),
-            Phase::EmitOfB(_, _) => emit_step(End::B),
-            Phase::Deliver(payload, frame, _) => deliver_step(*payload, *frame),
+            Phase::EmitOfB(_, _, _) => emit_step(End::B),
+            Phase::Deliver(payload, frame, _, _) => deliver_step(*payload, *frame),
             Phase::Drop(payload) => Step::Lose { payload: *payload },
         }
     }
 
-    // What is next behind a step before which so many payloads were sent.
-    pub(crate) fn after(self, going: Going, sent: usize) -> Phase
-        ensures { result ≡ phase_after self going sent }
+    // What is next behind a step before which so many payloads were sent, and whether the next of them is quiet, where the
+    // step sent it.
+    pub(crate) fn after(self, going: Going, sent: usize, last_quiet: bool) -> Phase
+        ensures { result ≡ phase_after self going sent last_quiet }
     {
         match self {
-            Phase::Report(payload) => after_report(payload, going),
-            Phase::ReportLost(payload) => Phase::Report(payload),
+            Phase::Report(payload, quiet) => after_report(payload, quiet, going),
+            Phase::ReportLost(payload, quiet) => Phase::Report(payload, quiet),
             Phase::Accept(who, dir) => after_accept(who, dir, going),
             Phase::Read(who, id, ordered) => after_reading(who, id, ordered, going),
             Phase::Poll(who) => after_polling(who, going),
-            Phase::EmitOfA => Phase::EmitOfB(sent, going.is_over()),
-            Phase::EmitOfB(first, empty) => after_emits(first, empty, going, sent),
-            Phase::Deliver(payload, frame, next) => after_frame(payload, frame, next, going),
+            Phase::EmitOfA => Phase::EmitOfB(sent, going.is_over(), last_quiet),
+            Phase::EmitOfB(first, empty, quiet) => {
+                after_emits(first, empty, going, sent, quiet && last_quiet)
+            }
+            Phase::Deliver(payload, frame, next, quiet) => {
+                after_frame(payload, frame, next, quiet, going)
+            }
             Phase::Drop(payload) => Phase::Drop(payload),
         }
     }

@@ -12,13 +12,13 @@ ghost use Rattle.quic_pair.specs.Refused.{IsRefusedSo};
 ghost use Rattle.quic_pair.specs.Unrefused.{RefusesNoFrame};
 ghost use Rattle.quic_pair.specs.Readable.{WithholdsNothing};
 ghost use Rattle.quic_pair.specs.Law.{Drains};
-ghost use Rattle.quic_pair.specs.Settling.{AreSettledIn, IsSoughtFor, IsSettledAt, IsSettling, IsCutOff, TakesPhaseOrNone, IsAllReported, AreIdle, LeavesNoRest};
+ghost use Rattle.quic_pair.specs.Settling.{AreSettledIn, IsSoughtFor, IsSettledAt, is_quiet_at, IsSettling, IsCutOff, TakesPhaseOrNone, IsAllReported, AreIdle, LeavesNoRest};
 ghost use Rattle.quic_pair.specs.Completed.{HaveArrived, HaveBeenRead, AreAllAcked};
 
 use crate::pair::Pair;
-use crate::phase::{Phase, going_of};
-use quic_steps::{End, PairError, Reply, Step};
-use quic_values::{Dir, OutOfMemory};
+use crate::phase::{Phase, behind_reports, going_of};
+use quic_steps::{PairError, Reply, Step};
+use quic_values::OutOfMemory;
 
 /// A step that was taken, with its reply.
 pub type StepTaken = (Step, Result<Reply, PairError>);
@@ -26,7 +26,8 @@ pub type StepTaken = (Step, Result<Reply, PairError>);
 #[tactic(auto, unfolding(crate::specs::State::pair_view))]
 impl Pair {
     /// Takes the steps of a network that is fair from now on, with two applications that accept, read and poll all that
-    /// comes, until neither end has something to send and every payload is settled. Answers these steps with their
+    /// comes, until neither end has something to send and every payload is settled. They accept and read at first, and then
+    /// only behind two payloads of which one had a STREAM or a RESET_STREAM frame. Answers these steps with their
     /// replies. Then all that was written on streams that were not given up arrived, and was read unless it was stopped.
     /// Where memory is wanting, in a step or for the list, no more steps are taken, and an error stands beside those
     /// that were.
@@ -65,7 +66,7 @@ impl Pair {
         ensures settled { OnOk result (AreSettledIn 0 (length (pair_view self.new).sent) (pair_view self.new).sent) }
         ensures idle { OnOk result ((a b : Config) (h : History) → PairFrom a b h (pair_view self.old) → AreIdle (pair_view self.new)) }
     {
-        let mut phase = Phase::Report(0);
+        let mut phase = Phase::Report(0, false);
         while let Some(next) = self.seek(phase) {
             phase = self.take(next, taken)?;
         }
@@ -82,8 +83,18 @@ impl Pair {
         let going = going_of(&reply);
         note(taken, phase.step(), reply);
         match going {
-            Some(going) => Ok(phase.after(going, sent)),
+            Some(going) => Ok(phase.after(going, sent, self.is_quiet(sent))),
             None => Err(OutOfMemory),
+        }
+    }
+
+    // Whether the payload of a number is quiet: it has nothing for a reader.
+    fn is_quiet(&self, payload: usize) -> bool
+        ensures { result ≡ is_quiet_at (pair_view self.now).sent payload }
+    {
+        match self.sent.get(payload) {
+            Some(sent) => sent.unsettled.is_quiet(),
+            None => true,
         }
     }
 
@@ -93,20 +104,20 @@ impl Pair {
         ensures none { IfNone result (IsSettledAt phase (pair_view self.now).sent) }
     {
         match phase {
-            Phase::Report(from) => Some(self.report_from(from)),
+            Phase::Report(from, quiet) => Some(self.report_from(from, quiet)),
             Phase::Drop(from) => self.drop_from(from),
             _ => Some(phase),
         }
     }
 
-    fn report_from(&self, from: usize) -> Phase
-        ensures { IsSoughtFor (pair_view self.now).sent (Phase.Report from) result }
+    fn report_from(&self, from: usize, quiet: bool) -> Phase
+        ensures { IsSoughtFor (pair_view self.now).sent (Phase.Report from quiet) result }
     {
         let number = self.unsettled_from(from);
         if number < self.sent.len() {
-            return Phase::Report(number);
+            return Phase::Report(number, quiet);
         }
-        Phase::Accept(End::A, Dir::Bi)
+        behind_reports(quiet)
     }
 
     fn drop_from(&self, from: usize) -> Option<Phase>
@@ -119,7 +130,7 @@ impl Pair {
         }
         let number = self.unsettled_from(0);
         if number < self.sent.len() {
-            return Some(Phase::Report(number));
+            return Some(Phase::Report(number, true));
         }
         None
     }

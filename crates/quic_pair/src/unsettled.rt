@@ -1,8 +1,11 @@
 //! What is unreported of a payload that was sent.
 
-ghost use Rattle.std.specs.Prelude.{◌≡◌, None, Some, is_none};
-ghost use Rattle.quic_pair.specs.Unsettled.{needs_acceptance, goes_on, may_report};
+ghost use Rattle.std.specs.Prelude.{◌≡◌, ◌==◌, length, None, Some, is_none};
+ghost use Rattle.quic_retransmits.specs.Pending.{thin_view};
+ghost use Rattle.quic_streams.specs.Settling.{resets_of};
+ghost use Rattle.quic_pair.specs.Unsettled.{needs_acceptance, goes_on, may_report, is_quiet};
 
+use quic_retransmits::ThinRetransmits;
 use quic_streams::SentPayload;
 
 /// What becomes of a payload.
@@ -70,6 +73,16 @@ impl Unsettled {
         self.rest.is_none()
     }
 
+    // Whether nothing for a reader is unreported: no STREAM frame and no RESET_STREAM frame.
+    pub(crate) fn is_quiet(&self) -> bool
+        ensures { result ≡ is_quiet self.now.rest }
+    {
+        match &self.rest {
+            Some(rest) => rest.streams.is_empty() && has_no_reset(&rest.control),
+            None => true,
+        }
+    }
+
     // Takes what is unreported out.
     pub(crate) fn take(&mut self) -> Option<SentPayload>
         ensures rest { result ≡ self.old.rest }
@@ -84,5 +97,15 @@ impl Unsettled {
     {
         self.begun = Some(kind);
         self.rest = Some(back);
+    }
+}
+
+// Whether no RESET_STREAM frame was noted.
+fn has_no_reset(control: &ThinRetransmits) -> bool
+    ensures { result ≡ (length (resets_of (thin_view control.now)) == 0) }
+{
+    match control.get() {
+        Some(noted) => noted.reset_stream.is_empty(),
+        None => true,
     }
 }

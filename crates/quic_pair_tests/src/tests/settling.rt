@@ -93,21 +93,21 @@ fn what_was_lost_comes_once_and_is_told_to_both_ends(rt: HostRuntime) -> Result<
     Ok(())
 }
 
-// A window of eight bytes is filled three times, and each time the reader gets all of it.
+// A window of four bytes is filled three times, and each time the reader gets all of it.
 #[test]
 fn a_full_window_is_opened_again(rt: HostRuntime) -> Result<(), Fail> {
     let alloc = rt.alloc();
     let (who, id, dir) = (End::A, stream(), Dir::Uni);
-    let mut pair = new_pair(alloc, 8)?;
+    let mut pair = new_pair(alloc, 4)?;
     is_true(&rt, pair.step(Step::Open { who, dir }) == Ok(Reply::Id(id)));
     for _ in 0..3u32 {
-        let bytes = bytes(alloc, b"abcdefghi")?;
+        let bytes = bytes(alloc, b"abcde")?;
         is_true(
             &rt,
-            pair.step(Step::Write { who, id, bytes }) == Ok(Reply::Wrote(8)),
+            pair.step(Step::Write { who, id, bytes }) == Ok(Reply::Wrote(4)),
         );
         let told = settle(alloc, &mut pair, id)?;
-        is_true(&rt, told.bytes.as_slice() == b"abcdefgh".as_slice());
+        is_true(&rt, told.bytes.as_slice() == b"abcd".as_slice());
         same(&rt, told.ends, 0);
     }
     Ok(())

@@ -1,4 +1,4 @@
-use Rattle.std.proofs.Common.{sym, subst}
+use Rattle.std.proofs.Common.{false, sym, subst}
 use Rattle.quic_pair.specs.declared.phase.Phase.TheVariants as phase
 use Rattle.quic_pair.specs.State.{pair_view}
 use Rattle.quic_pair.specs.History.{History}
@@ -11,7 +11,7 @@ pub loop-next-init : goal.loop-next-init
 loop-next-init c =
     let v = pair_view c.args.self.now in
     let P : History → Type 0 = λ l. TakesSteps v l v in
-    let Q : History → Type 0 = λ l. FollowsPhases v (phase.Report 0) l v (phase.Report 0) in
+    let Q : History → Type 0 = λ l. FollowsPhases v (phase.Report 0 false) l v (phase.Report 0 false) in
     record { taken = subst P (sym c.requires) none; order = subst Q (sym c.requires) follows_none; ready = λ a b h f. tt }
 
 pub returns-in_err-phase-clause-next : goal.returns-in_err-phase-clause-next

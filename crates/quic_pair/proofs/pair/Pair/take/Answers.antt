@@ -1,10 +1,10 @@
-use Rattle.std.proofs.Common.{◌≡◌, ◌++◌, [], ◌∷◌, Result, Ok, Err, ap, sym, subst, ◌∙◌, inl, arith}
+use Rattle.std.proofs.Common.{◌≡◌, ◌++◌, [], ◌∷◌, length, Result, Ok, Err, ap, sym, subst, ◌∙◌, inl, arith}
 use Rattle.quic_values.specs.declared.memory.OutOfMemory.{OutOfMemory}
 use Rattle.quic_steps.specs.declared.steps.Step.{Step}
 use Rattle.quic_pair.specs.declared.phase.Phase.{Phase}
 use Rattle.quic_pair.specs.State.{pair_view}
 use Rattle.quic_pair.specs.Steps.{Next}
-use Rattle.quic_pair.specs.Settling.{phase_after}
+use Rattle.quic_pair.specs.Settling.{phase_after, is_quiet_at}
 use Rattle.quic_pair.proofs.pair.Pair.take.Goals as goal
 
 ok_same : (x y : Phase) → ◌≡◌ {A = Result Phase OutOfMemory} (Ok x) (Ok y) → x ≡ y
@@ -21,6 +21,7 @@ unfolding pair_view
 returns-in-Some c =
     let reply = c.step-reply.result in
     let P : Step → Type 0 = λ s. Next (pair_view c.args.self.now) s reply (pair_view c.step-reply.new.self) in
+    let size : c.len-sent.result ≡ length (pair_view c.args.self.now).sent = omega (arith, c.len-sent.ensures, c.args.self.now.sent.ok.0) in
     inl (record {
       reply = reply;
       next = subst P c.step.ensures c.step-reply.ensures.next;
@@ -28,7 +29,8 @@ returns-in-Some c =
       goes = λ next_one e. (
         c.in-Some.going,
         sym c.going_of-going.ensures ∙ c.in-Some.is,
-        sym (ok_same c.after.result next_one e) ∙ c.after.ensures ∙ ap (phase_after c.args.phase c.in-Some.going) (omega (arith, c.len-sent.ensures, c.args.self.now.sent.ok.0)),
+        sym (ok_same c.after.result next_one e) ∙ c.after.ensures ∙ ap (phase_after c.args.phase c.in-Some.going c.len-sent.result) c.is_quiet.ensures
+            ∙ ap (λ n. phase_after c.args.phase c.in-Some.going n (is_quiet_at (pair_view c.step-reply.new.self).sent n)) size,
       );
       wanting = λ error e. absurd (ok_err _ error e);
     })
