@@ -186,7 +186,7 @@ int32_t qs_set_peer_limits(qs_conn *conn, const qs_peer_limits *limits);
 int32_t qs_zero_rtt_rejected(qs_conn *conn);
 
 /* All data of an early start are to be sent again, as after a Retry (RFC 9000
- * section 17.2.5). Frames beside data are those of payloads: report these
+ * section 17.2.5). Control frames are those of payloads: report these
  * lost, by their tokens. Meant for a time at which nothing was acknowledged.
  * QS_ERR_NOMEM. */
 int32_t qs_retransmit_all_for_0rtt(qs_conn *conn);
@@ -316,7 +316,7 @@ typedef struct qs_info {
   uint64_t send_streams;   /* how many streams have a send half that is held */
   uint64_t payloads;       /* how many payloads are not settled */
   uint64_t can_send_stream_data; /* 1: data wait to be sent */
-  uint64_t has_pending;          /* 1: frames beside data wait to be sent */
+  uint64_t has_pending;          /* 1: control frames wait to be sent */
 } qs_info;
 
 /* QS_OK: *info is set. */
@@ -398,7 +398,7 @@ int32_t qs_emit_lent(qs_conn *conn, uint32_t parts, uint32_t fair, size_t cap,
                      const uint8_t **data, qs_payload *payload);
 
 typedef struct qs_due {
-  uint64_t control;   /* 1: frames beside data wait to be sent */
+  uint64_t control;   /* 1: control frames wait to be sent */
   uint64_t datagrams; /* 1: datagrams do */
   uint64_t streams;   /* 1: data do */
 } qs_due;

@@ -269,7 +269,7 @@ impl StreamsState {
         unsafe { sys::qs_zero_rtt_rejected(&mut self.conn) };
     }
 
-    /// All data of an early start are to be sent again, as after a Retry (RFC 9000 section 17.2.5). Frames beside data
+    /// All data of an early start are to be sent again, as after a Retry (RFC 9000 section 17.2.5). Control frames
     /// are those of payloads: report these lost.
     pub fn retransmit_all_for_0rtt(&mut self) -> Result<(), OutOfMemory> {
         memory(unsafe { sys::qs_retransmit_all_for_0rtt(&mut self.conn) })

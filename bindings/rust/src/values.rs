@@ -205,7 +205,7 @@ impl Event {
 /// Which frames a payload is to have, and how streams share it.
 #[derive(Clone, Copy, Debug, PartialEq, Eq)]
 pub struct Emit {
-    /// Frames beside data: resets, stops, limits.
+    /// Control frames: resets, stops, limits.
     pub control: bool,
     /// Datagrams.
     pub datagrams: bool,
@@ -274,7 +274,7 @@ pub struct Lent<'a> {
 /// What waits to be sent.
 #[derive(Clone, Copy, Debug, PartialEq, Eq)]
 pub struct Due {
-    /// Frames beside data.
+    /// Control frames.
     pub control: bool,
     /// Datagrams.
     pub datagrams: bool,
@@ -301,6 +301,6 @@ pub struct Info {
     pub payloads: u64,
     /// Whether data wait to be sent.
     pub can_send_stream_data: bool,
-    /// Whether frames beside data wait to be sent.
+    /// Whether control frames wait to be sent.
     pub has_pending: bool,
 }
