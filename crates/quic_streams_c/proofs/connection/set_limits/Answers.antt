@@ -4,7 +4,7 @@ use Rattle.quic_streams_c.proofs.connection.set_limits.Goals as goal
 
 pub returns-in-Ok : goal.returns-in-Ok
 returns-in-Ok c =
-    let p = c.set_params.ensures in
+    let p = rw c.in-Ok.is at c.set_params.ensures in
     let d = c.set_max_datagram.ensures in
     let limits = c.in-Some.ensures.1 in
     inr (
@@ -21,6 +21,6 @@ returns-in-Ok c =
 
 pub returns-in-Err : goal.returns-in-Err
 returns-in-Err c =
-    let p = c.set_params.ensures in
+    let p = rw c.in-Err.is at c.set_params.ensures in
     let limits = c.in-Some.ensures.1 in
     inr (c.in-Some.ensures.0, Err (record {}), ((p.err, p.beside), λ m h f. rw limits at (p.from m h f)), refl)
