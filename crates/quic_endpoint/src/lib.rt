@@ -2,6 +2,7 @@
 #![tactic(auto)]
 
 mod application;
+mod early;
 pub mod endpoint;
 mod frames;
 pub mod payload;

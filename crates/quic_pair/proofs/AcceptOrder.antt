@@ -8,7 +8,7 @@ use Rattle.quic_values.specs.declared.ids.Dir.TheVariants.{Bi, Uni}
 use Rattle.quic_values.specs.Ids.{initiator_of, dir_of, index_of, stream_id}
 use Rattle.quic_endpoint.specs.Reports.{LosesPayloadAt, AcksPayloadAt}
 use Rattle.quic_link.specs.Endpoints.{IsOneOf}
-use Rattle.quic_steps.specs.declared.steps.Config.{Config}
+use Rattle.quic_pair.proofs.Origins.{Origin}
 use Rattle.quic_steps.specs.declared.steps.End.{End}
 use Rattle.quic_steps.specs.declared.steps.End.TheVariants.{A, B}
 use Rattle.quic_steps.specs.declared.steps.Step.TheVariants as steps
@@ -23,13 +23,14 @@ use Rattle.quic_pair.specs.declared.phase.Going.{Going}
 use Rattle.quic_pair.specs.declared.phase.Going.TheVariants.{On, Over, StreamOver, Unordered}
 use Rattle.quic_pair.specs.Replies.{Answer}
 use Rattle.quic_pair.specs.State.{PairState, the_end}
-use Rattle.quic_pair.specs.Steps.{Next, SettlesPayload}
+use Rattle.quic_pair.specs.Steps.{NextOrdinary, SettlesPayload}
 use Rattle.quic_pair.specs.History.{Past, History, past_of, past_read, after, after_given, after_poll, after_deliver, after_report}
-use Rattle.quic_pair.specs.From.{PairFrom}
+use Rattle.quic_pair.proofs.Eras.{EraFrom}
 use Rattle.quic_pair.specs.Settling.{step_at, going_of, phase_after, phase_after_report, behind_reports, is_quiet_at, is_nothing_more, after_accepting, after_accept, after_streams, after_reading, after_polling, after_emits, after_frame, FollowsPhases, IsSoughtFor, none as follows_none, more as follows_more}
 use Rattle.quic_pair.proofs.Beside.{beside}
 use Rattle.quic_pair.proofs.Grown.{past-after}
 use Rattle.quic_pair.proofs.PayloadKnows.{StaySent}
+use Rattle.quic_pair.proofs.Ordinary.{ordinary-at}
 use Rattle.quic_pair.proofs.Settling.{IsReadyFor, IsStreamlessIf, ready-sought, ready-phases}
 use Rattle.quic_pair.proofs.Streamless.{IsStreamless, streamless-stays, adds-none, adds-accepted, deliver-ids, deliver-flow, stay-emitted, stay-delivered, stay-reported}
 use Rattle.quic_pair.proofs.Accepting.{IsQuiet, IsGrownFlow, WasAcceptedAll, quiet-stay, quiet-given, read-grown, poll-grown, accepted-still, nothing-accepted, grown-one}
@@ -151,7 +152,7 @@ asked_reports false end d k = k
 -- ---- steps that bring no STREAM frame
 
 module _ (p : Past) (old new : PairState) where
-  quiet_poll : (who : End) (reply : Answer) → Next old (steps.Poll who) reply new → IsQuiet p (after_poll p who reply) old.sent new.sent
+  quiet_poll : (who : End) (reply : Answer) → NextOrdinary old (steps.Poll who) reply new → IsQuiet p (after_poll p who reply) old.sent new.sent
   quiet_poll who reply n = record {
     ids = λ end id l. let P : List ℕ → Type 0 = λ ids. IsOneOf id ids in subst P (sym (poll_ids p who end reply)) l;
     accepted = adds-none new.sent p.accepted _ (beside p (steps.Poll who) reply tt).accepted;
@@ -159,7 +160,7 @@ module _ (p : Past) (old new : PairState) where
     stay = stay_on_end old who new n;
   }
 
-  quiet_read : (who : End) (id : ℕ) (ordered : Bool) (most times : ℕ) (reply : Answer) → Next old (steps.Read who id ordered most times) reply new → IsQuiet p (past_read p who id ordered reply) old.sent new.sent
+  quiet_read : (who : End) (id : ℕ) (ordered : Bool) (most times : ℕ) (reply : Answer) → NextOrdinary old (steps.Read who id ordered most times) reply new → IsQuiet p (past_read p who id ordered reply) old.sent new.sent
   quiet_read who id ordered most times reply n = record {
     ids = λ end q l. let P : List ℕ → Type 0 = λ ids. IsOneOf q ids in subst P (sym (read_ids p who end id ordered reply)) l;
     accepted = adds-none new.sent p.accepted _ (beside p (steps.Read who id ordered most times) reply tt).accepted;
@@ -178,7 +179,7 @@ module _ (p : Past) (old new : PairState) where
   quiet_acked : (number : ℕ) (reply : Answer) → SettlesPayload Acknowledged AcksPayloadAt old number reply new → IsQuiet p (after_report p number Acknowledged reply) old.sent new.sent
   quiet_acked number reply e = quiet_noted number Acknowledged reply (stay-reported old new Acknowledged AcksPayloadAt number reply e)
 
-  quiet_deliver : (number index : ℕ) (reply : Answer) → Next old (steps.Deliver number index) reply new → IsStreamless old.sent number → IsQuiet p (after_deliver p (number, index) reply) old.sent new.sent
+  quiet_deliver : (number index : ℕ) (reply : Answer) → NextOrdinary old (steps.Deliver number index) reply new → IsStreamless old.sent number → IsQuiet p (after_deliver p (number, index) reply) old.sent new.sent
   quiet_deliver number index reply n none =
       let stay = stay-delivered old new number index reply n in
       record {
@@ -191,18 +192,18 @@ module _ (p : Past) (old new : PairState) where
 -- ---- all phases
 
 -- before a phase all that was asked for was accepted
-abbrev pub HasAsked : Config → Config → Phase → Past → List Sent → Type 0
+abbrev pub HasAsked : Origin → Origin → Phase → Past → List Sent → Type 0
 HasAsked a b at p sent = (end : End) (d : Dir) → IsAsked at end d → WasAcceptedAll a b p sent end d
 
-module _ (a b : Config) where
+module _ (a b : Origin) where
   asks_on : (p q : Past) (sent more : List Sent) (at later : Phase) → IsQuiet p q sent more → ((end : End) (d : Dir) → IsAsked later end d → IsAsked at end d) → HasAsked a b at p sent → HasAsked a b later q more
   asks_on p q sent more at later quiet same r end d k = accepted-still a b p q sent more end d quiet (r end d (same end d k))
 
   asks_none : (at : Phase) (p : Past) (sent : List Sent) → ((end : End) (d : Dir) → IsAsked at end d → ⊥) → HasAsked a b at p sent
   asks_none at p sent none end d k = absurd (none end d k)
 
-  module _ (h : History) (old new : PairState) (f : PairFrom a b h old) where
-    accept_ended : (who : End) (dir : Dir) (reply : Answer) → Next old (steps.Accept who dir) reply new → (going_of reply ≡ Some On → ⊥) → HasAsked a b (phase.Accept who dir) (past_of h) old.sent → HasAsked a b (after_accepting who dir) (after_given (past_of h) who reply) new.sent
+  module _ (h : History) (old new : PairState) (f : EraFrom a b h old) where
+    accept_ended : (who : End) (dir : Dir) (reply : Answer) → NextOrdinary old (steps.Accept who dir) reply new → (going_of reply ≡ Some On → ⊥) → HasAsked a b (phase.Accept who dir) (past_of h) old.sent → HasAsked a b (after_accepting who dir) (after_given (past_of h) who reply) new.sent
     accept_ended who dir reply n other r end d k =
         let quiet = quiet-given (past_of h) old.sent new.sent who reply (stay_on_end old who new n) in
         elim (asked_behind who dir end d k) [
@@ -217,19 +218,19 @@ module _ (a b : Config) where
           ]
         ]
 
-    asks_accept : (who : End) (dir : Dir) (going : Going) (reply : Answer) → Next old (steps.Accept who dir) reply new → going_of reply ≡ Some going → HasAsked a b (phase.Accept who dir) (past_of h) old.sent → HasAsked a b (after_accept who dir going) (after_given (past_of h) who reply) new.sent
+    asks_accept : (who : End) (dir : Dir) (going : Going) (reply : Answer) → NextOrdinary old (steps.Accept who dir) reply new → going_of reply ≡ Some going → HasAsked a b (phase.Accept who dir) (past_of h) old.sent → HasAsked a b (after_accept who dir going) (after_given (past_of h) who reply) new.sent
     asks_accept who dir On reply n e r = asks_on (past_of h) (after_given (past_of h) who reply) old.sent new.sent (phase.Accept who dir) (phase.Accept who dir) (quiet-given (past_of h) old.sent new.sent who reply (stay_on_end old who new n)) (λ end d k. k) r
     asks_accept who dir Over reply n e r = accept_ended who dir reply n (λ on. let c = sym e ∙ on in cc) r
     asks_accept who dir StreamOver reply n e r = accept_ended who dir reply n (λ on. let c = sym e ∙ on in cc) r
     asks_accept who dir Unordered reply n e r = accept_ended who dir reply n (λ on. let c = sym e ∙ on in cc) r
 
     -- all stays accepted behind frames of a quiet round, and nothing is said behind others
-    asks_frame : (payload frame : ℕ) (other : Option ℕ) (quiet : Bool) (going : Going) (reply : Answer) → Next old (steps.Deliver payload frame) reply new → IsStreamlessIf quiet old.sent payload → HasAsked a b (phase.Deliver payload frame other quiet) (past_of h) old.sent → HasAsked a b (after_frame payload frame other quiet going) (after_deliver (past_of h) (payload, frame) reply) new.sent
+    asks_frame : (payload frame : ℕ) (other : Option ℕ) (quiet : Bool) (going : Going) (reply : Answer) → NextOrdinary old (steps.Deliver payload frame) reply new → IsStreamlessIf quiet old.sent payload → HasAsked a b (phase.Deliver payload frame other quiet) (past_of h) old.sent → HasAsked a b (after_frame payload frame other quiet going) (after_deliver (past_of h) (payload, frame) reply) new.sent
     asks_frame payload frame other true going reply n none r =
         asks_on (past_of h) (after_deliver (past_of h) (payload, frame) reply) old.sent new.sent (phase.Deliver payload frame other true) (after_frame payload frame other true going) (quiet_deliver (past_of h) old new payload frame reply n none) (asked_frame payload frame other true going) r
     asks_frame payload frame other false going reply n none r = asks_none (after_frame payload frame other false going) _ new.sent (asked_frame payload frame other false going)
 
-    asks_after : (at : Phase) (reply : Answer) → Next old (step_at at) reply new → (going : Going) → going_of reply ≡ Some going → IsReadyFor at old → HasAsked a b at (past_of h) old.sent → HasAsked a b (phase_after at going (length old.sent) (is_quiet_at new.sent (length old.sent))) (after (past_of h) (step_at at) reply) new.sent
+    asks_after : (at : Phase) (reply : Answer) → NextOrdinary old (step_at at) reply new → (going : Going) → going_of reply ≡ Some going → IsReadyFor at old → HasAsked a b at (past_of h) old.sent → HasAsked a b (phase_after at going (length old.sent) (is_quiet_at new.sent (length old.sent))) (after (past_of h) (step_at at) reply) new.sent
     asks_after (phase.Report payload quiet) reply n going e ready r =
         asks_on (past_of h) _ old.sent new.sent (phase.Report payload quiet) (phase_after_report payload quiet going) (quiet_acked (past_of h) old new payload reply n) (asked_report payload quiet going) r
     asks_after (phase.ReportLost payload quiet) reply n going e ready r =
@@ -268,12 +269,12 @@ module _ (a b : Config) where
   asks_sought (phase.Deliver payload frame other quiet) here p sent s r = let P : Phase → Type 0 = λ x. HasAsked a b x p sent in subst P (sym s) r
 
 -- each phase finds accepted what was asked for
-pub asks-phases : (a b : Config) (h : History) (old : PairState) (taken : History) (new : PairState) (at : Phase) → PairFrom a b h old → FollowsPhases old (phase.Report 0 false) taken new at → HasAsked a b at (past_of (h ++ taken)) new.sent
+pub asks-phases : (a b : Origin) (h : History) (old : PairState) (taken : History) (new : PairState) (at : Phase) → EraFrom a b h old → FollowsPhases old (phase.Report 0 false) taken new at → HasAsked a b at (past_of (h ++ taken)) new.sent
 asks-phases a b h old _ _ _ f follows_none = asks_none a b (phase.Report 0 false) (past_of (h ++ [])) old.sent (λ end d k. k)
 asks-phases a b h old _ _ _ f (follows_more {taken} {between} {new} {at} here reply going before sought n e) =
     let r = asks-phases a b h old taken between at f before in
     let g = ready-phases a b h old taken between at f before in
     let later = phase_after here going (length between.sent) (is_quiet_at new.sent (length between.sent)) in
     let P : Past → Type 0 = λ x. HasAsked a b later x new.sent in
-    let asked = subst P (sym (past-after (h ++ taken) (step_at here) reply)) (asks_after a b (h ++ taken) between new g.led here reply n going e (ready-sought at here between g.ready sought) (asks_sought a b at here (past_of (h ++ taken)) between.sent sought r)) in
+    let asked = subst P (sym (past-after (h ++ taken) (step_at here) reply)) (asks_after a b (h ++ taken) between new g.led here reply (ordinary-at here between new reply n) going e (ready-sought at here between g.ready sought) (asks_sought a b at here (past_of (h ++ taken)) between.sent sought r)) in
     subst (λ l. HasAsked a b later (past_of l) new.sent) (append_assoc h taken ((step_at here, reply) ∷ [])) asked

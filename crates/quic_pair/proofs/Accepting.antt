@@ -26,7 +26,7 @@ use Rattle.quic_link.proofs.Meets.{nexts, next_of_dir}
 use Rattle.quic_link.proofs.Opened.{WasTaken, has-opened}
 use Rattle.quic_link.proofs.Joint.{agrees}
 use Rattle.quic_link.proofs.Promised.{promised}
-use Rattle.quic_steps.specs.declared.steps.Config.{Config}
+use Rattle.quic_pair.proofs.Origins.{Origin}
 use Rattle.quic_steps.specs.declared.steps.End.{End}
 use Rattle.quic_steps.specs.declared.steps.End.TheVariants.{A, B}
 use Rattle.quic_steps.specs.declared.steps.Reply.TheVariants.{Id, Read, Event}
@@ -40,7 +40,7 @@ use Rattle.quic_pair.specs.Readable.{IsFlowOver, OnlySends, side_of}
 use Rattle.quic_pair.specs.State.{PairState, peer, the_end}
 use Rattle.quic_pair.specs.History.{Past, Flow, History, past_of, past_read, after_given, after_poll, after_event, with_flow, is_same_end, completes, tells_stop, reads_last, reads_chunks}
 use Rattle.quic_pair.specs.Headline.{SomeStream}
-use Rattle.quic_pair.specs.From.{PairFrom}
+use Rattle.quic_pair.proofs.Eras.{EraFrom}
 use Rattle.quic_pair.specs.Settling.{going_of}
 use Rattle.quic_pair.proofs.Lists.{got-one}
 use Rattle.quic_pair.proofs.Joined.{Seen, IsPayloadOf}
@@ -83,7 +83,7 @@ some_code : (o : Option ℕ) → is_some o ≡ true → (code : ℕ) × (o ≡ S
 some_code (Some code) e = (code, refl)
 some_code None e = cc
 
-module _ (a b : Config) (h : History) (v : PairState) (f : PairFrom a b h v) (end : End) (id : ℕ) (Is : Stream → Type 0) (st : SomeStream v.sent (peer end) id (past_of h).accepted Is) where
+module _ (a b : Origin) (h : History) (v : PairState) (f : EraFrom a b h v) (end : End) (id : ℕ) (Is : Stream → Type 0) (st : SomeStream v.sent (peer end) id (past_of h).accepted Is) where
   -- the application was given what counts as given
   ids_of : WasGiven (the_end v end).streams id → IsOneOf id ((past_of h).ids end)
   ids_of g = (known-from f end id).0 (given_counts (the_end v end).streams id g)
@@ -234,14 +234,14 @@ quiet-given p sent more who _ stay = quiet-stay p sent more stay
 -- ---- what is over stays so, and who was given a stream has it
 
 -- at some time all streams that counted as opened were given, and no STREAM frame came since
-pub record WasAcceptedAll (a b : Config) (p : Past) (sent : List Sent) (end : End) (dir : Dir) : Type 0 where
+pub record WasAcceptedAll (a b : Origin) (p : Past) (sent : List Sent) (end : End) (dir : Dir) : Type 0 where
   pub h : History
   pub v : PairState
-  pub led : PairFrom a b h v
+  pub led : EraFrom a b h v
   pub all : HasAcceptedAll (the_end v end).streams dir
   pub quiet : IsQuiet (past_of h) p v.sent sent
 
-pub accepted-still : (a b : Config) (p q : Past) (sent more : List Sent) (end : End) (dir : Dir) → IsQuiet p q sent more → WasAcceptedAll a b p sent end dir → WasAcceptedAll a b q more end dir
+pub accepted-still : (a b : Origin) (p q : Past) (sent more : List Sent) (end : End) (dir : Dir) → IsQuiet p q sent more → WasAcceptedAll a b p sent end dir → WasAcceptedAll a b q more end dir
 accepted-still a b p q sent more end dir k w = record { h = w.h; v = w.v; led = w.led; all = w.all; quiet = quiet-then (past_of w.h) p q w.v.sent sent more w.quiet k }
 
 pub over-still : (p q : Past) (sent more : List Sent) (end : End) (id : ℕ) → IsQuiet p q sent more → IsFlowOver p sent end id → IsFlowOver q more end id

@@ -13,12 +13,12 @@ use Rattle.quic_link.specs.Endpoints.{LinkedEnd, sent_on}
 use Rattle.quic_link.specs.Promises.{CameAt, EndCame}
 use Rattle.quic_link.proofs.Acks.{AckedSo}
 use Rattle.quic_link.proofs.Joint.{agrees}
-use Rattle.quic_steps.specs.declared.steps.Config.{Config}
+use Rattle.quic_pair.proofs.Origins.{Origin}
 use Rattle.quic_steps.specs.declared.steps.End.{End}
 use Rattle.quic_pair.specs.Readable.{side_of}
 use Rattle.quic_pair.specs.State.{PairState, the_end}
 use Rattle.quic_pair.specs.History.{Past, History, past_of}
-use Rattle.quic_pair.specs.From.{PairFrom}
+use Rattle.quic_pair.proofs.Eras.{EraFrom}
 use Rattle.quic_pair.specs.Tale.{Tale}
 use Rattle.quic_pair.specs.Settling.{AreIdle, AreSettledIn}
 use Rattle.quic_pair.specs.Completed.{HasArrived, HaveArrived, IsUnreset}
@@ -35,13 +35,13 @@ use Rattle.quic_pair.proofs.TracedSteps.{IsUnreported, traces-from}
 
 -- ---- two histories of one end tell the same of a stream, unless its half is freed or given up
 
-record IsAlike (f g : SendFlow) : Type 0 where
-  freed : f.freed ≡ false
-  reset : f.reset ≡ None
-  amount : total_length g.cuts ≡ total_length f.cuts
-  finished : f.finished ≡ g.finished
-  acked : (n : ℕ) → f.acked n ≡ true → g.acked n ≡ true
-  end_acked : f.finished ≡ true → f.end_acked ≡ true → g.end_acked ≡ true
+pub record IsAlike (f g : SendFlow) : Type 0 where
+  pub freed : f.freed ≡ false
+  pub reset : f.reset ≡ None
+  pub amount : total_length g.cuts ≡ total_length f.cuts
+  pub finished : f.finished ≡ g.finished
+  pub acked : (n : ℕ) → f.acked n ≡ true → g.acked n ≡ true
+  pub end_acked : f.finished ≡ true → f.end_acked ≡ true → g.end_acked ≡ true
 
 -- what the state of a half tells
 record SameState (reset : Option ℕ) (finished end_acked : Bool) (other : Option ℕ) (others_finished others_acked : Bool) : Type 0 where
@@ -70,7 +70,7 @@ held_alike f g s a b r =
       end_acked = λ h k. state.acked_is h k;
     }
 
-alike : (first other : ℕ) (there : Bool) (half : Option Send) (f g : SendFlow) → FlowAt first f there half → FlowAt other g there half → g.reset ≡ None → g.freed ≡ false → IsAlike f g
+pub alike : (first other : ℕ) (there : Bool) (half : Option Send) (f g : SendFlow) → FlowAt first f there half → FlowAt other g there half → g.reset ≡ None → g.freed ≡ false → IsAlike f g
 alike first other true (Some s) f g a b r d = held_alike f g s a b r
 alike first other true None f g a b r d = let e = sym b ∙ d in cc
 alike first other false (Some s) f g a b r d = absurd a
@@ -145,7 +145,7 @@ module _ (p : Past) (v : PairState) (who : End) (id : ℕ) (t : SendFlow) (trace
 
 -- ---- both
 
-module _ (a b : Config) (h : History) (v : PairState) (f : PairFrom a b h v) (idle : AreIdle v) (settled : AreSettledIn 0 (length v.sent) v.sent) where
+module _ (a b : Origin) (h : History) (v : PairState) (f : EraFrom a b h v) (idle : AreIdle v) (settled : AreSettledIn 0 (length v.sent) v.sent) where
   pub none-unreported : (who : End) (m : StreamMeta) → IsUnreported v.sent who m → ⊥
   none-unreported who m u = none-some u.rest (sym (settled u.number u.payload (omega arith) (slice_get-within v.sent u.number u.payload u.is) u.is) ∙ u.rest_is)
 

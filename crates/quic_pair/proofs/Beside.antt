@@ -69,6 +69,8 @@ abbrev pub IsOfNoPayload : Step → Type 0
 IsOfNoPayload (steps.Deliver number index) = ⊥
 IsOfNoPayload (steps.Lose number) = ⊥
 IsOfNoPayload (steps.Ack number) = ⊥
+IsOfNoPayload steps.EarlyReject = ⊥
+IsOfNoPayload steps.Retry = ⊥
 IsOfNoPayload step = Unit {0}
 
 pub beside : (p : Past) (step : Step) (reply : Answer) → IsOfNoPayload step → IsBeside p (after p step reply)
@@ -90,6 +92,9 @@ beside p (steps.Emit who most fair) reply k = beside_same p
 beside p (steps.Deliver number index) reply k = absurd k
 beside p (steps.Lose number) reply k = absurd k
 beside p (steps.Ack number) reply k = absurd k
+beside p steps.EarlyAccept reply k = beside_same p
+beside p steps.EarlyReject reply k = absurd k
+beside p steps.Retry reply k = absurd k
 
 -- a delivery tells of no report
 pub deliver-settled : (p : Past) (at : FramePlace) (reply : Answer) → (after_deliver p at reply).settled ≡ p.settled

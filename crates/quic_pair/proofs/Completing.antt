@@ -3,7 +3,7 @@ use Rattle.std.proofs.Common.{ℕ, ◌++◌, subst, inl, inr}
 use Rattle.quic_values.specs.Ids.{dir_of}
 use Rattle.quic_wire.specs.declared.frame.Stream.{Stream}
 use Rattle.quic_link.specs.Endpoints.{IsOneOf}
-use Rattle.quic_steps.specs.declared.steps.Config.{Config}
+use Rattle.quic_pair.proofs.Origins.{Origin}
 use Rattle.quic_steps.specs.declared.steps.End.{End}
 use Rattle.quic_steps.specs.declared.steps.End.TheVariants.{A, B}
 use Rattle.quic_pair.specs.declared.phase.Phase.{Phase}
@@ -11,7 +11,7 @@ use Rattle.quic_pair.specs.declared.phase.Phase.TheVariants as phase
 use Rattle.quic_pair.specs.State.{PairState, peer}
 use Rattle.quic_pair.specs.History.{History, past_of}
 use Rattle.quic_pair.specs.Headline.{SomeStream, HasOffset, HasEnd}
-use Rattle.quic_pair.specs.From.{PairFrom}
+use Rattle.quic_pair.proofs.Eras.{EraFrom}
 use Rattle.quic_pair.specs.Settling.{IsSettling}
 use Rattle.quic_pair.specs.Completed.{HaveArrived, HaveBeenRead, IsUnreset, IsUnstopped, IsReadWhole}
 use Rattle.quic_pair.proofs.Marks.{marks-from}
@@ -23,7 +23,7 @@ use Rattle.quic_pair.proofs.AcceptOrder.{HasAsked, any-ask, asks-phases}
 use Rattle.quic_pair.proofs.ReadOrder.{HasRead, any_kind, reads-phases}
 use Rattle.quic_pair.proofs.ReadUp.{places-from, read-up-now, read-whole}
 
-module _ (a b : Config) (h : History) (v : PairState) (f : PairFrom a b h v) (first : ℕ) (read : HasRead (phase.Drop first) (past_of h) v.sent) (asked : HasAsked a b (phase.Drop first) (past_of h) v.sent) (arrived : HaveArrived (past_of h) v.sent) where
+module _ (a b : Origin) (h : History) (v : PairState) (f : EraFrom a b h v) (first : ℕ) (read : HasRead (phase.Drop first) (past_of h) v.sent) (asked : HasAsked a b (phase.Drop first) (past_of h) v.sent) (arrived : HaveArrived (past_of h) v.sent) where
   module _ (who : End) (id : ℕ) (Is : Stream → Type 0) (st : SomeStream v.sent (peer who) id (past_of h).accepted Is) where
     -- what arrived had arrived when there was nothing to accept
     came_before : (w : WasAcceptedAll a b (past_of h) v.sent who (dir_of id)) → IsOneOf st.at (past_of w.h).accepted
@@ -60,7 +60,7 @@ module _ (a b : Config) (h : History) (v : PairState) (f : PairFrom a b h v) (fi
   been_read A id = read_by B id
   been_read B id = read_by A id
 
-pub have-been-read : (a b : Config) (h : History) (old : PairState) (taken : History) (new : PairState) → PairFrom a b h old → IsSettling old taken new → HaveArrived (past_of (h ++ taken)) new.sent → HaveBeenRead (past_of (h ++ taken))
+pub have-been-read : (a b : Origin) (h : History) (old : PairState) (taken : History) (new : PairState) → EraFrom a b h old → IsSettling old taken new → HaveArrived (past_of (h ++ taken)) new.sent → HaveBeenRead (past_of (h ++ taken))
 have-been-read a b h old taken new f s arrived =
     let g = ready-phases a b h old taken new s.at f s.follows in
     let r = reads-phases a b h old taken new s.at f s.follows in

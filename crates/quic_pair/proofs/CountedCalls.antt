@@ -28,7 +28,7 @@ use Rattle.quic_history.specs.SendEvents.{OpenedOwn, SetWindow, WroteOwn, Finish
 use Rattle.quic_history.specs.History.{Event, Step, Fits, Accepted, Resized, SetConcurrent, Sending, Began, Gave, Ended, Stopped, ToldReset, given, with_chunks, with_last}
 use Rattle.quic_history.proofs.Histories.{next}
 use Rattle.quic_endpoint.specs.Ends.{EndState, OpensAt, WritesAt, FinishesAt, ResetsAt, with_counts_told_if}
-use Rattle.quic_steps.specs.declared.steps.Config.{Config}
+use Rattle.quic_pair.proofs.Origins.{Origin}
 use Rattle.quic_steps.specs.declared.steps.End.{End}
 use Rattle.quic_steps.specs.declared.steps.Step.{Step as PairStep}
 use Rattle.quic_steps.specs.declared.steps.Step.TheVariants as steps
@@ -119,7 +119,7 @@ module _ (m : Made) (t : Tale) (id most : ℕ) (ordered : Bool) where
 
 -- ---- steps of an application
 
-module _ (a b : Config) (old new : PairState) (r : Recounted a b old) (who : End) where
+module _ (a b : Origin) (old new : PairState) (r : Recounted a b old) (who : End) where
   abbrev after : PairStep → Answer → Type 0
   after step reply = Retold a b old r.tales step reply new
 

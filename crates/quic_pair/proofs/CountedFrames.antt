@@ -20,7 +20,7 @@ use Rattle.quic_link.proofs.Joint.{agrees}
 use Rattle.quic_link.proofs.Promised.{promised}
 use Rattle.quic_endpoint.specs.Ends.{EndState}
 use Rattle.quic_endpoint.specs.Receiving.{ReceivesAt, MakesCall, MayAnswer, event_of, with_answer_told}
-use Rattle.quic_steps.specs.declared.steps.Config.{Config}
+use Rattle.quic_pair.proofs.Origins.{Origin}
 use Rattle.quic_steps.specs.declared.steps.End.{End}
 use Rattle.quic_steps.specs.declared.steps.Step.{Step as PairStep}
 use Rattle.quic_steps.specs.declared.steps.Step.TheVariants as steps
@@ -139,7 +139,7 @@ module _ (p : Past) (who : End) (v : PairState) (x y : LinkedEnd) (s : Seen p wh
 
 -- ---- a delivery
 
-module _ (a b : Config) (p : Past) (old new : PairState) (j : Joined a b p old) (r : Recounted a b old) (number index : ℕ) where
+module _ (a b : Origin) (p : Past) (old new : PairState) (j : Joined a b p old) (r : Recounted a b old) (number index : ℕ) where
   abbrev after : PairStep → Answer → Type 0
   after step reply = Retold a b old r.tales step reply new
 

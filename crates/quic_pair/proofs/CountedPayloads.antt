@@ -28,7 +28,7 @@ use Rattle.quic_link.proofs.Texts.{length-between}
 use Rattle.quic_link.proofs.TrueFrames.{turn-so}
 use Rattle.quic_endpoint.specs.Ends.{EndState}
 use Rattle.quic_endpoint.specs.Emitting.{PayloadView, control_in, place_at, EmitsControl, EmitsStreams, EmitsNoStream, EmitsAt, whole, cut}
-use Rattle.quic_steps.specs.declared.steps.Config.{Config}
+use Rattle.quic_pair.proofs.Origins.{Origin}
 use Rattle.quic_steps.specs.declared.steps.End.{End}
 use Rattle.quic_steps.specs.declared.steps.Step.TheVariants as steps
 use Rattle.quic_steps.specs.declared.steps.Reply.TheVariants.{Payload}
@@ -256,7 +256,7 @@ pub last_of : {X : Type 0} (xs : List X) (x : X) → slice_get (xs ++ x ∷ []) 
 last_of [] x = refl
 last_of (y ∷ ys) x = last_of ys x
 
-module _ (a b : Config) (old new : PairState) (r : Recounted a b old) (who : End) (most : ℕ) (fair : Bool) where
+module _ (a b : Origin) (old new : PairState) (r : Recounted a b old) (who : End) (most : ℕ) (fair : Bool) where
   abbrev after : Answer → Type 0
   after reply = Retold a b old r.tales (steps.Emit who most fair) reply new
 

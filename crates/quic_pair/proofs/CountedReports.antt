@@ -22,7 +22,7 @@ use Rattle.quic_link.specs.Endpoints.{LinkedEnd, IsOneOf}
 use Rattle.quic_link.proofs.Joint.{agrees}
 use Rattle.quic_endpoint.specs.Ends.{EndState}
 use Rattle.quic_endpoint.specs.Reports.{LosesPayloadAt, AcksPayloadAt}
-use Rattle.quic_steps.specs.declared.steps.Config.{Config}
+use Rattle.quic_pair.proofs.Origins.{Origin}
 use Rattle.quic_steps.specs.declared.steps.End.{End}
 use Rattle.quic_steps.specs.declared.steps.Step.{Step as PairStep}
 use Rattle.quic_steps.specs.declared.steps.Step.TheVariants as steps
@@ -209,7 +209,7 @@ module _ (m : Made) (e f : EndState) (u : Unsettled) (r : SentPayload) (rest_is 
 
 -- ---- which streams are meant
 
-module _ (a b : Config) (p : Past) (old new : PairState) (j : Joined a b p old) (r : Recounted a b old) (number : ℕ) where
+module _ (a b : Origin) (p : Past) (old new : PairState) (j : Joined a b p old) (r : Recounted a b old) (number : ℕ) where
   abbrev after : PairStep → Answer → Type 0
   after step reply = Retold a b old r.tales step reply new
 

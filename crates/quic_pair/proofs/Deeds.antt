@@ -1,6 +1,12 @@
 -- Steps on payloads, put together from what their parts do.
-use Rattle.std.proofs.Common.{◌≡◌, ℕ, Bool, List, [], ◌∷◌, ◌++◌, length, Some, Result, Ok, Err, refl, sym, ap, ◌∙◌, subst, inl, inr}
-use Rattle.std.specs.Prelude.{slice_get, slice_set}
+use Rattle.std.proofs.Common.{◌≡◌, ℕ, Bool, List, [], ◌∷◌, ◌++◌, length, Some, None, Result, Ok, Err, refl, sym, ap, ◌∙◌, subst, inl, inr}
+use Rattle.std.specs.Prelude.{◌^◌, ◌<◌, ◌≤◌, slice_get, slice_set}
+use Rattle.std.proofs.lemmas.Option.{none-some, same_Some}
+use Rattle.quic_values.specs.declared.ids.Side.TheVariants.{Client, Server}
+use Rattle.quic_outgoing.specs.declared.limits.PeerLimits.{PeerLimits}
+use Rattle.quic_link.specs.Endpoints.{limits_of}
+use Rattle.quic_steps.specs.declared.steps.Config.{Config}
+use Rattle.quic_pair.specs.From.{PairFrom, AreSoundLimits, made_of, end_begun, at_once, begun}
 use Rattle.std.specs.Global.{Vec}
 use Rattle.quic_values.specs.declared.memory.OutOfMemory.{OutOfMemory}
 use Rattle.quic_wire.proofs.Steps.{some_is}
@@ -35,10 +41,10 @@ sent-same p B e = refl
 
 -- ---- a payload is written
 
-module _ (old new : PairState) (who : End) (most : ℕ) (fair : Bool) (payload : PayloadView) (number : ℕ) (sent : Sent) (sent_is : IsSentBy who payload sent) (is : new.sent ≡ old.sent ++ sent ∷ []) (count : number ≡ length old.sent) where
+module _ (old new : PairState) (who : End) (most : ℕ) (fair : Bool) (payload : PayloadView) (number : ℕ) (sent : Sent) (sent_is : IsSentBy who payload sent) (is : new.sent ≡ old.sent ++ sent ∷ []) (waits : new.waits ≡ old.waits) (count : number ≡ length old.sent) where
   sent_behind : (k : End) (e : EndState) → two_ends new.a new.b ≡ with_end (two_ends old.a old.b) k e → new ≡ with_sent (with_end old k e) (old.sent ++ sent ∷ [])
-  sent_behind A e m = ap (λ l. record { a = new.a; b = new.b; sent = l }) is ∙ ap (λ (p : PairState). record { a = p.a; b = p.b; sent = old.sent ++ sent ∷ [] }) m
-  sent_behind B e m = ap (λ l. record { a = new.a; b = new.b; sent = l }) is ∙ ap (λ (p : PairState). record { a = p.a; b = p.b; sent = old.sent ++ sent ∷ [] }) m
+  sent_behind A e m = ap (λ l. record new { sent = l }) is ∙ ap (λ w. record new { sent = old.sent ++ sent ∷ []; waits = w }) waits ∙ ap (λ (p : PairState). record { a = p.a; b = p.b; sent = old.sent ++ sent ∷ []; waits = old.waits }) m
+  sent_behind B e m = ap (λ l. record new { sent = l }) is ∙ ap (λ w. record new { sent = old.sent ++ sent ∷ []; waits = w }) waits ∙ ap (λ (p : PairState). record { a = p.a; b = p.b; sent = old.sent ++ sent ∷ []; waits = old.waits }) m
 
   end_alone : (k : End) → the_end (two_ends old.a old.b) k ≡ the_end old k
   end_alone A = refl
@@ -57,11 +63,9 @@ module _ (old new : PairState) (who : End) (most : ℕ) (fair : Bool) (payload :
 
 pub deliver-refused : (old new : PairState) (n i : ℕ) (error : PairError) → FailsToFind old.sent n i error → new ≡ old → Delivers old n i (Err error) new
 deliver-refused old new n i refusals.NoSuchPayload h e = (h, e)
-deliver-refused old new n i refusals.NoSuchFrame h e = record { payload = record { sent = h.whole; is = h.is }; why = h.why; is = e }
-deliver-refused old new n i refusals.NotAccepted h e = absurd h
-deliver-refused old new n i refusals.UnknownId h e = absurd h
-deliver-refused old new n i refusals.AlreadySettled h e = absurd h
-deliver-refused old new n i refusals.OutOfMemory h e = inl (record { sent = h.whole; is = h.is }, e)
+deliver-refused old new n i refusals.NoSuchFrame h e = record { payload = record { sent = h.whole; is = h.is; here = h.here }; why = h.why; is = e }
+deliver-refused old new n i refusals.OutOfMemory h e = inl (record { sent = h.whole; is = h.is; here = h.here }, e)
+deliver-refused old new n i _ h e = absurd h
 
 module _ (old mid new : PairState) (n i : ℕ) (h : HandedFrame) (f : FindsFrame old.sent n i h) where
   at_writer : (P : EndState → EndState → Type 0) → OnEnd P old (peer h.writer) mid → OnEnd P old (peer f.whole.writer) mid
@@ -72,7 +76,7 @@ module _ (old mid new : PairState) (n i : ℕ) (h : HandedFrame) (f : FindsFrame
       → HandsOver old n i (received_reply answer) new
   handed answer d s e =
       let o = at_writer (EndTakesFrame h.frame h.len answer) d in record {
-        payload = record { sent = f.whole; is = f.is };
+        payload = record { sent = f.whole; is = f.is; here = f.here };
         frame = h.frame;
         at = f.at;
         answer = answer;
@@ -104,11 +108,9 @@ module _ (old mid new : PairState) (n i : ℕ) (h : HandedFrame) (f : FindsFrame
 module _ (kind : Report) (At : EndState → SentView → Result (Unit {0}) SentView → EndState → Type 0) where
   pub report-refused : (old new : PairState) (n : ℕ) (error : PairError) → FailsToTake old.sent n kind error → new ≡ old → SettlesPayload kind At old n (Err error) new
   report-refused old new n refusals.NoSuchPayload h e = (h, e)
-  report-refused old new n refusals.AlreadySettled h e = record { payload = record { sent = h.whole; is = h.is }; why = h.why; is = e }
-  report-refused old new n refusals.NotAccepted h e = record { payload = record { sent = h.whole; is = h.is }; why = h.why; is = e }
-  report-refused old new n refusals.NoSuchFrame h e = absurd h.why
-  report-refused old new n refusals.UnknownId h e = absurd h.why
-  report-refused old new n refusals.OutOfMemory h e = absurd h.why
+  report-refused old new n refusals.AlreadySettled h e = record { payload = record { sent = h.whole; is = h.is; here = h.here }; why = h.why; is = e }
+  report-refused old new n refusals.NotAccepted h e = record { payload = record { sent = h.whole; is = h.is; here = h.here }; why = h.why; is = e }
+  report-refused old new n _ h e = absurd h.why
 
   module _ (old taken mid new : PairState) (n : ℕ) (writer : End) (rest : SentPayload) (t : TakesRestAt old.sent n kind writer rest taken.sent) (answer : Result (Unit {0}) SentPayload) where
     -- what the payload is behind the report
@@ -126,7 +128,7 @@ module _ (kind : Report) (At : EndState → SentView → Result (Unit {0}) SentV
         let o = subst P t.writer_is d in
         let Q : EndState → Type 0 = λ x. At x (sent_view rest) (report_view answer) o.end in
         record {
-          payload = record { sent = t.whole; is = t.is };
+          payload = record { sent = t.whole; is = t.is; here = t.here };
           may = t.takes.may;
           serves = t.takes.serves;
           rest = rest;
@@ -155,3 +157,31 @@ module _ (kind : Report) (At : EndState → SentView → Result (Unit {0}) SentV
         settled_by : (a : Result (Unit {0}) SentPayload) → Reports kind At old n (report_reply a) new → SettlesPayload kind At old n (report_reply a) new
         settled_by (Ok done) x = x
         settled_by (Err back) x = x
+
+-- ---- a pair is made
+
+-- as its configs say
+pub new-so : (a b : Config) (limits : PeerLimits) (v : PairState) → limits ≡ limits_of (made_of Server b)
+    → v ≡ record { a = end_begun (made_of Client a) limits; b = end_begun (made_of Server b) (limits_of (made_of Client a)); sent = []; waits = None }
+    → a.max_remote_uni ≤ 2 ^ 60 → b.max_remote_uni ≤ 2 ^ 60 → a.max_remote_bi ≤ 2 ^ 60 → b.max_remote_bi ≤ 2 ^ 60 → a.receive_window < 2 ^ 62 → b.receive_window < 2 ^ 62 → a.stream_receive_window < 2 ^ 62 → b.stream_receive_window < 2 ^ 62 → PairFrom (at_once a b) [] v
+new-so a b limits v l is uni_a uni_b bi_a bi_b small_a small_b stream_a stream_b = begun (record {
+  is = is ∙ ap (λ k. record { a = end_begun (made_of Client a) k; b = end_begun (made_of Server b) (limits_of (made_of Client a)); sent = []; waits = None }) l;
+  few_uni = (uni_a, uni_b);
+  few_bi = (bi_a, bi_b);
+  small = (small_a, small_b);
+  small_of_stream = (stream_a, stream_b);
+  remembered = λ k e. absurd (none-some k e);
+})
+
+pub new_early-so : (a b : Config) (remembered others : PeerLimits) (v : PairState) → others ≡ limits_of (made_of Server b)
+    → v ≡ record { a = end_begun (made_of Client a) remembered; b = end_begun (made_of Server b) (limits_of (made_of Client a)); sent = []; waits = Some (record { remembered = remembered; others = others }) }
+    → a.max_remote_uni ≤ 2 ^ 60 → b.max_remote_uni ≤ 2 ^ 60 → a.max_remote_bi ≤ 2 ^ 60 → b.max_remote_bi ≤ 2 ^ 60 → a.receive_window < 2 ^ 62 → b.receive_window < 2 ^ 62 → a.stream_receive_window < 2 ^ 62 → b.stream_receive_window < 2 ^ 62 → AreSoundLimits remembered
+    → PairFrom (record { a = a; b = b; early = Some remembered }) [] v
+new_early-so a b remembered others v l is uni_a uni_b bi_a bi_b small_a small_b stream_a stream_b few = begun (record {
+  is = is ∙ ap (λ k. record { a = end_begun (made_of Client a) remembered; b = end_begun (made_of Server b) (limits_of (made_of Client a)); sent = []; waits = Some (record { remembered = remembered; others = k }) }) l;
+  few_uni = (uni_a, uni_b);
+  few_bi = (bi_a, bi_b);
+  small = (small_a, small_b);
+  small_of_stream = (stream_a, stream_b);
+  remembered = λ k e. subst AreSoundLimits (same_Some remembered k e) few;
+})

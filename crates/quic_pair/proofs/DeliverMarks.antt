@@ -14,7 +14,7 @@ use Rattle.quic_link.proofs.Basics.{either_true, same_id}
 use Rattle.quic_endpoint.specs.Ends.{EndState}
 use Rattle.quic_endpoint.specs.Receiving.{ReceivesAt}
 use Rattle.quic_steps.specs.declared.steps.End.{End}
-use Rattle.quic_steps.specs.declared.steps.Config.{Config}
+use Rattle.quic_pair.proofs.Origins.{Origin}
 use Rattle.quic_steps.specs.declared.steps.Reply.TheVariants.{Done, DoneTransmit}
 use Rattle.quic_steps.specs.declared.steps.PairError.TheVariants.{NoSuchPayload, NoSuchFrame, OutOfMemory as NoMemory}
 use Rattle.quic_pair.proofs.Lists.{slice_get-slice_set, slice_set-keeps, slice_get-set_same}
@@ -181,7 +181,7 @@ seen-hands-over p who old new x y number index reply s k w =
 
 -- ---- all of these steps
 
-module _ (a b : Config) (p : Past) (old new : PairState) (number index : ℕ) (j : Joined a b p old) where
+module _ (a b : Origin) (p : Past) (old new : PairState) (number index : ℕ) (j : Joined a b p old) where
   handed_over : (reply : Answer) → HandsOver old number index reply new → Joined a b (after_deliver p (number, index) reply) new
   handed_over reply k =
       let who = peer k.payload.sent.writer in

@@ -1,5 +1,5 @@
 -- What was delivered is read.
-use Rattle.std.proofs.Common.{◌≡◌, ℕ, Bool, true, false, List, [], ◌∷◌, ◌++◌, length, Result, Ok, Err, refl, sym, ap, ◌∙◌, subst, inl, inr, arith, ◌+◌, ◌<◌, ◌≤◌}
+use Rattle.std.proofs.Common.{◌≡◌, ℕ, Bool, true, false, List, [], ◌∷◌, ◌++◌, length, None, Result, Ok, Err, refl, sym, ap, ◌∙◌, subst, inl, inr, arith, ◌+◌, ◌<◌, ◌≤◌}
 use Rattle.std.specs.Prelude.{nat_lt, ◌||◌, if◌then◌else◌}
 use Rattle.std.specs.Global.{Vec}
 use Rattle.std.proofs.lemmas.List.{length-append}
@@ -14,11 +14,11 @@ use Rattle.quic_history.specs.History.{ReadChunk, slices}
 use Rattle.quic_link.specs.Endpoints.{IsOneOf}
 use Rattle.quic_link.specs.Promises.{given_in_order}
 use Rattle.quic_steps.specs.declared.steps.End.{End}
-use Rattle.quic_steps.specs.declared.steps.Config.{Config}
+use Rattle.quic_pair.proofs.Origins.{Origin}
 use Rattle.quic_steps.specs.declared.steps.Step.{Step}
 use Rattle.quic_steps.specs.declared.steps.Step.TheVariants as steps
 use Rattle.quic_steps.specs.declared.steps.Reply.TheVariants.{Done, DoneTransmit, Fault, Read, Closed, Illegal}
-use Rattle.quic_steps.specs.declared.steps.PairError.TheVariants.{NoSuchPayload, NoSuchFrame, NotAccepted, UnknownId, AlreadySettled, OutOfMemory as NoMemory}
+use Rattle.quic_steps.specs.declared.steps.PairError.TheVariants.{NoSuchPayload, NoSuchFrame, NotAccepted, UnknownId, AlreadySettled, LimitsBelow, Undecided, Decided, OutOfMemory as NoMemory}
 use Rattle.quic_steps.specs.declared.steps.Last.{Last}
 use Rattle.quic_steps.specs.declared.steps.Last.TheVariants as last
 use Rattle.quic_pair.specs.declared.sent.Sent.{Sent}
@@ -26,13 +26,13 @@ use Rattle.quic_pair.specs.declared.unsettled.Report.{Report}
 use Rattle.quic_pair.specs.declared.unsettled.Report.TheVariants.{Lost, Acknowledged}
 use Rattle.quic_pair.specs.Replies.{Answer, read_reply}
 use Rattle.quic_pair.specs.State.{PairState, peer}
-use Rattle.quic_pair.specs.Steps.{Next}
-use Rattle.quic_pair.specs.History.{Past, Flow, FramePlace, History, past_of, after, past_read, after_deliver, reads_last, reads_chunks, with_chunks_read, is_kept_by, after_report}
+use Rattle.quic_pair.specs.Steps.{NextOrdinary}
+use Rattle.quic_pair.specs.History.{Past, Flow, FramePlace, History, past_of, after, past_read, after_deliver, reads_last, reads_chunks, with_chunks_read, is_kept_by, after_report, past_rejected, past_retried}
 use Rattle.quic_pair.specs.Headline.{IsFaithful, IsBeginningOf, AreInOrder, SomeStream}
 use Rattle.quic_pair.specs.Readable.{AreCut, HasNothingLeft, ReadsTrue}
 use Rattle.quic_pair.specs.Refused.{IsKnownSo}
 use Rattle.quic_pair.specs.Law.{MayDrain, DrainsBy, DrainsFlow, Drains}
-use Rattle.quic_pair.specs.From.{PairFrom, begun, next}
+use Rattle.quic_pair.proofs.Eras.{EraFrom, begun, next, changed}
 use Rattle.quic_pair.proofs.Grown.{headline-from, past-after}
 use Rattle.quic_pair.proofs.Beside.{IsOfNoPayload, beside}
 use Rattle.quic_pair.proofs.Readable.{readable-so}
@@ -70,6 +70,14 @@ accepts_reported p number kind (Ok Done) a = a
 accepts_reported p number kind (Err NoMemory) a = a
 accepts_reported p number kind _ a = a
 
+accepts_rejected : (p : Past) (reply : Answer) → AcceptsKept p → AcceptsKept (past_rejected p reply)
+accepts_rejected p (Ok Done) a = λ at h. absurd h
+accepts_rejected p _ a = a
+
+accepts_retried : (p : Past) (reply : Answer) → AcceptsKept p → AcceptsKept (past_retried p reply)
+accepts_retried p (Ok Done) a = a
+accepts_retried p _ a = a
+
 module _ (p : Past) (reply : Answer) (a : AcceptsKept p) where
   accepts_beside : (step : Step) → IsOfNoPayload step → AcceptsKept (after p step reply)
   accepts_beside step k = let b = beside p step reply k in accepts_as p (after p step reply) b.accepted b.kept a
@@ -88,12 +96,16 @@ module _ (p : Past) (reply : Answer) (a : AcceptsKept p) where
   accepts_after (steps.Deliver number index) = accepts_delivered p (number, index) reply a
   accepts_after (steps.Lose number) = accepts_reported p number Lost reply a
   accepts_after (steps.Ack number) = accepts_reported p number Acknowledged reply a
+  accepts_after steps.EarlyReject = accepts_rejected p reply a
+  accepts_after steps.Retry = accepts_retried p reply a
   accepts_after _ = a
 
-pub accepts-from : {a b : Config} {whole : History} {v : PairState} → PairFrom a b whole v → AcceptsKept (past_of whole)
+pub accepts-from : {a b : Origin} {whole : History} {v : PairState} → EraFrom a b whole v → AcceptsKept (past_of whole)
 accepts-from {a} {b} {whole} {v} (begun n) = λ at h. absurd h
 accepts-from {a} {b} {whole} {v} (next {h} {old} {new} step reply f n) =
     subst AcceptsKept (sym (past-after h step reply)) (accepts_after (past_of h) reply (accepts-from f) step)
+accepts-from {a} {b} {whole} {v} (changed {h} {old} {new} step f c) =
+    subst AcceptsKept (sym (past-after h step (Ok Done))) (accepts_after (past_of h) (Ok Done) (accepts-from f) step)
 
 -- ---- what ordered reads gave
 
@@ -222,15 +234,18 @@ module _ (p : Past) (sent : List Sent) (who : End) (id most times : ℕ) (kept :
   by_reply (Err NoSuchFrame) w r k g = absurd (k.1 tt)
   by_reply (Err NotAccepted) w r k g = absurd (k.1 tt)
   by_reply (Err AlreadySettled) w r k g = absurd (k.1 tt)
+  by_reply (Err LimitsBelow) w r k g = absurd (k.1 tt)
+  by_reply (Err Undecided) w r k g = absurd (k.1 tt)
+  by_reply (Err Decided) w r k g = absurd (k.1 tt)
   by_reply _ w r k g = absurd w
 
 -- ---- the step
 
-module _ (a b : Config) (h : History) (old new : PairState) (g : PairFrom a b h old) where
+module _ (a b : Origin) (h : History) (old new : PairState) (g : EraFrom a b h old) where
   abbrev p : Past
   p = past_of h
 
-  drains_read : (who : End) (id : ℕ) (ordered : Bool) (most times : ℕ) (reply : Answer) → Next old (steps.Read who id ordered most times) reply new → Drains p old.sent (steps.Read who id ordered most times) reply
+  drains_read : (who : End) (id : ℕ) (ordered : Bool) (most times : ℕ) (reply : Answer) → NextOrdinary old (steps.Read who id ordered most times) reply new → Drains p old.sent (steps.Read who id ordered most times) reply
   drains_read who id false most times reply n = λ o some few m. cc
   drains_read who id true most times reply n = λ o some few m.
       let step = steps.Read who id true most times in
@@ -245,12 +260,12 @@ module _ (a b : Config) (h : History) (old new : PairState) (g : PairFrom a b h 
       let S : List Sent → Type 0 = λ l. IsFaithful ((past_read p who id true reply).flow (peer who) id) (peer who) id (past_read p who id true reply).accepted l in
       let L : List FramePlace → Type 0 = λ l. IsFaithful ((past_read p who id true reply).flow (peer who) id) (peer who) id l old.sent in
       let true_of = subst L (beside p (steps.Read who id true most times) reply tt).accepted (subst S (ap (λ (v : PairState). v.sent) n.is ∙ sent-same old who n.end) (subst H (past-after h step reply) all)) in
-      by_reply p old.sent who id most times kept few some m reply is_reply (readable-so a b h old new step reply g n) (refused-so a b h old new step reply g n) true_of
+      by_reply p old.sent who id most times kept few some m reply is_reply (readable-so a b h old new step reply g n) (refused-so None a b h old new step reply g n) true_of
 
-  drains_next : (step : Step) (reply : Answer) → Next old step reply new → Drains p old.sent step reply
+  drains_next : (step : Step) (reply : Answer) → NextOrdinary old step reply new → Drains p old.sent step reply
   drains_next (steps.Read who id ordered most times) reply n = drains_read who id ordered most times reply n
   drains_next _ reply n = tt
 
 -- whatever the network did, what was delivered is read
-pub drains-so : (a b : Config) (h : History) (old new : PairState) (step : Step) (reply : Answer) → PairFrom a b h old → Next old step reply new → Drains (past_of h) old.sent step reply
+pub drains-so : (a b : Origin) (h : History) (old new : PairState) (step : Step) (reply : Answer) → EraFrom a b h old → NextOrdinary old step reply new → Drains (past_of h) old.sent step reply
 drains-so a b h old new step reply g n = drains_next a b h old new g step reply n

@@ -57,7 +57,7 @@ use Rattle.quic_endpoint.specs.Reports.{LosesPayloadAt, AcksPayloadAt}
 use Rattle.quic_endpoint.specs.Receiving.{MakesCall, ReceivesAt, event_of, done_so, stopped_so}
 use Rattle.quic_steps.specs.declared.steps.End.{End}
 use Rattle.quic_steps.specs.declared.steps.End.TheVariants.{A, B}
-use Rattle.quic_steps.specs.declared.steps.Config.{Config}
+use Rattle.quic_pair.proofs.Origins.{Origin}
 use Rattle.quic_steps.specs.declared.steps.Step.{Step}
 use Rattle.quic_steps.specs.declared.steps.Step.TheVariants as steps
 use Rattle.quic_steps.specs.declared.steps.Reply.TheVariants.{Done, Payload}
@@ -71,9 +71,9 @@ use Rattle.quic_pair.specs.declared.unsettled.Report.TheVariants.{Lost, Acknowle
 use Rattle.quic_pair.specs.Payloads.{noted_of}
 use Rattle.quic_pair.specs.declared.unsettled.Unsettled.{Unsettled}
 use Rattle.quic_pair.specs.Unsettled.{goes_on, may_report}
-use Rattle.quic_pair.specs.Steps.{Next, Emitted, HandsOver, Delivers, SettlesPayload, HasPayload}
+use Rattle.quic_pair.specs.Steps.{NextOrdinary, Emitted, HandsOver, Delivers, SettlesPayload, HasPayload}
 use Rattle.quic_pair.specs.History.{History, past_of}
-use Rattle.quic_pair.specs.From.{PairFrom}
+use Rattle.quic_pair.proofs.Eras.{EraFrom}
 use Rattle.quic_pair.specs.Due.{AsksStreams, AsksData, AsksWindow, AsksAllOf, OpensAll, LeavesRoom, WritesAll, AsksForReset, AsksStop, AsksStopIf, AsksWindowIf, AsksAfterRead, AsksStreamsIf, AsksLarger, IsFull, IsFullIf, HasConsumed, AsksAfterFrame, AsksAgain, OnWriter, AsksFor}
 use Rattle.quic_pair.proofs.Left.{AreLeft}
 use Rattle.quic_pair.proofs.Grown.{joined-from, grown-from}
@@ -462,7 +462,7 @@ module _ (old new : PairState) where
 
 -- ---- payloads that are written
 
-module _ (a b : Config) (h : History) (old new : PairState) (g : PairFrom a b h old) where
+module _ (a b : Origin) (h : History) (old new : PairState) (g : EraFrom a b h old) where
   emits_full : (who : End) (most : ℕ) (fair : Bool) (reply : Answer) → Emitted old who most fair reply new → IsFullIf most reply (the_end new who)
   emits_full who most fair (Ok (Payload number bytes)) k =
       let F : EndState → Type 0 = λ e. IsFull most bytes.items e in
@@ -483,14 +483,14 @@ module _ (old new : PairState) (who : End) (id : ℕ) (reply : Answer) where
   ]
 
 module _ (old new : PairState) where
-  writes_next : (who : End) (id : ℕ) (bytes : List ℕ) (reply : Answer) → Next old (steps.Write who id bytes) reply new → WritesAll (the_end old who).streams.out id (length bytes) reply
+  writes_next : (who : End) (id : ℕ) (bytes : List ℕ) (reply : Answer) → NextOrdinary old (steps.Write who id bytes) reply new → WritesAll (the_end old who).streams.out id (length bytes) reply
   writes_next who id bytes reply n =
       let Holds : Answer → Type 0 = λ r. WritesAll (the_end old who).streams.out id (length bytes) r in
       given_asks old new who id reply Holds (λ error. tt) n (λ f is d.
       let R : ℕ → Type 0 = λ count. Room (the_end old who) id count d.answer in
       subst Holds (sym d.reply_is) (wrote_all (the_end old who) id (length bytes) d.answer (subst R (one_slice bytes) (room_of (the_end old who) f id (slice_lists bytes) d.answer d.writes))))
 
-  chunks_next : (who : End) (id : ℕ) (chunks : List (List ℕ)) (reply : Answer) → Next old (steps.WriteChunks who id chunks) reply new → WritesAll (the_end old who).streams.out id (length (concat chunks)) reply
+  chunks_next : (who : End) (id : ℕ) (chunks : List (List ℕ)) (reply : Answer) → NextOrdinary old (steps.WriteChunks who id chunks) reply new → WritesAll (the_end old who).streams.out id (length (concat chunks)) reply
   chunks_next who id chunks reply n =
       let Holds : Answer → Type 0 = λ r. WritesAll (the_end old who).streams.out id (length (concat chunks)) r in
       given_asks old new who id reply Holds (λ error. tt) n (λ f is k. elim k [
@@ -499,48 +499,48 @@ module _ (old new : PairState) where
         | inr wants ↦ subst Holds (sym wants.0) tt
       ])
 
-  resets_next : (who : End) (id code : ℕ) (reply : Answer) → Next old (steps.Reset who id code) reply new → AsksForReset id code reply (the_end new who)
+  resets_next : (who : End) (id code : ℕ) (reply : Answer) → NextOrdinary old (steps.Reset who id code) reply new → AsksForReset id code reply (the_end new who)
   resets_next who id code reply n =
       let Holds : Answer → Type 0 = λ r. AsksForReset id code r (the_end new who) in
       given_asks old new who id reply Holds (λ error. tt) n (λ f is d.
       let F : EndState → Type 0 = λ e. AsksForReset id code (handled_reply d.answer) e in
       subst Holds (sym d.reply_is) (subst F (sym is) (asks_reset (the_end old who) f id code d.answer d.resets)))
 
-  stops_next : (who : End) (id code : ℕ) (reply : Answer) → Next old (steps.Stop who id code) reply new → AsksStopIf (the_end old who) id code reply (the_end new who) × AsksStreamsIf reply (the_end new who)
+  stops_next : (who : End) (id code : ℕ) (reply : Answer) → NextOrdinary old (steps.Stop who id code) reply new → AsksStopIf (the_end old who) id code reply (the_end new who) × AsksStreamsIf reply (the_end new who)
   stops_next who id code reply n =
       let Holds : Answer → Type 0 = λ r. AsksStopIf (the_end old who) id code r (the_end new who) × AsksStreamsIf r (the_end new who) in
       given_asks old new who id reply Holds (λ error. (tt, tt)) n (λ f is d.
       let F : EndState → Type 0 = λ e. AsksStopIf (the_end old who) id code (handled_reply d.answer) e × AsksStreamsIf (handled_reply d.answer) e in
       subst Holds (sym d.reply_is) (subst F (sym is) (asks_stop (the_end old who) f id code d.answer d.stops, stop_counts (the_end old who) f id code d.answer d.stops)))
 
-  reads_next : (who : End) (id : ℕ) (ordered : Bool) (most times : ℕ) (reply : Answer) → Next old (steps.Read who id ordered most times) reply new → AsksAfterRead id reply (the_end new who) × AsksStreamsIf reply (the_end new who)
+  reads_next : (who : End) (id : ℕ) (ordered : Bool) (most times : ℕ) (reply : Answer) → NextOrdinary old (steps.Read who id ordered most times) reply new → AsksAfterRead id reply (the_end new who) × AsksStreamsIf reply (the_end new who)
   reads_next who id ordered most times reply n =
       let Holds : Answer → Type 0 = λ r. AsksAfterRead id r (the_end new who) × AsksStreamsIf r (the_end new who) in
       given_asks old new who id reply Holds (λ error. (tt, tt)) n (λ f is d.
       let F : EndState → Type 0 = λ e. AsksAfterRead id (read_reply d.answer) e × AsksStreamsIf (read_reply d.answer) e in
       subst Holds (sym d.reply_is) (subst F (sym is) (asks_after_read (the_end old who) f id most times ordered d.answer d.reads, read_counts (the_end old who) f id most times ordered d.answer d.reads)))
 
-  codes_next : (who : End) (id : ℕ) (reply : Answer) → Next old (steps.ReceivedReset who id) reply new → AsksStreamsIf reply (the_end new who)
+  codes_next : (who : End) (id : ℕ) (reply : Answer) → NextOrdinary old (steps.ReceivedReset who id) reply new → AsksStreamsIf reply (the_end new who)
   codes_next who id reply n =
       let Holds : Answer → Type 0 = λ r. AsksStreamsIf r (the_end new who) in
       given_asks old new who id reply Holds (λ error. tt) n (λ f is d.
       let F : EndState → Type 0 = λ e. AsksStreamsIf (code_reply d.answer) e in
       subst Holds (sym d.reply_is) (subst F (sym is) (asks_code (the_end old who) f id d.answer d.tells)))
 
-  opens_next : (who : End) (dir : Dir) (reply : Answer) → Next old (steps.Open who dir) reply new → OpensAll (the_end old who).streams.out dir reply
+  opens_next : (who : End) (dir : Dir) (reply : Answer) → NextOrdinary old (steps.Open who dir) reply new → OpensAll (the_end old who).streams.out dir reply
   opens_next who dir reply n =
       let d = n.does in
       let Holds : Answer → Type 0 = λ r. OpensAll (the_end old who).streams.out dir r in
       subst Holds (sym d.reply_is) (opens_all (the_end old who) n.end dir d.answer d.opens)
 
-  window_next : (who : End) (window : ℕ) (reply : Answer) → Next old (steps.SetReceiveWindow who window) reply new → AsksLarger reply (the_end new who)
+  window_next : (who : End) (window : ℕ) (reply : Answer) → NextOrdinary old (steps.SetReceiveWindow who window) reply new → AsksLarger reply (the_end new who)
   window_next who window reply n =
       let d = n.does in
       let Holds : Answer → Type 0 = λ r. AsksLarger r (the_end new who) in
       let F : EndState → Type 0 = λ e. d.larger ≡ true → e.pending.max_data ≡ true in
       subst Holds (sym d.reply_is) (subst F (sym (changed_end old new who n.end n.is ∙ d.is)) (λ l. asks_larger (the_end old who) window d.larger l))
 
-  concurrent_next : (who : End) (dir : Dir) (count : ℕ) (reply : Answer) → Next old (steps.SetMaxConcurrent who dir count) reply new → AsksStreamsIf reply (the_end new who)
+  concurrent_next : (who : End) (dir : Dir) (count : ℕ) (reply : Answer) → NextOrdinary old (steps.SetMaxConcurrent who dir count) reply new → AsksStreamsIf reply (the_end new who)
   concurrent_next who dir count reply n =
       let d = n.does in
       let Holds : Answer → Type 0 = λ r. AsksStreamsIf r (the_end new who) in
@@ -548,7 +548,7 @@ module _ (old new : PairState) where
       subst Holds (sym d.reply_is) (subst F (sym (changed_end old new who n.end n.is)) (asks_concurrent (the_end old who) n.end dir count d.answer d.sets))
 
 -- whatever steps led to a pair, the next one withholds nothing that was due
-pub asks-for : (a b : Config) (h : History) (old new : PairState) (step : Step) (reply : Answer) → PairFrom a b h old → Next old step reply new → AsksFor old step reply new
+pub asks-for : (a b : Origin) (h : History) (old new : PairState) (step : Step) (reply : Answer) → EraFrom a b h old → NextOrdinary old step reply new → AsksFor old step reply new
 asks-for a b h old new (steps.Open who dir) reply g n = opens_next old new who dir reply n
 asks-for a b h old new (steps.Write who id bytes) reply g n = writes_next old new who id bytes reply n
 asks-for a b h old new (steps.WriteChunks who id chunks) reply g n = chunks_next old new who id chunks reply n
@@ -562,4 +562,5 @@ asks-for a b h old new (steps.Emit who most fair) reply g n = emits_full a b h o
 asks-for a b h old new (steps.Deliver number index) reply g n = delivers_asks old new number index reply n
 asks-for a b h old new (steps.Lose number) reply g n = let r = (grown-from g).recounted in loses_asks old new r.tales.told r.left number reply n
 asks-for a b h old new (steps.Ack number) reply g n = acks_asks old new number reply n
+asks-for a b h old new steps.Retry reply g n = absurd n
 asks-for a b h old new _ reply g n = tt

@@ -1,15 +1,19 @@
 -- The half of a stream is freed once its end and every byte are acknowledged, by what the steps tell.
 use Rattle.std.proofs.Common.{◌≡◌, ℕ, zero, suc, Bool, true, false, List, [], ◌∷◌, length, Option, Some, None, Ok, Err, refl, sym, ◌∙◌, subst, inl, inr, arith, ◌<◌}
-use Rattle.std.specs.Prelude.{◌==◌, ◌&&◌, ◌+◌, ◌-◌, ◌^◌, min, take, drop, is_none, is_some, if◌then◌else◌}
+use Rattle.std.specs.Prelude.{◌==◌, ◌&&◌, ◌||◌, ◌+◌, ◌-◌, ◌^◌, min, take, drop, is_none, is_some, if◌then◌else◌}
 use Rattle.quic_wire.specs.declared.frame.Frame.{Frame}
 use Rattle.quic_wire.specs.declared.frame.Frame.TheVariants as frames
 use Rattle.quic_sending.specs.Buffer.{total_length}
 use Rattle.quic_sending.specs.Source.{slice_lists}
 use Rattle.quic_sending.proofs.Pieces.{total-append}
 use Rattle.quic_flows.specs.Flow.{SendFlow, SendMove, WasWritten, WasFinished, WasGivenUp, WasAskedToStop, WasPermitted, WasCarried, WasAcked, WasLost, WasResetAcked, with_send_move, with_carried, with_acked, with_lost, with_least_limit, takes_data, counts_for, passing, is_whole, freed_if_whole, front_of}
+use Rattle.quic_values.specs.declared.ids.Side.TheVariants.{Client}
+use Rattle.quic_outgoing.specs.Outgoing.{first_of}
+use Rattle.quic_outgoing.specs.Senders.{first_limit, is_local}
+use Rattle.quic_history.specs.Early.{with_unsent}
 use Rattle.quic_history.proofs.Traces.{itself}
 use Rattle.quic_link.proofs.Basics.{both, either_true, or_left, or_right}
-use Rattle.quic_steps.specs.declared.steps.Config.{Config}
+use Rattle.quic_pair.proofs.Origins.{Origin}
 use Rattle.quic_steps.specs.declared.steps.End.{End}
 use Rattle.quic_steps.specs.declared.steps.End.TheVariants.{A, B}
 use Rattle.quic_steps.specs.declared.steps.Step.{Step}
@@ -19,14 +23,13 @@ use Rattle.quic_steps.specs.declared.steps.PairError.TheVariants.{OutOfMemory as
 use Rattle.quic_pair.specs.declared.sent.Sent.{Sent}
 use Rattle.quic_pair.specs.Replies.{Answer}
 use Rattle.quic_pair.specs.State.{PairState, peer}
-use Rattle.quic_pair.specs.History.{History}
-use Rattle.quic_pair.specs.From.{PairFrom}
-use Rattle.quic_pair.specs.Runs.{sendings_of}
+use Rattle.quic_pair.specs.History.{History, Past}
+use Rattle.quic_pair.proofs.Eras.{EraFrom, begun, next, changed, Changes, accepts, retries, ToldIn, tales_in, tales_changed}
 use Rattle.quic_pair.specs.Settling.{AreIdle, AreSettledIn}
 use Rattle.quic_pair.specs.Completed.{IsAllAcked, AreAllAcked}
-use Rattle.quic_pair.specs.Tale.{Tale, Tales, Sendings, none, more, Told, StepTells, SendsOne, TellsParts, Part, Carried, GivenUp, parts_in, with_parts, acked_part, lost_part, with_frames_sent, with_frame_heard, with_one_opened, with_bytes_taken, with_deed, with_window_of, tales_begun, told_of}
+use Rattle.quic_pair.specs.Tale.{Tale, Tales, StepTells, SendsOne, TellsParts, Part, Carried, GivenUp, parts_in, with_parts, acked_part, lost_part, with_frames_sent, with_frame_heard, with_one_opened, with_bytes_taken, with_deed, with_window_of, told_of}
 use Rattle.quic_pair.proofs.Settling.{leaves-no-rest}
-use Rattle.quic_pair.proofs.ToldOnce.{told-once}
+use Rattle.quic_pair.proofs.ToldOnce.{told-in-once}
 use Rattle.quic_pair.proofs.Traced.{IsTraced}
 use Rattle.quic_pair.proofs.TracedSteps.{IsUnreported, traces-from}
 use Rattle.quic_pair.proofs.Arrived.{is-acked-at, is-end-acked, none-unreported}
@@ -154,29 +157,47 @@ module _ (t : Tales) (k : (who : End) (q : ℕ) → IsFreedSo ((t.of who).flow q
   freed_step old new (steps.Ack number) (Err NoMemory) u e = freed_told new number acked_part freed_part u e
   freed_step old new _ _ u e = freed_same u e
 
-freed_begun : (a b : Config) (end : End) (q : ℕ) → IsFreedSo (((tales_begun a b).of end).flow q)
-freed_begun a b A q = record { whole = λ r d e all. cc; ended = λ r k. cc }
-freed_begun a b B q = record { whole = λ r d e all. cc; ended = λ r k. cc }
+freed_begun : (a b : Origin) (sent : List Sent) (end : End) (q : ℕ) → IsFreedSo (((tales_in a b sent).of end).flow q)
+freed_begun a b sent A q = record { whole = λ r d e all. cc; ended = λ r k. cc }
+freed_begun a b sent B q = record { whole = λ r d e all. cc; ended = λ r k. cc }
 
-freed_all : {h : History} {sent : List Sent} (a b : Config) (led : Sendings h sent) (t : Tales) → Told a b led t → (end : End) (q : ℕ) → IsFreedSo ((t.of end).flow q)
-freed_all a b none t k end q = let P : Tales → Type 0 = λ v. IsFreedSo ((v.of end).flow q) in subst P (sym k) (freed_begun a b end q)
-freed_all a b (more {h} {old} step reply new before) t k end q = freed_step k.0 (freed_all a b before k.0 k.1) old new step reply t k.2 end q
+freed_limit : (limit : ℕ) (f : SendFlow) → IsFreedSo f → IsFreedSo (with_least_limit limit f)
+freed_limit limit f k = record { whole = k.whole; ended = k.ended }
+
+freed_unsent : (c : Bool) (f : SendFlow) → IsFreedSo f → IsFreedSo (if c then with_unsent f else f)
+freed_unsent false f k = k
+freed_unsent true f k = by (is_none f.reset)
+  where
+    by : (d : Bool) → IsFreedSo (if d then record f { carried = λ n. false; sent_up_to = 0; missing = λ n. false; end_due = f.end_due || f.finished } else f)
+    by true = record { whole = k.whole; ended = k.ended }
+    by false = k
+
+freed_changed : {b : Origin} {p : Past} {old new : PairState} {step : Step} (c : Changes b p old new step) (t : Tales) → ((end : End) (q : ℕ) → IsFreedSo ((t.of end).flow q)) → (end : End) (q : ℕ) → IsFreedSo (((tales_changed c t).of end).flow q)
+freed_changed (accepts c within few) t k A q = freed_limit (first_limit Client (first_of c.limits.others) q) ((t.of A).flow q) (k A q)
+freed_changed (accepts c within few) t k B q = k B q
+freed_changed (retries c m did mine accepted kept) t k A q = freed_unsent (is_local Client q) ((t.of A).flow q) (k A q)
+freed_changed (retries c m did mine accepted kept) t k B q = k B q
+
+freed_all : {a b : Origin} {h : History} {v : PairState} (f : EraFrom a b h v) (t : Tales) → ToldIn f t → (end : End) (q : ℕ) → IsFreedSo ((t.of end).flow q)
+freed_all {a} {b} {h} {v} (begun n) t k end q = let P : Tales → Type 0 = λ x. IsFreedSo ((x.of end).flow q) in subst P (sym k) (freed_begun a b v.sent end q)
+freed_all (next {h} {old} {new} step reply f n) t k end q = freed_step k.0 (freed_all f k.0 k.1) old.sent new.sent step reply t k.2 end q
+freed_all (changed step f c) t k end q = let P : Tales → Type 0 = λ x. IsFreedSo ((x.of end).flow q) in subst P (sym k.2) (freed_changed c k.0 (freed_all f k.0 k.1) end q)
 
 -- ---- the end
 
-module _ (a b : Config) (h : History) (v : PairState) (f : PairFrom a b h v) (idle : AreIdle v) (settled : AreSettledIn 0 (length v.sent) v.sent) where
-  module _ (t : Tales) (told : Told a b (sendings_of f) t) (who : End) (id : ℕ) (r : ((t.of who).flow id).reset ≡ None) where
+module _ (a b : Origin) (h : History) (v : PairState) (f : EraFrom a b h v) (idle : AreIdle v) (settled : AreSettledIn 0 (length v.sent) v.sent) where
+  module _ (t : Tales) (told : ToldIn f t) (who : End) (id : ℕ) (r : ((t.of who).flow id).reset ≡ None) where
     abbrev flow : SendFlow
     flow = (t.of who).flow id
 
     freed_so : IsFreedSo flow
-    freed_so = freed_all a b (sendings_of f) t told who id
+    freed_so = freed_all f t told who id
 
     traced : IsTraced (IsUnreported v.sent who) id flow
     traced =
         let g = traces-from f in
         let P : Tales → Type 0 = λ u. IsTraced (IsUnreported v.sent who) id ((u.of who).flow id) in
-        subst P (told-once a b (sendings_of f) g.recounted.tales t g.told told) (g.traced who id)
+        subst P (told-in-once f g.recounted.tales t g.told told) (g.traced who id)
 
     bytes_acked : flow.freed ≡ false → (n : ℕ) → n < total_length flow.cuts → flow.acked n ≡ true
     bytes_acked = is-acked-at (IsUnreported v.sent who) (none-unreported a b h v f idle settled who) id flow traced (leaves-no-rest a b h v f idle t told who id) r
@@ -195,5 +216,5 @@ module _ (a b : Config) (h : History) (v : PairState) (f : PairFrom a b h v) (id
     all_acked : IsAllAcked flow
     all_acked = record { ended = freed_then flow.freed refl; running = running_then flow.freed refl }
 
-  pub all-acked : AreAllAcked a b (sendings_of f)
+  pub all-acked : AreAllAcked (ToldIn f)
   all-acked t told who id r = all_acked t told who id r

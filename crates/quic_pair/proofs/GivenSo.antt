@@ -11,10 +11,10 @@ use Rattle.quic_link.specs.Promises.{Promises}
 use Rattle.quic_link.proofs.Promised.{promised}
 use Rattle.quic_steps.specs.declared.steps.End.{End}
 use Rattle.quic_steps.specs.declared.steps.End.TheVariants.{A, B}
-use Rattle.quic_steps.specs.declared.steps.Config.{Config}
+use Rattle.quic_pair.proofs.Origins.{Origin}
 use Rattle.quic_pair.specs.State.{PairState, the_end}
 use Rattle.quic_pair.specs.History.{Past, History, past_of}
-use Rattle.quic_pair.specs.From.{PairFrom}
+use Rattle.quic_pair.proofs.Eras.{EraFrom}
 use Rattle.quic_pair.proofs.Joined.{Stands, Knows, Joined}
 use Rattle.quic_pair.proofs.CallsSetting.{was-given}
 use Rattle.quic_pair.proofs.Grown.{joined-from}
@@ -42,10 +42,10 @@ known_end p v who x y k here all id =
       λ h. given_counts (the_end v who).streams id (subst P here.world ((all.given id).1 ((k.ids id).1 h))),
     )
 
-known_joined : (a b : Config) (p : Past) (v : PairState) → Joined a b p v → (who : End) → AreKnown v p who
+known_joined : (a b : Origin) (p : Past) (v : PairState) → Joined a b p v → (who : End) → AreKnown v p who
 known_joined a b p v j A = known_end p v A j.first j.second j.seen.sends j.seen.here (promised j.seen.linked).0
 known_joined a b p v j B = known_end p v B j.second j.first j.seen.receives j.seen.there (promised j.seen.linked).1
 
 -- whatever steps led to a pair
-pub known-from : {a b : Config} {h : History} {v : PairState} → PairFrom a b h v → (who : End) → AreKnown v (past_of h) who
+pub known-from : {a b : Origin} {h : History} {v : PairState} → EraFrom a b h v → (who : End) → AreKnown v (past_of h) who
 known-from {a} {b} {h} {v} f who = known_joined a b (past_of h) v (joined-from f) who

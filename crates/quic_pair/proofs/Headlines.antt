@@ -14,7 +14,7 @@ use Rattle.quic_link.proofs.Readers.{InRows}
 use Rattle.quic_link.proofs.Joint.{agrees}
 use Rattle.quic_steps.specs.declared.steps.End.{End}
 use Rattle.quic_steps.specs.declared.steps.End.TheVariants.{A, B}
-use Rattle.quic_steps.specs.declared.steps.Config.{Config}
+use Rattle.quic_pair.proofs.Origins.{Origin}
 use Rattle.quic_pair.specs.declared.sent.Sent.{Sent}
 use Rattle.quic_pair.specs.State.{PairState}
 use Rattle.quic_pair.specs.History.{Past}
@@ -88,6 +88,6 @@ module _ (p : Past) (sent : List Sent) (who : End) (x y : LinkedEnd) (k : Knows 
         complete = λ e. delivered q (k.complete q e);
       }
 
-pub headline : (a b : Config) (p : Past) (v : PairState) → Joined a b p v → Headline p v.sent
+pub headline : (a b : Origin) (p : Past) (v : PairState) → Joined a b p v → Headline p v.sent
 headline a b p v j A id = let all = promised j.seen.linked in faithful p v.sent A j.first j.second j.seen.sends id (all.0.truth id) (((agrees j.seen.linked).1).reads.traces id).rows
 headline a b p v j B id = let all = promised j.seen.linked in faithful p v.sent B j.second j.first j.seen.receives id (all.1.truth id) (((agrees j.seen.linked).0).reads.traces id).rows

@@ -17,12 +17,12 @@ use Rattle.quic_link.specs.Promises.{Promises}
 use Rattle.quic_link.proofs.Promised.{promised}
 use Rattle.quic_steps.specs.declared.steps.End.{End}
 use Rattle.quic_steps.specs.declared.steps.End.TheVariants.{A, B}
-use Rattle.quic_steps.specs.declared.steps.Config.{Config}
+use Rattle.quic_pair.proofs.Origins.{Origin}
 use Rattle.quic_pair.specs.declared.sent.Sent.{Sent}
 use Rattle.quic_pair.specs.State.{PairState, peer, the_end}
-use Rattle.quic_pair.specs.History.{History, Past, past_of}
-use Rattle.quic_pair.specs.From.{PairFrom}
-use Rattle.quic_pair.specs.Honest.{AreHonest, IsHonestData, IsHonestFrame, IsHonestPayload, amount_given, greatest_permitted}
+use Rattle.quic_pair.specs.History.{History, Past, Flow, past_of}
+use Rattle.quic_pair.proofs.Eras.{EraFrom}
+use Rattle.quic_pair.specs.Honest.{AreHonest, IsHonestData, IsHonestFrame, IsHonestPayload, amount_given, greatest_permitted, most_to, most_on}
 use Rattle.quic_pair.proofs.Joined.{Knows, Stands, IsPayloadOf, Joined}
 use Rattle.quic_pair.proofs.Grown.{joined-from}
 
@@ -57,6 +57,19 @@ read-given : (h : List Event) (q : ℕ) → HasRead (trace h q)
 read-given [] q = refl
 read-given (e ∷ h) q =
     read_moved (move_of e) q (told_still e q (trace h q)) (read_if untouched (trace h q) (begins_anew (joint_move_of e) && is_local Client q) refl (read-given h q))
+
+-- ---- what may be sent to an end
+
+most-to-least : (v : PairState) (who : End) → (the_end v who).streams.credit.local_max_data ≤ most_to v who
+most-to-least v A = omega arith
+most-to-least v B = omega arith
+
+most-on-least : (f : Flow) (v : PairState) (who : End) → greatest_permitted f (the_end v who) ≤ most_on f v who
+most-on-least f v A = omega arith
+most-on-least f v B = omega arith
+
+up_to : (a b c : ℕ) → a ≤ b → b ≤ c → a ≤ c
+up_to a b c k l = omega (arith, k, l)
 
 -- ---- frames
 
@@ -96,11 +109,11 @@ module _ (p : Past) (v : PairState) (who : End) (x y : LinkedEnd) (k : Knows p v
   honest_frame (frames.DataBlocked limit) t =
       let enforced = all.limits.all in
       let within : limit ≤ y.world.credit.local_max_data = omega arith in
-      subst (λ (w : World). limit ≤ w.credit.local_max_data) there.world within
+      up_to limit (the_end v (peer who)).streams.credit.local_max_data (most_to v (peer who)) (subst (λ (w : World). limit ≤ w.credit.local_max_data) there.world within) (most-to-least v (peer who))
   honest_frame (frames.StreamDataBlocked id limit) t =
       let enforced = all.limits.each id in
       let within : limit ≤ (came_on y id).read + y.made.window = omega arith in
-      subst (λ n. limit ≤ n) (permitted_there id) within
+      up_to limit (greatest_permitted (p.flow who id) (the_end v (peer who))) (most_on (p.flow who id) v (peer who)) (subst (λ n. limit ≤ n) (permitted_there id) within) (most-on-least (p.flow who id) v (peer who))
   honest_frame _ t = t
 
   honest_payload : (s : Sent) → s.writer ≡ who → IsPayloadOf x y s → IsHonestPayload p v s
@@ -110,7 +123,7 @@ module _ (p : Past) (v : PairState) (who : End) (x y : LinkedEnd) (k : Knows p v
     honest = λ g listed. subst (λ k. IsHonestFrame p v k g) (sym w) (honest_frame g (all.frames_true g (of.wrote g listed)));
   }
 
-honest_of : (a b : Config) (p : Past) (v : PairState) → Joined a b p v → (s : Sent) (number : ℕ) → slice_get v.sent number ≡ Some s → (w : End) → s.writer ≡ w → IsHonestPayload p v s
+honest_of : (a b : Origin) (p : Past) (v : PairState) → Joined a b p v → (s : Sent) (number : ℕ) → slice_get v.sent number ≡ Some s → (w : End) → s.writer ≡ w → IsHonestPayload p v s
 honest_of a b p v j s number is A e =
     let told = promised j.seen.linked in
     honest_payload p v A j.first j.second j.seen.sends j.seen.receives j.seen.here j.seen.there told.0 told.1 s e (j.seen.own number s is e)
@@ -119,5 +132,5 @@ honest_of a b p v j s number is B e =
     honest_payload p v B j.second j.first j.seen.receives j.seen.sends j.seen.there j.seen.here told.1 told.0 s e (j.seen.others number s is e)
 
 -- whatever the network did, every frame that was ever sent is true
-pub honest-from : {a b : Config} {h : History} {v : PairState} → PairFrom a b h v → AreHonest (past_of h) v
+pub honest-from : {a b : Origin} {h : History} {v : PairState} → EraFrom a b h v → AreHonest (past_of h) v
 honest-from {a} {b} {h} {v} f = λ number s is. honest_of a b (past_of h) v (joined-from f) s number is s.writer refl

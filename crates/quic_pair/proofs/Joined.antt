@@ -16,13 +16,12 @@ use Rattle.quic_link.specs.Asked.{AreAsked}
 use Rattle.quic_endpoint.specs.Ends.{EndState}
 use Rattle.quic_steps.specs.declared.steps.End.{End}
 use Rattle.quic_steps.specs.declared.steps.End.TheVariants.{A}
-use Rattle.quic_steps.specs.declared.steps.Config.{Config}
+use Rattle.quic_pair.proofs.Origins.{Origin, made_in}
 use Rattle.quic_pair.specs.declared.sent.Sent.{Sent}
 use Rattle.quic_pair.specs.Payloads.{is_accepted, meta_of}
 use Rattle.quic_pair.specs.State.{PairState, peer, the_end}
 use Rattle.quic_pair.specs.History.{Past}
 use Rattle.quic_pair.specs.Headline.{SomeStream}
-use Rattle.quic_pair.specs.From.{made_of}
 use Rattle.quic_pair.proofs.KeptFrames.{KeptSent}
 use Rattle.quic_pair.proofs.Gives.{AreGiven}
 
@@ -85,9 +84,9 @@ pub record Sees (p : Past) (who : End) (v : PairState) (x y : LinkedEnd) : Type 
   pub made : end.made ≡ x.made
   pub seen : Seen p who v end y
 
-pub record Joined (a b : Config) (p : Past) (v : PairState) : Type 0 where
+pub record Joined (a b : Origin) (p : Past) (v : PairState) : Type 0 where
   pub first : LinkedEnd
   pub second : LinkedEnd
-  pub made_first : first.made ≡ made_of Client a
-  pub made_second : second.made ≡ made_of Server b
+  pub made_first : first.made ≡ made_in Client a
+  pub made_second : second.made ≡ made_in Server b
   pub seen : Seen p A v first second

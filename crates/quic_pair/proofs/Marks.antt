@@ -1,7 +1,7 @@
 -- The frames that are marked as accepted are those of which a delivery was answered Ok.
-use Rattle.std.proofs.Common.{◌≡◌, ℕ, Bool, true, false, List, [], ◌∷◌, Some, Result, Ok, Err, refl, sym, ap, ◌∙◌, subst, inl, inr}
+use Rattle.std.proofs.Common.{◌≡◌, ℕ, zero, suc, Bool, true, false, List, [], ◌∷◌, Some, Result, Ok, Err, refl, sym, ap, ◌∙◌, subst, inl, inr}
 use Rattle.std.specs.Prelude.{◌++◌, ◌||◌, ◌==◌, slice_get, slice_set, slice_index_or, if◌then◌else◌}
-use Rattle.std.proofs.lemmas.Option.{none-some, same_Some}
+use Rattle.std.proofs.lemmas.Option.{same_Some}
 use Rattle.quic_values.specs.declared.memory.OutOfMemory.{OutOfMemory}
 use Rattle.quic_wire.specs.declared.error.ReceiveError.{ReceiveError}
 use Rattle.quic_wire.specs.declared.error.ReceiveError.TheVariants as receive_error
@@ -15,7 +15,7 @@ use Rattle.quic_endpoint.specs.Emitting.{PayloadView}
 use Rattle.quic_endpoint.specs.Reports.{LosesPayloadAt, AcksPayloadAt}
 use Rattle.quic_steps.specs.declared.steps.End.{End}
 use Rattle.quic_steps.specs.declared.steps.End.TheVariants.{A, B}
-use Rattle.quic_steps.specs.declared.steps.Config.{Config}
+use Rattle.quic_pair.proofs.Origins.{Origin}
 use Rattle.quic_steps.specs.declared.steps.Step.{Step}
 use Rattle.quic_steps.specs.declared.steps.Step.TheVariants as steps
 use Rattle.quic_steps.specs.declared.steps.Reply.TheVariants.{Done, DoneTransmit, Payload}
@@ -28,9 +28,10 @@ use Rattle.quic_pair.specs.declared.unsettled.Unsettled.{Unsettled}
 use Rattle.quic_pair.specs.Unsettled.{unsettled_after}
 use Rattle.quic_pair.specs.Replies.{Answer, received_reply}
 use Rattle.quic_pair.specs.State.{PairState, OnEnd, with_end, with_sent}
-use Rattle.quic_pair.specs.Steps.{Next, Emits, Emitted, SentAfter, HandsOver, Delivers, Reports, SettlesPayload}
+use Rattle.quic_pair.specs.Gone.{IsGone}
+use Rattle.quic_pair.specs.Steps.{NextOrdinary, Emits, Emitted, SentAfter, HandsOver, Delivers, Reports, SettlesPayload}
 use Rattle.quic_pair.specs.History.{Past, History, FramePlace, after, after_deliver, after_report, past_of}
-use Rattle.quic_pair.specs.From.{PairFrom, begun, next}
+use Rattle.quic_pair.proofs.Eras.{EraFrom, begun, next, changed, Changes, accepts, retries}
 use Rattle.quic_pair.proofs.Lists.{slice_get-append_left, slice_get-push, slice_get-slice_set, slice_set-keeps, slice_get-set_same}
 use Rattle.quic_pair.proofs.Deeds.{sent-same}
 use Rattle.quic_pair.proofs.Grown.{past-after}
@@ -215,7 +216,7 @@ module _ (p : Past) (old new : PairState) (reply : Answer) (m : AreMarkedSo p.ac
   marks_on_end : {P : EndState → EndState → Type 0} (who : End) (step : Step) → IsOfNoPayload step → OnEnd P old who new → AreMarkedSo (after p step reply).accepted new.sent
   marks_on_end who step k d = marks_same p.accepted (after p step reply).accepted old.sent new.sent (beside p step reply k).accepted (sent_on_end old who new d) m
 
-  marks-next : (step : Step) → Next old step reply new → AreMarkedSo (after p step reply).accepted new.sent
+  marks-next : (step : Step) → NextOrdinary old step reply new → AreMarkedSo (after p step reply).accepted new.sent
   marks-next (steps.Open who dir) n = marks_on_end who (steps.Open who dir) tt n
   marks-next (steps.Accept who dir) n = marks_on_end who (steps.Accept who dir) tt n
   marks-next (steps.Write who id bytes) n = marks_on_end who (steps.Write who id bytes) tt n
@@ -234,12 +235,37 @@ module _ (p : Past) (old new : PairState) (reply : Answer) (m : AreMarkedSo p.ac
   marks-next (steps.Deliver number index) n = marks_delivers p old new m number index reply n
   marks-next (steps.Lose number) n = marks_settles p old new m number Lost LosesPayloadAt reply n
   marks-next (steps.Ack number) n = marks_settles p old new m number Acknowledged AcksPayloadAt reply n
+  marks-next _ n = absurd n
+
+-- no frame of payloads that left is marked
+marks_gone : (sent : List Sent) → ((number : ℕ) (s : Sent) → slice_get sent number ≡ Some s → IsGone s) → AreMarkedSo [] sent
+marks_gone sent gone = record {
+  listed = λ number index s got set.
+      let g = gone number s got in
+      let unmarked : is_accepted s.text index ≡ false = ap (λ (t : SentText). is_accepted t index) g.text ∙ slice_none index in
+      let both : true ≡ false = sym set ∙ unmarked in
+      cc;
+  marked = λ at h. absurd h;
+}
+  where
+    slice_none : (index : ℕ) → slice_index_or [] index false ≡ false
+    slice_none zero = refl
+    slice_none (suc index) = refl
+
+marks_changed : (b : Origin) (p : Past) (old new : PairState) (step : Step) → Changes b p old new step → AreMarkedSo p.accepted old.sent → AreMarkedSo (after p step (Ok Done)).accepted new.sent
+marks_changed b p old new step (accepts c within few) marked = let P : PairState → Type 0 = λ v. AreMarkedSo p.accepted v.sent in subst P (sym c.is) marked
+marks_changed b p old new step (retries c m did mine accepted kept) marked =
+    let P : PairState → Type 0 = λ v. AreMarkedSo p.accepted v.sent in
+    let Q : List FramePlace → Type 0 = λ l. AreMarkedSo l c.sent in
+    subst P (sym c.is) (subst Q (sym accepted) (marks_gone c.sent c.left.each))
 
 -- whatever steps led to a pair, its marks are what their replies say
-pub marks-from : {a b : Config} {whole : History} {v : PairState} → PairFrom a b whole v → AreMarkedSo (past_of whole).accepted v.sent
+pub marks-from : {a b : Origin} {whole : History} {v : PairState} → EraFrom a b whole v → AreMarkedSo (past_of whole).accepted v.sent
 marks-from {a} {b} {whole} {v} (begun n) =
-    let P : PairState → Type 0 = λ u. AreMarkedSo [] u.sent in
-    subst P (sym n.is) (record { listed = λ number index s got set. absurd (none-some s got); marked = λ at h. absurd h })
+    marks_gone v.sent n.gone
 marks-from {a} {b} {whole} {v} (next {h} {old} {new} step reply f n) =
     let P : Past → Type 0 = λ p. AreMarkedSo p.accepted v.sent in
     subst P (sym (past-after h step reply)) (marks-next (past_of h) old v reply (marks-from f) step n)
+marks-from {a} {b} {whole} {v} (changed {h} {old} {new} step f c) =
+    let P : Past → Type 0 = λ p. AreMarkedSo p.accepted v.sent in
+    subst P (sym (past-after h step (Ok Done))) (marks_changed b (past_of h) old v step c (marks-from f))

@@ -27,7 +27,7 @@ use Rattle.quic_link.proofs.Basics.{permits_now, same_id}
 use Rattle.quic_link.proofs.Ends.{since-plain}
 use Rattle.quic_link.proofs.Opens.{own-local}
 use Rattle.quic_endpoint.specs.Ends.{EndState, OpensAt, WritesAt}
-use Rattle.quic_steps.specs.declared.steps.Config.{Config}
+use Rattle.quic_pair.proofs.Origins.{Origin}
 use Rattle.quic_steps.specs.declared.steps.End.{End}
 use Rattle.quic_steps.specs.declared.steps.End.TheVariants.{A, B}
 use Rattle.quic_steps.specs.declared.steps.Step.{Step}
@@ -36,19 +36,18 @@ use Rattle.quic_steps.specs.declared.steps.Reply.TheVariants.{Payload}
 use Rattle.quic_pair.specs.Replies.{Answer, opened_reply, written_reply, chunks_reply}
 use Rattle.quic_pair.specs.State.{PairState, OnEnd, the_end}
 use Rattle.quic_pair.specs.Calls.{OnGiven, Writes, WritesChunksOrNone}
-use Rattle.quic_pair.specs.Steps.{Next}
+use Rattle.quic_pair.specs.Steps.{NextOrdinary}
 use Rattle.quic_pair.specs.Due.{IsFull}
-use Rattle.quic_pair.specs.From.{PairFrom as FromPair}
+use Rattle.quic_pair.proofs.Eras.{EraFrom, ToldIn}
 use Rattle.quic_pair.specs.History.{History, past_of}
 use Rattle.quic_pair.specs.Readable.{side_of}
-use Rattle.quic_pair.specs.Tale.{Tale, retained_by}
-use Rattle.quic_pair.specs.Runs.{sendings_of}
+use Rattle.quic_pair.specs.Tale.{Tale, StepTells, retained_by}
 use Rattle.quic_pair.specs.Withheld.{NotWithheld, DoesAsPermitted, LeavesNone, WritesTold, RefusesData, OnlyReceives, room_told}
 use Rattle.quic_pair.proofs.Grown.{grown-from, retold-next}
 use Rattle.quic_pair.proofs.Counted.{Counted}
 use Rattle.quic_pair.proofs.Recounted.{Recounted, made_at}
 use Rattle.quic_pair.proofs.Due.{asks-for}
-use Rattle.quic_pair.proofs.ToldOnce.{tells-once, told-once}
+use Rattle.quic_pair.proofs.ToldOnce.{tells-once, told-in-once}
 
 -- ---- writes
 
@@ -224,11 +223,11 @@ slice_total : (bytes : List ℕ) → total_length (slice_lists bytes) ≡ length
 slice_total [] = refl
 slice_total (b ∷ bs) = omega arith
 
-side_made : (a b : Config) (who : End) → (made_at a b who).side ≡ side_of who
+side_made : (a b : Origin) (who : End) → (made_at a b who).side ≡ side_of who
 side_made a b A = refl
 side_made a b B = refl
 
-module _ (a b : Config) (old new : PairState) (r : Recounted a b old) (who : End) where
+module _ (a b : Origin) (old new : PairState) (r : Recounted a b old) (who : End) where
   abbrev end : EndState
   end = the_end old who
 
@@ -283,7 +282,7 @@ module _ (a b : Config) (old new : PairState) (r : Recounted a b old) (who : End
         | inr k ↦ subst P (sym k.1) tt
       ]
 
-does_so : (a b : Config) (old new : PairState) (r : Recounted a b old) (step : Step) (reply : Answer) → Next old step reply new → DoesAsPermitted r.tales step reply
+does_so : (a b : Origin) (old new : PairState) (r : Recounted a b old) (step : Step) (reply : Answer) → NextOrdinary old step reply new → DoesAsPermitted r.tales step reply
 does_so a b old new r (steps.Open who dir) reply n =
     let o = n.does in
     let P : Answer → Type 0 = λ q. DoesAsPermitted r.tales (steps.Open who dir) q in
@@ -300,7 +299,7 @@ none_left m w t c id e k =
     let none : stands id (line w.queue) ≡ false = ap (stands id) e in
     let l = sym there ∙ none in cc
 
-leaves_so : (a b : Config) (h : History) (old new : PairState) (r : Recounted a b new) (step : Step) (reply : Answer) → FromPair a b h old → Next old step reply new → LeavesNone r.tales step reply
+leaves_so : (a b : Origin) (h : History) (old new : PairState) (r : Recounted a b new) (step : Step) (reply : Answer) → EraFrom a b h old → NextOrdinary old step reply new → LeavesNone r.tales step reply
 leaves_so a b h old new r (steps.Emit who most fair) (Ok (Payload number bytes)) f n =
     let full : IsFull most bytes.items (the_end new who) = asks-for a b h old new (steps.Emit who most fair) (Ok (Payload number bytes)) f n in
     λ id rest. elim full.streams [
@@ -310,16 +309,16 @@ leaves_so a b h old new r (steps.Emit who most fair) (Ok (Payload number bytes))
 leaves_so a b h old new r _ reply f n = tt
 
 -- whatever steps led to a pair, the next one withholds nothing on the sending side that is permitted
-pub not-withheld : (a b : Config) (h : History) (old new : PairState) (step : Step) (reply : Answer) (f : FromPair a b h old) → Next old step reply new → NotWithheld a b (sendings_of f) step reply new.sent
+pub not-withheld : (a b : Origin) (h : History) (old new : PairState) (step : Step) (reply : Answer) (f : EraFrom a b h old) → NextOrdinary old step reply new → NotWithheld (ToldIn f) (StepTells old.sent new.sent step reply) step reply
 not-withheld a b h old new step reply f n =
     let g = grown-from f in
     let r = retold-next a b (past_of h) old new g.joined g.recounted step reply n in
     record {
       before = g.recounted.tales;
       behind = r.behind.tales;
-      told = g.told;
-      told_alone = λ t k. told-once a b (sendings_of f) t g.recounted.tales k g.told;
-      tells = r.tells;
+      is_told = g.told;
+      told_alone = λ t k. told-in-once f t g.recounted.tales k g.told;
+      tells_so = r.tells;
       tells_alone = λ t k. tells-once old.sent new.sent g.recounted.tales t r.behind.tales step reply k r.tells;
       does = does_so a b old new g.recounted step reply n;
       leaves = leaves_so a b h old new r.behind step reply f n;

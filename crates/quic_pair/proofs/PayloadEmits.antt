@@ -27,7 +27,7 @@ use Rattle.quic_link.proofs.Joint.{agrees}
 use Rattle.quic_endpoint.specs.Ends.{EndState}
 use Rattle.quic_endpoint.specs.Emitting.{PayloadView, control_in, place_at, EmitsStreams, EmitsNoStream, EmitsAt, whole, cut}
 use Rattle.quic_steps.specs.declared.steps.End.{End}
-use Rattle.quic_steps.specs.declared.steps.Config.{Config}
+use Rattle.quic_pair.proofs.Origins.{Origin}
 use Rattle.quic_steps.specs.declared.steps.Step.TheVariants as steps
 use Rattle.quic_steps.specs.declared.steps.Reply.TheVariants.{Payload}
 use Rattle.quic_steps.specs.declared.steps.PairError.TheVariants.{OutOfMemory as NoMemory}
@@ -193,5 +193,5 @@ seen-emit p who old new x y most fair (Err NoMemory) s k = elim k [
 ]
 seen-emit p who old new x y most fair _ s k = absurd k
 
-pub joined-emits : (a b : Config) (p : Past) (old new : PairState) (who : End) (most : ℕ) (fair : Bool) (reply : Answer) → Joined a b p old → Emitted old who most fair reply new → Joined a b p new
+pub joined-emits : (a b : Origin) (p : Past) (old new : PairState) (who : End) (most : ℕ) (fair : Bool) (reply : Answer) → Joined a b p old → Emitted old who most fair reply new → Joined a b p new
 joined-emits a b p old new who most fair reply j k = joined-by a b p p who old new j (λ x y s. seen-emit p who old new x y most fair reply s k)

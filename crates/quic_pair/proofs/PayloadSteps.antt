@@ -1,11 +1,11 @@
 -- Steps on payloads keep a pair two linked ends.
 use Rattle.std.proofs.Common.{ℕ}
-use Rattle.quic_steps.specs.declared.steps.Config.{Config}
+use Rattle.quic_pair.proofs.Origins.{Origin}
 use Rattle.quic_steps.specs.declared.steps.Step.{Step}
 use Rattle.quic_steps.specs.declared.steps.Step.TheVariants as steps
 use Rattle.quic_pair.specs.Replies.{Answer}
 use Rattle.quic_pair.specs.State.{PairState}
-use Rattle.quic_pair.specs.Steps.{Next}
+use Rattle.quic_pair.specs.Steps.{NextOrdinary}
 use Rattle.quic_pair.specs.History.{Past, after}
 use Rattle.quic_pair.proofs.Joined.{Joined}
 use Rattle.quic_pair.proofs.Left.{AreLeft}
@@ -21,7 +21,7 @@ IsOnPayload (steps.Lose number) = Unit {0}
 IsOnPayload (steps.Ack number) = Unit {0}
 IsOnPayload _ = ⊥
 
-pub joined-payloads : (a b : Config) (p : Past) (old new : PairState) (step : Step) (reply : Answer) → IsOnPayload step → Joined a b p old → (told : ℕ → ℕ) → AreLeft old.sent told → Next old step reply new → Joined a b (after p step reply) new
+pub joined-payloads : (a b : Origin) (p : Past) (old new : PairState) (step : Step) (reply : Answer) → IsOnPayload step → Joined a b p old → (told : ℕ → ℕ) → AreLeft old.sent told → NextOrdinary old step reply new → Joined a b (after p step reply) new
 joined-payloads a b p old new (steps.Emit who most fair) reply on j told left n = joined-emits a b p old new who most fair reply j n
 joined-payloads a b p old new (steps.Deliver number index) reply on j told left n = joined-delivers a b p old new number index j reply n
 joined-payloads a b p old new (steps.Lose number) reply on j told left n = joined-loses a b p old new number j told left reply n

@@ -24,12 +24,12 @@ use Rattle.quic_link.proofs.Joint.{Agrees, agrees}
 use Rattle.quic_link.proofs.GivenIds.{dir_is}
 use Rattle.quic_endpoint.specs.Ends.{EndState}
 use Rattle.quic_endpoint.specs.Reports.{LosesPayloadAt, AcksPayloadAt}
-use Rattle.quic_steps.specs.declared.steps.Config.{Config}
+use Rattle.quic_pair.proofs.Origins.{Origin}
 use Rattle.quic_steps.specs.declared.steps.End.{End}
 use Rattle.quic_steps.specs.declared.steps.End.TheVariants.{A, B}
 use Rattle.quic_steps.specs.declared.steps.Step.TheVariants as steps
 use Rattle.quic_steps.specs.declared.steps.Reply.TheVariants.{Done, Read, Closed, Illegal, Event as Told}
-use Rattle.quic_steps.specs.declared.steps.PairError.TheVariants.{NoSuchPayload, NoSuchFrame, NotAccepted, UnknownId, AlreadySettled, OutOfMemory as NoMemory}
+use Rattle.quic_steps.specs.declared.steps.PairError.TheVariants.{NoSuchPayload, NoSuchFrame, NotAccepted, UnknownId, AlreadySettled, LimitsBelow, Undecided, Decided, OutOfMemory as NoMemory}
 use Rattle.quic_steps.specs.declared.steps.Last.{Last}
 use Rattle.quic_steps.specs.declared.steps.Last.TheVariants as last
 use Rattle.quic_wire.specs.declared.event.StreamEvent.{StreamEvent}
@@ -45,14 +45,15 @@ use Rattle.quic_pair.specs.Replies.{Answer, read_reply}
 use Rattle.quic_pair.specs.Readable.{OnlySends, ReadsTrue, side_of}
 use Rattle.quic_pair.specs.Refused.{IsKnownSo}
 use Rattle.quic_pair.specs.State.{PairState, OnEnd, peer, the_end}
-use Rattle.quic_pair.specs.Steps.{Next, SettlesPayload}
+use Rattle.quic_pair.specs.Steps.{NextOrdinary, SettlesPayload}
 use Rattle.quic_pair.specs.History.{Past, Flow, History, past_of, past_read, after, after_poll, after_event, after_deliver, after_report, reads_last, reads_chunks}
-use Rattle.quic_pair.specs.From.{PairFrom, next}
+use Rattle.quic_pair.proofs.Eras.{EraFrom, next}
 use Rattle.quic_pair.specs.Settling.{step_at, going_of, going_reading, phase_after, phase_after_report, behind_reports, is_quiet_at, after_accepting, after_accept, after_streams, after_reading, after_polling, after_emits, after_frame, FollowsPhases, IsSoughtFor, none as follows_none, more as follows_more}
 use Rattle.quic_pair.proofs.Flips.{seen-as}
 use Rattle.quic_pair.proofs.Beside.{beside}
 use Rattle.quic_pair.proofs.GivenSo.{known-from, given_counts}
 use Rattle.quic_pair.proofs.PayloadKnows.{StaySent, stay-sent}
+use Rattle.quic_pair.proofs.Ordinary.{ordinary-at}
 use Rattle.quic_pair.proofs.Settling.{IsReadyFor, IsStreamlessIf, ready-sought, ready-phases}
 use Rattle.quic_pair.proofs.Streamless.{IsStreamless, AddsNoStream, streamless-stays, adds-none, adds-kept, adds-accepted, deliver-ids, deliver-flow, stay-emitted, stay-delivered, stay-reported}
 use Rattle.quic_pair.proofs.CallsSetting.{was-given}
@@ -236,7 +237,7 @@ given_few x y a d false =
     let few = a.few d in
     omega (arith, accepted, opened, few)
 
-module _ (a b : Config) (h : History) (v : PairState) (f : PairFrom a b h v) (end : End) where
+module _ (a b : Origin) (h : History) (v : PairState) (f : EraFrom a b h v) (end : End) where
   given_below : (id : ℕ) → IsOneOf id ((past_of h).ids end) → WasGiven (the_end v end).streams id
   given_below id l = was-given (the_end v end).streams id ((known-from f end id).1 l)
 
@@ -300,12 +301,12 @@ read_ids p who end id ordered (Ok (Read chunks last transmit)) = refl
 read_ids p who end id ordered _ = refl
 
 module _ (p : Past) (old new : PairState) where
-  keeps_poll : (who : End) (reply : Answer) → Next old (steps.Poll who) reply new → KeepsReads p (after_poll p who reply) old.sent new.sent (λ end id. ⊥)
+  keeps_poll : (who : End) (reply : Answer) → NextOrdinary old (steps.Poll who) reply new → KeepsReads p (after_poll p who reply) old.sent new.sent (λ end id. ⊥)
   keeps_poll who reply n =
       let b = beside p (steps.Poll who) reply tt in
       record { ids = λ end. poll_ids p who end reply; kept = adds-none new.sent p.kept _ b.kept; accepted = adds-none new.sent p.accepted _ b.accepted; flow = λ end id never. poll-like p who (peer end) id reply; stay = stay_on_end old who new n }
 
-  keeps_read : (who : End) (id : ℕ) (ordered : Bool) (most times : ℕ) (reply : Answer) → Next old (steps.Read who id ordered most times) reply new → KeepsReads p (past_read p who id ordered reply) old.sent new.sent (λ end q. (end ≡ who) × (q ≡ id))
+  keeps_read : (who : End) (id : ℕ) (ordered : Bool) (most times : ℕ) (reply : Answer) → NextOrdinary old (steps.Read who id ordered most times) reply new → KeepsReads p (past_read p who id ordered reply) old.sent new.sent (λ end q. (end ≡ who) × (q ≡ id))
   keeps_read who id ordered most times reply n =
       let b = beside p (steps.Read who id ordered most times) reply tt in
       record { ids = λ end. read_ids p who end id ordered reply; kept = adds-none new.sent p.kept _ b.kept; accepted = adds-none new.sent p.accepted _ b.accepted; flow = λ end q never. read-other p who end id q ordered reply (λ e i. never (e, i)); stay = stay_on_end old who new n }
@@ -325,7 +326,7 @@ module _ (p : Past) (old new : PairState) where
   keeps_acked number reply e = keeps_noted number Acknowledged reply (stay-reported old new Acknowledged AcksPayloadAt number reply e)
 
   -- a frame of a payload without a STREAM frame is delivered
-  keeps_deliver : (number index : ℕ) (reply : Answer) → Next old (steps.Deliver number index) reply new → IsStreamless old.sent number → KeepsReads p (after_deliver p (number, index) reply) old.sent new.sent (λ end id. ⊥)
+  keeps_deliver : (number index : ℕ) (reply : Answer) → NextOrdinary old (steps.Deliver number index) reply new → IsStreamless old.sent number → KeepsReads p (after_deliver p (number, index) reply) old.sent new.sent (λ end id. ⊥)
   keeps_deliver number index reply n none =
       let stay = stay-delivered old new number index reply n in
       let still = streamless-stays old.sent new.sent number stay none in
@@ -374,6 +375,9 @@ module _ (p : Past) (sent : List Sent) (who : End) (id most times : ℕ) (ordere
   up_by (Err NoSuchFrame) w never e r = cc
   up_by (Err NotAccepted) w never e r = cc
   up_by (Err AlreadySettled) w never e r = cc
+  up_by (Err LimitsBelow) w never e r = cc
+  up_by (Err Undecided) w never e r = cc
+  up_by (Err Decided) w never e r = cc
   up_by _ w never e r = absurd w
 
   over_by_last : (end : Last) → going_reading end ≡ Some Over → ⊥
@@ -394,6 +398,9 @@ module _ (p : Past) (sent : List Sent) (who : End) (id most times : ℕ) (ordere
   unknown_by (Err NoSuchFrame) w e k = λ l. k.1 tt
   unknown_by (Err NotAccepted) w e k = λ l. k.1 tt
   unknown_by (Err AlreadySettled) w e k = λ l. k.1 tt
+  unknown_by (Err LimitsBelow) w e k = λ l. k.1 tt
+  unknown_by (Err Undecided) w e k = λ l. k.1 tt
+  unknown_by (Err Decided) w e k = λ l. k.1 tt
   unknown_by _ w e k = absurd w
 
 -- ---- one read
@@ -401,7 +408,7 @@ module _ (p : Past) (sent : List Sent) (who : End) (id most times : ℕ) (ordere
 same_index : (id q : ℕ) → initiator_of q ≡ initiator_of id → dir_of q ≡ dir_of id → index_of q ≡ index_of id → q ≡ id
 same_index id q i d n = id_is q ∙ ap (λ s. stream_id s (dir_of q) (index_of q)) i ∙ ap (λ e. stream_id (initiator_of id) e (index_of q)) d ∙ ap (stream_id (initiator_of id) (dir_of id)) n ∙ sym (id_is id)
 
-module _ (a b : Config) (h : History) (old new : PairState) (f : PairFrom a b h old) (who : End) (id : ℕ) (ordered : Bool) (reply : Answer) (n : Next old (steps.Read who id ordered (2 ^ 64 - 1) 65535) reply new) (r : HasRead (phase.Read who id ordered) (past_of h) old.sent) where
+module _ (a b : Origin) (h : History) (old new : PairState) (f : EraFrom a b h old) (who : End) (id : ℕ) (ordered : Bool) (reply : Answer) (n : NextOrdinary old (steps.Read who id ordered (2 ^ 64 - 1) 65535) reply new) (r : HasRead (phase.Read who id ordered) (past_of h) old.sent) where
   abbrev q : Past
   q = past_read (past_of h) who id ordered reply
 
@@ -482,7 +489,7 @@ module _ (a b : Config) (h : History) (old new : PairState) (f : PairFrom a b h 
   read_over e = read_streams (λ end i kind l. by end i kind l (nat_lt (index_of i) (index_of id)) refl)
     where
       unknown : IsOneOf id ((past_of h).ids who) → ⊥
-      unknown = unknown_by (past_of h) old.sent who id (2 ^ 64 - 1) 65535 ordered reply answer_is e (refused-so a b h old new (steps.Read who id ordered (2 ^ 64 - 1) 65535) reply f n)
+      unknown = unknown_by (past_of h) old.sent who id (2 ^ 64 - 1) 65535 ordered reply answer_is e (refused-so None a b h old new (steps.Read who id ordered (2 ^ 64 - 1) 65535) reply f n)
 
       by : (end : End) (i : ℕ) → IsOfKind who (initiator_of id) (dir_of id) end i → IsOneOf i (q.ids end) → (c : Bool) → nat_lt (index_of i) (index_of id) ≡ c → WasReadUp q new.sent end i
       by end i kind l true t = passed_still end i (inr (kind, grind (arith, nat_tests, t))) l
@@ -579,7 +586,7 @@ module _ (p q : Past) (sent more : List Sent) where
   read_frame payload frame other true going k r = goes_on_read p q sent more (phase.Deliver payload frame other true) (after_frame payload frame other true going) (k refl) (reader_frame payload frame other true going) (passed_frame payload frame other true going) r
   read_frame payload frame other false going k r = blank (after_frame payload frame other false going) q more (reader_frame payload frame other false going) (passed_frame payload frame other false going)
 
-read_after : (a b : Config) (h : History) (old new : PairState) → PairFrom a b h old → (at : Phase) (reply : Answer) → Next old (step_at at) reply new → (going : Going) → going_of reply ≡ Some going → IsReadyFor at old → HasRead at (past_of h) old.sent → HasRead (phase_after at going (length old.sent) (is_quiet_at new.sent (length old.sent))) (after (past_of h) (step_at at) reply) new.sent
+read_after : (a b : Origin) (h : History) (old new : PairState) → EraFrom a b h old → (at : Phase) (reply : Answer) → NextOrdinary old (step_at at) reply new → (going : Going) → going_of reply ≡ Some going → IsReadyFor at old → HasRead at (past_of h) old.sent → HasRead (phase_after at going (length old.sent) (is_quiet_at new.sent (length old.sent))) (after (past_of h) (step_at at) reply) new.sent
 read_after a b h old new f (phase.Report payload quiet) reply n going e ready r = read_report (past_of h) _ old.sent new.sent (keeps_acked (past_of h) old new payload reply n) payload quiet going r
 read_after a b h old new f (phase.ReportLost payload quiet) reply n going e ready r = read_report_lost (past_of h) _ old.sent new.sent (keeps_lost (past_of h) old new payload reply n) payload quiet r
 read_after a b h old new f (phase.Accept who dir) reply n going e ready r = read_accept (past_of h) _ old.sent new.sent who dir going
@@ -619,12 +626,12 @@ read_sought (phase.EmitOfB first empty quiet) here p sent s r = let P : Phase �
 read_sought (phase.Deliver payload frame other quiet) here p sent s r = let P : Phase → Type 0 = λ x. HasRead x p sent in subst P (sym s) r
 
 -- each phase finds read what it passed
-pub reads-phases : (a b : Config) (h : History) (old : PairState) (taken : History) (new : PairState) (at : Phase) → PairFrom a b h old → FollowsPhases old (phase.Report 0 false) taken new at → HasRead at (past_of (h ++ taken)) new.sent
+pub reads-phases : (a b : Origin) (h : History) (old : PairState) (taken : History) (new : PairState) (at : Phase) → EraFrom a b h old → FollowsPhases old (phase.Report 0 false) taken new at → HasRead at (past_of (h ++ taken)) new.sent
 reads-phases a b h old _ _ _ f follows_none = blank (phase.Report 0 false) (past_of (h ++ [])) old.sent tt (λ end id none. none)
 reads-phases a b h old _ _ _ f (follows_more {taken} {between} {new} {at} here reply going before sought n e) =
     let r = reads-phases a b h old taken between at f before in
     let g = ready-phases a b h old taken between at f before in
     let later = phase_after here going (length between.sent) (is_quiet_at new.sent (length between.sent)) in
     let P : Past → Type 0 = λ x. HasRead later x new.sent in
-    let read = subst P (sym (past-after (h ++ taken) (step_at here) reply)) (read_after a b (h ++ taken) between new g.led here reply n going e (ready-sought at here between g.ready sought) (read_sought at here (past_of (h ++ taken)) between.sent sought r)) in
+    let read = subst P (sym (past-after (h ++ taken) (step_at here) reply)) (read_after a b (h ++ taken) between new g.led here reply (ordinary-at here between new reply n) going e (ready-sought at here between g.ready sought) (read_sought at here (past_of (h ++ taken)) between.sent sought r)) in
     subst (λ l. HasRead later (past_of l) new.sent) (append_assoc h taken ((step_at here, reply) ∷ [])) read

@@ -12,7 +12,7 @@ use Rattle.quic_receiving.specs.Data.{IsAllGiven}
 use Rattle.quic_history.specs.History.{slices}
 use Rattle.quic_link.specs.Endpoints.{IsOneOf}
 use Rattle.quic_link.specs.Promises.{given_in_order}
-use Rattle.quic_steps.specs.declared.steps.Config.{Config}
+use Rattle.quic_pair.proofs.Origins.{Origin}
 use Rattle.quic_steps.specs.declared.steps.End.{End}
 use Rattle.quic_steps.specs.declared.steps.End.TheVariants.{A, B}
 use Rattle.quic_steps.specs.declared.steps.Reply.TheVariants.{Read, Event}
@@ -24,7 +24,7 @@ use Rattle.quic_pair.specs.State.{PairState, peer}
 use Rattle.quic_pair.specs.History.{Past, Flow, FramePlace, History, past_of, past_read, after_poll, after_event, with_flow, completes, tells_stop, reads_last, reads_chunks}
 use Rattle.quic_pair.specs.Headline.{SomeStream, HasOffset, HasEnd}
 use Rattle.quic_pair.specs.Honest.{IsHonestFrame}
-use Rattle.quic_pair.specs.From.{PairFrom}
+use Rattle.quic_pair.proofs.Eras.{EraFrom}
 use Rattle.quic_pair.specs.Completed.{HasArrived, IsUnreset, IsUnstopped, IsReadWhole}
 use Rattle.quic_pair.proofs.Lists.{got-one}
 use Rattle.quic_pair.proofs.Flips.{seen-as}
@@ -73,7 +73,7 @@ places_at sent who id _ _ (on {places} {streams} place s before from is) at (inr
 places_at sent who id _ _ (beside {places} {streams} place payload before is lacks) at (inl e) = (payload, ap (λ (x : FramePlace). slice_get sent x.0) e ∙ is)
 places_at sent who id _ _ (beside {places} {streams} place payload before is lacks) at (inr h) = places_at sent who id places streams before at h
 
-pub places-from : (a b : Config) (h : History) (v : PairState) → PairFrom a b h v → ArePlaces (past_of h).kept v.sent
+pub places-from : (a b : Origin) (h : History) (v : PairState) → EraFrom a b h v → ArePlaces (past_of h).kept v.sent
 places-from a b h v f = seen-as a b (past_of h) v A (joined-from f) (ArePlaces (past_of h).kept v.sent) (λ x y side s. places_at v.sent A 0 (past_of h).kept _ (s.kept_there.streams 0))
 
 -- ---- it stays read up
@@ -150,7 +150,7 @@ poll-like p who end q _ = same_read (p.flow end q)
 
 -- ---- what was read up is whole, once all arrived
 
-module _ (a b : Config) (h : History) (v : PairState) (f : PairFrom a b h v) (who : End) (id : ℕ) (unreset : IsUnreset ((past_of h).flow (peer who) id)) (unstopped : IsUnstopped ((past_of h).flow (peer who) id)) (arrived : HasArrived ((past_of h).flow (peer who) id) (peer who) id (past_of h).accepted v.sent) (w : WasReadUp (past_of h) v.sent who id) where
+module _ (a b : Origin) (h : History) (v : PairState) (f : EraFrom a b h v) (who : End) (id : ℕ) (unreset : IsUnreset ((past_of h).flow (peer who) id)) (unstopped : IsUnstopped ((past_of h).flow (peer who) id)) (arrived : HasArrived ((past_of h).flow (peer who) id) (peer who) id (past_of h).accepted v.sent) (w : WasReadUp (past_of h) v.sent who id) where
   abbrev now : Flow
   now = (past_of h).flow (peer who) id
 

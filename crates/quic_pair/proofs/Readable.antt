@@ -50,18 +50,18 @@ use Rattle.quic_link.proofs.Joint.{agrees}
 use Rattle.quic_link.proofs.Promised.{promised}
 use Rattle.quic_endpoint.specs.Ends.{EndState, WritesAt, FinishesAt, ReadsAt, RefusesRead, TellsResetAt}
 use Rattle.quic_steps.specs.declared.steps.End.{End}
-use Rattle.quic_steps.specs.declared.steps.Config.{Config}
+use Rattle.quic_pair.proofs.Origins.{Origin}
 use Rattle.quic_steps.specs.declared.steps.Step.{Step}
 use Rattle.quic_steps.specs.declared.steps.Step.TheVariants as steps
 use Rattle.quic_steps.specs.declared.steps.Reply.TheVariants.{Read}
 use Rattle.quic_pair.specs.Replies.{Answer, written_reply, chunks_reply, finished_reply, read_reply, last_of, code_reply, event_reply}
 use Rattle.quic_pair.specs.Calls.{OnGiven, AsksReset, ReadsOn, ReadsSo}
 use Rattle.quic_pair.specs.State.{PairState, OnEnd, peer, the_end}
-use Rattle.quic_pair.specs.Steps.{Next}
+use Rattle.quic_pair.specs.Steps.{NextOrdinary}
 use Rattle.quic_pair.specs.History.{Past, Flow, History, past_of, past_read, with_flow, reads_chunks, with_chunks_read}
 use Rattle.quic_pair.specs.Headline.{SomeStream, HasOffset, HasEnd}
 use Rattle.quic_pair.specs.Readable.{AreCut, SomeReset, SomeStop, StopTrue, EventTrue, HasNothingLeft, OnlySends, IsFlowOver, EndsReads, ReadsTrue, CodeTrue, WithholdsNothing, side_of}
-use Rattle.quic_pair.specs.From.{PairFrom}
+use Rattle.quic_pair.proofs.Eras.{EraFrom}
 use Rattle.quic_pair.proofs.Joined.{Seen, Joined}
 use Rattle.quic_pair.proofs.KeptCalls.{kept-offset, kept-end, was-stopped, was-reset}
 use Rattle.quic_pair.proofs.Flips.{seen-as}
@@ -304,7 +304,7 @@ module _ (p : Past) (who : End) (v : PairState) (x y : LinkedEnd) (s : Seen p wh
 
 -- ---- the step
 
-module _ (a b : Config) (p : Past) (old new : PairState) (j : Joined a b p old) where
+module _ (a b : Origin) (p : Past) (old new : PairState) (j : Joined a b p old) where
   abbrev IsRead : End → ℕ → Bool → ℕ → ℕ → Answer → Type 0
   IsRead who id ordered most times reply = ReadsTrue (past_read p who id ordered reply) old.sent who id ordered most times reply
 
@@ -333,12 +333,12 @@ module _ (a b : Config) (p : Past) (old new : PairState) (j : Joined a b p old) 
     | inr unknown ↦ (let P : Answer → Type 0 = λ k. StopTrue p old.sent who id k in subst P (sym unknown.1) tt)
   ]
 
-  write_stops : (who : End) (id : ℕ) (bytes : List ℕ) (reply : Answer) → Next old (steps.Write who id bytes) reply new → StopTrue p old.sent who id reply
+  write_stops : (who : End) (id : ℕ) (bytes : List ℕ) (reply : Answer) → NextOrdinary old (steps.Write who id bytes) reply new → StopTrue p old.sent who id reply
   write_stops who id bytes reply n = stop_on who id reply n (λ x y s f d.
       let P : Answer → Type 0 = λ k. StopTrue p old.sent who id k in
       subst P (sym d.reply_is) (written_told p who old x y s id d.answer (write_told p who old x y s id (slice_lists bytes) d.answer f d.writes)))
 
-  chunks_stop : (who : End) (id : ℕ) (chunks : List (List ℕ)) (reply : Answer) → Next old (steps.WriteChunks who id chunks) reply new → StopTrue p old.sent who id reply
+  chunks_stop : (who : End) (id : ℕ) (chunks : List (List ℕ)) (reply : Answer) → NextOrdinary old (steps.WriteChunks who id chunks) reply new → StopTrue p old.sent who id reply
   chunks_stop who id chunks reply n = stop_on who id reply n (λ x y s f k.
       let P : Answer → Type 0 = λ r. StopTrue p old.sent who id r in
       elim k [
@@ -346,18 +346,18 @@ module _ (a b : Config) (p : Past) (old new : PairState) (j : Joined a b p old) 
         | inr wants ↦ subst P (sym wants.0) tt
       ])
 
-  finish_stops : (who : End) (id : ℕ) (reply : Answer) → Next old (steps.Finish who id) reply new → StopTrue p old.sent who id reply
+  finish_stops : (who : End) (id : ℕ) (reply : Answer) → NextOrdinary old (steps.Finish who id) reply new → StopTrue p old.sent who id reply
   finish_stops who id reply n = stop_on who id reply n (λ x y s f d.
       let P : Answer → Type 0 = λ k. StopTrue p old.sent who id k in
       subst P (sym d.reply_is) (finish_told p who old x y s id d.answer f d.finishes))
 
-  poll_stops : (who : End) (reply : Answer) → Next old (steps.Poll who) reply new → EventTrue p old.sent who reply
+  poll_stops : (who : End) (reply : Answer) → NextOrdinary old (steps.Poll who) reply new → EventTrue p old.sent who reply
   poll_stops who reply n =
       let d = n.does in
       let P : Answer → Type 0 = λ k. EventTrue p old.sent who k in
       subst P (sym d.reply_is) (seen-as a b p old who j (EventTrue p old.sent who (event_reply d.event)) (λ x y side s. event_told p who old x y s d.event n.end d.polls))
 
-  readable_next : (step : Step) (reply : Answer) → Next old step reply new → WithholdsNothing p old.sent step reply
+  readable_next : (step : Step) (reply : Answer) → NextOrdinary old step reply new → WithholdsNothing p old.sent step reply
   readable_next (steps.Read who id ordered most times) reply n = read_so who id ordered most times reply n
   readable_next (steps.ReceivedReset who id) reply n = asked_so who id reply n
   readable_next (steps.Write who id bytes) reply n = write_stops who id bytes reply n
@@ -367,5 +367,5 @@ module _ (a b : Config) (p : Past) (old new : PairState) (j : Joined a b p old) 
   readable_next _ reply n = tt
 
 -- whatever the network did, nothing that was kept is withheld
-pub readable-so : (a b : Config) (h : History) (old new : PairState) (step : Step) (reply : Answer) → PairFrom a b h old → Next old step reply new → WithholdsNothing (past_of h) old.sent step reply
+pub readable-so : (a b : Origin) (h : History) (old new : PairState) (step : Step) (reply : Answer) → EraFrom a b h old → NextOrdinary old step reply new → WithholdsNothing (past_of h) old.sent step reply
 readable-so a b h old new step reply f n = readable_next a b (past_of h) old new (joined-from f) step reply n

@@ -18,7 +18,7 @@ use Rattle.quic_streams.specs.Settling.{SentView, resets_of, unreported}
 use Rattle.quic_streams.specs.Sent.{sent_view, report_view}
 use Rattle.quic_endpoint.specs.Ends.{EndState}
 use Rattle.quic_endpoint.specs.Emitting.{PayloadView, control_in}
-use Rattle.quic_steps.specs.declared.steps.Config.{Config}
+use Rattle.quic_pair.proofs.Origins.{Origin, made_in}
 use Rattle.quic_steps.specs.declared.steps.End.{End}
 use Rattle.quic_steps.specs.declared.steps.End.TheVariants.{A, B}
 use Rattle.quic_steps.specs.declared.steps.Step.{Step}
@@ -31,7 +31,6 @@ use Rattle.quic_pair.specs.Unsettled.{goes_on, unsettled_after}
 use Rattle.quic_pair.specs.Replies.{Answer}
 use Rattle.quic_pair.specs.State.{PairState, the_end, with_end, with_sent}
 use Rattle.quic_pair.specs.Steps.{IsSentBy}
-use Rattle.quic_pair.specs.From.{made_of}
 use Rattle.quic_pair.specs.Tale.{Tale, Tales, StepTells, TellsParts, TellsAll, Part, Carried, GivenUp, parts_in, parts_of, parts_left, with_parts, told_of, told_more}
 use Rattle.quic_pair.proofs.Lists.{slice_get-push, slice_get-slice_set, slice_get-split, slice_get-set_same, slice_get-within, slice_set-length, apart}
 use Rattle.quic_pair.proofs.Counted.{Counted, IsUntold}
@@ -157,11 +156,11 @@ module _ (sent : List Sent) (told : ℕ → ℕ) (left : AreLeft sent told) (num
 -- ---- a pair with a tale of each end
 
 -- what an end was made with
-abbrev pub made_at : Config → Config → End → Made
-made_at a b A = made_of Client a
-made_at a b B = made_of Server b
+abbrev pub made_at : Origin → Origin → End → Made
+made_at a b A = made_in Client a
+made_at a b B = made_in Server b
 
-pub record Recounted (a b : Config) (v : PairState) : Type 0 where
+pub record Recounted (a b : Origin) (v : PairState) : Type 0 where
   pub tales : Tales
   pub counted : (who : End) → Counted (made_at a b who) (the_end v who).streams (tales.of who)
   pub count : tales.payloads ≡ length v.sent
@@ -169,7 +168,7 @@ pub record Recounted (a b : Config) (v : PairState) : Type 0 where
   pub fresh : (number : ℕ) → length v.sent ≤ number → tales.told number ≡ 0
 
 -- and once one more step was taken
-pub record Retold (a b : Config) (old : PairState) (before : Tales) (step : Step) (reply : Answer) (new : PairState) : Type 0 where
+pub record Retold (a b : Origin) (old : PairState) (before : Tales) (step : Step) (reply : Answer) (new : PairState) : Type 0 where
   pub behind : Recounted a b new
   pub tells : StepTells old.sent new.sent step reply before behind.tales
 
@@ -180,7 +179,7 @@ sents_after sent number kind s answer = slice_set sent number (record s { unsett
 abbrev pub tales_after : Tales → ℕ → List Frame → List Part → End → (Part → Tale → Tale) → Tales
 tales_after t number all done who deed = told_more number (length done) (told_of who (with_parts deed (take (length done) (drop (t.told number) (parts_in all)))) t)
 
-module _ (a b : Config) (old : PairState) (r : Recounted a b old) (step : Step) (reply : Answer) where
+module _ (a b : Origin) (old : PairState) (r : Recounted a b old) (step : Step) (reply : Answer) where
   counted_by : (who : End) (change : Tale → Tale) (f : EndState) (sents : List Sent) → Counted (made_at a b who) f.streams (change (r.tales.of who)) → (k : End) → Counted (made_at a b k) (the_end (with_sent (with_end old who f) sents) k).streams ((told_of who change r.tales).of k)
   counted_by A change f sents c A = c
   counted_by A change f sents c B = r.counted B

@@ -22,7 +22,7 @@ use Rattle.quic_link.proofs.AskedFor.{asked-merged}
 use Rattle.quic_endpoint.specs.Ends.{EndState, with_world, with_counts_told, with_counts_told_if}
 use Rattle.quic_endpoint.specs.Reports.{LosesPayloadAt, AcksPayloadAt}
 use Rattle.quic_steps.specs.declared.steps.End.{End}
-use Rattle.quic_steps.specs.declared.steps.Config.{Config}
+use Rattle.quic_pair.proofs.Origins.{Origin}
 use Rattle.quic_steps.specs.declared.steps.Reply.TheVariants.{Done}
 use Rattle.quic_steps.specs.declared.steps.PairError.TheVariants.{NoSuchPayload, NotAccepted, AlreadySettled, OutOfMemory as NoMemory}
 use Rattle.quic_pair.specs.declared.sent.Sent.{Sent}
@@ -373,11 +373,11 @@ module _ (p : Past) (who : End) (old new : PairState) (x y : LinkedEnd) (number 
 
 -- ---- all of these steps
 
-module _ (a b : Config) (p : Past) (old new : PairState) (number : ℕ) (j : Joined a b p old) where
+module _ (a b : Origin) (p : Past) (old new : PairState) (number : ℕ) (j : Joined a b p old) where
   pub joined-same : new ≡ old → Joined a b p new
   joined-same is = let P : PairState → Type 0 = λ v. Joined a b p v in subst P (sym is) j
 
-module _ (a b : Config) (p : Past) (old new : PairState) (number : ℕ) (j : Joined a b p old) (told : ℕ → ℕ) (left : AreLeft old.sent told) where
+module _ (a b : Origin) (p : Past) (old new : PairState) (number : ℕ) (j : Joined a b p old) (told : ℕ → ℕ) (left : AreLeft old.sent told) where
   lost : (reply : Answer) → Reports Lost LosesPayloadAt old number reply new → Joined a b (after_report p number Lost reply) new
   lost reply k = joined-by a b p (after_report p number Lost reply) k.payload.sent.writer old new j (λ x y s. seen-loses p k.payload.sent.writer old new x y number reply s told left k refl)
 

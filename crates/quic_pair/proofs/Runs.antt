@@ -1,20 +1,16 @@
 -- Lemmas on many steps.
-use Rattle.std.proofs.Common.{◌≡◌, List, [], ◌∷◌, ◌++◌, length, refl, ap, arith, append_assoc, append-nil}
+use Rattle.std.proofs.Common.{◌≡◌, Option, List, [], ◌∷◌, ◌++◌, length, refl, ap, arith, append_assoc, append-nil}
 use Rattle.std.specs.List.{zip}
-use Rattle.quic_steps.specs.declared.steps.Config.{Config}
 use Rattle.quic_steps.specs.declared.steps.Step.{Step}
+use Rattle.quic_pair.specs.declared.early.EarlyLimits.{EarlyLimits}
 use Rattle.quic_pair.specs.declared.sent.Sent.{Sent}
 use Rattle.quic_pair.specs.Replies.{Answer}
 use Rattle.quic_pair.specs.State.{PairState}
 use Rattle.quic_pair.specs.Steps.{Next}
-use Rattle.quic_pair.specs.History.{History, Past, past_of}
-use Rattle.quic_pair.specs.From.{PairFrom, next}
-use Rattle.quic_pair.specs.Runs.{StepByStep, none, more, TakesSteps, Behind, Around, Throughout, IsTrueOf, StaysIfRefused, AsksOf, WithholdsNone}
-use Rattle.quic_pair.proofs.Grown.{headline-from}
-use Rattle.quic_pair.proofs.Honest.{honest-from}
-use Rattle.quic_pair.proofs.Served.{refused-stays}
-use Rattle.quic_pair.proofs.Due.{asks-for}
-use Rattle.quic_pair.proofs.NotWithheld.{not-withheld}
+use Rattle.quic_pair.specs.History.{History, Past, past_of, waits_from}
+use Rattle.quic_pair.specs.From.{Beginning, waits_first, PairFrom, next}
+use Rattle.quic_pair.specs.Runs.{StepByStep, none, more, TakesSteps, Behind, BehindEarly, Around, Throughout, IsTrueOf, StaysIfRefused, AsksOf, WithholdsNone}
+use Rattle.quic_pair.proofs.Leads.{headline-led, honest-led, stays-led, asks-led, not-withheld-led}
 
 -- one more step and one more reply
 zip-behind : {X Y : Type 0} (xs : List X) (ys : List Y) (x : X) (y : Y) → length ys ≡ length xs → zip (xs ++ x ∷ []) (ys ++ y ∷ []) ≡ zip xs ys ++ (x, y) ∷ []
@@ -30,48 +26,56 @@ steps-more taken replies longer step reply count e run n =
     rw (e, zip-behind taken replies step reply count) (more step reply run n tt)
 
 -- the history goes on by the steps of a run
-pub from-steps : {a b : Config} {h : History} {old : PairState} {taken : History} {new : PairState} → PairFrom a b h old → TakesSteps old taken new → PairFrom a b (h ++ taken) new
-from-steps {a} {b} {h} {old} f none = rw (append-nil h) f
-from-steps {a} {b} {h} {old} f (more {taken} {between} {new} step reply run n each) =
+pub from-steps : {s : Beginning} {h : History} {old : PairState} {taken : History} {new : PairState} → PairFrom s h old → TakesSteps old taken new → PairFrom s (h ++ taken) new
+from-steps {s} {h} {old} f none = rw (append-nil h) f
+from-steps {s} {h} {old} f (more {taken} {between} {new} step reply run n each) =
     rw (← append_assoc h taken ((step, reply) ∷ [])) (next step reply (from-steps f run) n)
 
 -- what holds of every step behind its history, holds of each step of a run
 pub each-behind : (Holds : Past → List Sent → Step → Answer → Type 0)
-    → ((a b : Config) (h : History) (old new : PairState) (step : Step) (reply : Answer) → PairFrom a b h old → Next old step reply new → Holds (past_of h) old.sent step reply)
-    → (a b : Config) (h : History) (old : PairState) (taken : History) (new : PairState) → PairFrom a b h old → TakesSteps old taken new → StepByStep (Behind Holds h) old taken new
-each-behind Holds holds a b h old _ _ f none = none
-each-behind Holds holds a b h old _ _ f (more {taken} {between} {new} step reply run n each) =
-    more step reply (each-behind Holds holds a b h old taken between f run) n (holds a b (h ++ taken) between new step reply (from-steps f run) n)
+    → ((s : Beginning) (h : History) (old new : PairState) (step : Step) (reply : Answer) → PairFrom s h old → Next old step reply new → Holds (past_of h) old.sent step reply)
+    → (s : Beginning) (h : History) (old : PairState) (taken : History) (new : PairState) → PairFrom s h old → TakesSteps old taken new → StepByStep (Behind Holds h) old taken new
+each-behind Holds holds s h old _ _ f none = none
+each-behind Holds holds s h old _ _ f (more {taken} {between} {new} step reply run n each) =
+    more step reply (each-behind Holds holds s h old taken between f run) n (holds s (h ++ taken) between new step reply (from-steps f run) n)
+
+-- so does what holds by what is to be decided too
+pub each-early : (Holds : Option EarlyLimits → Past → List Sent → Step → Answer → Type 0)
+    → ((s : Beginning) (h : History) (old new : PairState) (step : Step) (reply : Answer) → PairFrom s h old → Next old step reply new → Holds (waits_from (waits_first s) h) (past_of h) old.sent step reply)
+    → (s : Beginning) (h : History) (old : PairState) (taken : History) (new : PairState) → PairFrom s h old → TakesSteps old taken new → StepByStep (BehindEarly Holds s h) old taken new
+each-early Holds holds s h old _ _ f none = none
+each-early Holds holds s h old _ _ f (more {taken} {between} {new} step reply run n each) =
+    more step reply (each-early Holds holds s h old taken between f run) n (holds s (h ++ taken) between new step reply (from-steps f run) n)
 
 -- so does what holds of the pair behind it, too
 pub each-around : (Holds : Past → List Sent → Step → Answer → PairState → Type 0)
-    → ((a b : Config) (h : History) (old new : PairState) (step : Step) (reply : Answer) → PairFrom a b h old → Next old step reply new → Holds (past_of h) old.sent step reply new)
-    → (a b : Config) (h : History) (old : PairState) (taken : History) (new : PairState) → PairFrom a b h old → TakesSteps old taken new → StepByStep (Around Holds h) old taken new
-each-around Holds holds a b h old _ _ f none = none
-each-around Holds holds a b h old _ _ f (more {taken} {between} {new} step reply run n each) =
-    more step reply (each-around Holds holds a b h old taken between f run) n (holds a b (h ++ taken) between new step reply (from-steps f run) n)
+    → ((s : Beginning) (h : History) (old new : PairState) (step : Step) (reply : Answer) → PairFrom s h old → Next old step reply new → Holds (past_of h) old.sent step reply new)
+    → (s : Beginning) (h : History) (old : PairState) (taken : History) (new : PairState) → PairFrom s h old → TakesSteps old taken new → StepByStep (Around Holds h) old taken new
+each-around Holds holds s h old _ _ f none = none
+each-around Holds holds s h old _ _ f (more {taken} {between} {new} step reply run n each) =
+    more step reply (each-around Holds holds s h old taken between f run) n (holds s (h ++ taken) between new step reply (from-steps f run) n)
 
 -- what holds of every pair behind its history, holds behind each step of a run
-pub each-after : (a b : Config) (h : History) (old : PairState) (taken : History) (new : PairState) → PairFrom a b h old → TakesSteps old taken new → StepByStep (Throughout IsTrueOf h) old taken new
-each-after a b h old _ _ f none = none
-each-after a b h old _ _ f (more {taken} {between} {new} step reply run n each) =
+pub each-after : (s : Beginning) (h : History) (old : PairState) (taken : History) (new : PairState) → PairFrom s h old → TakesSteps old taken new → StepByStep (Throughout IsTrueOf h) old taken new
+each-after s h old _ _ f none = none
+each-after s h old _ _ f (more {taken} {between} {new} step reply run n each) =
     let g = from-steps f (more step reply run n each) in
-    more step reply (each-after a b h old taken between f run) n (record { headline = headline-from g; honest = honest-from g })
+    more step reply (each-after s h old taken between f run) n (record { headline = headline-led g; honest = honest-led g })
 
 -- a refused step of a run left the pair as it was
 pub each-stays : (old : PairState) (taken : History) (new : PairState) → TakesSteps old taken new → StepByStep StaysIfRefused old taken new
 each-stays old _ _ none = none
 each-stays old _ _ (more {taken} {between} {new} step reply run n each) =
-    more step reply (each-stays old taken between run) n (λ r. refused-stays between new step reply n r)
+    more step reply (each-stays old taken between run) n (λ r. stays-led between new step reply n r)
 
 -- no step of a run withheld what was due
-pub each-asks : (a b : Config) (h : History) (old : PairState) (taken : History) (new : PairState) → PairFrom a b h old → TakesSteps old taken new → StepByStep AsksOf old taken new
-each-asks a b h old _ _ f none = none
-each-asks a b h old _ _ f (more {taken} {between} {new} step reply run n each) =
-    more step reply (each-asks a b h old taken between f run) n (asks-for a b (h ++ taken) between new step reply (from-steps f run) n)
+pub each-asks : (s : Beginning) (h : History) (old : PairState) (taken : History) (new : PairState) → PairFrom s h old → TakesSteps old taken new → StepByStep AsksOf old taken new
+each-asks s h old _ _ f none = none
+each-asks s h old _ _ f (more {taken} {between} {new} step reply run n each) =
+    more step reply (each-asks s h old taken between f run) n (asks-led s (h ++ taken) between new step reply (from-steps f run) n)
 
 -- nor what was permitted
-pub each-permits : (a b : Config) (h : History) (old : PairState) (taken : History) (new : PairState) → PairFrom a b h old → TakesSteps old taken new → StepByStep (WithholdsNone a b h) old taken new
-each-permits a b h old _ _ f none = none
-each-permits a b h old _ _ f (more {taken} {between} {new} step reply run n each) =
-    more step reply (each-permits a b h old taken between f run) n (λ led. not-withheld a b (h ++ taken) between new step reply led n)
+pub each-permits : (s : Beginning) (h : History) (old : PairState) (taken : History) (new : PairState) → PairFrom s h old → TakesSteps old taken new → StepByStep (WithholdsNone s h) old taken new
+each-permits s h old _ _ f none = none
+each-permits s h old _ _ f (more {taken} {between} {new} step reply run n each) =
+    more step reply (each-permits s h old taken between f run) n (λ led. not-withheld-led s (h ++ taken) between new step reply led n)

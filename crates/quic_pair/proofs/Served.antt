@@ -31,7 +31,7 @@ use Rattle.quic_pair.specs.declared.unsettled.Report.TheVariants.{Lost, Acknowle
 use Rattle.quic_pair.specs.Replies.{Answer, wants_memory, accepted_reply, opened_reply, unwritten_reply, written_reply, chunks_reply, unfinished_reply, finished_reply, unhandled_reply, handled_reply, code_reply, unread_reply, read_reply, event_reply, done_reply, received_reply}
 use Rattle.quic_pair.specs.State.{PairState, OnEnd, the_end, with_end}
 use Rattle.quic_pair.specs.Calls.{Opens, Accepts, OnGiven, Writes, WritesChunksOrNone, Finishes, ResetsOn, StopsOn, SetsPriorityOn, AsksReset, ReadsOn, SetsReceiveWindow, SetsMaxConcurrent, Polls}
-use Rattle.quic_pair.specs.Steps.{Next, Emitted, HandsOver, Delivers, SettlesPayload}
+use Rattle.quic_pair.specs.Steps.{NextOrdinary, Emitted, HandsOver, Delivers, SettlesPayload}
 use Rattle.quic_pair.specs.Refused.{IsRefused, IsTaken}
 
 -- ---- replies
@@ -196,7 +196,7 @@ module _ (old new : PairState) where
   settles_stay number kind At (Err NotAccepted) r k = k.is
   settles_stay number kind At _ r k = absurd k
 
-  pub refused-stays : (step : Step) (reply : Answer) → Next old step reply new → IsRefused reply → new ≡ old
+  pub refused-stays : (step : Step) (reply : Answer) → NextOrdinary old step reply new → IsRefused reply → new ≡ old
   refused-stays (steps.Open who dir) reply n r = served_stays old new reply r who n (λ e f k. served-opens k)
   refused-stays (steps.Accept who dir) reply n r = served_stays old new reply r who n (λ e f k. served-accepts k)
   refused-stays (steps.Write who id bytes) reply n r = unknown_stays old new reply r who id n (λ e f k. served-writes k)
@@ -215,3 +215,4 @@ module _ (old new : PairState) where
   refused-stays (steps.Deliver number index) reply n r = delivers_stay number index reply r n
   refused-stays (steps.Lose number) reply n r = settles_stay number Lost LosesPayloadAt reply r n
   refused-stays (steps.Ack number) reply n r = settles_stay number Acknowledged AcksPayloadAt reply r n
+  refused-stays _ reply n r = absurd n

@@ -15,7 +15,7 @@ use Rattle.quic_link.specs.Endpoints.{IsOneOf}
 use Rattle.quic_endpoint.specs.Ends.{EndState}
 use Rattle.quic_endpoint.specs.Emitting.{PayloadView}
 use Rattle.quic_endpoint.specs.Reports.{LosesPayloadAt, AcksPayloadAt}
-use Rattle.quic_steps.specs.declared.steps.Config.{Config}
+use Rattle.quic_pair.proofs.Origins.{Origin}
 use Rattle.quic_steps.specs.declared.steps.End.{End}
 use Rattle.quic_steps.specs.declared.steps.Step.{Step}
 use Rattle.quic_steps.specs.declared.steps.Step.TheVariants as steps
@@ -28,9 +28,10 @@ use Rattle.quic_pair.specs.declared.unsettled.Unsettled.{Unsettled}
 use Rattle.quic_pair.specs.Unsettled.{goes_on, may_report, other_report, unsettled_after}
 use Rattle.quic_pair.specs.Replies.{Answer, report_reply}
 use Rattle.quic_pair.specs.State.{PairState, OnEnd}
-use Rattle.quic_pair.specs.Steps.{Next, Emits, Emitted, SentAfter, Delivers, Reports, SettlesPayload}
+use Rattle.quic_pair.specs.Gone.{IsGone}
+use Rattle.quic_pair.specs.Steps.{NextOrdinary, Emits, Emitted, SentAfter, Delivers, Reports, SettlesPayload}
 use Rattle.quic_pair.specs.History.{Past, History, after, after_deliver, after_report, past_of}
-use Rattle.quic_pair.specs.From.{PairFrom, begun, next}
+use Rattle.quic_pair.proofs.Eras.{EraFrom, begun, next, changed, Changes, accepts, retries}
 use Rattle.quic_pair.specs.Refused.{IsSettledFor}
 use Rattle.quic_pair.proofs.Lists.{slice_get-push, slice_get-slice_set, slice_get-split, slice_get-within, slice_set-length}
 use Rattle.quic_pair.proofs.Marks.{sent_on_end}
@@ -38,15 +39,15 @@ use Rattle.quic_pair.proofs.Beside.{IsOfNoPayload, beside, deliver-settled, deli
 use Rattle.quic_pair.proofs.Grown.{past-after}
 
 -- what a caller knows of the reports of one payload is what is kept of it
-pub record IsSettledAs (settled : List ℕ) (begun_are : List (ℕ × Report)) (number : ℕ) (u : Unsettled) : Type 0 where
-  pub done : u.rest ≡ None → IsOneOf number settled
-  pub known : IsOneOf number settled → u.rest ≡ None
-  pub started : (kind : Report) → u.begun ≡ Some kind → IsOneOf (number, kind) begun_are
-  pub noticed : (kind : Report) → IsOneOf (number, kind) begun_are → u.begun ≡ Some kind
+pub record IsSettledAs (settled : List ℕ) (begun_are : List (ℕ × Report)) (number : ℕ) (s : Sent) : Type 0 where
+  pub done : s.gone ≡ false → s.unsettled.rest ≡ None → IsOneOf number settled
+  pub known : IsOneOf number settled → s.unsettled.rest ≡ None
+  pub started : (kind : Report) → s.unsettled.begun ≡ Some kind → IsOneOf (number, kind) begun_are
+  pub noticed : (kind : Report) → IsOneOf (number, kind) begun_are → s.unsettled.begun ≡ Some kind
 
 -- so of each; and no other payload was reported
 pub record AreSettledSo (settled : List ℕ) (begun_are : List (ℕ × Report)) (sent : List Sent) : Type 0 where
-  pub each : (number : ℕ) (s : Sent) → slice_get sent number ≡ Some s → IsSettledAs settled begun_are number s.unsettled
+  pub each : (number : ℕ) (s : Sent) → slice_get sent number ≡ Some s → IsSettledAs settled begun_are number s
   pub settled_sent : (number : ℕ) → IsOneOf number settled → number < length sent
   pub begun_sent : (number : ℕ) (kind : Report) → IsOneOf (number, kind) begun_are → number < length sent
 
@@ -74,10 +75,10 @@ open_begun Lost (Some r) (Some Lost) e n = cc
 open_begun Acknowledged (Some r) (Some Acknowledged) e n = cc
 open_begun kind (Some r) None e n = cc
 
-module _ (p : Past) (sent : List Sent) (k : AreSettledSo p.settled p.begun sent) (number : ℕ) (s : Sent) (is : slice_get sent number ≡ Some s) (kind : Report) where
+module _ (p : Past) (sent : List Sent) (k : AreSettledSo p.settled p.begun sent) (number : ℕ) (s : Sent) (is : slice_get sent number ≡ Some s) (here : s.gone ≡ false) (kind : Report) where
   pub settled-for : may_report kind s.unsettled ≡ false → IsSettledFor p number kind
   settled-for e = elim (not_open kind s.unsettled.rest s.unsettled.begun e) [
-    | inl none ↦ inl ((k.each number s is).done none)
+    | inl none ↦ inl ((k.each number s is).done here none)
     | inr other ↦ inr ((k.each number s is).started (other_report kind) other)
   ]
 
@@ -105,7 +106,7 @@ module _ (settled : List ℕ) (begun_are : List (ℕ × Report)) (sent : List Se
           | inr now ↦ (
               let here = now.0 in
               record {
-                done = λ none. absurd (some (sym (ap (λ (v : Sent). v.unsettled.rest) now.1) ∙ none));
+                done = λ there none. absurd (some (sym (ap (λ (v : Sent). v.unsettled.rest) now.1) ∙ none));
                 known = λ h. let w = k.settled_sent n h in absurd (omega (arith, w, here));
                 started = λ kind e. absurd (none-some kind (sym fresh ∙ sym (ap (λ (v : Sent). v.unsettled.begun) now.1) ∙ e));
                 noticed = λ kind h. let w = k.begun_sent n kind h in absurd (omega (arith, w, here));
@@ -121,14 +122,21 @@ module _ (settled : List ℕ) (begun_are : List (ℕ × Report)) (sent : List Se
     other n e here = let both : true ≡ false = sym (ap (λ i. i == number) here ∙ itself number) ∙ e in cc
 
     -- one was marked
-    settled_marked : (t : Sent) → t.unsettled ≡ s.unsettled → AreSettledSo settled begun_are (slice_set sent number t)
-    settled_marked t same_one =
+    settled_marked : (t : Sent) → t.unsettled ≡ s.unsettled → t.gone ≡ s.gone → AreSettledSo settled begun_are (slice_set sent number t)
+    settled_marked t same_one same_gone =
         let size = slice_set-length sent number t in
         record {
           each = λ n v got. elim (slice_get-slice_set sent number n t v got) [
             | inl new ↦ (
-                let P : Unsettled → Type 0 = λ u. IsSettledAs settled begun_are n u in
-                subst P (sym (ap (λ (x : Sent). x.unsettled) new.1 ∙ same_one)) (k.each n s (ap (slice_get sent) new.0 ∙ is))
+                let was = k.each n s (ap (slice_get sent) new.0 ∙ is) in
+                let unsettled_is : v.unsettled ≡ s.unsettled = ap (λ (x : Sent). x.unsettled) new.1 ∙ same_one in
+                let gone_is : v.gone ≡ s.gone = ap (λ (x : Sent). x.gone) new.1 ∙ same_gone in
+                record {
+                  done = λ g e. was.done (sym gone_is ∙ g) (sym (ap (λ (u : Unsettled). u.rest) unsettled_is) ∙ e);
+                  known = λ h. ap (λ (u : Unsettled). u.rest) unsettled_is ∙ was.known h;
+                  started = λ kind e. was.started kind (sym (ap (λ (u : Unsettled). u.begun) unsettled_is) ∙ e);
+                  noticed = λ kind h. ap (λ (u : Unsettled). u.begun) unsettled_is ∙ was.noticed kind h;
+                }
                 )
             | inr there ↦ k.each n v there
           ];
@@ -146,13 +154,13 @@ module _ (settled : List ℕ) (begun_are : List (ℕ × Report)) (sent : List Se
           each = λ n v got. elim (slice_get-split sent number n s t v is got) [
             | inl new ↦ (
                 let was = k.each n s (ap (slice_get sent) new.0 ∙ is) in
-                let P : Unsettled → Type 0 = λ u. IsSettledAs (number ∷ settled) begun_are n u in
-                subst P (sym (ap (λ (x : Sent). x.unsettled) new.1)) (record { done = λ e. inl new.0; known = λ h. refl; started = was.started; noticed = was.noticed })
+                let P : Sent → Type 0 = λ x. IsSettledAs (number ∷ settled) begun_are n x in
+                subst P (sym new.1) (record { done = λ g e. inl new.0; known = λ h. refl; started = was.started; noticed = was.noticed })
                 )
             | inr there ↦ (
                 let was = k.each n v there.1 in
                 record {
-                  done = λ e. inr (was.done e);
+                  done = λ g e. inr (was.done g e);
                   known = λ h. elim h [ inl e ↦ absurd (other n there.0 e) | inr l ↦ was.known l ];
                   started = was.started;
                   noticed = was.noticed;
@@ -173,10 +181,10 @@ module _ (settled : List ℕ) (begun_are : List (ℕ × Report)) (sent : List Se
           each = λ n v got. elim (slice_get-split sent number n s t v is got) [
             | inl new ↦ (
                 let was = k.each n s (ap (slice_get sent) new.0 ∙ is) in
-                let P : Unsettled → Type 0 = λ u. IsSettledAs settled ((number, kind) ∷ begun_are) n u in
-                subst P (sym (ap (λ (x : Sent). x.unsettled) new.1))
+                let P : Sent → Type 0 = λ x. IsSettledAs settled ((number, kind) ∷ begun_are) n x in
+                subst P (sym new.1)
                 (record {
-                  done = λ e. absurd (none-some back (sym e));
+                  done = λ g e. absurd (none-some back (sym e));
                   known = λ h. absurd (open_rest kind s.unsettled.rest s.unsettled.begun may (was.known h));
                   started = λ j e. inl (pair_is n j number kind new.0 (sym (same_Some kind j e)));
                   noticed = λ j h. elim h [
@@ -226,7 +234,7 @@ module _ (p : Past) (old new : PairState) (k : AreSettledSo p.settled p.begun ol
 
   settled_after_frame : (number index : ℕ) (s : Sent) → slice_get old.sent number ≡ Some s → (answer : Result ShouldTransmit ReceiveError) → SentAfter old.sent number s index answer new.sent → AreSettledSo p.settled p.begun new.sent
   settled_after_frame number index s is (Ok transmit) e =
-      settled_as p.settled p.settled p.begun p.begun (slice_set old.sent number (record s { text = e.0 })) new.sent refl refl e.2 (settled_marked p.settled p.begun old.sent k number s is (record s { text = e.0 }) refl)
+      settled_as p.settled p.settled p.begun p.begun (slice_set old.sent number (record s { text = e.0 })) new.sent refl refl e.2 (settled_marked p.settled p.begun old.sent k number s is (record s { text = e.0 }) refl refl)
   settled_after_frame number index s is (Err error) e = settled_as p.settled p.settled p.begun p.begun old.sent new.sent refl refl e k
 
   settled_delivered : (number index : ℕ) (reply : Answer) → Delivers old number index reply new → AreSettledSo p.settled p.begun new.sent
@@ -264,7 +272,7 @@ module _ (p : Past) (old new : PairState) (reply : Answer) (k : AreSettledSo p.s
       let b = beside p step reply j in
       settled_as p.settled (after p step reply).settled p.begun (after p step reply).begun old.sent new.sent b.settled b.begun (sent_on_end old who new d) k
 
-  settled_next : (step : Step) → Next old step reply new → AreSettledSo (after p step reply).settled (after p step reply).begun new.sent
+  settled_next : (step : Step) → NextOrdinary old step reply new → AreSettledSo (after p step reply).settled (after p step reply).begun new.sent
   settled_next (steps.Open who dir) n = settled_end who (steps.Open who dir) tt n
   settled_next (steps.Accept who dir) n = settled_end who (steps.Accept who dir) tt n
   settled_next (steps.Write who id bytes) n = settled_end who (steps.Write who id bytes) tt n
@@ -283,12 +291,34 @@ module _ (p : Past) (old new : PairState) (reply : Answer) (k : AreSettledSo p.s
   settled_next (steps.Deliver number index) n = settled_delivers p old new k number index reply n
   settled_next (steps.Lose number) n = settled_settles p old new k number Lost LosesPayloadAt reply n
   settled_next (steps.Ack number) n = settled_settles p old new k number Acknowledged AcksPayloadAt reply n
+  settled_next _ n = absurd n
+
+-- nothing was reported of payloads that left
+settled_gone : (sent : List Sent) → ((number : ℕ) (s : Sent) → slice_get sent number ≡ Some s → IsGone s) → AreSettledSo [] [] sent
+settled_gone sent gone = record {
+  each = λ number s got.
+      let g = gone number s got in
+      record {
+        done = λ here e. let both : true ≡ false = sym g.gone ∙ here in cc;
+        known = λ h. absurd h;
+        started = λ kind e. absurd (none-some kind (sym g.begun ∙ e));
+        noticed = λ kind h. absurd h;
+      };
+  settled_sent = λ number h. absurd h;
+  begun_sent = λ number kind h. absurd h;
+}
+
+settled_changed : (b : Origin) (p : Past) (old new : PairState) (step : Step) → Changes b p old new step → AreSettledSo p.settled p.begun old.sent → AreSettledSo (after p step (Ok Done)).settled (after p step (Ok Done)).begun new.sent
+settled_changed b p old new step (accepts c within few) k = settled_as p.settled p.settled p.begun p.begun old.sent new.sent refl refl (ap (λ (v : PairState). v.sent) c.is) k
+settled_changed b p old new step (retries c m did mine accepted kept) k = settled_as [] [] [] [] c.sent new.sent refl refl (ap (λ (v : PairState). v.sent) c.is) (settled_gone c.sent c.left.each)
 
 -- whatever steps led to a pair, its payloads are settled as their replies say
-pub settled-from : {a b : Config} {whole : History} {v : PairState} → PairFrom a b whole v → AreSettledSo (past_of whole).settled (past_of whole).begun v.sent
+pub settled-from : {a b : Origin} {whole : History} {v : PairState} → EraFrom a b whole v → AreSettledSo (past_of whole).settled (past_of whole).begun v.sent
 settled-from {a} {b} {whole} {v} (begun n) =
-    let P : PairState → Type 0 = λ u. AreSettledSo [] [] u.sent in
-    subst P (sym n.is) (record { each = λ number s got. absurd (none-some s got); settled_sent = λ number h. absurd h; begun_sent = λ number kind h. absurd h })
+    settled_gone v.sent n.gone
 settled-from {a} {b} {whole} {v} (next {h} {old} {new} step reply f n) =
     let P : Past → Type 0 = λ p. AreSettledSo p.settled p.begun v.sent in
     subst P (sym (past-after h step reply)) (settled_next (past_of h) old v reply (settled-from f) step n)
+settled-from {a} {b} {whole} {v} (changed {h} {old} {new} step f c) =
+    let P : Past → Type 0 = λ p. AreSettledSo p.settled p.begun v.sent in
+    subst P (sym (past-after h step (Ok Done))) (settled_changed b (past_of h) old v step c (settled-from f))

@@ -24,7 +24,7 @@ use Rattle.quic_streams.specs.Settling.{SentView, resets_of}
 use Rattle.quic_streams.specs.Sent.{sent_view, report_view}
 use Rattle.quic_endpoint.specs.Ends.{EndState}
 use Rattle.quic_endpoint.specs.Reports.{LosesPayloadAt}
-use Rattle.quic_steps.specs.declared.steps.Config.{Config}
+use Rattle.quic_pair.proofs.Origins.{Origin}
 use Rattle.quic_steps.specs.declared.steps.End.{End}
 use Rattle.quic_steps.specs.declared.steps.End.TheVariants.{A, B}
 use Rattle.quic_steps.specs.declared.steps.Step.TheVariants as steps
@@ -41,22 +41,22 @@ use Rattle.quic_pair.specs.Unsettled.{goes_on}
 use Rattle.quic_pair.specs.Payloads.{SentText}
 use Rattle.quic_pair.specs.Replies.{Answer, report_reply}
 use Rattle.quic_pair.specs.State.{PairState, the_end, with_end, with_sent}
-use Rattle.quic_pair.specs.Steps.{Next, Emitted, EmitsWhole, Reports, SettlesPayload}
+use Rattle.quic_pair.specs.Steps.{NextOrdinary, NextTaken, Emitted, EmitsWhole, Reports, SettlesPayload}
 use Rattle.quic_pair.specs.History.{History}
-use Rattle.quic_pair.specs.From.{PairFrom, next as next-step}
+use Rattle.quic_pair.proofs.Eras.{EraFrom, next as next-step, ToldIn}
 use Rattle.quic_pair.specs.Due.{IsFull}
 use Rattle.quic_pair.specs.Tale.{Part, Carried, GivenUp, Tales}
-use Rattle.quic_pair.specs.Runs.{TakesSteps, more, sendings_of}
-use Rattle.quic_pair.specs.Settling.{step_at, going_of, going_sending, is_nothing_more, is_quiet_at, behind_reports, phase_after, after_accepting, after_streams, after_reading, after_polling, after_emits, after_frame, AreSettledIn, IsAllReported, IsIdle, AreIdle, LeavesNoRest, IsSoughtFor, IsSettledAt, TakesPhase, TakesPhaseOrNone, FollowsPhases, IsCutOff, none as follows_none, more as follows_more}
-use Rattle.quic_pair.proofs.Lists.{slice_get-push, slice_get-slice_set, slice_get-within, slice_get-there}
+use Rattle.quic_pair.specs.Runs.{StepsBy, more}
+use Rattle.quic_pair.specs.Settling.{step_at, going_of, going_sending, is_nothing_more, is_quiet_at, behind_reports, phase_after, after_accepting, after_streams, after_reading, after_polling, after_emits, after_frame, AreSettledIn, IsAllReported, IsIdle, AreIdle, LeavesNoRest, IsSoughtFor, IsSettledAt, TakesPhase, TakesPhaseOrNone, FollowsPhases, IsCutOff, IsSettling, none as follows_none, more as follows_more}
+use Rattle.quic_pair.proofs.Lists.{slice_get-push, slice_get-slice_set, slice_get-within}
 use Rattle.quic_pair.proofs.Left.{IsLeft}
 use Rattle.quic_pair.proofs.PayloadKnows.{StaySent}
 use Rattle.quic_pair.proofs.Streamless.{IsStreamless, streamless-stays, fresh-streamless, stay-emitted, stay-delivered}
 use Rattle.quic_pair.proofs.Grown.{grown-from}
-use Rattle.quic_pair.proofs.Runs.{from-steps}
+use Rattle.quic_pair.proofs.Ordinary.{ordinary-at}
 use Rattle.quic_pair.proofs.Due.{asks-for}
 use Rattle.quic_pair.proofs.Settled.{settled-from}
-use Rattle.quic_pair.proofs.ToldOnce.{told-once}
+use Rattle.quic_pair.proofs.ToldOnce.{told-in-once}
 
 -- the payloads from a number on have no frame
 abbrev pub HaveNoFrames : ℕ → List Sent → Type 0
@@ -219,13 +219,13 @@ module _ (old new : PairState) (who : End) (most : ℕ) (reply : Answer) (w : Wr
   first_none : HaveNoFrames (length old.sent) new.sent
   first_none = last_none (length old.sent) (λ number s from got. absurd (let within = slice_get-within old.sent number s got in omega (arith, within, from)))
 
-module _ (a b : Config) (h : History) (old new : PairState) (f : PairFrom a b h old) (most : ℕ) (big : 1000 < most) where
-  idle_then : (who : End) (reply : Answer) → Next old (steps.Emit who most true) reply new → WroteNone old who most reply new → IsIdle (the_end new who)
+module _ (a b : Origin) (h : History) (old new : PairState) (f : EraFrom a b h old) (most : ℕ) (big : 1000 < most) where
+  idle_then : (who : End) (reply : Answer) → NextOrdinary old (steps.Emit who most true) reply new → WroteNone old who most reply new → IsIdle (the_end new who)
   idle_then who reply n w =
-      let P : Answer → Type 0 = λ r. Next old (steps.Emit who most true) r new in
+      let P : Answer → Type 0 = λ r. NextOrdinary old (steps.Emit who most true) r new in
       full_idle most big w.bytes.items (the_end new who) (asks-for a b h old new (steps.Emit who most true) (Ok (Payload w.number w.bytes)) f (subst P w.reply_is n)) w.none
 
-  idle_if : (going : Going) (reply : Answer) → Next old (steps.Emit A most true) reply new → going_of reply ≡ Some going → IsIdleIf (is_nothing_more going) (length old.sent) new
+  idle_if : (going : Going) (reply : Answer) → NextOrdinary old (steps.Emit A most true) reply new → going_of reply ≡ Some going → IsIdleIf (is_nothing_more going) (length old.sent) new
   idle_if Over reply n e =
       let w = wrote_none old new A most reply n e in
       (idle_then A reply n w, first_none old new A most reply w)
@@ -234,14 +234,14 @@ module _ (a b : Config) (h : History) (old new : PairState) (f : PairFrom a b h 
   idle_if Unordered reply n e = tt
 
   -- the payload that was sent has no STREAM frame where it has nothing for a reader
-  fresh_if : (who : End) (going : Going) (reply : Answer) → Next old (steps.Emit who most true) reply new → going_of reply ≡ Some going → (last_quiet : Bool) → is_quiet_at new.sent (length old.sent) ≡ last_quiet → IsStreamlessIf last_quiet new.sent (length old.sent)
+  fresh_if : (who : End) (going : Going) (reply : Answer) → NextOrdinary old (steps.Emit who most true) reply new → going_of reply ≡ Some going → (last_quiet : Bool) → is_quiet_at new.sent (length old.sent) ≡ last_quiet → IsStreamlessIf last_quiet new.sent (length old.sent)
   fresh_if who going reply n e true quiet = fresh-streamless a b h old new f who most true quiet reply n going e
   fresh_if who going reply n e false quiet = tt
 
-  ready_emit_a : (going : Going) (reply : Answer) → Next old (steps.Emit A most true) reply new → going_of reply ≡ Some going → IsReadyFor (phase.EmitOfB (length old.sent) (is_nothing_more going) (is_quiet_at new.sent (length old.sent))) new
+  ready_emit_a : (going : Going) (reply : Answer) → NextOrdinary old (steps.Emit A most true) reply new → going_of reply ≡ Some going → IsReadyFor (phase.EmitOfB (length old.sent) (is_nothing_more going) (is_quiet_at new.sent (length old.sent))) new
   ready_emit_a going reply n e = (idle_if going reply n e, fresh_if A going reply n e (is_quiet_at new.sent (length old.sent)) refl)
 
-  ready_emit_b : (first : ℕ) (reply : Answer) → IsIdleIf true first old → Next old (steps.Emit B most true) reply new → going_of reply ≡ Some Over → IsReadyFor (phase.Drop first) new
+  ready_emit_b : (first : ℕ) (reply : Answer) → IsIdleIf true first old → NextOrdinary old (steps.Emit B most true) reply new → going_of reply ≡ Some Over → IsReadyFor (phase.Drop first) new
   ready_emit_b first reply r n e =
       let w = wrote_none old new B most reply n e in
       let same : new.a ≡ old.a = ap (λ (v : PairState). v.a) w.emits.emits.is in
@@ -252,11 +252,11 @@ module _ (a b : Config) (h : History) (old new : PairState) (f : PairFrom a b h 
   both_if first true false l k = (tt, tt)
   both_if first false last_quiet l k = (tt, tt)
 
-  ready_both : (first : ℕ) (quiet : Bool) (going : Going) (reply : Answer) → IsStreamlessIf quiet old.sent first → Next old (steps.Emit B most true) reply new → going_of reply ≡ Some going → IsReadyFor (phase.Deliver first 0 (Some (length old.sent)) (quiet && is_quiet_at new.sent (length old.sent))) new
+  ready_both : (first : ℕ) (quiet : Bool) (going : Going) (reply : Answer) → IsStreamlessIf quiet old.sent first → NextOrdinary old (steps.Emit B most true) reply new → going_of reply ≡ Some going → IsReadyFor (phase.Deliver first 0 (Some (length old.sent)) (quiet && is_quiet_at new.sent (length old.sent))) new
   ready_both first quiet going reply l n e =
       both_if first quiet (is_quiet_at new.sent (length old.sent)) (streamless_if quiet old.sent new.sent first (stay-emitted old new B most true reply n) l) (fresh_if B going reply n e (is_quiet_at new.sent (length old.sent)) refl)
 
-  ready_emits : (first : ℕ) (empty quiet : Bool) (going : Going) (reply : Answer) → IsReadyFor (phase.EmitOfB first empty quiet) old → Next old (steps.Emit B most true) reply new → going_of reply ≡ Some going → IsReadyFor (after_emits first empty going (length old.sent) (quiet && is_quiet_at new.sent (length old.sent))) new
+  ready_emits : (first : ℕ) (empty quiet : Bool) (going : Going) (reply : Answer) → IsReadyFor (phase.EmitOfB first empty quiet) old → NextOrdinary old (steps.Emit B most true) reply new → going_of reply ≡ Some going → IsReadyFor (after_emits first empty going (length old.sent) (quiet && is_quiet_at new.sent (length old.sent))) new
   ready_emits first true quiet Over reply r n e = ready_emit_b first reply r.0 n e
   ready_emits first true quiet On reply r n e = ready_both first quiet On reply r.1 n e
   ready_emits first true quiet StreamOver reply r n e = ready_both first quiet StreamOver reply r.1 n e
@@ -327,7 +327,7 @@ idle_with : (v : PairState) (who : End) (e : EndState) (sent : List Sent) → Ar
 idle_with v A e sent i j = record { of_a = j; of_b = i.of_b }
 idle_with v B e sent i j = record { of_a = i.of_a; of_b = j }
 
-module _ (a b : Config) (h : History) (old new : PairState) (f : PairFrom a b h old) (first : ℕ) (r : IsReadyFor (phase.Drop first) old) where
+module _ (a b : Origin) (h : History) (old new : PairState) (f : EraFrom a b h old) (first : ℕ) (r : IsReadyFor (phase.Drop first) old) where
   dropped_same : new ≡ old → IsReadyFor (phase.Drop first) new
   dropped_same e = let P : PairState → Type 0 = λ v. IsReadyFor (phase.Drop first) v in subst P (sym e) r
 
@@ -370,7 +370,7 @@ module _ (a b : Config) (h : History) (old new : PairState) (f : PairFrom a b h 
 -- ---- all phases
 
 -- behind each step what is next may be begun
-pub ready-next : (a b : Config) (h : History) (old new : PairState) → PairFrom a b h old → (at : Phase) → IsReadyFor at old → (reply : Answer) → Next old (step_at at) reply new → (going : Going) → going_of reply ≡ Some going → IsReadyFor (phase_after at going (length old.sent) (is_quiet_at new.sent (length old.sent))) new
+pub ready-next : (a b : Origin) (h : History) (old new : PairState) → EraFrom a b h old → (at : Phase) → IsReadyFor at old → (reply : Answer) → NextOrdinary old (step_at at) reply new → (going : Going) → going_of reply ≡ Some going → IsReadyFor (phase_after at going (length old.sent) (is_quiet_at new.sent (length old.sent))) new
 ready-next a b h old new f (phase.Report payload quiet) r reply n On e = tt
 ready-next a b h old new f (phase.Report payload quiet) r reply n Over e = tt
 ready-next a b h old new f (phase.Report payload quiet) r reply n StreamOver e = tt
@@ -414,36 +414,32 @@ went_on : (old : PairState) (before : History) (at next : Phase) (new : PairStat
 went_on old before at next new behind (inl t) = t
 went_on old before at next new behind (inr none) = let e = none.0 in cc
 
+-- steps were taken one after the other
+abbrev pub GoesBy : PairState → History → PairState → Type 0
+GoesBy old taken new = StepsBy NextTaken (λ before between step reply after. Unit {0}) old taken new
+
 -- the steps so far go on by this one, if it was taken
-pub steps-on : (first old : PairState) (before : History) (at : Phase) (answer : Result Phase OutOfMemory) (new : PairState) (behind : History) → TakesSteps first before old → TakesPhaseOrNone old before at answer new behind → TakesSteps first behind new
+pub steps-on : (first old : PairState) (before : History) (at : Phase) (answer : Result Phase OutOfMemory) (new : PairState) (behind : History) → GoesBy first before old → TakesPhaseOrNone old before at answer new behind → GoesBy first behind new
 steps-on first old before at answer new behind run (inl t) =
-    let P : History → Type 0 = λ l. TakesSteps first l new in
+    let P : History → Type 0 = λ l. GoesBy first l new in
     subst P (sym t.noted) (more (step_at at) t.reply run t.next tt)
 steps-on first old before at answer new behind run (inr none) =
-    let P : History → Type 0 = λ l. TakesSteps first l new in
-    let Q : PairState → Type 0 = λ v. TakesSteps first before v in
+    let P : History → Type 0 = λ l. GoesBy first l new in
+    let Q : PairState → Type 0 = λ v. GoesBy first before v in
     subst P (sym none.2) (subst Q (sym none.1) run)
 
--- and what is next may be begun
-pub ready-on : (a b : Config) (h : History) (first old : PairState) (before : History) (at next : Phase) (new : PairState) (behind : History) → PairFrom a b h first → TakesSteps first before old → IsReadyFor at old → TakesPhaseOrNone old before at (Ok next) new behind → IsReadyFor next new
-ready-on a b h first old before at next new behind f run r one =
-    let t = went_on old before at next new behind one in
-    let on = t.goes next refl in
-    let P : Phase → Type 0 = λ x. IsReadyFor x new in
-    subst P (sym on.2) (ready-next a b (h ++ before) old new (from-steps f run) at r t.reply t.next on.0 on.1)
-
 -- the history goes on by the steps of phases, and what is next may be begun
-pub record ReadyPhases (a b : Config) (h taken : History) (new : PairState) (at : Phase) : Type 0 where
-  pub led : PairFrom a b (h ++ taken) new
+pub record ReadyPhases (a b : Origin) (h taken : History) (new : PairState) (at : Phase) : Type 0 where
+  pub led : EraFrom a b (h ++ taken) new
   pub ready : IsReadyFor at new
 
-pub ready-phases : (a b : Config) (h : History) (old : PairState) (taken : History) (new : PairState) (at : Phase) → PairFrom a b h old → FollowsPhases old (phase.Report 0 false) taken new at → ReadyPhases a b h taken new at
-ready-phases a b h old _ _ _ f follows_none = record { led = subst (λ l. PairFrom a b l old) (sym (append-nil h)) f; ready = tt }
+pub ready-phases : (a b : Origin) (h : History) (old : PairState) (taken : History) (new : PairState) (at : Phase) → EraFrom a b h old → FollowsPhases old (phase.Report 0 false) taken new at → ReadyPhases a b h taken new at
+ready-phases a b h old _ _ _ f follows_none = record { led = subst (λ l. EraFrom a b l old) (sym (append-nil h)) f; ready = tt }
 ready-phases a b h old _ _ _ f (follows_more {taken} {between} {new} {at} here reply going before sought n e) =
     let r = ready-phases a b h old taken between at f before in
     record {
-      led = subst (λ l. PairFrom a b l new) (append_assoc h taken ((step_at here, reply) ∷ [])) (next-step (step_at here) reply r.led n);
-      ready = ready-next a b (h ++ taken) between new r.led here (ready-sought at here between r.ready sought) reply n going e;
+      led = subst (λ l. EraFrom a b l new) (append_assoc h taken ((step_at here, reply) ∷ [])) (next-step (step_at here) reply r.led (ordinary-at here between new reply n));
+      ready = ready-next a b (h ++ taken) between new r.led here (ready-sought at here between r.ready sought) reply (ordinary-at here between new reply n) going e;
     }
 
 -- and so far the steps follow the phases
@@ -481,17 +477,19 @@ idle-at at v r s =
     let P : Phase → Type 0 = λ x. IsReadyFor x v in
     (subst P s.was r).0
 
+-- both ends are idle behind a settling
+pub idle-settled : (a b : Origin) (h : History) (old : PairState) (taken : History) (new : PairState) → EraFrom a b h old → IsSettling old taken new → AreIdle new
+idle-settled a b h old taken new f s = idle-at s.at new (ready-phases a b h old taken new s.at f s.follows).ready s.ended
+
 -- every payload was reported, by the replies to reports
-pub all-reported : (a b : Config) (h : History) (v : PairState) → PairFrom a b h v → AreSettledIn 0 (length v.sent) v.sent → IsAllReported h v.sent
-all-reported a b h v f settled number within =
-    let there = slice_get-there v.sent number within in
-    ((settled-from f).each number there.0 there.1).done (settled number there.0 (omega arith) within there.1)
+pub all-reported : (a b : Origin) (h : History) (v : PairState) → EraFrom a b h v → AreSettledIn 0 (length v.sent) v.sent → IsAllReported h v.sent
+all-reported a b h v f settled number s got here = ((settled-from f).each number s got).done here (settled number s (omega arith) (slice_get-within v.sent number s got) got)
 
 -- where no stream is queued nothing is left to be sent
-pub leaves-no-rest : (a b : Config) (h : History) (v : PairState) (f : PairFrom a b h v) → AreIdle v → LeavesNoRest a b (sendings_of f)
+pub leaves-no-rest : (a b : Origin) (h : History) (v : PairState) (f : EraFrom a b h v) → AreIdle v → LeavesNoRest (ToldIn f)
 leaves-no-rest a b h v f idle t told who id rest =
     let g = grown-from f in
-    let same = told-once a b (sendings_of f) t g.recounted.tales told g.told in
+    let same = told-in-once f t g.recounted.tales told g.told in
     let P : Tales → Type 0 = λ x. HasRest ((x.of who).flow id) in
     let c = g.recounted.counted who in
     let Q : SendFlow → Type 0 = λ x. HasRest x in

@@ -18,7 +18,7 @@ use Rattle.quic_endpoint.specs.Ends.{EndState}
 use Rattle.quic_endpoint.specs.Emitting.{PayloadView}
 use Rattle.quic_link.specs.Endpoints.{IsOneOf}
 use Rattle.quic_link.proofs.Basics.{same_id}
-use Rattle.quic_steps.specs.declared.steps.Config.{Config}
+use Rattle.quic_pair.proofs.Origins.{Origin}
 use Rattle.quic_steps.specs.declared.steps.End.{End}
 use Rattle.quic_steps.specs.declared.steps.Reply.TheVariants.{Done, DoneTransmit, Fault, Payload}
 use Rattle.quic_steps.specs.declared.steps.PairError.TheVariants.{NoSuchPayload, NoSuchFrame, NotAccepted, AlreadySettled, OutOfMemory as NoMemory}
@@ -32,7 +32,7 @@ use Rattle.quic_pair.specs.State.{PairState}
 use Rattle.quic_pair.specs.Steps.{Emits, Emitted, HandsOver, SentAfter, Delivers, Reports, SettlesPayload}
 use Rattle.quic_pair.specs.History.{Past, History, FramePlace, after_deliver, is_kept_by}
 use Rattle.quic_pair.specs.Headline.{IsStreamFrom}
-use Rattle.quic_pair.specs.From.{PairFrom}
+use Rattle.quic_pair.proofs.Eras.{EraFrom}
 use Rattle.quic_pair.specs.Settling.{going_of, is_quiet_at}
 use Rattle.quic_pair.proofs.PayloadKnows.{StaySent, stay-sent}
 use Rattle.quic_pair.proofs.PayloadEmits.{stay_before}
@@ -115,7 +115,7 @@ no_stream (frames.Stream t ∷ fs) e index s got = cc
 no_stream (_ ∷ fs) e zero s got = cc
 no_stream (_ ∷ fs) e (suc index) s got = no_stream fs e index s got
 
-module _ (a b : Config) (h : History) (old new : PairState) (f : PairFrom a b h old) (who : End) (most : ℕ) (fair : Bool) (quiet : is_quiet_at new.sent (length old.sent) ≡ true) where
+module _ (a b : Origin) (h : History) (old new : PairState) (f : EraFrom a b h old) (who : End) (most : ℕ) (fair : Bool) (quiet : is_quiet_at new.sent (length old.sent) ≡ true) where
   fresh_by : (payload : PayloadView) → Emits old who most fair (Ok tt) payload new → IsStreamless new.sent (length old.sent)
   fresh_by payload k =
       let r = (grown-from f).recounted in

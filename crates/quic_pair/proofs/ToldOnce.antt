@@ -5,7 +5,7 @@ use Rattle.std.proofs.lemmas.Option.{same_Some}
 use Rattle.quic_wire.specs.declared.frame.Frame.{Frame}
 use Rattle.quic_wire.specs.Frames.{AreFrames}
 use Rattle.quic_wire.proofs.Joins.{same}
-use Rattle.quic_steps.specs.declared.steps.Config.{Config}
+use Rattle.quic_pair.proofs.Origins.{Origin}
 use Rattle.quic_steps.specs.declared.steps.End.{End}
 use Rattle.quic_steps.specs.declared.steps.Step.{Step}
 use Rattle.quic_steps.specs.declared.steps.Step.TheVariants as steps
@@ -13,9 +13,11 @@ use Rattle.quic_steps.specs.declared.steps.Reply.TheVariants.{Done, DoneTransmit
 use Rattle.quic_steps.specs.declared.steps.PairError.TheVariants.{OutOfMemory as NoMemory}
 use Rattle.quic_pair.specs.declared.sent.Sent.{Sent}
 use Rattle.quic_pair.specs.Replies.{Answer}
-use Rattle.quic_pair.specs.State.{peer}
+use Rattle.quic_pair.specs.From.{Beginning}
 use Rattle.quic_pair.specs.History.{History, FramePlace}
-use Rattle.quic_pair.specs.Tale.{Tale, Tales, Sendings, none, more, Told, StepTells, Part, parts_in, parts_left, with_parts, with_frames_sent, with_frame_heard, told_of, told_more, WasPayload, HearsOne, SendsOne, TellsParts}
+use Rattle.quic_pair.specs.State.{PairState, peer}
+use Rattle.quic_pair.proofs.Eras.{EraFrom, begun, next, changed, ToldIn, tales_changed}
+use Rattle.quic_pair.specs.Tale.{Tale, Tales, Sendings, none, more, Told, TellsOfPair, StepTells, Part, parts_in, parts_left, with_parts, with_frames_sent, with_frame_heard, told_of, told_more, WasPayload, HearsOne, SendsOne, TellsParts}
 
 -- one payload has one writer and spells one list of frames
 module _ (sent : List Sent) (number : ℕ) (who other : End) (all others : List Frame) (k : WasPayload sent who number all) (l : WasPayload sent other number others) where
@@ -80,10 +82,27 @@ tells-once old new t u v (steps.Ack number) (Ok Done) k l = parts_once t u v new
 tells-once old new t u v (steps.Ack number) (Err NoMemory) k l = parts_once t u v new number _ k l
 tells-once old new t u v _ _ k l = k ∙ sym l
 
--- and so do all of them
-pub told-once : {h : History} {sent : List Sent} (a b : Config) (led : Sendings h sent) (t u : Tales) → Told a b led t → Told a b led u → t ≡ u
-told-once a b none t u k l = k ∙ sym l
-told-once a b (more {h} {old} step reply new before) t u k l =
-    let one : k.0 ≡ l.0 = told-once a b before k.0 l.0 k.1 l.1 in
-    let P : Tales → Type 0 = λ w. StepTells old new step reply w u in
-    tells-once old new k.0 t u step reply k.2 (subst P (sym one) l.2)
+-- and so do all of an era
+pub told-in-once : {a b : Origin} {h : History} {v : PairState} (f : EraFrom a b h v) (t u : Tales) → ToldIn f t → ToldIn f u → t ≡ u
+told-in-once {a} {b} {h} {v} (begun n) t u k l = k ∙ sym l
+told-in-once {a} {b} (next {h} {old} {new} step reply f n) t u k l =
+    let one : k.0 ≡ l.0 = told-in-once f k.0 l.0 k.1 l.1 in
+    let P : Tales → Type 0 = λ w. StepTells old.sent new.sent step reply w u in
+    tells-once old.sent new.sent k.0 t u step reply k.2 (subst P (sym one) l.2)
+told-in-once {a} {b} (changed {h} {old} {new} step f c) t u k l =
+    let one : k.0 ≡ l.0 = told-in-once f k.0 l.0 k.1 l.1 in
+    k.2 ∙ ap (tales_changed c) one ∙ sym l.2
+
+-- and so do all of a pair
+pub tells-next-once : (s : Beginning) (old new : List Sent) (t u v : Tales) (step : Step) (reply : Answer) → TellsOfPair s old new step reply t u → TellsOfPair s old new step reply t v → u ≡ v
+tells-next-once s old new t u v steps.EarlyAccept (Ok Done) k l = k ∙ sym l
+tells-next-once s old new t u v steps.EarlyReject (Ok Done) k l = k ∙ sym l
+tells-next-once s old new t u v steps.Retry (Ok Done) k l = k ∙ sym l
+tells-next-once s old new t u v step reply k l = tells-once old new t u v step reply k l
+
+pub told-once : {h : History} {sent : List Sent} (s : Beginning) (led : Sendings h sent) (t u : Tales) → Told s led t → Told s led u → t ≡ u
+told-once s none t u k l = k ∙ sym l
+told-once s (more {h} {old} step reply new before) t u k l =
+    let one : k.0 ≡ l.0 = told-once s before k.0 l.0 k.1 l.1 in
+    let P : Tales → Type 0 = λ w. TellsOfPair s old new step reply w u in
+    tells-next-once s old new k.0 t u step reply k.2 (subst P (sym one) l.2)

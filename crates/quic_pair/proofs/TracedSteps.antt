@@ -12,6 +12,7 @@ use Rattle.quic_wire.specs.declared.frame.StreamMeta.{StreamMeta}
 use Rattle.quic_wire.specs.Frames.{AreFrames}
 use Rattle.quic_sending.specs.Source.{slice_lists}
 use Rattle.quic_receiving.specs.declared.transmit.ShouldTransmit.{ShouldTransmit}
+use Rattle.quic_values.specs.declared.ids.Side.TheVariants.{Client}
 use Rattle.quic_flows.specs.Flow.{WasWritten, WasFinished, WasGivenUp, WasAskedToStop, WasPermitted, WasCarried, front_of}
 use Rattle.quic_history.proofs.Traces.{itself}
 use Rattle.quic_streams.specs.declared.settling.SentPayload.{SentPayload}
@@ -22,7 +23,7 @@ use Rattle.quic_endpoint.specs.Emitting.{PayloadView}
 use Rattle.quic_endpoint.specs.Reports.{LosesPayloadAt, AcksPayloadAt}
 use Rattle.quic_link.specs.Endpoints.{IsOneOf}
 use Rattle.quic_link.proofs.Basics.{either-of}
-use Rattle.quic_steps.specs.declared.steps.Config.{Config}
+use Rattle.quic_pair.proofs.Origins.{Origin, made_in}
 use Rattle.quic_steps.specs.declared.steps.End.{End}
 use Rattle.quic_steps.specs.declared.steps.End.TheVariants.{A, B}
 use Rattle.quic_steps.specs.declared.steps.Step.{Step}
@@ -37,16 +38,17 @@ use Rattle.quic_pair.specs.Unsettled.{unsettled_after}
 use Rattle.quic_pair.specs.Payloads.{meta_of, metas_in}
 use Rattle.quic_pair.specs.Replies.{Answer}
 use Rattle.quic_pair.specs.State.{PairState, OnEnd, peer}
-use Rattle.quic_pair.specs.Steps.{Next, Emits, Emitted, SentAfter, Delivers, Reports, SettlesPayload}
-use Rattle.quic_pair.specs.History.{History, past_of}
-use Rattle.quic_pair.specs.From.{PairFrom, begun, next}
-use Rattle.quic_pair.specs.Runs.{sendings_of}
-use Rattle.quic_pair.specs.Tale.{Tale, Tales, Told, StepTells, SendsOne, HearsOne, TellsParts, Part, Carried, parts_in, parts_of, parts_left, with_parts, acked_part, lost_part, with_frames_sent, with_frame_heard, with_one_opened, with_bytes_taken, with_deed, with_window_of, tales_begun, told_of}
+use Rattle.quic_pair.specs.Steps.{NextOrdinary, Emits, Emitted, SentAfter, Delivers, Reports, SettlesPayload}
+use Rattle.quic_pair.specs.History.{History, Past, past_of}
+use Rattle.quic_pair.proofs.Eras.{EraFrom, begun, next, changed, Changes, accepts, retries, ToldIn, tales_in, tales_changed}
+use Rattle.quic_pair.specs.Tale.{Tale, Tales, StepTells, SendsOne, HearsOne, TellsParts, Part, Carried, parts_in, parts_of, parts_left, with_parts, acked_part, lost_part, with_frames_sent, with_frame_heard, with_one_opened, with_bytes_taken, with_deed, with_window_of, with_limits_given, told_of}
 use Rattle.quic_pair.proofs.Lists.{slice_get-push, slice_get-append_left, slice_set-keeps, slice_get-set_same, slice_get-within, one-of-first}
 use Rattle.quic_pair.proofs.Marks.{sent_on_end}
 use Rattle.quic_pair.proofs.Left.{AreLeft, carried_in}
 use Rattle.quic_pair.proofs.Recounted.{Recounted}
-use Rattle.quic_pair.proofs.Grown.{joined-from, retold-next, recounted-new}
+use Rattle.quic_pair.proofs.TracedAnew.{all-given, all-again, counted-unsent}
+use Rattle.quic_pair.proofs.Changed.{recounted-changed}
+use Rattle.quic_pair.proofs.Grown.{joined-from, retold-next, recounted-begun}
 use Rattle.quic_pair.proofs.Traced.{AreTraced, OrOneOf, TellsPart, traced-more, traced-deed, traced-carried, parts-told, acked-told, lost-told}
 
 -- a frame of an end is unreported
@@ -337,11 +339,11 @@ module _ (old new : PairState) (t u : Tales) (before : AreLeft old.sent t.told) 
 
 -- ---- all steps
 
-module _ (a b : Config) (old new : PairState) (r : Recounted a b old) (reply : Answer) (k : AreAllTraced old.sent r.tales) where
+module _ (a b : Origin) (old new : PairState) (r : Recounted a b old) (reply : Answer) (k : AreAllTraced old.sent r.tales) where
   traced_on_end : {P : EndState → EndState → Type 0} (who : End) (step : Step) (u : Tales) → IsBesidePayloads step → OnEnd P old who new → StepTells old.sent new.sent step reply r.tales u → AreAllTraced new.sent u
   traced_on_end who step u b d e = told_beside old.sent new.sent (rests_same old.sent new.sent (sent_on_end old who new d)) r.tales k step reply u b e
 
-  traced_next : (step : Step) (s : Recounted a b new) → Next old step reply new → StepTells old.sent new.sent step reply r.tales s.tales → AreAllTraced new.sent s.tales
+  traced_next : (step : Step) (s : Recounted a b new) → NextOrdinary old step reply new → StepTells old.sent new.sent step reply r.tales s.tales → AreAllTraced new.sent s.tales
   traced_next (steps.Open who dir) s n e = traced_on_end who (steps.Open who dir) s.tales tt n e
   traced_next (steps.Accept who dir) s n e = traced_on_end who (steps.Accept who dir) s.tales tt n e
   traced_next (steps.Write who id bytes) s n e = traced_on_end who (steps.Write who id bytes) s.tales tt n e
@@ -360,25 +362,47 @@ module _ (a b : Config) (old new : PairState) (r : Recounted a b old) (reply : A
   traced_next (steps.Deliver number index) s n e = told_beside old.sent new.sent (rests_delivered old new number index reply n) r.tales k (steps.Deliver number index) reply s.tales tt e
   traced_next (steps.Lose number) s n e = traced_lost old new r.tales s.tales r.left s.left k number reply n e
   traced_next (steps.Ack number) s n e = traced_acked old new r.tales s.tales r.left s.left k number reply n e
+  traced_next _ s n e = absurd n
 
--- what the steps tell, traced
-pub record Traces {a b : Config} {h : History} {v : PairState} (f : PairFrom a b h v) : Type 0 where
-  pub recounted : Recounted a b v
-  pub told : Told a b (sendings_of f) recounted.tales
-  pub traced : AreAllTraced v.sent recounted.tales
-
-traced_begun : (a b : Config) (sent : List Sent) (t : Tales) → t ≡ tales_begun a b → AreAllTraced sent t
+traced_begun : (a b : Origin) (sent : List Sent) (t : Tales) → t ≡ tales_in a b sent → AreAllTraced sent t
 traced_begun a b sent t e who =
     let P : Tales → Type 0 = λ v. AreTraced (IsUnreported sent who) (v.of who) in
     subst P (sym e) (at_first who)
   where
-    at_first : (end : End) → AreTraced (IsUnreported sent end) ((tales_begun a b).of end)
+    at_first : (end : End) → AreTraced (IsUnreported sent end) ((tales_in a b sent).of end)
     at_first A id = record { bytes = λ r n k. cc; end = λ r k. cc }
     at_first B id = record { bytes = λ r n k. cc; end = λ r k. cc }
 
-pub traces-from : {a b : Config} {h : History} {v : PairState} (f : PairFrom a b h v) → Traces f
-traces-from {a} {b} {h} {v} (begun n) = let r = recounted-new a b v n in record { recounted = r.0; told = r.1; traced = traced_begun a b v.sent r.0.tales r.1 }
+traced_changed : (a b : Origin) (p : Past) (old new : PairState) (r : Recounted a b old) → AreAllTraced old.sent r.tales → (step : Step) (c : Changes b p old new step) → AreAllTraced new.sent (tales_changed c r.tales)
+traced_changed a b p old new r k step (accepts c within few) =
+    let P : List Sent → Type 0 = λ l. AreAllTraced l (told_of A (with_limits_given Client c.limits.others) r.tales) in
+    subst P (sym (ap (λ (v : PairState). v.sent) c.is)) (all-given (IsUnreported old.sent) c.limits.others r.tales k)
+traced_changed a b p old new r k step (retries c m did mine accepted kept) =
+    all-again (IsUnreported old.sent) (IsUnreported new.sent) r.tales not_of_b (counted-unsent m (made_in Client a) old.a.streams (r.tales.of A) did (r.counted A)) k
+  where
+    not_of_b : (m : StreamMeta) → IsUnreported old.sent B m → ⊥
+    not_of_b m u = elim (mine u.number u.payload u.is) [
+      | inl own ↦ (let e : A ≡ B = sym own.writer ∙ u.writer in cc)
+      | inr left ↦ absurd (none-some u.rest (sym left.rest ∙ u.rest_is))
+    ]
+
+-- what the steps tell, traced
+pub record Traces {a b : Origin} {h : History} {v : PairState} (f : EraFrom a b h v) : Type 0 where
+  pub recounted : Recounted a b v
+  pub told : ToldIn f recounted.tales
+  pub traced : AreAllTraced v.sent recounted.tales
+
+pub traces-from : {a b : Origin} {h : History} {v : PairState} (f : EraFrom a b h v) → Traces f
+traces-from {a} {b} {h} {v} (begun n) = let r = recounted-begun a b v n in record { recounted = r.0; told = r.1; traced = traced_begun a b v.sent r.0.tales r.1 }
 traces-from {a} {b} (next {h} {old} {new} step reply f n) =
     let g = traces-from f in
     let r = retold-next a b (past_of h) old new (joined-from f) g.recounted step reply n in
     record { recounted = r.behind; told = (g.recounted.tales, g.told, r.tells); traced = traced_next a b old new g.recounted reply g.traced step r.behind n r.tells }
+traces-from {a} {b} (changed {h} {old} {new} step f c) =
+    let g = traces-from f in
+    let r = recounted-changed a b (past_of h) old new g.recounted step c in
+    record {
+      recounted = r.0;
+      told = (g.recounted.tales, g.told, r.1);
+      traced = let P : Tales → Type 0 = λ t. AreAllTraced new.sent t in subst P (sym r.1) (traced_changed a b (past_of h) old new g.recounted g.traced step c);
+    }

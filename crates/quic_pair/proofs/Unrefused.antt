@@ -18,7 +18,7 @@ use Rattle.quic_endpoint.specs.Ends.{EndState}
 use Rattle.quic_endpoint.specs.Receiving.{MakesCall, MayAnswer, event_of, with_answer_told}
 use Rattle.quic_steps.specs.declared.steps.End.{End}
 use Rattle.quic_steps.specs.declared.steps.End.TheVariants.{A, B}
-use Rattle.quic_steps.specs.declared.steps.Config.{Config}
+use Rattle.quic_pair.proofs.Origins.{Origin}
 use Rattle.quic_steps.specs.declared.steps.Step.{Step}
 use Rattle.quic_steps.specs.declared.steps.Step.TheVariants as steps
 use Rattle.quic_steps.specs.declared.steps.Reply.TheVariants.{Done, DoneTransmit}
@@ -26,10 +26,10 @@ use Rattle.quic_pair.specs.declared.sent.Sent.{Sent}
 use Rattle.quic_pair.specs.Payloads.{IsFrameAt}
 use Rattle.quic_pair.specs.Replies.{Answer, received_reply}
 use Rattle.quic_pair.specs.State.{PairState, peer, the_end, with_end, with_sent}
-use Rattle.quic_pair.specs.Steps.{Next, Delivers, HandsOver}
+use Rattle.quic_pair.specs.Steps.{NextOrdinary, Delivers, HandsOver}
 use Rattle.quic_pair.specs.History.{Past, FramePlace, History, past_of}
 use Rattle.quic_pair.specs.Unrefused.{BringsData, BringsTooMany, AnswersDelivery, RefusesNoFrame}
-use Rattle.quic_pair.specs.From.{PairFrom}
+use Rattle.quic_pair.proofs.Eras.{EraFrom}
 use Rattle.quic_pair.proofs.Joined.{Seen, Joined}
 use Rattle.quic_pair.proofs.KeptFrames.{kept_in, count-kept}
 use Rattle.quic_pair.proofs.Flips.{peer-peer, seen-as}
@@ -107,7 +107,7 @@ module _ (p : Past) (who : End) (v after : PairState) (x y : LinkedEnd) (s : See
   taken frame there (Err receive_error.CompactionMemory) e is_u behind may call = compacts_so frame there may call
   taken frame there (Err receive_error.OutOfMemory) e is_u behind may call = tt
 
-module _ (a b : Config) (p : Past) (old new : PairState) (j : Joined a b p old) where
+module _ (a b : Origin) (p : Past) (old new : PairState) (j : Joined a b p old) where
   -- the end that a frame was handed to, behind that
   end_is : (q : End) (e : EndState) → new ≡ with_sent (with_end old q e) new.sent → the_end new q ≡ e
   end_is A e is = ap (λ (v : PairState). v.a) is
@@ -128,10 +128,10 @@ module _ (a b : Config) (p : Past) (old new : PairState) (j : Joined a b p old) 
   delivered number index (Ok reply) k = handed number index (Ok reply) k
   delivered number index (Err error) k = tt
 
-  unrefused_next : (step : Step) (reply : Answer) → Next old step reply new → RefusesNoFrame p old.sent step reply new
+  unrefused_next : (step : Step) (reply : Answer) → NextOrdinary old step reply new → RefusesNoFrame p old.sent step reply new
   unrefused_next (steps.Deliver number index) reply n = delivered number index reply n
   unrefused_next _ reply n = tt
 
 -- whatever the network did, no delivery is
-pub unrefused-so : (a b : Config) (h : History) (old new : PairState) (step : Step) (reply : Answer) → PairFrom a b h old → Next old step reply new → RefusesNoFrame (past_of h) old.sent step reply new
+pub unrefused-so : (a b : Origin) (h : History) (old new : PairState) (step : Step) (reply : Answer) → EraFrom a b h old → NextOrdinary old step reply new → RefusesNoFrame (past_of h) old.sent step reply new
 unrefused-so a b h old new step reply f n = unrefused_next a b (past_of h) old new (joined-from f) step reply n

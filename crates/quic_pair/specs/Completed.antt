@@ -1,15 +1,14 @@
 -- What the end of a settling completes.
-use Rattle.std.specs.Prelude.{ℕ, ◌≡◌, ◌<◌, true, false, List, length, None}
+use Rattle.std.specs.Prelude.{ℕ, ◌≡◌, ◌<◌, true, false, List, length, Some, None}
 use Rattle.quic_sending.specs.Buffer.{total_length}
 use Rattle.quic_flows.specs.Flow.{SendFlow}
 use Rattle.quic_receiving.specs.Data.{IsAllGiven}
 use Rattle.quic_history.specs.History.{slices}
 use Rattle.quic_link.specs.Endpoints.{IsOneOf}
-use Rattle.quic_steps.specs.declared.steps.Config.{Config}
 use Rattle.quic_steps.specs.declared.steps.End.{End}
 use Rattle.quic_pair.specs.declared.sent.Sent.{Sent}
-use Rattle.quic_pair.specs.History.{Past, Flow, FramePlace, History}
-use Rattle.quic_pair.specs.Tale.{Tales, Sendings, Told}
+use Rattle.quic_pair.specs.History.{Past, Flow, FramePlace}
+use Rattle.quic_pair.specs.Tale.{Tales}
 use Rattle.quic_pair.specs.Headline.{SomeStream, HasOffset, HasEnd}
 
 -- all that an end wrote on a stream arrived: each byte stood in a frame that was accepted, and the end too, where it was ended
@@ -44,6 +43,16 @@ pub record IsAllAcked (f : SendFlow) : Type 0 where
   pub ended : f.finished ≡ true → f.freed ≡ true
   pub running : f.finished ≡ false → (n : ℕ) → n < total_length f.cuts → f.acked n ≡ true
 
--- so on each stream, by what the steps tell, unless it was given up
-abbrev pub AreAllAcked : Config → Config → {h : History} → {sent : List Sent} → Sendings h sent → Type 0
-AreAllAcked a b led = (t : Tales) → Told a b led t → (who : End) (id : ℕ) → ((t.of who).flow id).reset ≡ None → IsAllAcked ((t.of who).flow id)
+-- so on each stream, by what is told, unless it was given up
+abbrev pub AreAllAcked : (Tales → Type 0) → Type 0
+AreAllAcked told = (t : Tales) → told t → (who : End) (id : ℕ) → ((t.of who).flow id).reset ≡ None → IsAllAcked ((t.of who).flow id)
+
+-- the writer of each stream that was ended was told that it is finished, unless it was given up: all that was sent on it is acknowledged
+-- ("Data Recvd", RFC 9000 section 3.1)
+abbrev pub HaveBeenTold : Past → Type 0
+HaveBeenTold p = (who : End) (id : ℕ) → IsUnreset (p.flow who id) → (p.flow who id).finished ≡ true → (p.flow who id).complete ≡ true
+
+-- of each stream that the other end asked to send no more on its writer was told the code, the first that came, unless its half was freed,
+-- by what is told (RFC 9000 section 3.5)
+abbrev pub AreStopsTold : (Tales → Type 0) → Past → Type 0
+AreStopsTold told p = (t : Tales) → told t → (who : End) (id code : ℕ) → ((t.of who).flow id).stopped ≡ Some code → ((t.of who).flow id).freed ≡ false → IsOneOf code (p.flow who id).told_stops

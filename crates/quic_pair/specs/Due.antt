@@ -1,6 +1,6 @@
 -- What is due is asked for, what may be written is taken, and what is to be sent leaves: of each step, by the two ends as
 -- they stand before it and behind it.
-use Rattle.std.specs.Prelude.{ℕ, Bool, true, false, ◌≡◌, ◌⊎◌, ◌<◌, ◌≤◌, ◌+◌, min, List, [], ◌++◌, length, None, Some, Ok, Err}
+use Rattle.std.specs.Prelude.{ℕ, Bool, true, false, ◌≡◌, ◌⊎◌, ◌<◌, ◌≤◌, ◌+◌, min, List, [], ◌++◌, length, slice_get, None, Some, Ok, Err}
 use Rattle.std.specs.List.{concat}
 use Rattle.quic_values.specs.declared.ids.Dir.{Dir}
 use Rattle.quic_wire.specs.declared.frame.Frame.{Frame}
@@ -14,6 +14,8 @@ use Rattle.quic_outgoing.specs.Outgoing.{Outgoing, own_of}
 use Rattle.quic_queue.specs.SendOrder.{line}
 use Rattle.quic_receiving.specs.Half.{Half}
 use Rattle.quic_retransmits.specs.Pending.{Pending, nothing}
+use Rattle.quic_retransmits.specs.Settling.{noted_in}
+use Rattle.quic_streams.specs.declared.settling.SentPayload.{SentPayload}
 use Rattle.quic_history.specs.Control.{HasNoneOf, kind_bound}
 use Rattle.quic_history.specs.declared.control.ControlKind.{ControlKind}
 use Rattle.quic_history.specs.Halves.{is_due_in}
@@ -150,6 +152,11 @@ pub record AsksAfterFrame (e f : EndState) : Type 0 where
 abbrev pub AsksAgain : List ℕ → EndState → Type 0
 AsksAgain bytes f = (all : List Frame) → AreFrames bytes all → AsksAllOf (noted_of nothing all) f.pending
 
+-- so is what was noted of each of some payloads of which something is unreported, once all is to be sent again
+abbrev pub AsksAllAgain : List Sent → Answer → EndState → Type 0
+AsksAllAgain sent (Ok reply) f = (number : ℕ) (s : Sent) (rest : SentPayload) → slice_get sent number ≡ Some s → s.unsettled.rest ≡ Some rest → AsksAllOf (noted_in rest.control) f.pending
+AsksAllAgain sent (Err error) f = Unit {0}
+
 -- something holds of the writer of a payload, if a step on it was served
 abbrev pub OnWriter : PairState → ℕ → (Sent → Type 0) → Answer → Type 0
 OnWriter old number Holds (Ok reply) = (payload : HasPayload old number) → Holds payload.sent
@@ -172,4 +179,5 @@ AsksFor old (steps.Emit who most fair) reply new = IsFullIf most reply (the_end 
 AsksFor old (steps.Deliver number index) reply new = OnWriter old number (λ s. AsksAfterFrame (the_end old (peer s.writer)) (the_end new (peer s.writer))) reply
 AsksFor old (steps.Lose number) reply new = OnWriter old number (λ s. AsksAgain s.text.bytes (the_end new s.writer)) reply
 AsksFor old (steps.Ack number) reply new = OnWriter old number (λ s. AsksStreams (the_end new s.writer)) reply
+AsksFor old steps.Retry reply new = AsksAllAgain old.sent reply new.a
 AsksFor old _ reply new = Unit {0}

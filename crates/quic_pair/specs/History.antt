@@ -1,5 +1,5 @@
 -- The steps of a pair with their replies, the first one first, and what a caller knows from them.
-use Rattle.std.specs.Prelude.{ℕ, Bool, true, false, ◌==◌, ◌&&◌, if◌then◌else◌, List, [], ◌∷◌, ◌++◌, Ok, Err, take}
+use Rattle.std.specs.Prelude.{ℕ, Bool, true, false, ◌==◌, ◌&&◌, if◌then◌else◌, List, [], ◌∷◌, ◌++◌, Option, None, Ok, Err, take}
 use Rattle.std.specs.List.{concat}
 use Rattle.quic_assembler.specs.declared.chunk.Chunk.{Chunk}
 use Rattle.quic_wire.specs.declared.event.StreamEvent.{StreamEvent}
@@ -17,6 +17,7 @@ use Rattle.quic_steps.specs.declared.steps.PairError.TheVariants.{OutOfMemory as
 use Rattle.quic_steps.specs.declared.steps.Last.{Last}
 use Rattle.quic_steps.specs.declared.steps.Last.TheVariants as last
 use Rattle.quic_pair.specs.Replies.{Answer}
+use Rattle.quic_pair.specs.declared.early.EarlyLimits.{EarlyLimits}
 use Rattle.quic_pair.specs.declared.unsettled.Report.{Report}
 use Rattle.quic_pair.specs.declared.unsettled.Report.TheVariants.{Lost, Acknowledged}
 use Rattle.quic_pair.specs.State.{peer}
@@ -216,6 +217,16 @@ after_report p number kind (Ok Done) = record p { settled = number ∷ p.settled
 after_report p number kind (Err NoMemory) = record p { begun = (number, kind) ∷ p.begun }
 after_report p number kind _ = p
 
+-- after a rejection: all flows begin anew, and no id was given
+abbrev pub past_rejected : Past → Answer → Past
+past_rejected p (Ok Done) = nothing_yet
+past_rejected p _ = p
+
+-- after the server asked the client to begin again: the payloads of which something was reported left
+abbrev pub past_retried : Past → Answer → Past
+past_retried p (Ok Done) = record p { settled = []; begun = [] }
+past_retried p _ = p
+
 -- what is known after one more step
 abbrev pub after : Past → Step → Answer → Past
 after p (steps.Open who dir) reply = after_given p who reply
@@ -231,6 +242,8 @@ after p (steps.Poll who) reply = after_poll p who reply
 after p (steps.Deliver number index) reply = after_deliver p (number, index) reply
 after p (steps.Lose number) reply = after_report p number Lost reply
 after p (steps.Ack number) reply = after_report p number Acknowledged reply
+after p steps.EarlyReject reply = past_rejected p reply
+after p steps.Retry reply = past_retried p reply
 after p _ reply = p
 
 -- what is known after these steps, and what was known before
@@ -241,3 +254,14 @@ past_from p (e ∷ h) = past_from (after p e.0 e.1) h
 -- what is known after these steps
 abbrev pub past_of : History → Past
 past_of h = past_from nothing_yet h
+
+-- what is to be decided after one more step
+abbrev pub waits_then : Option EarlyLimits → Step → Answer → Option EarlyLimits
+waits_then waits steps.EarlyAccept (Ok reply) = None
+waits_then waits steps.EarlyReject (Ok reply) = None
+waits_then waits step reply = waits
+
+-- after these steps
+abbrev pub waits_from : Option EarlyLimits → History → Option EarlyLimits
+waits_from waits [] = waits
+waits_from waits (e ∷ h) = waits_from (waits_then waits e.0 e.1) h

@@ -2,6 +2,7 @@ pub mod Calls
 pub mod Completed
 pub mod Due
 pub mod From
+pub mod Gone
 pub mod Headline
 pub mod History
 pub mod Honest

@@ -1,5 +1,5 @@
 -- Frames by the number of their payload and their place there.
-use Rattle.std.specs.Prelude.{◌≡◌, ℕ, ◌≤◌, Bool, List, Option, Some, Result, Ok, Err, length, slice_get, slice_set}
+use Rattle.std.specs.Prelude.{◌≡◌, ◌≤◌, ℕ, Bool, false, List, Option, Some, Result, Ok, Err, length, slice_get, slice_set}
 use Rattle.std.specs.Global.{Vec}
 use Rattle.quic_wire.specs.declared.error.ReceiveError.{ReceiveError}
 use Rattle.quic_receiving.specs.declared.transmit.ShouldTransmit.{ShouldTransmit}
@@ -9,6 +9,7 @@ use Rattle.quic_steps.specs.declared.steps.PairError.TheVariants as refusals
 use Rattle.quic_pair.specs.declared.sent.Sent.{Sent}
 use Rattle.quic_pair.specs.declared.places.HandedFrame.{HandedFrame}
 use Rattle.quic_pair.specs.Payloads.{SentText, IsFrameAt, LacksFrame, IsReadyToMark, IsMarked}
+use Rattle.quic_pair.specs.Gone.{IsNoPayload}
 
 -- the frame at a place of this payload
 pub record IsHandedFrame (whole : Sent) (index : ℕ) (h : HandedFrame) : Type 0 where
@@ -22,6 +23,7 @@ pub record IsHandedFrame (whole : Sent) (index : ℕ) (h : HandedFrame) : Type 0
 pub record FindsFrame (sent : List Sent) (payload index : ℕ) (h : HandedFrame) : Type 0 where
   pub whole : Sent
   pub is : slice_get sent payload ≡ Some whole
+  pub here : whole.gone ≡ false
   pub writer : h.writer ≡ whole.writer
   pub at : IsFrameAt whole.text.bytes index h.frame
   pub within : data_length h.frame ≤ h.len
@@ -32,11 +34,12 @@ pub record FindsFrame (sent : List Sent) (payload index : ℕ) (h : HandedFrame)
 pub record HasText (sent : List Sent) (payload : ℕ) (Is : SentText → Type 0) : Type 0 where
   pub whole : Sent
   pub is : slice_get sent payload ≡ Some whole
+  pub here : whole.gone ≡ false
   pub why : Is whole.text
 
 -- why no frame was found: there is no such payload, its text lacks it, or memory was wanting to read it
 abbrev pub FailsToFind : List Sent → ℕ → ℕ → PairError → Type 0
-FailsToFind sent payload index refusals.NoSuchPayload = length sent ≤ payload
+FailsToFind sent payload index refusals.NoSuchPayload = IsNoPayload sent payload
 FailsToFind sent payload index refusals.NoSuchFrame = HasText sent payload (λ text. LacksFrame text.bytes index)
 FailsToFind sent payload index refusals.OutOfMemory = HasText sent payload (λ text. Unit {0})
 FailsToFind sent payload index _ = ⊥

@@ -1,5 +1,5 @@
 -- Reports of payloads, by the number of the payload.
-use Rattle.std.specs.Prelude.{◌≡◌, ℕ, ◌≤◌, true, false, List, Some, None, Result, Ok, Err, MatchBool, length, slice_get, slice_set}
+use Rattle.std.specs.Prelude.{◌≡◌, ℕ, true, false, List, Some, None, Result, Ok, Err, MatchBool, slice_get, slice_set}
 use Rattle.quic_streams.specs.declared.settling.SentPayload.{SentPayload}
 use Rattle.quic_steps.specs.declared.steps.End.{End}
 use Rattle.quic_steps.specs.declared.steps.PairError.{PairError}
@@ -7,6 +7,7 @@ use Rattle.quic_steps.specs.declared.steps.PairError.TheVariants as refusals
 use Rattle.quic_pair.specs.declared.sent.Sent.{Sent}
 use Rattle.quic_pair.specs.declared.unsettled.Report.{Report}
 use Rattle.quic_pair.specs.Payloads.{SentText, AreAllAccepted, LacksAccepted}
+use Rattle.quic_pair.specs.Gone.{IsNoPayload}
 use Rattle.quic_pair.specs.Unsettled.{needs_acceptance, may_report}
 
 -- a report of a kind may be served, as far as the marks of the payload's frames say
@@ -30,6 +31,7 @@ RefusesReport kind s _ = ⊥
 pub record TakesRestAt (old : List Sent) (payload : ℕ) (kind : Report) (writer : End) (rest : SentPayload) (new : List Sent) : Type 0 where
   pub whole : Sent
   pub is : slice_get old payload ≡ Some whole
+  pub here : whole.gone ≡ false
   pub writer_is : writer ≡ whole.writer
   pub taken : Sent
   pub takes : TakesRest kind whole rest taken
@@ -38,11 +40,12 @@ pub record TakesRestAt (old : List Sent) (payload : ℕ) (kind : Report) (writer
 pub record RefusesReportAt (sent : List Sent) (payload : ℕ) (kind : Report) (error : PairError) : Type 0 where
   pub whole : Sent
   pub is : slice_get sent payload ≡ Some whole
+  pub here : whole.gone ≡ false
   pub why : RefusesReport kind whole error
 
 -- why nothing was taken: there is no such payload, or the report is refused
 abbrev pub FailsToTake : List Sent → ℕ → Report → PairError → Type 0
-FailsToTake sent payload kind refusals.NoSuchPayload = length sent ≤ payload
+FailsToTake sent payload kind refusals.NoSuchPayload = IsNoPayload sent payload
 FailsToTake sent payload kind error = RefusesReportAt sent payload kind error
 
 -- what came back of a report is kept

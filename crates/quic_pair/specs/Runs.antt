@@ -1,26 +1,30 @@
 -- Many steps, one after the other.
-use Rattle.std.specs.Prelude.{[], ◌∷◌, ◌++◌, ◌≡◌, List}
-use Rattle.quic_steps.specs.declared.steps.Config.{Config}
+use Rattle.std.specs.Prelude.{[], ◌∷◌, ◌++◌, ◌≡◌, List, Option}
 use Rattle.quic_steps.specs.declared.steps.Step.{Step}
+use Rattle.quic_pair.specs.declared.early.EarlyLimits.{EarlyLimits}
 use Rattle.quic_pair.specs.declared.sent.Sent.{Sent}
 use Rattle.quic_pair.specs.Replies.{Answer}
 use Rattle.quic_pair.specs.State.{PairState}
 use Rattle.quic_pair.specs.Steps.{Next}
-use Rattle.quic_pair.specs.History.{History, Past, past_of}
-use Rattle.quic_pair.specs.From.{PairFrom, begun, next}
+use Rattle.quic_pair.specs.History.{History, Past, past_of, waits_from}
+use Rattle.quic_pair.specs.From.{Beginning, waits_first, PairFrom, begun, next}
 use Rattle.quic_pair.specs.Headline.{Headline}
 use Rattle.quic_pair.specs.Honest.{AreHonest}
 use Rattle.quic_pair.specs.Refused.{IsRefused}
 use Rattle.quic_pair.specs.Due.{AsksFor}
-use Rattle.quic_pair.specs.Tale.{Sendings}
+use Rattle.quic_pair.specs.Tale.{Sendings, Told, TellsOfPair}
 use Rattle.quic_pair.specs.Tale as tale
 use Rattle.quic_pair.specs.Withheld.{NotWithheld}
 
--- steps were taken one after the other, each with its reply; of each of them holds what `Each` says of the steps of the run
--- before it, of the pair before it, of the step and its reply, and of the pair behind it
-pub data StepByStep (Each : History → PairState → Step → Answer → PairState → Type 0) (old : PairState) : History → PairState → Type 0 where
-  none : StepByStep Each old [] old
-  more : {taken : History} {between new : PairState} (step : Step) (reply : Answer) → StepByStep Each old taken between → Next between step reply new → Each taken between step reply new → StepByStep Each old (taken ++ (step, reply) ∷ []) new
+-- steps were taken one after the other, each with its reply, as `Goes` says of each; of each of them holds what `Each` says of the
+-- steps of the run before it, of the pair before it, of the step and its reply, and of the pair behind it
+pub data StepsBy (Goes : PairState → Step → Answer → PairState → Type 0) (Each : History → PairState → Step → Answer → PairState → Type 0) (old : PairState) : History → PairState → Type 0 where
+  none : StepsBy Goes Each old [] old
+  more : {taken : History} {between new : PairState} (step : Step) (reply : Answer) → StepsBy Goes Each old taken between → Goes between step reply new → Each taken between step reply new → StepsBy Goes Each old (taken ++ (step, reply) ∷ []) new
+
+-- so they were, each as a step of a pair is
+abbrev pub StepByStep : (History → PairState → Step → Answer → PairState → Type 0) → PairState → History → PairState → Type 0
+StepByStep Each old taken new = StepsBy Next Each old taken new
 
 -- nothing more is said of each
 abbrev pub TakesSteps : PairState → History → PairState → Type 0
@@ -30,6 +34,10 @@ TakesSteps old taken new = StepByStep (λ before between step reply after. Unit 
 -- of the run before it
 abbrev pub Behind : (Past → List Sent → Step → Answer → Type 0) → History → History → PairState → Step → Answer → PairState → Type 0
 Behind Holds h before between step reply after = Holds (past_of (h ++ before)) between.sent step reply
+
+-- what holds of a step by what is to be decided too
+abbrev pub BehindEarly : (Option EarlyLimits → Past → List Sent → Step → Answer → Type 0) → Beginning → History → History → PairState → Step → Answer → PairState → Type 0
+BehindEarly Holds s h before between step reply after = Holds (waits_from (waits_first s) (h ++ before)) (past_of (h ++ before)) between.sent step reply
 
 -- what holds of a step so, and of the pair behind it
 abbrev pub Around : (Past → List Sent → Step → Answer → PairState → Type 0) → History → History → PairState → Step → Answer → PairState → Type 0
@@ -54,11 +62,14 @@ abbrev pub AsksOf : History → PairState → Step → Answer → PairState → 
 AsksOf before between step reply after = AsksFor between step reply after
 
 -- the payloads behind each of the steps that led to a pair
-abbrev pub sendings_of : {a b : Config} {h : History} {v : PairState} → PairFrom a b h v → Sendings h v.sent
+abbrev pub sendings_of : {s : Beginning} {h : History} {v : PairState} → PairFrom s h v → Sendings h v.sent
 sendings_of (begun new) = tale.none
 sendings_of (next {h} {old} {new} step reply before taken) = tale.more step reply new.sent (sendings_of before)
 
--- a step withheld nothing on the sending side that was permitted, by whatever steps led to the pair before it: a history, and the
--- steps of the run before this one
-abbrev pub WithholdsNone : Config → Config → History → History → PairState → Step → Answer → PairState → Type 0
-WithholdsNone a b h before between step reply after = (led : PairFrom a b (h ++ before) between) → NotWithheld a b (sendings_of led) step reply after.sent
+-- a step withheld nothing on the sending side that was permitted, by the steps that led to the pair before it
+abbrev pub PermitsAll : {s : Beginning} {h : History} {v : PairState} → PairFrom s h v → Step → Answer → List Sent → Type 0
+PermitsAll {s} {h} {v} led step reply after = NotWithheld (Told s (sendings_of led)) (TellsOfPair s v.sent after step reply) step reply
+
+-- so it did, by whatever steps led to that pair: a history, and the steps of the run before this one
+abbrev pub WithholdsNone : Beginning → History → History → PairState → Step → Answer → PairState → Type 0
+WithholdsNone s h before between step reply after = (led : PairFrom s (h ++ before) between) → PermitsAll led step reply after.sent

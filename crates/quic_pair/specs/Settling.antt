@@ -1,5 +1,5 @@
 -- How all that was begun is completed once the network is fair: the steps, in their order, and what is settled behind them.
-use Rattle.std.specs.Prelude.{ℕ, Bool, true, false, ◌≡◌, ◌⊎◌, ◌≤◌, ◌<◌, ◌+◌, ◌-◌, ◌^◌, ◌&&◌, min, nat_lt, if◌then◌else◌, List, [], ◌∷◌, ◌++◌, length, slice_get, Option, Some, None, unwrap_or, Result, Ok, Err, is_ok}
+use Rattle.std.specs.Prelude.{ℕ, Bool, true, false, ◌≡◌, ◌⊎◌, ◌≤◌, ◌<◌, ◌+◌, ◌-◌, ◌^◌, ◌&&◌, min, nat_lt, if◌then◌else◌, List, [], ◌∷◌, ◌++◌, length, slice_get, Option, Some, None, is_some, unwrap_or, Result, Ok, Err, is_ok}
 use Rattle.std.specs.Option.{option_map}
 use Rattle.quic_values.specs.declared.memory.OutOfMemory.{OutOfMemory}
 use Rattle.quic_values.specs.declared.ids.Side.{Side}
@@ -14,7 +14,6 @@ use Rattle.quic_history.specs.Flows.{HasRest}
 use Rattle.quic_history.specs.declared.control.ControlKind.{ControlKind}
 use Rattle.quic_endpoint.specs.Ends.{EndState}
 use Rattle.quic_link.specs.Endpoints.{IsOneOf}
-use Rattle.quic_steps.specs.declared.steps.Config.{Config}
 use Rattle.quic_steps.specs.declared.steps.End.{End}
 use Rattle.quic_steps.specs.declared.steps.End.TheVariants.{A, B}
 use Rattle.quic_steps.specs.declared.steps.Step.{Step}
@@ -31,9 +30,9 @@ use Rattle.quic_pair.specs.declared.phase.Going.TheVariants.{On, Over, StreamOve
 use Rattle.quic_pair.specs.Unsettled.{is_quiet}
 use Rattle.quic_pair.specs.Replies.{Answer}
 use Rattle.quic_pair.specs.State.{PairState}
-use Rattle.quic_pair.specs.Steps.{Next}
+use Rattle.quic_pair.specs.Steps.{NextTaken}
 use Rattle.quic_pair.specs.History.{History, past_of}
-use Rattle.quic_pair.specs.Tale.{Tales, Sendings, Told}
+use Rattle.quic_pair.specs.Tale.{Tales}
 
 -- ---- the steps
 
@@ -155,9 +154,9 @@ phase_after (phase.Drop payload) going sent last_quiet = phase.Drop payload
 abbrev pub AreSettledIn : ℕ → ℕ → List Sent → Type 0
 AreSettledIn start behind sent = (number : ℕ) (s : Sent) → start ≤ number → number < behind → slice_get sent number ≡ Some s → s.unsettled.rest ≡ None
 
--- every payload was reported, by what the replies to reports say (RFC 9000 section 13.3)
+-- every payload that did not leave was reported, by what the replies to reports say (RFC 9000 section 13.3)
 abbrev pub IsAllReported : History → List Sent → Type 0
-IsAllReported h sent = (number : ℕ) → number < length sent → IsOneOf number (past_of h).settled
+IsAllReported h sent = (number : ℕ) (s : Sent) → slice_get sent number ≡ Some s → s.gone ≡ false → IsOneOf number (past_of h).settled
 
 -- an end has nothing to send: no control frame of any kind is pending, and no stream stands in the send queue
 pub record IsIdle (e : EndState) : Type 0 where
@@ -169,10 +168,10 @@ pub record AreIdle (v : PairState) : Type 0 where
   pub of_a : IsIdle v.a
   pub of_b : IsIdle v.b
 
--- nothing is left to be sent on any stream, by what the steps tell: no byte that was written and no end that no frame carried, and
--- none that was lost since and not acknowledged
-abbrev pub LeavesNoRest : Config → Config → {h : History} → {sent : List Sent} → Sendings h sent → Type 0
-LeavesNoRest a b led = (t : Tales) → Told a b led t → (who : End) (id : ℕ) → HasRest ((t.of who).flow id) → ⊥
+-- nothing is left to be sent on any stream, by what is told: no byte that was written and no end that no frame carried, and none
+-- that was lost since and not acknowledged
+abbrev pub LeavesNoRest : (Tales → Type 0) → Type 0
+LeavesNoRest told = (t : Tales) → told t → (who : End) (id : ℕ) → HasRest ((t.of who).flow id) → ⊥
 
 -- ---- one step, and the next
 
@@ -180,7 +179,7 @@ LeavesNoRest a b led = (t : Tales) → Told a b led t → (who : End) (id : ℕ)
 -- no room to note it, and none was taken
 pub record TakesPhase (old : PairState) (before : History) (at : Phase) (answer : Result Phase OutOfMemory) (new : PairState) (behind : History) : Type 0 where
   pub reply : Answer
-  pub next : Next old (step_at at) reply new
+  pub next : NextTaken old (step_at at) reply new
   pub noted : behind ≡ before ++ (step_at at, reply) ∷ []
   pub goes : (next_one : Phase) → answer ≡ Ok next_one → (going : Going) × (going_of reply ≡ Some going) × (next_one ≡ phase_after at going (length old.sent) (is_quiet_at new.sent (length old.sent)))
   pub wanting : (error : OutOfMemory) → answer ≡ Err error → going_of reply ≡ None
@@ -204,7 +203,7 @@ IsSoughtFor sent at next = next ≡ at
 pub data FollowsPhases (old : PairState) (first : Phase) : History → PairState → Phase → Type 0 where
   none : FollowsPhases old first [] old first
   more : {taken : History} {between new : PairState} {at : Phase} (here : Phase) (reply : Answer) (going : Going) → FollowsPhases old first taken between at → IsSoughtFor between.sent at here
-      → Next between (step_at here) reply new → going_of reply ≡ Some going → FollowsPhases old first (taken ++ (step_at here, reply) ∷ []) new (phase_after here going (length between.sent) (is_quiet_at new.sent (length between.sent)))
+      → NextTaken between (step_at here) reply new → going_of reply ≡ Some going → FollowsPhases old first (taken ++ (step_at here, reply) ∷ []) new (phase_after here going (length between.sent) (is_quiet_at new.sent (length between.sent)))
 
 -- there is none where both ends had nothing to send, and every payload is settled
 pub record IsSettledAt (at : Phase) (sent : List Sent) : Type 0 where
@@ -226,4 +225,10 @@ pub record IsCutOff (old : PairState) (taken : History) (new : PairState) : Type
   pub follows : FollowsPhases old (phase.Report 0 false) before between at
   pub here : Phase
   pub sought : IsSoughtFor between.sent at here
-  pub last : ((new ≡ between) × (taken ≡ before)) ⊎ ((reply : Answer) × Next between (step_at here) reply new × (going_of reply ≡ None) × (taken ≡ before ++ (step_at here, reply) ∷ []))
+  pub last : ((new ≡ between) × (taken ≡ before)) ⊎ ((reply : Answer) × NextTaken between (step_at here) reply new × (going_of reply ≡ None) × (taken ≡ before ++ (step_at here, reply) ∷ []))
+
+-- it was not decided whether the server takes what the client sends early, and no step was taken
+pub record IsUndecided (old : PairState) (taken : History) (new : PairState) : Type 0 where
+  pub waits : is_some old.waits ≡ true
+  pub taken_is : taken ≡ []
+  pub same : new ≡ old

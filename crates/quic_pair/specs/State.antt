@@ -1,22 +1,26 @@
 -- Two ends, and what was sent between them.
-use Rattle.std.specs.Prelude.{◌≡◌, List, []}
+use Rattle.std.specs.Prelude.{◌≡◌, List, [], Option, None}
 use Rattle.quic_steps.specs.declared.steps.End.{End}
 use Rattle.quic_steps.specs.declared.steps.End.TheVariants.{A, B}
 use Rattle.quic_endpoint.specs.Ends.{EndState}
 use Rattle.quic_endpoint.specs.Shown.{endpoint_view}
 use Rattle.quic_pair.specs.declared.sent.Sent.{Sent}
+use Rattle.quic_pair.specs.declared.early.EarlyLimits.{EarlyLimits}
 use Rattle.quic_pair.specs.declared.pair.Pair.{Pair}
 
 -- a and b: the ends
 -- sent: every payload that was sent, the first one first
+-- waits: the limits of the server, as the client remembered them and as they are, while it is not decided whether the server takes
+-- what the client sends before the handshake is done (RFC 9001 section 4.6)
 pub record PairState : Type 0 where
   pub a : EndState
   pub b : EndState
   pub sent : List Sent
+  pub waits : Option EarlyLimits
 
 -- what a pair is, as contracts see it
 unfoldable pub pair_view : Pair → PairState
-pair_view p = record { a = endpoint_view p.a; b = endpoint_view p.b; sent = p.sent.items }
+pair_view p = record { a = endpoint_view p.a; b = endpoint_view p.b; sent = p.sent.items; waits = p.waits }
 
 -- the other end
 abbrev pub peer : End → End
@@ -39,7 +43,7 @@ with_sent p sent = record p { sent = sent }
 
 -- two ends, between which nothing was sent
 abbrev pub two_ends : EndState → EndState → PairState
-two_ends a b = record { a = a; b = b; sent = [] }
+two_ends a b = record { a = a; b = b; sent = []; waits = None }
 
 -- something comes of one end, and nothing else changes
 pub record OnEnd (P : EndState → EndState → Type 0) (old : PairState) (who : End) (new : PairState) : Type 0 where

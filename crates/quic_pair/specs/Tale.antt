@@ -2,6 +2,8 @@
 -- acknowledged, and of all streams how much was written and how much may be.
 use Rattle.std.specs.Prelude.{ℕ, ◌≡◌, ◌⊎◌, ◌==◌, ◌+◌, max, List, [], ◌∷◌, ◌++◌, length, map, take, drop, slice_get, Some, None, unwrap_or, Ok, Err, if◌then◌else◌}
 use Rattle.std.specs.Option.{option_map}
+use Rattle.quic_values.specs.declared.ids.Side.{Side}
+use Rattle.quic_values.specs.declared.ids.Side.TheVariants.{Client, Server}
 use Rattle.quic_values.specs.declared.ids.Dir.{Dir}
 use Rattle.quic_values.specs.declared.ids.Dir.TheVariants.{Bi, Uni}
 use Rattle.quic_sending.specs.Source.{slice_lists}
@@ -9,12 +11,15 @@ use Rattle.quic_wire.specs.declared.frame.Frame.{Frame}
 use Rattle.quic_wire.specs.declared.frame.Frame.TheVariants as frames
 use Rattle.quic_wire.specs.declared.frame.StreamMeta.{StreamMeta}
 use Rattle.quic_wire.specs.Frames.{AreFrames}
-use Rattle.quic_flows.specs.Flow.{SendFlow, SendMove, WasWritten, WasFinished, WasGivenUp, WasAskedToStop, WasPermitted, WasCarried, WasAcked, WasLost, WasResetAcked, new_flow, with_send_move, front_of, retained}
+use Rattle.quic_flows.specs.Flow.{SendFlow, SendMove, WasWritten, WasFinished, WasGivenUp, WasAskedToStop, WasPermitted, WasCarried, WasAcked, WasLost, WasResetAcked, new_flow, with_least_limit, with_send_move, front_of, retained}
+use Rattle.quic_outgoing.specs.declared.limits.PeerLimits.{PeerLimits}
+use Rattle.quic_outgoing.specs.Outgoing.{first_of}
+use Rattle.quic_outgoing.specs.Senders.{first_limit, is_local}
 use Rattle.quic_outgoing.specs.History.{given_for}
+use Rattle.quic_history.specs.Early.{with_unsent}
 use Rattle.quic_history.specs.History.{with_stream, total_over}
 use Rattle.quic_streams.specs.Settling.{SentView, resets_of}
 use Rattle.quic_streams.specs.Sent.{sent_view}
-use Rattle.quic_steps.specs.declared.steps.Config.{Config}
 use Rattle.quic_steps.specs.declared.steps.End.{End}
 use Rattle.quic_steps.specs.declared.steps.End.TheVariants.{A, B}
 use Rattle.quic_steps.specs.declared.steps.Step.{Step}
@@ -26,6 +31,7 @@ use Rattle.quic_pair.specs.Payloads.{IsFrameAt, metas_in, codes_in}
 use Rattle.quic_pair.specs.declared.unsettled.Unsettled.{Unsettled}
 use Rattle.quic_pair.specs.Replies.{Answer}
 use Rattle.quic_pair.specs.State.{peer}
+use Rattle.quic_pair.specs.From.{Beginning, limits_first, limits_of_a, limits_of_b}
 use Rattle.quic_pair.specs.History.{History, FramePlace, is_same_end}
 
 -- what is told of what one end sends
@@ -45,27 +51,27 @@ pub record Tale : Type 0 where
   pub opened : Dir → ℕ
   pub count : Dir → ℕ
 
--- how many streams of a direction an end lets the other open at first
-abbrev pub first_count : Config → Dir → ℕ
-first_count c Bi = c.max_remote_bi
-first_count c Uni = c.max_remote_uni
+-- how many streams of a direction limits let an end open
+abbrev pub first_count : PeerLimits → Dir → ℕ
+first_count l Bi = l.initial_max_streams_bidi
+first_count l Uni = l.initial_max_streams_uni
 
--- what is told before the first step: an end was given the limits of the other
-abbrev pub tale_begun : Config → Config → Tale
-tale_begun own other = record {
-  flow = λ q. new_flow other.stream_receive_window;
+-- what is told of an end that did nothing yet: it was given limits
+abbrev pub tale_begun : Side → ℕ → PeerLimits → Tale
+tale_begun side send_window limits = record {
+  flow = λ q. new_flow (first_limit side (first_of limits) q);
   streams = [];
   written = 0;
-  limit = other.receive_window;
-  send_window = own.send_window;
+  limit = limits.initial_max_data;
+  send_window = send_window;
   opened = λ d. 0;
-  count = first_count other;
+  count = first_count limits;
 }
 
 -- so of each of both ends
-abbrev pub tale_first : Config → Config → End → Tale
-tale_first a b A = tale_begun a b
-tale_first a b B = tale_begun b a
+abbrev pub tale_first : Beginning → End → Tale
+tale_first s A = tale_begun Client s.a.send_window (limits_first s)
+tale_first s B = tale_begun Server s.b.send_window (limits_of_a s)
 
 -- what is told of both ends
 -- of: of each
@@ -77,8 +83,8 @@ pub record Tales : Type 0 where
   pub told : ℕ → ℕ
 
 -- before the first step
-abbrev pub tales_begun : Config → Config → Tales
-tales_begun a b = record { of = tale_first a b; payloads = 0; told = λ number. 0 }
+abbrev pub tales_begun : Beginning → Tales
+tales_begun s = record { of = tale_first s; payloads = 0; told = λ number. 0 }
 
 -- how many of the written bytes are retained, of all streams
 abbrev pub retained_by : Tale → ℕ
@@ -115,6 +121,18 @@ with_frame_heard (frames.MaxStreams dir count) t = record t { count = λ d. max 
 with_frame_heard (frames.MaxStreamData id limit) t = with_deed id (WasPermitted limit) t
 with_frame_heard (frames.StopSending f) t = with_deed f.id (WasAskedToStop f.error_code) t
 with_frame_heard _ t = t
+
+-- limits are given beside those that were given first
+abbrev pub with_limits_given : Side → PeerLimits → Tale → Tale
+with_limits_given side limits t = record t {
+  flow = λ q. with_least_limit (first_limit side (first_of limits) q) (t.flow q);
+  limit = max t.limit limits.initial_max_data;
+  count = λ d. max (t.count d) (first_count limits d);
+}
+
+-- all that was sent on the streams of an end counts as not sent
+abbrev pub with_unsent_told : Side → Tale → Tale
+with_unsent_told side t = record t { flow = λ q. if is_local side q then with_unsent (t.flow q) else t.flow q }
 
 -- ---- what is reported of a payload
 
@@ -233,7 +251,20 @@ pub data Sendings : History → List Sent → Type 0 where
   none : {sent : List Sent} → Sendings [] sent
   more : {h : History} {old : List Sent} (step : Step) (reply : Answer) (new : List Sent) → Sendings h old → Sendings (h ++ (step, reply) ∷ []) new
 
+-- what a rejection tells: the client begins anew with the limits of the server, and only its send window stays. The server did
+-- nothing yet
+abbrev pub tale_anew : Beginning → Tales → End → Tale
+tale_anew s t A = tale_begun Client (t.of A).send_window (limits_of_b s)
+tale_anew s t B = tale_first s B
+
+-- what the next step and its reply tell, of a pair that was made so
+abbrev pub TellsOfPair : Beginning → List Sent → List Sent → Step → Answer → Tales → Tales → Type 0
+TellsOfPair s old new steps.EarlyAccept (Ok Done) t u = u ≡ told_of A (with_limits_given Client (limits_of_b s)) t
+TellsOfPair s old new steps.EarlyReject (Ok Done) t u = u ≡ record t { of = tale_anew s t; told = λ number. 0 }
+TellsOfPair s old new steps.Retry (Ok Done) t u = u ≡ told_of A (with_unsent_told Client) t
+TellsOfPair s old new step reply t u = StepTells old new step reply t u
+
 -- what all of them tell
-abbrev pub Told : {h : History} {sent : List Sent} → Config → Config → Sendings h sent → Tales → Type 0
-Told a b none t = t ≡ tales_begun a b
-Told a b (more {h} {old} step reply new before) u = (t : Tales) × Told a b before t × StepTells old new step reply t u
+abbrev pub Told : {h : History} {sent : List Sent} → Beginning → Sendings h sent → Tales → Type 0
+Told s none t = t ≡ tales_begun s
+Told s (more {h} {old} step reply new before) u = (t : Tales) × Told s before t × TellsOfPair s old new step reply t u

@@ -1,21 +1,18 @@
 -- Nothing permitted is withheld on the sending side, by what the steps before tell.
-use Rattle.std.specs.Prelude.{ℕ, true, false, ◌≡◌, ◌⊎◌, ◌<◌, ◌≤◌, ◌+◌, ◌-◌, min, List, length, Some, Ok}
+use Rattle.std.specs.Prelude.{ℕ, true, false, ◌≡◌, ◌⊎◌, ◌<◌, ◌≤◌, ◌+◌, ◌-◌, min, length, Some, Ok}
 use Rattle.std.specs.List.{concat}
 use Rattle.quic_values.specs.declared.ids.Dir.TheVariants.{Uni}
 use Rattle.quic_values.specs.Ids.{dir_of}
 use Rattle.quic_flows.specs.Flow.{SendFlow, takes_data}
 use Rattle.quic_outgoing.specs.Senders.{is_local}
 use Rattle.quic_history.specs.Flows.{room_on, HasRest}
-use Rattle.quic_steps.specs.declared.steps.Config.{Config}
 use Rattle.quic_steps.specs.declared.steps.End.{End}
 use Rattle.quic_steps.specs.declared.steps.Step.{Step}
 use Rattle.quic_steps.specs.declared.steps.Step.TheVariants as steps
 use Rattle.quic_steps.specs.declared.steps.Reply.TheVariants.{Nothing, Wrote, WroteChunks, Blocked, Stopped, Closed, Payload}
-use Rattle.quic_pair.specs.declared.sent.Sent.{Sent}
 use Rattle.quic_pair.specs.Replies.{Answer}
 use Rattle.quic_pair.specs.Readable.{side_of}
-use Rattle.quic_pair.specs.History.{History}
-use Rattle.quic_pair.specs.Tale.{Tale, Tales, Sendings, StepTells, Told, retained_by}
+use Rattle.quic_pair.specs.Tale.{Tale, Tales, retained_by}
 
 -- how many bytes may be written on a stream: the least of what the limit of the connection leaves, the send window, and the
 -- limit of the stream (RFC 9000 sections 4.1 and 4.2)
@@ -52,15 +49,16 @@ abbrev pub LeavesNone : Tales → Step → Answer → Type 0
 LeavesNone u (steps.Emit who most fair) (Ok (Payload number bytes)) = (id : ℕ) → HasRest ((u.of who).flow id) → most ≤ length bytes.items + 25
 LeavesNone u _ reply = Unit {0}
 
--- a step withholds nothing on the sending side that is permitted, by what the steps tell, this one and those before it
+-- a step withholds nothing on the sending side that is permitted, by what the steps tell
+-- told: what those before it tell; tells: what it adds to that
 -- before: what those before it tell, and nothing else
 -- behind: what they and this one do
-pub record NotWithheld {h : History} {old : List Sent} (a b : Config) (led : Sendings h old) (step : Step) (reply : Answer) (new : List Sent) : Type 0 where
+pub record NotWithheld (told : Tales → Type 0) (tells : Tales → Tales → Type 0) (step : Step) (reply : Answer) : Type 0 where
   pub before : Tales
   pub behind : Tales
-  pub told : Told a b led before
-  pub told_alone : (t : Tales) → Told a b led t → t ≡ before
-  pub tells : StepTells old new step reply before behind
-  pub tells_alone : (t : Tales) → StepTells old new step reply before t → t ≡ behind
+  pub is_told : told before
+  pub told_alone : (t : Tales) → told t → t ≡ before
+  pub tells_so : tells before behind
+  pub tells_alone : (t : Tales) → tells before t → t ≡ behind
   pub does : DoesAsPermitted before step reply
   pub leaves : LeavesNone behind step reply

@@ -2,6 +2,7 @@
 #![tactic(auto)]
 
 mod calls;
+mod early;
 pub mod pair;
 mod phase;
 mod places;
@@ -12,4 +13,5 @@ mod unsettled;
 
 pub use pair::Pair;
 pub use quic_steps::{Config, End, Last, PairError, Reply, Step};
+pub use quic_streams::PeerLimits;
 pub use settle::StepTaken;

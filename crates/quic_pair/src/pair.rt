@@ -1,6 +1,6 @@
 //! Two ends, and the payloads between them.
 
-ghost use Rattle.std.specs.Prelude.{◌≡◌, List, ◌∷◌, [], ◌++◌, length, IfSome, IfNone, IfOk, OnOk, OnErr, Some, option_map, slice_get, ◌≤◌};
+ghost use Rattle.std.specs.Prelude.{◌≡◌, List, ◌∷◌, [], ◌++◌, length, IfSome, IfNone, IfOk, OnOk, OnErr, Some, option_map, slice_get, ◌≤◌, ◌^◌, ◌&&◌, is_some, is_none};
 ghost use Rattle.std.specs.List.{zip};
 ghost use Rattle.quic_sending.specs.Source.{slice_lists};
 ghost use Rattle.quic_endpoint.specs.Shown.{endpoint_view};
@@ -10,24 +10,24 @@ ghost use Rattle.quic_endpoint.specs.Reports.{LosesPayloadAt, AcksPayloadAt};
 ghost use Rattle.quic_streams.specs.Sent.{sent_view, report_view};
 ghost use Rattle.quic_pair.specs.State.{pair_view, the_end, with_end, peer, two_ends, OnEnd};
 ghost use Rattle.quic_pair.specs.Calls.{Opens, Accepts, OnGiven, Writes, WritesChunks, Finishes, ResetsOn, StopsOn, SetsPriorityOn, AsksReset, ReadsOn, SetsSendWindow, SetsReceiveWindow, SetsMaxConcurrent, Polls};
-ghost use Rattle.quic_pair.specs.Steps.{Next, EndTakesFrame};
-ghost use Rattle.quic_values.specs.Ids.{other_side};
+ghost use Rattle.quic_pair.specs.Steps.{Next, NextTaken, EndTakesFrame, needs_decision};
+ghost use Rattle.quic_pair.specs.Gone.{IsNoPayload, IsThere};
 ghost use Rattle.quic_streams.specs.Shown.{streams_view};
 ghost use Rattle.quic_link.specs.Endpoints.{limits_of};
-ghost use Rattle.quic_pair.specs.From.{PairFrom, made_of, end_begun};
-ghost use Rattle.quic_pair.specs.History.{History, past_of};
+ghost use Rattle.quic_pair.specs.From.{Beginning, PairFrom, made_of, end_begun, at_once, waits_first};
+ghost use Rattle.quic_pair.specs.History.{History, past_of, waits_from};
 ghost use Rattle.quic_pair.specs.Headline.{Headline};
-ghost use Rattle.quic_pair.specs.Runs.{TakesSteps, StepByStep, Behind, Around, Throughout, IsTrueOf, StaysIfRefused, AsksOf, WithholdsNone, sendings_of};
+ghost use Rattle.quic_pair.specs.Runs.{TakesSteps, StepByStep, Behind, BehindEarly, Around, Throughout, IsTrueOf, StaysIfRefused, AsksOf, WithholdsNone, PermitsAll};
 ghost use Rattle.quic_pair.specs.Unrefused.{RefusesNoFrame};
 ghost use Rattle.quic_pair.specs.Readable.{WithholdsNothing};
 ghost use Rattle.quic_pair.specs.Law.{Drains};
 ghost use Rattle.quic_pair.specs.Due.{AsksFor};
-ghost use Rattle.quic_pair.specs.Withheld.{NotWithheld};
 ghost use Rattle.quic_pair.specs.Honest.{AreHonest};
 ghost use Rattle.quic_pair.specs.Refused.{IsRefused, IsRefusedSo};
 
 use crate::calls;
-use crate::places::{frame_at, mark_if, rest_at, settle};
+use crate::early::{EarlyLimits, leave_all, needs_decision, with_all_noted};
+use crate::places::{frame_at, is_no_payload, mark_if, rest_at, settle};
 use crate::replies::{payload_reply, received_reply};
 use crate::sent::Sent;
 use crate::unsettled::Report;
@@ -46,6 +46,8 @@ pub struct Pair {
     pub(crate) a: Endpoint,
     pub(crate) b: Endpoint,
     pub(crate) sent: Vec<Sent>,
+    // While it is not decided whether the server takes what the client sends early.
+    pub(crate) waits: Option<EarlyLimits>,
     pub(crate) alloc: Global,
 }
 
@@ -63,9 +65,14 @@ fn limits_of(side: Side, config: &Config) -> PeerLimits
     }
 }
 
-// An end with the limits of its peer.
-fn end_of(alloc: Global, side: Side, own: &Config, peer: &Config) -> Result<Endpoint, OutOfMemory>
-    ensures { IfOk result (λ end. endpoint_view end ≡ end_begun (made_of side own.now) (made_of (other_side side) peer.now)) }
+// An end that is given limits.
+fn end_of(
+    alloc: Global,
+    side: Side,
+    own: &Config,
+    limits: &PeerLimits,
+) -> Result<Endpoint, OutOfMemory>
+    ensures { IfOk result (λ end. endpoint_view end ≡ end_begun (made_of side own.now) limits.now) }
 {
     let mut end = Endpoint::new(
         alloc,
@@ -76,8 +83,28 @@ fn end_of(alloc: Global, side: Side, own: &Config, peer: &Config) -> Result<Endp
         own.receive_window,
         own.stream_receive_window,
     )?;
-    end.set_params(&limits_of(side, peer))?;
+    end.set_params(limits)?;
     Ok(end)
+}
+
+// Two ends that have sent nothing: the client is given limits, and the server those of the client.
+#[tactic(auto, unfolding(crate::specs::State::pair_view))]
+fn made(
+    alloc: Global,
+    a: &Config,
+    b: &Config,
+    first: &PeerLimits,
+    waits: Option<EarlyLimits>,
+) -> Result<Pair, OutOfMemory>
+    ensures { IfOk result (λ pair. pair_view pair ≡ record { a = end_begun (made_of Side.Client a.now) first.now; b = end_begun (made_of Side.Server b.now) (limits_of (made_of Side.Client a.now)); sent = []; waits = waits }) }
+{
+    Ok(Pair {
+        a: end_of(alloc, Side::Client, a, first)?,
+        b: end_of(alloc, Side::Server, b, &limits_of(Side::Client, a))?,
+        sent: Vec::new(alloc),
+        waits,
+        alloc,
+    })
 }
 
 // The payload that one of two ends writes, and whether memory was wanting.
@@ -99,7 +126,7 @@ fn emit_on(
 #[tactic(auto, unfolding(crate::specs::State::pair_view))]
 impl Pair {
     fn open(&mut self, who: End, dir: Dir) -> Result<Reply, PairError>
-        ensures { Next (pair_view self.old) (Step.Open who dir) result (pair_view self.new) }
+        ensures { NextTaken (pair_view self.old) (Step.Open who dir) result (pair_view self.new) }
     {
         match who {
             End::A => calls::open(&mut self.a, dir),
@@ -108,7 +135,7 @@ impl Pair {
     }
 
     fn accept(&mut self, who: End, dir: Dir) -> Result<Reply, PairError>
-        ensures { Next (pair_view self.old) (Step.Accept who dir) result (pair_view self.new) }
+        ensures { NextTaken (pair_view self.old) (Step.Accept who dir) result (pair_view self.new) }
     {
         match who {
             End::A => calls::accept(&mut self.a, dir),
@@ -117,7 +144,7 @@ impl Pair {
     }
 
     fn write(&mut self, who: End, id: StreamId, bytes: Bytes) -> Result<Reply, PairError>
-        ensures { Next (pair_view self.old) (Step.Write who id bytes) result (pair_view self.new) }
+        ensures { NextTaken (pair_view self.old) (Step.Write who id bytes) result (pair_view self.new) }
     {
         match who {
             End::A => calls::write(&mut self.a, id, bytes),
@@ -131,7 +158,7 @@ impl Pair {
         id: StreamId,
         chunks: ChunkList,
     ) -> Result<Reply, PairError>
-        ensures { Next (pair_view self.old) (Step.WriteChunks who id chunks) result (pair_view self.new) }
+        ensures { NextTaken (pair_view self.old) (Step.WriteChunks who id chunks) result (pair_view self.new) }
     {
         match who {
             End::A => calls::write_chunks(&mut self.a, self.alloc, id, &chunks),
@@ -140,7 +167,7 @@ impl Pair {
     }
 
     fn finish(&mut self, who: End, id: StreamId) -> Result<Reply, PairError>
-        ensures { Next (pair_view self.old) (Step.Finish who id) result (pair_view self.new) }
+        ensures { NextTaken (pair_view self.old) (Step.Finish who id) result (pair_view self.new) }
     {
         match who {
             End::A => calls::finish(&mut self.a, id),
@@ -149,7 +176,7 @@ impl Pair {
     }
 
     fn reset(&mut self, who: End, id: StreamId, code: VarInt) -> Result<Reply, PairError>
-        ensures { Next (pair_view self.old) (Step.Reset who id code) result (pair_view self.new) }
+        ensures { NextTaken (pair_view self.old) (Step.Reset who id code) result (pair_view self.new) }
     {
         match who {
             End::A => calls::reset(&mut self.a, id, code),
@@ -158,7 +185,7 @@ impl Pair {
     }
 
     fn stop(&mut self, who: End, id: StreamId, code: VarInt) -> Result<Reply, PairError>
-        ensures { Next (pair_view self.old) (Step.Stop who id code) result (pair_view self.new) }
+        ensures { NextTaken (pair_view self.old) (Step.Stop who id code) result (pair_view self.new) }
     {
         match who {
             End::A => calls::stop(&mut self.a, id, code),
@@ -167,7 +194,7 @@ impl Pair {
     }
 
     fn set_priority(&mut self, who: End, id: StreamId, priority: i32) -> Result<Reply, PairError>
-        ensures { Next (pair_view self.old) (Step.SetPriority who id priority) result (pair_view self.new) }
+        ensures { NextTaken (pair_view self.old) (Step.SetPriority who id priority) result (pair_view self.new) }
     {
         match who {
             End::A => calls::set_priority(&mut self.a, id, priority),
@@ -183,7 +210,7 @@ impl Pair {
         max: usize,
         times: u16,
     ) -> Result<Reply, PairError>
-        ensures { Next (pair_view self.old) (Step.Read who id ordered max times) result (pair_view self.new) }
+        ensures { NextTaken (pair_view self.old) (Step.Read who id ordered max times) result (pair_view self.new) }
     {
         match who {
             End::A => calls::read(&mut self.a, id, ordered, max, times),
@@ -192,7 +219,7 @@ impl Pair {
     }
 
     fn received_reset(&mut self, who: End, id: StreamId) -> Result<Reply, PairError>
-        ensures { Next (pair_view self.old) (Step.ReceivedReset who id) result (pair_view self.new) }
+        ensures { NextTaken (pair_view self.old) (Step.ReceivedReset who id) result (pair_view self.new) }
     {
         match who {
             End::A => calls::received_reset(&mut self.a, id),
@@ -201,7 +228,7 @@ impl Pair {
     }
 
     fn set_send_window(&mut self, who: End, window: u64) -> Result<Reply, PairError>
-        ensures { Next (pair_view self.old) (Step.SetSendWindow who window) result (pair_view self.new) }
+        ensures { NextTaken (pair_view self.old) (Step.SetSendWindow who window) result (pair_view self.new) }
     {
         match who {
             End::A => calls::set_send_window(&mut self.a, window),
@@ -210,7 +237,7 @@ impl Pair {
     }
 
     fn set_receive_window(&mut self, who: End, window: VarInt) -> Result<Reply, PairError>
-        ensures { Next (pair_view self.old) (Step.SetReceiveWindow who window) result (pair_view self.new) }
+        ensures { NextTaken (pair_view self.old) (Step.SetReceiveWindow who window) result (pair_view self.new) }
     {
         match who {
             End::A => calls::set_receive_window(&mut self.a, window),
@@ -219,7 +246,7 @@ impl Pair {
     }
 
     fn set_max_concurrent(&mut self, who: End, dir: Dir, count: VarInt) -> Result<Reply, PairError>
-        ensures { Next (pair_view self.old) (Step.SetMaxConcurrent who dir count) result (pair_view self.new) }
+        ensures { NextTaken (pair_view self.old) (Step.SetMaxConcurrent who dir count) result (pair_view self.new) }
     {
         match who {
             End::A => calls::set_max_concurrent(&mut self.a, dir, count),
@@ -228,7 +255,7 @@ impl Pair {
     }
 
     fn poll(&mut self, who: End) -> Result<Reply, PairError>
-        ensures { Next (pair_view self.old) (Step.Poll who) result (pair_view self.new) }
+        ensures { NextTaken (pair_view self.old) (Step.Poll who) result (pair_view self.new) }
     {
         match who {
             End::A => calls::poll(&mut self.a),
@@ -237,7 +264,7 @@ impl Pair {
     }
 
     fn emit(&mut self, who: End, max_size: usize, fair: bool) -> Result<Reply, PairError>
-        ensures { Next (pair_view self.old) (Step.Emit who max_size fair) result (pair_view self.new) }
+        ensures { NextTaken (pair_view self.old) (Step.Emit who max_size fair) result (pair_view self.new) }
     {
         self.sent.reserve(1)?;
         let number = self.sent.len();
@@ -267,7 +294,7 @@ impl Pair {
     }
 
     fn deliver(&mut self, payload: usize, index: usize) -> Result<Reply, PairError>
-        ensures { Next (pair_view self.old) (Step.Deliver payload index) result (pair_view self.new) }
+        ensures { NextTaken (pair_view self.old) (Step.Deliver payload index) result (pair_view self.new) }
     {
         let handed = match frame_at(&mut self.sent, self.alloc, payload, index) {
             Ok(found) => found,
@@ -289,7 +316,7 @@ impl Pair {
     }
 
     fn lose(&mut self, payload: usize) -> Result<Reply, PairError>
-        ensures { Next (pair_view self.old) (Step.Lose payload) result (pair_view self.new) }
+        ensures { NextTaken (pair_view self.old) (Step.Lose payload) result (pair_view self.new) }
     {
         let (writer, rest) = match rest_at(&mut self.sent, payload, Report::Lost) {
             Ok(taken) => taken,
@@ -310,7 +337,7 @@ impl Pair {
     }
 
     fn ack(&mut self, payload: usize) -> Result<Reply, PairError>
-        ensures { Next (pair_view self.old) (Step.Ack payload) result (pair_view self.new) }
+        ensures { NextTaken (pair_view self.old) (Step.Ack payload) result (pair_view self.new) }
     {
         let (writer, rest) = match rest_at(&mut self.sent, payload, Report::Acknowledged) {
             Ok(taken) => taken,
@@ -320,9 +347,57 @@ impl Pair {
         settle(&mut self.sent, payload, Report::Acknowledged, answer)
     }
 
+    // The server accepts what the client sent early.
+    fn early_accept(&mut self) -> Result<Reply, PairError>
+        ensures { NextTaken (pair_view self.old) Step.EarlyAccept result (pair_view self.new) }
+    {
+        let Some(limits) = self.waits else {
+            return Err(PairError::Decided);
+        };
+        if !limits.are_within() {
+            return Err(PairError::LimitsBelow);
+        }
+        self.a.set_params(&limits.others)?;
+        self.waits = None;
+        Ok(Reply::Done)
+    }
+
+    // The server rejects it.
+    fn early_reject(&mut self) -> Result<Reply, PairError>
+        ensures { NextTaken (pair_view self.old) Step.EarlyReject result (pair_view self.new) }
+    {
+        let Some(limits) = self.waits else {
+            return Err(PairError::Decided);
+        };
+        self.a.reject_early(&limits.others);
+        leave_all(self.alloc, &mut self.sent);
+        self.waits = None;
+        Ok(Reply::Done)
+    }
+
+    // Whether nothing is to be decided.
+    fn is_decided(&self) -> bool
+        ensures { result ≡ is_none (pair_view self.now).waits }
+    {
+        self.waits.is_none()
+    }
+
+    // The server asks the client to begin again.
+    fn retry(&mut self) -> Result<Reply, PairError>
+        ensures { NextTaken (pair_view self.old) Step.Retry result (pair_view self.new) }
+    {
+        if self.is_decided() {
+            return Err(PairError::Decided);
+        }
+        let pending = with_all_noted(self.a.pending(), &self.sent)?;
+        self.a.send_again(pending)?;
+        leave_all(self.alloc, &mut self.sent);
+        Ok(Reply::Done)
+    }
+
     // One step, by its kind.
-    fn dispatch(&mut self, step: Step) -> Result<Reply, PairError>
-        ensures { Next (pair_view self.old) step result (pair_view self.new) }
+    pub(crate) fn dispatch(&mut self, step: Step) -> Result<Reply, PairError>
+        ensures { NextTaken (pair_view self.old) step result (pair_view self.new) }
     {
         match step {
             Step::Open { who, dir } => self.open(who, dir),
@@ -353,35 +428,62 @@ impl Pair {
             Step::Deliver { payload, frame } => self.deliver(payload, frame),
             Step::Lose { payload } => self.lose(payload),
             Step::Ack { payload } => self.ack(payload),
+            Step::EarlyAccept => self.early_accept(),
+            Step::EarlyReject => self.early_reject(),
+            Step::Retry => self.retry(),
         }
     }
 
     /// Two ends that have sent nothing.
     pub fn new(alloc: Global, a: Config, b: Config) -> Result<Pair, OutOfMemory>
-        ensures { IfOk result (λ pair. PairFrom a b [] (pair_view pair)) }
+        ensures { IfOk result (λ pair. PairFrom (at_once a b) [] (pair_view pair)) }
     {
-        Ok(Pair {
-            a: end_of(alloc, Side::Client, &a, &b)?,
-            b: end_of(alloc, Side::Server, &b, &a)?,
-            sent: Vec::new(alloc),
-            alloc,
-        })
+        made(alloc, &a, &b, &limits_of(Side::Server, &b), None)
+    }
+
+    /// Two ends that have sent nothing, of which the client is to send before the handshake is done, by limits of the
+    /// server that it remembers (RFC 9000 section 7.4.1). Until it is decided whether the server takes that
+    /// ([`Step::EarlyAccept`], [`Step::EarlyReject`]), the server does nothing and no frame is delivered. No count is above
+    /// 2^60.
+    pub fn new_early(
+        alloc: Global,
+        a: Config,
+        b: Config,
+        remembered: PeerLimits,
+    ) -> Result<Pair, OutOfMemory>
+        requires few_bi { remembered.initial_max_streams_bidi ≤ 2 ^ 60 }
+        requires few_uni { remembered.initial_max_streams_uni ≤ 2 ^ 60 }
+        ensures { IfOk result (λ pair. PairFrom (record { a = a; b = b; early = Some remembered }) [] (pair_view pair)) }
+    {
+        let others = limits_of(Side::Server, &b);
+        let waits = EarlyLimits { remembered, others };
+        made(alloc, &a, &b, &remembered, Some(waits))
+    }
+
+    // Whether a step has to wait until it is decided what becomes of what the client sends early.
+    fn must_wait(&self, step: &Step) -> bool
+        ensures { result ≡ (is_some (pair_view self.now).waits && needs_decision step.now) }
+    {
+        self.waits.is_some() && needs_decision(step)
     }
 
     /// One step. A refused one changes nothing, but for what [`PairError::OutOfMemory`] says.
     pub fn step(&mut self, step: Step) -> Result<Reply, PairError>
         ensures next { Next (pair_view self.old) step result (pair_view self.new) }
-        ensures from { (a b : Config) (h : History) → PairFrom a b h (pair_view self.old) → PairFrom a b (h ++ (step, result) ∷ []) (pair_view self.new) }
-        ensures headline { (a b : Config) (h : History) → PairFrom a b h (pair_view self.old) → Headline (past_of (h ++ (step, result) ∷ [])) (pair_view self.new).sent }
-        ensures honest { (a b : Config) (h : History) → PairFrom a b h (pair_view self.old) → AreHonest (past_of (h ++ (step, result) ∷ [])) (pair_view self.new) }
-        ensures refused { (a b : Config) (h : History) → PairFrom a b h (pair_view self.old) → IsRefusedSo (past_of h) (pair_view self.old).sent step result }
+        ensures from { (s : Beginning) (h : History) → PairFrom s h (pair_view self.old) → PairFrom s (h ++ (step, result) ∷ []) (pair_view self.new) }
+        ensures headline { (s : Beginning) (h : History) → PairFrom s h (pair_view self.old) → Headline (past_of (h ++ (step, result) ∷ [])) (pair_view self.new).sent }
+        ensures honest { (s : Beginning) (h : History) → PairFrom s h (pair_view self.old) → AreHonest (past_of (h ++ (step, result) ∷ [])) (pair_view self.new) }
+        ensures refused { (s : Beginning) (h : History) → PairFrom s h (pair_view self.old) → IsRefusedSo (waits_from (waits_first s) h) (past_of h) (pair_view self.old).sent step result }
         ensures unchanged { IsRefused result → pair_view self.new ≡ pair_view self.old }
-        ensures unrefused { (a b : Config) (h : History) → PairFrom a b h (pair_view self.old) → RefusesNoFrame (past_of h) (pair_view self.old).sent step result (pair_view self.new) }
-        ensures readable { (a b : Config) (h : History) → PairFrom a b h (pair_view self.old) → WithholdsNothing (past_of h) (pair_view self.old).sent step result }
-        ensures drained { (a b : Config) (h : History) → PairFrom a b h (pair_view self.old) → Drains (past_of h) (pair_view self.old).sent step result }
-        ensures due { (a b : Config) (h : History) → PairFrom a b h (pair_view self.old) → AsksFor (pair_view self.old) step result (pair_view self.new) }
-        ensures not_withheld { (a b : Config) (h : History) (led : PairFrom a b h (pair_view self.old)) → NotWithheld a b (sendings_of led) step result (pair_view self.new).sent }
+        ensures unrefused { (s : Beginning) (h : History) → PairFrom s h (pair_view self.old) → RefusesNoFrame (past_of h) (pair_view self.old).sent step result (pair_view self.new) }
+        ensures readable { (s : Beginning) (h : History) → PairFrom s h (pair_view self.old) → WithholdsNothing (past_of h) (pair_view self.old).sent step result }
+        ensures drained { (s : Beginning) (h : History) → PairFrom s h (pair_view self.old) → Drains (past_of h) (pair_view self.old).sent step result }
+        ensures due { (s : Beginning) (h : History) → PairFrom s h (pair_view self.old) → AsksFor (pair_view self.old) step result (pair_view self.new) }
+        ensures not_withheld { (s : Beginning) (h : History) (led : PairFrom s h (pair_view self.old)) → PermitsAll led step result (pair_view self.new).sent }
     {
+        if self.must_wait(&step) {
+            return Err(PairError::Undecided);
+        }
         self.dispatch(step)
     }
 
@@ -389,17 +491,17 @@ impl Pair {
     pub fn run(&mut self, steps: Vec<Step>) -> Result<Vec<Result<Reply, PairError>>, OutOfMemory>
         ensures count { IfOk result (λ replies. length replies.items ≡ length steps.items) }
         ensures next { IfOk result (λ replies. TakesSteps (pair_view self.old) (zip steps.items replies.items) (pair_view self.new)) }
-        ensures from { IfOk result (λ replies. (a b : Config) (h : History) → PairFrom a b h (pair_view self.old) → PairFrom a b (h ++ zip steps.items replies.items) (pair_view self.new)) }
-        ensures headline { IfOk result (λ replies. (a b : Config) (h : History) → PairFrom a b h (pair_view self.old) → Headline (past_of (h ++ zip steps.items replies.items)) (pair_view self.new).sent) }
-        ensures honest { IfOk result (λ replies. (a b : Config) (h : History) → PairFrom a b h (pair_view self.old) → AreHonest (past_of (h ++ zip steps.items replies.items)) (pair_view self.new)) }
-        ensures refused { IfOk result (λ replies. (a b : Config) (h : History) → PairFrom a b h (pair_view self.old) → StepByStep (Behind IsRefusedSo h) (pair_view self.old) (zip steps.items replies.items) (pair_view self.new)) }
-        ensures throughout { IfOk result (λ replies. (a b : Config) (h : History) → PairFrom a b h (pair_view self.old) → StepByStep (Throughout IsTrueOf h) (pair_view self.old) (zip steps.items replies.items) (pair_view self.new)) }
+        ensures from { IfOk result (λ replies. (s : Beginning) (h : History) → PairFrom s h (pair_view self.old) → PairFrom s (h ++ zip steps.items replies.items) (pair_view self.new)) }
+        ensures headline { IfOk result (λ replies. (s : Beginning) (h : History) → PairFrom s h (pair_view self.old) → Headline (past_of (h ++ zip steps.items replies.items)) (pair_view self.new).sent) }
+        ensures honest { IfOk result (λ replies. (s : Beginning) (h : History) → PairFrom s h (pair_view self.old) → AreHonest (past_of (h ++ zip steps.items replies.items)) (pair_view self.new)) }
+        ensures refused { IfOk result (λ replies. (s : Beginning) (h : History) → PairFrom s h (pair_view self.old) → StepByStep (BehindEarly IsRefusedSo s h) (pair_view self.old) (zip steps.items replies.items) (pair_view self.new)) }
+        ensures throughout { IfOk result (λ replies. (s : Beginning) (h : History) → PairFrom s h (pair_view self.old) → StepByStep (Throughout IsTrueOf h) (pair_view self.old) (zip steps.items replies.items) (pair_view self.new)) }
         ensures unchanged { IfOk result (λ replies. StepByStep StaysIfRefused (pair_view self.old) (zip steps.items replies.items) (pair_view self.new)) }
-        ensures unrefused { IfOk result (λ replies. (a b : Config) (h : History) → PairFrom a b h (pair_view self.old) → StepByStep (Around RefusesNoFrame h) (pair_view self.old) (zip steps.items replies.items) (pair_view self.new)) }
-        ensures readable { IfOk result (λ replies. (a b : Config) (h : History) → PairFrom a b h (pair_view self.old) → StepByStep (Behind WithholdsNothing h) (pair_view self.old) (zip steps.items replies.items) (pair_view self.new)) }
-        ensures drained { IfOk result (λ replies. (a b : Config) (h : History) → PairFrom a b h (pair_view self.old) → StepByStep (Behind Drains h) (pair_view self.old) (zip steps.items replies.items) (pair_view self.new)) }
-        ensures due { IfOk result (λ replies. (a b : Config) (h : History) → PairFrom a b h (pair_view self.old) → StepByStep AsksOf (pair_view self.old) (zip steps.items replies.items) (pair_view self.new)) }
-        ensures not_withheld { IfOk result (λ replies. (a b : Config) (h : History) → PairFrom a b h (pair_view self.old) → StepByStep (WithholdsNone a b h) (pair_view self.old) (zip steps.items replies.items) (pair_view self.new)) }
+        ensures unrefused { IfOk result (λ replies. (s : Beginning) (h : History) → PairFrom s h (pair_view self.old) → StepByStep (Around RefusesNoFrame h) (pair_view self.old) (zip steps.items replies.items) (pair_view self.new)) }
+        ensures readable { IfOk result (λ replies. (s : Beginning) (h : History) → PairFrom s h (pair_view self.old) → StepByStep (Behind WithholdsNothing h) (pair_view self.old) (zip steps.items replies.items) (pair_view self.new)) }
+        ensures drained { IfOk result (λ replies. (s : Beginning) (h : History) → PairFrom s h (pair_view self.old) → StepByStep (Behind Drains h) (pair_view self.old) (zip steps.items replies.items) (pair_view self.new)) }
+        ensures due { IfOk result (λ replies. (s : Beginning) (h : History) → PairFrom s h (pair_view self.old) → StepByStep AsksOf (pair_view self.old) (zip steps.items replies.items) (pair_view self.new)) }
+        ensures not_withheld { IfOk result (λ replies. (s : Beginning) (h : History) → PairFrom s h (pair_view self.old) → StepByStep (WithholdsNone s h) (pair_view self.old) (zip steps.items replies.items) (pair_view self.new)) }
         ensures err { OnErr result (pair_view self.new ≡ pair_view self.old) }
     {
         let mut replies = Vec::with_capacity(self.alloc, steps.len())?;
@@ -413,13 +515,16 @@ impl Pair {
         Ok(replies)
     }
 
-    /// The bytes of a payload, none where no payload has the number.
+    /// The bytes of a payload, none where no payload has the number, or it left the network.
     pub fn payload(&self, number: usize) -> Option<&[u8]>
         ensures bytes { IfSome result (λ bytes. option_map (λ sent. sent.text.bytes) (slice_get (pair_view self.now).sent number) ≡ Some bytes.now) }
-        ensures none { IfNone result (length (pair_view self.now).sent ≤ number) }
+        ensures there { IfSome result (λ bytes. IsThere (pair_view self.now).sent number) }
+        ensures none { IfNone result (IsNoPayload (pair_view self.now).sent number) }
     {
-        let sent = self.sent.get(number)?;
-        Some(sent.text.bytes())
+        if is_no_payload(&self.sent, number) {
+            return None;
+        }
+        Some(self.sent[number].text.bytes())
     }
 
     /// The streams of an end.

@@ -1,6 +1,7 @@
 //! Frames by the number of their payload and their place there, and what is unreported of payloads.
 
-ghost use Rattle.std.specs.Prelude.{◌≡◌, ◌⊎◌, IfOk, IfErr, Err};
+ghost use Rattle.std.specs.Prelude.{◌≡◌, ◌⊎◌, IfOk, IfErr, Err, true, false};
+ghost use Rattle.quic_pair.specs.Gone.{IsNoPayload, IsThere};
 ghost use Rattle.quic_pair.specs.Places.{FindsFrame, FailsToFind, IsReadyAt, IsHandedFrame, MarksIf};
 ghost use Rattle.quic_pair.specs.Payloads.{LacksFrame};
 ghost use Rattle.quic_pair.specs.Replies.{report_reply};
@@ -27,6 +28,17 @@ pub(crate) struct HandedFrame {
     pub(crate) len: usize,
 }
 
+// Whether no payload has a number: none was sent, or it left the network.
+pub(crate) fn is_no_payload(sent: &[Sent], payload: usize) -> bool
+    ensures yes { result ≡ true → IsNoPayload sent.now payload }
+    ensures no { result ≡ false → IsThere sent.now payload }
+{
+    match sent.get(payload) {
+        Some(whole) => whole.gone,
+        None => true,
+    }
+}
+
 // The frame at a place of a payload.
 pub(crate) fn frame_at(
     sent: &mut Vec<Sent>,
@@ -38,7 +50,7 @@ pub(crate) fn frame_at(
     ensures found { IfOk result (FindsFrame sent.old.items payload index) }
     ensures fails { IfErr result (FailsToFind sent.old.items payload index) }
 {
-    if payload >= sent.len() {
+    if is_no_payload(sent, payload) {
         return Err(PairError::NoSuchPayload);
     }
     frame_of(&mut sent[payload], alloc, index)
@@ -86,7 +98,7 @@ pub(crate) fn rest_at(
     ensures same { IfErr result (λ error. sent.new.items ≡ sent.old.items) }
     ensures refused { IfErr result (FailsToTake sent.old.items payload kind) }
 {
-    if payload >= sent.len() {
+    if is_no_payload(sent, payload) {
         return Err(PairError::NoSuchPayload);
     }
     rest_of(&mut sent[payload], kind)

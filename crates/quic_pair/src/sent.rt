@@ -3,6 +3,7 @@
 ghost use Rattle.std.specs.Prelude.{◌≡◌, ◌≤◌, ◌⊎◌, [], length, true, false, slice_get, IfOk, IfErr, OnOk, OnErr, Err, Some, None};
 ghost use Rattle.quic_endpoint.specs.Receiving.{data_length};
 ghost use Rattle.quic_pair.specs.Payloads.{AreRead, IsFrameAt, LacksFrame, IsReadyToMark, IsMarked, AreAllAccepted, LacksAccepted, AreSet, LacksMark, AreFreshMarks, has_data};
+ghost use Rattle.quic_pair.specs.Gone.{IsGone};
 ghost use Rattle.quic_pair.specs.Reports.{TakesRest, RefusesReport};
 
 use crate::unsettled::{Report, Unsettled};
@@ -22,17 +23,29 @@ pub(crate) struct Sent {
     pub(crate) writer: End,
     pub(crate) unsettled: Unsettled,
     pub(crate) text: SentText,
+    // It left the network.
+    pub(crate) gone: bool,
 }
 
 impl Sent {
     pub(crate) fn new(alloc: Global, writer: End, payload: Payload) -> Self
-        ensures { result ≡ record { writer = writer; unsettled = record { begun = None; rest = Some payload.sent }; text = record { bytes = payload.bytes.items; accepted = [] } } }
+        ensures { result ≡ record { writer = writer; unsettled = record { begun = None; rest = Some payload.sent }; text = record { bytes = payload.bytes.items; accepted = [] }; gone = false } }
     {
         Sent {
             writer,
             unsettled: Unsettled::new(payload.sent),
             text: SentText::new(alloc, payload.bytes),
+            gone: false,
         }
+    }
+
+    // It leaves the network, and nothing of it is kept.
+    pub(crate) fn leave(&mut self, alloc: Global)
+        ensures { IsGone self.new }
+    {
+        self.gone = true;
+        self.unsettled.leave();
+        self.text = SentText::new(alloc, Vec::new(alloc));
     }
 
     // Takes what is unreported out, for a report of a kind.

@@ -1,19 +1,20 @@
 //! A network that is fair from now on completes what was begun.
 
-ghost use Rattle.std.specs.Prelude.{◌≡◌, ◌≤◌, ◌<◌, IfSome, IfNone, OnOk, OnErr, List, [], ◌∷◌, length, vec_len, vec_capacity, ◌++◌};
-ghost use Rattle.quic_steps.specs.declared.steps.Config.{Config};
+ghost use Rattle.std.specs.Prelude.{◌≡◌, is_some, true, ◌⊎◌, ◌≤◌, ◌<◌, IfSome, IfNone, IfErr, None, Err, OnOk, OnErr, List, [], ◌∷◌, length, vec_len, vec_capacity, ◌++◌};
 ghost use Rattle.quic_pair.specs.State.{pair_view};
-ghost use Rattle.quic_pair.specs.Runs.{TakesSteps, StepByStep, Behind, Around, Throughout, IsTrueOf, StaysIfRefused, AsksOf, WithholdsNone, sendings_of};
+ghost use Rattle.quic_pair.specs.Steps.{NextTaken};
+ghost use Rattle.quic_pair.specs.Runs.{TakesSteps, StepsBy, StepByStep, Behind, BehindEarly, Around, Throughout, IsTrueOf, StaysIfRefused, AsksOf, WithholdsNone, sendings_of};
 ghost use Rattle.quic_pair.specs.History.{History, past_of};
-ghost use Rattle.quic_pair.specs.From.{PairFrom};
+ghost use Rattle.quic_pair.specs.From.{Beginning, PairFrom};
+ghost use Rattle.quic_pair.specs.Tale.{Told};
 ghost use Rattle.quic_pair.specs.Headline.{Headline};
 ghost use Rattle.quic_pair.specs.Honest.{AreHonest};
 ghost use Rattle.quic_pair.specs.Refused.{IsRefusedSo};
 ghost use Rattle.quic_pair.specs.Unrefused.{RefusesNoFrame};
 ghost use Rattle.quic_pair.specs.Readable.{WithholdsNothing};
 ghost use Rattle.quic_pair.specs.Law.{Drains};
-ghost use Rattle.quic_pair.specs.Settling.{AreSettledIn, IsSoughtFor, IsSettledAt, is_quiet_at, IsSettling, IsCutOff, TakesPhaseOrNone, IsAllReported, AreIdle, LeavesNoRest};
-ghost use Rattle.quic_pair.specs.Completed.{HaveArrived, HaveBeenRead, AreAllAcked};
+ghost use Rattle.quic_pair.specs.Settling.{AreSettledIn, IsSoughtFor, IsSettledAt, is_quiet_at, IsSettling, IsCutOff, IsUndecided, TakesPhaseOrNone, IsAllReported, AreIdle, LeavesNoRest};
+ghost use Rattle.quic_pair.specs.Completed.{HaveArrived, HaveBeenRead, HaveBeenTold, AreAllAcked, AreStopsTold};
 
 use crate::pair::Pair;
 use crate::phase::{Phase, behind_reports, going_of};
@@ -28,43 +29,55 @@ impl Pair {
     /// Takes the steps of a network that is fair from now on, with two applications that accept, read and poll all that
     /// comes, until neither end has something to send and every payload is settled. They accept and read at first, and then
     /// only behind two payloads of which one had a STREAM or a RESET_STREAM frame. Answers these steps with their
-    /// replies. Then all that was written on streams that were not given up arrived, and was read unless it was stopped.
+    /// replies. Then all that was written on streams that were not given up arrived, and was read unless it was stopped;
+    /// and of each of them that was finished its writer was told `Finished`.
     /// Where memory is wanting, in a step or for the list, no more steps are taken, and an error stands beside those
-    /// that were.
-    pub fn settle(&mut self) -> (Vec<StepTaken>, Result<(), OutOfMemory>)
+    /// that were. While it is not decided whether the server takes what the client sends early, none is taken, and the
+    /// error is [`PairError::Undecided`].
+    pub fn settle(&mut self) -> (Vec<StepTaken>, Result<(), PairError>)
         ensures next { TakesSteps (pair_view self.old) result.0.items (pair_view self.new) }
-        ensures from { (a b : Config) (h : History) → PairFrom a b h (pair_view self.old) → PairFrom a b (h ++ result.0.items) (pair_view self.new) }
-        ensures headline { (a b : Config) (h : History) → PairFrom a b h (pair_view self.old) → Headline (past_of (h ++ result.0.items)) (pair_view self.new).sent }
-        ensures honest { (a b : Config) (h : History) → PairFrom a b h (pair_view self.old) → AreHonest (past_of (h ++ result.0.items)) (pair_view self.new) }
-        ensures refused { (a b : Config) (h : History) → PairFrom a b h (pair_view self.old) → StepByStep (Behind IsRefusedSo h) (pair_view self.old) result.0.items (pair_view self.new) }
-        ensures throughout { (a b : Config) (h : History) → PairFrom a b h (pair_view self.old) → StepByStep (Throughout IsTrueOf h) (pair_view self.old) result.0.items (pair_view self.new) }
+        ensures from { (s : Beginning) (h : History) → PairFrom s h (pair_view self.old) → PairFrom s (h ++ result.0.items) (pair_view self.new) }
+        ensures headline { (s : Beginning) (h : History) → PairFrom s h (pair_view self.old) → Headline (past_of (h ++ result.0.items)) (pair_view self.new).sent }
+        ensures honest { (s : Beginning) (h : History) → PairFrom s h (pair_view self.old) → AreHonest (past_of (h ++ result.0.items)) (pair_view self.new) }
+        ensures refused { (s : Beginning) (h : History) → PairFrom s h (pair_view self.old) → StepByStep (BehindEarly IsRefusedSo s h) (pair_view self.old) result.0.items (pair_view self.new) }
+        ensures throughout { (s : Beginning) (h : History) → PairFrom s h (pair_view self.old) → StepByStep (Throughout IsTrueOf h) (pair_view self.old) result.0.items (pair_view self.new) }
         ensures unchanged { StepByStep StaysIfRefused (pair_view self.old) result.0.items (pair_view self.new) }
-        ensures unrefused { (a b : Config) (h : History) → PairFrom a b h (pair_view self.old) → StepByStep (Around RefusesNoFrame h) (pair_view self.old) result.0.items (pair_view self.new) }
-        ensures readable { (a b : Config) (h : History) → PairFrom a b h (pair_view self.old) → StepByStep (Behind WithholdsNothing h) (pair_view self.old) result.0.items (pair_view self.new) }
-        ensures drained { (a b : Config) (h : History) → PairFrom a b h (pair_view self.old) → StepByStep (Behind Drains h) (pair_view self.old) result.0.items (pair_view self.new) }
-        ensures due { (a b : Config) (h : History) → PairFrom a b h (pair_view self.old) → StepByStep AsksOf (pair_view self.old) result.0.items (pair_view self.new) }
-        ensures not_withheld { (a b : Config) (h : History) → PairFrom a b h (pair_view self.old) → StepByStep (WithholdsNone a b h) (pair_view self.old) result.0.items (pair_view self.new) }
+        ensures unrefused { (s : Beginning) (h : History) → PairFrom s h (pair_view self.old) → StepByStep (Around RefusesNoFrame h) (pair_view self.old) result.0.items (pair_view self.new) }
+        ensures readable { (s : Beginning) (h : History) → PairFrom s h (pair_view self.old) → StepByStep (Behind WithholdsNothing h) (pair_view self.old) result.0.items (pair_view self.new) }
+        ensures drained { (s : Beginning) (h : History) → PairFrom s h (pair_view self.old) → StepByStep (Behind Drains h) (pair_view self.old) result.0.items (pair_view self.new) }
+        ensures due { (s : Beginning) (h : History) → PairFrom s h (pair_view self.old) → StepByStep AsksOf (pair_view self.old) result.0.items (pair_view self.new) }
+        ensures not_withheld { (s : Beginning) (h : History) → PairFrom s h (pair_view self.old) → StepByStep (WithholdsNone s h) (pair_view self.old) result.0.items (pair_view self.new) }
         ensures order { OnOk result.1 (IsSettling (pair_view self.old) result.0.items (pair_view self.new)) }
-        ensures cut_off { OnErr result.1 (IsCutOff (pair_view self.old) result.0.items (pair_view self.new)) }
-        ensures reported { OnOk result.1 ((a b : Config) (h : History) → PairFrom a b h (pair_view self.old) → IsAllReported (h ++ result.0.items) (pair_view self.new).sent) }
-        ensures idle { OnOk result.1 ((a b : Config) (h : History) → PairFrom a b h (pair_view self.old) → AreIdle (pair_view self.new)) }
-        ensures sent { OnOk result.1 ((a b : Config) (h : History) → PairFrom a b h (pair_view self.old) → (led : PairFrom a b (h ++ result.0.items) (pair_view self.new)) → LeavesNoRest a b (sendings_of led)) }
-        ensures acked { OnOk result.1 ((a b : Config) (h : History) → PairFrom a b h (pair_view self.old) → (led : PairFrom a b (h ++ result.0.items) (pair_view self.new)) → AreAllAcked a b (sendings_of led)) }
-        ensures arrived { OnOk result.1 ((a b : Config) (h : History) → PairFrom a b h (pair_view self.old) → HaveArrived (past_of (h ++ result.0.items)) (pair_view self.new).sent) }
-        ensures read { OnOk result.1 ((a b : Config) (h : History) → PairFrom a b h (pair_view self.old) → HaveBeenRead (past_of (h ++ result.0.items))) }
+        ensures cut_off { result.1 ≡ Err PairError.OutOfMemory → IsCutOff (pair_view self.old) result.0.items (pair_view self.new) }
+        ensures waiting { is_some (pair_view self.old).waits ≡ true → result.1 ≡ Err PairError.Undecided }
+        ensures undecided { result.1 ≡ Err PairError.Undecided → IsUndecided (pair_view self.old) result.0.items (pair_view self.new) }
+        ensures decided { OnOk result.1 ((pair_view self.old).waits ≡ None) }
+        ensures only { IfErr result.1 (λ e. (e ≡ PairError.OutOfMemory) ⊎ (e ≡ PairError.Undecided)) }
+        ensures reported { OnOk result.1 ((s : Beginning) (h : History) → PairFrom s h (pair_view self.old) → IsAllReported (h ++ result.0.items) (pair_view self.new).sent) }
+        ensures idle { OnOk result.1 ((s : Beginning) (h : History) → PairFrom s h (pair_view self.old) → AreIdle (pair_view self.new)) }
+        ensures sent { OnOk result.1 ((s : Beginning) (h : History) → PairFrom s h (pair_view self.old) → (led : PairFrom s (h ++ result.0.items) (pair_view self.new)) → LeavesNoRest (Told s (sendings_of led))) }
+        ensures acked { OnOk result.1 ((s : Beginning) (h : History) → PairFrom s h (pair_view self.old) → (led : PairFrom s (h ++ result.0.items) (pair_view self.new)) → AreAllAcked (Told s (sendings_of led))) }
+        ensures arrived { OnOk result.1 ((s : Beginning) (h : History) → PairFrom s h (pair_view self.old) → HaveArrived (past_of (h ++ result.0.items)) (pair_view self.new).sent) }
+        ensures read { OnOk result.1 ((s : Beginning) (h : History) → PairFrom s h (pair_view self.old) → HaveBeenRead (past_of (h ++ result.0.items))) }
+        ensures told { OnOk result.1 ((s : Beginning) (h : History) → PairFrom s h (pair_view self.old) → HaveBeenTold (past_of (h ++ result.0.items))) }
+        ensures stops { OnOk result.1 ((s : Beginning) (h : History) → PairFrom s h (pair_view self.old) → (led : PairFrom s (h ++ result.0.items) (pair_view self.new)) → AreStopsTold (Told s (sendings_of led)) (past_of (h ++ result.0.items))) }
     {
         let mut taken = Vec::new(self.alloc);
-        let answer = self.settle_into(&mut taken);
-        (taken, answer)
+        if self.waits.is_some() {
+            return (taken, Err(PairError::Undecided));
+        }
+        match self.settle_into(&mut taken) {
+            Ok(()) => (taken, Ok(())),
+            Err(_) => (taken, Err(PairError::OutOfMemory)),
+        }
     }
 
     fn settle_into(&mut self, taken: &mut Vec<StepTaken>) -> Result<(), OutOfMemory>
         requires { taken.old.items ≡ [] }
-        ensures next { TakesSteps (pair_view self.old) taken.new.items (pair_view self.new) }
+        ensures next { StepsBy NextTaken (λ before between step reply after. Unit {0}) (pair_view self.old) taken.new.items (pair_view self.new) }
         ensures order { OnOk result (IsSettling (pair_view self.old) taken.new.items (pair_view self.new)) }
         ensures cut_off { OnErr result (IsCutOff (pair_view self.old) taken.new.items (pair_view self.new)) }
         ensures settled { OnOk result (AreSettledIn 0 (length (pair_view self.new).sent) (pair_view self.new).sent) }
-        ensures idle { OnOk result ((a b : Config) (h : History) → PairFrom a b h (pair_view self.old) → AreIdle (pair_view self.new)) }
     {
         let mut phase = Phase::Report(0, false);
         while let Some(next) = self.seek(phase) {
@@ -79,7 +92,7 @@ impl Pair {
     {
         taken.reserve(1)?;
         let sent = self.sent.len();
-        let reply = self.step(phase.step());
+        let reply = self.dispatch(phase.step());
         let going = going_of(&reply);
         note(taken, phase.step(), reply);
         match going {

@@ -1,11 +1,12 @@
 //! What is unreported of a payload that was sent.
 
-ghost use Rattle.std.specs.Prelude.{◌≡◌, ◌==◌, length, None, Some, is_none};
-ghost use Rattle.quic_retransmits.specs.Pending.{thin_view};
+ghost use Rattle.std.specs.Prelude.{◌≡◌, ◌==◌, length, None, Some, is_none, option_map};
+ghost use Rattle.quic_retransmits.specs.Pending.{thin_view, pending_view};
+ghost use Rattle.quic_pair.specs.Gone.{noted_at};
 ghost use Rattle.quic_streams.specs.Settling.{resets_of};
 ghost use Rattle.quic_pair.specs.Unsettled.{needs_acceptance, goes_on, may_report, is_quiet};
 
-use quic_retransmits::ThinRetransmits;
+use quic_retransmits::{Retransmits, ThinRetransmits};
 use quic_streams::SentPayload;
 
 /// What becomes of a payload.
@@ -89,6 +90,24 @@ impl Unsettled {
         ensures left { self.new ≡ record self.old { rest = None } }
     {
         self.rest.take()
+    }
+
+    // What was noted of the frames beside STREAM, if something is unreported.
+    pub(crate) fn noted(&self) -> Option<&Retransmits>
+        ensures { option_map (λ r. pending_view r.now) result ≡ noted_at self.now.rest }
+    {
+        match &self.rest {
+            Some(rest) => rest.control.get(),
+            None => None,
+        }
+    }
+
+    // Nothing is unreported any more.
+    pub(crate) fn leave(&mut self)
+        ensures { self.new ≡ record { begun = None; rest = None } }
+    {
+        self.begun = None;
+        self.rest = None;
     }
 
     // A report was begun, and this came back of it.

@@ -133,6 +133,16 @@ pub enum Step {
     Ack {
         payload: usize,
     },
+    /// The server accepts what the client sent before the handshake was done, 0-RTT (RFC 9000
+    /// section 7.4.1): the client is given the server's limits, none of which may be below the one
+    /// it remembered.
+    EarlyAccept,
+    /// The server rejects what the client sent before the handshake was done: all payloads leave the
+    /// network, and the client's streams begin anew, with the server's limits.
+    EarlyReject,
+    /// The server asks the client to begin again (RFC 9000 section 17.2.5): all payloads leave the
+    /// network, and all that the client sent is to be sent again.
+    Retry,
 }
 
 /// How a read ended.
@@ -205,6 +215,18 @@ pub enum PairError {
     /// The payload was reported lost or acknowledged, or the other of the two was begun.
     #[error("the payload is already settled")]
     AlreadySettled,
+    /// A limit that the client remembered is above the one that the server gives (RFC 9000 section
+    /// 7.4.1).
+    #[error("a limit is below the one that was remembered")]
+    LimitsBelow,
+    /// Whether the server takes what the client sent before the handshake was done is not decided:
+    /// until then the server does nothing, and nothing is delivered.
+    #[error("the early data is not decided")]
+    Undecided,
+    /// It is decided whether the server takes what the client sent before the handshake was done, or
+    /// the pair was made without such data.
+    #[error("the early data is decided")]
+    Decided,
 }
 
 impl PairError {
@@ -221,6 +243,9 @@ impl PairError {
             PairError::UnknownId => 4,
             PairError::OutOfMemory => 5,
             PairError::AlreadySettled => 6,
+            PairError::LimitsBelow => 7,
+            PairError::Undecided => 8,
+            PairError::Decided => 9,
         }
     }
 }

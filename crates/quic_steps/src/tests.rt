@@ -15,6 +15,13 @@ fn each_error_has_its_number_and_its_text(rt: HostRuntime) -> Result<(), Fail> {
             6,
             "the payload is already settled",
         ),
+        (
+            PairError::LimitsBelow,
+            7,
+            "a limit is below the one that was remembered",
+        ),
+        (PairError::Undecided, 8, "the early data is not decided"),
+        (PairError::Decided, 9, "the early data is decided"),
     ] {
         let shown = format!(in rt.alloc(); "{error}")?;
         assert_eq!(rt; shown.as_str(), text);

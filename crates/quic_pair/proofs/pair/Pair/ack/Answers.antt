@@ -10,16 +10,16 @@ pub returns-in-Err : goal.returns-in-Err
 unfolding pair_view
 returns-in-Err c =
     let old : PairState = pair_view c.args.self.now in
-    let new : PairState = record { a = old.a; b = old.b; sent = c.rest_at.new.sent.items } in
-    report-refused Acknowledged AcksPayloadAt old new c.args.payload c.in-Err.error (rw c.in-Err.is at c.rest_at.ensures.refused) (ap (λ l. record { a = old.a; b = old.b; sent = l }) (rw c.in-Err.is at c.rest_at.ensures.same))
+    let new : PairState = record old { sent = c.rest_at.new.sent.items } in
+    report-refused Acknowledged AcksPayloadAt old new c.args.payload c.in-Err.error (rw c.in-Err.is at c.rest_at.ensures.refused) (ap (λ l. record old { sent = l }) (rw c.in-Err.is at c.rest_at.ensures.same))
 
 pub returns : goal.returns
 unfolding pair_view
 returns c =
     let old : PairState = pair_view c.args.self.now in
-    let taken : PairState = record { a = old.a; b = old.b; sent = c.rest_at.new.sent.items } in
+    let taken : PairState = record old { sent = c.rest_at.new.sent.items } in
     let mid : PairState = pair_view c.ack_on-answer.new.self in
-    let new : PairState = record { a = mid.a; b = mid.b; sent = c.settle.new.sent.items } in
+    let new : PairState = record mid { sent = c.settle.new.sent.items } in
     let t = rw c.in-Ok.is at c.rest_at.ensures.taken in
     let d = c.ack_on-answer.ensures in
     let kept : mid.sent ≡ taken.sent = ap (λ (k : PairState). k.sent) d.is ∙ sent-same taken c.in-Ok.taken.0 d.end in

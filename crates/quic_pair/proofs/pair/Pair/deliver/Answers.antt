@@ -9,15 +9,15 @@ pub returns-in-Err : goal.returns-in-Err
 unfolding pair_view
 returns-in-Err c =
     let old : PairState = pair_view c.args.self.now in
-    let new : PairState = record { a = old.a; b = old.b; sent = c.frame_at.new.sent.items } in
-    deliver-refused old new c.args.payload c.args.index c.in-Err.error (rw c.in-Err.is at c.frame_at.ensures.fails) (ap (λ l. record { a = old.a; b = old.b; sent = l }) c.frame_at.ensures.same)
+    let new : PairState = record old { sent = c.frame_at.new.sent.items } in
+    deliver-refused old new c.args.payload c.args.index c.in-Err.error (rw c.in-Err.is at c.frame_at.ensures.fails) (ap (λ l. record old { sent = l }) c.frame_at.ensures.same)
 
 pub returns : goal.returns
 unfolding pair_view
 returns c =
     let old : PairState = pair_view c.args.self.now in
     let mid : PairState = pair_view c.receive_on-answer.new.self in
-    let new : PairState = record { a = mid.a; b = mid.b; sent = c.mark_if.new.sent.items } in
+    let new : PairState = record mid { sent = c.mark_if.new.sent.items } in
     let h = c.in-Ok.found in
     let f = rw c.in-Ok.is at c.frame_at.ensures.found in
     let d : OnEnd (EndTakesFrame h.frame h.len c.receive_on-answer.result) old (peer h.writer) mid = rw c.frame_at.ensures.same at c.receive_on-answer.ensures in

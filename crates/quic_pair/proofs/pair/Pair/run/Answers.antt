@@ -6,14 +6,9 @@ use Rattle.quic_pair.specs.Refused.{IsRefusedSo}
 use Rattle.quic_pair.specs.Runs.{none}
 use Rattle.quic_pair.specs.Unrefused.{RefusesNoFrame}
 use Rattle.quic_pair.specs.Readable.{WithholdsNothing}
-use Rattle.quic_pair.proofs.Grown.{headline-from}
-use Rattle.quic_pair.proofs.Runs.{steps-more, from-steps, each-behind, each-around, each-asks, each-permits, each-after, each-stays}
-use Rattle.quic_pair.proofs.Unrefused.{unrefused-so}
-use Rattle.quic_pair.proofs.Drained.{drains-so}
+use Rattle.quic_pair.proofs.Leads.{headline-led, honest-led, refused-led, unrefused-led, readable-led, drains-led}
+use Rattle.quic_pair.proofs.Runs.{steps-more, from-steps, each-behind, each-early, each-around, each-asks, each-permits, each-after, each-stays}
 use Rattle.quic_pair.specs.Law.{Drains}
-use Rattle.quic_pair.proofs.Readable.{readable-so}
-use Rattle.quic_pair.proofs.Honest.{honest-from}
-use Rattle.quic_pair.proofs.RefusedSo.{refused-so}
 use Rattle.quic_pair.proofs.pair.Pair.run.Goals as goal
 
 pub loop-step-init : goal.loop-step-init
@@ -35,16 +30,16 @@ returns c =
     (record {
       count = sym c.loop-step.replies.ok.0 ∙ c.loop-step.invariant.count;
       next = c.loop-step.invariant.taken;
-      from = λ a b h f. from-steps f c.loop-step.invariant.taken;
-      headline = λ a b h f. headline-from (from-steps f c.loop-step.invariant.taken);
-      throughout = λ a b h f. each-after a b h _ _ _ f c.loop-step.invariant.taken;
+      from = λ s h f. from-steps f c.loop-step.invariant.taken;
+      headline = λ s h f. headline-led (from-steps f c.loop-step.invariant.taken);
+      throughout = λ s h f. each-after s h _ _ _ f c.loop-step.invariant.taken;
       unchanged = each-stays _ _ _ c.loop-step.invariant.taken;
-      unrefused = λ a b h f. each-around RefusesNoFrame unrefused-so a b h _ _ _ f c.loop-step.invariant.taken;
-      readable = λ a b h f. each-behind WithholdsNothing readable-so a b h _ _ _ f c.loop-step.invariant.taken;
-      honest = λ a b h f. honest-from (from-steps f c.loop-step.invariant.taken);
-      refused = λ a b h f. each-behind IsRefusedSo refused-so a b h _ _ _ f c.loop-step.invariant.taken;
-      drained = λ a b h f. each-behind Drains drains-so a b h _ _ _ f c.loop-step.invariant.taken;
-      due = λ a b h f. each-asks a b h _ _ _ f c.loop-step.invariant.taken;
-      not_withheld = λ a b h f. each-permits a b h _ _ _ f c.loop-step.invariant.taken;
+      unrefused = λ s h f. each-around RefusesNoFrame unrefused-led s h _ _ _ f c.loop-step.invariant.taken;
+      readable = λ s h f. each-behind WithholdsNothing readable-led s h _ _ _ f c.loop-step.invariant.taken;
+      honest = λ s h f. honest-led (from-steps f c.loop-step.invariant.taken);
+      refused = λ s h f. each-early IsRefusedSo refused-led s h _ _ _ f c.loop-step.invariant.taken;
+      drained = λ s h f. each-behind Drains drains-led s h _ _ _ f c.loop-step.invariant.taken;
+      due = λ s h f. each-asks s h _ _ _ f c.loop-step.invariant.taken;
+      not_withheld = λ s h f. each-permits s h _ _ _ f c.loop-step.invariant.taken;
       err = tt;
     }))

@@ -2,17 +2,17 @@ use Rattle.std.proofs.Common.{false, sym, subst}
 use Rattle.quic_pair.specs.declared.phase.Phase.TheVariants as phase
 use Rattle.quic_pair.specs.State.{pair_view}
 use Rattle.quic_pair.specs.History.{History}
-use Rattle.quic_pair.specs.Runs.{TakesSteps, none}
+use Rattle.quic_pair.specs.Runs.{none}
 use Rattle.quic_pair.specs.Settling.{FollowsPhases, none as follows_none}
-use Rattle.quic_pair.proofs.Settling.{steps-on, follows-on, ready-on, ready-sought, cut-off, on-err, idle-at}
+use Rattle.quic_pair.proofs.Settling.{GoesBy, steps-on, follows-on, cut-off, on-err}
 use Rattle.quic_pair.proofs.pair.Pair.settle_into.Goals as goal
 
 pub loop-next-init : goal.loop-next-init
 loop-next-init c =
     let v = pair_view c.args.self.now in
-    let P : History → Type 0 = λ l. TakesSteps v l v in
+    let P : History → Type 0 = λ l. GoesBy v l v in
     let Q : History → Type 0 = λ l. FollowsPhases v (phase.Report 0 false) l v (phase.Report 0 false) in
-    record { taken = subst P (sym c.requires) none; order = subst Q (sym c.requires) follows_none; ready = λ a b h f. tt }
+    record { taken = subst P (sym c.requires) none; order = subst Q (sym c.requires) follows_none }
 
 pub returns-in_err-phase-clause-next : goal.returns-in_err-phase-clause-next
 returns-in_err-phase-clause-next c = steps-on (pair_view c.args.self.now) (pair_view c.loop-next.self) c.loop-next.taken.items c.in-Some.next c.take.result (pair_view c.take.new.self) c.take.new.taken.items c.loop-next.invariant.taken c.take.ensures
@@ -26,10 +26,6 @@ pub loop-next-preserved : goal.loop-next-preserved
 loop-next-preserved c = record {
   taken = steps-on (pair_view c.args.self.now) (pair_view c.loop-next.self) c.loop-next.taken.items c.in-Some.next c.take.result (pair_view c.take.new.self) c.take.new.taken.items c.loop-next.invariant.taken c.take.ensures;
   order = follows-on (pair_view c.args.self.now) (pair_view c.loop-next.self) c.loop-next.taken.items c.loop-next.phase c.in-Some.next c.in_ok-phase.phase (pair_view c.take.new.self) c.take.new.taken.items c.loop-next.invariant.order c.in-Some.ensures.sought c.in_ok-phase.ensures;
-  ready = λ a b h f.
-      ready-on a b h (pair_view c.args.self.now) (pair_view c.loop-next.self) c.loop-next.taken.items c.in-Some.next c.in_ok-phase.phase (pair_view c.take.new.self) c.take.new.taken.items f c.loop-next.invariant.taken
-      (ready-sought c.loop-next.phase c.in-Some.next (pair_view c.loop-next.self) (c.loop-next.invariant.ready a b h f) c.in-Some.ensures.sought)
-      c.in_ok-phase.ensures;
 }
 
 pub returns : goal.returns
@@ -38,5 +34,4 @@ returns c = record {
   order = record { at = c.loop-next.phase; follows = c.loop-next.invariant.order; ended = c.in_default.ensures.none };
   cut_off = tt;
   settled = c.in_default.ensures.none.settled;
-  idle = λ a b h f. idle-at c.loop-next.phase (pair_view c.loop-next.self) (c.loop-next.invariant.ready a b h f) c.in_default.ensures.none;
 }

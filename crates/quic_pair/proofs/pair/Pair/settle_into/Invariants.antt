@@ -1,19 +1,14 @@
 use Rattle.std.proofs.Common.{false, ◌-◌, ◌^◌, length}
-use Rattle.quic_steps.specs.declared.steps.Config.{Config}
 use Rattle.quic_pair.specs.State.{pair_view}
-use Rattle.quic_pair.specs.History.{History}
-use Rattle.quic_pair.specs.From.{PairFrom}
-use Rattle.quic_pair.specs.Runs.{TakesSteps}
 use Rattle.quic_pair.specs.declared.phase.Phase.TheVariants as phase
 use Rattle.quic_pair.specs.Settling.{FollowsPhases}
-use Rattle.quic_pair.proofs.Settling.{IsReadyFor}
+use Rattle.quic_pair.proofs.Settling.{GoesBy}
 use Rattle.quic_pair.proofs.pair.Pair.settle_into.Given as goal
 
 abbrev pub invariant-loop-next : goal.invariant-loop-next
 invariant-loop-next l = record {
-  taken : TakesSteps (pair_view l.fn.self) l.taken.items (pair_view l.self);
+  taken : GoesBy (pair_view l.fn.self) l.taken.items (pair_view l.self);
   order : FollowsPhases (pair_view l.fn.self) (phase.Report 0 false) l.taken.items (pair_view l.self) l.phase;
-  ready : (a b : Config) (h : History) → PairFrom a b h (pair_view l.fn.self) → IsReadyFor l.phase (pair_view l.self);
 }
 
 -- the list grows with each step, and memory has an end

@@ -1,41 +1,48 @@
+use Rattle.std.proofs.Common.{◌≡◌, true, false, Err, sym, ◌∙◌}
+use Rattle.std.specs.Prelude.{◌&&◌, is_some}
+use Rattle.quic_steps.specs.declared.steps.PairError.TheVariants.{Undecided}
+use Rattle.quic_pair.specs.State.{pair_view}
+use Rattle.quic_pair.specs.Steps.{Next, needs_decision}
 use Rattle.quic_pair.specs.From.{next}
-use Rattle.quic_pair.proofs.Grown.{headline-from}
-use Rattle.quic_pair.proofs.Readable.{readable-so}
-use Rattle.quic_pair.proofs.Due.{asks-for}
-use Rattle.quic_pair.proofs.NotWithheld.{not-withheld}
-use Rattle.quic_pair.proofs.Drained.{drains-so}
-use Rattle.quic_pair.proofs.Unrefused.{unrefused-so}
-use Rattle.quic_pair.proofs.Honest.{honest-from}
-use Rattle.quic_pair.proofs.RefusedSo.{refused-so}
-use Rattle.quic_pair.proofs.Served.{refused-stays}
+use Rattle.quic_pair.proofs.Leads.{next-refused, next-taken, headline-led, honest-led, refused-led, unrefused-led, readable-led, drains-led, asks-led, not-withheld-led, stays-led}
 use Rattle.quic_pair.proofs.pair.Pair.step.Goals as goal
 
-pub returns-clause-from : goal.returns-clause-from
-returns-clause-from c = λ a b h f. next c.args.step c.dispatch.result f c.dispatch.ensures
+-- a step that has to wait is refused
+pub returns-then-must_wait : goal.returns-then-must_wait
+returns-then-must_wait c =
+    let old = pair_view c.args.self.now in
+    let e : (is_some old.waits && needs_decision c.args.step) ≡ true = sym c.must_wait.ensures ∙ c.if-must_wait.true in
+    let n : Next old c.args.step (Err Undecided) old = next-refused old c.args.step e in
+    record {
+      next = n;
+      from = λ s h f. next c.args.step (Err Undecided) f n;
+      headline = λ s h f. headline-led (next c.args.step (Err Undecided) f n);
+      honest = λ s h f. honest-led (next c.args.step (Err Undecided) f n);
+      refused = λ s h f. refused-led s h old old c.args.step (Err Undecided) f n;
+      unchanged = λ r. stays-led old old c.args.step (Err Undecided) n r;
+      unrefused = λ s h f. unrefused-led s h old old c.args.step (Err Undecided) f n;
+      readable = λ s h f. readable-led s h old old c.args.step (Err Undecided) f n;
+      drained = λ s h f. drains-led s h old old c.args.step (Err Undecided) f n;
+      due = λ s h f. asks-led s h old old c.args.step (Err Undecided) f n;
+      not_withheld = λ s h f. not-withheld-led s h old old c.args.step (Err Undecided) f n;
+    }
 
-pub returns-clause-headline : goal.returns-clause-headline
-returns-clause-headline c = λ a b h f. headline-from (next c.args.step c.dispatch.result f c.dispatch.ensures)
-
-pub returns-clause-unrefused : goal.returns-clause-unrefused
-returns-clause-unrefused c = λ a b h f. unrefused-so a b h _ _ c.args.step c.dispatch.result f c.dispatch.ensures
-
-pub returns-clause-readable : goal.returns-clause-readable
-returns-clause-readable c = λ a b h f. readable-so a b h _ _ c.args.step c.dispatch.result f c.dispatch.ensures
-
-pub returns-clause-drained : goal.returns-clause-drained
-returns-clause-drained c = λ a b h f. drains-so a b h _ _ c.args.step c.dispatch.result f c.dispatch.ensures
-
-pub returns-clause-due : goal.returns-clause-due
-returns-clause-due c = λ a b h f. asks-for a b h _ _ c.args.step c.dispatch.result f c.dispatch.ensures
-
-pub returns-clause-not_withheld : goal.returns-clause-not_withheld
-returns-clause-not_withheld c = λ a b h f. not-withheld a b h _ _ c.args.step c.dispatch.result f c.dispatch.ensures
-
-pub returns-clause-honest : goal.returns-clause-honest
-returns-clause-honest c = λ a b h f. honest-from (next c.args.step c.dispatch.result f c.dispatch.ensures)
-
-pub returns-clause-refused : goal.returns-clause-refused
-returns-clause-refused c = λ a b h f. refused-so a b h _ _ c.args.step c.dispatch.result f c.dispatch.ensures
-
-pub returns-clause-unchanged : goal.returns-clause-unchanged
-returns-clause-unchanged c = λ r. refused-stays _ _ c.args.step c.dispatch.result c.dispatch.ensures r
+pub returns : goal.returns
+returns c =
+    let old = pair_view c.args.self.now in
+    let new = pair_view c.dispatch.new.self in
+    let e : (is_some old.waits && needs_decision c.args.step) ≡ false = sym c.must_wait.ensures ∙ c.if-must_wait.false in
+    let n : Next old c.args.step c.dispatch.result new = next-taken old new c.args.step c.dispatch.result e c.dispatch.ensures in
+    record {
+      next = n;
+      from = λ s h f. next c.args.step c.dispatch.result f n;
+      headline = λ s h f. headline-led (next c.args.step c.dispatch.result f n);
+      honest = λ s h f. honest-led (next c.args.step c.dispatch.result f n);
+      refused = λ s h f. refused-led s h old new c.args.step c.dispatch.result f n;
+      unchanged = λ r. stays-led old new c.args.step c.dispatch.result n r;
+      unrefused = λ s h f. unrefused-led s h old new c.args.step c.dispatch.result f n;
+      readable = λ s h f. readable-led s h old new c.args.step c.dispatch.result f n;
+      drained = λ s h f. drains-led s h old new c.args.step c.dispatch.result f n;
+      due = λ s h f. asks-led s h old new c.args.step c.dispatch.result f n;
+      not_withheld = λ s h f. not-withheld-led s h old new c.args.step c.dispatch.result f n;
+    }

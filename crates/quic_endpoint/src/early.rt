@@ -1,0 +1,49 @@
+//! What an end sends before the handshake is done (RFC 9001 section 4.6).
+
+ghost use Rattle.std.specs.Prelude.{◌≡◌, OnOk, OnErr};
+ghost use Rattle.quic_outgoing.specs.Early.{NoneAcked};
+ghost use Rattle.quic_retransmits.specs.Pending.{nothing, pending_view};
+ghost use Rattle.quic_history.specs.Early.{with_rejection, SendsAgain};
+ghost use Rattle.quic_history.specs.Sends.{with_params_given};
+ghost use Rattle.quic_endpoint.specs.Shown.{endpoint_view};
+
+use crate::endpoint::Endpoint;
+use quic_streams::{PeerLimits, Retransmits};
+use quic_values::OutOfMemory;
+
+#[tactic(auto, unfolding(crate::specs::Shown::endpoint_view))]
+impl Endpoint {
+    /// The peer rejected what a client sent before the handshake was done, and gave its limits: the client's streams are
+    /// gone, as [`quic_streams::state::StreamsState::zero_rtt_rejected`], nothing is to be sent, and indices begin anew.
+    /// Takes no memory.
+    pub fn reject_early(&mut self, params: &PeerLimits)
+        ensures rejects { endpoint_view self.new ≡ record { streams = with_params_given (with_rejection (endpoint_view self.old).streams) params.now; pending = nothing } }
+    {
+        self.streams.zero_rtt_rejected();
+        self.pending = Retransmits::new(self.alloc);
+        match self.streams.set_params(params) {
+            Ok(()) => {}
+            Err(_) => unreachable!(),
+        }
+    }
+
+    /// What is to be sent beside data.
+    pub fn pending(&self) -> &Retransmits
+        ensures { pending_view result.now ≡ (endpoint_view self.now).pending }
+    {
+        &self.pending
+    }
+
+    /// All that a client sent before the handshake was done is to be sent again, as
+    /// [`quic_streams::state::StreamsState::retransmit_all_for_0rtt`], and beside data what is given here. If refused, all is
+    /// as it was.
+    pub fn send_again(&mut self, pending: Retransmits) -> Result<(), OutOfMemory>
+        ensures sends { NoneAcked (endpoint_view self.old).streams.out.side (endpoint_view self.old).streams.out.halves → SendsAgain (endpoint_view self.old).streams result (endpoint_view self.new).streams }
+        ensures pending { OnOk result ((endpoint_view self.new).pending ≡ pending_view pending) }
+        ensures err { OnErr result (endpoint_view self.new ≡ endpoint_view self.old) }
+    {
+        self.streams.retransmit_all_for_0rtt()?;
+        self.pending = pending;
+        Ok(())
+    }
+}
