@@ -18,6 +18,7 @@ from frames import (
     check,
     check_same,
 )
+from limits_model import Remote, limits_of
 
 ENDS = ("a", "b")
 OTHER = {"a": "b", "b": "a"}
@@ -28,7 +29,12 @@ REFUSALS = {
     "NotAccepted": "refused 3 NotAccepted",
     "UnknownId": "refused 4 UnknownId",
     "AlreadySettled": "refused 6 AlreadySettled",
+    "LimitsBelow": "refused 7 LimitsBelow",
+    "Undecided": "refused 8 Undecided",
+    "Decided": "refused 9 Decided",
 }
+# What decides on data before the handshake
+DECISIONS = ("early-accept", "early-reject", "retry")
 
 
 def bytes_of(field):
@@ -65,6 +71,11 @@ class Payload:
         self.writer = writer
         self.sent = sent
         self.settled = False
+        self.gone = False
+
+    def leave(self):
+        """The payload leaves the network."""
+        self.sent, self.settled, self.gone = [], True, True
 
     def is_accepted(self):
         return all(sent.accepted for sent in self.sent)
@@ -147,6 +158,11 @@ class SendHalf:
         self.fates[frame.offset : end] = bytes([ACKNOWLEDGED]) * len(frame.data)
         self.end_acknowledged = self.end_acknowledged or frame.fin
 
+    def send_again(self):
+        """All that was sent is to be sent again."""
+        self.fates = bytearray([UNSENT]) * len(self.fates)
+        self.end_sent = False
+
     def is_acknowledged(self):
         return self.end_acknowledged and self.fates.count(ACKNOWLEDGED) == len(self.fates)
 
@@ -221,51 +237,18 @@ def unreadable(half, ordered):
 # ---- the two ends
 
 
-class Remote:
-    """The streams of one direction that the peer may open (RFC 9000 section 4.6)."""
-
-    def __init__(self, count):
-        self.permitted = count
-        self.permitted_sent = count
-        self.concurrent = count
-        self.freed = set()
-        self.opened = 0
-        self.accepted = 0
-        self.is_opening_due = False
-
-    def open_up_to(self, index):
-        """Whether this opened the stream of an index."""
-        if index < self.opened:
-            return False
-        self.opened = index + 1
-        self.is_opening_due = True
-        return True
-
-    def is_count_due(self):
-        return self.permitted - self.permitted_sent > self.concurrent // 8
-
-    def set_concurrent(self, count):
-        self.concurrent = count
-        self.permitted = max(self.permitted, len(self.freed) + count)
-
-    def free(self, id):
-        """Another takes its place where the peer may use too few."""
-        if id not in self.freed:
-            self.freed.add(id)
-            self.permitted += self.permitted - len(self.freed) < self.concurrent
-
-
 class End:
     """One end: its streams, and the limits that it gives and holds (RFC 9000 section 4)."""
 
-    def __init__(self, name, config, peer):
+    def __init__(self, name, config, limits):
         self.name = name
         unidirectional, bidirectional, self.send_window, self.receive_window, self.stream_window = config
         self.remote = {"uni": Remote(unidirectional), "bi": Remote(bidirectional)}
         self.credit, self.debt = self.receive_window, 0
         self.credit_sent = self.receive_window
-        self.counts = {"uni": peer[0], "bi": peer[1]}
-        self.limit, self.stream_limit = peer[3], peer[4]
+        self.hold(limits)
+        # a count of streams was set
+        self.is_adjusted = False
         self.opened = {"uni": 0, "bi": 0}
         self.known = []
         self.send, self.receive = {}, {}
@@ -274,9 +257,19 @@ class End:
         # streams of which a write was blocked so
         self.blocked = []
 
+    def hold(self, limits):
+        """These are the first limits."""
+        self.counts = {"uni": limits.uni, "bi": limits.bi}
+        self.limit, self.first = limits.data, limits
+
+    def first_limit(self, id):
+        if direction_of(id) == "uni":
+            return self.first.stream_uni
+        return self.first.stream_remote if opener_of(id) == self.name else self.first.stream_local
+
     def add_stream(self, id):
         if direction_of(id) == "bi" or opener_of(id) == self.name:
-            self.send[id] = SendHalf(self.stream_limit)
+            self.send[id] = SendHalf(self.first_limit(id))
         if direction_of(id) == "bi" or opener_of(id) != self.name:
             self.receive[id] = ReceiveHalf(self.stream_window)
 
@@ -439,15 +432,19 @@ class End:
     def accept_limit(self, frame):
         self.limit = max(self.limit, frame.limit)
 
-    def accept_stream_limit(self, frame):
-        half = self.send[frame.id]
-        rises = not half.freed and not half.is_over() and frame.limit > half.limit
+    def raise_limit(self, id, limit):
+        """A stream that was written up to its limit may be written again, or waits for the connection."""
+        half = self.send[id]
+        rises = not half.freed and not half.is_over() and limit > half.limit
         if rises and len(half.written) == half.limit:
             if self.write_room() > 0:
-                self.events.append(f"writable {frame.id}")
+                self.events.append(f"writable {id}")
             else:
-                self.block(frame.id)
-        half.limit = max(half.limit, frame.limit)
+                self.block(id)
+        half.limit = max(half.limit, limit)
+
+    def accept_stream_limit(self, frame):
+        self.raise_limit(frame.id, frame.limit)
         self.note_opened(frame.id)
 
     def accept_count(self, frame):
@@ -523,7 +520,7 @@ class Model:
     """Two ends and the network between them, which takes the lines of a session with their replies."""
 
     def __init__(self, configs, tally):
-        self.ends = {name: End(name, configs[name], configs[OTHER[name]]) for name in ENDS}
+        self.ends = {name: End(name, configs[name], limits_of(configs[OTHER[name]])) for name in ENDS}
         self.payloads = []
         self.tally = tally
         # the replies of which the model does not know each word
@@ -534,13 +531,16 @@ class Model:
 
     # -- refusals
 
+    def is_there(self, number):
+        return number < len(self.payloads) and not self.payloads[number].gone
+
     def refusal_of_frame(self, number, index):
-        if number >= len(self.payloads):
+        if not self.is_there(number):
             return "NoSuchPayload"
         return None if index < len(self.payloads[number].sent) else "NoSuchFrame"
 
     def refusal_of_report(self, verb, number):
-        if number >= len(self.payloads):
+        if not self.is_there(number):
             return "NoSuchPayload"
         payload = self.payloads[number]
         if payload.settled:
@@ -548,6 +548,8 @@ class Model:
         return "NotAccepted" if verb == "ack" and not payload.is_accepted() else None
 
     def refusal(self, verb, fields):
+        if verb in DECISIONS:
+            return "Decided"
         if verb in ON_STREAMS:
             return None if int(fields[1]) in self.ends[fields[0]].known else "UnknownId"
         if verb == "deliver":
@@ -593,6 +595,7 @@ class Model:
 
     def max_concurrent(self, name, direction, count):
         self.ends[name].remote[direction].set_concurrent(int(count))
+        self.ends[name].is_adjusted = True
         return "ok"
 
     def poll(self, name):

@@ -210,6 +210,7 @@ def wrong_clauses(text):
 def wrong_sections(text):
     """Rows of the table of RFC sections: clauses that are not in the crate behind them, tests that are nowhere."""
     tests = "\n".join(it for path, it in CODES.texts.items() if "_tests/src/" in path)
+    sessions = "\n".join(read(it) for it in CODES.files if it.startswith("tests/sessions/"))
     for row in [it for it in text.splitlines() if it.startswith("| ") and "Section" not in it]:
         cells = [it.strip() for it in row.strip().strip("|").split(" | ")]
         if len(cells) != 5:
@@ -225,7 +226,7 @@ def wrong_sections(text):
                 group.append(name)
         yield from (f"rfc: no crate behind {it}" for it in group)
         for name in CODE.findall(cells[4]):
-            if not re.search(rf"^fn {name}\(", tests, flags=re.M):
+            if not re.search(rf"^fn {name}\(", tests, flags=re.M) and f"\n[{name}]\n" not in sessions:
                 yield f"rfc: no test {name}"
 
 
@@ -304,9 +305,11 @@ class Docs(unittest.TestCase):
             self.assertEqual(run("streampair", typed), (printed, 0))
 
     def test_each_crate_is_drawn(self):
-        """In docs/layers.svg, which `tools/draw_layers.py` makes."""
+        """In docs/layers.svg, which `tools/draw_layers.py` makes. Those of tests alone are not."""
         drawn = set(re.findall(r">(\w+)</text>", read("docs/layers.svg")))
-        self.assertEqual({it for it in CODES.crates if not it.endswith("_tests")} - drawn, set())
+        above = {it: re.findall(rf"^(\w+)[^:\n]*:.*\b{it}\b", read("crates.txt"), flags=re.M) for it in CODES.crates}
+        kept = {it for it in CODES.crates if not all(name.endswith("_tests") for name in above[it] or [it])}
+        self.assertEqual(kept - drawn, set())
 
     def test_numbers_of_definitions_are_those_that_are_counted(self):
         """Those of the headline, and of each clause beside it, in docs/trust.md."""

@@ -57,6 +57,9 @@ class Draws:
     def of(self, *some):
         return self.random.choice(some)
 
+    def end(self):
+        return self.of(*ENDS)
+
     def once_in(self, times):
         return self.random.randrange(times) == 0
 
@@ -193,7 +196,7 @@ class Draws:
     LATE = {emit: 15, deliver: 35, read: 15, ack: 15, poll: 8, finish: 7, lose: 2, seldom: 3}
 
     def line(self, step):
-        name = self.of(*ENDS)
+        name = self.end()
         if step < 12 and self.once_in(2):
             return self.open(name)
         weights = self.EARLY if step < 120 else self.LATE

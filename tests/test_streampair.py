@@ -84,6 +84,23 @@ class Lines(Sessions):
         b"ack-control 0",
         "open a un\u00ef".encode(),
         b"open a un\xff",
+        b"early-accept a",
+        b"early-accept ",
+        b"early-reject 0",
+        b"early",
+        b"retry a",
+        # six numbers of the client, of which counts are at most 2^60 and the others below 2^62
+        b"early a 1 1 1 1 1",
+        b"early a 1 1 1 1 1 1 1",
+        b"early a 1 1 1 1 1 1 ",
+        b"early b 1 1 1 1 1 1",
+        b"early a 4611686018427387904 1 1 1 1 1",
+        b"early a 1 1152921504606846977 1 1 1 1",
+        b"early a 1 1 1152921504606846977 1 1 1",
+        b"early a 1 1 1 4611686018427387904 1 1",
+        b"early a 1 1 1 1 4611686018427387904 1",
+        b"early a 1 1 1 1 1 4611686018427387904",
+        b"early a 01 1 1 1 1 1",
     ]
 
     def test_lines_out_of_the_grammar_are_malformed(self):
@@ -124,6 +141,80 @@ class Lines(Sessions):
     def test_a_line_of_a_million_spaces_is_malformed(self):
         """A line of many fields is refused without room for each of them."""
         self.session_gives(" " * 1_000_000 + "\n", "malformed 3\n", 2)
+
+
+class Early(Sessions):
+    LINE = "early a 1 1 1 1 1 1\n"
+
+    def test_the_greatest_numbers_are_remembered(self):
+        count, most = 2**60, 2**62 - 1
+        self.session_gives(f"early a {most} {count} {count} {most} {most} {most}\n", "ok\n")
+
+    def test_it_is_the_third_line_or_malformed(self):
+        self.gives(self.LINE, "malformed 1\n", 2)
+        self.gives(CONFIGS[: len(CONFIGS) // 2] + self.LINE, "ok\nmalformed 2\n", 2)
+        self.session_gives(self.LINE, "ok\n")
+        self.session_gives(self.LINE + self.LINE, "ok\nmalformed 4\n", 2)
+        self.session_gives("open a uni\n" + self.LINE, "id 2\nmalformed 4\n", 2)
+
+
+class Settling(Sessions):
+    """`settle` prints the line of each step that it takes, and the reply."""
+
+    EMIT = "18446744073709551615 f"
+    READ = "o 18446744073709551615 65535"
+    # what there is to accept or read where no stream is known
+    NOTHING = [
+        *(f"accept {it}\nnone" for it in ("a bi", "a uni", "b bi", "b uni")),
+        *(f"read {it} o 18446744073709551615 65535\nrefused 4 UnknownId" for it in ("a 0", "a 1", "a 3", "b 0", "b 1", "b 2")),
+    ]
+
+    def settles(self, lines, replies, steps):
+        self.session_gives(lines + "settle\n", replies + "".join(f"{it}\n" for it in steps))
+
+    def test_two_new_ends_have_nothing_to_send(self):
+        self.settles("", "", [*self.NOTHING, *self.last(0)])
+
+    def last(self, first):
+        """Nothing is told, and nothing is sent."""
+        sent = [f"emit {end} {self.EMIT}\npayload {first + at} -" for at, end in enumerate("ab")]
+        return ["poll a\nnone", "poll b\nnone", *sent, *(f"lose {first + at}\nok" for at in (0, 1))]
+
+    def test_a_lost_payload_is_sent_again_and_read(self):
+        self.settles(
+            "open a uni\nwrite a 2 6869\nfinish a 2\nemit a 100 f\n",
+            "id 2\nwrote 2\nok\npayload 0 0b02026869\n",
+            [
+                "ack 0\nrefused 3 NotAccepted\nlose 0\nok",
+                *self.NOTHING,
+                "poll a\nnone\npoll b\nnone",
+                f"emit a {self.EMIT}\npayload 1 0b02026869\nemit b {self.EMIT}\npayload 2 -",
+                "deliver 1 0\nok\ndeliver 1 1\nrefused 2 NoSuchFrame\ndeliver 2 0\nrefused 2 NoSuchFrame",
+                "ack 1\nok\nack 2\nok",
+                *self.NOTHING[:3],
+                "accept b uni\nid 2",
+                *self.NOTHING[3:9],
+                f"read b 2 {self.READ}\n0:6869 end transmit",
+                f"read b 6 {self.READ}\nrefused 4 UnknownId",
+                "poll a\nfinished 2\npoll a\nnone\npoll b\nopened uni\npoll b\nnone",
+                f"emit a {self.EMIT}\npayload 3 -\nemit b {self.EMIT}\npayload 4 1305",
+                "deliver 3 0\nrefused 2 NoSuchFrame\ndeliver 4 0\nok\ndeliver 4 1\nrefused 2 NoSuchFrame",
+                "ack 3\nok\nack 4\nok",
+                "poll a\navailable uni",
+                *self.last(5),
+            ],
+        )
+
+    def test_the_session_goes_on(self):
+        written, status = run("streampair", CONFIGS + "settle\nopen a uni\nsettled\n")
+        self.assertTrue(written.endswith("\nid 2\nmalformed 5\n"))
+        self.assertEqual(status, 2)
+
+    def test_no_other_line_settles(self):
+        for line in ["settle ", " settle", "settle a", "Settle", "settle\r", "settling"]:
+            self.session_gives(f"{line}\n", "malformed 3\n", 2)
+        self.gives("settle\n", "malformed 1\n", 2)
+        self.gives("config a 4 4 1 1 1\nsettle\n", "ok\nmalformed 2\n", 2)
 
 
 class Streams(Sessions):

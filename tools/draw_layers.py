@@ -3,7 +3,7 @@
 
     tools/draw_layers.py
 
-A line is left out where others lead there, and goes around the crates between its ends. Crates of tests are left out.
+A line is left out where others lead there, and goes around the crates between its ends. Crates of tests, and those on which tests alone stand, are left out.
 """
 import os
 
@@ -27,7 +27,8 @@ def read_crates():
             if line:
                 head, _, names = line.partition(":")
                 deps[head.split()[0]] = names.split()
-    kept = {name for name in deps if not name.endswith("_tests")}
+    above = {name: [other for other in deps if name in deps[other]] for name in deps}
+    kept = {name for name in deps if not all(other.endswith("_tests") for other in above[name] or [name])}
     return {name: [dep for dep in deps[name] if dep in kept] for name in deps if name in kept}
 
 

@@ -1,3 +1,4 @@
+#!/usr/bin/env python3
 """Lists where errors of memory begin in the sources, and fails where one begins without a call that can fail so.
 
 usage: python3 tools/growth_errors.py [--list] [ROOT]
@@ -629,10 +630,13 @@ def defaults(text):
 
 
 def sources(root):
-    """The sources of all crates but those of tests alone."""
+    """The sources of all crates but those of tests alone, and those on which only they stand."""
     crates = os.path.join(root, "crates")
+    with open(os.path.join(root, "crates.txt"), encoding="utf-8") as file:
+        lines = [line.partition(":") for line in file if ":" in line and not line.startswith("#")]
     for crate in sorted(os.listdir(crates)):
-        if crate.endswith("_tests"):
+        above = [head.split()[0] for head, _, names in lines if crate in names.split()]
+        if all(it.endswith("_tests") for it in above or [crate]):
             continue
         for folder, folders, files in sorted(os.walk(os.path.join(crates, crate, "src"))):
             if "tests" in folders:

@@ -10,6 +10,7 @@ use Rattle.std.proofs.lemmas.List.Splits.{slice_split_none, slice_split_at, join
 use Rattle.std.proofs.lemmas.Str.Ascii.{IsAscii-nil, IsAscii-cons, IsAscii-from_all, All-from_ascii}
 use Rattle.hex.specs.Hex.{encode_with, lower_digits, IsBytes}
 use Rattle.hex.proofs.HexLemmas.{IsAscii-encode_with}
+use Rattle.quic_outgoing.specs.declared.limits.PeerLimits.{PeerLimits}
 use Rattle.quic_steps.specs.declared.steps.Config.{Config}
 use Rattle.quic_steps.specs.declared.steps.End.{End}
 use Rattle.quic_steps.specs.declared.steps.End.TheVariants.{A, B}
@@ -18,7 +19,7 @@ use Rattle.quic_steps.specs.declared.steps.Step.TheVariants as steps
 use Rattle.quic_wire.specs.declared.Dir.{Dir}
 use Rattle.quic_wire.specs.declared.Dir.TheVariants.{Bi, Uni}
 use Rattle.quic_lines.specs.Field.{hex_form, SpellsNoBytes, SpellsNoChunks}
-use Rattle.quic_lines.specs.Grammar.{end_text, mode_text, fairness_text, step_fields, config_fields, fields_of, IsInRange, IsConfigInRange, MeansStep, MeansConfig}
+use Rattle.quic_lines.specs.Grammar.{end_text, mode_text, fairness_text, step_fields, config_fields, fields_of, IsInRange, IsConfigInRange, IsEarlyInRange, early_fields, MeansStep, MeansConfig, MeansEarly, MeansSettle}
 use Rattle.quic_lines.specs.Line.{direction_text}
 
 -- a text that is written out is ASCII
@@ -89,11 +90,20 @@ fields_ascii (steps.Emit who max_size fair) range = more (written (codes "emit")
 fields_ascii (steps.Deliver payload frame) range = more (written (codes "deliver") refl) (more (IsAscii-decimal payload (omega (arith, range.0))) (more (IsAscii-decimal frame (omega (arith, range.1))) none))
 fields_ascii (steps.Lose payload) range = more (written (codes "lose") refl) (more (IsAscii-decimal payload (omega (arith, range))) none)
 fields_ascii (steps.Ack payload) range = more (written (codes "ack") refl) (more (IsAscii-decimal payload (omega (arith, range))) none)
+fields_ascii steps.EarlyAccept range = more (written (codes "early-accept") refl) none
+fields_ascii steps.EarlyReject range = more (written (codes "early-reject") refl) none
+fields_ascii steps.Retry range = more (written (codes "retry") refl) none
 
 limits_ascii : (who : End) (config : Config) → IsConfigInRange config → AreAscii (config_fields who config)
 limits_ascii who config range = more (written (codes "config") refl) (more (end_ascii who) (more (IsAscii-decimal config.max_remote_uni (omega (arith, range.0)))
     (more (IsAscii-decimal config.max_remote_bi (omega (arith, range.1))) (more (IsAscii-decimal config.send_window (omega (arith, range.2)))
     (more (IsAscii-decimal config.receive_window (omega (arith, range.3))) (more (IsAscii-decimal config.stream_receive_window (omega (arith, range.4))) none))))))
+
+remembered_ascii : (l : PeerLimits) → IsEarlyInRange l → AreAscii (early_fields l)
+remembered_ascii l range = more (written (codes "early") refl) (more (written (codes "a") refl) (more (IsAscii-decimal l.initial_max_data (omega (arith, range.0)))
+    (more (IsAscii-decimal l.initial_max_streams_bidi (omega (arith, range.1))) (more (IsAscii-decimal l.initial_max_streams_uni (omega (arith, range.2)))
+    (more (IsAscii-decimal l.initial_max_stream_data_uni (omega (arith, range.3))) (more (IsAscii-decimal l.initial_max_stream_data_bidi_local (omega (arith, range.4)))
+    (more (IsAscii-decimal l.initial_max_stream_data_bidi_remote (omega (arith, range.5))) none)))))))
 
 -- so a line is ASCII where its fields are
 line_ascii : (line : List ℕ) (fields : List (List ℕ)) → fields_of line ≡ fields → AreAscii fields → IsAscii line
@@ -105,46 +115,8 @@ step_ascii line step range means = line_ascii line (step_fields step) means (fie
 pub config_ascii : (line : List ℕ) (who : End) (config : Config) → IsConfigInRange config → MeansConfig line who config → IsAscii line
 config_ascii line who config range means = line_ascii line (config_fields who config) means (limits_ascii who config range)
 
--- the form of bytes has no comma
-abbrev lacks_comma : List ℕ → Bool
-lacks_comma [] = true
-lacks_comma (b ∷ bs) = not (eqb b 44) && lacks_comma bs
+pub settle_ascii : (line : List ℕ) → MeansSettle line → IsAscii line
+settle_ascii line means = rw means (written (codes "settle") refl)
 
-not_true : (b : Bool) → not b ≡ true → b ≡ false
-not_true true e = sym e
-not_true false e = refl
-
-no_comma_at : (bs : List ℕ) → lacks_comma bs ≡ true → (i : ℕ) → eqb (slice_index bs i) 44 ≡ false
-no_comma_at [] e i = refl
-no_comma_at (b ∷ bs) e zero = not_true (eqb b 44) (and_parts (not (eqb b 44)) (lacks_comma bs) e).0
-no_comma_at (b ∷ bs) e (suc i) = no_comma_at bs (and_parts (not (eqb b 44)) (lacks_comma bs) e).1 i
-
-no_comma_encoded : (xs : List ℕ) → All (λ b. eqb b 44 ≡ false) (encode_with lower_digits xs)
-unfolding encode_with
-no_comma_encoded [] = All-nil (λ b. eqb b 44 ≡ false)
-no_comma_encoded (b ∷ rest) =
-    All-cons (λ x. eqb x 44 ≡ false) (slice_index lower_digits (b / 16)) (slice_index lower_digits (b % 16) ∷ encode_with lower_digits rest) (no_comma_at lower_digits refl (b / 16))
-    (All-cons (λ x. eqb x 44 ≡ false) (slice_index lower_digits (b % 16)) (encode_with lower_digits rest) (no_comma_at lower_digits refl (b % 16)) (no_comma_encoded rest))
-
-no_comma : (xs : List ℕ) → All (λ b. eqb b 44 ≡ false) (hex_form xs)
-no_comma [] = All-cons (λ x. eqb x 44 ≡ false) 45 [] refl (All-nil (λ b. eqb b 44 ≡ false))
-no_comma (b ∷ bs) = no_comma_encoded (b ∷ bs)
-
--- so chunks that are joined by commas are parted there
-parted : (x : List ℕ) (xs : List (List ℕ)) → slice_split (λ b. eqb b 44) (join_with_byte 44 (map hex_form (x ∷ xs))) ≡ map hex_form (x ∷ xs)
-parted x [] = slice_split_none (λ b. eqb b 44) (hex_form x) (no_comma x)
-parted x (y ∷ ys) = slice_split_at (λ b. eqb b 44) (hex_form x) 44 (join_with_byte 44 (map hex_form (y ∷ ys))) (no_comma x) refl ∙ ap (λ l. hex_form x ∷ l) (parted y ys)
-
-abbrev IsForm : List ℕ → Type 0
-IsForm text = (bytes : List ℕ) × IsBytes bytes × (hex_form bytes ≡ text)
-
-all_forms : (chunks : List (List ℕ)) → All IsBytes chunks → All IsForm (map hex_form chunks)
-all_forms chunks h = All-map IsForm hex_form chunks (All-weaker IsBytes (λ x. IsForm (hex_form x)) (λ x b. (x, b, refl)) chunks h)
-
--- where one part is no form of bytes, the text is no form of chunks
-pub no_chunks : (text part : List ℕ) (i : ℕ) → i < length (slice_split (λ b. eqb b 44) text) → part ≡ get_or (slice_split (λ b. eqb b 44) text) i part → SpellsNoBytes part → SpellsNoChunks text
-no_chunks text part i low at refused [] are e = absurd (omega (arith, are.0))
-no_chunks text part i low at refused (x ∷ xs) are e =
-    let parts = ap (slice_split (λ b. eqb b 44)) e ∙ parted x xs in
-    let form = All-get_or IsForm (slice_split (λ b. eqb b 44) text) i part low (All-same IsForm _ (map hex_form (x ∷ xs)) parts (all_forms (x ∷ xs) are.1)) in
-    refused form.0 form.1 (form.2 ∙ sym at)
+pub early_ascii : (line : List ℕ) (l : PeerLimits) → IsEarlyInRange l → MeansEarly line l → IsAscii line
+early_ascii line l range means = line_ascii line (early_fields l) means (remembered_ascii l range)

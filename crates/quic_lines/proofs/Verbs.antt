@@ -1,5 +1,5 @@
 -- The verb of a step, and the fields behind it.
-use Rattle.std.proofs.Common.{◌≡◌, ◌≤◌, ◌∙◌, ℕ, eqb, ◌-◌, length, take, drop, arith, if◌then◌else◌, List, [], ◌∷◌, map, get_or, codes, refl, sym, ap, subst}
+use Rattle.std.proofs.Common.{◌≡◌, ◌≤◌, ◌<◌, ◌∙◌, ℕ, eqb, ◌-◌, length, take, drop, arith, if◌then◌else◌, List, [], ◌∷◌, map, get_or, codes, refl, sym, ap, subst}
 use Rattle.std.proofs.lemmas.List.{take_rest}
 use lib.Pointwise.{pointwise}
 use Rattle.quic_steps.specs.declared.steps.Step.{Step}
@@ -9,7 +9,7 @@ use Rattle.quic_lines.specs.declared.steps.Verb.TheVariants as verbs
 use Rattle.quic_lines.specs.Arguments.{verb_text, SpellsNoArguments}
 use Rattle.quic_lines.specs.Grammar.{step_fields, IsInRange, SpellsNoStep}
 
-abbrev verb_of : Step → Verb
+abbrev pub verb_of : Step → Verb
 verb_of (steps.Open who dir) = verbs.Open
 verb_of (steps.Accept who dir) = verbs.Accept
 verb_of (steps.Write who id bytes) = verbs.Write
@@ -28,6 +28,9 @@ verb_of (steps.Emit who max_size fair) = verbs.Emit
 verb_of (steps.Deliver payload frame) = verbs.Deliver
 verb_of (steps.Lose payload) = verbs.Lose
 verb_of (steps.Ack payload) = verbs.Ack
+verb_of steps.EarlyAccept = verbs.EarlyAccept
+verb_of steps.EarlyReject = verbs.EarlyReject
+verb_of steps.Retry = verbs.Retry
 
 -- a step's fields begin with its verb
 begins : (step : Step) → (arguments : List (List ℕ)) × (step_fields step ≡ verb_text (verb_of step) ∷ arguments)
@@ -49,12 +52,15 @@ begins (steps.Emit who max_size fair) = (_, refl)
 begins (steps.Deliver payload frame) = (_, refl)
 begins (steps.Lose payload) = (_, refl)
 begins (steps.Ack payload) = (_, refl)
+begins steps.EarlyAccept = (_, refl)
+begins steps.EarlyReject = (_, refl)
+begins steps.Retry = (_, refl)
 
 first_is : (step : Step) (first : List ℕ) (arguments : List (List ℕ)) → first ∷ arguments ≡ step_fields step → first ≡ verb_text (verb_of step)
 first_is step first arguments e = let b = begins step in cc
 
 -- no two verbs have one text
-abbrev named : List ℕ → Verb
+abbrev pub named : List ℕ → Verb
 named text =
     if pointwise eqb text (codes "open") then verbs.Open else
     if pointwise eqb text (codes "accept") then verbs.Accept else
@@ -73,7 +79,10 @@ named text =
     if pointwise eqb text (codes "emit") then verbs.Emit else
     if pointwise eqb text (codes "deliver") then verbs.Deliver else
     if pointwise eqb text (codes "lose") then verbs.Lose else
-    verbs.Ack
+    if pointwise eqb text (codes "ack") then verbs.Ack else
+    if pointwise eqb text (codes "early-accept") then verbs.EarlyAccept else
+    if pointwise eqb text (codes "early-reject") then verbs.EarlyReject else
+    verbs.Retry
 
 named_is : (verb : Verb) → named (verb_text verb) ≡ verb
 named_is verbs.Open = refl
@@ -94,6 +103,9 @@ named_is verbs.Emit = refl
 named_is verbs.Deliver = refl
 named_is verbs.Lose = refl
 named_is verbs.Ack = refl
+named_is verbs.EarlyAccept = refl
+named_is verbs.EarlyReject = refl
+named_is verbs.Retry = refl
 
 same_verb : (a b : Verb) → verb_text a ≡ verb_text b → a ≡ b
 same_verb a b e = sym (named_is a) ∙ ap named e ∙ named_is b
@@ -121,6 +133,9 @@ at_verb (steps.Emit who max_size fair) first arguments none range e = none who m
 at_verb (steps.Deliver payload frame) first arguments none range e = none payload frame range.0 range.1 (tails _ _ _ _ e)
 at_verb (steps.Lose payload) first arguments none range e = none payload range (tails _ _ _ _ e)
 at_verb (steps.Ack payload) first arguments none range e = none payload range (tails _ _ _ _ e)
+at_verb steps.EarlyAccept first arguments none range e = none (tails _ _ _ _ e)
+at_verb steps.EarlyReject first arguments none range e = none (tails _ _ _ _ e)
+at_verb steps.Retry first arguments none range e = none (tails _ _ _ _ e)
 
 no_step : (verb : Verb) (first : List ℕ) (arguments : List (List ℕ)) → first ≡ verb_text verb → SpellsNoArguments verb arguments → SpellsNoStep (first ∷ arguments)
 no_step verb first arguments is none step range e =
@@ -144,6 +159,26 @@ fifth f (p ∷ q ∷ r ∷ []) z a b c d e h = cc
 fifth f (p ∷ q ∷ r ∷ s ∷ []) z a b c d e h = cc
 fifth f (p ∷ q ∷ r ∷ s ∷ t ∷ ts) z a b c d e h = cc
 
+-- the sixth of six, and all of them
+pub sixth : {A B : Type 0} (f : A → B) (xs : List A) (z : A) (a b c d e g : B) → map f xs ≡ a ∷ b ∷ c ∷ d ∷ e ∷ g ∷ [] → f (get_or xs 5 z) ≡ g
+sixth f [] z a b c d e g h = cc
+sixth f (p ∷ []) z a b c d e g h = cc
+sixth f (p ∷ q ∷ []) z a b c d e g h = cc
+sixth f (p ∷ q ∷ r ∷ []) z a b c d e g h = cc
+sixth f (p ∷ q ∷ r ∷ s ∷ []) z a b c d e g h = cc
+sixth f (p ∷ q ∷ r ∷ s ∷ t ∷ []) z a b c d e g h = cc
+sixth f (p ∷ q ∷ r ∷ s ∷ t ∷ u ∷ us) z a b c d e g h = cc
+
+pub all_six : {A B : Type 0} (f : A → B) (xs : List A) (z : A) (a b c d e g : B) → 6 ≤ length xs → length xs < 7 → f (get_or xs 0 z) ≡ a → f (get_or xs 1 z) ≡ b → f (get_or xs 2 z) ≡ c → f (get_or xs 3 z) ≡ d → f (get_or xs 4 z) ≡ e → f (get_or xs 5 z) ≡ g → map f xs ≡ a ∷ b ∷ c ∷ d ∷ e ∷ g ∷ []
+all_six f [] z a b c d e g low high i j k l m n = absurd (omega (arith, low))
+all_six f (p ∷ []) z a b c d e g low high i j k l m n = absurd (omega (arith, low))
+all_six f (p ∷ q ∷ []) z a b c d e g low high i j k l m n = absurd (omega (arith, low))
+all_six f (p ∷ q ∷ r ∷ []) z a b c d e g low high i j k l m n = absurd (omega (arith, low))
+all_six f (p ∷ q ∷ r ∷ s ∷ []) z a b c d e g low high i j k l m n = absurd (omega (arith, low))
+all_six f (p ∷ q ∷ r ∷ s ∷ t ∷ []) z a b c d e g low high i j k l m n = absurd (omega (arith, low))
+all_six f (p ∷ q ∷ r ∷ s ∷ t ∷ u ∷ []) z a b c d e g low high i j k l m n = cc
+all_six f (p ∷ q ∷ r ∷ s ∷ t ∷ u ∷ v ∷ vs) z a b c d e g low high i j k l m n = absurd (omega (arith, high))
+
 -- no step has more than seven fields
 pub few_fields : (step : Step) → length (step_fields step) ≤ 7
 few_fields (steps.Open who dir) = omega arith
@@ -164,3 +199,6 @@ few_fields (steps.Emit who max_size fair) = omega arith
 few_fields (steps.Deliver payload frame) = omega arith
 few_fields (steps.Lose payload) = omega arith
 few_fields (steps.Ack payload) = omega arith
+few_fields steps.EarlyAccept = omega arith
+few_fields steps.EarlyReject = omega arith
+few_fields steps.Retry = omega arith

@@ -31,6 +31,9 @@ verb_text verbs.Emit = codes "emit"
 verb_text verbs.Deliver = codes "deliver"
 verb_text verbs.Lose = codes "lose"
 verb_text verbs.Ack = codes "ack"
+verb_text verbs.EarlyAccept = codes "early-accept"
+verb_text verbs.EarlyReject = codes "early-reject"
+verb_text verbs.Retry = codes "retry"
 
 -- no step of this verb has these fields behind it
 abbrev pub SpellsNoArguments : Verb → List (List ℕ) → Type 0
@@ -52,3 +55,6 @@ SpellsNoArguments verbs.Emit fields = (who : End) (max_size : ℕ) (fair : Bool)
 SpellsNoArguments verbs.Deliver fields = (payload frame : ℕ) → payload < 2 ^ 64 → frame < 2 ^ 64 → fields ≡ decimal payload ∷ decimal frame ∷ [] → ⊥
 SpellsNoArguments verbs.Lose fields = (payload : ℕ) → payload < 2 ^ 64 → fields ≡ decimal payload ∷ [] → ⊥
 SpellsNoArguments verbs.Ack fields = (payload : ℕ) → payload < 2 ^ 64 → fields ≡ decimal payload ∷ [] → ⊥
+SpellsNoArguments verbs.EarlyAccept fields = fields ≡ [] → ⊥
+SpellsNoArguments verbs.EarlyReject fields = fields ≡ [] → ⊥
+SpellsNoArguments verbs.Retry fields = fields ≡ [] → ⊥

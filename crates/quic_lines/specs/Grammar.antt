@@ -3,6 +3,7 @@ use Rattle.std.specs.Prelude.{◌≡◌, ◌==◌, ◌<◌, ◌≤◌, ◌^◌, 
 use Rattle.std.specs.Int.{w32}
 use Rattle.std.specs.Fmt.{decimal, signed_decimal}
 use Rattle.std.specs.List.{join_with_byte, slice_split}
+use Rattle.quic_outgoing.specs.declared.limits.PeerLimits.{PeerLimits}
 use Rattle.quic_steps.specs.declared.steps.Config.{Config}
 use Rattle.quic_steps.specs.declared.steps.End.{End}
 use Rattle.quic_steps.specs.declared.steps.End.TheVariants.{A, B}
@@ -46,6 +47,9 @@ step_fields (steps.Emit who max_size fair) = codes "emit" ∷ end_text who ∷ d
 step_fields (steps.Deliver payload frame) = codes "deliver" ∷ decimal payload ∷ decimal frame ∷ []
 step_fields (steps.Lose payload) = codes "lose" ∷ decimal payload ∷ []
 step_fields (steps.Ack payload) = codes "ack" ∷ decimal payload ∷ []
+step_fields steps.EarlyAccept = codes "early-accept" ∷ []
+step_fields steps.EarlyReject = codes "early-reject" ∷ []
+step_fields steps.Retry = codes "retry" ∷ []
 
 -- the numbers of a step lie in the ranges of its fields: a read asks for 1 to 65535 chunks, a limit of streams is at most 2^60, and chunks to write are one or more
 abbrev pub IsInRange : Step → Type 0
@@ -67,6 +71,9 @@ IsInRange (steps.Emit who max_size fair) = max_size < 2 ^ 64
 IsInRange (steps.Deliver payload frame) = (payload < 2 ^ 64) × (frame < 2 ^ 64)
 IsInRange (steps.Lose payload) = payload < 2 ^ 64
 IsInRange (steps.Ack payload) = payload < 2 ^ 64
+IsInRange steps.EarlyAccept = Unit {0}
+IsInRange steps.EarlyReject = Unit {0}
+IsInRange steps.Retry = Unit {0}
 
 abbrev pub IsConfigInRange : Config → Type 0
 IsConfigInRange c = (c.max_remote_uni ≤ 2 ^ 60) × (c.max_remote_bi ≤ 2 ^ 60) × (c.send_window < 2 ^ 64) × (c.receive_window < 2 ^ 62) × (c.stream_receive_window < 2 ^ 62)
@@ -77,6 +84,25 @@ limit_fields c = decimal c.max_remote_uni ∷ decimal c.max_remote_bi ∷ decima
 abbrev pub config_fields : End → Config → List (List ℕ)
 config_fields who c = codes "config" ∷ end_text who ∷ limit_fields c
 
+-- the limits of the server that the client remembers: the connection's, counts, and those of streams
+abbrev pub IsEarlyInRange : PeerLimits → Type 0
+IsEarlyInRange l = (l.initial_max_data < 2 ^ 62) × (l.initial_max_streams_bidi ≤ 2 ^ 60) × (l.initial_max_streams_uni ≤ 2 ^ 60)
+    × (l.initial_max_stream_data_uni < 2 ^ 62) × (l.initial_max_stream_data_bidi_local < 2 ^ 62) × (l.initial_max_stream_data_bidi_remote < 2 ^ 62)
+
+abbrev pub remembered_fields : PeerLimits → List (List ℕ)
+remembered_fields l = decimal l.initial_max_data ∷ decimal l.initial_max_streams_bidi ∷ decimal l.initial_max_streams_uni
+    ∷ decimal l.initial_max_stream_data_uni ∷ decimal l.initial_max_stream_data_bidi_local ∷ decimal l.initial_max_stream_data_bidi_remote ∷ []
+
+abbrev pub early_fields : PeerLimits → List (List ℕ)
+early_fields l = codes "early" ∷ codes "a" ∷ remembered_fields l
+
+-- fields with a space between each two, and so the line of a step
+abbrev pub spaced : List (List ℕ) → List ℕ
+spaced fields = join_with_byte 32 fields
+
+abbrev pub step_text : Step → List ℕ
+step_text step = spaced (step_fields step)
+
 -- the fields of a line
 abbrev pub fields_of : List ℕ → List (List ℕ)
 fields_of line = slice_split (λ b. b == 32) line
@@ -85,8 +111,19 @@ fields_of line = slice_split (λ b. b == 32) line
 abbrev pub MeansStep : List ℕ → Step → Type 0
 MeansStep line step = fields_of line ≡ step_fields step
 
+-- a line asks for a settling
+abbrev pub MeansSettle : List ℕ → Type 0
+MeansSettle line = line ≡ codes "settle"
+
 abbrev pub MeansConfig : List ℕ → End → Config → Type 0
 MeansConfig line who config = fields_of line ≡ config_fields who config
+
+-- a line has the client remember these limits, or none
+abbrev pub MeansEarly : List ℕ → PeerLimits → Type 0
+MeansEarly line limits = fields_of line ≡ early_fields limits
+
+abbrev pub MeansNoEarly : List ℕ → Type 0
+MeansNoEarly line = (limits : PeerLimits) → IsEarlyInRange limits → MeansEarly line limits → ⊥
 
 -- no step has these fields
 abbrev pub SpellsNoStep : List (List ℕ) → Type 0

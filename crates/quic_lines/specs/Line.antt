@@ -10,7 +10,7 @@ use Rattle.quic_wire.specs.declared.Dir.{Dir}
 use Rattle.quic_wire.specs.declared.Dir.TheVariants.{Bi, Uni}
 use Rattle.quic_steps.specs.Errors.{number_of}
 use Rattle.quic_steps.specs.declared.steps.PairError.{PairError}
-use Rattle.quic_steps.specs.declared.steps.PairError.TheVariants.{NoSuchPayload, NoSuchFrame, NotAccepted, UnknownId, OutOfMemory, AlreadySettled}
+use Rattle.quic_steps.specs.declared.steps.PairError.TheVariants.{NoSuchPayload, NoSuchFrame, NotAccepted, UnknownId, OutOfMemory, AlreadySettled, LimitsBelow, Undecided, Decided}
 use Rattle.quic_steps.specs.declared.steps.Reply.{Reply}
 use Rattle.quic_steps.specs.declared.steps.Reply.TheVariants as replies
 use Rattle.quic_steps.specs.declared.steps.Last.{Last}
@@ -26,6 +26,9 @@ reason_name NotAccepted = codes "NotAccepted"
 reason_name UnknownId = codes "UnknownId"
 reason_name OutOfMemory = codes "OutOfMemory"
 reason_name AlreadySettled = codes "AlreadySettled"
+reason_name LimitsBelow = codes "LimitsBelow"
+reason_name Undecided = codes "Undecided"
+reason_name Decided = codes "Decided"
 
 -- the reason's number and its name
 abbrev pub refusal_text : PairError → List ℕ

@@ -3,10 +3,12 @@
 
 mod hexadecimal;
 mod lines;
+mod printing;
 mod replies;
 mod steps;
 
 pub use hexadecimal::{hex_bytes, hex_field};
-pub use lines::{LineError, parse_config};
+pub use lines::{LineError, parse_config, parse_early};
+pub use printing::step_line;
 pub use replies::{refusal_line, reply_line};
-pub use steps::parse_step;
+pub use steps::{is_settle, parse_step};

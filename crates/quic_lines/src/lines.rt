@@ -1,13 +1,14 @@
-ghost use Rattle.std.specs.Prelude.{◌≡◌, ◌≤◌, ◌<◌, ◌^◌, ◌↔◌, ℕ, ℤ, Bool, FitsSigned, IsTrue, IfOk, IfErr, length, map, slice_index};
+ghost use Rattle.std.specs.Prelude.{◌≡◌, ◌≤◌, ◌<◌, ◌^◌, ◌↔◌, ℕ, ℤ, Bool, FitsSigned, IsTrue, IfOk, IfErr, IfSome, IfNone, length, map, slice_index};
 ghost use Rattle.std.specs.Int.{w32};
 ghost use Rattle.std.specs.Fmt.{decimal, signed_decimal};
 ghost use Rattle.std.specs.List.{join_with_byte};
 ghost use Rattle.std.specs.Str.{IsAscii};
 ghost use Rattle.quic_lines.specs.Field.{hex_form, SpellsNoBytes, SpellsNoChunks};
-ghost use Rattle.quic_lines.specs.Grammar.{end_text, letter_text, fields_of, limit_fields, MeansConfig, MeansNoConfig, IsConfigInRange};
+ghost use Rattle.quic_lines.specs.Grammar.{end_text, letter_text, fields_of, limit_fields, MeansConfig, MeansNoConfig, IsConfigInRange, remembered_fields, MeansEarly, MeansNoEarly, IsEarlyInRange};
 ghost use Rattle.quic_lines.specs.Line.{direction_text};
 
 use crate::hexadecimal::hex_bytes;
+use quic_outgoing::PeerLimits;
 use quic_steps::{Config, End};
 use quic_values::ChunkList;
 use quic_wire::{Bytes, Dir, MAX_STREAM_COUNT, OutOfMemory, StreamId, VarInt};
@@ -53,12 +54,12 @@ impl<T: Drop> From<AllocFailed<T>> for LineError {
     }
 }
 
-// A config has seven fields, and every step fewer.
-const MOST_FIELDS: usize = 7;
+// The line of remembered limits has eight fields, and every other one fewer.
+const MOST_FIELDS: usize = 8;
 
 // The fields of a line, which single spaces part. A line of more than any step has is not taken apart.
 pub(crate) fn fields_of<'a>(alloc: Global, line: &'a [u8]) -> Result<Vec<&'a str>, LineError>
-    ensures none { IfErr result (λ error. error ≡ LineError.Malformed → IsAscii line.now → 7 < length (fields_of line.now)) }
+    ensures none { IfErr result (λ error. error ≡ LineError.Malformed → IsAscii line.now → 8 < length (fields_of line.now)) }
     ensures ascii { IfOk result (λ fields. IsAscii line.now) }
     ensures fields { IfOk result (λ fields. map (λ field. field.now) fields.items ≡ fields_of line.now) }
 {
@@ -72,7 +73,7 @@ pub(crate) fn fields_of<'a>(alloc: Global, line: &'a [u8]) -> Result<Vec<&'a str
 }
 
 fn parts_of(alloc: Global, text: &str) -> Result<Vec<&str>, LineError>
-    ensures none { IfErr result (λ error. error ≡ LineError.Malformed → 7 < length (fields_of text.now)) }
+    ensures none { IfErr result (λ error. error ≡ LineError.Malformed → 8 < length (fields_of text.now)) }
     ensures parts { IfOk result (λ parts. map (λ part. part.now) parts.items ≡ fields_of text.now) }
 {
     let mut parts = Vec::with_capacity(alloc, MOST_FIELDS)?;
@@ -271,6 +272,52 @@ fn config_of(limits: &[&str]) -> Result<Config, LineError>
             send_window: number(send_window)?,
             receive_window: var_int(receive_window)?,
             stream_receive_window: var_int(stream_receive_window)?,
+        }),
+        _ => Err(LineError::Malformed),
+    }
+}
+
+/// The third line, if it is one of the limits that the client remembers (RFC 9000 section 7.4.1); none for any other line.
+pub fn parse_early(alloc: Global, line: &[u8]) -> Result<Option<PeerLimits>, OutOfMemory>
+    ensures ascii { IfOk result (λ found. IfSome found (λ limits. IsAscii line.now)) }
+    ensures means { IfOk result (λ found. IfSome found (MeansEarly line.now)) }
+    ensures range { IfOk result (λ found. IfSome found IsEarlyInRange) }
+    ensures none { IfOk result (λ found. IfNone found (MeansNoEarly line.now)) }
+{
+    match early_line(alloc, line) {
+        Ok(limits) => Ok(Some(limits)),
+        Err(LineError::Malformed) => Ok(None),
+        Err(LineError::OutOfMemory) => Err(OutOfMemory),
+    }
+}
+
+fn early_line(alloc: Global, line: &[u8]) -> Result<PeerLimits, LineError>
+    ensures ascii { IfOk result (λ limits. IsAscii line.now) }
+    ensures means { IfOk result (MeansEarly line.now) }
+    ensures range { IfOk result IsEarlyInRange }
+    ensures none { IfErr result (λ error. error ≡ LineError.Malformed → MeansNoEarly line.now) }
+{
+    let fields = fields_of(alloc, line)?;
+    match fields.as_slice() {
+        ["early", "a", limits @ ..] => remembered_of(limits),
+        _ => Err(LineError::Malformed),
+    }
+}
+
+// What stands behind the client in that line.
+fn remembered_of(limits: &[&str]) -> Result<PeerLimits, LineError>
+    ensures text { IfOk result (λ l. map (λ field. field.now) limits.now ≡ remembered_fields l) }
+    ensures range { IfOk result IsEarlyInRange }
+    ensures none { IfErr result (λ error. (l : PeerLimits) → IsEarlyInRange l → map (λ field. field.now) limits.now ≡ remembered_fields l → ⊥) }
+{
+    match limits {
+        [data, bidi, uni, data_uni, data_local, data_remote] => Ok(PeerLimits {
+            initial_max_data: var_int(data)?,
+            initial_max_streams_bidi: count(bidi)?,
+            initial_max_streams_uni: count(uni)?,
+            initial_max_stream_data_uni: var_int(data_uni)?,
+            initial_max_stream_data_bidi_local: var_int(data_local)?,
+            initial_max_stream_data_bidi_remote: var_int(data_remote)?,
         }),
         _ => Err(LineError::Malformed),
     }

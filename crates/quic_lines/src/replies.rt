@@ -7,7 +7,7 @@ use quic_steps::{Last, PairError, Reply};
 use quic_wire::{Dir, OutOfMemory, ReceiveError, StreamEvent, StreamId, TransportError, VarInt};
 use std::alloc::Global;
 
-fn direction_name(dir: Dir) -> &'static str
+pub(crate) fn direction_name(dir: Dir) -> &'static str
     ensures { result.now ≡ direction_text dir }
 {
     match dir {
@@ -52,11 +52,14 @@ fn refusal_name(error: PairError) -> &'static str
         PairError::UnknownId => "UnknownId",
         PairError::OutOfMemory => "OutOfMemory",
         PairError::AlreadySettled => "AlreadySettled",
+        PairError::LimitsBelow => "LimitsBelow",
+        PairError::Undecided => "Undecided",
+        PairError::Decided => "Decided",
     }
 }
 
 // The number of a stream.
-fn id_number(id: StreamId) -> u64
+pub(crate) fn id_number(id: StreamId) -> u64
     ensures { result ≡ id }
 {
     VarInt::from(id).into_inner()

@@ -1,7 +1,7 @@
-ghost use Rattle.std.specs.Prelude.{◌≡◌, ◌∷◌, IfOk, IfErr, map, codes};
+ghost use Rattle.std.specs.Prelude.{◌≡◌, ◌∷◌, ◌↔◌, IsTrue, IfOk, IfErr, map, codes};
 ghost use Rattle.std.specs.Str.{IsAscii};
 ghost use Rattle.quic_lines.specs.Arguments.{verb_text, SpellsNoArguments};
-ghost use Rattle.quic_lines.specs.Grammar.{step_fields, SpellsNoStep, MeansStep, MeansNoStep};
+ghost use Rattle.quic_lines.specs.Grammar.{step_fields, SpellsNoStep, MeansStep, MeansNoStep, MeansSettle};
 
 use crate::lines::{
     LineError, bytes, chunks, count, direction, end, fields_of, is_first, number, priority, size,
@@ -31,6 +31,9 @@ pub(crate) enum Verb {
     Deliver,
     Lose,
     Ack,
+    EarlyAccept,
+    EarlyReject,
+    Retry,
 }
 
 // The verb that the first field of a step is.
@@ -57,6 +60,9 @@ fn read_verb(field: &str) -> Result<Verb, LineError>
         "deliver" => Ok(Verb::Deliver),
         "lose" => Ok(Verb::Lose),
         "ack" => Ok(Verb::Ack),
+        "early-accept" => Ok(Verb::EarlyAccept),
+        "early-reject" => Ok(Verb::EarlyReject),
+        "retry" => Ok(Verb::Retry),
         _ => Err(LineError::Malformed),
     }
 }
@@ -300,6 +306,36 @@ fn ack(arguments: &[&str]) -> Result<Step, LineError>
     }
 }
 
+fn early_accept(arguments: &[&str]) -> Result<Step, LineError>
+    ensures text { IfOk result (λ step. codes "early-accept" ∷ map (λ field. field.now) arguments.now ≡ step_fields step) }
+    ensures none { IfErr result (λ error. SpellsNoArguments Verb.EarlyAccept (map (λ field. field.now) arguments.now)) }
+{
+    match arguments {
+        [] => Ok(Step::EarlyAccept),
+        _ => Err(LineError::Malformed),
+    }
+}
+
+fn early_reject(arguments: &[&str]) -> Result<Step, LineError>
+    ensures text { IfOk result (λ step. codes "early-reject" ∷ map (λ field. field.now) arguments.now ≡ step_fields step) }
+    ensures none { IfErr result (λ error. SpellsNoArguments Verb.EarlyReject (map (λ field. field.now) arguments.now)) }
+{
+    match arguments {
+        [] => Ok(Step::EarlyReject),
+        _ => Err(LineError::Malformed),
+    }
+}
+
+fn retry(arguments: &[&str]) -> Result<Step, LineError>
+    ensures text { IfOk result (λ step. codes "retry" ∷ map (λ field. field.now) arguments.now ≡ step_fields step) }
+    ensures none { IfErr result (λ error. SpellsNoArguments Verb.Retry (map (λ field. field.now) arguments.now)) }
+{
+    match arguments {
+        [] => Ok(Step::Retry),
+        _ => Err(LineError::Malformed),
+    }
+}
+
 // The step of this verb and these arguments.
 fn step_of(alloc: Global, verb: Verb, arguments: &[&str]) -> Result<Step, LineError>
     ensures text { IfOk result (λ step. verb_text verb ∷ map (λ field. field.now) arguments.now ≡ step_fields step) }
@@ -324,6 +360,9 @@ fn step_of(alloc: Global, verb: Verb, arguments: &[&str]) -> Result<Step, LineEr
         Verb::Deliver => deliver(arguments),
         Verb::Lose => lose(arguments),
         Verb::Ack => ack(arguments),
+        Verb::EarlyAccept => early_accept(arguments),
+        Verb::EarlyReject => early_reject(arguments),
+        Verb::Retry => retry(arguments),
     }
 }
 
@@ -346,4 +385,12 @@ pub fn parse_step(alloc: Global, line: &[u8]) -> Result<Step, LineError>
 {
     let fields = fields_of(alloc, line)?;
     step_of_fields(alloc, fields.as_slice())
+}
+
+/// Whether a line asks for a settling.
+pub fn is_settle(line: &[u8]) -> bool
+    ensures means { IsTrue result ↔ MeansSettle line.now }
+    ensures ascii { IsTrue result → IsAscii line.now }
+{
+    line == b"settle".as_slice()
 }

@@ -13,7 +13,7 @@ use Rattle.streampair.specs.declared.session.Stop.{Stop}
 use Rattle.streampair.specs.declared.session.Stop.TheVariants.{Malformed, NoPair, Failed}
 use Rattle.quic_lines.specs.declared.lines.LineError.{LineError}
 use Rattle.quic_lines.specs.declared.lines.LineError.TheVariants as lines
-use Rattle.streampair.specs.Session.{Answers, AnswersLine, StopsWith, MeansNothing, Serves, begin, line, IsServed, StopsAt, IsMalformed, malformed_line, stop_of}
+use Rattle.streampair.specs.Session.{Answers, AnswersLine, StopsWith, MeansNothing, Serves, begin, line, IsServed, IsStopOf, StopsAt, IsMalformed, malformed_line, stop_of}
 
 -- one write after the other
 pub Appends-join : (a b c : Option (List ℕ)) (xs ys : List ℕ) → Appends a b xs → Appends b c ys → Appends a c (xs ++ ys)
@@ -179,9 +179,20 @@ IsMalformed-unknown (Some all) old new h = record {
 }
 
 -- a line that is not taken stops the session
-pub not_taken : (number : ℕ) (session : Session) (text : List ℕ) (out : Option (List ℕ)) (error : LineError) → (error ≡ lines.Malformed → MeansNothing session text) → StopsWith number session text out out (stop_of error number)
-not_taken number session text out lines.Malformed none = (refl, refl, none refl)
-not_taken number session text out lines.OutOfMemory none = tt
+pub not_spelled : (number : ℕ) (nothing : Type 0) (error : LineError) → (error ≡ lines.Malformed → nothing) → IsStopOf number nothing (stop_of error number)
+not_spelled number nothing lines.Malformed none = (refl, none refl)
+not_spelled number nothing lines.OutOfMemory none = tt
+
+-- so does want of memory
+pub wanting : {T : Type 0} (r : Result T Stop) (number : ℕ) (nothing : Type 0) → IsErrAnd r (λ stop. stop ≡ Failed) → IfErr r (IsStopOf number nothing)
+wanting (Ok x) number nothing failed = tt
+wanting (Err stop) number nothing failed = rw failed tt
+
+-- nothing was written for it
+pub stops_with : (number : ℕ) (session : Session) (text : List ℕ) (out : Option (List ℕ)) (stop : Stop) → IsStopOf number (MeansNothing session text) stop → StopsWith number session text out out stop
+stops_with number session text out (Malformed told) h = (h.0, refl, h.1)
+stops_with number session text out NoPair h = tt
+stops_with number session text out Failed h = tt
 
 -- where a write fails nothing is promised
 pub gives_up : {T : Type 0} (r : Result T Stop) (number : ℕ) (session : Session) (text : List ℕ) (old new : Option (List ℕ)) → IsErrAnd r (λ stop. stop ≡ Failed) → IfErr r (StopsWith number session text old new)

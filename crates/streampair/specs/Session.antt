@@ -1,23 +1,31 @@
--- What a session answers to its lines, one line for each.
-use Rattle.std.specs.Prelude.{◌≡◌, ◌+◌, ◌<◌, ℕ, List, [], ◌++◌, length, Option, Ok, Err, codes}
+-- What a session answers to its lines.
+use Rattle.std.specs.Prelude.{◌≡◌, ◌⊎◌, ◌+◌, ◌<◌, ℕ, List, [], ◌++◌, length, Option, Result, Ok, Err, OnOk, IfErr, Some, codes}
 use Rattle.std.specs.Fmt.{decimal}
+use Rattle.std.specs.List.{flat_map}
 use Rattle.std.specs.Str.{IsAscii}
 use Rattle.std.specs.Io.BufRead.{first_piece, drop_through}
 use Rattle.std.specs.Io.KnownBytes.{Appends}
 use Rattle.quic_steps.specs.declared.steps.Config.{Config}
 use Rattle.quic_steps.specs.declared.steps.Step.{Step}
+use Rattle.quic_steps.specs.declared.steps.PairError.{PairError}
+use Rattle.quic_steps.specs.declared.steps.PairError.TheVariants.{OutOfMemory as NoMemory, Undecided}
+use Rattle.quic_outgoing.specs.declared.limits.PeerLimits.{PeerLimits}
 use Rattle.quic_pair.specs.Replies.{Answer}
 use Rattle.quic_pair.specs.State.{PairState, pair_view}
 use Rattle.quic_pair.specs.Steps.{Next}
-use Rattle.quic_pair.specs.From.{PairFrom}
+use Rattle.quic_pair.specs.From.{Beginning, at_once, PairFrom}
+use Rattle.quic_pair.specs.History.{History, past_of}
+use Rattle.quic_pair.specs.Runs.{TakesSteps}
+use Rattle.quic_pair.specs.Settling.{IsSettling, IsCutOff, IsUndecided}
+use Rattle.quic_pair.specs.Completed.{HaveArrived, HaveBeenRead, HaveBeenTold}
 use Rattle.streampair.specs.declared.session.Session.{Session}
-use Rattle.streampair.specs.declared.session.Session.TheVariants.{Start, Configured, Running}
+use Rattle.streampair.specs.declared.session.Session.TheVariants.{Start, Configured, Ready, Running}
 use Rattle.streampair.specs.declared.session.Stop.{Stop}
 use Rattle.streampair.specs.declared.session.Stop.TheVariants.{Malformed, NoPair, Failed}
 use Rattle.quic_lines.specs.declared.lines.LineError.{LineError}
 use Rattle.quic_lines.specs.declared.lines.LineError.TheVariants as lines
 use Rattle.quic_steps.specs.declared.steps.End.TheVariants.{A, B}
-use Rattle.quic_lines.specs.Grammar.{MeansStep, MeansConfig, MeansNoStep, MeansNoConfig}
+use Rattle.quic_lines.specs.Grammar.{step_text, MeansStep, MeansConfig, MeansSettle, MeansEarly, MeansNoStep, MeansNoConfig, MeansNoEarly}
 use Rattle.quic_lines.specs.Line.{reply_text, refusal_text}
 
 abbrev pub ok_line : List ℕ
@@ -45,18 +53,67 @@ pub record TakesStep (line : List ℕ) (old : PairState) (text : List ℕ) (new 
   pub means : MeansStep line step
   pub taken : IsStep old step text new
 
--- the pair is made of both configs
-pub record IsReady (a : Config) (line text : List ℕ) (pair : PairState) : Type 0 where
+-- a session stands behind both configs, and its pair is made of them
+abbrev pub IsMadeOf : Config → Config → Session → Type 0
+IsMadeOf a b (Ready x y pair) = (x ≡ a) × (y ≡ b) × PairFrom (at_once a b) [] (pair_view pair)
+IsMadeOf a b _ = ⊥
+
+-- the second line has the config b
+pub record IsReady (a : Config) (line text : List ℕ) (session : Session) : Type 0 where
   pub b : Config
   pub means : MeansConfig line B b
-  pub from : PairFrom a b [] pair
+  pub made : IsMadeOf a b session
   pub text_is : text ≡ ok_line
+
+-- it is made of them and of the limits that the client remembers
+pub record StartsEarly (a b : Config) (line text : List ℕ) (pair : PairState) : Type 0 where
+  pub remembered : PeerLimits
+  pub means : MeansEarly line remembered
+  pub from : PairFrom (record { a = a; b = b; early = Some remembered }) [] pair
+  pub text_is : text ≡ ok_line
+
+-- the line of a step that was taken, and the one that answers it
+abbrev pub lines_of : Step × Answer → List ℕ
+lines_of taken = step_text taken.0 ++ codes "\n" ++ answer_line taken.1
+
+-- all of them, and the line of the error that stands beside them, if one does
+abbrev pub settlement_text : History → Result (Unit {0}) PairError → List ℕ
+settlement_text taken (Ok done) = flat_map lines_of taken
+settlement_text taken (Err error) = flat_map lines_of taken ++ answer_line (Err error)
+
+-- the pair took the steps of a settling, and this text spells them with their replies
+pub record IsSettlement (old : PairState) (text : List ℕ) (new : PairState) : Type 0 where
+  pub taken : History
+  pub answer : Result (Unit {0}) PairError
+  pub next : TakesSteps old taken new
+  pub order : OnOk answer (IsSettling old taken new)
+  pub cut_off : answer ≡ Err NoMemory → IsCutOff old taken new
+  pub undecided : answer ≡ Err Undecided → IsUndecided old taken new
+  pub only : IfErr answer (λ error. (error ≡ NoMemory) ⊎ (error ≡ Undecided))
+  pub arrived : OnOk answer ((s : Beginning) (h : History) → PairFrom s h old → HaveArrived (past_of (h ++ taken)) new.sent)
+  pub read : OnOk answer ((s : Beginning) (h : History) → PairFrom s h old → HaveBeenRead (past_of (h ++ taken)))
+  pub told : OnOk answer ((s : Beginning) (h : History) → PairFrom s h old → HaveBeenTold (past_of (h ++ taken)))
+  pub text_is : text ≡ settlement_text taken answer
+
+-- the line asked for that
+pub record TakesSettling (line : List ℕ) (old : PairState) (text : List ℕ) (new : PairState) : Type 0 where
+  pub means : MeansSettle line
+  pub settled : IsSettlement old text new
+
+-- a pair answers a line behind the configs
+abbrev pub AnswersRunning : PairState → List ℕ → List ℕ → PairState → Type 0
+AnswersRunning old line text new = TakesStep line old text new ⊎ TakesSettling line old text new
+
+-- the third line is that of such limits, or one like those behind it
+abbrev pub AnswersReady : Config → Config → PairState → List ℕ → List ℕ → PairState → Type 0
+AnswersReady a b old line text new = StartsEarly a b line text new ⊎ AnswersRunning old line text new
 
 -- a session answers a line by this text, and goes on so
 abbrev pub Answers : Session → List ℕ → List ℕ → Session → Type 0
 Answers Start line text (Configured config) = MeansConfig line A config × (text ≡ ok_line)
-Answers (Configured config) line text (Running pair) = IsReady config line text (pair_view pair)
-Answers (Running old) line text (Running new) = TakesStep line (pair_view old) text (pair_view new)
+Answers (Configured config) line text session = IsReady config line text session
+Answers (Ready a b old) line text (Running new) = AnswersReady a b (pair_view old) line text (pair_view new)
+Answers (Running old) line text (Running new) = AnswersRunning (pair_view old) line text (pair_view new)
 Answers _ line text _ = ⊥
 
 -- a session took a line, and its answer was written
@@ -66,18 +123,28 @@ pub record AnswersLine (session : Session) (line : List ℕ) (old new : Option (
   pub answers : Answers session line text next
   pub writes : Appends old new text
 
+-- a line behind the configs is no step, and asks for no settling
+abbrev pub MeansNoLine : List ℕ → Type 0
+MeansNoLine line = MeansNoStep line × (MeansSettle line → ⊥)
+
 -- a line spells nothing that may stand there
 abbrev pub MeansNothing : Session → List ℕ → Type 0
 MeansNothing Start line = MeansNoConfig line A
 MeansNothing (Configured config) line = MeansNoConfig line B
-MeansNothing (Running pair) line = MeansNoStep line
+MeansNothing (Ready a b pair) line = MeansNoLine line × MeansNoEarly line
+MeansNothing (Running pair) line = MeansNoLine line
+
+-- a line that was not taken stopped a session: where it is malformed, this is its number, and it spells nothing
+abbrev pub IsStopOf : ℕ → Type 0 → Stop → Type 0
+IsStopOf number nothing (Malformed told) = (told ≡ number) × nothing
+IsStopOf number nothing _ = Unit {0}
 
 -- a line was not answered: where it is malformed, this is its number, it spells nothing, and nothing was written
 abbrev pub StopsWith : ℕ → Session → List ℕ → Option (List ℕ) → Option (List ℕ) → Stop → Type 0
 StopsWith number session line old new (Malformed told) = (told ≡ number) × (new ≡ old) × MeansNothing session line
 StopsWith number session line old new _ = Unit {0}
 
--- so many lines of the input were answered by this text, each by one line; so the session stands, and the rest is left
+-- so many lines of the input were answered by this text; so the session stands, and the rest is left
 pub data Serves (input : List ℕ) : ℕ → List ℕ → Session → List ℕ → Type 0 where
   begin : Serves input 0 [] Start input
   line : {lines : ℕ} {text rest : List ℕ} {old : Session} (more : List ℕ) (new : Session) → Serves input lines text old rest → 0 < length rest →

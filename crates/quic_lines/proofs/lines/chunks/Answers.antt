@@ -3,7 +3,7 @@ use Rattle.std.specs.Str.Iter.{split_text, split_has_more, split_pattern}
 use Rattle.std.proofs.lemmas.Iterator.Consumers.{YieldsList-turn}
 use Rattle.std.proofs.lemmas.Iterator.Splits.{YieldsList-from_str_split}
 use Rattle.std.proofs.lemmas.Result.{err_from_is_err_and}
-use Rattle.quic_lines.proofs.Texts.{no_chunks}
+use Rattle.quic_lines.proofs.Parts.{no_chunks}
 use Rattle.quic_lines.proofs.lines.chunks.Goals as goal
 
 pub returns-in_err-chunk-clause-none : goal.returns-in_err-chunk-clause-none

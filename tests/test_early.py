@@ -1,0 +1,96 @@
+"""Sessions of `streampair` that a seed draws, in which the client sends before the handshake is done, by the model of `early_model`."""
+import collections
+import unittest
+
+from early_model import EarlyModel
+from frames import check_same
+from limits_model import limits_of
+from test_programs import need
+from test_sessions import Draws
+from test_settling import answers, cut_off_session, settle_session
+
+SESSIONS = 1000
+# How often each kind of answer has to come in all sessions together, at least.
+LEAST = {
+    "accepted": 200,
+    "rejected": 200,
+    "retried": 200,
+    "never decided": 100,
+    "raised": 50,
+    "Undecided": 1000,
+    "Decided": 100,
+    "LimitsBelow": 20,
+    "NoSuchPayload": 500,
+    "UnknownId": 500,
+    "lost payload": 100,
+    "acknowledged payload": 100,
+}
+
+
+def setUpModule():
+    need(__name__, "streampair")
+
+
+class EarlyDraws(Draws):
+    """Lines of which the third has the client remember limits, and some later ones decide."""
+
+    # what is drawn of the steps that decide, while it is not decided
+    PLANS = (
+        ("early-accept",),
+        ("early-reject",),
+        ("retry", "early-accept"),
+        ("retry", "early-reject"),
+        ("retry",),
+        (),
+    )
+
+    def __init__(self, seed, tally):
+        super().__init__(seed, tally)
+        self.remembered = [self.remember(number) for number in limits_of(self.configs["b"])]
+        self.plan = self.of(*self.PLANS)
+        self.model = EarlyModel(self.configs, self.remembered, tally)
+
+    def remember(self, number):
+        """A limit that is seldom above the one that the server gives."""
+        if self.once_in(60):
+            return number + 1
+        return self.of(number, number, number // 2, number // 3, 0) if number > 3 else number
+
+    def config_lines(self):
+        return [*super().config_lines(), f"early a {' '.join(map(str, self.remembered))}"]
+
+    def end(self):
+        """Most often the client, while the server waits."""
+        return super().end() if self.model.is_decided or self.once_in(12) else "a"
+
+    def line(self, step):
+        if self.model.is_decided:
+            return self.of("early-accept", "early-reject", "retry") if self.once_in(60) else super().line(step)
+        return self.of(*self.plan) if self.plan and step > 10 and self.once_in(10) else super().line(step)
+
+
+def run_session(seed, tally):
+    """Draws a session, which is settled if it is decided."""
+    draws = EarlyDraws(seed, tally)
+    lines = cut_off_session(draws, seed)
+    if draws.model.is_decided:
+        settle_session(draws.model, lines, tally)
+        return
+    tally["never decided"] += 1
+    check_same(answers([*lines, "settle"])[len(lines) :], ["refused 8 Undecided"])
+
+
+class EarlySessions(unittest.TestCase):
+    def test_each_reply_is_as_the_model_says(self):
+        tally = collections.Counter()
+        for seed in range(SESSIONS):
+            try:
+                run_session(seed, tally)
+            except (AssertionError, LookupError, ValueError) as wrong:
+                raise AssertionError(f"seed {seed}: {wrong!r}") from wrong
+        for kind, least in LEAST.items():
+            self.assertGreater(tally[kind], least, kind)
+
+
+if __name__ == "__main__":
+    unittest.main()

@@ -1,0 +1,148 @@
+"""Sessions of `streampair` that a seed draws and cuts off, and that are settled then: what is left of them is completed, by
+the model of `pair_model`."""
+import collections
+import random
+import unittest
+
+from frames import check, check_same
+from pair_model import ACKNOWLEDGED, ENDS, OTHER
+from test_programs import need, run
+from test_sessions import STEPS, Draws, Program
+
+SESSIONS = 1000
+# How often each kind of answer has to come in all settlings together, at least.
+LEAST = {
+    "ordered chunk": 1000,
+    "unordered chunk": 100,
+    "end": 1000,
+    "reset": 200,
+    "finished": 1000,
+    "stopped": 200,
+    "lost payload": 1000,
+    "acknowledged payload": 1000,
+    "UnknownId": 1000,
+    "NotAccepted": 1000,
+    "stream with room": 1000,
+    "connection with room": 1000,
+    "direction with room": 1000,
+}
+
+
+def setUpModule():
+    need(__name__, "streampair")
+
+
+def check_completed(sends, receives):
+    """All that was written on a stream came and was read, and its end was told to both; or the code of one that was given up was."""
+    if sends.reset is not None:
+        check(receives.is_closed(), "a reset that was not told")
+        return
+    check(sends.freed if sends.finished else sends.fates.count(ACKNOWLEDGED) == len(sends.fates), "not all is acknowledged")
+    if receives.stop is None:
+        check_same(bytes(receives.given), b"\1" * len(sends.written))
+        check_same(receives.told, sends.finished)
+
+
+def check_settled(model):
+    """Nothing is left to be sent, reported, told or read."""
+    check(all(payload.settled for payload in model.payloads), "a payload is not settled")
+    for name in ENDS:
+        end = model.ends[name]
+        check(not end.has_rest(), "something is left to be sent")
+        check_same(end.next_event(), "none")
+        for id, sends in end.send.items():
+            check_completed(sends, model.ends[OTHER[name]].receive[id])
+
+
+def may_go_on(half, reader):
+    """Whether a stream is neither ended, given up nor stopped."""
+    return not half.is_over() and not half.freed and half.stopped is None and reader.stop is None
+
+
+def check_room_of_streams(end, peer, tally):
+    """On each stream that goes on there is room for what the window leaves after an eighth."""
+    for id, half in end.send.items():
+        if may_go_on(half, peer.receive[id]):
+            tally["stream with room"] += 1
+            least = peer.stream_window - peer.stream_window // 8
+            check(half.limit - len(half.written) >= least, f"no room on stream {id}")
+
+
+def check_room(end, peer, tally):
+    """So on all streams together, unless the peer made its window smaller and what came did not pay for it yet."""
+    if peer.debt == 0:
+        tally["connection with room"] += 1
+        least = min(peer.receive_window - peer.receive_window // 8, end.send_window)
+        check(end.write_room() >= least, "no room on the connection")
+
+
+def check_counts(end, peer, tally):
+    """Where no stream of a direction is left, as many may be opened as the peer is to have, but an eighth."""
+    for direction, remote in peer.remote.items():
+        if len(remote.freed) == end.opened[direction]:
+            tally["direction with room"] += 1
+            least = remote.concurrent - remote.concurrent // 8
+            check(end.counts[direction] - end.opened[direction] >= least, f"no room for a stream {direction}")
+
+
+def check_goes_on(model, tally):
+    """Nothing is stuck (RFC 9000 sections 4.1 and 4.6): what the windows leave may be written and opened."""
+    for name in ENDS:
+        end, peer = model.ends[name], model.ends[OTHER[name]]
+        check_room_of_streams(end, peer, tally)
+        check_room(end, peer, tally)
+        check_counts(end, peer, tally)
+
+
+def cut_off_session(draws, seed):
+    """Draws some steps, with the replies, and returns all lines."""
+    steps = random.Random(-1 - seed).randrange(STEPS + 1)
+    lines = draws.config_lines()
+    with Program() as running:
+        for line in lines:
+            check_same(running.reply_to(line), "ok")
+        for step in range(steps):
+            lines.append(draws.line(step))
+            draws.model.take(lines[-1], running.reply_to(lines[-1]))
+    return lines
+
+
+def answers(lines):
+    """What a session of these lines is answered, a line each."""
+    written, status = run("streampair", "".join(f"{line}\n" for line in lines))
+    check_same(status, 0)
+    return written.splitlines()
+
+
+def settle_session(model, lines, tally):
+    """Settles a session, of which the model takes each step with its reply, and then plays the steps alone."""
+    model.tally = tally
+    written = answers([*lines, "settle"])[len(lines) :]
+    check_same(len(written) % 2, 0)
+    steps, replies = written[::2], written[1::2]
+    for line, reply in zip(steps, replies):
+        model.take(line, reply)
+    check_settled(model)
+    check_same(answers([*lines, *steps])[len(lines) :], replies)
+
+
+def run_session(seed, tally):
+    draws = Draws(seed, collections.Counter())
+    settle_session(draws.model, cut_off_session(draws, seed), tally)
+    check_goes_on(draws.model, tally)
+
+
+class SettledSessions(unittest.TestCase):
+    def test_all_that_was_written_is_read(self):
+        tally = collections.Counter()
+        for seed in range(SESSIONS):
+            try:
+                run_session(seed, tally)
+            except (AssertionError, LookupError, ValueError) as wrong:
+                raise AssertionError(f"seed {seed}: {wrong!r}") from wrong
+        for kind, least in LEAST.items():
+            self.assertGreater(tally[kind], least, kind)
+
+
+if __name__ == "__main__":
+    unittest.main()
