@@ -11,7 +11,6 @@ mod body;
 mod cases;
 mod floods;
 mod joins;
-mod refusals;
 mod sizes;
 mod steps;
 mod worked;
@@ -46,8 +45,6 @@ enum Step {
     // An ordered read, and one that gives nothing.
     Next(u64, &'static str),
     NoNext,
-    // An unordered read of at most so many bytes: the offset and the text.
-    Some(usize, u64, &'static str),
     // An unordered read, and one that gives nothing.
     Any(u64, &'static str),
     NoAny,
@@ -55,8 +52,6 @@ enum Step {
     Unordered,
     OrderedAgain,
     Compact,
-    Clear,
-    Reinit,
     // How many pieces are held, and how many bytes were read.
     Is(usize, u64),
 }
@@ -64,13 +59,9 @@ enum Step {
 fn piece(alloc: Global, bytes: &[u8]) -> Result<Bytes, OutOfMemory>
     ensures { IfOk result (λ piece. piece ≡ bytes.now) }
 {
-    match Bytes::copy_from_slice(alloc, bytes) {
-        Ok(piece) => Ok(piece),
-        Err(_) => Bytes::copy_from_slice(alloc, bytes),
-    }
+    Bytes::copy_from_slice(alloc, bytes)
 }
 
-// Inserts a text. With no memory nothing is changed, and it is inserted again.
 fn insert<B: Body + Drop>(
     rt: &impl Abort,
     a: &mut B,
@@ -80,19 +71,8 @@ fn insert<B: Body + Drop>(
     allocation_size: usize,
 ) -> Result<Result<(), InsertError>, OutOfMemory> {
     assert!(rt; offset < 1 << 61 && bytes.len() < 1 << 61 && bytes.len() <= allocation_size);
-    let pieces = a.held();
-    let read = a.bytes_given();
-    let first = piece(alloc, bytes)?;
-    let answer = a.take_piece(offset, first, allocation_size);
-    same(rt, a.bytes_given(), read);
-    match answer {
-        Err(InsertError::OutOfMemory) => {
-            same(rt, a.held(), pieces);
-            let second = piece(alloc, bytes)?;
-            Ok(a.take_piece(offset, second, allocation_size))
-        }
-        _ => Ok(answer),
-    }
+    let piece = piece(alloc, bytes)?;
+    Ok(a.take_piece(offset, piece, allocation_size))
 }
 
 fn fill<B: Body + Drop>(
@@ -115,18 +95,6 @@ fn fill<B: Body + Drop>(
     Ok(Ok(()))
 }
 
-// Reads in a mode. With no memory nothing is given, and the next read is the same.
-fn read<B: Body + Drop>(
-    a: &mut B,
-    max_length: usize,
-    ordered: bool,
-) -> Result<Option<Chunk>, EnsureError> {
-    match a.next(max_length, ordered) {
-        Ok(given) => Ok(given),
-        Err(_) => a.next(max_length, ordered),
-    }
-}
-
 fn expect_chunk(
     rt: &impl Abort,
     given: Option<Chunk>,
@@ -137,31 +105,6 @@ fn expect_chunk(
     same(rt, chunk.offset, offset);
     same(rt, chunk.bytes.as_slice(), text.as_bytes());
     Ok(())
-}
-
-// Compacts. With no memory there are no more pieces.
-fn compact<B: Body + Drop>(rt: &impl Abort, a: &mut B) -> Result<(), OutOfMemory> {
-    let pieces = a.held();
-    match a.compact() {
-        Ok(()) => Ok(()),
-        Err(_) => {
-            is_true(rt, a.held() <= pieces);
-            a.compact()
-        }
-    }
-}
-
-// Goes to unordered mode. With no memory ordered mode holds.
-fn leave_order<B: Body + Drop>(rt: &impl Abort, a: &mut B) -> Result<(), EnsureError> {
-    let read = a.bytes_given();
-    match a.ask_for(false) {
-        Ok(()) => Ok(()),
-        Err(_) => {
-            same(rt, a.bytes_given(), read);
-            same(rt, a.ask_for(true), Ok(()));
-            a.ask_for(false)
-        }
-    }
 }
 
 fn take<B: Body + Drop>(rt: &impl Abort, a: &mut B, alloc: Global, step: Step) -> Result<(), Fail> {
@@ -178,8 +121,8 @@ fn take<B: Body + Drop>(rt: &impl Abort, a: &mut B, alloc: Global, step: Step) -
             let answer = fill(rt, a, alloc, (start, gap, count), text, allocation_size)?;
             same_for(rt, &start, answer, wanted);
         }
-        Step::Compact => compact(rt, a)?,
-        Step::Unordered => leave_order(rt, a)?,
+        Step::Compact => a.compact()?,
+        Step::Unordered => a.ask_for(false)?,
         _ => ask(rt, a, step)?,
     }
     Ok(())
@@ -187,17 +130,14 @@ fn take<B: Body + Drop>(rt: &impl Abort, a: &mut B, alloc: Global, step: Step) -
 
 fn ask<B: Body + Drop>(rt: &impl Abort, a: &mut B, step: Step) -> Result<(), Fail> {
     match step {
-        Step::Part(most, offset, text) => expect_chunk(rt, read(a, most, true)?, offset, text)?,
-        Step::Next(offset, text) => expect_chunk(rt, read(a, usize::MAX, true)?, offset, text)?,
-        Step::NoNext => is_true(rt, read(a, usize::MAX, true)?.is_none()),
-        Step::Some(most, offset, text) => expect_chunk(rt, read(a, most, false)?, offset, text)?,
-        Step::Any(offset, text) => expect_chunk(rt, read(a, usize::MAX, false)?, offset, text)?,
-        Step::NoAny => is_true(rt, read(a, usize::MAX, false)?.is_none()),
+        Step::Part(most, offset, text) => expect_chunk(rt, a.next(most, true)?, offset, text)?,
+        Step::Next(offset, text) => expect_chunk(rt, a.next(usize::MAX, true)?, offset, text)?,
+        Step::NoNext => is_true(rt, a.next(usize::MAX, true)?.is_none()),
+        Step::Any(offset, text) => expect_chunk(rt, a.next(usize::MAX, false)?, offset, text)?,
+        Step::NoAny => is_true(rt, a.next(usize::MAX, false)?.is_none()),
         Step::OrderedAgain => {
             same(rt, a.ask_for(true), Err(EnsureError::IllegalOrderedRead));
         }
-        Step::Clear => a.let_go(),
-        Step::Reinit => a.begin_again(),
         Step::Is(pieces, read) => same(rt, (a.held(), a.bytes_given()), (pieces, read)),
         _ => {}
     }

@@ -1,10 +1,8 @@
-//! Queues of datagrams and counters of frames. Where memory runs out, a test shows that all is as it was, and asks once
-//! more.
+//! Queues of datagrams and counters of frames.
 use quic_datagrams::{DatagramLimits, DatagramState, Datagrams, FrameStats, SendDatagramError};
-use quic_wire::frame::{Crypto, Datagram, ResetStream, StopSending, Stream};
+use quic_wire::frame::Datagram;
 use quic_wire::{
-    Bytes, DecodeError, Dir, Frame, OutOfMemory, ReceiveError, Side, StreamId, TransportError,
-    VarInt, decode,
+    Bytes, DecodeError, Dir, Frame, OutOfMemory, ReceiveError, TransportError, decode,
 };
 use std::alloc::Global;
 use std::fmt::Debug;
@@ -49,13 +47,13 @@ fn empty(alloc: Global) -> DatagramState {
     DatagramState::new(alloc)
 }
 
-fn try_send(
+fn send(
     state: &mut DatagramState,
     limits: DatagramLimits,
     bytes: Bytes,
     drop: bool,
-) -> Result<(), SendDatagramError> {
-    Datagrams::new(state, limits).send(bytes, drop)
+) -> Option<SendDatagramError> {
+    Datagrams::new(state, limits).send(bytes, drop).err()
 }
 
 fn space(state: &mut DatagramState, limits: DatagramLimits) -> usize {
@@ -104,19 +102,6 @@ fn no_frames() -> FrameStats {
 
 fn record(stats: &mut FrameStats, frame: &Frame) {
     stats.record(frame);
-}
-
-// Queues a datagram, and says why not. Where memory ran out, it is asked once more.
-fn send(
-    state: &mut DatagramState,
-    limits: DatagramLimits,
-    bytes: Bytes,
-    drop: bool,
-) -> Option<SendDatagramError> {
-    match try_send(state, limits, bytes, drop) {
-        Err(SendDatagramError::OutOfMemory(back)) => try_send(state, limits, back, drop).err(),
-        outcome => outcome.err(),
-    }
 }
 
 // The first byte and the length of each received datagram, the oldest first.
@@ -219,15 +204,6 @@ fn is_written(
         same(rt, buf.as_slice(), wanted);
     }
     Ok(())
-}
-
-fn drops_oversized(
-    rt: &impl Abort,
-    state: &mut DatagramState,
-    limits: DatagramLimits,
-    wanted: bool,
-) {
-    same(rt, drop_oversized(state, limits), wanted);
 }
 
 #[test]
@@ -354,31 +330,7 @@ fn drop_oversized_keeps_datagrams_at_limit(rt: HostRuntime) -> Result<(), Fail> 
     is_true(&rt, drop_longer(&mut state, 10));
     holds(&rt, &state, 0, 42);
     is_true(&rt, !drop_longer(&mut state, 10));
-    Ok(())
-}
-
-// Those that no longer fit the path go, and wake a blocked sender once.
-#[test]
-fn drop_oversized_wakes_a_blocked_sender(rt: HostRuntime) -> Result<(), Fail> {
-    let alloc = rt.alloc();
-    let mut state = empty(alloc);
-    let narrow = DatagramLimits {
-        max: Some(10),
-        ..LIMITS
-    };
-    let off = DatagramLimits {
-        max: None,
-        ..LIMITS
-    };
-    is_queued(&rt, &mut state, LIMITS, bytes(alloc, 11, 1)?, false);
-    is_blocked(&rt, &mut state, LIMITS, bytes(alloc, 1, 2)?)?;
-    drops_oversized(&rt, &mut state, off, false);
-    is_true(&rt, state.send_blocked);
-    drops_oversized(&rt, &mut state, narrow, true);
-    is_true(&rt, !state.send_blocked && state.outgoing.is_empty());
-    is_queued(&rt, &mut state, LIMITS, bytes(alloc, 11, 3)?, false);
-    drops_oversized(&rt, &mut state, narrow, false);
-    is_true(&rt, state.outgoing.is_empty());
+    is_true(&rt, !drop_oversized(&mut state, wide));
     Ok(())
 }
 
@@ -402,78 +354,6 @@ fn write_needs_the_room(rt: HostRuntime) -> Result<(), Fail> {
     is_written(&rt, &mut state, &mut buf, 4, b"\x31\x02hi")?;
     is_written(&rt, &mut state, &mut buf, 100, &[])?;
     same(&rt, decode(alloc, buf.as_slice())?.len(), 1);
-    Ok(())
-}
-
-// Four wait, in all the room that there is, so the fifth needs memory for its place.
-#[test]
-fn refused_send_drops_nothing(rt: HostRuntime) -> Result<(), Fail> {
-    let alloc = rt.alloc();
-    let mut state = empty(alloc);
-    let limits = DatagramLimits {
-        send: 4 * 33,
-        ..LIMITS
-    };
-    for value in 1..5 {
-        is_queued(&rt, &mut state, limits, bytes(alloc, 1, value)?, false);
-    }
-    let fifth = bytes(alloc, 1, 5)?;
-    match try_send(&mut state, limits, fifth, true) {
-        Err(SendDatagramError::OutOfMemory(back)) => {
-            same(&rt, back.as_slice(), [5].as_slice());
-            holds(&rt, &state, 0, 4 * 33);
-            is_queued(&rt, &mut state, limits, back, true);
-        }
-        outcome => same(&rt, outcome.err(), None),
-    }
-    let mut buf = Vec::with_capacity(alloc, 12)?;
-    for _ in 0..4 {
-        is_true(&rt, write(&mut state, &mut buf, 12)?);
-    }
-    same(
-        &rt,
-        buf.as_slice(),
-        [0x31, 1, 2, 0x31, 1, 3, 0x31, 1, 4, 0x31, 1, 5].as_slice(),
-    );
-    Ok(())
-}
-
-#[test]
-fn refused_received_drops_nothing(rt: HostRuntime) -> Result<(), Fail> {
-    let alloc = rt.alloc();
-    let mut state = empty(alloc);
-    let window = Some(4 * 33);
-    for value in 1..5 {
-        let first = state.incoming.is_empty();
-        if receive(&mut state, datagram(alloc, 1, value)?, window) != Ok(first) {
-            is_received(&rt, &mut state, datagram(alloc, 1, value)?, window, first);
-        }
-    }
-    if receive(&mut state, datagram(alloc, 1, 5)?, window) == Err(ReceiveError::OutOfMemory) {
-        holds(&rt, &state, 4 * 33, 0);
-        is_received(&rt, &mut state, datagram(alloc, 1, 5)?, window, false);
-    }
-    shows_received(&rt, &mut state, &[(2, 1), (3, 1), (4, 1), (5, 1)]);
-    Ok(())
-}
-
-#[test]
-fn refused_write_keeps_the_datagram(rt: HostRuntime) -> Result<(), Fail> {
-    let alloc = rt.alloc();
-    let mut state = empty(alloc);
-    is_queued(&rt, &mut state, LIMITS, bytes(alloc, 30, 1)?, false);
-    let mut buf = Vec::with_capacity(alloc, 1)?;
-    buf.push(0x30)?;
-    match write(&mut state, &mut buf, 33) {
-        Ok(wrote) => is_true(&rt, wrote),
-        Err(OutOfMemory) => {
-            same(&rt, buf.as_slice(), [0x30].as_slice());
-            holds(&rt, &state, 0, 62);
-            is_true(&rt, write(&mut state, &mut buf, 33)?);
-        }
-    }
-    same(&rt, buf.len(), 33);
-    is_true(&rt, state.outgoing.is_empty());
     Ok(())
 }
 
@@ -591,25 +471,6 @@ fn counters_stop(rt: HostRuntime) -> Result<(), Fail> {
     Ok(())
 }
 
-fn are_zero(rt: &impl Abort, alloc: Global, stats: FrameStats) -> Result<(), Fail> {
-    let wanted = concat!(
-        "FrameStats { ACK: 0, ACK_FREQUENCY: 0, CONNECTION_CLOSE: 0, CRYPTO: 0, DATA_BLOCKED: 0, DATAGRAM: 0, ",
-        "HANDSHAKE_DONE: 0, IMMEDIATE_ACK: 0, MAX_DATA: 0, MAX_STREAM_DATA: 0, MAX_STREAMS_BIDI: 0, ",
-        "MAX_STREAMS_UNI: 0, NEW_CONNECTION_ID: 0, NEW_TOKEN: 0, PATH_CHALLENGE: 0, PATH_RESPONSE: 0, PING: 0, ",
-        "RESET_STREAM: 0, RETIRE_CONNECTION_ID: 0, STREAM_DATA_BLOCKED: 0, STREAMS_BLOCKED_BIDI: 0, ",
-        "STREAMS_BLOCKED_UNI: 0, STOP_SENDING: 0, STREAM: 0 }"
-    );
-    same(rt, format!(in alloc; "{stats:?}")?.as_str(), wanted);
-    Ok(())
-}
-
-#[test]
-fn counters_begin_at_zero(rt: HostRuntime) -> Result<(), Fail> {
-    are_zero(&rt, rt.alloc(), FrameStats::default())?;
-    are_zero(&rt, rt.alloc(), no_frames())?;
-    Ok(())
-}
-
 // The name of each counter stands before its own number.
 #[test]
 fn counters_by_name(rt: HostRuntime) -> Result<(), Fail> {
@@ -647,81 +508,5 @@ fn counters_by_name(rt: HostRuntime) -> Result<(), Fail> {
         "STREAMS_BLOCKED_UNI: 22, STOP_SENDING: 23, STREAM: 24 }"
     );
     same(&rt, format!(in rt.alloc(); "{stats:?}")?.as_str(), wanted);
-    Ok(())
-}
-
-// One frame of each kind that speaks of streams and their limits.
-fn frames_of_streams(alloc: Global) -> Result<Vec<Frame>, OutOfMemory> {
-    let id = StreamId::new(Side::Client, Dir::Bi, 1);
-    let error_code = VarInt::from(7);
-    Ok(vec![in alloc;
-        Frame::ResetStream(ResetStream {
-            id,
-            error_code,
-            final_offset: error_code
-        }),
-        Frame::StopSending(StopSending { id, error_code }),
-        Frame::Stream(Stream {
-            id,
-            offset: 0,
-            fin: false,
-            bytes: Bytes::new(alloc)
-        }),
-        Frame::MaxData(error_code),
-        Frame::MaxStreamData { id, offset: 1 },
-        Frame::MaxStreams {
-            dir: Dir::Bi,
-            count: 1
-        },
-        Frame::MaxStreams {
-            dir: Dir::Uni,
-            count: 1
-        },
-        Frame::DataBlocked { offset: 1 },
-        Frame::StreamDataBlocked { id, offset: 1 },
-        Frame::StreamsBlocked { dir: Dir::Bi },
-        Frame::StreamsBlocked { dir: Dir::Uni },
-    ]?)
-}
-
-// One frame of each other kind.
-fn other_frames(alloc: Global) -> Result<Vec<Frame>, OutOfMemory> {
-    Ok(vec![in alloc;
-        Frame::Padding,
-        Frame::Ping,
-        Frame::Ack,
-        Frame::Crypto(Crypto {
-            offset: 0,
-            bytes: Bytes::new(alloc)
-        }),
-        Frame::NewToken,
-        Frame::NewConnectionId,
-        Frame::RetireConnectionId,
-        Frame::PathChallenge,
-        Frame::PathResponse,
-        Frame::Close,
-        Frame::Datagram(Datagram {
-            bytes: Bytes::new(alloc)
-        }),
-        Frame::AckFrequency,
-        Frame::ImmediateAck,
-        Frame::HandshakeDone,
-    ]?)
-}
-
-// Of 25 kinds with their directions all but padding have a counter, and each has its own.
-#[test]
-fn each_kind_is_counted_once(rt: HostRuntime) -> Result<(), Fail> {
-    let alloc = rt.alloc();
-    let mut stats = no_frames();
-    for frame in frames_of_streams(alloc)?.iter() {
-        record(&mut stats, frame);
-    }
-    for frame in other_frames(alloc)?.iter() {
-        record(&mut stats, frame);
-    }
-    let text = format!(in alloc; "{stats:?}")?;
-    same(&rt, text.as_str().matches(": 1").count(), 24);
-    same(&rt, text.as_str().matches(": ").count(), 24);
     Ok(())
 }

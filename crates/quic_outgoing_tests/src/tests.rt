@@ -6,15 +6,12 @@ mod params;
 mod refusals;
 mod sizes;
 mod transmitting;
-mod worked;
 
 use quic_outgoing::{OutgoingStreams, PeerLimits, WrittenFrame, Wrote};
 use quic_receiving::HandleError;
 use quic_retransmits::Retransmits;
-use quic_sending::{
-    ByteSlice, BytesArray, BytesSource, ClosedStream, FinishError, WriteError, Written,
-};
-use quic_values::{Bytes, Dir, OutOfMemory, Side, StreamId, VarInt};
+use quic_sending::{ByteSlice, BytesSource, ClosedStream, FinishError, WriteError};
+use quic_values::{Dir, OutOfMemory, Side, StreamId, VarInt};
 use std::alloc::Global;
 use std::fmt::Debug;
 use std::ops::Range;
@@ -58,9 +55,6 @@ enum Step {
     Write(u32, usize, Answer),
     Finish(u32, Answer),
     Reset(u32, u32, Answer),
-    // Whether it is the first.
-    Stop(u32, u32, bool),
-    Stopped(u32, Option<u64>),
     Streams(Dir, u64, Answer),
     Data(u32),
     // Whether the application is to be told that it may write.
@@ -70,8 +64,6 @@ enum Step {
     Window(u64),
     // Whether DATA_BLOCKED may be sent, and whether it is queued.
     Blocked(bool, bool),
-    // The limit of a stream that holds data back, and whether STREAM_DATA_BLOCKED is queued.
-    StreamBlocked(u32, Option<u64>, bool),
     SetPriority(u32, i32),
     Priority(u32, Option<i32>),
     Remove(u32),
@@ -79,8 +71,6 @@ enum Step {
     Holds(u32, bool),
     // Whether its index was not opened by this end.
     Unopened(u32, bool),
-    // How many RESET_STREAM frames are queued.
-    Resets(usize),
 }
 
 #[derive(Drop)]
@@ -131,18 +121,6 @@ fn set_priority(subject: &mut Subject, stream: u32, priority: i32) -> Result<(),
 
 fn priority(subject: &Subject, stream: u32) -> Result<i32, ClosedStream> {
     subject.state.priority(id(stream))
-}
-
-fn try_stop(subject: &mut Subject, stream: u32, code: VarInt) -> Result<bool, OutOfMemory> {
-    subject.state.stop(id(stream), code)
-}
-
-fn stop_reason(subject: &Subject, stream: u32) -> Result<Option<VarInt>, ClosedStream> {
-    subject.state.stopped(id(stream))
-}
-
-fn stream_blocked(subject: &Subject, stream: u32) -> Option<VarInt> {
-    subject.state.stream_data_blocked_limit(id(stream))
 }
 
 fn raise_streams(subject: &mut Subject, dir: Dir, count: u64) -> Answer {
@@ -276,20 +254,6 @@ fn write_bytes(alloc: Global, subject: &mut Subject, stream: StreamId, bytes: &[
     }
 }
 
-fn write_chunks(
-    alloc: Global,
-    subject: &mut Subject,
-    stream: StreamId,
-    chunks: &mut [Bytes],
-) -> Written {
-    let mut part = Bytes::new(alloc);
-    let mut source = BytesArray::from_chunks(alloc, chunks, &mut part);
-    match write(subject, stream, &mut source) {
-        Ok(wrote) => wrote.written,
-        Err(_) => Written::default(),
-    }
-}
-
 fn finish(subject: &mut Subject, stream: StreamId) -> Answer {
     match try_finish(subject, stream) {
         Ok(queue_at) => Answer::Done(queue_at.is_some()),
@@ -320,23 +284,6 @@ fn written(alloc: Global, subject: &mut Subject, stream: u32, count: usize) -> A
     write_bytes(alloc, subject, id(stream), bytes)
 }
 
-// The code of the first stop, if one came, of a stream that is held.
-fn stopped(subject: &Subject, stream: u32) -> Option<Option<u64>> {
-    match stop_reason(subject, stream) {
-        Ok(Some(code)) => Some(Some(code.into_inner())),
-        Ok(None) => Some(None),
-        Err(ClosedStream) => None,
-    }
-}
-
-fn blocked_limit(subject: &Subject, stream: u32) -> Option<u64> {
-    stream_blocked(subject, stream).map(VarInt::into_inner)
-}
-
-fn stop(subject: &mut Subject, stream: u32, code: u32) -> Result<bool, OutOfMemory> {
-    try_stop(subject, stream, VarInt::from(code))
-}
-
 // Whether the next frame of a stream carries this, and the end.
 fn sends(
     alloc: Global,
@@ -354,7 +301,6 @@ fn sends(
 // Takes a step, of which the state tells what it has to tell.
 fn ask(rt: &impl Abort, subject: &Subject, step: Step) {
     match step {
-        Step::Stopped(stream, code) => same(rt, stopped(subject, stream), Some(code)),
         Step::Limit(count) => same(rt, limit(subject), count),
         Step::Blocked(can, queued) => {
             same(
@@ -363,18 +309,9 @@ fn ask(rt: &impl Abort, subject: &Subject, step: Step) {
                 (can, queued),
             );
         }
-        Step::StreamBlocked(stream, limit, queued) => {
-            same(rt, blocked_limit(subject, stream), limit);
-            same(
-                rt,
-                subject.pending.stream_data_blocked.contains(id(stream)),
-                queued,
-            );
-        }
         Step::Priority(stream, number) => same(rt, priority(subject, stream).ok(), number),
         Step::Holds(stream, held) => same(rt, holds(subject, stream), held),
         Step::Unopened(stream, is) => same(rt, is_unopened(subject, stream), is),
-        Step::Resets(count) => same(rt, subject.pending.reset_stream.len(), count),
         _ => {}
     }
 }
@@ -390,7 +327,6 @@ fn take(rt: &impl Abort, alloc: Global, subject: &mut Subject, step: Step) {
         Step::Reset(stream, code, answer) => {
             same(rt, reset(subject, id(stream), code), answer);
         }
-        Step::Stop(stream, code, first) => same(rt, stop(subject, stream, code), Ok(first)),
         Step::Streams(dir, count, rose) => same(rt, raise_streams(subject, dir, count), rose),
         Step::Data(limit) => raise_data(subject, VarInt::from(limit)),
         Step::StreamData(stream, offset, tells) => {

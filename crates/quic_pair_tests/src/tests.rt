@@ -8,7 +8,6 @@ use std::process::Abort;
 use std::test::Fail;
 
 mod kinds;
-mod reports;
 mod settling;
 
 // Both are the same, or the test fails and shows them.

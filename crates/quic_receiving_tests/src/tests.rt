@@ -70,13 +70,10 @@ enum Step {
     Reset(u32, u64, Answer),
     // The credit, and whether to transmit.
     Stop(u64, bool),
-    StopAgain,
     // Reads in order, until one gives nothing: the bytes joined, and why it gave nothing.
-    Ordered(&'static [u8], Why),
-    Unordered(&'static [u8], Why),
+    Read(&'static [u8], Why),
     // The window, the limit to announce, and whether to transmit.
     Window(u64, u64, bool),
-    Sent(u64),
     // The highest offset, how many bytes were read, and whether the final size is unknown.
     Is(u64, u64, bool),
 }
@@ -111,16 +108,10 @@ fn try_reset(subject: &mut Subject, code: VarInt, size: VarInt) -> Result<bool, 
     subject.half.reset(code, size, received, max_data)
 }
 
-// Asks for a mode, which has to be given, and reads in it.
-fn next(
-    rt: &impl Abort,
-    half: &mut Recv,
-    most: usize,
-    ordered: bool,
-) -> Result<Option<Chunk>, ReadError> {
-    half.ensure_ordering(ordered)
-        .expect(rt, "the mode of reading");
-    half.next(most, ordered)
+// Asks for ordered mode, which has to be given, and reads in it.
+fn next(rt: &impl Abort, half: &mut Recv, most: usize) -> Result<Option<Chunk>, ReadError> {
+    half.ensure_ordering(true).expect(rt, "the mode of reading");
+    half.next(most, true)
 }
 
 fn stop(half: &mut Recv) -> Result<(u64, ShouldTransmit), ClosedStream> {
@@ -129,11 +120,6 @@ fn stop(half: &mut Recv) -> Result<(u64, ShouldTransmit), ClosedStream> {
 
 fn window(half: &Recv, size: u64) -> (u64, ShouldTransmit) {
     half.max_stream_data(size)
-}
-
-fn record_sent(rt: &impl Abort, half: &mut Recv, limit: u64) {
-    assert!(rt; limit < 1 << 62);
-    half.record_sent_max_stream_data(limit);
 }
 
 fn bytes_read(half: &Recv) -> u64 {
@@ -185,15 +171,10 @@ fn why_of(error: ReadError) -> Why {
 }
 
 // Reads chunks of at most 4 bytes, and joins them.
-fn read(
-    rt: &impl Abort,
-    alloc: Global,
-    half: &mut Recv,
-    ordered: bool,
-) -> Result<(Vec<u8>, Why), OutOfMemory> {
+fn read(rt: &impl Abort, alloc: Global, half: &mut Recv) -> Result<(Vec<u8>, Why), OutOfMemory> {
     let mut bytes = Vec::new(alloc);
     for _turn in 0..1000 {
-        match next(rt, half, 4, ordered) {
+        match next(rt, half, 4) {
             Ok(Some(chunk)) => bytes.extend_from_slice(chunk.bytes.as_slice())?,
             Ok(None) => return Ok((bytes, Why::Ended)),
             Err(error) => return Ok((bytes, why_of(error))),
@@ -207,13 +188,27 @@ fn expect_read(
     rt: &impl Abort,
     alloc: Global,
     half: &mut Recv,
-    ordered: bool,
     bytes: &[u8],
     why: Why,
 ) -> Result<(), OutOfMemory> {
-    let (given, answer) = read(rt, alloc, half, ordered)?;
+    let (given, answer) = read(rt, alloc, half)?;
     same(rt, given.as_slice(), bytes);
     same(rt, answer, why);
+    Ok(())
+}
+
+// A frame with these bytes comes to this answer.
+fn expect_answer(
+    rt: &impl Abort,
+    alloc: Global,
+    subject: &mut Subject,
+    place: (u64, bool),
+    bytes: &[u8],
+    answer: Answer,
+) -> Result<(), OutOfMemory> {
+    let (offset, fin) = place;
+    let given = ingest(rt, alloc, subject, offset, bytes, bytes.len(), fin)?;
+    same_for(rt, &offset, given, answer);
     Ok(())
 }
 
@@ -229,33 +224,15 @@ fn take(
             subject.max_data = max_data;
         }
         Step::Data(offset, bytes, answer) => {
-            same_for(
-                rt,
-                &offset,
-                ingest(rt, alloc, subject, offset, bytes, bytes.len(), false)?,
-                answer,
-            );
+            expect_answer(rt, alloc, subject, (offset, false), bytes, answer)?;
         }
         Step::Last(offset, bytes, answer) => {
-            same_for(
-                rt,
-                &offset,
-                ingest(rt, alloc, subject, offset, bytes, bytes.len(), true)?,
-                answer,
-            );
+            expect_answer(rt, alloc, subject, (offset, true), bytes, answer)?;
         }
         Step::Reset(code, size, answer) => {
             same_for(rt, &size, reset(rt, subject, code, size), answer);
         }
-        Step::Ordered(bytes, why) => expect_read(rt, alloc, &mut subject.half, true, bytes, why)?,
-        Step::Unordered(bytes, why) => expect_read(
-            rt,
-            alloc,
-            &mut subject.half,
-            false,
-            bytes,
-            why,
-        )?,
+        Step::Read(bytes, why) => expect_read(rt, alloc, &mut subject.half, bytes, why)?,
         _ => ask(rt, &mut subject.half, step),
     }
     Ok(())
@@ -267,15 +244,9 @@ fn ask(rt: &impl Abort, half: &mut Recv, step: Step) {
         Step::Stop(credit, transmit) => {
             same(rt, stop(half), Ok((credit, ShouldTransmit(transmit))));
         }
-        Step::StopAgain => {
-            same(rt, stop(half), Err(ClosedStream));
-        }
         Step::Window(size, limit, transmit) => {
             let wanted = (limit, ShouldTransmit(transmit));
             same(rt, window(half, size), wanted);
-        }
-        Step::Sent(limit) => {
-            record_sent(rt, half, limit);
         }
         Step::Is(end, read, unknown) => {
             let is = (half.end(), bytes_read(half), half.final_offset_unknown());

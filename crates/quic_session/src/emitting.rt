@@ -19,7 +19,7 @@ use std::mem;
 /// Which frames are to be written.
 #[derive(Clone, Copy, Debug, PartialEq, Eq)]
 pub struct Parts {
-    /// Those beside data: resets, stops, limits.
+    /// Control frames: resets, stops, limits.
     pub control: bool,
     /// Datagrams (RFC 9221).
     pub datagrams: bool,
@@ -64,7 +64,7 @@ impl Draft {
 
 #[tactic(auto, unfolding(crate::specs::Sessions::end_of))]
 impl Session {
-    /// Writes what is to be sent into `out`: of the parts that are named, frames beside data, then datagrams, then data.
+    /// Writes what is to be sent into `out`: of the parts that are named, control frames, then datagrams, then data.
     /// `None` where there was nothing. Where memory is wanting, the frames that were written before are the payload, and
     /// the call is refused only where there were none.
     pub fn emit(
@@ -160,7 +160,7 @@ impl Session {
         self.write_streams(draft, max_size, fair, parts.streams)
     }
 
-    // Writes the frames beside data, if they were asked for.
+    // Writes the control frames, if they were asked for.
     fn write_control(
         &mut self,
         draft: &mut Draft,

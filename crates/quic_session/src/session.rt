@@ -176,7 +176,7 @@ impl Session {
         &self.streams
     }
 
-    /// Whether something is to be sent beside data (RFC 9000 section 13.3).
+    /// Whether a control frame is to be sent (RFC 9000 section 13.3).
     pub fn has_pending(&self) -> bool
         ensures { TellsEmpty (end_of self.now).streams (end_of self.now).pending (not result) }
     {

@@ -1,4 +1,4 @@
-//! Tests of `quic_streams` by its public calls.
+//! Tests of the receiving side of `quic_streams`, and of what is pending, whole payloads and many sizes, by its public calls.
 #![tactic(auto)]
 
 #[cfg(test)]

@@ -69,15 +69,6 @@ fn a_run_that_is_cut_keeps_both_ends(rt: HostRuntime) -> Result<(), Fail> {
 }
 
 #[test]
-fn the_highest_numbers_are_kept(rt: HostRuntime) -> Result<(), Fail> {
-    let mut set = set_of(rt.alloc(), &[u64::MAX - 1..u64::MAX])?;
-    is_true(&rt, set.contains(u64::MAX - 1) && !set.contains(u64::MAX));
-    is_true(&rt, set.remove(0..u64::MAX)?);
-    is_runs(&rt, &mut set, &[]);
-    Ok(())
-}
-
-#[test]
 fn ids_have_their_bits(rt: HostRuntime) -> Result<(), Fail> {
     let samples = [
         (
@@ -146,27 +137,6 @@ fn numbers_are_printed_as_digits(rt: HostRuntime) -> Result<(), Fail> {
     same(&rt, VarInt::MAX.into_inner(), 4_611_686_018_427_387_903);
     let printed = format!(in rt.alloc(); "{}", OutOfMemory)?;
     same(&rt, printed.as_str(), "out of memory");
-    Ok(())
-}
-
-#[test]
-fn bytes_keep_what_was_not_let_go(rt: HostRuntime) -> Result<(), Fail> {
-    let mut bytes = Bytes::from(Vec::from_slice(rt.alloc(), b"hello world")?);
-    same(&rt, bytes.len(), 11);
-    let front = bytes.split_to(2)?;
-    same(&rt, front.as_slice(), b"he".as_slice());
-    same(&rt, bytes.len(), 9);
-    bytes.advance(4);
-    bytes.extend_from_slice(b"!")?;
-    let copy = bytes.try_clone()?;
-    is_true(&rt, copy == bytes && !bytes.is_empty());
-    let content = bytes.into_vec();
-    same(&rt, content.as_slice(), b"world!".as_slice());
-    let mut cut = copy;
-    cut.advance(2);
-    let (whole, gone) = cut.into_parts();
-    same(&rt, whole.get(gone..), Some(b"rld!".as_slice()));
-    is_true(&rt, Bytes::new(rt.alloc()).is_empty());
     Ok(())
 }
 
@@ -265,25 +235,6 @@ fn chunks_of(alloc: Global, chunks: &[&[u8]]) -> Result<ChunkList, OutOfMemory> 
         list.push(chunk)?;
     }
     Ok(list)
-}
-
-fn has_chunks(rt: &impl Abort, list: &ChunkList, chunks: &[&[u8]]) {
-    same(rt, list.len(), chunks.len());
-    for (index, chunk) in chunks.iter().enumerate() {
-        match list.get(index) {
-            Some(bytes) => same(rt, bytes, *chunk),
-            None => panic!(rt; "no chunk {index}"),
-        }
-    }
-    is_true(rt, list.get(chunks.len()).is_none());
-}
-
-#[test]
-fn chunks_keep_where_they_are_parted(rt: HostRuntime) -> Result<(), Fail> {
-    let list = chunks_of(rt.alloc(), &[b"", b"ab", b"", b"c"])?;
-    has_chunks(&rt, &list, &[b"", b"ab", b"", b"c"]);
-    has_chunks(&rt, &ChunkList::new(rt.alloc()), &[]);
-    Ok(())
 }
 
 #[test]

@@ -1,5 +1,4 @@
-//! Payloads of several streams, and what each has to be. Where memory runs out the writer is asked once more, and the
-//! payload has to be as if it had not been.
+//! Payloads of several streams, and what each has to be.
 ghost use Rattle.std.specs.Prelude.{◌<◌};
 
 use quic_outgoing::{OutgoingStreams, PeerLimits};
@@ -83,31 +82,17 @@ fn write(session: &mut Session, stream: u32, byte: u8, count: usize) -> Result<(
     }
 }
 
-fn finish(session: &mut Session, stream: u32) -> Result<(), OutOfMemory> {
-    match session.streams.finish(id(stream)) {
-        Ok(queue_at) => put(session, stream, queue_at),
-        Err(_) => Err(OutOfMemory),
-    }
-}
-
 // Fills the next payload.
-fn fill(session: &mut Session, max_size: usize, fair: bool) -> Result<(), OutOfMemory> {
+fn fill(session: &mut Session, max_size: usize) -> Result<(), OutOfMemory> {
     session.buf.clear();
     session.sent.clear();
-    if again(session, max_size, fair).is_err() {
-        again(session, max_size, fair)?;
-    }
-    Ok(())
-}
-
-fn again(session: &mut Session, max_size: usize, fair: bool) -> Result<(), OutOfMemory> {
     write_stream_frames(
         &mut session.streams,
         &mut session.queue,
         &mut session.buf,
         &mut session.sent,
         max_size,
-        fair,
+        true,
     )
 }
 
@@ -130,7 +115,7 @@ fn two_streams(alloc: Global) -> Result<Session, OutOfMemory> {
 #[test]
 fn two_streams_in_turn(rt: HostRuntime) -> Result<(), Fail> {
     let mut session = two_streams(rt.alloc())?;
-    fill(&mut session, 30, true)?;
+    fill(&mut session, 30)?;
     is_true(&rt, is_filled(&session, &[0x08, 0x02], b'a', 28));
     let first = session.sent.as_slice();
     same(&rt, first.len(), 1);
@@ -140,144 +125,14 @@ fn two_streams_in_turn(rt: HostRuntime) -> Result<(), Fail> {
             .iter()
             .all(|m| m.id == id(2) && m.offsets == (0..28) && !m.fin),
     );
-    fill(&mut session, 30, true)?;
+    fill(&mut session, 30)?;
     is_true(&rt, is_filled(&session, &[0x08, 0x06], b'b', 28));
-    fill(&mut session, 30, true)?;
+    fill(&mut session, 30)?;
     is_true(&rt, is_filled(&session, &[0x0e, 0x02, 0x1c, 0x02], b'a', 2));
-    fill(&mut session, 30, true)?;
+    fill(&mut session, 30)?;
     is_true(&rt, is_filled(&session, &[0x0e, 0x06, 0x1c, 0x02], b'b', 2));
-    fill(&mut session, 30, true)?;
+    fill(&mut session, 30)?;
     is_true(&rt, is_filled(&session, &[], 0, 0));
-    Ok(())
-}
-
-#[test]
-fn one_stream_to_its_end(rt: HostRuntime) -> Result<(), Fail> {
-    let mut session = two_streams(rt.alloc())?;
-    fill(&mut session, 30, false)?;
-    is_true(&rt, is_filled(&session, &[0x08, 0x02], b'a', 28));
-    fill(&mut session, 30, false)?;
-    is_true(&rt, is_filled(&session, &[0x0e, 0x02, 0x1c, 0x02], b'a', 2));
-    fill(&mut session, 30, false)?;
-    is_true(&rt, is_filled(&session, &[0x08, 0x06], b'b', 28));
-    fill(&mut session, 30, false)?;
-    is_true(&rt, is_filled(&session, &[0x0e, 0x06, 0x1c, 0x02], b'b', 2));
-    Ok(())
-}
-
-// A queued stream stays where it is, and is put anew at its present priority.
-#[test]
-fn a_new_priority_counts_from_the_next_turn_on(rt: HostRuntime) -> Result<(), Fail> {
-    let mut session = two_streams(rt.alloc())?;
-    is_true(&rt, session.streams.set_priority(id(2), -1).is_ok());
-    fill(&mut session, 30, true)?;
-    is_true(&rt, is_filled(&session, &[0x08, 0x02], b'a', 28));
-    fill(&mut session, 30, true)?;
-    is_true(&rt, is_filled(&session, &[0x08, 0x06], b'b', 28));
-    fill(&mut session, 30, true)?;
-    is_true(&rt, is_filled(&session, &[0x0e, 0x06, 0x1c, 0x02], b'b', 2));
-    fill(&mut session, 30, true)?;
-    is_true(&rt, is_filled(&session, &[0x0e, 0x02, 0x1c, 0x02], b'a', 2));
-    Ok(())
-}
-
-// The same where a stream that has more is kept back: it keeps its place at the old priority too.
-#[test]
-fn a_new_priority_of_a_stream_that_is_kept_back(rt: HostRuntime) -> Result<(), Fail> {
-    let mut session = two_streams(rt.alloc())?;
-    is_true(&rt, session.streams.set_priority(id(2), -1).is_ok());
-    fill(&mut session, 30, false)?;
-    is_true(&rt, is_filled(&session, &[0x08, 0x02], b'a', 28));
-    fill(&mut session, 30, false)?;
-    is_true(&rt, is_filled(&session, &[0x0e, 0x02, 0x1c, 0x02], b'a', 2));
-    fill(&mut session, 30, false)?;
-    is_true(&rt, is_filled(&session, &[0x08, 0x06], b'b', 28));
-    Ok(())
-}
-
-// A stream that was kept back is put anew at the end of a fair turn, at the priority that it has then.
-#[test]
-fn a_fair_turn_of_a_stream_that_was_kept_back(rt: HostRuntime) -> Result<(), Fail> {
-    for priority in [0, 1] {
-        let mut session = client(rt.alloc(), 2)?;
-        write(&mut session, 2, b'a', 60)?;
-        write(&mut session, 6, b'b', 30)?;
-        fill(&mut session, 30, false)?;
-        is_true(&rt, is_filled(&session, &[0x08, 0x02], b'a', 28));
-        is_true(&rt, !session.queue.keeps_none());
-        is_true(&rt, session.streams.set_priority(id(2), priority).is_ok());
-        fill(&mut session, 30, true)?;
-        is_true(&rt, is_filled(&session, &[0x0c, 0x02, 0x1c], b'a', 27));
-        is_true(&rt, session.queue.keeps_none());
-        fill(&mut session, 30, true)?;
-        if priority == 0 {
-            is_true(&rt, is_filled(&session, &[0x08, 0x06], b'b', 28));
-        } else {
-            is_true(&rt, is_filled(&session, &[0x0e, 0x02, 0x37, 0x05], b'a', 5));
-        }
-    }
-    Ok(())
-}
-
-#[test]
-fn an_end_behind_its_bytes(rt: HostRuntime) -> Result<(), Fail> {
-    let mut session = client(rt.alloc(), 1)?;
-    write(&mut session, 2, b'h', 2)?;
-    fill(&mut session, 100, true)?;
-    is_true(
-        &rt,
-        is_filled(&session, &[0x0a, 0x02, 0x02, b'h', b'h'], 0, 0),
-    );
-    finish(&mut session, 2)?;
-    fill(&mut session, 100, true)?;
-    is_true(&rt, is_filled(&session, &[0x0f, 0x02, 0x02, 0x00], 0, 0));
-    Ok(())
-}
-
-#[test]
-fn higher_priorities_first(rt: HostRuntime) -> Result<(), Fail> {
-    let mut session = client(rt.alloc(), 3)?;
-    is_true(&rt, session.streams.set_priority(id(2), i32::MIN).is_ok());
-    is_true(&rt, session.streams.set_priority(id(6), i32::MAX).is_ok());
-    write(&mut session, 2, b'a', 1)?;
-    write(&mut session, 6, b'b', 1)?;
-    write(&mut session, 10, b'c', 1)?;
-    fill(&mut session, 60, true)?;
-    is_true(
-        &rt,
-        is_filled(
-            &session,
-            &[
-                0x0a, 0x06, 0x01, b'b', 0x0a, 0x0a, 0x01, b'c', 0x0a, 0x02, 0x01, b'a',
-            ],
-            0,
-            0,
-        ),
-    );
-    Ok(())
-}
-
-#[test]
-fn a_reset_stream_is_let_go(rt: HostRuntime) -> Result<(), Fail> {
-    let mut session = two_streams(rt.alloc())?;
-    let code = VarInt::from(7);
-    let reset = session.streams.reset(&mut session.pending, id(2), code);
-    is_true(&rt, reset.is_ok());
-    session.streams.remove(id(6));
-    fill(&mut session, 100, true)?;
-    is_true(&rt, is_filled(&session, &[], 0, 0));
-    is_true(&rt, session.queue.is_empty());
-    Ok(())
-}
-
-#[test]
-fn no_frame_where_the_greatest_head_does_not_fit(rt: HostRuntime) -> Result<(), Fail> {
-    let mut session = client(rt.alloc(), 1)?;
-    write(&mut session, 2, b'a', 1)?;
-    fill(&mut session, 25, true)?;
-    is_true(&rt, is_filled(&session, &[], 0, 0));
-    fill(&mut session, 26, true)?;
-    is_true(&rt, is_filled(&session, &[0x0a, 0x02, 0x01], b'a', 1));
     Ok(())
 }
 
@@ -304,7 +159,7 @@ fn a_thousand_priorities(rt: HostRuntime) -> Result<(), Fail> {
     }
     let mut left = u64::from(MANY);
     for _ in 0..MANY {
-        fill(&mut session, 100, true)?;
+        fill(&mut session, 100)?;
         for meta in session.sent.as_slice() {
             left = left.wrapping_sub(1);
             same(&rt, rank(meta.id.index()), left);

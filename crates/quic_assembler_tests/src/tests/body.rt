@@ -25,10 +25,6 @@ pub(super) trait Body {
 
     fn compact(&mut self) -> Result<(), OutOfMemory>;
 
-    fn let_go(&mut self);
-
-    fn begin_again(&mut self);
-
     fn held(&self) -> usize;
 
     fn bytes_given(&self) -> u64;
@@ -59,14 +55,6 @@ impl Body for HeapAssembler {
 
     fn compact(&mut self) -> Result<(), OutOfMemory> {
         self.defragment()
-    }
-
-    fn let_go(&mut self) {
-        self.clear();
-    }
-
-    fn begin_again(&mut self) {
-        self.reinit();
     }
 
     fn held(&self) -> usize {
@@ -103,14 +91,6 @@ impl Body for Assembler {
 
     fn compact(&mut self) -> Result<(), OutOfMemory> {
         self.defragment()
-    }
-
-    fn let_go(&mut self) {
-        self.clear();
-    }
-
-    fn begin_again(&mut self) {
-        self.reinit();
     }
 
     fn held(&self) -> usize {

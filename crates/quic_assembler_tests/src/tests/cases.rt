@@ -240,25 +240,3 @@ fn takes_long_streams(rt: HostRuntime) -> Result<(), Fail> {
     run(&rt, rt.alloc(), &NO_LOSS)?;
     run(&rt, rt.alloc(), &WITH_GAPS)
 }
-
-const ANEW: [Step; 14] = [
-    Step::Put(0, "abc"),
-    Step::Unordered,
-    Step::Any(0, "abc"),
-    Step::Reinit,
-    Step::Is(0, 0),
-    Step::Put(0, "abc"),
-    Step::Next(0, "abc"),
-    Step::Put(3, "def"),
-    Step::Clear,
-    Step::Is(0, 3),
-    Step::NoNext,
-    Step::Put(3, "xyz"),
-    Step::Next(3, "xyz"),
-    Step::NoNext,
-];
-
-#[test]
-fn begins_anew(rt: HostRuntime) -> Result<(), Fail> {
-    run(&rt, rt.alloc(), &ANEW)
-}

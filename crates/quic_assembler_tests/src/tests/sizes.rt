@@ -1,5 +1,5 @@
 // With ample memory no size is refused.
-use super::{Assembler, Body, Fail, HeapAssembler, insert, is_true, read, same, same_for};
+use super::{Assembler, Body, Fail, HeapAssembler, insert, same, same_for};
 use std::alloc::{AllocError, Global};
 use std::process::Abort;
 
@@ -36,7 +36,7 @@ fn pass<B: Body + Drop>(
     );
     let mut given = Vec::new(alloc);
     for most in [seed as usize % (size + 1), usize::MAX] {
-        if let Some(chunk) = read(a, most, true)? {
+        if let Some(chunk) = a.next(most, true)? {
             given.extend_from_slice(chunk.bytes.as_slice())?;
         }
     }
@@ -77,7 +77,7 @@ fn pass_backwards<B: Body + Drop>(rt: &impl Abort, alloc: Global) -> Result<(), 
     }
     let mut given = Vec::new(alloc);
     for _ in 0..3000 {
-        if let Some(chunk) = read(&mut a, usize::MAX, true)? {
+        if let Some(chunk) = a.next(usize::MAX, true)? {
             given.extend_from_slice(chunk.bytes.as_slice())?;
         }
     }

@@ -98,21 +98,3 @@ fn replays_unordered_reads(rt: HostRuntime) -> Result<(), Fail> {
     assert_replay_apart(&rt, alloc, &ops, Ok(()), &wanted);
     Ok(())
 }
-
-#[test]
-fn stops_at_a_bad_piece(rt: HostRuntime) -> Result<(), Fail> {
-    let alloc = rt.alloc();
-    let ops = vec![in alloc;
-        insert(alloc, 0, "ab", 2)?,
-        Op::Read { max_length: READ },
-        insert(alloc, 2, "cd", 1)?,
-        Op::Read { max_length: READ },
-    ]?;
-    let bad = Err(ReplayError::BadPiece);
-    assert_replay(&rt, alloc, &ops, bad, &[(0, "ab")]);
-    assert_replay_apart(&rt, alloc, &ops, bad, &[(0, "ab")]);
-    let ops = vec![in alloc; insert(alloc, (1 << 62) - 2, "ab", 2)?]?;
-    assert_replay(&rt, alloc, &ops, bad, &[]);
-    assert_replay_apart(&rt, alloc, &ops, bad, &[]);
-    Ok(())
-}

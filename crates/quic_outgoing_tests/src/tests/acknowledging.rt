@@ -1,5 +1,5 @@
 // Acknowledgements and losses of frames.
-use super::{Answer, Step, Subject, ack, end, holds, id, is_true, limit, lose, run, same, sends};
+use super::{Answer, Step, Subject, ack, end, holds, is_true, limit, lose, run, same, sends};
 use quic_values::{Dir, Side};
 use std::process::Abort;
 use std::rt::HostRuntime;
@@ -44,14 +44,6 @@ fn lost(
     }
 }
 
-fn is_reset(subject: &Subject, stream: u32) -> bool {
-    subject.state.is_reset(id(stream))
-}
-
-fn reset_acked(subject: &mut Subject, stream: u32) -> bool {
-    subject.state.reset_acked(id(stream))
-}
-
 #[test]
 fn what_is_acknowledged_is_released(rt: HostRuntime) -> Result<(), Fail> {
     let alloc = rt.alloc();
@@ -74,28 +66,6 @@ fn what_is_acknowledged_is_released(rt: HostRuntime) -> Result<(), Fail> {
     run(&rt, alloc, &mut subject, &[Step::Limit(0)]);
     same(&rt, acked(&rt, &mut subject, 2, 0, 4, false), false);
     run(&rt, alloc, &mut subject, &[Step::Limit(8)]);
-    Ok(())
-}
-
-#[test]
-fn complete_streams_are_let_go(rt: HostRuntime) -> Result<(), Fail> {
-    let alloc = rt.alloc();
-    let mut subject = end(alloc, Side::Client, 1, 100, 100);
-    let steps = [
-        Step::Open(Dir::Uni, Some(2)),
-        Step::Write(2, 8, Answer::Took(8, true)),
-        Step::Finish(2, Answer::Done(false)),
-    ];
-    run(&rt, alloc, &mut subject, &steps);
-    is_true(&rt, sends(alloc, &mut subject, 2, 0..8, true));
-    // The end alone is not all.
-    same(&rt, acked(&rt, &mut subject, 2, 8, 8, true), false);
-    same(&rt, acked(&rt, &mut subject, 2, 4, 8, false), false);
-    run(&rt, alloc, &mut subject, &[Step::Holds(2, true)]);
-    same(&rt, acked(&rt, &mut subject, 2, 0, 4, false), true);
-    run(&rt, alloc, &mut subject, &[Step::Holds(2, false)]);
-    same(&rt, acked(&rt, &mut subject, 2, 0, 4, false), false);
-    same(&rt, lost(&rt, &mut subject, 2, 0, 4, true), None);
     Ok(())
 }
 
@@ -125,32 +95,5 @@ fn what_is_lost_is_due_again(rt: HostRuntime) -> Result<(), Fail> {
     is_true(&rt, sends(alloc, &mut subject, 2, 8..8, true));
     same(&rt, lost(&rt, &mut subject, 2, 8, 8, true), Some(7));
     same(&rt, lost(&rt, &mut subject, 2, 8, 8, true), None);
-    Ok(())
-}
-
-#[test]
-fn acknowledged_resets_let_go(rt: HostRuntime) -> Result<(), Fail> {
-    let alloc = rt.alloc();
-    let mut subject = end(alloc, Side::Client, 1, 100, 100);
-    let steps = [
-        Step::Open(Dir::Uni, Some(2)),
-        Step::Write(2, 8, Answer::Took(8, true)),
-    ];
-    run(&rt, alloc, &mut subject, &steps);
-    is_true(&rt, !reset_acked(&mut subject, 2));
-    run(
-        &rt,
-        alloc,
-        &mut subject,
-        &[Step::Reset(2, 1, Answer::Done(false)), Step::Holds(2, true)],
-    );
-    is_true(&rt, is_reset(&subject, 2));
-    same(&rt, acked(&rt, &mut subject, 2, 0, 8, true), false);
-    same(&rt, lost(&rt, &mut subject, 2, 0, 8, true), None);
-    run(&rt, alloc, &mut subject, &[Step::Holds(2, true)]);
-    is_true(&rt, reset_acked(&mut subject, 2));
-    run(&rt, alloc, &mut subject, &[Step::Holds(2, false)]);
-    is_true(&rt, !reset_acked(&mut subject, 2));
-    is_true(&rt, !is_reset(&subject, 2));
     Ok(())
 }

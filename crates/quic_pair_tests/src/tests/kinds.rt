@@ -3,7 +3,7 @@
 ghost use Rattle.std.specs.Prelude.{IfOk};
 ghost use Rattle.std.specs.List.{zip};
 ghost use Rattle.quic_pair.specs.State.{pair_view};
-ghost use Rattle.quic_pair.specs.From.{PairFrom};
+ghost use Rattle.quic_pair.specs.From.{PairFrom, at_once};
 
 use super::{bytes, config, is_true, payload, same};
 use quic_assembler::Chunk;
@@ -22,7 +22,7 @@ struct Taken {
 }
 
 fn take_all(alloc: Global, a: Config, b: Config, steps: Vec<Step>) -> Result<Taken, OutOfMemory>
-    ensures { IfOk result (λ taken. PairFrom a b (zip steps.items taken.replies.items) (pair_view taken.pair)) }
+    ensures { IfOk result (λ taken. PairFrom (at_once a b) (zip steps.items taken.replies.items) (pair_view taken.pair)) }
 {
     let mut pair = Pair::new(alloc, a, b)?;
     let replies = pair.run(steps)?;

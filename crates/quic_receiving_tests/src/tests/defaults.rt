@@ -1,12 +1,15 @@
 // What a value is by default, in which order its cases stand, and how it is shown.
 use super::{is_true, same};
-use quic_receiving::{ClosedStream, HandleError, ReadError, ReadableError, ShouldTransmit};
+use quic_receiving::{
+    ClosedStream, HandleError, ReadError, ReadableError, RecvState, ShouldTransmit,
+};
 use quic_values::VarInt;
 use std::test::Fail;
 
 #[test]
 fn nothing_is_to_be_sent_by_default(rt: HostRuntime) -> Result<(), Fail> {
     same(&rt, ShouldTransmit::default(), ShouldTransmit(false));
+    same(&rt, RecvState::default(), RecvState::Recv { size: None });
     same(&rt, ClosedStream::default(), ClosedStream);
     Ok(())
 }

@@ -1,6 +1,5 @@
 use super::{
-    Answer, FINAL_SIZE, FLOW_CONTROL, INTERNAL, Step, Why, ingest, is_true, run, same, same_for,
-    take,
+    Answer, FINAL_SIZE, FLOW_CONTROL, INTERNAL, Step, Why, ingest, is_true, run, same_for, take,
 };
 use std::test::Fail;
 
@@ -48,23 +47,6 @@ fn the_greatest_offset_is_taken(rt: HostRuntime) -> Result<(), Fail> {
     Ok(())
 }
 
-const EARLY_END: [Step; 8] = [
-    Step::Data(0, TEN, Answer::New(10)),
-    Step::Last(0, FIVE, FINAL_SIZE),
-    Step::Is(10, 0, true),
-    Step::Ordered(TEN, Why::Blocked),
-    Step::Stop(0, true),
-    Step::Last(0, FIVE, FINAL_SIZE),
-    Step::Last(10, b"ab", Answer::Closes(2)),
-    Step::Is(12, 10, false),
-];
-
-#[test]
-fn an_end_below_what_came_is_refused(rt: HostRuntime) -> Result<(), Fail> {
-    let _ = run(&rt, rt.alloc(), 100, &EARLY_END)?;
-    Ok(())
-}
-
 const TOLD_END: [Step; 8] = [
     Step::Last(0, TEN, Answer::New(10)),
     Step::Data(0, b"0123456789a", FINAL_SIZE),
@@ -73,39 +55,19 @@ const TOLD_END: [Step; 8] = [
     Step::Is(10, 0, false),
     Step::Reset(7, 9, FINAL_SIZE),
     Step::Reset(7, 10, Answer::First),
-    Step::Ordered(b"", Why::Reset(7)),
+    Step::Read(b"", Why::Reset(7)),
 ];
 
 const LOW_RESET: [Step; 3] = [
     Step::Data(0, TEN, Answer::New(10)),
     Step::Reset(7, 9, FINAL_SIZE),
-    Step::Ordered(TEN, Why::Blocked),
+    Step::Read(TEN, Why::Blocked),
 ];
 
 #[test]
 fn a_final_size_stays(rt: HostRuntime) -> Result<(), Fail> {
     let _ = run(&rt, rt.alloc(), 100, &TOLD_END)?;
     let _ = run(&rt, rt.alloc(), 100, &LOW_RESET)?;
-    Ok(())
-}
-
-const RESETS: [Step; 10] = [
-    Step::Data(0, &[7; 2048], Answer::New(2048)),
-    Step::Reset(7, 4097, FLOW_CONTROL),
-    Step::Reset(7, 4096, Answer::First),
-    Step::Is(4096, 0, false),
-    Step::Reset(8, 4096, Answer::Again),
-    Step::Reset(8, 4095, FINAL_SIZE),
-    Step::Ordered(b"", Why::Reset(7)),
-    Step::Stop(0, false),
-    Step::StopAgain,
-    Step::Is(4096, 0, false),
-];
-
-#[test]
-fn a_second_reset_changes_nothing(rt: HostRuntime) -> Result<(), Fail> {
-    let subject = run(&rt, rt.alloc(), 4096, &RESETS)?;
-    is_true(&rt, !subject.half.is_receiving());
     Ok(())
 }
 
@@ -124,14 +86,11 @@ const STOPPED: [Step; 10] = [
 
 #[test]
 fn a_stopped_half_counts_without_storing(rt: HostRuntime) -> Result<(), Fail> {
-    let mut subject = run(&rt, rt.alloc(), 8, &STOPPED)?;
+    let subject = run(&rt, rt.alloc(), 8, &STOPPED)?;
     is_true(
         &rt,
         subject.half.is_stopped() && !subject.half.can_send_flow_control(),
     );
-    subject.half.reinit(8);
-    is_true(&rt, subject.half.can_send_flow_control());
-    same(&rt, subject.half.end(), 0);
     Ok(())
 }
 
@@ -140,7 +99,7 @@ const CROWDED: [Step; 6] = [
     Step::Is(8196, 0, false),
     Step::Data(8196, b"x", FINAL_SIZE),
     Step::Data(0, b"x", INTERNAL),
-    Step::Ordered(b"xgap", Why::Blocked),
+    Step::Read(b"xgap", Why::Blocked),
     Step::Is(8196, 4, false),
 ];
 

@@ -25,7 +25,7 @@ fn read(
     most: usize,
     given: &mut Vec<u8>,
 ) -> Result<(), AllocError> {
-    match next(rt, &mut subject.half, most, true) {
+    match next(rt, &mut subject.half, most) {
         Ok(Some(chunk)) => given.extend_from_slice(chunk.bytes.as_slice()),
         answer => {
             same(rt, answer, Err(ReadError::Blocked));

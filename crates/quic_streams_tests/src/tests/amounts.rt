@@ -1,9 +1,11 @@
 // Bytes of a stream and entries beside STREAM, in sizes on both sides of powers of two.
-use super::calls::{Subject, merge, nothing_pending};
-use super::control::{Payload, new_payload, write_control};
-use super::sending::{end, open_one, reset_one, write_one};
-use super::{WINDOW, client, id, is_true, pattern, same, same_for};
+use super::{is_true, same, same_for};
+use quic_sending::WriteError;
 use quic_streams::{Retransmits, StreamMetaVec};
+use quic_streams_subject::frames::{
+    Payload, WINDOW, client, end, id, new_payload, pattern, write_control,
+};
+use quic_streams_subject::subject::{Subject, merge, nothing_pending};
 use quic_values::{Dir, OutOfMemory, Side, VarInt};
 use quic_wire::StreamEvent;
 use quic_wire::frame::StreamMeta;
@@ -164,7 +166,7 @@ fn pass(
     max: usize,
 ) -> Result<(), Fail> {
     let content = pattern(alloc, 0, size)?;
-    is_true(rt, open_one(subject, Dir::Uni, stream));
+    same(rt, subject.open(Dir::Uni)?, Some(id(stream)));
     // A write of nothing would queue the stream as well.
     if size > 0 {
         let written = subject.write(stream, content.as_slice());
@@ -213,13 +215,13 @@ fn every_size_is_sent_lost_and_acknowledged(rt: HostRuntime) -> Result<(), Fail>
 // Queues an entry of each of four kinds: for streams 0, 2 and 3, or those so many times 4 behind them.
 fn queue_entry(rt: &impl Abort, subject: &mut Subject, index: u32) -> Result<(), OutOfMemory> {
     let first = index.wrapping_mul(4);
-    is_true(rt, open_one(subject, Dir::Bi, first));
-    same(rt, write_one(subject, first, 2), Some(1));
-    same(rt, write_one(subject, first, 1), None);
+    same(rt, subject.open(Dir::Bi)?, Some(id(first)));
+    same(rt, subject.write(first, b"th"), Ok(1));
+    same(rt, subject.write(first, b"i"), Err(WriteError::Blocked));
     subject.queue_window(first)?;
     let own = first.wrapping_add(2);
-    is_true(rt, open_one(subject, Dir::Uni, own));
-    is_true(rt, reset_one(subject, own, 7));
+    same(rt, subject.open(Dir::Uni)?, Some(id(own)));
+    is_true(rt, subject.reset(own, 7).is_ok());
     let theirs = first.wrapping_add(3);
     is_true(rt, subject.stop(theirs, 9).is_ok());
     Ok(())

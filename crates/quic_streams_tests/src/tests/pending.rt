@@ -1,8 +1,9 @@
 // What counts of what is pending: a frame that would be dropped does not.
-use super::calls::{Subject, nothing_noted, nothing_pending};
-use super::sending::{Done, Step, end, take};
-use super::{WINDOW, add_stream_blocked, add_window, client, id, is_true, same_for};
+use super::{Step, TAKEN, is_true, run, same, same_for};
+use quic_sending::WriteError;
 use quic_streams::{IssuedCid, Retransmits, ThinRetransmits};
+use quic_streams_subject::frames::{WINDOW, add_stream_blocked, add_window, client, end, id};
+use quic_streams_subject::subject::{Subject, nothing_noted, nothing_pending};
 use quic_values::{Bytes, Dir, OutOfMemory, Side, VarInt};
 use quic_wire::frame::{Crypto, StopSending};
 use std::alloc::Global;
@@ -111,18 +112,6 @@ fn counts(
     Ok(())
 }
 
-const OPENED: [Step; 2] = [Step::Open(Dir::Uni, Some(2)), Step::Open(Dir::Uni, Some(6))];
-
-const STREAM_BLOCKED: [Step; 2] = [
-    Step::Write(6, 3, Done::Took(2)),
-    Step::Write(6, 1, Done::Blocked),
-];
-
-const BLOCKED: [Step; 2] = [
-    Step::Write(2, 3, Done::Took(2)),
-    Step::Write(2, 1, Done::Blocked),
-];
-
 const AT_FIRST: [Case; 2] = [(0, &[], true), (2, &[2, 6, 10], true)];
 
 const WHILE_STREAM_BLOCKED: [Case; 3] = [
@@ -131,15 +120,22 @@ const WHILE_STREAM_BLOCKED: [Case; 3] = [
     (0, &[], true),
 ];
 
+// Writes two bytes on a stream, and is refused a third.
+fn write_all(rt: &impl Abort, subject: &mut Subject, stream: u32) {
+    same(rt, subject.write(stream, b"thi"), Ok(2));
+    same(rt, subject.write(stream, b"i"), Err(WriteError::Blocked));
+}
+
 #[test]
 fn limits_count_while_they_hold_data_back(rt: HostRuntime) -> Result<(), Fail> {
     let alloc = rt.alloc();
     let mut subject = end(alloc, Side::Client, 2, 4, 2)?;
-    take(&rt, alloc, &mut subject, &OPENED)?;
+    same(&rt, subject.open(Dir::Uni)?, Some(id(2)));
+    same(&rt, subject.open(Dir::Uni)?, Some(id(6)));
     counts(&rt, alloc, &subject, &AT_FIRST)?;
-    take(&rt, alloc, &mut subject, &STREAM_BLOCKED)?;
+    write_all(&rt, &mut subject, 6);
     counts(&rt, alloc, &subject, &WHILE_STREAM_BLOCKED)?;
-    take(&rt, alloc, &mut subject, &BLOCKED)?;
+    write_all(&rt, &mut subject, 2);
     counts(&rt, alloc, &subject, &[(0, &[], false)])?;
     subject.received_max_data(5);
     counts(&rt, alloc, &subject, &[(0, &[], true)])?;
@@ -153,13 +149,14 @@ const WINDOWS: [Case; 3] = [
     (1, &[2, 3, 1, 7], false),
 ];
 
-const WHOLE: [Step; 2] = [Step::Open(Dir::Uni, Some(2)), Step::Whole(3)];
+const WHOLE: [Step; 1] = [Step::Final(3, 0, 1, TAKEN)];
 
 #[test]
 fn windows_count_where_more_may_come(rt: HostRuntime) -> Result<(), Fail> {
     let alloc = rt.alloc();
     let mut subject = end(alloc, Side::Client, 2, 4, 2)?;
-    take(&rt, alloc, &mut subject, &WHOLE)?;
+    same(&rt, subject.open(Dir::Uni)?, Some(id(2)));
+    run(&rt, alloc, &mut subject, &WHOLE)?;
     counts(&rt, alloc, &subject, &WINDOWS)?;
     Ok(())
 }

@@ -1,10 +1,9 @@
 use super::{
-    Answer, FINAL_SIZE, FLOW_CONTROL, Given, Last, Reads, STREAM_LIMIT, STREAM_STATE, Step, Told,
-    WINDOW, client, run, run_on_client,
+    FINAL_SIZE, FLOW_CONTROL, Given, Last, Reads, STREAM_LIMIT, STREAM_STATE, Step, TAKEN, run,
+    run_on_client,
 };
+use quic_streams_subject::frames::{WINDOW, client};
 use std::test::Fail;
-
-const TAKEN: Answer = Answer::Taken(false);
 
 const LIMITS: [Step; 5] = [
     Step::Data(3, 0, 9, FLOW_CONTROL),
@@ -24,8 +23,13 @@ const CONNECTION_LIMIT: [Step; 4] = [
 #[test]
 fn no_more_than_permitted_is_taken(rt: HostRuntime) -> Result<(), Fail> {
     let alloc = rt.alloc();
-    let _ = run(&rt, alloc, client(alloc, 128, 1000, 8)?, &LIMITS)?;
-    let _ = run(&rt, alloc, client(alloc, 128, 10, 8)?, &CONNECTION_LIMIT)?;
+    run(&rt, alloc, &mut client(alloc, 128, 1000, 8)?, &LIMITS)?;
+    run(
+        &rt,
+        alloc,
+        &mut client(alloc, 128, 10, 8)?,
+        &CONNECTION_LIMIT,
+    )?;
     run_on_client(
         &rt,
         alloc,
@@ -50,10 +54,19 @@ const SECOND_SIZE: [Step; 6] = [
     Step::Reset(3, 0, 6, FINAL_SIZE),
 ];
 
+// What is read as it comes has an end like what is read in order.
+const UNORDERED_END: [Step; 4] = [
+    Step::Data(3, 4, 4, TAKEN),
+    Step::Unordered(3, Reads(100, 3), Given(4, Last::Blocked, false)),
+    Step::Final(3, 0, 4, FINAL_SIZE),
+    Step::Final(3, 0, 9, TAKEN),
+];
+
 #[test]
 fn a_final_size_stays(rt: HostRuntime) -> Result<(), Fail> {
     run_on_client(&rt, rt.alloc(), &LOW_END)?;
     run_on_client(&rt, rt.alloc(), &SECOND_SIZE)?;
+    run_on_client(&rt, rt.alloc(), &UNORDERED_END)?;
     Ok(())
 }
 
@@ -69,20 +82,19 @@ const IDS: [Step; 6] = [
 #[test]
 fn ids_that_the_peer_may_not_use_are_refused(rt: HostRuntime) -> Result<(), Fail> {
     let alloc = rt.alloc();
-    let _ = run(&rt, alloc, client(alloc, 1, WINDOW, WINDOW)?, &IDS)?;
+    run(&rt, alloc, &mut client(alloc, 1, WINDOW, WINDOW)?, &IDS)?;
     Ok(())
 }
 
-const ONCE_AND_AGAIN: [Step; 8] = [
+const ONCE_AND_AGAIN: [Step; 7] = [
     Step::Data(3, 4096, 0, TAKEN),
     Step::Is(0, 4096),
     Step::Reset(3, 0, 4096, TAKEN),
     Step::Is(4096, 4096),
     Step::Reset(3, 7, 4096, TAKEN),
-    Step::Is(4096, 4096),
     // A frame on a stream that was reset is dropped, whatever its size.
     Step::Data(3, u64::MAX, 1, TAKEN),
-    Step::Told(3, Told::Code(0)),
+    Step::Is(4096, 4096),
 ];
 
 const NOTHING_CAME: [Step; 4] = [
@@ -92,44 +104,51 @@ const NOTHING_CAME: [Step; 4] = [
     Step::Is(4096, 4096),
 ];
 
-#[test]
-fn a_second_reset_counts_for_nothing(rt: HostRuntime) -> Result<(), Fail> {
-    run_on_client(&rt, rt.alloc(), &ONCE_AND_AGAIN)?;
-    run_on_client(&rt, rt.alloc(), &NOTHING_CAME)?;
-    Ok(())
-}
-
-const TOLD: [Step; 9] = [
-    Step::Told(3, Told::Nothing),
-    Step::Reset(3, 5, 10, TAKEN),
+const STOPPED: [Step; 7] = [
+    Step::Data(3, 0, 32, TAKEN),
+    Step::Stop(3, true),
+    Step::Is(32, 32),
     Step::Remote(128, 128, 1),
-    Step::Told(3, Told::Code(5)),
+    Step::Final(3, 32, 16, TAKEN),
+    Step::Is(48, 48),
     Step::Remote(128, 129, 1),
-    Step::Told(3, Told::Closed),
-    Step::Told(2, Told::Closed),
-    Step::Is(10, 10),
-    Step::MaxStreams(false, false),
 ];
 
-#[test]
-fn the_code_of_a_reset_is_told_once(rt: HostRuntime) -> Result<(), Fail> {
-    run_on_client(&rt, rt.alloc(), &TOLD)?;
-    Ok(())
-}
-
-// The frame that opens a stream is told by the count of open ones.
-const EVENTS: [Step; 9] = [
-    Step::Data(7, 0, 1, TAKEN),
-    Step::Remote(128, 128, 2),
-    Step::Readable(&[]),
-    Step::Data(3, 0, 1, TAKEN),
-    Step::Readable(&[3]),
-    Step::Reset(7, 0, 1, TAKEN),
-    Step::Reset(7, 0, 1, TAKEN),
-    Step::Data(7, 0, 1, TAKEN),
-    Step::Readable(&[7]),
+const RESET_AT_WHAT_CAME: [Step; 5] = [
+    Step::Data(3, 0, 32, TAKEN),
+    Step::Stop(3, true),
+    Step::Reset(3, 0, 32, TAKEN),
+    Step::Is(32, 32),
+    Step::Remote(128, 129, 1),
 ];
 
+const RESET_BEHIND_WHAT_CAME: [Step; 5] = [
+    Step::Data(3, 0, 32, TAKEN),
+    Step::Stop(3, true),
+    Step::Reset(3, 0, 48, TAKEN),
+    Step::Is(48, 48),
+    Step::Remote(128, 129, 1),
+];
+
+const RESET_WHILE_READ: [Step; 7] = [
+    Step::Data(3, 0, 2048, TAKEN),
+    Step::Ordered(3, Reads(1024, 1), Given(1024, Last::Asked, false)),
+    Step::Is(1024, 2048),
+    Step::Reset(3, 8, 4096, TAKEN),
+    Step::Is(4096, 4096),
+    Step::Ordered(3, Reads(1024, 1), Given(0, Last::Reset(8), false)),
+    Step::Is(4096, 4096),
+];
+
+const READ_TO_THE_END: [Step; 5] = [
+    Step::Final(3, 0, 2048, TAKEN),
+    Step::Is(0, 2048),
+    Step::Ordered(3, Reads(2048, 2), Given(2048, Last::Ended, true)),
+    Step::Is(2048, 2048),
+    Step::Remote(1, 2, 1),
+];
+
+// A stream may be stopped before it comes.
 const STOPPED_UNOPENED: [Step; 6] = [
     Step::Stop(3, true),
     Step::Data(3, 0, 1, TAKEN),
@@ -140,9 +159,21 @@ const STOPPED_UNOPENED: [Step; 6] = [
 ];
 
 #[test]
-fn frames_open_streams_and_are_told(rt: HostRuntime) -> Result<(), Fail> {
-    run_on_client(&rt, rt.alloc(), &EVENTS)?;
-    run_on_client(&rt, rt.alloc(), &STOPPED_UNOPENED)?;
+fn credit_and_what_was_received_are_counted(rt: HostRuntime) -> Result<(), Fail> {
+    let alloc = rt.alloc();
+    for steps in [
+        ONCE_AND_AGAIN.as_slice(),
+        NOTHING_CAME.as_slice(),
+        STOPPED.as_slice(),
+        RESET_AT_WHAT_CAME.as_slice(),
+        RESET_BEHIND_WHAT_CAME.as_slice(),
+        RESET_WHILE_READ.as_slice(),
+        STOPPED_UNOPENED.as_slice(),
+    ] {
+        run_on_client(&rt, alloc, steps)?;
+    }
+    let mut subject = client(alloc, 1, WINDOW, WINDOW)?;
+    run(&rt, alloc, &mut subject, &READ_TO_THE_END)?;
     Ok(())
 }
 

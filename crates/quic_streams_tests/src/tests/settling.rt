@@ -1,10 +1,9 @@
 // Reports of whole payloads, and what comes back of them where memory is wanting. Run with each allocation refused in
 // turn.
-use super::calls::Subject;
-use super::control::{new_payload, write_control, writes};
-use super::sending::sends;
-use super::{WINDOW, client, id, is_true, same};
+use super::{is_true, same, writes};
 use quic_streams::{SentPayload, StreamMetaVec, ThinRetransmits};
+use quic_streams_subject::frames::{WINDOW, client, id, new_payload, write_control};
+use quic_streams_subject::subject::Subject;
 use quic_values::{Dir, OutOfMemory, Side, VarInt};
 use quic_wire::StreamEvent;
 use quic_wire::frame::StreamMeta;
@@ -42,6 +41,19 @@ fn meta(carried: Carried) -> StreamMeta {
     }
 }
 
+// The next payload of STREAM frames has these bytes.
+fn sends(
+    rt: &impl Abort,
+    alloc: Global,
+    subject: &mut Subject,
+    bytes: &[u8],
+) -> Result<(), OutOfMemory> {
+    let (mut buf, mut sent) = (Vec::new(alloc), StreamMetaVec::new(alloc));
+    subject.write_stream_frames(&mut buf, &mut sent, 100, true)?;
+    same(rt, buf.as_slice(), bytes);
+    Ok(())
+}
+
 fn payload_of(alloc: Global, control: ThinRetransmits) -> Result<SentPayload, OutOfMemory> {
     let mut streams = StreamMetaVec::new(alloc);
     for carried in CARRIED {
@@ -70,7 +82,7 @@ fn client_that_sent(
     is_true(rt, write_control(&mut subject, &mut payload, 100));
     same(rt, payload.bytes.as_slice(), [4, 10, 7, 1].as_slice());
     let sent = b"\x0a\x02\x0aabcdefghij\x0b\x06\x02kl";
-    sends(rt, alloc, &mut subject, 100, sent)?;
+    sends(rt, alloc, &mut subject, sent)?;
     same(rt, subject.poll(), None);
     Ok((subject, payload.sent))
 }
@@ -124,7 +136,7 @@ fn all_of_a_lost_payload_is_sent_again(rt: HostRuntime) -> Result<(), Fail> {
     writes(&rt, alloc, &mut subject, 100, &[4, 10, 7, 1]);
     let again =
         b"\x0a\x02\x01a\x0b\x06\x02kl\x0e\x02\x02\x01c\x0e\x02\x04\x01e\x0e\x02\x06\x01g\x0e\x02\x08\x01i";
-    sends(&rt, alloc, &mut subject, 100, again)?;
+    sends(&rt, alloc, &mut subject, again)?;
     Ok(())
 }
 
@@ -151,7 +163,7 @@ fn all_of_an_acknowledged_payload_is_kept_no_more(rt: HostRuntime) -> Result<(),
     );
     let again =
         b"\x0e\x02\x01\x01b\x0e\x02\x03\x01d\x0e\x02\x05\x01f\x0e\x02\x07\x01h\x0e\x02\x09\x01j";
-    sends(&rt, alloc, &mut subject, 100, again)?;
+    sends(&rt, alloc, &mut subject, again)?;
     Ok(())
 }
 

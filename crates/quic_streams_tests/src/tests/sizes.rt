@@ -1,7 +1,8 @@
 // With ample memory no size is refused.
-use super::calls::Subject;
-use super::{Answer, WINDOW, client, data, is_true, pattern, same, same_for};
+use super::{TAKEN, data, is_true, same, same_for};
 use quic_streams::progress::LastAnswer;
+use quic_streams_subject::frames::{WINDOW, client, pattern};
+use quic_streams_subject::subject::Subject;
 use quic_values::Dir;
 use std::alloc::Global;
 use std::process::Abort;
@@ -16,7 +17,7 @@ fn pass(
     size: usize,
 ) -> Result<(), Fail> {
     let answer = data(rt, alloc, subject, 3, offset, size, false)?;
-    same_for(rt, &size, answer, Answer::Taken(false));
+    same_for(rt, &size, answer, TAKEN);
     let most = size.div_ceil(2);
     let read = subject.read_some(3, true, most, 3)?;
     same_for(rt, &size, read.last, LastAnswer::Blocked);
@@ -52,7 +53,7 @@ fn pass_stream(
     stream: u32,
 ) -> Result<(), Fail> {
     let answer = data(rt, alloc, subject, stream, 0, 3, true)?;
-    same_for(rt, &stream, answer, Answer::Taken(false));
+    same_for(rt, &stream, answer, TAKEN);
     let read = subject.read_some(stream, false, 1, u16::MAX)?;
     same_for(rt, &stream, read.chunks.len(), 3);
     same_for(rt, &stream, read.last, LastAnswer::Ended);
@@ -81,7 +82,7 @@ fn the_list_of_the_last_read_is_used_again(rt: HostRuntime) -> Result<(), Fail> 
     let mut offset = 0u64;
     for size in 1..20usize {
         let answer = data(&rt, alloc, &mut subject, 3, offset, size, false)?;
-        same_for(&rt, &size, answer, Answer::Taken(false));
+        same_for(&rt, &size, answer, TAKEN);
         let read = subject.read_some_into(3, 2, 9, list)?;
         let chunks = read.chunks;
         same_for(&rt, &size, chunks.len(), size.div_ceil(2).min(9));

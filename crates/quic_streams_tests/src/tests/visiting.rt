@@ -2,17 +2,16 @@
 ghost use Rattle.std.specs.Prelude.{[], ◌∷◌, ◌≡◌};
 ghost use Rattle.quic_streams.specs.Visits.{NextCall};
 
-use super::calls::Subject;
-use super::{Answer, Given, Last, Reads, Step, Told, WINDOW, client, id, pattern, run, same};
+use super::{Given, Last, Reads, Step, TAKEN, run, same};
 use quic_receiving::{Chunk, ReadError, ReadableError};
 use quic_streams::reading::Chunks;
 use quic_streams::recv_stream::RecvStream;
 use quic_streams::visiting::ReadVisitor;
+use quic_streams_subject::frames::{WINDOW, client, id, pattern};
+use quic_streams_subject::subject::Subject;
 use quic_values::{OutOfMemory, VarInt};
 use std::alloc::Global;
 use std::test::Fail;
-
-const TAKEN: Answer = Answer::Taken(false);
 
 type NextAnswer = Result<Option<Chunk>, ReadError>;
 
@@ -60,7 +59,6 @@ fn visit(
         mut pending,
         conn,
         window,
-        in_one,
     } = subject;
     let answer = match RecvStream::new(id(3), &mut state, &mut pending).read_with(
         ordered, visitor,
@@ -73,7 +71,6 @@ fn visit(
         pending,
         conn,
         window,
-        in_one,
     };
     (subject, answer)
 }
@@ -91,14 +88,15 @@ const EIGHT_READ: [Step; 4] = [
 #[test]
 fn a_visitor_reads_as_it_likes(rt: HostRuntime) -> Result<(), Fail> {
     let alloc = rt.alloc();
-    let subject = run(&rt, alloc, client(alloc, 128, WINDOW, 8)?, &EIGHT_BYTES)?;
+    let mut subject = client(alloc, 128, WINDOW, 8)?;
+    run(&rt, alloc, &mut subject, &EIGHT_BYTES)?;
     let mut visitor = TwoReads::new(3, 9);
-    let (subject, answer) = visit(subject, true, &mut visitor);
+    let (mut subject, answer) = visit(subject, true, &mut visitor);
     same(&rt, answer, Ok(true));
     let (first, second) = visitor.answers;
     same(&rt, first, Ok(Some(chunk(alloc, 0, 3)?)));
     same(&rt, second, Ok(Some(chunk(alloc, 3, 5)?)));
-    let _ = run(&rt, alloc, subject, &EIGHT_READ)?;
+    run(&rt, alloc, &mut subject, &EIGHT_READ)?;
     Ok(())
 }
 
@@ -106,20 +104,22 @@ const RESET: [Step; 2] = [Step::Data(3, 0, 8, TAKEN), Step::Reset(3, 7, 8, TAKEN
 
 const RESET_READ: [Step; 3] = [
     Step::Is(8, 8),
-    Step::Told(3, Told::Closed),
+    Step::Stop(3, false),
     Step::Remote(128, 129, 1),
 ];
 
 #[test]
 fn a_visitor_is_told_of_a_reset_at_each_read(rt: HostRuntime) -> Result<(), Fail> {
     let alloc = rt.alloc();
-    let subject = run(&rt, alloc, client(alloc, 128, WINDOW, WINDOW)?, &RESET)?;
+    let mut subject = client(alloc, 128, WINDOW, WINDOW)?;
+    run(&rt, alloc, &mut subject, &RESET)?;
     let mut visitor = TwoReads::new(3, 9);
-    let (subject, answer) = visit(subject, true, &mut visitor);
+    let (mut subject, answer) = visit(subject, true, &mut visitor);
     same(&rt, answer.is_ok(), true);
-    let reset = ReadError::Reset(VarInt::from(7u32));
-    same(&rt, visitor.answers, (Err(reset), Err(reset)));
-    let _ = run(&rt, alloc, subject, &RESET_READ)?;
+    let (first, second) = visitor.answers;
+    same(&rt, first, Err(ReadError::Reset(VarInt::from(7u32))));
+    same(&rt, second, Err(ReadError::Reset(VarInt::from(7u32))));
+    run(&rt, alloc, &mut subject, &RESET_READ)?;
     Ok(())
 }
 
@@ -136,16 +136,12 @@ const STILL_READ_AS_IT_CAME: [Step; 2] = [
 #[test]
 fn a_refused_visitor_is_left_alone(rt: HostRuntime) -> Result<(), Fail> {
     let alloc = rt.alloc();
-    let subject = run(
-        &rt,
-        alloc,
-        client(alloc, 128, WINDOW, WINDOW)?,
-        &READ_AS_IT_CAME,
-    )?;
+    let mut subject = client(alloc, 128, WINDOW, WINDOW)?;
+    run(&rt, alloc, &mut subject, &READ_AS_IT_CAME)?;
     let mut visitor = TwoReads::new(3, 9);
-    let (subject, answer) = visit(subject, true, &mut visitor);
+    let (mut subject, answer) = visit(subject, true, &mut visitor);
     same(&rt, answer, Err(ReadableError::IllegalOrderedRead));
     same(&rt, visitor.answers, (Ok(None), Ok(None)));
-    let _ = run(&rt, alloc, subject, &STILL_READ_AS_IT_CAME)?;
+    run(&rt, alloc, &mut subject, &STILL_READ_AS_IT_CAME)?;
     Ok(())
 }

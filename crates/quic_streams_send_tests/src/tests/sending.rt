@@ -1,13 +1,12 @@
-use super::calls::Subject;
 use super::control::writes;
-use super::{
-    Answer, STREAM_LIMIT, STREAM_STATE, WINDOW, acknowledging, client, id, is_true, receive, same,
-};
+use super::{TAKEN, acknowledging, is_true, same};
 use quic_receiving::HandleError;
 use quic_sending::{FinishError, WriteError};
 use quic_streams::StreamMetaVec;
 use quic_streams::streams::ConnState;
-use quic_values::{Bytes, Dir, OutOfMemory, Side, StreamId, VarInt};
+use quic_streams_subject::frames::{Answer, end, id, receive};
+use quic_streams_subject::subject::Subject;
+use quic_values::{Dir, OutOfMemory, Side, StreamId, VarInt};
 use quic_wire::{ReceiveError, StreamEvent, TransportError};
 use std::alloc::Global;
 use std::process::Abort;
@@ -82,8 +81,6 @@ pub(super) enum Step {
     Close,
     // The peer opens a stream with a byte and its end.
     Whole(u32),
-    // The stream is not read on.
-    Unread(u32),
     // So many first bytes of a stream, and maybe its end, were acknowledged or lost.
     Acked(u32, u64, bool),
     Lost(u32, u64, bool),
@@ -110,21 +107,9 @@ pub(super) enum Step {
 
 const TEXT: &[u8] = b"thirty two bytes of written text";
 
-const TAKEN: Answer = Answer::Taken(false);
+pub(super) const STREAM_LIMIT: Answer = Answer::Refused(TransportError::STREAM_LIMIT_ERROR);
 
-// An end that permits its peer one stream of each direction, with the limits that its peer gave.
-pub(super) fn end(
-    alloc: Global,
-    side: Side,
-    streams: u32,
-    data: u32,
-    stream_data: u32,
-) -> Result<Subject, OutOfMemory> {
-    let window = VarInt::from(WINDOW);
-    let mut subject = Subject::new(alloc, side, 1, u64::from(WINDOW), window, window)?;
-    subject.permit(streams, data, stream_data)?;
-    Ok(subject)
-}
+pub(super) const STREAM_STATE: Answer = Answer::Refused(TransportError::STREAM_STATE_ERROR);
 
 fn number(id: StreamId) -> u64 {
     VarInt::from(id).into_inner()
@@ -141,23 +126,6 @@ fn event_of(event: StreamEvent) -> Event {
         }
         StreamEvent::Available { dir } => Event::Available(dir),
     }
-}
-
-// Opens a stream, which has to have this id.
-pub(super) fn open_one(subject: &mut Subject, dir: Dir, stream: u32) -> bool {
-    open(subject, dir) == Some(u64::from(stream))
-}
-
-// Writes so many bytes. Answers how many were taken, if any might be.
-pub(super) fn write_one(subject: &mut Subject, stream: u32, count: usize) -> Option<usize> {
-    match write(subject, stream, count) {
-        Done::Took(count) => Some(count),
-        _ => None,
-    }
-}
-
-pub(super) fn reset_one(subject: &mut Subject, stream: u32, code: u32) -> bool {
-    reset(subject, stream, code) == Done::Is
 }
 
 fn refused_write(error: WriteError) -> Done {
@@ -431,34 +399,7 @@ fn run(
     take(rt, alloc, &mut subject, steps)
 }
 
-const COUNTS: [Step; 13] = [
-    Step::Open(Dir::Uni, Some(3)),
-    Step::Open(Dir::Uni, None),
-    Step::MaxStreams(Dir::Uni, 2, TAKEN),
-    Step::MaxStreams(Dir::Uni, 2, TAKEN),
-    Step::Poll(Some(Event::Available(Dir::Uni))),
-    Step::Open(Dir::Uni, Some(7)),
-    Step::Poll(None),
-    Step::MaxStreams(
-        Dir::Bi,
-        (1 << 60) + 1,
-        Answer::Refused(TransportError::FRAME_ENCODING_ERROR),
-    ),
-    Step::MaxStreams(Dir::Bi, 1 << 60, TAKEN),
-    Step::Unopened(7, false),
-    Step::Unopened(11, true),
-    Step::Open(Dir::Bi, Some(1)),
-    Step::Open(Dir::Bi, Some(5)),
-];
-
-#[test]
-fn streams_are_opened_up_to_the_count(rt: HostRuntime) -> Result<(), Fail> {
-    let alloc = rt.alloc();
-    run(&rt, alloc, end(alloc, Side::Server, 1, 42, 42)?, &COUNTS)?;
-    Ok(())
-}
-
-const LIMITS: [Step; 16] = [
+const LIMITS: [Step; 12] = [
     Step::Open(Dir::Uni, Some(2)),
     Step::Write(2, 6, Done::Took(4)),
     Step::Limit(0),
@@ -471,53 +412,9 @@ const LIMITS: [Step; 16] = [
     Step::Poll(Some(Event::Writable(2))),
     Step::Poll(None),
     Step::Write(2, 10, Done::Took(5)),
-    Step::Queued(&[2]),
-    Step::MaxStreamData(2, 20, TAKEN),
-    Step::Poll(None),
-    Step::StreamBlocked(2, None),
 ];
 
-const STREAM_LIMITS: [Step; 11] = [
-    Step::Open(Dir::Uni, Some(2)),
-    Step::Write(2, 3, Done::Took(2)),
-    Step::Write(2, 1, Done::Blocked),
-    Step::StreamBlocked(2, Some(2)),
-    Step::MaxStreamData(2, 3, TAKEN),
-    Step::StreamBlocked(2, None),
-    Step::Poll(Some(Event::Writable(2))),
-    Step::Write(2, 3, Done::Took(1)),
-    Step::Write(2, 1, Done::Blocked),
-    Step::Stop(2, 5),
-    Step::StreamBlocked(2, None),
-];
-
-const BOTH_LIMITS: [Step; 9] = [
-    Step::Open(Dir::Uni, Some(2)),
-    Step::Write(2, 3, Done::Took(2)),
-    Step::MaxData(2),
-    Step::MaxStreamData(2, 9, TAKEN),
-    Step::Poll(None),
-    Step::MaxData(3),
-    Step::Poll(Some(Event::Writable(2))),
-    Step::Write(2, 3, Done::Took(1)),
-    Step::Poll(None),
-];
-
-#[test]
-fn no_more_than_every_limit_is_written(rt: HostRuntime) -> Result<(), Fail> {
-    let alloc = rt.alloc();
-    run(&rt, alloc, end(alloc, Side::Client, 1, 4, 10)?, &LIMITS)?;
-    run(
-        &rt,
-        alloc,
-        end(alloc, Side::Client, 1, 4, 2)?,
-        &STREAM_LIMITS,
-    )?;
-    run(&rt, alloc, end(alloc, Side::Client, 1, 2, 2)?, &BOTH_LIMITS)?;
-    Ok(())
-}
-
-const REPORTS: [Step; 7] = [
+const BLOCKED_ONCE: [Step; 7] = [
     Step::Open(Dir::Uni, Some(2)),
     Step::Write(2, 2, Done::Took(2)),
     Step::Blocked(false, false),
@@ -527,87 +424,36 @@ const REPORTS: [Step; 7] = [
     Step::Blocked(true, false),
 ];
 
-const SEND_WINDOW: [Step; 9] = [
-    Step::SendWindow(24),
+const STOPPED_AT_ITS_LIMIT: [Step; 6] = [
     Step::Open(Dir::Uni, Some(2)),
-    Step::Write(2, 24, Done::Took(24)),
-    Step::Limit(0),
+    Step::Write(2, 3, Done::Took(2)),
     Step::Write(2, 1, Done::Blocked),
-    Step::Blocked(false, false),
-    Step::Reset(2, 0, Done::Is),
-    Step::Resets(1),
-    Step::Limit(24),
+    Step::StreamBlocked(2, Some(2)),
+    Step::Stop(2, 5),
+    Step::StreamBlocked(2, None),
 ];
 
 #[test]
-fn a_blocked_connection_is_reported(rt: HostRuntime) -> Result<(), Fail> {
+fn what_holds_writes_back_is_told(rt: HostRuntime) -> Result<(), Fail> {
     let alloc = rt.alloc();
-    run(&rt, alloc, end(alloc, Side::Client, 1, 2, 10)?, &REPORTS)?;
-    run(
-        &rt,
-        alloc,
-        end(alloc, Side::Client, 1, 100, 100)?,
-        &SEND_WINDOW,
-    )?;
+    for (data, stream_data, steps) in [
+        (4, 10, LIMITS.as_slice()),
+        (2, 10, BLOCKED_ONCE.as_slice()),
+        (4, 2, STOPPED_AT_ITS_LIMIT.as_slice()),
+    ] {
+        let subject = end(alloc, Side::Client, 1, data, stream_data)?;
+        run(&rt, alloc, subject, steps)?;
+    }
     Ok(())
 }
 
-const STOPPED: [Step; 12] = [
-    Step::Open(Dir::Uni, Some(3)),
-    Step::Code(3, None),
-    Step::Stop(3, 0),
-    Step::Poll(Some(Event::Stopped(3, 0))),
-    Step::Write(3, 0, Done::Stopped(0)),
-    Step::Finish(3, Done::Stopped(0)),
-    Step::Reset(3, 0, Done::Is),
-    Step::Write(3, 0, Done::Closed),
-    Step::Reset(3, 0, Done::Closed),
-    Step::Stop(3, 1),
-    Step::Poll(None),
-    Step::Code(3, Some(0)),
-];
-
-const ENDED: [Step; 9] = [
-    Step::Write(3, 1, Done::Closed),
-    Step::Finish(3, Done::Closed),
-    Step::Open(Dir::Uni, Some(3)),
-    Step::Write(3, 0, Done::Took(0)),
-    Step::Finish(3, Done::Is),
-    Step::Finish(3, Done::Closed),
-    Step::Write(3, 1, Done::Closed),
-    Step::MaxStreamData(3, 100, TAKEN),
-    Step::Queued(&[3, 3]),
-];
-
-#[test]
-fn a_stream_ends_once(rt: HostRuntime) -> Result<(), Fail> {
-    let alloc = rt.alloc();
-    run(&rt, alloc, end(alloc, Side::Server, 1, 42, 42)?, &STOPPED)?;
-    run(&rt, alloc, end(alloc, Side::Server, 1, 42, 42)?, &ENDED)?;
-    Ok(())
-}
-
-const ACCEPTED: [Step; 12] = [
-    Step::Concurrent(Dir::Uni, 3, 3),
-    Step::Accept(Dir::Uni, None),
-    Step::Data(11, 1, TAKEN),
-    Step::Uses(Dir::Uni, 3, 3),
-    Step::Poll(Some(Event::Opened(Dir::Uni))),
-    Step::Accept(Dir::Uni, Some(3)),
-    Step::Accept(Dir::Uni, Some(7)),
-    Step::Accept(Dir::Uni, Some(11)),
-    Step::Accept(Dir::Uni, None),
-    Step::Data(7, 1, TAKEN),
-    Step::Poll(Some(Event::Readable(7))),
-    Step::Uses(Dir::Uni, 3, 3),
-];
-
-const COUNTED: [Step; 9] = [
+const COUNTED: [Step; 10] = [
     Step::Uses(Dir::Uni, 1, 0),
     Step::Data(7, 1, STREAM_LIMIT),
     Step::Concurrent(Dir::Uni, 3, 3),
     Step::Data(7, 1, TAKEN),
     Step::Data(11, 1, TAKEN),
+    Step::Uses(Dir::Uni, 3, 3),
     Step::Data(15, 1, STREAM_LIMIT),
     Step::Concurrent(Dir::Uni, 1, 3),
     Step::Concurrent(Dir::Bi, 2, 2),
@@ -617,7 +463,6 @@ const COUNTED: [Step; 9] = [
 #[test]
 fn the_peer_opens_as_many_as_it_may(rt: HostRuntime) -> Result<(), Fail> {
     let alloc = rt.alloc();
-    run(&rt, alloc, end(alloc, Side::Client, 1, 42, 42)?, &ACCEPTED)?;
     run(&rt, alloc, end(alloc, Side::Client, 1, 42, 42)?, &COUNTED)?;
     Ok(())
 }
@@ -666,40 +511,6 @@ fn frames_open_streams_of_the_peer(rt: HostRuntime) -> Result<(), Fail> {
     Ok(())
 }
 
-const SMALLER: [Step; 3] = [
-    Step::Window(600, false),
-    Step::Credit(300, false, 1000),
-    Step::Credit(300, true, 1200),
-];
-
-const LARGER: [Step; 4] = [
-    Step::Window(900, false),
-    Step::Window(1100, true),
-    Step::Credit(100, true, 1200),
-    Step::Credit(100, true, 1300),
-];
-
-#[test]
-fn a_smaller_window_is_owed(rt: HostRuntime) -> Result<(), Fail> {
-    let alloc = rt.alloc();
-    run(&rt, alloc, client(alloc, 1, 1000, 1000)?, &SMALLER)?;
-    run(&rt, alloc, client(alloc, 1, 1000, 1000)?, &LARGER)?;
-    Ok(())
-}
-
-const PRIORITIES: [Step; 10] = [
-    Step::Open(Dir::Uni, Some(2)),
-    Step::Open(Dir::Uni, Some(6)),
-    Step::Open(Dir::Uni, Some(10)),
-    Step::Priority(6, Some(0)),
-    Step::SetPriority(6, 3),
-    Step::Priority(6, Some(3)),
-    Step::Write(2, 1, Done::Took(1)),
-    Step::Write(6, 1, Done::Took(1)),
-    Step::Write(10, 1, Done::Took(1)),
-    Step::Queued(&[6, 2, 10]),
-];
-
 const CLOSED: [Step; 6] = [
     Step::Open(Dir::Uni, Some(2)),
     Step::Close,
@@ -710,15 +521,32 @@ const CLOSED: [Step; 6] = [
 ];
 
 #[test]
-fn streams_are_queued_by_priority(rt: HostRuntime) -> Result<(), Fail> {
+fn a_closed_connection_takes_nothing(rt: HostRuntime) -> Result<(), Fail> {
     let alloc = rt.alloc();
-    run(
-        &rt,
-        alloc,
-        end(alloc, Side::Client, 3, 42, 42)?,
-        &PRIORITIES,
-    )?;
     run(&rt, alloc, end(alloc, Side::Client, 3, 42, 42)?, &CLOSED)?;
+    Ok(())
+}
+
+// The code of the first STOP_SENDING stays, also behind a reset.
+const HANDLED: [Step; 12] = [
+    Step::Priority(3, None),
+    Step::Finish(3, Done::Closed),
+    Step::Open(Dir::Uni, Some(3)),
+    Step::Priority(3, Some(0)),
+    Step::SetPriority(3, 3),
+    Step::Priority(3, Some(3)),
+    Step::Code(3, None),
+    Step::Stop(3, 0),
+    Step::Code(3, Some(0)),
+    Step::Reset(3, 0, Done::Is),
+    Step::Stop(3, 1),
+    Step::Code(3, Some(0)),
+];
+
+#[test]
+fn a_handle_tells_priority_and_code(rt: HostRuntime) -> Result<(), Fail> {
+    let alloc = rt.alloc();
+    run(&rt, alloc, end(alloc, Side::Server, 1, 42, 42)?, &HANDLED)?;
     Ok(())
 }
 
@@ -746,35 +574,5 @@ fn data_can_be_sent_while_a_queued_stream_is_not_reset(rt: HostRuntime) -> Resul
         end(alloc, Side::Client, 2, 10, 10)?,
         &WHILE_NOT_RESET,
     )?;
-    Ok(())
-}
-
-fn chunk(alloc: Global, bytes: &[u8]) -> Result<Bytes, OutOfMemory> {
-    Bytes::copy_from_slice(alloc, bytes)
-}
-
-#[test]
-fn chunks_are_taken_whole_or_cut(rt: HostRuntime) -> Result<(), Fail> {
-    let alloc = rt.alloc();
-    let mut subject = end(alloc, Side::Client, 1, 100, 7)?;
-    same(&rt, open(&mut subject, Dir::Uni), Some(2));
-    let mut chunks = Vec::with_capacity(alloc, 3)?;
-    chunks.push(chunk(alloc, b"")?)?;
-    chunks.push(chunk(alloc, b"Hello ")?)?;
-    chunks.push(chunk(alloc, b"Wo")?)?;
-    let written = match subject.write_chunks(2, &mut chunks) {
-        Ok(written) => (written.bytes, written.chunks),
-        Err(_) => (0, 0),
-    };
-    same(&rt, written, (7, 2));
-    let mut left = Vec::with_capacity(alloc, 3)?;
-    for chunk in &chunks {
-        left.push(chunk.as_slice())?;
-    }
-    same(
-        &rt,
-        left.as_slice(),
-        [b"".as_slice(), b"".as_slice(), b"o".as_slice()].as_slice(),
-    );
     Ok(())
 }

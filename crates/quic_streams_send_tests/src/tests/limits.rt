@@ -1,5 +1,6 @@
 // The peer's transport parameters, handed in while streams are open.
-use super::sending::{Done, Event, Step, end, take};
+use super::sending::{Done, Event, Step, take};
+use quic_streams_subject::frames::end;
 use quic_values::{Dir, Side};
 use std::rt::HostRuntime;
 use std::test::Fail;

@@ -1,9 +1,11 @@
 // Acknowledgements and losses of what an end sent.
-use super::calls::Subject;
-use super::sending::{self, Done, Event, Step, open_one, take};
-use super::{Answer, counts, early, id, is_true, receive, same};
+use super::sending::{Done, Event, Step, take};
+use super::{TAKEN, early, is_true, same};
+use quic_streams_subject::frames::{self, counts, id, receive};
+use quic_streams_subject::subject::Subject;
 use quic_values::{Dir, OutOfMemory, Side};
-use quic_wire::{StreamEvent, frame};
+use quic_wire::StreamEvent;
+use quic_wire::frame::StreamMeta;
 use std::alloc::Global;
 use std::process::Abort;
 use std::rt::HostRuntime;
@@ -11,7 +13,7 @@ use std::test::Fail;
 
 // A client that permits its peer one stream of each direction, and may itself open so many.
 fn end(alloc: Global, streams: u32) -> Result<Subject, OutOfMemory> {
-    sending::end(alloc, Side::Client, streams, 100, 100)
+    frames::end(alloc, Side::Client, streams, 100, 100)
 }
 
 // Takes steps on a client that may open so many streams of each direction.
@@ -21,8 +23,8 @@ fn run(rt: &impl Abort, alloc: Global, streams: u32, steps: &[Step]) -> Result<(
     Ok(())
 }
 
-fn meta(stream: u32, end: u64, fin: bool) -> frame::StreamMeta {
-    frame::StreamMeta {
+fn meta(stream: u32, end: u64, fin: bool) -> StreamMeta {
+    StreamMeta {
         id: id(stream),
         offsets: 0..end,
         fin,
@@ -64,7 +66,7 @@ pub(super) fn comes_whole(
     stream: u32,
 ) -> Result<(), OutOfMemory> {
     let answer = receive(alloc, subject, stream, 0, 1, true)?;
-    same(rt, answer, Answer::Taken(false));
+    same(rt, answer, TAKEN);
     Ok(())
 }
 
@@ -74,7 +76,6 @@ pub(super) fn report(rt: &impl Abort, subject: &mut Subject, step: Step) {
         Step::Acked(stream, end, fin) => ack(rt, subject, stream, end, fin),
         Step::Lost(stream, end, fin) => lose(rt, subject, stream, end, fin),
         Step::ResetAcked(stream) => reset_acked(rt, subject, stream),
-        Step::Unread(stream) => is_true(rt, subject.stop(stream, 9).is_ok()),
         Step::SendStreams(count) => same(rt, subject.send_streams(), count),
         Step::MaxRemote(dir, count) => same(rt, subject.max_remote(dir), count),
         Step::Due(is) => same(rt, subject.queue_max_stream_id(), is),
@@ -83,102 +84,30 @@ pub(super) fn report(rt: &impl Abort, subject: &mut Subject, step: Step) {
     }
 }
 
-const COMPLETE: [Step; 11] = [
+// Of what was not sent, or of a stream that no end opened, a report does not count.
+const NOT_SENT: [Step; 16] = [
     Step::Open(Dir::Uni, Some(2)),
+    Step::ResetAcked(2),
+    Step::Priority(2, Some(0)),
     Step::Finish(2, Done::Is),
-    // Of what was not sent a report does not count.
     Step::Acked(2, 9, true),
-    Step::Poll(None),
-    Step::Acked(2, 0, false),
-    Step::Poll(None),
-    Step::Acked(2, 0, true),
-    Step::Poll(Some(Event::Finished(2))),
-    Step::Priority(2, None),
-    Step::Acked(2, 0, true),
-    Step::Poll(None),
-];
-
-#[test]
-fn complete_streams_are_finished(rt: HostRuntime) -> Result<(), Fail> {
-    run(&rt, rt.alloc(), 2, &COMPLETE)
-}
-
-const END_ALONE: [Step; 8] = [
-    Step::Open(Dir::Uni, Some(2)),
-    Step::Write(2, 4, Done::Took(4)),
-    Step::Finish(2, Done::Is),
-    Step::Acked(2, 0, true),
-    Step::Poll(None),
-    Step::Priority(2, Some(0)),
-    // A stream that no end opened.
     Step::Acked(1001, 0, true),
-    Step::Poll(None),
-];
-
-#[test]
-fn the_end_alone_is_not_all(rt: HostRuntime) -> Result<(), Fail> {
-    run(&rt, rt.alloc(), 2, &END_ALONE)
-}
-
-const FREED: [Step; 14] = [
-    Step::Whole(1),
-    Step::Finish(1, Done::Is),
-    Step::Acked(1, 0, true),
-    Step::MaxRemote(Dir::Bi, 1),
-    Step::Unread(1),
-    Step::MaxRemote(Dir::Bi, 2),
-    Step::Whole(5),
-    Step::Unread(5),
-    Step::MaxRemote(Dir::Bi, 2),
-    Step::Finish(5, Done::Is),
-    Step::Acked(5, 0, true),
-    Step::MaxRemote(Dir::Bi, 3),
-    Step::Due(true),
-    Step::Priority(9, Some(0)),
-];
-
-#[test]
-fn freed_streams_of_the_peer_make_room(rt: HostRuntime) -> Result<(), Fail> {
-    run(&rt, rt.alloc(), 2, &FREED)
-}
-
-const RESETS: [Step; 15] = [
-    Step::Open(Dir::Uni, Some(2)),
-    Step::ResetAcked(2),
-    Step::Priority(2, Some(0)),
-    Step::Reset(2, 3, Done::Is),
-    Step::Acked(2, 0, true),
-    Step::Priority(2, Some(0)),
-    Step::ResetAcked(2),
-    Step::Priority(2, None),
-    Step::Poll(None),
-    // A stream of the peer.
-    Step::Whole(1),
-    Step::Unread(1),
-    Step::Reset(1, 3, Done::Is),
-    Step::MaxRemote(Dir::Bi, 1),
-    Step::ResetAcked(1),
-    Step::MaxRemote(Dir::Bi, 2),
-];
-
-#[test]
-fn acknowledged_resets_free(rt: HostRuntime) -> Result<(), Fail> {
-    run(&rt, rt.alloc(), 2, &RESETS)
-}
-
-const LOST: [Step; 6] = [
-    Step::Open(Dir::Uni, Some(2)),
-    Step::Finish(2, Done::Is),
     // The end waits to be sent as it is.
     Step::Lost(2, 0, true),
     Step::Lost(2, 9, true),
     Step::Lost(1001, 0, true),
     Step::Queued(&[2]),
+    Step::Acked(2, 0, false),
+    Step::Poll(None),
+    Step::Acked(2, 0, true),
+    Step::Poll(Some(Event::Finished(2))),
+    Step::Acked(2, 0, true),
+    Step::Poll(None),
 ];
 
 #[test]
-fn lost_frames_queue_once(rt: HostRuntime) -> Result<(), Fail> {
-    run(&rt, rt.alloc(), 2, &LOST)
+fn reports_of_what_was_not_sent_count_for_nothing(rt: HostRuntime) -> Result<(), Fail> {
+    run(&rt, rt.alloc(), 2, &NOT_SENT)
 }
 
 const COUNTED: [Step; 14] = [
@@ -245,7 +174,7 @@ const MANY: u32 = 65_537;
 
 // Opens the stream, and ends it.
 fn open_and_end(rt: &impl Abort, subject: &mut Subject, stream: u32) {
-    is_true(rt, open_one(subject, Dir::Uni, stream));
+    is_true(rt, subject.open(Dir::Uni) == Ok(Some(id(stream))));
     is_true(rt, subject.retransmit(meta(stream, 0, false)).is_ok());
     is_true(rt, subject.finish(stream).is_ok());
 }

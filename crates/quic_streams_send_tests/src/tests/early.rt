@@ -1,7 +1,8 @@
 // An early start that is rejected, or sent again.
-use super::calls::Subject;
-use super::sending::{Done, Event, Step, end, take};
-use super::{Answer, STREAM_STATE, WINDOW, client, id, is_true, same};
+use super::sending::{Done, Event, STREAM_STATE, Step, take};
+use super::{TAKEN, is_true, same};
+use quic_streams_subject::frames::{WINDOW, client, end, id};
+use quic_streams_subject::subject::Subject;
 use quic_values::{Dir, Side};
 use quic_wire::frame::StreamMeta;
 use std::process::Abort;
@@ -66,7 +67,7 @@ const AFRESH: [Step; 16] = [
     Step::Open(Dir::Uni, Some(6)),
     Step::Open(Dir::Uni, None),
     Step::Priority(2, Some(0)),
-    Step::Data(0, 3, Answer::Taken(false)),
+    Step::Data(0, 3, TAKEN),
     Step::Poll(Some(Event::Readable(0))),
     Step::Write(2, 5, Done::Took(5)),
     Step::Write(0, 20, Done::Took(15)),

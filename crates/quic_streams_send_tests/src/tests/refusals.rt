@@ -1,20 +1,18 @@
 // What want of memory leaves as it was, and that the same call then succeeds. Run with each allocation refused in turn.
-use super::calls::Subject;
-use super::control::{new_payload, write_control};
 use super::sending::{
     Done, Event, Step, call, expected, finish, open, reset, set_priority, taken, write,
 };
-use super::{Answer, WINDOW, client, id, is_true, is_true_for, same, same_for};
+use super::{TAKEN, is_true, is_true_for, same, same_for};
 use quic_sending::WriteError;
 use quic_streams::StreamMetaVec;
+use quic_streams_subject::frames::{Answer, WINDOW, client, id, new_payload, write_control};
+use quic_streams_subject::subject::Subject;
 use quic_values::{Bytes, Dir, OutOfMemory, VarInt};
 use quic_wire::frame::StreamMeta;
 use std::alloc::Global;
 use std::process::Abort;
 use std::rt::HostRuntime;
 use std::test::Fail;
-
-const TAKEN: Answer = Answer::Taken(false);
 
 // What is told of the sending side of a stream.
 #[derive(Clone, Copy, Debug, PartialEq, Eq)]

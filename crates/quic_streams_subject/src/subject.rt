@@ -1,5 +1,5 @@
-// The calls on one end, with nothing of what they promise: a test looks at what they answer and leave.
-use super::{add_window, id};
+//! The calls on one end.
+use crate::frames::{add_window, id};
 use quic_receiving::{Chunk, HandleError, ReadError, ReadableError, ShouldTransmit};
 use quic_sending::{FinishError, WriteError, Written};
 use quic_streams::batches::ReadSome;
@@ -16,17 +16,15 @@ use quic_wire::frame::{ResetStream, Stream, StreamMeta};
 use quic_wire::{ReceiveError, StreamEvent};
 use std::alloc::Global;
 
-// One end, and what it has to send beside data.
+/// One end, and what it has to send beside data.
 #[derive(Drop)]
-pub(super) struct Subject {
+pub struct Subject {
     pub state: StreamsState,
     pub pending: Retransmits,
-    // Whether its connection is open.
+    /// Whether its connection is open.
     pub conn: ConnState,
-    // How many bytes the peer may send at first.
+    /// How many bytes the peer may send at first.
     pub window: u64,
-    // Whether reads are one call.
-    pub in_one: bool,
 }
 
 // The peer permits so many streams of each direction, bytes in all, and bytes on each stream.
@@ -62,31 +60,31 @@ fn new_state(
     )
 }
 
-pub(super) fn nothing_pending(alloc: Global) -> Retransmits {
+pub fn nothing_pending(alloc: Global) -> Retransmits {
     Retransmits::new(alloc)
 }
 
-pub(super) fn nothing_noted(alloc: Global) -> ThinRetransmits {
+pub fn nothing_noted(alloc: Global) -> ThinRetransmits {
     ThinRetransmits::new(alloc)
 }
 
-pub(super) fn merge(set: &mut Retransmits, other: ThinRetransmits) -> bool {
+pub fn merge(set: &mut Retransmits, other: ThinRetransmits) -> bool {
     set.merge_thin(other).is_ok()
 }
 
-pub(super) fn next_chunk(chunks: &mut Chunks<'_>, most: usize) -> Result<Option<Chunk>, ReadError> {
+pub fn next_chunk(chunks: &mut Chunks<'_>, most: usize) -> Result<Option<Chunk>, ReadError> {
     chunks.next(most)
 }
 
 // Ends a reader. Answers whether to transmit.
-pub(super) fn finalize(chunks: Chunks<'_>) -> bool {
+pub fn finalize(chunks: Chunks<'_>) -> bool {
     chunks.finalize().should_transmit()
 }
 
 // How an end is made, and what it is told of its peer.
 impl Subject {
     // An end that permits its peer so many streams of each direction.
-    pub(super) fn new(
+    pub fn new(
         alloc: Global,
         side: Side,
         streams: u32,
@@ -100,29 +98,23 @@ impl Subject {
             pending: nothing_pending(alloc),
             conn: ConnState::Open,
             window: window.into_inner(),
-            in_one: false,
         })
     }
 
     // The peer permits so many streams of each direction, bytes in all, and bytes on each stream.
-    pub(super) fn permit(
-        &mut self,
-        streams: u32,
-        data: u32,
-        stream_data: u32,
-    ) -> Result<(), OutOfMemory> {
+    pub fn permit(&mut self, streams: u32, data: u32, stream_data: u32) -> Result<(), OutOfMemory> {
         self.state.set_params(&limits(streams, data, stream_data))
     }
 
-    pub(super) fn zero_rtt_rejected(&mut self) {
+    pub fn zero_rtt_rejected(&mut self) {
         self.state.zero_rtt_rejected();
     }
 
-    pub(super) fn retransmit_all_for_0rtt(&mut self) -> Result<(), OutOfMemory> {
+    pub fn retransmit_all_for_0rtt(&mut self) -> Result<(), OutOfMemory> {
         self.state.retransmit_all_for_0rtt()
     }
 
-    pub(super) fn poll(&mut self) -> Option<StreamEvent> {
+    pub fn poll(&mut self) -> Option<StreamEvent> {
         self.state.poll()
     }
 }
@@ -134,19 +126,19 @@ impl Subject {
         Streams::new(&mut self.state, conn)
     }
 
-    pub(super) fn open(&mut self, dir: Dir) -> Result<Option<StreamId>, OutOfMemory> {
+    pub fn open(&mut self, dir: Dir) -> Result<Option<StreamId>, OutOfMemory> {
         self.streams().open(dir)
     }
 
-    pub(super) fn accept(&mut self, dir: Dir) -> Option<StreamId> {
+    pub fn accept(&mut self, dir: Dir) -> Option<StreamId> {
         self.streams().accept(dir)
     }
 
-    pub(super) fn remote_open_streams(&mut self, dir: Dir) -> u64 {
+    pub fn remote_open_streams(&mut self, dir: Dir) -> u64 {
         self.streams().remote_open_streams(dir)
     }
 
-    pub(super) fn send_streams(&mut self) -> usize {
+    pub fn send_streams(&mut self) -> usize {
         self.streams().send_streams()
     }
 }
@@ -158,11 +150,11 @@ impl Subject {
         SendStream::new(id(stream), &mut self.state, &mut self.pending, conn)
     }
 
-    pub(super) fn write(&mut self, stream: u32, bytes: &[u8]) -> Result<usize, WriteError> {
+    pub fn write(&mut self, stream: u32, bytes: &[u8]) -> Result<usize, WriteError> {
         self.sending(stream).write(bytes)
     }
 
-    pub(super) fn write_chunks(
+    pub fn write_chunks(
         &mut self,
         stream: u32,
         chunks: &mut [Bytes],
@@ -170,25 +162,25 @@ impl Subject {
         self.sending(stream).write_chunks(chunks)
     }
 
-    pub(super) fn finish(&mut self, stream: u32) -> Result<(), FinishError> {
+    pub fn finish(&mut self, stream: u32) -> Result<(), FinishError> {
         self.sending(stream).finish()
     }
 
-    pub(super) fn reset(&mut self, stream: u32, code: u32) -> Result<(), HandleError> {
+    pub fn reset(&mut self, stream: u32, code: u32) -> Result<(), HandleError> {
         self.sending(stream).reset(VarInt::from(code))
     }
 
-    pub(super) fn set_priority(&mut self, stream: u32, priority: i32) -> Result<(), HandleError> {
+    pub fn set_priority(&mut self, stream: u32, priority: i32) -> Result<(), HandleError> {
         self.sending(stream).set_priority(priority)
     }
 
     // The priority, where the half is held.
-    pub(super) fn priority(&mut self, stream: u32) -> Option<i32> {
+    pub fn priority(&mut self, stream: u32) -> Option<i32> {
         self.sending(stream).priority().ok()
     }
 
     // The code of the first STOP_SENDING, if one came, where the half is held.
-    pub(super) fn stopped(&mut self, stream: u32) -> Option<Option<VarInt>> {
+    pub fn stopped(&mut self, stream: u32) -> Option<Option<VarInt>> {
         self.sending(stream).stopped().ok()
     }
 }
@@ -199,15 +191,11 @@ impl Subject {
         RecvStream::new(id(stream), &mut self.state, &mut self.pending)
     }
 
-    pub(super) fn stop(&mut self, stream: u32, code: u32) -> Result<(), HandleError> {
+    pub fn stop(&mut self, stream: u32, code: u32) -> Result<(), HandleError> {
         self.receiving(stream).stop(VarInt::from(code))
     }
 
-    pub(super) fn reset_code(&mut self, stream: u32) -> Result<Option<VarInt>, HandleError> {
-        self.receiving(stream).received_reset()
-    }
-
-    pub(super) fn read_some(
+    pub fn read_some(
         &mut self,
         stream: u32,
         ordered: bool,
@@ -217,7 +205,7 @@ impl Subject {
         self.receiving(stream).read_some(ordered, most, times)
     }
 
-    pub(super) fn read_some_into(
+    pub fn read_some_into(
         &mut self,
         stream: u32,
         most: usize,
@@ -228,47 +216,36 @@ impl Subject {
             .read_some_into(true, most, times, list)
     }
 
-    pub(super) fn add_read_credits(&mut self, credits: u64) -> ShouldTransmit {
+    pub fn add_read_credits(&mut self, credits: u64) -> ShouldTransmit {
         self.state.add_read_credits(credits)
     }
 }
 
 // The frames that come.
 impl Subject {
-    pub(super) fn received(&mut self, frame: Stream) -> Result<ShouldTransmit, ReceiveError> {
+    pub fn received(&mut self, frame: Stream) -> Result<ShouldTransmit, ReceiveError> {
         let length = frame.bytes.len();
         self.state.received(frame, length)
     }
 
-    pub(super) fn received_reset(
-        &mut self,
-        frame: ResetStream,
-    ) -> Result<ShouldTransmit, ReceiveError> {
+    pub fn received_reset(&mut self, frame: ResetStream) -> Result<ShouldTransmit, ReceiveError> {
         self.state.received_reset(frame)
     }
 
-    pub(super) fn received_stop_sending(
-        &mut self,
-        stream: u32,
-        code: u32,
-    ) -> Result<(), OutOfMemory> {
+    pub fn received_stop_sending(&mut self, stream: u32, code: u32) -> Result<(), OutOfMemory> {
         self.state
             .received_stop_sending(id(stream), VarInt::from(code))
     }
 
-    pub(super) fn received_max_data(&mut self, limit: u32) {
+    pub fn received_max_data(&mut self, limit: u32) {
         self.state.received_max_data(VarInt::from(limit));
     }
 
-    pub(super) fn received_max_streams(
-        &mut self,
-        dir: Dir,
-        count: u64,
-    ) -> Result<(), ReceiveError> {
+    pub fn received_max_streams(&mut self, dir: Dir, count: u64) -> Result<(), ReceiveError> {
         self.state.received_max_streams(dir, count)
     }
 
-    pub(super) fn received_max_stream_data(
+    pub fn received_max_stream_data(
         &mut self,
         stream: u32,
         limit: u64,
@@ -279,30 +256,30 @@ impl Subject {
 
 // What becomes of the frames that were sent.
 impl Subject {
-    pub(super) fn received_ack_of(&mut self, frame: StreamMeta) -> Result<(), OutOfMemory> {
+    pub fn received_ack_of(&mut self, frame: StreamMeta) -> Result<(), OutOfMemory> {
         self.state.received_ack_of(frame)
     }
 
-    pub(super) fn retransmit(&mut self, frame: StreamMeta) -> Result<(), OutOfMemory> {
+    pub fn retransmit(&mut self, frame: StreamMeta) -> Result<(), OutOfMemory> {
         self.state.retransmit(frame)
     }
 
-    pub(super) fn reset_acked(&mut self, stream: u32) -> Result<(), OutOfMemory> {
+    pub fn reset_acked(&mut self, stream: u32) -> Result<(), OutOfMemory> {
         self.state.reset_acked(id(stream))
     }
 
-    pub(super) fn acked(&mut self, sent: SentPayload) -> Result<(), SentPayload> {
+    pub fn acked(&mut self, sent: SentPayload) -> Result<(), SentPayload> {
         self.state.acked(sent)
     }
 
-    pub(super) fn lost(&mut self, sent: SentPayload) -> Result<(), SentPayload> {
+    pub fn lost(&mut self, sent: SentPayload) -> Result<(), SentPayload> {
         self.state.lost(sent, &mut self.pending)
     }
 }
 
 // The frames that leave.
 impl Subject {
-    pub(super) fn write_stream_frames(
+    pub fn write_stream_frames(
         &mut self,
         buf: &mut Vec<u8>,
         sent: &mut StreamMetaVec,
@@ -312,7 +289,7 @@ impl Subject {
         self.state.write_stream_frames(buf, sent, max_size, fair)
     }
 
-    pub(super) fn write_control_frames(
+    pub fn write_control_frames(
         &mut self,
         buf: &mut Vec<u8>,
         sent: &mut ThinRetransmits,
@@ -323,82 +300,82 @@ impl Subject {
             .write_control_frames(buf, &mut self.pending, sent, stats, max_size)
     }
 
-    pub(super) fn queue_max_stream_id(&mut self) -> bool {
+    pub fn queue_max_stream_id(&mut self) -> bool {
         self.state.queue_max_stream_id(&mut self.pending)
     }
 
     // MAX_STREAM_DATA is to be sent for a stream.
-    pub(super) fn queue_window(&mut self, stream: u32) -> Result<(), OutOfMemory> {
+    pub fn queue_window(&mut self, stream: u32) -> Result<(), OutOfMemory> {
         add_window(&mut self.pending, stream)
     }
 
-    pub(super) fn has_nothing_of(&self, pending: &Retransmits) -> bool {
+    pub fn has_nothing_of(&self, pending: &Retransmits) -> bool {
         pending.is_empty(&self.state)
     }
 
-    pub(super) fn has_nothing_of_thin(&self, thin: &ThinRetransmits) -> bool {
+    pub fn has_nothing_of_thin(&self, thin: &ThinRetransmits) -> bool {
         thin.is_empty(&self.state)
     }
 }
 
 // What is set.
 impl Subject {
-    pub(super) fn set_max_concurrent(&mut self, dir: Dir, count: u32) -> Result<(), OutOfMemory> {
+    pub fn set_max_concurrent(&mut self, dir: Dir, count: u32) -> Result<(), OutOfMemory> {
         self.state.set_max_concurrent(dir, VarInt::from(count))
     }
 
-    pub(super) fn set_receive_window(&mut self, window: u32) -> bool {
+    pub fn set_receive_window(&mut self, window: u32) -> bool {
         self.state.set_receive_window(VarInt::from(window))
     }
 
-    pub(super) fn set_send_window(&mut self, window: u64) {
+    pub fn set_send_window(&mut self, window: u64) {
         self.state.set_send_window(window);
     }
 }
 
 // What is told.
 impl Subject {
-    pub(super) fn local_max_data(&self) -> u64 {
+    pub fn local_max_data(&self) -> u64 {
         self.state.local_max_data()
     }
 
-    pub(super) fn data_recvd(&self) -> u64 {
+    pub fn data_recvd(&self) -> u64 {
         self.state.data_recvd()
     }
 
-    pub(super) fn write_limit(&self) -> u64 {
+    pub fn write_limit(&self) -> u64 {
         self.state.write_limit()
     }
 
-    pub(super) fn max_remote(&self, dir: Dir) -> u64 {
+    pub fn max_remote(&self, dir: Dir) -> u64 {
         self.state.max_remote(dir)
     }
 
-    pub(super) fn next_remote(&self, dir: Dir) -> u64 {
+    pub fn next_remote(&self, dir: Dir) -> u64 {
         self.state.next_remote(dir)
     }
 
-    pub(super) fn max_concurrent(&self, dir: Dir) -> u64 {
+    pub fn max_concurrent(&self, dir: Dir) -> u64 {
         self.state.max_concurrent(dir)
     }
 
-    pub(super) fn is_local_unopened(&self, stream: u32) -> bool {
+    pub fn is_local_unopened(&self, stream: u32) -> bool {
         self.state.is_local_unopened(id(stream))
     }
 
-    pub(super) fn can_send_flow_control(&self, stream: u32) -> bool {
+    pub fn can_send_flow_control(&self, stream: u32) -> bool {
         self.state.can_send_flow_control(id(stream))
     }
 
-    pub(super) fn can_send_stream_data(&self) -> bool {
+    pub fn can_send_stream_data(&self) -> bool {
         self.state.can_send_stream_data()
     }
 
-    pub(super) fn can_send_data_blocked(&self) -> bool {
+    pub fn can_send_data_blocked(&self) -> bool {
         self.state.can_send_data_blocked()
     }
 
-    pub(super) fn stream_data_blocked_limit(&self, stream: u32) -> Option<VarInt> {
+    pub fn stream_data_blocked_limit(&self, stream: u32) -> Option<VarInt> {
         self.state.stream_data_blocked_limit(id(stream))
     }
 }
