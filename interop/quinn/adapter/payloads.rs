@@ -25,7 +25,7 @@ impl Payloads {
     }
 }
 
-/// Counts frames beside data.
+/// Counts control frames.
 pub(super) fn count_control(payload: &[u8], counters: &mut FrameStats) {
     for frame in Iter::new(Bytes::copy_from_slice(payload)) {
         tracing::trace!(?frame, "sent");

@@ -219,7 +219,7 @@ impl StreamsState {
         due
     }
 
-    /// Whether frames beside data wait to be sent
+    /// Whether control frames wait to be sent
     pub fn has_pending(&self) -> bool {
         self.due().control
     }
@@ -229,7 +229,7 @@ impl StreamsState {
         self.due().streams
     }
 
-    /// Writes frames beside data
+    /// Writes control frames
     pub(crate) fn write_control_frames(
         &mut self,
         buf: &mut Vec<u8>,
@@ -295,7 +295,7 @@ impl StreamsState {
         }
     }
 
-    /// Has the frames beside data of a packet that is in flight sent again, as a probe, and says whether that is of use
+    /// Has the control frames of a packet that is in flight sent again, as a probe, and says whether that is of use
     pub(crate) fn send_again(&self, sent: &mut Payloads) -> bool {
         let Some(token) = sent.control.take() else {
             return false;
