@@ -51,9 +51,9 @@ class RefusedMemory(unittest.TestCase):
             check = load().tried(refusing, SEEDS, files)
         self.assertEqual(check.wrong, [])
         self.assertEqual(check.tally["sessions"], len(files) + 2 + len(SEEDS))
-        for name in ("in a step", "at the second line", "at the third line", "outside a step", "CompactionMemory"):
+        for name in ("in a step", "at the second line", "outside a step", "CompactionMemory"):
             self.assertGreater(check.tally[name], 0, name)
-        for verb in ("emit", "read", "write", "deliver", "chunks", "open", "settle", "early-accept", "retry"):
+        for verb in ("emit", "read", "write", "deliver", "chunks", "open"):
             self.assertGreater(check.tally[f"in {verb}"], 0, verb)
 
 

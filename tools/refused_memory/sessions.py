@@ -5,8 +5,7 @@
 
 PROGRAM is streampair linked with allocator.c. The sessions are those of the files, two in which pieces are compacted,
 and one of 100 steps for each seed from FIRST to LAST. A step that names want of memory is asked again, and the replies
-are held against those of ample memory. Behind each session comes a settling in which some requests are refused, and then
-another. The status is 0 where every run is as docs/hostile.md says.
+are held against those of ample memory. The status is 0 where every run is as docs/hostile.md says.
 """
 import collections
 import os
@@ -19,8 +18,6 @@ import tempfile
 STEPS = 100
 # After so many more turns everything was sent.
 ROUNDS = 60
-# So many requests of a settling are refused.
-SETTLINGS = 20
 WINDOWS = (64, 200, 1000, 3000, 20000)
 # How many fields follow the type of each frame that is no STREAM frame (RFC 9000 section 19).
 FIELDS = {0x04: 3, 0x05: 2, 0x10: 1, 0x11: 2, 0x12: 1, 0x13: 1, 0x14: 1, 0x15: 2}
@@ -98,10 +95,6 @@ class Draw:
         self.program, self.random = program, random.Random(seed)
         self.ids, self.payloads = {"a": [], "b": []}, []
         self.lines = [f"config {end} {self.count(4)} {self.count(4)} {self.window()} {self.window()} {self.window()}" for end in "ab"]
-        # every other session begins before the handshake is done
-        self.is_early = seed % 2 == 1
-        if self.is_early:
-            self.lines.append(f"early a {self.window()} {self.count(4)} {self.count(4)} {self.window()} {self.window()} {self.window()}")
 
     def count(self, most):
         return self.random.randint(1, most)
@@ -147,8 +140,6 @@ class Draw:
         return f"deliver {number} {self.random.choice(range(len(frames) or 1))}"
 
     def line(self):
-        if self.is_early and self.random.random() < 0.05:
-            return self.random.choice(("early-accept", "early-reject", "retry"))
         end = self.random.choice("ab")
         of_stream, of_end, of_payload = 40 * bool(self.ids[end]), 36, 26 * bool(self.payloads)
         chosen = self.random.choices("sep", (of_stream, of_end, of_payload))[0]
@@ -162,10 +153,6 @@ class Draw:
                 self.ids[said[1]].append(int(reply[1]))
             if reply[0] == "payload":
                 self.payloads.append((int(reply[1]), frames_of(reply[2])))
-            if said[0] in ("early-reject", "retry") and reply[0] == "ok":
-                self.payloads.clear()
-            if said[0] == "early-reject" and reply[0] == "ok":
-                self.ids["a"].clear()
         return self.lines
 
 
@@ -207,15 +194,8 @@ def written_bytes(lines, replies):
     return written
 
 
-def since_rejection(lines, replies):
-    """Returns the lines and replies behind a rejection of early data, where the streams begin anew."""
-    start = max((at + 1 for at, it in enumerate(zip(lines, replies)) if it == ("early-reject", "ok")), default=0)
-    return lines[start:], replies[start:]
-
-
 def faults(lines, replies):
     """Says what is given twice, told twice, not as it was written, or lost, where the session was settled."""
-    lines, replies = since_rejection(lines, replies)
     written, told = written_bytes(lines, replies), collections.Counter()
     for line, reply in zip(lines, replies):
         words = reply.split()
@@ -282,29 +262,6 @@ class Check:
             why = self.refused(lines, ample, refused)
             if why:
                 self.wrong.append(f"{name}, request {refused}: {why}")
-        last = self.program.run([*lines, "settle"])[1]
-        for refused in range(requests + 1, last + 1, (last - requests) // SETTLINGS + 1):
-            why = self.settling(lines, refused)
-            if why:
-                self.wrong.append(f"{name}, request {refused} in a settling: {why}")
-
-    def settling(self, lines, refused):
-        """Returns what is wrong where this request of a settling is refused, and the next settling goes on."""
-        status, _, once = self.program.run([*lines, "settle"], refused)
-        if status == 1:
-            self.tally["outside a step"] += 1
-            return None
-        first = once[len(lines) :]
-        if first == ["refused 8 Undecided"]:
-            return None
-        if status or first[-1:] != ["refused 5 OutOfMemory"] or len(first) % 2 == 0:
-            return f"status {status}, and the settling does not end by its error"
-        self.tally["in settle"] += 1
-        status, _, replies = self.program.run([*lines, "settle", "settle"], refused)
-        taken = first[:-1] + replies[len(once) :]
-        if status or len(taken) % 2 or replies[: len(once)] != once:
-            return "the next settling is refused too"
-        return next(faults([*lines, *taken[::2]], replies[: len(lines)] + taken[1::2]), None)
 
     def refused(self, lines, ample, refused):
         """Returns what is wrong where this request is refused, if anything is."""
@@ -318,8 +275,8 @@ class Check:
         if status == 1 and not named:
             self.tally["outside a step"] += 1
             return None
-        if status == 1 and replies[at:] == ["refused 5 OutOfMemory"] and lines[at].startswith(("config b", "early a")):
-            self.tally[f"at the {'second' if at == 1 else 'third'} line"] += 1
+        if status == 1 and replies[1:] == ["refused 5 OutOfMemory"]:
+            self.tally["at the second line"] += 1
             return None
         if status or not named:
             return f"status {status}, and {len(named)} replies name want of memory"
@@ -358,8 +315,7 @@ class Check:
 
         A refused emit may have sent the first frames of the payload `unseen`, which no reply shows."""
         lines, sent = list(lines), payloads([*replies, unseen])
-        # (what is decided, or was never asked, refuses both)
-        lines += ["early-accept", "early-reject", *(f"lose {number}" for number, _ in sent)]
+        lines += [f"lose {number}" for number, _ in sent]
         for _ in range(ROUNDS):
             lines += ["emit a 1200 f", "emit b 1200 f"]
             new = payloads(self.program.run(lines, refused)[2])[-2:]
