@@ -1,5 +1,4 @@
 """Sessions of `streampair` that a seed draws, in which the client sends before the handshake is done, by the model of `early_model`."""
-import collections
 import unittest
 
 from early_model import EarlyModel
@@ -7,7 +6,7 @@ from frames import check_same
 from limits_model import limits_of
 from test_programs import need
 from test_sessions import Draws
-from test_settling import answers, cut_off_session, settle_session
+from test_settling import answers, cut_off_session, play_all, settle_session
 
 SESSIONS = 1000
 # How often each kind of answer has to come in all sessions together, at least.
@@ -82,14 +81,7 @@ def run_session(seed, tally):
 
 class EarlySessions(unittest.TestCase):
     def test_each_reply_is_as_the_model_says(self):
-        tally = collections.Counter()
-        for seed in range(SESSIONS):
-            try:
-                run_session(seed, tally)
-            except (AssertionError, LookupError, ValueError) as wrong:
-                raise AssertionError(f"seed {seed}: {wrong!r}") from wrong
-        for kind, least in LEAST.items():
-            self.assertGreater(tally[kind], least, kind)
+        play_all(self, run_session, SESSIONS, LEAST)
 
 
 if __name__ == "__main__":

@@ -132,16 +132,21 @@ def run_session(seed, tally):
     check_goes_on(draws.model, tally)
 
 
+def play_all(case, run_one, sessions, least):
+    """Runs a session for each seed, and looks whether each kind of answer came often enough in all together."""
+    tally = collections.Counter()
+    for seed in range(sessions):
+        try:
+            run_one(seed, tally)
+        except (AssertionError, LookupError, ValueError) as wrong:
+            raise AssertionError(f"seed {seed}: {wrong!r}") from wrong
+    for kind, count in least.items():
+        case.assertGreater(tally[kind], count, kind)
+
+
 class SettledSessions(unittest.TestCase):
     def test_all_that_was_written_is_read(self):
-        tally = collections.Counter()
-        for seed in range(SESSIONS):
-            try:
-                run_session(seed, tally)
-            except (AssertionError, LookupError, ValueError) as wrong:
-                raise AssertionError(f"seed {seed}: {wrong!r}") from wrong
-        for kind, least in LEAST.items():
-            self.assertGreater(tally[kind], least, kind)
+        play_all(self, run_session, SESSIONS, LEAST)
 
 
 if __name__ == "__main__":
