@@ -1,2 +1,3 @@
 pub mod Sorted
 pub mod Rows
+pub mod Held

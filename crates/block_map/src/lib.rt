@@ -2,7 +2,9 @@
 #![tactic(auto)]
 
 mod block;
+mod blocks;
 mod edits;
+mod entries;
 mod map;
 mod rows;
 mod search;

@@ -1,0 +1,145 @@
+// The blocks of a map, and what is read of them.
+ghost use Rattle.std.specs.Prelude.{◌≡◌, ◌+◌, ◌-◌, ◌<◌, ◌≤◌, ℕ, List, [], ◌∷◌, ◌++◌, length, slice_index_or, IfSome, IfNone, Some, None, true, false, ◌↔◌, IsTrue};
+ghost use Rattle.std.specs.Map.{lookup};
+ghost use Rattle.std.specs.BTreeMap.{is_at};
+ghost use Rattle.std.specs.Ordering.{nat_cmp};
+ghost use Rattle.block_map.specs.Sorted.{KeyAndValue, KeysRise, IsLastUpTo, IsFirstFrom};
+ghost use Rattle.block_map.specs.Rows.{flat, place_among, IsPlace, first_key};
+
+use crate::block::Block;
+use crate::map::Place;
+use crate::search::last_row;
+use std::alloc::Global;
+use std::marker::Model;
+
+/// Entries by rising keys, in blocks.
+#[derive(Drop)]
+pub(crate) struct Blocks {
+    pub(crate) blocks: Vec<Block>,
+    // How many entries there are.
+    pub(crate) len: usize,
+    // The memory of the next block, if there is some.
+    pub(crate) spare: Vec<(u64, u64)>,
+    // There is room for an entry.
+    pub(crate) ready: bool,
+    pub(crate) alloc: Global,
+}
+
+impl Model for Blocks {
+    ghost use Rattle.std.specs.Prelude.{List, vec_capacity, ℕ};
+    ghost use Rattle.block_map.specs.Sorted.{KeyAndValue};
+    ghost use Rattle.block_map.specs.Rows.{Entries, as_entries, IsMap};
+
+    ghost Value = { Entries };
+
+    ghost view = { λ m. as_entries m.blocks.items m.ready };
+
+    ghost invariant = { λ m. IsMap m.blocks.items m.len m.spare.items m.ready (vec_capacity m.blocks) (vec_capacity m.spare) };
+}
+
+impl Blocks {
+    /// Takes no memory.
+    pub(crate) fn new(alloc: Global) -> Self
+        ensures items { result.items ≡ [] }
+        ensures rows { result.rows ≡ [] }
+    {
+        Blocks {
+            blocks: Vec::new(alloc),
+            len: 0,
+            spare: Vec::new(alloc),
+            ready: false,
+            alloc,
+        }
+    }
+
+    #[inline(always)]
+    pub(crate) fn len(&self) -> usize
+        ensures len { result ≡ length self.now.items }
+        ensures rises { KeysRise self.now.items }
+    {
+        self.len
+    }
+
+    /// The place of the last entry with a key up to `n`.
+    #[inline(always)]
+    pub(crate) fn find(&self, n: u64) -> Option<Place>
+        ensures place { IfSome result (λ p. IsPlace self.now.rows p.block p.index) }
+        ensures last { IfSome result (λ p. IsLastUpTo self.now.items n (place_among self.now.rows p.block p.index)) }
+        ensures none { IfNone result ((k : ℕ) (d : KeyAndValue) → k < length self.now.items → n < (slice_index_or self.now.items k d).0) }
+        ensures rises { KeysRise self.now.items }
+    {
+        if self.blocks.is_empty() {
+            return None;
+        }
+        if self.blocks[0].first() > n {
+            return None;
+        }
+        let block = last_row(self.blocks.as_slice(), n);
+        let index = self.blocks[block].find(n);
+        Some(Place { block, index })
+    }
+
+    /// The entry at a place.
+    #[inline(always)]
+    pub(crate) fn entry(&self, place: Place) -> (u64, u64)
+        requires { IsPlace self.now.rows place.block place.index }
+        ensures { (d : KeyAndValue) → result ≡ slice_index_or self.now.items (place_among self.now.rows place.block place.index) d }
+    {
+        self.blocks[place.block].get(place.index)
+    }
+
+    /// The place behind one.
+    #[inline]
+    pub(crate) fn next(&self, place: Place) -> Option<Place>
+        requires { IsPlace self.now.rows place.block place.index }
+        ensures place { IfSome result (λ p. IsPlace self.now.rows p.block p.index) }
+        ensures next { IfSome result (λ p. place_among self.now.rows p.block p.index ≡ place_among self.now.rows place.block place.index + 1) }
+        ensures fits { IfSome result (λ _. place_among self.now.rows place.block place.index + 1 < length self.now.items) }
+        ensures none { IfNone result (length self.now.items ≡ place_among self.now.rows place.block place.index + 1) }
+    {
+        let len = self.blocks[place.block].len();
+        let index = place.index + 1;
+        if index < len {
+            return Some(Place {
+                block: place.block,
+                index,
+            });
+        }
+        let block = place.block + 1;
+        if block < self.blocks.len() {
+            let _len = self.blocks[block].len();
+            return Some(Place { block, index: 0 });
+        }
+        None
+    }
+
+    /// The place of the first entry.
+    #[inline]
+    pub(crate) fn first_place(&self) -> Option<Place>
+        ensures place { IfSome result (λ p. IsPlace self.now.rows p.block p.index) }
+        ensures first { IfSome result (λ p. place_among self.now.rows p.block p.index ≡ 0) }
+        ensures some { IfSome result (λ _. 0 < length self.now.items) }
+        ensures none { IfNone result (self.now.items ≡ []) }
+    {
+        if self.blocks.is_empty() {
+            return None;
+        }
+        let _len = self.blocks[0].len();
+        Some(Place { block: 0, index: 0 })
+    }
+
+    /// The place of the last entry.
+    #[inline]
+    pub(crate) fn last_place(&self) -> Option<Place>
+        ensures place { IfSome result (λ p. IsPlace self.now.rows p.block p.index) }
+        ensures last { IfSome result (λ p. place_among self.now.rows p.block p.index + 1 ≡ length self.now.items) }
+        ensures none { IfNone result (self.now.items ≡ []) }
+    {
+        if self.blocks.is_empty() {
+            return None;
+        }
+        let block = self.blocks.len() - 1;
+        let index = self.blocks[block].len() - 1;
+        Some(Place { block, index })
+    }
+}
