@@ -43,7 +43,7 @@ fn wrong_bytes_in(chunk: &Chunk) -> u64 {
     wrong
 }
 
-// Why something was not done: memory was wanting.
+// Why something was not done: memory ran out.
 fn memory_of(error: HandleError) -> Result<(), OutOfMemory> {
     match error {
         HandleError::ClosedStream => Ok(()),

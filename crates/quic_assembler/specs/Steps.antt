@@ -129,7 +129,7 @@ TakesOp body (Read most) a (Some chunk) b = ReadsChunk (body.state a) (body.stat
 TakesOp body Unordered a o b =
     (o ≡ None) × LeavesMode (body.state a) (body.state b) × ((body.state a).ordered ≡ false → b ≡ a) × body.orders a false (Ok tt) b
 
--- why a step was refused, and what it left: its call refused it for that reason, or it was not taken: a read for want of room for its chunk (`full`), an insert whose bytes are fit for want of memory for the copy
+-- why a step was refused, and what it left: its call refused it for that reason, or it was not taken: a read for lack of room for its chunk (`full`), an insert whose bytes are fit for lack of memory for the copy
 abbrev pub RefusesStep : {S : Type 0} → Body S → Type 0 → Op → ReplayError → S → S → Type 0
 RefusesStep body full (Insert offset bytes size) TooManyChunks a b =
     Inserts (body.state a) (body.state b) offset bytes × (1024 < (body.state b).pieces)

@@ -118,7 +118,7 @@ impl HeapAssembler {
     /// much more memory alive than they have bytes.
     ///
     /// With `TooManyChunks` and `CompactionMemory` the bytes are kept all the same; with `OutOfMemory` nothing
-    /// changes. In ordered mode bytes that are empty or were read before want no memory.
+    /// changes. In ordered mode bytes that are empty or were read before need no memory.
     pub fn insert(
         &mut self,
         offset: u64,

@@ -28,7 +28,7 @@ send_refusal limits queued content drop = by_end limits.receive limits.max
     by_end (Some receive) None = Some send_error.UnsupportedByPeer
     by_end (Some receive) (Some max) = size_refusal max limits.send queued content drop
 
--- the answer where nothing is queued: that refusal or, where there is none, want of memory, which gives the content back
+-- the answer where nothing is queued: that refusal or, where there is none, lack of memory, which gives the content back
 abbrev pub IsSendRefusal : DatagramLimits → List Datagram → List ℕ → Bool → SendDatagramError → Type 0
 IsSendRefusal limits queued content drop (send_error.OutOfMemory back) = (send_refusal limits queued content drop ≡ None) × (back ≡ content)
 IsSendRefusal limits queued content drop e = send_refusal limits queued content drop ≡ Some e

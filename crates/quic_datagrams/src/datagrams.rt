@@ -210,7 +210,7 @@ pub struct DatagramState {
     pub incoming: DatagramBuffer,
     /// Those that wait to be sent.
     pub outgoing: DatagramBuffer,
-    /// Whether one was refused for want of room since the last one was dropped for its length.
+    /// Whether one was refused for lack of room since the last one was dropped for its length.
     pub send_blocked: bool,
 }
 

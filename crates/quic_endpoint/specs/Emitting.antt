@@ -50,13 +50,13 @@ pub record EmitsStreams (most : ℕ) (fair : Bool) (e : EndState) (bytes : List 
   pub from : GoesOnWithTurns most fair [] payload.sent.streams e.streams f.streams
   pub pending : f.pending ≡ e.pending
 
--- memory was wanting before one was written
+-- memory ran out before one was written
 pub record EmitsNoStream (e : EndState) (bytes : List ℕ) (f : EndState) (payload : PayloadView) : Type 0 where
   pub same : f ≡ e
   pub bytes_are : payload.bytes ≡ bytes
   pub none : payload.sent.streams ≡ []
 
--- a payload was written, also where memory was wanting: then the frames that were written before stand in it
+-- a payload was written, also where memory ran out: then the frames that were written before stand in it
 pub data EmitsAt (most : ℕ) (fair : Bool) (e : EndState) (payload : PayloadView) : Result (Unit {0}) OutOfMemory → EndState → Type 0 where
   whole : {answer : Result (Unit {0}) OutOfMemory} {f : EndState} → (between : EndState) (bytes : List ℕ) → EmitsControl most e (Ok tt) between bytes (control_in payload)
       → EmitsStreams most fair between bytes answer f payload → EmitsAt most fair e payload answer f

@@ -1,4 +1,4 @@
--- An end of a connection with what it has to send beside data, and what the calls of its application do to it.
+-- An end of a connection with its pending control frames, and what the calls of its application do to it.
 use Rattle.std.specs.Prelude.{ℕ, ℤ, Bool, true, false, ◌≡◌, ◌||◌, List, Option, Result, Ok, Err, is_ok}
 use Rattle.quic_values.specs.declared.memory.OutOfMemory.{OutOfMemory}
 use Rattle.quic_values.specs.declared.ids.Dir.{Dir}
@@ -6,8 +6,8 @@ use Rattle.quic_assembler.specs.declared.chunk.Chunk.{Chunk}
 use Rattle.quic_sending.specs.declared.send.Written.{Written}
 use Rattle.quic_sending.specs.declared.send.WriteError.{WriteError}
 use Rattle.quic_sending.specs.declared.send.FinishError.{FinishError}
-use Rattle.quic_receiving.specs.declared.errors.HandleError.{HandleError}
-use Rattle.quic_receiving.specs.declared.errors.HandleError.TheVariants as handle_error
+use Rattle.quic_sending.specs.declared.errors.HandleError.{HandleError}
+use Rattle.quic_sending.specs.declared.errors.HandleError.TheVariants as handle_error
 use Rattle.quic_receiving.specs.declared.errors.ReadableError.{ReadableError}
 use Rattle.quic_receiving.specs.declared.errors.ReadableError.TheVariants as readable_error
 use Rattle.quic_retransmits.specs.Pending.{Pending}
@@ -20,7 +20,7 @@ use Rattle.quic_history.specs.Reading.{ReadsSome, Begins, Stops, TellsReset}
 use Rattle.quic_history.specs.Permitting.{SetsConcurrent}
 
 -- streams: the streams of the end
--- pending: what it has to send beside data
+-- pending: the control frames that it has to send
 pub record EndState : Type 0 where
   pub streams : World
   pub pending : Pending
@@ -37,24 +37,24 @@ with_counts_told e = record e { pending = with_max_streams e.streams e.pending }
 abbrev pub with_limit_told : Bool → EndState → EndState
 with_limit_told due e = record e { pending = record e.pending { max_data = e.pending.max_data || due } }
 
--- the same, unless memory was wanting
+-- the same, unless memory ran out
 abbrev pub with_counts_told_if : Bool → EndState → EndState
 with_counts_told_if true e = with_counts_told e
 with_counts_told_if false e = e
 
--- whether a call was not refused for want of memory
+-- whether a call was not refused for lack of memory
 abbrev pub is_handled : {A : Type 0} → Result A HandleError → Bool
 is_handled (Ok a) = true
 is_handled (Err handle_error.ClosedStream) = true
 is_handled (Err handle_error.OutOfMemory) = false
 
--- whether a refusal is not for want of memory
+-- whether a refusal is not for lack of memory
 abbrev pub not_for_memory : ReadableError → Bool
 not_for_memory readable_error.ClosedStream = true
 not_for_memory readable_error.IllegalOrderedRead = true
 not_for_memory readable_error.OutOfMemory = false
 
--- whether a reader was not refused for want of memory
+-- whether a reader was not refused for lack of memory
 abbrev pub is_opened : {A : Type 0} → Result A ReadableError → Bool
 is_opened (Ok a) = true
 is_opened (Err error) = not_for_memory error

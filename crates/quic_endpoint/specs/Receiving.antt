@@ -22,7 +22,7 @@ abbrev pub done_so : Result ShouldTransmit ReceiveError → Result (Unit {0}) Re
 done_so (Ok transmit) = Ok tt
 done_so (Err error) = Err error
 
--- the same of a call that is refused for want of memory alone
+-- the same of a call that is refused for lack of memory alone
 abbrev pub stopped_so : Result ShouldTransmit ReceiveError → Result (Unit {0}) OutOfMemory
 stopped_so (Ok transmit) = Ok tt
 stopped_so (Err error) = Err (record {})
@@ -62,7 +62,7 @@ abbrev pub AnswersDone : Result ShouldTransmit ReceiveError → Type 0
 AnswersDone (Ok transmit) = transmit.0 ≡ false
 AnswersDone (Err error) = ⊥
 
--- one without a refusal but for want of memory
+-- one without a refusal but for lack of memory
 abbrev pub IsDoneIfRoom : Result ShouldTransmit ReceiveError → Type 0
 IsDoneIfRoom (Ok transmit) = transmit.0 ≡ false
 IsDoneIfRoom (Err error) = error ≡ receive_error.OutOfMemory
@@ -77,7 +77,7 @@ MayAnswer (frames.MaxStreamData id limit) answer = IsQuiet answer
 MayAnswer (frames.MaxStreams dir count) answer = IsQuiet answer
 MayAnswer _ answer = AnswersDone answer
 
--- what an answer asks for is queued: MAX_DATA, and MAX_STREAMS where it is due. A refusal for want of memory asks nothing
+-- what an answer asks for is queued: MAX_DATA, and MAX_STREAMS where it is due. A refusal for lack of memory asks nothing
 abbrev pub with_answer_told : Result ShouldTransmit ReceiveError → EndState → EndState
 with_answer_told (Ok transmit) e = with_counts_told (with_limit_told transmit.0 e)
 with_answer_told (Err (receive_error.Transport error)) e = with_counts_told e

@@ -98,7 +98,7 @@ impl Endpoint {
         SendStream::new(id, streams, pending, ConnState::Open).set_priority(priority)
     }
 
-    /// Stops a stream, as [`RecvStream::stop`], and queues MAX_STREAMS where it is due, unless memory was wanting.
+    /// Stops a stream, as [`RecvStream::stop`], and queues MAX_STREAMS where it is due, unless memory ran out.
     pub fn stop(&mut self, id: StreamId, error_code: VarInt) -> Result<(), HandleError>
         ensures stops { StopsReading (endpoint_view self.old) id error_code result (endpoint_view self.new) }
         ensures from { (m : Made) (h : List Event) → From m h (endpoint_view self.old).streams → From m (Stopped id error_code result ∷ h) (endpoint_view self.new).streams }
@@ -117,7 +117,7 @@ impl Endpoint {
     }
 
     /// Asks for the code with which the peer gave a stream up, as [`RecvStream::received_reset`], and queues MAX_STREAMS
-    /// where it is due, unless memory was wanting.
+    /// where it is due, unless memory ran out.
     pub fn received_reset(&mut self, id: StreamId) -> Result<Option<VarInt>, HandleError>
         ensures tells { TellsResetAt (endpoint_view self.old) id result (endpoint_view self.new) }
         ensures from { (m : Made) (h : List Event) → From m h (endpoint_view self.old).streams → From m (ToldReset id result ∷ h) (endpoint_view self.new).streams }
@@ -135,7 +135,7 @@ impl Endpoint {
         RecvStream::new(id, streams, pending).received_reset()
     }
 
-    /// Reads a stream, as [`RecvStream::read_some`], and queues MAX_STREAMS where it is due, unless memory was wanting to
+    /// Reads a stream, as [`RecvStream::read_some`], and queues MAX_STREAMS where it is due, unless there was no memory to
     /// open the reader.
     pub fn read(
         &mut self,
@@ -177,14 +177,14 @@ impl Endpoint {
     }
 }
 
-// Whether a call was not refused for want of memory.
+// Whether a call was not refused for lack of memory.
 fn is_handled<T>(answer: &Result<T, HandleError>) -> bool
     ensures { result ≡ is_handled answer.now }
 {
     !matches!(answer, Err(HandleError::OutOfMemory))
 }
 
-// Whether a reader was not refused for want of memory.
+// Whether a reader was not refused for lack of memory.
 fn is_opened(answer: &Result<ReadSome, ReadableError>) -> bool
     ensures { result ≡ is_opened answer.now }
 {

@@ -27,7 +27,7 @@ impl Endpoint {
         }
     }
 
-    /// What is to be sent beside data.
+    /// The control frames that are to be sent.
     pub fn pending(&self) -> &Retransmits
         ensures { pending_view result.now ≡ (endpoint_view self.now).pending }
     {
@@ -35,8 +35,8 @@ impl Endpoint {
     }
 
     /// All that a client sent before the handshake was done is to be sent again, as
-    /// [`quic_streams::state::StreamsState::retransmit_all_for_0rtt`], and beside data what is given here. If refused, all is
-    /// as it was.
+    /// [`quic_streams::state::StreamsState::retransmit_all_for_0rtt`], and the control frames that are given here. If
+    /// refused, all is as it was.
     pub fn send_again(&mut self, pending: Retransmits) -> Result<(), OutOfMemory>
         ensures sends { NoneAcked (endpoint_view self.old).streams.out.side (endpoint_view self.old).streams.out.halves → SendsAgain (endpoint_view self.old).streams result (endpoint_view self.new).streams }
         ensures pending { OnOk result ((endpoint_view self.new).pending ≡ pending_view pending) }

@@ -120,7 +120,7 @@ impl Endpoint {
         &self.streams
     }
 
-    // MAX_STREAMS is queued where it is due, if a call was not refused for want of memory.
+    // MAX_STREAMS is queued where it is due, if a call was not refused for lack of memory.
     pub(crate) fn tell_counts_if(&mut self, handled: bool)
         ensures { endpoint_view self.new ≡ with_counts_told_if handled (endpoint_view self.old) }
     {

@@ -15,7 +15,7 @@ use quic_wire::{Frame, ReceiveError};
 impl Endpoint {
     /// Takes a frame of the peer that came in a payload of so many bytes (RFC 9000 section 19): data, a reset, a stop and
     /// limits are handed to the streams, any other frame changes nothing. Where the answer asks for MAX_DATA it is queued,
-    /// and MAX_STREAMS where it is due, unless memory was wanting. Data keep the whole payload alive, so that `payload_len`
+    /// and MAX_STREAMS where it is due, unless memory ran out. Data keep the whole payload alive, so that `payload_len`
     /// is their allocation size.
     pub fn receive(
         &mut self,

@@ -42,10 +42,10 @@ impl Payload {
 
 #[tactic(auto, unfolding(crate::specs::Shown::endpoint_view))]
 impl Endpoint {
-    /// Writes what is to be sent into a payload of at most `max_size` bytes: what is pending beside data, as
-    /// [`quic_streams::state::StreamsState::write_control_frames`], then data, as
-    /// [`quic_streams::state::StreamsState::write_stream_frames`]. Where memory is wanting, the frames that were written
-    /// before stand in the payload.
+    /// Writes what is to be sent into a payload of at most `max_size` bytes: control frames first, as
+    /// [`quic_streams::state::StreamsState::write_control_frames`], then STREAM frames, as
+    /// [`quic_streams::state::StreamsState::write_stream_frames`]. Out of memory, the frames that were written before
+    /// stand in the payload.
     pub fn emit(&mut self, max_size: usize, fair: bool) -> (Payload, Result<(), OutOfMemory>)
         ensures emits { EmitsAt max_size fair (endpoint_view self.old) (payload_view result.0) result.1 (endpoint_view self.new) }
         ensures within { (m : Made) (h : List Event) → From m h (endpoint_view self.old).streams → length result.0.bytes.items ≤ max_size }

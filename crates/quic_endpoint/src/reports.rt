@@ -14,7 +14,7 @@ use quic_streams::SentPayload;
 #[tactic(auto, unfolding(crate::specs::Shown::endpoint_view))]
 impl Endpoint {
     /// A payload was acknowledged, as [`quic_streams::state::StreamsState::acked`]; then MAX_STREAMS is queued where it is
-    /// due. Where memory is wanting, what is unreported comes back, and nothing is queued.
+    /// due. Where memory runs out, what is unreported comes back, and nothing is queued.
     pub fn acknowledge(&mut self, sent: SentPayload) -> Result<(), SentPayload>
         ensures acks { AcksPayloadAt (endpoint_view self.old) (sent_view sent) (report_view result) (endpoint_view self.new) }
         ensures from { (m : Made) (h : List Event) → From m h (endpoint_view self.old).streams
@@ -26,7 +26,7 @@ impl Endpoint {
     }
 
     /// A payload was lost, as [`quic_streams::state::StreamsState::lost`]: what it carried is to be sent again. Where memory
-    /// is wanting, what is unreported comes back.
+    /// runs out, what is unreported comes back.
     pub fn lose(&mut self, sent: SentPayload) -> Result<(), SentPayload>
         ensures loses { LosesPayloadAt (endpoint_view self.old) (sent_view sent) (report_view result) (endpoint_view self.new) }
         ensures from { (m : Made) (h : List Event) → From m h (endpoint_view self.old).streams

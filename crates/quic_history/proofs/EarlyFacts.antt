@@ -202,7 +202,7 @@ facts-again begun h u v (Err x) f s = record {
       all-same (trace h) u v s.window (λ q. refusal-same v u q s.side s.opened bi.max uni.max) (λ q. ap (λ (k : Halves). k q) s.receive) f.streams;
 }
 
--- and so does want of memory
+-- and so does lack of memory
 pub spares-nothing : (u v : World) → v ≡ u → Spares u v
 spares-nothing u v e = let P : World → Type 0 = λ w. Spares u w in
     subst P (sym e) (record { side = refl; window = refl; credit = refl; receive = refl; opened = refl; opened_uni = refl; reported = refl; count = refl; limits = λ d. limits-refl (remote_of u d); held = λ q. refl })

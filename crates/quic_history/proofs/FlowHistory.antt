@@ -18,7 +18,7 @@ use Rattle.quic_sending.specs.declared.send.Send.{Send}
 use Rattle.quic_sending.specs.declared.send.WriteError.{WriteError}
 use Rattle.quic_sending.specs.declared.send.WriteError.TheVariants as write_error
 use Rattle.quic_receiving.specs.Counted.{number}
-use Rattle.quic_receiving.specs.declared.errors.HandleError.TheVariants as handle_error
+use Rattle.quic_sending.specs.declared.errors.HandleError.TheVariants as handle_error
 use Rattle.quic_retransmits.specs.Pending.{Pending}
 use Rattle.quic_flows.specs.Flow.{SendMove, SendFlow, new_flow, with_least_limit, with_send_move, retained, FlowAt}
 use Rattle.quic_outgoing.specs.declared.limits.PeerLimits.{PeerLimits}

@@ -13,8 +13,8 @@ use Rattle.quic_receiving.specs.declared.errors.ReadError.{ReadError}
 use Rattle.quic_receiving.specs.declared.errors.ReadError.TheVariants as read_error
 use Rattle.quic_receiving.specs.declared.errors.ReadableError.{ReadableError}
 use Rattle.quic_receiving.specs.declared.errors.ReadableError.TheVariants as readable_error
-use Rattle.quic_receiving.specs.declared.errors.HandleError.{HandleError}
-use Rattle.quic_receiving.specs.declared.errors.HandleError.TheVariants as handle_error
+use Rattle.quic_sending.specs.declared.errors.HandleError.{HandleError}
+use Rattle.quic_sending.specs.declared.errors.HandleError.TheVariants as handle_error
 use Rattle.quic_retransmits.specs.Pending.{Pending}
 use Rattle.quic_history.specs.World.{World, id_refusal, with_receive, with_credit, with_freed}
 use Rattle.quic_history.specs.Reading.{Begins, Asks, ReadsHalf, Stops, TellsReset, after_stop}

@@ -61,7 +61,7 @@ with_entries_put q [] = q
 with_entries_put q (e ∷ es) = with_entries_put (with_entry q e) es
 
 -- all that an early start sent is to be sent again: each stream that has something to be sent then, and had nothing
--- before, is queued. For want of memory nothing changes
+-- before, is queued. Out of memory, nothing changes
 abbrev pub SendsAgain : World → Result (Unit {0}) OutOfMemory → World → Type 0
 SendsAgain u (Ok x) v = (es : List Entry) × AreUnsentOf u.out (own_ids u.out) es × (v ≡ record u { out = with_all_unsent u.out; queue = with_entries_put u.queue es })
 SendsAgain u (Err e) v = v ≡ u

@@ -20,7 +20,7 @@ use Rattle.quic_receiving.specs.declared.transmit.ShouldTransmit.{ShouldTransmit
 use Rattle.quic_receiving.specs.declared.errors.ReadError.{ReadError}
 use Rattle.quic_receiving.specs.declared.errors.ReadError.TheVariants as read_error
 use Rattle.quic_receiving.specs.declared.errors.ReadableError.{ReadableError}
-use Rattle.quic_receiving.specs.declared.errors.HandleError.{HandleError}
+use Rattle.quic_sending.specs.declared.errors.HandleError.{HandleError}
 use Rattle.quic_history.specs.declared.progress.Progress.{Progress}
 use Rattle.quic_history.specs.declared.progress.Progress.TheVariants as progress
 use Rattle.quic_history.specs.declared.progress.LastAnswer.{LastAnswer}
@@ -632,7 +632,7 @@ write_room m h id = min (min (room_in_connection h) (room_in_window m h)) (room_
 abbrev pub is_sent_on : Made → List Event → ℕ → Bool
 is_sent_on m h id = has_send_side m.side (opened_in_all (since h)) (send_tale m h).may_open id && not (flow m h id).freed
 
--- why nothing is written on a stream, if it is not for want of memory
+-- why nothing is written on a stream, if it is not for lack of memory
 abbrev pub why_not : Made → List Event → ℕ → Option WriteError
 why_not m h id = refusal_told (is_sent_on m h id) (min (room_in_connection h) (room_in_window m h)) (flow m h id)
 

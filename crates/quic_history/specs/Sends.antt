@@ -28,7 +28,7 @@ with_out w o = record w { out = o }
 abbrev pub with_params_given : World → PeerLimits → World
 with_params_given w p = record w { out = after_params w.out p; events = w.events ++ map stream_event.Writable (newly_writable w.out p) }
 
--- for want of memory nothing changes
+-- out of memory, nothing changes
 abbrev pub TakesParams : World → PeerLimits → Result (Unit {0}) OutOfMemory → World → Type 0
 TakesParams w p (Ok x) v = v ≡ with_params_given w p
 TakesParams w p (Err e) v = v ≡ w

@@ -4,7 +4,7 @@ use Rattle.quic_sending.specs.declared.send.Written.{Written}
 use Rattle.quic_sending.specs.declared.send.WriteError.{WriteError}
 use Rattle.quic_sending.specs.declared.send.WriteError.TheVariants as write_error
 use Rattle.quic_sending.specs.declared.send.FinishError.{FinishError}
-use Rattle.quic_receiving.specs.declared.errors.HandleError.{HandleError}
+use Rattle.quic_sending.specs.declared.errors.HandleError.{HandleError}
 use Rattle.quic_retransmits.specs.Pending.{Pending}
 use Rattle.quic_outgoing.specs.declared.writing.Wrote.{Wrote}
 use Rattle.quic_outgoing.specs.Outgoing.{Outgoing}

@@ -22,7 +22,7 @@ pub other_form : (text found : List ℕ) → decode_of text ≡ Ok found → (he
 other_form text found decoded other some xs bytes form =
     other (ap hex_form (ok_is _ _ (sym decoded ∙ decodes xs text bytes form some)) ∙ form)
 
--- an error that is not want of memory is the text's
+-- an error other than out of memory is the text's
 pub refused_by : (text : List ℕ) (e f : FromHexError) → (e ≡ errors.OutOfMemory) ⊎ (decode_of text ≡ Err e) → e ≡ f → (f ≡ errors.OutOfMemory → ⊥) → (text ≡ 45 ∷ [] → ⊥) → SpellsNoBytes text
 refused_by text e f (inl out) is other some = absurd (other (sym is ∙ out))
 refused_by text e f (inr refused) is other some = no_form text e refused some

@@ -1,4 +1,4 @@
--- What is pending beside data was asked for.
+-- Pending control frames were asked for.
 use Rattle.std.specs.Prelude.{ℕ, true, ◌≡◌, Some}
 use Rattle.quic_wire.specs.declared.frame.StopSending.{StopSending}
 use Rattle.quic_retransmits.specs.Pending.{Pending}

@@ -117,7 +117,7 @@ impl Assembler {
     /// alive than they have bytes.
     ///
     /// With `TooManyChunks` and `CompactionMemory` the bytes are kept all the same; with `OutOfMemory` nothing
-    /// changes. In ordered mode bytes that are empty, were read before or lie within one held piece want no memory.
+    /// changes. In ordered mode bytes that are empty, were read before or lie within one held piece need no memory.
     /// `TooManyChunks` comes only where the offsets that are held form more than 1024 runs without neighbours.
     #[inline(always)]
     pub fn insert(

@@ -176,7 +176,7 @@ impl OrderedPieces {
 
     /// Takes bytes that came at an offset, and that keep so much memory alive. They are joined with all pieces that
     /// they overlap; where two bytes meet the held one stays. Bytes that touch a piece and overlap none are a piece of
-    /// their own. Bytes that lie within one piece want no memory.
+    /// their own. Bytes that lie within one piece need no memory.
     #[inline(always)]
     pub fn insert(
         &mut self,

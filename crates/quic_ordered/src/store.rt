@@ -192,7 +192,7 @@ impl PieceStore {
 
     /// Takes bytes that came at an offset, and that keep so much memory alive. They are joined with all pieces that
     /// they overlap; where two bytes meet the held one stays. Bytes that touch a piece and overlap none are a piece of
-    /// their own. Bytes that lie within one piece want no memory.
+    /// their own. Bytes that lie within one piece need no memory.
     #[inline(never)]
     pub(crate) fn insert(
         &mut self,

@@ -8,7 +8,7 @@ use Rattle.quic_values.specs.declared.ids.Dir.TheVariants.{Bi, Uni}
 use Rattle.quic_limits.specs.SendingCredit.{SendingCredit, writable, with_limit, with_written}
 use Rattle.quic_limits.specs.Own.{Own, with_next_own, with_count}
 use Rattle.quic_sending.specs.declared.send.WriteError.TheVariants as write_error
-use Rattle.quic_receiving.specs.declared.errors.HandleError.TheVariants as handle_error
+use Rattle.quic_sending.specs.declared.errors.HandleError.TheVariants as handle_error
 use Rattle.quic_sending.specs.declared.send.Send.{Send}
 use Rattle.quic_outgoing.specs.declared.limits.PeerLimits.{PeerLimits}
 use Rattle.quic_outgoing.specs.declared.writing.Wrote.{Wrote}

@@ -28,7 +28,7 @@ pub record AcknowledgesOffsets (offsets : Range ℕ) (fin : Bool) (s t : Send) :
   pub sound : IsSound t.pending
   pub others : t ≡ record s { state = after_ack s.state fin; pending = t.pending }
 
--- the report that offsets of a half are acknowledged may want memory: they lie behind a gap, or nothing was done on it
+-- the report that offsets of a half are acknowledged may need memory: they lie behind a gap, or nothing was done on it
 abbrev pub MayWantMemory : Range ℕ → Option Send → Type 0
 MayWantMemory offsets None = ⊥
 MayWantMemory offsets (Some s) = ((s.pending.prefix < offsets.start) × (offsets.start < offsets.end)) ⊎ ((is_ready s.state ≡ true) × (s.pending.offset ≡ 0))
@@ -47,12 +47,12 @@ pub record AcksHalf (u : Outgoing) (id : ℕ) (offsets : Range ℕ) (fin : Bool)
   pub done_is : done ≡ is_complete after
   pub is : v ≡ record (with_send_half u id (if done then None else Some after)) { budget = with_released u.budget (total_length half.pending.held - total_length after.pending.held) }
 
--- what came of the report that a frame was acknowledged. Want of memory is answered only where a half is held
+-- what came of the report that a frame was acknowledged. Lack of memory is answered only where a half is held
 abbrev pub AcksStream : Outgoing → ℕ → Range ℕ → Bool → Result Bool OutOfMemory → Outgoing → Type 0
 AcksStream u id offsets fin (Ok done) v = MatchBool (were_sent (u.halves id) offsets) (AcksHalf u id offsets fin done v) ((done ≡ false) × (v ≡ u))
 AcksStream u id offsets fin (Err e) v = (is_some (u.halves id) ≡ true) × (v ≡ u)
 
--- the report that offsets of a half are lost may want memory: some lie above the acknowledged prefix, or nothing was done
+-- the report that offsets of a half are lost may need memory: some lie above the acknowledged prefix, or nothing was done
 -- on it
 abbrev pub LossMayWantMemory : Range ℕ → Option Send → Type 0
 LossMayWantMemory offsets None = ⊥
@@ -74,7 +74,7 @@ pub record LosesOnHalf (u : Outgoing) (id : ℕ) (offsets : Range ℕ) (fin : Bo
   pub loses : LosesOffsets offsets fin half after
   pub is : v ≡ with_send_half u id (Some after)
 
--- what came of the report that a frame was lost. Want of memory is answered only where a half is held
+-- what came of the report that a frame was lost. Lack of memory is answered only where a half is held
 abbrev pub LosesOnStream : Outgoing → ℕ → Range ℕ → Bool → Result (Option ℤ) OutOfMemory → Outgoing → Type 0
 LosesOnStream u id offsets fin (Ok queue) v = MatchBool (were_sent (u.halves id) offsets) (LosesOnHalf u id offsets fin queue v) ((queue ≡ None) × (v ≡ u))
 LosesOnStream u id offsets fin (Err e) v = (is_some (u.halves id) ≡ true) × (v ≡ u)

@@ -16,14 +16,14 @@ use Rattle.quic_sending.specs.declared.send.FinishError.{FinishError}
 use Rattle.quic_sending.specs.declared.send.FinishError.TheVariants as finish_error
 use Rattle.quic_sending.specs.Buffer.{HasDue, HasNoneDue, total_length}
 use Rattle.quic_sending.specs.Sending.{is_ready, is_reset_sent, finish_refusal}
-use Rattle.quic_receiving.specs.declared.errors.HandleError.{HandleError}
-use Rattle.quic_receiving.specs.declared.errors.HandleError.TheVariants as handle_error
+use Rattle.quic_sending.specs.declared.errors.HandleError.{HandleError}
+use Rattle.quic_sending.specs.declared.errors.HandleError.TheVariants as handle_error
 use Rattle.quic_retransmits.specs.Pending.{Pending}
 use Rattle.quic_retransmits.specs.Queueing.{with_reset_stream}
 use Rattle.quic_outgoing.specs.Senders.{SendersById, with_sender}
 use Rattle.quic_outgoing.specs.Outgoing.{Outgoing, own_of, with_own, with_send_half, fresh_sender, waiting, is_stuck, marked}
 
--- a stream is opened where one more may be. For want of memory nothing is
+-- a stream is opened where one more may be. Out of memory, nothing is
 abbrev pub OpensStream : Outgoing → Dir → Result (Option ℕ) OutOfMemory → Outgoing → Type 0
 OpensStream u dir (Ok None) v = ((own_of u dir).limit ≤ (own_of u dir).opened) × (v ≡ u)
 OpensStream u dir (Ok (Some id)) v = ((own_of u dir).opened < (own_of u dir).limit) × (id ≡ stream_id u.side dir (own_of u dir).opened)
@@ -118,11 +118,11 @@ EndsHalf s queue t = (finish_refusal s ≡ None) × QueuesAt s queue × (t ≡ f
 abbrev pub EndsHalfIn : SendersById → ℕ → Option ℤ → SendersById → Type 0
 EndsHalfIn f id queue g = (s : Send) × (f id ≡ Some s) × (finish_refusal s ≡ None) × QueuesAt s queue × (g ≡ with_sender f id (Some (finished s)))
 
--- why a stream is not finished, or memory is wanting
+-- why a stream is not finished, or memory runs out
 abbrev pub IsEndRefused : Option Send → FinishError → Type 0
 IsEndRefused o e = (end_refusal o ≡ Some e) ⊎ (e ≡ finish_error.OutOfMemory)
 
--- a stream is finished, or refused; want of memory needs no other reason
+-- a stream is finished, or refused; lack of memory needs no other reason
 abbrev pub FinishesStream : Outgoing → ℕ → Result (Option ℤ) FinishError → Outgoing → Type 0
 FinishesStream u id (Ok queue) v = (s : Send) × (u.halves id ≡ Some s) × (finish_refusal s ≡ None) × QueuesAt s queue × (v ≡ with_send_half u id (Some (finished s)))
 FinishesStream u id (Err e) v = ((end_refusal (u.halves id) ≡ Some e) ⊎ (e ≡ finish_error.OutOfMemory)) × (v ≡ u)

@@ -10,7 +10,7 @@ use Rattle.quic_wire.specs.declared.error.TransportError.{TransportError}
 use Rattle.quic_limits.specs.SendingCredit.{with_limit, with_window}
 use Rattle.quic_sending.specs.declared.send.WriteError.{WriteError}
 use Rattle.quic_sending.specs.declared.send.FinishError.{FinishError}
-use Rattle.quic_receiving.specs.declared.errors.HandleError.{HandleError}
+use Rattle.quic_sending.specs.declared.errors.HandleError.{HandleError}
 use Rattle.quic_retransmits.specs.Pending.{Pending}
 use Rattle.quic_outgoing.specs.declared.limits.PeerLimits.{PeerLimits}
 use Rattle.quic_outgoing.specs.declared.writing.Wrote.{Wrote}

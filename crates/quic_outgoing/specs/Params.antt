@@ -45,7 +45,7 @@ newly_writable u p = if is_stuck (with_params u p) then [] else own_woken u p
 abbrev pub after_params : Outgoing → PeerLimits → Outgoing
 after_params u p = with_params (with_woken u p) p
 
--- for want of memory nothing changes
+-- out of memory, nothing changes
 abbrev pub GivesParams : Outgoing → PeerLimits → Result (Unit {0}) OutOfMemory → Outgoing → Type 0
 GivesParams u p (Ok x) v = v ≡ after_params u p
 GivesParams u p (Err e) v = v ≡ u

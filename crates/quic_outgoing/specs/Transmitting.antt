@@ -68,12 +68,12 @@ pub record TransmitsFrame (f : SendersById) (id most : ℕ) (bytes : List ℕ) (
   pub appends : AppendsFrame most id half bytes frame sent new
   pub is : g ≡ with_sender f id (Some sent)
 
--- one frame of a stream is written or, for want of memory, none
+-- one frame of a stream is written or, for lack of memory, none
 abbrev pub Transmits : Outgoing → ℕ → ℕ → List ℕ → Result WrittenFrame OutOfMemory → Outgoing → List ℕ → Type 0
 Transmits u id most bytes (Ok frame) v new = TransmitsFrame u.halves id most bytes frame v.halves new × (v ≡ record u { halves = v.halves })
 Transmits u id most bytes (Err e) v new = (v ≡ u) × (new ≡ bytes)
 
--- one frame of a stream is written where data may be sent on it and its priority is this one: else, and for want of memory,
+-- one frame of a stream is written where data may be sent on it and its priority is this one: else, and for lack of memory,
 -- none
 abbrev pub SendsAt : SendersById → ℕ → ℤ → ℕ → List ℕ → Result (Option WrittenFrame) OutOfMemory → SendersById → List ℕ → Type 0
 SendsAt f id priority most bytes (Ok (Some frame)) g new = (sending_priority (f id) ≡ Some priority) × TransmitsFrame f id most bytes frame g new

@@ -59,7 +59,7 @@ pub record TakesBytesIn (most : ℕ) (f : SendersById) (id : ℕ) (lists : List 
   pub takes : TakesBytes most half lists wrote left after
   pub is : g ≡ with_sender f id (Some after)
 
--- why nothing is taken by a half: there is none, it refuses, or memory is wanting
+-- why nothing is taken by a half: there is none, it refuses, or memory runs out
 abbrev pub IsRefusedBy : Option Send → WriteError → Type 0
 IsRefusedBy None e = e ≡ write_error.ClosedStream
 IsRefusedBy (Some s) e = (write_refusal s ≡ Some e) ⊎ (e ≡ write_error.OutOfMemory)

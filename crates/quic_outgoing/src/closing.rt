@@ -11,9 +11,8 @@ ghost use Rattle.quic_outgoing.specs.Shown.{outgoing_view, permit_room};
 use crate::entries::SendEntries;
 use crate::outgoing::OutgoingStreams;
 use crate::transmitting::take_half;
-use quic_receiving::HandleError;
 use quic_retransmits::Retransmits;
-use quic_sending::{ClosedStream, FinishError, Send};
+use quic_sending::{ClosedStream, FinishError, HandleError, Send};
 use quic_values::{StreamId, VarInt};
 use std::alloc::Global;
 

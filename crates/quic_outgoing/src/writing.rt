@@ -38,7 +38,7 @@ impl OutgoingStreams {
     /// Where nothing may be written on any stream, the stream waits (see [`OutgoingStreams::poll_writable`]), and
     /// DATA_BLOCKED is queued once for each limit (RFC 9000 section 19.12). Where the limit of the stream leaves nothing,
     /// STREAM_DATA_BLOCKED is queued once for each limit (section 19.13). Other refusals change nothing: the stream is
-    /// closed, or the peer stopped it, or memory lacks.
+    /// closed, or the peer stopped it, or memory runs out.
     pub fn write<S: BytesSource>(
         &mut self,
         pending: &mut Retransmits,

@@ -8,9 +8,8 @@ mod sizes;
 mod transmitting;
 
 use quic_outgoing::{OutgoingStreams, PeerLimits, WrittenFrame, Wrote};
-use quic_receiving::HandleError;
 use quic_retransmits::Retransmits;
-use quic_sending::{ByteSlice, BytesSource, ClosedStream, FinishError, WriteError};
+use quic_sending::{ByteSlice, BytesSource, ClosedStream, FinishError, HandleError, WriteError};
 use quic_values::{Dir, OutOfMemory, Side, StreamId, VarInt};
 use std::alloc::Global;
 use std::fmt::Debug;

@@ -12,8 +12,8 @@ use Rattle.quic_sending.specs.declared.send.WriteError.TheVariants as write_erro
 use Rattle.quic_sending.specs.declared.send.FinishError.{FinishError}
 use Rattle.quic_sending.specs.declared.send.FinishError.TheVariants as finish_error
 use Rattle.quic_sending.proofs.Fronts.{AreFrontOf-pieces_of}
-use Rattle.quic_receiving.specs.declared.errors.HandleError.{HandleError}
-use Rattle.quic_receiving.specs.declared.errors.HandleError.TheVariants as handle_error
+use Rattle.quic_sending.specs.declared.errors.HandleError.{HandleError}
+use Rattle.quic_sending.specs.declared.errors.HandleError.TheVariants as handle_error
 use Rattle.quic_retransmits.specs.Queueing.{with_reset_stream}
 use Rattle.quic_flows.specs.Flow.{SendMove, WasWritten, WasFinished, WasGivenUp, SendFlow, with_send_move, front_of}
 use Rattle.quic_flows.proofs.Fronts.{front-taken}

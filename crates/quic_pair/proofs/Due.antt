@@ -25,8 +25,8 @@ use Rattle.quic_limits.specs.Credit.{Credit, credited, is_max_data_due}
 use Rattle.quic_limits.specs.Remote.{is_max_streams_due}
 use Rattle.quic_limits.specs.SendingCredit.{writable}
 use Rattle.quic_receiving.specs.Half.{Half}
-use Rattle.quic_receiving.specs.declared.errors.HandleError.{HandleError}
-use Rattle.quic_receiving.specs.declared.errors.HandleError.TheVariants as handle_error
+use Rattle.quic_sending.specs.declared.errors.HandleError.{HandleError}
+use Rattle.quic_sending.specs.declared.errors.HandleError.TheVariants as handle_error
 use Rattle.quic_receiving.specs.declared.errors.ReadableError.{ReadableError}
 use Rattle.quic_receiving.specs.declared.errors.ReadableError.TheVariants as readable_error
 use Rattle.quic_receiving.specs.declared.transmit.ShouldTransmit.{ShouldTransmit}
@@ -370,7 +370,7 @@ tells_frame u v (frames.MaxStreamData id limit) answer c = tells_sending u (Rais
 tells_frame u v (frames.MaxStreams dir count) answer c = tells_sending u (RaisedCount dir count (done_so answer)) answer v c
 tells_frame u v _ answer c = tells_still u answer v (limit_same u v c)
 
--- an end that a frame was handed to, if that was no want of memory
+-- an end that a frame was handed to, if memory did not run out
 abbrev AsksAfterAnswer : Result ShouldTransmit ReceiveError → EndState → EndState → Type 0
 AsksAfterAnswer (Err receive_error.OutOfMemory) e f = Unit {0}
 AsksAfterAnswer answer e f = AsksAfterFrame e f

@@ -20,8 +20,8 @@ use Rattle.quic_sending.specs.Source.{slice_lists}
 use Rattle.quic_outgoing.specs.Calls.{end_refusal}
 use Rattle.quic_receiving.specs.Data.{is_in_slices, IsAllGiven}
 use Rattle.quic_receiving.specs.Half.{Half}
-use Rattle.quic_receiving.specs.declared.errors.HandleError.{HandleError}
-use Rattle.quic_receiving.specs.declared.errors.HandleError.TheVariants as handle_error
+use Rattle.quic_sending.specs.declared.errors.HandleError.{HandleError}
+use Rattle.quic_sending.specs.declared.errors.HandleError.TheVariants as handle_error
 use Rattle.quic_receiving.specs.declared.errors.ReadError.TheVariants as read_error
 use Rattle.quic_receiving.specs.declared.errors.ReadableError.{ReadableError}
 use Rattle.quic_receiving.specs.declared.errors.ReadableError.TheVariants as readable_error

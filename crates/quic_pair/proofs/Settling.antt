@@ -162,7 +162,7 @@ record WroteNone (old : PairState) (who : End) (most : ℕ) (reply : Answer) (ne
   none : bytes.items ≡ []
   emits : EmitsWhole old who most true number bytes.items new
 
--- it was replied with a payload, or memory was wanting
+-- it was replied with a payload, or memory ran out
 record RepliedPayload (old : PairState) (who : End) (most : ℕ) (reply : Answer) (new : PairState) : Type 0 where
   number : ℕ
   bytes : Vec ℕ
@@ -451,7 +451,7 @@ follows-on first old before at here next new behind run sought one =
     let Q : Phase → Type 0 = λ x. FollowsPhases first (phase.Report 0 false) (before ++ (step_at here, t.reply) ∷ []) new x in
     subst P (sym t.noted) (subst Q (sym on.2) (follows_more here t.reply on.0 run sought t.next on.1))
 
--- where memory was wanting they end there
+-- where memory ran out they end there
 pub cut-off : (first old : PairState) (before : History) (at here : Phase) (error : OutOfMemory) (new : PairState) (behind : History) → FollowsPhases first (phase.Report 0 false) before old at → IsSoughtFor old.sent at here → TakesPhaseOrNone old before here (Err error) new behind → IsCutOff first behind new
 cut-off first old before at here error new behind run sought (inl t) = record { before = before; between = old; at = at; follows = run; here = here; sought = sought; last = inr (t.reply, t.next, t.wanting error refl, t.noted) }
 cut-off first old before at here error new behind run sought (inr none) = record { before = before; between = old; at = at; follows = run; here = here; sought = sought; last = inl (none.1, none.2) }

@@ -6,7 +6,7 @@ use Rattle.quic_wire.specs.declared.event.StreamEvent.{StreamEvent}
 use Rattle.quic_sending.specs.declared.send.Written.{Written}
 use Rattle.quic_sending.specs.declared.send.WriteError.{WriteError}
 use Rattle.quic_sending.specs.declared.send.FinishError.{FinishError}
-use Rattle.quic_receiving.specs.declared.errors.HandleError.{HandleError}
+use Rattle.quic_sending.specs.declared.errors.HandleError.{HandleError}
 use Rattle.quic_receiving.specs.declared.errors.ReadableError.{ReadableError}
 use Rattle.quic_streams.specs.declared.batches.ReadSome.{ReadSome}
 use Rattle.quic_history.specs.Sends.{TellsNext, with_out}
@@ -45,7 +45,7 @@ pub record WritesChunks (e : EndState) (id : ℕ) (lists : List (List ℕ)) (rep
   pub writes : WritesAt e id lists answer f
   pub reply_is : reply ≡ chunks_reply answer
 
--- or memory was wanting before
+-- or memory ran out before
 abbrev pub WritesChunksOrNone : EndState → ℕ → List (List ℕ) → Answer → EndState → Type 0
 WritesChunksOrNone e id lists reply f = WritesChunks e id lists reply f ⊎ ((reply ≡ wants_memory) × (f ≡ e))
 

@@ -103,7 +103,7 @@ abbrev pub AsksAfterRead : ℕ → Answer → EndState → Type 0
 AsksAfterRead id (Ok (Read chunks last transmit)) f = AsksWindowIf last f id × AsksData f
 AsksAfterRead id _ f = Unit {0}
 
--- counts of streams that are due are, whatever the answer is, unless the step was refused or memory was wanting
+-- counts of streams that are due are, whatever the answer is, unless the step was refused or memory ran out
 abbrev pub AsksStreamsIf : Answer → EndState → Type 0
 AsksStreamsIf (Ok reply) f = AsksStreams f
 AsksStreamsIf (Err error) f = Unit {0}
@@ -164,7 +164,7 @@ OnWriter old number Holds (Err error) = Unit {0}
 
 -- ---- all steps
 
--- want of memory aside, a step withholds nothing that was due
+-- lack of memory aside, a step withholds nothing that was due
 abbrev pub AsksFor : PairState → Step → Answer → PairState → Type 0
 AsksFor old (steps.Open who dir) reply new = OpensAll (the_end old who).streams.out dir reply
 AsksFor old (steps.Write who id bytes) reply new = WritesAll (the_end old who).streams.out id (length bytes) reply

@@ -37,7 +37,7 @@ abbrev pub noted_at : Option SentPayload → Option Pending
 noted_at None = None
 noted_at (Some rest) = thin_view rest.control
 
--- what is to be sent beside data, with that
+-- pending control frames, with those that were noted
 abbrev pub with_noted : Pending → Option SentPayload → Pending
 with_noted p rest = merged_if p (noted_at rest)
 

@@ -66,7 +66,7 @@ no_flow = record { written = []; finished = false; resets = []; stops = []; give
 -- accepted: the frames of which a delivery was answered Ok, one for each such delivery, the last first
 -- kept: those of which a delivery was kept: there were too many pieces, or no memory to compact them, or it was answered Ok
 -- settled: the payloads of which a report was answered Ok, the last first
--- begun: those of which a report was begun, for the rest of which memory was wanting, one for each such report
+-- begun: those of which a report was begun, for the rest of which there was no memory, one for each such report
 pub record Past : Type 0 where
   pub ids : End → List ℕ
   pub flow : End → ℕ → Flow

@@ -33,13 +33,13 @@ pub record IsDrained (f : Flow) : Type 0 where
   pub all : IsAllGiven (slices f.given) (length f.written)
   pub ended : f.ended ≡ true
 
--- a read told the end, and then every byte was given, or memory was wanting for a chunk
+-- a read told the end, and then every byte was given, or there was no memory for a chunk
 abbrev pub DrainsBy : Last → Flow → Type 0
 DrainsBy last.Ended f = IsDrained f
 DrainsBy last.Memory f = Unit {0}
 DrainsBy _ f = ⊥
 
--- so it does, or memory was wanting before it
+-- so it does, or memory ran out before it
 abbrev pub DrainsFlow : Answer → Flow → Type 0
 DrainsFlow (Ok (Read chunks last transmit)) f = DrainsBy last f
 DrainsFlow (Err NoMemory) f = Unit {0}

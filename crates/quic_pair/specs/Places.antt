@@ -37,7 +37,7 @@ pub record HasText (sent : List Sent) (payload : ℕ) (Is : SentText → Type 0)
   pub here : whole.gone ≡ false
   pub why : Is whole.text
 
--- why no frame was found: there is no such payload, its text lacks it, or memory was wanting to read it
+-- why no frame was found: there is no such payload, its text lacks it, or there was no memory to read it
 abbrev pub FailsToFind : List Sent → ℕ → ℕ → PairError → Type 0
 FailsToFind sent payload index refusals.NoSuchPayload = IsNoPayload sent payload
 FailsToFind sent payload index refusals.NoSuchFrame = HasText sent payload (λ text. LacksFrame text.bytes index)

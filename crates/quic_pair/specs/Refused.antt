@@ -16,7 +16,7 @@ use Rattle.quic_pair.specs.Payloads.{IsFrameAt, LacksFrame}
 use Rattle.quic_pair.specs.Replies.{Answer}
 use Rattle.quic_pair.specs.History.{Past, FramePlace}
 
--- a step is refused for a named reason; want of memory is none of them
+-- a step is refused for a named reason; lack of memory is none of them
 abbrev pub IsRefused : Answer → Type 0
 IsRefused (Ok reply) = ⊥
 IsRefused (Err NoMemory) = ⊥
@@ -51,7 +51,7 @@ abbrev pub HasFrame : List ℕ → ℕ → Type 0
 HasFrame bytes index = (frame : Frame) × IsFrameAt bytes index frame
 
 -- a delivery is of a frame that stands in a payload; it is refused where there is no such payload, or its bytes lack the
--- frame, and memory is wanting only for a payload that was sent
+-- frame, and memory runs out only for a payload that was sent
 abbrev pub IsFoundSo : List Sent → ℕ → ℕ → Answer → Type 0
 IsFoundSo sent number index (Ok reply) = HasBytes sent number (λ bytes. HasFrame bytes index)
 IsFoundSo sent number index (Err NoSuchPayload) = IsNoPayload sent number
@@ -97,7 +97,7 @@ pub record IsSettledSo (p : Past) (sent : List Sent) (number : ℕ) (kind : Repo
   pub there : HasBytes sent number Always
 
 -- a report is refused where there is no such payload, else where the payload is settled for it, and else where a frame lacks
--- what it needs; memory is wanting only for one that is not refused
+-- what it needs; memory runs out only for one that is not refused
 abbrev pub IsReportedSo : Past → List Sent → ℕ → Report → Answer → Type 0
 IsReportedSo p sent number kind (Err NoSuchPayload) = IsNoPayload sent number
 IsReportedSo p sent number kind (Err AlreadySettled) = IsSettledSo p sent number kind
@@ -123,7 +123,7 @@ IsAcceptedSo waits (Err NoMemory) = AreWithin waits
 IsAcceptedSo waits (Ok reply) = AreWithin waits
 IsAcceptedSo waits _ = ⊥
 
--- a rejection, and a wish to begin again, are refused where it is decided; a rejection wants no memory
+-- a rejection, and a wish to begin again, are refused where it is decided; a rejection needs no memory
 abbrev pub IsDecidedSo : Option EarlyLimits → Answer → Type 0
 IsDecidedSo waits (Err Decided) = waits ≡ None
 IsDecidedSo waits (Err NoMemory) = is_some waits ≡ true
@@ -132,7 +132,7 @@ IsDecidedSo waits _ = ⊥
 
 -- ---- all steps
 
--- a step that is not refused for being too early is refused exactly so, and for no other reason; want of memory is excused, on a
+-- a step that is not refused for being too early is refused exactly so, and for no other reason; lack of memory is excused, on a
 -- stream that the end was given and on a payload that was sent
 abbrev pub IsRefusedIn : Option EarlyLimits → Past → List Sent → Step → Answer → Type 0
 IsRefusedIn waits p sent (steps.Write who id bytes) reply = IsKnownSo (p.ids who) id reply

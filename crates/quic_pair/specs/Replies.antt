@@ -10,8 +10,8 @@ use Rattle.quic_sending.specs.declared.send.WriteError.{WriteError}
 use Rattle.quic_sending.specs.declared.send.WriteError.TheVariants as write_error
 use Rattle.quic_sending.specs.declared.send.FinishError.{FinishError}
 use Rattle.quic_sending.specs.declared.send.FinishError.TheVariants as finish_error
-use Rattle.quic_receiving.specs.declared.errors.HandleError.{HandleError}
-use Rattle.quic_receiving.specs.declared.errors.HandleError.TheVariants as handle_error
+use Rattle.quic_sending.specs.declared.errors.HandleError.{HandleError}
+use Rattle.quic_sending.specs.declared.errors.HandleError.TheVariants as handle_error
 use Rattle.quic_receiving.specs.declared.errors.ReadableError.{ReadableError}
 use Rattle.quic_receiving.specs.declared.errors.ReadableError.TheVariants as readable_error
 use Rattle.quic_receiving.specs.declared.transmit.ShouldTransmit.{ShouldTransmit}
@@ -30,7 +30,7 @@ use Rattle.quic_steps.specs.declared.steps.PairError.TheVariants as refusals
 abbrev pub Answer : Type 0
 Answer = Result Reply PairError
 
--- the answer of a step for which memory was wanting
+-- the answer of a step for which there was no memory
 abbrev pub wants_memory : Answer
 wants_memory = Err refusals.OutOfMemory
 
@@ -112,24 +112,24 @@ abbrev pub event_reply : Option StreamEvent → Answer
 event_reply (Some event) = Ok (Event event)
 event_reply None = Ok Nothing
 
--- to a call for which memory may be wanting
+-- to a call that may run out of memory
 abbrev pub done_reply : Result (Unit {0}) OutOfMemory → Answer
 done_reply (Ok done) = Ok Done
 done_reply (Err error) = wants_memory
 
--- to a report of a payload; where something came back, memory was wanting
+-- to a report of a payload; where something came back, memory ran out
 abbrev pub report_reply : Result (Unit {0}) SentPayload → Answer
 report_reply (Ok done) = Ok Done
 report_reply (Err back) = wants_memory
 
--- a refusal of a frame is a reply, but want of memory
+-- a refusal of a frame is a reply, unless it is out of memory
 abbrev pub received_reply : Result ShouldTransmit ReceiveError → Answer
 received_reply (Ok transmit) = Ok (if transmit.0 then DoneTransmit else Done)
 received_reply (Err (receive_error.Transport error)) = Ok (Fault (receive_error.Transport error))
 received_reply (Err receive_error.CompactionMemory) = Ok (Fault receive_error.CompactionMemory)
 received_reply (Err receive_error.OutOfMemory) = wants_memory
 
--- a payload with its number and its bytes, unless memory was wanting
+-- a payload with its number and its bytes, unless memory ran out
 abbrev pub payload_reply : {E : Type 0} → ℕ → Result (Unit {0}) OutOfMemory → Result (Vec ℕ) E → Answer
 payload_reply number (Ok done) (Ok bytes) = Ok (Payload number bytes)
 payload_reply number (Ok done) (Err error) = wants_memory

@@ -48,7 +48,7 @@ step_at (phase.EmitOfB first empty quiet) = steps.Emit B (2 ^ 64 - 1) true
 step_at (phase.Deliver payload frame next quiet) = steps.Deliver payload frame
 step_at (phase.Drop payload) = steps.Lose payload
 
--- what a reply says of its step; nothing where memory was wanting
+-- what a reply says of its step; nothing where memory ran out
 abbrev pub going_reading : Last → Option Going
 going_reading last.Memory = None
 going_reading last.More = Some On
@@ -175,7 +175,7 @@ LeavesNoRest told = (t : Tales) → told t → (who : End) (id : ℕ) → HasRes
 
 -- ---- one step, and the next
 
--- the step of a phase was taken and noted with its reply, and what is next is known unless memory was wanting; or there was
+-- the step of a phase was taken and noted with its reply, and what is next is known unless memory ran out; or there was
 -- no room to note it, and none was taken
 pub record TakesPhase (old : PairState) (before : History) (at : Phase) (answer : Result Phase OutOfMemory) (new : PairState) (behind : History) : Type 0 where
   pub reply : Answer
@@ -217,7 +217,7 @@ pub record IsSettling (old : PairState) (taken : History) (new : PairState) : Ty
   pub follows : FollowsPhases old (phase.Report 0 false) taken new at
   pub ended : IsSettledAt at new.sent
 
--- they were cut off where memory was wanting: by the reply of the last step, or for the list, and then the next was not taken
+-- they were cut off where memory ran out: by the reply of the last step, or for the list, and then the next was not taken
 pub record IsCutOff (old : PairState) (taken : History) (new : PairState) : Type 0 where
   pub before : History
   pub between : PairState

@@ -60,7 +60,7 @@ pub record EmitsWhole (old : PairState) (who : End) (most : ℕ) (fair : Bool) (
   pub number_is : number ≡ length old.sent
   pub bytes_are : bytes ≡ payload.bytes
 
--- what could be written of it, for want of memory
+-- what could be written of it, for lack of memory
 pub record EmitsPart (old : PairState) (who : End) (most : ℕ) (fair : Bool) (new : PairState) : Type 0 where
   pub answer : Result (Unit {0}) OutOfMemory
   pub payload : PayloadView
@@ -84,7 +84,7 @@ pub record HasPayload (old : PairState) (number : ℕ) : Type 0 where
 abbrev pub LacksPayload : PairState → ℕ → PairState → Type 0
 LacksPayload old number new = IsNoPayload old.sent number × (new ≡ old)
 
--- a payload is there, but memory was wanting before anything was done
+-- a payload is there, but memory ran out before anything was done
 abbrev pub WantsMemoryFor : PairState → ℕ → PairState → Type 0
 WantsMemoryFor old number new = HasPayload old number × (new ≡ old)
 
@@ -139,7 +139,7 @@ pub record Reports (kind : Report) (At : EndState → SentView → Result (Unit 
   pub reply_is : reply ≡ report_reply answer
   pub is : new ≡ with_sent (with_end old payload.sent.writer end) (slice_set old.sent number (record payload.sent { unsettled = unsettled_after kind payload.sent.unsettled answer }))
 
--- what a report of a payload was replied, and what it did. Where memory was wanting, a beginning of it was served, and what
+-- what a report of a payload was replied, and what it did. Where memory ran out, a beginning of it was served, and what
 -- came back is left
 abbrev pub SettlesPayload : Report → (EndState → SentView → Result (Unit {0}) SentView → EndState → Type 0) → PairState → ℕ → Answer → PairState → Type 0
 SettlesPayload kind At old number (Ok Done) new = Reports kind At old number (Ok Done) new
@@ -195,7 +195,7 @@ pub record MayNotAccept (old new : PairState) : Type 0 where
   pub below : LimitsWithin limits.remembered limits.others → ⊥
   pub is : new ≡ old
 
--- or memory is wanting
+-- or memory runs out
 pub record WantsToAccept (old new : PairState) : Type 0 where
   pub limits : EarlyLimits
   pub waiting : IsWaiting old limits

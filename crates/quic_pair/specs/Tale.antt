@@ -226,8 +226,8 @@ pub record TellsAll (new : List Sent) (number : ℕ) (deed : Part → Tale → T
   pub some : TellsParts new number deed t u
   pub each : t.told number + some.count ≡ length (parts_in some.all)
 
--- what a step and its reply tell, with the payloads that were sent before it and behind it. Whether an `Emit` that wants memory
--- sent one, the number of payloads says, as `Pair::payload` answers it. A report that wants memory tells of the parts that it
+-- what a step and its reply tell, with the payloads that were sent before it and behind it. Whether an `Emit` that ran out of memory
+-- sent one, the number of payloads says, as `Pair::payload` answers it. A report that ran out of memory tells of the parts that it
 -- reported: those that are not left
 abbrev pub StepTells : List Sent → List Sent → Step → Answer → Tales → Tales → Type 0
 StepTells old new (steps.Open who dir) (Ok (Id id)) t u = u ≡ told_of who (with_one_opened dir) t

@@ -39,7 +39,7 @@ pub record BringsTooMany (p : Past) (sent : List Sent) (at : FramePlace) (error 
 abbrev pub BringsData : List Sent → FramePlace → Type 0
 BringsData sent at = (writer : End) × (stream : Stream) × IsStreamFrom sent writer at stream
 
--- why a frame at a place may be refused: for that, or, once its data was kept, for want of memory to compact it. Want of
+-- why a frame at a place may be refused: for that, or, once its data was kept, for lack of memory to compact it. Lack of
 -- memory before that is no fault of the frame
 abbrev pub MayRefuse : Past → List Sent → FramePlace → ReceiveError → PairState → Type 0
 MayRefuse p sent at (receive_error.Transport error) after = BringsTooMany p sent at error after

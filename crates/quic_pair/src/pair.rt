@@ -107,7 +107,7 @@ fn made(
     })
 }
 
-// The payload that one of two ends writes, and whether memory was wanting.
+// The payload that one of two ends writes, and whether memory ran out.
 fn emit_on(
     a: &mut Endpoint,
     b: &mut Endpoint,

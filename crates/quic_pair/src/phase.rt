@@ -41,7 +41,7 @@ pub(crate) enum Going {
     Unordered,
 }
 
-// What a reply says; nothing where memory was wanting.
+// What a reply says; nothing where memory ran out.
 pub(crate) fn going_of(answer: &Result<Reply, PairError>) -> Option<Going>
     ensures { result ≡ going_of answer.now }
 {

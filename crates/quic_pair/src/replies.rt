@@ -176,7 +176,7 @@ pub(crate) fn received_reply(
     }
 }
 
-// What a payload is replied, of which this is the number, whether memory was wanting, and the bytes.
+// What a payload is replied, of which this is the number, whether memory ran out, and the bytes.
 pub(crate) fn payload_reply(
     number: usize,
     written: Result<(), OutOfMemory>,

@@ -31,7 +31,7 @@ impl Pair {
     /// only behind two payloads of which one had a STREAM or a RESET_STREAM frame. Answers these steps with their
     /// replies. Then all that was written on streams that were not given up arrived, and was read unless it was stopped;
     /// and of each of them that was finished its writer was told `Finished`.
-    /// Where memory is wanting, in a step or for the list, no more steps are taken, and an error stands beside those
+    /// Where memory runs out, in a step or for the list, no more steps are taken, and an error stands beside those
     /// that were. While it is not decided whether the server takes what the client sends early, none is taken, and the
     /// error is [`PairError::Undecided`].
     pub fn settle(&mut self) -> (Vec<StepTaken>, Result<(), PairError>)

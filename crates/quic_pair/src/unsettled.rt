@@ -43,7 +43,7 @@ impl Report {
 /// What is unreported of a payload.
 #[derive(Drop)]
 pub(crate) struct Unsettled {
-    // The report that was begun, for the rest of which memory was wanting.
+    // The report that was begun, for the rest of which there was no memory.
     begun: Option<Report>,
     // What is still to be reported, unless all was.
     rest: Option<SentPayload>,

@@ -6,9 +6,9 @@ mod half;
 mod state;
 mod transmit;
 
-pub use errors::{HandleError, ReadError, ReadableError};
+pub use errors::{ReadError, ReadableError};
 pub use half::Recv;
 pub use quic_assembler::{Chunk, EnsureError, IllegalOrderedRead};
-pub use quic_sending::ClosedStream;
+pub use quic_sending::{ClosedStream, HandleError};
 pub use state::RecvState;
 pub use transmit::ShouldTransmit;

@@ -38,7 +38,7 @@ enum Answer {
     Again,
     // The code of an error.
     Fails(u64),
-    // Want of memory.
+    // Out of memory.
     NoMemory,
 }
 

@@ -35,7 +35,7 @@ write_refusal s = if is_ready s.state then stopped s.stop_reason else Some write
     stopped None = if nat_le s.max_data s.pending.offset then Some write_error.Blocked else None
     stopped (Some code) = Some (write_error.Stopped code)
 
--- the answer of a write that takes nothing: that refusal or, where there is none, want of memory
+-- the answer of a write that takes nothing: that refusal or, where there is none, lack of memory
 abbrev pub IsWriteRefusal : Send → WriteError → Type 0
 IsWriteRefusal s e = (write_refusal s ≡ Some e) ⊎ ((write_refusal s ≡ None) × (e ≡ write_error.OutOfMemory))
 

@@ -15,7 +15,7 @@ use std::ops::Range;
 type LostSet = LowestApart<LowestApart<RangeSet>>;
 
 /// What became of the offsets that were sent: which are acknowledged, and which are lost. Each call changes one set,
-/// so that want of memory changes nothing.
+/// so that lack of memory changes nothing.
 #[derive(Drop)]
 pub(crate) struct Outcomes {
     // All offsets below this one are acknowledged, and this one is not.

@@ -302,7 +302,7 @@ impl Send {
 
     /// A frame with these offsets, and with the end or not, is acknowledged. Answers whether by now
     /// the end and every byte are: never so of a stream that was not finished, or that was reset. Only offsets behind a
-    /// gap want memory.
+    /// gap need memory.
     pub fn ack(&mut self, offsets: Range<u64>, fin: bool) -> Result<bool, OutOfMemory>
         requires { offsets.end ≤ self.old.pending.unsent }
         ensures done { IfOk result (λ done. IsTrue done ↔ ((is_finish_acked self.new.state ≡ true)

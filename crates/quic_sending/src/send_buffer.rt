@@ -182,7 +182,7 @@ impl SendBuffer {
     }
 
     /// Sent offsets of this range are lost: those that are not acknowledged are to be sent again. None are below the
-    /// acknowledged prefix, so a range that ends by there wants no memory.
+    /// acknowledged prefix, so a range that ends by there needs no memory.
     pub fn retransmit(&mut self, range: Range<u64>) -> Result<(), OutOfMemory>
         requires { range.end ≤ self.old.unsent }
         ensures ok { OnOk result ((n : ℕ) →
@@ -197,7 +197,7 @@ impl SendBuffer {
         self.outcomes.lose(range)
     }
 
-    /// Sent offsets of this range are acknowledged. They are never sent again. Only a range behind a gap wants memory.
+    /// Sent offsets of this range are acknowledged. They are never sent again. Only a range behind a gap needs memory.
     pub fn ack(&mut self, range: Range<u64>) -> Result<(), OutOfMemory>
         requires { range.end ≤ self.old.unsent }
         ensures acked { OnOk result ((n : ℕ) → is_acked self.new n ≡ (is_acked self.old n || lies_in range n)) }

@@ -12,7 +12,7 @@ use Rattle.quic_session.specs.Sessions.{Datagrams}
 abbrev pub refusal_of : Datagrams → List ℕ → Bool → Option SendDatagramError
 refusal_of d content drop = send_refusal d.limits d.state.outgoing content drop
 
--- a datagram is refused for that, or for want of memory
+-- a datagram is refused for that, or for lack of memory
 abbrev pub IsRefusedAs : Datagrams → List ℕ → Bool → DatagramError → Type 0
 IsRefusedAs d content drop error.UnsupportedByPeer = refusal_of d content drop ≡ Some send_error.UnsupportedByPeer
 IsRefusedAs d content drop error.Disabled = refusal_of d content drop ≡ Some send_error.Disabled

@@ -52,7 +52,7 @@ blank s = record { end = end_of s; datagrams = datagrams_view s; payload = recor
 abbrev pub place_in : Writing → FrameStats → PayloadPlace
 place_in a stats = record { end = a.end.streams; pending = a.end.pending; sheet = record { bytes = a.payload.bytes; sent = a.payload.control; stats = stats } }
 
--- frames beside data are written (RFC 9000 section 19), as the writer of the streams does
+-- control frames are written (RFC 9000 section 19), as the writer of the streams does
 pub record WritesControl (most : ℕ) (a : Writing) (answer : Result (Unit {0}) OutOfMemory) (b : Writing) : Type 0 where
   pub before : FrameStats
   pub after : FrameStats
@@ -106,7 +106,7 @@ abbrev pub IfAsked : Bool → (Writing → Result (Unit {0}) OutOfMemory → Wri
 IfAsked false Writes a answer b = (answer ≡ Ok tt) × (b ≡ a)
 IfAsked true Writes a answer b = Writes a answer b
 
--- the parts that were asked for are written one after another: frames beside data, datagrams, data. For want of memory
+-- the parts that were asked for are written one after another: control frames, datagrams, data. Out of memory,
 -- a part may stop, and then those behind it are not begun
 pub data WritesParts (most : ℕ) (parts : Parts) (fair : Bool) (a : Writing) : Result (Unit {0}) OutOfMemory → Writing → Type 0 where
   whole : {answer : Result (Unit {0}) OutOfMemory} {d : Writing} → (b c : Writing) → IfAsked parts.control (WritesControl most) a (Ok tt) b
@@ -137,7 +137,7 @@ pub record IsPutOut (p : DraftView) (size : ℕ) (out : List ℕ) (e : Emitted) 
   pub copied : new ≡ take e.len p.bytes ++ drop e.len out
   pub ends : e.ends ≡ ((e.len == size) && not (length p.streams == 0))
 
--- a payload was written, also where memory was wanting: then the frames that were written before are the payload. It
+-- a payload was written, also where memory ran out: then the frames that were written before are the payload. It
 -- stands in the buffer, whose other bytes stay, and what is to be reported of it stands under its token
 pub record WritesPayload (parts : Parts) (fair : Bool) (s : Session) (out : List ℕ) (e : Emitted) (t : Session) (new : List ℕ) : Type 0 where
   pub answer : Result (Unit {0}) OutOfMemory

@@ -107,7 +107,7 @@ pub record ReadsPayload (s : Session) (payload : List ℕ) (first : ℕ) (r : Re
   pub spelled : AreFrames payload all
   pub receives : ReceivesFrames (length payload) first all s r t
 
--- it was not: it has no frames, or memory was wanting
+-- it was not: it has no frames, or memory ran out
 pub record ReadsNoPayload (s : Session) (payload : List ℕ) (first : ℕ) (r : Received) (t : Session) : Type 0 where
   pub same : t ≡ s
   pub next : r.next ≡ first

@@ -28,7 +28,7 @@ pub record AcksAll (s : Session) (token : ℕ) (t : Session) : Type 0 where
   pub settled : unsettled t.unsettled ≡ with_payload (unsettled s.unsettled) token None
   pub from : (m : Made) (h : List Event) → From m h (end_of s).streams → From m (acks_told (sent_view sent) (Ok tt) h) (end_of t).streams
 
--- or memory was wanting: what was not reported stands under the token
+-- or memory ran out: what was not reported stands under the token
 pub record AcksSome (s : Session) (token : ℕ) (t : Session) : Type 0 where
   pub sent : SentPayload
   pub rest : SentPayload
@@ -52,7 +52,7 @@ pub record LosesAll (s : Session) (token : ℕ) (t : Session) : Type 0 where
   pub settled : unsettled t.unsettled ≡ with_payload (unsettled s.unsettled) token None
   pub from : (m : Made) (h : List Event) → From m h (end_of s).streams → From m (losses_told (sent_view sent) (Ok tt) h) (end_of t).streams
 
--- or memory was wanting: what was not reported stands under the token
+-- or memory ran out: what was not reported stands under the token
 pub record LosesSome (s : Session) (token : ℕ) (t : Session) : Type 0 where
   pub sent : SentPayload
   pub rest : SentPayload

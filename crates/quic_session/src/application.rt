@@ -175,7 +175,7 @@ impl Session {
         SendStream::new(id, streams, pending, self.conn).stopped()
     }
 
-    /// Stops a stream, as [`RecvStream::stop`], and queues MAX_STREAMS where it is due, unless memory was wanting.
+    /// Stops a stream, as [`RecvStream::stop`], and queues MAX_STREAMS where it is due, unless memory ran out.
     pub fn stop(&mut self, id: StreamId, error_code: VarInt) -> Result<(), HandleError>
         ensures stops { was_given (end_of self.old).streams id ≡ true → StopsReading (end_of self.old) id error_code result (end_of self.new) }
         ensures unknown { was_given (end_of self.old).streams id ≡ false → (result ≡ Err HandleError.ClosedStream) × (end_of self.new ≡ end_of self.old) }
@@ -209,7 +209,7 @@ impl Session {
     }
 
     /// Asks for the code with which the peer gave a stream up, as [`RecvStream::received_reset`], and queues MAX_STREAMS
-    /// where it is due, unless memory was wanting.
+    /// where it is due, unless memory ran out.
     pub fn received_reset(&mut self, id: StreamId) -> Result<Option<VarInt>, HandleError>
         ensures tells { was_given (end_of self.old).streams id ≡ true → TellsResetAt (end_of self.old) id result (end_of self.new) }
         ensures unknown { was_given (end_of self.old).streams id ≡ false → (result ≡ Err HandleError.ClosedStream) × (end_of self.new ≡ end_of self.old) }
@@ -242,7 +242,7 @@ impl Session {
         RecvStream::new(id, streams, pending).received_reset()
     }
 
-    /// Reads a stream, as [`RecvStream::read_some`], and queues MAX_STREAMS where it is due, unless memory was wanting to
+    /// Reads a stream, as [`RecvStream::read_some`], and queues MAX_STREAMS where it is due, unless there was no memory to
     /// open the reader.
     pub fn read(
         &mut self,
@@ -369,14 +369,14 @@ fn put_chunk(some: &ReadSome, out: &mut [u8]) -> ReadInto
     }
 }
 
-// Whether a call was not refused for want of memory.
+// Whether a call was not refused for lack of memory.
 fn is_handled<T>(answer: &Result<T, HandleError>) -> bool
     ensures { result ≡ is_handled answer.now }
 {
     !matches!(answer, Err(HandleError::OutOfMemory))
 }
 
-// Whether a reader was not refused for want of memory.
+// Whether a reader was not refused for lack of memory.
 fn is_opened(answer: &Result<ReadSome, ReadableError>) -> bool
     ensures { result ≡ is_opened answer.now }
 {

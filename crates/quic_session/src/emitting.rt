@@ -65,7 +65,7 @@ impl Draft {
 #[tactic(auto, unfolding(crate::specs::Sessions::end_of))]
 impl Session {
     /// Writes what is to be sent into `out`: of the parts that are named, control frames, then datagrams, then data.
-    /// `None` where there was nothing. Where memory is wanting, the frames that were written before are the payload, and
+    /// `None` where there was nothing. Where memory runs out, the frames that were written before are the payload, and
     /// the call is refused only where there were none.
     pub fn emit(
         &mut self,

@@ -40,7 +40,7 @@ pub struct Received {
 #[tactic(auto, unfolding(crate::specs::Sessions::end_of))]
 impl Session {
     /// Takes a whole payload (RFC 9000 section 12.4), from the frame at place `first` on, until one is refused. Where
-    /// memory was wanting, the call can be made again from the frame that was refused.
+    /// memory ran out, the call can be made again from the frame that was refused.
     pub fn receive(&mut self, payload: &[u8], first: usize) -> Received
         ensures receives { ReceivesPayload self.old payload.now first result self.new }
         ensures others { ReceivesOnly self.old self.new }
@@ -123,7 +123,7 @@ impl Session {
 
     /// Takes a frame of the peer that came in a payload of so many bytes (RFC 9000 section 19): data, a reset, a stop and
     /// limits are handed to the streams, a datagram is kept, any other frame changes nothing. Where the answer asks for
-    /// MAX_DATA it is queued, and MAX_STREAMS where it is due, unless memory was wanting.
+    /// MAX_DATA it is queued, and MAX_STREAMS where it is due, unless memory ran out.
     pub fn receive_frame(
         &mut self,
         frame: Frame,
@@ -254,7 +254,7 @@ fn data_length(frame: &Frame) -> usize
     }
 }
 
-// The answer for the payload. Where memory was wanting to put pieces together, the frame was taken.
+// The answer for the payload. Where there was no memory to put pieces together, the frame was taken.
 fn payload_answer(answer: &Result<ShouldTransmit, ReceiveError>) -> Result<(), PayloadError>
     ensures { result ≡ payload_answer answer.now }
 {

@@ -201,7 +201,7 @@ impl Session {
         )
     }
 
-    // MAX_STREAMS is queued where it is due, if a call was not refused for want of memory.
+    // MAX_STREAMS is queued where it is due, if a call was not refused for lack of memory.
     pub(crate) fn tell_counts_if(&mut self, handled: bool)
         ensures told { end_of self.new ≡ with_counts_told_if handled (end_of self.old) }
         ensures beside { beside_of self.new ≡ beside_of self.old }

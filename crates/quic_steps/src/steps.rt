@@ -207,7 +207,7 @@ pub enum PairError {
     NotAccepted,
     #[error("unknown stream id")]
     UnknownId,
-    /// Want of memory: the step was not taken. But an `Emit` may have made its payload, with the
+    /// Out of memory: the step was not taken. But an `Emit` may have made its payload, with the
     /// frames that were written before, and a `Lose` or an `Ack` may have reported the first frames of its payload. That
     /// report may be asked again, and then goes on; the other of the two is refused from now on.
     #[error("out of memory")]

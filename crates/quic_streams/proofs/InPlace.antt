@@ -182,7 +182,7 @@ counts-kept : (x : World) (dir : Dir) (r : Remote) {f : Halves} → x.receive �
 counts-kept x Bi r e = e
 counts-kept x Uni r e = e
 
--- where nothing changed for want of memory the pieces are as they were
+-- where nothing changed for lack of memory the pieces are as they were
 unchanged-pieces : (h : Half) (offset : ℕ) (bytes : List ℕ) (size : ℕ) → TellsPieces h.buffer offset bytes size (Err insert_error.OutOfMemory) h.buffer
 unchanged-pieces h offset bytes size = record { stale = λ s. refl; settled = tt; many = λ e. cc }
 

@@ -87,7 +87,7 @@ pub record FinishesKind (k : ControlKind) (most : ℕ) (a m : PayloadPlace) : Ty
   pub turns : SettlesSome k most a m
   pub done : IsKindDone k most m
 
--- the kinds are written one after another. For want of memory the last one may stop before it is done
+-- the kinds are written one after another. Out of memory, the last one may stop before it is done
 abbrev pub WritesKinds : ℕ → List ControlKind → PayloadPlace → Result (Unit {0}) OutOfMemory → PayloadPlace → Type 0
 WritesKinds most [] a (Ok x) b = b ≡ a
 WritesKinds most [] a (Err e) b = ⊥

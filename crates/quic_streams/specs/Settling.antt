@@ -33,7 +33,7 @@ LosesMeta u meta v = LosesOwn u meta.id meta.offsets meta.fin (Ok tt) v
 abbrev pub AcksResetOf : World → ℕ × ℕ → World → Type 0
 AcksResetOf u reset v = AcksReset u reset.0 (Ok tt) v
 
--- the report of one frame may be refused for want of memory
+-- the report of one frame may be refused for lack of memory
 abbrev pub RefusesAck : World → StreamMeta → Type 0
 RefusesAck u meta = (error : OutOfMemory) × AcksOwn u meta.id meta.offsets meta.fin (Err error) u
 

@@ -22,7 +22,7 @@ impl StreamsState {
     ///
     /// The report of a stream that is freed or was reset, or of data that were not sent, changes nothing. If refused, all
     /// is as it was; of a stream that is freed none is. Where there is room for an event and for another stream, only data
-    /// behind a gap want memory, and a stream on which nothing was done.
+    /// behind a gap need memory, and a stream on which nothing was done.
     pub fn received_ack_of(&mut self, frame: frame::StreamMeta) -> Result<(), OutOfMemory>
         ensures acks { AcksOwn (streams_view self.old) frame.id frame.offsets frame.fin result (streams_view self.new) }
         ensures memory { OnErr result (1 ≤ rooms self.old → HasEventRoom self.old → MayWantMemory frame.offsets ((streams_view self.old).out.halves frame.id)) }
@@ -51,7 +51,7 @@ impl StreamsState {
         Ok(())
     }
 
-    // Memory lacks for the report of a frame. Of a stream that is freed none is refused.
+    // There is no memory for the report of a frame. Of a stream that is freed none is refused.
     #[inline(never)]
     fn refuse_held(&self, id: StreamId, refused: OutOfMemory) -> Result<(), OutOfMemory>
         ensures freed { OnOk result (is_some ((streams_view self.now).out.halves id) ≡ false) }
@@ -69,7 +69,7 @@ impl StreamsState {
     ///
     /// The report of a stream that is freed or was reset, or of data that were not sent, changes nothing. If refused, all
     /// is as it was; of a stream that is freed none is. Where something is to be sent on the stream already, only data that
-    /// are not acknowledged want memory.
+    /// are not acknowledged need memory.
     pub fn retransmit(&mut self, frame: frame::StreamMeta) -> Result<(), OutOfMemory>
         ensures loses { LosesOwn (streams_view self.old) frame.id frame.offsets frame.fin result (streams_view self.new) }
         ensures memory { OnErr result (MayWantPlace ((streams_view self.old).out.halves frame.id) ⊎ LossMayWantMemory frame.offsets ((streams_view self.old).out.halves frame.id)) }

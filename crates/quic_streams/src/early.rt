@@ -24,7 +24,7 @@ impl StreamsState {
     /// may be sent until the peer gives its limits ([`StreamsState::set_params`]), and indices begin anew. Takes no
     /// memory.
     ///
-    /// What is to be sent beside data is the caller's, who empties it. The history goes on with this while the peer has
+    /// The pending control frames are the caller's, who empties them. The history goes on with this while the peer has
     /// not answered: no data and no reset came, and nothing was acknowledged. Where nothing came from the peer at all, this
     /// is a new end with no history, made with what it keeps, and permits the peer no less than before.
     pub fn zero_rtt_rejected(&mut self)

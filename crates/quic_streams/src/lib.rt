@@ -1,7 +1,7 @@
 //! The streams of a connection: all that a connection layer needs of them.
 //!
 //! `streams` has the state and its handles, `recv` the receive half of a stream and the errors of reads, `send` those of
-//! writes, `retransmits` what is to be sent beside data, `datagrams` the datagrams, `stats` the counters, and `wire` the
+//! writes, `retransmits` the control frames that are to be sent, `datagrams` the datagrams, `stats` the counters, and `wire` the
 //! frames, ids and numbers.
 #![tactic(auto)]
 

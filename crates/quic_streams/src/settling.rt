@@ -30,7 +30,7 @@ impl StreamsState {
     /// A payload was acknowledged (RFC 9000 section 13.3): each STREAM frame of it, in their order, as
     /// [`StreamsState::received_ack_of`] reports it, then each RESET_STREAM frame as [`StreamsState::reset_acked`] does.
     ///
-    /// Where memory is wanting, what is unreported comes back, to be reported again: the frame whose report was refused,
+    /// Where memory runs out, what is unreported comes back, to be reported again: the frame whose report was refused,
     /// and all behind it. Nothing stays of the report that was refused.
     pub fn acked(&mut self, sent: SentPayload) -> Result<(), SentPayload>
         ensures acks { AcksWhole (streams_view self.old) (sent_view sent) (report_view result) (streams_view self.new) }
@@ -121,7 +121,7 @@ impl StreamsState {
     /// [`StreamsState::retransmit`] reports it; then what was noted of the other frames is joined to what is pending, to be
     /// sent again.
     ///
-    /// Where memory is wanting, what is unreported comes back, to be reported again: the frame whose report was refused,
+    /// Where memory runs out, what is unreported comes back, to be reported again: the frame whose report was refused,
     /// all behind it, and what was noted of the others. Nothing stays of the report that was refused.
     pub fn lost(&mut self, sent: SentPayload, pending: &mut Retransmits) -> Result<(), SentPayload>
         ensures loses { LosesWhole (streams_view self.old) (pending_view pending.old) (sent_view sent) (report_view result) (streams_view self.new) (pending_view pending.new) }

@@ -6,8 +6,8 @@ use Rattle.quic_sending.specs.declared.send.WriteError.TheVariants as write_erro
 use Rattle.quic_sending.specs.declared.send.FinishError.{FinishError}
 use Rattle.quic_sending.specs.declared.send.FinishError.TheVariants as finish_error
 use Rattle.quic_sending.specs.declared.send.ClosedStream.{ClosedStream}
-use Rattle.quic_receiving.specs.declared.errors.HandleError.{HandleError}
-use Rattle.quic_receiving.specs.declared.errors.HandleError.TheVariants as handle_error
+use Rattle.quic_sending.specs.declared.errors.HandleError.{HandleError}
+use Rattle.quic_sending.specs.declared.errors.HandleError.TheVariants as handle_error
 use Rattle.quic_receiving.specs.declared.errors.ReadableError.{ReadableError}
 use Rattle.quic_receiving.specs.declared.errors.ReadableError.TheVariants as readable_error
 use Rattle.quic_history.specs.declared.progress.LastAnswer.{LastAnswer}
@@ -59,7 +59,7 @@ datagram_code datagram_error.TooLarge = negsuc 13
 datagram_code datagram_error.Blocked = negsuc 5
 datagram_code datagram_error.OutOfMemory = negsuc 1
 
--- where memory was wanting, no bytes were read
+-- where memory ran out, no bytes were read
 abbrev pub readable_count : ReadableError → ℕ → ℕ
 readable_count readable_error.OutOfMemory count = 0
 readable_count _ count = count

@@ -14,7 +14,7 @@ use Rattle.quic_streams_c.specs.declared.payloads.RawPayload.{RawPayload}
 use Rattle.quic_streams_c.specs.Answers.{TellsDone, settle_code}
 use Rattle.quic_streams_c.specs.Calls.{Refuses, WithNumber}
 
--- the parts that a number asks for: 1 is what stands beside data, 2 datagrams, 4 data
+-- the parts that a number asks for: 1 is control frames, 2 datagrams, 4 data
 abbrev pub parts_at : ℕ → Option Parts
 parts_at n = if nat_lt 0 n && nat_lt n 8 then Some (record { control = n % 2 == 1; datagrams = n / 2 % 2 == 1; streams = n / 4 == 1 }) else None
 

@@ -8,8 +8,8 @@ use Rattle.quic_sending.specs.declared.send.FinishError.{FinishError}
 use Rattle.quic_sending.specs.declared.send.FinishError.TheVariants as finish_error
 use Rattle.quic_sending.specs.declared.send.ClosedStream.{ClosedStream}
 use Rattle.quic_sending.specs.Source.{slice_lists}
-use Rattle.quic_receiving.specs.declared.errors.HandleError.{HandleError}
-use Rattle.quic_receiving.specs.declared.errors.HandleError.TheVariants as handle_error
+use Rattle.quic_sending.specs.declared.errors.HandleError.{HandleError}
+use Rattle.quic_sending.specs.declared.errors.HandleError.TheVariants as handle_error
 use Rattle.quic_outgoing.specs.Calls.{told_of_half}
 use Rattle.quic_history.specs.World.{Made}
 use Rattle.quic_history.specs.Acknowledged.{was_given}

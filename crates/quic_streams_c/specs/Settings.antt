@@ -73,7 +73,7 @@ pub record IsNewOf (c : Config) (s : Session) : Type 0 where
   pub datagrams : datagrams_view s ≡ no_datagrams c.datagrams
   pub payloads : unsettled s.unsettled ≡ (λ token. None)
 
--- a session is made, unless a number is above its bound or memory is wanting
+-- a session is made, unless a number is above its bound or memory runs out
 pub record MakesNew (r : RawConfig) (code : ℤ) (new : Option Session) : Type 0 where
   pub good : IsConfig r
   pub config : Config
@@ -110,7 +110,7 @@ pub record TakesLimits (s : Session) (r : RawLimits) (t : Session) : Type 0 wher
   pub from : GoesOn s (Sending (GaveLimits (peer_limits r) (Ok tt))) t
   pub beside : beside_of t ≡ with_datagrams (beside_of s) (with_max (datagrams_view s) (length_at r.max_datagram))
 
--- for want of memory neither is
+-- out of memory, neither is
 abbrev pub TakesLimitsOrNone : Session → RawLimits → Result (Unit {0}) OutOfMemory → Session → Type 0
 TakesLimitsOrNone s r (Ok x) t = TakesLimits s r t
 TakesLimitsOrNone s r (Err e) t = Unchanged s t × GoesOn s (Sending (GaveLimits (peer_limits r) (Err e))) t

@@ -293,7 +293,7 @@ fn send_early_again(session: &mut Session) -> i32
     tell_memory(&session.retransmit_all_for_0rtt())
 }
 
-// That a call was done, or that memory was wanting.
+// That a call was done, or that memory ran out.
 fn tell_memory(answer: &Result<(), OutOfMemory>) -> i32
     ensures { TellsDone memory_code answer.now result }
 {

@@ -91,7 +91,7 @@ pub fn receive(
     Ok(answer_of(subject.received(frame)))
 }
 
-/// What want of memory has to leave as it was.
+/// What lack of memory has to leave as it was.
 pub fn counts(subject: &Subject) -> [u64; 5] {
     [
         subject.local_max_data(),
@@ -142,7 +142,7 @@ pub fn write_control(subject: &mut Subject, payload: &mut Payload, max_size: usi
         .is_ok()
 }
 
-/// The control frames of a new payload. They are asked for again where memory was wanting: none is lost, and none comes twice.
+/// The control frames of a new payload. They are asked for again where memory ran out: none is lost, and none comes twice.
 pub fn control(alloc: Global, subject: &mut Subject, max_size: usize) -> Payload {
     let mut written = new_payload(alloc);
     if !write_control(subject, &mut written, max_size) {

@@ -16,7 +16,7 @@ use quic_wire::frame::{ResetStream, Stream, StreamMeta};
 use quic_wire::{ReceiveError, StreamEvent};
 use std::alloc::Global;
 
-/// One end, and what it has to send beside data.
+/// One end, and its pending control frames.
 #[derive(Drop)]
 pub struct Subject {
     pub state: StreamsState,

@@ -105,7 +105,7 @@ enum Step {
 // The code of each stop.
 const STOP_CODE: u32 = 9;
 
-// Takes a frame, and once more where memory was wanting.
+// Takes a frame, and once more where memory ran out.
 fn data(
     rt: &impl Abort,
     alloc: Global,
@@ -194,7 +194,7 @@ fn read_once(
     }
 }
 
-// Reads, and goes on where memory was wanting.
+// Reads, and goes on where memory ran out.
 fn read(
     rt: &impl Abort,
     alloc: Global,
@@ -212,7 +212,7 @@ fn read(
     Ok(Given(bytes, second.1, first.2 | second.2))
 }
 
-// Stops a stream, once more where memory was wanting. Whether it was open.
+// Stops a stream, once more where memory ran out. Whether it was open.
 fn stop(rt: &impl Abort, subject: &mut Subject, stream: u32) -> bool {
     let before = counts(subject);
     let first = subject.stop(stream, STOP_CODE);

@@ -1,7 +1,7 @@
 use std::alloc::{AllocError, AllocFailed};
 use thiserror::Error;
 
-/// Want of memory. The call that answers it says what it leaves as it was.
+/// Out of memory. The call that answers it says what it leaves as it was.
 #[derive(Clone, Copy, Debug, Error, PartialEq, Eq, Hash)]
 #[error("out of memory")]
 pub struct OutOfMemory;

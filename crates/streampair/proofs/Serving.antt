@@ -183,7 +183,7 @@ pub not_spelled : (number : ℕ) (nothing : Type 0) (error : LineError) → (err
 not_spelled number nothing lines.Malformed none = (refl, none refl)
 not_spelled number nothing lines.OutOfMemory none = tt
 
--- so does want of memory
+-- so does lack of memory
 pub wanting : {T : Type 0} (r : Result T Stop) (number : ℕ) (nothing : Type 0) → IsErrAnd r (λ stop. stop ≡ Failed) → IfErr r (IsStopOf number nothing)
 wanting (Ok x) number nothing failed = tt
 wanting (Err stop) number nothing failed = rw failed tt

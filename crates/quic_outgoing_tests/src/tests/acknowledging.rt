@@ -5,7 +5,7 @@ use std::process::Abort;
 use std::rt::HostRuntime;
 use std::test::Fail;
 
-// Each report is made once more where memory was wanting, which has to leave all as it was.
+// Each report is made once more where memory ran out, which has to leave all as it was.
 fn acked(
     rt: &impl Abort,
     subject: &mut Subject,

@@ -1,4 +1,4 @@
-// What want of memory leaves as it was. Run with each allocation refused in turn.
+// What lack of memory leaves as it was. Run with each allocation refused in turn.
 use super::{
     Answer, Subject, can_send_blocked, end, finish, holds, id, is_true, limit, raise_data, reset,
     same, try_open, written,
@@ -17,7 +17,7 @@ fn max_streams(subject: &Subject) -> u64 {
     subject.state.max_streams(Dir::Bi)
 }
 
-// What want of memory has to leave as it was.
+// What lack of memory has to leave as it was.
 fn counts(subject: &Subject, stream: u32) -> [u64; 6] {
     [
         limit(subject),
@@ -29,7 +29,7 @@ fn counts(subject: &Subject, stream: u32) -> [u64; 6] {
     ]
 }
 
-// Writes, and once more where memory was wanting.
+// Writes, and once more where memory ran out.
 fn write_again(rt: &impl Abort, alloc: Global, subject: &mut Subject, count: usize) -> Answer {
     let before = counts(subject, 0);
     let answer = written(alloc, subject, 0, count);

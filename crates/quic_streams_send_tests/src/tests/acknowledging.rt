@@ -31,7 +31,7 @@ fn meta(stream: u32, end: u64, fin: bool) -> StreamMeta {
     }
 }
 
-// Each report is made once more where memory was wanting, which has to leave all as it was.
+// Each report is made once more where memory ran out, which has to leave all as it was.
 fn ack(rt: &impl Abort, subject: &mut Subject, stream: u32, end: u64, fin: bool) {
     let before = counts(subject);
     if subject.received_ack_of(meta(stream, end, fin)).is_err() {

@@ -90,7 +90,7 @@ fn streams_begin_anew_where_an_early_start_is_rejected(rt: HostRuntime) -> Resul
     Ok(())
 }
 
-// All is sent again, at the second time where memory was wanting.
+// All is sent again, at the second time where memory ran out.
 fn send_again(rt: &impl Abort, subject: &mut Subject) {
     let could = subject.can_send_stream_data();
     if subject.retransmit_all_for_0rtt().is_err() {

@@ -1,4 +1,4 @@
-// What want of memory leaves as it was, and that the same call then succeeds. Run with each allocation refused in turn.
+// What lack of memory leaves as it was, and that the same call then succeeds. Run with each allocation refused in turn.
 use super::sending::{
     Done, Event, Step, call, expected, finish, open, reset, set_priority, taken, write,
 };
@@ -84,7 +84,7 @@ fn all_of(subject: &mut Subject) -> Told {
     }
 }
 
-// Whether a call came to what it has to. `None`: memory was wanting.
+// Whether a call came to what it has to. `None`: memory ran out.
 fn came_to(is: Done, done: Done) -> Option<bool> {
     if is == Done::NoMemory {
         return None;
@@ -108,7 +108,7 @@ fn is_done(answer: Result<(), OutOfMemory>) -> Option<bool> {
     }
 }
 
-// Makes a call that may want memory.
+// Makes a call that may need memory.
 fn make(subject: &mut Subject, step: Step) -> Option<bool> {
     match step {
         Step::Open(dir, stream) => match open(subject, dir) {
@@ -134,7 +134,7 @@ fn make(subject: &mut Subject, step: Step) -> Option<bool> {
     }
 }
 
-// Makes a call, and once more where memory was wanting.
+// Makes a call, and once more where memory ran out.
 fn make_again(rt: &impl Abort, subject: &mut Subject, step: Step, place: usize) {
     let before = all_of(subject);
     let first = make(subject, step);
@@ -377,7 +377,7 @@ fn refused_calls_change_nothing_and_then_succeed(rt: HostRuntime) -> Result<(), 
     Ok(())
 }
 
-// A stream is opened, at the second time where memory was wanting.
+// A stream is opened, at the second time where memory ran out.
 fn opens(rt: &impl Abort, subject: &mut Subject, dir: Dir, stream: u64) {
     if open(subject, dir) != Some(stream) {
         same(rt, open(subject, dir), Some(stream));
@@ -394,7 +394,7 @@ fn client_at_its_limits(rt: &impl Abort, alloc: Global) -> Result<Subject, OutOf
     Ok(subject)
 }
 
-// The peer's limits are handed in, at the second time where memory was wanting, which changed nothing.
+// The peer's limits are handed in, at the second time where memory ran out, which changed nothing.
 fn give_limits(rt: &impl Abort, subject: &mut Subject, data: u32, stream_data: u32) {
     let before = all_of(subject);
     if subject.permit(2, data, stream_data).is_err() {

@@ -1,4 +1,4 @@
-// Reports of whole payloads, and what comes back of them where memory is wanting. Run with each allocation refused in
+// Reports of whole payloads, and what comes back of them where memory runs out. Run with each allocation refused in
 // turn.
 use super::{is_true, same, writes};
 use quic_streams::{SentPayload, StreamMetaVec, ThinRetransmits};

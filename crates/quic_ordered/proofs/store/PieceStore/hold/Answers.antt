@@ -80,7 +80,7 @@ returns-then-encloses-clause-joined c =
     let any = rw (c.offset-2.ensures.value, c.end.ensures.value) at (c.encloses.ensures.yes c.if-encloses.true) in
     rw (← c.self.view_is) (inr (inl (encloses_row c.self.inside.gaps c.self.inside.row.runs c.args.piece.offset (run_end c.args.piece) any)))
 
--- what lies within a piece of the map wants no memory
+-- what lies within a piece of the map needs no memory
 pub returns-in_err-clear_way-clause-within : goal.returns-in_err-clear_way-clause-within
 returns-in_err-clear_way-clause-within c = λ any.
     let none = rw (c.offset-2.ensures.value, c.end.ensures.value) at (c.encloses.ensures.no c.if-encloses.false) in
