@@ -1,11 +1,11 @@
-"""The model of `pair_model`, where the client sends before the handshake is done (RFC 9001 section 4.6)."""
+"""The model of `pair_model` for a client that sends in 0-RTT, before the handshake is done (RFC 9001 section 4.6)."""
 from frames import Stream
 from limits_model import Limits, limits_of
 from pair_model import DECISIONS, DIRECTIONS, Model, opener_of, stream_id
 
 
 class EarlyModel(Model):
-    """Two ends of which the client begins by limits that it remembers, until it is decided whether the server takes what it sends."""
+    """Two ends whose client begins with limits that it remembers, until it is decided whether the server accepts its 0-RTT."""
 
     def __init__(self, configs, remembered, tally):
         super().__init__(configs, tally)
@@ -29,7 +29,7 @@ class EarlyModel(Model):
         return "LimitsBelow" if verb == "early-accept" and is_below else None
 
     def early_accept(self):
-        """The client holds the limits of the server, and its streams are told of those that rise."""
+        """The server accepts: the client takes its limits, and the limits of the client's streams rise to theirs."""
         self.tally["accepted"] += 1
         self.is_decided = True
         client = self.client
@@ -41,7 +41,7 @@ class EarlyModel(Model):
         return "ok"
 
     def own_streams(self):
-        """Those of the client, bidirectional ones first."""
+        """The ids of the client's streams, bidirectional ones first."""
         return [stream_id("a", it, index) for it in DIRECTIONS for index in range(self.client.opened[it])]
 
     def leave(self):
@@ -49,7 +49,7 @@ class EarlyModel(Model):
             payload.leave()
 
     def early_reject(self):
-        """The streams of the client begin anew, with the limits of the server, and the payloads are gone."""
+        """The server rejects: the client's streams begin anew, with the server's limits, and the payloads are gone."""
         self.tally["rejected"] += 1
         self.is_decided = True
         client = self.client
@@ -68,7 +68,7 @@ class EarlyModel(Model):
         return "ok"
 
     def retry(self):
-        """All that the client sent is to be sent again, and the payloads are gone."""
+        """The server sends a Retry: all that the client sent has to be sent again, and the payloads are gone."""
         self.tally["retried"] += 1
         for payload in self.payloads:
             for sent in payload.sent:

@@ -1,4 +1,4 @@
-"""Frames of streams and how a payload spells them (RFC 9000 sections 16 and 19), for tests that read payloads by themselves."""
+"""Frames of streams and their encoding (RFC 9000 sections 16 and 19), for tests that decode payloads themselves."""
 import collections
 
 DIRECTIONS = ("bi", "uni")
@@ -30,12 +30,12 @@ CONTROL_FRAMES = {
     0x15: StreamDataBlocked,
 }
 MAX_STREAMS = {0x12: "bi", 0x13: "uni"}
-# How many bytes the head of a STREAM frame takes at most, and a RESET_STREAM frame, which is the longest of the others.
+# The length of the longest head of a STREAM frame, and of the longest RESET_STREAM frame. No control frame is longer.
 GREATEST_HEAD = 25
 
 
 class Decoder:
-    """Reads the frames of a payload, whose numbers have to be the shortest."""
+    """Decodes the frames of a payload. Each number has to have its shortest encoding."""
 
     def __init__(self, data):
         self.data, self.at = data, 0

@@ -1,8 +1,8 @@
-"""What an end permits: the limits that it gives first, and how many streams the peer may open."""
+"""The limits of an end: those that it gives first, and how many streams the peer may open."""
 import collections
 
-# The limits that an end gives: of the connection, counts, and of streams; of the bidirectional ones `local` is for those that the end
-# opens itself, and `remote` for the others (RFC 9000 section 18.2)
+# The limits that an end gives first: data of the connection, counts of streams, data of each stream. Of bidirectional streams `local` is
+# for those that the end opens itself, and `remote` for the others (RFC 9000 section 18.2)
 Limits = collections.namedtuple("Limits", "data bi uni stream_uni stream_local stream_remote")
 
 
@@ -24,7 +24,7 @@ class Remote:
         self.is_opening_due = False
 
     def open_up_to(self, index):
-        """Whether this opened the stream of an index."""
+        """Opens the streams up to an index. Whether the last of them was not open before."""
         if index < self.opened:
             return False
         self.opened = index + 1
@@ -39,7 +39,7 @@ class Remote:
         self.permitted = max(self.permitted, len(self.freed) + count)
 
     def free(self, id):
-        """Another takes its place where the peer may use too few."""
+        """A stream is over. One more is permitted in its place, where fewer than `concurrent` are left to the peer."""
         if id not in self.freed:
             self.freed.add(id)
             self.permitted += self.permitted - len(self.freed) < self.concurrent

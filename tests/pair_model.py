@@ -1,5 +1,5 @@
-"""A model of two ends and the network between them, as `streampair` has them. It knows what was written, sent,
-delivered, acknowledged and read, and by docs/rules.md, docs/limits.md and RFC 9000 how each line may be answered then."""
+"""A model of two ends and the network between them, as `streampair` has them. It keeps what was written, sent,
+delivered, acknowledged and read, and knows by docs/rules.md, docs/limits.md and RFC 9000 how each line may be answered."""
 import bisect
 import collections
 
@@ -33,7 +33,7 @@ REFUSALS = {
     "Undecided": "refused 8 Undecided",
     "Decided": "refused 9 Decided",
 }
-# What decides on data before the handshake
+# The steps that decide on 0-RTT
 DECISIONS = ("early-accept", "early-reject", "retry")
 
 
@@ -57,7 +57,7 @@ def direction_of(id):
 
 
 class Sent:
-    """A frame of a payload."""
+    """A frame of a payload, and whether the other end accepted it."""
 
     def __init__(self, frame):
         self.frame = frame
@@ -92,14 +92,14 @@ class SendHalf:
     def __init__(self, limit):
         self.limit = limit
         self.written = bytearray()
-        # what became of each byte, and where a piece of a write ends
+        # the state of each byte, and the offsets at which pieces of writes end
         self.fates = bytearray()
         self.cuts = [0]
         self.finished = False
         self.end_sent = False
         self.end_acknowledged = False
         self.reset = None
-        # how many RESET_STREAM frames are to be sent
+        # how many RESET_STREAM frames have to be sent
         self.resets_due = 0
         self.stopped = None
         self.freed = False
@@ -117,21 +117,21 @@ class SendHalf:
         self.fates.extend(bytes([UNSENT]) * (len(self.written) - len(self.fates)))
 
     def retained(self):
-        """How many bytes the pieces have that the acknowledged prefix does not wholly cover."""
+        """How many bytes are retained: those of the pieces that the acknowledged prefix does not cover wholly."""
         if not self.is_held_for_data():
             return 0
         prefix = len(self.fates) - len(self.fates.lstrip(bytes([ACKNOWLEDGED])))
         return len(self.written) - self.cuts[bisect.bisect_right(self.cuts, prefix) - 1]
 
     def has_rest(self):
-        """Whether bytes or the end are left to be sent."""
+        """Whether bytes or the end have to be sent."""
         if not self.is_held_for_data():
             return False
         end = self.finished and not self.end_sent and not self.end_acknowledged
         return end or UNSENT in self.fates or LOST in self.fates
 
     def next_offset(self):
-        """The lowest offset that was lost or, where none was, that was never sent."""
+        """The lowest offset that is lost or, where none is, the lowest that was never sent."""
         for fate in (LOST, UNSENT):
             if fate in self.fates:
                 return self.fates.index(fate)
@@ -159,7 +159,7 @@ class SendHalf:
         self.end_acknowledged = self.end_acknowledged or frame.fin
 
     def send_again(self):
-        """All that was sent is to be sent again."""
+        """All that was sent has to be sent again."""
         self.fates = bytearray([UNSENT]) * len(self.fates)
         self.end_sent = False
 
@@ -171,9 +171,9 @@ class ReceiveHalf:
     """What one end receives on a stream (RFC 9000 section 3.2)."""
 
     def __init__(self, window):
-        # the last limit that was told
+        # the last limit that was announced
         self.limit_sent = window
-        # of each offset whether its byte came, and whether it was read
+        # for each offset, whether its byte arrived, and whether it was read
         self.arrived = bytearray()
         self.given = bytearray()
         self.highest = 0
@@ -184,9 +184,9 @@ class ReceiveHalf:
         self.ordered = 0
         self.unordered = False
         self.stop = None
-        # how many STOP_SENDING frames are to be sent
+        # how many STOP_SENDING frames have to be sent
         self.stops_due = 0
-        # the end or the reset was told
+        # whether the end or the reset was told
         self.told = False
 
     def is_closed(self):
@@ -196,7 +196,7 @@ class ReceiveHalf:
         return self.told or self.stop is not None and self.final_size is not None
 
     def is_limit_due(self, window):
-        """Whether a limit that rose by an eighth of the window is to be told."""
+        """Whether MAX_STREAM_DATA is due: the limit rose by an eighth of the window."""
         can_grow = self.final_size is None and not self.is_closed()
         return can_grow and self.read + window - self.limit_sent >= window // 8
 
@@ -228,7 +228,7 @@ class ReceiveHalf:
 
 
 def unreadable(half, ordered):
-    """Why nothing may be read on a half, if it is there."""
+    """The reason why a receive half, or one that is not there, may not be read, or None."""
     if half is None or half.is_closed():
         return "closed"
     return "illegal" if ordered and half.unordered else None
@@ -238,7 +238,7 @@ def unreadable(half, ordered):
 
 
 class End:
-    """One end: its streams, and the limits that it gives and holds (RFC 9000 section 4)."""
+    """One end: its streams, the limits that it gives, and those that it was given (RFC 9000 section 4)."""
 
     def __init__(self, name, config, limits):
         self.name = name
@@ -247,18 +247,18 @@ class End:
         self.credit, self.debt = self.receive_window, 0
         self.credit_sent = self.receive_window
         self.hold(limits)
-        # a count of streams was set
+        # whether a count of streams was set
         self.is_adjusted = False
         self.opened = {"uni": 0, "bi": 0}
         self.known = []
         self.send, self.receive = {}, {}
-        # events but openings, and but writable streams that the connection or the send window blocked
+        # events, except openings, and except streams that are writable after the connection or the send window blocked them
         self.events = collections.deque()
-        # streams of which a write was blocked so
+        # streams on which the connection or the send window blocked a write
         self.blocked = []
 
     def hold(self, limits):
-        """These are the first limits."""
+        """Takes the first limits of the peer."""
         self.counts = {"uni": limits.uni, "bi": limits.bi}
         self.limit, self.first = limits.data, limits
 
@@ -274,7 +274,7 @@ class End:
             self.receive[id] = ReceiveHalf(self.stream_window)
 
     def has_rest(self):
-        """Whether bytes, ends, resets or stops are left to be sent."""
+        """Whether bytes, ends, resets or stops have to be sent."""
         sends = any(half.has_rest() or half.resets_due for half in self.send.values())
         return sends or any(half.stops_due for half in self.receive.values())
 
@@ -288,7 +288,7 @@ class End:
             self.blocked.append(id)
 
     def unblocked(self):
-        """The stream that was blocked last of those that may be written again. The others leave the list."""
+        """The stream that was blocked last, of those that may be written on again. Those that may not leave the list."""
         while self.blocked:
             id = self.blocked.pop()
             half = self.send[id]
@@ -310,16 +310,16 @@ class End:
         return [(direction, self.remote[direction]) for direction in DIRECTIONS]
 
     def is_credit_due(self):
-        """Whether a limit that rose by an eighth of the window is to be told."""
+        """Whether MAX_DATA is due: the limit rose by an eighth of the window."""
         return self.credit >= self.credit_sent + self.receive_window // 8
 
     def has_news(self, half):
-        """Whether what was read of a stream gives anything to tell."""
+        """Whether a limit is due after a read of a stream."""
         is_count_due = any(remote.is_count_due() for remote in self.remote.values())
         return is_count_due or self.is_credit_due() or half.is_limit_due(self.stream_window)
 
     def consume(self, count):
-        """Bytes pay what was taken off the window, and then raise the limit."""
+        """Consumed bytes first pay what is owed since the window was made smaller, and then raise the limit."""
         paid = min(self.debt, count)
         self.debt -= paid
         self.credit += count - paid
@@ -330,23 +330,23 @@ class End:
         self.receive_window = window
 
     def free_if_over(self, id):
-        """A stream that the peer opened is over once both its halves are."""
+        """A stream that the peer opened is over once both its halves are freed."""
         sends, receives = self.send.get(id), self.receive.get(id)
         if opener_of(id) != self.name and receives.is_freed() and (sends is None or sends.freed):
             self.remote[direction_of(id)].free(id)
 
     def free(self, id):
-        """Nothing is left to be acknowledged of what is sent on a stream."""
+        """Frees the send half of a stream, of which nothing is left to be acknowledged."""
         self.send[id].freed = True
         self.send[id].resets_due = 0
         self.free_if_over(id)
 
     def tell_end(self, id):
-        """The end of what is received on a stream, or its reset, was told."""
+        """The end or the reset of a stream was told to its reader."""
         self.receive[id].told = True
         self.free_if_over(id)
 
-    # -- what becomes of frames that were sent
+    # -- reports of frames that were sent
 
     def lose(self, frame):
         if isinstance(frame, Stream):
@@ -369,10 +369,10 @@ class End:
         elif isinstance(frame, ResetStream):
             self.free(frame.id)
 
-    # -- frames that come
+    # -- frames that are received
 
     def accept(self, frame):
-        """A frame of the peer, of which DATA_BLOCKED and STREAM_DATA_BLOCKED change nothing. Whether it gives anything to tell."""
+        """Takes a frame of the peer. DATA_BLOCKED and STREAM_DATA_BLOCKED change nothing. Whether MAX_DATA is due after it."""
         accept = {
             Stream: self.accept_data,
             ResetStream: self.accept_reset,
@@ -384,11 +384,11 @@ class End:
         return bool(accept and accept(frame))
 
     def note_opened(self, id):
-        """Whether a frame opened the stream."""
+        """Notes a frame on a stream. Whether it opened the stream."""
         return opener_of(id) != self.name and self.remote[direction_of(id)].open_up_to(id // 4)
 
     def tell_readable(self, id):
-        """A frame came that is told, but for the one that opens the stream."""
+        """Queues `readable` for a frame, unless the frame opened the stream."""
         if not self.note_opened(id):
             self.events.append(f"readable {id}")
 
@@ -433,7 +433,7 @@ class End:
         self.limit = max(self.limit, frame.limit)
 
     def raise_limit(self, id, limit):
-        """A stream that was written up to its limit may be written again, or waits for the connection."""
+        """Raises the limit of a stream. One that was written up to its limit is writable then, or waits for the connection."""
         half = self.send[id]
         rises = not half.freed and not half.is_over() and limit > half.limit
         if rises and len(half.written) == half.limit:
@@ -452,7 +452,7 @@ class End:
             self.counts[frame.direction] = frame.count
             self.events.append(f"available {frame.direction}")
 
-    # -- frames that leave, which have to be true
+    # -- frames that are sent, which have to be true
 
     def emit(self, frame):
         {
@@ -506,7 +506,7 @@ class End:
 
 
 def front_of(chunks, count):
-    """The first bytes of some chunks, cut as these are, and how many chunks are taken whole."""
+    """The first bytes of some chunks, cut where the chunks are, and how many chunks are taken whole."""
     pieces = []
     for whole, chunk in enumerate(chunks):
         if len(chunk) > count:
@@ -517,13 +517,13 @@ def front_of(chunks, count):
 
 
 class Model:
-    """Two ends and the network between them, which takes the lines of a session with their replies."""
+    """Two ends and the network between them. Takes the lines of a session with their replies."""
 
     def __init__(self, configs, tally):
         self.ends = {name: End(name, configs[name], limits_of(configs[OTHER[name]])) for name in ENDS}
         self.payloads = []
         self.tally = tally
-        # the replies of which the model does not know each word
+        # the replies that the model does not predict word for word
         self.judges = {
             "read": self.take_read,
             "emit": self.take_emit,
@@ -559,7 +559,7 @@ class Model:
         return None
 
     def take(self, line, reply):
-        """Raises AssertionError where the line is not to be replied so."""
+        """Takes a line with its reply. Raises AssertionError where the reply is wrong."""
         verb, *fields = line.split(" ")
         refusal = self.refusal(verb, fields)
         take = None if refusal else self.judges.get(verb)
@@ -604,7 +604,7 @@ class Model:
     # -- writers
 
     def unwritable(self, end, id):
-        """Why nothing may be written, in the order in which that is looked at."""
+        """Why nothing may be written, if there is a reason. The reasons are looked for in this order."""
         half = end.send.get(id)
         if half is None or half.freed:
             return "closed"
@@ -724,7 +724,7 @@ class Model:
         end.consume(len(data))
 
     def take_last(self, end, id, ordered, last, is_full):
-        """How a read ends."""
+        """Checks how a read ended."""
         half = end.receive[id]
         if is_full:
             check_same(last, "more")

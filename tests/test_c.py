@@ -1,7 +1,7 @@
-"""The C interface: `libquic_streams.a` as `make` leaves it in `build/lib` (or in the folder that QUIC_STREAMS_LIB_DIR names),
-under the programs of `tests/c`, the examples and the crate for Rust.
+"""The C interface: the programs of `tests/c`, the examples and the crate for Rust, with `libquic_streams.a` as `make` builds it in
+`build/lib` (or in the folder that QUIC_STREAMS_LIB_DIR names).
 
-The gate proves the crate and leaves no archive of it. So what needs the library is skipped there, with a line that says so,
+The gate proves the crate and builds no library of it. So tests that need the library are skipped there, with a line that says so,
 unless `make` put it into that folder before. A compiler or a tool that is missing fails the test that needs it."""
 import os
 import shutil
@@ -17,7 +17,7 @@ PAYLOADS = os.environ.get("QUIC_STREAMS_PAYLOADS", "1000000")
 
 
 def tool(*names):
-    """The first of these commands that is there."""
+    """The first of these commands that is installed."""
     for name in names:
         if name and shutil.which(name):
             return name

@@ -1,5 +1,5 @@
-"""Whether the pages are right where that can be looked up: links lead somewhere, files that a page names are there, and so
-are the names of code, clauses and definitions; numbers of definitions are those that are counted."""
+"""Whether the pages are right where a program can check it: links lead somewhere; files, names of code, clauses and
+definitions that a page names exist; numbers of definitions are those that are counted."""
 import glob
 import os
 import re
@@ -11,9 +11,9 @@ from test_programs import ROOT, program, run
 
 THIS = os.path.relpath(os.path.abspath(__file__), ROOT)
 SUFFIXES = "rt|antt|py|md|svg|c|h|edit|txt|map"
-# What is made when something is built, lies in the kit, or is a file of the reader's own.
+# Files that a build makes, that are in the kit, or that are the reader's own.
 MADE = re.compile(r"(?:out|build|c|target)/|lib\w+\.(?:a|so)$|my_host\.c$")
-# Names that stand nowhere in this repository: those of other programs, and of lines that are typed.
+# Names that are not in this repository: those of other programs, and of lines that are typed.
 FOREIGN = {"bench", "rattle", "CRATE_tests", "HEX", "Box::new", "io::Error", "Event::DatagramReceived", "WHAT", "GLIBC_TUNABLES"} | set(
     "quinn rustls webpki ring slab tinyvec arbitrary tokio openssl transfer rcgen stop_stream stream_flow_control zero_rtt_rejection UnknownStream".split()
 )
@@ -91,7 +91,7 @@ CODES = Code()
 
 
 def is_file(name, text):
-    """Whether a file that a page names is there: from the top, or at the end of a path that the page can mean."""
+    """Whether a file that a page names exists: by its path from the top, or as the end of a path that the page can mean."""
     if MADE.match(name):
         return True
     ends = re.compile(r"(?:^|/)" + re.escape(name.rstrip("/")).replace(r"\*", "[^/]*") + r"(?:$|/)")
@@ -126,10 +126,10 @@ def wrong_links(path, text):
 
 
 def wrong_names(path, text):
-    """Files and names in a page's `code` that are nowhere."""
+    """Files and names in a page's `code` that do not exist."""
     plain = without_blocks(text)
     if path == "docs/tests.md":
-        # names of the original's tests; test_table.py looks for those of here
+        # names of the original's tests; test_table.py checks those of this repository
         plain = plain.split("\n## Tests of the original\n")[0]
     for code in CODE.findall(plain):
         if code in FOREIGN:
@@ -160,7 +160,7 @@ def wrong_path(parts):
 
 
 def wrong_commands(path, text):
-    """Files that are typed in a page's blocks, and are nowhere."""
+    """Files in a page's blocks of commands that do not exist."""
     blocks = "\n".join(re.findall(r"^```.*?^```$", text, flags=re.M | re.S) + re.findall(r"^ {4,}.*$", text, flags=re.M))
     for file in re.findall(r"(?<![\w./])(?:crates|docs|tests|tools|bindings|examples|include)/[\w./*-]+", blocks):
         if "/out/" not in file and not glob.glob(os.path.join(ROOT, file)):
@@ -208,7 +208,7 @@ def wrong_clauses(text):
 
 
 def wrong_sections(text):
-    """Rows of the table of RFC sections: clauses that are not in the crate behind them, tests that are nowhere."""
+    """Rows of the table of RFC sections: clauses that are not in the crate behind them, tests that do not exist."""
     tests = "\n".join(it for path, it in CODES.texts.items() if "_tests/src/" in path)
     sessions = "\n".join(read(it) for it in CODES.files if it.startswith("tests/sessions/"))
     for row in [it for it in text.splitlines() if it.startswith("| ") and "Section" not in it]:
@@ -231,7 +231,7 @@ def wrong_sections(text):
 
 
 def wrong_code(text):
-    """Rust in the README that stands in no source."""
+    """Rust in the README that is in no source."""
     sources = "\n".join(it for path, it in CODES.texts.items() if path.endswith(".rt"))
     flat = re.sub(r"\n +", "\n", sources)
     for block in re.findall(r"^```rust\n(.*?)^```$", text, flags=re.M | re.S):
@@ -241,7 +241,7 @@ def wrong_code(text):
 
 
 def wrong_runs(path, text):
-    """Lines of a stored run that the page quotes, and the program does not print."""
+    """Lines that a page quotes of a stored run, and that the program does not print."""
     name = os.path.splitext(os.path.basename(path))[0]
     if "\n## The stored run\n" in text and f"crates/{name}/stdout" in CODES.files:
         printed = {it.strip() for it in read("crates", name, "stdout").splitlines()} | {".."}
@@ -305,7 +305,7 @@ class Docs(unittest.TestCase):
             self.assertEqual(run("streampair", typed), (printed, 0))
 
     def test_each_crate_is_drawn(self):
-        """In docs/layers.svg, which `tools/draw_layers.py` makes. Those of tests alone are not."""
+        """In docs/layers.svg, which `tools/draw_layers.py` makes. Crates that only tests use are not drawn."""
         drawn = set(re.findall(r">(\w+)</text>", read("docs/layers.svg")))
         above = {it: re.findall(rf"^(\w+)[^:\n]*:.*\b{it}\b", read("crates.txt"), flags=re.M) for it in CODES.crates}
         kept = {it for it in CODES.crates if not all(name.endswith("_tests") for name in above[it] or [it])}
@@ -327,13 +327,13 @@ class Docs(unittest.TestCase):
             self.assertEqual(counted(*headline, name)[:2], tuple(numbers), name)
 
     def test_a_fault_is_found(self):
-        """One wrong line of each kind, each of which is told."""
+        """One wrong line of each kind: each is found."""
         for path, line in WRONG:
             with self.subTest(line):
                 self.assertEqual(len(faults(path, line)), 1)
 
 
-# Lines that are wrong, with the page on which they would stand.
+# Wrong lines, each with the page on which it would stand.
 WRONG = [
     ("docs/rules.md", "[here](nowhere.md)"),
     ("docs/rules.md", "[here](pair.md#nowhere)"),
@@ -354,7 +354,7 @@ WRONG = [
 
 
 def counted(*names):
-    """How many definitions, lines, files and types of the code are to be read for these."""
+    """How many definitions, lines, files and types of the code have to be read for these names."""
     tool = [sys.executable, os.path.join(ROOT, "tools", "reading_list.py"), *names]
     last = subprocess.run(tool, stdout=subprocess.PIPE, check=True, text=True).stdout.splitlines()[-1]
     return tuple(re.findall(r"\d+", last))

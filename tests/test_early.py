@@ -1,4 +1,4 @@
-"""Sessions of `streampair` that a seed draws, in which the client sends before the handshake is done, by the model of `early_model`."""
+"""Sessions of `streampair` drawn from a seed, in which the client sends in 0-RTT, compared with the model of `early_model`."""
 import unittest
 
 from early_model import EarlyModel
@@ -9,7 +9,7 @@ from test_sessions import Draws
 from test_settling import answers, cut_off_session, play_all, settle_session
 
 SESSIONS = 1000
-# How often each kind of answer has to come in all sessions together, at least.
+# In all sessions together each kind has to come more often than this.
 LEAST = {
     "accepted": 200,
     "rejected": 200,
@@ -31,9 +31,9 @@ def setUpModule():
 
 
 class EarlyDraws(Draws):
-    """Lines of which the third has the client remember limits, and some later ones decide."""
+    """Draws lines. The third makes the client remember limits, and later ones may decide on 0-RTT."""
 
-    # what is drawn of the steps that decide, while it is not decided
+    # the deciding steps of a session, one of which may be drawn while 0-RTT is not decided
     PLANS = (
         ("early-accept",),
         ("early-reject",),
@@ -59,7 +59,7 @@ class EarlyDraws(Draws):
         return [*super().config_lines(), f"early a {' '.join(map(str, self.remembered))}"]
 
     def end(self):
-        """Most often the client, while the server waits."""
+        """Either end; most often the client, while 0-RTT is not decided."""
         return super().end() if self.model.is_decided or self.once_in(12) else "a"
 
     def line(self, step):
@@ -69,7 +69,7 @@ class EarlyDraws(Draws):
 
 
 def run_session(seed, tally):
-    """Draws a session, which is settled if it is decided."""
+    """Draws a session, and settles it if 0-RTT is decided."""
     draws = EarlyDraws(seed, tally)
     lines = cut_off_session(draws, seed)
     if draws.model.is_decided:

@@ -1,4 +1,4 @@
-"""The tool that finds where errors of memory begin, on right bodies and on bodies that give up by their own choice."""
+"""The tool that finds where out-of-memory errors begin, on right bodies and on bodies that give up by their own choice."""
 import os
 import subprocess
 import sys
@@ -9,7 +9,7 @@ sys.path.insert(0, os.path.join(ROOT, "tools"))
 
 import growth_errors  # noqa: E402
 
-# What the snippets stand on.
+# The declarations that the snippets use.
 BASE = """
 pub struct OutOfMemory;
 pub type Oom = OutOfMemory;
@@ -92,7 +92,7 @@ WRONG = {
     "for compaction": "self.make_room(1)?; if n > 1024 { return Err(InsertError::CompactionMemory); } Ok(())",
 }
 
-# Items beside the functions, that make such an error elsewhere.
+# Items beside such a body that make such an error.
 WRONG_ITEMS = {
     "a From of another error": "impl From<Late> for WriteError { fn from(_error: Late) -> WriteError { WriteError::OutOfMemory } }",
     "an error of itself": "impl OutOfMemory { pub fn new() -> Self { Self } }",

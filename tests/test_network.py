@@ -18,7 +18,7 @@ def setUpModule():
 
 
 class Limits(Sessions):
-    """The server read 40 bytes of a stream, and wrote MAX_DATA and MAX_STREAM_DATA, both of 140."""
+    """The server read 40 bytes of a stream, and sent MAX_DATA and MAX_STREAM_DATA, both of 140."""
 
     NUMBERS = bytes(range(40)).hex()
     LIMITS = "10408c1102408c"
@@ -49,7 +49,7 @@ class Limits(Sessions):
 
 
 class Resets(Sessions):
-    """The client wrote two bytes and gave the stream up, which no payload of 25 bytes tells, but one of 26."""
+    """The client wrote two bytes and reset the stream. A payload of 25 bytes has no room for the RESET_STREAM, one of 26 has."""
 
     RESET = "04020702"
     LINES = CONFIGS + "open a uni\nwrite a 2 6869\nreset a 2 7\nemit a 25 f\nemit a 26 f\n"
@@ -79,13 +79,13 @@ class ManyFrames(Sessions):
     WRITTEN = 100_000
 
     def gives_all(self, steps):
-        """Takes pairs of a line and its reply, behind the two configs."""
+        """Plays pairs of a line and its reply, after the two configs."""
         lines = "".join(f"{line}\n" for line, _ in steps)
         replies = "".join(f"{reply}\n" for _, reply in steps)
         self.gives(WIDE_CONFIGS + lines, "ok\nok\n" + replies)
 
     def streams(self):
-        """The ids of the streams, and the byte on each, in hexadecimal."""
+        """The ids of the streams, and the byte that is written on each, in hexadecimal."""
         return [(stream_id("a", "uni", index), f"{index % 256:02x}") for index in range(self.STREAMS)]
 
     def writers(self):
@@ -114,7 +114,7 @@ class ManyFrames(Sessions):
         self.gives_all([*self.writers(), *self.network(), *self.readers()])
 
     def small_payloads(self, count):
-        """Each is one frame without a length, which fills it."""
+        """Payloads of one frame without a length, which fills the payload."""
         offset = 0
         for number in range(count):
             head = f"0c02{var_int(offset)}" if offset else "0802"
@@ -155,9 +155,9 @@ class Progress:
 
 
 class Network:
-    """Loses every third payload, of which some frames come, and reports it so; the others it delivers and acknowledges."""
+    """Every third payload is reported lost, though every second of its frames arrives. The others are delivered and acknowledged."""
 
-    # four streams at a time, of which 90 bytes each may be unread, and of all together 250
+    # four streams at a time; 90 bytes of each may be unread, and 250 of all together
     CONFIG = (4, 0, 10_000, 250, 90)
     STREAMS = 20
 
@@ -173,13 +173,13 @@ class Network:
             check_same(running.reply_to(f"config {name} {' '.join(map(str, self.CONFIG))}"), "ok")
 
     def take(self, line):
-        """The reply to a line, which the model takes with it."""
+        """The reply to a line, checked by the model."""
         reply = self.running.reply_to(line)
         self.model.take(line, reply)
         return reply
 
     def write_all(self):
-        """The client opens what it may, and writes what it may."""
+        """The client opens as many streams as it may, and writes as much as it may."""
         for index, stream in enumerate(self.streams):
             if index == self.opened:
                 if self.take("open a uni") == "none":
@@ -197,7 +197,7 @@ class Network:
             stream.finished = True
 
     def carry(self, name):
-        """Some payloads of an end go across, until it has nothing more to send."""
+        """Payloads of an end go across, ten at most, until it has nothing more to send."""
         for _ in range(10):
             _, number, field = self.take(f"emit {name} 120 f").split(" ")
             if field == "-":
@@ -214,7 +214,7 @@ class Network:
         self.take(f"lose {number}" if is_lost else f"ack {number}")
 
     def read_all(self):
-        """The server takes the streams that came, and reads what is there."""
+        """The server accepts the streams that came, and reads what is there."""
         for index, stream in enumerate(self.streams):
             if index == self.accepted:
                 if self.take("accept b uni") == "none":
@@ -246,7 +246,7 @@ class Network:
 
 
 class Sizes(unittest.TestCase):
-    """A stream of each number of bytes, on both sides of each power of two, in payloads of at most 1200 bytes."""
+    """Streams of as many bytes as each power of two, one less and one more, in payloads of at most 1200 bytes."""
 
     PAYLOADS = 100
 

@@ -1,4 +1,4 @@
-"""Whole runs of the programs, as `rt ci` leaves them in `crates/NAME/out/NAME`: what each writes for an input, and its
+"""Whole runs of the programs, as `rt ci` builds them in `crates/NAME/out/NAME`: what each writes for an input, and its
 status."""
 import os
 import subprocess
@@ -13,8 +13,8 @@ def program(name):
 
 
 def need(module, *names):
-    """Skips the tests of a module, with one line, where a program is not built. Where the gate runs them, that is a
-    failure, and the line ends the run."""
+    """Skips the tests of a module, with one line, where a program is not built. In the gate this is a failure, and the
+    line ends the run."""
     for name in names:
         if not os.access(program(name), os.X_OK):
             line = f"{module}: not run, since the program is not built: `rt run < stdin` in crates/{name} builds it"
@@ -148,7 +148,7 @@ class Streamsim(unittest.TestCase):
         self.assertEqual(run("streamsim", b"picture\nseed \xff2\n"), ("malformed 2\n", 2))
 
     def look_at_rows(self, table, most):
-        """How many rows there are, and that no count passes another that bounds it."""
+        """Checks how many rows there are, and that no count passes another that bounds it."""
         rows = 0
         for line in table.splitlines()[1:]:
             fields = line.split()
@@ -225,7 +225,7 @@ class Hostile(unittest.TestCase):
 
 
 class LineEnds(unittest.TestCase):
-    """A carriage return before the line feed, and a plus before a number, are taken by all programs or by none."""
+    """A carriage return before the line feed, and a plus before a number: `streampair` takes neither, the others take both."""
 
     def test_they_change_nothing(self):
         for name, given in [

@@ -1,4 +1,4 @@
-"""`streampair` with each request for memory refused in turn: a part of what `tools/refused_memory` tries by hand."""
+"""`streampair` with each memory request refused in turn: a part of what `tools/refused_memory` tries by hand."""
 import contextlib
 import glob
 import importlib.util
@@ -12,7 +12,7 @@ from test_programs import ROOT, need, program
 
 TOOL = os.path.join(ROOT, "tools", "refused_memory")
 
-# Each takes some 500 runs.
+# Each of these seeds takes some 500 runs.
 SEEDS = range(1, 16)
 
 
@@ -21,7 +21,7 @@ def setUpModule():
 
 
 def load():
-    """The script of the tool."""
+    """The script of the tool, as a module."""
     spec = importlib.util.spec_from_file_location("refused_memory", os.path.join(TOOL, "sessions.py"))
     made = importlib.util.module_from_spec(spec)
     spec.loader.exec_module(made)
@@ -29,7 +29,7 @@ def load():
 
 
 def link(to):
-    """The program with an allocator that refuses the request of a number."""
+    """Links the program with an allocator that refuses one request, by its number."""
     page = subprocess.run(["rt", "doc"], stdout=subprocess.PIPE, check=True, text=True).stdout.strip()
     library = os.path.join(os.path.dirname(page), "c", "libos_c.a")
     allocator = os.path.join(TOOL, "allocator.c")
@@ -39,7 +39,7 @@ def link(to):
 class RefusedMemory(unittest.TestCase):
     def setUp(self):
         if not os.path.isfile(program("streampair") + ".o"):
-            # (a gate that takes the proof of an earlier run keeps the program alone)
+            # (a gate that reuses the proof of an earlier run keeps only the program)
             self.skipTest("the object of streampair is not there: `rt run < stdin` in crates/streampair makes it")
 
     def test_a_refused_request_changes_nothing_but_its_step(self):
@@ -51,10 +51,11 @@ class RefusedMemory(unittest.TestCase):
             check = load().tried(refusing, SEEDS, files)
         self.assertEqual(check.wrong, [])
         self.assertEqual(check.tally["sessions"], len(files) + 2 + len(SEEDS))
-        for name in ("in a step", "at the second line", "outside a step", "CompactionMemory"):
+        for name in ("in a step", "at the second line", "at the third line", "outside a step", "CompactionMemory"):
             self.assertGreater(check.tally[name], 0, name)
-        for verb in ("emit", "read", "write", "deliver", "chunks", "open"):
+        for verb in ("emit", "read", "write", "deliver", "chunks", "open", "retry", "early-accept"):
             self.assertGreater(check.tally[f"in {verb}"], 0, verb)
+        self.assertGreater(check.tally["steps whose requests were counted"], 1000)
 
 
 if __name__ == "__main__":

@@ -1,8 +1,8 @@
 """Sessions of `streampair` with known replies, as `tests/sessions/*.txt` have them.
 
-A session begins at a line `[NAME]`, and each of its lines is a line of input, a bar, and the reply. Bytes that come
-many times are written once, as `61*30` for thirty times `61`. A session that does not begin with `config a` has the two
-lines of CONFIGS before it. Lines that begin with `#` are remarks.
+A session begins at a line `[NAME]`. Each of its lines is a line of input, a bar, and the reply. A repeated byte is
+written once, as `61*30` for thirty times `61`. A session that does not begin with `config a` has the two lines of
+CONFIGS before it. Lines that begin with `#` are comments.
 """
 import glob
 import os
@@ -25,7 +25,7 @@ def in_full(text):
 
 
 def sessions_of(path):
-    """The sessions of a file: of each name the lines with their replies."""
+    """The sessions of a file: for each name, the lines with their replies."""
     found = {}
     with open(path) as it:
         for number, text in enumerate(it, 1):
@@ -45,7 +45,7 @@ def sessions_of(path):
 
 
 def all_sessions():
-    """Each session with its name, as `writing.an_end_comes_alone`."""
+    """All sessions, by names such as `writing.an_end_comes_alone`."""
     found = {}
     for path in sorted(glob.glob(os.path.join(FOLDER, "*.txt"))):
         topic = os.path.basename(path)[: -len(".txt")]

@@ -1,4 +1,4 @@
-"""Sessions of `streampair` that a seed draws, each reply held against the model of `pair_model`."""
+"""Sessions of `streampair` drawn from a seed; each reply is compared with the model of `pair_model`."""
 import collections
 import contextlib
 import random
@@ -12,7 +12,7 @@ from test_programs import need, program
 
 SESSIONS = 1000
 STEPS = 200
-# How often each kind of answer has to come in all sessions together, at least.
+# In all sessions together each kind has to come more often than this.
 LEAST = {
     "ordered chunk": 1000,
     "unordered chunk": 1000,
@@ -47,7 +47,7 @@ def setUpModule():
 
 
 class Draws:
-    """Lines among those that may come next, each drawn once the replies to those before are known."""
+    """Draws lines, each among those that may come next, once the replies to the lines before are known."""
 
     def __init__(self, seed, tally):
         self.random = random.Random(seed)
@@ -88,14 +88,14 @@ class Draws:
     # -- what a line may name
 
     def stream(self, name, reads=False):
-        """A stream that an end was given, and may write on, or read; now and then any other."""
+        """A stream that an end was given, and may write on, or read; now and then any id."""
         end = self.model.ends[name]
         halves = end.receive if reads else end.send
         ids = [id for id in end.known if id in halves]
         return self.random.choice(ids) if ids and not self.once_in(20) else self.random.randrange(24)
 
     def any_frame(self):
-        """The number of a payload, and that of a frame; now and then there is none."""
+        """The numbers of a payload and of one of its frames; now and then they do not exist."""
         payloads = self.model.payloads
         if self.once_in(20):
             return self.random.randrange(len(payloads) + 1), self.random.randrange(3)
@@ -106,7 +106,7 @@ class Draws:
         return number, self.random.randrange(len(payloads[number].sent))
 
     def frame(self, is_sought):
-        """One of the first frames that are sought, or any."""
+        """One of the first frames for which `is_sought` holds, or any."""
         skip = self.of(0, 0, 0, 1, 2, 5)
         if self.once_in(4):
             return self.any_frame()
@@ -119,7 +119,7 @@ class Draws:
         return self.any_frame()
 
     def payload(self, is_sought):
-        """One of the first payloads that are sought, or any; now and then there is none."""
+        """One of the first payloads for which `is_sought` holds, or any; now and then it does not exist."""
         payloads = self.model.payloads
         if self.once_in(20):
             return self.random.randrange(len(payloads) + 1)
@@ -192,7 +192,7 @@ class Draws:
         finish: 3,
         seldom: 9,
     }
-    # towards the end all is to come across
+    # the later steps are to deliver everything
     LATE = {emit: 15, deliver: 35, read: 15, ack: 15, poll: 8, finish: 7, lose: 2, seldom: 3}
 
     def line(self, step):
@@ -220,7 +220,7 @@ class Program:
         self.ran.stdout.close()
 
     def status(self):
-        """Ends the input, and returns the status."""
+        """Closes the input, and returns the status."""
         with contextlib.suppress(BrokenPipeError):
             self.ran.stdin.close()
         self.ran.wait()
@@ -236,7 +236,7 @@ class Program:
 
 
 def run_session(seed, tally):
-    """Has the model take each line of a session with its reply."""
+    """Draws a session, and has the model check each reply."""
     draws = Draws(seed, tally)
     said = []
     with Program() as running:

@@ -1,5 +1,5 @@
-"""Sessions of `streampair` that a seed draws and cuts off, and that are settled then: what is left of them is completed, by
-the model of `pair_model`."""
+"""Sessions of `streampair` drawn from a seed, cut off, and settled then: what is left of them is completed, as the model of
+`pair_model` checks."""
 import collections
 import random
 import unittest
@@ -10,7 +10,7 @@ from test_programs import need, run
 from test_sessions import STEPS, Draws, Program
 
 SESSIONS = 1000
-# How often each kind of answer has to come in all settlings together, at least.
+# In all settlings together each kind has to come more often than this.
 LEAST = {
     "ordered chunk": 500,
     "unordered chunk": 20,
@@ -33,7 +33,7 @@ def setUpModule():
 
 
 def check_completed(sends, receives):
-    """All that was written on a stream came and was read, and its end was told to both; or the code of one that was given up was."""
+    """All that was written on a stream is acknowledged and, unless the stream was stopped, read to its end; or its reset was told."""
     if sends.reset is not None:
         check(receives.is_closed(), "a reset that was not told")
         return
@@ -55,12 +55,12 @@ def check_settled(model):
 
 
 def may_go_on(half, reader):
-    """Whether a stream is neither ended, given up nor stopped."""
+    """Whether a stream is neither finished, reset nor stopped."""
     return not half.is_over() and not half.freed and half.stopped is None and reader.stop is None
 
 
 def check_room_of_streams(end, peer, tally):
-    """On each stream that goes on there is room for what the window leaves after an eighth."""
+    """Each stream that goes on has room for at least its reader's window less an eighth."""
     for id, half in end.send.items():
         if may_go_on(half, peer.receive[id]):
             tally["stream with room"] += 1
@@ -69,7 +69,8 @@ def check_room_of_streams(end, peer, tally):
 
 
 def check_room(end, peer, tally):
-    """So on all streams together, unless the peer made its window smaller and what came did not pay for it yet."""
+    """The connection has room for at least the peer's receive window less an eighth, or for the send window where that is less.
+    It may have less while a window that the peer made smaller is not paid for."""
     if peer.debt == 0:
         tally["connection with room"] += 1
         least = min(peer.receive_window - peer.receive_window // 8, end.send_window)
@@ -77,7 +78,7 @@ def check_room(end, peer, tally):
 
 
 def check_counts(end, peer, tally):
-    """Where no stream of a direction is left, as many may be opened as the peer is to have, but an eighth."""
+    """Where no stream of a direction is left, as many may be opened as the peer permits at a time, less an eighth."""
     for direction, remote in peer.remote.items():
         if len(remote.freed) == end.opened[direction]:
             tally["direction with room"] += 1
@@ -86,7 +87,7 @@ def check_counts(end, peer, tally):
 
 
 def check_goes_on(model, tally):
-    """Nothing is stuck (RFC 9000 sections 4.1 and 4.6): what the windows leave may be written and opened."""
+    """Nothing is stuck (RFC 9000 sections 4.1 and 4.6): as much may be written and opened as windows and counts leave."""
     for name in ENDS:
         end, peer = model.ends[name], model.ends[OTHER[name]]
         check_room_of_streams(end, peer, tally)
@@ -95,7 +96,7 @@ def check_goes_on(model, tally):
 
 
 def cut_off_session(draws, seed):
-    """Draws some steps, with the replies, and returns all lines."""
+    """Draws some steps, has the model check the replies, and returns all lines."""
     steps = random.Random(-1 - seed).randrange(STEPS + 1)
     lines = draws.config_lines()
     with Program() as running:
@@ -108,14 +109,14 @@ def cut_off_session(draws, seed):
 
 
 def answers(lines):
-    """What a session of these lines is answered, a line each."""
+    """The replies to a session of these lines, one line each."""
     written, status = run("streampair", "".join(f"{line}\n" for line in lines))
     check_same(status, 0)
     return written.splitlines()
 
 
 def settle_session(model, lines, tally):
-    """Settles a session, of which the model takes each step with its reply, and then plays the steps alone."""
+    """Settles a session. The model checks each step with its reply; then the steps, played as lines, give the same replies."""
     model.tally = tally
     written = answers([*lines, "settle"])[len(lines) :]
     check_same(len(written) % 2, 0)
@@ -133,7 +134,7 @@ def run_session(seed, tally):
 
 
 def play_all(case, run_one, sessions, least):
-    """Runs a session for each seed, and looks whether each kind of answer came often enough in all together."""
+    """Runs a session for each seed, and checks that each kind of reply came often enough in all together."""
     tally = collections.Counter()
     for seed in range(sessions):
         try:

@@ -1,4 +1,4 @@
-"""Whole sessions of `streampair`, as `rt ci` leaves it: the replies to lines, and the status."""
+"""Whole sessions of `streampair`, as `rt ci` builds it: the replies to lines, and the status."""
 import os
 import random
 import socket
@@ -21,7 +21,7 @@ class Sessions(unittest.TestCase):
         self.assertEqual(ended, status)
 
     def session_gives(self, lines, replies, status=0):
-        """The same behind the two configs and their `ok`."""
+        """The same after the two configs and their `ok`."""
         self.gives(CONFIGS + lines, "ok\nok\n" + replies, status)
 
 
@@ -89,7 +89,7 @@ class Lines(Sessions):
         b"early-reject 0",
         b"early",
         b"retry a",
-        # six numbers of the client, of which counts are at most 2^60 and the others below 2^62
+        # six numbers, of the client only: counts are at most 2^60, the others below 2^62
         b"early a 1 1 1 1 1",
         b"early a 1 1 1 1 1 1 1",
         b"early a 1 1 1 1 1 1 ",
@@ -139,7 +139,7 @@ class Lines(Sessions):
         )
 
     def test_a_line_of_a_million_spaces_is_malformed(self):
-        """A line of many fields is refused without room for each of them."""
+        """A line of many fields is refused, and takes no memory for each of them."""
         self.session_gives(" " * 1_000_000 + "\n", "malformed 3\n", 2)
 
 
@@ -163,7 +163,7 @@ class Settling(Sessions):
 
     EMIT = "18446744073709551615 f"
     READ = "o 18446744073709551615 65535"
-    # what there is to accept or read where no stream is known
+    # the steps that accept and read, where no stream is known
     NOTHING = [
         *(f"accept {it}\nnone" for it in ("a bi", "a uni", "b bi", "b uni")),
         *(f"read {it} o 18446744073709551615 65535\nrefused 4 UnknownId" for it in ("a 0", "a 1", "a 3", "b 0", "b 1", "b 2")),
@@ -176,7 +176,7 @@ class Settling(Sessions):
         self.settles("", "", [*self.NOTHING, *self.last(0)])
 
     def last(self, first):
-        """Nothing is told, and nothing is sent."""
+        """The last steps of a settling: no event, and nothing to send."""
         sent = [f"emit {end} {self.EMIT}\npayload {first + at} -" for at, end in enumerate("ab")]
         return ["poll a\nnone", "poll b\nnone", *sent, *(f"lose {first + at}\nok" for at in (0, 1))]
 
@@ -309,7 +309,7 @@ def var_int(number):
 
 class LongSessions(Sessions):
     def test_a_session_of_three_hundred_thousand_lines_is_served(self):
-        """Byte after byte is written, sent, delivered, read and acknowledged."""
+        """One byte after the other is written, sent, delivered, read and acknowledged."""
         windows = "4 4 18446744073709551615 4611686018427387903 4611686018427387903"
         lines = [f"config a {windows}\nconfig b {windows}\nopen a uni\n"]
         replies = ["ok\nok\nid 2\n"]
@@ -327,7 +327,7 @@ class LongSessions(Sessions):
         self.assertEqual(status, 0)
 
     def test_a_session_of_a_thousand_lines_is_served(self):
-        """With ample memory nothing is refused: each power of two, and what lies beside it."""
+        """With ample memory nothing is refused: writes of each power of two, one less and one more."""
         windows = "4 4 18446744073709551615 4611686018427387903 4611686018427387903"
         lines = [f"config a {windows}\nconfig b {windows}\nopen a uni\n"]
         replies = ["ok\nok\nid 2\n"]

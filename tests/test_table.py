@@ -13,7 +13,7 @@ EXAMPLES, ORIGINALS = 80, 63
 
 
 def rows(heading):
-    """What a table behind a heading says, and the names of the tests in its last column."""
+    """The rows of the table after a heading: the first cell, and the names of the tests in the last."""
     with open(PAGE) as it:
         section = it.read().split(f"\n## {heading}\n")[1].split("\n## ")[0]
     table = [line.strip("|").split("|") for line in section.splitlines() if line.startswith("|")]

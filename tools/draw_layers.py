@@ -1,15 +1,16 @@
 #!/usr/bin/env python3
-"""Draws the crates of crates.txt in the layers in which they depend on each other: docs/layers.svg.
+"""Draws the crates of crates.txt in layers, each crate above those that it depends on: docs/layers.svg.
 
     tools/draw_layers.py
 
-A line is left out where others lead there, and goes around the crates between its ends. Crates of tests, and those on which tests alone stand, are left out.
+A line is left out where other lines lead to the same crate, and goes around the crates between its ends. Crates of tests, and crates that
+only tests use, are left out.
 """
 import os
 
 ROOT = os.path.dirname(os.path.dirname(os.path.abspath(__file__)))
 WIDTH, BOX, BEND, HEIGHT, ROW, TOP, LEGEND = 1060, 150, 16, 30, 74, 84, 960
-# What a crate is part of, by the words of its name; programs are those that nothing stands on.
+# The part to which each crate belongs. Programs are the crates on which no other depends.
 PARTS = [
     ("receive side", "#56b4e9", ("quic_assembler", "quic_ordered", "quic_receiving")),
     ("send side", "#e69f00", ("quic_sending", "quic_queue", "quic_outgoing", "quic_writing", "quic_flows", "quic_retransmits")),
@@ -47,7 +48,7 @@ def color_of(deps, name):
 
 
 def ranks_of(deps, arrows):
-    """The rows, the lowest first: a crate stands above all that it depends on."""
+    """The rows, the lowest first: a crate stands above all crates that it depends on."""
     known = {}
 
     def rank(name):
@@ -65,7 +66,7 @@ def ranks_of(deps, arrows):
 
 
 def with_bends(rows, arrows):
-    """Each line from row to row: where it passes a row it has a place of its own there, a bend."""
+    """Each line from row to row. Where a line passes a row, it has a place of its own there, a bend."""
     at = {name: index for index, row in enumerate(rows) for name in row}
     rows, joins = [list(row) for row in rows], {}
     for name in arrows:
@@ -85,7 +86,7 @@ def width_of(name):
 
 
 def places_of(rows, arrows):
-    """The middle of each box and bend: rows are put in the order of what they are joined to, up and down a few times."""
+    """The middle of each box and bend. Rows are ordered by what they are joined to, up and down a few times."""
     middle = {}
     for row in rows:
         for index, name in enumerate(row):

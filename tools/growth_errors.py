@@ -1,24 +1,24 @@
 #!/usr/bin/env python3
-"""Lists where errors of memory begin in the sources, and fails where one begins without a call that can fail so.
+"""Lists where out-of-memory errors begin in the sources, and fails where one begins without a call that can run out of memory.
 
 usage: python3 tools/growth_errors.py [--list] [ROOT]
 
-With --list it prints every place, else only those that no rule allows; its status is 1 where there is one of those.
+With --list it prints every place, else only those that no rule allows. Its status is 1 where there is one of those.
 
-An error of memory may come by `?`, or be made by name where a call that can fail so has failed: by a `From` of such
-an error, by `map_err` over the call, in an arm, an `if` or an `else` of its failure. docs/out_of_memory.md has the rules.
+An out-of-memory error may come by `?`, or be made by name where a call that can run out of memory has failed: by a `From` of
+such an error, by `map_err` over the call, in an arm, an `if` or an `else` of its failure. docs/out_of_memory.md has the rules.
 """
 import os
 import re
 import sys
 
-# The names of errors of memory: types, and variants of other errors.
+# The names of out-of-memory errors: types, and variants of other errors.
 NAMES = {"OutOfMemory", "Oom", "CompactionMemory", "NoMemory", "Memory", "AllocError", "AllocFailed"}
 
-# Errors that say nothing but that memory was wanting.
+# Error types that mean only out of memory.
 ERROR_TYPES = {"OutOfMemory", "Oom", "AllocError", "AllocFailed", "TryReserveError", "InsertFailed"}
 
-# Calls of the library that take memory, and fail for want of it alone.
+# Calls of the library that take memory, and fail only when it runs out.
 LIBRARY_CALLS = {
     "reserve", "reserve_exact", "push", "push_back", "push_front", "push_str", "insert", "append", "extend_from_slice",
     "clone", "to_vec", "from_slice", "with_capacity", "resize",
@@ -26,26 +26,26 @@ LIBRARY_CALLS = {
 LIBRARY_PATHS = {("Box", "new")}
 LIBRARY_MACROS = {"vec", "format"}
 
-# Functions that answer their argument itself where memory is wanting. What they answer as an error is read as one.
+# Functions that hand their argument back as the error where memory runs out. It counts as an out-of-memory error.
 GIVES_BACK = {"put_new", "put_first", "put_last", "put_tidy", "join_last", "push_within", "merge", "merge_thin"}
 
-# Places that stay as they are, each of them once: (file, line of text) and why.
+# Places that stay as they are, each of them once: (file, line of text), below the reason.
 ALLOWED = {
-    # The answer of a copy that was refused stands in a struct.
+    # The answer of a copy that ran out of memory stands in a struct.
     ("crates/quic_session/src/receiving.rt", "answer: Err(PayloadError::OutOfMemory),"),
-    # A report of a payload hands it back where memory was refused, and only there.
+    # A report of a payload hands the payload back where memory ran out, and only there.
     ("crates/quic_session/src/settling.rt", "SettleError::OutOfMemory"),
-    # A report of a payload hands it back where memory was refused, and only there.
+    # A report of a payload hands the payload back where memory ran out, and only there.
     ("crates/connection_loop/src/connection.rt", "self.streams.acked(sent).or(Err(OutOfMemory))?;"),
     ("crates/connection_loop/src/connection.rt", ".or(Err(OutOfMemory))?,"),
     ("crates/hostile/src/application.rt", "answer.or(Err(OutOfMemory))"),
     ("crates/streamsim/src/simulation.rt", "answer.or(Err(OutOfMemory))"),
     ("crates/quic_pair/src/replies.rt", "Err(_back) => Err(PairError::OutOfMemory),"),
-    # A payload that an end wrote itself is decoded, which its promises say it can be.
+    # A payload that an end wrote itself is decoded: its contract says that it can be.
     ("crates/hostile/src/application.rt", "Err(DecodeError::OutOfMemory) | Err(DecodeError::Malformed) => return Err(OutOfMemory),"),
-    # The reply of a step said that memory was wanting, and there is no other that ends a settling.
+    # The reply of a step said that memory ran out: no other reply ends a settling so.
     ("crates/quic_pair/src/settle.rt", "None => Err(OutOfMemory),"),
-    # Of two answers for want of memory alone one is an error, in the arm of all but two successes.
+    # Both answers fail only out of memory, and this arm is for all cases except two successes, so one of them is an error.
     ("crates/quic_pair/src/replies.rt", "_ => Err(PairError::OutOfMemory),"),
 }
 
@@ -73,7 +73,7 @@ class Token:
 
 
 def read(text):
-    """The tokens of a source, each group with those within it."""
+    """The tokens of a source; each bracket has the tokens within it."""
     flat, line, at = [], 1, 0
     while at < len(text):
         m = TOKEN.match(text, at)
@@ -96,7 +96,7 @@ def read(text):
 
 
 def without_contracts(tokens):
-    """Without contracts and ghost items, of which no code is made."""
+    """The tokens without contracts and ghost items, of which no code is made."""
     out, i = [], 0
     while i < len(tokens):
         t = tokens[i]
@@ -126,7 +126,7 @@ def without_contracts(tokens):
 
 
 def names(tokens):
-    """The names of errors of memory in tokens, at any depth."""
+    """The names of out-of-memory errors in tokens, at any depth."""
     for t in tokens:
         if t.inner is not None:
             yield from names(t.inner)
@@ -163,7 +163,7 @@ def find_group(tokens, start):
 
 
 class Source:
-    """What the functions of a crate and of those below it answer."""
+    """Which errors the functions of a crate, and of the crates below it, answer."""
 
     def __init__(self):
         self.errors = {}
@@ -174,7 +174,7 @@ class Source:
             self.errors.setdefault(name, set()).update(kinds)
 
     def add(self, tokens):
-        """Adds the functions of a file, each with the error that it answers."""
+        """Adds the functions of a file, each with the kind of error that it answers."""
         for i, t in enumerate(tokens):
             if t.inner is not None:
                 self.add(t.inner)
@@ -185,11 +185,11 @@ class Source:
                 self.errors.setdefault(tokens[i + 1].text, set()).add(error_of(tokens[i + 2:body]))
 
     def is_growth(self, name):
-        """Whether a variable has the answer of a call that fails for want of memory alone."""
+        """Whether a variable holds the answer of a call that fails only out of memory."""
         return name in self.variables
 
     def can_fail(self, callee, path, is_method):
-        """Whether a call of that name fails for want of memory alone."""
+        """Whether a call of that name fails only out of memory."""
         if callee in self.errors:
             kinds = self.errors[callee] - {None}
             return bool(kinds) and all(kind == "memory" or callee in GIVES_BACK for kind in kinds)
@@ -199,7 +199,7 @@ class Source:
 
 
 def error_of(signature):
-    """`memory` where a function answers an error of memory alone, `other` for another error, else None."""
+    """`memory` where the error that a function answers is only out of memory, `other` for another error, else None."""
     at = find(signature, "->")
     if at == len(signature):
         return None
@@ -227,7 +227,7 @@ def error_of(signature):
 
 
 def is_chain(tokens):
-    """Whether it is a single chain of calls and fields, as `&mut self.rest.put(x)?`."""
+    """Whether the tokens are a single chain of calls and fields, such as `&mut self.rest.put(x)?`."""
     if not tokens:
         return False
     depth = 0
@@ -251,12 +251,12 @@ def is_chain(tokens):
     return True
 
 
-# What may stand behind a call without a change of its error.
+# Methods that may follow a call, and are passed over.
 PASSED_OVER = {"map", "map_err", "or", "or_else", "as_mut", "as_ref", "by_ref"}
 
 
 def ends_in_growth(tokens, source):
-    """Whether an expression is a call that fails for want of memory alone."""
+    """Whether an expression is a call that fails only out of memory."""
     tokens = list(tokens)
     while len(tokens) == 1 and tokens[0].text == "(":
         tokens = tokens[0].inner
@@ -291,7 +291,7 @@ def ends_in_growth(tokens, source):
 
 
 def tells_failure(condition, source):
-    """Whether a condition holds only where such a call failed: `call.is_err()`, alone or beside others."""
+    """Whether a condition holds only where such a call failed: `call.is_err()`, alone or joined to others by `&&`."""
     if any(t.inner is None and t.text == "||" for t in condition):
         return False
     for part in split(condition, "&&"):
@@ -307,7 +307,7 @@ def is_failure(pattern):
 
 
 def is_memory(pattern):
-    """Whether every alternative of a pattern is an error of memory."""
+    """Whether every alternative of a pattern is an out-of-memory error."""
     while len(pattern) == 1 and pattern[0].text == "(":
         pattern = pattern[0].inner
         places = [part for part in split(pattern, ",") if part]
@@ -332,7 +332,7 @@ def is_path(part):
 
 
 class Reader:
-    """Finds the places of a file where an error of memory is made by name."""
+    """Finds the places of a file where an out-of-memory error is made by name."""
 
     def __init__(self, source, places):
         self.source, self.places, self.gives_back = source, places, False
@@ -460,14 +460,14 @@ class Reader:
             i += 1
 
     def is_made(self, tokens, i):
-        """Whether a name is an error that is made here, and not compared with, nor called as in `OutOfMemory::from`."""
+        """Whether an error is made here by its name: the name is not compared with, nor called as in `OutOfMemory::from`."""
         behind = [t.text for t in tokens[i + 1:i + 3]]
         if tokens[i].text == "Self":
             return self.own_type and behind[:1] != ["::"]
         return tokens[i].text in NAMES and not is_compared(tokens, i) and behind != ["::", "from"]
 
     def group(self, tokens, i, start, why):
-        """What stands in brackets; behind `map_err`, over a call that can fail so."""
+        """Goes through what stands in brackets, which may be the argument of `map_err` over a call that can run out of memory."""
         t = tokens[i]
         inner = why
         if t.text == "(" and i >= 3 and tokens[i - 1].text in ("map_err", "or", "or_else") and tokens[i - 2].text == ".":
@@ -568,7 +568,7 @@ class Reader:
 
 
 def answers_given(header):
-    """The parameters of a function that are answers of such calls."""
+    """The parameters of a function that hold answers of calls that fail only out of memory."""
     for t in header:
         if t.text == "(":
             return {part[0].text for part in parameters(t.inner) if error_of([Token("->", 0)] + part[2:]) == "memory"}
@@ -576,7 +576,7 @@ def answers_given(header):
 
 
 def parameters(tokens):
-    """`name: type`, each."""
+    """The parameters `name: type`."""
     depth, part = 0, []
     for t in tokens:
         depth += (t.text == "<") - (t.text == ">")
@@ -591,7 +591,7 @@ def parameters(tokens):
 
 
 def is_compared(tokens, i):
-    """An operand of `==` or `!=`, alone or as `A::B`."""
+    """Whether a name is an operand of `==` or `!=`, alone or as `A::B`."""
     first = i
     while first >= 2 and tokens[first - 1].text == "::" and is_word(tokens[first - 2]):
         first -= 2
@@ -600,7 +600,7 @@ def is_compared(tokens, i):
 
 
 def is_from_memory(header):
-    """`impl From<E> for F`, where E is an error of memory alone."""
+    """Whether it is `impl From<E> for F`, where E means only out of memory."""
     words = [t.text for t in header]
     if "From" not in words or "for" not in words:
         return False
@@ -610,7 +610,7 @@ def is_from_memory(header):
 
 
 def type_of(header):
-    """The type that an `impl` is of, without its crate and its parameters."""
+    """The type of an `impl`, without its crate and its parameters."""
     words = [t.text for t in header]
     rest = words[words.index("for") + 1:] if "for" in words else words[1:]
     path = []
@@ -625,12 +625,12 @@ DEFAULTS = re.compile(r"#\[default\]\s*(?:%s)\b|derive\([^)]*\bDefault\b[^)]*\)\
 
 
 def defaults(text):
-    """The lines where an error of memory is a default."""
+    """The lines where an out-of-memory error is a default."""
     return [text.count("\n", 0, m.end()) + 1 for m in DEFAULTS.finditer(text)]
 
 
 def sources(root):
-    """The sources of all crates but those of tests alone, and those on which only they stand."""
+    """The sources of all crates, except crates of tests and crates that only tests use."""
     crates = os.path.join(root, "crates")
     with open(os.path.join(root, "crates.txt"), encoding="utf-8") as file:
         lines = [line.partition(":") for line in file if ":" in line and not line.startswith("#")]
@@ -647,7 +647,7 @@ def sources(root):
 
 
 def crates_below(text):
-    """Of each crate those that it stands on, by the lines of crates.txt, and itself."""
+    """For each crate, itself and the crates that it depends on, by the lines of crates.txt."""
     direct = {}
     for line in text.split("\n"):
         if ":" in line and not line.startswith("#"):
@@ -670,7 +670,7 @@ def crate_of(name):
 
 
 def places_of(texts, below):
-    """Of each of some sources, by name, the places where an error of memory begins: (name, line, allowed, why)."""
+    """The places in some sources, by name, where an out-of-memory error begins: (name, line, allowed, why)."""
     trees = {name: without_contracts(read(text)) for name, text in texts.items()}
     own = {}
     for name, tree in trees.items():

@@ -3,9 +3,9 @@
 
     tools/reading_list.py quic_pair.specs.Headline:Headline ..
 
-MODULE:NAME is a definition, and MODULE alone stands for all of a file. Prints each definition under its file, with its
-lines (comments and blank lines apart), then the types of the code that they name and the sums. With --files only the sums
-of each file, with --text the definitions themselves, each below its comment.
+MODULE:NAME is a definition; MODULE alone stands for all definitions of a file. Prints the definitions under their file, with
+the number of their lines (without comments and blank lines), then the types of the code that they name, and the sums. With
+--files it prints only the sums of each file, with --text the definitions themselves, each below its comment.
 """
 import os
 import re
@@ -18,7 +18,7 @@ WORD = re.compile(r"[^\s(){}\[\],;.:=λ→×⊎≡≢≤<∷+*-]+")
 
 
 class File:
-    """The definitions of a file, as lines by name, and where the names that it imports come from."""
+    """The definitions of a file, as lines by name, and the modules of the names that it imports."""
 
     def __init__(self, module, path):
         self.module, self.items, self.texts, self.imports, self.aliases, self.cases = module, {}, {}, {}, {}, {}
@@ -58,7 +58,7 @@ class File:
                 self.imports[name] = module
 
     def names_of(self, name):
-        """The definitions that one names: (module, name)."""
+        """The definitions that a definition names: (module, name)."""
         for word in set(WORD.findall("\n".join(self.items[name]))):
             if word != name and word in self.items:
                 yield self.module, word

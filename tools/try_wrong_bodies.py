@@ -1,21 +1,26 @@
 #!/usr/bin/env python3
 """Tries the wrong bodies of tools/wrong_bodies: the prover has to refuse a crate with any of them in place.
 
-The edits of one crate at a time are put into a copy of the repository, in a temporary folder, and `rt must-fail` tries
-them there. There is a line for each edit, and a last one that counts. The status is 0 only where each was refused.
+The edits of a crate are put into a copy of the repository, in a temporary folder, and `rt must-fail` tries them there, some
+at a time, with a copy for each thread. What checks kept below `out` is copied too, so a run after a gate or a check does not
+prove the crates below again. Prints a line for each edit, and how many were refused. The status is 0 only where all were.
 """
 import argparse
+import concurrent.futures
 import os
 import re
 import shutil
 import subprocess
 import sys
 import tempfile
+import threading
 
 ROOT = os.path.dirname(os.path.dirname(os.path.abspath(__file__)))
 BODIES = os.path.join(ROOT, "tools", "wrong_bodies")
-# What stands in a crate that a check reads.
-PARTS = ("src", "specs", "proofs")
+# The folders of a crate that a check reads, and the one in which it keeps its results.
+PARTS = ("src", "specs", "proofs", "out")
+# How many edits of a crate are tried in a row. The first edits of a crate in a copy wait until the crate itself is checked.
+IN_A_ROW = 16
 REFUSED = "refused"
 # What `rt must-fail` says of an edit.
 VERDICT = re.compile(r"must-fail \S+?/(\S+)\.edit: (refused|NOT REFUSED|BAD EDIT|NOT TRIED)(.*)")
@@ -32,7 +37,7 @@ def edits_of(crate):
 
 
 def why_not_applicable(crate, edit):
-    """Why an edit cannot be put in place, or None."""
+    """Why an edit cannot be applied, or None."""
     with open(os.path.join(BODIES, crate, f"{edit}.edit"), encoding="utf-8") as it:
         lines = it.read().splitlines()
     source, pairs = None, 0
@@ -53,7 +58,7 @@ def why_not_applicable(crate, edit):
 
 
 def look(crates):
-    """Says which edits cannot be put in place, and returns the status."""
+    """Prints which edits cannot be applied, and returns the status."""
     bad = 0
     for crate in crates:
         for edit in edits_of(crate):
@@ -67,7 +72,7 @@ def look(crates):
 
 
 def copy_repository(folder):
-    """Copies what a check reads."""
+    """Copies what a check reads into a folder."""
     for name in ("crates.txt", "HANDLES"):
         shutil.copy(os.path.join(ROOT, name), folder)
     crates = os.path.join(ROOT, "crates")
@@ -78,31 +83,67 @@ def copy_repository(folder):
                 shutil.copytree(source, os.path.join(folder, "crates", crate, part))
 
 
-def try_crate(crate, folder):
-    """Tries the edits of a crate in the copy, and returns how many were refused."""
-    there = os.path.join(folder, "crates", crate, "must-fail")
+class Copies:
+    """A copy of the repository for each thread."""
+
+    def __init__(self, folder):
+        self.folder = folder
+        self.own = threading.local()
+
+    def get(self):
+        if not hasattr(self.own, "copy"):
+            copy = tempfile.mkdtemp(dir=self.folder)
+            copy_repository(copy)
+            self.own.copy = copy
+        return self.own.copy
+
+
+def try_edits(crate, edits, copies):
+    """Tries some edits of a crate. Returns a line for each, how many were refused, and what rt printed if it did not tell of each."""
+    copy = copies.get()
+    there = os.path.join(copy, "crates", crate, "must-fail")
     os.makedirs(there)
-    for edit in edits_of(crate):
+    for edit in edits:
         shutil.copy(os.path.join(BODIES, crate, f"{edit}.edit"), there)
     ran = subprocess.run(
         ["rt", "must-fail", crate],
-        cwd=folder,
+        cwd=copy,
         stdin=subprocess.DEVNULL,
         stdout=subprocess.PIPE,
         stderr=subprocess.STDOUT,
         encoding="utf-8",
         errors="replace",
     )
+    shutil.rmtree(there)
     found = {name: (verdict, rest) for name, verdict, rest in VERDICT.findall(ran.stdout)}
-    for edit in edits_of(crate):
+    lines = []
+    for edit in edits:
         verdict, rest = found.get(edit, ("NOT TRIED", ": rt said nothing of it"))
         # (a refusal says where; the rest says why there is none, or why it tells little)
         told = "" if verdict == REFUSED and not rest.startswith(", as it must be (") else rest
-        print(f"{crate}/{edit}: {verdict}{told}", flush=True)
-    if len(found) < len(edits_of(crate)):
-        print(ran.stdout.rstrip(), file=sys.stderr)
-    shutil.rmtree(there)
-    return sum(verdict == REFUSED for verdict, _ in found.values())
+        lines.append(f"{crate}/{edit}: {verdict}{told}")
+    refused = sum(verdict == REFUSED for verdict, _ in found.values())
+    return lines, refused, "" if len(found) == len(edits) else ran.stdout.rstrip()
+
+
+def try_all(crates, jobs):
+    """Tries the edits of some crates, `jobs` calls of rt at a time. Prints a line for each edit, and returns how many were refused."""
+    total = 0
+    with tempfile.TemporaryDirectory(prefix="wrong-bodies-") as folder:
+        copies = Copies(folder)
+        with concurrent.futures.ThreadPoolExecutor(jobs) as pool:
+            asked = []
+            for crate in sorted(crates, key=lambda name: -len(edits_of(name))):
+                edits = edits_of(crate)
+                for at in range(0, len(edits), IN_A_ROW):
+                    asked.append(pool.submit(try_edits, crate, edits[at : at + IN_A_ROW], copies))
+            for done in concurrent.futures.as_completed(asked):
+                lines, refused, wrong = done.result()
+                print("\n".join(lines), flush=True)
+                if wrong:
+                    print(wrong, file=sys.stderr)
+                total += refused
+    return total
 
 
 def main():
@@ -121,16 +162,15 @@ def main():
     if shutil.which("rt") is None:
         print("rt is not there: the Rattle kit is needed", file=sys.stderr)
         return 2
-    if asked.jobs is not None:
-        if asked.jobs < 1:
-            parser.error("--jobs takes a number above 0")
+    jobs = asked.jobs
+    if jobs is None:
+        jobs = len(os.sched_getaffinity(0))
+    elif jobs < 1:
+        parser.error("--jobs takes a number above 0")
+    else:
         # rt uses the processors that it is given
-        os.sched_setaffinity(0, sorted(os.sched_getaffinity(0))[: asked.jobs])
-    refused = 0
-    with tempfile.TemporaryDirectory(prefix="wrong-bodies-") as folder:
-        copy_repository(folder)
-        for crate in crates:
-            refused += try_crate(crate, folder)
+        os.sched_setaffinity(0, sorted(os.sched_getaffinity(0))[:jobs])
+    refused = try_all(crates, jobs)
     total = sum(len(edits_of(crate)) for crate in crates)
     print(f"{total} wrong bodies: {refused} refused, {total - refused} not")
     return 0 if refused == total else 1

@@ -38,7 +38,7 @@ void __wrap_free(void *at) {
 
 static long refused;
 
-/* An answer, after one more call where memory was wanting. */
+/* An answer, after one more call where memory ran out. */
 #define ONCE_MORE(call)                                                        \
   do {                                                                         \
     int32_t answer = (call);                                                   \
@@ -137,7 +137,7 @@ int main(void) {
     total += refused;
   }
   SAME(total > 0, 1);
-  printf("failing: %ld allocations, %ld answers for want of memory\n",
+  printf("failing: %ld allocations, %ld answers for lack of memory\n",
          allocations, total);
   return 0;
 }

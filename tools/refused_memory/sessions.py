@@ -7,6 +7,7 @@ PROGRAM is streampair linked with allocator.c. The sessions are those of the fil
 and one of 100 steps for each seed from FIRST to LAST. A step that names want of memory is asked again, and the replies
 are held against those of ample memory. The status is 0 where every run is as docs/hostile.md says.
 """
+import bisect
 import collections
 import os
 import random
@@ -24,6 +25,35 @@ FIELDS = {0x04: 3, 0x05: 2, 0x10: 1, 0x11: 2, 0x12: 1, 0x13: 1, 0x14: 1, 0x15: 2
 OTHER = {"a": "b", "b": "a"}
 # A report that ran out of memory is asked again; one of the other kind is refused then, and changes nothing.
 OTHER_REPORT = {"lose": "ack", "ack": "lose"}
+# How many requests for memory a step of each kind makes at most, with those to read its line and to print its reply, and
+# how many more for each part of it: a chunk that is offered or read, or a frame that is sent. A step that makes more takes
+# memory that it does not need, or needs more than it did when these were counted.
+MOST_REQUESTS = {
+    "accept": (4, 0),
+    "ack": (8, 0),
+    "chunks": (11, 4),
+    "deliver": (13, 0),
+    "early": (19, 0),
+    "early-accept": (5, 0),
+    "early-reject": (3, 0),
+    "emit": (9, 2),
+    "finish": (5, 0),
+    "lose": (8, 0),
+    "max-concurrent": (7, 0),
+    "open": (7, 0),
+    "poll": (4, 0),
+    "priority": (4, 0),
+    "read": (9, 2),
+    "receive-window": (4, 0),
+    "received-reset": (3, 0),
+    "reset": (5, 0),
+    "retry": (4, 0),
+    "send-window": (4, 0),
+    "stop": (9, 0),
+    "write": (15, 0),
+}
+# A step that is refused for one of these reasons says so, though memory for it was refused too.
+OTHER_REASON = re.compile(r"closed|stopped")
 NAMES_WANT = re.compile(r"\b(OutOfMemory|memory|CompactionMemory)\b")
 Frame = collections.namedtuple("Frame", "kind id offset data fin")
 
@@ -240,6 +270,22 @@ def moved(lines, ample, at, reply):
     return new, places
 
 
+def parts_of(line, reply):
+    """How many chunks a step offers or reads, or frames it sends."""
+    verb = line.split()[0]
+    if verb == "chunks":
+        return line.count(",") + 1
+    if verb == "emit" and reply.startswith("payload"):
+        return len(frames_of(reply.split()[2]))
+    return reply.count(":") if verb == "read" else 0
+
+
+def most_requests(line, reply):
+    """How many requests for memory a step may make."""
+    least, for_each = MOST_REQUESTS[line.split()[0]]
+    return least + for_each * parts_of(line, reply)
+
+
 def asked_again(line, reply):
     """Returns the line that asks for what the reply lacks."""
     words = line.split()
@@ -257,13 +303,27 @@ class Check:
         self.tally.update(sessions=1, lines=len(lines))
         if status or any(map(NAMES_WANT.search, ample)):
             self.wrong.append(f"{name}: ample memory: status {status}, or a reply names want of memory")
+        made = self.requests_up_to(lines)
+        self.wrong += [f"{name}: {why}" for why in self.needless(lines, ample, made)]
         for refused in range(1, requests + 1):
             self.tally["runs"] += 1
-            why = self.refused(lines, ample, refused)
+            why = self.refused(lines, ample, refused, made)
             if why:
                 self.wrong.append(f"{name}, request {refused}: {why}")
 
-    def refused(self, lines, ample, refused):
+    def requests_up_to(self, lines):
+        """Returns for each line how many requests for memory there were once it was answered."""
+        return [self.program.run(lines[: at + 1])[1] for at in range(len(lines))]
+
+    def needless(self, lines, ample, made):
+        """Says which steps ask for memory more often than they need it."""
+        for at in range(2, len(lines)):
+            most, found = most_requests(lines[at], ample[at]), made[at] - made[at - 1]
+            self.tally["steps whose requests were counted"] += 1
+            if found > most:
+                yield f"line {at + 1}, {lines[at][:60]}: {found} requests for memory, at most {most} are needed"
+
+    def refused(self, lines, ample, refused, made):
         """Returns what is wrong where this request is refused, if anything is."""
         status, _, replies = self.program.run(lines, refused)
         named = [at for at, it in enumerate(replies) if NAMES_WANT.search(it)]
@@ -275,8 +335,14 @@ class Check:
         if status == 1 and not named:
             self.tally["outside a step"] += 1
             return None
+        if replies == ample and OTHER_REASON.match([*ample, ""][bisect.bisect_left(made, refused)]):
+            self.tally["in a step that is refused for another reason"] += 1
+            return None
         if status == 1 and replies[1:] == ["refused 5 OutOfMemory"]:
             self.tally["at the second line"] += 1
+            return None
+        if status == 1 and lines[2].startswith("early") and replies[2:] == ["refused 5 OutOfMemory"]:
+            self.tally["at the third line"] += 1
             return None
         if status or not named:
             return f"status {status}, and {len(named)} replies name want of memory"
