@@ -1,7 +1,7 @@
 use std::error::Error;
 use std::fmt;
 
-/// There was no memory. Nothing changed, where nothing else is said.
+/// Out of memory. Where nothing else is said, nothing changed.
 #[derive(Clone, Copy, Debug, PartialEq, Eq)]
 pub struct OutOfMemory;
 
@@ -18,7 +18,7 @@ impl Error for OutOfMemory {}
 pub struct TransportError {
     /// The code for CONNECTION_CLOSE.
     pub code: u64,
-    /// What happened, for a reader.
+    /// What happened, as a text for people.
     pub reason: String,
 }
 
@@ -59,11 +59,12 @@ macro_rules! errors {
 }
 
 errors! {
-    /// Why an end was not made.
+    /// Why an end was not made, or a setting of it was not changed.
     ConfigError {
-        /// A number is above its bound: 2^60 for counts of streams, 2^62 - 1 for windows.
+        /// A number is above its bound: 2^60 for the counts of streams of a [`Config`](crate::Config), 2^62 - 1 for receive
+        /// windows, the peer's limits and the count of [`set_max_concurrent`](crate::StreamsState::set_max_concurrent).
         OutOfRange => "a number is above its bound",
-        /// There was no memory.
+        /// Out of memory.
         OutOfMemory => "out of memory",
     }
 }
@@ -71,13 +72,13 @@ errors! {
 errors! {
     /// Why nothing was written.
     WriteError {
-        /// A limit of the peer or of the connection leaves no room: [`Event::Writable`](crate::Event::Writable) follows.
+        /// A limit of the peer or the send window leaves no room: [`Event::Writable`](crate::Event::Writable) follows.
         Blocked => "unable to accept further writes",
-        /// The peer asked to send no more, with this code.
+        /// The peer sent STOP_SENDING with this code.
         Stopped(u64) => "stopped by peer: code",
-        /// The stream was finished or reset, or was not given.
+        /// The stream was finished or reset, or was neither opened nor accepted.
         ClosedStream => "closed stream",
-        /// There was no memory.
+        /// Out of memory.
         OutOfMemory => "out of memory",
     }
 }
@@ -85,11 +86,11 @@ errors! {
 errors! {
     /// Why a stream was not finished.
     FinishError {
-        /// The peer asked to send no more, with this code.
+        /// The peer sent STOP_SENDING with this code.
         Stopped(u64) => "stopped by peer: code",
-        /// The stream was finished or reset, or was not given.
+        /// The stream was finished or reset, or was neither opened nor accepted.
         ClosedStream => "closed stream",
-        /// There was no memory.
+        /// Out of memory.
         OutOfMemory => "out of memory",
     }
 }
@@ -97,11 +98,11 @@ errors! {
 errors! {
     /// Why a call on a stream was refused.
     StreamError {
-        /// The half is closed, or the stream was not given.
+        /// This side of the stream is closed, or the stream was neither opened nor accepted.
         ClosedStream => "closed stream",
-        /// A code of the application is 2^62 or more.
+        /// An application error code is 2^62 or more.
         OutOfRange => "a number is above its bound",
-        /// There was no memory.
+        /// Out of memory.
         OutOfMemory => "out of memory",
     }
 }
@@ -109,25 +110,25 @@ errors! {
 errors! {
     /// Why nothing was read.
     ReadError {
-        /// Nothing is at hand: [`Event::Readable`](crate::Event::Readable) follows.
+        /// Nothing is available now: [`Event::Readable`](crate::Event::Readable) follows.
         Blocked => "blocked",
-        /// The peer gave the stream up, with this code.
+        /// The peer reset the stream with this code.
         Reset(u64) => "reset by peer: code",
-        /// The half is closed, or the stream was not given.
+        /// The receive side is closed, or the stream was neither opened nor accepted.
         ClosedStream => "closed stream",
-        /// The stream was read as bytes came before.
+        /// An ordered read after an unordered one.
         IllegalOrderedRead => "ordered read after unordered read",
-        /// There was no memory.
+        /// Out of memory.
         OutOfMemory => "out of memory",
     }
 }
 
 errors! {
-    /// Why a payload of the peer was not taken to its end.
+    /// Why a payload or a frame of the peer was not taken, or not to its end.
     ReceiveError {
-        /// The connection is to be closed.
+        /// The connection has to be closed with this error.
         Transport(TransportError) => "the peer broke the protocol:",
-        /// There was no memory: call again from this frame on, or drop the packet.
+        /// Out of memory: call again from this frame on, or drop the packet.
         OutOfMemory(usize) => "out of memory at frame",
     }
 }
@@ -135,9 +136,9 @@ errors! {
 errors! {
     /// Why a payload was not settled.
     SettleError {
-        /// It was settled, or was never written.
+        /// The payload was settled already, or was never written.
         UnknownToken => "no such payload",
-        /// There was no memory: call again for the rest.
+        /// Out of memory: call again for the rest.
         OutOfMemory => "out of memory",
     }
 }
@@ -147,11 +148,11 @@ errors! {
     SendDatagramError {
         /// Datagrams are off, here or at the peer.
         Disabled => "datagrams are off",
-        /// It is too long.
+        /// The datagram is too long.
         TooLarge => "datagram too large",
-        /// Others wait, and leave no room.
+        /// Other datagrams wait, and leave no room.
         Blocked => "datagram send blocked",
-        /// There was no memory.
+        /// Out of memory.
         OutOfMemory => "out of memory",
     }
 }

@@ -1,4 +1,4 @@
-//! Single frames of the peer, for a host that reads frames itself.
+//! Single frames of the peer, for a host that decodes frames itself.
 
 use crate::errors::{ReceiveError, TransportError};
 use crate::state::StreamsState;
@@ -16,7 +16,7 @@ pub(crate) fn transport_error(error: &sys::Error) -> TransportError {
     }
 }
 
-// The answer of a call that takes one frame.
+// The result of a call that takes one frame.
 fn taken(answer: i32, error: &sys::Error) -> Result<(), ReceiveError> {
     match answer {
         sys::OK => Ok(()),
@@ -29,13 +29,13 @@ fn taken(answer: i32, error: &sys::Error) -> Result<(), ReceiveError> {
     }
 }
 
-/// Frames that the host decoded, one each, with the fields of RFC 9000 section 19.
+/// Frames that the host decoded: one call for each frame, with the fields of RFC 9000 section 19.
 ///
 /// A number above its bound, which no decoder gives, is a [`ReceiveError::Transport`] with FRAME_ENCODING_ERROR.
-/// [`ReceiveError::OutOfMemory`] is of frame 0: the frame was not taken, and may be handed in again.
+/// [`ReceiveError::OutOfMemory`] names frame 0: the frame was not taken, and may be handed in again.
 impl StreamsState {
-    /// STREAM (section 19.8). `payload_len` is the length of the memory in which the data came, by which many small
-    /// frames are kept from holding much memory; the length of `data`, if less, counts.
+    /// STREAM (section 19.8). `payload_len` is the length of the memory in which the data came. It is counted so that many
+    /// small frames cannot hold much memory; the length of `data` counts, if `payload_len` is less.
     pub fn on_stream(
         &mut self,
         id: StreamId,

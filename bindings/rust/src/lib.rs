@@ -1,9 +1,9 @@
-//! The streams and datagrams of one end of a QUIC connection (RFC 9000 sections 2 to 4, 13.3 and 19; RFC 9221), over the
-//! library for C of the same repository.
+//! The streams and datagrams of one end of a QUIC connection (RFC 9000 sections 2 to 4, 13.3 and 19; RFC 9221), for a host
+//! that has packets, loss detection, encryption and sockets of its own. This crate calls the library for C of the same
+//! repository.
 //!
-//! There are no packets here, no loss detection, no encryption and no sockets: those are the host's. It hands in the
-//! payloads that came ([`StreamsState::receive`]), has payloads written for the packets that it sends
-//! ([`StreamsState::emit`]), and says of each once whether it was acknowledged or lost ([`StreamsState::acked`],
+//! The host hands in the payloads that came ([`StreamsState::receive`]), has payloads written for the packets that it sends
+//! ([`StreamsState::emit`]), and reports each of these once, as acknowledged or lost ([`StreamsState::acked`],
 //! [`StreamsState::lost`]).
 //!
 //! ```

@@ -7,13 +7,13 @@ use std::fmt;
 use std::ptr::{null, null_mut};
 use std::slice::from_raw_parts;
 
-/// One end of a connection: its streams, its datagrams, and the payloads that it sent and has not heard of.
+/// One end of a connection: its streams, its datagrams, and its payloads in flight.
 pub struct StreamsState {
     pub(crate) conn: sys::Conn,
 }
 
-// The session behind the handle has no state that is shared with another, or that belongs to a thread; a call needs
-// `&mut`, so no two run at once.
+// The session behind the handle shares no state with another session, and has none that belongs to a thread. A call needs
+// `&mut`, so no two calls run at once.
 unsafe impl Send for StreamsState {}
 
 impl Drop for StreamsState {
@@ -32,7 +32,7 @@ pub(crate) fn number(value: Option<u64>) -> u64 {
     value.unwrap_or(sys::NONE)
 }
 
-// The answer of a call that wants memory alone.
+// The result of a call whose only error is out of memory.
 fn memory(answer: i32) -> Result<(), OutOfMemory> {
     match answer {
         sys::OK => Ok(()),
@@ -41,8 +41,8 @@ fn memory(answer: i32) -> Result<(), OutOfMemory> {
 }
 
 impl StreamsState {
-    /// An end of which no stream is open, and that has nothing to send. Nothing may be sent until the peer's limits are
-    /// given by [`StreamsState::set_params`].
+    /// Makes an end with no open stream and nothing to send. Nothing may be sent until the peer's limits are set by
+    /// [`StreamsState::set_params`].
     pub fn new(side: Side, config: &Config) -> Result<Self, ConfigError> {
         let raw = sys::Config {
             size: std::mem::size_of::<sys::Config>() as u32,
@@ -71,9 +71,9 @@ impl StreamsState {
         }
     }
 
-    /// Takes the limits of the peer's transport parameters. For an early start (0-RTT) these are first the remembered
-    /// ones. Each open stream of this end gets its new limit, with an event where it can be written on again. Where memory
-    /// is wanting nothing changes; none is wanted where this end opened no stream.
+    /// Sets the limits of the peer's transport parameters. For 0-RTT, call it first with the remembered limits. Each open
+    /// stream of this end gets its new limit, with an event where it can be written on again. Out of memory, nothing
+    /// changes; no memory is needed where this end opened no stream.
     pub fn set_params(&mut self, limits: &Limits) -> Result<(), ConfigError> {
         let raw = sys::PeerLimits {
             initial_max_data: limits.initial_max_data,
@@ -91,12 +91,13 @@ impl StreamsState {
         }
     }
 
-    /// The connection is closed: no stream is opened and nothing is written any more. What was received can be read.
+    /// To be called once the connection is closed: no stream is opened and nothing is written any more. What was received
+    /// can be read.
     pub fn close(&mut self) {
         unsafe { sys::qs_conn_close(&mut self.conn) };
     }
 
-    /// Opens the next stream of a direction. `None`: as many were opened as the peer permits.
+    /// Opens the next stream of a direction. `None`: as many were opened as the peer permits, or the connection is closed.
     pub fn open(&mut self, dir: Dir) -> Result<Option<StreamId>, OutOfMemory> {
         let mut id = 0;
         match unsafe { sys::qs_stream_open(&mut self.conn, dir.number(), &mut id) } {
@@ -106,7 +107,7 @@ impl StreamsState {
         }
     }
 
-    /// Accepts the next stream of a direction that the peer opened, in the order of their ids.
+    /// Accepts the next stream of a direction that the peer opened, in the order of their ids. `None`: none waits.
     pub fn accept(&mut self, dir: Dir) -> Option<StreamId> {
         let mut id = 0;
         match unsafe { sys::qs_stream_accept(&mut self.conn, dir.number(), &mut id) } {
@@ -115,17 +116,17 @@ impl StreamsState {
         }
     }
 
-    /// The send half of a stream.
+    /// The send side of a stream.
     pub fn send_stream(&mut self, id: StreamId) -> SendStream<'_> {
         SendStream { state: self, id }
     }
 
-    /// The receive half of a stream.
+    /// The receive side of a stream.
     pub fn recv_stream(&mut self, id: StreamId) -> RecvStream<'_> {
         RecvStream { state: self, id }
     }
 
-    /// What the application is to be told next, if there is something.
+    /// Takes the next event for the application, if there is one.
     pub fn poll(&mut self) -> Option<Event> {
         let mut event = sys::Event::default();
         match unsafe { sys::qs_poll(&mut self.conn, &mut event) } {
@@ -139,7 +140,7 @@ impl StreamsState {
         self.receive_from(payload, 0)
     }
 
-    /// The same from a frame on, where memory was wanting for it before.
+    /// The same from frame `first` on, for a payload of which an earlier call ran out of memory at that frame.
     pub fn receive_from(&mut self, payload: &[u8], first: usize) -> Result<(), ReceiveError> {
         let (mut next, mut error) = (first, sys::Error::none());
         let (data, len) = (payload.as_ptr(), payload.len());
@@ -177,8 +178,8 @@ impl StreamsState {
         }
     }
 
-    /// Writes what is due into memory of the library, at most `max_size` bytes, which saves a copy to who copies or encrypts
-    /// them elsewhere. `None` where nothing that is due fits.
+    /// Writes what is due into memory of the library, at most `max_size` bytes. This saves a copy where the host copies or
+    /// encrypts the bytes to another place anyway. `None` where nothing that is due fits.
     ///
     /// ```
     /// # use quic_streams::{Config, Dir, Emit, Limits, Side, StreamsState};
@@ -217,7 +218,7 @@ impl StreamsState {
             )
         };
         match answer {
-            // The bytes stay until the next call on the handle, which wants `&mut self`.
+            // The bytes stay until the next call on the handle, which needs `&mut self`.
             sys::OK => Ok(Some(Lent {
                 bytes: unsafe { from_raw_parts(data, payload.len as usize) },
                 token: Token(payload.token),
@@ -253,34 +254,34 @@ impl StreamsState {
         }
     }
 
-    /// The packet of a payload was acknowledged.
+    /// Reports that the packet of a payload was acknowledged.
     pub fn acked(&mut self, token: Token) -> Result<(), SettleError> {
         settled(unsafe { sys::qs_acked(&mut self.conn, token.0) })
     }
 
-    /// The packet of a payload is taken to be lost.
+    /// Reports that the packet of a payload is taken to be lost.
     pub fn lost(&mut self, token: Token) -> Result<(), SettleError> {
         settled(unsafe { sys::qs_lost(&mut self.conn, token.0) })
     }
 
-    /// The peer rejected the early start of a client (RFC 9001 section 4.6.2): its streams are gone, as is all that was
-    /// sent and was to be sent. Give the peer's limits next.
+    /// The server rejected the 0-RTT of a client (RFC 9001 section 4.6.2). The client's streams are gone, with all that was
+    /// sent and was to be sent. Tokens of earlier payloads are gone too. Set the peer's limits next.
     pub fn zero_rtt_rejected(&mut self) {
         unsafe { sys::qs_zero_rtt_rejected(&mut self.conn) };
     }
 
-    /// All data of an early start are to be sent again, as after a Retry (RFC 9000 section 17.2.5). Control frames
-    /// are those of payloads: report these lost.
+    /// All data that was sent in 0-RTT has to be sent again, as after a Retry (RFC 9000 section 17.2.5). This call does not
+    /// cover control frames: report the payloads lost. Meant for a time at which nothing was acknowledged.
     pub fn retransmit_all_for_0rtt(&mut self) -> Result<(), OutOfMemory> {
         memory(unsafe { sys::qs_retransmit_all_for_0rtt(&mut self.conn) })
     }
 
-    /// Sets how many bytes that were written are kept until they are acknowledged.
+    /// Sets how many written bytes are kept at most until they are acknowledged.
     pub fn set_send_window(&mut self, window: u64) {
         unsafe { sys::qs_set_send_window(&mut self.conn, window) };
     }
 
-    /// Sets how many bytes of all streams may be received and not read, below 2^62.
+    /// Sets how many bytes of all streams together may be received and not read, below 2^62.
     pub fn set_receive_window(&mut self, window: u64) -> Result<(), ConfigError> {
         match unsafe { sys::qs_set_receive_window(&mut self.conn, window) } {
             sys::OK => Ok(()),
@@ -288,7 +289,7 @@ impl StreamsState {
         }
     }
 
-    /// Sets how many streams of a direction the peer is to be able to use at a time, below 2^62.
+    /// Sets how many streams of a direction the peer may use at a time, below 2^62.
     pub fn set_max_concurrent(&mut self, dir: Dir, count: u64) -> Result<(), ConfigError> {
         match unsafe { sys::qs_set_max_concurrent(&mut self.conn, dir.number(), count) } {
             sys::OK => Ok(()),
@@ -297,7 +298,7 @@ impl StreamsState {
         }
     }
 
-    /// What the end tells of itself.
+    /// The state of this end.
     pub fn info(&mut self) -> Info {
         let mut raw = sys::Info::default();
         unsafe { sys::qs_get_info(&mut self.conn, &mut raw) };
@@ -314,7 +315,7 @@ impl StreamsState {
         }
     }
 
-    /// Queues a datagram. With `drop` the oldest that wait go until it fits.
+    /// Queues a datagram. With `drop`, the oldest waiting datagrams are dropped until it fits.
     pub fn send_datagram(&mut self, data: &[u8], drop: bool) -> Result<(), SendDatagramError> {
         let (at, len) = (data.as_ptr(), data.len());
         match unsafe { sys::qs_datagram_send(&mut self.conn, at, len, u32::from(drop)) } {
@@ -326,7 +327,7 @@ impl StreamsState {
         }
     }
 
-    /// Takes the oldest received datagram out, if one waits.
+    /// Takes the oldest received datagram, if one waits.
     pub fn recv_datagram(&mut self) -> Option<Vec<u8>> {
         let mut data = Vec::new();
         loop {
@@ -343,7 +344,7 @@ impl StreamsState {
         }
     }
 
-    /// The longest datagram that can be sent, or `None` where the peer takes none.
+    /// The length of the longest datagram that can be sent, or `None` where the peer takes none.
     pub fn max_datagram_size(&mut self) -> Option<usize> {
         let mut size = 0;
         match unsafe { sys::qs_datagram_max_size(&mut self.conn, &mut size) } {
@@ -352,20 +353,21 @@ impl StreamsState {
         }
     }
 
-    /// The longest datagram that can be queued now without a drop.
+    /// The length of the longest datagram that can be queued now without dropping another.
     pub fn datagram_send_buffer_space(&mut self) -> usize {
         let mut size = 0;
         unsafe { sys::qs_datagram_send_space(&mut self.conn, &mut size) };
         size
     }
 
-    /// Sets the longest datagram that the path and the peer take, and drops those that wait and are longer.
+    /// Sets the length of the longest datagram that the path and the peer take, or `None` where the peer takes none, and
+    /// drops longer ones that wait.
     pub fn set_max_datagram_size(&mut self, size: Option<u64>) {
         unsafe { sys::qs_datagram_set_max_size(&mut self.conn, number(size)) };
     }
 }
 
-// The answer of a report.
+// The result of a report.
 fn settled(answer: i32) -> Result<(), SettleError> {
     match answer {
         sys::OK => Ok(()),

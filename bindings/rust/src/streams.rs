@@ -3,7 +3,7 @@ use crate::state::StreamsState;
 use crate::sys;
 use crate::values::StreamId;
 
-// The answer of a call on a stream.
+// The result of a call on a stream.
 fn answered(answer: i32) -> Result<(), StreamError> {
     match answer {
         sys::OK => Ok(()),
@@ -24,7 +24,7 @@ fn read_error(answer: i32, code: u64) -> ReadError {
     }
 }
 
-/// The send half of a stream.
+/// The send side of a stream.
 #[derive(Debug)]
 pub struct SendStream<'a> {
     pub(crate) state: &'a mut StreamsState,
@@ -32,8 +32,8 @@ pub struct SendStream<'a> {
 }
 
 impl SendStream<'_> {
-    /// Writes the first of `data`, and says how many: the least of what there is and of what the limits of the peer and
-    /// the send window leave.
+    /// Writes the first bytes of `data`, and returns how many: all, or as many as the peer's limits and the send window
+    /// leave, where that is less.
     pub fn write(&mut self, data: &[u8]) -> Result<usize, WriteError> {
         let (mut written, mut code) = (0, 0);
         let answer = unsafe {
@@ -55,7 +55,7 @@ impl SendStream<'_> {
         }
     }
 
-    /// Ends the stream: nothing more is written, and its end is sent.
+    /// Finishes the stream: nothing more is written, and its end (FIN) is sent.
     pub fn finish(&mut self) -> Result<(), FinishError> {
         let mut code = 0;
         match unsafe { sys::qs_stream_finish(&mut self.state.conn, self.id.0, &mut code) } {
@@ -66,12 +66,12 @@ impl SendStream<'_> {
         }
     }
 
-    /// Gives the stream up: what was not acknowledged is let go, and RESET_STREAM is sent.
+    /// Resets the stream: what was not acknowledged is dropped, and RESET_STREAM is sent.
     pub fn reset(&mut self, error_code: u64) -> Result<(), StreamError> {
         answered(unsafe { sys::qs_stream_reset(&mut self.state.conn, self.id.0, error_code) })
     }
 
-    /// The code with which the peer asked to send no more, if it did.
+    /// The code of the peer's STOP_SENDING, if one came.
     pub fn stopped(&mut self) -> Result<Option<u64>, StreamError> {
         let mut code = 0;
         match unsafe { sys::qs_stream_stopped(&mut self.state.conn, self.id.0, &mut code) } {
@@ -81,7 +81,7 @@ impl SendStream<'_> {
         }
     }
 
-    /// Sets the priority of the stream: those of a higher number are sent on first. It is 0 at first.
+    /// Sets the priority of the stream: streams with a higher number are sent first. It is 0 at first.
     pub fn set_priority(&mut self, priority: i32) -> Result<(), StreamError> {
         answered(unsafe { sys::qs_stream_set_priority(&mut self.state.conn, self.id.0, priority) })
     }
@@ -96,7 +96,7 @@ impl SendStream<'_> {
     }
 }
 
-/// Bytes that a read gave, and where they stand in the stream.
+/// Bytes that a read gave, and their offset in the stream.
 #[derive(Clone, Debug, PartialEq, Eq)]
 pub struct Chunk {
     /// The offset of the first byte.
@@ -108,26 +108,26 @@ pub struct Chunk {
 /// What follows the bytes that a read gave.
 #[derive(Clone, Copy, Debug, PartialEq, Eq)]
 pub enum Next {
-    /// More may be at hand.
+    /// More may be available.
     More,
-    /// Nothing more is at hand now; [`Event::Readable`](crate::Event::Readable) follows.
+    /// Nothing more is available now; [`Event::Readable`](crate::Event::Readable) follows.
     Blocked,
-    /// Nothing more comes, and the half is closed.
+    /// Nothing more comes, and the receive side is closed.
     Finished,
 }
 
 /// What [`RecvStream::read_many`] put into a buffer.
 #[derive(Clone, Copy, Debug, PartialEq, Eq)]
 pub struct ReadMany {
-    /// How many bytes, 0 or more.
+    /// How many bytes; may be 0.
     pub count: usize,
-    /// The offset of the first, where there are any.
+    /// The offset of the first byte, where there are any.
     pub offset: u64,
     /// What follows them.
     pub next: Next,
 }
 
-/// The receive half of a stream.
+/// The receive side of a stream.
 #[derive(Debug)]
 pub struct RecvStream<'a> {
     pub(crate) state: &'a mut StreamsState,
@@ -135,8 +135,8 @@ pub struct RecvStream<'a> {
 }
 
 impl<'a> RecvStream<'a> {
-    /// Reads the next bytes in order into `out`, which may not be empty, and says how many, at least one. `None` at the
-    /// end of the stream. More may be at hand afterwards, until this is [`ReadError::Blocked`].
+    /// Reads the next bytes in order into `out`, which may not be empty, and returns how many, at least one. `None` at the
+    /// end of the stream. More may be available afterwards, until this is [`ReadError::Blocked`].
     ///
     /// # Panics
     ///
@@ -146,8 +146,9 @@ impl<'a> RecvStream<'a> {
         Ok(self.read_at(out, true)?.map(|(count, _)| count))
     }
 
-    /// Reads the next bytes into `out`, which may not be empty, in order or as they came. Says how many they are, at least
-    /// one, and the offset of the first. `None` at the end of the stream. There is no way back from unordered reads.
+    /// Reads the next bytes into `out`, which may not be empty, in order or as they came. Returns how many, at least one, and
+    /// the offset of the first. `None` at the end of the stream. After an unordered read, an ordered one is
+    /// [`ReadError::IllegalOrderedRead`].
     ///
     /// # Panics
     ///
@@ -161,8 +162,8 @@ impl<'a> RecvStream<'a> {
         self.read_at(out, ordered)
     }
 
-    /// Reads the next bytes in order into `out`, which may not be empty, those of several frames in one call, and says
-    /// with them whether more may come.
+    /// Reads the next bytes in order into `out`, which may not be empty, those of several frames in one call. Returns with
+    /// them whether more may come.
     ///
     /// ```
     /// # use quic_streams::{Config, Dir, Emit, Limits, Next, Side, StreamsState};
@@ -210,7 +211,8 @@ impl<'a> RecvStream<'a> {
         })
     }
 
-    /// The chunks of the stream, in order or as they came. There is no way back from unordered reads.
+    /// The chunks of the stream, in order or as they came. After an unordered read, an ordered one is
+    /// [`ReadError::IllegalOrderedRead`].
     ///
     /// ```
     /// # use quic_streams::{Config, Dir, Emit, Limits, ReadError, Side, StreamsState};
@@ -241,12 +243,12 @@ impl<'a> RecvStream<'a> {
         }
     }
 
-    /// Asks the peer to send no more, and lets go what was not read.
+    /// Asks the peer to send no more (STOP_SENDING), and drops what was not read.
     pub fn stop(&mut self, error_code: u64) -> Result<(), StreamError> {
         answered(unsafe { sys::qs_stream_stop(&mut self.state.conn, self.id.0, error_code) })
     }
 
-    /// The code with which the peer gave the stream up, if it did. Then the half is closed.
+    /// The code with which the peer reset the stream, if it did. Then the receive side is closed.
     pub fn received_reset(&mut self) -> Result<Option<u64>, StreamError> {
         let mut code = 0;
         let answer =
@@ -258,7 +260,7 @@ impl<'a> RecvStream<'a> {
         }
     }
 
-    // How many bytes were read, and where they stand.
+    // How many bytes were read, and the offset of the first.
     fn read_at(
         &mut self,
         out: &mut [u8],
@@ -290,8 +292,8 @@ pub struct Chunks<'a, 'b> {
 }
 
 impl Chunks<'_, '_> {
-    /// The next chunk, of at most `max_length` bytes, at least 1 and at most 65536 counted. `None` at the end of the
-    /// stream.
+    /// The next chunk, of at most `max_length` bytes. A `max_length` of 0 counts as 1, one above 65536 as 65536. `None` at
+    /// the end of the stream.
     #[allow(clippy::should_implement_trait)]
     pub fn next(&mut self, max_length: usize) -> Result<Option<Chunk>, ReadError> {
         let mut bytes = vec![0; max_length.clamp(1, 1 << 16)];

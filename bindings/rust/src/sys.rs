@@ -21,7 +21,7 @@ pub const DATAGRAMS_OFF: i32 = -13;
 pub const TOO_LARGE: i32 = -14;
 pub const TOO_SMALL: i32 = -15;
 
-/// No number: datagrams are off.
+/// `QS_NONE`: no number, so datagrams are off.
 pub const NONE: u64 = u64::MAX;
 
 #[repr(C)]

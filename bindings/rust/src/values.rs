@@ -6,16 +6,16 @@ use std::fmt;
 pub enum Side {
     /// The end that opened the connection.
     Client,
-    /// The other.
+    /// The other end.
     Server,
 }
 
 /// Whether a stream carries data both ways.
 #[derive(Clone, Copy, Debug, PartialEq, Eq, Hash)]
 pub enum Dir {
-    /// Data flow both ways.
+    /// Bidirectional: data flows both ways.
     Bi,
-    /// Data flow from the initiator alone.
+    /// Unidirectional: data flows from the initiator alone.
     Uni,
 }
 
@@ -36,12 +36,12 @@ impl Dir {
     }
 }
 
-/// The number of a stream, below 2^62 (RFC 9000 section 2.1).
+/// The id of a stream, below 2^62 (RFC 9000 section 2.1).
 #[derive(Clone, Copy, Debug, PartialEq, Eq, PartialOrd, Ord, Hash)]
 pub struct StreamId(pub u64);
 
 impl StreamId {
-    /// Which end opened the stream, or is to open it.
+    /// Which end opens the stream.
     pub fn initiator(self) -> Side {
         if self.0 & 1 == 0 {
             Side::Client
@@ -55,7 +55,7 @@ impl StreamId {
         Dir::of((self.0 >> 1 & 1) as u32)
     }
 
-    /// How many streams of its initiator and direction come before it.
+    /// How many streams of its initiator and direction have a lower id.
     pub fn index(self) -> u64 {
         self.0 >> 2
     }
@@ -75,28 +75,28 @@ impl fmt::Display for StreamId {
     }
 }
 
-/// What an end begins with.
+/// The configuration of an end.
 #[derive(Clone, Copy, Debug, PartialEq, Eq)]
 pub struct Config {
-    /// How many unidirectional streams the peer may open at first, at most 2^60. Room is made for all at once.
+    /// How many unidirectional streams the peer may open at first, at most 2^60. Memory is taken for all at once.
     pub max_remote_uni: u64,
-    /// The same of bidirectional streams.
+    /// The same for bidirectional streams.
     pub max_remote_bi: u64,
-    /// How many bytes that were written are kept at most until they are acknowledged.
+    /// How many written bytes are kept at most until they are acknowledged.
     pub send_window: u64,
-    /// How many bytes of all streams may be received and not read, below 2^62.
+    /// How many bytes of all streams together may be received and not read, below 2^62.
     pub receive_window: u64,
-    /// The same of each stream.
+    /// The same for each stream.
     pub stream_window: u64,
-    /// How many bytes of datagrams may be received and not read, 32 counted for each beside its length, or `None` where
-    /// the peer may send none.
+    /// How many bytes of datagrams may be received and not read; each counts 32 bytes more than its length. `None` where the
+    /// peer may send none.
     pub datagram_receive: Option<u64>,
-    /// How many may wait to be sent, counted so.
+    /// How many bytes of datagrams may wait to be sent, counted in the same way.
     pub datagram_send: u64,
 }
 
 impl Default for Config {
-    /// A hundred streams of each direction, a megabyte for each stream, ten for all, and one for datagrams.
+    /// A hundred streams of each direction; a megabyte for each stream, ten for all together, and one for datagrams.
     fn default() -> Self {
         Config {
             max_remote_uni: 100,
@@ -110,8 +110,8 @@ impl Default for Config {
     }
 }
 
-/// The limits of a peer's transport parameters (RFC 9000 section 18.2), each below 2^62. The default is that of
-/// parameters that are absent: nothing is permitted.
+/// The limits in the peer's transport parameters (RFC 9000 section 18.2), each below 2^62. The default is that of absent
+/// parameters: nothing is permitted.
 #[derive(Clone, Copy, Debug, Default, PartialEq, Eq)]
 #[allow(missing_docs)]
 pub struct Limits {
@@ -121,12 +121,12 @@ pub struct Limits {
     pub initial_max_stream_data_uni: u64,
     pub initial_max_stream_data_bidi_local: u64,
     pub initial_max_stream_data_bidi_remote: u64,
-    /// The longest datagram that the path and the peer take, or `None` where the peer takes none.
+    /// The length of the longest datagram that the path and the peer take, or `None` where the peer takes none.
     pub max_datagram: Option<u64>,
 }
 
 impl Limits {
-    /// What an end of this configuration tells its peer, with datagrams of at most 1200 bytes.
+    /// The limits that an end of this configuration announces to its peer, with datagrams of at most 1200 bytes.
     pub fn of(config: &Config) -> Self {
         Limits {
             initial_max_data: config.receive_window,
@@ -140,7 +140,7 @@ impl Limits {
     }
 }
 
-/// What happened, for the application.
+/// An event for the application.
 #[derive(Clone, Copy, Debug, PartialEq, Eq)]
 #[non_exhaustive]
 pub enum Event {
@@ -159,16 +159,16 @@ pub enum Event {
         /// The stream.
         id: StreamId,
     },
-    /// All of a stream was acknowledged, with its end.
+    /// All data of a stream was acknowledged, with its end.
     Finished {
         /// The stream.
         id: StreamId,
     },
-    /// The peer asked to send no more on a stream.
+    /// The peer sent STOP_SENDING for a stream.
     Stopped {
         /// The stream.
         id: StreamId,
-        /// Why, in the application's terms.
+        /// The application error code.
         error_code: u64,
     },
     /// More streams of a direction may be opened.
@@ -202,7 +202,7 @@ impl Event {
     }
 }
 
-/// Which frames a payload is to have, and how streams share it.
+/// Which frames a payload may have, and how streams share it.
 #[derive(Clone, Copy, Debug, PartialEq, Eq)]
 pub struct Emit {
     /// Control frames: resets, stops, limits.
@@ -216,7 +216,7 @@ pub struct Emit {
 }
 
 impl Default for Emit {
-    /// All of them, in turns.
+    /// All frames, with streams in turns.
     fn default() -> Self {
         Emit {
             control: true,
@@ -233,12 +233,12 @@ impl Emit {
     }
 }
 
-/// What stands for a payload until it is settled.
+/// The name of a payload until it is settled, as acknowledged or lost.
 #[derive(Clone, Copy, Debug, PartialEq, Eq, PartialOrd, Ord, Hash)]
 pub struct Token(pub(crate) u64);
 
 impl Token {
-    /// The number of a token, which the library counts from 1 on.
+    /// The number of a token. The library counts them from 1 on.
     pub fn into_inner(self) -> u64 {
         self.0
     }
@@ -254,18 +254,18 @@ impl Token {
 pub struct Payload {
     /// How many bytes it has.
     pub len: usize,
-    /// What stands for it until it is settled.
+    /// Names it until it is settled.
     pub token: Token,
     /// Whether nothing may follow in its packet, not even padding.
     pub ends: bool,
 }
 
-/// A payload that was written, in memory of the library.
+/// A payload that was written into memory of the library.
 #[derive(Clone, Copy, Debug, PartialEq, Eq)]
 pub struct Lent<'a> {
     /// Its bytes.
     pub bytes: &'a [u8],
-    /// What stands for it until it is settled.
+    /// Names it until it is settled.
     pub token: Token,
     /// Whether nothing may follow in its packet, not even padding.
     pub ends: bool,
@@ -282,16 +282,16 @@ pub struct Due {
     pub streams: bool,
 }
 
-/// What an end tells of itself.
+/// The state of an end.
 #[derive(Clone, Copy, Debug, PartialEq, Eq)]
 pub struct Info {
     /// How many bytes the peer may send in all.
     pub local_max_data: u64,
-    /// How many it sent.
+    /// How many bytes it sent.
     pub data_received: u64,
-    /// How many bytes may be written now, on all streams.
+    /// How many bytes may be written now, on all streams together.
     pub write_limit: u64,
-    /// How many streams have a send half that is held.
+    /// How many streams have a send side that is held.
     pub send_streams: u64,
     /// How many bidirectional streams the peer has open.
     pub remote_open_bi: u64,
