@@ -1,3 +1,2 @@
 pub mod Sorted
 pub mod Rows
-pub mod Held

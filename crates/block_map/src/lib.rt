@@ -2,9 +2,7 @@
 #![tactic(auto)]
 
 mod block;
-mod blocks;
 mod edits;
-mod entries;
 mod map;
 mod rows;
 mod search;

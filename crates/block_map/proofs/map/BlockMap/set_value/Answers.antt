@@ -1,19 +1,19 @@
-use Rattle.std.proofs.Common.{◌≡◌, ap, ◌∙◌}
-use Rattle.block_map.specs.Rows.{Entries, place_among, IsPlace}
-use Rattle.block_map.specs.Held.{entries_held}
+use Rattle.std.proofs.Common.{◌≡◌, ◌<◌, [], length, ap}
+use Rattle.block_map.specs.Sorted.{KeyAndValue, KeysRise}
+use Rattle.block_map.specs.Rows.{Entries, flat, place_among, IsPlace}
+use Rattle.block_map.proofs.Flat.{place_fits}
+use Rattle.block_map.proofs.Rising.{fits_own}
 use Rattle.block_map.proofs.map.BlockMap.set_value.Goals as goal
 
-pub returns-clause-places : goal.returns-clause-places
-returns-clause-places c =
-    let held : entries_held c.self.inside.held ≡ c.args.self.now = c.self.view_is in
-    let there : c.in-Some.blocks.value ≡ c.args.self.now = rw c.in-Some.is at held in
-    let same : c.deref_mut.result.now ≡ c.args.self.now = c.deref_mut.ensures.value ∙ there in
-    λ b i. c.set_value.ensures.places b i ∙ ap (λ (e : Entries). place_among e.rows b i) same
-
-pub returns-clause-still : goal.returns-clause-still
-returns-clause-still c =
-    let held : entries_held c.self.inside.held ≡ c.args.self.now = c.self.view_is in
-    let there : c.in-Some.blocks.value ≡ c.args.self.now = rw c.in-Some.is at held in
-    let same : c.deref_mut.result.now ≡ c.args.self.now = c.deref_mut.ensures.value ∙ there in
-    let rows = ap (λ (e : Entries). e.rows) same in
-    λ b i p. let q : IsPlace c.deref_mut.result.now.rows b i = rw (← rows) at p in c.set_value.ensures.still b i q
+pub set-requires-clause-fits : goal.set-requires-clause-fits
+set-requires-clause-fits c =
+    let rows = c.self.inside.blocks.items in
+    let items : flat rows ≡ c.args.self.now.items = ap (λ (v : Entries). v.items) c.self.view_is in
+    let placed : rows ≡ c.args.self.now.rows = ap (λ (v : Entries). v.rows) c.self.view_is in
+    let b = c.args.place.block in
+    let i = c.args.place.index in
+    let place : IsPlace rows b i = rw (← placed) at c.requires in
+    let fits = place_fits rows b i [] place.0 place.1 in
+    let r : KeysRise c.args.self.now.items = rw items at c.self.invariant.rises in
+    let f : place_among c.args.self.now.rows b i < length c.args.self.now.items = rw (items, placed) at fits in
+    fits_own c.args.self.now.items (place_among c.args.self.now.rows b i) c.entry-key.result.0 r f (λ d. ap (λ (x : KeyAndValue). x.0) (c.entry-key.ensures d))

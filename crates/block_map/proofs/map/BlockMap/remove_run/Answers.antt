@@ -3,7 +3,7 @@ use Rattle.std.specs.List.{remove_range}
 use Rattle.block_map.specs.Rows.{Entries, flat, place_among, IsPlace}
 use Rattle.block_map.proofs.Flat.{place_fits}
 use Rattle.block_map.proofs.Rising.{rises_without, length-without}
-use Rattle.block_map.proofs.blocks.Blocks.remove_run.Goals as goal
+use Rattle.block_map.proofs.map.BlockMap.remove_run.Goals as goal
 
 pub overflow_add-self : goal.overflow_add-self
 overflow_add-self c =

@@ -1,7 +1,7 @@
 use Rattle.std.proofs.Common.{arith, ◌≡◌, ◌+◌, ◌<◌, ℕ, [], length, ap, ◌∙◌, suc}
 use Rattle.block_map.specs.Rows.{Entries, flat, place_among, IsPlace}
 use Rattle.block_map.proofs.Flat.{same_at, place_after, place_end, place_fits}
-use Rattle.block_map.proofs.blocks.Blocks.next.Goals as goal
+use Rattle.block_map.proofs.map.BlockMap.next.Goals as goal
 
 pub returns-then-block-len-clause-next : goal.returns-then-block-len-clause-next
 returns-then-block-len-clause-next c =

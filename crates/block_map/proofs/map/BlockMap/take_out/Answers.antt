@@ -2,7 +2,7 @@ use Rattle.std.proofs.Common.{arith, ◌≡◌, ◌+◌, ◌≤◌, [], length, 
 use Rattle.block_map.specs.Rows.{Entries, flat, place_among, IsPlace}
 use Rattle.block_map.proofs.Flat.{place_fits}
 use Rattle.block_map.proofs.Rising.{rises_without, length-without}
-use Rattle.block_map.proofs.blocks.Blocks.take_out.Goals as goal
+use Rattle.block_map.proofs.map.BlockMap.take_out.Goals as goal
 
 pub invariant_of-self : goal.invariant_of-self
 invariant_of-self c =

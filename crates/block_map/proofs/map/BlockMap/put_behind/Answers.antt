@@ -3,7 +3,7 @@ use Rattle.block_map.specs.Sorted.{KeysRise}
 use Rattle.block_map.specs.Rows.{Entries, flat, place_among, IsPlace}
 use Rattle.block_map.proofs.Flat.{place_fits}
 use Rattle.block_map.proofs.Rising.{goes_behind}
-use Rattle.block_map.proofs.blocks.Blocks.put_behind.Goals as goal
+use Rattle.block_map.proofs.map.BlockMap.put_behind.Goals as goal
 
 pub put_at-requires-clause-goes : goal.put_at-requires-clause-goes
 put_at-requires-clause-goes c =

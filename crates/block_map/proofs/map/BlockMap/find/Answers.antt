@@ -2,7 +2,7 @@ use Rattle.std.proofs.Common.{rules, arith, ◌≡◌, ◌<◌, length, ap}
 use Rattle.block_map.specs.Sorted.{IsLastUpTo}
 use Rattle.block_map.specs.Rows.{Entries, flat, place_among, first_key}
 use Rattle.block_map.proofs.Flat.{firsts_rise, found_place, none_up_to}
-use Rattle.block_map.proofs.blocks.Blocks.find.Goals as goal
+use Rattle.block_map.proofs.map.BlockMap.find.Goals as goal
 
 pub last_row-block-requires-clause-rise : goal.last_row-block-requires-clause-rise
 last_row-block-requires-clause-rise c =

@@ -1,7 +1,7 @@
 use Rattle.std.proofs.Common.{rules, arith, ◌≡◌, ◌+◌, ◌-◌, ◌<◌, length, ap}
 use Rattle.block_map.specs.Rows.{Entries, flat, place_among}
 use Rattle.block_map.proofs.Flat.{place_end}
-use Rattle.block_map.proofs.blocks.Blocks.last_place.Goals as goal
+use Rattle.block_map.proofs.map.BlockMap.last_place.Goals as goal
 
 pub returns-clause-last : goal.returns-clause-last
 returns-clause-last c =

@@ -4,7 +4,7 @@ use Rattle.block_map.specs.Sorted.{KeyAndValue}
 use Rattle.block_map.specs.Rows.{Entries, flat, place_among, IsPlace}
 use Rattle.std.proofs.lemmas.List.{get_or_default}
 use Rattle.block_map.proofs.Flat.{same_at, flat_at}
-use Rattle.block_map.proofs.blocks.Blocks.entry.Goals as goal
+use Rattle.block_map.proofs.map.BlockMap.entry.Goals as goal
 
 pub returns : goal.returns
 returns c =
