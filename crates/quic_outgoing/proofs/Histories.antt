@@ -13,8 +13,8 @@ use Rattle.quic_sending.specs.declared.send.Send.{Send}
 use Rattle.quic_outgoing.specs.declared.limits.PeerLimits.{PeerLimits}
 use Rattle.quic_outgoing.specs.declared.writing.Wrote.{Wrote}
 use Rattle.quic_outgoing.specs.Writing.{TakesBytesOf}
-use Rattle.quic_outgoing.specs.Outgoing.{Outgoing, no_streams, own_of, with_own, with_send_half, with_params, fresh_sender, is_stuck}
-use Rattle.quic_outgoing.specs.Params.{after_params, with_woken, with_waiting, own_woken}
+use Rattle.quic_outgoing.specs.Outgoing.{Outgoing, no_streams, own_of, with_own, with_send_half, with_params, fresh_sender}
+use Rattle.quic_outgoing.specs.Params.{with_woken}
 use Rattle.quic_outgoing.specs.History.{Call, Permitted, PermittedMore, Removed, GaveParams, Opened, GaveData, GaveStreams, GaveStream, WasStopped, Writing, Finished, Reset, SetPriority, Polled, Transmitted, SetWindow, AckedFrame, LostFrame, ResetAcked, RejectedEarly, Unsent, DoesCall, is_rejection, calls_since, bytes_by, data_limit_of, count_in, given_for, count_given_by, opened_by, TellsBudget, ComesFrom, Continues}
 use Rattle.quic_outgoing.specs.Early.{after_rejection}
 use Rattle.quic_outgoing.proofs.Keeping.{Keeps, keeps-all, keeps-is, keeps-stream, keeps-rise, keeps-stop, keeps-blocked, keeps-polled, keeps-acked, keeps-lost, keeps-given-up, keeps-woken}

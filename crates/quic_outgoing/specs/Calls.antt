@@ -1,5 +1,5 @@
 -- What each call on the sending side may do, and answer.
-use Rattle.std.specs.Prelude.{◌≡◌, ◌⊎◌, ℕ, ℤ, ◌-◌, ◌<◌, ◌≤◌, ◌^◌, Bool, true, false, ◌==◌, ◌&&◌, not, min, nat_lt, List, [], ◌∷◌, ◌++◌, Option, Some, None, is_none, unwrap_or, Result, Ok, Err, if◌then◌else◌, All, MatchBool}
+use Rattle.std.specs.Prelude.{◌≡◌, ◌≢◌, ◌⊎◌, ℕ, ℤ, ◌-◌, ◌<◌, ◌≤◌, ◌^◌, Bool, true, false, ◌==◌, ◌&&◌, not, min, nat_lt, List, [], ◌∷◌, ◌++◌, Option, Some, None, is_none, unwrap_or, Result, Ok, Err, if◌then◌else◌, All, MatchBool}
 use Rattle.std.specs.Option.{option_map}
 use Rattle.std.specs.List.{list_any}
 use Rattle.quic_values.specs.declared.ids.Dir.{Dir}
@@ -100,6 +100,11 @@ QueuesAt s (Some priority) = HasNoMore s × (priority ≡ s.priority)
 abbrev pub QueuesStreamAt : Option Send → Option ℤ → Type 0
 QueuesStreamAt None queue = queue ≡ None
 QueuesStreamAt (Some s) queue = QueuesAt s queue
+
+-- a stream is to be queued at another priority than this one, where something comes to be sent on it
+abbrev pub QueuesElsewhere : Option Send → ℤ → Type 0
+QueuesElsewhere None priority = ⊥
+QueuesElsewhere (Some s) priority = HasNoMore s × (s.priority ≢ priority)
 
 -- why a stream is not finished
 abbrev pub end_refusal : Option Send → Option FinishError

@@ -1,10 +1,11 @@
 //! Writes on a stream.
 
-ghost use Rattle.std.specs.Prelude.{◌≡◌, ◌≤◌, ◌<◌, is_some, true, false, Some, None, Err, IfOk, IfErr, OnErr};
+ghost use Rattle.std.specs.Prelude.{◌≡◌, ◌≤◌, ◌<◌, ℕ, ℤ, Option, is_some, true, false, Some, None, Err, IfOk, IfErr, IfSome, IfNone, OnErr};
 ghost use Rattle.quic_sending.specs.Sending.{write_refusal};
 ghost use Rattle.quic_retransmits.specs.Pending.{pending_view};
 ghost use Rattle.quic_outgoing.specs.Senders.{bare, first_limit};
 ghost use Rattle.quic_outgoing.specs.Outgoing.{is_stuck, with_send_half};
+ghost use Rattle.quic_outgoing.specs.Calls.{QueuesAt, QueuesElsewhere};
 ghost use Rattle.quic_outgoing.specs.Seen.{senders, sender_room, sender_in};
 ghost use Rattle.quic_outgoing.specs.Writing.{WritesOn, RefusesWrite, TakesBytes, TakesBytesIn, IsRefusedBy, refusal_of_write, lasting_refusal, refusal_to_stay};
 ghost use Rattle.quic_outgoing.specs.History.{Writing, Continues};
@@ -52,6 +53,63 @@ impl OutgoingStreams {
         ensures from { Continues (outgoing_view self.old) (Writing id (S.lists source.old) result) (outgoing_view self.new) }
     {
         self.write_source(pending, id, source)
+    }
+
+    /// The same of a stream that is queued, or that is to be queued at this priority. `None`: it is to be queued at another,
+    /// and nothing changes.
+    #[inline]
+    pub fn write_at<S: BytesSource>(
+        &mut self,
+        pending: &mut Retransmits,
+        id: StreamId,
+        priority: i32,
+        source: &mut S,
+    ) -> Option<Result<Wrote, WriteError>>
+        ensures writes { IfSome result (λ answer. WritesOn (outgoing_view self.old) id (S.lists source.old) (pending_view pending.old) answer (outgoing_view self.new) (S.lists source.new) (pending_view pending.new)) }
+        ensures place { IfSome result (λ answer. IfOk answer (λ wrote. IfSome wrote.queue_at (λ p. p ≡ priority))) }
+        ensures memory { result ≡ Some (Err WriteError.OutOfMemory) → refusal_to_stay (outgoing_view self.old) ((outgoing_view self.old).halves id) ≡ None }
+        ensures elsewhere { IfNone result (QueuesElsewhere ((outgoing_view self.old).halves id) priority) }
+        ensures same { IfNone result (outgoing_view self.new ≡ outgoing_view self.old) }
+        ensures same_lists { IfNone result (S.lists source.new ≡ S.lists source.old) }
+        ensures same_pending { IfNone result (pending_view pending.new ≡ pending_view pending.old) }
+        ensures borrow { S.borrow source.new ≡ S.borrow source.old }
+        ensures list_count { S.list_count source.new ≡ S.list_count source.old }
+        ensures from { IfSome result (λ answer. Continues (outgoing_view self.old) (Writing id (S.lists source.old) answer) (outgoing_view self.new)) }
+    {
+        self.write_source_at(pending, id, priority, source)
+    }
+
+    // The same, each way out.
+    #[inline]
+    fn write_source_at<S: BytesSource>(
+        &mut self,
+        pending: &mut Retransmits,
+        id: StreamId,
+        priority: i32,
+        source: &mut S,
+    ) -> Option<Result<Wrote, WriteError>>
+        ensures writes { IfSome result (λ answer. WritesOn (outgoing_view self.old) id (S.lists source.old) (pending_view pending.old) answer (outgoing_view self.new) (S.lists source.new) (pending_view pending.new)) }
+        ensures place { IfSome result (λ answer. IfOk answer (λ wrote. IfSome wrote.queue_at (λ p. p ≡ priority))) }
+        ensures memory { result ≡ Some (Err WriteError.OutOfMemory) → refusal_to_stay (outgoing_view self.old) ((outgoing_view self.old).halves id) ≡ None }
+        ensures elsewhere { IfNone result (QueuesElsewhere ((outgoing_view self.old).halves id) priority) }
+        ensures same { IfNone result (outgoing_view self.new ≡ outgoing_view self.old) }
+        ensures same_lists { IfNone result (S.lists source.new ≡ S.lists source.old) }
+        ensures same_pending { IfNone result (pending_view pending.new ≡ pending_view pending.old) }
+        ensures borrow { S.borrow source.new ≡ S.borrow source.old }
+        ensures list_count { S.list_count source.new ≡ S.list_count source.old }
+    {
+        let limit = self.write_limit();
+        if limit == 0 {
+            return Some(Err(self.wait(pending, id)));
+        }
+        match self.halves.write_at(id, priority, source, limit)? {
+            Ok(wrote) => {
+                self.budget.sent(wrote.written.bytes as u64);
+                Some(Ok(wrote))
+            }
+            Err(WriteError::Blocked) => Some(Err(self.block(pending, id))),
+            Err(error) => Some(Err(error)),
+        }
     }
 
     // The same, each way out.
@@ -195,6 +253,53 @@ impl SendEntries {
             None => Err(WriteError::ClosedStream),
             Some(entry) => write_of_entry(self.alloc, first_limit, entry, source, limit),
         }
+    }
+
+    // The same, where the stream is queued, or is to be queued at this priority. `None`: it is to be queued at another, and
+    // nothing changes.
+    #[inline]
+    fn write_at<S: BytesSource>(
+        &mut self,
+        id: StreamId,
+        priority: i32,
+        source: &mut S,
+        limit: u64,
+    ) -> Option<Result<Wrote, WriteError>>
+        ensures ok { IfSome result (λ answer. IfOk answer (λ wrote. TakesBytesIn limit (senders self.old) id (S.lists source.old) wrote (S.lists source.new) (senders self.new))) }
+        ensures place { IfSome result (λ answer. IfOk answer (λ wrote. IfSome wrote.queue_at (λ p. p ≡ priority))) }
+        ensures err { IfSome result (λ answer. IfErr answer (λ error. IsRefusedBy (senders self.old id) error)) }
+        ensures memory { result ≡ Some (Err WriteError.OutOfMemory) → lasting_refusal (senders self.old id) ≡ None }
+        ensures halves { IfSome result (λ answer. OnErr answer (senders self.new ≡ senders self.old)) }
+        ensures lists { IfSome result (λ answer. OnErr answer (S.lists source.new ≡ S.lists source.old)) }
+        ensures elsewhere { IfNone result (QueuesElsewhere (senders self.old id) priority) }
+        ensures same { IfNone result (senders self.new ≡ senders self.old) }
+        ensures same_lists { IfNone result (S.lists source.new ≡ S.lists source.old) }
+        ensures borrow { S.borrow source.new ≡ S.borrow source.old }
+        ensures list_count { S.list_count source.new ≡ S.list_count source.old }
+        ensures side { self.new.side ≡ self.old.side }
+        ensures first { self.new.first ≡ self.old.first }
+        ensures room { sender_room self.new ≡ sender_room self.old }
+    {
+        let first_limit = self.first_limit(id);
+        let Some(entry) = self.entries.get_mut(&id) else {
+            return Some(Err(WriteError::ClosedStream));
+        };
+        if !is_placed_at(entry, priority) {
+            return None;
+        }
+        Some(write_of_entry(self.alloc, first_limit, entry, source, limit))
+    }
+}
+
+// Whether the stream of an entry is queued, or is to be queued at this priority.
+#[inline]
+fn is_placed_at(entry: &Option<Box<Send>>, priority: i32) -> bool
+    ensures yes { result ≡ true → (first_limit : ℕ) (queue : Option ℤ) → QueuesAt (sender_in first_limit entry.now) queue → IfSome queue (λ p. p ≡ priority) }
+    ensures no { result ≡ false → (first_limit : ℕ) → QueuesElsewhere (Some (sender_in first_limit entry.now)) priority }
+{
+    match entry {
+        None => priority == 0,
+        Some(half) => half.is_pending() || half.priority == priority,
     }
 }
 

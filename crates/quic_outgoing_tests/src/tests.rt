@@ -102,6 +102,18 @@ fn write<S: BytesSource>(
     subject.state.write(&mut subject.pending, stream, source)
 }
 
+// The same of a stream that is queued, or is to be queued at a priority.
+fn write_at<S: BytesSource>(
+    subject: &mut Subject,
+    stream: u32,
+    priority: i32,
+    source: &mut S,
+) -> Option<Result<Wrote, WriteError>> {
+    subject
+        .state
+        .write_at(&mut subject.pending, id(stream), priority, source)
+}
+
 fn try_finish(subject: &mut Subject, stream: StreamId) -> Result<Option<i32>, FinishError> {
     subject.state.finish(stream)
 }

@@ -1,6 +1,6 @@
 //! Writes, ends and resets of a stream, on the state.
 
-ghost use Rattle.std.specs.Prelude.{ℕ, ℤ, List, ◌∷◌, ◌≡◌, ◌≤◌, OnErr, OnOk, IfOk, None, Some, Ok, Err, is_some, unwrap_or, true, false};
+ghost use Rattle.std.specs.Prelude.{ℕ, ℤ, List, ◌∷◌, ◌≡◌, ◌≤◌, OnErr, OnOk, IfOk, IfErr, IfSome, IfNone, None, Some, Ok, Err, is_some, unwrap_or, true, false};
 ghost use Rattle.quic_sending.specs.Source.{slice_lists, without_first};
 ghost use Rattle.quic_retransmits.specs.Pending.{pending_view};
 ghost use Rattle.quic_outgoing.specs.Outgoing.{is_stuck};
@@ -14,6 +14,7 @@ ghost use Rattle.quic_history.specs.Writes.{WritesOwn, FinishesOwn, ResetsOwn, S
 
 use crate::state::StreamsState;
 use crate::streams::ConnState;
+use quic_outgoing::Wrote;
 use quic_receiving::HandleError;
 use quic_retransmits::Retransmits;
 use quic_sending::{ByteSlice, BytesArray, BytesSource, FinishError, WriteError, Written};
@@ -73,10 +74,59 @@ impl StreamsState {
         if matches!(conn, ConnState::Closed) {
             return Err(WriteError::Blocked);
         }
+        if let Some(answer) = self.write_in_turn(pending, id, source) {
+            return answer;
+        }
         if let Err(refused) = self.reserve_write_place(id) {
             return Err(self.write_refusal(id, refused));
         }
-        match self.outgoing.write(pending, id, source) {
+        let answer = self.outgoing.write(pending, id, source);
+        self.queue_written(id, answer)
+    }
+
+    // The same with room at the priority for which it costs least, so that the stream is looked up once. `None`: there is no
+    // memory, or the stream is to be queued at another, and nothing changes.
+    #[inline]
+    fn write_in_turn<S: BytesSource>(
+        &mut self,
+        pending: &mut Retransmits,
+        id: StreamId,
+        source: &mut S,
+    ) -> Option<Result<Written, WriteError>>
+        ensures writes { IfSome result (λ answer. WritesOwn (streams_view self.old) id (S.lists source.old) false (pending_view pending.old) answer (streams_view self.new) (S.lists source.new) (pending_view pending.new)) }
+        ensures memory { result ≡ Some (Err WriteError.OutOfMemory) → refusal_to_stay (streams_view self.old).out ((streams_view self.old).out.halves id) ≡ None }
+        ensures same { IfNone result (streams_view self.new ≡ streams_view self.old) }
+        ensures same_lists { IfNone result (S.lists source.new ≡ S.lists source.old) }
+        ensures same_pending { IfNone result (pending_view pending.new ≡ pending_view pending.old) }
+        ensures borrow { S.borrow source.new ≡ S.borrow source.old }
+        ensures list_count { S.list_count source.new ≡ S.list_count source.old }
+    {
+        let Ok(priority) = self.queue.reserve_any() else {
+            return None;
+        };
+        match self.outgoing.write_at(pending, id, priority, source) {
+            None => {
+                self.queue.release();
+                None
+            }
+            Some(answer) => Some(self.queue_written(id, answer)),
+        }
+    }
+
+    // Queues a stream where what was written on it asks for that, in room that was made.
+    #[inline]
+    fn queue_written(
+        &mut self,
+        id: StreamId,
+        answer: Result<Wrote, WriteError>,
+    ) -> Result<Written, WriteError>
+        requires { IfOk answer (λ wrote. HasPlaceAt self.old wrote.queue_at) }
+        ensures ok { IfOk answer (λ wrote. streams_view self.new ≡ with_queued (streams_view self.old) id wrote.queue_at) }
+        ensures written { IfOk answer (λ wrote. result ≡ Ok wrote.written) }
+        ensures err { IfErr answer (λ error. result ≡ Err error) }
+        ensures same { OnErr answer (streams_view self.new ≡ streams_view self.old) }
+    {
+        match answer {
             Err(error) => {
                 self.queue.release();
                 Err(error)

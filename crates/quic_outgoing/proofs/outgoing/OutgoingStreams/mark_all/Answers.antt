@@ -1,4 +1,4 @@
-use Rattle.std.proofs.Common.{rules, ◌≡◌, ◌<◌, ◌≤◌, ◌∷◌, [], ◌++◌, ℕ, List, take, length, get_or, sym, ap, ◌∙◌, arith, ◌+◌}
+use Rattle.std.proofs.Common.{rules, ◌≡◌, ◌<◌, ◌∷◌, [], ◌++◌, take, length, sym, ap, ◌∙◌, arith, ◌+◌}
 use Rattle.std.proofs.lemmas.List.{take_more}
 use Rattle.quic_outgoing.specs.Outgoing.{Outgoing}
 use Rattle.quic_outgoing.specs.Params.{as_waiting, with_waiting}

@@ -1,4 +1,4 @@
-use Rattle.std.proofs.Common.{◌≡◌, ◌≤◌, ◌+◌, ℕ, true, take, length}
+use Rattle.std.proofs.Common.{◌≡◌, ◌≤◌, ◌+◌, true, take, length}
 use Rattle.std.specs.Prelude.{All, vec_len}
 use Rattle.std.specs.Vec.{vec_capacity}
 use Rattle.quic_outgoing.specs.Seen.{is_made}
