@@ -5,7 +5,7 @@ ghost use Rattle.quic_outgoing.specs.Acknowledging.{MayWantMemory, LossMayWantMe
 ghost use Rattle.quic_streams.specs.Writing.{MayWantPlace};
 ghost use Rattle.quic_streams.specs.Room.{rooms, HasEventRoom};
 ghost use Rattle.quic_streams.specs.Shown.{streams_view};
-ghost use Rattle.quic_history.specs.World.{Made};
+ghost use Rattle.quic_history.specs.World.{Made, is_own};
 ghost use Rattle.quic_history.specs.Acknowledged.{AcksOwn, LosesOwn, AcksReset, with_send_freed, without_sender, without_send_half};
 ghost use Rattle.quic_history.specs.SendEvents.{AckedOwn, LostOwn, ResetAckedOwn};
 ghost use Rattle.quic_history.specs.History.{Event, Sending, From};
@@ -41,7 +41,7 @@ impl StreamsState {
         if !self.is_permitted(id) {
             return Ok(());
         }
-        if let Err(refused) = self.make_room() {
+        if let Err(refused) = self.make_ack_room(id) {
             return self.refuse_held(id, refused);
         }
         if self.outgoing.ack(id, frame.offsets, frame.fin)? {
@@ -49,6 +49,33 @@ impl StreamsState {
             self.events.push_back_reserved(StreamEvent::Finished { id });
         }
         Ok(())
+    }
+
+    // Makes the room that an acknowledgement may need: for an event, and for a stream in the place of one of the peer.
+    #[inline]
+    fn make_ack_room(&mut self, id: StreamId) -> Result<(), OutOfMemory>
+        ensures same { streams_view self.new ≡ streams_view self.old }
+        ensures rooms { OnOk result (is_own (streams_view self.old) id ≡ false → 1 ≤ rooms self.new) }
+        ensures events { OnOk result (HasEventRoom self.new) }
+        ensures unneeded { 1 ≤ rooms self.old → HasEventRoom self.old → IsOk result }
+    {
+        self.make_room_for_next(id)?;
+        self.events.reserve(1)?;
+        Ok(())
+    }
+
+    // Makes room for a stream in the place of one of the peer.
+    #[inline]
+    fn make_room_for_next(&mut self, id: StreamId) -> Result<(), OutOfMemory>
+        ensures same { streams_view self.new ≡ streams_view self.old }
+        ensures rooms { OnOk result (is_own (streams_view self.old) id ≡ false → 1 ≤ rooms self.new) }
+        ensures unneeded { 1 ≤ rooms self.old → IsOk result }
+        ensures events { HasEventRoom self.old → HasEventRoom self.new }
+    {
+        if self.is_own(id) {
+            return Ok(());
+        }
+        self.make_stream_room()
     }
 
     // There is no memory for the report of a frame. Of a stream that is freed none is refused.
@@ -118,15 +145,15 @@ impl StreamsState {
         if !frees {
             return Ok(());
         }
-        self.make_stream_room()?;
+        self.make_room_for_next(id)?;
         let _ = self.outgoing.reset_acked(id);
         self.free_send(id);
         Ok(())
     }
 
-    // The send half of a stream was let go. There is room for a stream in its place.
+    // The send half of a stream was let go. There is room for a stream in the place of one of the peer.
     fn free_send(&mut self, id: StreamId)
-        requires { 1 ≤ rooms self.old }
+        requires { is_own (streams_view self.old) id ≡ false → 1 ≤ rooms self.old }
         ensures freed { streams_view self.new ≡ with_send_freed (streams_view self.old) id }
         ensures events { HasEventRoom self.old → HasEventRoom self.new }
     {
@@ -147,7 +174,7 @@ impl StreamsState {
 
     // A stream of the peer is wholly freed, unless its receive half is held.
     fn release_send(&mut self, id: StreamId)
-        requires { 1 ≤ rooms self.old }
+        requires { is_own (streams_view self.old) id ≡ false → 1 ≤ rooms self.old }
         ensures released { streams_view self.new ≡ without_send_half (streams_view self.old) id }
         ensures events { HasEventRoom self.old → HasEventRoom self.new }
     {
