@@ -51,8 +51,7 @@ class RefusedMemory(unittest.TestCase):
             check = load().tried(refusing, SEEDS, files)
         self.assertEqual(check.wrong, [])
         self.assertEqual(check.tally["sessions"], len(files) + 2 + len(SEEDS))
-        named = ("in a step", "in a step that asks again", "at the second line", "at the third line", "outside a step")
-        for name in (*named, "CompactionMemory"):
+        for name in ("in a step", "at the second line", "at the third line", "outside a step", "CompactionMemory"):
             self.assertGreater(check.tally[name], 0, name)
         for verb in ("emit", "read", "write", "deliver", "chunks", "open", "retry", "early-accept"):
             self.assertGreater(check.tally[f"in {verb}"], 0, verb)

@@ -54,9 +54,6 @@ MOST_REQUESTS = {
 }
 # A step that is refused for one of these reasons says so, though memory for it was refused too.
 OTHER_REASON = re.compile(r"closed|stopped")
-# A step of these kinds makes room in the queue where that costs least. If that is refused it makes it where the stream is to
-# be queued, so it may be done all the same.
-ASKS_AGAIN = {"write", "chunks"}
 NAMES_WANT = re.compile(r"\b(OutOfMemory|memory|CompactionMemory)\b")
 Frame = collections.namedtuple("Frame", "kind id offset data fin")
 
@@ -338,14 +335,9 @@ class Check:
         if status == 1 and not named:
             self.tally["outside a step"] += 1
             return None
-        step = bisect.bisect_left(made, refused)
-        if not status and replies == ample and step < len(lines):
-            if OTHER_REASON.match(ample[step]):
-                self.tally["in a step that is refused for another reason"] += 1
-                return None
-            if lines[step].split()[0] in ASKS_AGAIN:
-                self.tally["in a step that asks again"] += 1
-                return None
+        if replies == ample and OTHER_REASON.match([*ample, ""][bisect.bisect_left(made, refused)]):
+            self.tally["in a step that is refused for another reason"] += 1
+            return None
         if status == 1 and replies[1:] == ["refused 5 OutOfMemory"]:
             self.tally["at the second line"] += 1
             return None

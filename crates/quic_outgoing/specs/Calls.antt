@@ -1,5 +1,5 @@
 -- What each call on the sending side may do, and answer.
-use Rattle.std.specs.Prelude.{◌≡◌, ◌≢◌, ◌⊎◌, ℕ, ℤ, ◌-◌, ◌<◌, ◌≤◌, ◌^◌, Bool, true, false, ◌==◌, ◌&&◌, not, min, nat_lt, List, [], ◌∷◌, ◌++◌, Option, Some, None, is_none, unwrap_or, Result, Ok, Err, if◌then◌else◌, All, MatchBool}
+use Rattle.std.specs.Prelude.{◌≡◌, ◌⊎◌, ℕ, ℤ, ◌-◌, ◌<◌, ◌≤◌, ◌^◌, Bool, true, false, ◌==◌, ◌&&◌, not, min, nat_lt, List, [], ◌∷◌, ◌++◌, Option, Some, None, is_none, unwrap_or, Result, Ok, Err, if◌then◌else◌, All, MatchBool}
 use Rattle.std.specs.Option.{option_map}
 use Rattle.std.specs.List.{list_any}
 use Rattle.quic_values.specs.declared.ids.Dir.{Dir}
@@ -18,6 +18,7 @@ use Rattle.quic_sending.specs.Buffer.{HasDue, HasNoneDue, total_length}
 use Rattle.quic_sending.specs.Sending.{is_ready, is_reset_sent, finish_refusal}
 use Rattle.quic_sending.specs.declared.errors.HandleError.{HandleError}
 use Rattle.quic_sending.specs.declared.errors.HandleError.TheVariants as handle_error
+use Rattle.quic_queue.specs.SendOrder.{SendOrder}
 use Rattle.quic_retransmits.specs.Pending.{Pending}
 use Rattle.quic_retransmits.specs.Queueing.{with_reset_stream}
 use Rattle.quic_outgoing.specs.Senders.{SendersById, with_sender}
@@ -101,10 +102,10 @@ abbrev pub QueuesStreamAt : Option Send → Option ℤ → Type 0
 QueuesStreamAt None queue = queue ≡ None
 QueuesStreamAt (Some s) queue = QueuesAt s queue
 
--- a stream is to be queued at another priority than this one, where something comes to be sent on it
-abbrev pub QueuesElsewhere : Option Send → ℤ → Type 0
-QueuesElsewhere None priority = ⊥
-QueuesElsewhere (Some s) priority = HasNoMore s × (s.priority ≢ priority)
+-- there is room in the queue at the priority at which a stream is to be queued
+abbrev pub HasRoomFor : SendOrder → Option ℤ → Type 0
+HasRoomFor q None = Unit {0}
+HasRoomFor q (Some priority) = q.reserved ≡ Some priority
 
 -- why a stream is not finished
 abbrev pub end_refusal : Option Send → Option FinishError

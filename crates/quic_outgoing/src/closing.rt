@@ -1,39 +1,39 @@
 //! The end of a stream, and its priority.
 
-ghost use Rattle.std.specs.Prelude.{◌≡◌, ◌≤◌, ◌<◌, Some, None, Err, is_some, true, false, IfOk, IfErr, OnErr};
+ghost use Rattle.std.specs.Prelude.{◌≡◌, ◌≤◌, ◌<◌, Some, None, Err, is_some, true, false, IfOk, IfErr, OnOk, OnErr};
 ghost use Rattle.quic_sending.specs.Sending.{finish_refusal};
 ghost use Rattle.quic_outgoing.specs.History.{Finished, Reset, SetPriority, Continues};
 ghost use Rattle.quic_retransmits.specs.Pending.{pending_view};
 ghost use Rattle.quic_outgoing.specs.Seen.{senders, sender_room, sender_in};
-ghost use Rattle.quic_outgoing.specs.Calls.{QueuesAt, QueuesStreamAt, EndsHalf, EndsHalfIn, IsEndRefused, FinishesStream, ResetsStream, SetsPriority, told_of_half, end_refusal, is_reset_or_gone};
+ghost use Rattle.quic_outgoing.specs.Calls.{QueuesAt, QueuesStreamAt, EndsHalf, EndsHalfIn, IsEndRefused, HasRoomFor, FinishesStream, ResetsStream, SetsPriority, told_of_half, end_refusal, is_reset_or_gone};
 ghost use Rattle.quic_outgoing.specs.Shown.{outgoing_view, permit_room};
 
 use crate::entries::SendEntries;
 use crate::outgoing::OutgoingStreams;
 use crate::transmitting::take_half;
+use quic_queue::SendQueue;
 use quic_retransmits::Retransmits;
 use quic_sending::{ClosedStream, FinishError, HandleError, Send};
-use quic_values::{StreamId, VarInt};
+use quic_values::{OutOfMemory, StreamId, VarInt};
 use std::alloc::Global;
 
 #[tactic(auto, unfolding(crate::specs::Shown::outgoing_view, crate::specs::Shown::permit_room), using(crate::proofs::SenderMaps::sender_steps, crate::proofs::Histories::continues))]
 impl OutgoingStreams {
     /// Ends a stream: its end is to be sent, and nothing more is written. Answers the priority at which it is to be
-    /// queued, where nothing was to be sent on it before. If refused, all is as it was.
-    pub fn finish(&mut self, id: StreamId) -> Result<Option<i32>, FinishError>
+    /// queued, where nothing was to be sent on it before: room for it was made in `queue` at that priority, of which nothing
+    /// else changes. If refused, all is as it was.
+    pub fn finish(
+        &mut self,
+        queue: &mut SendQueue,
+        id: StreamId,
+    ) -> Result<Option<i32>, FinishError>
         ensures finishes { FinishesStream (outgoing_view self.old) id result (outgoing_view self.new) }
         ensures memory { result ≡ Err FinishError.OutOfMemory → end_refusal ((outgoing_view self.old).halves id) ≡ None }
+        ensures place { IfOk result (λ queue_at. HasRoomFor queue.new queue_at) }
+        ensures queue { record queue.new { reserved = None } ≡ record queue.old { reserved = None } }
         ensures from { Continues (outgoing_view self.old) (Finished id result) (outgoing_view self.new) }
     {
-        self.halves.finish(id)
-    }
-
-    /// Why a stream cannot be finished, if so.
-    #[inline]
-    pub fn finish_refusal(&self, id: StreamId) -> Option<FinishError>
-        ensures { result ≡ end_refusal ((outgoing_view self.now).halves id) }
-    {
-        self.halves.finish_refusal(id)
+        self.halves.finish(id, queue)
     }
 
     /// Gives a stream up: what is retained of it is let go, and RESET_STREAM is queued with this code (RFC 9000 section
@@ -123,10 +123,12 @@ impl OutgoingStreams {
 impl SendEntries {
     // Ends a stream, on its half where that lies. If refused, nothing changes.
     #[inline]
-    fn finish(&mut self, id: StreamId) -> Result<Option<i32>, FinishError>
+    fn finish(&mut self, id: StreamId, queue: &mut SendQueue) -> Result<Option<i32>, FinishError>
         ensures ok { IfOk result (λ queue. EndsHalfIn (senders self.old) id queue (senders self.new)) }
         ensures err { IfErr result (λ error. IsEndRefused (senders self.old id) error) }
         ensures memory { result ≡ Err FinishError.OutOfMemory → end_refusal (senders self.old id) ≡ None }
+        ensures place { IfOk result (λ queue_at. HasRoomFor queue.new queue_at) }
+        ensures queue { record queue.new { reserved = None } ≡ record queue.old { reserved = None } }
         ensures halves { OnErr result (senders self.new ≡ senders self.old) }
         ensures side { self.new.side ≡ self.old.side }
         ensures first { self.new.first ≡ self.old.first }
@@ -135,19 +137,7 @@ impl SendEntries {
         let limit = self.first_limit(id);
         match self.entries.get_mut(&id) {
             None => Err(FinishError::ClosedStream),
-            Some(entry) => finish_entry(self.alloc, limit, entry),
-        }
-    }
-
-    // Why a stream cannot be finished, if so.
-    #[inline]
-    fn finish_refusal(&self, id: StreamId) -> Option<FinishError>
-        ensures { result ≡ end_refusal (senders self.now id) }
-    {
-        match self.entries.get(&id) {
-            None => Some(FinishError::ClosedStream),
-            Some(None) => None,
-            Some(Some(half)) => refusal_of_end(half),
+            Some(entry) => finish_entry(self.alloc, limit, entry, queue),
         }
     }
 
@@ -183,18 +173,50 @@ fn finish_entry(
     alloc: Global,
     limit: VarInt,
     entry: &mut Option<Box<Send>>,
+    queue: &mut SendQueue,
 ) -> Result<Option<i32>, FinishError>
     ensures ok { IfOk result (λ queue. EndsHalf (sender_in limit entry.old) queue (sender_in limit entry.new)) }
     ensures err { IfErr result (λ error. IsEndRefused (Some (sender_in limit entry.old)) error) }
     ensures memory { result ≡ Err FinishError.OutOfMemory → finish_refusal (sender_in limit entry.old) ≡ None }
+    ensures place { IfOk result (λ queue_at. HasRoomFor queue.new queue_at) }
+    ensures queue { record queue.new { reserved = None } ≡ record queue.old { reserved = None } }
     ensures half { OnErr result (sender_in limit entry.new ≡ sender_in limit entry.old) }
 {
     let mut half = take_half(alloc, limit, entry)?;
-    let queue_at = queue_at(&half);
-    let answer = half.finish();
+    let answer = finish_half(&mut half, queue);
     *entry = Some(half);
-    answer?;
+    answer
+}
+
+// Ends a half. If refused, nothing changes.
+#[inline]
+fn finish_half(half: &mut Send, queue: &mut SendQueue) -> Result<Option<i32>, FinishError>
+    ensures ok { IfOk result (λ queue. EndsHalf half.old queue half.new) }
+    ensures err { IfErr result (λ error. IsEndRefused (Some half.old) error) }
+    ensures memory { result ≡ Err FinishError.OutOfMemory → finish_refusal half.old ≡ None }
+    ensures half { OnErr result (half.new ≡ half.old) }
+    ensures place { IfOk result (λ queue_at. HasRoomFor queue.new queue_at) }
+    ensures queue { record queue.new { reserved = None } ≡ record queue.old { reserved = None } }
+{
+    let queue_at = queue_at(half);
+    if let Err(refused) = reserve_for(queue, queue_at) {
+        // (a refusal that stays comes first)
+        return Err(refusal_of_end(half).unwrap_or(FinishError::from(refused)));
+    }
+    half.finish()?;
     Ok(queue_at)
+}
+
+// Makes room in the queue at a priority, where that is asked for. If refused, nothing changes.
+#[inline]
+pub(crate) fn reserve_for(queue: &mut SendQueue, queue_at: Option<i32>) -> Result<(), OutOfMemory>
+    ensures ok { OnOk result (HasRoomFor queue.new queue_at) }
+    ensures queue { record queue.new { reserved = None } ≡ record queue.old { reserved = None } }
+{
+    match queue_at {
+        Some(priority) => queue.reserve(priority),
+        None => Ok(()),
+    }
 }
 
 // The priority at which a stream is to be queued, where nothing was to be sent on it.

@@ -1,21 +1,22 @@
 //! Writes on a stream.
 
-ghost use Rattle.std.specs.Prelude.{◌≡◌, ◌≤◌, ◌<◌, ℕ, ℤ, Option, is_some, true, false, Some, None, Err, IfOk, IfErr, IfSome, IfNone, OnErr};
+ghost use Rattle.std.specs.Prelude.{◌≡◌, ◌≤◌, ◌<◌, is_some, true, false, Some, None, Err, IfOk, IfErr, OnErr};
 ghost use Rattle.quic_sending.specs.Sending.{write_refusal};
 ghost use Rattle.quic_retransmits.specs.Pending.{pending_view};
 ghost use Rattle.quic_outgoing.specs.Senders.{bare, first_limit};
 ghost use Rattle.quic_outgoing.specs.Outgoing.{is_stuck, with_send_half};
-ghost use Rattle.quic_outgoing.specs.Calls.{QueuesAt, QueuesElsewhere};
+ghost use Rattle.quic_outgoing.specs.Calls.{HasRoomFor};
 ghost use Rattle.quic_outgoing.specs.Seen.{senders, sender_room, sender_in};
 ghost use Rattle.quic_outgoing.specs.Writing.{WritesOn, RefusesWrite, TakesBytes, TakesBytesIn, IsRefusedBy, refusal_of_write, lasting_refusal, refusal_to_stay};
 ghost use Rattle.quic_outgoing.specs.History.{Writing, Continues};
 ghost use Rattle.quic_outgoing.specs.Shown.{outgoing_view, permit_room};
 
-use crate::closing::queue_at;
+use crate::closing::{queue_at, reserve_for};
 use crate::entries::{SendEntries, greater};
 use crate::outgoing::OutgoingStreams;
 use crate::transmitting::take_half;
 use crate::waiting::join_waiting;
+use quic_queue::SendQueue;
 use quic_retransmits::Retransmits;
 use quic_sending::{BytesSource, Send, WriteError, Written};
 use quic_values::{StreamId, VarInt};
@@ -40,76 +41,25 @@ impl OutgoingStreams {
     /// DATA_BLOCKED is queued once for each limit (RFC 9000 section 19.12). Where the limit of the stream leaves nothing,
     /// STREAM_DATA_BLOCKED is queued once for each limit (section 19.13). Other refusals change nothing: the stream is
     /// closed, or the peer stopped it, or memory runs out.
+    ///
+    /// Where the stream is to be queued, room for it was made in `queue` at its priority. Nothing else of the queue changes.
+    #[inline]
     pub fn write<S: BytesSource>(
         &mut self,
         pending: &mut Retransmits,
+        queue: &mut SendQueue,
         id: StreamId,
         source: &mut S,
     ) -> Result<Wrote, WriteError>
         ensures writes { WritesOn (outgoing_view self.old) id (S.lists source.old) (pending_view pending.old) result (outgoing_view self.new) (S.lists source.new) (pending_view pending.new) }
         ensures memory { result ≡ Err WriteError.OutOfMemory → refusal_to_stay (outgoing_view self.old) ((outgoing_view self.old).halves id) ≡ None }
+        ensures place { IfOk result (λ wrote. HasRoomFor queue.new wrote.queue_at) }
+        ensures queue { record queue.new { reserved = None } ≡ record queue.old { reserved = None } }
         ensures borrow { S.borrow source.new ≡ S.borrow source.old }
         ensures list_count { S.list_count source.new ≡ S.list_count source.old }
         ensures from { Continues (outgoing_view self.old) (Writing id (S.lists source.old) result) (outgoing_view self.new) }
     {
-        self.write_source(pending, id, source)
-    }
-
-    /// The same of a stream that is queued, or that is to be queued at this priority. `None`: it is to be queued at another,
-    /// and nothing changes.
-    #[inline]
-    pub fn write_at<S: BytesSource>(
-        &mut self,
-        pending: &mut Retransmits,
-        id: StreamId,
-        priority: i32,
-        source: &mut S,
-    ) -> Option<Result<Wrote, WriteError>>
-        ensures writes { IfSome result (λ answer. WritesOn (outgoing_view self.old) id (S.lists source.old) (pending_view pending.old) answer (outgoing_view self.new) (S.lists source.new) (pending_view pending.new)) }
-        ensures place { IfSome result (λ answer. IfOk answer (λ wrote. IfSome wrote.queue_at (λ p. p ≡ priority))) }
-        ensures memory { result ≡ Some (Err WriteError.OutOfMemory) → refusal_to_stay (outgoing_view self.old) ((outgoing_view self.old).halves id) ≡ None }
-        ensures elsewhere { IfNone result (QueuesElsewhere ((outgoing_view self.old).halves id) priority) }
-        ensures same { IfNone result (outgoing_view self.new ≡ outgoing_view self.old) }
-        ensures same_lists { IfNone result (S.lists source.new ≡ S.lists source.old) }
-        ensures same_pending { IfNone result (pending_view pending.new ≡ pending_view pending.old) }
-        ensures borrow { S.borrow source.new ≡ S.borrow source.old }
-        ensures list_count { S.list_count source.new ≡ S.list_count source.old }
-        ensures from { IfSome result (λ answer. Continues (outgoing_view self.old) (Writing id (S.lists source.old) answer) (outgoing_view self.new)) }
-    {
-        self.write_source_at(pending, id, priority, source)
-    }
-
-    // The same, each way out.
-    #[inline]
-    fn write_source_at<S: BytesSource>(
-        &mut self,
-        pending: &mut Retransmits,
-        id: StreamId,
-        priority: i32,
-        source: &mut S,
-    ) -> Option<Result<Wrote, WriteError>>
-        ensures writes { IfSome result (λ answer. WritesOn (outgoing_view self.old) id (S.lists source.old) (pending_view pending.old) answer (outgoing_view self.new) (S.lists source.new) (pending_view pending.new)) }
-        ensures place { IfSome result (λ answer. IfOk answer (λ wrote. IfSome wrote.queue_at (λ p. p ≡ priority))) }
-        ensures memory { result ≡ Some (Err WriteError.OutOfMemory) → refusal_to_stay (outgoing_view self.old) ((outgoing_view self.old).halves id) ≡ None }
-        ensures elsewhere { IfNone result (QueuesElsewhere ((outgoing_view self.old).halves id) priority) }
-        ensures same { IfNone result (outgoing_view self.new ≡ outgoing_view self.old) }
-        ensures same_lists { IfNone result (S.lists source.new ≡ S.lists source.old) }
-        ensures same_pending { IfNone result (pending_view pending.new ≡ pending_view pending.old) }
-        ensures borrow { S.borrow source.new ≡ S.borrow source.old }
-        ensures list_count { S.list_count source.new ≡ S.list_count source.old }
-    {
-        let limit = self.write_limit();
-        if limit == 0 {
-            return Some(Err(self.wait(pending, id)));
-        }
-        match self.halves.write_at(id, priority, source, limit)? {
-            Ok(wrote) => {
-                self.budget.sent(wrote.written.bytes as u64);
-                Some(Ok(wrote))
-            }
-            Err(WriteError::Blocked) => Some(Err(self.block(pending, id))),
-            Err(error) => Some(Err(error)),
-        }
+        self.write_source(pending, queue, id, source)
     }
 
     // The same, each way out.
@@ -117,11 +67,14 @@ impl OutgoingStreams {
     fn write_source<S: BytesSource>(
         &mut self,
         pending: &mut Retransmits,
+        queue: &mut SendQueue,
         id: StreamId,
         source: &mut S,
     ) -> Result<Wrote, WriteError>
         ensures writes { WritesOn (outgoing_view self.old) id (S.lists source.old) (pending_view pending.old) result (outgoing_view self.new) (S.lists source.new) (pending_view pending.new) }
         ensures memory { result ≡ Err WriteError.OutOfMemory → refusal_to_stay (outgoing_view self.old) ((outgoing_view self.old).halves id) ≡ None }
+        ensures place { IfOk result (λ wrote. HasRoomFor queue.new wrote.queue_at) }
+        ensures queue { record queue.new { reserved = None } ≡ record queue.old { reserved = None } }
         ensures borrow { S.borrow source.new ≡ S.borrow source.old }
         ensures list_count { S.list_count source.new ≡ S.list_count source.old }
     {
@@ -129,7 +82,7 @@ impl OutgoingStreams {
         if limit == 0 {
             return Err(self.wait(pending, id));
         }
-        match self.halves.write(id, source, limit) {
+        match self.halves.write(id, queue, source, limit) {
             Ok(wrote) => {
                 self.budget.sent(wrote.written.bytes as u64);
                 Ok(wrote)
@@ -137,14 +90,6 @@ impl OutgoingStreams {
             Err(WriteError::Blocked) => Err(self.block(pending, id)),
             Err(error) => Err(error),
         }
-    }
-
-    /// Why nothing may be written on a stream whatever its limits become, if so: it is closed, or the peer stopped it.
-    #[inline]
-    pub fn lasting_refusal(&self, id: StreamId) -> Option<WriteError>
-        ensures { result ≡ lasting_refusal ((outgoing_view self.now).halves id) }
-    {
-        self.halves.lasting_refusal(id)
     }
 
     // Nothing may be written on any stream: this one waits, and the peer is told. Answers why nothing is taken.
@@ -217,29 +162,20 @@ impl SendEntries {
         self.entries.get(&id).is_some()
     }
 
-    // Why nothing may be written on a stream whatever its limits become, if so.
-    #[inline]
-    fn lasting_refusal(&self, id: StreamId) -> Option<WriteError>
-        ensures { result ≡ lasting_refusal (senders self.now id) }
-    {
-        match self.entries.get(&id) {
-            None => Some(WriteError::ClosedStream),
-            Some(None) => None,
-            Some(Some(half)) => refusal_of_half(half),
-        }
-    }
-
     // Writes on the half of a stream, where it lies. If refused, nothing changes.
     #[inline]
     fn write<S: BytesSource>(
         &mut self,
         id: StreamId,
+        queue: &mut SendQueue,
         source: &mut S,
         limit: u64,
     ) -> Result<Wrote, WriteError>
         ensures ok { IfOk result (λ wrote. TakesBytesIn limit (senders self.old) id (S.lists source.old) wrote (S.lists source.new) (senders self.new)) }
         ensures err { IfErr result (λ error. IsRefusedBy (senders self.old id) error) }
         ensures memory { result ≡ Err WriteError.OutOfMemory → lasting_refusal (senders self.old id) ≡ None }
+        ensures place { IfOk result (λ wrote. HasRoomFor queue.new wrote.queue_at) }
+        ensures queue { record queue.new { reserved = None } ≡ record queue.old { reserved = None } }
         ensures halves { OnErr result (senders self.new ≡ senders self.old) }
         ensures lists { OnErr result (S.lists source.new ≡ S.lists source.old) }
         ensures borrow { S.borrow source.new ≡ S.borrow source.old }
@@ -251,59 +187,12 @@ impl SendEntries {
         let first_limit = self.first_limit(id);
         match self.entries.get_mut(&id) {
             None => Err(WriteError::ClosedStream),
-            Some(entry) => write_of_entry(self.alloc, first_limit, entry, source, limit),
+            Some(entry) => write_of_entry(self.alloc, first_limit, entry, queue, source, limit),
         }
-    }
-
-    // The same, where the stream is queued, or is to be queued at this priority. `None`: it is to be queued at another, and
-    // nothing changes.
-    #[inline]
-    fn write_at<S: BytesSource>(
-        &mut self,
-        id: StreamId,
-        priority: i32,
-        source: &mut S,
-        limit: u64,
-    ) -> Option<Result<Wrote, WriteError>>
-        ensures ok { IfSome result (λ answer. IfOk answer (λ wrote. TakesBytesIn limit (senders self.old) id (S.lists source.old) wrote (S.lists source.new) (senders self.new))) }
-        ensures place { IfSome result (λ answer. IfOk answer (λ wrote. IfSome wrote.queue_at (λ p. p ≡ priority))) }
-        ensures err { IfSome result (λ answer. IfErr answer (λ error. IsRefusedBy (senders self.old id) error)) }
-        ensures memory { result ≡ Some (Err WriteError.OutOfMemory) → lasting_refusal (senders self.old id) ≡ None }
-        ensures halves { IfSome result (λ answer. OnErr answer (senders self.new ≡ senders self.old)) }
-        ensures lists { IfSome result (λ answer. OnErr answer (S.lists source.new ≡ S.lists source.old)) }
-        ensures elsewhere { IfNone result (QueuesElsewhere (senders self.old id) priority) }
-        ensures same { IfNone result (senders self.new ≡ senders self.old) }
-        ensures same_lists { IfNone result (S.lists source.new ≡ S.lists source.old) }
-        ensures borrow { S.borrow source.new ≡ S.borrow source.old }
-        ensures list_count { S.list_count source.new ≡ S.list_count source.old }
-        ensures side { self.new.side ≡ self.old.side }
-        ensures first { self.new.first ≡ self.old.first }
-        ensures room { sender_room self.new ≡ sender_room self.old }
-    {
-        let first_limit = self.first_limit(id);
-        let Some(entry) = self.entries.get_mut(&id) else {
-            return Some(Err(WriteError::ClosedStream));
-        };
-        if !is_placed_at(entry, priority) {
-            return None;
-        }
-        Some(write_of_entry(self.alloc, first_limit, entry, source, limit))
     }
 }
 
-// Whether the stream of an entry is queued, or is to be queued at this priority.
-#[inline]
-fn is_placed_at(entry: &Option<Box<Send>>, priority: i32) -> bool
-    ensures yes { result ≡ true → (first_limit : ℕ) (queue : Option ℤ) → QueuesAt (sender_in first_limit entry.now) queue → IfSome queue (λ p. p ≡ priority) }
-    ensures no { result ≡ false → (first_limit : ℕ) → QueuesElsewhere (Some (sender_in first_limit entry.now)) priority }
-{
-    match entry {
-        None => priority == 0,
-        Some(half) => half.is_pending() || half.priority == priority,
-    }
-}
-
-// The same of a half.
+// Why nothing may be written on a half whatever its limits become, if so.
 fn refusal_of_half(half: &Send) -> Option<WriteError>
     ensures { result ≡ lasting_refusal (Some half.now) }
 {
@@ -322,12 +211,15 @@ fn write_of_entry<S: BytesSource>(
     alloc: Global,
     first_limit: VarInt,
     entry: &mut Option<Box<Send>>,
+    queue: &mut SendQueue,
     source: &mut S,
     limit: u64,
 ) -> Result<Wrote, WriteError>
     ensures ok { IfOk result (λ wrote. TakesBytes limit (sender_in first_limit entry.old) (S.lists source.old) wrote (S.lists source.new) (sender_in first_limit entry.new)) }
     ensures err { IfErr result (λ error. IsRefusedBy (Some (sender_in first_limit entry.old)) error) }
     ensures memory { result ≡ Err WriteError.OutOfMemory → lasting_refusal (Some (sender_in first_limit entry.old)) ≡ None }
+    ensures place { IfOk result (λ wrote. HasRoomFor queue.new wrote.queue_at) }
+    ensures queue { record queue.new { reserved = None } ≡ record queue.old { reserved = None } }
     ensures half { OnErr result (sender_in first_limit entry.new ≡ sender_in first_limit entry.old) }
     ensures lists { OnErr result (S.lists source.new ≡ S.lists source.old) }
     ensures borrow { S.borrow source.new ≡ S.borrow source.old }
@@ -335,7 +227,7 @@ fn write_of_entry<S: BytesSource>(
 {
     let mut half = take_half(alloc, first_limit, entry)?;
     half.max_data = greater(half.max_data, first_limit);
-    let wrote = write_on(&mut half, source, limit);
+    let wrote = write_on(&mut half, queue, source, limit);
     *entry = Some(half);
     wrote
 }
@@ -344,18 +236,25 @@ fn write_of_entry<S: BytesSource>(
 #[inline]
 fn write_on<S: BytesSource>(
     half: &mut Send,
+    queue: &mut SendQueue,
     source: &mut S,
     limit: u64,
 ) -> Result<Wrote, WriteError>
     ensures ok { IfOk result (λ wrote. TakesBytes limit half.old (S.lists source.old) wrote (S.lists source.new) half.new) }
     ensures err { IfErr result (λ error. IsRefusedBy (Some half.old) error) }
     ensures memory { result ≡ Err WriteError.OutOfMemory → lasting_refusal (Some half.old) ≡ None }
+    ensures place { IfOk result (λ wrote. HasRoomFor queue.new wrote.queue_at) }
+    ensures queue { record queue.new { reserved = None } ≡ record queue.old { reserved = None } }
     ensures half { OnErr result (bare half.new ≡ bare half.old) }
     ensures lists { OnErr result (S.lists source.new ≡ S.lists source.old) }
     ensures borrow { S.borrow source.new ≡ S.borrow source.old }
     ensures list_count { S.list_count source.new ≡ S.list_count source.old }
 {
     let queue_at = queue_at(half);
+    if let Err(refused) = reserve_for(queue, queue_at) {
+        // (a refusal that stays comes first)
+        return Err(refusal_of_half(half).unwrap_or(WriteError::from(refused)));
+    }
     let written = half.write(source, limit)?;
     Ok(Wrote { written, queue_at })
 }

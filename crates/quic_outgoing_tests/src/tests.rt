@@ -8,6 +8,7 @@ mod sizes;
 mod transmitting;
 
 use quic_outgoing::{OutgoingStreams, PeerLimits, WrittenFrame, Wrote};
+use quic_queue::SendQueue;
 use quic_retransmits::Retransmits;
 use quic_sending::{ByteSlice, BytesSource, ClosedStream, FinishError, HandleError, WriteError};
 use quic_values::{Dir, OutOfMemory, Side, StreamId, VarInt};
@@ -76,6 +77,7 @@ enum Step {
 struct Subject {
     pub state: OutgoingStreams,
     pub pending: Retransmits,
+    pub queue: SendQueue,
 }
 
 // The calls, with nothing of what they promise: a test looks at what they answer and leave.
@@ -99,23 +101,13 @@ fn write<S: BytesSource>(
     stream: StreamId,
     source: &mut S,
 ) -> Result<Wrote, WriteError> {
-    subject.state.write(&mut subject.pending, stream, source)
-}
-
-// The same of a stream that is queued, or is to be queued at a priority.
-fn write_at<S: BytesSource>(
-    subject: &mut Subject,
-    stream: u32,
-    priority: i32,
-    source: &mut S,
-) -> Option<Result<Wrote, WriteError>> {
     subject
         .state
-        .write_at(&mut subject.pending, id(stream), priority, source)
+        .write(&mut subject.pending, &mut subject.queue, stream, source)
 }
 
 fn try_finish(subject: &mut Subject, stream: StreamId) -> Result<Option<i32>, FinishError> {
-    subject.state.finish(stream)
+    subject.state.finish(&mut subject.queue, stream)
 }
 
 fn try_reset(subject: &mut Subject, stream: StreamId, code: VarInt) -> Result<(), HandleError> {
@@ -246,6 +238,7 @@ fn end(alloc: Global, side: Side, streams: u32, data: u32, stream_data: u32) -> 
     Subject {
         state,
         pending: Retransmits::new(alloc),
+        queue: SendQueue::new(alloc),
     }
 }
 

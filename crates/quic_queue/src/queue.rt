@@ -402,18 +402,6 @@ impl SendQueue {
         Ok(())
     }
 
-    /// Makes room for one stream of the priority for which it costs least, in place of the room that was there. Answers
-    /// which priority that is. Nothing changes if memory runs out.
-    #[inline]
-    pub fn reserve_any(&mut self) -> Result<i32, OutOfMemory>
-        ensures ok { IfOk result (λ priority. self.new ≡ record self.old { reserved = Some priority }) }
-        ensures err { OnErr result (self.new ≡ self.old) }
-    {
-        let priority = self.top.priority;
-        self.reserve(priority)?;
-        Ok(priority)
-    }
-
     /// Lets the room go that was made and not used.
     #[inline]
     pub fn release(&mut self)

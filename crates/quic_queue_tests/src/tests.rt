@@ -54,13 +54,6 @@ fn put(queue: &mut SendQueue, index: u32, priority: i32) -> Result<(), OutOfMemo
     Ok(())
 }
 
-// Puts a stream where room costs least, and answers at which priority.
-fn put_at_least_cost(queue: &mut SendQueue, index: u32) -> Result<i32, OutOfMemory> {
-    let priority = queue.reserve_any()?;
-    queue.put(stream(index), priority);
-    Ok(priority)
-}
-
 // The turn of the next stream, which is put anew at a priority.
 fn put_anew(queue: &mut SendQueue, priority: i32) -> Result<Option<Entry>, OutOfMemory> {
     let first = queue.first();
@@ -100,19 +93,6 @@ fn a_thousand_priorities(rt: HostRuntime) -> Result<(), Fail> {
         let first = take_first(&mut queue).ok_or("empty")?;
         same(&rt, first.priority, priority);
     }
-    is_true(&rt, is_empty(&queue));
-    Ok(())
-}
-
-#[test]
-fn room_costs_least_at_the_highest_priority(rt: HostRuntime) -> Result<(), Fail> {
-    let mut queue = SendQueue::new(rt.alloc());
-    put(&mut queue, 0, -3)?;
-    put(&mut queue, 1, 7)?;
-    same(&rt, put_at_least_cost(&mut queue, 2), Ok(7));
-    same(&rt, take_first(&mut queue), Some(entry(1, 7)));
-    same(&rt, take_first(&mut queue), Some(entry(2, 7)));
-    same(&rt, take_first(&mut queue), Some(entry(0, -3)));
     is_true(&rt, is_empty(&queue));
     Ok(())
 }

@@ -1,12 +1,10 @@
 //! Writes, ends and resets of a stream, on the state.
 
-ghost use Rattle.std.specs.Prelude.{ℕ, ℤ, List, ◌∷◌, ◌≡◌, ◌≤◌, OnErr, OnOk, IfOk, IfErr, IfSome, IfNone, None, Some, Ok, Err, is_some, unwrap_or, true, false};
+ghost use Rattle.std.specs.Prelude.{ℕ, ℤ, List, ◌∷◌, ◌≡◌, ◌≤◌, OnErr, OnOk, IfOk, None, Some, Ok, Err, is_some, true, false};
 ghost use Rattle.quic_sending.specs.Source.{slice_lists, without_first};
 ghost use Rattle.quic_retransmits.specs.Pending.{pending_view};
-ghost use Rattle.quic_outgoing.specs.Outgoing.{is_stuck};
 ghost use Rattle.quic_outgoing.specs.Calls.{end_refusal, is_reset_or_gone};
-ghost use Rattle.quic_outgoing.specs.Writing.{lasting_refusal, refusal_to_stay};
-ghost use Rattle.quic_outgoing.specs.Shown.{outgoing_view};
+ghost use Rattle.quic_outgoing.specs.Writing.{refusal_to_stay};
 ghost use Rattle.quic_streams.specs.Connection.{is_shut};
 ghost use Rattle.quic_streams.specs.Shown.{streams_view};
 ghost use Rattle.quic_streams.specs.Writing.{IsWrittenAs, HasPlace, HasPlaceAt, MayWantPlace};
@@ -14,7 +12,6 @@ ghost use Rattle.quic_history.specs.Writes.{WritesOwn, FinishesOwn, ResetsOwn, S
 
 use crate::state::StreamsState;
 use crate::streams::ConnState;
-use quic_outgoing::Wrote;
 use quic_receiving::HandleError;
 use quic_retransmits::Retransmits;
 use quic_sending::{ByteSlice, BytesArray, BytesSource, FinishError, WriteError, Written};
@@ -74,59 +71,7 @@ impl StreamsState {
         if matches!(conn, ConnState::Closed) {
             return Err(WriteError::Blocked);
         }
-        if let Some(answer) = self.write_in_turn(pending, id, source) {
-            return answer;
-        }
-        if let Err(refused) = self.reserve_write_place(id) {
-            return Err(self.write_refusal(id, refused));
-        }
-        let answer = self.outgoing.write(pending, id, source);
-        self.queue_written(id, answer)
-    }
-
-    // The same with room at the priority for which it costs least, so that the stream is looked up once. `None`: there is no
-    // memory, or the stream is to be queued at another, and nothing changes.
-    #[inline]
-    fn write_in_turn<S: BytesSource>(
-        &mut self,
-        pending: &mut Retransmits,
-        id: StreamId,
-        source: &mut S,
-    ) -> Option<Result<Written, WriteError>>
-        ensures writes { IfSome result (λ answer. WritesOwn (streams_view self.old) id (S.lists source.old) false (pending_view pending.old) answer (streams_view self.new) (S.lists source.new) (pending_view pending.new)) }
-        ensures memory { result ≡ Some (Err WriteError.OutOfMemory) → refusal_to_stay (streams_view self.old).out ((streams_view self.old).out.halves id) ≡ None }
-        ensures same { IfNone result (streams_view self.new ≡ streams_view self.old) }
-        ensures same_lists { IfNone result (S.lists source.new ≡ S.lists source.old) }
-        ensures same_pending { IfNone result (pending_view pending.new ≡ pending_view pending.old) }
-        ensures borrow { S.borrow source.new ≡ S.borrow source.old }
-        ensures list_count { S.list_count source.new ≡ S.list_count source.old }
-    {
-        let Ok(priority) = self.queue.reserve_any() else {
-            return None;
-        };
-        match self.outgoing.write_at(pending, id, priority, source) {
-            None => {
-                self.queue.release();
-                None
-            }
-            Some(answer) => Some(self.queue_written(id, answer)),
-        }
-    }
-
-    // Queues a stream where what was written on it asks for that, in room that was made.
-    #[inline]
-    fn queue_written(
-        &mut self,
-        id: StreamId,
-        answer: Result<Wrote, WriteError>,
-    ) -> Result<Written, WriteError>
-        requires { IfOk answer (λ wrote. HasPlaceAt self.old wrote.queue_at) }
-        ensures ok { IfOk answer (λ wrote. streams_view self.new ≡ with_queued (streams_view self.old) id wrote.queue_at) }
-        ensures written { IfOk answer (λ wrote. result ≡ Ok wrote.written) }
-        ensures err { IfErr answer (λ error. result ≡ Err error) }
-        ensures same { OnErr answer (streams_view self.new ≡ streams_view self.old) }
-    {
-        match answer {
+        match self.outgoing.write(pending, &mut self.queue, id, source) {
             Err(error) => {
                 self.queue.release();
                 Err(error)
@@ -136,29 +81,6 @@ impl StreamsState {
                 Ok(wrote.written)
             }
         }
-    }
-
-    // Why nothing is written on a stream for which no room was made: a refusal that stays comes first.
-    fn write_refusal(&self, id: StreamId, refused: OutOfMemory) -> WriteError
-        ensures { result ≡ unwrap_or (lasting_refusal ((streams_view self.now).out.halves id)) WriteError.OutOfMemory }
-    {
-        match self.outgoing.lasting_refusal(id) {
-            Some(error) => error,
-            None => WriteError::from(refused),
-        }
-    }
-
-    // Makes the room to queue a stream that is to be written, unless nothing may be written on any.
-    #[inline]
-    fn reserve_write_place(&mut self, id: StreamId) -> Result<(), OutOfMemory>
-        ensures same { streams_view self.new ≡ streams_view self.old }
-        ensures ok { OnOk result (is_stuck (outgoing_view self.old.outgoing) ≡ false → HasPlace self.new id) }
-        ensures free { OnErr result (is_stuck (outgoing_view self.old.outgoing) ≡ false) }
-    {
-        if self.outgoing.write_limit() == 0 {
-            return Ok(());
-        }
-        self.reserve_place(id)
     }
 
     // Makes the room to queue a stream at its priority, where it is held and nothing is to be sent on it.
@@ -192,13 +114,7 @@ impl StreamsState {
         ensures finishes { FinishesOwn (streams_view self.old) id result (streams_view self.new) }
         ensures memory { result ≡ Err FinishError.OutOfMemory → end_refusal ((streams_view self.old).out.halves id) ≡ None }
     {
-        if let Err(refused) = self.reserve_place(id) {
-            return match self.outgoing.finish_refusal(id) {
-                Some(error) => Err(error),
-                None => Err(FinishError::from(refused)),
-            };
-        }
-        match self.outgoing.finish(id) {
+        match self.outgoing.finish(&mut self.queue, id) {
             Err(error) => {
                 self.queue.release();
                 Err(error)

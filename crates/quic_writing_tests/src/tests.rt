@@ -73,9 +73,10 @@ fn put(session: &mut Session, stream: u32, priority: Option<i32>) -> Result<(), 
 fn write(session: &mut Session, stream: u32, byte: u8, count: usize) -> Result<(), OutOfMemory> {
     let bytes = vec![in session.alloc; byte; count]?;
     let mut source = ByteSlice::from_slice(session.alloc, bytes.as_slice());
+    let (pending, queue) = (&mut session.pending, &mut session.queue);
     match session
         .streams
-        .write(&mut session.pending, id(stream), &mut source)
+        .write(pending, queue, id(stream), &mut source)
     {
         Ok(wrote) => put(session, stream, wrote.queue_at),
         Err(_) => Err(OutOfMemory),

@@ -1,8 +1,5 @@
-// Writes and frames of streams at a priority.
-use super::{
-    Answer, Step, Subject, TEXT, end, is_true, next_frame_at, refused, run, same, take, write_at,
-};
-use quic_sending::ByteSlice;
+// Frames of streams at a priority.
+use super::{Answer, Step, Subject, end, is_true, next_frame_at, run, take};
 use quic_values::{Dir, OutOfMemory, Side};
 use std::alloc::Global;
 use std::rt::HostRuntime;
@@ -78,67 +75,5 @@ fn frames_of_streams_at_a_priority(rt: HostRuntime) -> Result<(), Fail> {
     is_true(&rt, is_passed_over(alloc, &mut subject, 14, 0));
     take(&rt, alloc, &mut subject, Step::Remove(2));
     is_true(&rt, is_passed_over(alloc, &mut subject, 2, 3));
-    Ok(())
-}
-
-// What came of a write of so many bytes at a priority, and at which the stream is to be queued.
-fn written_at(
-    alloc: Global,
-    subject: &mut Subject,
-    stream: u32,
-    priority: i32,
-    count: usize,
-) -> Option<(Answer, Option<i32>)> {
-    let mut source = ByteSlice::from_slice(alloc, &TEXT[..count.min(TEXT.len())]);
-    match write_at(subject, stream, priority, &mut source)? {
-        Ok(wrote) => {
-            let answer = Answer::Took(wrote.written.bytes, wrote.queue_at.is_some());
-            Some((answer, wrote.queue_at))
-        }
-        Err(error) => Some((refused(error), None)),
-    }
-}
-
-#[test]
-fn writes_of_streams_at_a_priority(rt: HostRuntime) -> Result<(), Fail> {
-    let alloc = rt.alloc();
-    let mut subject = end(alloc, Side::Client, 4, 12, 1000);
-    let opens = [
-        Step::Open(Dir::Uni, Some(2)),
-        Step::Open(Dir::Uni, Some(6)),
-        Step::SetPriority(2, 3),
-    ];
-    run(&rt, alloc, &mut subject, &opens);
-    // One that is to be queued at another priority, and one that was not used.
-    same(&rt, written_at(alloc, &mut subject, 2, 0, 5), None);
-    same(&rt, written_at(alloc, &mut subject, 6, 3, 5), None);
-    let took = |count, queue_at: Option<i32>| Some((
-        Answer::Took(count, queue_at.is_some()),
-        queue_at,
-    ));
-    same(
-        &rt,
-        written_at(alloc, &mut subject, 2, 3, 5),
-        took(5, Some(3)),
-    );
-    same(
-        &rt,
-        written_at(alloc, &mut subject, 6, 0, 2),
-        took(2, Some(0)),
-    );
-    // One that is queued, whatever its priority.
-    same(&rt, written_at(alloc, &mut subject, 2, 0, 5), took(5, None));
-    // One that is not held, and one on which nothing may be written as on no other.
-    same(
-        &rt,
-        written_at(alloc, &mut subject, 14, 0, 1),
-        Some((Answer::Closed, None)),
-    );
-    same(
-        &rt,
-        written_at(alloc, &mut subject, 2, 0, 1),
-        Some((Answer::Blocked, None)),
-    );
-    take(&rt, alloc, &mut subject, Step::Blocked(true, true));
     Ok(())
 }
