@@ -1,6 +1,6 @@
 //! Runs with known answers. Those of single steps stand in the sessions of `streampair`.
 use quic_assembler::Chunk;
-use quic_pair::{Config, End, Last, Pair, PairError, Reply, Step};
+use quic_pair::{Config, End, Last, Pair, PairError, Reply, Step, StepTaken};
 use quic_wire::{Bytes, Dir, OutOfMemory, Side, StreamEvent, StreamId, VarInt};
 use std::alloc::Global;
 use std::fmt::Debug;
@@ -173,11 +173,28 @@ fn replies_with_a_loss(alloc: Global) -> Result<Vec<Result<Reply, PairError>>, O
     Ok(replies)
 }
 
+// The calls on a pair, with nothing of what they promise: a test looks at what they answer.
 fn replies_of(
     pair: &mut Pair,
     steps: Vec<Step>,
 ) -> Result<Vec<Result<Reply, PairError>>, OutOfMemory> {
     pair.run(steps)
+}
+
+fn reply_to(pair: &mut Pair, step: Step) -> Result<Reply, PairError> {
+    pair.step(step)
+}
+
+fn settling_of(pair: &mut Pair) -> (Vec<StepTaken>, Result<(), PairError>) {
+    pair.settle()
+}
+
+fn was_given(pair: &Pair, who: End, id: StreamId) -> bool {
+    pair.end(who).was_given(id)
+}
+
+fn payload_of(pair: &Pair, number: usize) -> Option<&[u8]> {
+    pair.payload(number)
 }
 
 #[test]

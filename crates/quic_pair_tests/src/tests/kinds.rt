@@ -5,7 +5,7 @@ ghost use Rattle.std.specs.List.{zip};
 ghost use Rattle.quic_pair.specs.State.{pair_view};
 ghost use Rattle.quic_pair.specs.From.{PairFrom, at_once};
 
-use super::{bytes, config, is_true, payload, same};
+use super::{bytes, config, is_true, payload, payload_of, same, was_given};
 use quic_assembler::Chunk;
 use quic_pair::{Config, End, Last, Pair, PairError, Reply, Step};
 use quic_sending::Written;
@@ -27,6 +27,11 @@ fn take_all(alloc: Global, a: Config, b: Config, steps: Vec<Step>) -> Result<Tak
     let mut pair = Pair::new(alloc, a, b)?;
     let replies = pair.run(steps)?;
     Ok(Taken { pair, replies })
+}
+
+// The same, with nothing of what is promised.
+fn taken_of(alloc: Global, steps: Vec<Step>) -> Result<Taken, OutOfMemory> {
+    take_all(alloc, config(1000), config(1000), steps)
 }
 
 fn stream() -> StreamId {
@@ -183,7 +188,7 @@ fn every_kind_of_step_is_answered(rt: HostRuntime) -> Result<(), Fail> {
     push_data(alloc, &mut steps)?;
     push_reader(&mut steps)?;
     push_control(&mut steps)?;
-    let taken = take_all(alloc, config(1000), config(1000), steps)?;
+    let taken = taken_of(alloc, steps)?;
     let mut replies = Vec::new(alloc);
     push_replies_on_data(alloc, &mut replies)?;
     push_replies_to_reader(alloc, &mut replies)?;
@@ -193,11 +198,11 @@ fn every_kind_of_step_is_answered(rt: HostRuntime) -> Result<(), Fail> {
         assert!(rt; reply == wanted, "{number}: {reply:?}");
     }
     let pair = &taken.pair;
-    is_true(&rt, pair.end(End::B).was_given(stream()));
-    is_true(&rt, pair.end(End::A).was_given(given_up()));
-    is_true(&rt, !pair.end(End::B).was_given(given_up()));
+    is_true(&rt, was_given(pair, End::B, stream()));
+    is_true(&rt, was_given(pair, End::A, given_up()));
+    is_true(&rt, !was_given(pair, End::B, given_up()));
     let first = b"\x0a\x00\x05hiabc".as_slice();
-    same(&rt, pair.payload(0), Some(first));
-    same(&rt, pair.payload(4), None);
+    same(&rt, payload_of(pair, 0), Some(first));
+    same(&rt, payload_of(pair, 4), None);
     Ok(())
 }

@@ -1,5 +1,8 @@
 //! A network that is fair from now on completes what was begun.
-use super::{acknowledge, bytes, deliver, emit, is_true, new_pair, same, stream};
+use super::{
+    acknowledge, bytes, deliver, emit, is_true, new_pair, replies_of, reply_to, same, settling_of,
+    stream,
+};
 use quic_assembler::Chunk;
 use quic_pair::{End, Last, Pair, PairError, Reply, Step};
 use quic_values::{Dir, OutOfMemory, Side, StreamId, VarInt};
@@ -66,7 +69,7 @@ fn settle(alloc: Global, pair: &mut Pair, id: StreamId) -> Result<Told, OutOfMem
         finished: 0,
         stopped: 0,
     };
-    let (taken, answer) = pair.settle();
+    let (taken, answer) = settling_of(pair);
     if answer.is_err() {
         return Err(OutOfMemory);
     }
@@ -90,7 +93,7 @@ fn lose_all(alloc: Global, pair: &mut Pair) -> Result<(), OutOfMemory> {
     steps.push(emit(100))?;
     steps.push(Step::Lose { payload: 0 })?;
     steps.push(emit(100))?;
-    let _replies = pair.run(steps)?;
+    let _replies = replies_of(pair, steps)?;
     Ok(())
 }
 
@@ -112,13 +115,12 @@ fn a_full_window_is_opened_again(rt: HostRuntime) -> Result<(), Fail> {
     let alloc = rt.alloc();
     let (who, id, dir) = (End::A, stream(), Dir::Uni);
     let mut pair = new_pair(alloc, 4)?;
-    is_true(&rt, pair.step(Step::Open { who, dir }) == Ok(Reply::Id(id)));
+    let opened = reply_to(&mut pair, Step::Open { who, dir });
+    is_true(&rt, opened == Ok(Reply::Id(id)));
     for _ in 0..3u32 {
         let bytes = bytes(alloc, b"abcde")?;
-        is_true(
-            &rt,
-            pair.step(Step::Write { who, id, bytes }) == Ok(Reply::Wrote(4)),
-        );
+        let wrote = reply_to(&mut pair, Step::Write { who, id, bytes });
+        is_true(&rt, wrote == Ok(Reply::Wrote(4)));
         let told = settle(alloc, &mut pair, id)?;
         is_true(&rt, told.bytes.as_slice() == b"abcd".as_slice());
         same(&rt, told.ends, 0);
@@ -148,7 +150,7 @@ fn finish_one_and_give_up_another(alloc: Global, pair: &mut Pair) -> Result<(), 
         id: other,
         code: VarInt::from(7u32),
     })?;
-    let _replies = pair.run(steps)?;
+    let _replies = replies_of(pair, steps)?;
     Ok(())
 }
 
@@ -196,7 +198,7 @@ fn a_stop_is_told_to_the_writer_once(rt: HostRuntime) -> Result<(), Fail> {
         id,
         code: nine(),
     })?;
-    let _replies = pair.run(steps)?;
+    let _replies = replies_of(&mut pair, steps)?;
     let told = settle(alloc, &mut pair, id)?;
     same(&rt, told.stopped, 1);
     let again = settle(alloc, &mut pair, id)?;
