@@ -25,11 +25,12 @@ LIB := build/lib
 
 all: $(LIB)/libquic_streams.a $(LIB)/libquic_streams.so $(LIB)/pkgconfig/quic_streams.pc
 
-# The archive of the crate is made by rt, which says itself whether anything changed.
+# The archive of the crate is made by rt, where a crate or the kit is newer. (rt may leave it as it is.)
 ifeq ($(origin ARCHIVE),file)
-.PHONY: $(ARCHIVE)
-$(ARCHIVE):
+SOURCES := $(shell find crates -path '*/out' -prune -o \( -name '*.rt' -o -name '*.antt' \) -print)
+$(ARCHIVE): crates.txt $(SOURCES) $(KIT)KIT-ID
 	cd $(CRATE) && rt lib
+	touch $@
 endif
 
 $(LIB)/libquic_streams.a: $(ARCHIVE) $(PARTS)

@@ -1,7 +1,9 @@
-/* The cases g, h and i of docs/PERFORMANCE.md through the C interface: the same work as that of the crate stream_cases,
- * done by calls of quic_streams.h alone, with the same check numbers.
+/* The cases g, h and i of docs/PERFORMANCE.md through the C interface: the same
+ * work as that of the crate stream_cases, done by calls of quic_streams.h
+ * alone, with the same check numbers.
  *
- * Built with -DALONE it is a program: `cases g 1000000` runs one case on a content of its own, and prints its number.
+ * Built with -DALONE it is a program: `cases g 1000000` runs one case on a
+ * content of its own, and prints its number.
  */
 #include "quic_streams.h"
 
@@ -56,9 +58,11 @@ typedef struct {
 } pair;
 
 static int open_end(qs_conn *conn, uint32_t side, uint64_t count) {
-  qs_config config = {sizeof config, side, count, 0, LIMIT, LIMIT, LIMIT, QS_NONE, 0};
+  qs_config config = {sizeof config, side,  count,   0, LIMIT,
+                      LIMIT,         LIMIT, QS_NONE, 0};
   qs_peer_limits limits = {LIMIT, 0, count, LIMIT, LIMIT, LIMIT, QS_NONE};
-  return qs_conn_open(conn, &config) == QS_OK && qs_set_peer_limits(conn, &limits) == QS_OK;
+  return qs_conn_open(conn, &config) == QS_OK &&
+         qs_set_peer_limits(conn, &limits) == QS_OK;
 }
 
 static pair *open_pair(uint64_t count, uint64_t stream_len, int lossy) {
@@ -67,7 +71,8 @@ static pair *open_pair(uint64_t count, uint64_t stream_len, int lossy) {
     return NULL;
   p->lossy = lossy;
   p->stream_len = stream_len;
-  if (open_end(&p->client, QS_CLIENT, count) && open_end(&p->server, QS_SERVER, count))
+  if (open_end(&p->client, QS_CLIENT, count) &&
+      open_end(&p->server, QS_SERVER, count))
     return p;
   qs_conn_free(&p->client);
   free(p);
@@ -89,14 +94,16 @@ static int deliver(qs_conn *to, const uint8_t *payload, size_t len) {
 }
 
 /* Has the next payload of an end written, and sums its bytes. */
-static int32_t emit(qs_conn *from, seen *sum, const uint8_t **payload, qs_payload *head) {
+static int32_t emit(qs_conn *from, seen *sum, const uint8_t **payload,
+                    qs_payload *head) {
   int32_t answer = qs_emit_lent(from, QS_ALL, 1, PIECE, payload, head);
   if (answer == QS_OK)
     see_next(sum, *payload, (size_t)head->len);
   return answer;
 }
 
-/* Up to 32 payloads of the client, which are delivered but for the lost ones. Answers whether there were any. */
+/* Up to 32 payloads of the client, which are delivered but for the lost ones.
+ * Answers whether there were any. */
 static int send_some(pair *p, int *some) {
   const uint8_t *payload = NULL;
   qs_payload head = {0, 0, 0};
@@ -134,7 +141,8 @@ static int read_stream(pair *p, uint64_t id) {
   int32_t answer = QS_OK;
   while (answer == QS_OK) {
     size_t count = 0;
-    answer = qs_stream_read_many(&p->server, id, p->buffer, sizeof p->buffer, &count, &offset, &code);
+    answer = qs_stream_read_many(&p->server, id, p->buffer, sizeof p->buffer,
+                                 &count, &offset, &code);
     see(&p->read, first + offset, p->buffer, count);
   }
   p->ended += answer == QS_END;
@@ -170,7 +178,8 @@ static int answer_all(pair *p) {
   qs_payload head = {0, 0, 0};
   int32_t answer;
   while ((answer = emit(&p->server, &p->to_client, &payload, &head)) == QS_OK)
-    if (!deliver(&p->client, payload, (size_t)head.len) || qs_acked(&p->server, head.token) != QS_OK)
+    if (!deliver(&p->client, payload, (size_t)head.len) ||
+        qs_acked(&p->server, head.token) != QS_OK)
       return 0;
   return answer == QS_DONE;
 }
@@ -196,15 +205,19 @@ static int turn(pair *p, int *some) {
 static uint64_t check(const pair *p, uint64_t streams, uint64_t bytes) {
   if (p->finished != streams || p->ended != streams || p->read.bytes != bytes)
     return REFUSED;
-  return p->to_server.sum + p->to_client.sum + p->read.sum + p->to_server.bytes + p->to_client.bytes + p->payloads +
-         p->events;
+  return p->to_server.sum + p->to_client.sum + p->read.sum +
+         p->to_server.bytes + p->to_client.bytes + p->payloads + p->events;
 }
 
-static int write_some(pair *p, uint64_t id, uint64_t *written, uint64_t size, const uint8_t *src) {
+static int write_some(pair *p, uint64_t id, uint64_t *written, uint64_t size,
+                      const uint8_t *src) {
   while (*written < size) {
-    size_t len = size - *written < SEGMENT ? (size_t)(size - *written) : SEGMENT, count = 0;
+    size_t len =
+               size - *written < SEGMENT ? (size_t)(size - *written) : SEGMENT,
+           count = 0;
     uint64_t code = 0;
-    int32_t answer = qs_stream_write(&p->client, id, src + *written % LIMIT, len, &count, &code);
+    int32_t answer = qs_stream_write(&p->client, id, src + *written % LIMIT,
+                                     len, &count, &code);
     if (answer == QS_ERR_BLOCKED)
       return 1;
     if (answer != QS_OK)
@@ -239,20 +252,25 @@ out:
   return number;
 }
 
-static int write_part(pair *p, const uint64_t *ids, size_t count, const uint8_t *src, uint64_t part) {
+static int write_part(pair *p, const uint64_t *ids, size_t count,
+                      const uint8_t *src, uint64_t part) {
   for (size_t at = 0; at < count; at++) {
     uint64_t offset = STREAM * qs_id_index(ids[at]) + PART * part, code = 0;
     size_t written = 0;
-    if (qs_stream_write(&p->client, ids[at], src + offset % LIMIT, PART, &written, &code) != QS_OK || written != PART)
+    if (qs_stream_write(&p->client, ids[at], src + offset % LIMIT, PART,
+                        &written, &code) != QS_OK ||
+        written != PART)
       return 0;
-    if (part == STREAM / PART - 1 && qs_stream_finish(&p->client, ids[at], &code) != QS_OK)
+    if (part == STREAM / PART - 1 &&
+        qs_stream_finish(&p->client, ids[at], &code) != QS_OK)
       return 0;
   }
   return 1;
 }
 
 static uint64_t many_streams(uint64_t size, const uint8_t *src) {
-  uint64_t total = size / STREAM + (size % STREAM != 0), opened = 0, number = REFUSED, ids[STREAMS];
+  uint64_t total = size / STREAM + (size % STREAM != 0), opened = 0,
+           number = REFUSED, ids[STREAMS];
   if (total == 0)
     return 0;
   pair *p = open_pair(STREAMS, STREAM, 0);
@@ -282,17 +300,20 @@ out:
   return number;
 }
 
-uint64_t streambench_case_g(size_t size, const uint8_t *src, size_t src_len, const uint32_t *perm, size_t perm_len) {
+uint64_t streambench_case_g(size_t size, const uint8_t *src, size_t src_len,
+                            const uint32_t *perm, size_t perm_len) {
   (void)perm, (void)perm_len;
   return src_len < LIMIT + SEGMENT ? REFUSED : one_stream(size, src, 0);
 }
 
-uint64_t streambench_case_h(size_t size, const uint8_t *src, size_t src_len, const uint32_t *perm, size_t perm_len) {
+uint64_t streambench_case_h(size_t size, const uint8_t *src, size_t src_len,
+                            const uint32_t *perm, size_t perm_len) {
   (void)perm, (void)perm_len;
   return src_len < LIMIT + SEGMENT ? REFUSED : many_streams(size, src);
 }
 
-uint64_t streambench_case_i(size_t size, const uint8_t *src, size_t src_len, const uint32_t *perm, size_t perm_len) {
+uint64_t streambench_case_i(size_t size, const uint8_t *src, size_t src_len,
+                            const uint32_t *perm, size_t perm_len) {
   (void)perm, (void)perm_len;
   return src_len < LIMIT + SEGMENT ? REFUSED : one_stream(size, src, 1);
 }
@@ -311,8 +332,10 @@ int main(int argc, char **argv) {
   }
   memcpy(src + LIMIT, src, SEGMENT);
   size_t size = (size_t)strtoull(argv[2], NULL, 10);
-  uint64_t (*volatile run)(size_t, const uint8_t *, size_t, const uint32_t *, size_t) =
-      argv[1][0] == 'g' ? streambench_case_g : argv[1][0] == 'h' ? streambench_case_h : streambench_case_i;
+  uint64_t (*volatile run)(size_t, const uint8_t *, size_t, const uint32_t *,
+                           size_t) = argv[1][0] == 'g'   ? streambench_case_g
+                                     : argv[1][0] == 'h' ? streambench_case_h
+                                                         : streambench_case_i;
   uint64_t number = run(size, src, sizeof src, NULL, 0);
   printf("%s %zu %" PRIu64 "\n", argv[1], size, number);
   return number == REFUSED;

@@ -53,7 +53,8 @@ static void a_stream_is_written_and_read(void) {
   qs_conn_free(&b);
 }
 
-/* Data of several payloads come in one call, and the call tells what follows. */
+/* Data of several payloads come in one call, and the call tells what follows.
+ */
 static void several_chunks_come_in_one_call(void) {
   qs_conn a = QS_CONN_INIT, b = QS_CONN_INIT;
   uint64_t id = 99, code = 0, offset = 99;
@@ -63,7 +64,8 @@ static void several_chunks_come_in_one_call(void) {
   SAME(open_end(&a, QS_CLIENT, 4, 1000, 1000), QS_OK);
   SAME(open_end(&b, QS_SERVER, 4, 1000, 1000), QS_OK);
   SAME(qs_stream_open(&a, QS_UNI, &id), QS_OK);
-  SAME(qs_stream_read_many(&b, 2, text, sizeof text, &count, &offset, &code), QS_ERR_NO_STREAM);
+  SAME(qs_stream_read_many(&b, 2, text, sizeof text, &count, &offset, &code),
+       QS_ERR_NO_STREAM);
   SAME(count, 99);
   const char *parts[] = {"several ", "small ", "parts"};
   for (int i = 0; i < 3; i++) {
@@ -72,23 +74,29 @@ static void several_chunks_come_in_one_call(void) {
     SAME(deliver(&b, &p), QS_OK);
   }
   SAME(qs_stream_accept(&b, QS_UNI, &id), QS_OK);
-  SAME(qs_stream_read_many(&b, 2, text, 0, &count, &offset, &code), QS_ERR_TOO_SMALL);
-  SAME(qs_stream_read_many(&b, 2, text, 5, &count, &offset, &code), QS_OK); /* one piece, of 5 bytes */
+  SAME(qs_stream_read_many(&b, 2, text, 0, &count, &offset, &code),
+       QS_ERR_TOO_SMALL);
+  SAME(qs_stream_read_many(&b, 2, text, 5, &count, &offset, &code),
+       QS_OK); /* one piece, of 5 bytes */
   SAME_BYTES(text, count, "sever");
   SAME(offset, 0);
-  SAME(qs_stream_read_many(&b, 2, text, sizeof text, &count, &offset, &code), QS_DONE);
+  SAME(qs_stream_read_many(&b, 2, text, sizeof text, &count, &offset, &code),
+       QS_DONE);
   SAME_BYTES(text, count, "al small parts");
   SAME(offset, 5);
-  SAME(qs_stream_read_many(&b, 2, text, sizeof text, &count, &offset, &code), QS_DONE);
+  SAME(qs_stream_read_many(&b, 2, text, sizeof text, &count, &offset, &code),
+       QS_DONE);
   SAME(count, 0);
   SAME(write_text(&a, 2, "!", 1, &written), QS_OK);
   SAME(qs_stream_finish(&a, 2, &code), QS_OK);
   SAME(emit(&a, QS_ALL, 100, &p), QS_OK);
   SAME(deliver(&b, &p), QS_OK);
-  SAME(qs_stream_read_many(&b, 2, text, sizeof text, &count, &offset, &code), QS_END);
+  SAME(qs_stream_read_many(&b, 2, text, sizeof text, &count, &offset, &code),
+       QS_END);
   SAME_BYTES(text, count, "!");
   SAME(offset, 19);
-  SAME(qs_stream_read_many(&b, 2, text, sizeof text, &count, &offset, &code), QS_ERR_NO_STREAM);
+  SAME(qs_stream_read_many(&b, 2, text, sizeof text, &count, &offset, &code),
+       QS_ERR_NO_STREAM);
   SAME(qs_stream_open(&a, QS_UNI, &id), QS_OK);
   SAME(write_text(&a, id, "lost", 4, &written), QS_OK);
   SAME(emit(&a, QS_ALL, 100, &p), QS_OK);
@@ -97,7 +105,8 @@ static void several_chunks_come_in_one_call(void) {
   SAME(emit(&a, QS_ALL, 100, &p), QS_OK);
   SAME(deliver(&b, &p), QS_OK);
   SAME(qs_stream_accept(&b, QS_UNI, &id), QS_OK);
-  SAME(qs_stream_read_many(&b, id, text, sizeof text, &count, &offset, &code), QS_ERR_RESET);
+  SAME(qs_stream_read_many(&b, id, text, sizeof text, &count, &offset, &code),
+       QS_ERR_RESET);
   SAME(code, 7);
   SAME(count, 0);
   qs_conn_free(&a);

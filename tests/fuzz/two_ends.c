@@ -1,10 +1,17 @@
 /* A harness for libFuzzer and AFL++ over two ends: calls and bytes of payloads
  * are drawn from the input.
  *
- * libFuzzer:  clang -g -fsanitize=fuzzer,address -Iinclude
- * tests/fuzz/two_ends.c build/lib/libquic_streams.a -o fuzz && ./fuzz
- * -max_len=4096 AFL++:      afl-clang-fast -DMAIN ..; afl-fuzz -i seeds -o
- * found -- ./fuzz @@
+ * With libFuzzer:
+ *
+ *     clang -g -fsanitize=fuzzer,address -Iinclude tests/fuzz/two_ends.c \
+ *         build/lib/libquic_streams.a -o fuzz
+ *     ./fuzz -max_len=4096
+ *
+ * With AFL++:
+ *
+ *     afl-clang-fast -DMAIN -Iinclude tests/fuzz/two_ends.c \
+ *         build/lib/libquic_streams.a -o two_ends
+ *     afl-fuzz -i seeds -o found -- ./two_ends @@
  */
 #include "quic_streams.h"
 
@@ -63,8 +70,7 @@ static int32_t emit(end *e, uint32_t parts, uint32_t fair, size_t cap,
   if (!lends)
     return qs_emit(&e->conn, parts, fair, packet, cap, head);
   must(qs_get_due(&e->conn, &due) == QS_OK);
-  const int32_t answer =
-      qs_emit_lent(&e->conn, parts, fair, cap, &lent, head);
+  const int32_t answer = qs_emit_lent(&e->conn, parts, fair, cap, &lent, head);
   must(answer != QS_OK || head->len <= cap);
   if (answer == QS_OK)
     memcpy(packet, lent, (size_t)head->len);
@@ -110,10 +116,9 @@ static void call(end *e, end *peer, input *in) {
     const int32_t answer =
         kind == 8 ? qs_stream_read_unordered(&e->conn, id, bytes, cap, &count,
                                              &out, &code)
-        : cap % 2 ? qs_stream_read_many(&e->conn, id, bytes, cap, &count, &out,
-                                        &code)
-                  : qs_stream_read(&e->conn, id, bytes, cap, &count, &out,
-                                   &code);
+        : cap % 2
+            ? qs_stream_read_many(&e->conn, id, bytes, cap, &count, &out, &code)
+            : qs_stream_read(&e->conn, id, bytes, cap, &count, &out, &code);
     must(answer != QS_OK || (count > 0 && count <= cap));
     break;
   }
