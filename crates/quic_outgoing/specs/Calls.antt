@@ -102,10 +102,14 @@ abbrev pub QueuesStreamAt : Option Send → Option ℤ → Type 0
 QueuesStreamAt None queue = queue ≡ None
 QueuesStreamAt (Some s) queue = QueuesAt s queue
 
--- there is room in the queue at the priority at which a stream is to be queued
-abbrev pub HasRoomFor : SendOrder → Option ℤ → Type 0
-HasRoomFor q None = Unit {0}
-HasRoomFor q (Some priority) = q.reserved ≡ Some priority
+-- room is made in the queue at the priority at which a stream is to be queued, in place of other room: nothing else changes
+abbrev pub MakesRoomAt : SendOrder → Option ℤ → SendOrder → Type 0
+MakesRoomAt q None r = r ≡ q
+MakesRoomAt q (Some priority) r = r ≡ record q { reserved = Some priority }
+
+-- a refused call leaves the queue as it was, or with the room that was made for the stream
+abbrev pub MayMakeRoom : Option Send → SendOrder → SendOrder → Type 0
+MayMakeRoom o q r = (r ≡ q) ⊎ ((queue_at : Option ℤ) × QueuesStreamAt o queue_at × MakesRoomAt q queue_at r)
 
 -- why a stream is not finished
 abbrev pub end_refusal : Option Send → Option FinishError

@@ -5,7 +5,7 @@ ghost use Rattle.quic_sending.specs.Sending.{finish_refusal};
 ghost use Rattle.quic_outgoing.specs.History.{Finished, Reset, SetPriority, Continues};
 ghost use Rattle.quic_retransmits.specs.Pending.{pending_view};
 ghost use Rattle.quic_outgoing.specs.Seen.{senders, sender_room, sender_in};
-ghost use Rattle.quic_outgoing.specs.Calls.{QueuesAt, QueuesStreamAt, EndsHalf, EndsHalfIn, IsEndRefused, HasRoomFor, FinishesStream, ResetsStream, SetsPriority, told_of_half, end_refusal, is_reset_or_gone};
+ghost use Rattle.quic_outgoing.specs.Calls.{QueuesAt, QueuesStreamAt, EndsHalf, EndsHalfIn, IsEndRefused, MakesRoomAt, MayMakeRoom, FinishesStream, ResetsStream, SetsPriority, told_of_half, end_refusal, is_reset_or_gone};
 ghost use Rattle.quic_outgoing.specs.Shown.{outgoing_view, permit_room};
 
 use crate::entries::SendEntries;
@@ -20,8 +20,8 @@ use std::alloc::Global;
 #[tactic(auto, unfolding(crate::specs::Shown::outgoing_view, crate::specs::Shown::permit_room), using(crate::proofs::SenderMaps::sender_steps, crate::proofs::Histories::continues))]
 impl OutgoingStreams {
     /// Ends a stream: its end is to be sent, and nothing more is written. Answers the priority at which it is to be
-    /// queued, where nothing was to be sent on it before: room for it was made in `queue` at that priority, of which nothing
-    /// else changes. If refused, all is as it was.
+    /// queued, where nothing was to be sent on it before: room for it was made in `queue` at that priority. If refused, all
+    /// is as it was, but that such room may stay in the queue.
     pub fn finish(
         &mut self,
         queue: &mut SendQueue,
@@ -29,8 +29,8 @@ impl OutgoingStreams {
     ) -> Result<Option<i32>, FinishError>
         ensures finishes { FinishesStream (outgoing_view self.old) id result (outgoing_view self.new) }
         ensures memory { result ≡ Err FinishError.OutOfMemory → end_refusal ((outgoing_view self.old).halves id) ≡ None }
-        ensures place { IfOk result (λ queue_at. HasRoomFor queue.new queue_at) }
-        ensures queue { record queue.new { reserved = None } ≡ record queue.old { reserved = None } }
+        ensures queue { IfOk result (λ queue_at. MakesRoomAt queue.old queue_at queue.new) }
+        ensures refused { OnErr result (MayMakeRoom ((outgoing_view self.old).halves id) queue.old queue.new) }
         ensures from { Continues (outgoing_view self.old) (Finished id result) (outgoing_view self.new) }
     {
         self.halves.finish(id, queue)
@@ -121,14 +121,14 @@ impl OutgoingStreams {
 
 #[tactic(auto, unfolding(crate::specs::Seen::senders))]
 impl SendEntries {
-    // Ends a stream, on its half where that lies. If refused, nothing changes.
+    // Ends a stream, on its half where that lies. If refused, nothing changes but the room in the queue.
     #[inline]
     fn finish(&mut self, id: StreamId, queue: &mut SendQueue) -> Result<Option<i32>, FinishError>
         ensures ok { IfOk result (λ queue. EndsHalfIn (senders self.old) id queue (senders self.new)) }
         ensures err { IfErr result (λ error. IsEndRefused (senders self.old id) error) }
         ensures memory { result ≡ Err FinishError.OutOfMemory → end_refusal (senders self.old id) ≡ None }
-        ensures place { IfOk result (λ queue_at. HasRoomFor queue.new queue_at) }
-        ensures queue { record queue.new { reserved = None } ≡ record queue.old { reserved = None } }
+        ensures queue { IfOk result (λ queue_at. MakesRoomAt queue.old queue_at queue.new) }
+        ensures refused { OnErr result (MayMakeRoom (senders self.old id) queue.old queue.new) }
         ensures halves { OnErr result (senders self.new ≡ senders self.old) }
         ensures side { self.new.side ≡ self.old.side }
         ensures first { self.new.first ≡ self.old.first }
@@ -167,7 +167,7 @@ fn refusal_of_end(half: &Send) -> Option<FinishError>
     Some(FinishError::ClosedStream)
 }
 
-// Ends the stream of an entry. If refused, nothing changes.
+// Ends the stream of an entry. If refused, nothing changes but the room in the queue.
 #[inline]
 fn finish_entry(
     alloc: Global,
@@ -178,8 +178,8 @@ fn finish_entry(
     ensures ok { IfOk result (λ queue. EndsHalf (sender_in limit entry.old) queue (sender_in limit entry.new)) }
     ensures err { IfErr result (λ error. IsEndRefused (Some (sender_in limit entry.old)) error) }
     ensures memory { result ≡ Err FinishError.OutOfMemory → finish_refusal (sender_in limit entry.old) ≡ None }
-    ensures place { IfOk result (λ queue_at. HasRoomFor queue.new queue_at) }
-    ensures queue { record queue.new { reserved = None } ≡ record queue.old { reserved = None } }
+    ensures queue { IfOk result (λ queue_at. MakesRoomAt queue.old queue_at queue.new) }
+    ensures refused { OnErr result (MayMakeRoom (Some (sender_in limit entry.old)) queue.old queue.new) }
     ensures half { OnErr result (sender_in limit entry.new ≡ sender_in limit entry.old) }
 {
     let mut half = take_half(alloc, limit, entry)?;
@@ -188,15 +188,15 @@ fn finish_entry(
     answer
 }
 
-// Ends a half. If refused, nothing changes.
+// Ends a half. If refused, nothing changes but the room in the queue.
 #[inline]
 fn finish_half(half: &mut Send, queue: &mut SendQueue) -> Result<Option<i32>, FinishError>
     ensures ok { IfOk result (λ queue. EndsHalf half.old queue half.new) }
     ensures err { IfErr result (λ error. IsEndRefused (Some half.old) error) }
     ensures memory { result ≡ Err FinishError.OutOfMemory → finish_refusal half.old ≡ None }
     ensures half { OnErr result (half.new ≡ half.old) }
-    ensures place { IfOk result (λ queue_at. HasRoomFor queue.new queue_at) }
-    ensures queue { record queue.new { reserved = None } ≡ record queue.old { reserved = None } }
+    ensures queue { IfOk result (λ queue_at. MakesRoomAt queue.old queue_at queue.new) }
+    ensures refused { OnErr result (MayMakeRoom (Some half.old) queue.old queue.new) }
 {
     let queue_at = queue_at(half);
     if let Err(refused) = reserve_for(queue, queue_at) {
@@ -210,8 +210,8 @@ fn finish_half(half: &mut Send, queue: &mut SendQueue) -> Result<Option<i32>, Fi
 // Makes room in the queue at a priority, where that is asked for. If refused, nothing changes.
 #[inline]
 pub(crate) fn reserve_for(queue: &mut SendQueue, queue_at: Option<i32>) -> Result<(), OutOfMemory>
-    ensures ok { OnOk result (HasRoomFor queue.new queue_at) }
-    ensures queue { record queue.new { reserved = None } ≡ record queue.old { reserved = None } }
+    ensures ok { OnOk result (MakesRoomAt queue.old queue_at queue.new) }
+    ensures err { OnErr result (queue.new ≡ queue.old) }
 {
     match queue_at {
         Some(priority) => queue.reserve(priority),

@@ -5,7 +5,7 @@ ghost use Rattle.quic_sending.specs.Sending.{write_refusal};
 ghost use Rattle.quic_retransmits.specs.Pending.{pending_view};
 ghost use Rattle.quic_outgoing.specs.Senders.{bare, first_limit};
 ghost use Rattle.quic_outgoing.specs.Outgoing.{is_stuck, with_send_half};
-ghost use Rattle.quic_outgoing.specs.Calls.{HasRoomFor};
+ghost use Rattle.quic_outgoing.specs.Calls.{MakesRoomAt, MayMakeRoom};
 ghost use Rattle.quic_outgoing.specs.Seen.{senders, sender_room, sender_in};
 ghost use Rattle.quic_outgoing.specs.Writing.{WritesOn, RefusesWrite, TakesBytes, TakesBytesIn, IsRefusedBy, refusal_of_write, lasting_refusal, refusal_to_stay};
 ghost use Rattle.quic_outgoing.specs.History.{Writing, Continues};
@@ -42,7 +42,8 @@ impl OutgoingStreams {
     /// STREAM_DATA_BLOCKED is queued once for each limit (section 19.13). Other refusals change nothing: the stream is
     /// closed, or the peer stopped it, or memory runs out.
     ///
-    /// Where the stream is to be queued, room for it was made in `queue` at its priority. Nothing else of the queue changes.
+    /// Where the stream is to be queued, room for it was made in `queue` at its priority: such room may stay there where the
+    /// write is refused. Nothing else of the queue changes.
     #[inline]
     pub fn write<S: BytesSource>(
         &mut self,
@@ -53,8 +54,8 @@ impl OutgoingStreams {
     ) -> Result<Wrote, WriteError>
         ensures writes { WritesOn (outgoing_view self.old) id (S.lists source.old) (pending_view pending.old) result (outgoing_view self.new) (S.lists source.new) (pending_view pending.new) }
         ensures memory { result ≡ Err WriteError.OutOfMemory → refusal_to_stay (outgoing_view self.old) ((outgoing_view self.old).halves id) ≡ None }
-        ensures place { IfOk result (λ wrote. HasRoomFor queue.new wrote.queue_at) }
-        ensures queue { record queue.new { reserved = None } ≡ record queue.old { reserved = None } }
+        ensures queue { IfOk result (λ wrote. MakesRoomAt queue.old wrote.queue_at queue.new) }
+        ensures refused { OnErr result (MayMakeRoom ((outgoing_view self.old).halves id) queue.old queue.new) }
         ensures borrow { S.borrow source.new ≡ S.borrow source.old }
         ensures list_count { S.list_count source.new ≡ S.list_count source.old }
         ensures from { Continues (outgoing_view self.old) (Writing id (S.lists source.old) result) (outgoing_view self.new) }
@@ -73,8 +74,8 @@ impl OutgoingStreams {
     ) -> Result<Wrote, WriteError>
         ensures writes { WritesOn (outgoing_view self.old) id (S.lists source.old) (pending_view pending.old) result (outgoing_view self.new) (S.lists source.new) (pending_view pending.new) }
         ensures memory { result ≡ Err WriteError.OutOfMemory → refusal_to_stay (outgoing_view self.old) ((outgoing_view self.old).halves id) ≡ None }
-        ensures place { IfOk result (λ wrote. HasRoomFor queue.new wrote.queue_at) }
-        ensures queue { record queue.new { reserved = None } ≡ record queue.old { reserved = None } }
+        ensures queue { IfOk result (λ wrote. MakesRoomAt queue.old wrote.queue_at queue.new) }
+        ensures refused { OnErr result (MayMakeRoom ((outgoing_view self.old).halves id) queue.old queue.new) }
         ensures borrow { S.borrow source.new ≡ S.borrow source.old }
         ensures list_count { S.list_count source.new ≡ S.list_count source.old }
     {
@@ -162,7 +163,7 @@ impl SendEntries {
         self.entries.get(&id).is_some()
     }
 
-    // Writes on the half of a stream, where it lies. If refused, nothing changes.
+    // Writes on the half of a stream, where it lies. If refused, nothing changes but the room in the queue.
     #[inline]
     fn write<S: BytesSource>(
         &mut self,
@@ -174,8 +175,8 @@ impl SendEntries {
         ensures ok { IfOk result (λ wrote. TakesBytesIn limit (senders self.old) id (S.lists source.old) wrote (S.lists source.new) (senders self.new)) }
         ensures err { IfErr result (λ error. IsRefusedBy (senders self.old id) error) }
         ensures memory { result ≡ Err WriteError.OutOfMemory → lasting_refusal (senders self.old id) ≡ None }
-        ensures place { IfOk result (λ wrote. HasRoomFor queue.new wrote.queue_at) }
-        ensures queue { record queue.new { reserved = None } ≡ record queue.old { reserved = None } }
+        ensures queue { IfOk result (λ wrote. MakesRoomAt queue.old wrote.queue_at queue.new) }
+        ensures refused { OnErr result (MayMakeRoom (senders self.old id) queue.old queue.new) }
         ensures halves { OnErr result (senders self.new ≡ senders self.old) }
         ensures lists { OnErr result (S.lists source.new ≡ S.lists source.old) }
         ensures borrow { S.borrow source.new ≡ S.borrow source.old }
@@ -205,7 +206,7 @@ fn refusal_of_half(half: &Send) -> Option<WriteError>
     }
 }
 
-// Writes on the half of an entry. If refused, nothing changes.
+// Writes on the half of an entry. If refused, nothing changes but the room in the queue.
 #[inline]
 fn write_of_entry<S: BytesSource>(
     alloc: Global,
@@ -218,8 +219,8 @@ fn write_of_entry<S: BytesSource>(
     ensures ok { IfOk result (λ wrote. TakesBytes limit (sender_in first_limit entry.old) (S.lists source.old) wrote (S.lists source.new) (sender_in first_limit entry.new)) }
     ensures err { IfErr result (λ error. IsRefusedBy (Some (sender_in first_limit entry.old)) error) }
     ensures memory { result ≡ Err WriteError.OutOfMemory → lasting_refusal (Some (sender_in first_limit entry.old)) ≡ None }
-    ensures place { IfOk result (λ wrote. HasRoomFor queue.new wrote.queue_at) }
-    ensures queue { record queue.new { reserved = None } ≡ record queue.old { reserved = None } }
+    ensures queue { IfOk result (λ wrote. MakesRoomAt queue.old wrote.queue_at queue.new) }
+    ensures refused { OnErr result (MayMakeRoom (Some (sender_in first_limit entry.old)) queue.old queue.new) }
     ensures half { OnErr result (sender_in first_limit entry.new ≡ sender_in first_limit entry.old) }
     ensures lists { OnErr result (S.lists source.new ≡ S.lists source.old) }
     ensures borrow { S.borrow source.new ≡ S.borrow source.old }
@@ -232,7 +233,7 @@ fn write_of_entry<S: BytesSource>(
     wrote
 }
 
-// Writes on a half. If refused, nothing changes but the room for further pieces.
+// Writes on a half. If refused, nothing changes but the room for further pieces and in the queue.
 #[inline]
 fn write_on<S: BytesSource>(
     half: &mut Send,
@@ -243,8 +244,8 @@ fn write_on<S: BytesSource>(
     ensures ok { IfOk result (λ wrote. TakesBytes limit half.old (S.lists source.old) wrote (S.lists source.new) half.new) }
     ensures err { IfErr result (λ error. IsRefusedBy (Some half.old) error) }
     ensures memory { result ≡ Err WriteError.OutOfMemory → lasting_refusal (Some half.old) ≡ None }
-    ensures place { IfOk result (λ wrote. HasRoomFor queue.new wrote.queue_at) }
-    ensures queue { record queue.new { reserved = None } ≡ record queue.old { reserved = None } }
+    ensures queue { IfOk result (λ wrote. MakesRoomAt queue.old wrote.queue_at queue.new) }
+    ensures refused { OnErr result (MayMakeRoom (Some half.old) queue.old queue.new) }
     ensures half { OnErr result (bare half.new ≡ bare half.old) }
     ensures lists { OnErr result (S.lists source.new ≡ S.lists source.old) }
     ensures borrow { S.borrow source.new ≡ S.borrow source.old }

@@ -9,3 +9,4 @@ pub mod PayloadReports
 pub mod Sent
 pub mod Visits
 pub mod LeftChunks
+pub mod Places

@@ -3,7 +3,7 @@ use Rattle.std.specs.Prelude.{◌≡◌, ℕ, ℤ, Option, Some, None, Result, O
 use Rattle.quic_sending.specs.declared.send.Send.{Send}
 use Rattle.quic_sending.specs.declared.send.Written.{Written}
 use Rattle.quic_sending.specs.declared.send.WriteError.{WriteError}
-use Rattle.quic_outgoing.specs.Calls.{HasNoMore, HasRoomFor}
+use Rattle.quic_outgoing.specs.Calls.{HasNoMore}
 use Rattle.quic_outgoing.specs.Shown.{outgoing_view}
 use Rattle.quic_streams.specs.declared.state.StreamsState.{StreamsState}
 
@@ -27,4 +27,5 @@ MayWantPlace (Some s) = HasNoMore s
 
 -- there is room in the queue where it is asked for
 abbrev pub HasPlaceAt : StreamsState → Option ℤ → Type 0
-HasPlaceAt s priority = HasRoomFor s.queue priority
+HasPlaceAt s None = Unit {0}
+HasPlaceAt s (Some priority) = s.queue.reserved ≡ Some priority

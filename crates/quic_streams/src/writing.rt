@@ -17,7 +17,7 @@ use quic_retransmits::Retransmits;
 use quic_sending::{ByteSlice, BytesArray, BytesSource, FinishError, WriteError, Written};
 use quic_values::{Bytes, OutOfMemory, StreamId, VarInt};
 
-#[tactic(auto, unfolding(crate::specs::Shown::streams_view))]
+#[tactic(auto, unfolding(crate::specs::Shown::streams_view), using(crate::proofs::Places::place_rules))]
 impl StreamsState {
     // Writes the first bytes of a slice.
     pub(crate) fn write_bytes(
