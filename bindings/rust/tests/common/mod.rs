@@ -1,0 +1,35 @@
+//! What the test programs share.
+
+// Each test program compiles this module for itself, and uses a part of it.
+#![allow(dead_code)]
+
+use quic_streams::{Emit, Event, StreamsState};
+use std::error::Error;
+use std::iter::from_fn;
+
+pub type Result<T, E = Box<dyn Error>> = std::result::Result<T, E>;
+
+/// The events that wait, in their order.
+pub fn events(end: &mut StreamsState) -> Vec<Event> {
+    from_fn(|| end.poll()).collect()
+}
+
+/// Takes out the frames that wait, of the kinds that are named, and reports them as acknowledged.
+pub fn frames(end: &mut StreamsState, what: Emit) -> Result<Vec<u8>> {
+    let (mut packet, mut all) = ([0; 1200], Vec::new());
+    while let Some(payload) = end.emit(&mut packet, what)? {
+        all.extend_from_slice(&packet[..payload.len]);
+        end.acked(payload.token)?;
+    }
+    Ok(all)
+}
+
+/// The same of the control frames alone.
+pub fn control_frames(end: &mut StreamsState) -> Result<Vec<u8>> {
+    let control = Emit {
+        datagrams: false,
+        streams: false,
+        ..Emit::default()
+    };
+    frames(end, control)
+}

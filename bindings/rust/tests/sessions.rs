@@ -1,0 +1,200 @@
+//! Two sessions with small limits, whose payloads are handed over as each test says.
+
+mod common;
+
+use common::{events, frames, Result};
+use quic_streams::{
+    sys, Config, Dir, Emit, Event, Limits, Next, SettleError, Side, StreamError, StreamId,
+    StreamsState, Token,
+};
+use std::mem::size_of;
+use std::ptr::null_mut;
+
+/// The first unidirectional stream of a client (RFC 9000 section 2.1).
+const FIRST: StreamId = StreamId(2);
+
+const UNKNOWN: Result<(), SettleError> = Err(SettleError::UnknownToken);
+
+/// A session that permits four streams of each direction and 1000 bytes, and is permitted as much.
+fn session(side: Side) -> Result<StreamsState> {
+    let config = Config {
+        max_remote_uni: 4,
+        max_remote_bi: 4,
+        send_window: 1000,
+        receive_window: 1000,
+        stream_window: 1000,
+        datagram_receive: Some(1000),
+        datagram_send: 1000,
+    };
+    let mut made = StreamsState::new(side, &config)?;
+    made.set_params(&Limits {
+        max_datagram: Some(200),
+        ..Limits::of(&config)
+    })?;
+    Ok(made)
+}
+
+/// A server by the calls of the header, which tell how many frames were taken, and how long a datagram is.
+struct RawServer(sys::Conn);
+
+impl RawServer {
+    fn new() -> Self {
+        let config = sys::Config {
+            size: size_of::<sys::Config>() as u32,
+            side: 1,
+            max_remote_uni: 4,
+            max_remote_bidi: 4,
+            send_window: 1000,
+            receive_window: 1000,
+            stream_window: 1000,
+            datagram_receive: 1000,
+            datagram_send: 1000,
+        };
+        let mut server = RawServer(sys::Conn {
+            live: 0,
+            at: null_mut(),
+        });
+        let answer = unsafe { sys::qs_conn_open(&mut server.0, &config) };
+        assert_eq!(answer, sys::OK);
+        server
+    }
+
+    /// Takes a whole payload. The answer is the place of the first frame that was not taken.
+    fn receive(&mut self, payload: &[u8]) -> usize {
+        let (mut next, mut error) = (0, sys::Error::none());
+        let (at, len) = (payload.as_ptr(), payload.len());
+        let answer = unsafe { sys::qs_receive(&mut self.0, at, len, &mut next, &mut error) };
+        assert_eq!(answer, sys::OK);
+        next
+    }
+
+    /// Takes the oldest datagram into a buffer. The answer is what the call returns, and the length.
+    fn datagram(&mut self, out: &mut [u8]) -> (i32, usize) {
+        let mut count = 0;
+        let (at, cap) = (out.as_mut_ptr(), out.len());
+        let answer = unsafe { sys::qs_datagram_recv(&mut self.0, at, cap, &mut count) };
+        (answer, count)
+    }
+}
+
+impl Drop for RawServer {
+    fn drop(&mut self) {
+        unsafe { sys::qs_conn_free(&mut self.0) }
+    }
+}
+
+#[test]
+fn bytes_come_and_are_settled_once() -> Result<()> {
+    let (mut a, mut b) = (session(Side::Client)?, session(Side::Server)?);
+    assert_eq!(a.open(Dir::Uni)?, Some(FIRST));
+    assert_eq!(a.send_stream(FIRST).write(b"hello")?, 5);
+    a.send_stream(FIRST).finish()?;
+    let mut out = [0; 100];
+    let sent = a.emit(&mut out, Emit::default())?.unwrap();
+    assert_eq!(a.emit(&mut [0; 100], Emit::default())?, None);
+    b.receive(&out[..sent.len])?;
+    assert_eq!(RawServer::new().receive(&out[..sent.len]), 1);
+    assert_eq!(b.poll(), Some(Event::Opened { dir: Dir::Uni }));
+    assert_eq!(b.accept(Dir::Uni), Some(FIRST));
+    let chunk = b.recv_stream(FIRST).chunks(true).next(100)?.unwrap();
+    assert_eq!((chunk.offset, chunk.bytes.as_slice()), (0, &b"hello"[..]));
+    assert_eq!(b.recv_stream(FIRST).chunks(true).next(100)?, None);
+    assert_eq!(a.info().payloads, 1);
+    a.acked(sent.token)?;
+    assert_eq!(a.info().payloads, 0);
+    assert_eq!(a.acked(sent.token), UNKNOWN);
+    assert_eq!(a.lost(sent.token), UNKNOWN);
+    assert_eq!(a.poll(), Some(Event::Finished { id: FIRST }));
+    Ok(())
+}
+
+#[test]
+fn one_read_gives_the_bytes_and_the_end() -> Result<()> {
+    let (mut a, mut b) = (session(Side::Client)?, session(Side::Server)?);
+    assert_eq!(a.open(Dir::Uni)?, Some(FIRST));
+    a.send_stream(FIRST).write(b"hello")?;
+    a.send_stream(FIRST).finish()?;
+    b.receive(&frames(&mut a, Emit::default())?)?;
+    assert_eq!(b.accept(Dir::Uni), Some(FIRST));
+    // Room for two pieces: the bytes come as one, and the end is told by the second read.
+    let mut buffer = [0; 2 * 2048];
+    let read = b.recv_stream(FIRST).read_many(&mut buffer)?;
+    assert_eq!(&buffer[..read.count], b"hello");
+    assert_eq!((read.offset, read.next), (0, Next::Finished));
+    Ok(())
+}
+
+#[test]
+fn what_was_lost_is_sent_again() -> Result<()> {
+    let mut a = session(Side::Client)?;
+    assert_eq!(a.open(Dir::Uni)?, Some(FIRST));
+    assert_eq!(a.send_stream(FIRST).write(b"hello")?, 5);
+    let (mut first, mut again) = ([0; 100], [0; 100]);
+    let sent = a.emit(&mut first, Emit::default())?.unwrap();
+    a.lost(sent.token)?;
+    let resent = a.emit(&mut again, Emit::default())?.unwrap();
+    assert_eq!(first, again);
+    assert_eq!(resent.token.into_inner(), 2);
+    Ok(())
+}
+
+#[test]
+fn payloads_are_settled_in_any_order() -> Result<()> {
+    let mut a = session(Side::Client)?;
+    assert_eq!(a.open(Dir::Uni)?, Some(FIRST));
+    for number in 1..6 {
+        assert_eq!(a.send_stream(FIRST).write(b"some")?, 4);
+        let sent = a.emit_lent(100, Emit::default())?.unwrap();
+        assert_eq!(sent.token.into_inner(), number);
+    }
+    for token in [3, 1, 5, 2, 4].map(Token::from_inner) {
+        a.acked(token)?;
+        assert_eq!(a.acked(token), UNKNOWN);
+    }
+    assert_eq!(a.info().payloads, 0);
+    assert_eq!(a.emit_lent(100, Emit::default())?, None);
+    assert_eq!(a.send_stream(FIRST).write(b"more")?, 4);
+    let sent = a.emit_lent(100, Emit::default())?.unwrap();
+    assert_eq!(sent.token.into_inner(), 6);
+    assert_eq!(a.info().payloads, 1);
+    assert_eq!(a.lost(Token::from_inner(7)), UNKNOWN);
+    Ok(())
+}
+
+#[test]
+fn datagrams_stand_before_data() -> Result<()> {
+    let (mut a, mut b) = (session(Side::Client)?, session(Side::Server)?);
+    assert_eq!(a.open(Dir::Uni)?, Some(FIRST));
+    assert_eq!(a.send_stream(FIRST).write(b"hi")?, 2);
+    a.send_datagram(b"news", false)?;
+    assert!(a.due().datagrams);
+    let mut out = [0; 100];
+    let sent = a.emit(&mut out, Emit::default())?.unwrap();
+    // DATAGRAM with a length (RFC 9221 section 4).
+    assert_eq!(out[0], 0x31);
+    b.receive(&out[..sent.len])?;
+    let told = [Event::DatagramReceived, Event::Opened { dir: Dir::Uni }];
+    assert_eq!(events(&mut b), told);
+    assert_eq!(b.recv_datagram().as_deref(), Some(&b"news"[..]));
+    assert_eq!(b.recv_datagram(), None);
+
+    let (mut raw, mut news) = (RawServer::new(), [0; 4]);
+    assert_eq!(raw.receive(&out[..sent.len]), 2);
+    assert_eq!(raw.datagram(&mut []), (sys::TOO_SMALL, 4));
+    assert_eq!(raw.datagram(&mut news), (sys::OK, 4));
+    assert_eq!(&news, b"news");
+    assert_eq!(raw.datagram(&mut news), (sys::DONE, 0));
+    Ok(())
+}
+
+#[test]
+fn a_stream_that_was_not_given_is_closed() -> Result<()> {
+    let mut a = session(Side::Client)?;
+    let unknown = StreamId(1);
+    let closed = Err(StreamError::ClosedStream);
+    assert_eq!(a.send_stream(unknown).reset(7), closed);
+    assert_eq!(a.recv_stream(unknown).stop(7), closed);
+    a.close();
+    assert_eq!(a.open(Dir::Bi)?, None);
+    Ok(())
+}
