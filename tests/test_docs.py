@@ -209,7 +209,7 @@ def wrong_clauses(text):
 
 def wrong_sections(text):
     """Rows of the table of RFC sections: clauses that are not in the crate behind them, tests that do not exist."""
-    tests = "\n".join(it for path, it in CODES.texts.items() if "_tests/src/" in path)
+    tests = "\n".join(it for path, it in CODES.texts.items() if "_tests/src/" in path or path.startswith("bindings/rust/tests/"))
     sessions = "\n".join(read(it) for it in CODES.files if it.startswith("tests/sessions/"))
     for row in [it for it in text.splitlines() if it.startswith("| ") and "Section" not in it]:
         cells = [it.strip() for it in row.strip().strip("|").split(" | ")]

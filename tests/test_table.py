@@ -33,6 +33,11 @@ def is_in_rattle(name):
     )
 
 
+def is_in_rust(name):
+    file, test = name.removeprefix("rust/").split("::")
+    return re.search(rf"#\[test\]\nfn {test}\(", read("bindings", "rust", "tests", f"{file}.rs"))
+
+
 def is_in_python(name):
     module, group, test = name.split(".")
     classes = [it for it in ast.parse(read("tests", f"{module}.py")).body if isinstance(it, ast.ClassDef)]
@@ -40,6 +45,8 @@ def is_in_python(name):
 
 
 def exists(name):
+    if name.startswith("rust/"):
+        return is_in_rust(name)
     if "::" in name:
         return is_in_rattle(name)
     if name.startswith("sessions/"):

@@ -10,10 +10,8 @@ use std::test::Fail;
 mod body;
 mod cases;
 mod floods;
-mod joins;
+mod replays;
 mod sizes;
-mod steps;
-mod worked;
 
 use body::Body;
 
@@ -32,7 +30,7 @@ fn is_true(rt: &impl Abort, holds: bool) {
 }
 
 // A call on an assembler, and what it has to come to.
-#[derive(Clone, Copy, Debug)]
+#[derive(Clone, Copy)]
 enum Step {
     // A text at an offset, which keeps just its bytes alive.
     Put(u64, &'static str),
@@ -40,6 +38,8 @@ enum Step {
     Insert(u64, &'static str, usize, Result<(), InsertError>),
     // The same at so many places, each so far behind the one before, up to the first refusal.
     Fill(u64, u64, u64, &'static str, usize, Result<(), InsertError>),
+    // 128 bytes and then one, so many times from offset 1 on, all touching.
+    Pairs(u64),
     // An ordered read of at most so many bytes: the offset and the text.
     Part(usize, u64, &'static str),
     // An ordered read, and one that gives nothing.
@@ -84,15 +84,45 @@ fn fill<B: Body + Drop>(
     allocation_size: usize,
 ) -> Result<Result<(), InsertError>, OutOfMemory> {
     let (start, gap, count) = places;
-    assert!(rt; start < 1 << 30 && gap < 1 << 10 && count < 1 << 20);
     for i in 0..count {
-        let offset = start + gap * i;
+        let offset = start.wrapping_add(gap.wrapping_mul(i));
         let answer = insert(rt, a, alloc, offset, text.as_bytes(), allocation_size)?;
         if answer.is_err() {
             return Ok(answer);
         }
     }
     Ok(Ok(()))
+}
+
+// A piece that keeps just its bytes alive, and is taken.
+fn put<B: Body + Drop>(
+    rt: &impl Abort,
+    a: &mut B,
+    alloc: Global,
+    offset: u64,
+    text: &str,
+) -> Result<(), OutOfMemory> {
+    let answer = insert(rt, a, alloc, offset, text.as_bytes(), text.len())?;
+    same_for(rt, &offset, answer, Ok(()));
+    Ok(())
+}
+
+// 128 bytes.
+const LONG: &str =
+    "0123456789abcdef0123456789abcdef0123456789abcdef0123456789abcdef0123456789abcdef0123456789abcdef0123456789abcdef0123456789abcdef";
+
+fn put_pairs<B: Body + Drop>(
+    rt: &impl Abort,
+    a: &mut B,
+    alloc: Global,
+    count: u64,
+) -> Result<(), OutOfMemory> {
+    for turn in 0..count {
+        let start = turn.wrapping_mul(129).wrapping_add(1);
+        put(rt, a, alloc, start, LONG)?;
+        put(rt, a, alloc, start.wrapping_add(128), "x")?;
+    }
+    Ok(())
 }
 
 fn expect_chunk(
@@ -109,10 +139,7 @@ fn expect_chunk(
 
 fn take<B: Body + Drop>(rt: &impl Abort, a: &mut B, alloc: Global, step: Step) -> Result<(), Fail> {
     match step {
-        Step::Put(offset, text) => {
-            let answer = insert(rt, a, alloc, offset, text.as_bytes(), text.len())?;
-            same_for(rt, &offset, answer, Ok(()));
-        }
+        Step::Put(offset, text) => put(rt, a, alloc, offset, text)?,
         Step::Insert(offset, text, allocation_size, wanted) => {
             let answer = insert(rt, a, alloc, offset, text.as_bytes(), allocation_size)?;
             same_for(rt, &offset, answer, wanted);
@@ -121,6 +148,7 @@ fn take<B: Body + Drop>(rt: &impl Abort, a: &mut B, alloc: Global, step: Step) -
             let answer = fill(rt, a, alloc, (start, gap, count), text, allocation_size)?;
             same_for(rt, &start, answer, wanted);
         }
+        Step::Pairs(count) => put_pairs(rt, a, alloc, count)?,
         Step::Compact => a.compact()?,
         Step::Unordered => a.ask_for(false)?,
         _ => ask(rt, a, step)?,
@@ -153,18 +181,19 @@ fn run_on<B: Body + Drop>(rt: &impl Abort, alloc: Global, steps: &[Step]) -> Res
     Ok(())
 }
 
-// Takes steps whose answers are those of both bodies.
-fn run(rt: &impl Abort, alloc: Global, steps: &[Step]) -> Result<(), Fail> {
-    run_on::<HeapAssembler>(rt, alloc, steps)?;
-    run_on::<Assembler>(rt, alloc, steps)
+// Takes lists of steps whose answers are those of both bodies.
+fn run(rt: &impl Abort, alloc: Global, lists: &[&[Step]]) -> Result<(), Fail> {
+    for steps in lists {
+        run_on::<HeapAssembler>(rt, alloc, *steps)?;
+        run_on::<Assembler>(rt, alloc, *steps)?;
+    }
+    Ok(())
 }
 
-// Takes steps whose answers are those of the heap, where pieces may overlap.
-fn run_heap(rt: &impl Abort, alloc: Global, steps: &[Step]) -> Result<(), Fail> {
-    run_on::<HeapAssembler>(rt, alloc, steps)
-}
-
-// Takes steps whose answers are those of pieces that do not overlap.
-fn run_apart(rt: &impl Abort, alloc: Global, steps: &[Step]) -> Result<(), Fail> {
-    run_on::<Assembler>(rt, alloc, steps)
+// Takes lists of steps whose answers are those of the heap, where pieces may overlap.
+fn run_heap(rt: &impl Abort, alloc: Global, lists: &[&[Step]]) -> Result<(), Fail> {
+    for steps in lists {
+        run_on::<HeapAssembler>(rt, alloc, *steps)?;
+    }
+    Ok(())
 }

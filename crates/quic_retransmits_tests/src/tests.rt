@@ -1,26 +1,17 @@
-//! Sets of what is to be sent. Where memory runs out, a call is asked once more, and all has to be as if it had not been.
+//! Sets of what is to be sent, by what no frame of a stream shows: CRYPTO, connection ids, tokens, copies.
 
 use quic_retransmits::{IssuedCid, Retransmits, StreamIds, ThinRetransmits};
-use quic_wire::frame::{Crypto, ResetStream, StopSending};
-use quic_wire::{Bytes, Frame, OutOfMemory, ReceiveError, StreamId, TransportError, VarInt};
+use quic_wire::frame::Crypto;
+use quic_wire::{Bytes, OutOfMemory, ReceiveError, StreamId, TransportError, VarInt};
 use std::alloc::Global;
 use std::fmt::Debug;
 use std::net::{IpAddr, Ipv4Addr, SocketAddr};
 use std::process::Abort;
 use std::test::Fail;
 
-// Both are the same, or the test fails and shows them.
-fn same<T: PartialEq + Debug + Drop>(rt: &impl Abort, found: T, wanted: T) {
-    assert_eq!(rt; found, wanted);
-}
-
-// The same of a case, which is shown too.
+// Both are the same in a case, or the test fails and shows them.
 fn same_for<C: Debug, T: PartialEq + Debug + Drop>(rt: &impl Abort, case: &C, found: T, wanted: T) {
     assert_eq!(rt; found, wanted, "{case:?}");
-}
-
-fn is_true(rt: &impl Abort, holds: bool) {
-    assert!(rt; holds);
 }
 
 fn id(number: u32) -> StreamId {
@@ -55,26 +46,24 @@ fn try_merge_thin(set: &mut Retransmits, other: ThinRetransmits) -> Result<(), T
     set.merge_thin(other)
 }
 
-fn merge(set: &mut Retransmits, other: Retransmits) -> Result<(), OutOfMemory> {
-    match try_merge(set, other) {
-        Ok(()) => Ok(()),
-        Err(back) => try_merge(set, back).map_err(|_| OutOfMemory),
-    }
-}
-
-fn merge_thin(set: &mut Retransmits, other: ThinRetransmits) -> Result<(), OutOfMemory> {
-    match try_merge_thin(set, other) {
-        Ok(()) => Ok(()),
-        Err(back) => try_merge_thin(set, back).map_err(|_| OutOfMemory),
-    }
-}
-
-fn copy(set: &Retransmits) -> Result<Retransmits, OutOfMemory> {
+fn copied(set: &Retransmits) -> Result<Retransmits, OutOfMemory> {
     set.clone()
 }
 
-fn copy_thin(thin: &ThinRetransmits) -> Result<ThinRetransmits, OutOfMemory> {
+fn copied_thin(thin: &ThinRetransmits) -> Result<ThinRetransmits, OutOfMemory> {
     thin.clone()
+}
+
+fn add_reset(set: &mut Retransmits, id: StreamId) -> Result<(), OutOfMemory> {
+    set.reserve_reset()?;
+    set.queue_reset(id, VarInt::from(8));
+    Ok(())
+}
+
+fn add_stop(set: &mut Retransmits, id: StreamId) -> Result<(), OutOfMemory> {
+    set.reserve_stop()?;
+    set.queue_stop(id, VarInt::from(9), true);
+    Ok(())
 }
 
 fn add_window(set: &mut Retransmits, id: StreamId) -> Result<(), OutOfMemory> {
@@ -89,47 +78,18 @@ fn add_stream_blocked(set: &mut Retransmits, id: StreamId) -> Result<(), OutOfMe
     Ok(())
 }
 
-fn add_reset(set: &mut Retransmits, id: StreamId, code: VarInt) -> Result<(), OutOfMemory> {
-    set.reserve_reset()?;
-    set.queue_reset(id, code);
-    Ok(())
-}
-
-fn add_stop(set: &mut Retransmits, id: StreamId, code: VarInt) -> Result<(), OutOfMemory> {
-    set.reserve_stop()?;
-    set.queue_stop(id, code, true);
-    Ok(())
-}
-
 fn add_id(ids: &mut StreamIds, id: StreamId) -> Result<bool, OutOfMemory> {
     ids.insert(id)
 }
 
-fn try_note(thin: &mut ThinRetransmits, frame: &Frame) -> Result<(), OutOfMemory> {
-    thin.note(frame)
-}
-
-fn note(thin: &mut ThinRetransmits, frame: &Frame) -> Result<(), OutOfMemory> {
-    match try_note(thin, frame) {
-        Ok(()) => Ok(()),
-        Err(OutOfMemory) => try_note(thin, frame),
-    }
-}
-
-// Why a stream is given up, and why one is not wanted: other numbers than its own.
-fn reset_code(number: u32) -> VarInt {
-    VarInt::from(!number)
-}
-
-fn stop_code(number: u32) -> VarInt {
-    VarInt::from(number ^ 0x5555)
+fn retire(set: &mut Retransmits, from: u64, to: u64) -> Result<(), ReceiveError> {
+    set.retire_cids(from..to)
 }
 
 // Queues a frame of each kind that belongs to a stream.
-fn queue(set: &mut Retransmits, number: u32) -> Result<(), OutOfMemory> {
-    let id = id(number);
-    add_reset(set, id, reset_code(number))?;
-    add_stop(set, id, stop_code(number))?;
+fn queue(set: &mut Retransmits, id: StreamId) -> Result<(), OutOfMemory> {
+    add_reset(set, id)?;
+    add_stop(set, id)?;
     add_window(set, id)?;
     add_stream_blocked(set, id)
 }
@@ -143,67 +103,102 @@ fn put_others(set: &mut Retransmits, alloc: Global, number: u32) -> Result<(), O
     Ok(())
 }
 
+// So many numbers from a first one on.
+#[derive(Clone, Copy, Debug)]
+struct Numbers {
+    first: u32,
+    count: u32,
+}
+
 // A set with something for each number in each list and in each set.
-fn filled(alloc: Global, first: u32, count: u32) -> Result<Retransmits, OutOfMemory> {
+fn filled(alloc: Global, numbers: Numbers) -> Result<Retransmits, OutOfMemory> {
     let mut set = Retransmits::new(alloc);
-    for number in first..first.saturating_add(count) {
-        queue(&mut set, number)?;
+    for number in numbers.first..numbers.first.saturating_add(numbers.count) {
+        queue(&mut set, id(number))?;
         put_others(&mut set, alloc, number)?;
     }
     Ok(set)
 }
 
-fn filled_thin(alloc: Global, first: u32, count: u32) -> Result<ThinRetransmits, OutOfMemory> {
+fn filled_thin(alloc: Global, numbers: Numbers) -> Result<ThinRetransmits, OutOfMemory> {
     let mut thin = ThinRetransmits::new(alloc);
-    *thin.get_or_create()? = filled(alloc, first, count)?;
+    *thin.get_or_create()? = filled(alloc, numbers)?;
     Ok(thin)
 }
 
-fn shows_crypto(rt: &impl Abort, set: &Retransmits, numbers: &[u64]) {
-    same(rt, set.crypto.len(), numbers.len());
+// How two sets become one.
+#[derive(Clone, Copy, Debug)]
+enum Way {
+    Merged,
+    MergedThin,
+    MergedCopies,
+    Collected,
+}
+
+fn merged(mut left: Retransmits, right: Retransmits) -> Result<Retransmits, OutOfMemory> {
+    match try_merge(&mut left, right) {
+        Ok(()) => Ok(left),
+        Err(_) => Err(OutOfMemory),
+    }
+}
+
+fn merged_thin(mut left: Retransmits, right: ThinRetransmits) -> Result<Retransmits, OutOfMemory> {
+    match try_merge_thin(&mut left, right) {
+        Ok(()) => Ok(left),
+        Err(_) => Err(OutOfMemory),
+    }
+}
+
+fn collected(alloc: Global, left: Numbers, right: Numbers) -> Result<Retransmits, OutOfMemory> {
+    let list = vec![in alloc; filled(alloc, left)?, filled(alloc, right)?]?;
+    Retransmits::collect(alloc, list)
+}
+
+// The copy of a set into which that of another was merged.
+fn merged_copies(alloc: Global, left: Numbers, right: Numbers) -> Result<Retransmits, OutOfMemory> {
+    let right = copied_thin(&filled_thin(alloc, right)?)?;
+    copied(&merged_thin(filled(alloc, left)?, right)?)
+}
+
+fn joined(
+    alloc: Global,
+    way: Way,
+    left: Numbers,
+    right: Numbers,
+) -> Result<Retransmits, OutOfMemory> {
+    match way {
+        Way::Merged => merged(filled(alloc, left)?, filled(alloc, right)?),
+        Way::MergedThin => merged_thin(filled(alloc, left)?, filled_thin(alloc, right)?),
+        Way::MergedCopies => merged_copies(alloc, left, right),
+        Way::Collected => collected(alloc, left, right),
+    }
+}
+
+fn shows_crypto(rt: &impl Abort, way: Way, set: &Retransmits, numbers: &[u64]) {
+    same_for(rt, &way, set.crypto.len(), numbers.len());
     for (frame, number) in set.crypto.iter().zip(numbers) {
-        same(rt, frame.offset, *number);
+        same_for(rt, &way, frame.offset, *number);
     }
 }
 
 #[test]
 fn crypto_of_the_right_side_goes_in_front(rt: HostRuntime) -> Result<(), Fail> {
-    let alloc = rt.alloc();
-    let mut merged = filled(alloc, 1, 1)?;
-    merge(&mut merged, filled(alloc, 2, 2)?)?;
-    shows_crypto(&rt, &merged, &[2, 3, 1]);
-    let mut merged = filled(alloc, 1, 1)?;
-    merge_thin(&mut merged, filled_thin(alloc, 2, 2)?)?;
-    shows_crypto(&rt, &merged, &[2, 3, 1]);
-    let list = vec![in alloc; filled(alloc, 1, 1)?, filled(alloc, 2, 2)?]?;
-    shows_crypto(&rt, &Retransmits::collect(alloc, list)?, &[2, 3, 1]);
+    let left = Numbers { first: 1, count: 1 };
+    let right = Numbers { first: 2, count: 2 };
+    for way in [Way::Merged, Way::MergedThin, Way::Collected] {
+        let set = joined(rt.alloc(), way, left, right)?;
+        shows_crypto(&rt, way, &set, &[2, 3, 1]);
+    }
     Ok(())
 }
 
-// Lists go behind, and an id that both sides have is there once.
-#[test]
-fn lists_go_behind_and_sets_are_united(rt: HostRuntime) -> Result<(), Fail> {
-    let alloc = rt.alloc();
-    let mut set = Retransmits::new(alloc);
-    add_reset(&mut set, id(2), VarInt::from(7))?;
-    add_window(&mut set, id(2))?;
-    set.max_stream_id = [true, false];
-    let mut other = Retransmits::new(alloc);
-    add_reset(&mut other, id(6), VarInt::from(1))?;
-    add_window(&mut other, id(2))?;
-    add_window(&mut other, id(6))?;
-    other.max_stream_id = [false, true];
-    other.handshake_done = true;
-    merge(&mut set, other)?;
-    let resets = [(id(2), VarInt::from(7)), (id(6), VarInt::from(1))];
-    same(&rt, set.reset_stream.as_slice(), resets.as_slice());
-    let windows = &set.max_stream_data;
-    same(&rt, windows.len(), 2);
-    is_true(&rt, windows.contains(id(2)) && windows.contains(id(6)));
-    same(&rt, set.max_stream_id, [true, true]);
-    is_true(&rt, set.handshake_done && !set.max_data);
-    Ok(())
-}
+// Numbers that are retired, and the code of the refusal, if they are refused.
+const RETIRED: [(u64, u64, Option<u64>); 4] = [
+    (0, u64::MAX, Some(TransportError::CONNECTION_ID_LIMIT_ERROR)),
+    (0, 50, None),
+    (50, 51, Some(TransportError::CONNECTION_ID_LIMIT_ERROR)),
+    (7, 7, None),
+];
 
 fn code_of(refused: Result<(), ReceiveError>) -> Option<u64> {
     match refused {
@@ -212,40 +207,59 @@ fn code_of(refused: Result<(), ReceiveError>) -> Option<u64> {
     }
 }
 
-fn retire(set: &mut Retransmits, from: u64, to: u64) -> Result<(), ReceiveError> {
-    set.retire_cids(from..to)
-}
-
 #[test]
 fn fifty_ids_wait_at_most(rt: HostRuntime) -> Result<(), Fail> {
-    let refused = Some(TransportError::CONNECTION_ID_LIMIT_ERROR);
     let mut set = Retransmits::new(rt.alloc());
-    same(&rt, code_of(retire(&mut set, 0, u64::MAX)), refused);
-    if retire(&mut set, 0, 50) == Err(ReceiveError::OutOfMemory) {
-        retire(&mut set, 0, 50)?;
+    for (from, to, refused) in RETIRED {
+        let code = code_of(retire(&mut set, from, to));
+        same_for(&rt, &(from, to), code, refused);
     }
-    same(&rt, code_of(retire(&mut set, 50, 51)), refused);
-    retire(&mut set, 7, 7)?;
-    same(&rt, set.retire_cids.len(), 50);
+    same_for(&rt, &RETIRED, set.retire_cids.len(), 50);
     for (waiting, number) in set.retire_cids.iter().zip(0..50u64) {
-        same(&rt, *waiting, number);
+        same_for(&rt, &number, *waiting, number);
     }
     Ok(())
 }
 
-// A set of three and one of so many are merged both ways, and copied.
-fn pass(rt: &impl Abort, alloc: Global, count: u32) -> Result<(), OutOfMemory> {
-    let mut set = filled(alloc, 0, 3)?;
-    merge(&mut set, filled(alloc, 3, count)?)?;
-    same_for(rt, &count, set.new_tokens.len(), count as usize + 3);
-    same_for(rt, &count, set.max_stream_data.len(), count as usize + 3);
-    let mut set = filled(alloc, 3, count)?;
-    merge_thin(&mut set, copy_thin(&filled_thin(alloc, 0, 3)?)?)?;
-    let set = copy(&set)?;
-    let front = set.crypto.front().map(|frame| frame.offset);
-    same_for(rt, &count, set.new_tokens.last().copied(), Some(address(2)));
-    same_for(rt, &count, front, Some(0));
+// What is looked at of a set that came out of two: how many tokens and windows there are, the last token, and the first
+// offset of CRYPTO.
+fn shown(set: &Retransmits) -> (usize, usize, Option<SocketAddr>, Option<u64>) {
+    (
+        set.new_tokens.len(),
+        set.max_stream_data.len(),
+        set.new_tokens.last().copied(),
+        set.crypto.front().map(|frame| frame.offset),
+    )
+}
+
+// Two sets become one, and all of both is there: behind it stands the second, but its CRYPTO in front.
+fn become_one(
+    rt: &impl Abort,
+    alloc: Global,
+    way: Way,
+    left: Numbers,
+    right: Numbers,
+) -> Result<(), OutOfMemory> {
+    let front = if right.count > 0 { right } else { left };
+    let end = right.first.saturating_add(right.count);
+    let count = left.count.saturating_add(right.count) as usize;
+    let wanted = (
+        count,
+        count,
+        Some(address(end.saturating_sub(1))),
+        Some(u64::from(front.first)),
+    );
+    let set = joined(alloc, way, left, right)?;
+    same_for(rt, &(way, count), shown(&set), wanted);
     Ok(())
+}
+
+// A set of three and one of so many are merged both ways, once as copies.
+fn pass(rt: &impl Abort, alloc: Global, count: u32) -> Result<(), OutOfMemory> {
+    let three = Numbers { first: 0, count: 3 };
+    let many = Numbers { first: 3, count };
+    become_one(rt, alloc, Way::Merged, three, many)?;
+    become_one(rt, alloc, Way::MergedCopies, many, three)
 }
 
 // With ample memory no number of things is refused.
@@ -260,144 +274,20 @@ fn any_number_is_merged_and_copied(rt: HostRuntime) -> Result<(), Fail> {
     Ok(())
 }
 
+fn is_new_once(rt: &impl Abort, ids: &mut StreamIds, number: u32) -> Result<(), OutOfMemory> {
+    for is_new in [true, false] {
+        same_for(rt, &number, add_id(ids, id(number))?, is_new);
+    }
+    Ok(())
+}
+
 // An id is new the first time that it is put in.
 #[test]
 fn an_id_is_new_once(rt: HostRuntime) -> Result<(), Fail> {
     let mut ids = StreamIds::new(rt.alloc());
     for number in 0..1025u32 {
-        same_for(&rt, &number, add_id(&mut ids, id(number))?, true);
-        same_for(&rt, &number, add_id(&mut ids, id(number))?, false);
+        is_new_once(&rt, &mut ids, number)?;
     }
-    same(&rt, ids.len(), 1025);
-    Ok(())
-}
-
-// What is told next, which leaves.
-fn next_reset(set: &mut Retransmits) -> Option<(StreamId, VarInt)> {
-    let told = set.next_reset();
-    set.settle_reset();
-    told
-}
-
-fn next_stop(set: &mut Retransmits) -> Option<StopSending> {
-    let told = set.next_stop();
-    set.settle_stop();
-    told
-}
-
-fn next_window(set: &mut Retransmits) -> Option<StreamId> {
-    let id = set.next_window()?;
-    set.settle_window(id);
-    Some(id)
-}
-
-fn next_stream_blocked(set: &mut Retransmits) -> Option<StreamId> {
-    let id = set.next_stream_blocked()?;
-    set.settle_stream_blocked(id);
-    Some(id)
-}
-
-// Sends what is told next: it is noted.
-fn send_reset(set: &mut Retransmits, thin: &mut ThinRetransmits) -> Result<(), Fail> {
-    let (id, error_code) = next_reset(set).ok_or("no RESET_STREAM is told")?;
-    let final_offset = VarInt::from(77u32);
-    note(
-        thin,
-        &Frame::ResetStream(ResetStream {
-            id,
-            error_code,
-            final_offset,
-        }),
-    )?;
-    Ok(())
-}
-
-fn send_stop(set: &mut Retransmits, thin: &mut ThinRetransmits) -> Result<(), Fail> {
-    let frame = next_stop(set).ok_or("no STOP_SENDING is told")?;
-    note(thin, &Frame::StopSending(frame))?;
-    Ok(())
-}
-
-fn send_window(set: &mut Retransmits, thin: &mut ThinRetransmits) -> Result<(), Fail> {
-    let id = next_window(set).ok_or("no MAX_STREAM_DATA is told")?;
-    note(thin, &Frame::MaxStreamData { id, offset: 900 })?;
-    Ok(())
-}
-
-fn send_blocked(set: &mut Retransmits, thin: &mut ThinRetransmits) -> Result<(), Fail> {
-    let id = next_stream_blocked(set).ok_or("no STREAM_DATA_BLOCKED is told")?;
-    note(thin, &Frame::StreamDataBlocked { id, offset: 900 })?;
-    Ok(())
-}
-
-// How many RESET_STREAM, STOP_SENDING, MAX_STREAM_DATA and STREAM_DATA_BLOCKED are pending.
-fn counts(set: &Retransmits) -> [usize; 4] {
-    [
-        set.reset_stream.len(),
-        set.stop_sending.len(),
-        set.max_stream_data.len(),
-        set.stream_data_blocked.len(),
-    ]
-}
-
-// What is queued of so many streams leaves one by one, is lost, and so is pending again. Of the lists what is behind leaves
-// first, so what was queued first is then told first.
-fn comes_back(rt: &impl Abort, alloc: Global, count: u32) -> Result<(), Fail> {
-    let mut set = Retransmits::new(alloc);
-    for number in 0..count {
-        queue(&mut set, number)?;
-    }
-    let mut thin = ThinRetransmits::new(alloc);
-    for _ in 0..count {
-        send_reset(&mut set, &mut thin)?;
-        send_stop(&mut set, &mut thin)?;
-        send_window(&mut set, &mut thin)?;
-        send_blocked(&mut set, &mut thin)?;
-    }
-    same_for(rt, &count, counts(&set), [0; 4]);
-    merge_thin(&mut set, thin)?;
-    same_for(rt, &count, counts(&set), [count as usize; 4]);
-    for number in 0..count {
-        let (id, error_code) = (id(number), stop_code(number));
-        same_for(
-            rt,
-            &count,
-            next_reset(&mut set),
-            Some((id, reset_code(number))),
-        );
-        same_for(
-            rt,
-            &count,
-            next_stop(&mut set),
-            Some(StopSending { id, error_code }),
-        );
-    }
-    Ok(())
-}
-
-#[test]
-fn resets_and_stops_leave_from_the_back(rt: HostRuntime) -> Result<(), Fail> {
-    for count in [0, 1, 2, 3, 255, 256, 257, 1023, 1024, 1025] {
-        comes_back(&rt, rt.alloc(), count)?;
-    }
-    Ok(())
-}
-
-// Each growth of a note and a merge is asked for once more here, so that each can be refused in turn.
-#[test]
-fn refused_calls_change_nothing(rt: HostRuntime) -> Result<(), Fail> {
-    let alloc = rt.alloc();
-    let mut thin = ThinRetransmits::new(alloc);
-    for number in 0..9u32 {
-        let (id, error_code) = (id(number), stop_code(number));
-        note(
-            &mut thin,
-            &Frame::StopSending(StopSending { id, error_code }),
-        )?;
-        note(&mut thin, &Frame::MaxStreamData { id, offset: 1 })?;
-    }
-    let mut set = Retransmits::new(alloc);
-    merge_thin(&mut set, thin)?;
-    same(&rt, counts(&set), [0, 9, 9, 0]);
+    same_for(&rt, &"all", ids.len(), 1025);
     Ok(())
 }

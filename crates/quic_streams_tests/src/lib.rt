@@ -1,4 +1,4 @@
-//! Tests of the receiving side of `quic_streams`, and of what is pending, whole payloads and many sizes, by its public calls.
+//! Tests of `quic_streams` by the public calls that the library for C does not make.
 #![tactic(auto)]
 
 #[cfg(test)]

@@ -1,4 +1,4 @@
-use super::{Fail, InsertError, Step, run, run_heap};
+use super::{Fail, Step, run, run_heap};
 
 const IN_ORDER: [Step; 11] = [
     Step::NoNext,
@@ -34,22 +34,12 @@ const BELOW: [Step; 7] = [
 
 #[test]
 fn assembles_in_order(rt: HostRuntime) -> Result<(), Fail> {
-    run(&rt, rt.alloc(), &IN_ORDER)?;
-    run(&rt, rt.alloc(), &AGAIN)?;
-    run(&rt, rt.alloc(), &BELOW)
+    run(&rt, rt.alloc(), &[&IN_ORDER, &AGAIN, &BELOW])
 }
 
 const REPEAT: [Step; 4] = [
     Step::Put(0, "123"),
     Step::Put(0, "123"),
-    Step::Next(0, "123"),
-    Step::NoNext,
-];
-
-const REPEAT_COMPACT: [Step; 5] = [
-    Step::Put(0, "123"),
-    Step::Put(0, "123"),
-    Step::Compact,
     Step::Next(0, "123"),
     Step::NoNext,
 ];
@@ -61,25 +51,9 @@ const WITHIN: [Step; 4] = [
     Step::NoNext,
 ];
 
-const WITHIN_COMPACT: [Step; 5] = [
-    Step::Put(0, "12345"),
-    Step::Put(1, "234"),
-    Step::Compact,
-    Step::Next(0, "12345"),
-    Step::NoNext,
-];
-
 const AROUND: [Step; 4] = [
     Step::Put(1, "234"),
     Step::Put(0, "12345"),
-    Step::Next(0, "12345"),
-    Step::NoNext,
-];
-
-const AROUND_COMPACT: [Step; 5] = [
-    Step::Put(1, "234"),
-    Step::Put(0, "12345"),
-    Step::Compact,
     Step::Next(0, "12345"),
     Step::NoNext,
 ];
@@ -90,6 +64,44 @@ const MANY: [Step; 6] = [
     Step::Put(4, "5"),
     Step::Put(0, "123456"),
     Step::Next(0, "123456"),
+    Step::NoNext,
+];
+
+// Of two alike the first is given.
+const ALIKE: [Step; 5] = [
+    Step::Put(0, "abc"),
+    Step::Put(0, "xyz"),
+    Step::Put(0, "uvw"),
+    Step::Next(0, "abc"),
+    Step::NoNext,
+];
+
+#[test]
+fn assembles_what_overlaps(rt: HostRuntime) -> Result<(), Fail> {
+    run(&rt, rt.alloc(), &[&REPEAT, &WITHIN, &AROUND, &MANY, &ALIKE])
+}
+
+const REPEAT_COMPACT: [Step; 5] = [
+    Step::Put(0, "123"),
+    Step::Put(0, "123"),
+    Step::Compact,
+    Step::Next(0, "123"),
+    Step::NoNext,
+];
+
+const WITHIN_COMPACT: [Step; 5] = [
+    Step::Put(0, "12345"),
+    Step::Put(1, "234"),
+    Step::Compact,
+    Step::Next(0, "12345"),
+    Step::NoNext,
+];
+
+const AROUND_COMPACT: [Step; 5] = [
+    Step::Put(1, "234"),
+    Step::Put(0, "12345"),
+    Step::Compact,
+    Step::Next(0, "12345"),
     Step::NoNext,
 ];
 
@@ -112,31 +124,19 @@ const JOINED: [Step; 5] = [
     Step::NoNext,
 ];
 
-// Of two alike the first is given.
-const ALIKE: [Step; 5] = [
-    Step::Put(0, "abc"),
-    Step::Put(0, "xyz"),
-    Step::Put(0, "uvw"),
-    Step::Next(0, "abc"),
-    Step::NoNext,
-];
-
-#[test]
-fn assembles_what_overlaps(rt: HostRuntime) -> Result<(), Fail> {
-    run(&rt, rt.alloc(), &REPEAT)?;
-    run(&rt, rt.alloc(), &WITHIN)?;
-    run(&rt, rt.alloc(), &AROUND)?;
-    run(&rt, rt.alloc(), &MANY)?;
-    run(&rt, rt.alloc(), &ALIKE)
-}
-
 #[test]
 fn compacts_what_overlaps(rt: HostRuntime) -> Result<(), Fail> {
-    run(&rt, rt.alloc(), &REPEAT_COMPACT)?;
-    run(&rt, rt.alloc(), &WITHIN_COMPACT)?;
-    run(&rt, rt.alloc(), &AROUND_COMPACT)?;
-    run(&rt, rt.alloc(), &MANY_COMPACT)?;
-    run(&rt, rt.alloc(), &JOINED)
+    run(
+        &rt,
+        rt.alloc(),
+        &[
+            &REPEAT_COMPACT,
+            &WITHIN_COMPACT,
+            &AROUND_COMPACT,
+            &MANY_COMPACT,
+            &JOINED,
+        ],
+    )
 }
 
 const NO_BEGINNING: [Step; 4] = [
@@ -164,8 +164,7 @@ const AFTER_COMPACTION: [Step; 13] = [
 
 #[test]
 fn reads_on_after_compaction(rt: HostRuntime) -> Result<(), Fail> {
-    run(&rt, rt.alloc(), &NO_BEGINNING)?;
-    run(&rt, rt.alloc(), &AFTER_COMPACTION)
+    run(&rt, rt.alloc(), &[&NO_BEGINNING, &AFTER_COMPACTION])
 }
 
 const AS_IT_COMES: [Step; 7] = [
@@ -201,10 +200,58 @@ const ONCE: [Step; 5] = [
 
 #[test]
 fn gives_unordered_as_it_comes(rt: HostRuntime) -> Result<(), Fail> {
-    run(&rt, rt.alloc(), &AS_IT_COMES)?;
-    run(&rt, rt.alloc(), &NO_REPEAT)?;
-    run(&rt, rt.alloc(), &ONCE)
+    run(&rt, rt.alloc(), &[&AS_IT_COMES, &NO_REPEAT, &ONCE])
 }
+
+const NEW_ALONE: [Step; 19] = [
+    Step::Unordered,
+    Step::Put(3, "def"),
+    Step::Any(3, "def"),
+    Step::NoAny,
+    Step::Put(0, "a"),
+    Step::Put(0, "abcdefghi"),
+    Step::Put(0, "abcd"),
+    Step::Any(0, "a"),
+    Step::Any(1, "bc"),
+    Step::Any(6, "ghi"),
+    Step::NoAny,
+    Step::Put(8, "ijkl"),
+    Step::Any(9, "jkl"),
+    Step::NoAny,
+    Step::Put(12, "mno"),
+    Step::Any(12, "mno"),
+    Step::NoAny,
+    Step::Put(2, "cde"),
+    Step::NoAny,
+];
+
+const READ_WITH_THE_MODE: [Step; 7] = [
+    Step::Put(0, "abcdef"),
+    Step::Part(2, 0, "ab"),
+    Step::Unordered,
+    Step::Put(0, "abcdef"),
+    Step::Any(2, "cdef"),
+    Step::NoAny,
+    Step::OrderedAgain,
+];
+
+// Where pieces may overlap, each is read for itself.
+const OVERLAP: [Step; 5] = [
+    Step::Put(0, "123"),
+    Step::Put(1, "234"),
+    Step::Next(0, "123"),
+    Step::Next(3, "4"),
+    Step::NoNext,
+];
+
+const OVERLAP_UNORDERED: [Step; 6] = [
+    Step::Put(0, "123"),
+    Step::Put(1, "234"),
+    Step::Next(0, "123"),
+    Step::Unordered,
+    Step::Any(3, "4"),
+    Step::NoAny,
+];
 
 const IN_ITS_ORDER: [Step; 16] = [
     Step::Put(3, "def"),
@@ -225,18 +272,25 @@ const IN_ITS_ORDER: [Step; 16] = [
     Step::NoNext,
 ];
 
-const FRAME: &str = "0123456789abcdef0123456789abcdef";
+#[test]
+fn gives_each_byte_once(rt: HostRuntime) -> Result<(), Fail> {
+    run(&rt, rt.alloc(), &[&NEW_ALONE, &READ_WITH_THE_MODE])?;
+    run_heap(
+        &rt,
+        rt.alloc(),
+        &[&OVERLAP, &OVERLAP_UNORDERED, &IN_ITS_ORDER],
+    )
+}
 
-const NO_LOSS: [Step; 1] = [Step::Fill(0, 32, 4096, FRAME, 32, Ok(()))];
-
-const WITH_GAPS: [Step; 2] = [
-    Step::Fill(1, 4, 8192, "gap", 3, Err(InsertError::TooManyChunks)),
-    Step::Is(2049, 0),
+const NO_LENGTH: [Step; 3] = [
+    Step::Put(0, "123"),
+    Step::Part(0, 0, ""),
+    Step::Next(0, "123"),
 ];
 
+const EMPTY_PIECE: [Step; 3] = [Step::Insert(7, "", 0, Ok(())), Step::Is(0, 0), Step::NoNext];
+
 #[test]
-fn takes_long_streams(rt: HostRuntime) -> Result<(), Fail> {
-    run_heap(&rt, rt.alloc(), &IN_ITS_ORDER)?;
-    run(&rt, rt.alloc(), &NO_LOSS)?;
-    run(&rt, rt.alloc(), &WITH_GAPS)
+fn nothing_is_taken_where_nothing_is_asked(rt: HostRuntime) -> Result<(), Fail> {
+    run(&rt, rt.alloc(), &[&NO_LENGTH, &EMPTY_PIECE])
 }

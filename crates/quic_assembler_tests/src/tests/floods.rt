@@ -1,87 +1,126 @@
-// Very many pieces: repeats, overlaps, and pieces that touch.
-use super::body::Body;
-use super::worked::LONG;
-use super::{Assembler, Fail, HeapAssembler, InsertError, Step, is_true, same, take};
-use std::alloc::Global;
-use std::process::Abort;
+// Very many pieces, and pieces that keep much memory alive.
+use super::{Fail, InsertError, LONG, Step, run, run_heap};
 
-// 128 bytes and then one, 1015 times, all touching and in their order, and then these steps.
-fn touch_in_order<B: Body + Drop>(
-    rt: &impl Abort,
-    alloc: Global,
-    steps: &[Step],
-) -> Result<(), Fail> {
-    let mut a = B::made(alloc);
-    for turn in 0..1015u64 {
-        let start = turn.wrapping_mul(129).wrapping_add(1);
-        take(rt, &mut a, alloc, Step::Put(start, LONG))?;
-        take(rt, &mut a, alloc, Step::Put(start.wrapping_add(128), "x"))?;
-    }
-    for step in steps {
-        take(rt, &mut a, alloc, *step)?;
-    }
-    Ok(())
+const FRAME: &str = "0123456789abcdef0123456789abcdef";
+
+const NO_LOSS: [Step; 1] = [Step::Fill(0, 32, 4096, FRAME, 32, Ok(()))];
+
+const WITH_GAPS: [Step; 2] = [
+    Step::Fill(1, 4, 8192, "gap", 3, Err(InsertError::TooManyChunks)),
+    Step::Is(2049, 0),
+];
+
+#[test]
+fn takes_long_streams(rt: HostRuntime) -> Result<(), Fail> {
+    run(&rt, rt.alloc(), &[&NO_LOSS, &WITH_GAPS])
 }
 
-const NOT_JOINED: [Step; 4] = [
+const GAPS: [Step; 6] = [
+    Step::Fill(1, 4, 2048, "gap", 3, Ok(())),
+    Step::Is(2048, 0),
+    Step::Insert(8193, "gap", 3, Err(InsertError::TooManyChunks)),
+    Step::Is(2049, 0),
+    Step::Insert(0, "", 0, Err(InsertError::TooManyChunks)),
+    Step::Is(2049, 0),
+];
+
+// What is read goes on where too many pieces are held.
+const SCATTERED: [Step; 6] = [
+    Step::Fill(1, 4, 2048, "gap", 3, Ok(())),
+    Step::Insert(8193, "gap", 3, Err(InsertError::TooManyChunks)),
+    Step::Is(2049, 0),
+    Step::Insert(0, "x", 1, Err(InsertError::TooManyChunks)),
+    Step::Next(0, "xgap"),
+    Step::NoNext,
+];
+
+// 128 bytes and then one, 1015 times, all touching; then single bytes with gaps.
+const NOT_JOINED: [Step; 6] = [
+    Step::Fill(1, 129, 1015, LONG, 128, Ok(())),
+    Step::Fill(129, 129, 1015, "x", 1, Ok(())),
     Step::Fill(130_940, 2, 18, "x", 1, Ok(())),
     Step::Is(2048, 0),
     Step::Insert(130_976, "x", 1, Err(InsertError::TooManyChunks)),
     Step::Is(2049, 0),
 ];
 
-const JOINED: [Step; 4] = [
+// The same with the pieces that touch in their order.
+const NOT_JOINED_IN_ORDER: [Step; 5] = [
+    Step::Pairs(1015),
     Step::Fill(130_940, 2, 18, "x", 1, Ok(())),
     Step::Is(2048, 0),
-    Step::Put(130_976, "x"),
-    Step::Is(20, 0),
+    Step::Insert(130_976, "x", 1, Err(InsertError::TooManyChunks)),
+    Step::Is(2049, 0),
 ];
 
 #[test]
-fn touching_pieces_in_their_order(rt: HostRuntime) -> Result<(), Fail> {
-    touch_in_order::<HeapAssembler>(&rt, rt.alloc(), &NOT_JOINED)?;
-    touch_in_order::<Assembler>(&rt, rt.alloc(), &JOINED)
+fn refuses_too_many_pieces(rt: HostRuntime) -> Result<(), Fail> {
+    run(&rt, rt.alloc(), &[&GAPS, &SCATTERED])?;
+    run_heap(&rt, rt.alloc(), &[&NOT_JOINED, &NOT_JOINED_IN_ORDER])
 }
 
-// 1024 pieces with gaps, and one of them 3072 times more. Answers how many pieces were held at most.
-fn repeat<B: Body + Drop>(rt: &impl Abort, alloc: Global) -> Result<usize, Fail> {
-    let mut a = B::made(alloc);
-    take(rt, &mut a, alloc, Step::Fill(1, 4, 1024, "abc", 3, Ok(())))?;
-    let mut most = a.held();
-    for _turn in 0..3072u32 {
-        take(rt, &mut a, alloc, Step::Put(1, "abc"))?;
-        most = most.max(a.held());
-    }
-    Ok(most)
-}
+// Repeats are held until they are compacted, with each 1025th.
+const REPEATS: [Step; 5] = [
+    Step::Fill(1, 4, 1024, "abc", 3, Ok(())),
+    Step::Fill(1, 0, 1024, "abc", 3, Ok(())),
+    Step::Is(2048, 0),
+    Step::Put(1, "abc"),
+    Step::Is(1024, 0),
+];
 
-// The heap holds repeats until it compacts; of pieces that do not overlap there are never more.
+const MANY_REPEATS: [Step; 3] = [
+    Step::Fill(1, 4, 1024, "abc", 3, Ok(())),
+    Step::Fill(1, 0, 3072, "abc", 3, Ok(())),
+    Step::Is(2046, 0),
+];
+
 #[test]
 fn repeats_are_taken_and_bounded(rt: HostRuntime) -> Result<(), Fail> {
-    same(&rt, repeat::<HeapAssembler>(&rt, rt.alloc())?, 2048);
-    same(&rt, repeat::<Assembler>(&rt, rt.alloc())?, 1024);
-    Ok(())
+    run_heap(&rt, rt.alloc(), &[&REPEATS, &MANY_REPEATS])
 }
 
+// From piece to piece one offset down.
+const DOWN: u64 = u64::MAX;
+
 // Pieces of which the last byte came before, each one lower than the one before it.
-fn overlap<B: Body + Drop>(rt: &impl Abort, alloc: Global) -> Result<(), Fail> {
-    let mut a = B::made(alloc);
-    take(rt, &mut a, alloc, Step::Unordered)?;
-    take(rt, &mut a, alloc, Step::Put(1_000_000, "ab"))?;
-    for turn in 0..4096u64 {
-        let offset = 999_999u64.wrapping_sub(turn);
-        take(rt, &mut a, alloc, Step::Put(offset, "ab"))?;
-        is_true(rt, a.held() <= 2049);
-    }
-    Ok(())
-}
+const OVERLAPS: [Step; 3] = [
+    Step::Unordered,
+    Step::Put(1_000_000, "ab"),
+    Step::Fill(999_999, DOWN, 4096, "ab", 2, Ok(())),
+];
 
 #[test]
 fn overlaps_are_taken_and_bounded(rt: HostRuntime) -> Result<(), Fail> {
-    overlap::<HeapAssembler>(&rt, rt.alloc())
+    run(&rt, rt.alloc(), &[&OVERLAPS])
 }
 
+const MEMORY: [Step; 4] = [
+    Step::Fill(0, 1, 32, "x", 1000, Ok(())),
+    Step::Is(32, 0),
+    Step::Insert(32, "x", 1000, Ok(())),
+    Step::Is(1, 0),
+];
+
+const LEAST_SIZE: [Step; 5] = [
+    Step::Fill(0, 128, 1024, LONG, 128, Ok(())),
+    Step::Put(131_072, "x"),
+    Step::Is(1025, 0),
+    Step::Compact,
+    Step::Is(1, 0),
+];
+
+const WASTE: [Step; 8] = [
+    Step::Insert(0, "abc", 4, Ok(())),
+    Step::Insert(3, "def", 4, Ok(())),
+    Step::Insert(9, "jkl", 4, Ok(())),
+    Step::Insert(12, "mno", 4, Ok(())),
+    Step::Compact,
+    Step::Unordered,
+    Step::Any(0, "abcdef"),
+    Step::Any(9, "jklmno"),
+];
+
 #[test]
-fn overlaps_are_cut_and_bounded(rt: HostRuntime) -> Result<(), Fail> {
-    overlap::<Assembler>(&rt, rt.alloc())
+fn compacts_what_keeps_too_much_memory(rt: HostRuntime) -> Result<(), Fail> {
+    run(&rt, rt.alloc(), &[&MEMORY, &LEAST_SIZE, &WASTE])
 }

@@ -1,5 +1,5 @@
 // With ample memory no size is refused.
-use super::{Assembler, Body, Fail, HeapAssembler, insert, same, same_for};
+use super::{Body, Fail, HeapAssembler, insert, same, same_for};
 use std::alloc::{AllocError, Global};
 use std::process::Abort;
 
@@ -59,8 +59,7 @@ fn pass_every_size<B: Body + Drop>(rt: &impl Abort, alloc: Global) -> Result<(),
 
 #[test]
 fn takes_and_gives_every_size(rt: HostRuntime) -> Result<(), Fail> {
-    pass_every_size::<HeapAssembler>(&rt, rt.alloc())?;
-    pass_every_size::<Assembler>(&rt, rt.alloc())
+    pass_every_size::<HeapAssembler>(&rt, rt.alloc())
 }
 
 // The last byte comes first.
@@ -88,9 +87,4 @@ fn pass_backwards<B: Body + Drop>(rt: &impl Abort, alloc: Global) -> Result<(), 
 #[test]
 fn takes_any_number_of_pieces(rt: HostRuntime) -> Result<(), Fail> {
     pass_backwards::<HeapAssembler>(&rt, rt.alloc())
-}
-
-#[test]
-fn takes_any_number_of_pieces_apart(rt: HostRuntime) -> Result<(), Fail> {
-    pass_backwards::<Assembler>(&rt, rt.alloc())
 }

@@ -3,7 +3,10 @@ use super::{is_true, same};
 use quic_receiving::{
     ClosedStream, HandleError, ReadError, ReadableError, RecvState, ShouldTransmit,
 };
-use quic_values::VarInt;
+use quic_values::{OutOfMemory, VarInt};
+use std::alloc::Global;
+use std::fmt::Debug;
+use std::process::Abort;
 use std::test::Fail;
 
 #[test]
@@ -33,32 +36,44 @@ fn errors_stand_in_the_order_of_their_cases(rt: HostRuntime) -> Result<(), Fail>
     Ok(())
 }
 
+// A value is shown so.
+fn is_shown(
+    rt: &impl Abort,
+    alloc: Global,
+    value: &impl Debug,
+    text: &str,
+) -> Result<(), OutOfMemory> {
+    let shown = format!(in alloc; "{value:?}")?;
+    same(rt, shown.as_str(), text);
+    Ok(())
+}
+
 #[test]
 fn errors_are_shown_by_their_cases(rt: HostRuntime) -> Result<(), Fail> {
-    let alloc = rt.alloc();
     let reads = [
         ReadError::Blocked,
         ReadError::Reset(VarInt::from(7)),
         ReadError::OutOfMemory,
     ];
-    let shown = format!(in alloc; "{reads:?}")?;
-    same(&rt, shown.as_str(), "[Blocked, Reset(7), OutOfMemory]");
+    is_shown(&rt, rt.alloc(), &reads, "[Blocked, Reset(7), OutOfMemory]")?;
     let opens = [
         ReadableError::ClosedStream,
         ReadableError::IllegalOrderedRead,
         ReadableError::OutOfMemory,
     ];
-    let shown = format!(in alloc; "{opens:?}")?;
-    same(
+    is_shown(
         &rt,
-        shown.as_str(),
+        rt.alloc(),
+        &opens,
         "[ClosedStream, IllegalOrderedRead, OutOfMemory]",
-    );
+    )?;
     let handles = [HandleError::ClosedStream, HandleError::OutOfMemory];
-    let shown = format!(in alloc; "{handles:?}")?;
-    same(&rt, shown.as_str(), "[ClosedStream, OutOfMemory]");
-    let sends = ShouldTransmit(true);
-    let shown = format!(in alloc; "{sends:?}")?;
-    same(&rt, shown.as_str(), "ShouldTransmit(true)");
+    is_shown(&rt, rt.alloc(), &handles, "[ClosedStream, OutOfMemory]")?;
+    is_shown(
+        &rt,
+        rt.alloc(),
+        &ShouldTransmit(true),
+        "ShouldTransmit(true)",
+    )?;
     Ok(())
 }

@@ -1,21 +1,23 @@
 // In which order the cases of errors stand, what they are by default, and how they and a half's state are shown.
-use super::{is_true, same};
+use super::same;
 use quic_sending::{ClosedStream, FinishError, SendState, WriteError, Written};
-use quic_values::VarInt;
+use quic_values::{OutOfMemory, VarInt};
+use std::alloc::Global;
+use std::fmt::Debug;
+use std::process::Abort;
 use std::test::Fail;
 
 #[test]
-fn errors_stand_in_the_order_of_their_cases(rt: HostRuntime) -> Result<(), Fail> {
+fn errors_stand_in_the_order_of_their_cases(rt: HostRuntime) {
     let (low, high) = (VarInt::from(3), VarInt::from(4));
-    is_true(
-        &rt,
-        WriteError::Blocked < WriteError::Stopped(VarInt::from(0)),
-    );
-    is_true(&rt, WriteError::Stopped(low) < WriteError::Stopped(high));
-    is_true(&rt, WriteError::Stopped(high) < WriteError::ClosedStream);
-    is_true(&rt, WriteError::ClosedStream < WriteError::OutOfMemory);
-    is_true(&rt, WriteError::Stopped(high) >= WriteError::Stopped(low));
-    Ok(())
+    for (less, more) in [
+        (WriteError::Blocked, WriteError::Stopped(VarInt::from(0))),
+        (WriteError::Stopped(low), WriteError::Stopped(high)),
+        (WriteError::Stopped(high), WriteError::ClosedStream),
+        (WriteError::ClosedStream, WriteError::OutOfMemory),
+    ] {
+        same(&rt, (less < more, more >= less), (true, true));
+    }
 }
 
 #[test]
@@ -26,50 +28,51 @@ fn nothing_is_written_by_default(rt: HostRuntime) -> Result<(), Fail> {
     Ok(())
 }
 
+fn is_shown<T: Debug>(
+    rt: &impl Abort,
+    alloc: Global,
+    value: &T,
+    text: &str,
+) -> Result<(), OutOfMemory> {
+    let shown = format!(in alloc; "{value:?}")?;
+    same(rt, shown.as_str(), text);
+    Ok(())
+}
+
 #[test]
 fn errors_and_states_are_shown_by_their_cases(rt: HostRuntime) -> Result<(), Fail> {
-    let alloc = rt.alloc();
-    let writes = [
-        WriteError::Blocked,
-        WriteError::Stopped(VarInt::from(7)),
-        WriteError::ClosedStream,
-        WriteError::OutOfMemory,
-    ];
-    let shown = format!(in alloc; "{writes:?}")?;
-    same(
-        &rt,
-        shown.as_str(),
-        "[Blocked, Stopped(7), ClosedStream, OutOfMemory]",
-    );
-    let ends = [
-        FinishError::Stopped(VarInt::from(7)),
-        FinishError::ClosedStream,
-        FinishError::OutOfMemory,
-    ];
-    let shown = format!(in alloc; "{ends:?}")?;
-    same(
-        &rt,
-        shown.as_str(),
-        "[Stopped(7), ClosedStream, OutOfMemory]",
-    );
-    let states = [
-        SendState::Ready,
-        SendState::DataSent {
-            finish_acked: false,
-        },
-        SendState::ResetSent,
-    ];
-    let shown = format!(in alloc; "{states:?}")?;
-    same(
-        &rt,
-        shown.as_str(),
-        "[Ready, DataSent { finish_acked: false }, ResetSent]",
-    );
+    let seven = VarInt::from(7);
+    for (error, text) in [
+        (WriteError::Blocked, "Blocked"),
+        (WriteError::Stopped(seven), "Stopped(7)"),
+        (WriteError::ClosedStream, "ClosedStream"),
+        (WriteError::OutOfMemory, "OutOfMemory"),
+    ] {
+        is_shown(&rt, rt.alloc(), &error, text)?;
+    }
+    for (error, text) in [
+        (FinishError::Stopped(seven), "Stopped(7)"),
+        (FinishError::ClosedStream, "ClosedStream"),
+        (FinishError::OutOfMemory, "OutOfMemory"),
+    ] {
+        is_shown(&rt, rt.alloc(), &error, text)?;
+    }
+    for (state, text) in [
+        (SendState::Ready, "Ready"),
+        (
+            SendState::DataSent {
+                finish_acked: false,
+            },
+            "DataSent { finish_acked: false }",
+        ),
+        (SendState::ResetSent, "ResetSent"),
+    ] {
+        is_shown(&rt, rt.alloc(), &state, text)?;
+    }
     let written = Written {
         bytes: 5,
         chunks: 2,
     };
-    let shown = format!(in alloc; "{written:?}")?;
-    same(&rt, shown.as_str(), "Written { bytes: 5, chunks: 2 }");
+    is_shown(&rt, rt.alloc(), &written, "Written { bytes: 5, chunks: 2 }")?;
     Ok(())
 }

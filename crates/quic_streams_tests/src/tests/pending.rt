@@ -1,9 +1,9 @@
 // What counts of what is pending: a frame that would be dropped does not.
-use super::{Step, TAKEN, is_true, run, same, same_for};
+use super::frames::{WINDOW, add_stream_blocked, add_window, client, end, id, receive};
+use super::subject::{Subject, nothing_noted, nothing_pending};
+use super::{TAKEN, is_true, same, same_for};
 use quic_sending::WriteError;
 use quic_streams::{IssuedCid, Retransmits, ThinRetransmits};
-use quic_streams_subject::frames::{WINDOW, add_stream_blocked, add_window, client, end, id};
-use quic_streams_subject::subject::{Subject, nothing_noted, nothing_pending};
 use quic_values::{Bytes, Dir, OutOfMemory, Side, VarInt};
 use quic_wire::frame::{Crypto, StopSending};
 use std::alloc::Global;
@@ -149,14 +149,12 @@ const WINDOWS: [Case; 3] = [
     (1, &[2, 3, 1, 7], false),
 ];
 
-const WHOLE: [Step; 1] = [Step::Final(3, 0, 1, TAKEN)];
-
 #[test]
 fn windows_count_where_more_may_come(rt: HostRuntime) -> Result<(), Fail> {
     let alloc = rt.alloc();
     let mut subject = end(alloc, Side::Client, 2, 4, 2)?;
     same(&rt, subject.open(Dir::Uni)?, Some(id(2)));
-    run(&rt, alloc, &mut subject, &WHOLE)?;
+    same(&rt, receive(alloc, &mut subject, 3, 0, 1, true)?, TAKEN);
     counts(&rt, alloc, &subject, &WINDOWS)?;
     Ok(())
 }

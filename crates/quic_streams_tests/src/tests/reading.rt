@@ -1,28 +1,19 @@
-// What becomes of a reader that is finalized, dropped or leaked.
-use super::{Given, Last, Reads, Step, TAKEN, is_true, run, same};
+// What becomes of a reader that is finalized, dropped or leaked, and of the list of a read.
+use super::frames::{WINDOW, client, id};
+use super::subject::{Subject, finalize, next_chunk};
+use super::{gave, has_credit, is_true, same, same_for, takes, tells_window};
+use quic_streams::progress::LastAnswer;
 use quic_streams::recv_stream::RecvStream;
-use quic_streams_subject::frames::{WINDOW, client, id};
-use quic_streams_subject::subject::{Subject, finalize, next_chunk};
 use quic_values::OutOfMemory;
 use std::alloc::Global;
 use std::mem::forget;
 use std::process::Abort;
 use std::test::Fail;
 
-const ONE_BYTE: [Step; 1] = [Step::Data(3, 0, 1, TAKEN)];
-
-// The limit of the stream is worth a frame, that of the connection is not.
-const ONE_BYTE_READ: [Step; 4] = [
-    Step::Windows(&[3]),
-    Step::Limit(3, 9),
-    Step::MaxData(false),
-    Step::Is(1, 1),
-];
-
 // A client to which one byte came, of a stream on which it permits 8.
 fn one_byte_came(rt: &impl Abort, alloc: Global) -> Result<Subject, OutOfMemory> {
     let mut subject = client(alloc, 128, WINDOW, 8)?;
-    run(rt, alloc, &mut subject, &ONE_BYTE)?;
+    takes(rt, alloc, &mut subject, 0, 1)?;
     Ok(subject)
 }
 
@@ -75,26 +66,43 @@ fn a_reader_that_is_finalized_or_dropped_gives_credit(rt: HostRuntime) -> Result
         let subject = one_byte_came(&rt, rt.alloc())?;
         let (mut subject, transmit) = read_byte(&rt, subject, ending)?;
         same(&rt, transmit, answer);
-        run(&rt, rt.alloc(), &mut subject, &ONE_BYTE_READ)?;
+        // The limit of the stream is worth a frame, that of the connection is not.
+        tells_window(&rt, rt.alloc(), &mut subject, 9);
+        has_credit(&rt, &subject, 1, 1);
     }
     Ok(())
 }
 
 // The credit of the leaked reader is lost, and no other. The stream is read on.
-const LEAKED: [Step; 7] = [
-    Step::Windows(&[]),
-    Step::Is(0, 1),
-    Step::Data(3, 1, 1, TAKEN),
-    Step::Ordered(3, Reads(8, 2), Given(1, Last::Blocked, true)),
-    Step::Is(1, 2),
-    Step::Windows(&[3]),
-    Step::Limit(3, 10),
-];
-
 #[test]
 fn a_reader_that_is_leaked_leaves_the_stream(rt: HostRuntime) -> Result<(), Fail> {
-    let subject = one_byte_came(&rt, rt.alloc())?;
+    let alloc = rt.alloc();
+    let subject = one_byte_came(&rt, alloc)?;
     let (mut subject, _) = read_byte(&rt, subject, Ending::Leaked)?;
-    run(&rt, rt.alloc(), &mut subject, &LEAKED)?;
+    same(&rt, subject.pending.max_stream_data.len(), 0);
+    has_credit(&rt, &subject, 0, 1);
+    takes(&rt, alloc, &mut subject, 1, 1)?;
+    let read = subject.read_some(3, true, 8, 2)?;
+    gave(&rt, alloc, &read, 1, LastAnswer::Blocked, true)?;
+    has_credit(&rt, &subject, 1, 2);
+    tells_window(&rt, alloc, &mut subject, 10);
+    Ok(())
+}
+
+#[test]
+fn the_list_of_the_last_read_is_used_again(rt: HostRuntime) -> Result<(), Fail> {
+    let alloc = rt.alloc();
+    let mut subject = client(alloc, 1, WINDOW, WINDOW)?;
+    let mut list = Vec::with_capacity(alloc, 9)?;
+    let room = list.capacity();
+    let mut offset = 0u64;
+    for size in 1..20usize {
+        takes(&rt, alloc, &mut subject, offset, size)?;
+        let read = subject.read_some_into(3, 2, 9, list)?;
+        let chunks = read.chunks;
+        same_for(&rt, &size, chunks.capacity(), room);
+        offset = offset.wrapping_add(size as u64);
+        list = chunks;
+    }
     Ok(())
 }

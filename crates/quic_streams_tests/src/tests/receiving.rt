@@ -1,191 +1,76 @@
-use super::{
-    FINAL_SIZE, FLOW_CONTROL, Given, Last, Reads, STREAM_LIMIT, STREAM_STATE, Step, TAKEN, run,
-    run_on_client,
-};
-use quic_streams_subject::frames::{WINDOW, client};
+// Frames and credit that the library for C does not hand on, a stream that was not accepted, and a limit queued by hand.
+use super::frames::{Answer, WINDOW, client, receive};
+use super::subject::Subject;
+use super::{TAKEN, gave, has_credit, is_true, permits, reset, same, takes, writes};
+use quic_receiving::ShouldTransmit;
+use quic_streams::progress::LastAnswer;
+use quic_values::{Side, VarInt};
+use quic_wire::{StreamEvent, TransportError};
+use std::rt::HostRuntime;
 use std::test::Fail;
 
-const LIMITS: [Step; 5] = [
-    Step::Data(3, 0, 9, FLOW_CONTROL),
-    Step::Data(3, 0, 8, TAKEN),
-    Step::Data(3, (1 << 62) - 1, 1, FLOW_CONTROL),
-    Step::Data(3, u64::MAX, 1, FLOW_CONTROL),
-    Step::Is(0, 8),
-];
-
-const CONNECTION_LIMIT: [Step; 4] = [
-    Step::Data(3, 0, 6, TAKEN),
-    Step::Data(7, 0, 5, FLOW_CONTROL),
-    Step::Data(7, 0, 4, TAKEN),
-    Step::Reset(3, 0, 7, FLOW_CONTROL),
-];
+const FLOW_CONTROL: Answer = Answer::Refused(TransportError::FLOW_CONTROL_ERROR);
 
 #[test]
-fn no_more_than_permitted_is_taken(rt: HostRuntime) -> Result<(), Fail> {
+fn an_offset_that_no_frame_has_is_refused_or_dropped(rt: HostRuntime) -> Result<(), Fail> {
     let alloc = rt.alloc();
-    run(&rt, alloc, &mut client(alloc, 128, 1000, 8)?, &LIMITS)?;
-    run(
-        &rt,
-        alloc,
-        &mut client(alloc, 128, 10, 8)?,
-        &CONNECTION_LIMIT,
-    )?;
-    run_on_client(
-        &rt,
-        alloc,
-        &[Step::Reset(3, 0, (1 << 62) - 1, FLOW_CONTROL)],
-    )?;
-    Ok(())
-}
-
-const LOW_END: [Step; 4] = [
-    Step::Data(3, 0, 10, TAKEN),
-    Step::Final(3, 0, 5, FINAL_SIZE),
-    Step::Ordered(3, Reads(32, 2), Given(10, Last::Blocked, false)),
-    Step::Is(10, 10),
-];
-
-const SECOND_SIZE: [Step; 6] = [
-    Step::Final(3, 0, 5, TAKEN),
-    Step::Data(3, 5, 1, FINAL_SIZE),
-    Step::Final(3, 0, 4, FINAL_SIZE),
-    Step::Reset(3, 0, 6, FINAL_SIZE),
-    Step::Reset(3, 0, 5, TAKEN),
-    Step::Reset(3, 0, 6, FINAL_SIZE),
-];
-
-// What is read as it comes has an end like what is read in order.
-const UNORDERED_END: [Step; 4] = [
-    Step::Data(3, 4, 4, TAKEN),
-    Step::Unordered(3, Reads(100, 3), Given(4, Last::Blocked, false)),
-    Step::Final(3, 0, 4, FINAL_SIZE),
-    Step::Final(3, 0, 9, TAKEN),
-];
-
-#[test]
-fn a_final_size_stays(rt: HostRuntime) -> Result<(), Fail> {
-    run_on_client(&rt, rt.alloc(), &LOW_END)?;
-    run_on_client(&rt, rt.alloc(), &SECOND_SIZE)?;
-    run_on_client(&rt, rt.alloc(), &UNORDERED_END)?;
-    Ok(())
-}
-
-const IDS: [Step; 6] = [
-    Step::Data(7, 0, 1, STREAM_LIMIT),
-    Step::Data(5, 0, 1, STREAM_LIMIT),
-    Step::Data(2, 0, 1, STREAM_STATE),
-    Step::Data(0, 0, 1, STREAM_STATE),
-    Step::Reset(7, 0, 0, STREAM_LIMIT),
-    Step::Reset(0, 0, 0, STREAM_STATE),
-];
-
-#[test]
-fn ids_that_the_peer_may_not_use_are_refused(rt: HostRuntime) -> Result<(), Fail> {
-    let alloc = rt.alloc();
-    run(&rt, alloc, &mut client(alloc, 1, WINDOW, WINDOW)?, &IDS)?;
-    Ok(())
-}
-
-const ONCE_AND_AGAIN: [Step; 7] = [
-    Step::Data(3, 4096, 0, TAKEN),
-    Step::Is(0, 4096),
-    Step::Reset(3, 0, 4096, TAKEN),
-    Step::Is(4096, 4096),
-    Step::Reset(3, 7, 4096, TAKEN),
+    let mut subject = client(alloc, 128, 1000, 8)?;
+    takes(&rt, alloc, &mut subject, 0, 8)?;
+    let open = receive(alloc, &mut subject, 3, u64::MAX, 1, false)?;
+    same(&rt, open, FLOW_CONTROL);
+    has_credit(&rt, &subject, 0, 8);
+    same(&rt, reset(&mut subject, 0, 8), TAKEN);
     // A frame on a stream that was reset is dropped, whatever its size.
-    Step::Data(3, u64::MAX, 1, TAKEN),
-    Step::Is(4096, 4096),
-];
-
-const NOTHING_CAME: [Step; 4] = [
-    Step::Reset(3, 0, 4096, TAKEN),
-    Step::Is(4096, 4096),
-    Step::Reset(3, 0, 4096, TAKEN),
-    Step::Is(4096, 4096),
-];
-
-const STOPPED: [Step; 7] = [
-    Step::Data(3, 0, 32, TAKEN),
-    Step::Stop(3, true),
-    Step::Is(32, 32),
-    Step::Remote(128, 128, 1),
-    Step::Final(3, 32, 16, TAKEN),
-    Step::Is(48, 48),
-    Step::Remote(128, 129, 1),
-];
-
-const RESET_AT_WHAT_CAME: [Step; 5] = [
-    Step::Data(3, 0, 32, TAKEN),
-    Step::Stop(3, true),
-    Step::Reset(3, 0, 32, TAKEN),
-    Step::Is(32, 32),
-    Step::Remote(128, 129, 1),
-];
-
-const RESET_BEHIND_WHAT_CAME: [Step; 5] = [
-    Step::Data(3, 0, 32, TAKEN),
-    Step::Stop(3, true),
-    Step::Reset(3, 0, 48, TAKEN),
-    Step::Is(48, 48),
-    Step::Remote(128, 129, 1),
-];
-
-const RESET_WHILE_READ: [Step; 7] = [
-    Step::Data(3, 0, 2048, TAKEN),
-    Step::Ordered(3, Reads(1024, 1), Given(1024, Last::Asked, false)),
-    Step::Is(1024, 2048),
-    Step::Reset(3, 8, 4096, TAKEN),
-    Step::Is(4096, 4096),
-    Step::Ordered(3, Reads(1024, 1), Given(0, Last::Reset(8), false)),
-    Step::Is(4096, 4096),
-];
-
-const READ_TO_THE_END: [Step; 5] = [
-    Step::Final(3, 0, 2048, TAKEN),
-    Step::Is(0, 2048),
-    Step::Ordered(3, Reads(2048, 2), Given(2048, Last::Ended, true)),
-    Step::Is(2048, 2048),
-    Step::Remote(1, 2, 1),
-];
-
-// A stream may be stopped before it comes.
-const STOPPED_UNOPENED: [Step; 6] = [
-    Step::Stop(3, true),
-    Step::Data(3, 0, 1, TAKEN),
-    Step::Remote(128, 128, 0),
-    Step::Reset(3, 0, 1, TAKEN),
-    Step::Remote(128, 129, 1),
-    Step::Readable(&[]),
-];
-
-#[test]
-fn credit_and_what_was_received_are_counted(rt: HostRuntime) -> Result<(), Fail> {
-    let alloc = rt.alloc();
-    for steps in [
-        ONCE_AND_AGAIN.as_slice(),
-        NOTHING_CAME.as_slice(),
-        STOPPED.as_slice(),
-        RESET_AT_WHAT_CAME.as_slice(),
-        RESET_BEHIND_WHAT_CAME.as_slice(),
-        RESET_WHILE_READ.as_slice(),
-        STOPPED_UNOPENED.as_slice(),
-    ] {
-        run_on_client(&rt, alloc, steps)?;
-    }
-    let mut subject = client(alloc, 1, WINDOW, WINDOW)?;
-    run(&rt, alloc, &mut subject, &READ_TO_THE_END)?;
+    takes(&rt, alloc, &mut subject, u64::MAX, 1)?;
+    has_credit(&rt, &subject, 8, 8);
     Ok(())
 }
 
-const CREDITS: [Step; 4] = [
-    Step::Credit(131_071, false),
-    Step::Credit(1, true),
-    Step::Is(131_072, 0),
-    Step::MaxData(false),
-];
+// What the application is told next, but that a stream was opened.
+fn next_told(subject: &mut Subject) -> Option<StreamEvent> {
+    match subject.poll() {
+        Some(StreamEvent::Opened { .. }) => subject.poll(),
+        event => event,
+    }
+}
+
+#[test]
+fn a_stream_may_be_stopped_before_it_comes(rt: HostRuntime) -> Result<(), Fail> {
+    let alloc = rt.alloc();
+    let mut subject = client(alloc, 128, WINDOW, WINDOW)?;
+    is_true(&rt, subject.stop(3, 9).is_ok());
+    takes(&rt, alloc, &mut subject, 0, 1)?;
+    permits(&rt, &subject, 128, 0);
+    same(&rt, reset(&mut subject, 0, 1), TAKEN);
+    permits(&rt, &subject, 129, 1);
+    same(&rt, next_told(&mut subject), None);
+    Ok(())
+}
 
 #[test]
 fn credit_from_elsewhere_is_answered_and_not_queued(rt: HostRuntime) -> Result<(), Fail> {
-    run_on_client(&rt, rt.alloc(), &CREDITS)?;
+    let mut subject = client(rt.alloc(), 128, WINDOW, WINDOW)?;
+    same(
+        &rt,
+        subject.add_read_credits(131_071),
+        ShouldTransmit(false),
+    );
+    same(&rt, subject.add_read_credits(1), ShouldTransmit(true));
+    has_credit(&rt, &subject, 131_072, 0);
+    is_true(&rt, !subject.pending.max_data);
+    Ok(())
+}
+
+#[test]
+fn the_greatest_limit_of_a_stream_is_announced(rt: HostRuntime) -> Result<(), Fail> {
+    let alloc = rt.alloc();
+    let mut subject = Subject::new(alloc, Side::Client, 4, 0, VarInt::MAX, VarInt::MAX)?;
+    takes(&rt, alloc, &mut subject, 0, 1)?;
+    let read = subject.read_some(3, true, 1, 1)?;
+    gave(&rt, alloc, &read, 1, LastAnswer::More, false)?;
+    same(&rt, subject.pending.max_stream_data.len(), 0);
+    subject.queue_window(3)?;
+    let most = [0x11, 3, 255, 255, 255, 255, 255, 255, 255, 255];
+    writes(&rt, alloc, &mut subject, 18, &most);
     Ok(())
 }

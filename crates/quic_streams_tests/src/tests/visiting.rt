@@ -2,13 +2,14 @@
 ghost use Rattle.std.specs.Prelude.{[], ◌∷◌, ◌≡◌};
 ghost use Rattle.quic_streams.specs.Visits.{NextCall};
 
-use super::{Given, Last, Reads, Step, TAKEN, run, same};
+use super::frames::{WINDOW, client, id, pattern};
+use super::subject::Subject;
+use super::{TAKEN, gave, has_credit, is_true, permits, reset, same, takes, tells_window};
 use quic_receiving::{Chunk, ReadError, ReadableError};
+use quic_streams::progress::LastAnswer;
 use quic_streams::reading::Chunks;
 use quic_streams::recv_stream::RecvStream;
 use quic_streams::visiting::ReadVisitor;
-use quic_streams_subject::frames::{WINDOW, client, id, pattern};
-use quic_streams_subject::subject::Subject;
 use quic_values::{OutOfMemory, VarInt};
 use std::alloc::Global;
 use std::test::Fail;
@@ -75,73 +76,54 @@ fn visit(
     (subject, answer)
 }
 
-const EIGHT_BYTES: [Step; 1] = [Step::Data(3, 0, 8, TAKEN)];
-
-// The credit of the stream is worth a frame, that of the connection is not.
-const EIGHT_READ: [Step; 4] = [
-    Step::Is(8, 8),
-    Step::Windows(&[3]),
-    Step::Limit(3, 16),
-    Step::MaxData(false),
-];
-
 #[test]
 fn a_visitor_reads_as_it_likes(rt: HostRuntime) -> Result<(), Fail> {
     let alloc = rt.alloc();
     let mut subject = client(alloc, 128, WINDOW, 8)?;
-    run(&rt, alloc, &mut subject, &EIGHT_BYTES)?;
+    takes(&rt, alloc, &mut subject, 0, 8)?;
     let mut visitor = TwoReads::new(3, 9);
     let (mut subject, answer) = visit(subject, true, &mut visitor);
     same(&rt, answer, Ok(true));
     let (first, second) = visitor.answers;
     same(&rt, first, Ok(Some(chunk(alloc, 0, 3)?)));
     same(&rt, second, Ok(Some(chunk(alloc, 3, 5)?)));
-    run(&rt, alloc, &mut subject, &EIGHT_READ)?;
+    // The credit of the stream is worth a frame, that of the connection is not.
+    has_credit(&rt, &subject, 8, 8);
+    tells_window(&rt, alloc, &mut subject, 16);
     Ok(())
 }
-
-const RESET: [Step; 2] = [Step::Data(3, 0, 8, TAKEN), Step::Reset(3, 7, 8, TAKEN)];
-
-const RESET_READ: [Step; 3] = [
-    Step::Is(8, 8),
-    Step::Stop(3, false),
-    Step::Remote(128, 129, 1),
-];
 
 #[test]
 fn a_visitor_is_told_of_a_reset_at_each_read(rt: HostRuntime) -> Result<(), Fail> {
     let alloc = rt.alloc();
     let mut subject = client(alloc, 128, WINDOW, WINDOW)?;
-    run(&rt, alloc, &mut subject, &RESET)?;
+    takes(&rt, alloc, &mut subject, 0, 8)?;
+    same(&rt, reset(&mut subject, 7, 8), TAKEN);
     let mut visitor = TwoReads::new(3, 9);
     let (mut subject, answer) = visit(subject, true, &mut visitor);
     same(&rt, answer.is_ok(), true);
     let (first, second) = visitor.answers;
     same(&rt, first, Err(ReadError::Reset(VarInt::from(7u32))));
     same(&rt, second, Err(ReadError::Reset(VarInt::from(7u32))));
-    run(&rt, alloc, &mut subject, &RESET_READ)?;
+    has_credit(&rt, &subject, 8, 8);
+    is_true(&rt, subject.stop(3, 9).is_err());
+    permits(&rt, &subject, 129, 1);
     Ok(())
 }
-
-const READ_AS_IT_CAME: [Step; 2] = [
-    Step::Data(3, 4, 4, TAKEN),
-    Step::Unordered(3, Reads(2, 1), Given(2, Last::Asked, false)),
-];
-
-const STILL_READ_AS_IT_CAME: [Step; 2] = [
-    Step::Is(2, 8),
-    Step::Unordered(3, Reads(9, 2), Given(2, Last::Blocked, false)),
-];
 
 #[test]
 fn a_refused_visitor_is_left_alone(rt: HostRuntime) -> Result<(), Fail> {
     let alloc = rt.alloc();
     let mut subject = client(alloc, 128, WINDOW, WINDOW)?;
-    run(&rt, alloc, &mut subject, &READ_AS_IT_CAME)?;
+    takes(&rt, alloc, &mut subject, 4, 4)?;
+    let before = subject.read_some(3, false, 2, 1)?;
+    gave(&rt, alloc, &before, 2, LastAnswer::More, false)?;
     let mut visitor = TwoReads::new(3, 9);
     let (mut subject, answer) = visit(subject, true, &mut visitor);
     same(&rt, answer, Err(ReadableError::IllegalOrderedRead));
     same(&rt, visitor.answers, (Ok(None), Ok(None)));
-    run(&rt, alloc, &mut subject, &STILL_READ_AS_IT_CAME)?;
+    has_credit(&rt, &subject, 2, 8);
+    let after = subject.read_some(3, false, 9, 2)?;
+    gave(&rt, alloc, &after, 2, LastAnswer::Blocked, false)?;
     Ok(())
 }

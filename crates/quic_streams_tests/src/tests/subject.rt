@@ -1,5 +1,5 @@
 //! The calls on one end.
-use crate::frames::{add_window, id};
+use super::frames::{add_window, id};
 use quic_receiving::{Chunk, HandleError, ReadError, ReadableError, ShouldTransmit};
 use quic_sending::{FinishError, WriteError, Written};
 use quic_streams::batches::ReadSome;
@@ -10,7 +10,7 @@ use quic_streams::send_stream::SendStream;
 use quic_streams::state::StreamsState;
 use quic_streams::stats::FrameStats;
 use quic_streams::streams::{ConnState, Streams};
-use quic_streams::{PeerLimits, Retransmits, SentPayload, StreamMetaVec, ThinRetransmits};
+use quic_streams::{PeerLimits, Retransmits, StreamMetaVec, ThinRetransmits};
 use quic_values::{Bytes, Dir, OutOfMemory, Side, StreamId, VarInt};
 use quic_wire::frame::{ResetStream, Stream, StreamMeta};
 use quic_wire::{ReceiveError, StreamEvent};
@@ -68,10 +68,6 @@ pub fn nothing_noted(alloc: Global) -> ThinRetransmits {
     ThinRetransmits::new(alloc)
 }
 
-pub fn merge(set: &mut Retransmits, other: ThinRetransmits) -> bool {
-    set.merge_thin(other).is_ok()
-}
-
 pub fn next_chunk(chunks: &mut Chunks<'_>, most: usize) -> Result<Option<Chunk>, ReadError> {
     chunks.next(most)
 }
@@ -106,10 +102,6 @@ impl Subject {
         self.state.set_params(&limits(streams, data, stream_data))
     }
 
-    pub fn zero_rtt_rejected(&mut self) {
-        self.state.zero_rtt_rejected();
-    }
-
     pub fn retransmit_all_for_0rtt(&mut self) -> Result<(), OutOfMemory> {
         self.state.retransmit_all_for_0rtt()
     }
@@ -132,10 +124,6 @@ impl Subject {
 
     pub fn accept(&mut self, dir: Dir) -> Option<StreamId> {
         self.streams().accept(dir)
-    }
-
-    pub fn remote_open_streams(&mut self, dir: Dir) -> u64 {
-        self.streams().remote_open_streams(dir)
     }
 
     pub fn send_streams(&mut self) -> usize {
@@ -170,18 +158,9 @@ impl Subject {
         self.sending(stream).reset(VarInt::from(code))
     }
 
-    pub fn set_priority(&mut self, stream: u32, priority: i32) -> Result<(), HandleError> {
-        self.sending(stream).set_priority(priority)
-    }
-
     // The priority, where the half is held.
     pub fn priority(&mut self, stream: u32) -> Option<i32> {
         self.sending(stream).priority().ok()
-    }
-
-    // The code of the first STOP_SENDING, if one came, where the half is held.
-    pub fn stopped(&mut self, stream: u32) -> Option<Option<VarInt>> {
-        self.sending(stream).stopped().ok()
     }
 }
 
@@ -232,25 +211,8 @@ impl Subject {
         self.state.received_reset(frame)
     }
 
-    pub fn received_stop_sending(&mut self, stream: u32, code: u32) -> Result<(), OutOfMemory> {
-        self.state
-            .received_stop_sending(id(stream), VarInt::from(code))
-    }
-
     pub fn received_max_data(&mut self, limit: u32) {
         self.state.received_max_data(VarInt::from(limit));
-    }
-
-    pub fn received_max_streams(&mut self, dir: Dir, count: u64) -> Result<(), ReceiveError> {
-        self.state.received_max_streams(dir, count)
-    }
-
-    pub fn received_max_stream_data(
-        &mut self,
-        stream: u32,
-        limit: u64,
-    ) -> Result<(), ReceiveError> {
-        self.state.received_max_stream_data(id(stream), limit)
     }
 }
 
@@ -266,14 +228,6 @@ impl Subject {
 
     pub fn reset_acked(&mut self, stream: u32) -> Result<(), OutOfMemory> {
         self.state.reset_acked(id(stream))
-    }
-
-    pub fn acked(&mut self, sent: SentPayload) -> Result<(), SentPayload> {
-        self.state.acked(sent)
-    }
-
-    pub fn lost(&mut self, sent: SentPayload) -> Result<(), SentPayload> {
-        self.state.lost(sent, &mut self.pending)
     }
 }
 
@@ -300,10 +254,6 @@ impl Subject {
             .write_control_frames(buf, &mut self.pending, sent, stats, max_size)
     }
 
-    pub fn queue_max_stream_id(&mut self) -> bool {
-        self.state.queue_max_stream_id(&mut self.pending)
-    }
-
     // MAX_STREAM_DATA is to be sent for a stream.
     pub fn queue_window(&mut self, stream: u32) -> Result<(), OutOfMemory> {
         add_window(&mut self.pending, stream)
@@ -320,14 +270,6 @@ impl Subject {
 
 // What is set.
 impl Subject {
-    pub fn set_max_concurrent(&mut self, dir: Dir, count: u32) -> Result<(), OutOfMemory> {
-        self.state.set_max_concurrent(dir, VarInt::from(count))
-    }
-
-    pub fn set_receive_window(&mut self, window: u32) -> bool {
-        self.state.set_receive_window(VarInt::from(window))
-    }
-
     pub fn set_send_window(&mut self, window: u64) {
         self.state.set_send_window(window);
     }
@@ -355,27 +297,11 @@ impl Subject {
         self.state.next_remote(dir)
     }
 
-    pub fn max_concurrent(&self, dir: Dir) -> u64 {
-        self.state.max_concurrent(dir)
-    }
-
-    pub fn is_local_unopened(&self, stream: u32) -> bool {
-        self.state.is_local_unopened(id(stream))
-    }
-
-    pub fn can_send_flow_control(&self, stream: u32) -> bool {
-        self.state.can_send_flow_control(id(stream))
-    }
-
     pub fn can_send_stream_data(&self) -> bool {
         self.state.can_send_stream_data()
     }
 
     pub fn can_send_data_blocked(&self) -> bool {
         self.state.can_send_data_blocked()
-    }
-
-    pub fn stream_data_blocked_limit(&self, stream: u32) -> Option<VarInt> {
-        self.state.stream_data_blocked_limit(id(stream))
     }
 }

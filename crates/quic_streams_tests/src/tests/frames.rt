@@ -1,5 +1,5 @@
 //! Frames that come and go, and what they come to.
-use crate::subject::Subject;
+use super::subject::Subject;
 use quic_receiving::ShouldTransmit;
 use quic_streams::stats::FrameStats;
 use quic_streams::{Retransmits, ThinRetransmits};
@@ -89,17 +89,6 @@ pub fn receive(
         bytes: pattern(alloc, offset, count)?,
     };
     Ok(answer_of(subject.received(frame)))
-}
-
-/// What lack of memory has to leave as it was.
-pub fn counts(subject: &Subject) -> [u64; 5] {
-    [
-        subject.local_max_data(),
-        subject.data_recvd(),
-        subject.max_remote(Dir::Bi),
-        subject.max_remote(Dir::Uni),
-        subject.next_remote(Dir::Uni),
-    ]
 }
 
 /// MAX_STREAM_DATA is to be sent for one more stream.
