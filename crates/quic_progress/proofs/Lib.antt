@@ -1,0 +1,16 @@
+pub mod Leaves
+pub mod Permissions
+pub mod Written
+pub mod Grows
+pub mod Emitted
+pub mod Ends
+pub mod Tracked
+pub mod TrackedSteps
+pub mod Owing
+pub mod OwingSteps
+pub mod OwingAll
+pub mod Begun
+pub mod Course
+pub mod Settled
+pub mod Rooms
+pub mod Windows

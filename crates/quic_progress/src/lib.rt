@@ -1,0 +1,33 @@
+//! What two ends that settled know of each other's limits, and what these leave to be written and opened.
+#![tactic(auto)]
+
+ghost use Rattle.std.specs.Prelude.{length};
+ghost use Rattle.quic_pair.specs.State.{PairState};
+ghost use Rattle.quic_pair.specs.History.{History, past_of};
+ghost use Rattle.quic_pair.specs.From.{Beginning, PairFrom};
+ghost use Rattle.quic_pair.specs.Runs.{sendings_of};
+ghost use Rattle.quic_pair.specs.Tale.{Tales, Told};
+ghost use Rattle.quic_pair.specs.Settling.{AreIdle, AreSettledIn};
+ghost use Rattle.quic_pair.specs.Completed.{HaveBeenRead, AreAllAcked};
+ghost use Rattle.quic_progress.specs.Progress.{StartsAtOnce, KnowLimits, HaveRoom, AreFree};
+
+/// Once neither of two ends has something to send, and every payload is settled, as `Pair::settle` leaves them: each end
+/// knows the limits that the other announced last, and what the other permits but for an eighth of its windows. So
+/// where all was consumed or read, and no debt is owed, the limits leave the windows but for an eighth, and where no
+/// stream of a direction is open, one may be opened. It is said of pairs whose client sent nothing before the
+/// handshake was done.
+pub fn settled_ends_know_limits()
+    ensures { (s : Beginning) (h : History) (v : PairState) (led : PairFrom s h v) → StartsAtOnce s → AreIdle v → AreSettledIn 0 (length v.sent) v.sent → (t : Tales) → Told s (sendings_of led) t → KnowLimits v t }
+{}
+
+/// Where, as `Pair::settle` leaves them, all was read that was written on streams that were neither given up nor stopped,
+/// each of these that takes more data has room for its window but for an eighth, as far as its own limit goes.
+pub fn read_streams_have_room()
+    ensures { (s : Beginning) (h : History) (v : PairState) (led : PairFrom s h v) → StartsAtOnce s → AreIdle v → AreSettledIn 0 (length v.sent) v.sent → HaveBeenRead (past_of h) → (t : Tales) → Told s (sendings_of led) t → HaveRoom (past_of h) v t }
+{}
+
+/// Where, as `Pair::settle` leaves it, all that was written on streams that were not given up is acknowledged, the send
+/// windows are free.
+pub fn send_windows_are_free()
+    ensures { (s : Beginning) (h : History) (v : PairState) (led : PairFrom s h v) → AreAllAcked (Told s (sendings_of led)) → (t : Tales) → Told s (sendings_of led) t → AreFree t }
+{}
