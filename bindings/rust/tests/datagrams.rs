@@ -1,10 +1,8 @@
 //! Datagrams (RFC 9221) of one end: which are taken, queued, dropped and written.
 
-mod common;
 mod one_end;
 
-use common::events;
-use one_end::{emit, emit_all, joined, put_number, Result};
+use one_end::{emit, emit_all, events, joined, put_number, Result};
 use quic_streams::{
     Config, Emit, Event, Limits, ReceiveError, SendDatagramError, Side, StreamsState,
 };

@@ -9,6 +9,25 @@ use std::iter::from_fn;
 
 pub type Result<T, E = Box<dyn Error>> = std::result::Result<T, E>;
 
+/// The windows of an end, where a test does not say others.
+pub const WINDOW: u64 = 1 << 20;
+
+/// Control frames alone: all but STREAM and DATAGRAM.
+pub const CONTROL: Emit = Emit {
+    control: true,
+    datagrams: false,
+    streams: false,
+    fair: true,
+};
+
+/// STREAM frames alone, of streams that take turns.
+pub const STREAMS: Emit = Emit {
+    control: false,
+    datagrams: false,
+    streams: true,
+    fair: true,
+};
+
 /// The events that wait, in their order.
 pub fn events(end: &mut StreamsState) -> Vec<Event> {
     from_fn(|| end.poll()).collect()
@@ -26,10 +45,5 @@ pub fn frames(end: &mut StreamsState, what: Emit) -> Result<Vec<u8>> {
 
 /// The same of the control frames alone.
 pub fn control_frames(end: &mut StreamsState) -> Result<Vec<u8>> {
-    let control = Emit {
-        datagrams: false,
-        streams: false,
-        ..Emit::default()
-    };
-    frames(end, control)
+    frames(end, CONTROL)
 }

@@ -1,35 +1,16 @@
 //! One end, the bytes that it is handed, and the payloads that it writes.
 
-#![allow(dead_code)] // each test file uses a part
+#![allow(dead_code, unused_imports)] // each test file uses a part
 
+#[path = "../common/mod.rs"]
+mod common;
 pub mod steps;
 
+pub use common::{events, Result, CONTROL, STREAMS, WINDOW};
 use quic_streams::{Config, Emit, Limits, Side, StreamsState, Token};
-use std::error::Error;
-
-pub type Result<T> = std::result::Result<T, Box<dyn Error>>;
-
-/// The windows of an end, where a test does not say others.
-pub const WINDOW: u64 = 1 << 20;
 
 /// The greatest number of a frame (RFC 9000 section 16).
 pub const GREATEST: u64 = (1 << 62) - 1;
-
-/// Control frames alone.
-pub const CONTROL: Emit = Emit {
-    control: true,
-    datagrams: false,
-    streams: false,
-    fair: true,
-};
-
-/// Data of streams alone, which take turns.
-pub const STREAMS: Emit = Emit {
-    control: false,
-    datagrams: false,
-    streams: true,
-    fair: true,
-};
 
 // The types of frames (RFC 9000 section 19).
 pub const RESET_STREAM: u64 = 0x04;

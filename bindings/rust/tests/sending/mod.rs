@@ -1,19 +1,17 @@
 //! One end that sends: its calls in short, and the frames that it writes.
 
 // Each file of tests uses a part of these.
-#![allow(dead_code)]
+#![allow(dead_code, unused_imports)]
 
+#[path = "../common/mod.rs"]
+mod common;
+
+pub use common::{Result, CONTROL, STREAMS, WINDOW};
 use quic_streams::{
     Config, ConfigError, Dir, Emit, Event, FinishError, Info, Limits, OutOfMemory, ReceiveError,
     Side, StreamError, StreamId, StreamsState, Token, WriteError,
 };
-use std::error::Error;
 use std::result;
-
-pub type Result<T> = result::Result<T, Box<dyn Error>>;
-
-/// The windows of an end, where a test does not say others.
-pub const WINDOW: u64 = 1 << 20;
 
 /// What is written, the first bytes of it.
 pub const TEXT: &[u8] = b"thirty two bytes of written text";
@@ -25,22 +23,6 @@ pub const FRAME_ENCODING_ERROR: u64 = 7;
 
 /// A payload of this size takes a STREAM frame, and no second one: the longest head has 25 bytes (RFC 9000 section 19.8).
 pub const ONE_FRAME: usize = 26;
-
-/// All frames but STREAM and DATAGRAM.
-pub const CONTROL: Emit = Emit {
-    control: true,
-    datagrams: false,
-    streams: false,
-    fair: true,
-};
-
-/// STREAM frames.
-pub const STREAMS: Emit = Emit {
-    control: false,
-    datagrams: false,
-    streams: true,
-    fair: true,
-};
 
 pub fn opened(dir: Dir) -> Option<Event> {
     Some(Event::Opened { dir })
