@@ -1,5 +1,5 @@
 -- Entries by their places in rows.
-use Rattle.std.proofs.Common.{◌≡◌, ℕ, ◌+◌, ◌≤◌, ◌<◌, refl, ap, ◌∙◌, inl, inr, List, [], ◌∷◌, ◌++◌, length, arith, zero, suc}
+use Rattle.std.proofs.Common.{◌≡◌, ℕ, ◌+◌, ◌≤◌, ◌<◌, refl, sym, ap, ◌∙◌, inl, inr, List, [], ◌∷◌, ◌++◌, length, arith, zero, suc}
 use Rattle.std.specs.Prelude.{slice_index_or, take}
 use Rattle.std.proofs.lemmas.Bool.{cases_lt, cases_eq}
 use Rattle.std.proofs.lemmas.List.{length-append, get_or_append_left, get_or-append-add}
@@ -188,3 +188,29 @@ place_grows (r ∷ rs) (suc b) (suc c) le =
     let m = length-append r (flat (take c rs)) in
     let h = place_grows rs b c (omega (arith, le)) in
     omega (arith, n, m, h)
+
+-- ---- near a hint, and at the front
+
+-- where the next entry of the row has a key above n
+pub near_place : (rows : List (List KeyAndValue)) (n b i : ℕ) (row : List KeyAndValue) → KeysRise (flat rows) → b < length rows → row ≡ slice_index_or rows b row → i + 1 < length row → ((d : KeyAndValue) → (slice_index_or row i d).0 ≤ n) → ((d : KeyAndValue) → n < (slice_index_or row (i + 1) d).0) → IsLastUpTo (flat rows) n (place_among rows b i)
+near_place rows n b i row rises lt is inside up_to above =
+    let l = ap length is in
+    record {
+      fits = place_fits rows b i row lt (omega (arith, l, inside));
+      up_to = λ d.
+          let p = ap (λ (x : KeyAndValue). x.0) (flat_at rows b i d row lt (omega (arith, l, inside))) in
+          let s = ap (λ (r : List KeyAndValue). (slice_index_or r i d).0) is in
+          let u = up_to d in
+          omega (arith, p, s, u);
+      above = λ k d more less.
+          let p = ap (λ (x : KeyAndValue). x.0) (flat_at rows b (i + 1) d row lt (omega (arith, l, inside))) in
+          let s = ap (λ (r : List KeyAndValue). (slice_index_or r (i + 1) d).0) is in
+          let u = above d in
+          above_from (flat rows) n (place_among rows b (i + 1)) k d rises (omega (arith, more)) less (omega (arith, p, s, u));
+    }
+
+-- the first entry has the first key of the first row
+pub front_key : (rows : List (List KeyAndValue)) (row : List KeyAndValue) → 0 < length rows → row ≡ slice_index_or rows 0 row → 0 < length row → (v : ℕ) × (rest : List KeyAndValue) × (flat rows ≡ (first_key row, v) ∷ rest)
+front_key [] row some is has = absurd (omega (arith, some))
+front_key (r ∷ rs) [] some is has = absurd (omega (arith, has))
+front_key (r ∷ rs) (e ∷ es) some is has = (e.1, es ++ flat rs, ap (λ (t : List KeyAndValue). t ++ flat rs) (sym is))

@@ -6,7 +6,8 @@ use Rattle.std.proofs.lemmas.Bool.{cases_lt, cases_eq}
 use Rattle.std.proofs.lemmas.List.{length-take, length-drop, length-take-le, length-append, length-set, get_or-take, get_or-drop, get_or_append_left, get_or-append-add, get_or-append_right, get_or-set_same, get_or-set_other, drop_more, take_all, take_more}
 use Rattle.std.proofs.lemmas.List.Edits.{get_or-insert_at, get_or-insert_below, get_or-insert_above, length-insert}
 use Rattle.block_map.specs.Sorted.{KeyAndValue, KeysRise, GoesAt, FitsAt}
-use Rattle.block_map.specs.Rows.{first_key}
+use Rattle.block_map.specs.Rows.{first_key, IsBlock}
+use Rattle.block_map.proofs.Moved.{drop-insert}
 
 module _ (xs : List KeyAndValue) (m : ℕ) (y : KeyAndValue) (rises : KeysRise xs) (goes : GoesAt xs m y.0) where
   at_below : (k : ℕ) (d : KeyAndValue) → k < m → (slice_index_or (insert xs m y) k d).0 ≡ (slice_index_or xs k d).0
@@ -183,3 +184,28 @@ front_is (x ∷ xs) e some is = (xs, ap (λ (y : KeyAndValue). y ∷ xs) (sym (i
 
 pub back_is : (xs : List KeyAndValue) (n : ℕ) (e : KeyAndValue) → n + 1 ≡ length xs → e ≡ slice_index_or xs n e → (rest : List KeyAndValue) × (xs ≡ rest ++ e ∷ [])
 back_is xs n e is here = (take n xs, sym (take_all (n + 1) xs (omega (arith, is))) ∙ take_more xs n e (omega (arith, is)) ∙ ap (λ (y : KeyAndValue). take n xs ++ y ∷ []) (sym here))
+
+pub head_insert : (xs : List KeyAndValue) (i : ℕ) (y : KeyAndValue) → 0 < i → i ≤ length xs → first_key (insert xs i y) ≡ first_key xs
+head_insert xs zero y pos fits = absurd (omega (arith, pos))
+head_insert [] (suc i) y pos fits = absurd (omega (arith, fits))
+head_insert (x ∷ xs) (suc i) y pos fits = refl
+
+pub head_insert_front : (xs : List KeyAndValue) (i : ℕ) (y : KeyAndValue) → i ≡ 0 → y.0 ≡ first_key (insert xs i y)
+head_insert_front xs i y is = sym (ap (λ (k : ℕ). first_key (insert xs k y)) is)
+
+-- a row with one entry more
+pub block_with : (old first s i : ℕ) (xs ys : List KeyAndValue) (y : KeyAndValue) → IsBlock 64 old s xs → GoesAt (drop s xs) i y.0 → length xs < 64 → ys ≡ insert xs (s + i) y → first ≡ first_key (insert (drop s xs) i y) → IsBlock 64 first s ys
+block_with old first s i xs ys y b goes room items head =
+    let some = b.some in
+    let fits = goes.fits in
+    let n = length-drop s xs in
+    let v : drop s ys ≡ insert (drop s xs) i y = ap (drop s) items ∙ drop-insert xs s i y (omega (arith, fits, n, some)) in
+    let r = insert_rises (drop s xs) i y b.rises goes in
+    let total = ap length items in
+    let more = length-insert xs (s + i) y (omega (arith, fits, n, some)) in
+    record {
+      some = omega (arith, some, total, more);
+      fits = omega (arith, room, total, more);
+      head = head ∙ sym (ap first_key v);
+      rises = rw (← v) at r;
+    }

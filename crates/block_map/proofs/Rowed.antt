@@ -269,3 +269,10 @@ full_pushed rows r full last i d e lt =
 
 pub full_nil : AreFull []
 full_nil i d e lt = absurd (omega (arith, lt))
+
+-- ---- the first entry
+
+-- without the first row, where that has one entry
+pub pop_row : (rows : List (List KeyAndValue)) (d : List KeyAndValue) → 0 < length rows → length (slice_index_or rows 0 d) ≡ 1 → flat (drop 1 rows) ≡ drop 1 (flat rows)
+pop_row [] d some one = absurd (omega (arith, some))
+pop_row (r ∷ rs) d some one = sym (drop_at r (flat rs) 1 one)

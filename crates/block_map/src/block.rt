@@ -1,10 +1,10 @@
 // A row of entries by rising keys, in memory that has room for more.
-ghost use Rattle.std.specs.Prelude.{◌≡◌, ◌+◌, ◌-◌, ◌<◌, ◌≤◌, ℕ, List, [], ◌∷◌, ◌++◌, length, slice_index_or, slice_set, insert, take, drop, IfOk, OnOk, OnErr, vec_capacity, false, true};
+ghost use Rattle.std.specs.Prelude.{◌≡◌, ◌+◌, ◌-◌, ◌<◌, ◌≤◌, ℕ, List, [], ◌∷◌, ◌++◌, length, slice_index_or, slice_set, insert, take, drop, IfSome, IfOk, OnOk, OnErr, vec_capacity, false, true};
 ghost use Rattle.std.specs.List.{remove_range};
 ghost use Rattle.block_map.specs.Sorted.{KeyAndValue, KeysRise, IsLastUpTo, GoesAt, FitsAt};
 ghost use Rattle.block_map.specs.Rows.{first_key, IsRowMemory};
 
-use crate::search::last_up_to;
+use crate::search::{last_up_to, near};
 use std::alloc::{AllocError, Global};
 use std::marker::Model;
 use std::mem;
@@ -223,12 +223,40 @@ impl Block {
         last_up_to(&self.entries.as_slice()[self.start..], n)
     }
 
+    /// The place of the last entry with a key up to `n`, if it is a place or the one behind it, and another entry follows.
+    #[inline(always)]
+    pub(crate) fn find_near(&self, index: usize, n: u64) -> Option<usize>
+        ensures fits { IfSome result (λ i. i + 1 < length self.now) }
+        ensures up_to { IfSome result (λ i. (d : KeyAndValue) → (slice_index_or self.now i d).0 ≤ n) }
+        ensures above { IfSome result (λ i. (d : KeyAndValue) → n < (slice_index_or self.now (i + 1) d).0) }
+    {
+        let _first = self.first;
+        near(&self.entries.as_slice()[self.start..], index, n)
+    }
+
     /// Whether no entry can be put behind the others where they lie.
     #[inline(always)]
     pub(crate) fn is_full(&self) -> bool
         ensures room { result ≡ false → length self.now < 64 }
     {
         self.entries.len() >= MOST
+    }
+
+    /// Puts an entry in, where there is memory for the most, and room behind the others. Else nothing changes.
+    #[inline(always)]
+    pub(crate) fn try_put(&mut self, index: usize, key: u64, value: u64) -> bool
+        requires { GoesAt self.old index key }
+        ensures put { result ≡ true → self.new ≡ insert self.old index (key, value) }
+        ensures left { result ≡ false → self.new ≡ self.old }
+    {
+        if self.entries.len() >= MOST || self.entries.capacity() < MOST {
+            return false;
+        }
+        put_in(&mut self.entries, self.start + index, key, value);
+        if index == 0 {
+            self.first = key;
+        }
+        true
     }
 
     /// Puts an entry in. There is room, or memory that was reserved.
@@ -290,6 +318,16 @@ impl Block {
         ensures { self.new ≡ remove_range self.old from to }
     {
         self.start = take_out(&mut self.entries, self.start, from, to);
+        self.first = self.entries[self.start].0;
+    }
+
+    /// Takes the first entry out. Some are left.
+    #[inline(always)]
+    pub(crate) fn pop(&mut self)
+        requires { 1 < length self.old }
+        ensures { self.new ≡ drop 1 self.old }
+    {
+        self.start += 1;
         self.first = self.entries[self.start].0;
     }
 

@@ -11,7 +11,8 @@ ghost use Rattle.block_map.specs.Rows.{place_among, IsPlace, AreFull};
 use crate::block::{Block, FEW, MOST};
 use crate::map::{BlockMap, Place};
 use crate::rows::{
-    are_full, count_between, is_small, joined, put_alone, put_entry, remove_entries, remove_entry,
+    are_full, count_between, has_spare, is_small, joined, pop_entry, put_alone, put_entry,
+    remove_entries, remove_entry,
 };
 use std::alloc::AllocError;
 
@@ -33,7 +34,7 @@ fn check_count(blocks: &mut Vec<Block>, len: usize) -> Result<(), AllocError>
 
 impl BlockMap {
     /// Makes room for one entry. If refused, all is as it was.
-    #[inline]
+    #[inline(always)]
     pub fn reserve(&mut self) -> Result<(), AllocError>
         ensures items { self.new.items ≡ self.old.items }
         ensures rows { self.new.rows ≡ self.old.rows }
@@ -45,6 +46,19 @@ impl BlockMap {
         if self.ready {
             return Ok(());
         }
+        self.make_ready()
+    }
+
+    // Makes room where there may be none.
+    #[inline(never)]
+    fn make_ready(&mut self) -> Result<(), AllocError>
+        requires { self.old.room ≡ false }
+        ensures items { self.new.items ≡ self.old.items }
+        ensures rows { self.new.rows ≡ self.old.rows }
+        ensures room { OnOk result (self.new.room ≡ true) }
+        ensures few { OnOk result (length self.new.items < 2 ^ 62) }
+        ensures err { OnErr result (self.new ≡ self.old) }
+    {
         check_count(&mut self.blocks, self.len)?;
         if is_small(self.blocks.as_slice()) {
             self.ready = true;
@@ -79,6 +93,7 @@ impl BlockMap {
             key,
             value,
         );
+        self.ready = self.len < TOO_MANY && has_spare(&self.blocks, &self.spare);
     }
 
     /// Puts an entry behind another. There is room.
@@ -216,14 +231,18 @@ impl BlockMap {
     }
 
     /// Takes the entry with the lowest key out.
-    #[inline]
+    #[inline(always)]
     pub fn pop_first(&mut self) -> Option<(u64, u64)>
         ensures popped { self.old.items ≡ option_to_list result ++ self.new.items }
         ensures none { IfNone result ((self.old.items ≡ []) × (self.new.items ≡ [])) }
     {
-        let place = self.first_place()?;
-        let entry = self.entry(place);
-        self.take_out(place);
+        if self.blocks.is_empty() {
+            return None;
+        }
+        let entry = self.blocks[0].get(0);
+        self.ready = false;
+        self.len -= 1;
+        pop_entry(&mut self.blocks, &mut self.spare);
         Some(entry)
     }
 

@@ -94,15 +94,48 @@ impl BlockMap {
         Some(Place { block, index })
     }
 
-    /// The place of the first entry with a key from `n` on.
-    #[inline]
-    pub fn find_from(&self, n: u64) -> Option<Place>
+    // The same, as a call.
+    #[inline(never)]
+    fn search(&self, n: u64) -> Option<Place>
+        ensures place { IfSome result (λ p. IsPlace self.now.rows p.block p.index) }
+        ensures last { IfSome result (λ p. IsLastUpTo self.now.items n (place_among self.now.rows p.block p.index)) }
+        ensures none { IfNone result ((k : ℕ) (d : KeyAndValue) → k < length self.now.items → n < (slice_index_or self.now.items k d).0) }
+        ensures rises { KeysRise self.now.items }
+    {
+        self.find(n)
+    }
+
+    /// As [`BlockMap::find`]. It needs no search if the place is `hint` or the one behind it, and not the last of its row.
+    /// Any hint will do.
+    #[inline(always)]
+    pub fn find_near(&self, hint: Place, n: u64) -> Option<Place>
+        ensures place { IfSome result (λ p. IsPlace self.now.rows p.block p.index) }
+        ensures last { IfSome result (λ p. IsLastUpTo self.now.items n (place_among self.now.rows p.block p.index)) }
+        ensures none { IfNone result ((k : ℕ) (d : KeyAndValue) → k < length self.now.items → n < (slice_index_or self.now.items k d).0) }
+        ensures rises { KeysRise self.now.items }
+    {
+        let block = hint.block;
+        if block < self.blocks.len() {
+            if let Some(index) = self.blocks[block].find_near(hint.index, n) {
+                return Some(Place { block, index });
+            }
+        }
+        self.search(n)
+    }
+
+    // The place of the first entry with a key from `n` on, where that of the last one with a key up to `n` was found.
+    #[inline(always)]
+    fn first_from(&self, found: Option<Place>, n: u64) -> Option<Place>
+        requires found { IfSome found (λ p. IsPlace self.now.rows p.block p.index) }
+        requires last { IfSome found (λ p. IsLastUpTo self.now.items n (place_among self.now.rows p.block p.index)) }
+        requires absent { IfNone found ((k : ℕ) (d : KeyAndValue) → k < length self.now.items → n < (slice_index_or self.now.items k d).0) }
         ensures place { IfSome result (λ p. IsPlace self.now.rows p.block p.index) }
         ensures first { IfSome result (λ p. IsFirstFrom self.now.items n (place_among self.now.rows p.block p.index)) }
         ensures none { IfNone result ((k : ℕ) (d : KeyAndValue) → k < length self.now.items → (slice_index_or self.now.items k d).0 < n) }
         ensures rises { KeysRise self.now.items }
     {
-        let Some(place) = self.find(n) else {
+        let _count = self.len();
+        let Some(place) = found else {
             let first = self.first_place()?;
             return Some(first);
         };
@@ -111,6 +144,48 @@ impl BlockMap {
         }
         let next = self.next(place)?;
         Some(next)
+    }
+
+    /// As [`BlockMap::find_from`], by a hint as in [`BlockMap::find_near`].
+    #[inline]
+    pub fn find_from_near(&self, hint: Place, n: u64) -> Option<Place>
+        ensures place { IfSome result (λ p. IsPlace self.now.rows p.block p.index) }
+        ensures first { IfSome result (λ p. IsFirstFrom self.now.items n (place_among self.now.rows p.block p.index)) }
+        ensures none { IfNone result ((k : ℕ) (d : KeyAndValue) → k < length self.now.items → (slice_index_or self.now.items k d).0 < n) }
+        ensures rises { KeysRise self.now.items }
+    {
+        self.first_from(self.find_near(hint, n), n)
+    }
+
+    /// As [`BlockMap::place_of`], by a hint as in [`BlockMap::find_near`].
+    #[inline]
+    pub fn place_near(&self, hint: Place, key: u64) -> Option<Place>
+        ensures place { IfSome result (λ p. IsPlace self.now.rows p.block p.index) }
+        ensures fits { IfSome result (λ p. place_among self.now.rows p.block p.index < length self.now.items) }
+        ensures key { IfSome result (λ p. (d : KeyAndValue) → (slice_index_or self.now.items (place_among self.now.rows p.block p.index) d).0 ≡ key) }
+        ensures none { IfNone result (lookup (is_at (nat_cmp key)) self.now.items ≡ None) }
+        ensures rises { KeysRise self.now.items }
+    {
+        match self.find_near(hint, key) {
+            Some(place) => {
+                if self.entry(place).0 == key {
+                    return Some(place);
+                }
+                None
+            }
+            None => None,
+        }
+    }
+
+    /// The place of the first entry with a key from `n` on.
+    #[inline]
+    pub fn find_from(&self, n: u64) -> Option<Place>
+        ensures place { IfSome result (λ p. IsPlace self.now.rows p.block p.index) }
+        ensures first { IfSome result (λ p. IsFirstFrom self.now.items n (place_among self.now.rows p.block p.index)) }
+        ensures none { IfNone result ((k : ℕ) (d : KeyAndValue) → k < length self.now.items → (slice_index_or self.now.items k d).0 < n) }
+        ensures rises { KeysRise self.now.items }
+    {
+        self.first_from(self.find(n), n)
     }
 
     /// The entry at a place.
@@ -187,6 +262,18 @@ impl BlockMap {
             Some(place) => Some(self.entry(place)),
             None => None,
         }
+    }
+
+    /// The lowest key.
+    #[inline(always)]
+    pub fn first_key(&self) -> Option<u64>
+        ensures some { IfSome result (λ key. (value : ℕ) × (rest : List KeyAndValue) × (self.now.items ≡ (key, value) ∷ rest)) }
+        ensures none { IfNone result (self.now.items ≡ []) }
+    {
+        if self.blocks.is_empty() {
+            return None;
+        }
+        Some(self.blocks[0].first())
     }
 
     /// The entry with the highest key.

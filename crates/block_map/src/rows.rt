@@ -19,6 +19,15 @@ pub(crate) fn is_small(blocks: &[Block]) -> bool
     blocks.len() == 1 && blocks[0].len() < HALF && blocks[0].len() != FEW
 }
 
+/// Whether there is memory for a new row, and a place for it.
+#[inline(always)]
+pub(crate) fn has_spare(blocks: &Vec<Block>, spare: &Vec<(u64, u64)>) -> bool
+    ensures place { result ≡ true → length blocks.now.items < vec_capacity blocks.now }
+    ensures memory { result ≡ true → 64 ≤ vec_capacity spare.now }
+{
+    spare.capacity() >= MOST && blocks.len() < blocks.capacity()
+}
+
 // Puts an entry into a row that has room.
 #[inline(always)]
 fn put_in_row(
@@ -122,9 +131,9 @@ fn split_and_put(
     }
 }
 
-/// Puts an entry into a row. There is room.
-#[inline(always)]
-pub(crate) fn put_entry(
+// Puts an entry into a row that is full, or has little memory. There is room.
+#[inline(never)]
+fn put_slowly(
     blocks: &mut Vec<Block>,
     spare: &mut Vec<(u64, u64)>,
     alloc: Global,
@@ -155,6 +164,33 @@ pub(crate) fn put_entry(
         return push_row_before(blocks, memory, key, value);
     }
     split_and_put(blocks, memory, spare, block, index, key, value);
+}
+
+/// Puts an entry into a row. There is room.
+#[inline(always)]
+pub(crate) fn put_entry(
+    blocks: &mut Vec<Block>,
+    spare: &mut Vec<(u64, u64)>,
+    alloc: Global,
+    block: usize,
+    index: usize,
+    key: u64,
+    value: u64,
+)
+    requires some { HasSome blocks.old.items }
+    requires empty { spare.old.items ≡ [] }
+    requires room { HasRoomForOne blocks.old.items (vec_capacity blocks.old) (vec_capacity spare.old) }
+    requires block { block < length blocks.old.items }
+    requires index { index ≤ length (slice_index_or blocks.old.items block []) }
+    requires goes { GoesAt (flat blocks.old.items) (place_among blocks.old.items block index) key }
+    ensures items { flat blocks.new.items ≡ insert (flat blocks.old.items) (place_among blocks.old.items block index) (key, value) }
+    ensures some { HasSome blocks.new.items }
+    ensures empty { spare.new.items ≡ [] }
+{
+    if blocks[block].try_put(index, key, value) {
+        return;
+    }
+    put_slowly(blocks, spare, alloc, block, index, key, value);
 }
 
 /// Puts an entry where there is none. There is room.
@@ -214,7 +250,36 @@ pub(crate) fn remove_entry(
         blocks[block].cut(index, index + 1);
         return;
     }
+    remove_row(blocks, spare, block);
+}
+
+// Takes a row out, and keeps its memory.
+#[inline(never)]
+fn remove_row(blocks: &mut Vec<Block>, spare: &mut Vec<(u64, u64)>, block: usize)
+    requires block { block < length blocks.old.items }
+    requires some { HasSome blocks.old.items }
+    ensures rows { blocks.new.items ≡ remove_range blocks.old.items block (block + 1) }
+    ensures some { HasSome blocks.new.items }
+    ensures empty { spare.new.items ≡ [] }
+{
     *spare = blocks.remove(block).into_spare();
+}
+
+/// Takes the first entry out.
+#[inline(always)]
+pub(crate) fn pop_entry(blocks: &mut Vec<Block>, spare: &mut Vec<(u64, u64)>)
+    requires rows { 0 < length blocks.old.items }
+    requires some { HasSome blocks.old.items }
+    requires empty { spare.old.items ≡ [] }
+    ensures items { flat blocks.new.items ≡ drop 1 (flat blocks.old.items) }
+    ensures some { HasSome blocks.new.items }
+    ensures empty { spare.new.items ≡ [] }
+{
+    if blocks[0].len() > 1 {
+        blocks[0].pop();
+        return;
+    }
+    remove_row(blocks, spare, 0);
 }
 
 // How many entries the rows from one up to another have.

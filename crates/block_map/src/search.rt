@@ -1,5 +1,5 @@
 // Binary searches.
-ghost use Rattle.std.specs.Prelude.{◌≡◌, ◌+◌, ◌<◌, ◌≤◌, ℕ, List, length, slice_index_or};
+ghost use Rattle.std.specs.Prelude.{◌≡◌, ◌+◌, ◌<◌, ◌≤◌, ℕ, List, length, slice_index_or, IfSome};
 ghost use Rattle.block_map.specs.Sorted.{KeyAndValue, KeysRise, IsLastUpTo};
 ghost use Rattle.block_map.specs.Rows.{first_key, FirstsRise};
 
@@ -43,4 +43,24 @@ pub(crate) fn last_row(rows: &[Block], n: u64) -> usize
         size -= half;
     }
     index
+}
+
+/// The place of the last entry with a key up to `n`, if it is a place or the one behind it, and another entry follows.
+#[inline(always)]
+pub(crate) fn near(entries: &[(u64, u64)], index: usize, n: u64) -> Option<usize>
+    ensures fits { IfSome result (λ i. i + 1 < length entries.now) }
+    ensures up_to { IfSome result (λ i. (d : KeyAndValue) → (slice_index_or entries.now i d).0 ≤ n) }
+    ensures above { IfSome result (λ i. (d : KeyAndValue) → n < (slice_index_or entries.now (i + 1) d).0) }
+{
+    let len = entries.len();
+    if len < 2 || index > len - 2 || entries[index].0 > n {
+        return None;
+    }
+    if n < entries[index + 1].0 {
+        return Some(index);
+    }
+    if index + 2 < len && n < entries[index + 2].0 {
+        return Some(index + 1);
+    }
+    None
 }

@@ -14,16 +14,14 @@ use Rattle.quic_assembler.specs.Piece.{PieceView, Sums, Covers, RunHolds, cover_
 use Rattle.quic_assembler.specs.Reassembly.{Reassembly, is_wasteful, floor, Holds, IsDone, IsHeld, Takes, SameHeld, HoldsOnce, TakesFresh, IsNext}
 use Rattle.quic_assembler.proofs.Counts.{Any-here, Any-cons, Any-nil, Any-append, lies_below, lies_above, bit-le-one, count_of_any, any_of_count}
 use Rattle.quic_assembler.proofs.Runs.{RunHolds-cut, RunHolds-uncut, covers_from_holds, holds_from_covers}
-use Rattle.quic_assembler.proofs.Whole.{takes_nothing, below_is_done, keeps_fresh}
+use Rattle.quic_assembler.proofs.Whole.{below_is_done, keeps_fresh}
 use Rattle.quic_ordered.specs.Entries.{piece_of}
 use Rattle.quic_ordered.specs.Rows.{AddsOnly, LieInOrder, LieWithGaps, HoldSame, Hold, Merges, StemsFrom, StaysApart, JoinsAll, GivesFirst}
-use Rattle.quic_ordered.specs.Assembly.{EnclosesPiece, unread, JoinsUnread, KeepsPiece, FormMoreRuns}
+use Rattle.quic_ordered.specs.Assembly.{EnclosesPiece, unread, KeepsPiece, FormMoreRuns}
 use Rattle.std.proofs.lemmas.Map.Keys.{sorted_from_strictly_increasing}
 use Rattle.quic_ordered.proofs.Order.{hold_behind}
 use Rattle.quic_assembler.specs.declared.chunk.Chunk.{Chunk}
 use Rattle.quic_ordered.proofs.Taking.{same_head}
-use Rattle.quic_ordered.proofs.Places.{merges_empty}
-use Rattle.quic_ordered.proofs.Stores.{stems_all, stay_all}
 use Rattle.quic_ordered.proofs.Compacting.{held_above}
 
 -- pieces that keep little memory alive are not compacted
@@ -115,32 +113,6 @@ holds_left old new o n above s =
     }
 
 -- ---- a piece in ordered mode
-
-unread_none : (read offset : ℕ) (bytes : List ℕ) (size : ℕ) → offset + length bytes ≤ max offset read → length (unread read offset bytes size).bytes ≡ 0
-unread_none read offset bytes size l = simp length-drop (omega arith)
-
-pub joins_none : (old : Reassembly) (offset : ℕ) (bytes : List ℕ) (size : ℕ) (mid : List PieceView) → mid ≡ old.runs → offset + length bytes ≤ max offset old.bytes_read → JoinsUnread old offset bytes size mid
-joins_none old offset bytes size mid e l =
-    let p = unread old.bytes_read offset bytes size in
-    subst (JoinsUnread old offset bytes size) (sym e) (record {
-      merges = merges_empty old.runs p (unread_none old.bytes_read offset bytes size l);
-      stems = stems_all old.runs p;
-      joined = λ some. absurd (omega (arith, some, unread_none old.bytes_read offset bytes size l));
-      stays = stay_all offset (offset + length bytes) old.runs;
-      within = λ h. refl;
-      pieces = omega arith;
-    })
-
-pub keeps_none : (old new : Reassembly) (offset : ℕ) (bytes : List ℕ) (size : ℕ) → old.ordered ≡ true → new.ordered ≡ true → new.bytes_read ≡ old.bytes_read → new.runs ≡ old.runs → new.highest ≡ max old.highest (offset + length bytes)
-    → offset + length bytes ≤ max offset old.bytes_read → KeepsPiece old new offset bytes size
-keeps_none old new offset bytes size o n e r h l = record {
-  held = takes_nothing old new offset bytes r (rw (o, n) e) (λ at w. below_is_done old at o (omega (arith, w.0, w.1)));
-  done = λ at f. absurd (true_not_false old.ordered o f);
-  added = record { joins = λ f. joins_none old offset bytes size new.runs r l; sums = λ f. absurd (true_not_false old.ordered o f); adds = λ f. absurd (true_not_false old.ordered o f) };
-  highest = h;
-  bytes_read = e;
-  ordered = n ∙ sym o;
-}
 
 not_held : (old : Reassembly) (at : ℕ) → floor old ≤ at → (IsHeld (Holds old) at → ⊥) → (byte : ℕ) → Hold old.runs at byte → ⊥
 unfolding Holds

@@ -5,7 +5,7 @@ use Rattle.std.specs.List.{All, Any}
 use Rattle.std.specs.Map.{values_of}
 use Rattle.std.proofs.lemmas.Bool.{cases_lt}
 use Rattle.std.proofs.lemmas.Bool.Decides.{nat_tests}
-use Rattle.std.proofs.lemmas.List.{append-nil, length-append, get_or_append_left, get_or-append-add}
+use Rattle.std.proofs.lemmas.List.{length-append, get_or_append_left, get_or-append-add}
 use Rattle.std.proofs.lemmas.List.Elements.{All-head, All-tail, All-nil, All-cons, All-push, All-pop, All-append, All-weaker}
 use Rattle.quic_assembler.specs.Piece.{PieceView, run_end, RunHolds}
 use Rattle.quic_assembler.proofs.Counts.{Any-here, Any-there, Any-cons, Any-nil, Any-append}
@@ -123,7 +123,7 @@ next_begins : (low : ℕ) (xs rest : List PieceView) (last p : PieceView) → Li
 next_begins low [] rest last p h = (h.2.0, h.2.1)
 next_begins low (x ∷ xs) rest last p h = next_begins (run_end x) xs rest last p h.2
 
-gaps_push : (low : ℕ) (xs : List PieceView) (last p : PieceView) → LieWithGaps low (xs ++ last ∷ []) → run_end last < p.offset → 0 < length p.bytes → LieWithGaps low ((xs ++ last ∷ []) ++ p ∷ [])
+pub gaps_push : (low : ℕ) (xs : List PieceView) (last p : PieceView) → LieWithGaps low (xs ++ last ∷ []) → run_end last < p.offset → 0 < length p.bytes → LieWithGaps low ((xs ++ last ∷ []) ++ p ∷ [])
 gaps_push low [] last p h lt some = (h.0, h.1, (omega arith, some, tt))
 gaps_push low (x ∷ xs) last p h lt some = (h.0, h.1, gaps_push (run_end x + 1) xs last p h.2 lt some)
 
@@ -273,10 +273,6 @@ pub order_gathered_front : (low : ℕ) (es : List (ℕ × PieceView)) (all rest 
 order_gathered_front low es all rest out row h e g f =
     subst (LieInOrder low) (sym f ∙ sym (only_row es row e)) (order_same low all (out ++ rest) (subst (LieInOrder low) (only_row es all e) h) g.same g.order)
 
-pub order_gathered_all : (low : ℕ) (es : List (ℕ × PieceView)) (all rest out : List PieceView) → LieInOrder low (values_of es ++ all) → es ≡ [] → IsGathered all out rest → rest ≡ [] → LieInOrder low (values_of es ++ out)
-order_gathered_all low es all rest out h e g f =
-    order_gathered_front low es all rest out out h e g (sym (append-nil out) ∙ ap (λ (xs : List PieceView). out ++ xs) (sym f))
-
 kept_of_among : (all rest : List PieceView) → All (IsAmong all) rest → All (IsKeptOrOwn all) rest
 kept_of_among all rest h = All-weaker (IsAmong all) (IsKeptOrOwn all) (λ r a. inl a) rest h
 
@@ -286,9 +282,6 @@ kept_at es all row e h = subst (λ (xs : List PieceView). All (IsKeptOrOwn xs) (
 pub kept_gathered_front : (es : List (ℕ × PieceView)) (all rest out row : List PieceView) → es ≡ [] → IsGathered all out rest → row ≡ out ++ rest → All (IsKeptOrOwn (values_of es ++ all)) (values_of es ++ row)
 kept_gathered_front es all rest out row e g f =
     kept_at es all row e (subst (All (IsKeptOrOwn all)) (sym f) (All-append (IsKeptOrOwn all) out rest g.stems (kept_of_among all rest g.left)))
-
-pub kept_gathered_all : (es : List (ℕ × PieceView)) (all rest out : List PieceView) → es ≡ [] → IsGathered all out rest → All (IsKeptOrOwn (values_of es ++ all)) (values_of es ++ out)
-kept_gathered_all es all rest out e g = kept_at es all out e g.stems
 
 pub kept_all : (all : List PieceView) → All (IsKeptOrOwn all) all
 kept_all all = kept_of_among all all (all_among [] all)

@@ -19,3 +19,9 @@ pub mod Sweeping
 pub mod Chains
 pub mod Passing
 pub mod Between
+pub mod Keeping
+pub mod Clear
+pub mod Nearby
+pub mod Given
+pub mod Cutting
+pub mod Waste

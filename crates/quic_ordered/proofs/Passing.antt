@@ -13,6 +13,7 @@ use Rattle.std.proofs.lemmas.List.Elements.{All-head, All-tail}
 use Rattle.quic_assembler.specs.Piece.{PieceView, run_end}
 use Rattle.quic_ordered.specs.Entries.{piece_at}
 use Rattle.quic_ordered.specs.Rows.{AreKeyed, LieInOrder}
+use Rattle.block_map.specs.declared.map.Place.{Place}
 use Rattle.quic_ordered.specs.declared.map.Run.{Run}
 use Rattle.quic_ordered.specs.Sweeping.{IsNextPiece, IsSwept, IsNextRun}
 use Rattle.quic_ordered.proofs.Order.{order_front, order_behind, found_head, ends_by_last, key_at}
@@ -167,10 +168,10 @@ IsAt es last0 end0 last end (Some run) bytes rest = ((all : List PieceView) → 
 -- ---- the steps of that loop
 
 -- the next piece touches the last one that is done
-pub step_touch : (es : List (ℕ × PieceView)) (last0 : Option ℕ) (end0 base end start stop : ℕ) (run : PieceView) (bytes bytes' : List ℕ) (rest left : List (ℕ × PieceView)) → (all : List PieceView) × IsSwept all last0 end0 es
+pub step_touch : (es : List (ℕ × PieceView)) (last0 : Option ℕ) (end0 base end start stop : ℕ) (hint : Place) (run : PieceView) (bytes bytes' : List ℕ) (rest left : List (ℕ × PieceView)) → (all : List PieceView) × IsSwept all last0 end0 es
     → IsAt es last0 end0 (Some base) end None bytes rest → rest ≡ (start, run) ∷ left → end ≡ start → stop ≡ run_end run → stop < 2 ^ 62 → bytes' ≡ bytes ++ run.bytes
-    → IsAt es last0 end0 (Some base) end (Some (record { base = base; from = end; stop = stop })) bytes' left
-step_touch es last0 end0 base end start stop run bytes bytes' rest left given at is touch ends bound text =
+    → IsAt es last0 end0 (Some base) end (Some (record { base = base; from = end; stop = stop; hint = hint })) bytes' left
+step_touch es last0 end0 base end start stop hint run bytes bytes' rest left given at is touch ends bound text =
     let all = given.0 in
     let here = at.1 all given.1 in
     let s = here.0 in
@@ -184,10 +185,10 @@ step_touch es last0 end0 base end start stop run bytes bytes' rest left given at
     )
 
 -- the next piece keeps much memory alive
-pub step_begin : (es : List (ℕ × PieceView)) (last0 : Option ℕ) (end0 : ℕ) (last : Option ℕ) (end start stop : ℕ) (run : PieceView) (bytes : List ℕ) (rest left : List (ℕ × PieceView)) → (all : List PieceView) × IsSwept all last0 end0 es
+pub step_begin : (es : List (ℕ × PieceView)) (last0 : Option ℕ) (end0 : ℕ) (last : Option ℕ) (end start stop : ℕ) (hint : Place) (run : PieceView) (bytes : List ℕ) (rest left : List (ℕ × PieceView)) → (all : List PieceView) × IsSwept all last0 end0 es
     → IsAt es last0 end0 last end None bytes rest → rest ≡ (start, run) ∷ left → (last ≡ None) ⊎ (end ≢ start) → stop ≡ run_end run → stop < 2 ^ 62
-    → IsAt es last0 end0 last end (Some (record { base = start; from = stop; stop = stop })) bytes left
-step_begin es last0 end0 last end start stop run bytes rest left given at is apart ends bound =
+    → IsAt es last0 end0 last end (Some (record { base = start; from = stop; stop = stop; hint = hint })) bytes left
+step_begin es last0 end0 last end start stop hint run bytes rest left given at is apart ends bound =
     let all = given.0 in
     let here = at.1 all given.1 in
     let s = here.0 in
@@ -209,7 +210,7 @@ step_pass es last0 end0 last end start stop run bytes rest left at is apart ends
 -- one more piece touches
 pub step_more : (es : List (ℕ × PieceView)) (last0 : Option ℕ) (end0 : ℕ) (last : Option ℕ) (end start stop : ℕ) (r : Run) (run : PieceView) (bytes bytes' : List ℕ) (rest left : List (ℕ × PieceView)) → (all : List PieceView) × IsSwept all last0 end0 es
     → IsAt es last0 end0 last end (Some r) bytes rest → rest ≡ (start, run) ∷ left → r.stop ≡ start → stop ≡ run_end run → stop < 2 ^ 62 → bytes' ≡ bytes ++ run.bytes
-    → IsAt es last0 end0 last end (Some (record { base = r.base; from = r.from; stop = stop })) bytes' left
+    → IsAt es last0 end0 last end (Some (record { base = r.base; from = r.from; stop = stop; hint = r.hint })) bytes' left
 step_more es last0 end0 last end start stop r run bytes bytes' rest left given at is touch ends bound text =
     let all = given.0 in
     let s = given.1 in

@@ -145,19 +145,79 @@ impl Assembler {
         ensures bytes_read { self.new.bytes_read ≡ self.old.bytes_read }
         ensures ordered { self.new.ordered ≡ self.old.ordered }
     {
-        let end = offset + bytes.len() as u64;
-        if self.ordered && offset < self.bytes_read && end <= self.bytes_read {
-            self.highest = self.highest.max(end);
-            return Ok(());
+        if self.ordered && offset < self.bytes_read {
+            return self.insert_below(offset, bytes, allocation_size);
         }
         self.hold(offset, bytes, allocation_size)?;
         self.relieve()
     }
 
+    // In ordered mode takes bytes that begin below those that were read.
+    #[inline(never)]
+    fn insert_below(
+        &mut self,
+        offset: u64,
+        bytes: Bytes,
+        allocation_size: usize,
+    ) -> Result<(), InsertError>
+        requires mode { self.old.ordered ≡ true }
+        requires below { offset < self.old.bytes_read }
+        requires fits { offset + length bytes < 2 ^ 62 }
+        requires allocated { length bytes ≤ allocation_size }
+        ensures kept { MatchInsert result (Takes (Holds self.old) (Holds self.new) (IsDone self.old) offset bytes) (self.new ≡ self.old) }
+        ensures highest { MatchInsert result (self.new.highest ≡ max self.old.highest (offset + length bytes)) (self.new.highest ≡ self.old.highest) }
+        ensures done { (at : ℕ) → self.old.ordered ≡ false → MatchInsert result (is_done self.new at ≡ (is_done self.old at || lies offset (offset + length bytes) at)) (is_done self.new at ≡ is_done self.old at) }
+        ensures unneeded { self.old.ordered ≡ true → offset + length bytes ≤ max offset self.old.bytes_read → result ≡ Err InsertError.OutOfMemory → ⊥ }
+        ensures within { self.old.ordered ≡ true → Any (Encloses (max offset self.old.bytes_read) (offset + length bytes)) self.old.runs → result ≡ Err InsertError.OutOfMemory → ⊥ }
+        ensures many { result ≡ Err InsertError.TooManyChunks → 1024 < piece_count self.new }
+        ensures runs { result ≡ Err InsertError.TooManyChunks → FormMoreRuns 1024 (Holds self.new) }
+        ensures few { OnOk result (IsStale self.old offset bytes ⊎ (piece_count self.new ≤ 2048)) }
+        ensures stale { IsStale self.old offset bytes → piece_count self.new ≡ piece_count self.old }
+        ensures stale_runs { IsStale self.old offset bytes → self.new.runs ≡ self.old.runs }
+        ensures stale_ok { IsStale self.old offset bytes → result ≡ Ok tt }
+        ensures settled { MatchInsert result (IsStale self.old offset bytes ⊎ Settled self.old offset bytes allocation_size result self.new) (Unit {0}) }
+        ensures pieces { IsTrue self.old.ordered → piece_count self.new ≤ piece_count self.old + 1 }
+        ensures pieces_unordered { self.old.ordered ≡ false → piece_count self.new ≤ piece_count self.old + run_count (is_done self.old) offset (length bytes) }
+        ensures bytes_read { self.new.bytes_read ≡ self.old.bytes_read }
+        ensures ordered { self.new.ordered ≡ self.old.ordered }
+    {
+        let end = offset + bytes.len() as u64;
+        if end <= self.bytes_read {
+            self.highest = self.highest.max(end);
+            return Ok(());
+        }
+        self.hold_above(offset, bytes, allocation_size)?;
+        self.relieve()
+    }
+
+    // Keeps what lies above the bytes that were read, of bytes that begin below and end behind that.
+    #[inline(always)]
+    fn hold_above(
+        &mut self,
+        offset: u64,
+        bytes: Bytes,
+        allocation_size: usize,
+    ) -> Result<(), OutOfMemory>
+        requires fits { offset + length bytes < 2 ^ 62 }
+        requires mode { self.old.ordered ≡ true }
+        requires below { offset < self.old.bytes_read }
+        requires on { self.old.bytes_read < offset + length bytes }
+        ensures ok { OnOk result (KeepsPiece self.old self.new offset bytes allocation_size) }
+        ensures err { OnErr result (self.new ≡ self.old) }
+        ensures unneeded { OnErr result (offset + length bytes ≤ max offset self.old.bytes_read → ⊥) }
+        ensures within { OnErr result (Any (Encloses (max offset self.old.bytes_read) (offset + length bytes)) self.old.runs → ⊥) }
+    {
+        let start = self.bytes_read;
+        let mut rest = bytes;
+        rest.advance((start - offset) as usize);
+        self.hold_unread(start, rest, allocation_size)
+    }
+
     // Keeps what is not done.
     #[inline(always)]
     fn hold(&mut self, offset: u64, bytes: Bytes, allocation_size: usize) -> Result<(), OutOfMemory>
-        requires { offset + length bytes < 2 ^ 62 }
+        requires fits { offset + length bytes < 2 ^ 62 }
+        requires above { self.old.ordered ≡ true → self.old.bytes_read ≤ offset }
         ensures ok { OnOk result (KeepsPiece self.old self.new offset bytes allocation_size) }
         ensures err { OnErr result (self.new ≡ self.old) }
         ensures unneeded { OnErr result (self.old.ordered ≡ true → offset + length bytes ≤ max offset self.old.bytes_read → ⊥) }
@@ -173,7 +233,7 @@ impl Assembler {
         Ok(())
     }
 
-    // In ordered mode keeps what lies above the bytes that were read.
+    // In ordered mode keeps bytes that lie above those that were read.
     #[inline(always)]
     fn hold_unread(
         &mut self,
@@ -183,20 +243,14 @@ impl Assembler {
     ) -> Result<(), OutOfMemory>
         requires fits { offset + length bytes < 2 ^ 62 }
         requires mode { self.old.ordered ≡ true }
+        requires above { self.old.bytes_read ≤ offset }
         ensures ok { OnOk result (KeepsPiece self.old self.new offset bytes allocation_size) }
         ensures err { OnErr result (self.new ≡ self.old) }
         ensures unneeded { OnErr result (offset + length bytes ≤ max offset self.old.bytes_read → ⊥) }
         ensures within { OnErr result (Any (Encloses (max offset self.old.bytes_read) (offset + length bytes)) self.old.runs → ⊥) }
     {
         let end = offset + bytes.len() as u64;
-        let start = self.bytes_read.max(offset);
-        if end <= start {
-            self.highest = self.highest.max(end);
-            return Ok(());
-        }
-        let mut rest = bytes;
-        rest.advance((start - offset) as usize);
-        self.pieces.insert(start, rest, allocation_size)?;
+        self.pieces.insert(offset, bytes, allocation_size)?;
         self.highest = self.highest.max(end);
         Ok(())
     }
@@ -217,7 +271,7 @@ impl Assembler {
         let unread = self.highest.saturating_sub(self.bytes_read) as u128;
         let used = self.pieces.total().min(unread);
         let waste = allocated.saturating_sub(used);
-        waste > ALLOWED_WASTE.max(used * 3 / 2)
+        waste > ALLOWED_WASTE && waste > used * 3 / 2
     }
 
     // Compacts where that is due.

@@ -8,11 +8,12 @@ ghost use Rattle.quic_ordered.specs.Rows.{RiseByKey, AreKeyed, LieInOrder, LieWi
 ghost use Rattle.quic_ordered.specs.Sweeping.{IsSwept, IsSweptMap, IsChain, chain_end, chain_bytes, IsRunJoined};
 
 use crate::map::{PieceMap, Run};
+use block_map::Place;
 use quic_values::OutOfMemory;
 use std::alloc::Global;
 
 // Takes out the pieces that touch, one behind another, from an offset on up to another.
-fn remove_run(pieces: &mut PieceMap, from: u64, end: u64)
+fn remove_run(pieces: &mut PieceMap, from: u64, end: u64, hint: Place)
     requires { (rs : List PieceView) × IsChain pieces.old from rs × (end ≡ chain_end from rs) }
     ensures gone { (q : ℕ) → from ≤ q → q < end → piece_at pieces.new q ≡ None }
     ensures others { (q : ℕ) → (q < from) ⊎ (end ≤ q) → piece_at pieces.new q ≡ piece_at pieces.old q }
@@ -21,7 +22,7 @@ fn remove_run(pieces: &mut PieceMap, from: u64, end: u64)
     let _count = pieces.len();
     let mut at = from;
     while at < end {
-        let Some(piece) = pieces.remove(at) else {
+        let Some(piece) = pieces.remove_near(hint, at) else {
             unreachable!();
         };
         at = piece.end();
@@ -42,8 +43,8 @@ fn join_run(pieces: &mut PieceMap, run: Run, bytes: &[u8]) -> Result<(), OutOfMe
     if run.stop == run.from {
         return pieces.tidy(run.base);
     }
-    pieces.append(run.base, bytes)?;
-    remove_run(pieces, run.from, run.stop);
+    pieces.append(run.base, run.hint, bytes)?;
+    remove_run(pieces, run.from, run.stop, run.hint);
     Ok(())
 }
 
@@ -60,13 +61,15 @@ pub(crate) fn compact(pieces: &mut PieceMap, alloc: Global) -> Result<(), OutOfM
     let _count = pieces.len();
     let mut bytes = Vec::new(alloc);
     let (mut last, mut end) = (None, 0);
+    let mut hint = Place { block: 0, index: 0 };
     loop {
-        let passed = pieces.pass_over(last, end, &mut bytes)?;
+        let passed = pieces.pass_over(last, end, hint, &mut bytes)?;
         let Some(run) = passed.next else {
             return pieces.refill();
         };
         join_run(pieces, run, &bytes)?;
         last = Some(run.base);
         end = run.stop;
+        hint = run.hint;
     }
 }

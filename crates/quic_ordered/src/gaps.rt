@@ -250,6 +250,7 @@ fn join(
 }
 
 // Takes a piece, where the last one that begins below its end begins from its offset on or ends behind it.
+#[inline(never)]
 fn hold_near(
     pieces: &mut PieceMap,
     new: Piece,
@@ -283,6 +284,7 @@ fn hold_near(
 }
 
 /// Takes a piece. Where two bytes meet the held one stays, and a piece that lies within a held one takes no memory.
+#[inline(always)]
 pub(crate) fn hold(pieces: &mut PieceMap, new: Piece, alloc: Global) -> Result<(), OutOfMemory>
     requires apart { IsPieceMap pieces.old }
     requires some { 0 < length new.bytes }

@@ -11,6 +11,7 @@ ghost use Rattle.quic_ordered.specs.Sweeping.{IsSwept, IsNextRun};
 
 use crate::piece::Piece;
 use crate::slots::PieceSlots;
+use block_map::Place;
 use quic_values::OutOfMemory;
 use std::alloc::Global;
 use std::marker::Model;
@@ -21,6 +22,8 @@ pub(crate) struct Run {
     pub base: u64,
     pub from: u64,
     pub stop: u64,
+    // Where the piece lies, as a hint for searches.
+    pub hint: Place,
 }
 
 /// Where the last piece that is done begins and ends, and what is to be done next, if something is.
@@ -32,10 +35,15 @@ pub(crate) struct Passed {
 }
 
 impl Run {
-    fn new(base: u64, from: u64, stop: u64) -> Self
-        ensures { result ≡ record { base = base; from = from; stop = stop } }
+    fn new(base: u64, from: u64, stop: u64, hint: Place) -> Self
+        ensures { result ≡ record { base = base; from = from; stop = stop; hint = hint } }
     {
-        Run { base, from, stop }
+        Run {
+            base,
+            from,
+            stop,
+            hint,
+        }
     }
 }
 
@@ -144,11 +152,13 @@ impl PieceMap {
     }
 
     /// Passes over the pieces from `end` on that are to stay as they are, up to the first that touches the one before it
-    /// or keeps much memory alive. Copies the bytes of those that touch it, one behind another.
+    /// or keeps much memory alive. Copies the bytes of those that touch it, one behind another. `hint` says where the last
+    /// one lies.
     pub(crate) fn pass_over(
         &self,
         last: Option<u64>,
         end: u64,
+        hint: Place,
         bytes: &mut Vec<u8>,
     ) -> Result<Passed, OutOfMemory>
         requires { (all : List PieceView) × IsSwept all last end self.now }
@@ -160,21 +170,23 @@ impl PieceMap {
         bytes.clear();
         let (mut last, mut floor) = (last, end);
         let mut found: Option<Run> = None;
-        let mut place = self.pieces.place_from(end);
+        let mut place = self.pieces.place_from(hint, end);
+        let mut before = hint;
+        let mut here = place.unwrap_or(hint);
         while let Some((start, piece)) = self.pieces.step(&mut place) {
             let stop = piece.end();
             match found {
                 None => match last {
                     Some(base) if floor == start => {
                         bytes.extend_from_slice(piece.as_slice())?;
-                        found = Some(Run::new(base, floor, stop));
+                        found = Some(Run::new(base, floor, stop, before));
                     }
                     _ => {
                         if piece.is_little() {
                             last = Some(start);
                             floor = stop;
                         } else {
-                            found = Some(Run::new(start, stop, stop));
+                            found = Some(Run::new(start, stop, stop, here));
                         }
                     }
                 },
@@ -186,6 +198,8 @@ impl PieceMap {
                     found = Some(Run { stop, ..run });
                 }
             }
+            before = here;
+            here = place.unwrap_or(here);
         }
         Ok(Passed::new(last, floor, found))
     }
@@ -245,8 +259,14 @@ impl PieceMap {
         Ok(())
     }
 
-    /// Appends bytes to the piece that begins at an offset. If refused, all is as it was.
-    pub(crate) fn append(&mut self, offset: u64, bytes: &[u8]) -> Result<(), OutOfMemory>
+    /// Appends bytes to the piece that begins at an offset. If refused, all is as it was. A hint of where it lies saves a
+    /// search.
+    pub(crate) fn append(
+        &mut self,
+        offset: u64,
+        hint: Place,
+        bytes: &[u8],
+    ) -> Result<(), OutOfMemory>
         requires { (v : PieceView) × (piece_at self.old offset ≡ Some v) × (run_end v + length bytes.now < 2 ^ 62) }
         ensures joined { OnOk result ((v : PieceView) → piece_at self.old offset ≡ Some v → piece_at self.new offset ≡ Some (joined_with v (piece_of 0 bytes.now 0))) }
         ensures others { (q : ℕ) → (q ≡ offset → ⊥) → piece_at self.new q ≡ piece_at self.old q }
@@ -255,7 +275,7 @@ impl PieceMap {
     {
         let _count = self.pieces.len();
         let length = bytes.len() as u128;
-        let (before, after) = self.pieces.append(offset, bytes)?;
+        let (before, after) = self.pieces.append(offset, hint, bytes)?;
         self.total += length;
         self.allocated = self.allocated + after as u128 - before as u128;
         Ok(())
@@ -271,6 +291,23 @@ impl PieceMap {
         ensures rises { RiseByKey self.new }
     {
         let old = self.pieces.remove(offset);
+        if let Some(piece) = &old {
+            self.total -= piece.len() as u128;
+            self.allocated -= piece.allocation_size() as u128;
+        }
+        old
+    }
+
+    /// As [`PieceMap::remove`]. A hint of where the piece lies saves a search.
+    #[inline]
+    pub(crate) fn remove_near(&mut self, hint: Place, offset: u64) -> Option<Piece>
+        ensures value { result ≡ piece_at self.old offset }
+        ensures gone { piece_at self.new offset ≡ None }
+        ensures others { (q : ℕ) → (q ≡ offset → ⊥) → piece_at self.new q ≡ piece_at self.old q }
+        ensures len { length self.new + (if is_some result then 1 else 0) ≡ length self.old }
+        ensures rises { RiseByKey self.new }
+    {
+        let old = self.pieces.remove_near(hint, offset);
         if let Some(piece) = &old {
             self.total -= piece.len() as u128;
             self.allocated -= piece.allocation_size() as u128;
@@ -301,7 +338,7 @@ impl PieceMap {
 
     /// Puts a piece in. Where the last one that begins below its end begins from its offset on, or ends behind it, gives it
     /// back, with where that one begins and ends.
-    #[inline]
+    #[inline(always)]
     pub(crate) fn put_free(
         &mut self,
         piece: Piece,
@@ -353,19 +390,17 @@ impl PieceMap {
         self.put_new(piece)
     }
 
-    /// Where the first piece begins.
-    #[inline]
-    pub(crate) fn first_offset(&self) -> Option<u64>
-        ensures some { IfSome result (λ offset. (key : ℕ) × (piece : PieceView) × (rest : _) × (self.now ≡ (key, piece) ∷ rest) × (offset ≡ piece.offset)) }
+    /// The offset under which the first piece stands.
+    #[inline(always)]
+    pub(crate) fn first_key(&self) -> Option<u64>
+        ensures some { IfSome result (λ key. (piece : PieceView) × (rest : _) × (self.now ≡ (key, piece) ∷ rest)) }
         ensures none { IfNone result (self.now ≡ []) }
     {
-        match self.pieces.first() {
-            Some(piece) => Some(piece.offset()),
-            None => None,
-        }
+        self.pieces.first_key()
     }
 
     /// Where the last piece ends.
+    #[inline]
     pub(crate) fn last_end(&self) -> Option<u64>
         ensures some { IfSome result (λ end. (others : _) × (key : ℕ) × (last : PieceView) × (self.now ≡ others ++ (key, last) ∷ []) × (end ≡ run_end last)) }
         ensures none { IfNone result (self.now ≡ []) }
@@ -377,6 +412,7 @@ impl PieceMap {
     }
 
     /// Takes the first piece out.
+    #[inline(always)]
     pub(crate) fn pop_first(&mut self) -> Option<Piece>
         ensures some { IfSome result (λ piece. (key : ℕ) × (self.old ≡ (key, piece) ∷ self.new)) }
         ensures none { IfNone result ((self.old ≡ []) × (self.new ≡ [])) }

@@ -1,8 +1,8 @@
 // All that is held of one stream.
-ghost use Rattle.std.specs.Prelude.{◌≡◌, ℕ, ◌+◌, ◌^◌, ◌<◌, ◌≤◌, ◌||◌, [], ◌∷◌, ◌++◌, length, sum_by, option_to_list, IfOk, OnOk, OnErr, IfSome, IfNone, Some, None, Ok, true, false, min, nat_lt};
+ghost use Rattle.std.specs.Prelude.{◌≡◌, ℕ, ◌+◌, ◌^◌, ◌<◌, ◌≤◌, ◌||◌, [], ◌∷◌, ◌++◌, length, sum_by, option_to_list, IfOk, OnOk, OnErr, IfSome, IfNone, Some, None, Ok, true, false, min, nat_lt, take};
 ghost use Rattle.std.specs.List.{All, Any};
 ghost use Rattle.quic_values.specs.Runs.{contains};
-ghost use Rattle.quic_assembler.specs.Piece.{PieceView, run_end, run_length, run_allocation, TakesSome, cover_count, bit, lies};
+ghost use Rattle.quic_assembler.specs.Piece.{PieceView, run_end, run_length, run_allocation, TakesSome, left_of, cover_count, bit, lies};
 ghost use Rattle.quic_assembler.specs.Reassembly.{IfGiven, OnNothing, TakesFresh};
 ghost use Rattle.quic_ordered.specs.Rows.{FitsWords, LieInOrder, Merges, HoldSame, LieWithGaps, IsTidy, Encloses, JoinsAll, AddsOnly, GivesFirst, StemsFrom, StaysApart, IsKeptOrOwn, IsFronted};
 ghost use Rattle.quic_ordered.specs.Entries.{piece_of};
@@ -97,16 +97,35 @@ fn make_way(
     put_back(first, rest)
 }
 
-// Takes the first piece out.
+// All bytes of a piece, and the offset at which it begins.
 #[inline(always)]
-fn take_piece(first: &mut Option<Piece>, rest: &mut PieceStore) -> Option<Piece>
-    ensures taken { option_to_list first.old ++ rest.old ≡ option_to_list result ++ rest.new }
-    ensures none { IfNone result (rest.new ≡ []) }
-    ensures gone { first.new ≡ None }
+fn whole(piece: Piece) -> Chunk
+    ensures { result ≡ record { offset = piece.offset; bytes = piece.bytes } }
 {
+    let offset = piece.offset();
+    let bytes = piece.into_bytes();
+    Chunk { offset, bytes }
+}
+
+// Gives so many bytes of the piece that is being read, or all where it has no more, and leaves the rest of it there. If
+// refused, all is as it was.
+#[inline(always)]
+fn give(first: &mut Option<Piece>, most: usize) -> Result<Option<Chunk>, OutOfMemory>
+    ensures given { IfGiven result (λ chunk. (p : PieceView) × (first.old ≡ Some p) × (chunk.offset ≡ p.offset) × (chunk.bytes ≡ take most p.bytes) × (option_to_list first.new ≡ left_of most p)) }
+    ensures none { OnNothing result ((first.old ≡ None) × (first.new ≡ None)) }
+    ensures err { OnErr result (first.new ≡ first.old) }
+    ensures err_part { OnErr result ((p : PieceView) × (first.old ≡ Some p) × (most < length p.bytes)) }
+{
+    if let Some(piece) = first {
+        if piece.len() > most {
+            let offset = piece.offset();
+            let bytes = piece.split_to(most)?;
+            return Ok(Some(Chunk { offset, bytes }));
+        }
+    }
     match first.take() {
-        Some(piece) => Some(piece),
-        None => rest.pop_first(),
+        Some(piece) => Ok(Some(whole(piece))),
+        None => Ok(None),
     }
 }
 
@@ -267,14 +286,16 @@ impl OrderedPieces {
         ensures err_part { OnErr result ((first : PieceView) (rest : _) → self.old ≡ first ∷ rest → max_length < length first.bytes) }
     {
         let _count = self.len();
-        let Some(mut piece) = take_piece(&mut self.first, &mut self.rest) else {
+        if self.first.is_some() {
+            return give(&mut self.first, max_length);
+        }
+        let Some(mut piece) = self.rest.pop_first() else {
             return Ok(None);
         };
-        let offset = piece.offset();
         if piece.len() <= max_length {
-            let bytes = piece.into_bytes();
-            return Ok(Some(Chunk { offset, bytes }));
+            return Ok(Some(whole(piece)));
         }
+        let offset = piece.offset();
         let given = piece.split_to(max_length);
         self.first = Some(piece);
         let bytes = given?;

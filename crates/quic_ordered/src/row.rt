@@ -3,7 +3,7 @@ ghost use Rattle.std.specs.Prelude.{◌≡◌, ℕ, ◌+◌, ◌-◌, ◌^◌, �
 ghost use Rattle.std.specs.List.{All, Any};
 ghost use Rattle.quic_assembler.specs.Piece.{PieceView, run_end, run_length, run_allocation, bit, cover_count};
 ghost use Rattle.quic_values.specs.Runs.{contains};
-ghost use Rattle.quic_ordered.specs.Rows.{Row, FitsWords, JoinsLast, LieInOrder, Encloses, tidied};
+ghost use Rattle.quic_ordered.specs.Rows.{Row, FitsWords, JoinsLast, LieInOrder, LieWithGaps, IsTidy, Encloses, tidied};
 
 use crate::piece::Piece;
 use quic_values::{OutOfMemory, RangeSet};
@@ -12,7 +12,7 @@ use std::collections::VecDeque;
 use std::marker::Model;
 
 // The most pieces that are moved to make a place for one.
-const MOST_MOVED: usize = 64;
+const MOST_MOVED: usize = 16;
 
 #[derive(Drop)]
 pub(crate) struct PieceRow {
@@ -275,6 +275,46 @@ impl PieceRow {
         Ok(())
     }
 
+    /// How many pieces, from the first on, stay as they are when all are compacted: none touches the one before it or keeps
+    /// much memory alive.
+    pub(crate) fn count_tidy(&self) -> usize
+        requires { LieInOrder 0 self.now.runs }
+        ensures fits { result ≤ length self.now.runs }
+        ensures apart { LieWithGaps 0 (take result self.now.runs) }
+        ensures tidy { All IsTidy (take result self.now.runs) }
+    {
+        let mut floor = 0;
+        let mut index = 0;
+        while index < self.pieces.len() {
+            let piece = &self.pieces[index];
+            if piece.offset() < floor || !piece.is_little() {
+                break;
+            }
+            floor = piece.end() + 1;
+            index += 1;
+        }
+        index
+    }
+
+    /// Takes the pieces behind so many out, as a row of their own. If refused, all is as it was.
+    pub(crate) fn split_off(&mut self, kept: usize, alloc: Global) -> Result<Self, OutOfMemory>
+        requires { kept ≤ length self.old.runs }
+        ensures front { OnOk result (self.new.runs ≡ take kept self.old.runs) }
+        ensures rest { IfOk result (λ rest. rest.runs ≡ drop kept self.old.runs) }
+        ensures room { self.new.room ≡ self.old.room }
+        ensures fits { length self.old.runs ≤ self.old.room }
+        ensures err { OnErr result (self.new.runs ≡ self.old.runs) }
+    {
+        let mut rest = PieceRow::with_capacity(alloc, self.pieces.len() - kept)?;
+        while self.pieces.len() > kept {
+            let Some(piece) = self.pop_back() else {
+                unreachable!();
+            };
+            rest.put_front(piece);
+        }
+        Ok(rest)
+    }
+
     // Puts a piece behind all others, in memory of its own where it keeps too much alive, or gives it back.
     fn put_tidy(&mut self, mut piece: Piece) -> Result<(), Piece>
         requires { length self.old.runs < self.old.room }
@@ -299,13 +339,16 @@ impl PieceRow {
         ensures back { IfErr result (λ given. given ≡ piece) }
         ensures err { OnErr result (self.new.runs ≡ self.old.runs) }
     {
-        let Some(mut last) = self.pop_back() else {
-            return self.put_tidy(piece);
+        let touches = match self.pieces.back() {
+            Some(last) => last.end() == piece.offset(),
+            None => false,
         };
-        if last.end() != piece.offset() {
-            self.put_back(last);
+        if !touches {
             return self.put_tidy(piece);
         }
+        let Some(mut last) = self.pop_back() else {
+            unreachable!();
+        };
         let joined = last.append(&piece);
         self.put_back(last);
         match joined {

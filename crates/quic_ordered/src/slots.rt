@@ -202,13 +202,13 @@ impl PieceSlots {
         }
     }
 
-    /// The place of the first piece that begins at `n` or behind it.
-    pub(crate) fn place_from(&self, n: u64) -> Option<Place>
+    /// The place of the first piece that begins at `n` or behind it. A hint of where it lies saves a search.
+    pub(crate) fn place_from(&self, hint: Place, n: u64) -> Option<Place>
         ensures place { IsPlaceOrEnd self.now result }
         ensures rest { from_place self.now result ≡ entries_between nat_cmp (Included n) Unbounded self.now.entries }
     {
         let _pieces = &self.pieces;
-        match self.places.find_from(n) {
+        match self.places.find_from_near(hint, n) {
             Some(place) => Some(place),
             None => None,
         }
@@ -258,7 +258,7 @@ impl PieceSlots {
 
     /// Puts a piece in. Where the last one that begins below its end begins from its offset on, or ends behind it, gives it
     /// back, with where that one begins and ends.
-    #[inline]
+    #[inline(always)]
     pub(crate) fn put_free(
         &mut self,
         piece: Piece,
@@ -331,10 +331,11 @@ impl PieceSlots {
     }
 
     /// Appends bytes to the piece that begins at an offset. Gives how much memory it keeps alive before and afterwards. If
-    /// refused, all is as it was.
+    /// refused, all is as it was. A hint of where it lies saves a search.
     pub(crate) fn append(
         &mut self,
         offset: u64,
+        hint: Place,
         bytes: &[u8],
     ) -> Result<(usize, usize), OutOfMemory>
         requires { (v : PieceView) × (piece_at self.old.entries offset ≡ Some v) × (run_end v + length bytes.now < 2 ^ 62) }
@@ -345,8 +346,8 @@ impl PieceSlots {
         ensures rises { RiseByKey self.new.entries }
     {
         let _count = self.places.len();
-        match self.places.get(offset) {
-            Some(slot) => append_in(&mut self.pieces, slot, bytes),
+        match self.places.place_near(hint, offset) {
+            Some(place) => append_in(&mut self.pieces, self.places.entry(place).1, bytes),
             None => unreachable!(),
         }
     }
@@ -366,14 +367,31 @@ impl PieceSlots {
         }
     }
 
-    /// The first piece.
-    #[inline]
-    pub(crate) fn first(&self) -> Option<&Piece>
-        ensures some { IfSome result (λ piece. (key : ℕ) × (rest : _) × (self.now.entries ≡ (key, piece.now) ∷ rest)) }
+    /// Where the first piece begins.
+    #[inline(always)]
+    pub(crate) fn first_key(&self) -> Option<u64>
+        ensures some { IfSome result (λ key. (piece : PieceView) × (rest : _) × (self.now.entries ≡ (key, piece) ∷ rest)) }
         ensures none { IfNone result (self.now.entries ≡ []) }
     {
-        match self.places.first() {
-            Some(entry) => Some(piece_in(&self.pieces, entry.1)),
+        let _pieces = &self.pieces;
+        self.places.first_key()
+    }
+
+    /// Takes the piece that begins at an offset out. A hint of where it lies saves a search.
+    #[inline]
+    pub(crate) fn remove_near(&mut self, hint: Place, offset: u64) -> Option<Piece>
+        ensures value { result ≡ piece_at self.old.entries offset }
+        ensures entries { self.new.entries ≡ remove_entry (is_at (nat_cmp offset)) self.old.entries }
+        ensures rises { RiseByKey self.new.entries }
+    {
+        let found = self.places.place_near(hint, offset);
+        let _count = self.places.len();
+        match found {
+            Some(place) => {
+                let entry = self.places.remove_at(place);
+                let _left = self.places.len();
+                Some(self.pieces.remove(entry.1 as usize))
+            }
             None => None,
         }
     }
@@ -391,7 +409,7 @@ impl PieceSlots {
     }
 
     /// Takes the first piece out.
-    #[inline]
+    #[inline(always)]
     pub(crate) fn pop_first(&mut self) -> Option<Piece>
         ensures some { IfSome result (λ piece. (key : ℕ) × (self.old.entries ≡ (key, piece) ∷ self.new.entries)) }
         ensures none { IfNone result ((self.old.entries ≡ []) × (self.new.entries ≡ [])) }

@@ -1,5 +1,5 @@
 // Pieces that do not overlap, in a map and a row.
-ghost use Rattle.std.specs.Prelude.{◌≡◌, ℕ, ◌+◌, ◌-◌, ◌^◌, ◌<◌, ◌≤◌, ◌⊎◌, ◌||◌, [], ◌∷◌, ◌++◌, length, sum_by, option_to_list, IfOk, OnOk, OnErr, IfErr, IfSome, IfNone, Some, None, Ok, true, false, min, nat_lt, take, drop};
+ghost use Rattle.std.specs.Prelude.{◌≡◌, ℕ, ◌+◌, ◌-◌, ◌^◌, ◌<◌, ◌≤◌, ◌⊎◌, ◌||◌, List, [], ◌∷◌, ◌++◌, length, sum_by, option_to_list, IfOk, OnOk, OnErr, IfErr, IfSome, IfNone, Some, None, Ok, true, false, min, nat_lt, take, drop};
 ghost use Rattle.std.specs.Map.{values_of, keys_of};
 ghost use Rattle.std.specs.List.{All, Any};
 ghost use Rattle.std.specs.List.Sorted.{IsPermutation};
@@ -71,6 +71,25 @@ fn clear_way(gaps: &mut PieceMap, row: &mut PieceRow, end: u64) -> Result<(), Ou
     Ok(())
 }
 
+// Whether a piece goes into the map, which has some, and no piece of the row has to go over for it: it ends before the row,
+// or the row is empty and it does not come behind the map.
+#[inline(always)]
+fn is_clear(gaps: &PieceMap, row: &PieceRow, piece: &Piece) -> bool
+    requires { IsStore gaps.now row.now.runs }
+    ensures { result ≡ true → LieInOrder (run_end piece.now) row.now.runs }
+{
+    if gaps.len() == 0 {
+        return false;
+    }
+    match row.first_offset() {
+        Some(first) => piece.end() <= first,
+        None => match gaps.last_end() {
+            Some(end) => piece.offset() < end,
+            None => false,
+        },
+    }
+}
+
 // Behind how many pieces of the row a piece can be put that overlaps none of all, if few have to be moved. It is `None`
 // where there are others in the map: then most pieces come in no order.
 fn place_in_row(gaps: &PieceMap, row: &PieceRow, piece: &Piece) -> Option<usize>
@@ -101,12 +120,11 @@ fn gather(gaps: &mut PieceMap, row: &mut PieceRow) -> Result<(), OutOfMemory>
 
 // Moves the pieces of a row to the end of another, and joins those that touch.
 fn join_touching(row: &mut PieceRow, out: &mut PieceRow) -> Result<(), OutOfMemory>
-    requires order { LieInOrder 0 row.old.runs }
-    requires empty { out.old.runs ≡ [] }
-    requires room { length row.old.runs ≤ out.old.room }
-    ensures gathered { IsGathered row.old.runs out.new.runs row.new.runs }
+    requires { length out.old.runs + length row.old.runs ≤ out.old.room }
+    ensures gathered { (all : List PieceView) → IsGathered all out.old.runs row.old.runs → IsGathered all out.new.runs row.new.runs }
     ensures all { OnOk result (row.new.runs ≡ []) }
-    ensures room { row.new.room ≡ row.old.room }
+    ensures room { out.new.room ≡ out.old.room }
+    ensures fits { length out.new.runs + length row.new.runs ≤ out.new.room }
 {
     while let Some(piece) = row.pop_front() {
         if let Err(piece) = out.join_last(piece) {
@@ -117,13 +135,13 @@ fn join_touching(row: &mut PieceRow, out: &mut PieceRow) -> Result<(), OutOfMemo
     Ok(())
 }
 
-// Puts pieces before those of a row. There is room.
-fn put_in_front(row: &mut PieceRow, mut front: PieceRow)
-    requires { length front.runs + length row.old.runs ≤ row.old.room }
-    ensures { row.new.runs ≡ front.runs ++ row.old.runs }
+// Puts pieces behind those of a row. There is room.
+fn put_behind(row: &mut PieceRow, mut rest: PieceRow)
+    requires { length row.old.runs + length rest.runs ≤ row.old.room }
+    ensures { row.new.runs ≡ row.old.runs ++ rest.runs }
 {
-    while let Some(piece) = front.pop_back() {
-        row.put_front(piece);
+    while let Some(piece) = rest.pop_front() {
+        row.put_back(piece);
     }
 }
 
@@ -219,7 +237,7 @@ impl PieceStore {
     }
 
     // Takes a piece.
-    #[inline]
+    #[inline(always)]
     fn hold(&mut self, piece: Piece) -> Result<(), OutOfMemory>
         requires { 0 < length piece.bytes }
         ensures merges { OnOk result (Merges self.old piece self.new) }
@@ -231,20 +249,36 @@ impl PieceStore {
         ensures within { Any (Encloses piece.offset (run_end piece)) self.old → (result ≡ Ok tt) × (self.new ≡ self.old) }
         ensures err { OnErr result (self.new ≡ self.old) }
     {
-        if self.is_behind(piece.offset()) {
-            self.row.push_back(piece)?;
-            return Ok(());
+        if is_clear(&self.gaps, &self.row, &piece) {
+            return gaps::hold(&mut self.gaps, piece, self.alloc);
         }
+        if self.is_behind(piece.offset()) {
+            return self.row.push_back(piece);
+        }
+        self.hold_between(piece)
+    }
+
+    // Takes a piece that comes before the end of all that is held.
+    #[inline(never)]
+    fn hold_between(&mut self, piece: Piece) -> Result<(), OutOfMemory>
+        requires { 0 < length piece.bytes }
+        ensures merges { OnOk result (Merges self.old piece self.new) }
+        ensures stems { OnOk result (All (StemsFrom self.old piece) self.new) }
+        ensures joined { OnOk result (JoinsAll self.old piece self.new) }
+        ensures stays { OnOk result (All (StaysApart piece.offset (run_end piece) self.new) self.old) }
+        ensures order { (low : ℕ) → low ≤ piece.offset → LieInOrder low self.old → LieInOrder low self.new }
+        ensures pieces { length self.new ≤ length self.old + 1 }
+        ensures within { Any (Encloses piece.offset (run_end piece)) self.old → (result ≡ Ok tt) × (self.new ≡ self.old) }
+        ensures err { OnErr result (self.new ≡ self.old) }
+    {
         if self.row.encloses(piece.offset(), piece.end()) {
             return Ok(());
         }
         if let Some(index) = place_in_row(&self.gaps, &self.row, &piece) {
-            self.row.put_at(index, piece)?;
-            return Ok(());
+            return self.row.put_at(index, piece);
         }
         clear_way(&mut self.gaps, &mut self.row, piece.end())?;
-        gaps::hold(&mut self.gaps, piece, self.alloc)?;
-        Ok(())
+        gaps::hold(&mut self.gaps, piece, self.alloc)
     }
 
     // Takes a piece that comes behind all that is held, and a range into a set, or neither.
@@ -333,7 +367,7 @@ impl PieceStore {
         ensures first { IfSome result (λ offset. (first : PieceView) × (rest : _) × (self.now ≡ first ∷ rest) × (offset ≡ first.offset)) }
         ensures none { IfNone result (self.now ≡ []) }
     {
-        match self.gaps.first_offset() {
+        match self.gaps.first_key() {
             Some(offset) => Some(offset),
             None => self.row.first_offset(),
         }
@@ -413,7 +447,7 @@ impl PieceStore {
         compact(&mut self.gaps, self.alloc)
     }
 
-    // The same, with all pieces in the row.
+    // The same, with all pieces in the row. Those before the first that is to be changed are not moved.
     fn compact_row(&mut self) -> Result<(), OutOfMemory>
         ensures same { HoldSame self.old self.new }
         ensures order { (low : ℕ) → LieInOrder low self.old → LieInOrder low self.new }
@@ -423,16 +457,10 @@ impl PieceStore {
         ensures memory { All (IsKeptOrOwn self.old) self.new }
     {
         gather(&mut self.gaps, &mut self.row)?;
-        let mut out = PieceRow::with_capacity(self.alloc, self.row.len())?;
-        match join_touching(&mut self.row, &mut out) {
-            Ok(()) => {
-                self.row = out;
-                Ok(())
-            }
-            Err(refused) => {
-                put_in_front(&mut self.row, out);
-                Err(refused)
-            }
-        }
+        let kept = self.row.count_tidy();
+        let mut rest = self.row.split_off(kept, self.alloc)?;
+        let joined = join_touching(&mut rest, &mut self.row);
+        put_behind(&mut self.row, rest);
+        joined
     }
 }

@@ -32,5 +32,6 @@ returns-clause-items c =
     let same = ap length (c.index.ensures ∙ same_at rows b row [] lt) in
     let l = c.len.ensures.len in
     let a = place_after rows b [] lt in
-    let new : c.remove.new.self.items ≡ remove_range rows b (suc b) = c.remove.ensures.items in
+    let p : b + 1 ≡ suc b = omega arith in
+    let new : c.remove_row.new.blocks.items ≡ remove_range rows b (suc b) = c.remove_row.ensures.rows ∙ ap (λ (k : ℕ). remove_range rows b k) p in
     ap flat new ∙ drop_rows rows b (suc b) (place_among rows b i) (place_among rows b i + 1) (omega (arith, same, l, inside)) (omega (arith, same, l, inside, a))

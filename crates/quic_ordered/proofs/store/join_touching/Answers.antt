@@ -1,17 +1,17 @@
-use Rattle.std.proofs.Common.{◌∙◌, subst, refl}
+use Rattle.std.proofs.Common.{◌∙◌, ap, subst, length, List, arith}
+use Rattle.quic_assembler.specs.Piece.{PieceView}
 use Rattle.quic_ordered.specs.Rows.{IsGathered}
-use Rattle.quic_ordered.proofs.Compacting.{gathered_none, gathered_step}
+use Rattle.quic_ordered.proofs.Compacting.{gathered_step}
+use Rattle.quic_ordered.proofs.Keeping.{joined_length}
 use Rattle.quic_ordered.proofs.store.join_touching.Goals as goal
-
-pub loop-piece-init : goal.loop-piece-init
-loop-piece-init c = record { gathered = gathered_none _ _ c.requires.empty c.requires.order; room = refl; room_out = refl }
 
 pub loop-piece-preserved : goal.loop-piece-preserved
 loop-piece-preserved c =
     let e = rw c.in-Some.is at c.pop_front.ensures.popped in
-    let g = subst (IsGathered c.args.row.now.runs c.loop-piece.out.runs) e c.loop-piece.invariant.gathered in
+    let n = ap (λ (xs : List PieceView). length xs) e in
+    let l = joined_length _ _ _ c.in_default-join_last.ensures.joins in
     record {
-      gathered = gathered_step _ _ _ _ c.in-Some.piece g c.in_default-join_last.ensures.joins;
-      room = c.pop_front.ensures.room ∙ c.loop-piece.invariant.room;
-      room_out = c.in_default-join_last.ensures.room ∙ c.loop-piece.invariant.room_out;
+      gathered = λ all g. gathered_step all _ _ _ c.in-Some.piece (subst (IsGathered all c.loop-piece.out.runs) e (c.loop-piece.invariant.gathered all g)) c.in_default-join_last.ensures.joins;
+      room = c.in_default-join_last.ensures.room ∙ c.loop-piece.invariant.room;
+      fits = omega (arith, n, l, c.loop-piece.invariant.fits, c.in_default-join_last.ensures.room);
     }
