@@ -151,7 +151,7 @@ leaves-at m u v w e l = let P : World → Type 0 = λ x. Leaves m u x in subst P
 
 module _ (m : May) where
   -- nothing changes of its receiving side
-  beside : (u v : World) → v.window ≡ u.window → v.credit ≡ u.credit → v.bi ≡ u.bi → v.uni ≡ u.uni → v.receive ≡ u.receive → Leaves m u v
+  pub beside : (u v : World) → v.window ≡ u.window → v.credit ≡ u.credit → v.bi ≡ u.bi → v.uni ≡ u.uni → v.receive ≡ u.receive → Leaves m u v
   beside u v window credit bi uni receive = record { window = window; whole = ap (λ (c : Credit). c.sent_max_data) credit; rises = omega (arith, ap (λ (c : Credit). max_data_of c) credit); size = inr (ap (λ (c : Credit). c.receive_window) credit); room = inr (ap (λ (c : Credit). c.local_max_data) credit, ap (λ (c : Credit). c.shrink_debt) credit, ap (λ (c : Credit). c.receive_window) credit); counts = both; permits = inr same_both; halves = λ q. goes-same u.window (m.reads q) (u.receive q) (v.receive q) (ap (λ f. f q) receive) }
     where
       both : (d : Dir) → (remote_of v d).sent_max_remote ≡ (remote_of u d).sent_max_remote

@@ -45,24 +45,24 @@ use Rattle.quic_progress.proofs.Leaves.{May}
 use Rattle.quic_progress.proofs.Permissions.{Permission, AllData, DataOn, StreamsOf, is_asked, announced_of, permitted_of, IsWithin}
 use Rattle.quic_progress.proofs.Emitted.{Emptied, emptied}
 use Rattle.quic_progress.proofs.Ends.{EndLeaves, may_of, step-leaves, receives-so, some-so, stop-leaves, code-leaves, set-leaves, read-asked}
-use Rattle.quic_progress.proofs.Tracked.{Forth, forth-same, forth-marked}
+use Rattle.quic_progress.proofs.Tracked.{Which, Forth, forth-same, forth-marked}
 use Rattle.quic_progress.proofs.Owing.{IsNear, OwesData, OwesWindow, OwesCount, data-plain, window-left, count-told, count-left}
 use Rattle.quic_progress.proofs.OwingSteps.{IsHalfAcked, Owing, owing-forth, nothing_more, owing-plain, owing-at, owing-told, owing-read, refused-read, owing-stopped, owing-code, window-data, owing-set, frame-data, call-none}
 
 -- both ends
-abbrev pub AreOwing : PairState → Type 0
-AreOwing v = (who : End) → Owing (the_end v who) v.sent who
+abbrev pub AreOwing : Which → PairState → Type 0
+AreOwing some v = (who : End) → Owing some (the_end v who) v.sent who
 
 changed_to : (old new : PairState) (who : End) (e : EndState) (sent : List Sent) → new ≡ with_sent (with_end old who e) sent → the_end new who ≡ e
 changed_to old new A e sent is = ap (λ (v : PairState). v.a) is
 changed_to old new B e sent is = ap (λ (v : PairState). v.b) is
 
-module _ (old new : PairState) (o : AreOwing old) where
+module _ {some : Which} (old new : PairState) (o : AreOwing some old) where
   -- one end is another, and the payloads stay
-  by_one : (k : End) (g : EndState) (sent : List Sent) → new ≡ with_sent (with_end old k g) sent → Forth old.sent new.sent → Owing g new.sent k → AreOwing new
-  by_one k g sent is f n who = let P : PairState → Type 0 = λ v. Owing (the_end v who) new.sent who in subst P (sym is) (by k who n)
+  by_one : (k : End) (g : EndState) (sent : List Sent) → new ≡ with_sent (with_end old k g) sent → Forth old.sent new.sent → Owing some g new.sent k → AreOwing some new
+  by_one k g sent is f n who = let P : PairState → Type 0 = λ v. Owing some (the_end v who) new.sent who in subst P (sym is) (by k who n)
     where
-      by : (k who : End) → Owing g new.sent k → Owing (the_end (with_sent (with_end old k g) sent) who) new.sent who
+      by : (k who : End) → Owing some g new.sent k → Owing some (the_end (with_sent (with_end old k g) sent) who) new.sent who
       by A A n = n
       by A B n = owing-forth old.b old.sent new.sent B f (o B)
       by B A n = owing-forth old.a old.sent new.sent A f (o A)
@@ -73,15 +73,15 @@ module _ (old new : PairState) (o : AreOwing old) where
   same_sent B g = refl
 
   -- a step on an end
-  by_end : {P : EndState → EndState → Type 0} (k : End) (d : OnEnd P old k new) → (Owing (the_end old k) old.sent k → Owing d.end old.sent k) → AreOwing new
+  by_end : {P : EndState → EndState → Type 0} (k : End) (d : OnEnd P old k new) → (Owing some (the_end old k) old.sent k → Owing some d.end old.sent k) → AreOwing some new
   by_end k d does =
       let f = forth-same old.sent new.sent (sent_on_end old k new d) in
       by_one k d.end old.sent (d.is ∙ same_sent k d.end) f (owing-forth d.end old.sent new.sent k f (does (o k)))
 
-  stays : new ≡ old → AreOwing new
-  stays is = let P : PairState → Type 0 = λ v. AreOwing v in subst P (sym is) o
+  stays : new ≡ old → AreOwing some new
+  stays is = let P : PairState → Type 0 = λ v. AreOwing some v in subst P (sym is) o
 
-  on_given : (k : End) (id : ℕ) (reply : Answer) (g : EndState) (Does : Type 0) → OnGiven (the_end old k) id reply g Does → (Does → Owing (the_end old k) old.sent k → Owing g old.sent k) → Owing (the_end old k) old.sent k → Owing g old.sent k
+  on_given : (k : End) (id : ℕ) (reply : Answer) (g : EndState) (Does : Type 0) → OnGiven (the_end old k) id reply g Does → (Does → Owing some (the_end old k) old.sent k → Owing some g old.sent k) → Owing some (the_end old k) old.sent k → Owing some g old.sent k
   on_given k id reply g Does d does n = elim d [ inl there ↦ does there.1 n | inr none ↦ owing-at (the_end old k) g old.sent k none.2 n ]
 
   -- the leaves of the acting end
@@ -97,13 +97,13 @@ module _ (old new : PairState) (o : AreOwing old) where
 
 -- ---- frames that are handed over
 
-answer_told : (answer : Result ShouldTransmit ReceiveError) (e : EndState) (sent : List Sent) (who : End) → (answer ≡ Err receive_error.OutOfMemory → ⊥) → OwesData (with_answer_told answer e) → ((id : ℕ) → OwesWindow id (with_answer_told answer e)) → Owing (with_answer_told answer e) sent who
+answer_told : {some : Which} (answer : Result ShouldTransmit ReceiveError) (e : EndState) (sent : List Sent) (who : End) → (answer ≡ Err receive_error.OutOfMemory → ⊥) → (some who AllData ≡ true → OwesData (with_answer_told answer e)) → ((id : ℕ) → OwesWindow id (with_answer_told answer e)) → Owing some (with_answer_told answer e) sent who
 answer_told (Ok transmit) e sent who n w i = owing-told (with_limit_told transmit.0 e) sent who w i
 answer_told (Err (receive_error.Transport error)) e sent who n w i = owing-told e sent who w i
 answer_told (Err receive_error.CompactionMemory) e sent who n w i = owing-told e sent who w i
 answer_told (Err receive_error.OutOfMemory) e sent who n w i = absurd (n refl)
 
-module _ (old new : PairState) (o : AreOwing old) (number index : ℕ) where
+module _ {some : Which} (old new : PairState) (o : AreOwing some old) (number index : ℕ) where
   forth_handed : (reply : Answer) (n : HandsOver old number index reply new) → Forth old.sent new.sent
   forth_handed reply n = by n.answer n.sent
     where
@@ -111,7 +111,7 @@ module _ (old new : PairState) (o : AreOwing old) (number index : ℕ) where
       by (Ok transmit) s = forth-marked old.sent new.sent number index n.payload.sent n.payload.is s.0 s.1 s.2
       by (Err error) s = forth-same old.sent new.sent s
 
-  owing_handed : (reply : Answer) (n : HandsOver old number index reply new) → AsksFor old (steps.Deliver number index) reply new → AreOwing new
+  owing_handed : (reply : Answer) (n : HandsOver old number index reply new) → AsksFor old (steps.Deliver number index) reply new → AreOwing some new
   owing_handed reply n asks =
       let who = peer n.payload.sent.writer in
       by_one old new o who n.end new.sent n.is (forth_handed reply n) (owing-forth n.end old.sent new.sent who (forth_handed reply n) (by n.answer refl))
@@ -119,14 +119,14 @@ module _ (old new : PairState) (o : AreOwing old) (number index : ℕ) where
       leaves : EndLeaves (record { reads = λ q. false; credits = true; resizes = false; frees = true }) (the_end old (peer n.payload.sent.writer)) n.end
       leaves = receives-so (record { reads = λ q. false; credits = true; resizes = false; frees = true }) refl refl (the_end old (peer n.payload.sent.writer)) n.end n.frame n.answer n.receives
 
-      answered : (answer : Result ShouldTransmit ReceiveError) → n.answer ≡ answer → (answer ≡ Err receive_error.OutOfMemory → ⊥) → OnWriter old number (λ s. AsksAfterFrame (the_end old (peer s.writer)) (the_end new (peer s.writer))) (received_reply answer) → Owing n.end old.sent (peer n.payload.sent.writer)
+      answered : (answer : Result ShouldTransmit ReceiveError) → n.answer ≡ answer → (answer ≡ Err receive_error.OutOfMemory → ⊥) → OnWriter old number (λ s. AsksAfterFrame (the_end old (peer s.writer)) (the_end new (peer s.writer))) (received_reply answer) → Owing some n.end old.sent (peer n.payload.sent.writer)
       answered answer is never w =
           let a : AsksAfterFrame (the_end old (peer n.payload.sent.writer)) (the_end new (peer n.payload.sent.writer)) = served answer never w in
           let Q : EndState → Type 0 = λ x. AsksAfterFrame (the_end old (peer n.payload.sent.writer)) x in
           let b = subst Q (changed_to old new (peer n.payload.sent.writer) n.end new.sent n.is) a in
-          let whole = frame-data old.sent (peer n.payload.sent.writer) (record { reads = λ q. false; credits = true; resizes = false; frees = true }) (the_end old (peer n.payload.sent.writer)) n.end leaves refl b.limit (o (peer n.payload.sent.writer)).whole in
+          let whole = λ (on : some (peer n.payload.sent.writer) AllData ≡ true). frame-data old.sent (peer n.payload.sent.writer) (record { reads = λ q. false; credits = true; resizes = false; frees = true }) (the_end old (peer n.payload.sent.writer)) n.end leaves refl b.limit ((o (peer n.payload.sent.writer)).whole on) in
           let windows = λ (id : ℕ). window-left (record { reads = λ q. false; credits = true; resizes = false; frees = true }) id (the_end old (peer n.payload.sent.writer)) n.end leaves refl ((o (peer n.payload.sent.writer)).windows id) in
-          let R : EndState → Type 0 = λ x. OwesData x in
+          let R : EndState → Type 0 = λ x. some (peer n.payload.sent.writer) AllData ≡ true → OwesData x in
           let S : EndState → Type 0 = λ x. (id : ℕ) → OwesWindow id x in
           let T : Result ShouldTransmit ReceiveError → Type 0 = λ r. (r ≡ Err receive_error.OutOfMemory → ⊥) in
           owing-at (with_answer_told n.answer n.receives.taken) n.end old.sent (peer n.payload.sent.writer) n.receives.is
@@ -138,7 +138,7 @@ module _ (old new : PairState) (o : AreOwing old) (number index : ℕ) where
           served (Err receive_error.CompactionMemory) never w = w n.payload
           served (Err receive_error.OutOfMemory) never w = absurd (never refl)
 
-      at : (answer : Result ShouldTransmit ReceiveError) → n.answer ≡ answer → OnWriter old number (λ s. AsksAfterFrame (the_end old (peer s.writer)) (the_end new (peer s.writer))) (received_reply answer) → Owing n.end old.sent (peer n.payload.sent.writer)
+      at : (answer : Result ShouldTransmit ReceiveError) → n.answer ≡ answer → OnWriter old number (λ s. AsksAfterFrame (the_end old (peer s.writer)) (the_end new (peer s.writer))) (received_reply answer) → Owing some n.end old.sent (peer n.payload.sent.writer)
       at (Ok transmit) is w = answered (Ok transmit) is (λ x. cc) w
       at (Err (receive_error.Transport error)) is w = answered (Err (receive_error.Transport error)) is (λ x. cc) w
       at (Err receive_error.CompactionMemory) is w = answered (Err receive_error.CompactionMemory) is (λ x. cc) w
@@ -150,13 +150,13 @@ module _ (old new : PairState) (o : AreOwing old) (number index : ℕ) where
           (owing-plain (the_end old (peer n.payload.sent.writer)) s.taken old.sent (peer n.payload.sent.writer)
           (record { streams = call-none old.sent (peer n.payload.sent.writer) (the_end old (peer n.payload.sent.writer)).streams s.taken.streams n.frame s.call; asked = λ j a. ap (is_asked j) s.pending ∙ a }) (o (peer n.payload.sent.writer)))
 
-      by : (answer : Result ShouldTransmit ReceiveError) → n.answer ≡ answer → Owing n.end old.sent (peer n.payload.sent.writer)
+      by : (answer : Result ShouldTransmit ReceiveError) → n.answer ≡ answer → Owing some n.end old.sent (peer n.payload.sent.writer)
       by answer is =
           let P : Answer → Type 0 = λ r. AsksFor old (steps.Deliver number index) r new in
           let Q : Result ShouldTransmit ReceiveError → Type 0 = λ r. OnWriter old number (λ s. AsksAfterFrame (the_end old (peer s.writer)) (the_end new (peer s.writer))) (received_reply r) in
           at answer is (subst Q is (subst P n.reply_is asks))
 
-  owing_delivered : (reply : Answer) → Delivers old number index reply new → AsksFor old (steps.Deliver number index) reply new → AreOwing new
+  owing_delivered : (reply : Answer) → Delivers old number index reply new → AsksFor old (steps.Deliver number index) reply new → AreOwing some new
   owing_delivered (Err NoSuchPayload) n a = stays old new o n.1
   owing_delivered (Err NoSuchFrame) n a = stays old new o n.is
   owing_delivered (Err NoMemory) n a = elim n [ inl same ↦ stays old new o same.1 | inr t ↦ owing_handed (Err NoMemory) t a ]
@@ -191,18 +191,18 @@ module _ (old new : PairState) (number : ℕ) (kind : Report) (At : EndState →
         )
   ]
 
-module _ (old new : PairState) (o : AreOwing old) (number : ℕ) where
-  owing_loss : (reply : Answer) → Reports Lost LosesPayloadAt old number reply new → ((who : End) → EndLeaves nothing_more (the_end old who) (the_end new who)) → AreOwing new
+module _ {some : Which} (old new : PairState) (o : AreOwing some old) (number : ℕ) where
+  owing_loss : (reply : Answer) → Reports Lost LosesPayloadAt old number reply new → ((who : End) → EndLeaves nothing_more (the_end old who) (the_end new who)) → AreOwing some new
   owing_loss reply n l who = record {
-    whole = data-plain nothing_more (the_end old who) (the_end new who) (l who) refl (o who).whole;
+    whole = λ on. data-plain nothing_more (the_end old who) (the_end new who) (l who) refl ((o who).whole on);
     windows = λ id. window-left nothing_more id (the_end old who) (the_end new who) (l who) refl ((o who).windows id);
-    counts = λ d. elim ((o who).counts d) [
+    counts = λ d on. elim ((o who).counts d on) [
       | inl near ↦ inl (count-left nothing_more d (the_end old who) (the_end new who) (l who) refl near)
       | inr half ↦ elim (half_reported old new number Lost LosesPayloadAt reply n who half) [ inl this ↦ absurd (other_way n.payload.sent.unsettled n.may this.1) | inr still ↦ inr still ]
     ];
   }
 
-  owing_loses : (reply : Answer) → SettlesPayload Lost LosesPayloadAt old number reply new → ((who : End) → EndLeaves nothing_more (the_end old who) (the_end new who)) → AreOwing new
+  owing_loses : (reply : Answer) → SettlesPayload Lost LosesPayloadAt old number reply new → ((who : End) → EndLeaves nothing_more (the_end old who) (the_end new who)) → AreOwing some new
   owing_loses (Ok Done) n l = owing_loss (Ok Done) n l
   owing_loses (Err NoMemory) n l = owing_loss (Err NoMemory) n l
   owing_loses (Err NoSuchPayload) n l = stays old new o n.1
@@ -213,9 +213,9 @@ module _ (old new : PairState) (o : AreOwing old) (number : ℕ) where
   abbrev ack_may : May
   ack_may = record { reads = λ q. false; credits = false; resizes = false; frees = true }
 
-  owing_acked : (reply : Answer) → Reports Acknowledged AcksPayloadAt old number reply new → ((who : End) → EndLeaves ack_may (the_end old who) (the_end new who)) → AreOwing new
+  owing_acked : (reply : Answer) → Reports Acknowledged AcksPayloadAt old number reply new → ((who : End) → EndLeaves ack_may (the_end old who) (the_end new who)) → AreOwing some new
   owing_acked reply n l who = record {
-    whole = data-plain ack_may (the_end old who) (the_end new who) (l who) refl (o who).whole;
+    whole = λ on. data-plain ack_may (the_end old who) (the_end new who) (l who) refl ((o who).whole on);
     windows = λ id. window-left ack_may id (the_end old who) (the_end new who) (l who) refl ((o who).windows id);
     counts = counted who n.payload.sent.writer refl;
   }
@@ -243,19 +243,19 @@ module _ (old new : PairState) (o : AreOwing old) (number : ℕ) where
       other A e = ap (λ (v : PairState). v.a) n.is ∙ ap (λ x. (the_end (with_sent (with_end old x n.end) old.sent) A)) e
       other B e = ap (λ (v : PairState). v.b) n.is ∙ ap (λ x. (the_end (with_sent (with_end old x n.end) old.sent) B)) e
 
-      apart : (w : End) → n.payload.sent.writer ≡ peer w → (d : Dir) → OwesCount d (the_end new w) ⊎ IsHalfAcked new.sent w
-      apart w e d = elim ((o w).counts d) [
+      apart : (w : End) → n.payload.sent.writer ≡ peer w → (d : Dir) → some w (StreamsOf d) ≡ true → OwesCount d (the_end new w) ⊎ IsHalfAcked new.sent w
+      apart w e d on = elim ((o w).counts d on) [
         | inl near ↦ inl (let P : EndState → Type 0 = λ x. OwesCount d x in subst P (sym (other w e)) near)
         | inr half ↦ elim (half_reported old new number Acknowledged AcksPayloadAt reply n w half) [ inl this ↦ absurd (peer-other w (this.0 ∙ e)) | inr still ↦ inr still ]
       ]
 
-      counted : (w k : End) → n.payload.sent.writer ≡ k → (d : Dir) → OwesCount d (the_end new w) ⊎ IsHalfAcked new.sent w
-      counted A A e d = let P : End → Type 0 = λ x. OwesCount d (the_end new x) ⊎ IsHalfAcked new.sent x in subst P e (here d)
-      counted B B e d = let P : End → Type 0 = λ x. OwesCount d (the_end new x) ⊎ IsHalfAcked new.sent x in subst P e (here d)
-      counted A B e d = apart A e d
-      counted B A e d = apart B e d
+      counted : (w k : End) → n.payload.sent.writer ≡ k → (d : Dir) → some w (StreamsOf d) ≡ true → OwesCount d (the_end new w) ⊎ IsHalfAcked new.sent w
+      counted A A e d on = let P : End → Type 0 = λ x. OwesCount d (the_end new x) ⊎ IsHalfAcked new.sent x in subst P e (here d)
+      counted B B e d on = let P : End → Type 0 = λ x. OwesCount d (the_end new x) ⊎ IsHalfAcked new.sent x in subst P e (here d)
+      counted A B e d on = apart A e d on
+      counted B A e d on = apart B e d on
 
-  owing_acks : (reply : Answer) → SettlesPayload Acknowledged AcksPayloadAt old number reply new → ((who : End) → EndLeaves ack_may (the_end old who) (the_end new who)) → AreOwing new
+  owing_acks : (reply : Answer) → SettlesPayload Acknowledged AcksPayloadAt old number reply new → ((who : End) → EndLeaves ack_may (the_end old who) (the_end new who)) → AreOwing some new
   owing_acks (Ok Done) n l = owing_acked (Ok Done) n l
   owing_acks (Err NoMemory) n l = owing_acked (Err NoMemory) n l
   owing_acks (Err NoSuchPayload) n l = stays old new o n.1
@@ -265,7 +265,7 @@ module _ (old new : PairState) (o : AreOwing old) (number : ℕ) where
 
 -- ---- a payload is written
 
-module _ (old new : PairState) (o : AreOwing old) (who : End) (most : ℕ) (fair : Bool) (answer : Result (Unit {0}) OutOfMemory) (payload : PayloadView) (e : Emits old who most fair answer payload new) (x : Emptied (the_end old who) e.end payload) where
+module _ {some : Which} (old new : PairState) (o : AreOwing some old) (who : End) (most : ℕ) (fair : Bool) (answer : Result (Unit {0}) OutOfMemory) (payload : PayloadView) (e : Emits old who most fair answer payload new) (x : Emptied (the_end old who) e.end payload) where
   near_kept : (k : Permission) → announced_of k e.end.streams ≡ announced_of k (the_end old who).streams → IsNear k (the_end old who).streams → IsNear k e.end.streams
   near_kept k a near = let p = x.permitted k in let q = x.eighth k in omega (arith, near, a, p, q)
 
@@ -290,43 +290,43 @@ module _ (old new : PairState) (o : AreOwing old) (who : End) (most : ℕ) (fair
   forth_emits : Forth old.sent new.sent
   forth_emits number s is = (s, ap (λ (v : PairState). slice_get v.sent number) e.is ∙ slice_get-append_left old.sent (e.sent ∷ []) number s is, refl, refl, refl)
 
-  owing_emits : AreOwing new
+  owing_emits : AreOwing some new
   owing_emits = by_one old new o who e.end (old.sent ++ e.sent ∷ []) e.is forth_emits (owing-forth e.end old.sent new.sent who forth_emits (record {
-    whole = whole_kept (o who).whole;
+    whole = λ on. whole_kept ((o who).whole on);
     windows = λ id. owes (DataOn id) ((o who).windows id);
-    counts = λ d. elim ((o who).counts d) [ inl near ↦ inl (owes (StreamsOf d) near) | inr half ↦ inr half ];
+    counts = λ d on. elim ((o who).counts d on) [ inl near ↦ inl (owes (StreamsOf d) near) | inr half ↦ inr half ];
   }))
 
 -- ---- all steps
 
-module _ (a b : Origin) (h : History) (old new : PairState) (g : EraFrom a b h old) (within : (who : End) → IsWithin (the_end old who).streams) (o : AreOwing old) where
-  emits_owing : (who : End) (most : ℕ) (fair : Bool) (answer : Result (Unit {0}) OutOfMemory) (payload : PayloadView) → Emits old who most fair answer payload new → AreOwing new
+module _ {some : Which} (a b : Origin) (h : History) (old new : PairState) (g : EraFrom a b h old) (within : (who : End) → IsWithin (the_end old who).streams) (o : AreOwing some old) where
+  emits_owing : (who : End) (most : ℕ) (fair : Bool) (answer : Result (Unit {0}) OutOfMemory) (payload : PayloadView) → Emits old who most fair answer payload new → AreOwing some new
   emits_owing who most fair answer payload e = owing_emits old new o who most fair answer payload e
       (seen-as a b (past_of h) old who (joined-from g) (Emptied (the_end old who) e.end payload) (λ x y side s. emptied x y s.linked s.here (within who) e.emits))
 
-  emitted_owing : (who : End) (most : ℕ) (fair : Bool) (reply : Answer) → Emitted old who most fair reply new → AreOwing new
+  emitted_owing : (who : End) (most : ℕ) (fair : Bool) (reply : Answer) → Emitted old who most fair reply new → AreOwing some new
   emitted_owing who most fair (Ok (Payload number bytes)) e = emits_owing who most fair (Ok tt) e.payload e.emits
   emitted_owing who most fair (Err NoMemory) e = elim e [ inl same ↦ stays old new o same | inr part ↦ emits_owing who most fair part.answer part.payload part.emits ]
   emitted_owing who most fair _ e = absurd e
 
   -- a call that consumes, frees and reads nothing
-  plainly : {P : EndState → EndState → Type 0} (step : Step) (reply : Answer) (k : End) (d : OnEnd P old k new) → EndLeaves nothing_more (the_end old k) d.end → AreOwing new
+  plainly : {P : EndState → EndState → Type 0} (step : Step) (reply : Answer) (k : End) (d : OnEnd P old k new) → EndLeaves nothing_more (the_end old k) d.end → AreOwing some new
   plainly step reply k d l = by_end old new o k d (owing-plain (the_end old k) d.end old.sent k l)
 
   acts : {P : EndState → EndState → Type 0} (k : End) (d : OnEnd P old k new) (m : May) → ((who : End) → EndLeaves m (the_end old who) (the_end new who)) → EndLeaves m (the_end old k) d.end
   acts k d m l = acting old new o k d m l
 
-  reads_owing : (who : End) (id : ℕ) (ordered : Bool) (most times : ℕ) (reply : Answer) → NextOrdinary old (steps.Read who id ordered most times) reply new → AreOwing new
+  reads_owing : (who : End) (id : ℕ) (ordered : Bool) (most times : ℕ) (reply : Answer) → NextOrdinary old (steps.Read who id ordered most times) reply new → AreOwing some new
   reads_owing who id ordered most times reply n = by_end old new o who n (on_given old new o who id reply n.end _ n.does (λ d. by d.answer d.reads))
     where
-      by : (answer : Result ReadSome ReadableError) → ReadsSo (the_end old who) id ordered most times answer n.end → Owing (the_end old who) old.sent who → Owing n.end old.sent who
+      by : (answer : Result ReadSome ReadableError) → ReadsSo (the_end old who) id ordered most times answer n.end → Owing some (the_end old who) old.sent who → Owing some n.end old.sent who
       by (Ok r) s c =
           let m : May = record { reads = λ q. q == id; credits = true; resizes = false; frees = true } in
           owing-read old.sent who (the_end old who) n.end id most times ordered r s
           (record { streams = some-so m id most ordered (itself id, refl) refl times (the_end old who).pending s.read.pending r.chunks.items r.last r.transmit.0 (the_end old who).streams s.read.streams s.reads; asked = read-asked (the_end old who) id most times ordered r.chunks.items r.last r.transmit.0 n.end s }) c
       by (Err error) s c = refused-read old.sent who (the_end old who) n.end id ordered error s c
 
-  pub owing-next : (step : Step) (reply : Answer) → NextOrdinary old step reply new → AreOwing new
+  pub owing-next : (step : Step) (reply : Answer) → NextOrdinary old step reply new → AreOwing some new
   owing-next (steps.Read who id ordered most times) reply n = reads_owing who id ordered most times reply n
   owing-next (steps.Stop who id code) reply n = by_end old new o who n (on_given old new o who id reply n.end _ n.does (λ d c. owing-stopped old.sent who (the_end old who) n.end id code d.answer d.stops (stop-leaves (the_end old who) n.end id code d.answer d.stops) c))
   owing-next (steps.ReceivedReset who id) reply n = by_end old new o who n (on_given old new o who id reply n.end _ n.does (λ d c. owing-code old.sent who (the_end old who) n.end id d.answer d.tells (code-leaves (the_end old who) n.end id d.answer d.tells) c))
@@ -335,11 +335,11 @@ module _ (a b : Origin) (h : History) (old new : PairState) (g : EraFrom a b h o
       l : EndLeaves (may_of (steps.SetReceiveWindow who window)) (the_end old who) n.end
       l = acting old new o who n (may_of (steps.SetReceiveWindow who window)) (step-leaves old new (steps.SetReceiveWindow who window) reply tt n)
 
-      windowed : Owing (the_end old who) old.sent who → Owing n.end old.sent who
+      windowed : Owing some (the_end old who) old.sent who → Owing some n.end old.sent who
       windowed c = record {
-        whole = window-data old.sent who (the_end old who) n.end window n.does.larger n.does.larger_is n.does.is c.whole;
+        whole = λ on. window-data old.sent who (the_end old who) n.end window n.does.larger n.does.larger_is n.does.is (c.whole on);
         windows = λ id. window-left (may_of (steps.SetReceiveWindow who window)) id (the_end old who) n.end l refl (c.windows id);
-        counts = λ d. elim (c.counts d) [ inl near ↦ inl (count-left (may_of (steps.SetReceiveWindow who window)) d (the_end old who) n.end l refl near) | inr half ↦ inr half ];
+        counts = λ d on. elim (c.counts d on) [ inl near ↦ inl (count-left (may_of (steps.SetReceiveWindow who window)) d (the_end old who) n.end l refl near) | inr half ↦ inr half ];
       }
   owing-next (steps.SetMaxConcurrent who dir count) reply n = by_end old new o who n (λ c. owing-set old.sent who (the_end old who) n.end dir count n.does.answer n.does.sets (set-leaves (the_end old who) n.end dir count n.does.answer n.does.sets) c)
   owing-next (steps.Emit who most fair) reply n = emitted_owing who most fair reply n

@@ -35,9 +35,9 @@ use Rattle.quic_pair.specs.declared.unsettled.Unsettled.{Unsettled}
 use Rattle.quic_pair.specs.declared.unsettled.Report.TheVariants.{Acknowledged}
 use Rattle.quic_pair.specs.Due.{AsksData, AsksWindow, HasConsumed}
 use Rattle.quic_progress.proofs.Leaves.{May, Leaves, HalfGoes, leaves-same, leaves-at, leaves-step, freed-half}
-use Rattle.quic_progress.proofs.Permissions.{is_asked}
+use Rattle.quic_progress.proofs.Permissions.{AllData, StreamsOf, is_asked}
 use Rattle.quic_progress.proofs.Ends.{EndLeaves, by-call, by-same}
-use Rattle.quic_progress.proofs.Tracked.{Forth}
+use Rattle.quic_progress.proofs.Tracked.{Which, Forth}
 use Rattle.quic_progress.proofs.Owing.{IsExempt, OwesData, OwesWindow, OwesCount, data-asked, data-still, data-plain, window-asked, window-freed, window-left, count-told, count-left}
 
 -- a payload was acknowledged in part
@@ -50,39 +50,43 @@ pub record IsHalfAcked (sent : List Sent) (who : End) : Type 0 where
   pub rest : SentPayload
   pub rest_is : payload.unsettled.rest ≡ Some rest
 
--- what an end permits is near to what it announced, or is to be announced
-pub record Owing (e : EndState) (sent : List Sent) (who : End) : Type 0 where
-  pub whole : OwesData e
+-- what an end permits is near to what it announced, or is to be announced, of each stream and of some permissions beside
+pub record Owing (some : Which) (e : EndState) (sent : List Sent) (who : End) : Type 0 where
+  pub whole : some who AllData ≡ true → OwesData e
   pub windows : (id : ℕ) → OwesWindow id e
-  pub counts : (d : Dir) → OwesCount d e ⊎ IsHalfAcked sent who
+  pub counts : (d : Dir) → some who (StreamsOf d) ≡ true → OwesCount d e ⊎ IsHalfAcked sent who
 
 half_forth : (old new : List Sent) (who : End) → Forth old new → IsHalfAcked old who → IsHalfAcked new who
 half_forth old new who f h =
     let s = f h.number h.payload h.is in
     record { number = h.number; payload = s.0; is = s.1; writer = s.2 ∙ h.writer; begun = ap (λ (u : Unsettled). u.begun) s.3 ∙ h.begun; rest = h.rest; rest_is = ap (λ (u : Unsettled). u.rest) s.3 ∙ h.rest_is }
 
-pub owing-forth : (e : EndState) (old new : List Sent) (who : End) → Forth old new → Owing e old who → Owing e new who
-owing-forth e old new who f o = record { whole = o.whole; windows = o.windows; counts = λ d. elim (o.counts d) [ inl near ↦ inl near | inr half ↦ inr (half_forth old new who f half) ] }
+pub owing-forth : {some : Which} (e : EndState) (old new : List Sent) (who : End) → Forth old new → Owing some e old who → Owing some e new who
+owing-forth e old new who f o = record { whole = o.whole; windows = o.windows; counts = λ d on. elim (o.counts d on) [ inl near ↦ inl near | inr half ↦ inr (half_forth old new who f half) ] }
+
+-- among other payloads, where none was acknowledged in part
+pub owing-moved : {some : Which} (e : EndState) (old new : List Sent) (who : End) → (IsHalfAcked old who → ⊥) → Owing some e old who → Owing some e new who
+owing-moved e old new who none o = record { whole = o.whole; windows = o.windows; counts = λ d on. elim (o.counts d on) [ inl near ↦ inl near | inr half ↦ absurd (none half) ] }
 
 -- a call that consumes, frees and reads nothing
 abbrev pub nothing_more : May
 nothing_more = record { reads = λ q. false; credits = false; resizes = false; frees = false }
 
-pub owing-plain : (e f : EndState) (sent : List Sent) (who : End) → EndLeaves nothing_more e f → Owing e sent who → Owing f sent who
+pub owing-plain : {some : Which} (e f : EndState) (sent : List Sent) (who : End) → EndLeaves nothing_more e f → Owing some e sent who → Owing some f sent who
 owing-plain e f sent who l o = record {
-  whole = data-plain nothing_more e f l refl o.whole;
+  whole = λ on. data-plain nothing_more e f l refl (o.whole on);
   windows = λ id. window-left nothing_more id e f l refl (o.windows id);
-  counts = λ d. elim (o.counts d) [ inl near ↦ inl (count-left nothing_more d e f l refl near) | inr half ↦ inr half ];
+  counts = λ d on. elim (o.counts d on) [ inl near ↦ inl (count-left nothing_more d e f l refl near) | inr half ↦ inr half ];
 }
 
-pub owing-at : (e f : EndState) (sent : List Sent) (who : End) → f ≡ e → Owing e sent who → Owing f sent who
-owing-at e f sent who is o = let P : EndState → Type 0 = λ x. Owing x sent who in subst P (sym is) o
+pub owing-at : {some : Which} (e f : EndState) (sent : List Sent) (who : End) → f ≡ e → Owing some e sent who → Owing some f sent who
+owing-at {some} e f sent who is o = let P : EndState → Type 0 = λ x. Owing some x sent who in subst P (sym is) o
 
 -- counts are told
-pub owing-told : (e : EndState) (sent : List Sent) (who : End) → OwesData e → ((id : ℕ) → OwesWindow id e) → Owing (with_counts_told e) sent who
-owing-told e sent who whole windows = record { whole = whole; windows = windows; counts = λ d. inl (count-told e d) }
+pub owing-told : {some : Which} (e : EndState) (sent : List Sent) (who : End) → (some who AllData ≡ true → OwesData e) → ((id : ℕ) → OwesWindow id e) → Owing some (with_counts_told e) sent who
+owing-told e sent who whole windows = record { whole = whole; windows = windows; counts = λ d on. inl (count-told e d) }
 
-told-if : (b : Bool) (e : EndState) (sent : List Sent) (who : End) → Owing e sent who → Owing (with_counts_told_if b e) sent who
+told-if : {some : Which} (b : Bool) (e : EndState) (sent : List Sent) (who : End) → Owing some e sent who → Owing some (with_counts_told_if b e) sent who
 told-if true e sent who o = owing-told e sent who o.whole o.windows
 told-if false e sent who o = o
 
@@ -135,32 +139,32 @@ module _ (sent : List Sent) (who : End) where
     window_of last_answer.Memory e l = window-asked d.read id (read_window (ap progress_of e))
     window_of last_answer.More e l = window-asked d.read id (read_window (ap progress_of e))
 
-    pub owing-read : EndLeaves (record { reads = λ q. q == id; credits = true; resizes = false; frees = true }) e d.read → Owing e sent who → Owing f sent who
-    owing-read l o = owing-at (with_counts_told d.read) f sent who d.is (owing-told d.read sent who (data-asked d.read read_data) (λ q. window_at q (q == id) refl))
+    pub owing-read : {some : Which} → EndLeaves (record { reads = λ q. q == id; credits = true; resizes = false; frees = true }) e d.read → Owing some e sent who → Owing some f sent who
+    owing-read l o = owing-at (with_counts_told d.read) f sent who d.is (owing-told d.read sent who (λ on. data-asked d.read read_data) (λ q. window_at q (q == id) refl))
       where
         window_at : (q : ℕ) (b : Bool) → (q == id) ≡ b → OwesWindow q d.read
         window_at q true t = let P : ℕ → Type 0 = λ k. OwesWindow k d.read in subst P (sym (same_id q id t)) (window_of r.last refl d.reads.last_reads)
         window_at q false t = window-left (record { reads = λ q. q == id; credits = true; resizes = false; frees = true }) q e d.read l t (o.windows q)
 
-  pub refused-read : (e f : EndState) (id : ℕ) (ordered : Bool) (error : ReadableError) → RefusesRead e id ordered error f → Owing e sent who → Owing f sent who
+  pub refused-read : {some : Which} (e f : EndState) (id : ℕ) (ordered : Bool) (error : ReadableError) → RefusesRead e id ordered error f → Owing some e sent who → Owing some f sent who
   refused-read e f id ordered error s o =
       owing-at _ f sent who s.is (told-if _ s.asked sent who (owing-plain e s.asked sent who (by-call nothing_more e s.asked (Began id ordered (Err error)) tt s.begins (λ k a. ap (is_asked k) s.pending ∙ a)) o))
 
   -- ---- stops and resets
 
-  pub owing-stopped : (e f : EndState) (id code : ℕ) (answer : Result (Unit {0}) HandleError) → (d : StopsReading e id code answer f) → EndLeaves (record { reads = λ q. false; credits = true; resizes = false; frees = true }) e d.stopped → Owing e sent who → Owing f sent who
+  pub owing-stopped : {some : Which} (e f : EndState) (id code : ℕ) (answer : Result (Unit {0}) HandleError) → (d : StopsReading e id code answer f) → EndLeaves (record { reads = λ q. false; credits = true; resizes = false; frees = true }) e d.stopped → Owing some e sent who → Owing some f sent who
   owing-stopped e f id code (Ok done) d l o =
       let P : Pending → Type 0 = λ p. is_max_data_due d.stopped.streams.credit ≡ true → p.max_data ≡ true in
       let asks : AsksData d.stopped = subst P (sym d.stops.7) (or_right e.pending.max_data (is_max_data_due d.stopped.streams.credit)) in
-      owing-at (with_counts_told d.stopped) f sent who d.is (owing-told d.stopped sent who (data-asked d.stopped asks) (λ id. window-left (record { reads = λ q. false; credits = true; resizes = false; frees = true }) id e d.stopped l refl (o.windows id)))
+      owing-at (with_counts_told d.stopped) f sent who d.is (owing-told d.stopped sent who (λ on. data-asked d.stopped asks) (λ id. window-left (record { reads = λ q. false; credits = true; resizes = false; frees = true }) id e d.stopped l refl (o.windows id)))
   owing-stopped e f id code (Err handle_error.ClosedStream) d l o =
       owing-at (with_counts_told d.stopped) f sent who d.is (told-if true d.stopped sent who (owing-plain e d.stopped sent who (by-same nothing_more e d.stopped d.stops.1 d.stops.2) o))
   owing-stopped e f id code (Err handle_error.OutOfMemory) d l o = owing-at d.stopped f sent who d.is (owing-plain e d.stopped sent who (by-same nothing_more e d.stopped d.stops.0 d.stops.1) o)
 
-  pub owing-code : (e f : EndState) (id : ℕ) (answer : Result (Option ℕ) HandleError) → (d : TellsResetAt e id answer f) → EndLeaves (record { reads = λ q. false; credits = false; resizes = false; frees = true }) e d.asked → Owing e sent who → Owing f sent who
+  pub owing-code : {some : Which} (e f : EndState) (id : ℕ) (answer : Result (Option ℕ) HandleError) → (d : TellsResetAt e id answer f) → EndLeaves (record { reads = λ q. false; credits = false; resizes = false; frees = true }) e d.asked → Owing some e sent who → Owing some f sent who
   owing-code e f id (Ok (Some code)) d l o =
       let m : May = record { reads = λ q. false; credits = false; resizes = false; frees = true } in
-      owing-at (with_counts_told d.asked) f sent who d.is (owing-told d.asked sent who (data-plain m e d.asked l refl o.whole) (λ id. window-left m id e d.asked l refl (o.windows id)))
+      owing-at (with_counts_told d.asked) f sent who d.is (owing-told d.asked sent who (λ on. data-plain m e d.asked l refl (o.whole on)) (λ id. window-left m id e d.asked l refl (o.windows id)))
   owing-code e f id (Ok None) d l o = owing-at (with_counts_told d.asked) f sent who d.is (told-if true d.asked sent who (owing-plain e d.asked sent who (by-same nothing_more e d.asked d.tells.4 d.tells.5) o))
   owing-code e f id (Err handle_error.ClosedStream) d l o = owing-at (with_counts_told d.asked) f sent who d.is (told-if true d.asked sent who (owing-plain e d.asked sent who (by-same nothing_more e d.asked d.tells.1 d.tells.2) o))
   owing-code e f id (Err handle_error.OutOfMemory) d l o = owing-at d.asked f sent who d.is (owing-plain e d.asked sent who (by-same nothing_more e d.asked d.tells.3 d.tells.4) o)
@@ -202,10 +206,10 @@ module _ (sent : List Sent) (who : End) where
           let P : Bool → Type 0 = λ b. OwesCredit (if b then record c { receive_window = window; local_max_data = min (c.local_max_data + (window - c.receive_window)) (2 ^ 64 - 1) } else record c { receive_window = window; shrink_debt = min (c.shrink_debt + (c.receive_window - window)) (2 ^ 64 - 1) }) (e.pending.max_data || false) in
           subst P k (smaller c window e.pending.max_data (sym k) o)
 
-  pub owing-set : (e f : EndState) (dir : Dir) (count : ℕ) (answer : Result (Unit {0}) OutOfMemory) → (d : SetsConcurrentAt e dir count answer f) → EndLeaves (record { reads = λ q. false; credits = false; resizes = false; frees = true }) e d.set → Owing e sent who → Owing f sent who
+  pub owing-set : {some : Which} (e f : EndState) (dir : Dir) (count : ℕ) (answer : Result (Unit {0}) OutOfMemory) → (d : SetsConcurrentAt e dir count answer f) → EndLeaves (record { reads = λ q. false; credits = false; resizes = false; frees = true }) e d.set → Owing some e sent who → Owing some f sent who
   owing-set e f dir count (Ok done) d l o =
       let m : May = record { reads = λ q. false; credits = false; resizes = false; frees = true } in
-      owing-at (with_counts_told d.set) f sent who d.is (owing-told d.set sent who (data-plain m e d.set l refl o.whole) (λ id. window-left m id e d.set l refl (o.windows id)))
+      owing-at (with_counts_told d.set) f sent who d.is (owing-told d.set sent who (λ on. data-plain m e d.set l refl (o.whole on)) (λ id. window-left m id e d.set l refl (o.windows id)))
   owing-set e f dir count (Err error) d l o = owing-at d.set f sent who d.is (owing-plain e d.set sent who (by-same nothing_more e d.set d.sets d.pending) o)
 
   -- ---- frames that are handed over

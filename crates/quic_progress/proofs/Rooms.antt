@@ -1,5 +1,5 @@
 -- Where all that was written was read, the limit of a stream leaves its window but for an eighth.
-use Rattle.std.proofs.Common.{◌≡◌, ◌⊎◌, ℕ, Bool, true, false, List, length, Option, Some, None, is_some, refl, sym, ap, ◌∙◌, subst, inl, inr, arith, ◌≤◌, ◌<◌, ◌+◌, ◌-◌, ◌/◌, ◌^◌}
+use Rattle.std.proofs.Common.{◌≡◌, ℕ, Bool, true, false, List, length, Option, Some, None, is_some, refl, sym, ap, ◌∙◌, subst, arith, ◌≤◌}
 use Rattle.std.specs.Prelude.{◌&&◌, not, is_none}
 use Rattle.quic_sending.specs.declared.send.Send.{Send}
 use Rattle.quic_sending.specs.Buffer.{total_length}
@@ -9,7 +9,7 @@ use Rattle.quic_receiving.specs.Half.{Half, is_open}
 use Rattle.quic_receiving.proofs.Data.{all_given}
 use Rattle.quic_flows.specs.Flow.{SendFlow, FlowAt}
 use Rattle.quic_outgoing.specs.Senders.{first_limit}
-use Rattle.quic_history.specs.Flows.{has_side_in, room_on}
+use Rattle.quic_history.specs.Flows.{has_side_in}
 use Rattle.quic_history.specs.World.{World, Made}
 use Rattle.quic_history.specs.History.{ReadChunk, slices, trace, flow}
 use Rattle.quic_history.proofs.StreamSteps.{half-from, known-from}
@@ -25,15 +25,14 @@ use Rattle.quic_pair.specs.Runs.{sendings_of}
 use Rattle.quic_pair.specs.Tale.{Tale, Tales, Told}
 use Rattle.quic_pair.specs.Settling.{AreIdle, AreSettledIn}
 use Rattle.quic_pair.specs.Completed.{HaveBeenRead, IsUnreset, IsUnstopped}
-use Rattle.quic_pair.proofs.Origins.{Origin}
-use Rattle.quic_pair.proofs.Joined.{Seen, Joined}
+use Rattle.quic_pair.proofs.Joined.{Seen}
 use Rattle.quic_pair.proofs.Flips.{seen-as}
 use Rattle.quic_pair.proofs.Counted.{Counted}
 use Rattle.quic_pair.proofs.Grown.{joined-from}
 use Rattle.quic_pair.proofs.ToldOnce.{told-once}
-use Rattle.quic_progress.specs.Progress.{StartsAtOnce, CanBeTold, TakesMore, IsReadOn, IsAllRead, KnowLimits, HaveRoom}
-use Rattle.quic_progress.proofs.Course.{Course, course-from}
-use Rattle.quic_progress.proofs.Settled.{know-limits}
+use Rattle.quic_progress.specs.Progress.{IsAgreed, IsReadOn, IsAllRead, HaveRoom}
+use Rattle.quic_progress.proofs.Course.{course-from, agreed-waits}
+use Rattle.quic_progress.proofs.Settled.{streams-now}
 
 -- the same was written, as two histories of one end tell of a half that is held
 same_amount : (first other : ℕ) (there : Bool) (half : Option Send) (s : Send) (f g : SendFlow) → half ≡ Some s → FlowAt first f there half → FlowAt other g there half → total_length g.cuts ≡ total_length f.cuts
@@ -85,21 +84,21 @@ module _ (p : Past) (v : PairState) (who : End) (id : ℕ) (m : Made) (t : Tale)
 
 -- ---- whatever steps led to it
 
-module _ (s : Beginning) (h : History) (v : PairState) (f : PairFrom s h v) (early : StartsAtOnce s) (idle : AreIdle v) (settled : AreSettledIn 0 (length v.sent) v.sent) (read : HaveBeenRead (past_of h)) where
-  read_now : (who : End) (id : ℕ) (half : Half) (x : Send) → (the_end v who).streams.out.halves id ≡ Some x → IsUnreset ((past_of h).flow who id) → IsUnstopped ((past_of h).flow who id) → IsReadOn (the_end v (peer who)).streams id half → IsAllRead (((course-from s early f).recounted.tales.of who).flow id) half
+module _ (s : Beginning) (h : History) (v : PairState) (f : PairFrom s h v) (decided : v.waits ≡ None) (idle : AreIdle v) (settled : AreSettledIn 0 (length v.sent) v.sent) (read : HaveBeenRead (past_of h)) where
+  read_now : (who : End) (id : ℕ) (half : Half) (x : Send) → (the_end v who).streams.out.halves id ≡ Some x → IsUnreset ((past_of h).flow who id) → IsUnstopped ((past_of h).flow who id) → IsReadOn (the_end v (peer who)).streams id half → IsAllRead (((course-from f decided).recounted.tales.of who).flow id) half
   read_now who id half x held unreset unstopped reads =
-      let c = course-from s early f in
+      let c = course-from f decided in
       let P : Past → Type 0 = λ p. IsAllGiven (slices (p.flow who id).given) (length (p.flow who id).written) in
       seen-as _ _ (past_of c.taken) v who (joined-from c.era) (IsAllRead ((c.recounted.tales.of who).flow id) half)
       (read_seen (past_of c.taken) v who id _ (c.recounted.tales.of who) (c.recounted.counted who) x half held reads (subst P c.past (read who id unreset unstopped).all))
 
-  room_now : HaveRoom (past_of h) v (course-from s early f).recounted.tales
-  room_now who id x half held unreset unstopped reads takes small =
-      let c = course-from s early f in
-      ((know-limits s h v f early idle settled c.recounted.tales c.told) who).goes_on.streams id half reads takes (read_now who id half x held unreset unstopped reads) small
+  room_now : HaveRoom (past_of h) v (course-from f decided).recounted.tales
+  room_now A id x half held unreset unstopped reads takes small = (streams-now s h v f (course-from f decided) decided idle settled B).goes_on id half reads takes (read_now A id half x held unreset unstopped reads) small
+  room_now B id x half held unreset unstopped reads takes small = (streams-now s h v f (course-from f decided) decided idle settled A).goes_on id half reads takes (read_now B id half x held unreset unstopped reads) small
 
-  pub have-room : (t : Tales) → Told s (sendings_of f) t → HaveRoom (past_of h) v t
-  have-room t k =
-      let c = course-from s early f in
-      let P : Tales → Type 0 = λ x. HaveRoom (past_of h) v x in
-      subst P (told-once s (sendings_of f) c.recounted.tales t c.told k) room_now
+pub have-room : (s : Beginning) (h : History) (v : PairState) (f : PairFrom s h v) → IsAgreed s v → AreIdle v → AreSettledIn 0 (length v.sent) v.sent → HaveBeenRead (past_of h) → (t : Tales) → Told s (sendings_of f) t → HaveRoom (past_of h) v t
+have-room s h v f agreed idle settled read t k =
+    let decided = agreed-waits f agreed in
+    let c = course-from f decided in
+    let P : Tales → Type 0 = λ x. HaveRoom (past_of h) v x in
+    subst P (told-once s (sendings_of f) c.recounted.tales t c.told k) (room_now s h v f decided idle settled read)

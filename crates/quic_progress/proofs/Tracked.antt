@@ -63,11 +63,32 @@ abbrev pub AreHeard : Tales → List Sent → Type 0
 AreHeard t sent = (number : ℕ) (s : Sent) (all : List Frame) (index : ℕ) (k : Permission) (n : ℕ) → slice_get sent number ≡ Some s → AreFrames s.text.bytes all → slice_get all index ≡ Some (frame_of k n) → is_accepted s.text index ≡ true
     → IsTold k (heard_of k n) (t.of (peer s.writer))
 
-pub record IsTracked (v : PairState) (t : Tales) : Type 0 where
+-- some permissions of each end
+abbrev pub Which : Type 0
+Which = End → Permission → Bool
+
+-- so it is of some
+pub record IsTracked (some : Which) (v : PairState) (t : Tales) : Type 0 where
   pub within : (who : End) → IsWithin (the_end v who).streams
-  pub firsts : (who : End) (id : ℕ) → (the_end v who).streams.window ≤ ((t.of (peer who)).flow id).limit
+  pub firsts : (who : End) (id : ℕ) → some who (DataOn id) ≡ true → (the_end v who).streams.window ≤ ((t.of (peer who)).flow id).limit
   pub heard : AreHeard t v.sent
-  pub tracks : (who : End) (k : Permission) → Tracks k (announced_of k (the_end v who).streams) (the_end v who) (t.of (peer who)) v.sent who
+  pub tracks : (who : End) (k : Permission) → some who k ≡ true → Tracks k (announced_of k (the_end v who).streams) (the_end v who) (t.of (peer who)) v.sent who
+
+-- so of one end, whose peer is told this
+pub record IsEndTracked (some : Which) (who : End) (e : EndState) (t : Tale) (sent : List Sent) : Type 0 where
+  pub within : IsWithin e.streams
+  pub firsts : (id : ℕ) → some who (DataOn id) ≡ true → e.streams.window ≤ (t.flow id).limit
+  pub tracks : (k : Permission) → some who k ≡ true → Tracks k (announced_of k e.streams) e t sent who
+
+pub tracked-end : {some : Which} (v : PairState) (t : Tales) → IsTracked some v t → (who : End) → IsEndTracked some who (the_end v who) (t.of (peer who)) v.sent
+tracked-end v t c who = record { within = c.within who; firsts = c.firsts who; tracks = c.tracks who }
+
+pub tracked-ends : {some : Which} (v : PairState) (t : Tales) → AreHeard t v.sent → ((who : End) → IsEndTracked some who (the_end v who) (t.of (peer who)) v.sent) → IsTracked some v t
+tracked-ends v t heard each = record { within = λ who. (each who).within; firsts = λ who. (each who).firsts; heard = heard; tracks = λ who. (each who).tracks }
+
+-- of some others of one end
+pub tracked-fewer : {some other : Which} (who : End) (e : EndState) (t : Tale) (sent : List Sent) → ((k : Permission) → other who k ≡ true → some who k ≡ true) → IsEndTracked some who e t sent → IsEndTracked other who e t sent
+tracked-fewer who e t sent fewer c = record { within = c.within; firsts = λ id on. c.firsts id (fewer (DataOn id) on); tracks = λ k on. c.tracks k (fewer k on) }
 
 way_less : (k : Permission) (m n : ℕ) (sent : List Sent) (who : End) → m ≤ n → UnderWay k n sent who → UnderWay k m sent who
 way_less k m n sent who l w = record { number = w.number; payload = w.payload; is = w.is; writer = w.writer; rest = w.rest; rest_is = w.rest_is; asked = w.asked; all = w.all; spelled = w.spelled; limit = w.limit; listed = w.listed; enough = let e = w.enough in omega (arith, l, e) }
@@ -135,27 +156,27 @@ tracks_left m k e f t u old new who l g way c =
       ]
     ]
 
-firsts_left : (m : May) (e f : EndState) (t u : Tales) (who : End) → EndLeaves m e f → AllGrow t u → ((id : ℕ) → e.streams.window ≤ ((t.of (peer who)).flow id).limit) → (id : ℕ) → f.streams.window ≤ ((u.of (peer who)).flow id).limit
-firsts_left m e f t u who l g c id = let a = c id in let b = l.streams.window in let d = ((g (peer who)).flow id).limit in omega (arith, a, b, d)
+firsts_left : (m : May) (e f : EndState) (t u : Tales) (who : End) → EndLeaves m e f → AllGrow t u → (id : ℕ) → e.streams.window ≤ ((t.of (peer who)).flow id).limit → f.streams.window ≤ ((u.of (peer who)).flow id).limit
+firsts_left m e f t u who l g id a = let b = l.streams.window in let d = ((g (peer who)).flow id).limit in omega (arith, a, b, d)
 
 told_at : (who : End) (change : Tale → Tale) (t : Tales) → (told_of who change t).of who ≡ change (t.of who)
 told_at A change t = refl
 told_at B change t = refl
 
-module _ (old new : PairState) (t u : Tales) (c : IsTracked old t) (g : AllGrow t u) where
+module _ {some : Which} (old new : PairState) (t u : Tales) (c : IsTracked some old t) (g : AllGrow t u) where
   -- both ends
-  tracked_left : (m : May) → ((who : End) → EndLeaves m (the_end old who) (the_end new who)) → AreHeard u new.sent
-      → ((who : End) (k : Permission) → UnderWay k (announced_of k (the_end new who).streams) old.sent who → Tracks k (announced_of k (the_end new who).streams) (the_end new who) (u.of (peer who)) new.sent who) → IsTracked new u
-  tracked_left m l heard way = record {
+  pub tracked-left : (m : May) → ((who : End) → EndLeaves m (the_end old who) (the_end new who)) → AreHeard u new.sent
+      → ((who : End) (k : Permission) → UnderWay k (announced_of k (the_end new who).streams) old.sent who → Tracks k (announced_of k (the_end new who).streams) (the_end new who) (u.of (peer who)) new.sent who) → IsTracked some new u
+  tracked-left m l heard way = record {
     within = λ who. within-left m (the_end old who).streams (the_end new who).streams (l who).streams (c.within who);
-    firsts = λ who. firsts_left m (the_end old who) (the_end new who) t u who (l who) g (c.firsts who);
+    firsts = λ who id on. firsts_left m (the_end old who) (the_end new who) t u who (l who) g id (c.firsts who id on);
     heard = heard;
-    tracks = λ who k. tracks_left m k (the_end old who) (the_end new who) t u old.sent new.sent who (l who) g (way who k) (c.tracks who k);
+    tracks = λ who k on. tracks_left m k (the_end old who) (the_end new who) t u old.sent new.sent who (l who) g (way who k) (c.tracks who k on);
   }
 
   -- where the payloads are the same
-  pub tracked-same : (m : May) → ((who : End) → EndLeaves m (the_end old who) (the_end new who)) → new.sent ≡ old.sent → IsTracked new u
-  tracked-same m l e = tracked_left m l (heard_back old.sent new.sent t u (back_same old.sent new.sent e) g c.heard) (λ who k w. inr (inr (inr (way-forth k _ old.sent new.sent who (forth-same old.sent new.sent e) w))))
+  pub tracked-same : (m : May) → ((who : End) → EndLeaves m (the_end old who) (the_end new who)) → new.sent ≡ old.sent → IsTracked some new u
+  tracked-same m l e = tracked-left m l (heard_back old.sent new.sent t u (back_same old.sent new.sent e) g c.heard) (λ who k w. inr (inr (inr (way-forth k _ old.sent new.sent who (forth-same old.sent new.sent e) w))))
 
   -- ---- a frame is handed over
 
@@ -196,20 +217,20 @@ hears_if : (old new : List Sent) (number index : ℕ) (t u : Tales) (b : Bool) �
 hears_if old new number index t u true e = e
 hears_if old new number index t u false e = e
 
-module _ (old new : PairState) (t u : Tales) (c : IsTracked old t) (g : AllGrow t u) (number index : ℕ) where
-  tracked_handed : (reply : Answer) (n : HandsOver old number index reply new) → ((who : End) → EndLeaves (may_of (steps.Deliver number index)) (the_end old who) (the_end new who)) → StepTells old.sent new.sent (steps.Deliver number index) reply t u → IsTracked new u
+module _ {some : Which} (old new : PairState) (t u : Tales) (c : IsTracked some old t) (g : AllGrow t u) (number index : ℕ) where
+  tracked_handed : (reply : Answer) (n : HandsOver old number index reply new) → ((who : End) → EndLeaves (may_of (steps.Deliver number index)) (the_end old who) (the_end new who)) → StepTells old.sent new.sent (steps.Deliver number index) reply t u → IsTracked some new u
   tracked_handed reply n l e =
       let P : Answer → Type 0 = λ r. StepTells old.sent new.sent (steps.Deliver number index) r t u in
       by n.answer n.sent (subst P n.reply_is e)
     where
-      by : (answer : Result ShouldTransmit ReceiveError) → SentAfter old.sent number n.payload.sent index answer new.sent → StepTells old.sent new.sent (steps.Deliver number index) (received_reply answer) t u → IsTracked new u
+      by : (answer : Result ShouldTransmit ReceiveError) → SentAfter old.sent number n.payload.sent index answer new.sent → StepTells old.sent new.sent (steps.Deliver number index) (received_reply answer) t u → IsTracked some new u
       by (Ok transmit) s k =
           let h = hears_if old.sent new.sent number index t u transmit.0 k in
-          tracked_left old new t u c g (may_of (steps.Deliver number index)) l (heard_marked old new t u c g number index n.payload.sent n.payload.is s.0 s.1 s.2 h)
+          tracked-left old new t u c g (may_of (steps.Deliver number index)) l (heard_marked old new t u c g number index n.payload.sent n.payload.is s.0 s.1 s.2 h)
           (λ who k w. inr (inr (inr (way-forth k _ old.sent new.sent who (forth-marked old.sent new.sent number index n.payload.sent n.payload.is s.0 s.1 s.2) w))))
       by (Err error) s k = tracked-same old new t u c g (may_of (steps.Deliver number index)) l s
 
-  pub tracked-delivered : (reply : Answer) → Delivers old number index reply new → ((who : End) → EndLeaves (may_of (steps.Deliver number index)) (the_end old who) (the_end new who)) → StepTells old.sent new.sent (steps.Deliver number index) reply t u → IsTracked new u
+  pub tracked-delivered : (reply : Answer) → Delivers old number index reply new → ((who : End) → EndLeaves (may_of (steps.Deliver number index)) (the_end old who) (the_end new who)) → StepTells old.sent new.sent (steps.Deliver number index) reply t u → IsTracked some new u
   tracked-delivered (Err NoSuchPayload) n l e = tracked-same old new t u c g (may_of (steps.Deliver number index)) l (ap (λ (v : PairState). v.sent) n.1)
   tracked-delivered (Err NoSuchFrame) n l e = tracked-same old new t u c g (may_of (steps.Deliver number index)) l (ap (λ (v : PairState). v.sent) n.is)
   tracked-delivered (Err NoMemory) n l e = elim n [
@@ -260,7 +281,7 @@ changed_to : (old new : PairState) (who : End) (e : EndState) (sent : List Sent)
 changed_to old new A e sent is = ap (λ (v : PairState). v.a) is
 changed_to old new B e sent is = ap (λ (v : PairState). v.b) is
 
-module _ (old new : PairState) (t u : Tales) (c : IsTracked old t) (g : AllGrow t u) (m : May) (l : (who : End) → EndLeaves m (the_end old who) (the_end new who)) (number : ℕ) (kind : Report) (At : EndState → SentView → Result (Unit {0}) SentView → EndState → Type 0) (reply : Answer) (n : Reports kind At old number reply new) where
+module _ {some : Which} (old new : PairState) (t u : Tales) (c : IsTracked some old t) (g : AllGrow t u) (m : May) (l : (who : End) → EndLeaves m (the_end old who) (the_end new who)) (number : ℕ) (kind : Report) (At : EndState → SentView → Result (Unit {0}) SentView → EndState → Type 0) (reply : Answer) (n : Reports kind At old number reply new) where
   abbrev reported : Sent
   reported = record n.payload.sent { unsettled = unsettled_after kind n.payload.sent.unsettled n.answer }
 
@@ -309,11 +330,11 @@ module _ (old new : PairState) (t u : Tales) (c : IsTracked old t) (g : AllGrow 
   ]
 
   tracked_reported : ((k : Permission) (limit : ℕ) (who : End) → who ≡ n.payload.sent.writer → is_asked k (noted_in n.rest.control) ≡ true → (w : UnderWay k limit old.sent who) → w.payload ≡ n.payload.sent → ((back : SentPayload) → n.answer ≡ Err back → is_asked k (noted_in back.control) ≡ true → UnderWay k limit new.sent who)
-      → Tracks k limit (the_end new who) (u.of (peer who)) new.sent who) → IsTracked new u
-  tracked_reported done = tracked_left old new t u c g m l (heard_back old.sent new.sent t u back_reported g c.heard) (λ who k w. elim (left_or_done k _ who w) [ inl x ↦ done k _ who x.0 x.1 w x.2 x.3 | inr still ↦ inr (inr (inr still)) ])
+      → Tracks k limit (the_end new who) (u.of (peer who)) new.sent who) → IsTracked some new u
+  tracked_reported done = tracked-left old new t u c g m l (heard_back old.sent new.sent t u back_reported g c.heard) (λ who k w. elim (left_or_done k _ who w) [ inl x ↦ done k _ who x.0 x.1 w x.2 x.3 | inr still ↦ inr (inr (inr still)) ])
 
-module _ (old new : PairState) (t u : Tales) (c : IsTracked old t) (g : AllGrow t u) (number : ℕ) where
-  tracked_lost : (reply : Answer) → ((who : End) → EndLeaves (may_of (steps.Lose number)) (the_end old who) (the_end new who)) → Reports Lost LosesPayloadAt old number reply new → IsTracked new u
+module _ {some : Which} (old new : PairState) (t u : Tales) (c : IsTracked some old t) (g : AllGrow t u) (number : ℕ) where
+  tracked_lost : (reply : Answer) → ((who : End) → EndLeaves (may_of (steps.Lose number)) (the_end old who) (the_end new who)) → Reports Lost LosesPayloadAt old number reply new → IsTracked some new u
   tracked_lost reply l n = tracked_reported old new t u c g (may_of (steps.Lose number)) l number Lost LosesPayloadAt reply n (λ k limit who wrote asked w one back. by k limit who wrote asked back n.answer refl n.does)
     where
       by : (k : Permission) (limit : ℕ) (who : End) → who ≡ n.payload.sent.writer → is_asked k (noted_in n.rest.control) ≡ true → ((back : SentPayload) → n.answer ≡ Err back → is_asked k (noted_in back.control) ≡ true → UnderWay k limit new.sent who)
@@ -325,7 +346,7 @@ module _ (old new : PairState) (t u : Tales) (c : IsTracked old t) (g : AllGrow 
           inr (inr (inl (subst P (sym wrote) (subst Q (sym (changed_to old new n.payload.sent.writer n.end _ n.is)) here))))
       by k limit who wrote asked back (Err r) e d = inr (inr (inr (back r e (lost_back k _ _ _ _ (sent_view n.rest) (sent_view r) d asked))))
 
-  tracked_acked : (reply : Answer) → ((who : End) → EndLeaves (may_of (steps.Ack number)) (the_end old who) (the_end new who)) → Reports Acknowledged AcksPayloadAt old number reply new → IsTracked new u
+  tracked_acked : (reply : Answer) → ((who : End) → EndLeaves (may_of (steps.Ack number)) (the_end old who) (the_end new who)) → Reports Acknowledged AcksPayloadAt old number reply new → IsTracked some new u
   tracked_acked reply l n = tracked_reported old new t u c g (may_of (steps.Ack number)) l number Acknowledged AcksPayloadAt reply n (λ k limit who wrote asked w one back. by k limit who wrote asked w one back n.answer refl n.does)
     where
       by : (k : Permission) (limit : ℕ) (who : End) → who ≡ n.payload.sent.writer → is_asked k (noted_in n.rest.control) ≡ true → (w : UnderWay k limit old.sent who) → w.payload ≡ n.payload.sent → ((back : SentPayload) → n.answer ≡ Err back → is_asked k (noted_in back.control) ≡ true → UnderWay k limit new.sent who)
@@ -344,7 +365,7 @@ module _ (old new : PairState) (t u : Tales) (c : IsTracked old t) (g : AllGrow 
               let R : End → Type 0 = λ x. IsTold k (heard_of k w.limit) (t.of (peer x)) in
               subst R w.writer (c.heard w.number w.payload w.all p.0 k w.limit w.is w.spelled p.1 (all_accepted p.0 (slice_get-within w.all p.0 (frame_of k w.limit) p.1)))))))
 
-  pub tracked-loses : (reply : Answer) → ((who : End) → EndLeaves (may_of (steps.Lose number)) (the_end old who) (the_end new who)) → SettlesPayload Lost LosesPayloadAt old number reply new → IsTracked new u
+  pub tracked-loses : (reply : Answer) → ((who : End) → EndLeaves (may_of (steps.Lose number)) (the_end old who) (the_end new who)) → SettlesPayload Lost LosesPayloadAt old number reply new → IsTracked some new u
   tracked-loses (Ok Done) l n = tracked_lost (Ok Done) l n
   tracked-loses (Err NoMemory) l n = tracked_lost (Err NoMemory) l n
   tracked-loses (Err NoSuchPayload) l n = tracked-same old new t u c g (may_of (steps.Lose number)) l (ap (λ (v : PairState). v.sent) n.1)
@@ -352,7 +373,7 @@ module _ (old new : PairState) (t u : Tales) (c : IsTracked old t) (g : AllGrow 
   tracked-loses (Err NotAccepted) l n = tracked-same old new t u c g (may_of (steps.Lose number)) l (ap (λ (v : PairState). v.sent) n.is)
   tracked-loses _ l n = absurd n
 
-  pub tracked-acks : (reply : Answer) → ((who : End) → EndLeaves (may_of (steps.Ack number)) (the_end old who) (the_end new who)) → SettlesPayload Acknowledged AcksPayloadAt old number reply new → IsTracked new u
+  pub tracked-acks : (reply : Answer) → ((who : End) → EndLeaves (may_of (steps.Ack number)) (the_end old who) (the_end new who)) → SettlesPayload Acknowledged AcksPayloadAt old number reply new → IsTracked some new u
   tracked-acks (Ok Done) l n = tracked_acked (Ok Done) l n
   tracked-acks (Err NoMemory) l n = tracked_acked (Err NoMemory) l n
   tracked-acks (Err NoSuchPayload) l n = tracked-same old new t u c g (may_of (steps.Ack number)) l (ap (λ (v : PairState). v.sent) n.1)

@@ -37,7 +37,7 @@ use Rattle.quic_progress.proofs.Permissions.{Permission, AllData, DataOn, Stream
 use Rattle.quic_progress.proofs.Grows.{AllGrow, all-grow, told-less, told-grown, heard_of}
 use Rattle.quic_progress.proofs.Emitted.{Emptied, emptied, noted-asked}
 use Rattle.quic_progress.proofs.Ends.{EndLeaves, may_of, WritesNone, ends-same, step-leaves}
-use Rattle.quic_progress.proofs.Tracked.{UnderWay, Tracks, AreHeard, IsTracked, Forth, way-forth, tracked-same, tracked-delivered, tracked-loses, tracked-acks}
+use Rattle.quic_progress.proofs.Tracked.{UnderWay, Tracks, AreHeard, Which, IsTracked, Forth, way-forth, tracked-same, tracked-delivered, tracked-loses, tracked-acks}
 
 -- ---- a payload is written
 
@@ -66,7 +66,7 @@ told_whole (StreamsOf d) w i = omega arith
 no_mark : (s : Sent) (index : ℕ) → s.text.accepted ≡ [] → is_accepted s.text index ≡ true → ⊥
 no_mark s index e h = let k = sym (ap (λ l. slice_index_or l index false) e) ∙ h in cc
 
-module _ (old new : PairState) (t u : Tales) (c : IsTracked old t) (g : AllGrow t u) (who : End) (most : ℕ) (fair : Bool) (answer : Result (Unit {0}) OutOfMemory) (payload : PayloadView) (e : Emits old who most fair answer payload new) (x : Emptied (the_end old who) e.end payload) where
+module _ {some : Which} (old new : PairState) (t u : Tales) (c : IsTracked some old t) (g : AllGrow t u) (who : End) (most : ℕ) (fair : Bool) (answer : Result (Unit {0}) OutOfMemory) (payload : PayloadView) (e : Emits old who most fair answer payload new) (x : Emptied (the_end old who) e.end payload) where
   sent_then : new.sent ≡ old.sent ++ e.sent ∷ []
   sent_then = ap (λ (v : PairState). v.sent) e.is
 
@@ -105,9 +105,9 @@ module _ (old new : PairState) (t u : Tales) (c : IsTracked old t) (g : AllGrow 
   same_first (DataOn id) = x.window
   same_first (StreamsOf d) = refl
 
-  here : (k : Permission) → Tracks k (announced_of k e.end.streams) e.end (u.of (peer who)) new.sent who
-  here k = elim (x.does k) [
-    | inl kept ↦ elim (c.tracks who k) [
+  here : (k : Permission) → some who k ≡ true → Tracks k (announced_of k e.end.streams) e.end (u.of (peer who)) new.sent who
+  here k on = elim (x.does k) [
+    | inl kept ↦ elim (c.tracks who k on) [
       | inl none ↦ inl (let a = kept.0 in let b = same_first k in omega (arith, none, a, b))
       | inr (inl told) ↦ inr (inl (let a = kept.0 in told-grown k _ (t.of (peer who)) (u.of (peer who)) (g (peer who)) (told-less k _ _ (t.of (peer who)) (omega (arith, a)) told)))
       | inr (inr (inl asked)) ↦ inr (inr (inl (kept.1 asked)))
@@ -117,8 +117,8 @@ module _ (old new : PairState) (t u : Tales) (c : IsTracked old t) (g : AllGrow 
     | inr (inr none) ↦ inl (let a = none.0 in omega (arith, a))
   ]
 
-  there : (other : End) → (k : Permission) → Tracks k (announced_of k (the_end old other).streams) (the_end old other) (u.of (peer other)) new.sent other
-  there other k = elim (c.tracks other k) [
+  there : (other : End) → (k : Permission) → some other k ≡ true → Tracks k (announced_of k (the_end old other).streams) (the_end old other) (u.of (peer other)) new.sent other
+  there other k on = elim (c.tracks other k on) [
     | inl none ↦ inl none
     | inr (inl told) ↦ inr (inl (told-grown k _ (t.of (peer other)) (u.of (peer other)) (g (peer other)) told))
     | inr (inr (inl asked)) ↦ inr (inr (inl asked))
@@ -127,13 +127,13 @@ module _ (old new : PairState) (t u : Tales) (c : IsTracked old t) (g : AllGrow 
 
   -- of one end
   abbrev Kept : End → EndState → Type 0
-  Kept other f = IsWithin f.streams × ((id : ℕ) → f.streams.window ≤ ((u.of (peer other)).flow id).limit) × ((k : Permission) → Tracks k (announced_of k f.streams) f (u.of (peer other)) new.sent other)
+  Kept other f = IsWithin f.streams × ((id : ℕ) → some other (DataOn id) ≡ true → f.streams.window ≤ ((u.of (peer other)).flow id).limit) × ((k : Permission) → some other k ≡ true → Tracks k (announced_of k f.streams) f (u.of (peer other)) new.sent other)
 
-  first_grown : (other : End) (window : ℕ) → ((id : ℕ) → window ≤ ((t.of (peer other)).flow id).limit) → (id : ℕ) → window ≤ ((u.of (peer other)).flow id).limit
-  first_grown other window l id = let a = l id in let b = ((g (peer other)).flow id).limit in omega (arith, a, b)
+  first_grown : (other : End) (window : ℕ) → ((id : ℕ) → some other (DataOn id) ≡ true → window ≤ ((t.of (peer other)).flow id).limit) → (id : ℕ) → some other (DataOn id) ≡ true → window ≤ ((u.of (peer other)).flow id).limit
+  first_grown other window l id on = let a = l id on in let b = ((g (peer other)).flow id).limit in omega (arith, a, b)
 
   kept_here : Kept who e.end
-  kept_here = (x.within, (let P : ℕ → Type 0 = λ n. (id : ℕ) → n ≤ ((u.of (peer who)).flow id).limit in subst P (sym x.window) (first_grown who (the_end old who).streams.window (c.firsts who))), here)
+  kept_here = (x.within, (let P : ℕ → Type 0 = λ n. (id : ℕ) → some who (DataOn id) ≡ true → n ≤ ((u.of (peer who)).flow id).limit in subst P (sym x.window) (first_grown who (the_end old who).streams.window (c.firsts who))), here)
 
   kept_there : (other : End) → Kept other (the_end old other)
   kept_there other = (c.within other, first_grown other (the_end old other).streams.window (c.firsts other), there other)
@@ -147,15 +147,15 @@ module _ (old new : PairState) (t u : Tales) (c : IsTracked old t) (g : AllGrow 
   kept : (other : End) → Kept other (the_end new other)
   kept other = let P : PairState → Type 0 = λ v. Kept other (the_end v other) in subst P (sym e.is) (kept_by who other e.end kept_here)
 
-  tracked_emits : IsTracked new u
+  tracked_emits : IsTracked some new u
   tracked_emits = record { within = λ other. (kept other).0; firsts = λ other. (kept other).1; heard = heard; tracks = λ other. (kept other).2 }
 
-module _ (a b : Origin) (p : Past) (old new : PairState) (j : Joined a b p old) (t u : Tales) (c : IsTracked old t) (g : AllGrow t u) (who : End) (most : ℕ) (fair : Bool) where
-  emits_tracked : (answer : Result (Unit {0}) OutOfMemory) (payload : PayloadView) → Emits old who most fair answer payload new → IsTracked new u
+module _ {some : Which} (a b : Origin) (p : Past) (old new : PairState) (j : Joined a b p old) (t u : Tales) (c : IsTracked some old t) (g : AllGrow t u) (who : End) (most : ℕ) (fair : Bool) where
+  emits_tracked : (answer : Result (Unit {0}) OutOfMemory) (payload : PayloadView) → Emits old who most fair answer payload new → IsTracked some new u
   emits_tracked answer payload e = tracked_emits old new t u c g who most fair answer payload e
       (seen-as a b p old who j (Emptied (the_end old who) e.end payload) (λ x y side s. emptied x y s.linked s.here (c.within who) e.emits))
 
-  emitted_tracked : (reply : Answer) → Emitted old who most fair reply new → IsTracked new u
+  emitted_tracked : (reply : Answer) → Emitted old who most fair reply new → IsTracked some new u
   emitted_tracked (Ok (Payload number bytes)) e = emits_tracked (Ok tt) e.payload e.emits
   emitted_tracked (Err NoMemory) e = elim e [
     | inl same ↦ tracked-same old new t u c g (record { reads = λ q. false; credits = false; resizes = false; frees = false }) (λ other. let P : PairState → Type 0 = λ v. EndLeaves (record { reads = λ q. false; credits = false; resizes = false; frees = false }) (the_end old other) (the_end v other) in subst P (sym same) (ends-same _ (the_end old other))) (ap (λ (v : PairState). v.sent) same)
@@ -166,7 +166,7 @@ module _ (a b : Origin) (p : Past) (old new : PairState) (j : Joined a b p old) 
 -- ---- all steps
 
 -- a step beside payloads
-abbrev IsBeside : Step → Type 0
+abbrev pub IsBeside : Step → Type 0
 IsBeside (steps.Emit who most fair) = ⊥
 IsBeside (steps.Deliver number index) = ⊥
 IsBeside (steps.Lose number) = ⊥
@@ -177,32 +177,32 @@ writes_none : (step : Step) → IsBeside step → WritesNone step
 writes_none (steps.Emit who most fair) b = absurd b
 writes_none _ b = tt
 
-sents_beside : (old new : PairState) (step : Step) (reply : Answer) → IsBeside step → NextOrdinary old step reply new → new.sent ≡ old.sent
-sents_beside old new (steps.Open who dir) reply b n = sent_on_end old who new n
-sents_beside old new (steps.Accept who dir) reply b n = sent_on_end old who new n
-sents_beside old new (steps.Write who id bytes) reply b n = sent_on_end old who new n
-sents_beside old new (steps.WriteChunks who id chunks) reply b n = sent_on_end old who new n
-sents_beside old new (steps.Finish who id) reply b n = sent_on_end old who new n
-sents_beside old new (steps.Reset who id code) reply b n = sent_on_end old who new n
-sents_beside old new (steps.Stop who id code) reply b n = sent_on_end old who new n
-sents_beside old new (steps.SetPriority who id priority) reply b n = sent_on_end old who new n
-sents_beside old new (steps.Read who id ordered most times) reply b n = sent_on_end old who new n
-sents_beside old new (steps.ReceivedReset who id) reply b n = sent_on_end old who new n
-sents_beside old new (steps.SetSendWindow who window) reply b n = sent_on_end old who new n
-sents_beside old new (steps.SetReceiveWindow who window) reply b n = sent_on_end old who new n
-sents_beside old new (steps.SetMaxConcurrent who dir count) reply b n = sent_on_end old who new n
-sents_beside old new (steps.Poll who) reply b n = sent_on_end old who new n
-sents_beside old new (steps.Emit who most fair) reply b n = absurd b
-sents_beside old new (steps.Deliver number index) reply b n = absurd b
-sents_beside old new (steps.Lose number) reply b n = absurd b
-sents_beside old new (steps.Ack number) reply b n = absurd b
-sents_beside old new _ reply b n = absurd n
+pub sents-beside : (old new : PairState) (step : Step) (reply : Answer) → IsBeside step → NextOrdinary old step reply new → new.sent ≡ old.sent
+sents-beside old new (steps.Open who dir) reply b n = sent_on_end old who new n
+sents-beside old new (steps.Accept who dir) reply b n = sent_on_end old who new n
+sents-beside old new (steps.Write who id bytes) reply b n = sent_on_end old who new n
+sents-beside old new (steps.WriteChunks who id chunks) reply b n = sent_on_end old who new n
+sents-beside old new (steps.Finish who id) reply b n = sent_on_end old who new n
+sents-beside old new (steps.Reset who id code) reply b n = sent_on_end old who new n
+sents-beside old new (steps.Stop who id code) reply b n = sent_on_end old who new n
+sents-beside old new (steps.SetPriority who id priority) reply b n = sent_on_end old who new n
+sents-beside old new (steps.Read who id ordered most times) reply b n = sent_on_end old who new n
+sents-beside old new (steps.ReceivedReset who id) reply b n = sent_on_end old who new n
+sents-beside old new (steps.SetSendWindow who window) reply b n = sent_on_end old who new n
+sents-beside old new (steps.SetReceiveWindow who window) reply b n = sent_on_end old who new n
+sents-beside old new (steps.SetMaxConcurrent who dir count) reply b n = sent_on_end old who new n
+sents-beside old new (steps.Poll who) reply b n = sent_on_end old who new n
+sents-beside old new (steps.Emit who most fair) reply b n = absurd b
+sents-beside old new (steps.Deliver number index) reply b n = absurd b
+sents-beside old new (steps.Lose number) reply b n = absurd b
+sents-beside old new (steps.Ack number) reply b n = absurd b
+sents-beside old new _ reply b n = absurd n
 
-module _ (a b : Origin) (p : Past) (old new : PairState) (j : Joined a b p old) (t u : Tales) (c : IsTracked old t) where
-  tracked_beside : (step : Step) (reply : Answer) → IsBeside step → NextOrdinary old step reply new → AllGrow t u → IsTracked new u
-  tracked_beside step reply k n g = tracked-same old new t u c g (may_of step) (step-leaves old new step reply (writes_none step k) n) (sents_beside old new step reply k n)
+module _ {some : Which} (a b : Origin) (p : Past) (old new : PairState) (j : Joined a b p old) (t u : Tales) (c : IsTracked some old t) where
+  tracked_beside : (step : Step) (reply : Answer) → IsBeside step → NextOrdinary old step reply new → AllGrow t u → IsTracked some new u
+  tracked_beside step reply k n g = tracked-same old new t u c g (may_of step) (step-leaves old new step reply (writes_none step k) n) (sents-beside old new step reply k n)
 
-  pub tracked-next : (step : Step) (reply : Answer) → NextOrdinary old step reply new → StepTells old.sent new.sent step reply t u → IsTracked new u
+  pub tracked-next : (step : Step) (reply : Answer) → NextOrdinary old step reply new → StepTells old.sent new.sent step reply t u → IsTracked some new u
   tracked-next (steps.Emit who most fair) reply n e = emitted_tracked a b p old new j t u c (all-grow old.sent new.sent (steps.Emit who most fair) reply t u e) who most fair reply n
   tracked-next (steps.Deliver number index) reply n e = tracked-delivered old new t u c (all-grow old.sent new.sent (steps.Deliver number index) reply t u e) number index reply n (step-leaves old new (steps.Deliver number index) reply tt n) e
   tracked-next (steps.Lose number) reply n e = tracked-loses old new t u c (all-grow old.sent new.sent (steps.Lose number) reply t u e) number reply (step-leaves old new (steps.Lose number) reply tt n) n

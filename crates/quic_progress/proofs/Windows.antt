@@ -1,17 +1,16 @@
 -- Where all that was written is acknowledged, nothing is retained.
-use Rattle.std.proofs.Common.{◌≡◌, ℕ, zero, suc, Bool, true, false, List, [], ◌∷◌, length, Option, Some, None, refl, sym, ap, ◌∙◌, subst, arith, ◌≤◌, ◌<◌, ◌+◌, ◌-◌}
+use Rattle.std.proofs.Common.{◌≡◌, ℕ, zero, suc, Bool, true, false, List, [], ◌∷◌, length, Option, Some, None, refl, sym, ap, ◌∙◌, subst, arith, ◌≤◌, ◌<◌, ◌-◌}
 use Rattle.std.specs.Prelude.{◌==◌}
 use Rattle.quic_sending.specs.Buffer.{total_length, uncovered}
 use Rattle.quic_sending.proofs.Pieces.{uncovered-skip}
 use Rattle.quic_flows.specs.Flow.{SendFlow, passing, retained}
 use Rattle.quic_history.specs.History.{total_over}
 use Rattle.quic_history.proofs.Traces.{itself}
-use Rattle.quic_steps.specs.declared.steps.End.{End}
 use Rattle.quic_pair.specs.History.{History}
 use Rattle.quic_pair.specs.State.{PairState}
 use Rattle.quic_pair.specs.From.{Beginning, PairFrom}
 use Rattle.quic_pair.specs.Runs.{sendings_of}
-use Rattle.quic_pair.specs.Tale.{Tale, Tales, Told}
+use Rattle.quic_pair.specs.Tale.{Tales, Told}
 use Rattle.quic_pair.specs.Completed.{IsAllAcked, AreAllAcked}
 use Rattle.quic_progress.specs.Progress.{AreFree}
 

@@ -1,5 +1,5 @@
 -- What two ends know of each other's limits once a settling ended, and what may be written and opened then.
-use Rattle.std.specs.Prelude.{ℕ, true, ◌≡◌, ◌+◌, ◌-◌, ◌/◌, ◌^◌, ◌≤◌, ◌<◌, Some, None}
+use Rattle.std.specs.Prelude.{ℕ, Bool, true, false, ◌≡◌, ◌⊎◌, [], ◌∷◌, ◌++◌, Ok, ◌+◌, ◌-◌, ◌/◌, ◌^◌, ◌≤◌, ◌<◌, Some, None}
 use Rattle.quic_values.specs.declared.ids.Dir.{Dir}
 use Rattle.quic_sending.specs.declared.send.Send.{Send}
 use Rattle.quic_sending.specs.Buffer.{total_length}
@@ -10,18 +10,47 @@ use Rattle.quic_flows.specs.Flow.{SendFlow, takes_data}
 use Rattle.quic_history.specs.Flows.{room_on}
 use Rattle.quic_history.specs.World.{World, remote_of}
 use Rattle.quic_steps.specs.declared.steps.End.{End}
+use Rattle.quic_steps.specs.declared.steps.End.TheVariants.{A, B}
+use Rattle.quic_steps.specs.declared.steps.Step.{Step}
+use Rattle.quic_steps.specs.declared.steps.Step.TheVariants as steps
+use Rattle.quic_steps.specs.declared.steps.Reply.TheVariants.{Done}
 use Rattle.quic_pair.specs.From.{Beginning}
 use Rattle.quic_pair.specs.State.{PairState, peer, the_end}
-use Rattle.quic_pair.specs.History.{Past}
+use Rattle.quic_pair.specs.History.{History, Past}
 use Rattle.quic_pair.specs.Completed.{IsUnreset, IsUnstopped}
 use Rattle.quic_pair.specs.Tale.{Tale, Tales, retained_by}
 
 -- ---- where it holds
 
--- the client sent nothing before the handshake was done, so no early start was rejected: an end that announced a limit early need not
--- announce it again after a rejection
+-- the client sent nothing before the handshake was done
 abbrev pub StartsAtOnce : Beginning → Type 0
 StartsAtOnce s = s.early ≡ None
+
+-- it is decided whether the server takes what the client sends early, where it sends any
+abbrev pub IsAgreed : Beginning → PairState → Type 0
+IsAgreed s v = StartsAtOnce s ⊎ (v.waits ≡ None)
+
+-- the client sets what it permits: its receive window, or how many streams at a time
+abbrev pub sets_permits : Step → Bool
+sets_permits (steps.SetReceiveWindow A window) = true
+sets_permits (steps.SetMaxConcurrent A dir count) = true
+sets_permits step = false
+
+-- none of these steps does
+abbrev pub SetsNone : History → Type 0
+SetsNone [] = Unit {0}
+SetsNone (e ∷ h) = (sets_permits e.0 ≡ false) × SetsNone h
+
+-- before a rejection of what it sends early the client set nothing that it permits. A limit that it set may have left in a frame that leaves
+-- with the rejection; what was announced so need not be announced again: MAX_DATA not before the limit rises by an eighth of the window,
+-- MAX_STREAMS not before the next read, frame or acknowledgement
+abbrev pub RejectsUnset : History → Type 0
+RejectsUnset h = (before behind : History) → h ≡ before ++ (steps.EarlyReject, Ok Done) ∷ behind → SetsNone before
+
+-- nothing that was announced is forgotten: so it is where the client starts at once, where the server accepts what it sends early, and
+-- where the server rejects it and the client set nothing before
+abbrev pub ForgetsNone : Beginning → History → PairState → Type 0
+ForgetsNone s h v = StartsAtOnce s ⊎ ((v.waits ≡ None) × RejectsUnset h)
 
 -- the receive window was not made smaller, or what was consumed since made up for it: until then consumed bytes give no credit
 abbrev pub OwesNoDebt : Credit → Type 0
@@ -85,6 +114,17 @@ pub record KnowsLimits (v : PairState) (t : Tales) (who : End) : Type 0 where
 
 abbrev pub KnowLimits : PairState → Tales → Type 0
 KnowLimits v t = (who : End) → KnowsLimits v t who
+
+-- what of it is said of each stream
+pub record KnowsStreams (t : Tale) (w : World) : Type 0 where
+  pub announced : (id : ℕ) (h : Half) → IsReadOn w id h → TakesMore (t.flow id) → h.sent_max ≤ (t.flow id).limit
+  pub permitted : (id : ℕ) (h : Half) → IsReadOn w id h → TakesMore (t.flow id) → window_end h w.window ≤ (t.flow id).limit + w.window / 8
+  pub goes_on : (id : ℕ) (h : Half) → IsReadOn w id h → TakesMore (t.flow id) → IsAllRead (t.flow id) h → CanBeTold (h.buffer.bytes_read + w.window) → w.window - w.window / 8 ≤ room_on (t.flow id)
+
+-- the client knows all, and the server what is said of streams: so it is whatever came of what the client sent early
+pub record KnowMost (v : PairState) (t : Tales) : Type 0 where
+  pub client : KnowsLimits v t A
+  pub server : KnowsStreams (t.of B) v.a.streams
 
 -- where all that was written on a stream was read, as a settling leaves what was neither given up nor stopped, the limit of the stream
 -- leaves its window but for an eighth. So where the window is above 0, at least one byte

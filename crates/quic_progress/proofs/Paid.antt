@@ -1,0 +1,238 @@
+-- Whatever steps led to a pair whose client sent nothing early, each end came from calls of which every reader was ended, and that stopped
+-- each stream that was stopped.
+use Rattle.std.proofs.Common.{◌≡◌, ◌⊎◌, ℕ, Bool, true, false, List, [], ◌∷◌, Option, None, Ok, Err, refl, sym, ap, ◌∙◌, subst, inl, inr, arith}
+use Rattle.std.specs.Prelude.{◌&&◌, ◌==◌, MatchBool, is_some, take, if◌then◌else◌}
+use Rattle.std.specs.List.{concat}
+use Rattle.std.proofs.lemmas.Option.{none-some}
+use Rattle.std.proofs.lemmas.Bool.Decides.{nat_tests}
+use Rattle.quic_wire.specs.declared.event.StreamEvent.{StreamEvent}
+use Rattle.quic_wire.specs.declared.event.StreamEvent.TheVariants as stream_event
+use Rattle.quic_outgoing.specs.declared.limits.PeerLimits.{PeerLimits}
+use Rattle.quic_outgoing.specs.Outgoing.{with_params}
+use Rattle.quic_history.specs.World.{World, Made, start}
+use Rattle.quic_history.specs.Sends.{with_out}
+use Rattle.quic_history.specs.SendEvents.{GaveLimits}
+use Rattle.quic_history.specs.History.{Event, Stopped as StoppedEvent, Sending, From, IsStart}
+use Rattle.quic_history.proofs.Beginnings.{begins}
+use Rattle.quic_history.proofs.Histories.{next as next-call}
+use Rattle.quic_history.proofs.Unopened.{given-unopened}
+use Rattle.quic_link.specs.Endpoints.{IsOneOf, WasStoppedWith}
+use Rattle.quic_link.proofs.Ends.{ArePlain}
+use Rattle.quic_endpoint.specs.Ends.{EndState}
+use Rattle.quic_steps.specs.declared.steps.End.{End}
+use Rattle.quic_steps.specs.declared.steps.End.TheVariants.{A, B}
+use Rattle.quic_steps.specs.declared.steps.Step.{Step}
+use Rattle.quic_steps.specs.declared.steps.Step.TheVariants as steps
+use Rattle.quic_steps.specs.declared.steps.Last.{Last}
+use Rattle.quic_steps.specs.declared.steps.Last.TheVariants as last
+use Rattle.quic_steps.specs.declared.steps.Reply.TheVariants.{Done, DoneTransmit, Fault, Id, Wrote, WroteChunks, Stopped, Read, Code, Event as EventReply}
+use Rattle.quic_steps.specs.declared.steps.PairError.TheVariants.{LimitsBelow, Undecided, Decided, OutOfMemory as NoMemory}
+use Rattle.quic_pair.specs.declared.early.EarlyLimits.{EarlyLimits}
+use Rattle.quic_pair.specs.Replies.{Answer}
+use Rattle.quic_pair.specs.State.{PairState, peer, the_end}
+use Rattle.quic_pair.specs.Steps.{NextOrdinary, NextTaken, needs_decision}
+use Rattle.quic_pair.specs.History.{History, Past, Flow, after, past_of, with_flow, ends_flow, resets_with, stops_with, tells_reset, tells_stop, completes, writes_more, reads_chunks, reads_last, after_event, is_same_end}
+use Rattle.quic_pair.specs.From.{Beginning, PairFrom, begun, next, IsNew, end_begun, limits_of_b}
+use Rattle.quic_pair.proofs.Flips.{peer-peer}
+use Rattle.quic_pair.proofs.Led.{origin_a, origin_b}
+use Rattle.quic_pair.proofs.Grown.{past-after}
+use Rattle.quic_pair.proofs.Recounted.{made_at}
+use Rattle.quic_progress.proofs.Spent.{outstanding}
+use Rattle.quic_progress.proofs.Whole.{Runs}
+use Rattle.quic_progress.proofs.WholeSteps.{step-runs, stop-runs}
+use Rattle.quic_progress.proofs.AtOnce.{course-from, is_begun}
+
+-- ---- the stops of a flow
+
+same_if : (b : Bool) (f g : Flow) → g.stops ≡ f.stops → (if b then g else f).stops ≡ f.stops
+same_if true f g e = e
+same_if false f g e = refl
+
+with_same : (who id : _) (change : Flow → Flow) (p : Past) (end : End) (q : ℕ) → ((f : Flow) → (change f).stops ≡ f.stops) → ((with_flow who id change p).flow end q).stops ≡ (p.flow end q).stops
+with_same who id change p end q c = same_if (is_same_end end who && (q == id)) (p.flow end q) (change (p.flow end q)) (c (p.flow end q))
+
+last_same : (l : Last) (f : Flow) → (reads_last l f).stops ≡ f.stops
+last_same last.Ended f = refl
+last_same (last.Reset code) f = refl
+last_same _ f = refl
+
+event_same : (p : Past) (who end : End) (q : ℕ) (event : StreamEvent) → ((after_event p who event).flow end q).stops ≡ (p.flow end q).stops
+event_same p who end q (stream_event.Finished id) = with_same who id completes p end q (λ f. refl)
+event_same p who end q (stream_event.Stopped id code) = with_same who id (tells_stop code) p end q (λ f. refl)
+event_same p who end q _ = refl
+
+-- a step other than one that stops a stream, and begins nothing anew
+abbrev pub KeepsStops : Step → Answer → Type 0
+KeepsStops (steps.Stop who id code) (Ok Done) = ⊥
+KeepsStops steps.EarlyReject (Ok Done) = ⊥
+KeepsStops step reply = Unit {0}
+
+stops_kept : (p : Past) (step : Step) (reply : Answer) → KeepsStops step reply → (end : End) (q : ℕ) → ((after p step reply).flow end q).stops ≡ (p.flow end q).stops
+stops_kept p (steps.Open who dir) (Ok (Id id)) k end q = refl
+stops_kept p (steps.Accept who dir) (Ok (Id id)) k end q = refl
+stops_kept p (steps.Write who id bytes) (Ok (Wrote count)) k end q = with_same who id (writes_more (take count bytes)) p end q (λ f. refl)
+stops_kept p (steps.Write who id bytes) (Ok (Stopped code)) k end q = with_same who id (tells_stop code) p end q (λ f. refl)
+stops_kept p (steps.WriteChunks who id chunks) (Ok (WroteChunks written)) k end q = with_same who id (writes_more (take written.bytes (concat chunks))) p end q (λ f. refl)
+stops_kept p (steps.WriteChunks who id chunks) (Ok (Stopped code)) k end q = with_same who id (tells_stop code) p end q (λ f. refl)
+stops_kept p (steps.Finish who id) (Ok Done) k end q = with_same who id ends_flow p end q (λ f. refl)
+stops_kept p (steps.Finish who id) (Ok (Stopped code)) k end q = with_same who id (tells_stop code) p end q (λ f. refl)
+stops_kept p (steps.Reset who id code) (Ok Done) k end q = with_same who id (resets_with code) p end q (λ f. refl)
+stops_kept p (steps.Stop who id code) (Ok Done) k end q = absurd k
+stops_kept p (steps.Read who id ordered most times) (Ok (Read chunks l transmit)) k end q = with_same (peer who) id (λ f. reads_last l (reads_chunks ordered chunks.items f)) p end q (λ f. last_same l (reads_chunks ordered chunks.items f))
+stops_kept p (steps.ReceivedReset who id) (Ok (Code code)) k end q = with_same (peer who) id (tells_reset code) p end q (λ f. refl)
+stops_kept p (steps.Poll who) (Ok (EventReply event)) k end q = event_same p who end q event
+stops_kept p (steps.Deliver number index) (Ok Done) k end q = refl
+stops_kept p (steps.Deliver number index) (Ok DoneTransmit) k end q = refl
+stops_kept p (steps.Deliver number index) (Ok (Fault fault)) k end q = refl
+stops_kept p (steps.Lose number) (Ok Done) k end q = refl
+stops_kept p (steps.Lose number) (Err NoMemory) k end q = refl
+stops_kept p (steps.Ack number) (Ok Done) k end q = refl
+stops_kept p (steps.Ack number) (Err NoMemory) k end q = refl
+stops_kept p steps.EarlyReject (Ok Done) k end q = absurd k
+stops_kept p steps.Retry (Ok Done) k end q = refl
+stops_kept p _ _ k end q = refl
+
+one_more : (b : Bool) (f : Flow) (code given : ℕ) → IsOneOf given (if b then stops_with code f else f).stops → (IsOneOf given f.stops) ⊎ ((b ≡ true) × (given ≡ code))
+one_more true f code given (inl e) = inr (refl, e)
+one_more true f code given (inr i) = inl i
+one_more false f code given i = inl i
+
+-- ---- an end
+
+pub record PaidAt (m : Made) (p : Past) (who : End) (w : World) : Type 0 where
+  pub calls : List Event
+  pub from : From m calls w
+  pub plain : ArePlain calls
+  pub none : outstanding calls ≡ 0
+  pub stops : (id code : ℕ) → IsOneOf code (p.flow (peer who) id).stops → WasStoppedWith calls id code
+
+paid_on : (m : Made) (p q : Past) (who : End) (u v : World) → ((id : ℕ) → (q.flow (peer who) id).stops ≡ (p.flow (peer who) id).stops) → Runs m u v → PaidAt m p who u → PaidAt m q who v
+paid_on m p q who u v same r x =
+    let k = r x.calls x.from x.plain in
+    record {
+      calls = k.calls;
+      from = k.from;
+      plain = k.plain;
+      none = k.same ∙ x.none;
+      stops = λ id code i. let P : List ℕ → Type 0 = λ l. IsOneOf code l in k.stays _ (x.stops id code (subst P (same id) i));
+    }
+
+both_true : (a b : Bool) → (a && b) ≡ true → (a ≡ true) × (b ≡ true)
+both_true true b e = (refl, e)
+both_true false b e = cc
+
+same_end : (a b : End) → is_same_end a b ≡ true → a ≡ b
+same_end A A e = refl
+same_end B B e = refl
+same_end A B e = cc
+same_end B A e = cc
+
+same_number : (a b : ℕ) → (a == b) ≡ true → a ≡ b
+same_number a b e = grind (arith, nat_tests)
+
+other_peer : (a b : End) → is_same_end (peer a) (peer b) ≡ false → (a ≡ b → ⊥)
+other_peer A A e k = cc
+other_peer B B e k = cc
+other_peer A B e k = cc
+other_peer B A e k = cc
+
+module _ (m : End → Made) (p : Past) (old new : PairState) (paid : (who : End) → PaidAt (m who) p who (the_end old who).streams) where
+  -- the end that stopped it has the call
+  paid_stopped : (who : End) (id code : ℕ) → NextOrdinary old (steps.Stop who id code) (Ok Done) new → PaidAt (m who) (after p (steps.Stop who id code) (Ok Done)) who (the_end new who).streams
+  paid_stopped who id code n =
+      let x = paid who in
+      let k = stop-runs old new (m who) who id code n x.calls x.from x.plain in
+      record {
+        calls = k.0.calls;
+        from = k.0.from;
+        plain = k.0.plain;
+        none = k.0.same ∙ x.none;
+        stops = λ q given i. elim (one_more (is_same_end (peer who) (peer who) && (q == id)) (p.flow (peer who) q) code given i) [
+          | inl before ↦ k.0.stays _ (x.stops q given before)
+          | inr now ↦ (let P : ℕ → Type 0 = λ c. IsOneOf (StoppedEvent q c (Ok tt)) k.0.calls in
+              let Q : ℕ → Type 0 = λ j. IsOneOf (StoppedEvent j code (Ok tt)) k.0.calls in
+              subst P (sym now.1) (subst Q (sym (same_number q id (both_true _ (q == id) now.0).1)) k.1))
+        ];
+      }
+
+  paid_beside : (who other : End) (id code : ℕ) → (other ≡ who → ⊥) → NextOrdinary old (steps.Stop who id code) (Ok Done) new → PaidAt (m other) (after p (steps.Stop who id code) (Ok Done)) other (the_end new other).streams
+  paid_beside who other id code differ n =
+      let x = paid other in
+      let k = step-runs old new m (steps.Stop who id code) (Ok Done) n other x.calls x.from x.plain in
+      record {
+        calls = k.calls;
+        from = k.from;
+        plain = k.plain;
+        none = k.same ∙ x.none;
+        stops = λ q given i. elim (one_more (is_same_end (peer other) (peer who) && (q == id)) (p.flow (peer other) q) code given i) [
+          | inl before ↦ k.stays _ (x.stops q given before)
+          | inr now ↦ absurd (differ (sym (peer-peer other) ∙ ap peer (same_end (peer other) (peer who) (both_true (is_same_end (peer other) (peer who)) (q == id) now.0).0) ∙ peer-peer who))
+        ];
+      }
+
+  paid_stop : (who : End) (id code : ℕ) → NextOrdinary old (steps.Stop who id code) (Ok Done) new → (other : End) → PaidAt (m other) (after p (steps.Stop who id code) (Ok Done)) other (the_end new other).streams
+  paid_stop A id code n A = paid_stopped A id code n
+  paid_stop B id code n B = paid_stopped B id code n
+  paid_stop A id code n B = paid_beside A B id code (λ e. cc) n
+  paid_stop B id code n A = paid_beside B A id code (λ e. cc) n
+
+  paid_kept : (step : Step) (reply : Answer) → KeepsStops step reply → NextOrdinary old step reply new → (who : End) → PaidAt (m who) (after p step reply) who (the_end new who).streams
+  paid_kept step reply k n who = paid_on (m who) p (after p step reply) who _ _ (λ id. stops_kept p step reply k (peer who) id) (step-runs old new m step reply n who) (paid who)
+
+  pub paid-next : (step : Step) (reply : Answer) → NextOrdinary old step reply new → (who : End) → PaidAt (m who) (after p step reply) who (the_end new who).streams
+  paid-next (steps.Stop who id code) (Ok Done) n = paid_stop who id code n
+  paid-next steps.EarlyReject (Ok Done) n = absurd n
+  paid-next step reply n = paid_kept step reply tt n
+
+  -- one that changes nothing
+  pub paid-same : (step : Step) (reply : Answer) → ((q : Past) → after q step reply ≡ q) → new ≡ old → (who : End) → PaidAt (m who) (after p step reply) who (the_end new who).streams
+  paid-same step reply same is who =
+      let P : Past → Type 0 = λ q. PaidAt (m who) q who (the_end new who).streams in
+      let Q : PairState → Type 0 = λ v. PaidAt (m who) p who (the_end v who).streams in
+      subst P (sym (same p)) (subst Q (sym is) (paid who))
+
+-- ---- from the beginning
+
+module _ (s : Beginning) (early : s.early ≡ None) where
+  abbrev made : End → Made
+  made = made_at (origin_a s (limits_of_b s)) (origin_b s)
+
+  paid_first : (m : Made) (limits : PeerLimits) (who : End) (p : Past) (e : EndState) → ((id : ℕ) → (p.flow (peer who) id).stops ≡ []) → e ≡ end_begun m limits → IsStart m (start m) → PaidAt m p who e.streams
+  paid_first m limits who p e none is starts =
+      let c = Sending (GaveLimits limits (Ok tt)) in
+      let w = with_out (start m) (with_params (start m).out limits) in
+      let P : EndState → Type 0 = λ x. PaidAt m p who x.streams in
+      subst P (sym is) (record {
+        calls = c ∷ [];
+        from = next-call m [] (start m) c w tt (begins m (start m) starts) (sym (given-unopened (start m) limits refl refl));
+        plain = (refl, tt);
+        none = refl;
+        stops = λ id code i. absurd (let Q : List ℕ → Type 0 = λ l. IsOneOf code l in subst Q (none id) i);
+      })
+
+  paid_begun : (v : PairState) (n : IsNew s v) (who : End) → PaidAt (made who) (past_of []) who (the_end v who).streams
+  paid_begun v n A = let b = is_begun s early v n in paid_first (made A) _ A (past_of []) v.a (λ id. refl) b.of_a b.ends.first
+  paid_begun v n B = let b = is_begun s early v n in paid_first (made B) _ B (past_of []) v.b (λ id. refl) b.of_b b.ends.second
+
+  paid_taken : (p : Past) (old new : PairState) → old.waits ≡ None → ((who : End) → PaidAt (made who) p who (the_end old who).streams) → (step : Step) (reply : Answer) → NextTaken old step reply new → (who : End) → PaidAt (made who) (after p step reply) who (the_end new who).streams
+  paid_taken p old new w x steps.EarlyAccept (Ok Done) n = absurd (none-some n.limits (sym w ∙ n.waiting))
+  paid_taken p old new w x steps.EarlyAccept (Err NoMemory) n = paid-same made p old new x steps.EarlyAccept (Err NoMemory) (λ q. refl) n.is
+  paid_taken p old new w x steps.EarlyAccept (Err LimitsBelow) n = paid-same made p old new x steps.EarlyAccept (Err LimitsBelow) (λ q. refl) n.is
+  paid_taken p old new w x steps.EarlyAccept (Err Decided) n = paid-same made p old new x steps.EarlyAccept (Err Decided) (λ q. refl) n.1
+  paid_taken p old new w x steps.EarlyAccept _ n = absurd n
+  paid_taken p old new w x steps.EarlyReject (Ok Done) n = absurd (none-some n.limits (sym w ∙ n.waiting))
+  paid_taken p old new w x steps.EarlyReject (Err Decided) n = paid-same made p old new x steps.EarlyReject (Err Decided) (λ q. refl) n.1
+  paid_taken p old new w x steps.EarlyReject _ n = absurd n
+  paid_taken p old new w x steps.Retry (Ok Done) n = absurd (none-some n.limits (sym w ∙ n.waiting))
+  paid_taken p old new w x steps.Retry (Err NoMemory) n = paid-same made p old new x steps.Retry (Err NoMemory) (λ q. refl) n.1
+  paid_taken p old new w x steps.Retry (Err Decided) n = paid-same made p old new x steps.Retry (Err Decided) (λ q. refl) n.1
+  paid_taken p old new w x steps.Retry _ n = absurd n
+  paid_taken p old new w x step reply n = paid-next made p old new x step reply n
+
+  pub paid-from : {h : History} {v : PairState} (f : PairFrom s h v) (who : End) → PaidAt (made who) (past_of h) who (the_end v who).streams
+  paid-from {h} {v} (begun n) who = paid_begun v n who
+  paid-from (next {h} {old} {new} step reply f n) who =
+      let c = course-from s early f in
+      let P : Option EarlyLimits → Type 0 = λ w. MatchBool (is_some w && needs_decision step) ((reply ≡ Err Undecided) × (new ≡ old)) (NextTaken old step reply new) in
+      let Q : Past → Type 0 = λ p. PaidAt (made who) p who (the_end new who).streams in
+      subst Q (sym (past-after h step reply)) (paid_taken (past_of h) old new c.waits (λ k. paid-from f k) step reply (subst P c.waits n) who)
