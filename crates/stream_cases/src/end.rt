@@ -7,6 +7,7 @@ use crate::refused::Refused;
 use quic_assembler::Chunk;
 use quic_receiving::ReadableError;
 use quic_sending::WriteError;
+use quic_streams::batches::ReadSome;
 use quic_streams::progress::LastAnswer;
 use quic_streams::recv_stream::RecvStream;
 use quic_streams::send_stream::SendStream;
@@ -14,8 +15,9 @@ use quic_streams::state::StreamsState;
 use quic_streams::stats::FrameStats;
 use quic_streams::streams::{ConnState, Streams};
 use quic_streams::{PeerLimits, Retransmits, SentPayload, StreamMetaVec, ThinRetransmits};
-use quic_values::{Dir, Side, StreamId, VarInt};
-use quic_wire::{Frame, StreamEvent, decode_owned_into};
+use quic_values::{Dir, OutOfMemory, Side, StreamId, VarInt};
+use quic_wire::frame::Stream;
+use quic_wire::{DecodeError, Frame, StreamEvent, decode_owned_into};
 use std::alloc::Global;
 use std::mem;
 
@@ -46,28 +48,42 @@ pub(crate) struct Read {
     pub ended: bool,
 }
 
+// The state of an end that permits so many unidirectional streams at a time and no others.
+#[inline(always)]
+fn new_state(alloc: Global, side: Side, count: u32) -> Result<StreamsState, OutOfMemory> {
+    let (streams, none) = (VarInt::from(count), VarInt::from(0u32));
+    let limit = VarInt::from(LIMIT);
+    StreamsState::new(alloc, side, streams, none, u64::from(LIMIT), limit, limit)
+}
+
+// The peer permits so many unidirectional streams at a time and no others.
+#[inline(always)]
+fn permit(state: &mut StreamsState, count: u32) -> Result<(), OutOfMemory> {
+    let (streams, none) = (VarInt::from(count), VarInt::from(0u32));
+    let limit = VarInt::from(LIMIT);
+    state.set_params(&PeerLimits {
+        initial_max_data: limit,
+        initial_max_streams_bidi: none,
+        initial_max_streams_uni: streams,
+        initial_max_stream_data_uni: limit,
+        initial_max_stream_data_bidi_local: limit,
+        initial_max_stream_data_bidi_remote: limit,
+    })
+}
+
+// Sees the chunks of a read. The first byte of the stream counts as that at an offset.
+#[inline(always)]
+fn see_chunks(seen: &mut Seen, first: u64, chunks: &[Chunk]) {
+    for chunk in chunks {
+        seen.see(first.wrapping_add(chunk.offset), chunk.bytes.as_slice());
+    }
+}
+
 impl End {
     /// An end that permits so many unidirectional streams at a time and no others, and is permitted as many.
     pub(crate) fn new(alloc: Global, side: Side, count: u32) -> Result<Self, Refused> {
-        let (streams, none) = (VarInt::from(count), VarInt::from(0u32));
-        let limit = VarInt::from(LIMIT);
-        let mut state = StreamsState::new(
-            alloc,
-            side,
-            streams,
-            none,
-            u64::from(LIMIT),
-            limit,
-            limit,
-        )?;
-        state.set_params(&PeerLimits {
-            initial_max_data: limit,
-            initial_max_streams_bidi: none,
-            initial_max_streams_uni: streams,
-            initial_max_stream_data_uni: limit,
-            initial_max_stream_data_bidi_local: limit,
-            initial_max_stream_data_bidi_remote: limit,
-        })?;
+        let mut state = new_state(alloc, side, count)?;
+        permit(&mut state, count)?;
         Ok(End {
             streams: state,
             pending: Retransmits::new(alloc),
@@ -121,20 +137,10 @@ impl End {
     ) -> Result<Option<Read>, Refused> {
         let mut read = Read { seen, ended: false };
         'batches: for _ in 0..u64::MAX {
-            let list = mem::replace(&mut self.chunks, Vec::new(self.alloc));
-            let mut stream = RecvStream::new(id, &mut self.streams, &mut self.pending);
-            let batch = match stream.read_some_into(true, usize::MAX, BATCH, list) {
-                Ok(batch) => batch,
-                Err(ReadableError::ClosedStream) => return Ok(None),
-                Err(_) => return Err(Refused),
+            let Some(last) = self.read_batch(id, first, &mut read.seen)? else {
+                return Ok(None);
             };
-            for chunk in &batch.chunks {
-                read.seen
-                    .see(first.wrapping_add(chunk.offset), chunk.bytes.as_slice());
-            }
-            self.chunks = batch.chunks;
-            self.chunks.clear();
-            match batch.last {
+            match last {
                 LastAnswer::More => {}
                 LastAnswer::Blocked => break 'batches,
                 LastAnswer::Ended => {
@@ -147,63 +153,139 @@ impl End {
         Ok(Some(read))
     }
 
+    // Reads some chunks. Answers why they are no more. `None`: the stream is closed.
+    #[inline(always)]
+    fn read_batch(
+        &mut self,
+        id: StreamId,
+        first: u64,
+        seen: &mut Seen,
+    ) -> Result<Option<LastAnswer>, Refused> {
+        let list = mem::replace(&mut self.chunks, Vec::new(self.alloc));
+        let batch = match self.read_into(id, list) {
+            Ok(batch) => batch,
+            Err(ReadableError::ClosedStream) => return Ok(None),
+            Err(_) => return Err(Refused),
+        };
+        see_chunks(seen, first, &batch.chunks);
+        self.chunks = batch.chunks;
+        self.chunks.clear();
+        Ok(Some(batch.last))
+    }
+
+    // The read itself.
+    #[inline(always)]
+    fn read_into(&mut self, id: StreamId, list: Vec<Chunk>) -> Result<ReadSome, ReadableError> {
+        let mut stream = RecvStream::new(id, &mut self.streams, &mut self.pending);
+        stream.read_some_into(true, usize::MAX, BATCH, list)
+    }
+
     /// Writes a payload: control frames, then STREAM frames. It has no bytes where nothing is to be sent.
     pub(crate) fn emit(&mut self) -> Result<(Vec<u8>, SentPayload), Refused> {
         let mut bytes = Vec::with_capacity(self.alloc, PIECE)?;
         let mut control = ThinRetransmits::new(self.alloc);
         let mut streams = StreamMetaVec::new(self.alloc);
-        self.streams.write_control_frames(
-            &mut bytes,
-            &mut self.pending,
-            &mut control,
-            &mut self.counters,
-            PIECE,
-        )?;
-        self.streams
-            .write_stream_frames(&mut bytes, &mut streams, PIECE, true)?;
+        self.write_control(&mut bytes, &mut control)?;
+        self.write_data(&mut bytes, &mut streams)?;
         Ok((bytes, SentPayload { streams, control }))
+    }
+
+    #[inline(always)]
+    fn write_control(
+        &mut self,
+        bytes: &mut Vec<u8>,
+        sent: &mut ThinRetransmits,
+    ) -> Result<(), OutOfMemory> {
+        self.streams
+            .write_control_frames(bytes, &mut self.pending, sent, &mut self.counters, PIECE)
+    }
+
+    #[inline(always)]
+    fn write_data(
+        &mut self,
+        bytes: &mut Vec<u8>,
+        sent: &mut StreamMetaVec,
+    ) -> Result<(), OutOfMemory> {
+        self.streams.write_stream_frames(bytes, sent, PIECE, true)
     }
 
     /// Takes a payload of the peer.
     pub(crate) fn deliver(&mut self, payload: Vec<u8>) -> Result<(), Refused> {
         let payload_len = payload.len();
+        let mut frames = self.decode(payload)?;
+        self.take_all(&mut frames, payload_len)?;
+        self.frames = frames;
+        self.queue_permits();
+        Ok(())
+    }
+
+    // The frames of a payload, in the list of the last one's.
+    #[inline(always)]
+    fn decode(&mut self, payload: Vec<u8>) -> Result<Vec<Frame>, DecodeError> {
         let list = mem::replace(&mut self.frames, Vec::new(self.alloc));
-        let mut frames = decode_owned_into(self.alloc, payload, list)?;
+        decode_owned_into(self.alloc, payload, list)
+    }
+
+    // Takes the frames of a payload of so many bytes.
+    #[inline(always)]
+    fn take_all(&mut self, frames: &mut Vec<Frame>, payload_len: usize) -> Result<(), Refused> {
         for frame in frames.drain(..) {
             self.take(frame, payload_len)?;
         }
-        self.frames = frames;
-        let _ = self.streams.queue_max_stream_id(&mut self.pending);
         Ok(())
+    }
+
+    // Queues MAX_STREAMS where it is due.
+    #[inline(always)]
+    fn queue_permits(&mut self) {
+        let _ = self.streams.queue_max_stream_id(&mut self.pending);
     }
 
     // Takes a frame of a payload of so many bytes.
     fn take(&mut self, frame: Frame, payload_len: usize) -> Result<(), Refused> {
         match frame {
-            Frame::Stream(stream) => {
-                if stream.bytes.len() > payload_len {
-                    return Err(Refused);
-                }
-                let answer = self.streams.received(stream, payload_len)?;
-                self.pending.max_data |= answer.should_transmit();
-                Ok(())
-            }
+            Frame::Stream(stream) => self.take_data(stream, payload_len),
             Frame::MaxData(limit) => {
-                self.streams.received_max_data(limit);
+                self.raise(limit);
                 Ok(())
             }
-            Frame::MaxStreamData { id, offset } => {
-                self.streams.received_max_stream_data(id, offset)?;
-                Ok(())
-            }
-            Frame::MaxStreams { dir, count } => {
-                self.streams.received_max_streams(dir, count)?;
-                Ok(())
-            }
+            Frame::MaxStreamData { id, offset } => self.raise_stream(id, offset),
+            Frame::MaxStreams { dir, count } => self.permit_streams(dir, count),
             Frame::DataBlocked { .. } => Ok(()),
             Frame::StreamDataBlocked { .. } => Ok(()),
             _ => Err(Refused),
         }
+    }
+
+    // Takes data of a payload of so many bytes.
+    #[inline(always)]
+    fn take_data(&mut self, stream: Stream, payload_len: usize) -> Result<(), Refused> {
+        if stream.bytes.len() > payload_len {
+            return Err(Refused);
+        }
+        let answer = self.streams.received(stream, payload_len)?;
+        self.pending.max_data |= answer.should_transmit();
+        Ok(())
+    }
+
+    // Takes the limit of all streams.
+    #[inline(always)]
+    fn raise(&mut self, limit: VarInt) {
+        self.streams.received_max_data(limit);
+    }
+
+    // Takes the limit of a stream.
+    #[inline(always)]
+    fn raise_stream(&mut self, id: StreamId, limit: u64) -> Result<(), Refused> {
+        self.streams.received_max_stream_data(id, limit)?;
+        Ok(())
+    }
+
+    // Takes the number of streams of a direction.
+    #[inline(always)]
+    fn permit_streams(&mut self, dir: Dir, count: u64) -> Result<(), Refused> {
+        self.streams.received_max_streams(dir, count)?;
+        Ok(())
     }
 
     /// A payload was acknowledged.

@@ -4,7 +4,7 @@ use crate::content::Seen;
 use crate::end::End;
 use crate::refused::Refused;
 use quic_streams::SentPayload;
-use quic_values::{Side, StreamId};
+use quic_values::{Dir, Side, StreamId};
 use quic_wire::StreamEvent;
 use std::alloc::Global;
 use std::collections::VecDeque;
@@ -100,19 +100,28 @@ impl Link {
 
     fn send_burst(&mut self) -> Result<(), Refused> {
         for _ in 0..BURST {
-            let (bytes, sent) = self.client.emit()?;
-            if bytes.is_empty() {
+            if !self.send_one()? {
                 break;
             }
-            let lost = self.is_next_lost();
-            self.tally.to_server.see_next(&bytes);
-            self.tally.payloads = self.tally.payloads.wrapping_add(1);
-            if !lost {
-                self.server.deliver(bytes)?;
-            }
-            self.flight.push_back(InFlight { sent, lost })?;
         }
         Ok(())
+    }
+
+    // The client writes a payload, which comes or is lost. Answers whether there was one.
+    #[inline(always)]
+    fn send_one(&mut self) -> Result<bool, Refused> {
+        let (bytes, sent) = self.client.emit()?;
+        if bytes.is_empty() {
+            return Ok(false);
+        }
+        let lost = self.is_next_lost();
+        self.tally.to_server.see_next(&bytes);
+        self.tally.payloads = self.tally.payloads.wrapping_add(1);
+        if !lost {
+            self.server.deliver(bytes)?;
+        }
+        self.flight.push_back(InFlight { sent, lost })?;
+        Ok(true)
     }
 
     // Whether the next payload of the client is lost.
@@ -126,18 +135,31 @@ impl Link {
                 break 'events;
             };
             self.tally.events = self.tally.events.wrapping_add(1);
-            match event {
-                StreamEvent::Opened { dir } => {
-                    'streams: for _ in 0..u64::MAX {
-                        let Some(id) = self.server.accept(dir) else {
-                            break 'streams;
-                        };
-                        self.readable.push(id)?;
-                    }
-                }
-                StreamEvent::Readable { id } => self.readable.push(id)?,
-                _ => {}
+            self.note(event)?;
+        }
+        Ok(())
+    }
+
+    // Notes the streams of an event of the server's that may have something to read.
+    #[inline(always)]
+    fn note(&mut self, event: StreamEvent) -> Result<(), Refused> {
+        match event {
+            StreamEvent::Opened { dir } => self.accept_all(dir),
+            StreamEvent::Readable { id } => {
+                self.readable.push(id)?;
+                Ok(())
             }
+            _ => Ok(()),
+        }
+    }
+
+    #[inline(always)]
+    fn accept_all(&mut self, dir: Dir) -> Result<(), Refused> {
+        'streams: for _ in 0..u64::MAX {
+            let Some(id) = self.server.accept(dir) else {
+                break 'streams;
+            };
+            self.readable.push(id)?;
         }
         Ok(())
     }
@@ -157,15 +179,24 @@ impl Link {
     // The server writes to the client, and each payload is acknowledged at once.
     fn answer(&mut self) -> Result<(), Refused> {
         'payloads: for _ in 0..u64::MAX {
-            let (bytes, sent) = self.server.emit()?;
-            if bytes.is_empty() {
+            if !self.answer_once()? {
                 break 'payloads;
             }
-            self.tally.to_client.see_next(&bytes);
-            self.client.deliver(bytes)?;
-            self.server.acknowledge(sent)?;
         }
         Ok(())
+    }
+
+    // Answers whether there was a payload.
+    #[inline(always)]
+    fn answer_once(&mut self) -> Result<bool, Refused> {
+        let (bytes, sent) = self.server.emit()?;
+        if bytes.is_empty() {
+            return Ok(false);
+        }
+        self.tally.to_client.see_next(&bytes);
+        self.client.deliver(bytes)?;
+        self.server.acknowledge(sent)?;
+        Ok(true)
     }
 
     fn report(&mut self) -> Result<(), Refused> {
@@ -173,13 +204,19 @@ impl Link {
             let Some(payload) = self.flight.pop_front() else {
                 break;
             };
-            if payload.lost {
-                self.client.lose(payload.sent)?;
-            } else {
-                self.client.acknowledge(payload.sent)?;
-            }
+            self.settle(payload)?;
         }
         Ok(())
+    }
+
+    // Reports what became of a payload of the client.
+    #[inline(always)]
+    fn settle(&mut self, payload: InFlight) -> Result<(), Refused> {
+        if payload.lost {
+            self.client.lose(payload.sent)
+        } else {
+            self.client.acknowledge(payload.sent)
+        }
     }
 
     fn poll_client(&mut self) {

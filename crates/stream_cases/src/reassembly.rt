@@ -3,7 +3,7 @@ ghost use Rattle.stream_cases.specs.Arguments.{CanRun};
 
 use crate::content::{Content, PIECE, Seen};
 use crate::refused::{REFUSED, Refused};
-use quic_ordered::{Assembler, InsertError};
+use quic_ordered::{Assembler, EnsureError, InsertError};
 use quic_values::OutOfMemory;
 use std::alloc::Global;
 
@@ -133,8 +133,8 @@ fn in_order(alloc: Global, size: usize, content: Content) -> Result<u64, Refused
     let mut assembler = Assembler::new(alloc);
     let mut seen = Seen::default();
     for offset in (0..size).step_by(PIECE) {
-        let piece = content.piece(alloc, offset as u64, PIECE.min(size - offset))?;
-        assembler.insert(offset as u64, piece, PIECE)?;
+        let len = PIECE.min(size - offset);
+        insert(alloc, &mut assembler, content, offset as u64, len)?;
         read_all(&mut assembler, true, usize::MAX, &mut seen)?;
     }
     Ok(seen.sum)
@@ -173,14 +173,22 @@ fn unordered(alloc: Global, size: usize, content: Content, perm: &[u32]) -> Resu
     if size == 0 {
         return Ok(0);
     }
-    let mut assembler = Assembler::new(alloc);
-    assembler.ensure_ordering(false)?;
+    let mut assembler = unordered_assembler(alloc)?;
     let mut seen = Seen::default();
     for base in (0..size).step_by(WINDOW) {
         overlap(alloc, &mut assembler, content, base as u64, perm, &mut seen)?;
     }
     read_all(&mut assembler, false, usize::MAX, &mut seen)?;
     Ok(seen.sum.wrapping_add(seen.bytes))
+}
+
+#[inline(always)]
+fn unordered_assembler(alloc: Global) -> Result<Assembler, EnsureError>
+    ensures { IfOk result (λ assembler. assembler.ordered ≡ false) }
+{
+    let mut assembler = Assembler::new(alloc);
+    assembler.ensure_ordering(false)?;
+    Ok(assembler)
 }
 
 // One window of case d.
@@ -218,7 +226,7 @@ fn overlap(
 }
 
 // Inserts a piece of content at its offset. It keeps 1200 bytes alive.
-#[inline]
+#[inline(always)]
 fn insert(
     alloc: Global,
     assembler: &mut Assembler,
@@ -247,12 +255,29 @@ fn read_all(
     ensures { assembler.new.ordered ≡ assembler.old.ordered }
 {
     'reads: for _ in 0..u64::MAX {
-        let Some(chunk) = assembler.read(most, ordered)? else {
+        if !read_next(assembler, ordered, most, seen)? {
             break 'reads;
-        };
-        seen.see(chunk.offset, chunk.bytes.as_slice());
+        }
     }
     Ok(())
+}
+
+// Reads at most so many bytes. Answers whether any were given.
+#[inline(always)]
+fn read_next(
+    assembler: &mut Assembler,
+    ordered: bool,
+    most: usize,
+    seen: &mut Seen,
+) -> Result<bool, OutOfMemory>
+    requires { ordered ≡ assembler.old.ordered }
+    ensures { assembler.new.ordered ≡ assembler.old.ordered }
+{
+    let Some(chunk) = assembler.read(most, ordered)? else {
+        return Ok(false);
+    };
+    seen.see(chunk.offset, chunk.bytes.as_slice());
+    Ok(true)
 }
 
 // A run of inserts.
@@ -303,17 +328,41 @@ fn insert_until_refused(
     let mut is_refused = false;
     for index in 0..most {
         let offset = 2 * index as u64 + 1;
-        let byte = content.piece(alloc, offset, 1)?;
-        is_refused = answers_too_many(assembler.insert(offset, byte, allocation_size))?;
+        is_refused = insert_byte(alloc, &mut assembler, content, offset, allocation_size)?;
         if is_refused {
             count = index + 1;
             break;
         }
     }
-    if assembler.read(usize::MAX, true)?.is_some() {
+    if gives_some(&mut assembler)? {
         return Err(Refused);
     }
     Ok(Inserts { count, is_refused })
+}
+
+// Inserts a byte of content at its offset. Answers whether there were too many.
+#[inline(always)]
+fn insert_byte(
+    alloc: Global,
+    assembler: &mut Assembler,
+    content: Content,
+    offset: u64,
+    allocation_size: usize,
+) -> Result<bool, Refused>
+    requires offset { offset < 2 ^ 61 }
+    requires allocated { 1 ≤ allocation_size }
+    ensures { assembler.new.ordered ≡ assembler.old.ordered }
+{
+    let byte = content.piece(alloc, offset, 1)?;
+    answers_too_many(assembler.insert(offset, byte, allocation_size))
+}
+
+// Whether an ordered read gives something.
+#[inline(always)]
+fn gives_some(assembler: &mut Assembler) -> Result<bool, OutOfMemory>
+    requires { true ≡ assembler.old.ordered }
+{
+    Ok(assembler.read(usize::MAX, true)?.is_some())
 }
 
 #[inline]

@@ -89,9 +89,7 @@ fn send_rounds(alloc: Global, size: usize, content: Content, round: usize) -> Re
         let end = size.min(start.saturating_add(round));
         fill(alloc, &mut buffer, content, end as u64)?;
         sum = sum.wrapping_add(drain(&mut buffer, &mut frames)?);
-        for range in &frames.ranges {
-            acknowledge(&mut buffer, range)?;
-        }
+        acknowledge_all(&mut buffer, &frames.ranges)?;
     }
     Ok(sum)
 }
@@ -125,12 +123,8 @@ fn acknowledge_late(alloc: Global, size: u64, content: Content) -> Result<u64, R
     let mut frames = Frames::new(alloc);
     fill(alloc, &mut buffer, content, size)?;
     let sum = drain(&mut buffer, &mut frames)?;
-    for range in frames.ranges.iter().step_by(2) {
-        lose(&mut buffer, range)?;
-    }
-    for range in frames.ranges.iter().rev() {
-        acknowledge(&mut buffer, range)?;
-    }
+    lose_every_other(&mut buffer, &frames.ranges)?;
+    acknowledge_backwards(&mut buffer, &frames.ranges)?;
     Ok(sum.wrapping_add(buffer.buffered()))
 }
 
@@ -178,14 +172,25 @@ fn drain(buffer: &mut SendBuffer, frames: &mut Frames) -> Result<u64, OutOfMemor
         if !buffer.has_unsent_data() {
             break;
         }
-        let (range, has_length) = buffer.poll_transmit(PIECE);
-        frames.bytes.clear();
-        buffer.append_range(range.start..range.end, &mut frames.bytes)?;
-        seen.see(range.start, &frames.bytes);
+        let has_length = send_frame(buffer, frames, &mut seen)?;
         lengths = lengths.wrapping_add(u64::from(has_length));
-        frames.ranges.push(range)?;
     }
     Ok(seen.sum.wrapping_add(seen.bytes).wrapping_add(lengths))
+}
+
+// Sends a frame. Answers whether it has a length.
+#[inline(always)]
+fn send_frame(
+    buffer: &mut SendBuffer,
+    frames: &mut Frames,
+    seen: &mut Seen,
+) -> Result<bool, OutOfMemory> {
+    let (range, has_length) = buffer.poll_transmit(PIECE);
+    frames.bytes.clear();
+    buffer.append_range(range.start..range.end, &mut frames.bytes)?;
+    seen.see(range.start, &frames.bytes);
+    frames.ranges.push(range)?;
+    Ok(has_length)
 }
 
 // Every tenth range is lost. The others are acknowledged before that, in the order of `perm`.
@@ -199,6 +204,32 @@ fn settle(buffer: &mut SendBuffer, ranges: &[Range<u64>], perm: &[u32]) -> Resul
         }
     }
     for range in ranges.iter().skip(9).step_by(10) {
+        lose(buffer, range)?;
+    }
+    Ok(())
+}
+
+#[inline]
+fn acknowledge_all(buffer: &mut SendBuffer, ranges: &[Range<u64>]) -> Result<(), Refused> {
+    for range in ranges {
+        acknowledge(buffer, range)?;
+    }
+    Ok(())
+}
+
+// The last range first.
+#[inline]
+fn acknowledge_backwards(buffer: &mut SendBuffer, ranges: &[Range<u64>]) -> Result<(), Refused> {
+    for range in ranges.iter().rev() {
+        acknowledge(buffer, range)?;
+    }
+    Ok(())
+}
+
+// From the first range on.
+#[inline]
+fn lose_every_other(buffer: &mut SendBuffer, ranges: &[Range<u64>]) -> Result<(), Refused> {
+    for range in ranges.iter().step_by(2) {
         lose(buffer, range)?;
     }
     Ok(())
