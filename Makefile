@@ -5,7 +5,8 @@
 #   make examples   the programs of examples/
 #   make install    to PREFIX (/usr/local), below DESTDIR
 #
-# ARCHIVE names a static library of the crate quic_streams_c that is there already; then nothing is proved.
+# ARCHIVE names a static library of the crate quic_streams_c that is there already; then nothing is proved. PROVE is the command that
+# makes that library: `make PROVE="tools/library_of_gate quic_streams_c"` makes it over the crates that the gate proved.
 
 PREFIX ?= /usr/local
 DESTDIR ?=
@@ -17,6 +18,7 @@ WARNINGS := -Wall -Wextra -Wpedantic -Werror
 KIT := $(dir $(shell rt doc))
 CRATE := crates/quic_streams_c
 ARCHIVE ?= $(CRATE)/out/libquic_streams_c.a
+PROVE ?= cd $(CRATE) && rt lib
 PARTS := $(KIT)c/liblibc_c.a
 LIB := build/lib
 
@@ -25,11 +27,11 @@ LIB := build/lib
 
 all: $(LIB)/libquic_streams.a $(LIB)/libquic_streams.so $(LIB)/pkgconfig/quic_streams.pc
 
-# The archive of the crate is made by rt, where a crate or the kit is newer. (rt may leave it as it is.)
+# The archive of the crate is made where a crate or the kit is newer. (rt may leave it as it is.)
 ifeq ($(origin ARCHIVE),file)
 SOURCES := $(shell find crates -path '*/out' -prune -o \( -name '*.rt' -o -name '*.antt' \) -print)
 $(ARCHIVE): crates.txt $(SOURCES) $(KIT)KIT-ID
-	cd $(CRATE) && rt lib
+	$(PROVE)
 	touch $@
 endif
 
