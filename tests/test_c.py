@@ -1,8 +1,8 @@
 """The C interface: the programs of `tests/c`, the examples and the crate for Rust, with `libquic_streams.a` as `make` builds it in
 `build/lib` (or in the folder that QUIC_STREAMS_LIB_DIR names).
 
-The gate proves the crate and builds no library of it. So tests that need the library are skipped there, with a line that says so,
-unless `make` put it into that folder before. A compiler or a tool that is missing fails the test that needs it."""
+Where `make` did not put the library into that folder, the tests that need it are skipped, with a line that says so; in the gate, which
+makes it, they fail. A compiler or a tool that is missing fails the test that needs it."""
 import os
 import shutil
 import subprocess
@@ -35,6 +35,8 @@ class Built(unittest.TestCase):
     @classmethod
     def setUpClass(cls):
         if not os.path.isfile(ARCHIVE):
+            if os.environ.get("IN_GATE"):
+                raise AssertionError(f"{ARCHIVE} is not there")
             raise unittest.SkipTest(f"{ARCHIVE} is not there: `make` proves it and makes it")
         cls.room = tempfile.TemporaryDirectory(prefix="quic-streams-")
         cls.addClassCleanup(cls.room.cleanup)
