@@ -1,9 +1,9 @@
 //! Frames that come and go, and what they come to.
 use super::subject::Subject;
 use quic_receiving::ShouldTransmit;
+use quic_streams::ThinRetransmits;
 use quic_streams::stats::FrameStats;
-use quic_streams::{Retransmits, ThinRetransmits};
-use quic_values::{Bytes, Dir, OutOfMemory, Side, StreamId, VarInt};
+use quic_values::{Bytes, OutOfMemory, Side, StreamId, VarInt};
 use quic_wire::ReceiveError;
 use quic_wire::frame::Stream;
 use std::alloc::Global;
@@ -89,22 +89,6 @@ pub fn receive(
         bytes: pattern(alloc, offset, count)?,
     };
     Ok(answer_of(subject.received(frame)))
-}
-
-/// MAX_STREAM_DATA is to be sent for one more stream.
-pub fn add_window(pending: &mut Retransmits, stream: u32) -> Result<(), OutOfMemory> {
-    let id = id(stream);
-    pending.reserve_window(id)?;
-    pending.queue_window(id, true);
-    Ok(())
-}
-
-/// STREAM_DATA_BLOCKED is to be sent for one more stream.
-pub fn add_stream_blocked(pending: &mut Retransmits, stream: u32) -> Result<(), OutOfMemory> {
-    let id = id(stream);
-    pending.reserve_stream_blocked(id)?;
-    pending.queue_stream_blocked(id, true);
-    Ok(())
 }
 
 /// A payload of control frames, what was noted of it, and how many frames there were.

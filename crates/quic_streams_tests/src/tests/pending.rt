@@ -1,65 +1,71 @@
 // What counts of what is pending: a frame that would be dropped does not.
-use super::frames::{WINDOW, add_stream_blocked, add_window, client, end, id, receive};
-use super::subject::{Subject, nothing_noted, nothing_pending};
-use super::{TAKEN, is_true, same, same_for};
-use quic_sending::WriteError;
-use quic_streams::{IssuedCid, Retransmits, ThinRetransmits};
-use quic_values::{Bytes, Dir, OutOfMemory, Side, VarInt};
-use quic_wire::frame::{Crypto, StopSending};
+use super::entries::{Entry, create, note, pending_of};
+use super::frames::{WINDOW, client, end};
+use super::steps::{Step, run};
+use super::subject::{Subject, nothing_noted};
+use super::{TAKEN, is_true, same_at};
+use quic_values::{OutOfMemory, Side};
 use std::alloc::Global;
-use std::net::{IpAddr, Ipv4Addr, SocketAddr};
 use std::process::Abort;
 use std::test::Fail;
 
-// One entry of a kind that counts in any state.
-fn put(alloc: Global, pending: &mut Retransmits, kind: u32) -> Result<(), OutOfMemory> {
-    let code = VarInt::from(7u32);
-    match kind {
-        0 => pending.max_data = true,
-        1 => pending.max_stream_id = [true, false],
-        2 => pending.max_stream_id = [false, true],
-        3 => pending.reset_stream.push((id(2), code))?,
-        4 => pending.stop_sending.push(StopSending {
-            id: id(3),
-            error_code: code,
-        })?,
-        5 => pending.crypto.push_back(Crypto {
-            offset: 0,
-            bytes: Bytes::new(alloc),
-        })?,
-        6 => pending.new_cids.push(IssuedCid {
-            sequence: 0,
-            id: Bytes::new(alloc),
-            reset_token: [0; 16],
-        })?,
-        7 => pending.retire_cids.push(0)?,
-        8 => pending.ack_frequency = true,
-        9 => pending.handshake_done = true,
-        _ => {
-            let address = SocketAddr::new(IpAddr::V4(Ipv4Addr::from(0x7f00_0001)), 443);
-            pending.new_tokens.push(address)?;
-        }
-    }
-    Ok(())
-}
+// What counts in any state.
+const LASTING: [Entry; 11] = [
+    Entry::MaxData,
+    Entry::MaxStreams(true, false),
+    Entry::MaxStreams(false, true),
+    Entry::Reset(2),
+    Entry::Stop(3),
+    Entry::Crypto,
+    Entry::NewId,
+    Entry::RetiredId,
+    Entry::AckFrequency,
+    Entry::HandshakeDone,
+    Entry::NewToken,
+];
 
-fn put_thin(alloc: Global, thin: &mut ThinRetransmits, kind: u32) -> Result<(), OutOfMemory> {
-    put(alloc, thin.get_or_create()?, kind)
-}
-
-// An entry of a kind counts, in either set.
+// An entry counts that is pending alone.
 fn counts_alone(
     rt: &impl Abort,
     alloc: Global,
     subject: &Subject,
-    kind: u32,
+    at: usize,
+    entry: Entry,
 ) -> Result<(), OutOfMemory> {
-    let mut pending = nothing_pending(alloc);
-    put(alloc, &mut pending, kind)?;
-    assert!(rt; !subject.has_nothing_of(&pending), "kind {kind}");
-    let mut thin = nothing_noted(alloc);
-    put_thin(alloc, &mut thin, kind)?;
-    assert!(rt; !subject.has_nothing_of_thin(&thin), "kind {kind}");
+    let pending = pending_of(alloc, &[entry])?;
+    same_at(rt, at, subject.has_nothing_of(&pending), false);
+    Ok(())
+}
+
+// An entry counts that was noted alone.
+fn counts_noted(
+    rt: &impl Abort,
+    alloc: Global,
+    subject: &Subject,
+    at: usize,
+    entry: Entry,
+) -> Result<(), OutOfMemory> {
+    let mut noted = nothing_noted(alloc);
+    note(alloc, &mut noted, entry)?;
+    same_at(rt, at, subject.has_nothing_of_thin(&noted), false);
+    Ok(())
+}
+
+// Nothing counts that is pending at first, nor what was noted of nothing.
+fn nothing_counts(rt: &impl Abort, alloc: Global, subject: &Subject) -> Result<(), OutOfMemory> {
+    is_true(rt, subject.has_nothing_of(&subject.pending));
+    let mut noted = nothing_noted(alloc);
+    is_true(rt, subject.has_nothing_of_thin(&noted));
+    create(&mut noted)?;
+    is_true(rt, subject.has_nothing_of_thin(&noted));
+    Ok(())
+}
+
+fn each_counts(rt: &impl Abort, alloc: Global, subject: &Subject) -> Result<(), OutOfMemory> {
+    for (at, entry) in LASTING.iter().enumerate() {
+        counts_alone(rt, alloc, subject, at, *entry)?;
+        counts_noted(rt, alloc, subject, at, *entry)?;
+    }
     Ok(())
 }
 
@@ -67,94 +73,72 @@ fn counts_alone(
 fn what_is_pending_in_any_state_counts(rt: HostRuntime) -> Result<(), Fail> {
     let alloc = rt.alloc();
     let subject = client(alloc, 1, WINDOW, WINDOW)?;
-    is_true(&rt, subject.has_nothing_of(&subject.pending));
-    let mut thin = nothing_noted(alloc);
-    is_true(&rt, subject.has_nothing_of_thin(&thin));
-    for kind in 0..11u32 {
-        counts_alone(&rt, alloc, &subject, kind)?;
-    }
-    let _ = thin.get_or_create()?;
-    is_true(&rt, subject.has_nothing_of_thin(&thin));
+    nothing_counts(&rt, alloc, &subject)?;
+    each_counts(&rt, alloc, &subject)?;
     Ok(())
 }
 
-// Whether nothing counts of what is pending but these.
-fn counts_not(
-    alloc: Global,
-    subject: &Subject,
-    kind: u32,
-    streams: &[u32],
-) -> Result<bool, OutOfMemory> {
-    let mut pending = nothing_pending(alloc);
-    pending.data_blocked = kind == 0;
-    for stream in streams {
-        match kind {
-            1 => add_window(&mut pending, *stream)?,
-            _ => add_stream_blocked(&mut pending, *stream)?,
-        }
-    }
-    Ok(subject.has_nothing_of(&pending))
-}
+const DATA: &[Entry] = &[Entry::DataBlocked];
 
-// A kind, streams for which it is pending, and whether nothing of it counts.
-type Case = (u32, &'static [u32], bool);
-
-fn counts(
-    rt: &impl Abort,
-    alloc: Global,
-    subject: &Subject,
-    cases: &[Case],
-) -> Result<(), OutOfMemory> {
-    for (kind, streams, nothing) in cases {
-        let is = counts_not(alloc, subject, *kind, streams)?;
-        same_for(rt, &kind, is, *nothing);
-    }
-    Ok(())
-}
-
-const AT_FIRST: [Case; 2] = [(0, &[], true), (2, &[2, 6, 10], true)];
-
-const WHILE_STREAM_BLOCKED: [Case; 3] = [
-    (2, &[2, 10], true),
-    (2, &[2, 6, 10], false),
-    (0, &[], true),
+// Stream 10 is not open.
+const THREE_STREAMS: &[Entry] = &[
+    Entry::StreamBlocked(2),
+    Entry::StreamBlocked(6),
+    Entry::StreamBlocked(10),
 ];
 
-// Writes two bytes on a stream, and is refused a third.
-fn write_all(rt: &impl Abort, subject: &mut Subject, stream: u32) {
-    same(rt, subject.write(stream, b"thi"), Ok(2));
-    same(rt, subject.write(stream, b"i"), Err(WriteError::Blocked));
-}
+const NOT_STREAM_6: &[Entry] = &[Entry::StreamBlocked(2), Entry::StreamBlocked(10)];
+
+// Two bytes are written on stream 6, and then on 2, and a third is refused on each.
+const HELD_BACK: [Step; 14] = [
+    Step::Open(2),
+    Step::Open(6),
+    Step::NothingOf(DATA, true),
+    Step::NothingOf(THREE_STREAMS, true),
+    Step::Write(6, b"thi", 2),
+    Step::Blocked(6, b"i"),
+    Step::NothingOf(NOT_STREAM_6, true),
+    Step::NothingOf(THREE_STREAMS, false),
+    Step::NothingOf(DATA, true),
+    Step::Write(2, b"thi", 2),
+    Step::Blocked(2, b"i"),
+    Step::NothingOf(DATA, false),
+    Step::MaxData(5),
+    Step::NothingOf(DATA, true),
+];
 
 #[test]
 fn limits_count_while_they_hold_data_back(rt: HostRuntime) -> Result<(), Fail> {
     let alloc = rt.alloc();
-    let mut subject = end(alloc, Side::Client, 2, 4, 2)?;
-    same(&rt, subject.open(Dir::Uni)?, Some(id(2)));
-    same(&rt, subject.open(Dir::Uni)?, Some(id(6)));
-    counts(&rt, alloc, &subject, &AT_FIRST)?;
-    write_all(&rt, &mut subject, 6);
-    counts(&rt, alloc, &subject, &WHILE_STREAM_BLOCKED)?;
-    write_all(&rt, &mut subject, 2);
-    counts(&rt, alloc, &subject, &[(0, &[], false)])?;
-    subject.received_max_data(5);
-    counts(&rt, alloc, &subject, &[(0, &[], true)])?;
-    Ok(())
+    run(&rt, alloc, end(alloc, Side::Client, 2, 4, 2), &HELD_BACK)
 }
 
-// The peer's streams 1 and 3 are permitted, the last one with its final size; 2 is this end's alone.
-const WINDOWS: [Case; 3] = [
-    (1, &[], true),
-    (1, &[2, 3, 5, 7], true),
-    (1, &[2, 3, 1, 7], false),
+// Windows of use to no one: of streams that are not open, of 2, which is this end's alone, and of 3, whose final size came.
+const USELESS: &[Entry] = &[
+    Entry::Window(2),
+    Entry::Window(3),
+    Entry::Window(5),
+    Entry::Window(7),
+];
+
+// That of stream 1 is of use: the peer may open it.
+const USEFUL: &[Entry] = &[
+    Entry::Window(2),
+    Entry::Window(3),
+    Entry::Window(1),
+    Entry::Window(7),
+];
+
+const WINDOWS: [Step; 5] = [
+    Step::Open(2),
+    Step::Receive(3, 0, 1, true, TAKEN),
+    Step::NothingOf(&[], true),
+    Step::NothingOf(USELESS, true),
+    Step::NothingOf(USEFUL, false),
 ];
 
 #[test]
 fn windows_count_where_more_may_come(rt: HostRuntime) -> Result<(), Fail> {
     let alloc = rt.alloc();
-    let mut subject = end(alloc, Side::Client, 2, 4, 2)?;
-    same(&rt, subject.open(Dir::Uni)?, Some(id(2)));
-    same(&rt, receive(alloc, &mut subject, 3, 0, 1, true)?, TAKEN);
-    counts(&rt, alloc, &subject, &WINDOWS)?;
-    Ok(())
+    run(&rt, alloc, end(alloc, Side::Client, 2, 4, 2), &WINDOWS)
 }

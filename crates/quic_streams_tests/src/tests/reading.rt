@@ -1,21 +1,14 @@
 // What becomes of a reader that is finalized, dropped or leaked, and of the list of a read.
-use super::frames::{WINDOW, client, id};
+use super::frames::{WINDOW, client, id, receive};
+use super::steps::{Last, Step, play};
 use super::subject::{Subject, finalize, next_chunk};
-use super::{gave, has_credit, is_true, same, same_for, takes, tells_window};
-use quic_streams::progress::LastAnswer;
+use super::{TAKEN, is_true, same, same_at};
+use quic_receiving::Chunk;
 use quic_streams::recv_stream::RecvStream;
-use quic_values::OutOfMemory;
 use std::alloc::Global;
 use std::mem::forget;
 use std::process::Abort;
 use std::test::Fail;
-
-// A client to which one byte came, of a stream on which it permits 8.
-fn one_byte_came(rt: &impl Abort, alloc: Global) -> Result<Subject, OutOfMemory> {
-    let mut subject = client(alloc, 128, WINDOW, 8)?;
-    takes(rt, alloc, &mut subject, 0, 1)?;
-    Ok(subject)
-}
 
 // What becomes of a reader.
 #[derive(Clone, Copy)]
@@ -60,33 +53,66 @@ fn read_byte(
     Ok((subject, transmit))
 }
 
-#[test]
-fn a_reader_that_is_finalized_or_dropped_gives_credit(rt: HostRuntime) -> Result<(), Fail> {
-    for (ending, answer) in [(Ending::Finalized, Some(true)), (Ending::Dropped, None)] {
-        let subject = one_byte_came(&rt, rt.alloc())?;
-        let (mut subject, transmit) = read_byte(&rt, subject, ending)?;
-        same(&rt, transmit, answer);
-        // The limit of the stream is worth a frame, that of the connection is not.
-        tells_window(&rt, rt.alloc(), &mut subject, 9);
-        has_credit(&rt, &subject, 1, 1);
-    }
+// One byte comes, of a stream on which 8 are permitted, and is read. The reader ends in one way, which answers whether to
+// transmit, and the steps are taken.
+fn read_and_go_on(
+    rt: &impl Abort,
+    alloc: Global,
+    ending: Ending,
+    answer: Option<bool>,
+    steps: &[Step],
+) -> Result<(), Fail> {
+    let mut subject = client(alloc, 128, WINDOW, 8)?;
+    play(
+        rt,
+        alloc,
+        &mut subject,
+        &[Step::Receive(3, 0, 1, false, TAKEN)],
+    )?;
+    let (mut subject, transmit) = read_byte(rt, subject, ending)?;
+    same(rt, transmit, answer);
+    play(rt, alloc, &mut subject, steps)?;
     Ok(())
 }
 
+// The limit of the stream is worth a frame, that of the connection is not.
+const WITH_CREDIT: [Step; 2] = [Step::Window(9), Step::Credit(1, 1)];
+
+#[test]
+fn a_reader_that_is_finalized_or_dropped_gives_credit(rt: HostRuntime) -> Result<(), Fail> {
+    let alloc = rt.alloc();
+    read_and_go_on(&rt, alloc, Ending::Finalized, Some(true), &WITH_CREDIT)?;
+    read_and_go_on(&rt, alloc, Ending::Dropped, None, &WITH_CREDIT)
+}
+
 // The credit of the leaked reader is lost, and no other. The stream is read on.
+const WITHOUT_CREDIT: [Step; 6] = [
+    Step::WindowsWait(0),
+    Step::Credit(0, 1),
+    Step::Receive(3, 1, 1, false, TAKEN),
+    Step::Read(true, 8, 2, 1, Last::Blocked, true),
+    Step::Credit(1, 2),
+    Step::Window(10),
+];
+
 #[test]
 fn a_reader_that_is_leaked_leaves_the_stream(rt: HostRuntime) -> Result<(), Fail> {
-    let alloc = rt.alloc();
-    let subject = one_byte_came(&rt, alloc)?;
-    let (mut subject, _) = read_byte(&rt, subject, Ending::Leaked)?;
-    same(&rt, subject.pending.max_stream_data.len(), 0);
-    has_credit(&rt, &subject, 0, 1);
-    takes(&rt, alloc, &mut subject, 1, 1)?;
-    let read = subject.read_some(3, true, 8, 2)?;
-    gave(&rt, alloc, &read, 1, LastAnswer::Blocked, true)?;
-    has_credit(&rt, &subject, 1, 2);
-    tells_window(&rt, alloc, &mut subject, 10);
-    Ok(())
+    read_and_go_on(&rt, rt.alloc(), Ending::Leaked, None, &WITHOUT_CREDIT)
+}
+
+// So many bytes come and are read into a list. Answers the list that the read gives back.
+fn read_into(
+    rt: &impl Abort,
+    alloc: Global,
+    subject: &mut Subject,
+    offset: u64,
+    size: usize,
+    list: Vec<Chunk>,
+) -> Result<Vec<Chunk>, Fail> {
+    let taken = receive(alloc, subject, 3, offset, size, false)?;
+    same_at(rt, size, taken, TAKEN);
+    let read = subject.read_some_into(3, 2, 9, list)?;
+    Ok(read.chunks)
 }
 
 #[test]
@@ -97,12 +123,9 @@ fn the_list_of_the_last_read_is_used_again(rt: HostRuntime) -> Result<(), Fail> 
     let room = list.capacity();
     let mut offset = 0u64;
     for size in 1..20usize {
-        takes(&rt, alloc, &mut subject, offset, size)?;
-        let read = subject.read_some_into(3, 2, 9, list)?;
-        let chunks = read.chunks;
-        same_for(&rt, &size, chunks.capacity(), room);
+        list = read_into(&rt, alloc, &mut subject, offset, size, list)?;
+        same_at(&rt, size, list.capacity(), room);
         offset = offset.wrapping_add(size as u64);
-        list = chunks;
     }
     Ok(())
 }

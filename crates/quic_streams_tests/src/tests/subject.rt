@@ -1,5 +1,5 @@
 //! The calls on one end.
-use super::frames::{add_window, id};
+use super::frames::id;
 use quic_receiving::{Chunk, HandleError, ReadError, ReadableError, ShouldTransmit};
 use quic_sending::{FinishError, WriteError, Written};
 use quic_streams::batches::ReadSome;
@@ -252,11 +252,6 @@ impl Subject {
     ) -> Result<(), OutOfMemory> {
         self.state
             .write_control_frames(buf, &mut self.pending, sent, stats, max_size)
-    }
-
-    // MAX_STREAM_DATA is to be sent for a stream.
-    pub fn queue_window(&mut self, stream: u32) -> Result<(), OutOfMemory> {
-        add_window(&mut self.pending, stream)
     }
 
     pub fn has_nothing_of(&self, pending: &Retransmits) -> bool {

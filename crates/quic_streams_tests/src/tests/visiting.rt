@@ -3,15 +3,16 @@ ghost use Rattle.std.specs.Prelude.{[], ◌∷◌, ◌≡◌};
 ghost use Rattle.quic_streams.specs.Visits.{NextCall};
 
 use super::frames::{WINDOW, client, id, pattern};
+use super::steps::{Last, Step, play};
 use super::subject::Subject;
-use super::{TAKEN, gave, has_credit, is_true, permits, reset, same, takes, tells_window};
+use super::{TAKEN, same};
 use quic_receiving::{Chunk, ReadError, ReadableError};
-use quic_streams::progress::LastAnswer;
 use quic_streams::reading::Chunks;
 use quic_streams::recv_stream::RecvStream;
 use quic_streams::visiting::ReadVisitor;
 use quic_values::{OutOfMemory, VarInt};
 use std::alloc::Global;
+use std::process::Abort;
 use std::test::Fail;
 
 type NextAnswer = Result<Option<Chunk>, ReadError>;
@@ -42,6 +43,16 @@ impl ReadVisitor for TwoReads {
     }
 }
 
+// What a read has to answer.
+#[derive(Clone, Copy)]
+enum Told {
+    // A chunk from an offset on, of so many bytes.
+    Chunk(u64, usize),
+    Nothing,
+    // That the stream was reset with a code.
+    Reset(u32),
+}
+
 fn chunk(alloc: Global, offset: u64, count: usize) -> Result<Chunk, OutOfMemory> {
     Ok(Chunk {
         offset,
@@ -49,21 +60,34 @@ fn chunk(alloc: Global, offset: u64, count: usize) -> Result<Chunk, OutOfMemory>
     })
 }
 
-// Opens stream 3 for reads, hands the reader to the visitor, and answers whether to transmit.
-fn visit(
-    subject: Subject,
-    ordered: bool,
-    visitor: &mut TwoReads,
-) -> (Subject, Result<bool, ReadableError>) {
+fn answer_of(alloc: Global, told: Told) -> Result<NextAnswer, OutOfMemory> {
+    match told {
+        Told::Chunk(offset, count) => Ok(Ok(Some(chunk(alloc, offset, count)?))),
+        Told::Nothing => Ok(Ok(None)),
+        Told::Reset(code) => Ok(Err(ReadError::Reset(VarInt::from(code)))),
+    }
+}
+
+fn is_told(
+    rt: &impl Abort,
+    alloc: Global,
+    answer: NextAnswer,
+    told: Told,
+) -> Result<(), OutOfMemory> {
+    let wanted = answer_of(alloc, told)?;
+    same(rt, answer, wanted);
+    Ok(())
+}
+
+// Opens stream 3 for reads in order, hands the reader to the visitor, and answers whether to transmit.
+fn visit(subject: Subject, visitor: &mut TwoReads) -> (Subject, Result<bool, ReadableError>) {
     let Subject {
         mut state,
         mut pending,
         conn,
         window,
     } = subject;
-    let answer = match RecvStream::new(id(3), &mut state, &mut pending).read_with(
-        ordered, visitor,
-    ) {
+    let answer = match RecvStream::new(id(3), &mut state, &mut pending).read_with(true, visitor) {
         Ok(transmit) => Ok(transmit.should_transmit()),
         Err(error) => Err(error),
     };
@@ -76,54 +100,68 @@ fn visit(
     (subject, answer)
 }
 
+// A visit that reads 3 bytes at most, and then 9, behind some steps and before others. Answers what the visit did.
+fn visit_between(
+    rt: &impl Abort,
+    alloc: Global,
+    stream_window: u32,
+    before: &[Step],
+    told: (Told, Told),
+    after: &[Step],
+) -> Result<Result<bool, ReadableError>, OutOfMemory> {
+    let mut subject = client(alloc, 128, WINDOW, stream_window)?;
+    play(rt, alloc, &mut subject, before)?;
+    let mut visitor = TwoReads::new(3, 9);
+    let (mut subject, answer) = visit(subject, &mut visitor);
+    let (first, second) = visitor.answers;
+    is_told(rt, alloc, first, told.0)?;
+    is_told(rt, alloc, second, told.1)?;
+    play(rt, alloc, &mut subject, after)?;
+    Ok(answer)
+}
+
+const EIGHT_BYTES: [Step; 1] = [Step::Receive(3, 0, 8, false, TAKEN)];
+
+// The credit of the stream is worth a frame, that of the connection is not.
+const WITH_CREDIT: [Step; 2] = [Step::Credit(8, 8), Step::Window(16)];
+
 #[test]
 fn a_visitor_reads_as_it_likes(rt: HostRuntime) -> Result<(), Fail> {
-    let alloc = rt.alloc();
-    let mut subject = client(alloc, 128, WINDOW, 8)?;
-    takes(&rt, alloc, &mut subject, 0, 8)?;
-    let mut visitor = TwoReads::new(3, 9);
-    let (mut subject, answer) = visit(subject, true, &mut visitor);
+    let told = (Told::Chunk(0, 3), Told::Chunk(3, 5));
+    let answer = visit_between(&rt, rt.alloc(), 8, &EIGHT_BYTES, told, &WITH_CREDIT)?;
     same(&rt, answer, Ok(true));
-    let (first, second) = visitor.answers;
-    same(&rt, first, Ok(Some(chunk(alloc, 0, 3)?)));
-    same(&rt, second, Ok(Some(chunk(alloc, 3, 5)?)));
-    // The credit of the stream is worth a frame, that of the connection is not.
-    has_credit(&rt, &subject, 8, 8);
-    tells_window(&rt, alloc, &mut subject, 16);
     Ok(())
 }
+
+const RESET: [Step; 2] = [
+    Step::Receive(3, 0, 8, false, TAKEN),
+    Step::ReceiveReset(7, 8),
+];
+
+const FREED: [Step; 3] = [Step::Credit(8, 8), Step::Stop(false), Step::Permits(129, 1)];
 
 #[test]
 fn a_visitor_is_told_of_a_reset_at_each_read(rt: HostRuntime) -> Result<(), Fail> {
-    let alloc = rt.alloc();
-    let mut subject = client(alloc, 128, WINDOW, WINDOW)?;
-    takes(&rt, alloc, &mut subject, 0, 8)?;
-    same(&rt, reset(&mut subject, 7, 8), TAKEN);
-    let mut visitor = TwoReads::new(3, 9);
-    let (mut subject, answer) = visit(subject, true, &mut visitor);
+    let told = (Told::Reset(7), Told::Reset(7));
+    let answer = visit_between(&rt, rt.alloc(), WINDOW, &RESET, told, &FREED)?;
     same(&rt, answer.is_ok(), true);
-    let (first, second) = visitor.answers;
-    same(&rt, first, Err(ReadError::Reset(VarInt::from(7u32))));
-    same(&rt, second, Err(ReadError::Reset(VarInt::from(7u32))));
-    has_credit(&rt, &subject, 8, 8);
-    is_true(&rt, subject.stop(3, 9).is_err());
-    permits(&rt, &subject, 129, 1);
     Ok(())
 }
 
+const READ_IN_ANY_ORDER: [Step; 2] = [
+    Step::Receive(3, 4, 4, false, TAKEN),
+    Step::Read(false, 2, 1, 2, Last::More, false),
+];
+
+const READ_ON: [Step; 2] = [
+    Step::Credit(2, 8),
+    Step::Read(false, 9, 2, 2, Last::Blocked, false),
+];
+
 #[test]
 fn a_refused_visitor_is_left_alone(rt: HostRuntime) -> Result<(), Fail> {
-    let alloc = rt.alloc();
-    let mut subject = client(alloc, 128, WINDOW, WINDOW)?;
-    takes(&rt, alloc, &mut subject, 4, 4)?;
-    let before = subject.read_some(3, false, 2, 1)?;
-    gave(&rt, alloc, &before, 2, LastAnswer::More, false)?;
-    let mut visitor = TwoReads::new(3, 9);
-    let (mut subject, answer) = visit(subject, true, &mut visitor);
+    let told = (Told::Nothing, Told::Nothing);
+    let answer = visit_between(&rt, rt.alloc(), WINDOW, &READ_IN_ANY_ORDER, told, &READ_ON)?;
     same(&rt, answer, Err(ReadableError::IllegalOrderedRead));
-    same(&rt, visitor.answers, (Ok(None), Ok(None)));
-    has_credit(&rt, &subject, 2, 8);
-    let after = subject.read_some(3, false, 9, 2)?;
-    gave(&rt, alloc, &after, 2, LastAnswer::Blocked, false)?;
     Ok(())
 }
