@@ -3,7 +3,7 @@
 // Each test program compiles this module for itself, and uses a part of it.
 #![allow(dead_code)]
 
-use quic_streams::{Emit, Event, StreamsState};
+use quic_streams::{Config, Emit, Event, StreamsState};
 use std::error::Error;
 use std::iter::from_fn;
 
@@ -27,6 +27,19 @@ pub const STREAMS: Emit = Emit {
     streams: true,
     fair: true,
 };
+
+/// An end that permits its peer so many streams of each direction, and so many bytes in all and on each stream.
+pub fn config(streams: u64, window: u64, stream_window: u64) -> Config {
+    Config {
+        max_remote_uni: streams,
+        max_remote_bi: streams,
+        send_window: WINDOW,
+        receive_window: window,
+        stream_window,
+        datagram_receive: None,
+        datagram_send: 0,
+    }
+}
 
 /// The events that wait, in their order.
 pub fn events(end: &mut StreamsState) -> Vec<Event> {

@@ -6,8 +6,8 @@
 mod common;
 pub mod steps;
 
-pub use common::{events, Result, CONTROL, STREAMS, WINDOW};
-use quic_streams::{Config, Emit, Limits, Side, StreamsState, Token};
+pub use common::{config, events, Result, CONTROL, STREAMS, WINDOW};
+use quic_streams::{Emit, Limits, Side, StreamsState, Token};
 
 /// The greatest number of a frame (RFC 9000 section 16).
 pub const GREATEST: u64 = (1 << 62) - 1;
@@ -19,19 +19,6 @@ pub const MAX_DATA: u64 = 0x10;
 pub const MAX_STREAM_DATA: u64 = 0x11;
 pub const MAX_STREAMS_UNI: u64 = 0x13;
 pub const STREAM_DATA_BLOCKED: u64 = 0x15;
-
-/// An end that permits its peer so many streams of each direction, and so many bytes in all and on each stream.
-pub fn config(streams: u64, window: u64, stream_window: u64) -> Config {
-    Config {
-        max_remote_uni: streams,
-        max_remote_bi: streams,
-        send_window: WINDOW,
-        receive_window: window,
-        stream_window,
-        datagram_receive: None,
-        datagram_send: 0,
-    }
-}
 
 /// A client of [`config`].
 pub fn client(streams: u64, window: u64, stream_window: u64) -> Result<StreamsState> {

@@ -6,10 +6,11 @@
 #[path = "../common/mod.rs"]
 mod common;
 
+use common::config;
 pub use common::{Result, CONTROL, STREAMS, WINDOW};
 use quic_streams::{
-    Config, ConfigError, Dir, Emit, Event, FinishError, Info, Limits, OutOfMemory, ReceiveError,
-    Side, StreamError, StreamId, StreamsState, Token, WriteError,
+    ConfigError, Dir, Emit, Event, FinishError, Info, Limits, OutOfMemory, ReceiveError, Side,
+    StreamError, StreamId, StreamsState, Token, WriteError,
 };
 use std::result;
 
@@ -69,15 +70,7 @@ pub struct End(pub StreamsState);
 impl End {
     /// An end that permits its peer so many streams of each direction, and so many bytes in all and on each stream.
     pub fn new(side: Side, streams: u64, window: u64, stream_window: u64) -> Result<Self> {
-        let config = Config {
-            max_remote_uni: streams,
-            max_remote_bi: streams,
-            send_window: WINDOW,
-            receive_window: window,
-            stream_window,
-            datagram_receive: None,
-            datagram_send: 0,
-        };
+        let config = config(streams, window, stream_window);
         Ok(End(StreamsState::new(side, &config)?))
     }
 
