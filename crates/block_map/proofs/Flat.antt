@@ -210,7 +210,7 @@ near_place rows n b i row rises lt is inside up_to above =
     }
 
 -- the first entry has the first key of the first row
-pub front_key : (rows : List (List KeyAndValue)) (row : List KeyAndValue) → 0 < length rows → row ≡ slice_index_or rows 0 row → 0 < length row → (v : ℕ) × (rest : List KeyAndValue) × (flat rows ≡ (first_key row, v) ∷ rest)
+pub front_key : (all : List (List KeyAndValue)) (row : List KeyAndValue) → 0 < length all → row ≡ slice_index_or all 0 row → 0 < length row → (v : ℕ) × (rest : List KeyAndValue) × (flat all ≡ (first_key row, v) ∷ rest)
 front_key [] row some is has = absurd (omega (arith, some))
 front_key (r ∷ rs) [] some is has = absurd (omega (arith, has))
 front_key (r ∷ rs) (e ∷ es) some is has = (e.1, es ++ flat rs, ap (λ (t : List KeyAndValue). t ++ flat rs) (sym is))

@@ -3,11 +3,12 @@ use Rattle.std.proofs.Common.{◌≡◌, ℕ, ◌+◌, ◌-◌, ◌≤◌, ◌<�
 use Rattle.std.specs.Prelude.{slice_index_or, slice_set, insert}
 use Rattle.std.specs.List.{remove_range}
 use Rattle.std.proofs.lemmas.Bool.{cases_lt, cases_eq}
-use Rattle.std.proofs.lemmas.List.{length-append, length-take, length-take-le, take_all, get_or_default, take-append-le, take-take, get_or_at, length-drop, length-set, get_or_append_left, get_or-append_right, get_or-take, get_or-drop, get_or-set_same, get_or-set_other, set_split, set-append_left, set-append_right, append_assoc, append-nil, take-append-drop, take_at, drop_at, drop_more, take_more, take-set}
+use Rattle.std.proofs.lemmas.List.{length-append, length-take, length-take-le, take_all, get_or_default, take-append-le, take-take, get_or_at, length-drop, length-set, get_or_append_left, get_or-append_right, get_or-take, get_or-drop, get_or-set_same, get_or-set_other, set_split, set-append_left, set-append_right, append_assoc, append-nil, take-append-drop, take_at, drop_at, drop_more, take_more, take-set, drop-drop}
 use Rattle.std.proofs.lemmas.List.Edits.{insert-append_left, insert-append_right}
-use Rattle.block_map.specs.Sorted.{KeyAndValue}
+use Rattle.block_map.specs.Sorted.{KeyAndValue, KeysRise}
 use Rattle.block_map.specs.Rows.{flat, place_among, HasSome, HasRoomForOne, AreFull}
 use Rattle.block_map.proofs.Moved.{remove_range-front, remove_range-behind}
+use Rattle.block_map.proofs.Rising.{rises_front, rises_back}
 
 pub flat-append : (a b : List (List KeyAndValue)) → flat (a ++ b) ≡ flat a ++ flat b
 flat-append [] b = refl
@@ -270,9 +271,58 @@ full_pushed rows r full last i d e lt =
 pub full_nil : AreFull []
 full_nil i d e lt = absurd (omega (arith, lt))
 
+-- ---- a row joined to the one before it
+
+module _ (rows low high : List (List KeyAndValue)) (n : ℕ) (d e : List KeyAndValue) (is : rows ≡ low ++ high) (front : length low ≡ n) (pos : 0 < n) (back : 0 < length high) where
+  ends : n - 1 + 1 ≡ length low
+  ends = omega (arith, front, pos)
+
+  flat_high : flat high ≡ slice_index_or high 0 e ++ flat (drop 1 high)
+  flat_high = ap flat (drop_more high 0 e back)
+
+  pub join_in : flat (remove_range (slice_set low (n - 1) (slice_index_or low (n - 1) d ++ slice_index_or high 0 e) ++ high) n (suc n)) ≡ flat rows
+  join_in =
+      let more = slice_index_or high 0 e in
+      let grown = slice_set low (n - 1) (slice_index_or low (n - 1) d ++ more) in
+      let m = length-set low (n - 1) (slice_index_or low (n - 1) d ++ more) in
+      let same : length grown ≡ n = omega (arith, m, front) in
+      let p : suc n ≡ n + 1 = omega arith in
+      ap (λ (t : List (List KeyAndValue)). flat (t ++ drop (suc n) (grown ++ high))) (take_at grown high n same)
+      ∙ ap (λ (k : ℕ). flat (grown ++ drop k (grown ++ high))) p
+      ∙ ap (λ (t : List (List KeyAndValue)). flat (grown ++ t)) (sym (drop-drop 1 n (grown ++ high)) ∙ ap (λ (t : List (List KeyAndValue)). drop 1 t) (drop_at grown high n same))
+      ∙ flat-append grown (drop 1 high)
+      ∙ ap (λ (t : List KeyAndValue). t ++ flat (drop 1 high)) (flat_grown low (n - 1) d more ends)
+      ∙ append_assoc (flat low) more (flat (drop 1 high))
+      ∙ ap (λ (t : List KeyAndValue). flat low ++ t) (sym flat_high)
+      ∙ sym (flat-append low high)
+      ∙ ap flat (sym is)
+
+  pub join_rises : KeysRise (flat rows) → KeysRise (slice_index_or low (n - 1) d ++ slice_index_or high 0 e)
+  join_rises rises =
+      let before = flat (take (n - 1) low) in
+      let row = slice_index_or low (n - 1) d in
+      let more = slice_index_or high 0 e in
+      let behind = flat (drop 1 high) in
+      let parts : flat rows ≡ before ++ (row ++ more ++ behind) =
+      ap flat is
+      ∙ flat-append low high
+      ∙ ap (λ (t : List KeyAndValue). t ++ flat high) (flat_last low (n - 1) d ends)
+      ∙ append_assoc before row (flat high)
+      ∙ ap (λ (t : List KeyAndValue). before ++ (row ++ t)) flat_high
+      ∙ ap (λ (t : List KeyAndValue). before ++ t) (sym (append_assoc row more behind)) in
+      rises_front (row ++ more) behind (rises_back before (row ++ more ++ behind) (rw parts at rises))
+
+  pub some_joined : (r : List KeyAndValue) → length (slice_index_or low (n - 1) d) ≤ length r → HasSome rows → HasSome (slice_set low (n - 1) r ++ high)
+  some_joined r more f =
+      let all : HasSome (low ++ high) = rw is at f in
+      let a : HasSome low = rw (take_at low high n front) at (some_take (low ++ high) n all) in
+      let b : HasSome high = rw (drop_at low high n front) at (some_drop (low ++ high) n all) in
+      let some = a (n - 1) d (omega (arith, front, pos)) in
+      some_append (slice_set low (n - 1) r) high (some_set low (n - 1) r a (omega (arith, some, more))) b
+
 -- ---- the first entry
 
 -- without the first row, where that has one entry
-pub pop_row : (rows : List (List KeyAndValue)) (d : List KeyAndValue) → 0 < length rows → length (slice_index_or rows 0 d) ≡ 1 → flat (drop 1 rows) ≡ drop 1 (flat rows)
+pub pop_row : (all : List (List KeyAndValue)) (d : List KeyAndValue) → 0 < length all → length (slice_index_or all 0 d) ≡ 1 → flat (drop 1 all) ≡ drop 1 (flat all)
 pop_row [] d some one = absurd (omega (arith, some))
 pop_row (r ∷ rs) d some one = sym (drop_at r (flat rs) 1 one)

@@ -113,6 +113,25 @@ fn put_in(entries: &mut Vec<(u64, u64)>, place: usize, key: u64, value: u64)
     entries[place] = (key, value);
 }
 
+// Puts entries behind all others, where those below `start` are gone. Answers how many are gone then. There is room, and memory.
+#[inline(always)]
+fn put_all_behind(entries: &mut Vec<(u64, u64)>, start: usize, more: &[(u64, u64)]) -> usize
+    requires within { start ≤ length entries.old.items }
+    requires fits { length entries.old.items - start + length more.now ≤ 64 }
+    requires memory { length entries.old.items - start + length more.now ≤ vec_capacity entries.old }
+    ensures items { drop result entries.new.items ≡ drop start entries.old.items ++ more.now }
+    ensures within { result ≤ length entries.new.items }
+    ensures fits { length entries.new.items ≤ 64 }
+    ensures capacity { vec_capacity entries.old ≤ vec_capacity entries.new }
+{
+    let gone = make_room(entries, start, more.len());
+    match entries.extend_from_slice(more) {
+        Ok(()) => {}
+        Err(_) => unreachable!(),
+    }
+    gone
+}
+
 // Takes entries out, where those below `start` are gone. Answers how many are gone then.
 #[inline(always)]
 fn take_out(entries: &mut Vec<(u64, u64)>, start: usize, from: usize, to: usize) -> usize
@@ -339,12 +358,24 @@ impl Block {
     {
         let more = &other.entries.as_slice()[other.start..];
         self.start = widen(&mut self.entries, self.start, alloc)?;
-        self.start = make_room(&mut self.entries, self.start, more.len());
-        match self.entries.extend_from_slice(more) {
-            Ok(()) => {}
-            Err(_) => unreachable!(),
-        }
+        self.start = put_all_behind(&mut self.entries, self.start, more);
         Ok(())
+    }
+
+    /// As [`Block::append`], where there is memory for the most. Else nothing changes, and there are few entries.
+    pub(crate) fn try_append(&mut self, other: &Block) -> bool
+        requires room { length self.old + length other.now ≤ 64 }
+        requires rises { KeysRise (self.old ++ other.now) }
+        ensures put { result ≡ true → self.new ≡ self.old ++ other.now }
+        ensures left { result ≡ false → self.new ≡ self.old }
+        ensures few { result ≡ false → length self.old ≤ 4 }
+    {
+        if self.entries.capacity() < MOST {
+            return false;
+        }
+        let more = &other.entries.as_slice()[other.start..];
+        self.start = put_all_behind(&mut self.entries, self.start, more);
+        true
     }
 
     /// Its memory, with no entry.

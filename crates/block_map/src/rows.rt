@@ -8,8 +8,11 @@ use crate::block::{Block, FEW, MOST};
 use std::alloc::{AllocError, Global};
 use std::mem;
 
-// A row with fewer entries is not split.
+// A row with fewer entries is not split, and two neighbours with no more entries together may be joined.
 const HALF: usize = MOST / 2;
+
+// Where fewer entries are left in a row when one goes, its neighbours are looked at.
+const SPARSE: usize = HALF / 4;
 
 /// Whether all entries lie in one row, and are few, with memory for one more.
 #[inline(always)]
@@ -231,6 +234,58 @@ fn cut_row(blocks: &mut Vec<Block>, block: usize, from: usize, to: usize)
     drop(blocks.remove(block));
 }
 
+// Joins a row to the one before it, where both have few entries together, and that one has memory for them.
+fn join_few(blocks: &mut Vec<Block>, block: usize)
+    requires some { HasSome blocks.old.items }
+    requires rises { KeysRise (flat blocks.old.items) }
+    ensures items { flat blocks.new.items ≡ flat blocks.old.items }
+    ensures some { HasSome blocks.new.items }
+{
+    if block == 0 || block >= blocks.len() {
+        return;
+    }
+    if blocks[block - 1].len() + blocks[block].len() > HALF {
+        return;
+    }
+    let (low, high) = blocks.as_mut_slice().split_at_mut(block);
+    if low[block - 1].try_append(&high[0]) {
+        drop(blocks.remove(block));
+    }
+}
+
+// Joins rows that may have few entries: the one at a place, the one before it, and two behind it.
+fn join_around(blocks: &mut Vec<Block>, block: usize)
+    requires some { HasSome blocks.old.items }
+    requires rises { KeysRise (flat blocks.old.items) }
+    ensures items { flat blocks.new.items ≡ flat blocks.old.items }
+    ensures some { HasSome blocks.new.items }
+{
+    if block < blocks.len() {
+        join_few(blocks, block + 2);
+        join_few(blocks, block + 1);
+        join_few(blocks, block);
+    }
+}
+
+// Takes the entry at a place out of a row of which few are left, or none.
+#[inline(never)]
+fn remove_from_few(blocks: &mut Vec<Block>, spare: &mut Vec<(u64, u64)>, block: usize, index: usize)
+    requires some { HasSome blocks.old.items }
+    requires rises { KeysRise (flat blocks.old.items) }
+    requires empty { spare.old.items ≡ [] }
+    requires place { IsPlace blocks.old.items block index }
+    ensures items { flat blocks.new.items ≡ remove_range (flat blocks.old.items) (place_among blocks.old.items block index) (place_among blocks.old.items block index + 1) }
+    ensures some { HasSome blocks.new.items }
+    ensures empty { spare.new.items ≡ [] }
+{
+    if blocks[block].len() > 1 {
+        cut_row(blocks, block, index, index + 1);
+        join_around(blocks, block);
+        return;
+    }
+    remove_row(blocks, spare, block);
+}
+
 /// Takes the entry at a place out.
 #[inline(always)]
 pub(crate) fn remove_entry(
@@ -240,17 +295,18 @@ pub(crate) fn remove_entry(
     index: usize,
 )
     requires some { HasSome blocks.old.items }
+    requires rises { KeysRise (flat blocks.old.items) }
     requires empty { spare.old.items ≡ [] }
     requires place { IsPlace blocks.old.items block index }
     ensures items { flat blocks.new.items ≡ remove_range (flat blocks.old.items) (place_among blocks.old.items block index) (place_among blocks.old.items block index + 1) }
     ensures some { HasSome blocks.new.items }
     ensures empty { spare.new.items ≡ [] }
 {
-    if blocks[block].len() > 1 {
+    if blocks[block].len() > SPARSE {
         blocks[block].cut(index, index + 1);
         return;
     }
-    remove_row(blocks, spare, block);
+    remove_from_few(blocks, spare, block, index);
 }
 
 // Takes a row out, and keeps its memory.
@@ -330,8 +386,8 @@ fn cut_rows(blocks: &mut Vec<Block>, block: usize, index: usize, to: usize)
     cut_row(blocks, block, index, len);
 }
 
-/// Takes the entries from one place to another out, both included.
-pub(crate) fn remove_entries(blocks: &mut Vec<Block>, first: (usize, usize), last: (usize, usize))
+// Takes the entries from one place to another out, both included.
+fn cut_entries(blocks: &mut Vec<Block>, first: (usize, usize), last: (usize, usize))
     requires some { HasSome blocks.old.items }
     requires first { IsPlace blocks.old.items first.0 first.1 }
     requires last { IsPlace blocks.old.items last.0 last.1 }
@@ -346,6 +402,20 @@ pub(crate) fn remove_entries(blocks: &mut Vec<Block>, first: (usize, usize), las
     }
     cut_row(blocks, last.0, 0, last.1 + 1);
     cut_rows(blocks, first.0, first.1, last.0);
+}
+
+/// Takes the entries from one place to another out, both included. Rows that are left with few are joined.
+pub(crate) fn remove_entries(blocks: &mut Vec<Block>, first: (usize, usize), last: (usize, usize))
+    requires some { HasSome blocks.old.items }
+    requires rises { KeysRise (flat blocks.old.items) }
+    requires first { IsPlace blocks.old.items first.0 first.1 }
+    requires last { IsPlace blocks.old.items last.0 last.1 }
+    requires order { place_among blocks.old.items first.0 first.1 ≤ place_among blocks.old.items last.0 last.1 }
+    ensures items { flat blocks.new.items ≡ remove_range (flat blocks.old.items) (place_among blocks.old.items first.0 first.1) (place_among blocks.old.items last.0 last.1 + 1) }
+    ensures some { HasSome blocks.new.items }
+{
+    cut_entries(blocks, first, last);
+    join_around(blocks, first.0);
 }
 
 // Whether the last row has room for the entries of another.
