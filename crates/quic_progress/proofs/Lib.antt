@@ -32,5 +32,7 @@ pub mod GivenUps
 pub mod ResetsPend
 pub mod ResetsWritten
 pub mod ResetsCome
+pub mod Linked
 pub mod ResetsArrive
+pub mod ResetsEver
 pub mod Consumed

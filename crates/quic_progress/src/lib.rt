@@ -42,7 +42,7 @@ pub fn send_windows_are_free()
 /// Once neither of two ends has something to send, and every payload is settled, as `Pair::settle` leaves them, a reset was
 /// accepted of each stream that its writer gave up.
 pub fn settled_resets_arrive()
-    ensures { (s : Beginning) (h : History) (v : PairState) (led : PairFrom s h v) → StartsAtOnce s → AreIdle v → AreSettledIn 0 (length v.sent) v.sent → HaveResetsArrived (past_of h) v.sent }
+    ensures { (s : Beginning) (h : History) (v : PairState) (led : PairFrom s h v) → IsAgreed s v → AreIdle v → AreSettledIn 0 (length v.sent) v.sent → HaveResetsArrived (past_of h) v.sent }
 {}
 
 /// So where, as `Pair::settle` leaves them, all was read that was written on streams that were neither given up nor stopped,
