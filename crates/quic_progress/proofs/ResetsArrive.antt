@@ -58,7 +58,6 @@ use Rattle.quic_progress.proofs.Tracked.{Forth, forth-same}
 use Rattle.quic_progress.proofs.GivenUps.{WasAckedIn, GivesNoneUp, all-stay}
 use Rattle.quic_progress.proofs.ResetsPend.{KeepsResets, step-keeps}
 use Rattle.quic_progress.proofs.ResetsCome.{Comes, Waits, HasCome, come-more, comes-on, waits-forth, forth-handed, waits-emits, waits-lost, waits-acked, come-acked}
-use Rattle.quic_progress.proofs.AtOnce.{course-from}
 
 -- ---- the resets of a flow
 
