@@ -31,6 +31,6 @@ pub mod GivenUps
 pub mod ResetsPend
 pub mod ResetsWritten
 pub mod ResetsCome
+pub mod ResetSteps
 pub mod ResetsArrive
-pub mod ResetsEver
 pub mod Consumed

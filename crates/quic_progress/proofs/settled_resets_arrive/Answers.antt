@@ -1,5 +1,5 @@
 -- The theorem of resets that arrive.
-use Rattle.quic_progress.proofs.ResetsEver.{resets-arrive}
+use Rattle.quic_progress.proofs.ResetsArrive.{resets-arrive}
 use Rattle.quic_progress.proofs.settled_resets_arrive.Goals as goal
 
 pub returns : goal.returns
