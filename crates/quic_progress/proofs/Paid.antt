@@ -128,12 +128,6 @@ same_end B A e = cc
 same_number : (a b : ℕ) → (a == b) ≡ true → a ≡ b
 same_number a b e = grind (arith, nat_tests)
 
-other_peer : (a b : End) → is_same_end (peer a) (peer b) ≡ false → (a ≡ b → ⊥)
-other_peer A A e k = cc
-other_peer B B e k = cc
-other_peer A B e k = cc
-other_peer B A e k = cc
-
 module _ (m : End → Made) (p : Past) (old new : PairState) (paid : (who : End) → PaidAt (m who) p who (the_end old who).streams) where
   -- the end that stopped it has the call
   paid_stopped : (who : End) (id code : ℕ) → NextOrdinary old (steps.Stop who id code) (Ok Done) new → PaidAt (m who) (after p (steps.Stop who id code) (Ok Done)) who (the_end new who).streams

@@ -144,17 +144,21 @@ module _ (old new : PairState) (p : Past) (t u : Tales) (c : Comes old t p) (x :
 
   waits_again : (who : End) (id : ℕ) → Waits id old who → Waits id new who
   waits_again A id w =
-      let P : Pending → Type 0 = λ q. IsOneOf (id, w.0) q.reset_stream in
-      (w.0, inl (subst P (sym (ap (λ (v : PairState). v.a.pending) x.is)) (elim w.1 [
-        | inl pending ↦ all_pending (id, w.0) old.a.pending old.sent pending
-        | inr n ↦ each_pending (id, w.0) old.sent old.a.pending n.number n.payload n.rest n.is n.rest_is n.noted
-      ])))
+      let P : Pending → Type 0 = λ q. IsOneOf (id, w.0) q.reset_stream in (
+        w.0,
+        inl (subst P (sym (ap (λ (v : PairState). v.a.pending) x.is)) (elim w.1 [
+          | inl pending ↦ all_pending (id, w.0) old.a.pending old.sent pending
+          | inr n ↦ each_pending (id, w.0) old.sent old.a.pending n.number n.payload n.rest n.is n.rest_is n.noted
+        ])),
+      )
   waits_again B id w =
-      let P : Pending → Type 0 = λ q. IsOneOf (id, w.0) q.reset_stream in
-      (w.0, inl (elim w.1 [
-        | inl pending ↦ subst P (sym (ap (λ (v : PairState). v.b.pending) x.is)) pending
-        | inr n ↦ absurd (of_a n.number n.payload n.rest n.is n.writer n.rest_is)
-      ]))
+      let P : Pending → Type 0 = λ q. IsOneOf (id, w.0) q.reset_stream in (
+        w.0,
+        inl (elim w.1 [
+          | inl pending ↦ subst P (sym (ap (λ (v : PairState). v.b.pending) x.is)) pending
+          | inr n ↦ absurd (of_a n.number n.payload n.rest n.is n.writer n.rest_is)
+        ]),
+      )
 
   comes_retries : Comes new u (after p steps.Retry (Ok Done))
   comes_retries = record {
