@@ -24,12 +24,13 @@ use Rattle.quic_link.proofs.Ends.{ArePlain, since-plain}
 use Rattle.quic_link.proofs.Joint.{agrees}
 use Rattle.quic_link.proofs.Sums.{total-most}
 use Rattle.quic_steps.specs.declared.steps.End.{End}
+use Rattle.quic_steps.specs.declared.steps.End.TheVariants.{A, B}
 use Rattle.quic_pair.specs.declared.sent.Sent.{Sent}
 use Rattle.quic_pair.specs.Payloads.{is_accepted}
 use Rattle.quic_pair.specs.State.{PairState, peer, the_end}
 use Rattle.quic_pair.specs.History.{History, Past, past_of}
 use Rattle.quic_pair.specs.Headline.{SomeStream, HasOffset}
-use Rattle.quic_pair.specs.From.{Beginning, PairFrom, limits_of_b}
+use Rattle.quic_pair.specs.From.{Beginning, PairFrom}
 use Rattle.quic_pair.specs.Runs.{sendings_of}
 use Rattle.quic_pair.specs.Tale.{Tales, Told}
 use Rattle.quic_pair.specs.Readable.{SomeReset}
@@ -40,20 +41,20 @@ use Rattle.quic_pair.proofs.Flips.{seen-as, peer-peer}
 use Rattle.quic_pair.proofs.Headlines.{length-written}
 use Rattle.quic_pair.proofs.Marks.{AreMarkedSo, marks-from}
 use Rattle.quic_pair.proofs.Arrived.{have-arrived}
-use Rattle.quic_pair.proofs.Led.{origin_a, origin_b}
+use Rattle.quic_pair.proofs.Recounted.{made_at}
 use Rattle.quic_pair.proofs.Grown.{joined-from}
 use Rattle.quic_pair.proofs.ToldOnce.{told-once}
-use Rattle.quic_progress.specs.Progress.{StartsAtOnce, OwesNoDebt, CanBeTold, IsAllConsumed}
-use Rattle.quic_progress.specs.Consumed.{HaveResetsArrived, CountAsConsumed}
+use Rattle.quic_progress.specs.Progress.{IsAgreed, ForgetsNone, KnowsLimits, OwesNoDebt, CanBeTold, IsAllConsumed}
+use Rattle.quic_progress.specs.Consumed.{HaveResetsArrived, CountsAsConsumed, CountAsConsumed, ConsumeMost}
 use Rattle.quic_progress.proofs.Amounts.{total_in, sum-taken}
 use Rattle.quic_progress.proofs.Unread.{AreReadUp, given-all, received-spent}
 use Rattle.quic_progress.proofs.Reruns.{reads-run}
 use Rattle.quic_progress.proofs.Traces.{kept-low, stopped-still, gone-settled}
-use Rattle.quic_progress.proofs.Paid.{paid-from}
-use Rattle.quic_progress.proofs.Heard.{heard-from}
+use Rattle.quic_progress.proofs.Paid.{PaidAt, paid-from}
+use Rattle.quic_progress.proofs.Heard.{HeardAt, heard-from}
 use Rattle.quic_progress.proofs.ResetTraces.{IsOverSo, reset-taken}
-use Rattle.quic_progress.proofs.AtOnce.{course-from}
-use Rattle.quic_progress.proofs.Settled.{know-limits}
+use Rattle.quic_progress.proofs.Course.{agreed-waits, course-from}
+use Rattle.quic_progress.proofs.Settled.{know-limits, know-most}
 
 -- ---- sums over other streams
 
@@ -266,11 +267,24 @@ module _ (p : Past) (v : PairState) (who : End) (marks : AreMarkedSo p.accepted 
 
 -- ---- whatever steps led to it
 
-module _ (s : Beginning) (h : History) (v : PairState) (f : PairFrom s h v) (early : StartsAtOnce s) (idle : AreIdle v) (settled : AreSettledIn 0 (length v.sent) v.sent) (read : HaveBeenRead (past_of h)) (resets : HaveResetsArrived (past_of h) v.sent) where
+module _ (s : Beginning) (h : History) (v : PairState) (f : PairFrom s h v) (agreed : IsAgreed s v) (idle : AreIdle v) (settled : AreSettledIn 0 (length v.sent) v.sent) (read : HaveBeenRead (past_of h)) (resets : HaveResetsArrived (past_of h) v.sent) where
+  -- the calls that each end came from
+  paid : (who : End) → PaidAt (made_at (course-from f (agreed-waits f agreed)).a (course-from f (agreed-waits f agreed)).b who) (past_of h) who (the_end v who).streams
+  paid who =
+      let c = course-from f (agreed-waits f agreed) in
+      let P : Past → Type 0 = λ p. PaidAt (made_at c.a c.b who) p who (the_end v who).streams in
+      subst P (sym c.past) (paid-from c.era who)
+
+  heard : (who : End) → HeardAt (made_at (course-from f (agreed-waits f agreed)).a (course-from f (agreed-waits f agreed)).b who) (past_of h) v.sent who (the_end v who).streams
+  heard who =
+      let c = course-from f (agreed-waits f agreed) in
+      let P : Past → Type 0 = λ p. HeardAt (made_at c.a c.b who) p v.sent who (the_end v who).streams in
+      subst P (sym c.past) (heard-from c.era who)
+
   -- its reader stopped none that it holds and that is not stopped
   unstopped : (who : End) (q : ℕ) (half : Half) → (the_end v (peer who)).streams.receive q ≡ Some half → half.stopped ≡ false → IsUnstopped ((past_of h).flow who q)
   unstopped who q half held runs code i =
-      let a = paid-from s early f (peer who) in
+      let a = paid (peer who) in
       let w = (the_end v (peer who)).streams in
       let P : End → Type 0 = λ e. IsOneOf code ((past_of h).flow e q).stops in
       let stopped = stopped-still a.calls q code a.plain (a.stops q code (subst P (sym (peer-peer who)) i)) in
@@ -279,9 +293,9 @@ module _ (s : Beginning) (h : History) (v : PairState) (f : PairFrom s h v) (ear
       differ half.stopped (told.stopped ∙ stopped) runs
 
   -- of a stream that was given up, a reset came
-  over : (who : End) (q code : ℕ) → IsOneOf code ((past_of h).flow who q).resets → IsOverSo (trace (heard-from s early f (peer who)).calls q)
+  over : (who : End) (q code : ℕ) → IsOneOf code ((past_of h).flow who q).resets → IsOverSo (trace (heard (peer who)).calls q)
   over who q code i =
-      let a = heard-from s early f (peer who) in
+      let a = heard (peer who) in
       let r = resets who q code i in
       let P : End → Type 0 = λ e. SomeReset v.sent e q r.0 (past_of h).accepted in
       reset-taken _ a.calls (the_end v (peer who)).streams a.from.run a.plain q (a.heard q r.0 (subst P (sym (peer-peer who)) r.1))
@@ -289,7 +303,7 @@ module _ (s : Beginning) (h : History) (v : PairState) (f : PairFrom s h v) (ear
   -- so none was given up that is held and was not reset
   unreset_there : (who : End) (q : ℕ) (half : Half) → (the_end v (peer who)).streams.receive q ≡ Some half → half.reset ≡ None → IsUnreset ((past_of h).flow who q)
   unreset_there who q half held none code i =
-      let a = heard-from s early f (peer who) in
+      let a = heard (peer who) in
       let facts = a.from.facts.streams in
       let told = half-from (trace a.calls) (the_end v (peer who)).streams q half facts (known-from (trace a.calls) (the_end v (peer who)).streams q half facts held) held in
       elim (over who q code i) [
@@ -299,59 +313,63 @@ module _ (s : Beginning) (h : History) (v : PairState) (f : PairFrom s h v) (ear
 
   read_up : (who : End) → AreReadUp (the_end v (peer who)).streams
   read_up who q half held runs reset =
-      let c = course-from s early f in
+      let c = course-from f (agreed-waits f agreed) in
       let P : Past → Type 0 = λ p. IsAllGiven (slices (p.flow who q).given) (length (p.flow who q).written) in
       let all = subst P c.past (read who q (unreset_there who q half held reset) (unstopped who q half held runs)).all in
       seen-as _ _ (past_of c.taken) v who (joined-from c.era) (half.end ≤ half.buffer.bytes_read)
       (λ x y side k. read_whole (past_of c.taken) v who (marks-from c.era) x y k q half held all)
 
   -- the same is told in all as was written
-  told_written : (who : End) (x : LinkedEnd) → ArePlain x.calls → x.world ≡ (the_end v who).streams → (send_totals x.world.out).data_sent ≡ taken_in_all x.calls → ((course-from s early f).recounted.tales.of who).written ≡ taken_in_all x.calls
+  told_written : (who : End) (x : LinkedEnd) → ArePlain x.calls → x.world ≡ (the_end v who).streams → (send_totals x.world.out).data_sent ≡ taken_in_all x.calls → ((course-from f (agreed-waits f agreed)).recounted.tales.of who).written ≡ taken_in_all x.calls
   told_written who x plain is sent =
-      let k = (course-from s early f).recounted.counted who in
+      let k = (course-from f (agreed-waits f agreed)).recounted.counted who in
       let a : (send_totals (the_end v who).streams.out).data_sent ≡ taken_in_all (since k.calls) = k.from.sent.taken in
       let b : taken_in_all (since k.calls) ≡ taken_in_all k.calls = ap taken_in_all (since-plain k.calls k.plain) in
       let c : (send_totals x.world.out).data_sent ≡ (send_totals (the_end v who).streams.out).data_sent = ap (λ (w : World). (send_totals w.out).data_sent) is in
       sym k.tells.written_is ∙ sym b ∙ sym a ∙ sym c ∙ sent
 
-  each_came : (who : End) (x y : LinkedEnd) (k : Seen (past_of (course-from s early f).taken) who v x y) (q : ℕ) (l : List ℕ) → ((past_of h).flow who q).resets ≡ l → amount_on x q ≤ (came_on y q).high
+  each_came : (who : End) (x y : LinkedEnd) (k : Seen (past_of (course-from f (agreed-waits f agreed)).taken) who v x y) (q : ℕ) (l : List ℕ) → ((past_of h).flow who q).resets ≡ l → amount_on x q ≤ (came_on y q).high
   each_came who x y k q [] e =
-      let c = course-from s early f in
+      let c = course-from f (agreed-waits f agreed) in
       let P : List ℕ → Type 0 = λ l. (code : ℕ) → IsOneOf code l → ⊥ in
       let Q : Past → Type 0 = λ p. IsUnreset (p.flow who q) in
       let none : IsUnreset ((past_of h).flow who q) = subst P (sym e) (λ code i. absurd i) in
-      arrived_came (past_of c.taken) v who (marks-from c.era) x y k q (have-arrived (origin_a s (limits_of_b s)) (origin_b s) c.taken v c.era idle settled who q (subst Q c.past none))
+      arrived_came (past_of c.taken) v who (marks-from c.era) x y k q (have-arrived c.a c.b c.taken v c.era idle settled who q (subst Q c.past none))
   each_came who x y k q (code ∷ codes) e =
-      let c = course-from s early f in
-      let a = heard-from s early f (peer who) in
+      let c = course-from f (agreed-waits f agreed) in
+      let a = heard (peer who) in
       let P : List ℕ → Type 0 = λ l. IsOneOf code l in
       over_came (past_of c.taken) v who (marks-from c.era) x y k q _ a.calls a.from (over who q code (subst P (sym e) (inl refl)))
 
-  came : (who : End) → ((course-from s early f).recounted.tales.of who).written ≤ (the_end v (peer who)).streams.credit.data_recvd
+  came : (who : End) → ((course-from f (agreed-waits f agreed)).recounted.tales.of who).written ≤ (the_end v (peer who)).streams.credit.data_recvd
   came who =
-      let c = course-from s early f in
-      seen-as (origin_a s (limits_of_b s)) (origin_b s) (past_of c.taken) v who (joined-from c.era) (((course-from s early f).recounted.tales.of who).written ≤ (the_end v (peer who)).streams.credit.data_recvd)
+      let c = course-from f (agreed-waits f agreed) in
+      seen-as c.a c.b (past_of c.taken) v who (joined-from c.era) (((course-from f (agreed-waits f agreed)).recounted.tales.of who).written ≤ (the_end v (peer who)).streams.credit.data_recvd)
       (λ x y side k.
       let l = received_all (past_of c.taken) v who (marks-from c.era) x y k (λ q. each_came who x y k q ((past_of h).flow who q).resets refl) in
       let comes = ((agrees k.linked).0).comes in
       let w = told_written who x comes.plain k.here.world comes.sent.taken in
       omega (arith, l, w))
 
-  all_now : (who : End) → OwesNoDebt (the_end v (peer who)).streams.credit → CanBeTold (the_end v (peer who)).streams.credit.local_max_data → IsAllConsumed ((course-from s early f).recounted.tales.of who) (the_end v (peer who)).streams.credit
+  all_now : (who : End) → OwesNoDebt (the_end v (peer who)).streams.credit → CanBeTold (the_end v (peer who)).streams.credit.local_max_data → IsAllConsumed ((course-from f (agreed-waits f agreed)).recounted.tales.of who) (the_end v (peer who)).streams.credit
   all_now who owes small =
-      let a = paid-from s early f (peer who) in
+      let a = paid (peer who) in
       let spent = received-spent _ a.calls (the_end v (peer who)).streams a.from (reads-run _ a.calls (the_end v (peer who)).streams a.from.run a.plain) (read_up who) a.plain a.none owes small in
       let l = came who in
       omega (arith, spent, l)
 
-  consumed_now : CountAsConsumed v (course-from s early f).recounted.tales
-  consumed_now who =
-      let c = course-from s early f in
-      let k = (know-limits s h v f idle settled c.recounted.tales c.told (inl early)) who in
-      record { all = all_now who; room = λ owes small. k.goes_on.connection owes small (all_now who owes small) }
+  -- what the limit leaves its writer, where that knows it but for an eighth
+  counts_now : (who : End) → KnowsLimits v (course-from f (agreed-waits f agreed)).recounted.tales who → CountsAsConsumed ((course-from f (agreed-waits f agreed)).recounted.tales.of who) (the_end v (peer who)).streams
+  counts_now who k = record { all = all_now who; room = λ owes small. k.goes_on.connection owes small (all_now who owes small) }
 
-  pub consumed-all : (t : Tales) → Told s (sendings_of f) t → CountAsConsumed v t
-  consumed-all t k =
-      let c = course-from s early f in
+  pub consumed-all : ForgetsNone s h v → (t : Tales) → Told s (sendings_of f) t → CountAsConsumed v t
+  consumed-all none t k =
+      let c = course-from f (agreed-waits f agreed) in
       let P : Tales → Type 0 = λ x. CountAsConsumed v x in
-      subst P (told-once s (sendings_of f) c.recounted.tales t c.told k) consumed_now
+      subst P (told-once s (sendings_of f) c.recounted.tales t c.told k) (λ who. counts_now who (know-limits s h v f idle settled c.recounted.tales c.told none who))
+
+  pub consumed-most : (t : Tales) → Told s (sendings_of f) t → ConsumeMost v t
+  consumed-most t k =
+      let c = course-from f (agreed-waits f agreed) in
+      let P : Tales → Type 0 = λ x. ConsumeMost v x in
+      subst P (told-once s (sendings_of f) c.recounted.tales t c.told k) (record { client = counts_now A (know-most s h v f idle settled c.recounted.tales c.told agreed).client; server = all_now B })

@@ -1,7 +1,7 @@
--- Whatever steps led to a pair whose client sent nothing early, each end came from calls that took every reset that was accepted.
-use Rattle.std.proofs.Common.{◌≡◌, ◌⊎◌, ℕ, List, [], ◌∷◌, Option, None, Result, Ok, Err, refl, sym, ap, ◌∙◌, subst, inl, inr}
-use Rattle.std.specs.Prelude.{◌&&◌, MatchBool, is_some, slice_get}
-use Rattle.std.proofs.lemmas.Option.{none-some, same_Some}
+-- Whatever steps led to a pair since it was made, or since the server rejected what the client had sent early, each end came from calls that took every reset that was accepted.
+use Rattle.std.proofs.Common.{◌≡◌, ◌⊎◌, ℕ, List, ◌∷◌, Result, Ok, Err, refl, sym, ap, ◌∙◌, subst, inl, inr}
+use Rattle.std.specs.Prelude.{slice_get}
+use Rattle.std.proofs.lemmas.Option.{same_Some}
 use Rattle.quic_wire.specs.declared.frame.Frame.{Frame}
 use Rattle.quic_wire.specs.declared.frame.Frame.TheVariants as frames
 use Rattle.quic_wire.specs.declared.frame.ResetStream.{ResetStream}
@@ -20,20 +20,19 @@ use Rattle.quic_steps.specs.declared.steps.End.TheVariants.{A, B}
 use Rattle.quic_steps.specs.declared.steps.Step.{Step}
 use Rattle.quic_steps.specs.declared.steps.Step.TheVariants as steps
 use Rattle.quic_steps.specs.declared.steps.Reply.TheVariants.{Done, DoneTransmit, Fault}
-use Rattle.quic_steps.specs.declared.steps.PairError.TheVariants.{LimitsBelow, Undecided, Decided, OutOfMemory as NoMemory}
-use Rattle.quic_pair.specs.declared.early.EarlyLimits.{EarlyLimits}
+use Rattle.quic_steps.specs.declared.steps.PairError.TheVariants.{OutOfMemory as NoMemory}
 use Rattle.quic_pair.specs.declared.sent.Sent.{Sent}
 use Rattle.quic_pair.specs.declared.unsettled.Report.TheVariants.{Lost, Acknowledged}
 use Rattle.quic_pair.specs.Payloads.{IsFrameAt}
 use Rattle.quic_pair.specs.Replies.{Answer, received_reply}
 use Rattle.quic_pair.specs.State.{PairState, peer, the_end, with_end, with_sent}
-use Rattle.quic_pair.specs.Steps.{NextOrdinary, NextTaken, HandsOver, needs_decision}
+use Rattle.quic_pair.specs.Steps.{NextOrdinary, HandsOver}
 use Rattle.quic_pair.specs.History.{History, Past, FramePlace, after, past_of}
 use Rattle.quic_pair.specs.Readable.{SomeReset}
-use Rattle.quic_pair.specs.From.{Beginning, PairFrom, begun, next, IsNew, limits_of_b}
 use Rattle.quic_pair.proofs.Beside.{IsOfNoPayload, beside}
 use Rattle.quic_pair.proofs.Flips.{peer-other}
-use Rattle.quic_pair.proofs.Led.{origin_a, origin_b}
+use Rattle.quic_pair.proofs.Origins.{Origin}
+use Rattle.quic_pair.proofs.Eras.{EraFrom, Changes, begun, next, changed, accepts, retries}
 use Rattle.quic_pair.proofs.Grown.{past-after}
 use Rattle.quic_pair.proofs.KeptPlaces.{frame-one}
 use Rattle.quic_pair.proofs.Marks.{AreMarkedSo, HasMark, marks-from, sent_on_end}
@@ -41,9 +40,8 @@ use Rattle.quic_pair.proofs.PayloadKnows.{StaySent, stay-sent}
 use Rattle.quic_pair.proofs.Recounted.{made_at}
 use Rattle.quic_pair.proofs.Streamless.{stay-emitted, stay-delivered, stay-reported}
 use Rattle.quic_progress.proofs.Whole.{Run, Runs, runs-frame, by-call}
-use Rattle.quic_progress.proofs.WholeSteps.{step-runs, answer_streams}
+use Rattle.quic_progress.proofs.WholeSteps.{step-runs, answer_streams, changed-runs}
 use Rattle.quic_progress.proofs.Paid.{paid-from}
-use Rattle.quic_progress.proofs.AtOnce.{course-from}
 
 -- a RESET_STREAM of the stream was taken
 abbrev pub WasResetIn : List Event → ℕ → Type 0
@@ -222,42 +220,23 @@ module _ (m : End → Made) (p : Past) (old new : PairState) (marks : AreMarkedS
   heard-next (steps.Ack number) reply n = heard_same (steps.Ack number) reply refl (stay-reported old new Acknowledged AcksPayloadAt number reply n) (step-runs old new m (steps.Ack number) reply n)
   heard-next _ reply n = absurd n
 
-  pub heard-stays : (step : Step) (reply : Answer) → ((q : Past) → after q step reply ≡ q) → new ≡ old → (who : End) → HeardAt (m who) (after p step reply) new.sent who (the_end new who).streams
-  heard-stays step reply same is who =
-      let P : Past → Type 0 = λ q. HeardAt (m who) q new.sent who (the_end new who).streams in
-      let Q : PairState → Type 0 = λ v. HeardAt (m who) p v.sent who (the_end v who).streams in
-      subst P (sym (same p)) (subst Q (sym is) (x who))
+-- ---- from the beginning of an era
 
--- ---- from the beginning
+heard_changed : {b : Origin} (m : End → Made) (p : Past) (old new : PairState) → AreMarkedSo p.accepted old.sent → ((who : End) → Runs (m who) (the_end old who).streams (the_end new who).streams) → ((who : End) → HeardAt (m who) p old.sent who (the_end old who).streams)
+    → (step : Step) → Changes b p old new step → (who : End) → HeardAt (m who) (after p step (Ok Done)) new.sent who (the_end new who).streams
+heard_changed m p old new marks runs x step (accepts k within few) who =
+    let same : new.sent ≡ old.sent = ap (λ (v : PairState). v.sent) k.is in
+    heard_on (m who) p p old.sent new.sent who (the_end old who).streams (the_end new who).streams marks (subst (StaySent old.sent) (sym same) (stay-sent old.sent)) refl (runs who) (x who)
+heard_changed m p old new marks runs x step (retries k n did mine accepted kept) who =
+    let a = x who in
+    let r = runs who a.calls a.from a.plain in
+    record { calls = r.calls; from = r.from; plain = r.plain; heard = λ q code reset. let P : List FramePlace → Type 0 = λ l. IsOneOf reset.at l in absurd (subst P accepted reset.listed) }
 
-module _ (s : Beginning) (early : s.early ≡ None) where
-  abbrev made : End → Made
-  made = made_at (origin_a s (limits_of_b s)) (origin_b s)
-
-  heard_begun : (v : PairState) (n : IsNew s v) (who : End) → HeardAt (made who) (past_of []) v.sent who (the_end v who).streams
-  heard_begun v n who = let a = paid-from s early (begun n) who in record { calls = a.calls; from = a.from; plain = a.plain; heard = λ q code r. absurd r.listed }
-
-  heard_taken : (p : Past) (old new : PairState) → old.waits ≡ None → AreMarkedSo p.accepted old.sent → ((who : End) → HeardAt (made who) p old.sent who (the_end old who).streams) → (step : Step) (reply : Answer) → NextTaken old step reply new
-      → (who : End) → HeardAt (made who) (after p step reply) new.sent who (the_end new who).streams
-  heard_taken p old new w k x steps.EarlyAccept (Ok Done) n = absurd (none-some n.limits (sym w ∙ n.waiting))
-  heard_taken p old new w k x steps.EarlyAccept (Err NoMemory) n = heard-stays made p old new k x steps.EarlyAccept (Err NoMemory) (λ q. refl) n.is
-  heard_taken p old new w k x steps.EarlyAccept (Err LimitsBelow) n = heard-stays made p old new k x steps.EarlyAccept (Err LimitsBelow) (λ q. refl) n.is
-  heard_taken p old new w k x steps.EarlyAccept (Err Decided) n = heard-stays made p old new k x steps.EarlyAccept (Err Decided) (λ q. refl) n.1
-  heard_taken p old new w k x steps.EarlyAccept _ n = absurd n
-  heard_taken p old new w k x steps.EarlyReject (Ok Done) n = absurd (none-some n.limits (sym w ∙ n.waiting))
-  heard_taken p old new w k x steps.EarlyReject (Err Decided) n = heard-stays made p old new k x steps.EarlyReject (Err Decided) (λ q. refl) n.1
-  heard_taken p old new w k x steps.EarlyReject _ n = absurd n
-  heard_taken p old new w k x steps.Retry (Ok Done) n = absurd (none-some n.limits (sym w ∙ n.waiting))
-  heard_taken p old new w k x steps.Retry (Err NoMemory) n = heard-stays made p old new k x steps.Retry (Err NoMemory) (λ q. refl) n.1
-  heard_taken p old new w k x steps.Retry (Err Decided) n = heard-stays made p old new k x steps.Retry (Err Decided) (λ q. refl) n.1
-  heard_taken p old new w k x steps.Retry _ n = absurd n
-  heard_taken p old new w k x step reply n = heard-next made p old new k x step reply n
-
-  pub heard-from : {h : History} {v : PairState} (f : PairFrom s h v) (who : End) → HeardAt (made who) (past_of h) v.sent who (the_end v who).streams
-  heard-from {h} {v} (begun n) who = heard_begun v n who
-  heard-from (next {h} {old} {new} step reply f n) who =
-      let c = course-from s early f in
-      let M : Past → Type 0 = λ p. AreMarkedSo p.accepted old.sent in
-      let P : Option EarlyLimits → Type 0 = λ w. MatchBool (is_some w && needs_decision step) ((reply ≡ Err Undecided) × (new ≡ old)) (NextTaken old step reply new) in
-      let Q : Past → Type 0 = λ p. HeardAt (made who) p new.sent who (the_end new who).streams in
-      subst Q (sym (past-after h step reply)) (heard_taken (past_of h) old new c.waits (subst M (sym c.past) (marks-from c.era)) (λ k. heard-from f k) step reply (subst P c.waits n) who)
+pub heard-from : {a b : Origin} {h : History} {v : PairState} (f : EraFrom a b h v) (who : End) → HeardAt (made_at a b who) (past_of h) v.sent who (the_end v who).streams
+heard-from {a} {b} (begun n) who = let k = paid-from (begun n) who in record { calls = k.calls; from = k.from; plain = k.plain; heard = λ q code r. absurd r.listed }
+heard-from {a} {b} (next {h} {old} {new} step reply f n) who =
+    let Q : Past → Type 0 = λ p. HeardAt (made_at a b who) p new.sent who (the_end new who).streams in
+    subst Q (sym (past-after h step reply)) (heard-next (made_at a b) (past_of h) old new (marks-from f) (λ k. heard-from f k) step reply n who)
+heard-from {a} {b} (changed {h} {old} {new} step f c) who =
+    let Q : Past → Type 0 = λ p. HeardAt (made_at a b who) p new.sent who (the_end new who).streams in
+    subst Q (sym (past-after h step (Ok Done))) (heard_changed (made_at a b) (past_of h) old new (marks-from f) (λ k. changed-runs old new (made_at a b k) step c k) (λ k. heard-from f k) step c who)

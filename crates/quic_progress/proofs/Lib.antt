@@ -17,7 +17,6 @@ pub mod Unset
 pub mod Settled
 pub mod Rooms
 pub mod Windows
-pub mod AtOnce
 pub mod Spent
 pub mod Reruns
 pub mod Amounts
@@ -32,5 +31,6 @@ pub mod GivenUps
 pub mod ResetsPend
 pub mod ResetsWritten
 pub mod ResetsCome
+pub mod ResetSteps
 pub mod ResetsArrive
 pub mod Consumed

@@ -1,9 +1,8 @@
--- Whatever steps led to a pair whose client sent nothing early, each end came from calls of which every reader was ended, and that stopped
--- each stream that was stopped.
-use Rattle.std.proofs.Common.{◌≡◌, ◌⊎◌, ℕ, Bool, true, false, List, [], ◌∷◌, Option, None, Ok, Err, refl, sym, ap, ◌∙◌, subst, inl, inr, arith}
-use Rattle.std.specs.Prelude.{◌&&◌, ◌==◌, MatchBool, is_some, take, if◌then◌else◌}
+-- Whatever steps led to a pair since it was made, or since the server rejected what the client had sent early, each end came from calls of
+-- which every reader was ended, and that stopped each stream that was stopped.
+use Rattle.std.proofs.Common.{◌≡◌, ◌⊎◌, ℕ, Bool, true, false, List, [], ◌∷◌, Ok, Err, refl, sym, ap, ◌∙◌, subst, inl, inr, arith}
+use Rattle.std.specs.Prelude.{◌&&◌, ◌==◌, take, if◌then◌else◌}
 use Rattle.std.specs.List.{concat}
-use Rattle.std.proofs.lemmas.Option.{none-some}
 use Rattle.std.proofs.lemmas.Bool.Decides.{nat_tests}
 use Rattle.quic_wire.specs.declared.event.StreamEvent.{StreamEvent}
 use Rattle.quic_wire.specs.declared.event.StreamEvent.TheVariants as stream_event
@@ -26,21 +25,20 @@ use Rattle.quic_steps.specs.declared.steps.Step.TheVariants as steps
 use Rattle.quic_steps.specs.declared.steps.Last.{Last}
 use Rattle.quic_steps.specs.declared.steps.Last.TheVariants as last
 use Rattle.quic_steps.specs.declared.steps.Reply.TheVariants.{Done, DoneTransmit, Fault, Id, Wrote, WroteChunks, Stopped, Read, Code, Event as EventReply}
-use Rattle.quic_steps.specs.declared.steps.PairError.TheVariants.{LimitsBelow, Undecided, Decided, OutOfMemory as NoMemory}
-use Rattle.quic_pair.specs.declared.early.EarlyLimits.{EarlyLimits}
+use Rattle.quic_steps.specs.declared.steps.PairError.TheVariants.{OutOfMemory as NoMemory}
 use Rattle.quic_pair.specs.Replies.{Answer}
 use Rattle.quic_pair.specs.State.{PairState, peer, the_end}
-use Rattle.quic_pair.specs.Steps.{NextOrdinary, NextTaken, needs_decision}
+use Rattle.quic_pair.specs.Steps.{NextOrdinary}
 use Rattle.quic_pair.specs.History.{History, Past, Flow, after, past_of, with_flow, ends_flow, resets_with, stops_with, tells_reset, tells_stop, completes, writes_more, reads_chunks, reads_last, after_event, is_same_end}
-use Rattle.quic_pair.specs.From.{Beginning, PairFrom, begun, next, IsNew, end_begun, limits_of_b}
+use Rattle.quic_pair.specs.From.{end_begun}
 use Rattle.quic_pair.proofs.Flips.{peer-peer}
-use Rattle.quic_pair.proofs.Led.{origin_a, origin_b}
+use Rattle.quic_pair.proofs.Origins.{Origin}
+use Rattle.quic_pair.proofs.Eras.{EraFrom, IsBegun, Changes, begun, next, changed, accepts, retries}
 use Rattle.quic_pair.proofs.Grown.{past-after}
 use Rattle.quic_pair.proofs.Recounted.{made_at}
 use Rattle.quic_progress.proofs.Spent.{outstanding}
 use Rattle.quic_progress.proofs.Whole.{Runs}
-use Rattle.quic_progress.proofs.WholeSteps.{step-runs, stop-runs}
-use Rattle.quic_progress.proofs.AtOnce.{course-from, is_begun}
+use Rattle.quic_progress.proofs.WholeSteps.{step-runs, stop-runs, changed-runs}
 
 -- ---- the stops of a flow
 
@@ -130,12 +128,6 @@ same_end B A e = cc
 same_number : (a b : ℕ) → (a == b) ≡ true → a ≡ b
 same_number a b e = grind (arith, nat_tests)
 
-other_peer : (a b : End) → is_same_end (peer a) (peer b) ≡ false → (a ≡ b → ⊥)
-other_peer A A e k = cc
-other_peer B B e k = cc
-other_peer A B e k = cc
-other_peer B A e k = cc
-
 module _ (m : End → Made) (p : Past) (old new : PairState) (paid : (who : End) → PaidAt (m who) p who (the_end old who).streams) where
   -- the end that stopped it has the call
   paid_stopped : (who : End) (id code : ℕ) → NextOrdinary old (steps.Stop who id code) (Ok Done) new → PaidAt (m who) (after p (steps.Stop who id code) (Ok Done)) who (the_end new who).streams
@@ -184,55 +176,34 @@ module _ (m : End → Made) (p : Past) (old new : PairState) (paid : (who : End)
   paid-next steps.EarlyReject (Ok Done) n = absurd n
   paid-next step reply n = paid_kept step reply tt n
 
-  -- one that changes nothing
-  pub paid-same : (step : Step) (reply : Answer) → ((q : Past) → after q step reply ≡ q) → new ≡ old → (who : End) → PaidAt (m who) (after p step reply) who (the_end new who).streams
-  paid-same step reply same is who =
-      let P : Past → Type 0 = λ q. PaidAt (m who) q who (the_end new who).streams in
-      let Q : PairState → Type 0 = λ v. PaidAt (m who) p who (the_end v who).streams in
-      subst P (sym (same p)) (subst Q (sym is) (paid who))
+-- ---- from the beginning of an era
 
--- ---- from the beginning
+paid_first : (m : Made) (limits : PeerLimits) (who : End) (p : Past) (e : EndState) → ((id : ℕ) → (p.flow (peer who) id).stops ≡ []) → e ≡ end_begun m limits → IsStart m (start m) → PaidAt m p who e.streams
+paid_first m limits who p e none is starts =
+    let c = Sending (GaveLimits limits (Ok tt)) in
+    let w = with_out (start m) (with_params (start m).out limits) in
+    let P : EndState → Type 0 = λ x. PaidAt m p who x.streams in
+    subst P (sym is) (record {
+      calls = c ∷ [];
+      from = next-call m [] (start m) c w tt (begins m (start m) starts) (sym (given-unopened (start m) limits refl refl));
+      plain = (refl, tt);
+      none = refl;
+      stops = λ id code i. absurd (let Q : List ℕ → Type 0 = λ l. IsOneOf code l in subst Q (none id) i);
+    })
 
-module _ (s : Beginning) (early : s.early ≡ None) where
-  abbrev made : End → Made
-  made = made_at (origin_a s (limits_of_b s)) (origin_b s)
+paid_begun : (a b : Origin) (v : PairState) → IsBegun a b v → (who : End) → PaidAt (made_at a b who) (past_of []) who (the_end v who).streams
+paid_begun a b v n A = paid_first (made_at a b A) a.limits A (past_of []) v.a (λ id. refl) n.of_a n.ends.first
+paid_begun a b v n B = paid_first (made_at a b B) b.limits B (past_of []) v.b (λ id. refl) n.of_b n.ends.second
 
-  paid_first : (m : Made) (limits : PeerLimits) (who : End) (p : Past) (e : EndState) → ((id : ℕ) → (p.flow (peer who) id).stops ≡ []) → e ≡ end_begun m limits → IsStart m (start m) → PaidAt m p who e.streams
-  paid_first m limits who p e none is starts =
-      let c = Sending (GaveLimits limits (Ok tt)) in
-      let w = with_out (start m) (with_params (start m).out limits) in
-      let P : EndState → Type 0 = λ x. PaidAt m p who x.streams in
-      subst P (sym is) (record {
-        calls = c ∷ [];
-        from = next-call m [] (start m) c w tt (begins m (start m) starts) (sym (given-unopened (start m) limits refl refl));
-        plain = (refl, tt);
-        none = refl;
-        stops = λ id code i. absurd (let Q : List ℕ → Type 0 = λ l. IsOneOf code l in subst Q (none id) i);
-      })
+changed_stops : {b : Origin} {p : Past} {old new : PairState} (step : Step) → Changes b p old new step → (end : End) (q : ℕ) → ((after p step (Ok Done)).flow end q).stops ≡ (p.flow end q).stops
+changed_stops step (accepts k within few) end q = refl
+changed_stops step (retries k m did mine accepted kept) end q = refl
 
-  paid_begun : (v : PairState) (n : IsNew s v) (who : End) → PaidAt (made who) (past_of []) who (the_end v who).streams
-  paid_begun v n A = let b = is_begun s early v n in paid_first (made A) _ A (past_of []) v.a (λ id. refl) b.of_a b.ends.first
-  paid_begun v n B = let b = is_begun s early v n in paid_first (made B) _ B (past_of []) v.b (λ id. refl) b.of_b b.ends.second
-
-  paid_taken : (p : Past) (old new : PairState) → old.waits ≡ None → ((who : End) → PaidAt (made who) p who (the_end old who).streams) → (step : Step) (reply : Answer) → NextTaken old step reply new → (who : End) → PaidAt (made who) (after p step reply) who (the_end new who).streams
-  paid_taken p old new w x steps.EarlyAccept (Ok Done) n = absurd (none-some n.limits (sym w ∙ n.waiting))
-  paid_taken p old new w x steps.EarlyAccept (Err NoMemory) n = paid-same made p old new x steps.EarlyAccept (Err NoMemory) (λ q. refl) n.is
-  paid_taken p old new w x steps.EarlyAccept (Err LimitsBelow) n = paid-same made p old new x steps.EarlyAccept (Err LimitsBelow) (λ q. refl) n.is
-  paid_taken p old new w x steps.EarlyAccept (Err Decided) n = paid-same made p old new x steps.EarlyAccept (Err Decided) (λ q. refl) n.1
-  paid_taken p old new w x steps.EarlyAccept _ n = absurd n
-  paid_taken p old new w x steps.EarlyReject (Ok Done) n = absurd (none-some n.limits (sym w ∙ n.waiting))
-  paid_taken p old new w x steps.EarlyReject (Err Decided) n = paid-same made p old new x steps.EarlyReject (Err Decided) (λ q. refl) n.1
-  paid_taken p old new w x steps.EarlyReject _ n = absurd n
-  paid_taken p old new w x steps.Retry (Ok Done) n = absurd (none-some n.limits (sym w ∙ n.waiting))
-  paid_taken p old new w x steps.Retry (Err NoMemory) n = paid-same made p old new x steps.Retry (Err NoMemory) (λ q. refl) n.1
-  paid_taken p old new w x steps.Retry (Err Decided) n = paid-same made p old new x steps.Retry (Err Decided) (λ q. refl) n.1
-  paid_taken p old new w x steps.Retry _ n = absurd n
-  paid_taken p old new w x step reply n = paid-next made p old new x step reply n
-
-  pub paid-from : {h : History} {v : PairState} (f : PairFrom s h v) (who : End) → PaidAt (made who) (past_of h) who (the_end v who).streams
-  paid-from {h} {v} (begun n) who = paid_begun v n who
-  paid-from (next {h} {old} {new} step reply f n) who =
-      let c = course-from s early f in
-      let P : Option EarlyLimits → Type 0 = λ w. MatchBool (is_some w && needs_decision step) ((reply ≡ Err Undecided) × (new ≡ old)) (NextTaken old step reply new) in
-      let Q : Past → Type 0 = λ p. PaidAt (made who) p who (the_end new who).streams in
-      subst Q (sym (past-after h step reply)) (paid_taken (past_of h) old new c.waits (λ k. paid-from f k) step reply (subst P c.waits n) who)
+pub paid-from : {a b : Origin} {h : History} {v : PairState} (f : EraFrom a b h v) (who : End) → PaidAt (made_at a b who) (past_of h) who (the_end v who).streams
+paid-from {a} {b} {h} {v} (begun n) who = paid_begun a b v n who
+paid-from {a} {b} (next {h} {old} {new} step reply f n) who =
+    let Q : Past → Type 0 = λ p. PaidAt (made_at a b who) p who (the_end new who).streams in
+    subst Q (sym (past-after h step reply)) (paid-next (made_at a b) (past_of h) old new (λ k. paid-from f k) step reply n who)
+paid-from {a} {b} (changed {h} {old} {new} step f c) who =
+    let Q : Past → Type 0 = λ p. PaidAt (made_at a b who) p who (the_end new who).streams in
+    subst Q (sym (past-after h step (Ok Done))) (paid_on (made_at a b who) (past_of h) (after (past_of h) step (Ok Done)) who (the_end old who).streams (the_end new who).streams (λ id. changed_stops step c (peer who) id) (changed-runs old new (made_at a b who) step c who) (paid-from f who))

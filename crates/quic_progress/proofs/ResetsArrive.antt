@@ -1,402 +1,210 @@
--- Once a settling ended, a reset arrived of each stream that was given up.
-use Rattle.std.proofs.Common.{◌≡◌, ◌⊎◌, ℕ, Bool, true, false, List, [], ◌∷◌, ◌++◌, length, Option, Some, None, is_some, Result, Ok, Err, refl, sym, ap, ◌∙◌, subst, inl, inr, arith}
-use Rattle.std.specs.Prelude.{◌==◌, ◌&&◌, MatchBool, take, slice_get, if◌then◌else◌}
-use Rattle.std.specs.List.{concat}
-use Rattle.std.proofs.lemmas.Option.{none-some}
-use Rattle.quic_wire.specs.declared.frame.Frame.{Frame}
-use Rattle.quic_wire.specs.Frames.{AreFrames}
-use Rattle.quic_wire.specs.declared.event.StreamEvent.{StreamEvent}
-use Rattle.quic_wire.specs.declared.event.StreamEvent.TheVariants as stream_event
-use Rattle.quic_sending.specs.declared.send.Send.{Send}
-use Rattle.quic_sending.specs.declared.errors.HandleError.{HandleError}
-use Rattle.quic_sending.specs.declared.errors.HandleError.TheVariants as handle_error
-use Rattle.quic_flows.specs.Flow.{SendFlow, WasGivenUp, with_send_move}
-use Rattle.quic_retransmits.specs.Pending.{Pending}
-use Rattle.quic_history.specs.World.{Made}
-use Rattle.quic_history.specs.History.{flow}
+-- Whatever steps led to a pair, a reset of each stream that was given up came, or waits; so once a settling ended, one arrived.
+use Rattle.std.proofs.Common.{◌≡◌, ℕ, zero, suc, Bool, true, false, List, [], ◌∷◌, length, Option, Some, None, is_some, Ok, refl, sym, ap, ◌∙◌, subst, inl, inr, arith}
+use Rattle.std.specs.Prelude.{◌||◌, is_none, slice_get, unwrap_or, if◌then◌else◌}
+use Rattle.std.proofs.lemmas.Option.{none-some, same_Some}
+use Rattle.quic_values.specs.declared.ids.Side.TheVariants.{Client}
+use Rattle.quic_outgoing.specs.Senders.{is_local}
+use Rattle.quic_outgoing.specs.declared.limits.PeerLimits.{PeerLimits}
+use Rattle.quic_flows.specs.Flow.{SendFlow}
+use Rattle.quic_retransmits.specs.Pending.{Pending, nothing, merged_if, thin_view}
+use Rattle.quic_retransmits.specs.Settling.{noted_in}
+use Rattle.quic_history.specs.Early.{with_unsent}
 use Rattle.quic_history.specs.declared.control.ControlKind.TheVariants as kinds
-use Rattle.quic_history.proofs.SendSides.{held-flow}
-use Rattle.quic_history.proofs.Totals.{by_cases, same as equal}
 use Rattle.quic_link.specs.Endpoints.{IsOneOf}
-use Rattle.quic_endpoint.specs.Ends.{EndState, ResetsAt}
-use Rattle.quic_endpoint.specs.Reports.{LosesPayloadAt, AcksPayloadAt}
+use Rattle.quic_streams.specs.declared.settling.SentPayload.{SentPayload}
 use Rattle.quic_steps.specs.declared.steps.End.{End}
 use Rattle.quic_steps.specs.declared.steps.End.TheVariants.{A, B}
 use Rattle.quic_steps.specs.declared.steps.Step.{Step}
 use Rattle.quic_steps.specs.declared.steps.Step.TheVariants as steps
-use Rattle.quic_steps.specs.declared.steps.Last.{Last}
-use Rattle.quic_steps.specs.declared.steps.Last.TheVariants as last
-use Rattle.quic_steps.specs.declared.steps.Reply.TheVariants.{Done, DoneTransmit, Fault, Id, Wrote, WroteChunks, Stopped, Read, Code, Payload, Event as EventReply}
-use Rattle.quic_steps.specs.declared.steps.PairError.TheVariants.{NoSuchPayload, NoSuchFrame, NotAccepted, AlreadySettled, LimitsBelow, Undecided, Decided, OutOfMemory as NoMemory}
-use Rattle.quic_pair.specs.declared.early.EarlyLimits.{EarlyLimits}
+use Rattle.quic_steps.specs.declared.steps.Reply.TheVariants.{Done}
 use Rattle.quic_pair.specs.declared.sent.Sent.{Sent}
-use Rattle.quic_pair.specs.declared.unsettled.Report.TheVariants.{Lost, Acknowledged}
-use Rattle.quic_pair.specs.Replies.{Answer, handled_reply}
-use Rattle.quic_pair.specs.State.{PairState, peer, the_end, with_end}
-use Rattle.quic_pair.specs.Steps.{NextOrdinary, NextTaken, Delivers, Emitted, SettlesPayload, Reports, needs_decision}
-use Rattle.quic_pair.specs.History.{History, Past, Flow, FramePlace, after, past_of, with_flow, ends_flow, resets_with, stops_with, tells_reset, tells_stop, completes, writes_more, reads_chunks, reads_last, after_event, is_same_end}
+use Rattle.quic_pair.specs.Gone.{with_noted, with_all_noted, noted_at}
+use Rattle.quic_pair.specs.State.{PairState, the_end}
+use Rattle.quic_pair.specs.History.{History, Past, FramePlace, after, past_of}
 use Rattle.quic_pair.specs.Settling.{IsIdle, AreIdle, AreSettledIn}
-use Rattle.quic_pair.specs.From.{Beginning, PairFrom, begun, next, limits_of_b}
-use Rattle.quic_pair.specs.Runs.{sendings_of}
-use Rattle.quic_pair.specs.Tale.{Tales, WasPayload, GivenUp, parts_in, Told, StepTells, TellsOfPair, tales_begun, told_of, with_deed}
-use Rattle.quic_pair.proofs.Beside.{IsOfNoPayload, beside}
+use Rattle.quic_pair.specs.Steps.{AcceptsEarly, Retries}
+use Rattle.quic_pair.specs.From.{Beginning, PairFrom}
+use Rattle.quic_pair.specs.Tale.{Tale, Tales, told_of, with_limits_given, with_unsent_told}
 use Rattle.quic_pair.proofs.Counted.{Counted}
 use Rattle.quic_pair.proofs.Flips.{seen-as}
-use Rattle.quic_pair.proofs.Grown.{past-after, joined-from}
 use Rattle.quic_pair.proofs.Left.{AreLeft}
-use Rattle.quic_pair.proofs.Led.{origin_a, origin_b}
-use Rattle.quic_pair.proofs.Lists.{slice_get-within, one-of-last}
-use Rattle.quic_pair.proofs.Marks.{AreMarkedSo, marks-from, sent_on_end}
+use Rattle.quic_pair.proofs.Lists.{slice_get-within, one-of-first, one-of-last}
+use Rattle.quic_pair.proofs.Marks.{marks-from}
 use Rattle.quic_pair.proofs.PayloadKnows.{StaySent, stay-sent}
 use Rattle.quic_pair.proofs.Recounted.{made_at}
-use Rattle.quic_pair.proofs.Streamless.{stay-emitted, stay-delivered, stay-reported}
-use Rattle.quic_pair.proofs.ToldOnce.{told-once}
-use Rattle.quic_progress.specs.Progress.{StartsAtOnce}
+use Rattle.quic_pair.proofs.Origins.{Origin}
+use Rattle.quic_pair.proofs.OwnDoings.{AreUntaken}
+use Rattle.quic_pair.proofs.Eras.{EraFrom, begun, next, changed, Changes, accepts, retries, ToldIn, tales_in, tales_changed}
+use Rattle.quic_pair.proofs.Grown.{grown-from, past-after}
+use Rattle.quic_pair.proofs.ToldOnce.{told-in-once}
+use Rattle.quic_progress.specs.Progress.{IsAgreed}
 use Rattle.quic_progress.specs.Consumed.{HaveResetsArrived}
-use Rattle.quic_progress.proofs.Ends.{WritesNone}
-use Rattle.quic_progress.proofs.Tracked.{Forth, forth-same}
-use Rattle.quic_progress.proofs.GivenUps.{WasAckedIn, GivesNoneUp, all-stay}
-use Rattle.quic_progress.proofs.ResetsPend.{KeepsResets, step-keeps}
-use Rattle.quic_progress.proofs.ResetsCome.{Comes, Waits, HasCome, come-more, comes-on, waits-forth, forth-handed, waits-emits, waits-lost, waits-acked, come-acked}
-use Rattle.quic_progress.proofs.AtOnce.{course-from}
+use Rattle.quic_progress.proofs.Tracked.{forth-same}
+use Rattle.quic_progress.proofs.GivenUps.{StaysGivenUp, AllStay}
+use Rattle.quic_progress.proofs.ResetsPend.{KeepsResets}
+use Rattle.quic_progress.proofs.ResetsCome.{Comes, Waits, HasCome, comes-on, waits-forth}
+use Rattle.quic_progress.proofs.ResetSteps.{comes-next}
+use Rattle.quic_progress.proofs.Course.{agreed-waits, course-from}
 
--- ---- the resets of a flow
+-- ---- tales of one end that change, but not what is told of streams that were given up
 
-same_if : (b : Bool) (f g : Flow) → g.resets ≡ f.resets → (if b then g else f).resets ≡ f.resets
-same_if true f g e = e
-same_if false f g e = refl
+abbrev NoneAt : End → ℕ → Type 0
+NoneAt who id = ⊥
 
-with_same : (who : End) (id : ℕ) (change : Flow → Flow) (p : Past) (end : End) (q : ℕ) → ((f : Flow) → (change f).resets ≡ f.resets) → ((with_flow who id change p).flow end q).resets ≡ (p.flow end q).resets
-with_same who id change p end q c = same_if (is_same_end end who && (q == id)) (p.flow end q) (change (p.flow end q)) (c (p.flow end q))
+still : (f g : SendFlow) → g.reset ≡ f.reset → g.freed ≡ f.freed → StaysGivenUp ⊥ f g
+still f g reset freed = record { kept = λ code e. reset ∙ e; back = λ code e. sym reset ∙ e; held = λ some e. inl (freed ∙ e) }
 
-last_same : (l : Last) (f : Flow) → (reads_last l f).resets ≡ f.resets
-last_same last.Ended f = refl
-last_same (last.Reset code) f = refl
-last_same _ f = refl
+all_still : (t : Tales) (change : Tale → Tale) → ((q : ℕ) → StaysGivenUp ⊥ ((t.of A).flow q) ((change (t.of A)).flow q)) → AllStay NoneAt t (told_of A change t)
+all_still t change k A q = k q
+all_still t change k B q = still ((t.of B).flow q) ((t.of B).flow q) refl refl
 
-event_same : (p : Past) (who end : End) (q : ℕ) (event : StreamEvent) → ((after_event p who event).flow end q).resets ≡ (p.flow end q).resets
-event_same p who end q (stream_event.Finished id) = with_same who id completes p end q (λ f. refl)
-event_same p who end q (stream_event.Stopped id code) = with_same who id (tells_stop code) p end q (λ f. refl)
-event_same p who end q _ = refl
+all_given : (t : Tales) (limits : PeerLimits) → AllStay NoneAt t (told_of A (with_limits_given Client limits) t)
+all_given t limits = all_still t (with_limits_given Client limits) (λ q. still ((t.of A).flow q) _ refl refl)
 
-abbrev KeepsResetsOf : Step → Answer → Type 0
-KeepsResetsOf (steps.Reset who id code) (Ok Done) = ⊥
-KeepsResetsOf steps.EarlyReject (Ok Done) = ⊥
-KeepsResetsOf step reply = Unit {0}
+unsent_still : (b : Bool) (f : SendFlow) → StaysGivenUp ⊥ f (if b then with_unsent f else f)
+unsent_still false f = still f f refl refl
+unsent_still true f = by (is_none f.reset)
+  where
+    by : (b : Bool) → StaysGivenUp ⊥ f (if b then record f { carried = λ n. false; sent_up_to = 0; missing = λ n. false; end_due = f.end_due || f.finished } else f)
+    by true = still f _ refl refl
+    by false = still f f refl refl
 
-resets_kept : (p : Past) (step : Step) (reply : Answer) → KeepsResetsOf step reply → (end : End) (q : ℕ) → ((after p step reply).flow end q).resets ≡ (p.flow end q).resets
-resets_kept p (steps.Open who dir) (Ok (Id id)) k end q = refl
-resets_kept p (steps.Accept who dir) (Ok (Id id)) k end q = refl
-resets_kept p (steps.Write who id bytes) (Ok (Wrote count)) k end q = with_same who id (writes_more (take count bytes)) p end q (λ f. refl)
-resets_kept p (steps.Write who id bytes) (Ok (Stopped code)) k end q = with_same who id (tells_stop code) p end q (λ f. refl)
-resets_kept p (steps.WriteChunks who id chunks) (Ok (WroteChunks written)) k end q = with_same who id (writes_more (take written.bytes (concat chunks))) p end q (λ f. refl)
-resets_kept p (steps.WriteChunks who id chunks) (Ok (Stopped code)) k end q = with_same who id (tells_stop code) p end q (λ f. refl)
-resets_kept p (steps.Finish who id) (Ok Done) k end q = with_same who id ends_flow p end q (λ f. refl)
-resets_kept p (steps.Finish who id) (Ok (Stopped code)) k end q = with_same who id (tells_stop code) p end q (λ f. refl)
-resets_kept p (steps.Reset who id code) (Ok Done) k end q = absurd k
-resets_kept p (steps.Stop who id code) (Ok Done) k end q = with_same (peer who) id (stops_with code) p end q (λ f. refl)
-resets_kept p (steps.Read who id ordered most times) (Ok (Read chunks l transmit)) k end q = with_same (peer who) id (λ f. reads_last l (reads_chunks ordered chunks.items f)) p end q (λ f. last_same l (reads_chunks ordered chunks.items f))
-resets_kept p (steps.ReceivedReset who id) (Ok (Code code)) k end q = with_same (peer who) id (tells_reset code) p end q (λ f. refl)
-resets_kept p (steps.Poll who) (Ok (EventReply event)) k end q = event_same p who end q event
-resets_kept p (steps.Deliver number index) (Ok Done) k end q = refl
-resets_kept p (steps.Deliver number index) (Ok DoneTransmit) k end q = refl
-resets_kept p (steps.Deliver number index) (Ok (Fault fault)) k end q = refl
-resets_kept p (steps.Lose number) (Ok Done) k end q = refl
-resets_kept p (steps.Lose number) (Err NoMemory) k end q = refl
-resets_kept p (steps.Ack number) (Ok Done) k end q = refl
-resets_kept p (steps.Ack number) (Err NoMemory) k end q = refl
-resets_kept p steps.EarlyReject (Ok Done) k end q = absurd k
-resets_kept p steps.Retry (Ok Done) k end q = refl
-resets_kept p _ _ k end q = refl
+all_unsent : (t : Tales) → AllStay NoneAt t (told_of A (with_unsent_told Client) t)
+all_unsent t = all_still t (with_unsent_told Client) (λ q. unsent_still (is_local Client q) ((t.of A).flow q))
 
--- what was accepted stays so
-accepts_more : (p : Past) (step : Step) (reply : Answer) → KeepsResetsOf step reply → (at : FramePlace) → IsOneOf at p.accepted → IsOneOf at (after p step reply).accepted
-accepts_more p (steps.Deliver number index) (Ok Done) k at i = inr i
-accepts_more p (steps.Deliver number index) (Ok DoneTransmit) k at i = inr i
-accepts_more p (steps.Deliver number index) (Ok (Fault fault)) k at i = i
-accepts_more p (steps.Deliver number index) _ k at i = i
-accepts_more p (steps.Lose number) (Ok Done) k at i = i
-accepts_more p (steps.Lose number) (Err NoMemory) k at i = i
-accepts_more p (steps.Lose number) _ k at i = i
-accepts_more p (steps.Ack number) (Ok Done) k at i = i
-accepts_more p (steps.Ack number) (Err NoMemory) k at i = i
-accepts_more p (steps.Ack number) _ k at i = i
-accepts_more p steps.EarlyReject (Ok Done) k at i = absurd k
-accepts_more p steps.EarlyReject _ k at i = i
-accepts_more p steps.Retry (Ok Done) k at i = i
-accepts_more p steps.Retry _ k at i = i
-accepts_more p step reply k at i = let P : List FramePlace → Type 0 = λ l. IsOneOf at l in subst P (sym (beside p step reply tt).accepted) i
+-- ---- what was noted of payloads is pending where all is to be sent again
 
--- ---- a stream is given up
+more_pending : (z : ℕ × ℕ) (p : Pending) (o : Option Pending) → IsOneOf z p.reset_stream → IsOneOf z (merged_if p o).reset_stream
+more_pending z p None i = i
+more_pending z p (Some b) i = one-of-first z p.reset_stream b.reset_stream i
 
--- its half was held, and a reset is pending
-record GivesUp (old new : PairState) (who : End) (id code : ℕ) : Type 0 where
-  half : Send
-  held : (the_end old who).streams.out.halves id ≡ Some half
-  pending : (the_end new who).pending.reset_stream ≡ (the_end old who).pending.reset_stream ++ (id, code) ∷ []
+all_pending : (z : ℕ × ℕ) (p : Pending) (sent : List Sent) → IsOneOf z p.reset_stream → IsOneOf z (with_all_noted p sent).reset_stream
+all_pending z p [] i = i
+all_pending z p (s ∷ ss) i = all_pending z (with_noted p s.unsettled.rest) ss (more_pending z p (noted_at s.unsettled.rest) i)
 
-end_there : (old : PairState) (who : End) (g : EndState) → the_end (with_end old who g) who ≡ g
-end_there old A g = refl
-end_there old B g = refl
+noted_pending : (z : ℕ × ℕ) (p : Pending) (o : Option Pending) → IsOneOf z (unwrap_or o nothing).reset_stream → IsOneOf z (merged_if p o).reset_stream
+noted_pending z p None i = absurd i
+noted_pending z p (Some b) i = one-of-last z p.reset_stream b.reset_stream i
 
-reset_by : (e f : EndState) (id code : ℕ) (answer : Result (Unit {0}) HandleError) → ◌≡◌ {A = Answer} (Ok Done) (handled_reply answer) → ResetsAt e id code answer f → (s : Send) × (e.streams.out.halves id ≡ Some s) × (f.pending.reset_stream ≡ e.pending.reset_stream ++ (id, code) ∷ [])
-reset_by e f id code (Ok x) is d = (d.1.0, d.1.1, ap (λ (p : Pending). p.reset_stream) d.1.4)
-reset_by e f id code (Err handle_error.ClosedStream) is d = cc
-reset_by e f id code (Err handle_error.OutOfMemory) is d = cc
+each_pending : (z : ℕ × ℕ) (sent : List Sent) (p : Pending) (number : ℕ) (s : Sent) (rest : SentPayload) → slice_get sent number ≡ Some s → s.unsettled.rest ≡ Some rest → IsOneOf z (noted_in rest.control).reset_stream → IsOneOf z (with_all_noted p sent).reset_stream
+each_pending z [] p number s rest got is i = absurd (none-some s got)
+each_pending z (t ∷ ts) p zero s rest got is i =
+    let same : t.unsettled.rest ≡ Some rest = ap (λ (k : Sent). k.unsettled.rest) (same_Some t s got) ∙ is in
+    let P : Option SentPayload → Type 0 = λ o. IsOneOf z (with_noted p o).reset_stream in
+    all_pending z (with_noted p t.unsettled.rest) ts (subst P (sym same) (noted_pending z p (thin_view rest.control) i))
+each_pending z (t ∷ ts) p (suc number) s rest got is i = each_pending z ts (with_noted p t.unsettled.rest) number s rest got is i
 
-gives_up : (old new : PairState) (who : End) (id code : ℕ) → NextOrdinary old (steps.Reset who id code) (Ok Done) new → GivesUp old new who id code
-gives_up old new who id code n =
-    let at : the_end new who ≡ n.end = ap (λ (v : PairState). the_end v who) n.is ∙ end_there old who n.end in
-    elim n.does [
-      | inl there ↦ (let r = reset_by (the_end old who) n.end id code there.1.answer there.1.reply_is there.1.resets in record { half = r.0; held = r.1; pending = ap (λ (e : EndState). e.pending.reset_stream) at ∙ r.2 })
-      | inr none ↦ (let k = none.1 in cc)
-    ]
+-- ---- how an era begins
 
-one_more : (b : Bool) (f : Flow) (code given : ℕ) → IsOneOf given (if b then resets_with code f else f).resets → IsOneOf given f.resets ⊎ (b ≡ true)
-one_more true f code given i = inr refl
-one_more false f code given i = inl i
+comes_begun : (a b : Origin) (v : PairState) → Comes v (tales_in a b v.sent) (past_of [])
+comes_begun a b v = record {
+  given = λ who id code i. absurd i;
+  comes = λ who id some. let k = sym (ap (λ (o : Option ℕ). is_some o) (none who id)) ∙ some in cc;
+}
+  where
+    none : (who : End) (id : ℕ) → (((tales_in a b v.sent).of who).flow id).reset ≡ None
+    none A id = refl
+    none B id = refl
 
-with_self : (who : End) (b : Bool) → (is_same_end who who && b) ≡ b
-with_self A b = refl
-with_self B b = refl
+-- ---- the server accepts
 
-given_if : (b : Bool) (f : SendFlow) (code : ℕ) → b ≡ true → is_some (if b then with_send_move (WasGivenUp code) f else f).reset ≡ true
-given_if true f code e = refl
-given_if false f code e = cc
+comes_accepts : (old new : PairState) (p : Past) (t u : Tales) → Comes old t p → (x : AcceptsEarly old new) → u ≡ told_of A (with_limits_given Client x.limits.others) t → Comes new u p
+comes_accepts old new p t u c x e =
+    let Q : Tales → Type 0 = λ y. AllStay NoneAt t y in
+    comes-on old new p p t u NoneAt c (subst Q (sym e) (all_given t x.limits.others)) (λ who id. refl) (subst (StaySent old.sent) (sym sents) (stay-sent old.sent)) (λ at i. i)
+    (λ who id some held w. inr (waits-forth old new keeps (forth-same old.sent new.sent sents) who id w)) (λ who id a. absurd a)
+  where
+    sents : new.sent ≡ old.sent
+    sents = ap (λ (v : PairState). v.sent) x.is
 
-kept_if : (b : Bool) (f : SendFlow) (code : ℕ) → is_some f.reset ≡ true → is_some (if b then with_send_move (WasGivenUp code) f else f).reset ≡ true
-kept_if true f code e = refl
-kept_if false f code e = e
+    keeps : (who : End) → KeepsResets (the_end old who).pending (the_end new who).pending
+    keeps A y i = let P : Pending → Type 0 = λ p. IsOneOf y p.reset_stream in subst P (sym (ap (λ (v : PairState). v.a.pending) x.is)) i
+    keeps B y i = let P : Pending → Type 0 = λ p. IsOneOf y p.reset_stream in subst P (sym (ap (λ (v : PairState). v.b.pending) x.is)) i
 
-freed_if : (b : Bool) (f : SendFlow) (code : ℕ) → (if b then with_send_move (WasGivenUp code) f else f).freed ≡ f.freed
-freed_if true f code = refl
-freed_if false f code = refl
+-- ---- the client is to begin again
 
-back_if : (b : Bool) (f : SendFlow) (code : ℕ) → b ≡ false → is_some (if b then with_send_move (WasGivenUp code) f else f).reset ≡ true → is_some f.reset ≡ true
-back_if true f code e s = cc
-back_if false f code e s = s
+some_code : (o : Option ℕ) → is_some o ≡ true → (code : ℕ) × (o ≡ Some code)
+some_code None k = cc
+some_code (Some code) k = (code, refl)
 
-module _ (old new : PairState) (p : Past) (t : Tales) (c : Comes old t p) (m : End → Made) (counted : (who : End) → Counted (m who) (the_end old who).streams (t.of who)) (stay : StaySent old.sent new.sent) (forth : Forth old.sent new.sent) (keeps : (who : End) → KeepsResets (the_end old who).pending (the_end new who).pending) where
-  -- of the end that gave it up
-  module _ (w : End) (id code : ℕ) (g : GivesUp old new w id code) where
-    was_held : ((t.of w).flow id).freed ≡ false
-    was_held =
-        let k = counted w in
-        let f = held-flow _ (flow (m w) k.calls id) _ g.half ((the_end old w).streams.out.halves id) g.held (k.from.sends.flows id) in
-        sym (ap (λ (x : SendFlow). x.freed) (k.tells.flow_is id)) ∙ f.there
+module _ (old new : PairState) (p : Past) (t u : Tales) (c : Comes old t p) (x : Retries old new) (untaken : AreUntaken old.sent) (none : p.accepted ≡ []) (e : u ≡ told_of A (with_unsent_told Client) t) where
+  stays : AllStay NoneAt t u
+  stays = let Q : Tales → Type 0 = λ y. AllStay NoneAt t y in subst Q (sym e) (all_unsent t)
 
-    abbrev behind : ℕ → SendFlow
-    behind q = if q == id then with_send_move (WasGivenUp code) ((t.of w).flow q) else (t.of w).flow q
+  -- nothing was accepted
+  none_come : (who : End) (id : ℕ) → HasCome id p old.sent who → ⊥
+  none_come who id come = let P : List FramePlace → Type 0 = λ l. IsOneOf come.1.at l in subst P none come.1.listed
 
-    given_here : (q given : ℕ) → IsOneOf given ((with_flow w id (resets_with code) p).flow w q).resets → is_some (behind q).reset ≡ true
-    given_here q given i = elim (one_more (is_same_end w w && (q == id)) (p.flow w q) code given i) [
-      | inl before ↦ kept_if (q == id) ((t.of w).flow q) code (c.given w q given before)
-      | inr now ↦ given_if (q == id) ((t.of w).flow q) code (sym (with_self w (q == id)) ∙ now)
-    ]
-
-    same_number : (a b : ℕ) → (a == b) ≡ true → a ≡ b
-    same_number a b e = equal a b e
-
-    comes_here : (q : ℕ) → is_some (behind q).reset ≡ true → HasCome q p new.sent w ⊎ (((behind q).freed ≡ false) × Waits q new w)
-    comes_here q some = by_cases (q == id)
-        (λ e.
-        let P : ℕ → Type 0 = λ i. (((t.of w).flow i).freed ≡ false) × Waits i new w in
-        let Q : List (ℕ × ℕ) → Type 0 = λ l. IsOneOf (id, code) l in
-        let here = subst P (sym (same_number q id e)) (was_held, (code, inl (subst Q (sym g.pending) (one-of-last (id, code) (the_end old w).pending.reset_stream ((id, code) ∷ []) (inl refl))))) in
-        inr (freed_if (q == id) ((t.of w).flow q) code ∙ here.0, here.1))
-        (λ e. elim (c.comes w q (back_if (q == id) ((t.of w).flow q) code e some)) [
-          | inl come ↦ inl (come-more q p p old.sent new.sent w stay (λ at i. i) come)
-          | inr x ↦ inr (freed_if (q == id) ((t.of w).flow q) code ∙ x.0, waits-forth old new keeps forth w q x.1)
-        ])
-
-  -- of the other
-  comes_there : (k : End) (q : ℕ) → is_some ((t.of k).flow q).reset ≡ true → HasCome q p new.sent k ⊎ ((((t.of k).flow q).freed ≡ false) × Waits q new k)
-  comes_there k q some = elim (c.comes k q some) [ inl come ↦ inl (come-more q p p old.sent new.sent k stay (λ at i. i) come) | inr x ↦ inr (x.0, waits-forth old new keeps forth k q x.1) ]
-
-  comes_reset : (w : End) (id code : ℕ) → GivesUp old new w id code → (u : Tales) → u ≡ told_of w (with_deed id (WasGivenUp code)) t → Comes new u (with_flow w id (resets_with code) p)
-  comes_reset w id code g u e = let P : Tales → Type 0 = λ x. Comes new x (with_flow w id (resets_with code) p) in subst P (sym e) (by w g)
-    where
-      by : (k : End) → GivesUp old new k id code → Comes new (told_of k (with_deed id (WasGivenUp code)) t) (with_flow k id (resets_with code) p)
-      by A x = record { given = given; comes = comes }
-        where
-          given : (k : End) (q code2 : ℕ) → IsOneOf code2 ((with_flow A id (resets_with code) p).flow k q).resets → is_some (((told_of A (with_deed id (WasGivenUp code)) t).of k).flow q).reset ≡ true
-          given A q code2 i = given_here A id code x q code2 i
-          given B q code2 i = c.given B q code2 i
-
-          comes : (k : End) (q : ℕ) → is_some (((told_of A (with_deed id (WasGivenUp code)) t).of k).flow q).reset ≡ true → HasCome q p new.sent k ⊎ (((((told_of A (with_deed id (WasGivenUp code)) t).of k).flow q).freed ≡ false) × Waits q new k)
-          comes A q some = comes_here A id code x q some
-          comes B q some = comes_there B q some
-      by B x = record { given = given; comes = comes }
-        where
-          given : (k : End) (q code2 : ℕ) → IsOneOf code2 ((with_flow B id (resets_with code) p).flow k q).resets → is_some (((told_of B (with_deed id (WasGivenUp code)) t).of k).flow q).reset ≡ true
-          given B q code2 i = given_here B id code x q code2 i
-          given A q code2 i = c.given A q code2 i
-
-          comes : (k : End) (q : ℕ) → is_some (((told_of B (with_deed id (WasGivenUp code)) t).of k).flow q).reset ≡ true → HasCome q p new.sent k ⊎ (((((told_of B (with_deed id (WasGivenUp code)) t).of k).flow q).freed ≡ false) × Waits q new k)
-          comes B q some = comes_here B id code x q some
-          comes A q some = comes_there A q some
-
--- ---- all steps
-
-module _ (old new : PairState) (p : Past) (t u : Tales) (c : Comes old t p) (m : End → Made) (counted : (who : End) → Counted (m who) (the_end old who).streams (t.of who)) (marks : AreMarkedSo p.accepted old.sent) (left : AreLeft old.sent t.told)
-    (spell : (number : ℕ) (s : Sent) → slice_get old.sent number ≡ Some s → (T : Type 0) → ((all : List Frame) → AreFrames s.text.bytes all → T) → T) where
-  -- a step of an application
-  comes_end : (step : Step) (reply : Answer) → IsOfNoPayload step → KeepsResetsOf step reply → WritesNone step → GivesNoneUp step reply → ((who : End) (id : ℕ) → WasAckedIn new.sent step who id → ⊥) → new.sent ≡ old.sent → NextOrdinary old step reply new → StepTells old.sent new.sent step reply t u → Comes new u (after p step reply)
-  comes_end step reply k r w g acks same n e =
-      comes-on old new p (after p step reply) t u (WasAckedIn new.sent step) c (all-stay old.sent new.sent t u step reply g e) (resets_kept p step reply r) (subst (StaySent old.sent) (sym same) (stay-sent old.sent)) (accepts_more p step reply r)
-      (λ who id some held x. inr (waits-forth old new (step-keeps old new step reply w n) (forth-same old.sent new.sent same) who id x)) (λ who id a. absurd (acks who id a))
-
-  -- one that hands a frame over
-  comes_deliver : (number index : ℕ) (reply : Answer) → Forth old.sent new.sent → NextOrdinary old (steps.Deliver number index) reply new → StepTells old.sent new.sent (steps.Deliver number index) reply t u → Comes new u (after p (steps.Deliver number index) reply)
-  comes_deliver number index reply forth n e =
-      let step = steps.Deliver number index in
-      comes-on old new p (after p step reply) t u (WasAckedIn new.sent step) c (all-stay old.sent new.sent t u step reply tt e) (resets_kept p step reply tt) (stay-delivered old new number index reply n) (accepts_more p step reply tt)
-      (λ who id some held x. inr (waits-forth old new (step-keeps old new step reply tt n) forth who id x)) (λ who id a. absurd a)
-
-  forth_delivered : (number index : ℕ) (reply : Answer) → Delivers old number index reply new → Forth old.sent new.sent
-  forth_delivered number index (Err NoSuchPayload) n = forth-same old.sent new.sent (ap (λ (v : PairState). v.sent) n.1)
-  forth_delivered number index (Err NoSuchFrame) n = forth-same old.sent new.sent (ap (λ (v : PairState). v.sent) n.is)
-  forth_delivered number index (Err NoMemory) n = elim n [ inl same ↦ forth-same old.sent new.sent (ap (λ (v : PairState). v.sent) same.1) | inr h ↦ forth-handed old new number index (Err NoMemory) h ]
-  forth_delivered number index reply n = forth-handed old new number index reply n
-
-  -- one that changes nothing
-  comes_same : (step : Step) (reply : Answer) → KeepsResetsOf step reply → GivesNoneUp step reply → ((who : End) (id : ℕ) → WasAckedIn new.sent step who id → HasCome id (after p step reply) new.sent who) → new ≡ old → StepTells old.sent new.sent step reply t u → Comes new u (after p step reply)
-  comes_same step reply r g acks same e =
-      let P : PairState → Type 0 = λ v. (who : End) → KeepsResets (the_end old who).pending (the_end v who).pending in
-      let sents = ap (λ (v : PairState). v.sent) same in
-      comes-on old new p (after p step reply) t u (WasAckedIn new.sent step) c (all-stay old.sent new.sent t u step reply g e) (resets_kept p step reply r) (subst (StaySent old.sent) (sym sents) (stay-sent old.sent)) (accepts_more p step reply r)
-      (λ who id some held x. inr (waits-forth old new (subst P (sym same) (λ who y i. i)) (forth-same old.sent new.sent sents) who id x)) acks
-
-  -- one that writes a payload
-  comes_emit : (who : End) (most : ℕ) (fair : Bool) (reply : Answer) → Emitted old who most fair reply new → StepTells old.sent new.sent (steps.Emit who most fair) reply t u → Comes new u (after p (steps.Emit who most fair) reply)
-  comes_emit who most fair (Ok (Payload number bytes)) n e =
-      comes-on old new p p t u (WasAckedIn new.sent (steps.Emit who most fair)) c (all-stay old.sent new.sent t u (steps.Emit who most fair) (Ok (Payload number bytes)) tt e) (λ k id. refl) (stay-emitted old new who most fair (Ok (Payload number bytes)) n) (λ at i. i)
-      (λ other id some held x. inr (waits-emits old new who most fair (Ok tt) n.payload n.emits m t counted other id some held x)) (λ other id a. absurd a)
-  comes_emit who most fair (Err NoMemory) n e = elim n [
-    | inl same ↦ comes_same (steps.Emit who most fair) (Err NoMemory) tt tt (λ other id a. absurd a) same e
-    | inr part ↦ comes-on old new p p t u (WasAckedIn new.sent (steps.Emit who most fair)) c (all-stay old.sent new.sent t u (steps.Emit who most fair) (Err NoMemory) tt e) (λ k id. refl) (stay-emitted old new who most fair (Err NoMemory) (inr part)) (λ at i. i)
-        (λ other id some held x. inr (waits-emits old new who most fair part.answer part.payload part.emits m t counted other id some held x)) (λ other id a. absurd a)
+  -- a payload of which something is unreported is the client's
+  of_a : (number : ℕ) (s : Sent) (rest : SentPayload) → slice_get old.sent number ≡ Some s → s.writer ≡ B → s.unsettled.rest ≡ Some rest → ⊥
+  of_a number s rest is writer left = elim (untaken number s is) [
+    | inl mine ↦ (let z = sym mine.writer ∙ writer in cc)
+    | inr gone ↦ none-some rest (sym gone.rest ∙ left)
   ]
-  comes_emit who most fair _ n e = absurd n
 
-  -- one that reports a payload
-  comes_lost : (number : ℕ) (reply : Answer) → Reports Lost LosesPayloadAt old number reply new → SettlesPayload Lost LosesPayloadAt old number reply new → KeepsResetsOf (steps.Lose number) reply → StepTells old.sent new.sent (steps.Lose number) reply t u → Comes new u (after p (steps.Lose number) reply)
-  comes_lost number reply n whole r e =
-      let step = steps.Lose number in
-      comes-on old new p (after p step reply) t u (WasAckedIn new.sent step) c (all-stay old.sent new.sent t u step reply tt e) (resets_kept p step reply r) (stay-reported old new Lost LosesPayloadAt number reply whole) (accepts_more p step reply r)
-      (λ who id some held x. inr (waits-lost old new number reply n (step-keeps old new step reply tt whole) who id x)) (λ who id a. absurd a)
+  waits_again : (who : End) (id : ℕ) → Waits id old who → Waits id new who
+  waits_again A id w =
+      let P : Pending → Type 0 = λ q. IsOneOf (id, w.0) q.reset_stream in (
+        w.0,
+        inl (subst P (sym (ap (λ (v : PairState). v.a.pending) x.is)) (elim w.1 [
+          | inl pending ↦ all_pending (id, w.0) old.a.pending old.sent pending
+          | inr n ↦ each_pending (id, w.0) old.sent old.a.pending n.number n.payload n.rest n.is n.rest_is n.noted
+        ])),
+      )
+  waits_again B id w =
+      let P : Pending → Type 0 = λ q. IsOneOf (id, w.0) q.reset_stream in (
+        w.0,
+        inl (elim w.1 [
+          | inl pending ↦ subst P (sym (ap (λ (v : PairState). v.b.pending) x.is)) pending
+          | inr n ↦ absurd (of_a n.number n.payload n.rest n.is n.writer n.rest_is)
+        ]),
+      )
 
-  comes_lose : (number : ℕ) (reply : Answer) → SettlesPayload Lost LosesPayloadAt old number reply new → StepTells old.sent new.sent (steps.Lose number) reply t u → Comes new u (after p (steps.Lose number) reply)
-  comes_lose number (Ok Done) n e = comes_lost number (Ok Done) n n tt e
-  comes_lose number (Err NoMemory) n e = comes_lost number (Err NoMemory) n n tt e
-  comes_lose number (Err NoSuchPayload) n e = comes_same (steps.Lose number) (Err NoSuchPayload) tt tt (λ who id a. absurd a) n.1 e
-  comes_lose number (Err AlreadySettled) n e = comes_same (steps.Lose number) (Err AlreadySettled) tt tt (λ who id a. absurd a) n.is e
-  comes_lose number (Err NotAccepted) n e = comes_same (steps.Lose number) (Err NotAccepted) tt tt (λ who id a. absurd a) n.is e
-  comes_lose number _ n e = absurd n
+  comes_retries : Comes new u (after p steps.Retry (Ok Done))
+  comes_retries = record {
+    given = λ who id code i.
+        let b = some_code ((t.of who).flow id).reset (c.given who id code i) in
+        ap (λ (o : Option ℕ). is_some o) ((stays who id).kept b.0 b.1);
+    comes = λ who id some.
+        let now = some_code ((u.of who).flow id).reset some in
+        let had : is_some ((t.of who).flow id).reset ≡ true = ap (λ (o : Option ℕ). is_some o) ((stays who id).back now.0 now.1) in
+        elim (c.comes who id had) [
+          | inl come ↦ absurd (none_come who id come)
+          | inr w ↦ elim ((stays who id).held had w.0) [ inl held ↦ inr (held, waits_again who id w.1) | inr a ↦ absurd a ]
+        ];
+  }
 
-  comes_acked : (number : ℕ) (reply : Answer) → Reports Acknowledged AcksPayloadAt old number reply new → SettlesPayload Acknowledged AcksPayloadAt old number reply new → KeepsResetsOf (steps.Ack number) reply → StepTells old.sent new.sent (steps.Ack number) reply t u → Comes new u (after p (steps.Ack number) reply)
-  comes_acked number reply n whole r e =
-      let step = steps.Ack number in
-      let stay = stay-reported old new Acknowledged AcksPayloadAt number reply whole in
-      let more = accepts_more p step reply r in
-      let keeps = step-keeps old new step reply tt whole in
-      comes-on old new p (after p step reply) t u (WasAckedIn new.sent step) c (all-stay old.sent new.sent t u step reply tt e) (resets_kept p step reply r) stay more
-      (λ who id some held x. waits-acked old new p (after p step reply) t number reply n keeps marks left stay more (spell number n.payload.sent n.payload.is) who id x)
-      (λ who id a. let b : (all : List Frame) × WasPayload new.sent who number all × IsOneOf (GivenUp id) (parts_in all) = a in come-acked old new p (after p step reply) t number reply n keeps marks left stay more who id b.0 b.1 b.2)
+-- ---- whatever steps led to a pair
 
-  comes_ack : (number : ℕ) (reply : Answer) → SettlesPayload Acknowledged AcksPayloadAt old number reply new → StepTells old.sent new.sent (steps.Ack number) reply t u → Comes new u (after p (steps.Ack number) reply)
-  comes_ack number (Ok Done) n e = comes_acked number (Ok Done) n n tt e
-  comes_ack number (Err NoMemory) n e = comes_acked number (Err NoMemory) n n tt e
-  comes_ack number (Err NoSuchPayload) n e = let P : PairState → Type 0 = λ v. Comes v t p in let Q : Tales → Type 0 = λ x. Comes new x p in subst Q (sym e) (subst P (sym n.1) c)
-  comes_ack number (Err AlreadySettled) n e = let P : PairState → Type 0 = λ v. Comes v t p in let Q : Tales → Type 0 = λ x. Comes new x p in subst Q (sym e) (subst P (sym n.is) c)
-  comes_ack number (Err NotAccepted) n e = let P : PairState → Type 0 = λ v. Comes v t p in let Q : Tales → Type 0 = λ x. Comes new x p in subst Q (sym e) (subst P (sym n.is) c)
-  comes_ack number _ n e = absurd n
+comes_changed : {b : Origin} (old new : PairState) (p : Past) (t u : Tales) → Comes old t p → (step : Step) (k : Changes b p old new step) → u ≡ tales_changed k t → Comes new u (after p step (Ok Done))
+comes_changed old new p t u c step (accepts k within few) e = comes_accepts old new p t u c k e
+comes_changed old new p t u c step (retries k m did mine accepted kept) e = comes_retries old new p t u c k mine accepted e
 
-  pub comes-next : (step : Step) (reply : Answer) → NextOrdinary old step reply new → StepTells old.sent new.sent step reply t u → Comes new u (after p step reply)
-  comes-next (steps.Open who dir) reply n e = comes_end (steps.Open who dir) reply tt tt tt tt (λ k id a. a) (sent_on_end old who new n) n e
-  comes-next (steps.Accept who dir) reply n e = comes_end (steps.Accept who dir) reply tt tt tt tt (λ k id a. a) (sent_on_end old who new n) n e
-  comes-next (steps.Write who id bytes) reply n e = comes_end (steps.Write who id bytes) reply tt tt tt tt (λ k id a. a) (sent_on_end old who new n) n e
-  comes-next (steps.WriteChunks who id chunks) reply n e = comes_end (steps.WriteChunks who id chunks) reply tt tt tt tt (λ k id a. a) (sent_on_end old who new n) n e
-  comes-next (steps.Finish who id) reply n e = comes_end (steps.Finish who id) reply tt tt tt tt (λ k id a. a) (sent_on_end old who new n) n e
-  comes-next (steps.Reset who id code) (Ok Done) n e =
-      let same = sent_on_end old who new n in
-      comes_reset old new p t c m counted (subst (StaySent old.sent) (sym same) (stay-sent old.sent)) (forth-same old.sent new.sent same) (step-keeps old new (steps.Reset who id code) (Ok Done) tt n) who id code (gives_up old new who id code n) u e
-  comes-next (steps.Reset who id code) reply n e = comes_end (steps.Reset who id code) reply tt tt tt tt (λ k j a. a) (sent_on_end old who new n) n e
-  comes-next (steps.Stop who id code) reply n e = comes_end (steps.Stop who id code) reply tt tt tt tt (λ k j a. a) (sent_on_end old who new n) n e
-  comes-next (steps.SetPriority who id priority) reply n e = comes_end (steps.SetPriority who id priority) reply tt tt tt tt (λ k j a. a) (sent_on_end old who new n) n e
-  comes-next (steps.Read who id ordered most times) reply n e = comes_end (steps.Read who id ordered most times) reply tt tt tt tt (λ k j a. a) (sent_on_end old who new n) n e
-  comes-next (steps.ReceivedReset who id) reply n e = comes_end (steps.ReceivedReset who id) reply tt tt tt tt (λ k j a. a) (sent_on_end old who new n) n e
-  comes-next (steps.SetSendWindow who window) reply n e = comes_end (steps.SetSendWindow who window) reply tt tt tt tt (λ k j a. a) (sent_on_end old who new n) n e
-  comes-next (steps.SetReceiveWindow who window) reply n e = comes_end (steps.SetReceiveWindow who window) reply tt tt tt tt (λ k j a. a) (sent_on_end old who new n) n e
-  comes-next (steps.SetMaxConcurrent who dir count) reply n e = comes_end (steps.SetMaxConcurrent who dir count) reply tt tt tt tt (λ k j a. a) (sent_on_end old who new n) n e
-  comes-next (steps.Poll who) reply n e = comes_end (steps.Poll who) reply tt tt tt tt (λ k j a. a) (sent_on_end old who new n) n e
-  comes-next (steps.Emit who most fair) reply n e = comes_emit who most fair reply n e
-  comes-next (steps.Deliver number index) reply n e = comes_deliver number index reply (forth_delivered number index reply n) n e
-  comes-next (steps.Lose number) reply n e = comes_lose number reply n e
-  comes-next (steps.Ack number) reply n e = comes_ack number reply n e
-  comes-next _ reply n e = absurd n
-
--- ---- whatever steps led to it
-
--- what an ordinary step tells
-tells_step : (s : Beginning) (old new : PairState) (step : Step) (reply : Answer) (t u : Tales) → NextOrdinary old step reply new → TellsOfPair s old.sent new.sent step reply t u → StepTells old.sent new.sent step reply t u
-tells_step s old new steps.EarlyAccept reply t u n e = absurd n
-tells_step s old new steps.EarlyReject reply t u n e = absurd n
-tells_step s old new steps.Retry reply t u n e = absurd n
-tells_step s old new step reply t u n e = e
-
-module _ (s : Beginning) (early : s.early ≡ None) where
-  abbrev made : End → Made
-  made = made_at (origin_a s (limits_of_b s)) (origin_b s)
-
-  comes_still : (old new : PairState) (p : Past) (t u : Tales) → Comes old t p → new ≡ old → u ≡ t → Comes new u p
-  comes_still old new p t u c same e = let P : PairState → Type 0 = λ v. Comes v t p in let Q : Tales → Type 0 = λ x. Comes new x p in subst Q (sym e) (subst P (sym same) c)
-
-  comes_taken : (old new : PairState) (p : Past) (t u : Tales) → old.waits ≡ None → Comes old t p → ((who : End) → Counted (made who) (the_end old who).streams (t.of who)) → AreMarkedSo p.accepted old.sent → AreLeft old.sent t.told
-      → ((number : ℕ) (x : Sent) → slice_get old.sent number ≡ Some x → (T : Type 0) → ((all : List Frame) → AreFrames x.text.bytes all → T) → T) → (step : Step) (reply : Answer) → NextTaken old step reply new → TellsOfPair s old.sent new.sent step reply t u → Comes new u (after p step reply)
-  comes_taken old new p t u w c counted marks left spell steps.EarlyAccept (Ok Done) n e = absurd (none-some n.limits (sym w ∙ n.waiting))
-  comes_taken old new p t u w c counted marks left spell steps.EarlyAccept (Err NoMemory) n e = comes_still old new p t u c n.is e
-  comes_taken old new p t u w c counted marks left spell steps.EarlyAccept (Err LimitsBelow) n e = comes_still old new p t u c n.is e
-  comes_taken old new p t u w c counted marks left spell steps.EarlyAccept (Err Decided) n e = comes_still old new p t u c n.1 e
-  comes_taken old new p t u w c counted marks left spell steps.EarlyAccept _ n e = absurd n
-  comes_taken old new p t u w c counted marks left spell steps.EarlyReject (Ok Done) n e = absurd (none-some n.limits (sym w ∙ n.waiting))
-  comes_taken old new p t u w c counted marks left spell steps.EarlyReject (Err Decided) n e = comes_still old new p t u c n.1 e
-  comes_taken old new p t u w c counted marks left spell steps.EarlyReject _ n e = absurd n
-  comes_taken old new p t u w c counted marks left spell steps.Retry (Ok Done) n e = absurd (none-some n.limits (sym w ∙ n.waiting))
-  comes_taken old new p t u w c counted marks left spell steps.Retry (Err NoMemory) n e = comes_still old new p t u c n.1 e
-  comes_taken old new p t u w c counted marks left spell steps.Retry (Err Decided) n e = comes_still old new p t u c n.1 e
-  comes_taken old new p t u w c counted marks left spell steps.Retry _ n e = absurd n
-  comes_taken old new p t u w c counted marks left spell step reply n e = comes-next old new p t u c made counted marks left spell step reply n (tells_step s old new step reply t u n e)
-
-  comes_begun : (v : PairState) (t : Tales) → t ≡ tales_begun s → Comes v t (past_of [])
-  comes_begun v t e = let P : Tales → Type 0 = λ x. Comes v x (past_of []) in subst P (sym e) (record { given = λ who id code i. absurd i; comes = none })
-    where
-      none : (who : End) (id : ℕ) → is_some (((tales_begun s).of who).flow id).reset ≡ true → HasCome id (past_of []) v.sent who ⊎ (((((tales_begun s).of who).flow id).freed ≡ false) × Waits id v who)
-      none A id e = cc
-      none B id e = cc
-
-  pub comes-from : {h : History} {v : PairState} (f : PairFrom s h v) (t : Tales) → Told s (sendings_of f) t → Comes v t (past_of h)
-  comes-from {h} {v} (begun n) t k = comes_begun v t k
-  comes-from (next {h} {old} {new} step reply f n) u k =
-      let c = course-from s early f in
-      let same = told-once s (sendings_of f) c.recounted.tales k.0 c.told k.1 in
-      let M : Past → Type 0 = λ p. AreMarkedSo p.accepted old.sent in
-      let C : Tales → Type 0 = λ x. (who : End) → Counted (made who) (the_end old who).streams (x.of who) in
-      let L : Tales → Type 0 = λ x. AreLeft old.sent x.told in
-      let P : Option EarlyLimits → Type 0 = λ w. MatchBool (is_some w && needs_decision step) ((reply ≡ Err Undecided) × (new ≡ old)) (NextTaken old step reply new) in
-      let Q : Past → Type 0 = λ p. Comes new u p in
-      subst Q (sym (past-after h step reply)) (comes_taken old new (past_of h) k.0 u c.waits (comes-from f k.0 k.1) (subst C same c.recounted.counted) (subst M (sym c.past) (marks-from c.era)) (subst L same c.recounted.left)
-      (λ number x is T g. seen-as _ _ (past_of c.taken) old x.writer (joined-from c.era) T (λ a b side seen. let i = seen.own number x is refl in g i.all i.spelled)) step reply (subst P c.waits n) k.2)
+comes-from : {a b : Origin} {h : History} {v : PairState} (f : EraFrom a b h v) (t : Tales) → ToldIn f t → Comes v t (past_of h)
+comes-from {a} {b} {h} {v} (begun n) t k = let P : Tales → Type 0 = λ x. Comes v x (past_of []) in subst P (sym k) (comes_begun a b v)
+comes-from {a} {b} (next {h} {old} {new} step reply f n) u k =
+    let g = grown-from f in
+    let same = told-in-once f g.recounted.tales k.0 g.told k.1 in
+    let C : Tales → Type 0 = λ x. (who : End) → Counted (made_at a b who) (the_end old who).streams (x.of who) in
+    let L : Tales → Type 0 = λ x. AreLeft old.sent x.told in
+    let P : Past → Type 0 = λ p. Comes new u p in
+    subst P (sym (past-after h step reply)) (comes-next old new (past_of h) k.0 u (comes-from f k.0 k.1) (made_at a b) (subst C same g.recounted.counted) (marks-from f) (subst L same g.recounted.left)
+    (λ number x is T to. seen-as a b (past_of h) old x.writer g.joined T (λ a b side seen. let i = seen.own number x is refl in to i.all i.spelled)) step reply n k.2)
+comes-from (changed {h} {old} {new} step f c) u k =
+    let P : Past → Type 0 = λ p. Comes new u p in
+    subst P (sym (past-after h step (Ok Done))) (comes_changed old new (past_of h) k.0 u (comes-from f k.0 k.1) step c k.2)
 
 -- once a settling ended none is pending, nor noted of a payload that is unreported
-pub resets-arrive : (s : Beginning) (h : History) (v : PairState) (f : PairFrom s h v) → StartsAtOnce s → AreIdle v → AreSettledIn 0 (length v.sent) v.sent → HaveResetsArrived (past_of h) v.sent
-resets-arrive s h v f early idle settled who id code i =
-    let t = (course-from s early f).recounted.tales in
-    let c = comes-from s early f t (course-from s early f).told in
+pub resets-arrive : (s : Beginning) (h : History) (v : PairState) (f : PairFrom s h v) → IsAgreed s v → AreIdle v → AreSettledIn 0 (length v.sent) v.sent → HaveResetsArrived (past_of h) v.sent
+resets-arrive s h v f agreed idle settled who id code i =
+    let e = course-from f (agreed-waits f agreed) in
+    let g = grown-from e.era in
+    let P : Past → Type 0 = λ p. Comes v g.recounted.tales p in
+    let c = subst P (sym e.past) (comes-from e.era g.recounted.tales g.told) in
     elim (c.comes who id (c.given who id code i)) [
       | inl come ↦ come
       | inr x ↦ absurd (elim x.1.1 [
-        | inl pending ↦ (let P : List (ℕ × ℕ) → Type 0 = λ l. IsOneOf (id, x.1.0) l in subst P ((idle_at who).kinds kinds.ResetStream) pending)
+        | inl pending ↦ (let Q : List (ℕ × ℕ) → Type 0 = λ l. IsOneOf (id, x.1.0) l in subst Q ((idle_at who).kinds kinds.ResetStream) pending)
         | inr noted ↦ none-some noted.rest (sym (settled noted.number noted.payload (omega arith) (slice_get-within v.sent noted.number noted.payload noted.is) noted.is) ∙ noted.rest_is)
       ])
     ]

@@ -1,6 +1,5 @@
 -- A reset that was pending is so still once a payload was written, or is noted of it, or its half was freed.
 use Rattle.std.proofs.Common.{◌≡◌, ◌⊎◌, ℕ, Bool, List, [], ◌∷◌, ◌++◌, Option, Some, None, Result, Ok, Err, refl, sym, ap, ◌∙◌, subst, inl, inr}
-use Rattle.quic_values.specs.declared.ids.Dir.{Dir}
 use Rattle.quic_values.specs.declared.ids.Dir.TheVariants.{Bi, Uni}
 use Rattle.quic_values.specs.declared.memory.OutOfMemory.{OutOfMemory}
 use Rattle.quic_wire.specs.declared.frame.Frame.{Frame}
@@ -10,8 +9,7 @@ use Rattle.quic_sending.specs.declared.send.Send.{Send}
 use Rattle.quic_retransmits.specs.Pending.{Pending, nothing}
 use Rattle.quic_retransmits.specs.Settling.{noted}
 use Rattle.quic_outgoing.specs.Outgoing.{Outgoing}
-use Rattle.quic_history.specs.World.{World, with_remote}
-use Rattle.quic_limits.specs.Remote.{Remote}
+use Rattle.quic_history.specs.World.{World}
 use Rattle.quic_history.specs.Control.{SettlesEntry, SettlesReset, reset_frame}
 use Rattle.quic_history.specs.declared.control.ControlKind.{ControlKind}
 use Rattle.quic_history.specs.declared.control.ControlKind.TheVariants as kinds
@@ -45,10 +43,6 @@ front_or_last z last (y ∷ ys) (inr h) = elim (front_or_last z last ys h) [ inl
 
 is_last : (z : ℕ × ℕ) (xs : List (ℕ × ℕ)) → IsOneOf z (xs ++ z ∷ [])
 is_last z xs = one-of-last z xs (z ∷ []) (inl refl)
-
-remote_out : (w : World) (d : Dir) (r : Remote) → (with_remote w d r).out ≡ w.out
-remote_out w Bi r = refl
-remote_out w Uni r = refl
 
 module _ (z : ℕ × ℕ) where
   -- the last reset leaves what is pending

@@ -192,18 +192,19 @@ module _ {known : Bool} (s : Beginning) (h : History) (v : PairState) (f : PairF
   streams-now A = most_now.server
   streams-now B = knows_streams v c.recounted.tales idle settled c.tracked c.owing B (λ id. c.kept.of_server decided (DataOn id))
 
+-- where nothing is forgotten, it is decided what becomes of what the client sends early
+pub forgets-agreed : (s : Beginning) (h : History) (v : PairState) → ForgetsNone s h v → IsAgreed s v
+forgets-agreed s h v (inl early) = inl early
+forgets-agreed s h v (inr k) = inr k.0
+
 module _ (s : Beginning) (h : History) (v : PairState) (f : PairFrom s h v) (idle : AreIdle v) (settled : AreSettledIn 0 (length v.sent) v.sent) (t : Tales) (told : Told s (sendings_of f) t) where
   pub know-limits : ForgetsNone s h v → KnowLimits v t
   know-limits none =
-      let decided = agreed-waits f (agreed none) in
+      let decided = agreed-waits f (forgets-agreed s h v none) in
       let c = course-known true f (λ on. remembers none) decided in
       let P : Tales → Type 0 = λ x. KnowLimits v x in
       subst P (told-once s (sendings_of f) c.recounted.tales t c.told told) (know_now s h v f c decided idle settled refl)
     where
-      agreed : ForgetsNone s h v → IsAgreed s v
-      agreed (inl early) = inl early
-      agreed (inr k) = inr k.0
-
       remembers : ForgetsNone s h v → Remembers s (HasRejectedAsMade f)
       remembers (inl early) = inl early
       remembers (inr k) = inr (rejected-unset f k.1)

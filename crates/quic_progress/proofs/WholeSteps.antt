@@ -10,8 +10,8 @@ use Rattle.quic_receiving.specs.declared.errors.ReadableError.{ReadableError}
 use Rattle.quic_receiving.specs.declared.transmit.ShouldTransmit.{ShouldTransmit}
 use Rattle.quic_history.specs.World.{Made}
 use Rattle.quic_history.specs.Permitting.{acceptable}
-use Rattle.quic_history.specs.SendEvents.{OpenedOwn, SetWindow, WroteOwn, FinishedOwn, ResetOwn, SetOwnPriority, Polled}
-use Rattle.quic_history.specs.History.{Began, Stopped as StoppedEvent, ToldReset, Resized, SetConcurrent, Accepted, Sending}
+use Rattle.quic_history.specs.SendEvents.{OpenedOwn, GaveLimits, SetWindow, WroteOwn, FinishedOwn, ResetOwn, SetOwnPriority, Polled}
+use Rattle.quic_history.specs.History.{Began, Stopped as StoppedEvent, ToldReset, Resized, SetConcurrent, Accepted, Sending, SentAgain}
 use Rattle.quic_streams.specs.declared.batches.ReadSome.{ReadSome}
 use Rattle.quic_streams.specs.Sent.{sent_view, report_view}
 use Rattle.quic_endpoint.specs.Ends.{EndState, StopsReading}
@@ -29,6 +29,10 @@ use Rattle.quic_pair.specs.Replies.{Answer, handled_reply}
 use Rattle.quic_pair.specs.State.{PairState, peer, the_end, with_end, with_sent}
 use Rattle.quic_pair.specs.Calls.{OnGiven, ReadsSo}
 use Rattle.quic_pair.specs.Steps.{NextOrdinary, HandsOver, Delivers, SettlesPayload, Emits, Emitted}
+use Rattle.quic_pair.specs.History.{Past}
+use Rattle.quic_pair.proofs.Origins.{Origin}
+use Rattle.quic_pair.proofs.Eras.{Changes, accepts, retries}
+use Rattle.quic_pair.proofs.OwnDoings.{own-unacked}
 use Rattle.quic_pair.proofs.CallsSetting.{told-streams}
 use Rattle.quic_progress.proofs.Whole.{Runs, RunsBy, by-call, by-at, runs-same, runs-at, runs-call, runs-reads, runs-emits, runs-lost, runs-acked, runs-frame}
 
@@ -168,3 +172,13 @@ stop-runs old new m who id code n =
       | inl there ↦ stopped_by m e n.end id code there.1.answer there.1.reply_is there.1.stops
       | inr none ↦ (let k = none.1 in cc)
     ])
+
+-- ---- the server accepts what the client sent early, or the client is to begin again
+
+pub changed-runs : {b : Origin} {p : Past} (old new : PairState) (m : Made) (step : PairStep) → Changes b p old new step → (who : End) → Runs m (the_end old who).streams (the_end new who).streams
+changed-runs old new m step (accepts k within few) A = runs-call m old.a.streams new.a.streams (Sending (GaveLimits k.limits.others (Ok tt))) tt (ap (λ (v : PairState). v.a.streams) k.is)
+changed-runs old new m step (accepts k within few) B = runs-at m old.b.streams new.b.streams old.b.streams (ap (λ (v : PairState). v.b.streams) k.is) (runs-same m old.b.streams)
+changed-runs old new m step (retries k n did mine accepted kept) A =
+    let none = own-unacked n old.a.streams did in
+    runs-at m old.a.streams new.a.streams k.streams (ap (λ (v : PairState). v.a.streams) k.is) (runs-call m old.a.streams k.streams (SentAgain (Ok tt)) tt (none, k.again none))
+changed-runs old new m step (retries k n did mine accepted kept) B = runs-at m old.b.streams new.b.streams old.b.streams (ap (λ (v : PairState). v.b.streams) k.is) (runs-same m old.b.streams)

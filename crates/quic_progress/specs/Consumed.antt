@@ -2,6 +2,7 @@
 use Rattle.std.specs.Prelude.{ℕ, ◌-◌, ◌/◌, ◌≤◌, List}
 use Rattle.quic_history.specs.World.{World}
 use Rattle.quic_steps.specs.declared.steps.End.{End}
+use Rattle.quic_steps.specs.declared.steps.End.TheVariants.{A, B}
 use Rattle.quic_pair.specs.State.{PairState, peer, the_end}
 use Rattle.quic_pair.specs.History.{Past}
 use Rattle.quic_pair.specs.Readable.{SomeReset}
@@ -24,3 +25,8 @@ pub record CountsAsConsumed (t : Tale) (w : World) : Type 0 where
 -- so each way
 abbrev pub CountAsConsumed : PairState → Tales → Type 0
 CountAsConsumed v t = (who : End) → CountsAsConsumed (t.of who) (the_end v (peer who)).streams
+
+-- the client knows so much of the server, and all that the server wrote counts as consumed: so it is whatever came of what the client sent early
+pub record ConsumeMost (v : PairState) (t : Tales) : Type 0 where
+  pub client : CountsAsConsumed (t.of A) v.b.streams
+  pub server : OwesNoDebt v.a.streams.credit → CanBeTold v.a.streams.credit.local_max_data → IsAllConsumed (t.of B) v.a.streams.credit

@@ -9,8 +9,8 @@ ghost use Rattle.quic_pair.specs.Runs.{sendings_of};
 ghost use Rattle.quic_pair.specs.Tale.{Tales, Told};
 ghost use Rattle.quic_pair.specs.Settling.{AreIdle, AreSettledIn};
 ghost use Rattle.quic_pair.specs.Completed.{HaveBeenRead, AreAllAcked};
-ghost use Rattle.quic_progress.specs.Consumed.{HaveResetsArrived, CountAsConsumed};
-ghost use Rattle.quic_progress.specs.Progress.{StartsAtOnce, IsAgreed, ForgetsNone, KnowLimits, KnowMost, HaveRoom, AreFree};
+ghost use Rattle.quic_progress.specs.Consumed.{HaveResetsArrived, CountAsConsumed, ConsumeMost};
+ghost use Rattle.quic_progress.specs.Progress.{IsAgreed, ForgetsNone, KnowLimits, KnowMost, HaveRoom, AreFree};
 
 /// Once neither of two ends has something to send, and every payload is settled, as `Pair::settle` leaves them: each end
 /// knows the limits that the other announced last, and what the other permits but for an eighth of its windows. So
@@ -40,14 +40,21 @@ pub fn send_windows_are_free()
 {}
 
 /// Once neither of two ends has something to send, and every payload is settled, as `Pair::settle` leaves them, a reset was
-/// accepted of each stream that its writer gave up.
+/// accepted of each stream that its writer gave up: whatever came of what the client sent before the handshake was done,
+/// once that is decided. After a rejection it is said of the streams since.
 pub fn settled_resets_arrive()
-    ensures { (s : Beginning) (h : History) (v : PairState) (led : PairFrom s h v) → StartsAtOnce s → AreIdle v → AreSettledIn 0 (length v.sent) v.sent → HaveResetsArrived (past_of h) v.sent }
+    ensures { (s : Beginning) (h : History) (v : PairState) (led : PairFrom s h v) → IsAgreed s v → AreIdle v → AreSettledIn 0 (length v.sent) v.sent → HaveResetsArrived (past_of h) v.sent }
 {}
 
 /// So where, as `Pair::settle` leaves them, all was read that was written on streams that were neither given up nor stopped,
 /// all that was written in all counts as consumed: where no debt is owed, each end permits its receive window above all
-/// that the other wrote, and the other knows it but for an eighth.
+/// that the other wrote, and the other knows it but for an eighth. It is said of the pairs of `settled_ends_know_limits`.
 pub fn settled_ends_consume_all()
-    ensures { (s : Beginning) (h : History) (v : PairState) (led : PairFrom s h v) → StartsAtOnce s → AreIdle v → AreSettledIn 0 (length v.sent) v.sent → HaveBeenRead (past_of h) → (t : Tales) → Told s (sendings_of led) t → CountAsConsumed v t }
+    ensures { (s : Beginning) (h : History) (v : PairState) (led : PairFrom s h v) → ForgetsNone s h v → AreIdle v → AreSettledIn 0 (length v.sent) v.sent → HaveBeenRead (past_of h) → (t : Tales) → Told s (sendings_of led) t → CountAsConsumed v t }
+{}
+
+/// Whatever came of what the client sent before the handshake was done, once that is decided: all that was written in all
+/// counts as consumed so each way, and the client knows the limit of the server but for an eighth.
+pub fn agreed_ends_consume_most()
+    ensures { (s : Beginning) (h : History) (v : PairState) (led : PairFrom s h v) → IsAgreed s v → AreIdle v → AreSettledIn 0 (length v.sent) v.sent → HaveBeenRead (past_of h) → (t : Tales) → Told s (sendings_of led) t → ConsumeMost v t }
 {}
