@@ -176,3 +176,55 @@ fn values_are_set_where_they_stand(rt: HostRuntime) -> Result<(), Fail> {
     }
     Ok(())
 }
+
+// Puts one entry in the place of those with keys from one up to another, as pieces that are joined are one.
+fn join(map: &mut BlockMap, low: u64, high: u64) -> Result<(), AllocError> {
+    map.remove_keys(low, high);
+    put(map, low, high)?;
+    Ok(())
+}
+
+// How many rows there are before the last one, or 0.
+fn rows_before(map: &BlockMap) -> usize {
+    match map.last_place() {
+        Some(place) => place.block,
+        None => 0,
+    }
+}
+
+#[test]
+fn rows_with_few_entries_are_joined(rt: HostRuntime) -> Result<(), Fail> {
+    // So many neighbours become one, 128 times, and the next ones lie so many such runs behind.
+    for (size, step) in [(64u64, 1u64), (64, 127), (48, 77), (100, 1), (100, 127)] {
+        let mut map = BlockMap::new(rt.alloc());
+        let mut tree = BTreeMap::new(rt.alloc());
+        for key in 0..size * 128 {
+            put(&mut map, key, 0)?;
+        }
+        for turn in 0..128u64 {
+            let low = size * (turn * step % 128);
+            join(&mut map, low, low + size - 1)?;
+            tree.insert(low, low + size - 1)?;
+        }
+        are_same(&rt, &map, &tree);
+        is_true(&rt, rows_before(&map) <= 128 / 8);
+    }
+    Ok(())
+}
+
+#[test]
+fn rows_are_joined_as_entries_go_one_by_one(rt: HostRuntime) -> Result<(), Fail> {
+    for (size, step) in [(64u64, 1u64), (64, 4095), (50, 1), (50, 2731)] {
+        let (mut map, mut tree) = filled(rt.alloc(), 4096)?;
+        for turn in 0..4096u64 {
+            let key = turn * step % 4096;
+            if key % size != 0 {
+                map.remove(key);
+            }
+        }
+        tree.retain(|key, _| *key % size == 0);
+        are_same(&rt, &map, &tree);
+        is_true(&rt, rows_before(&map) <= 4096 / 64 / 8);
+    }
+    Ok(())
+}
