@@ -286,6 +286,17 @@ fn remove_from_few(blocks: &mut Vec<Block>, spare: &mut Vec<(u64, u64)>, block: 
     remove_row(blocks, spare, block);
 }
 
+// Whether others than a row are to be looked at once an entry of it goes: few are left, or none.
+#[inline(always)]
+fn is_sparse(blocks: &[Block], block: usize) -> bool
+    requires { block < length blocks.now }
+    ensures some { result ≡ false → 1 < length (slice_index_or blocks.now block []) }
+    ensures most { length (slice_index_or blocks.now block []) ≤ 64 }
+{
+    let len = blocks[block].len();
+    len <= 1 || len <= SPARSE && blocks.len() > 1
+}
+
 /// Takes the entry at a place out.
 #[inline(always)]
 pub(crate) fn remove_entry(
@@ -302,11 +313,10 @@ pub(crate) fn remove_entry(
     ensures some { HasSome blocks.new.items }
     ensures empty { spare.new.items ≡ [] }
 {
-    if blocks[block].len() > SPARSE {
-        blocks[block].cut(index, index + 1);
-        return;
+    if is_sparse(blocks.as_slice(), block) {
+        return remove_from_few(blocks, spare, block, index);
     }
-    remove_from_few(blocks, spare, block, index);
+    blocks[block].cut(index, index + 1);
 }
 
 // Takes a row out, and keeps its memory.

@@ -7,8 +7,8 @@ use Rattle.block_map.proofs.Flat.{same_at}
 use Rattle.block_map.proofs.Rowed.{cut_in}
 use Rattle.block_map.proofs.rows.remove_entry.Goals as goal
 
-pub returns-then-len-gt-SPARSE-clause-items : goal.returns-then-len-gt-SPARSE-clause-items
-returns-then-len-gt-SPARSE-clause-items c =
+pub returns-clause-items : goal.returns-clause-items
+returns-clause-items c =
     let rows = c.args.blocks.now.items in
     let b = c.args.block in
     let i = c.args.index in
