@@ -1,6 +1,7 @@
 """The crates of crates.txt, what each stands on, and the words by which the compiler is told of them."""
 import os
 import subprocess
+import sys
 
 ROOT = os.path.dirname(os.path.dirname(os.path.abspath(__file__)))
 CRATES = os.path.join(ROOT, "crates")
@@ -45,3 +46,19 @@ def of_logic(folder):
     """What a check is told of the kit: its libraries, and the logic."""
     words = ["-L", f"dependency={folder}/rlibs", "--antt-project", f"{folder}/rattle/logic/antt-project.json"]
     return [*words, "--logic-built", f"{folder}/logic_built"]
+
+
+def last_change(crate):
+    """When a source, a definition or a proof of a crate was changed last."""
+    walked = (os.walk(os.path.join(CRATES, crate, part)) for part in ("src", "specs", "proofs"))
+    return max(os.path.getmtime(os.path.join(at, name)) for part in walked for at, _, names in part for name in names)
+
+
+def rlib_of(crate):
+    """The folder of a proved crate, as the gate left it."""
+    rlib = os.path.join(CRATES, crate, "out", "rlib", f"{crate}.rlib")
+    if not os.path.isdir(rlib):
+        sys.exit(f"{crate} was not proved here: run rt ci")
+    if os.path.getmtime(rlib) < last_change(crate):
+        sys.exit(f"{crate} was changed since it was proved: run rt ci")
+    return rlib

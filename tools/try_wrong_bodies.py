@@ -15,6 +15,8 @@ import sys
 import tempfile
 import threading
 
+import together
+
 ROOT = os.path.dirname(os.path.dirname(os.path.abspath(__file__)))
 BODIES = os.path.join(ROOT, "tools", "wrong_bodies")
 # The folders of a crate that a check reads, and the one in which it keeps its results.
@@ -151,6 +153,7 @@ def main():
     parser.add_argument("crates", metavar="CRATE", nargs="*", help="a crate of tools/wrong_bodies; without one, all")
     parser.add_argument("--jobs", type=int, metavar="N", help="the most processors that are used; without it, all")
     parser.add_argument("--list", action="store_true", help="only say which edits cannot be put in place, and prove nothing")
+    parser.add_argument("--together", action="store_true", help="several in one check, over what rt ci proved in this folder (tools/together.py)")
     asked = parser.parse_args()
     there = crates_with_bodies()
     crates = asked.crates or there
@@ -170,7 +173,10 @@ def main():
     else:
         # rt uses the processors that it is given
         os.sched_setaffinity(0, sorted(os.sched_getaffinity(0))[:jobs])
-    refused = try_all(crates, jobs)
+    if asked.together:
+        refused = together.try_all({crate: [os.path.join(BODIES, crate, f"{it}.edit") for it in edits_of(crate)] for crate in crates}, jobs)
+    else:
+        refused = try_all(crates, jobs)
     total = sum(len(edits_of(crate)) for crate in crates)
     print(f"{total} wrong bodies: {refused} refused, {total - refused} not")
     return 0 if refused == total else 1
