@@ -172,28 +172,32 @@ fn draw_names<W: Write>(last: &Row, scale: Scale, output: &mut W) -> io::Result<
         let highest = 100 + 22 * rank as u64;
         let y = end.min(below.saturating_sub(22)).max(highest);
         below = y;
-        let Some(
-            Column {
-                name,
-                color,
-                dashes,
-                ..
-            },
-        ) = last.columns().get(index).copied()
-        else {
+        let Some(column) = last.columns().get(index).copied() else {
             continue;
         };
-        writeln!(
-            output,
-            "<path d='M{x} {end}L800 {y}' stroke='#aaa' stroke-width='1'/>"
-        )?;
-        writeln!(
-            output,
-            "<path d='M805 {y}h40' stroke='{color}' stroke-dasharray='{dashes}'/>"
-        )?;
-        writeln!(output, "<text x='852' y='{y}' dy='5'>{name}</text>")?;
+        draw_name(column, (x, end), y, output)?;
     }
     Ok(())
+}
+
+// Draws the name of a line, the line's look beside it, and a line from where it ends to there.
+fn draw_name<W: Write>(column: Column, end: (u64, u64), y: u64, output: &mut W) -> io::Result<()> {
+    let (x, end) = end;
+    let Column {
+        name,
+        color,
+        dashes,
+        ..
+    } = column;
+    writeln!(
+        output,
+        "<path d='M{x} {end}L800 {y}' stroke='#aaa' stroke-width='1'/>"
+    )?;
+    writeln!(
+        output,
+        "<path d='M805 {y}h40' stroke='{color}' stroke-dasharray='{dashes}'/>"
+    )?;
+    writeln!(output, "<text x='852' y='{y}' dy='5'>{name}</text>")
 }
 
 // Which payloads are lost, and which are late.
