@@ -20,12 +20,12 @@ greater a b lt = sym (nat_cmp_is a b Greater lt)
 pub less : (a b : ℕ) → a < b → nat_cmp a b ≡ Less
 less a b lt = sym (nat_cmp_is a b Less lt)
 
-pub insert_last : (es : List (ℕ × PieceView)) (k : ℕ) (v : PieceView) → All (λ (key : ℕ). key < k) (keys_of es) → insert_entry nat_cmp es k v ≡ es ++ (k, v) ∷ []
+pub insert_last : {V : Type 0} (es : List (ℕ × V)) (k : ℕ) (v : V) → All (λ (key : ℕ). key < k) (keys_of es) → insert_entry nat_cmp es k v ≡ es ++ (k, v) ∷ []
 insert_last [] k v below = refl
 insert_last (e ∷ es) k v below =
     let lt = All-head (λ (key : ℕ). key < k) e.0 (keys_of es) below in
     let i = insert_last es k v (All-tail (λ (key : ℕ). key < k) e.0 (keys_of es) below) in
-    ap (λ (o : Ordering). match_ordering o ((k, v) ∷ (e ∷ es)) ((e.0, v) ∷ es) (e ∷ insert_entry nat_cmp es k v)) (greater k e.0 lt) ∙ ap (λ (xs : List (ℕ × PieceView)). e ∷ xs) i
+    ap (λ (o : Ordering). match_ordering o ((k, v) ∷ (e ∷ es)) ((e.0, v) ∷ es) (e ∷ insert_entry nat_cmp es k v)) (greater k e.0 lt) ∙ ap (λ xs. e ∷ xs) i
 
 pub absent_last : (es : List (ℕ × PieceView)) (k : ℕ) → All (λ (key : ℕ). key < k) (keys_of es) → piece_at es k ≡ None
 absent_last [] k below = refl

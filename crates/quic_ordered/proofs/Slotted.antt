@@ -1,7 +1,7 @@
 -- Pieces in the slots of a slab.
 use Rattle.std.proofs.Common.{◌≡◌, ◌≢◌, ℕ, ◌+◌, ◌<◌, ◌≤◌, ◌^◌, ◌⊎◌, Bool, true, false, cond, refl, sym, ap, subst, ◌∙◌, inl, inr, List, [], ◌∷◌, ◌++◌, length, map, arith, zero, suc, get_or, drop, Option, Some, None}
 use Rattle.std.specs.Prelude.{slice_index_or, IsSome, is_some, nat_le, if◌then◌else◌, ◌*◌, ◌/◌, ◌&&◌, IfSome, IfNone, IfOk, Result, Ok, Err}
-use Rattle.std.specs.List.{remove_range}
+use Rattle.std.specs.List.{remove_range, All}
 use Rattle.std.specs.Option.{unwrap_or, option_map}
 use Rattle.std.specs.Map.{keys_of, lookup, remove_entry, set_value}
 use Rattle.std.specs.BTreeMap.{is_at, insert_entry}
@@ -9,6 +9,7 @@ use Rattle.std.specs.Ordering.{nat_cmp, is_le}
 use Rattle.std.specs.Cmp.{nat_cmp_total}
 use Rattle.std.specs.List.Sorted.{IsStrictlySortedBy}
 use Rattle.std.proofs.lemmas.Bool.{cases_lt, cases_eq}
+use Rattle.std.proofs.lemmas.List.Elements.{All-head, All-tail}
 use Rattle.std.proofs.lemmas.Bool.Decides.{nat_tests}
 use Rattle.std.proofs.Math.ListN.{drop_of_length-le}
 use Rattle.std.proofs.lemmas.List.{get_or-map, length-map, length-append}
@@ -388,6 +389,12 @@ slot_here es place e r lt is =
 
 pub held_here : (es : List KeyAndValue) (s : Slab PieceView) (place : ℕ) (e : KeyAndValue) → AreSlots es s → place < length es → ((d : KeyAndValue) → e ≡ slice_index_or es place d) → ContainsKey s e.1
 held_here es s place e a lt is = a.held e.0 e.1 (slot_here es place e a.rises lt is)
+
+-- each key is below a number, where all are
+pub keys_below : (es : List KeyAndValue) (n : ℕ) → All (λ (key : ℕ). key < n) (keys_of es) → (k : ℕ) (d : KeyAndValue) → k < length es → (slice_index_or es k d).0 < n
+keys_below [] n below k d lt = absurd (omega arith)
+keys_below (e ∷ es) n below zero d lt = All-head (λ (key : ℕ). key < n) e.0 (keys_of es) below
+keys_below (e ∷ es) n below (suc k) d lt = keys_below es n (All-tail (λ (key : ℕ). key < n) e.0 (keys_of es) below) k d (omega arith)
 
 at_back : (xs : List KeyAndValue) (e d : KeyAndValue) → slice_index_or (xs ++ e ∷ []) (length xs) d ≡ e
 at_back [] e d = refl

@@ -1,5 +1,5 @@
 -- Pieces in the order of their offsets.
-use Rattle.std.specs.Prelude.{ℕ, ◌≡◌, ◌+◌, ◌≤◌, ◌<◌, ◌^◌, ◌*◌, ◌/◌, ◌≢◌, ◌⊎◌, nat_le, List, [], ◌∷◌, ◌++◌, length, take, sum_by, cond, Option, option_to_list}
+use Rattle.std.specs.Prelude.{ℕ, ◌≡◌, ◌+◌, ◌≤◌, ◌<◌, ◌^◌, ◌*◌, ◌/◌, ◌≢◌, ◌⊎◌, nat_le, List, [], ◌∷◌, ◌++◌, length, take, slice_index_or, sum_by, cond, Option, option_to_list}
 use Rattle.std.specs.List.{Any, All}
 use Rattle.std.specs.Map.{keys_of, values_of}
 use Rattle.std.specs.Ordering.{nat_cmp}
@@ -40,6 +40,12 @@ pub record IsSummedMap (total allocated : ℕ) (es : List (ℕ × PieceView)) : 
 abbrev pub LieInOrder : ℕ → List PieceView → Type 0
 LieInOrder low [] = Unit {0}
 LieInOrder low (r ∷ rs) = (low ≤ r.offset) × (0 < length r.bytes) × LieInOrder (run_end r) rs
+
+-- so many pieces begin at an offset or before it
+pub record BeginUpTo (rs : List PieceView) (offset n : ℕ) : Type 0 where
+  pub fits : n ≤ length rs
+  pub below : (k : ℕ) (d : PieceView) → k < n → (slice_index_or rs k d).offset ≤ offset
+  pub above : (k : ℕ) (d : PieceView) → n ≤ k → k < length rs → offset < (slice_index_or rs k d).offset
 
 -- a byte of one of the pieces
 abbrev pub Hold : List PieceView → ℕ → ℕ → Type 0

@@ -283,9 +283,15 @@ fn hold_near(
     join(pieces, &new, start, end.max(last_end), alloc)
 }
 
-/// Takes a piece. Where two bytes meet the held one stays, and a piece that lies within a held one takes no memory.
+/// Takes a piece. Where two bytes meet the held one stays, and a piece that lies within a held one takes no memory. Whether
+/// it is likely to come behind the piece that begins last.
 #[inline(always)]
-pub(crate) fn hold(pieces: &mut PieceMap, new: Piece, alloc: Global) -> Result<(), OutOfMemory>
+pub(crate) fn hold(
+    pieces: &mut PieceMap,
+    new: Piece,
+    is_likely_last: bool,
+    alloc: Global,
+) -> Result<(), OutOfMemory>
     requires apart { IsPieceMap pieces.old }
     requires some { 0 < length new.bytes }
     requires rises { RiseByKey pieces.old }
@@ -299,7 +305,7 @@ pub(crate) fn hold(pieces: &mut PieceMap, new: Piece, alloc: Global) -> Result<(
     ensures err { OnErr result (pieces.new ≡ pieces.old) }
     ensures within { (q : ℕ) (v : PieceView) → piece_at pieces.old q ≡ Some v → q ≤ new.offset → run_end new ≤ run_end v → (result ≡ Ok tt) × (pieces.new ≡ pieces.old) }
 {
-    let Some((given, last, last_end)) = pieces.put_free(new)? else {
+    let Some((given, last, last_end)) = pieces.put_free(new, is_likely_last)? else {
         return Ok(());
     };
     hold_near(pieces, given, last, last_end, alloc)

@@ -337,11 +337,12 @@ impl PieceMap {
     }
 
     /// Puts a piece in. Where the last one that begins below its end begins from its offset on, or ends behind it, gives it
-    /// back, with where that one begins and ends.
+    /// back, with where that one begins and ends. Where that one is likely to be the last of all, it is tried first.
     #[inline(always)]
     pub(crate) fn put_free(
         &mut self,
         piece: Piece,
+        is_likely: bool,
     ) -> Result<Option<(Piece, u64, u64)>, OutOfMemory>
         requires { 0 < length piece.bytes }
         ensures entries { IfOk result (λ r. IfNone r (self.new ≡ insert_entry nat_cmp self.old piece.offset piece)) }
@@ -358,7 +359,7 @@ impl PieceMap {
         let length = piece.len() as u128;
         let allocated = piece.allocation_size() as u128;
         let _count = self.pieces.len();
-        match self.pieces.put_free(piece)? {
+        match self.pieces.put_free(piece, is_likely)? {
             Some(found) => Ok(Some(found)),
             None => {
                 self.total += length;
@@ -376,7 +377,17 @@ impl PieceMap {
         ensures err { OnErr result (self.new ≡ self.old) }
         ensures rises { RiseByKey self.new }
     {
-        self.put_new(piece)
+        let length = piece.len() as u128;
+        let allocated = piece.allocation_size() as u128;
+        let _count = self.pieces.len();
+        match self.pieces.put_last(piece) {
+            Ok(()) => {
+                self.total += length;
+                self.allocated += allocated;
+                Ok(())
+            }
+            Err(piece) => Err(piece),
+        }
     }
 
     /// Puts a piece before all others, or gives it back.

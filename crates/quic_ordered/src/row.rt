@@ -3,7 +3,7 @@ ghost use Rattle.std.specs.Prelude.{◌≡◌, ℕ, ◌+◌, ◌-◌, ◌^◌, �
 ghost use Rattle.std.specs.List.{All, Any};
 ghost use Rattle.quic_assembler.specs.Piece.{PieceView, run_end, run_length, run_allocation, bit, cover_count};
 ghost use Rattle.quic_values.specs.Runs.{contains};
-ghost use Rattle.quic_ordered.specs.Rows.{Row, FitsWords, JoinsLast, LieInOrder, LieWithGaps, IsTidy, Encloses, tidied};
+ghost use Rattle.quic_ordered.specs.Rows.{Row, FitsWords, JoinsLast, LieInOrder, BeginUpTo, LieWithGaps, IsTidy, Encloses, tidied};
 
 use crate::piece::Piece;
 use quic_values::{OutOfMemory, RangeSet};
@@ -121,12 +121,25 @@ impl PieceRow {
         }
     }
 
-    // How many pieces begin at an offset or before it.
-    fn count_up_to(&self, offset: u64) -> usize
+    /// How many pieces begin at an offset or before it. Where that is one at most, it needs no search.
+    #[inline]
+    pub(crate) fn count_up_to(&self, offset: u64) -> usize
         requires { LieInOrder 0 self.now.runs }
-        ensures fits { result ≤ length self.now.runs }
-        ensures below { (k : ℕ) (d : PieceView) → k < result → (slice_index_or self.now.runs k d).offset ≤ offset }
-        ensures above { (k : ℕ) (d : PieceView) → result ≤ k → k < length self.now.runs → offset < (slice_index_or self.now.runs k d).offset }
+        ensures { BeginUpTo self.now.runs offset result }
+    {
+        if self.pieces.len() > 1 && offset < self.pieces[1].offset() {
+            if offset < self.pieces[0].offset() {
+                return 0;
+            }
+            return 1;
+        }
+        self.search(offset)
+    }
+
+    // The same, by a search.
+    fn search(&self, offset: u64) -> usize
+        requires { LieInOrder 0 self.now.runs }
+        ensures { BeginUpTo self.now.runs offset result }
     {
         let mut low = 0;
         let mut high = self.pieces.len();
@@ -141,14 +154,13 @@ impl PieceRow {
         low
     }
 
-    /// Whether one of the pieces has all offsets from one up to another.
-    pub(crate) fn encloses(&self, offset: u64, end: u64) -> bool
+    /// Whether one of the pieces has all offsets from one up to another, where so many pieces begin up to the first of them.
+    pub(crate) fn encloses(&self, count: usize, end: u64) -> bool
         requires order { LieInOrder 0 self.now.runs }
-        requires some { offset < end }
-        ensures yes { result ≡ true → Any (Encloses offset end) self.now.runs }
-        ensures no { result ≡ false → Any (Encloses offset end) self.now.runs → ⊥ }
+        requires fits { count ≤ length self.now.runs }
+        ensures yes { result ≡ true → (offset : ℕ) → BeginUpTo self.now.runs offset count → Any (Encloses offset end) self.now.runs }
+        ensures no { result ≡ false → (offset : ℕ) → offset < end → BeginUpTo self.now.runs offset count → Any (Encloses offset end) self.now.runs → ⊥ }
     {
-        let count = self.count_up_to(offset);
         if count == 0 {
             return false;
         }
@@ -156,25 +168,25 @@ impl PieceRow {
     }
 
     /// How many pieces lie before the offsets from one up to another, where no piece has any of them, and few have to be
-    /// moved to put one there.
-    pub(crate) fn place_for(&self, offset: u64, end: u64) -> Option<usize>
-        requires { LieInOrder 0 self.now.runs }
+    /// moved to put one there. So many begin up to the first of them.
+    pub(crate) fn place_for(&self, count: usize, offset: u64, end: u64) -> Option<usize>
+        requires order { LieInOrder 0 self.now.runs }
+        requires counted { BeginUpTo self.now.runs offset count }
         ensures fits { IfSome result (λ n. n ≤ length self.now.runs) }
         ensures before { IfSome result (λ n. All (λ r. run_end r ≤ offset) (take n self.now.runs)) }
         ensures behind { IfSome result (λ n. LieInOrder end (drop n self.now.runs)) }
     {
-        let index = self.count_up_to(offset);
-        let behind = self.pieces.len() - index;
-        if index.min(behind) > MOST_MOVED {
+        let behind = self.pieces.len() - count;
+        if count.min(behind) > MOST_MOVED {
             return None;
         }
-        if index > 0 && self.pieces[index - 1].end() > offset {
+        if count > 0 && self.pieces[count - 1].end() > offset {
             return None;
         }
-        if behind > 0 && self.pieces[index].offset() < end {
+        if behind > 0 && self.pieces[count].offset() < end {
             return None;
         }
-        Some(index)
+        Some(count)
     }
 
     /// Puts a piece behind so many others.

@@ -1,12 +1,14 @@
 // Pieces by the offsets at which they begin, each in a slot of a slab.
-ghost use Rattle.std.specs.Prelude.{◌≡◌, ℕ, ◌+◌, ◌-◌, ◌^◌, ◌<◌, ◌≤◌, ◌⊎◌, [], ◌∷◌, ◌++◌, length, if◌then◌else◌, IfOk, IfErr, IfSome, IfNone, OnOk, OnErr, Some, None, is_some, true};
+ghost use Rattle.std.specs.Prelude.{◌≡◌, ℕ, ◌+◌, ◌-◌, ◌^◌, ◌<◌, ◌≤◌, ◌⊎◌, [], ◌∷◌, ◌++◌, length, slice_index_or, if◌then◌else◌, IfOk, IfErr, IfSome, IfNone, OnOk, OnErr, Some, None, is_some, true};
 ghost use Rattle.std.specs.BTreeMap.{insert_entry, is_at};
 ghost use Rattle.std.specs.BTreeMap.Range.{entries_between};
-ghost use Rattle.std.specs.Map.{remove_entry, set_value};
+ghost use Rattle.std.specs.Map.{remove_entry, set_value, keys_of};
+ghost use Rattle.std.specs.List.{All};
 ghost use Rattle.std.specs.Ordering.{nat_cmp};
 ghost use Rattle.std.specs.declared.ops.Bound.TheVariants.{Included, Unbounded};
 ghost use Rattle.slab.specs.Slab.{ContainsKey, HasRoomFor, Updates};
-ghost use Rattle.block_map.specs.Rows.{IsPlace};
+ghost use Rattle.block_map.specs.Rows.{IsPlace, place_among};
+ghost use Rattle.block_map.specs.Sorted.{KeyAndValue, KeysRise, IsLastUpTo};
 ghost use Rattle.quic_assembler.specs.Piece.{PieceView, run_end};
 ghost use Rattle.quic_ordered.specs.Entries.{piece_at, piece_of, NoPieceBegins, IsFirstPiece, IsLastPiece, IsFreeFor};
 ghost use Rattle.quic_ordered.specs.Rows.{RiseByKey, tidied, joined_with};
@@ -45,6 +47,25 @@ fn make_room(places: &mut BlockMap, pieces: &mut Slab<Piece>) -> Result<(), Allo
     places.reserve()?;
     pieces.reserve(1)?;
     Ok(())
+}
+
+// The place of the last entry with a key up to `n`. It is tried first whether that is the last of all, where it is likely.
+#[inline(always)]
+fn find_last(places: &BlockMap, n: u64, is_likely: bool) -> Option<Place>
+    ensures place { IfSome result (λ p. IsPlace places.now.rows p.block p.index) }
+    ensures last { IfSome result (λ p. IsLastUpTo places.now.items n (place_among places.now.rows p.block p.index)) }
+    ensures none { IfNone result ((k : ℕ) (d : KeyAndValue) → k < length places.now.items → n < (slice_index_or places.now.items k d).0) }
+    ensures rises { KeysRise places.now.items }
+{
+    if is_likely {
+        if let Some(place) = places.last_place() {
+            let _count = places.len();
+            if places.entry(place).0 <= n {
+                return Some(place);
+            }
+        }
+    }
+    places.find(n)
 }
 
 // Puts a piece in the place of the one in a slot, and gives that.
@@ -256,12 +277,37 @@ impl PieceSlots {
         }
     }
 
+    /// The same, of a piece that comes behind all others. It needs no search.
+    #[inline]
+    pub(crate) fn put_last(&mut self, piece: Piece) -> Result<(), Piece>
+        requires { All (λ key. key < piece.offset) (keys_of self.old.entries) }
+        ensures entries { OnOk result (self.new.entries ≡ insert_entry nat_cmp self.old.entries piece.offset piece) }
+        ensures back { IfErr result (λ given. given ≡ piece) }
+        ensures err { OnErr result (self.new ≡ self.old) }
+        ensures rises { RiseByKey self.new.entries }
+    {
+        match make_room(&mut self.places, &mut self.pieces) {
+            Ok(()) => {
+                let offset = piece.offset();
+                let slot = self.pieces.insert_reserved(piece);
+                self.places.put_last(offset, slot as u64);
+                let _count = self.places.len();
+                Ok(())
+            }
+            Err(_) => {
+                let _left = self.places.len();
+                Err(piece)
+            }
+        }
+    }
+
     /// Puts a piece in. Where the last one that begins below its end begins from its offset on, or ends behind it, gives it
-    /// back, with where that one begins and ends.
+    /// back, with where that one begins and ends. Where that one is likely to be the last of all, it is tried first.
     #[inline(always)]
     pub(crate) fn put_free(
         &mut self,
         piece: Piece,
+        is_likely: bool,
     ) -> Result<Option<(Piece, u64, u64)>, OutOfMemory>
         requires { 0 < length piece.bytes }
         ensures entries { IfOk result (λ r. IfNone r (self.new.entries ≡ insert_entry nat_cmp self.old.entries piece.offset piece)) }
@@ -277,7 +323,7 @@ impl PieceSlots {
         ensures rises { RiseByKey self.new.entries }
     {
         let offset = piece.offset();
-        let last = self.places.find(piece.end() - 1);
+        let last = find_last(&self.places, piece.end() - 1, is_likely);
         if let Some(place) = last {
             let (start, slot) = self.places.entry(place);
             let end = piece_in(&self.pieces, slot).end();

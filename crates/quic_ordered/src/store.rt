@@ -6,7 +6,7 @@ ghost use Rattle.std.specs.List.Sorted.{IsPermutation};
 ghost use Rattle.quic_values.specs.Runs.{contains, lies_in};
 ghost use Rattle.quic_assembler.specs.Piece.{PieceView, run_end, run_length, run_allocation, IsSome, cover_count, bit, lies};
 ghost use Rattle.quic_assembler.specs.Reassembly.{TakesFresh};
-ghost use Rattle.quic_ordered.specs.Rows.{FitsWords, RiseByKey, IsStore, LieInOrder, Merges, HoldSame, LieWithGaps, IsTidy, IsGathered, Encloses, JoinsAll, AddsOnly, StemsFrom, StaysApart, IsKeptOrOwn};
+ghost use Rattle.quic_ordered.specs.Rows.{FitsWords, RiseByKey, IsStore, BeginUpTo, LieInOrder, Merges, HoldSame, LieWithGaps, IsTidy, IsGathered, Encloses, JoinsAll, AddsOnly, StemsFrom, StaysApart, IsKeptOrOwn};
 ghost use Rattle.quic_ordered.specs.Entries.{piece_of};
 
 use crate::compaction::compact;
@@ -90,10 +90,11 @@ fn is_clear(gaps: &PieceMap, row: &PieceRow, piece: &Piece) -> bool
     }
 }
 
-// Behind how many pieces of the row a piece can be put that overlaps none of all, if few have to be moved. It is `None`
-// where there are others in the map: then most pieces come in no order.
-fn place_in_row(gaps: &PieceMap, row: &PieceRow, piece: &Piece) -> Option<usize>
-    requires { IsStore gaps.now row.now.runs }
+// Behind how many pieces of the row a piece can be put that overlaps none of all, if few have to be moved. So many of them
+// begin up to its offset. It is `None` where there are others in the map: then most pieces come in no order.
+fn place_in_row(gaps: &PieceMap, row: &PieceRow, count: usize, piece: &Piece) -> Option<usize>
+    requires store { IsStore gaps.now row.now.runs }
+    requires counted { BeginUpTo row.now.runs piece.now.offset count }
     ensures fits { IfSome result (λ n. n ≤ length row.now.runs) }
     ensures before { IfSome result (λ n. All (λ r. run_end r ≤ piece.now.offset) (values_of gaps.now ++ take n row.now.runs)) }
     ensures behind { IfSome result (λ n. LieInOrder (run_end piece.now) (drop n row.now.runs)) }
@@ -101,7 +102,7 @@ fn place_in_row(gaps: &PieceMap, row: &PieceRow, piece: &Piece) -> Option<usize>
     if gaps.len() > 0 {
         return None;
     }
-    row.place_for(piece.offset(), piece.end())
+    row.place_for(count, piece.offset(), piece.end())
 }
 
 // Moves all pieces of the map into the row.
@@ -250,7 +251,7 @@ impl PieceStore {
         ensures err { OnErr result (self.new ≡ self.old) }
     {
         if is_clear(&self.gaps, &self.row, &piece) {
-            return gaps::hold(&mut self.gaps, piece, self.alloc);
+            return gaps::hold(&mut self.gaps, piece, false, self.alloc);
         }
         if self.is_behind(piece.offset()) {
             return self.row.push_back(piece);
@@ -271,14 +272,15 @@ impl PieceStore {
         ensures within { Any (Encloses piece.offset (run_end piece)) self.old → (result ≡ Ok tt) × (self.new ≡ self.old) }
         ensures err { OnErr result (self.new ≡ self.old) }
     {
-        if self.row.encloses(piece.offset(), piece.end()) {
+        let count = self.row.count_up_to(piece.offset());
+        if self.row.encloses(count, piece.end()) {
             return Ok(());
         }
-        if let Some(index) = place_in_row(&self.gaps, &self.row, &piece) {
+        if let Some(index) = place_in_row(&self.gaps, &self.row, count, &piece) {
             return self.row.put_at(index, piece);
         }
         clear_way(&mut self.gaps, &mut self.row, piece.end())?;
-        gaps::hold(&mut self.gaps, piece, self.alloc)
+        gaps::hold(&mut self.gaps, piece, true, self.alloc)
     }
 
     // Takes a piece that comes behind all that is held, and a range into a set, or neither.

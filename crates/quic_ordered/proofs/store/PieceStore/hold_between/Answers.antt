@@ -43,30 +43,33 @@ pub returns-clause-stays : goal.returns-clause-stays
 returns-clause-stays c =
     rw (← c.self.view_is, ← c.in_ok-clear_way.ensures.same) (on_ok c.hold.result c.hold.ensures.stays (λ s. held_stay c.clear_way.new.gaps c.hold.new.pieces c.clear_way.new.row.runs c.args.piece c.in_ok-clear_way.ensures.store.rises s))
 
+pub count_up_to-count-requires : goal.count_up_to-count-requires
+count_up_to-count-requires c = order_behind 0 (values_of c.self.inside.gaps) c.self.inside.row.runs c.self.invariant.order
+
 pub encloses-requires-clause-order : goal.encloses-requires-clause-order
 encloses-requires-clause-order c = order_behind 0 (values_of c.self.inside.gaps) c.self.inside.row.runs c.self.invariant.order
 
 pub returns-then-encloses-clause-merges : goal.returns-then-encloses-clause-merges
 returns-then-encloses-clause-merges c =
-    let any = rw (c.offset.ensures.value, c.end.ensures.value) at (c.encloses.ensures.yes c.if-encloses.true) in
+    let any = rw (c.offset.ensures.value, c.end.ensures.value) at (c.encloses.ensures.yes c.if-encloses.true c.offset.result c.count_up_to-count.ensures) in
     rw (← c.self.view_is) (merges_enclosed _ c.args.piece (encloses_row c.self.inside.gaps c.self.inside.row.runs c.args.piece.offset (run_end c.args.piece) any))
 
 pub returns-then-encloses-clause-joined : goal.returns-then-encloses-clause-joined
 returns-then-encloses-clause-joined c =
-    let any = rw (c.offset.ensures.value, c.end.ensures.value) at (c.encloses.ensures.yes c.if-encloses.true) in
+    let any = rw (c.offset.ensures.value, c.end.ensures.value) at (c.encloses.ensures.yes c.if-encloses.true c.offset.result c.count_up_to-count.ensures) in
     rw (← c.self.view_is) (inr (inl (encloses_row c.self.inside.gaps c.self.inside.row.runs c.args.piece.offset (run_end c.args.piece) any)))
 
 -- what lies within a piece of the map needs no memory
 pub returns-in_err-clear_way-clause-within : goal.returns-in_err-clear_way-clause-within
 returns-in_err-clear_way-clause-within c = λ any.
-    let none = rw (c.offset.ensures.value, c.end.ensures.value) at (c.encloses.ensures.no c.if-encloses.false) in
+    let none = rw (c.offset.ensures.value, c.end.ensures.value) at (c.encloses.ensures.no c.if-encloses.false c.offset.result (omega (arith, c.offset.ensures.value, c.end.ensures.value, c.requires)) c.count_up_to-count.ensures) in
     let m = enclosed_map c.self.inside.gaps c.self.inside.row.runs c.args.piece.offset (run_end c.args.piece) c.self.invariant none (rw (← c.self.view_is) at any) in
     let k = c.clear_way.ensures.kept (rw (← c.end-2.ensures.value) at m.5) in
     absurd (ok_or_err c.clear_way.result _ _ k.0 c.in_err-clear_way.was)
 
 pub returns-clause-within : goal.returns-clause-within
 returns-clause-within c = λ any.
-    let none = rw (c.offset.ensures.value, c.end.ensures.value) at (c.encloses.ensures.no c.if-encloses.false) in
+    let none = rw (c.offset.ensures.value, c.end.ensures.value) at (c.encloses.ensures.no c.if-encloses.false c.offset.result (omega (arith, c.offset.ensures.value, c.end.ensures.value, c.requires)) c.count_up_to-count.ensures) in
     let m = enclosed_map c.self.inside.gaps c.self.inside.row.runs c.args.piece.offset (run_end c.args.piece) c.self.invariant none (rw (← c.self.view_is) at any) in
     let k = c.clear_way.ensures.kept (rw (← c.end-2.ensures.value) at m.5) in
     let w = c.hold.ensures.within m.0 m.1 (subst (λ (es : List (ℕ × PieceView)). piece_at es m.0 ≡ Some m.1) (sym k.1) m.2) m.3 m.4 in

@@ -1,7 +1,7 @@
 use Rattle.std.proofs.Common.{ℕ, ◌≤◌, ◌<◌, ◌-◌, length}
 use Rattle.std.specs.Prelude.{slice_index_or}
 use Rattle.quic_assembler.specs.Piece.{PieceView}
-use Rattle.quic_ordered.proofs.row.PieceRow.count_up_to.Given as goal
+use Rattle.quic_ordered.proofs.row.PieceRow.search.Given as goal
 
 abbrev pub invariant-loop-low : goal.invariant-loop-low
 invariant-loop-low l = record {
