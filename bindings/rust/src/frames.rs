@@ -74,7 +74,8 @@ impl StreamsState {
         taken(answer, &error)
     }
 
-    /// STOP_SENDING (section 19.5).
+    /// STOP_SENDING (section 19.5). For a stream on which only the peer sends, or for one of this end that is not open, it is a
+    /// STREAM_STATE_ERROR.
     pub fn on_stop_sending(&mut self, id: StreamId, error_code: u64) -> Result<(), ReceiveError> {
         let mut error = sys::Error::none();
         let answer =
