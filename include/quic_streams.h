@@ -361,7 +361,9 @@ int32_t qs_receive(qs_conn *conn, const uint8_t *payload, size_t len,
 /* For a host that decodes frames itself: one call for each frame, with the
  * fields of RFC 9000 section 19. QS_ERR_NOMEM: the frame was not taken.
  * QS_ERR_PROTOCOL: *error is set; close the connection. STOP_SENDING is refused
- * so where qs_receive refuses it.
+ * so where qs_receive refuses it. DATA_BLOCKED and STREAM_DATA_BLOCKED change
+ * nothing and have no call: the host refuses the STREAM_DATA_BLOCKED frames
+ * that qs_receive would refuse.
  * payload_len is the length of the memory in which the data came. It is counted
  * so that many small frames cannot hold much memory; len counts, if
  * payload_len is less. */

@@ -337,7 +337,6 @@ static void is_refused(qs_conn *conn, const char *payload, size_t len,
 static void a_frame_for_another_direction_is_refused(void) {
   qs_conn a = QS_CONN_INIT;
   uint64_t id = 0, code = 0;
-  size_t next = 0;
   qs_error error = {0, 0, {0}};
   qs_event event = {0, 0, 0, 0};
   SAME(open_end(&a, QS_CLIENT, 4, 1000, 1000), QS_OK);
@@ -363,7 +362,20 @@ static void a_frame_for_another_direction_is_refused(void) {
   SAME(qs_stream_accept(&a, QS_BIDI, &id), QS_DONE);
   SAME(qs_stream_open(&a, QS_UNI, &id), QS_OK);
   SAME(id, 6);
-  /* now 6 is open; 1 is bidirectional, so both send on it */
+  qs_conn_free(&a);
+}
+
+/* What this end opened is stopped, and so is what both send on. */
+static void a_frame_for_the_right_direction_is_taken(void) {
+  qs_conn a = QS_CONN_INIT;
+  uint64_t id = 0, code = 0;
+  size_t next = 0;
+  qs_error error = {0, 0, {0}};
+  SAME(open_end(&a, QS_CLIENT, 4, 1000, 1000), QS_OK);
+  SAME(qs_stream_open(&a, QS_UNI, &id), QS_OK);
+  is_refused(&a, "\x05\x06\x07", 3, 0);
+  SAME(qs_stream_open(&a, QS_UNI, &id), QS_OK);
+  SAME(id, 6);
   const uint8_t fine[] = "\x05\x06\x07\x15\x03\x09\x15\x00\x09\x15\x01\x09";
   SAME(qs_receive(&a, fine, sizeof fine - 1, &next, &error), QS_OK);
   SAME(next, 4);
@@ -428,8 +440,9 @@ int main(void) {
   datagrams_stand_between();
   a_peer_that_breaks_the_protocol_is_told_so();
   a_frame_for_another_direction_is_refused();
+  a_frame_for_the_right_direction_is_taken();
   a_closed_handle_answers_so();
   an_early_start_is_rejected();
-  printf("one end: 11 tests\n");
+  printf("one end: 12 tests\n");
   return 0;
 }
