@@ -173,16 +173,12 @@ impl Session {
     {
         if self.streams.is_own(frame.id) {
             if self.streams.is_local_unopened(frame.id) {
-                return Err(TransportError::stream_state_error(
-                    "STOP_SENDING on unopened stream",
-                ));
+                return Err(TransportError::stream_state_error("STOP_SENDING on unopened stream"));
             }
             return Ok(());
         }
         match frame.id.dir() {
-            Dir::Uni => Err(TransportError::stream_state_error(
-                "STOP_SENDING on recv-only stream",
-            )),
+            Dir::Uni => Err(TransportError::stream_state_error("STOP_SENDING on recv-only stream")),
             Dir::Bi => Ok(()),
         }
     }
