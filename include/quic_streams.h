@@ -350,13 +350,20 @@ typedef struct qs_error {
  * or treat the packet as one that did not come: frames that are taken twice do
  * no harm.
  * QS_ERR_PROTOCOL, QS_ERR_MALFORMED: *error is set; close the connection. Of a
- * malformed payload nothing was taken. */
+ * malformed payload nothing was taken.
+ * A STOP_SENDING frame for a stream on which only the peer sends, or for one of
+ * this end that is not open, and a STREAM_DATA_BLOCKED frame for a stream on
+ * which only this end sends, are QS_ERR_PROTOCOL with the code 5,
+ * STREAM_STATE_ERROR (RFC 9000 sections 19.5 and 19.13). */
 int32_t qs_receive(qs_conn *conn, const uint8_t *payload, size_t len,
                    size_t *next, qs_error *error);
 
 /* For a host that decodes frames itself: one call for each frame, with the
  * fields of RFC 9000 section 19. QS_ERR_NOMEM: the frame was not taken.
- * QS_ERR_PROTOCOL: *error is set; close the connection.
+ * QS_ERR_PROTOCOL: *error is set; close the connection. STOP_SENDING is refused
+ * so where qs_receive refuses it. DATA_BLOCKED and STREAM_DATA_BLOCKED change
+ * nothing and have no call: the host refuses the STREAM_DATA_BLOCKED frames
+ * that qs_receive would refuse.
  * payload_len is the length of the memory in which the data came. It is counted
  * so that many small frames cannot hold much memory; len counts, if
  * payload_len is less. */

@@ -70,7 +70,7 @@ class Header(unittest.TestCase):
 
 class Programs(Built):
     def test_one_end(self):
-        self.assertIn("10 tests", run(self.build("one_end")))
+        self.assertIn("12 tests", run(self.build("one_end")))
 
     def test_each_number_at_its_bounds(self):
         self.assertIn("5 tests", run(self.build("bounds")))

@@ -319,6 +319,79 @@ static void a_peer_that_breaks_the_protocol_is_told_so(void) {
   qs_conn_free(&b);
 }
 
+/* The connection is to be closed with STREAM_STATE_ERROR, and frame `place` is
+ * the first that was not taken. */
+static void is_refused(qs_conn *conn, const char *payload, size_t len,
+                       size_t place) {
+  size_t next = 0;
+  qs_error error = {0, 0, {0}};
+  SAME(qs_receive(conn, (const uint8_t *)payload, len, &next, &error),
+       QS_ERR_PROTOCOL);
+  SAME(error.code, 5);
+  SAME(next, place);
+}
+
+/* STOP_SENDING is for a stream on which this end sends, and that is open if it
+ * is its own (RFC 9000 section 19.5), STREAM_DATA_BLOCKED for one on which the
+ * peer sends (section 19.13). */
+static void a_frame_for_another_direction_is_refused(void) {
+  qs_conn a = QS_CONN_INIT;
+  uint64_t id = 0, code = 0;
+  qs_error error = {0, 0, {0}};
+  qs_event event = {0, 0, 0, 0};
+  SAME(open_end(&a, QS_CLIENT, 4, 1000, 1000), QS_OK);
+  SAME(qs_stream_open(&a, QS_UNI, &id), QS_OK);
+  SAME(id, 2);
+  while (qs_poll(&a, &event) == QS_OK)
+    ;
+  is_refused(&a, "\x05\x03\x07", 3, 0); /* only the peer sends on 3 */
+  is_refused(&a, "\x05\x06\x07", 3, 0); /* 6 is not open yet */
+  is_refused(&a, "\x05\x00\x07", 3, 0); /* nor is 0 */
+  is_refused(&a, "\x15\x02\x09", 3, 0); /* only this end sends on 2 */
+  is_refused(&a, "\x15\x03\x09\x15\x06\x09", 6, 1); /* or on 6 */
+  SAME(qs_on_stop_sending(&a, 3, 7, &error), QS_ERR_PROTOCOL);
+  SAME(error.code, 5);
+  error.code = 0;
+  SAME(qs_on_stop_sending(&a, 6, 7, &error), QS_ERR_PROTOCOL);
+  SAME(error.code, 5);
+  SAME(error.reason_len > 0 && error.reason_len <= 80, 1);
+  /* nothing changed */
+  SAME(qs_poll(&a, &event), QS_DONE);
+  SAME(qs_stream_stopped(&a, 2, &code), QS_DONE);
+  SAME(qs_stream_accept(&a, QS_UNI, &id), QS_DONE);
+  SAME(qs_stream_accept(&a, QS_BIDI, &id), QS_DONE);
+  SAME(qs_stream_open(&a, QS_UNI, &id), QS_OK);
+  SAME(id, 6);
+  qs_conn_free(&a);
+}
+
+/* What this end opened is stopped, and so is what both send on. */
+static void a_frame_for_the_right_direction_is_taken(void) {
+  qs_conn a = QS_CONN_INIT;
+  uint64_t id = 0, code = 0;
+  size_t next = 0;
+  qs_error error = {0, 0, {0}};
+  SAME(open_end(&a, QS_CLIENT, 4, 1000, 1000), QS_OK);
+  SAME(qs_stream_open(&a, QS_UNI, &id), QS_OK);
+  is_refused(&a, "\x05\x06\x07", 3, 0);
+  SAME(qs_stream_open(&a, QS_UNI, &id), QS_OK);
+  SAME(id, 6);
+  const uint8_t fine[] = "\x05\x06\x07\x15\x03\x09\x15\x00\x09\x15\x01\x09";
+  SAME(qs_receive(&a, fine, sizeof fine - 1, &next, &error), QS_OK);
+  SAME(next, 4);
+  SAME(qs_stream_stopped(&a, 6, &code), QS_OK);
+  SAME(code, 7);
+  SAME(qs_on_stop_sending(&a, 2, 8, &error), QS_OK);
+  SAME(qs_stream_stopped(&a, 2, &code), QS_OK);
+  SAME(code, 8);
+  SAME(qs_on_stop_sending(&a, 1, 9, &error), QS_OK);
+  SAME(qs_stream_accept(&a, QS_BIDI, &id), QS_OK);
+  SAME(id, 1);
+  SAME(qs_stream_stopped(&a, 1, &code), QS_OK);
+  SAME(code, 9);
+  qs_conn_free(&a);
+}
+
 static void a_closed_handle_answers_so(void) {
   qs_conn a = QS_CONN_INIT;
   uint64_t id = 77;
@@ -366,8 +439,10 @@ int main(void) {
   a_stream_is_given_up_or_stopped();
   datagrams_stand_between();
   a_peer_that_breaks_the_protocol_is_told_so();
+  a_frame_for_another_direction_is_refused();
+  a_frame_for_the_right_direction_is_taken();
   a_closed_handle_answers_so();
   an_early_start_is_rejected();
-  printf("one end: 10 tests\n");
+  printf("one end: 12 tests\n");
   return 0;
 }

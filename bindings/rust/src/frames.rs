@@ -33,6 +33,9 @@ fn taken(answer: i32, error: &sys::Error) -> Result<(), ReceiveError> {
 ///
 /// A number above its bound, which no decoder gives, is a [`ReceiveError::Transport`] with FRAME_ENCODING_ERROR.
 /// [`ReceiveError::OutOfMemory`] names frame 0: the frame was not taken, and may be handed in again.
+///
+/// DATA_BLOCKED and STREAM_DATA_BLOCKED change nothing and have no call. STREAM_DATA_BLOCKED for a stream on which only this
+/// end sends is for the host to refuse, with STREAM_STATE_ERROR (section 19.13). [`StreamsState::receive`] refuses it itself.
 impl StreamsState {
     /// STREAM (section 19.8). `payload_len` is the length of the memory in which the data came. It is counted so that many
     /// small frames cannot hold much memory; the length of `data` counts, if `payload_len` is less.
@@ -74,7 +77,8 @@ impl StreamsState {
         taken(answer, &error)
     }
 
-    /// STOP_SENDING (section 19.5).
+    /// STOP_SENDING (section 19.5). For a stream on which only the peer sends, or for one of this end that is not open, it is a
+    /// STREAM_STATE_ERROR.
     pub fn on_stop_sending(&mut self, id: StreamId, error_code: u64) -> Result<(), ReceiveError> {
         let mut error = sys::Error::none();
         let answer =

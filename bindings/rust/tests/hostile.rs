@@ -57,7 +57,9 @@ enum Step {
     Reset(u64, u64, Answer),
     MaxStreamData(u64, u64, Answer),
     MaxStreams(Dir, u64, Answer),
-    StopSending(u64),
+    StopSending(u64, Answer),
+    /// STREAM_DATA_BLOCKED, which is handed in as a payload.
+    StreamDataBlocked(u8, Answer),
     MaxData(u64),
     /// An ordered read of at most so many pieces: the bytes that it gives, and why no more.
     Read(u64, usize, &'static [u8], Last),
@@ -138,7 +140,8 @@ fn hand_in(end: &mut StreamsState, step: &Step) -> Option<(Result<(), ReceiveErr
             (end.on_max_stream_data(StreamId(id), limit), wanted)
         }
         Step::MaxStreams(dir, count, wanted) => (end.on_max_streams(dir, count), wanted),
-        Step::StopSending(id) => (end.on_stop_sending(StreamId(id), 7), TAKEN),
+        Step::StopSending(id, wanted) => (end.on_stop_sending(StreamId(id), 7), wanted),
+        Step::StreamDataBlocked(id, wanted) => (end.receive(&[0x15, id, 9]), wanted),
         Step::MaxData(limit) => (end.on_max_data(limit), TAKEN),
         Step::Read(..) | Step::Counted(_) => return None,
     })
@@ -266,6 +269,33 @@ fn frames_of_a_hostile_peer_are_answered() -> Result<()> {
     run_on_client(STREAM_LIMITS)
 }
 
+/// Takes a STOP_SENDING frame with the code 7, and tells whether the application is told of it.
+fn is_stopped(end: &mut StreamsState, id: u64, as_payload: bool) -> Result<bool> {
+    let id = StreamId(id);
+    if as_payload {
+        end.receive(&[0x05, u8::try_from(id.0)?, 7])?;
+    } else {
+        end.on_stop_sending(id, 7)?;
+    }
+    Ok(events(end).contains(&Event::Stopped { id, error_code: 7 }))
+}
+
+// The streams on which both send are stopped whoever opened them, and those of this end once they are open.
+#[test]
+fn a_stop_is_told_of_what_is_sent_here() -> Result<()> {
+    for as_payload in [false, true] {
+        for id in [0, 1, 2, 13] {
+            let mut end = writing_client()?;
+            assert!(is_stopped(&mut end, id, as_payload)?, "{id}");
+        }
+        let mut end = writing_client()?;
+        assert!(is_stopped(&mut end, 6, as_payload).is_err());
+        assert_eq!(end.open(Dir::Uni)?, Some(StreamId(6)));
+        assert!(is_stopped(&mut end, 6, as_payload)?);
+    }
+    Ok(())
+}
+
 const HIGHEST: &[Step] = &[
     Step::Data(3, GREATEST - 1, b"x", TAKEN),
     Step::Data(3, GREATEST, b"x", FLOW_CONTROL),
@@ -350,12 +380,21 @@ const REFUSED: &[Step] = &[
     Step::MaxStreamData(4, 50, STREAM_STATE),
     Step::MaxStreamData(6, 50, STREAM_STATE),
     Step::MaxStreamData(17, 50, STREAM_LIMIT),
+    // What only the peer sends on, and what this end has not opened (RFC 9000 section 19.5).
+    Step::StopSending(3, STREAM_STATE),
+    Step::StopSending(19, STREAM_STATE),
+    Step::StopSending(6, STREAM_STATE),
+    Step::StopSending(4, STREAM_STATE),
+    // What only this end sends on, opened or not (RFC 9000 section 19.13).
+    Step::StreamDataBlocked(2, STREAM_STATE),
+    Step::StreamDataBlocked(6, STREAM_STATE),
     Step::MaxStreams(Dir::Bi, (1 << 60) + 1, ENCODING),
     Step::MaxStreams(Dir::Uni, GREATEST, ENCODING),
     Step::MaxStreams(Dir::Uni, u64::MAX, ENCODING),
 ];
 
-// What is taken, and has no effect: late frames, limits that do not rise, and stops of what is not sent here.
+// What is taken, and has no effect: late frames, limits that do not rise, a stop of what the peer may not open, and limits
+// that hold the peer back.
 const IDLE: &[Step] = &[
     Step::Data(15, GREATEST, b"x", TAKEN),
     Step::Final(15, 0, TEN, TAKEN),
@@ -365,10 +404,10 @@ const IDLE: &[Step] = &[
     Step::MaxStreams(Dir::Uni, 4, TAKEN),
     Step::MaxStreams(Dir::Bi, 0, TAKEN),
     Step::MaxData(0),
-    Step::StopSending(3),
-    Step::StopSending(6),
-    Step::StopSending(17),
-    Step::StopSending(19),
+    Step::StopSending(17, TAKEN),
+    Step::StreamDataBlocked(0, TAKEN),
+    Step::StreamDataBlocked(1, TAKEN),
+    Step::StreamDataBlocked(3, TAKEN),
 ];
 
 // All of it goes on.

@@ -1,13 +1,19 @@
 -- What frames and payloads of the peer do to a session.
-use Rattle.std.specs.Prelude.{ℕ, ◌≡◌, ◌==◌, ◌⊎◌, ◌&&◌, ◌<◌, ◌≤◌, ◌+◌, not, false, List, [], ◌∷◌, ◌++◌, length, drop, map, IsSomeAnd, Result, Ok, Err}
+use Rattle.std.specs.Prelude.{ℕ, Bool, ◌≡◌, ◌==◌, ◌⊎◌, ◌&&◌, ◌<◌, ◌≤◌, ◌+◌, if◌then◌else◌, nat_le, not, true, false, Option, None, List, [], ◌∷◌, ◌++◌, length, drop, map, IsSomeAnd, Result, Ok, Err}
+use Rattle.quic_values.specs.declared.ids.Dir.{Dir}
+use Rattle.quic_values.specs.declared.ids.Dir.TheVariants.{Bi, Uni}
+use Rattle.quic_values.specs.Ids.{dir_of, index_of}
 use Rattle.quic_wire.specs.declared.frame.Datagram.{Datagram}
 use Rattle.quic_wire.specs.declared.frame.Frame.{Frame}
 use Rattle.quic_wire.specs.declared.frame.Frame.TheVariants as frames
 use Rattle.quic_wire.specs.declared.error.ReceiveError.{ReceiveError}
 use Rattle.quic_wire.specs.declared.error.ReceiveError.TheVariants as receive_error
+use Rattle.quic_wire.specs.Codes.{STREAM_STATE_ERROR}
 use Rattle.quic_wire.specs.Frames.{AreFrames}
 use Rattle.quic_receiving.specs.declared.transmit.ShouldTransmit.{ShouldTransmit}
 use Rattle.quic_datagrams.specs.Queue.{cost, total_cost, with_newest, IsReceiveRefusal}
+use Rattle.quic_outgoing.specs.Outgoing.{own_of}
+use Rattle.quic_history.specs.World.{World, is_own}
 use Rattle.quic_history.specs.History.{Event}
 use Rattle.quic_endpoint.specs.Receiving.{ReceivesAt, AccountsFrame, data_length, event_of, with_call_made}
 use Rattle.quic_session.specs.declared.session.Session.{Session}
@@ -37,16 +43,47 @@ pub record ReceivesDatagram (s : Session) (frame : Frame) (answer : Result Shoul
   pub keeps : KeepsDatagram (datagrams_view s) datagram answer (datagrams_view t)
   pub end : end_of t ≡ end_of s
 
+-- whether only the end that opened a stream sends on it
+abbrev pub is_uni : Dir → Bool
+is_uni Uni = true
+is_uni Bi = false
+
+-- whether a frame is for a stream on which it may not be sent: STOP_SENDING for one on which only the peer sends, or for one
+-- of this end that is not open (RFC 9000 section 19.5), STREAM_DATA_BLOCKED for one on which only this end sends (section
+-- 19.13)
+abbrev pub is_misdirected : World → Frame → Bool
+is_misdirected w (frames.StopSending f) = if is_own w f.id then nat_le (own_of w.out (dir_of f.id)).opened (index_of f.id) else is_uni (dir_of f.id)
+is_misdirected w (frames.StreamDataBlocked id offset) = is_own w id && is_uni (dir_of id)
+is_misdirected w _ = false
+
+-- an answer by which the connection is to be closed with STREAM_STATE_ERROR
+abbrev pub IsStateError : Result ShouldTransmit ReceiveError → Type 0
+IsStateError (Err (receive_error.Transport error)) = error.code ≡ STREAM_STATE_ERROR
+IsStateError _ = ⊥
+
+-- a misdirected frame was refused
+pub record RefusesMisdirected (s : Session) (frame : Frame) (answer : Result ShouldTransmit ReceiveError) (t : Session) : Type 0 where
+  pub misdirected : is_misdirected (end_of s).streams frame ≡ true
+  pub error : IsStateError answer
+  pub same : t ≡ s
+
 -- what came of another frame that was in a payload of so many bytes
 pub record ReceivesOther (s : Session) (frame : Frame) (size : ℕ) (answer : Result ShouldTransmit ReceiveError) (t : Session) : Type 0 where
   pub other : IsNoDatagram frame
+  pub directed : is_misdirected (end_of s).streams frame ≡ false
   pub receives : ReceivesAt (end_of s) frame answer (end_of t)
   pub accounts : AccountsFrame (end_of s).streams frame size answer (end_of t).streams
   pub datagrams : datagrams_view t ≡ datagrams_view s
 
 -- what came of a frame
 abbrev pub ReceivesFrame : Session → Frame → ℕ → Result ShouldTransmit ReceiveError → Session → Type 0
-ReceivesFrame s frame size answer t = ReceivesDatagram s frame answer t ⊎ ReceivesOther s frame size answer t
+ReceivesFrame s frame size answer t = ReceivesDatagram s frame answer t ⊎ RefusesMisdirected s frame answer t ⊎ ReceivesOther s frame size answer t
+
+-- the call of the streams that a frame is. They refuse no STOP_SENDING with an error of the connection: one that is refused
+-- so was misdirected, and is none
+abbrev pub call_of : Frame → Result ShouldTransmit ReceiveError → Option Event
+call_of (frames.StopSending f) (Err (receive_error.Transport error)) = None
+call_of frame answer = event_of frame answer
 
 -- nothing changed beside the end and the datagrams
 abbrev pub ReceivesOnly : Session → Session → Type 0
@@ -73,7 +110,7 @@ pub data TakesFrames (size : ℕ) (s : Session) : List FrameCall → Session →
 -- their history
 abbrev pub with_frames : List FrameCall → List Event → List Event
 with_frames [] h = h
-with_frames (c ∷ cs) h = with_frames cs (with_call_made (event_of c.frame c.answer) h)
+with_frames (c ∷ cs) h = with_frames cs (with_call_made (call_of c.frame c.answer) h)
 
 -- all frames from a place on were taken
 pub record TakesAll (size first : ℕ) (all : List Frame) (s : Session) (r : Received) (t : Session) : Type 0 where

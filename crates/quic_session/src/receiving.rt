@@ -1,15 +1,17 @@
 //! Frames and payloads of the peer that come to a session.
 
-ghost use Rattle.std.specs.Prelude.{List, ◌≡◌, ◌≤◌, ◌∷◌, ◌&&◌, not, max, All};
+ghost use Rattle.std.specs.Prelude.{List, ◌≡◌, ◌≤◌, ◌∷◌, ◌&&◌, true, false, not, max, All, OnOk, IfErr};
+ghost use Rattle.quic_wire.specs.Codes.{STREAM_STATE_ERROR};
 ghost use Rattle.quic_wire.specs.Frames.{IsFrameWithin};
 ghost use Rattle.quic_history.specs.World.{Made};
 ghost use Rattle.quic_history.specs.History.{Event, From};
 ghost use Rattle.quic_endpoint.specs.Receiving.{data_length, event_of, with_call_made, MakesCall, MayAnswer, with_answer_told, ReceivesAt, AccountsFrame};
 ghost use Rattle.quic_session.specs.Sessions.{end_of, datagrams_view, beside_of};
-ghost use Rattle.quic_session.specs.Receiving.{KeepsDatagram, ReceivesFrame, ReceivesOnly, ReceivesPayload, ReceivesFrames, ReceivesFrom, payload_answer};
+ghost use Rattle.quic_session.specs.Receiving.{KeepsDatagram, ReceivesFrame, ReceivesOnly, ReceivesPayload, ReceivesFrames, ReceivesFrom, payload_answer, is_misdirected, call_of};
 
 use crate::session::Session;
 use quic_receiving::ShouldTransmit;
+use quic_values::Dir;
 use quic_wire::frame::{Datagram, StopSending};
 use quic_wire::{DecodeError, Frame, ReceiveError, TransportError, decode_owned_into};
 use thiserror::Error;
@@ -114,7 +116,7 @@ impl Session {
         payload_len: usize,
     ) -> Result<ShouldTransmit, ReceiveError>
         ensures receives { ReceivesFrame self.old frame (max payload_len (data_length frame)) result self.new }
-        ensures from { (m : Made) (h : List Event) → From m h (end_of self.old).streams → From m (with_call_made (event_of frame result) h) (end_of self.new).streams }
+        ensures from { (m : Made) (h : List Event) → From m h (end_of self.old).streams → From m (with_call_made (call_of frame result) h) (end_of self.new).streams }
         ensures others { ReceivesOnly self.old self.new }
     {
         let length = payload_len.max(data_length(&frame));
@@ -123,7 +125,9 @@ impl Session {
 
     /// Takes a frame of the peer that came in a payload of so many bytes (RFC 9000 section 19): data, a reset, a stop and
     /// limits are handed to the streams, a datagram is kept, any other frame changes nothing. Where the answer asks for
-    /// MAX_DATA it is queued, and MAX_STREAMS where it is due, unless memory ran out.
+    /// MAX_DATA it is queued, and MAX_STREAMS where it is due, unless memory ran out. STOP_SENDING for a stream on which
+    /// only the peer sends, or for one of this end that is not open, is refused with STREAM_STATE_ERROR (section 19.5), and
+    /// so is STREAM_DATA_BLOCKED for a stream on which only this end sends (section 19.13).
     pub fn receive_frame(
         &mut self,
         frame: Frame,
@@ -131,12 +135,51 @@ impl Session {
     ) -> Result<ShouldTransmit, ReceiveError>
         requires { data_length frame ≤ payload_len }
         ensures receives { ReceivesFrame self.old frame payload_len result self.new }
-        ensures from { (m : Made) (h : List Event) → From m h (end_of self.old).streams → From m (with_call_made (event_of frame result) h) (end_of self.new).streams }
+        ensures from { (m : Made) (h : List Event) → From m h (end_of self.old).streams → From m (with_call_made (call_of frame result) h) (end_of self.new).streams }
         ensures others { ReceivesOnly self.old self.new }
     {
         match frame {
             Frame::Datagram(datagram) => self.receive_datagram(datagram),
-            frame => self.receive_stream_frame(frame, payload_len),
+            frame => match self.validate_direction(&frame) {
+                Err(error) => Err(ReceiveError::Transport(error)),
+                Ok(()) => self.receive_stream_frame(frame, payload_len),
+            },
+        }
+    }
+
+    // The error of a frame for a stream on which it may not be sent.
+    fn validate_direction(&self, frame: &Frame) -> Result<(), TransportError>
+        ensures ok { OnOk result (is_misdirected (end_of self.now).streams frame.now ≡ false) }
+        ensures err { IfErr result (λ error. (is_misdirected (end_of self.now).streams frame.now ≡ true) × (error.code ≡ STREAM_STATE_ERROR)) }
+    {
+        match frame {
+            Frame::StopSending(frame) => self.validate_stop(frame),
+            Frame::StreamDataBlocked { id, .. } => {
+                if self.streams.is_own(*id) && matches!(id.dir(), Dir::Uni) {
+                    return Err(TransportError::stream_state_error(
+                        "STREAM_DATA_BLOCKED on send-only stream",
+                    ));
+                }
+                Ok(())
+            }
+            _ => Ok(()),
+        }
+    }
+
+    // The same of STOP_SENDING.
+    fn validate_stop(&self, frame: &StopSending) -> Result<(), TransportError>
+        ensures ok { OnOk result (is_misdirected (end_of self.now).streams (Frame.StopSending frame.now) ≡ false) }
+        ensures err { IfErr result (λ error. (is_misdirected (end_of self.now).streams (Frame.StopSending frame.now) ≡ true) × (error.code ≡ STREAM_STATE_ERROR)) }
+    {
+        if self.streams.is_own(frame.id) {
+            if self.streams.is_local_unopened(frame.id) {
+                return Err(TransportError::stream_state_error("STOP_SENDING on unopened stream"));
+            }
+            return Ok(());
+        }
+        match frame.id.dir() {
+            Dir::Uni => Err(TransportError::stream_state_error("STOP_SENDING on recv-only stream")),
+            Dir::Bi => Ok(()),
         }
     }
 
@@ -171,7 +214,7 @@ impl Session {
         requires { data_length frame ≤ payload_len }
         ensures receives { ReceivesAt (end_of self.old) frame result (end_of self.new) }
         ensures accounts { AccountsFrame (end_of self.old).streams frame payload_len result (end_of self.new).streams }
-        ensures from { (m : Made) (h : List Event) → From m h (end_of self.old).streams → From m (with_call_made (event_of frame result) h) (end_of self.new).streams }
+        ensures from { (m : Made) (h : List Event) → From m h (end_of self.old).streams → From m (with_call_made (call_of frame result) h) (end_of self.new).streams }
         ensures beside { beside_of self.new ≡ beside_of self.old }
     {
         let answer = self.take_frame(frame, payload_len);

@@ -87,9 +87,9 @@ impl StreamsState {
         })
     }
 
-    // Whether this end opened a stream, or is to open it.
+    /// Whether this end opened a stream, or is to open it.
     #[inline]
-    pub(crate) fn is_own(&self, id: StreamId) -> bool
+    pub fn is_own(&self, id: StreamId) -> bool
         ensures { result ≡ is_own (streams_view self.now) id }
     {
         is_same_side(self.outgoing.side(), id.initiator())

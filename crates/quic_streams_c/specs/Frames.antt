@@ -7,13 +7,13 @@ use Rattle.quic_wire.specs.declared.error.ReceiveError.TheVariants as receive_er
 use Rattle.quic_receiving.specs.declared.transmit.ShouldTransmit.{ShouldTransmit}
 use Rattle.quic_history.specs.World.{Made}
 use Rattle.quic_history.specs.History.{Event, From}
-use Rattle.quic_endpoint.specs.Receiving.{data_length, event_of, with_call_made}
+use Rattle.quic_endpoint.specs.Receiving.{data_length, with_call_made}
 use Rattle.quic_session.specs.declared.session.Session.{Session}
 use Rattle.quic_session.specs.declared.receiving.Received.{Received}
 use Rattle.quic_session.specs.declared.receiving.PayloadError.{PayloadError}
 use Rattle.quic_session.specs.declared.receiving.PayloadError.TheVariants as payload_error
 use Rattle.quic_session.specs.Sessions.{end_of}
-use Rattle.quic_session.specs.Receiving.{ReceivesFrame, ReceivesOnly, ReceivesPayload}
+use Rattle.quic_session.specs.Receiving.{ReceivesFrame, ReceivesOnly, ReceivesPayload, call_of}
 use Rattle.quic_streams_c.specs.declared.peer.RawError.{RawError}
 use Rattle.quic_streams_c.specs.Calls.{Refuses, WithNumber}
 use Rattle.quic_streams_c.specs.Numbers.{small, dir_at}
@@ -36,7 +36,7 @@ TellsTaken (Err (receive_error.Transport error)) code was now = (code ≡ negsuc
 pub record HandsFrame (s : Session) (frame : Frame) (size : ℕ) (code : ℤ) (t : Session) (was now : RawError) : Type 0 where
   pub answer : Result ShouldTransmit ReceiveError
   pub receives : ReceivesFrame s frame (max size (data_length frame)) answer t
-  pub from : (m : Made) (h : List Event) → From m h (end_of s).streams → From m (with_call_made (event_of frame answer) h) (end_of t).streams
+  pub from : (m : Made) (h : List Event) → From m h (end_of s).streams → From m (with_call_made (call_of frame answer) h) (end_of t).streams
   pub others : ReceivesOnly s t
   pub tells : TellsTaken answer code was now
 
