@@ -209,7 +209,8 @@ int32_t qs_stream_accept(qs_conn *conn, uint32_t dir, uint64_t *id);
 /* Writes the first bytes of data, and copies them: len bytes, or as many as the
  * peer's limits and the send window leave, where that is less.
  * QS_OK: *written is how many. QS_ERR_BLOCKED: none can be written now;
- * QS_EVENT_WRITABLE follows. QS_ERR_STOPPED: *app_code is set.
+ * QS_EVENT_WRITABLE follows, unless the stream is finished, reset or stopped
+ * first, or the connection is closed. QS_ERR_STOPPED: *app_code is set.
  * QS_ERR_NO_STREAM, QS_ERR_NOMEM. */
 int32_t qs_stream_write(qs_conn *conn, uint64_t id, const uint8_t *data,
                         size_t len, size_t *written, uint64_t *app_code);
@@ -292,7 +293,8 @@ int32_t qs_set_receive_window(qs_conn *conn, uint64_t window);
 int32_t qs_set_max_concurrent(qs_conn *conn, uint32_t dir, uint64_t count);
 
 enum {
-  QS_EVENT_OPENED = 1,       /* the peer opened streams of dir: accept them */
+  QS_EVENT_OPENED = 1,       /* the peer opened streams of dir: accept and
+                                read them, since data may have come with it */
   QS_EVENT_READABLE = 2,     /* id may have bytes, an end or a reset to read */
   QS_EVENT_WRITABLE = 3,     /* id was blocked and may take bytes now */
   QS_EVENT_FINISHED = 4,     /* all of id was acknowledged, with its end */

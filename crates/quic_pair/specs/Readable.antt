@@ -107,7 +107,7 @@ abbrev pub EventTrue : Past → List Sent → End → Answer → Type 0
 EventTrue p sent who (Ok (Event (stream_event.Stopped id code))) = SomeStop sent (peer who) id code p.accepted
 EventTrue p sent who _ = Unit {0}
 
--- a read withholds nothing that was kept, and resets and stops are told that came; what other steps may withhold is not said
+-- a read withholds nothing that was kept, and a reset or a stop that is told came; what other steps may withhold is not said
 -- here
 abbrev pub WithholdsNothing : Past → List Sent → Step → Answer → Type 0
 WithholdsNothing p sent (steps.Read who id ordered most times) reply = ReadsTrue (past_read p who id ordered reply) sent who id ordered most times reply

@@ -52,7 +52,7 @@ pub struct StreamsState {
 impl StreamsState {
     /// The streams of one end, of which none is open. The peer may open so many unidirectional and bidirectional
     /// streams, and send `receive_window` bytes in all, and `stream_window` on each stream, before credit is
-    /// given. `send_window` is how many bytes this end keeps that were sent and not acknowledged.
+    /// given. `send_window` is how many bytes that were written this end keeps at most until they are acknowledged.
     pub fn new(
         alloc: Global,
         side: Side,
