@@ -200,13 +200,17 @@ fn draw_name<W: Write>(column: Column, end: (u64, u64), y: u64, output: &mut W) 
     writeln!(output, "<text x='852' y='{y}' dy='5'>{name}</text>")
 }
 
-// Which payloads are lost, and which are late.
-fn write_network<W: Write>(plan: &Plan, output: &mut W) -> io::Result<()> {
-    match plan.loss {
-        0 => write!(output, "no payload lost, ")?,
-        loss => write!(output, "one of {loss} payloads lost, ")?,
+// Which payloads are lost.
+fn write_losses<W: Write>(loss: u64, output: &mut W) -> io::Result<()> {
+    match loss {
+        0 => write!(output, "no payload lost, "),
+        loss => write!(output, "one of {loss} payloads lost, "),
     }
-    match plan.reorder {
+}
+
+// Which payloads are late.
+fn write_order<W: Write>(reorder: u64, output: &mut W) -> io::Result<()> {
+    match reorder {
         0 => write!(output, "none late"),
         reorder => write!(output, "one of {reorder} late"),
     }
@@ -216,7 +220,8 @@ fn write_network<W: Write>(plan: &Plan, output: &mut W) -> io::Result<()> {
 fn write_title<W: Write>(plan: &Plan, output: &mut W) -> io::Result<()> {
     let (seed, bytes) = (plan.seed, plan.bytes);
     write!(output, "{bytes} bytes of a stream, seed {seed}, ")?;
-    write_network(plan, output)
+    write_losses(plan.loss, output)?;
+    write_order(plan.reorder, output)
 }
 
 // What was simulated, and how it ended.
@@ -236,6 +241,19 @@ fn write_head<W: Write>(plan: &Plan, given: u64, words: &str, output: &mut W) ->
     )
 }
 
+// The ground of a picture, and its title.
+fn write_ground<W: Write>(plan: &Plan, output: &mut W) -> io::Result<()> {
+    write!(
+        output,
+        "<svg xmlns='http://www.w3.org/2000/svg' viewBox='0 0 1000 590' width='1000' height='590' role='img'>\n<title>"
+    )?;
+    write_title(plan, output)?;
+    writeln!(
+        output,
+        "</title>\n<rect width='1000' height='590' rx='8' fill='white'/>\n<g font-family='sans-serif' font-size='15' stroke-width='2.5'>"
+    )
+}
+
 // Draws rows as an SVG picture.
 fn write_picture<W: Write>(
     rows: &[Row],
@@ -248,21 +266,7 @@ fn write_picture<W: Write>(
         steps: fourth(last.step),
         bytes: fourth(last.credit.max(last.sent_again())),
     };
-    writeln!(
-        output,
-        "<svg xmlns='http://www.w3.org/2000/svg' viewBox='0 0 1000 590' width='1000' height='590' role='img'>"
-    )?;
-    write!(output, "<title>")?;
-    write_title(plan, output)?;
-    writeln!(output, "</title>")?;
-    writeln!(
-        output,
-        "<rect width='1000' height='590' rx='8' fill='white'/>"
-    )?;
-    writeln!(
-        output,
-        "<g font-family='sans-serif' font-size='15' stroke-width='2.5'>"
-    )?;
+    write_ground(plan, output)?;
     write_head(plan, last.given, words, output)?;
     draw_axes(scale, output)?;
     for index in 0..6usize {
