@@ -12,7 +12,7 @@ use std::collections::VecDeque;
 use std::marker::Model;
 
 // The most pieces that are moved to make a place for one.
-const MOST_MOVED: usize = 16;
+const MOST_MOVED: usize = 10;
 
 #[derive(Drop)]
 pub(crate) struct PieceRow {
