@@ -283,8 +283,8 @@ fn hold_near(
     join(pieces, &new, start, end.max(last_end), alloc)
 }
 
-/// Takes a piece. Where two bytes meet the held one stays, and a piece that lies within a held one takes no memory. Whether
-/// it is likely to come behind the piece that begins last.
+/// Takes a piece. Where two bytes meet the held one stays, and a piece that lies within a held one takes no memory. Where it
+/// is likely to come behind the piece that begins last, that one is tried first.
 #[inline(always)]
 pub(crate) fn hold(
     pieces: &mut PieceMap,

@@ -49,7 +49,7 @@ fn make_room(places: &mut BlockMap, pieces: &mut Slab<Piece>) -> Result<(), Allo
     Ok(())
 }
 
-// The place of the last entry with a key up to `n`. It is tried first whether that is the last of all, where it is likely.
+// The place of the last entry with a key up to `n`. Where that is likely to be the last of all, it is tried first.
 #[inline(always)]
 fn find_last(places: &BlockMap, n: u64, is_likely: bool) -> Option<Place>
     ensures place { IfSome result (λ p. IsPlace places.now.rows p.block p.index) }
