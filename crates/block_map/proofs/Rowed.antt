@@ -320,6 +320,82 @@ module _ (rows low high : List (List KeyAndValue)) (n : ℕ) (d e : List KeyAndV
       let some = a (n - 1) d (omega (arith, front, pos)) in
       some_append (slice_set low (n - 1) r) high (some_set low (n - 1) r a (omega (arith, some, more))) b
 
+  pub old_low : (f : List KeyAndValue) → slice_index_or rows (n - 1) f ≡ slice_index_or low (n - 1) d
+  old_low f =
+      let l = ends in
+      ap (λ (t : List (List KeyAndValue)). slice_index_or t (n - 1) f) is ∙ get_or_append_left low high f (n - 1) (omega (arith, l)) ∙ get_or_default low (n - 1) f d (omega (arith, l))
+
+  pub old_high : (f : List KeyAndValue) → slice_index_or rows n f ≡ slice_index_or high 0 e
+  old_high f =
+      let p : n - length low ≡ 0 = omega (arith, front) in
+      ap (λ (t : List (List KeyAndValue)). slice_index_or t n f) is
+      ∙ get_or-append_right low high (length low) n f refl (omega (arith, front))
+      ∙ ap (λ (k : ℕ). slice_index_or high k f) p
+      ∙ get_or_default high 0 f e back
+
+  -- other entries in both rows, which are the same together
+  module _ (a b : List KeyAndValue) where
+    pub pair_flat : a ++ b ≡ slice_index_or low (n - 1) d ++ slice_index_or high 0 e → flat (slice_set low (n - 1) a ++ slice_set high 0 b) ≡ flat rows
+    pair_flat same =
+        let m = length-set low (n - 1) a in
+        let l = ends in
+        let last : n - 1 + 1 ≡ length (slice_set low (n - 1) a) = omega (arith, m, l) in
+        let before = flat (take (n - 1) low) in
+        let behind = flat (drop 1 high) in
+        let own : flat (slice_set low (n - 1) a) ≡ before ++ a =
+        flat_last (slice_set low (n - 1) a) (n - 1) d last
+        ∙ ap (λ (t : List (List KeyAndValue)). flat t ++ slice_index_or (slice_set low (n - 1) a) (n - 1) d) (take-set low (n - 1) a)
+        ∙ ap (λ (t : List KeyAndValue). before ++ t) (get_or-set_same low (n - 1) a d (omega (arith, l))) in
+        flat-append (slice_set low (n - 1) a) (slice_set high 0 b)
+        ∙ ap (λ (t : List KeyAndValue). t ++ flat (slice_set high 0 b)) own
+        ∙ ap (λ (t : List KeyAndValue). (before ++ a) ++ t) (flat_set high 0 b back)
+        ∙ append_assoc before a (b ++ behind)
+        ∙ ap (λ (t : List KeyAndValue). before ++ t) (sym (append_assoc a b behind) ∙ ap (λ (t : List KeyAndValue). t ++ behind) same ∙ append_assoc (slice_index_or low (n - 1) d) (slice_index_or high 0 e) behind)
+        ∙ ap (λ (t : List KeyAndValue). before ++ (slice_index_or low (n - 1) d ++ t)) (sym flat_high)
+        ∙ sym (append_assoc before (slice_index_or low (n - 1) d) (flat high))
+        ∙ ap (λ (t : List KeyAndValue). t ++ flat high) (sym (flat_last low (n - 1) d ends))
+        ∙ sym (flat-append low high)
+        ∙ ap flat (sym is)
+
+    pub pair_before : take (n - 1) (slice_set low (n - 1) a ++ slice_set high 0 b) ≡ take (n - 1) rows
+    pair_before =
+        let m = length-set low (n - 1) a in
+        let l = ends in
+        take-append-le (n - 1) (slice_set low (n - 1) a) (slice_set high 0 b) (omega (arith, m, l))
+        ∙ take-set low (n - 1) a
+        ∙ sym (take-append-le (n - 1) low high (omega (arith, l)))
+        ∙ ap (λ (t : List (List KeyAndValue)). take (n - 1) t) (sym is)
+
+    pub pair_count : length (slice_set low (n - 1) a ++ slice_set high 0 b) ≡ length rows
+    pair_count =
+        let p = length-append (slice_set low (n - 1) a) (slice_set high 0 b) in
+        let q = length-append low high in
+        let r = length-set low (n - 1) a in
+        let s = length-set high 0 b in
+        let t = ap length is in
+        omega (arith, p, q, r, s, t)
+
+    pub pair_low : (f : List KeyAndValue) → slice_index_or (slice_set low (n - 1) a ++ slice_set high 0 b) (n - 1) f ≡ a
+    pair_low f =
+        let m = length-set low (n - 1) a in
+        let l = ends in
+        get_or_append_left (slice_set low (n - 1) a) (slice_set high 0 b) f (n - 1) (omega (arith, m, l)) ∙ get_or-set_same low (n - 1) a f (omega (arith, l))
+
+    pub pair_high : (f : List KeyAndValue) → slice_index_or (slice_set low (n - 1) a ++ slice_set high 0 b) n f ≡ b
+    pair_high f =
+        let m = length-set low (n - 1) a in
+        let p : n - length (slice_set low (n - 1) a) ≡ 0 = omega (arith, m, front) in
+        get_or-append_right (slice_set low (n - 1) a) (slice_set high 0 b) (length (slice_set low (n - 1) a)) n f refl (omega (arith, m, front))
+        ∙ ap (λ (k : ℕ). slice_index_or (slice_set high 0 b) k f) p
+        ∙ get_or-set_same high 0 b f back
+
+    pub pair_some : 0 < length a → 0 < length b → HasSome rows → HasSome (slice_set low (n - 1) a ++ slice_set high 0 b)
+    pair_some p q f =
+        let all : HasSome (low ++ high) = rw is at f in
+        some_append (slice_set low (n - 1) a) (slice_set high 0 b)
+        (some_set low (n - 1) a (rw (take_at low high n front) at (some_take (low ++ high) n all)) p)
+        (some_set high 0 b (rw (drop_at low high n front) at (some_drop (low ++ high) n all)) q)
+
 -- ---- the first entry
 
 -- without the first row, where that has one entry

@@ -1,5 +1,5 @@
 // A row of entries by rising keys, in memory that has room for more.
-ghost use Rattle.std.specs.Prelude.{◌≡◌, ◌+◌, ◌-◌, ◌<◌, ◌≤◌, ℕ, List, [], ◌∷◌, ◌++◌, length, slice_index_or, slice_set, insert, take, drop, IfSome, IfOk, OnOk, OnErr, vec_capacity, false, true};
+ghost use Rattle.std.specs.Prelude.{◌≡◌, ◌+◌, ◌-◌, ◌/◌, ◌<◌, ◌≤◌, ℕ, List, [], ◌∷◌, ◌++◌, length, slice_index_or, slice_set, insert, take, drop, IfSome, IfOk, OnOk, OnErr, vec_capacity, false, true};
 ghost use Rattle.std.specs.List.{remove_range};
 ghost use Rattle.block_map.specs.Sorted.{KeyAndValue, KeysRise, IsLastUpTo, GoesAt, FitsAt};
 ghost use Rattle.block_map.specs.Rows.{first_key, IsRowMemory};
@@ -130,6 +130,23 @@ fn put_all_behind(entries: &mut Vec<(u64, u64)>, start: usize, more: &[(u64, u64
         Err(_) => unreachable!(),
     }
     gone
+}
+
+// Puts two runs of entries into memory that was reserved.
+fn put_both(spare: &mut Vec<(u64, u64)>, low: &[(u64, u64)], high: &[(u64, u64)])
+    requires empty { spare.old.items ≡ [] }
+    requires room { length low.now + length high.now ≤ vec_capacity spare.old }
+    ensures items { spare.new.items ≡ low.now ++ high.now }
+    ensures capacity { vec_capacity spare.old ≤ vec_capacity spare.new }
+{
+    match spare.extend_from_slice(low) {
+        Ok(()) => {}
+        Err(_) => unreachable!(),
+    }
+    match spare.extend_from_slice(high) {
+        Ok(()) => {}
+        Err(_) => unreachable!(),
+    }
 }
 
 // Takes entries out, where those below `start` are gone. Answers how many are gone then.
@@ -376,6 +393,69 @@ impl Block {
         let more = &other.entries.as_slice()[other.start..];
         self.start = put_all_behind(&mut self.entries, self.start, more);
         true
+    }
+
+    /// Takes the first entries of the next row, so many. There is room for them, and some are left there.
+    fn take_front(&mut self, next: &mut Block, count: usize)
+        requires many { 4 < length self.old }
+        requires room { length self.old + count ≤ 64 }
+        requires left { count < length next.old }
+        requires rises { KeysRise (self.old ++ next.old) }
+        ensures own { self.new ≡ self.old ++ take count next.old }
+        ensures rest { next.new ≡ drop count next.old }
+    {
+        let _len = self.len();
+        let end = next.start + count;
+        let more = &next.entries.as_slice()[next.start..end];
+        self.start = put_all_behind(&mut self.entries, self.start, more);
+        next.start = end;
+        next.first = next.entries[end].0;
+    }
+
+    /// Gives the entries from a place on to the next row, where there is room for them. Some are left here. The spare memory
+    /// goes to that row, and what it had is spare then.
+    fn give_back(&mut self, index: usize, next: &mut Block, spare: &mut Vec<(u64, u64)>)
+        requires some { 0 < index }
+        requires fits { index ≤ length self.old }
+        requires room { length self.old - index + length next.old ≤ 64 }
+        requires rises { KeysRise (self.old ++ next.old) }
+        requires empty { spare.old.items ≡ [] }
+        requires memory { 64 ≤ vec_capacity spare.old }
+        ensures own { self.new ≡ take index self.old }
+        ensures rest { next.new ≡ drop index self.old ++ next.old }
+        ensures empty { spare.new.items ≡ [] }
+    {
+        let place = self.start + index;
+        put_both(
+            spare,
+            &self.entries.as_slice()[place..],
+            &next.entries.as_slice()[next.start..],
+        );
+        mem::swap(&mut next.entries, spare);
+        spare.clear();
+        next.start = 0;
+        next.first = next.entries[0].0;
+        self.entries.truncate(place);
+    }
+
+    /// Moves entries from this row to the next one, or from that to this, so that they have as many each.
+    pub(crate) fn even_out(&mut self, next: &mut Block, spare: &mut Vec<(u64, u64)>)
+        requires many { 4 < length self.old }
+        requires room { length self.old + length next.old ≤ 126 }
+        requires rises { KeysRise (self.old ++ next.old) }
+        requires empty { spare.old.items ≡ [] }
+        requires memory { 64 ≤ vec_capacity spare.old }
+        ensures same { self.new ++ next.new ≡ self.old ++ next.old }
+        ensures half { length self.new ≡ (length self.old + length next.old) / 2 }
+        ensures empty { spare.new.items ≡ [] }
+    {
+        let half = (self.len() + next.len()) / 2;
+        let len = self.len();
+        if len < half {
+            self.take_front(next, half - len);
+        } else {
+            self.give_back(half, next, spare);
+        }
     }
 
     /// Its memory, with no entry.

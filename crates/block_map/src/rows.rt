@@ -1,5 +1,5 @@
 // Changes of the rows of a map.
-ghost use Rattle.std.specs.Prelude.{◌≡◌, ◌≢◌, ◌+◌, ◌-◌, ◌^◌, ◌<◌, ◌≤◌, ℕ, List, [], ◌∷◌, ◌++◌, length, slice_index_or, slice_set, insert, take, drop, IfOk, OnOk, vec_capacity, false, true};
+ghost use Rattle.std.specs.Prelude.{◌≡◌, ◌≢◌, ◌⊎◌, ◌+◌, ◌-◌, ◌/◌, ◌^◌, ◌<◌, ◌≤◌, ℕ, List, [], ◌∷◌, ◌++◌, length, slice_index_or, slice_set, insert, take, drop, IfOk, IfSome, OnOk, vec_capacity, false, true};
 ghost use Rattle.std.specs.List.{remove_range};
 ghost use Rattle.block_map.specs.Sorted.{KeyAndValue, KeysRise, GoesAt, FitsAt};
 ghost use Rattle.block_map.specs.Rows.{flat, place_among, IsPlace, HasSome, HasRoomForOne, AreFull};
@@ -13,6 +13,12 @@ const HALF: usize = MOST / 2;
 
 // Where fewer entries are left in a row when one goes, its neighbours are looked at.
 const SPARSE: usize = HALF / 4;
+
+// Where there are more rows, a full one shares with a neighbour before it is split, since each new row moves those behind it.
+const MANY: usize = 64;
+
+// The most entries of a row that takes some of a full one: then both have room for one more.
+const ROOMY: usize = MOST - 2;
 
 /// Whether all entries lie in one row, and are few, with memory for one more.
 #[inline(always)]
@@ -134,6 +140,101 @@ fn split_and_put(
     }
 }
 
+// Of a full row and a neighbour that has room for some of its entries, the second.
+fn neighbour_with_room(blocks: &[Block], block: usize) -> Option<usize>
+    requires fits { block < length blocks.now }
+    requires many { 4 < length (slice_index_or blocks.now block []) }
+    ensures low { IfSome result (λ high. 0 < high) }
+    ensures high { IfSome result (λ high. high < length blocks.now) }
+    ensures one { IfSome result (λ high. (high ≡ block) ⊎ (high ≡ block + 1)) }
+    ensures some { IfSome result (λ high. 4 < length (slice_index_or blocks.now (high - 1) [])) }
+    ensures whole { IfSome result (λ high. length (slice_index_or blocks.now block []) ≤ length (slice_index_or blocks.now (high - 1) []) + length (slice_index_or blocks.now high [])) }
+    ensures most { IfSome result (λ high. length (slice_index_or blocks.now (high - 1) []) + length (slice_index_or blocks.now high []) ≤ 126) }
+{
+    let _len = blocks[block].len();
+    if block > 0 {
+        let len = blocks[block - 1].len();
+        if len > FEW && len <= ROOMY {
+            return Some(block);
+        }
+    }
+    if block + 1 < blocks.len() && blocks[block + 1].len() <= ROOMY {
+        return Some(block + 1);
+    }
+    None
+}
+
+// How far behind the first of two neighbours a place of one of them is.
+fn offset_of(blocks: &[Block], high: usize, block: usize, index: usize) -> usize
+    requires low { 0 < high }
+    requires high { high < length blocks.now }
+    requires one { (high ≡ block) ⊎ (high ≡ block + 1) }
+    requires index { index ≤ length (slice_index_or blocks.now block []) }
+    ensures place { place_among blocks.now (high - 1) result ≡ place_among blocks.now block index }
+    ensures fits { result ≤ length (slice_index_or blocks.now (high - 1) []) + length (slice_index_or blocks.now high []) }
+{
+    let _len = blocks[block].len();
+    if high == block {
+        return blocks[high - 1].len() + index;
+    }
+    index
+}
+
+// Moves entries between two neighbours, so that they have as many each.
+fn even_out(blocks: &mut Vec<Block>, spare: &mut Vec<(u64, u64)>, high: usize)
+    requires some { HasSome blocks.old.items }
+    requires rises { KeysRise (flat blocks.old.items) }
+    requires empty { spare.old.items ≡ [] }
+    requires memory { 64 ≤ vec_capacity spare.old }
+    requires low { 0 < high }
+    requires high { high < length blocks.old.items }
+    requires many { 4 < length (slice_index_or blocks.old.items (high - 1) []) }
+    requires most { length (slice_index_or blocks.old.items (high - 1) []) + length (slice_index_or blocks.old.items high []) ≤ 126 }
+    ensures items { flat blocks.new.items ≡ flat blocks.old.items }
+    ensures before { take (high - 1) blocks.new.items ≡ take (high - 1) blocks.old.items }
+    ensures count { length blocks.new.items ≡ length blocks.old.items }
+    ensures both { length (slice_index_or blocks.new.items (high - 1) []) + length (slice_index_or blocks.new.items high []) ≡ length (slice_index_or blocks.old.items (high - 1) []) + length (slice_index_or blocks.old.items high []) }
+    ensures half { length (slice_index_or blocks.new.items (high - 1) []) ≡ (length (slice_index_or blocks.old.items (high - 1) []) + length (slice_index_or blocks.old.items high [])) / 2 }
+    ensures some { HasSome blocks.new.items }
+    ensures empty { spare.new.items ≡ [] }
+{
+    let (front, rest) = blocks.as_mut_slice().split_at_mut(high);
+    front[high - 1].even_out(&mut rest[0], spare);
+}
+
+// Puts an entry into one of two neighbours, so far behind the first entry of both. They share their entries first.
+fn put_in_pair(
+    blocks: &mut Vec<Block>,
+    spare: &mut Vec<(u64, u64)>,
+    high: usize,
+    offset: usize,
+    key: u64,
+    value: u64,
+)
+    requires some { HasSome blocks.old.items }
+    requires rises { KeysRise (flat blocks.old.items) }
+    requires empty { spare.old.items ≡ [] }
+    requires memory { 64 ≤ vec_capacity spare.old }
+    requires low { 0 < high }
+    requires high { high < length blocks.old.items }
+    requires many { 4 < length (slice_index_or blocks.old.items (high - 1) []) }
+    requires full { 32 ≤ length (slice_index_or blocks.old.items (high - 1) []) + length (slice_index_or blocks.old.items high []) }
+    requires most { length (slice_index_or blocks.old.items (high - 1) []) + length (slice_index_or blocks.old.items high []) ≤ 126 }
+    requires offset { offset ≤ length (slice_index_or blocks.old.items (high - 1) []) + length (slice_index_or blocks.old.items high []) }
+    requires goes { GoesAt (flat blocks.old.items) (place_among blocks.old.items (high - 1) offset) key }
+    ensures items { flat blocks.new.items ≡ insert (flat blocks.old.items) (place_among blocks.old.items (high - 1) offset) (key, value) }
+    ensures some { HasSome blocks.new.items }
+    ensures empty { spare.new.items ≡ [] }
+{
+    even_out(blocks, spare, high);
+    let len = blocks[high - 1].len();
+    if offset <= len {
+        put_in_row(blocks, spare, high - 1, offset, key, value);
+    } else {
+        put_in_row(blocks, spare, high, offset - len, key, value);
+    }
+}
+
 // Puts an entry into a row that is full, or has little memory. There is room.
 #[inline(never)]
 fn put_slowly(
@@ -146,6 +247,7 @@ fn put_slowly(
     value: u64,
 )
     requires some { HasSome blocks.old.items }
+    requires rises { KeysRise (flat blocks.old.items) }
     requires empty { spare.old.items ≡ [] }
     requires room { HasRoomForOne blocks.old.items (vec_capacity blocks.old) (vec_capacity spare.old) }
     requires block { block < length blocks.old.items }
@@ -158,6 +260,12 @@ fn put_slowly(
     let len = blocks[block].len();
     if !blocks[block].is_full() || len < HALF {
         return put_in_row(blocks, spare, block, index, key, value);
+    }
+    if blocks.len() > MANY {
+        if let Some(high) = neighbour_with_room(blocks.as_slice(), block) {
+            let offset = offset_of(blocks.as_slice(), high, block, index);
+            return put_in_pair(blocks, spare, high, offset, key, value);
+        }
     }
     let memory = mem::replace(spare, Vec::new(alloc));
     if index == len && block + 1 == blocks.len() {
@@ -181,6 +289,7 @@ pub(crate) fn put_entry(
     value: u64,
 )
     requires some { HasSome blocks.old.items }
+    requires rises { KeysRise (flat blocks.old.items) }
     requires empty { spare.old.items ≡ [] }
     requires room { HasRoomForOne blocks.old.items (vec_capacity blocks.old) (vec_capacity spare.old) }
     requires block { block < length blocks.old.items }

@@ -228,3 +228,26 @@ fn rows_are_joined_as_entries_go_one_by_one(rt: HostRuntime) -> Result<(), Fail>
     }
     Ok(())
 }
+
+#[test]
+fn full_rows_share_with_their_neighbours(rt: HostRuntime) -> Result<(), Fail> {
+    // Each tenth entry comes at the end. If each full row were split, there would be 450 rows.
+    for step in [1u64, 1009] {
+        let mut map = BlockMap::new(rt.alloc());
+        let mut tree = BTreeMap::new(rt.alloc());
+        for key in 0..16_000u64 {
+            if key % 10 != 0 {
+                put(&mut map, key, key)?;
+                tree.insert(key, key)?;
+            }
+        }
+        for turn in 0..1600u64 {
+            let key = turn * step % 1600 * 10;
+            put(&mut map, key, key)?;
+            tree.insert(key, key)?;
+        }
+        are_same(&rt, &map, &tree);
+        is_true(&rt, rows_before(&map) <= 350);
+    }
+    Ok(())
+}

@@ -1,9 +1,9 @@
-use Rattle.std.proofs.Common.{arith, ◌≡◌, ◌+◌, ◌-◌, ◌<◌, ℕ, List, [], ◌++◌, length, take, drop, sym, ap, ◌∙◌, suc}
+use Rattle.std.proofs.Common.{arith, ◌≡◌, ◌-◌, ◌<◌, List, ◌++◌, length, take, drop, sym, ap, ◌∙◌, suc}
 use Rattle.std.specs.Prelude.{slice_index_or, slice_set}
 use Rattle.std.specs.List.{remove_range}
 use Rattle.std.proofs.lemmas.List.{length-append, length-set, take_at}
-use Rattle.block_map.specs.Sorted.{KeyAndValue, KeysRise}
-use Rattle.block_map.specs.Rows.{flat, HasSome}
+use Rattle.block_map.specs.Sorted.{KeyAndValue}
+use Rattle.block_map.specs.Rows.{flat}
 use Rattle.block_map.proofs.Rowed.{join_in, join_rises, some_joined, some_without}
 use Rattle.block_map.proofs.rows.join_few.Goals as goal
 

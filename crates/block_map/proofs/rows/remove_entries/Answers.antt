@@ -1,5 +1,4 @@
-use Rattle.std.proofs.Common.{arith, ◌+◌, ◌≤◌, [], length, ◌∙◌}
-use Rattle.block_map.specs.Sorted.{KeysRise}
+use Rattle.std.proofs.Common.{arith, ◌+◌, []}
 use Rattle.block_map.specs.Rows.{flat, place_among}
 use Rattle.block_map.proofs.Flat.{place_fits}
 use Rattle.block_map.proofs.Rising.{rises_without}

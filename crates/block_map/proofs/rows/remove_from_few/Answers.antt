@@ -1,7 +1,5 @@
-use Rattle.std.proofs.Common.{arith, ◌≡◌, ◌+◌, ◌<◌, ℕ, [], length, ap, ◌∙◌, suc}
-use Rattle.std.specs.Prelude.{slice_index_or}
+use Rattle.std.proofs.Common.{arith, ◌≡◌, ◌+◌, ℕ, [], length, ap, ◌∙◌, suc}
 use Rattle.std.specs.List.{remove_range}
-use Rattle.block_map.specs.Sorted.{KeysRise}
 use Rattle.block_map.specs.Rows.{flat, place_among}
 use Rattle.block_map.proofs.Flat.{same_at, place_after, place_fits}
 use Rattle.block_map.proofs.Rowed.{drop_rows}
