@@ -95,7 +95,8 @@ def is_file(name, text):
     if MADE.match(name):
         return True
     ends = re.compile(r"(?:^|/)" + re.escape(name.rstrip("/")).replace(r"\*", "[^/]*") + r"(?:$|/)")
-    known, last = known_crates(text), name.rstrip("/").split("/")[-1].split("*")[-1]
+    known = set(CODES.crates) if name.startswith("crates/*/") else known_crates(text)
+    last = name.rstrip("/").split("/")[-1].split("*")[-1]
     for path in CODES.files:
         if last in path and ends.search(path):
             top, crate, *_ = path.split("/") + [""]
