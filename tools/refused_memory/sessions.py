@@ -26,24 +26,25 @@ OTHER = {"a": "b", "b": "a"}
 # A report that ran out of memory is asked again; one of the other kind is refused then, and changes nothing.
 OTHER_REPORT = {"lose": "ack", "ack": "lose"}
 # How many requests for memory a step of each kind makes at most, with those to read its line and to print its reply, and
-# how many more for each part of it: a chunk that is offered or read, or a frame that is sent. A step that makes more takes
-# memory that it does not need, or needs more than it did when these were counted.
+# how many more for each part of it: a chunk that is offered or read, or a frame that is sent. A table of streams that grows
+# makes four, one for each of its lists, and there is one for each side. A step that makes more takes memory that it does not
+# need, or needs more than it did when these were counted.
 MOST_REQUESTS = {
     "accept": (4, 0),
     "ack": (8, 0),
     "chunks": (11, 4),
-    "deliver": (13, 0),
+    "deliver": (14, 0),
     "early": (19, 0),
     "early-accept": (5, 0),
     "early-reject": (3, 0),
-    "emit": (9, 2),
+    "emit": (10, 2),
     "finish": (5, 0),
     "lose": (8, 0),
-    "max-concurrent": (7, 0),
+    "max-concurrent": (11, 0),
     "open": (7, 0),
     "poll": (4, 0),
     "priority": (4, 0),
-    "read": (9, 2),
+    "read": (10, 2),
     "receive-window": (4, 0),
     "received-reset": (3, 0),
     "reset": (5, 0),
