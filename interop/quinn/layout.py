@@ -36,6 +36,7 @@ def install():
     missing = [package for package in PACKAGES if not have(package)]
     if missing:
         print('installing', *missing, flush=True)
+        subprocess.run(['apt-get', 'update', '-q'], check=True, stdout=subprocess.DEVNULL)
         subprocess.run(['apt-get', 'install', '-y', '-q', *missing], check=True, stdout=subprocess.DEVNULL)
 
 
