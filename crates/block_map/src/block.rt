@@ -438,7 +438,8 @@ impl Block {
         self.entries.truncate(place);
     }
 
-    /// Moves entries from this row to the next one, or from that to this, so that they have as many each.
+    /// Moves entries from this row to the next one, or from that to this, so that they have as many each, or the next one
+    /// has one more.
     pub(crate) fn even_out(&mut self, next: &mut Block, spare: &mut Vec<(u64, u64)>)
         requires many { 4 < length self.old }
         requires room { length self.old + length next.old ≤ 126 }

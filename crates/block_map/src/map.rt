@@ -10,8 +10,8 @@ use crate::search::last_row;
 use std::alloc::Global;
 use std::marker::Model;
 
-/// Where an entry lies: in which row, and behind how many others of it. A change of the map that puts entries in or takes
-/// some out makes it worthless.
+/// Where an entry lies: in which row, and behind how many others of it. A change of the map that puts entries in, takes
+/// some out or refills rows makes it worthless.
 #[derive(Clone, Copy)]
 pub struct Place {
     pub block: usize,

@@ -180,7 +180,7 @@ fn offset_of(blocks: &[Block], high: usize, block: usize, index: usize) -> usize
     index
 }
 
-// Moves entries between two neighbours, so that they have as many each.
+// Moves entries between two neighbours, so that they have as many each, or the second has one more.
 fn even_out(blocks: &mut Vec<Block>, spare: &mut Vec<(u64, u64)>, high: usize)
     requires some { HasSome blocks.old.items }
     requires rises { KeysRise (flat blocks.old.items) }

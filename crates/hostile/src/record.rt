@@ -1,8 +1,9 @@
 //! A plain record of what one end received, and of what the next frame has to be answered.
 
 use crate::arrival::{Arrival, Part};
+use quic_ranges::RangeSet;
 use quic_streams::state::StreamsState;
-use quic_values::{Dir, OutOfMemory, RangeSet, Side, StreamId};
+use quic_values::{Dir, OutOfMemory, Side, StreamId};
 use quic_wire::TransportError;
 use std::alloc::Global;
 

@@ -6,7 +6,7 @@ use Rattle.std.proofs.lemmas.List.Elements.{All-push, All-nil}
 use Rattle.std.proofs.lemmas.Bool.{cases_lt}
 use Rattle.std.proofs.lemmas.Bool.Decides.{nat_tests}
 use Rattle.std.proofs.lemmas.Grind.{common_steps}
-use Rattle.quic_values.specs.Runs.{contains, Run as Range}
+use Rattle.quic_ranges.specs.Runs.{contains, Run as Range}
 use Rattle.quic_assembler.specs.Compact.{with_run}
 use Rattle.quic_assembler.specs.Piece.{PieceView, RunHolds, IsSome, KeepsAlive, run_length, run_allocation, HoldsSame, covers, cover_count, bit, lies, run_end, cut_at}
 use Rattle.quic_assembler.specs.Reassembly.{IsCut, TakesFront, TakesFresh, NoneReceived, run_count, fresh_count, starts_run}

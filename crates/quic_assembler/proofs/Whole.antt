@@ -8,7 +8,7 @@ use Rattle.std.specs.List.Sorted.{IsPermutation}
 use Rattle.std.proofs.lemmas.List.Sorted.{IsPermutation-sym, length_permutation}
 use Rattle.std.proofs.lemmas.Bool.{cases_lt}
 use Rattle.std.proofs.lemmas.Bool.Decides.{nat_tests}
-use Rattle.quic_values.specs.Runs.{contains, Run as Range}
+use Rattle.quic_ranges.specs.Runs.{contains, Run as Range}
 use Rattle.quic_assembler.specs.declared.errors.InsertError.{InsertError}
 use Rattle.quic_assembler.specs.declared.errors.InsertError.TheVariants.{TooManyChunks, CompactionMemory, OutOfMemory}
 use Rattle.quic_assembler.specs.Piece.{PieceView, RunHolds, cover_count, bit, lies, run_end, cut_at, KeepsFrom, CoversMore, TakesSome, NoneHoldsAt, covers, Sums, sums_of}

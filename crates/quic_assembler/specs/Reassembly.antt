@@ -1,5 +1,5 @@
 -- What contracts see of an assembler.
-use Rattle.quic_values.specs.Runs.{contains, Run as Range}
+use Rattle.quic_ranges.specs.Runs.{contains, Run as Range}
 use Rattle.std.specs.Prelude.{◌≡◌, ◌==◌, ◌&&◌, ◌||◌, ◌-◌, ◌*◌, ◌/◌, ◌^◌, ◌↔◌, sum_by, max, min, not, zero, suc, true, false, nat_lt, ℕ, Bool, ◌+◌, ◌≤◌, ◌<◌, ◌⊎◌, List, [], length, cond, Option, Result, IfOk, IfSome, MatchOption, Ok, Err}
 use Rattle.quic_assembler.specs.declared.errors.InsertError.{InsertError}
 use Rattle.quic_assembler.specs.declared.errors.InsertError.TheVariants.{TooManyChunks, CompactionMemory, OutOfMemory}

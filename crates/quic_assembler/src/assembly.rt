@@ -9,7 +9,8 @@ use crate::piece::Piece;
 use crate::pieces::Pieces;
 use crate::reassemble::Reassemble;
 use crate::unreceived::hold_unreceived;
-use quic_values::{Bytes, OutOfMemory, RangeSet};
+use quic_ranges::RangeSet;
+use quic_values::{Bytes, OutOfMemory};
 use std::alloc::Global;
 use std::marker::Model;
 

@@ -4,11 +4,12 @@ ghost use Rattle.std.specs.List.{Any, All};
 ghost use Rattle.std.specs.List.Sorted.{IsPermutation};
 ghost use Rattle.quic_assembler.specs.Compact.{Compacts, slots, with_run};
 ghost use Rattle.quic_assembler.specs.Reassembly.{covered, IsCompacted};
-ghost use Rattle.quic_values.specs.Runs.{contains};
+ghost use Rattle.quic_ranges.specs.Runs.{contains};
 ghost use Rattle.quic_assembler.specs.Piece.{PieceView, Covers, RunHolds, cover_count, bit, Queue, IsSome, IsPieceSound, IsLowest, run_end, run_length, run_allocation, sums_of, cut_at, advance_by, KeepsFrom, CoversMore, IsFreshFrom, NoneHoldsAt, TakesSome, TakesNone, Sheds, ReadsOff};
 
 use crate::piece::Piece;
-use quic_values::{Bytes, OutOfMemory, RangeSet};
+use quic_ranges::RangeSet;
+use quic_values::{Bytes, OutOfMemory};
 use std::alloc::Global;
 use std::collections::BinaryHeap;
 use std::marker::Model;

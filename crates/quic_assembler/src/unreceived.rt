@@ -1,13 +1,14 @@
 // What of a piece was not received before.
 ghost use Rattle.std.specs.Prelude.{◌≡◌, ℕ, ◌+◌, ◌-◌, ◌^◌, ◌<◌, ◌≤◌, ◌⊎◌, true, false, [], ◌∷◌, ◌++◌, length, max, min, take, drop, ◌||◌, IfOk, OnOk, OnErr, vec_len, IsTrue};
 ghost use Rattle.std.specs.List.{Any, All};
-ghost use Rattle.quic_values.specs.Runs.{contains};
+ghost use Rattle.quic_ranges.specs.Runs.{contains};
 ghost use Rattle.quic_assembler.specs.Piece.{PieceView, run_end, cut_at, covers, cover_count, lies, IsSome, RunHolds};
 ghost use Rattle.quic_assembler.specs.Reassembly.{IsCut, TakesFront, TakesFresh, NoneReceived};
 
 use crate::piece::Piece;
 use crate::pieces::Pieces;
-use quic_values::{OutOfMemory, RangeSet};
+use quic_ranges::RangeSet;
+use quic_values::OutOfMemory;
 use std::alloc::Global;
 
 // Takes what lies before `start` off the rest, and puts it behind the fronts.

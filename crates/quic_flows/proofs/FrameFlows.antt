@@ -2,7 +2,7 @@
 use Rattle.std.proofs.Common.{◌≡◌, ℕ, Bool, true, false, List, [], ◌∷◌, Option, Some, None, is_some, refl, sym, ap, ◌∙◌, subst, arith, ◌+◌, ◌-◌, ◌<◌, ◌≤◌}
 use Rattle.std.specs.Prelude.{◌==◌, ◌&&◌, ◌||◌, not, max, nat_lt, nat_le, if◌then◌else◌}
 use Rattle.std.proofs.lemmas.Bool.Decides.{nat_tests}
-use Rattle.quic_values.specs.Runs.{contains, is_in}
+use Rattle.quic_ranges.specs.Runs.{contains, is_in}
 use Rattle.quic_sending.specs.declared.send.Send.{Send}
 use Rattle.quic_sending.specs.Buffer.{Buffered, HasCuts, IsSound, IsInFirst, is_sent, is_lost, is_acked, total_length, uncovered}
 use Rattle.quic_sending.specs.Sending.{is_ready, is_finish_acked, after_ack}

@@ -1,6 +1,6 @@
 -- What calls did to the sending side of one stream, and what they tell of its half (RFC 9000 section 3.1).
 use Rattle.std.specs.Prelude.{ℕ, zero, suc, Bool, true, false, not, ◌≡◌, ◌==◌, ◌<◌, ◌≤◌, ◌-◌, ◌^◌, ◌&&◌, ◌||◌, max, min, nat_le, if◌then◌else◌, List, [], ◌∷◌, ◌++◌, length, take, Option, Some, None, is_none, is_some, unwrap_or}
-use Rattle.quic_values.specs.Runs.{is_in}
+use Rattle.quic_ranges.specs.Runs.{is_in}
 use Rattle.quic_sending.specs.declared.send.Send.{Send}
 use Rattle.quic_sending.specs.declared.send.SendState.{SendState}
 use Rattle.quic_sending.specs.declared.send.SendState.TheVariants.{Ready, DataSent, ResetSent}

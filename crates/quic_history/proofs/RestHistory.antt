@@ -3,7 +3,7 @@ use Rattle.std.proofs.Common.{◌≡◌, ◌⊎◌, ℕ, ℤ, Bool, true, false,
 use Rattle.std.specs.Prelude.{◌==◌, ◌&&◌, ◌||◌, not, drop, int_lt, is_none, min, nat_lt, nat_le, slice_get, MatchBool, if◌then◌else◌}
 use Rattle.std.specs.declared.ops.Range.{Range}
 use Rattle.std.proofs.lemmas.Bool.Decides.{nat_tests}
-use Rattle.quic_values.specs.Runs.{is_in}
+use Rattle.quic_ranges.specs.Runs.{is_in}
 use Rattle.quic_values.specs.declared.ids.Side.{Side}
 use Rattle.quic_values.specs.declared.ids.Dir.{Dir}
 use Rattle.quic_values.specs.declared.ids.Dir.TheVariants.{Bi, Uni}

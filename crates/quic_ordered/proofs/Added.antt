@@ -4,7 +4,7 @@ use Rattle.std.specs.List.{All}
 use Rattle.std.specs.List.Sorted.{IsPermutation}
 use Rattle.std.proofs.lemmas.List.Elements.{All-nil, All-cons, All-tail, All-weaker, All-append}
 use Rattle.std.proofs.lemmas.List.Sorted.{IsPermutation-refl, IsPermutation-sym, IsPermutation-append_comm, All-permutation}
-use Rattle.quic_values.specs.Runs.{Run as Range}
+use Rattle.quic_ranges.specs.Runs.{Run as Range}
 use Rattle.quic_assembler.specs.Piece.{PieceView, KeepsAlive}
 use Rattle.quic_assembler.specs.Reassembly.{IsCut}
 use Rattle.quic_ordered.specs.Rows.{IsAmong, AddsOnly}

@@ -7,7 +7,7 @@ use Rattle.std.proofs.lemmas.Bool.{cases_lt, cases_eq}
 use Rattle.std.proofs.lemmas.Bool.Decides.{nat_tests}
 use Rattle.std.proofs.lemmas.List.{length-drop, length-take}
 use Rattle.std.proofs.lemmas.List.Elements.{All-nil, All-cons, All-weaker}
-use Rattle.quic_values.specs.Runs.{contains}
+use Rattle.quic_ranges.specs.Runs.{contains}
 use Rattle.quic_assembler.specs.Laws.{done_below, held_or_not}
 use Rattle.quic_assembler.specs.Compact.{Compacts}
 use Rattle.quic_assembler.specs.Piece.{PieceView, Sums, Covers, RunHolds, cover_count, lies, run_end, advance_by, left_of, CoversMore}

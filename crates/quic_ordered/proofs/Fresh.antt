@@ -7,7 +7,7 @@ use Rattle.std.proofs.lemmas.Bool.Decides.{nat_tests}
 use Rattle.std.proofs.lemmas.List.{append-nil}
 use Rattle.std.proofs.lemmas.List.Elements.{All-head, All-tail, All-nil, All-cons}
 use Rattle.std.proofs.lemmas.List.Sorted.{IsPermutation-refl, IsPermutation-sym, IsPermutation-trans, IsPermutation-append_comm}
-use Rattle.quic_values.specs.Runs.{contains, Run as Range}
+use Rattle.quic_ranges.specs.Runs.{contains, Run as Range}
 use Rattle.quic_assembler.specs.Piece.{PieceView, run_end, IsSome, cover_count, lies, bit}
 use Rattle.quic_assembler.specs.Reassembly.{IsCut, NoneReceived, TakesFresh}
 use Rattle.quic_assembler.proofs.Counts.{lies_in, lies_of_bit, count-append, with_run_pushed}

@@ -3,7 +3,7 @@ use Rattle.std.specs.Prelude.{ℕ, Bool, true, false, ◌≡◌, ◌+◌, ◌-�
 use Rattle.std.specs.List.{All, Any}
 use Rattle.std.specs.List.Sorted.{IsStrictlySortedBy}
 use Rattle.std.specs.Ordering.{nat_cmp}
-use Rattle.quic_values.specs.Runs.{Run as Range}
+use Rattle.quic_ranges.specs.Runs.{Run as Range}
 use Rattle.quic_assembler.specs.declared.errors.InsertError.{InsertError}
 use Rattle.quic_assembler.specs.declared.errors.InsertError.TheVariants.{TooManyChunks, CompactionMemory, OutOfMemory}
 use Rattle.quic_assembler.specs.Piece.{PieceView, sums_of, cut_at, lies, run_end}

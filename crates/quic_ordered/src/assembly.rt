@@ -8,7 +8,8 @@ ghost use Rattle.quic_ordered.specs.Rows.{IsKeptOrOwn, GivesFirst, HoldSame, Enc
 
 use crate::pieces::OrderedPieces;
 use quic_assembler::{Chunk, EnsureError, InsertError, Reassemble};
-use quic_values::{Bytes, OutOfMemory, RangeSet};
+use quic_ranges::RangeSet;
+use quic_values::{Bytes, OutOfMemory};
 use std::alloc::Global;
 use std::marker::Model;
 

@@ -1,7 +1,7 @@
 // All that is held of one stream.
 ghost use Rattle.std.specs.Prelude.{◌≡◌, ℕ, ◌+◌, ◌^◌, ◌<◌, ◌≤◌, ◌||◌, [], ◌∷◌, ◌++◌, length, sum_by, option_to_list, IfOk, OnOk, OnErr, IfSome, IfNone, Some, None, Ok, true, false, min, nat_lt, take};
 ghost use Rattle.std.specs.List.{All, Any};
-ghost use Rattle.quic_values.specs.Runs.{contains};
+ghost use Rattle.quic_ranges.specs.Runs.{contains};
 ghost use Rattle.quic_assembler.specs.Piece.{PieceView, run_end, run_length, run_allocation, TakesSome, left_of, cover_count, bit, lies};
 ghost use Rattle.quic_assembler.specs.Reassembly.{IfGiven, OnNothing, TakesFresh};
 ghost use Rattle.quic_ordered.specs.Rows.{FitsWords, LieInOrder, Merges, HoldSame, LieWithGaps, IsTidy, Encloses, JoinsAll, AddsOnly, GivesFirst, StemsFrom, StaysApart, IsKeptOrOwn, IsFronted};
@@ -10,7 +10,8 @@ ghost use Rattle.quic_ordered.specs.Entries.{piece_of};
 use crate::piece::Piece;
 use crate::store::PieceStore;
 use quic_assembler::Chunk;
-use quic_values::{Bytes, OutOfMemory, RangeSet};
+use quic_ranges::RangeSet;
+use quic_values::{Bytes, OutOfMemory};
 use std::alloc::Global;
 use std::marker::Model;
 

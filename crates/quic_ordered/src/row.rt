@@ -2,11 +2,12 @@
 ghost use Rattle.std.specs.Prelude.{◌≡◌, ℕ, ◌+◌, ◌-◌, ◌^◌, ◌<◌, ◌≤◌, [], ◌∷◌, ◌++◌, length, sum_by, option_to_list, IfOk, OnOk, OnErr, IfSome, IfNone, IsSome, Some, None, IfErr, slice_index_or, true, false, min, take, drop};
 ghost use Rattle.std.specs.List.{All, Any};
 ghost use Rattle.quic_assembler.specs.Piece.{PieceView, run_end, run_length, run_allocation, bit, cover_count};
-ghost use Rattle.quic_values.specs.Runs.{contains};
+ghost use Rattle.quic_ranges.specs.Runs.{contains};
 ghost use Rattle.quic_ordered.specs.Rows.{Row, FitsWords, JoinsLast, LieInOrder, BeginUpTo, LieWithGaps, IsTidy, Encloses, tidied};
 
 use crate::piece::Piece;
-use quic_values::{OutOfMemory, RangeSet};
+use quic_ranges::RangeSet;
+use quic_values::OutOfMemory;
 use std::alloc::Global;
 use std::collections::VecDeque;
 use std::marker::Model;

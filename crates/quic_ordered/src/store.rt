@@ -3,7 +3,7 @@ ghost use Rattle.std.specs.Prelude.{◌≡◌, ℕ, ◌+◌, ◌-◌, ◌^◌, �
 ghost use Rattle.std.specs.Map.{values_of, keys_of};
 ghost use Rattle.std.specs.List.{All, Any};
 ghost use Rattle.std.specs.List.Sorted.{IsPermutation};
-ghost use Rattle.quic_values.specs.Runs.{contains, lies_in};
+ghost use Rattle.quic_ranges.specs.Runs.{contains, lies_in};
 ghost use Rattle.quic_assembler.specs.Piece.{PieceView, run_end, run_length, run_allocation, IsSome, cover_count, bit, lies};
 ghost use Rattle.quic_assembler.specs.Reassembly.{TakesFresh};
 ghost use Rattle.quic_ordered.specs.Rows.{FitsWords, RiseByKey, IsStore, BeginUpTo, LieInOrder, Merges, HoldSame, LieWithGaps, IsTidy, IsGathered, Encloses, JoinsAll, AddsOnly, StemsFrom, StaysApart, IsKeptOrOwn};
@@ -16,7 +16,8 @@ use crate::piece::Piece;
 use crate::placing::{place_all, take_out};
 use crate::row::PieceRow;
 use crate::unreceived::cut_all;
-use quic_values::{Bytes, OutOfMemory, RangeSet};
+use quic_ranges::RangeSet;
+use quic_values::{Bytes, OutOfMemory};
 use std::alloc::Global;
 use std::marker::Model;
 use std::ops::Range;

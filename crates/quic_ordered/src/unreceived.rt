@@ -4,7 +4,8 @@ ghost use Rattle.quic_assembler.specs.Piece.{PieceView, run_end};
 ghost use Rattle.quic_assembler.specs.Reassembly.{IsCut, TakesFront, NoneReceived};
 
 use crate::piece::Piece;
-use quic_values::{OutOfMemory, RangeSet};
+use quic_ranges::RangeSet;
+use quic_values::OutOfMemory;
 
 // Takes what lies before `start` off the rest, and puts it behind the fronts.
 fn split_fresh(rest: &mut Piece, start: u64, fronts: &mut Vec<Piece>) -> Result<(), OutOfMemory>

@@ -2,7 +2,7 @@
 use Rattle.std.specs.Prelude.{◌≡◌, ◌⊎◌, ◌<◌, ℕ, ℤ, ◌-◌, Bool, true, false, not, ◌&&◌, ◌||◌, ◌==◌, nat_le, List, Option, Some, None, is_some, Result, Ok, Err, if◌then◌else◌, MatchBool}
 use Rattle.std.specs.declared.ops.Range.{Range}
 use Rattle.quic_values.specs.declared.memory.OutOfMemory.{OutOfMemory}
-use Rattle.quic_values.specs.Runs.{lies_in}
+use Rattle.quic_ranges.specs.Runs.{lies_in}
 use Rattle.quic_limits.specs.SendingCredit.{with_released}
 use Rattle.quic_sending.specs.declared.send.Send.{Send}
 use Rattle.quic_sending.specs.Buffer.{HasCuts, IsSound, is_acked, is_lost, total_length, uncovered}

@@ -2,7 +2,7 @@
 use Rattle.std.specs.Prelude.{◌≡◌, ◌≢◌, ℕ, ℤ, ◌+◌, ◌-◌, ◌≤◌, Bool, true, false, not, ◌&&◌, ◌==◌, if◌then◌else◌, max, List, ◌++◌, length, take, drop, Option, Some, None, Result, Ok, Err, MatchBool, []}
 use Rattle.std.specs.List.{concat}
 use Rattle.quic_values.specs.Numbers.{size_of}
-use Rattle.quic_values.specs.Runs.{lies_in}
+use Rattle.quic_ranges.specs.Runs.{lies_in}
 use Rattle.quic_values.specs.declared.memory.OutOfMemory.{OutOfMemory}
 use Rattle.quic_wire.specs.Text.{meta_text, stream_of}
 use Rattle.quic_wire.specs.Frames.{BeginsWith}

@@ -4,7 +4,7 @@ use Rattle.std.proofs.lemmas.Bool.{cases_lt, both_ways}
 use Rattle.std.specs.Option.{IfSome, IfNone}
 use Rattle.std.proofs.lemmas.Bool.Decides.{nat_tests}
 use Rattle.std.specs.declared.ops.Range.{Range}
-use Rattle.quic_values.specs.Runs.{Run, contains, lies_in, is_in, IsRunOf}
+use Rattle.quic_ranges.specs.Runs.{Run, contains, lies_in, is_in, IsRunOf}
 use Rattle.quic_sending.specs.Ranges.{IsLowestRun}
 use Rattle.quic_sending.specs.Outcomes.{run_of, minus_run, minus, is_answered, IsLowestOrNone, IsGap}
 

@@ -2,7 +2,7 @@
 use Rattle.std.proofs.Common.{◌≡◌, ℕ, ◌<◌, ◌≤◌, true, false, ◌||◌, List, ◌&&◌, not, max, nat_lt, arith}
 use Rattle.std.proofs.lemmas.Bool.Decides.{nat_tests}
 use Rattle.std.specs.declared.ops.Range.{Range}
-use Rattle.quic_values.specs.Runs.{Run, contains, lies_in, IsRunOf}
+use Rattle.quic_ranges.specs.Runs.{Run, contains, lies_in, IsRunOf}
 
 -- one more run that touches the prefix is taken out of the later offsets
 pub Joins-step : (first later rest : List Run) (a reached low : ℕ) (run : Range ℕ) → IsRunOf later run → ((n : ℕ) → n < run.start → contains later n ≡ false) → ((n : ℕ) → contains rest n ≡ (contains later n && not (lies_in run n))) → contains later low ≡ true → low ≤ max a reached → ((n : ℕ) → n < reached → contains later n ≡ false) → ((n : ℕ) → (nat_lt n (max a reached) || contains later n) ≡ (nat_lt n a || contains first n)) → (reached < run.end) × ((n : ℕ) → n < run.end → contains rest n ≡ false) × ((n : ℕ) → (nat_lt n (max a run.end) || contains rest n) ≡ (nat_lt n a || contains first n))

@@ -3,7 +3,7 @@ use Rattle.std.proofs.Common.{◌≡◌, ℕ, ◌+◌, ◌-◌, ◌^◌, ◌<◌
 use Rattle.std.proofs.lemmas.Bool.{both_ways, cases_lt}
 use Rattle.std.proofs.lemmas.Bool.Decides.{nat_tests}
 use Rattle.std.specs.declared.ops.Range.{Range}
-use Rattle.quic_values.specs.Runs.{Run, contains, lies_in}
+use Rattle.quic_ranges.specs.Runs.{Run, contains, lies_in}
 use Rattle.quic_sending.specs.Ranges.{IsNothing}
 use Rattle.quic_sending.specs.Buffer.{Buffered, IsNextRange, IsSound, is_acked, is_lost, total_length, AreFilled, IsInFirst}
 use Rattle.quic_sending.proofs.Pieces.{total-append, AreFilled-push, IsInFirst-push}

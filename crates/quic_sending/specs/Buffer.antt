@@ -1,7 +1,7 @@
 -- What a send buffer retains: written bytes with their cuts, and four sets of offsets.
 use Rattle.std.specs.Prelude.{◌≡◌, ℕ, ◌+◌, ◌-◌, ◌^◌, ◌<◌, ◌≤◌, Bool, true, false, if◌then◌else◌, ◌||◌, List, [], ◌∷◌, length, take, drop, nat_lt, min, ◌⊎◌}
 use Rattle.quic_values.specs.Numbers.{size_of}
-use Rattle.quic_values.specs.Runs.{Run, contains, is_in}
+use Rattle.quic_ranges.specs.Runs.{Run, contains, is_in}
 use Rattle.quic_sending.specs.Ranges.{IsNothing, IsLowestRun}
 
 -- what a write of these bytes adds to the pieces

@@ -1,7 +1,7 @@
 -- What became of offsets: which are acknowledged, and which are lost.
 use Rattle.std.specs.Prelude.{◌≡◌, ℕ, ◌<◌, ◌≤◌, Bool, ◌||◌, true, false, List, [], ◌∷◌, ◌++◌, nat_lt, min, max, if◌then◌else◌}
 use Rattle.std.specs.declared.ops.Range.{Range}
-use Rattle.quic_values.specs.Runs.{Run, contains}
+use Rattle.quic_ranges.specs.Runs.{Run, contains}
 use Rattle.quic_sending.specs.Ranges.{IsNothing, IsLowestRun}
 
 -- a run, or none where it has no number

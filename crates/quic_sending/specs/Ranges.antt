@@ -1,6 +1,6 @@
 -- Sets of offsets, as `quic_values` has them, and their lowest runs.
 use Rattle.std.specs.Prelude.{◌≡◌, ℕ, ◌<◌, false, List}
-use Rattle.quic_values.specs.Runs.{Run, contains, range_of, IsRunOf}
+use Rattle.quic_ranges.specs.Runs.{Run, contains, range_of, IsRunOf}
 
 -- nothing is in the set
 abbrev pub IsNothing : List Run → Type 0

@@ -1,5 +1,5 @@
 ghost use Rattle.std.specs.Prelude.{◌≡◌, ◌<◌, ℕ, ◌&&◌, not, false, nat_lt, IfSome, IfNone};
-ghost use Rattle.quic_values.specs.Runs.{contains, IsRunOf};
+ghost use Rattle.quic_ranges.specs.Runs.{contains, IsRunOf};
 
 use crate::runs::Runs;
 use quic_values::OutOfMemory;
@@ -18,7 +18,7 @@ pub(crate) struct LowestApart<S: Runs> {
 
 impl<S: Runs> Model for LowestApart<S> {
     ghost use Rattle.std.specs.Prelude.{List, ◌≡◌, ◌++◌, ◌<◌, ℕ, true};
-    ghost use Rattle.quic_values.specs.Runs.{Run, contains};
+    ghost use Rattle.quic_ranges.specs.Runs.{Run, contains};
     ghost use Rattle.quic_sending.specs.Outcomes.{run_of};
 
     ghost Value = { List Run };

@@ -1,12 +1,13 @@
 ghost use Rattle.std.specs.Prelude.{◌≡◌, ◌+◌, ◌<◌, ◌≤◌, ℕ, [], ◌∷◌, ◌&&◌, ◌||◌, not, true, false, IfOk, OnOk, OnErr, List};
-ghost use Rattle.quic_values.specs.Runs.{Run, contains, lies_in};
+ghost use Rattle.quic_ranges.specs.Runs.{Run, contains, lies_in};
 ghost use Rattle.quic_sending.specs.Ranges.{IsLowestRun};
 ghost use Rattle.quic_sending.specs.Outcomes.{Answered, is_answered, minus, IsLowestOrNone};
 
 use crate::lowest_apart::LowestApart;
 use crate::recent_set::RecentSet;
 use crate::runs::Runs;
-use quic_values::{OutOfMemory, RangeSet};
+use quic_ranges::RangeSet;
+use quic_values::OutOfMemory;
 use std::alloc::Global;
 use std::marker::Model;
 use std::ops::Range;
@@ -30,7 +31,7 @@ pub(crate) struct Outcomes {
 
 impl Model for Outcomes {
     ghost use Rattle.std.specs.Prelude.{◌≡◌, ◌<◌, ℕ, ◌∷◌, true};
-    ghost use Rattle.quic_values.specs.Runs.{contains};
+    ghost use Rattle.quic_ranges.specs.Runs.{contains};
     ghost use Rattle.quic_sending.specs.Outcomes.{Answered, minus, IsLowestOrNone};
 
     ghost Value = { Answered };

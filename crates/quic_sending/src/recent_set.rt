@@ -1,10 +1,11 @@
 ghost use Rattle.std.specs.Prelude.{◌≡◌, ◌≤◌, ◌<◌, ◌++◌, ◌||◌, ℕ, [], true, false, OnOk, OnErr};
-ghost use Rattle.quic_values.specs.Runs.{contains, lies_in, range_of};
+ghost use Rattle.quic_ranges.specs.Runs.{contains, lies_in, range_of};
 ghost use Rattle.quic_sending.specs.Outcomes.{IsGap, Joins};
 
 use crate::lowest_apart::LowestApart;
 use crate::runs::Runs;
-use quic_values::{OutOfMemory, RangeSet};
+use quic_ranges::RangeSet;
+use quic_values::OutOfMemory;
 use std::alloc::Global;
 use std::marker::Model;
 use std::ops::Range;
@@ -21,7 +22,7 @@ pub(crate) struct RecentSet {
 impl Model for RecentSet {
     ghost use Rattle.std.specs.Prelude.{List, ◌++◌, ◌≤◌};
     ghost use Rattle.quic_sending.specs.Ranges.{IsNothing};
-    ghost use Rattle.quic_values.specs.Runs.{Run};
+    ghost use Rattle.quic_ranges.specs.Runs.{Run};
     ghost use Rattle.quic_sending.specs.Outcomes.{run_of};
 
     ghost Value = { List Run };

@@ -1,8 +1,9 @@
 ghost use Rattle.std.specs.Prelude.{◌≡◌, ◌+◌, ◌<◌, ◌≤◌, ◌&&◌, ◌||◌, ℕ, List, [], not, true, false, length, IfSome, IfNone, OnOk, OnErr};
-ghost use Rattle.quic_values.specs.Runs.{Run, contains, lies_in, IsRunOf};
+ghost use Rattle.quic_ranges.specs.Runs.{Run, contains, lies_in, IsRunOf};
 ghost use Rattle.quic_sending.specs.Outcomes.{Joins};
 
-use quic_values::{OutOfMemory, RangeSet};
+use quic_ranges::RangeSet;
+use quic_values::OutOfMemory;
 use std::alloc::Global;
 use std::ops::Range;
 

@@ -1,5 +1,5 @@
 ghost use Rattle.std.specs.Prelude.{◌≡◌, ◌+◌, ◌-◌, ◌<◌, ◌≤◌, ◌^◌, ◌↔◌, ◌==◌, ℕ, List, [], ◌++◌, ◌&&◌, ◌||◌, not, IsTrue, IfOk, OnOk, OnErr, IfErr, length, min, true, false, if◌then◌else◌, Some, None, Option, is_none, unwrap_or, ◌⊎◌, pos};
-ghost use Rattle.quic_values.specs.Runs.{lies_in};
+ghost use Rattle.quic_ranges.specs.Runs.{lies_in};
 ghost use Rattle.quic_sending.specs.Buffer.{HasCuts, IsSound, HasDue, HasNoneDue, is_acked, is_lost, total_length, uncovered};
 ghost use Rattle.quic_sending.specs.Source.{Appends, rest_of};
 

@@ -1,6 +1,6 @@
 ghost use Rattle.std.specs.Prelude.{◌≡◌, ◌+◌, ◌-◌, ◌<◌, ◌≤◌, ◌^◌, ◌↔◌, ℕ, [], ◌++◌, ◌&&◌, ◌||◌, not, IsTrue, IsOk, OnOk, OnErr, length, nat_lt, true, false, IfOk, max, List, take, drop, vec_len, vec_capacity};
 ghost use Rattle.std.specs.List.{concat};
-ghost use Rattle.quic_values.specs.Runs.{contains, lies_in};
+ghost use Rattle.quic_ranges.specs.Runs.{contains, lies_in};
 ghost use Rattle.quic_sending.specs.Buffer.{HasCuts, IsFrontAt, is_due, IsNextRange, IsFrontOfNext, frame_end, has_length, cut_of, total_length, is_acked, is_lost, piece_part, uncovered, IsSound};
 
 use crate::outcomes::Outcomes;

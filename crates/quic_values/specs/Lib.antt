@@ -1,5 +1,4 @@
 pub mod Ids
 pub mod Numbers
-pub mod Runs
 pub mod Offsets
 pub mod Chunks

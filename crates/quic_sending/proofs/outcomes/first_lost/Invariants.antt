@@ -1,5 +1,5 @@
 use Rattle.std.proofs.Common.{◌≡◌, ℕ, ◌∷◌, length}
-use Rattle.quic_values.specs.Runs.{contains}
+use Rattle.quic_ranges.specs.Runs.{contains}
 use Rattle.quic_sending.specs.Outcomes.{minus}
 use Rattle.quic_sending.proofs.outcomes.first_lost.Given as goal
 

@@ -1,7 +1,7 @@
 use Rattle.std.proofs.Common.{arith, drop, length-drop}
 use Rattle.quic_assembler.specs.Piece.{cover_count, lies, run_end}
 use Rattle.std.specs.BinaryHeap.{heap_items}
-use Rattle.quic_values.specs.Runs.{contains}
+use Rattle.quic_ranges.specs.Runs.{contains}
 use Rattle.quic_assembler.proofs.Counts.{bit-or, bit-from_zero, bit-le-one, no_count}
 use Rattle.quic_assembler.proofs.Parts.{rest_next}
 use Rattle.quic_assembler.proofs.pieces.Pieces.offsets.Goals as goal

@@ -1,6 +1,6 @@
 use Rattle.std.proofs.Common.{ℕ, ◌≡◌, ◌+◌, min, drop}
 use Rattle.std.specs.Prelude.{nat_lt}
-use Rattle.quic_values.specs.Runs.{contains}
+use Rattle.quic_ranges.specs.Runs.{contains}
 use Rattle.quic_assembler.specs.Piece.{bit, cover_count}
 use Rattle.quic_assembler.proofs.pieces.Pieces.offsets.Given as goal
 

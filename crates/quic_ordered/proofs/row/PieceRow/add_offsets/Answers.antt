@@ -1,5 +1,5 @@
 use Rattle.std.proofs.Common.{arith, drop, length-drop}
-use Rattle.quic_values.specs.Runs.{contains}
+use Rattle.quic_ranges.specs.Runs.{contains}
 use Rattle.quic_assembler.specs.Piece.{lies, run_end}
 use Rattle.quic_assembler.proofs.Counts.{bit-or, bit-le-one, no_count}
 use Rattle.quic_assembler.proofs.Parts.{rest_next}

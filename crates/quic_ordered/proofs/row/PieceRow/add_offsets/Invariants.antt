@@ -1,5 +1,5 @@
 use Rattle.std.proofs.Common.{ℕ, ◌≡◌, ◌+◌, ◌-◌, min, drop, length}
-use Rattle.quic_values.specs.Runs.{contains}
+use Rattle.quic_ranges.specs.Runs.{contains}
 use Rattle.quic_assembler.specs.Piece.{bit, cover_count}
 use Rattle.quic_ordered.proofs.row.PieceRow.add_offsets.Given as goal
 

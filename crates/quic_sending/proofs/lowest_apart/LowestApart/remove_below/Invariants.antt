@@ -1,5 +1,5 @@
 use Rattle.std.proofs.Common.{◌≡◌, ◌<◌, ℕ, ◌++◌, ◌&&◌, not, true, nat_lt, length}
-use Rattle.quic_values.specs.Runs.{contains}
+use Rattle.quic_ranges.specs.Runs.{contains}
 use Rattle.quic_sending.specs.Outcomes.{run_of}
 use Rattle.quic_sending.proofs.lowest_apart.LowestApart.remove_below.Given as goal
 

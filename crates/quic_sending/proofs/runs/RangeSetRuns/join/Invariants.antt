@@ -1,5 +1,5 @@
 use Rattle.std.proofs.Common.{◌≡◌, ℕ, ◌-◌, ◌^◌, ◌<◌, ◌||◌, max, nat_lt, false}
-use Rattle.quic_values.specs.Runs.{contains}
+use Rattle.quic_ranges.specs.Runs.{contains}
 use Rattle.quic_sending.proofs.runs.RangeSetRuns.join.Given as goal
 
 abbrev pub invariant-loop-start : goal.invariant-loop-start

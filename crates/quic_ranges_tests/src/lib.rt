@@ -1,0 +1,5 @@
+//! Tests of `quic_ranges` by its public calls.
+#![tactic(auto)]
+
+#[cfg(test)]
+mod tests;
